@@ -1,0 +1,61 @@
+-- The fault that a token has after the tokens played before it.
+use Rattle.std.specs.Prelude.{◌≡◌, ◌≢◌, ℕ, ◌+◌, ◌<◌, ◌⊎◌, List, take, slice_get, Some}
+use Rattle.ans_model.specs.Token.{Token, Glyph, LineFeed, EraseLine, Tab, Place, Mode, Keys, Ask}
+use Rattle.ans_model.specs.State.{Size, State}
+use Rattle.ans_model.specs.Step.{final}
+use Rattle.ans_model.specs.Starts.{Class, IsStart}
+use Rattle.ans_model.specs.declared.fault.Cause.{Cause}
+use Rattle.ans_model.specs.declared.fault.Cause.TheVariants.{KeyReassigned, ScreenMode, ReportAsked, TabByte, OutsideScreen, PrintBelow, Scrolls, PrintUnknownPlace, EraseUnknownPlace, MayScroll}
+
+-- a fault that a token has wherever it stands
+abbrev pub HasStaticFault : Size → Token → Cause → Type 0
+HasStaticFault z Keys KeyReassigned = Unit {0}
+HasStaticFault z Mode ScreenMode = Unit {0}
+HasStaticFault z Ask ReportAsked = Unit {0}
+HasStaticFault z Tab TabByte = Unit {0}
+HasStaticFault z (Place row column) OutsideScreen = (z.lines + 1 < row) ⊎ (z.width < column)
+HasStaticFault z _ _ = ⊥
+
+-- P holds from every start of the class
+abbrev pub FromEvery : Size → Class → (State → Type 0) → Type 0
+FromEvery z class P = (s : State) → IsStart z class s → P s
+
+-- P holds from some start of the class
+abbrev pub FromSome : Size → Class → (State → Type 0) → Type 0
+FromSome z class P = (s : State) × IsStart z class s × P s
+
+-- after these tokens the cursor is the same from every start
+abbrev pub SamePlace : Size → Class → List Token → Type 0
+SamePlace z class played =
+    (s t : State) → IsStart z class s → IsStart z class t → (final z s played).cursor ≡ (final z t played).cursor
+
+-- after these tokens the cursor differs between two starts
+abbrev pub PlacesDiffer : Size → Class → List Token → Type 0
+PlacesDiffer z class played =
+    (s t : State) × IsStart z class s × IsStart z class t × ((final z s played).cursor ≢ (final z t played).cursor)
+
+-- after these tokens from this start, the cursor stands in the spare row
+abbrev pub IsInSpareRow : Size → List Token → State → Type 0
+IsInSpareRow z played start = (final z start played).cursor.row ≡ z.lines
+
+-- a fault that depends on what was played before the token
+abbrev pub HasFaultAfter : Size → Class → List Token → Token → Cause → Type 0
+HasFaultAfter z class played (Glyph byte) PrintUnknownPlace = PlacesDiffer z class played
+HasFaultAfter z class played (Glyph byte) PrintBelow = SamePlace z class played × FromEvery z class (IsInSpareRow z played)
+HasFaultAfter z class played EraseLine EraseUnknownPlace = PlacesDiffer z class played
+HasFaultAfter z class played LineFeed Scrolls = FromEvery z class (IsInSpareRow z played)
+HasFaultAfter z class played LineFeed MayScroll =
+    FromSome z class (IsInSpareRow z played) × FromSome z class (λ s. ¬ IsInSpareRow z played s)
+HasFaultAfter z class played _ _ = ⊥
+
+-- the token has this fault after the tokens played
+abbrev pub HasFault : Size → Class → List Token → Token → Cause → Type 0
+HasFault z class played t cause = HasStaticFault z t cause ⊎ HasFaultAfter z class played t cause
+
+-- token k, counted from 0, has this fault
+abbrev pub Blames : Size → Class → List Token → ℕ → Cause → Type 0
+Blames z class tokens k cause = (t : Token) × (slice_get tokens k ≡ Some t) × HasFault z class (take k tokens) t cause
+
+-- no token has a fault
+abbrev pub IsClean : Size → Class → List Token → Type 0
+IsClean z class tokens = (k : ℕ) (cause : Cause) → ¬ Blames z class tokens k cause

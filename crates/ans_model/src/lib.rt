@@ -1,0 +1,9 @@
+//! The words and definitions that all of the checker shares.
+#![tactic(auto)]
+
+pub mod cell;
+pub mod fault;
+pub mod kind;
+pub mod limits;
+pub mod note;
+pub mod start;

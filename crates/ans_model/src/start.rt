@@ -1,0 +1,11 @@
+//! The states that a content may find when it is played.
+
+/// A class of starting states.
+#[derive(Debug, Clone, Copy, PartialEq, Eq)]
+pub enum Start {
+    /// Every state: any screen, cursor, saved cursor and attribute, wrap on or off.
+    Any,
+    /// The cleared screen alone: blank cells of white on black, both cursors at row 0 and column 0,
+    /// wrap on.
+    Cleared,
+}
