@@ -1,3 +1,4 @@
 pub mod Attributes
 pub mod WellFormed
 pub mod StartLemmas
+pub mod AttributeFieldsLemmas

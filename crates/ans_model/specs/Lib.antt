@@ -22,3 +22,6 @@ pub mod FaultText
 pub mod ReportText
 pub mod RecordText
 pub mod TokensText
+pub mod Machine
+pub mod MachineInside
+pub mod AttributeFields

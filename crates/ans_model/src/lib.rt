@@ -1,9 +1,12 @@
 //! The words and definitions that all of the checker shares.
 #![tactic(auto)]
 
+pub mod attribute;
+pub mod attribute_laws;
 pub mod cell;
 pub mod fault;
 pub mod kind;
 pub mod limits;
+pub mod machine;
 pub mod note;
 pub mod start;

@@ -1,0 +1,66 @@
+//! What colour parameters do to an attribute.
+
+ghost use Rattle.std.specs.Prelude.{◌≡◌, Some, None, MatchOption, ◌+◌, ◌<◌, ◌^◌};
+ghost use Rattle.ans_model.specs.Attribute.{attribute_after, attribute_after_all, rendition, rendition_of, renditions};
+
+/// The bits of an attribute that a parameter keeps, and those that it sets.
+#[derive(Debug, Clone, Copy, PartialEq, Eq)]
+pub struct Rendition {
+    pub mask: u8,
+    pub set: u8,
+}
+
+/// What a parameter does (ANSI.SYS, Set Graphics Rendition; 4, 7 and 8 are the profile's).
+/// None where it changes nothing.
+pub fn rendition_of(parameter: u8) -> Option<Rendition>
+    ensures { MatchOption result (rendition_of renditions parameter ≡ None)
+        (λ r. rendition_of renditions parameter ≡ Some (rendition parameter r.mask r.set)) }
+{
+    let (mask, set) = match parameter {
+        0 => (0x00, 0x07),
+        1 => (0xFF, 0x08),
+        4 => (0xF8, 0x01),
+        5 => (0xFF, 0x80),
+        7 => (0xF8, 0x70),
+        8 => (0x88, 0x00),
+        30 => (0xF8, 0x00),
+        31 => (0xF8, 0x04),
+        32 => (0xF8, 0x02),
+        33 => (0xF8, 0x06),
+        34 => (0xF8, 0x01),
+        35 => (0xF8, 0x05),
+        36 => (0xF8, 0x03),
+        37 => (0xF8, 0x07),
+        40 => (0x8F, 0x00),
+        41 => (0x8F, 0x40),
+        42 => (0x8F, 0x20),
+        43 => (0x8F, 0x60),
+        44 => (0x8F, 0x10),
+        45 => (0x8F, 0x50),
+        46 => (0x8F, 0x30),
+        47 => (0x8F, 0x70),
+        _ => return None,
+    };
+    Some(Rendition { mask, set })
+}
+
+/// An attribute after one parameter.
+pub fn attribute_after(old: u8, parameter: u8) -> u8
+    ensures { result ≡ attribute_after old parameter }
+{
+    match rendition_of(parameter) {
+        Some(rendition) => old & rendition.mask | rendition.set,
+        None => old,
+    }
+}
+
+/// An attribute after parameters, one after the other.
+pub fn attribute_after_all(old: u8, parameters: &[u8]) -> u8
+    ensures { result ≡ attribute_after_all old parameters.now }
+{
+    let mut attribute = old;
+    for parameter in parameters {
+        attribute = attribute_after(attribute, *parameter);
+    }
+    attribute
+}

@@ -1,0 +1,284 @@
+//! The machine, played on one whole state. It is the plain form of the definitions, for tests.
+
+ghost use Rattle.std.specs.Prelude.{◌≡◌, ◌+◌, ◌-◌, ◌*◌, ◌<◌, ◌≤◌, map, replicate, vec_len, length, IfOk};
+ghost use Rattle.ans_model.specs.Bytes.{most_columns, most_lines};
+ghost use Rattle.ans_model.specs.State.{sized};
+ghost use Rattle.ans_model.specs.Step.{filled, line_feed, step, final};
+ghost use Rattle.ans_model.specs.Token.{Glyph, Clear, EraseLine};
+ghost use Rattle.ans_model.specs.View.{token_of};
+ghost use Rattle.ans_model.specs.Machine.{played};
+ghost use Rattle.ans_model.specs.Starts.{class_of, cleared, low_start, high_start};
+
+use crate::attribute::attribute_after_all;
+use crate::cell::{Cell, Position};
+use crate::kind::Kind;
+use crate::start::Start;
+use std::alloc::{AllocError, Global};
+use std::marker::Model;
+
+const BLANK: u8 = 0x20;
+
+const HOME: Position = Position { row: 0, column: 0 };
+
+fn fill(cells: &mut Vec<Cell>, from: usize, to: usize, cell: Cell)
+    requires ordered { from ≤ to }
+    requires within { to ≤ vec_len cells.old }
+    ensures { cells.new.items ≡ filled cells.old.items from to cell }
+{
+    cells[from..to].fill(cell);
+}
+
+/// The machine: its size, its screen in row order, and what it keeps beside the screen.
+#[derive(Drop)]
+pub struct Machine {
+    width: usize,
+    lines: usize,
+    screen: Vec<Cell>,
+    cursor: Position,
+    saved: Position,
+    attribute: u8,
+    wrap: bool,
+}
+
+impl Model for Machine {
+    ghost use Rattle.ans_model.specs.Machine.{Played, IsPlayed};
+
+    ghost Value = { Played };
+
+    ghost use Rattle.ans_model.specs.MachineInside.{shown_machine};
+
+    ghost view = { shown_machine };
+
+    ghost invariant = { λ m. IsPlayed (shown_machine m) };
+}
+
+impl Machine {
+    /// One row down; in the spare row the screen scrolls.
+    fn line_feed(&mut self)
+        ensures { self.new ≡ played self.old.size (line_feed self.old.size self.old.state) }
+    {
+        if self.cursor.row == self.lines {
+            let width = self.width;
+            let end = self.screen.len();
+            let blank = Cell {
+                byte: BLANK,
+                attribute: self.attribute,
+            };
+            self.screen.rotate_left(width);
+            fill(&mut self.screen, end - width, end, blank);
+        } else {
+            self.cursor.row += 1;
+        }
+    }
+
+    /// A byte at the cursor, which then goes on.
+    fn print(&mut self, byte: u8)
+        ensures { self.new ≡ played self.old.size (step self.old.size self.old.state (Glyph byte)) }
+    {
+        let at = self.cursor.row * self.width + self.cursor.column;
+        self.screen[at] = Cell {
+            byte,
+            attribute: self.attribute,
+        };
+        if self.cursor.column + 1 < self.width {
+            self.cursor.column += 1;
+        } else if self.wrap {
+            self.cursor.column = 0;
+            self.line_feed();
+        }
+    }
+
+    /// The cursor's cell and those right of it become blank.
+    fn erase_line(&mut self)
+        ensures { self.new ≡ played self.old.size (step self.old.size self.old.state EraseLine) }
+    {
+        let at = self.cursor.row * self.width + self.cursor.column;
+        let end = (self.cursor.row + 1) * self.width;
+        let blank = Cell {
+            byte: BLANK,
+            attribute: self.attribute,
+        };
+        fill(&mut self.screen, at, end, blank);
+    }
+
+    /// The whole screen becomes blank, and the cursor goes home.
+    fn clear(&mut self)
+        ensures { self.new ≡ played self.old.size (step self.old.size self.old.state Clear) }
+    {
+        let blank = Cell {
+            byte: BLANK,
+            attribute: self.attribute,
+        };
+        self.screen.fill(blank);
+        self.cursor = HOME;
+    }
+
+    /// One token, by the table of steps.
+    pub fn step(&mut self, kind: &Kind)
+        ensures { self.new ≡ played self.old.size (step self.old.size self.old.state (token_of kind.now)) }
+    {
+        let last_column = self.width - 1;
+        match kind {
+            Kind::Glyph(byte) => self.print(*byte),
+            Kind::LineFeed => self.line_feed(),
+            Kind::Clear => self.clear(),
+            Kind::EraseLine => self.erase_line(),
+            Kind::Up(n) => self.cursor.row = self.cursor.row.saturating_sub(*n as usize),
+            Kind::Down(n) => self.cursor.row = (self.cursor.row + *n as usize).min(self.lines),
+            Kind::Forward(n) => {
+                self.cursor.column = (self.cursor.column + *n as usize).min(last_column)
+            }
+            Kind::Backward(n) => self.cursor.column = self
+                .cursor
+                .column
+                .saturating_sub(*n as usize),
+            Kind::Place(row, column) => {
+                self.cursor = Position {
+                    row: (*row as usize).saturating_sub(1).min(self.lines),
+                    column: (*column as usize).saturating_sub(1).min(last_column),
+                }
+            }
+            Kind::BackSpace => self.cursor.column = self.cursor.column.saturating_sub(1),
+            Kind::CarriageReturn => self.cursor.column = 0,
+            Kind::Save => self.saved = self.cursor,
+            Kind::Restore => self.cursor = self.saved,
+            Kind::Colours(parameters) => {
+                self.attribute = attribute_after_all(self.attribute, parameters)
+            }
+            Kind::Wrap(on) => self.wrap = *on,
+            Kind::Bell | Kind::Tab | Kind::Mode | Kind::Keys | Kind::Ask => {}
+        }
+    }
+}
+
+impl Machine {
+    /// Tokens, one after the other.
+    pub fn play(&mut self, kinds: &[Kind])
+        ensures { self.new ≡ played self.old.size (final self.old.size self.old.state (map token_of kinds.now)) }
+    {
+        for kind in kinds {
+            self.step(kind);
+        }
+    }
+
+    /// The cursor's place.
+    pub fn cursor(&self) -> Position
+        ensures { result ≡ self.now.state.cursor }
+    {
+        self.cursor
+    }
+
+    /// The cells of the stated lines and of the spare row, in row order.
+    pub fn cells(&self) -> &[Cell]
+        ensures { result.now ≡ self.now.state.screen }
+    {
+        &self.screen
+    }
+}
+
+/// A machine of a size whose cells are all `cell`, with both cursors at `cursor`.
+fn machine_with(
+    alloc: Global,
+    width: usize,
+    lines: usize,
+    cell: Cell,
+    cursor: Position,
+    wrap: bool,
+) -> Result<Machine, AllocError>
+    requires some_columns { 0 < width }
+    requires columns { width ≤ most_columns }
+    requires some_lines { 0 < lines }
+    requires rows { lines ≤ most_lines }
+    requires on_screen { (cursor.row ≤ lines) × (cursor.column < width) }
+    ensures { IfOk result (λ m. m ≡ played (sized width lines) (record {
+        screen = replicate ((lines + 1) * width) cell;
+        cursor = cursor;
+        saved = cursor;
+        attribute = cell.attribute;
+        wrap = wrap;
+    })) }
+{
+    let screen = vec![in alloc; cell; (lines + 1) * width]?;
+    Ok(Machine {
+        width,
+        lines,
+        screen,
+        cursor,
+        saved: cursor,
+        attribute: cell.attribute,
+        wrap,
+    })
+}
+
+impl Machine {
+    /// The lowest start of a class: each part that is not known has its least value. For `Cleared`
+    /// this is the cleared state. Width is 1 to 1024 and lines are 1 to 8192.
+    pub fn low(
+        alloc: Global,
+        width: usize,
+        lines: usize,
+        start: Start,
+    ) -> Result<Machine, AllocError>
+        requires some_columns { 0 < width }
+        requires columns { width ≤ most_columns }
+        requires some_lines { 0 < lines }
+        requires rows { lines ≤ most_lines }
+        ensures { IfOk result (λ m. m ≡ played (sized width lines) (low_start (sized width lines) (class_of start))) }
+    {
+        match start {
+            Start::Any => {
+                let cell = Cell {
+                    byte: 0x00,
+                    attribute: 0x00,
+                };
+                machine_with(alloc, width, lines, cell, HOME, false)
+            }
+            Start::Cleared => Machine::cleared(alloc, width, lines),
+        }
+    }
+
+    /// The highest start of a class: each part that is not known has its greatest value. For
+    /// `Cleared` this is the cleared state. Width is 1 to 1024 and lines are 1 to 8192.
+    pub fn high(
+        alloc: Global,
+        width: usize,
+        lines: usize,
+        start: Start,
+    ) -> Result<Machine, AllocError>
+        requires some_columns { 0 < width }
+        requires columns { width ≤ most_columns }
+        requires some_lines { 0 < lines }
+        requires rows { lines ≤ most_lines }
+        ensures { IfOk result (λ m. m ≡ played (sized width lines) (high_start (sized width lines) (class_of start))) }
+    {
+        match start {
+            Start::Any => {
+                let cell = Cell {
+                    byte: 0xFF,
+                    attribute: 0xFF,
+                };
+                let last = Position {
+                    row: lines,
+                    column: width - 1,
+                };
+                machine_with(alloc, width, lines, cell, last, true)
+            }
+            Start::Cleared => Machine::cleared(alloc, width, lines),
+        }
+    }
+
+    /// The cleared state. Width is 1 to 1024 and lines are 1 to 8192.
+    pub fn cleared(alloc: Global, width: usize, lines: usize) -> Result<Machine, AllocError>
+        requires some_columns { 0 < width }
+        requires columns { width ≤ most_columns }
+        requires some_lines { 0 < lines }
+        requires rows { lines ≤ most_lines }
+        ensures { IfOk result (λ m. m ≡ played (sized width lines) (cleared (sized width lines))) }
+    {
+        let blank = Cell {
+            byte: BLANK,
+            attribute: 0x07,
+        };
+        machine_with(alloc, width, lines, blank, HOME, true)
+    }
+}
