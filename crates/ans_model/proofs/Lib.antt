@@ -1,4 +1,9 @@
+pub mod Slices
 pub mod Attributes
 pub mod WellFormed
 pub mod StartLemmas
 pub mod AttributeFieldsLemmas
+pub mod Places
+pub mod StepLemmas
+pub mod CleanLemmas
+pub mod ClassLemmas

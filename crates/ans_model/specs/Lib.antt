@@ -25,3 +25,5 @@ pub mod TokensText
 pub mod Machine
 pub mod MachineInside
 pub mod AttributeFields
+pub mod StepLaws
+pub mod StartLaws

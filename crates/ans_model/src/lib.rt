@@ -10,3 +10,5 @@ pub mod limits;
 pub mod machine;
 pub mod note;
 pub mod start;
+pub mod start_laws;
+pub mod step_laws;

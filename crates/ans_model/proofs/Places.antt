@@ -1,0 +1,46 @@
+-- Places and their indices in row order.
+use Rattle.std.proofs.Common.{◌≡◌, ◌≢◌, ◌⊎◌, inl, inr, ℕ, ◌+◌, ◌*◌, ◌<◌, ◌≤◌, refl, ap, ◌∙◌, sym, arith, add-mul, one-mul}
+use Rattle.std.proofs.lemmas.Bool.{cases_eq, cases_lt}
+use Rattle.std.proofs.lemmas.Nat.{mul-le}
+use Rattle.ans_model.specs.declared.cell.Position.{Position}
+use Rattle.ans_model.specs.State.{Size, at, IsOnScreen, IsStated, cell_count, index}
+use Rattle.ans_model.specs.StepLaws.{OnePlaceAnIndex}
+
+pub same_position : (p q : Position) → p.row ≡ q.row → p.column ≡ q.column → p ≡ q
+same_position p q r c = ap (λ (x : ℕ). at x p.column) r ∙ ap (λ (x : ℕ). at q.row x) c
+
+pub position_eq : (p q : Position) → (p ≡ q) ⊎ (p ≢ q)
+position_eq p q = elim (cases_eq p.row q.row) [
+  | inl r ↦ elim (cases_eq p.column q.column) [
+    | inl c ↦ inl (same_position p q r c)
+    | inr n ↦ inr (λ e. n (ap (λ (x : Position). x.column) e))
+  ]
+  | inr n ↦ inr (λ e. n (ap (λ (x : Position). x.row) e))
+]
+
+-- a row ends before the next one begins
+pub row_le : (z : Size) (a b : ℕ) → a < b → a * z.width + z.width ≤ b * z.width
+row_le z a b h =
+    let e : (a + 1) * z.width ≡ a * z.width + z.width = add-mul a 1 z.width ∙ ap (λ (n : ℕ). a * z.width + n) (one-mul z.width) in
+    omega (arith, e, mul-le (a + 1) z.width b z.width (omega arith) (omega arith))
+
+pub index-lt_row : (z : Size) (p q : Position) → p.column < z.width → p.row < q.row → index z p < index z q
+index-lt_row z p q c r = omega (arith, row_le z p.row q.row r)
+
+pub index-lt : (z : Size) (p : Position) → IsOnScreen z p → index z p < cell_count z
+index-lt z p h = omega (arith, row_le z p.row (z.lines + 1) (omega (arith, h.0)), h.1)
+
+pub index-lt_stated : (z : Size) (p : Position) → IsStated z p → index z p < z.lines * z.width
+index-lt_stated z p h = omega (arith, row_le z p.row z.lines h.0, h.1)
+
+pub one_place_an_index : OnePlaceAnIndex
+one_place_an_index z p q on_p on_q e = elim (cases_lt p.row q.row) [
+  | inl less ↦ absurd (omega (arith, index-lt_row z p q on_p.1 less))
+  | inr more ↦ elim (cases_lt q.row p.row) [
+    | inl less ↦ absurd (omega (arith, index-lt_row z q p on_q.1 less))
+    | inr other ↦
+        let row : p.row ≡ q.row = omega arith in
+        let start : p.row * z.width ≡ q.row * z.width = ap (λ (n : ℕ). n * z.width) row in
+        same_position p q row (omega (arith, start))
+  ]
+]
