@@ -191,11 +191,11 @@ fn machine_with(
     requires rows { lines ≤ most_lines }
     requires on_screen { (cursor.row ≤ lines) × (cursor.column < width) }
     ensures { IfOk result (λ m. m ≡ played (sized width lines) (record {
-        screen = replicate ((lines + 1) * width) cell;
-        cursor = cursor;
-        saved = cursor;
-        attribute = cell.attribute;
-        wrap = wrap;
+      screen = replicate ((lines + 1) * width) cell;
+      cursor = cursor;
+      saved = cursor;
+      attribute = cell.attribute;
+      wrap = wrap;
     })) }
 {
     let screen = vec![in alloc; cell; (lines + 1) * width]?;
@@ -282,3 +282,6 @@ impl Machine {
         machine_with(alloc, width, lines, blank, HOME, true)
     }
 }
+
+#[cfg(test)]
+mod tests;
