@@ -14,6 +14,7 @@ pub mod Step
 pub mod Starts
 pub mod TokenFault
 pub mod Good
+pub mod Certain
 pub mod FirstFault
 pub mod LastFault
 pub mod Glyphs

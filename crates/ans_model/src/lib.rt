@@ -7,3 +7,4 @@ pub mod kind;
 pub mod limits;
 pub mod note;
 pub mod start;
+pub mod text_laws;
