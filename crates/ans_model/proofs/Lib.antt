@@ -6,3 +6,6 @@ pub mod Reading
 pub mod Refusing
 pub mod OneCause
 pub mod OneAnswer
+pub mod Layouts
+pub mod FirstRefusal
+pub mod NoteOrder

@@ -3,6 +3,7 @@ pub mod Record
 pub mod Layout
 pub mod Notes
 pub mod Refusals
+pub mod FileLaws
 pub mod Token
 pub mod View
 pub mod Sequence

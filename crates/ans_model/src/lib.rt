@@ -3,6 +3,7 @@
 
 pub mod cell;
 pub mod fault;
+pub mod file_laws;
 pub mod kind;
 pub mod limits;
 pub mod note;
