@@ -9,3 +9,7 @@ pub mod OneAnswer
 pub mod Layouts
 pub mod FirstRefusal
 pub mod NoteOrder
+pub mod CellsBack
+pub mod OwnCharacters
+pub mod OwnLines
+pub mod WholeLines

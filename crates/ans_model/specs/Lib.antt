@@ -24,3 +24,4 @@ pub mod FaultText
 pub mod ReportText
 pub mod RecordText
 pub mod TokensText
+pub mod Lines

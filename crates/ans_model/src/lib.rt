@@ -7,5 +7,6 @@ pub mod file_laws;
 pub mod kind;
 pub mod limits;
 pub mod note;
+pub mod report_laws;
 pub mod start;
 pub mod text_laws;
