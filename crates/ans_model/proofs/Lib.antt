@@ -13,3 +13,4 @@ pub mod CellsBack
 pub mod OwnCharacters
 pub mod OwnLines
 pub mod WholeLines
+pub mod Scanning

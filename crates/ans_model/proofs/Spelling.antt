@@ -6,6 +6,7 @@ use Rattle.std.specs.List.{AllZip, join_with_byte, list_all}
 use Rattle.std.specs.Char.{is_ascii_digit, is_ascii_alphabetic}
 use Rattle.std.specs.Str.Parse.{digits_value}
 use Rattle.ans_model.specs.Bytes.{escape, bracket, semicolon}
+use Rattle.ans_model.specs.Parts.{is_stop}
 use Rattle.ans_model.specs.Sequence.{Mark, Unmarked, Equals, Question, Member, Omitted, Number, Quoted, Raw, mark_bytes, is_quote, SpellsMember, Loose, OneSpellingInFront}
 
 -- both parts of a test that passes
@@ -36,10 +37,6 @@ run_law p (u ∷ a) (v ∷ b) c d x y ha hb hc hd e =
     let same : u ≡ v = head_of e in
     let front : a ≡ b = h.0 in
     (cc, h.1, h.2)
-
--- what stands behind a member: `;` or the letter
-abbrev pub is_stop : ℕ → Bool
-is_stop c = c == semicolon || is_ascii_alphabetic c
 
 pub stop_no_digit : (c : ℕ) → is_stop c ≡ true → is_ascii_digit c ≡ false
 stop_no_digit c h = grind (arith, nat_tests)

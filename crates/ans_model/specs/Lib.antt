@@ -7,6 +7,7 @@ pub mod FileLaws
 pub mod Token
 pub mod View
 pub mod Sequence
+pub mod Parts
 pub mod Meaning
 pub mod Reads
 pub mod Attribute
