@@ -7,3 +7,16 @@ pub mod Places
 pub mod StepLemmas
 pub mod CleanLemmas
 pub mod ClassLemmas
+pub mod Spelling
+pub mod Reading
+pub mod Refusing
+pub mod OneCause
+pub mod OneAnswer
+pub mod Layouts
+pub mod FirstRefusal
+pub mod NoteOrder
+pub mod CellsBack
+pub mod OwnCharacters
+pub mod OwnLines
+pub mod WholeLines
+pub mod Scanning

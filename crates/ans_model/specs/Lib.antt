@@ -3,9 +3,11 @@ pub mod Record
 pub mod Layout
 pub mod Notes
 pub mod Refusals
+pub mod FileLaws
 pub mod Token
 pub mod View
 pub mod Sequence
+pub mod Parts
 pub mod Meaning
 pub mod Reads
 pub mod Attribute
@@ -14,6 +16,7 @@ pub mod Step
 pub mod Starts
 pub mod TokenFault
 pub mod Good
+pub mod Certain
 pub mod FirstFault
 pub mod LastFault
 pub mod Glyphs
@@ -27,3 +30,4 @@ pub mod MachineInside
 pub mod AttributeFields
 pub mod StepLaws
 pub mod StartLaws
+pub mod Lines
