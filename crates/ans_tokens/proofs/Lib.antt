@@ -1,0 +1,4 @@
+pub mod KeptLaw
+pub mod StepLemmas
+pub mod ShowsLemmas
+pub mod OpenLemmas

@@ -1,0 +1,58 @@
+-- What is unfinished, and what is refused, behind each open part.
+use Rattle.std.proofs.Common.{◌≢◌, inl, inr, ℕ, ◌<◌, List, [], ◌∷◌, ◌++◌, length, refl, arith, append_assoc}
+use Rattle.ans_model.specs.Bytes.{escape, bracket}
+use Rattle.ans_model.specs.declared.fault.Cause.{Cause}
+use Rattle.ans_model.specs.declared.fault.Cause.TheVariants.{BrokenSequence}
+use Rattle.ans_model.specs.Sequence.{IsUnfinished, IsPrefixOfLoose, IsPrefixOfSpelling}
+use Rattle.ans_model.specs.Parts.{Part, SpellsPart}
+use Rattle.ans_model.specs.FirstFault.{IsWhy, IsRefused}
+use Rattle.ans_model.proofs.Spelling.{head_of, tail_of}
+use Rattle.ans_model.proofs.Scanning.{part_unfinished}
+use Rattle.ans_tokens.specs.Shows.{begun}
+use Rattle.ans_tokens.proofs.StepLemmas.{loose_spells}
+
+-- behind `[`
+pub begun_spells : SpellsPart begun (escape ∷ bracket ∷ [])
+begun_spells = record {
+  loose = record { front = []; last = []; done = refl; current = refl; whole = refl };
+  numbers = tt;
+  last_number = tt;
+  room = omega arith;
+}
+
+-- a front of what is unfinished is unfinished, if it is not empty
+shorter : (a b : List ℕ) → 0 < length a → IsUnfinished (a ++ b) → IsUnfinished a
+shorter a b begun h = record {
+  raw = h.raw;
+  rest = b ++ h.rest;
+  spelled = rw (← append_assoc a b h.rest) h.spelled;
+  begun = begun;
+  more = longer b h.rest h.more;
+}
+  where
+    longer : (x y : List ℕ) → 0 < length y → 0 < length (x ++ y)
+    longer [] y l = l
+    longer (u ∷ x) y l = omega arith
+
+pub bracket_unfinished : IsUnfinished (escape ∷ bracket ∷ [])
+bracket_unfinished = part_unfinished begun (escape ∷ bracket ∷ []) begun_spells
+
+pub escape_unfinished : IsUnfinished (escape ∷ [])
+escape_unfinished = shorter (escape ∷ []) (bracket ∷ []) (omega arith) bracket_unfinished
+
+-- behind ESC only `[` may come
+not_bracket : (b : ℕ) → b ≢ bracket → ¬ IsPrefixOfLoose (escape ∷ b ∷ [])
+not_bracket b n h = n (head_of (tail_of h.spelled.whole))
+
+pub escape_refused : (b : ℕ) → b ≢ bracket → IsRefused (escape ∷ b ∷ []) BrokenSequence
+escape_refused b n = inr (record {
+  part = escape ∷ [];
+  byte = b;
+  whole = refl;
+  unfinished = escape_unfinished;
+  not_prefix = loose_spells (escape ∷ b ∷ []) (not_bracket b n);
+  why = inl (not_bracket b n, refl);
+})
+
+pub broken : (part : Part) (y : List ℕ) (b : ℕ) (cause : Cause) → SpellsPart part y → ¬ IsPrefixOfSpelling (y ++ b ∷ []) → IsWhy (y ++ b ∷ []) b cause → IsRefused (y ++ b ∷ []) cause
+broken part y b cause h none why = inr (record { part = y; byte = b; whole = refl; unfinished = part_unfinished part y h; not_prefix = none; why = why })

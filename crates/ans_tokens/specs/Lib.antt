@@ -1,0 +1,5 @@
+pub mod Token
+pub mod Mark
+pub mod Kept
+pub mod Shows
+pub mod Holds

@@ -1,0 +1,53 @@
+-- What the state of an unfinished sequence says of its bytes, and what a step may answer.
+use Rattle.std.specs.Prelude.{◌≡◌, ◌≢◌, ℕ, false, List, [], ◌∷◌, ◌++◌, map}
+use Rattle.std.specs.List.{list_any}
+use Rattle.ans_model.specs.Sequence.{Mark, Unmarked, Omitted, mark_bytes, Spells, IsPrefixOfSpelling}
+use Rattle.ans_model.specs.Meaning.{colour_number, is_quoted}
+use Rattle.ans_model.specs.Parts.{Part, Current, Fresh, InNumber, InString, AfterString, SpellsPart, lacks, member_of, members_of, raw_of}
+use Rattle.ans_model.specs.FirstFault.{IsWhy}
+use Rattle.ans_tokens.specs.Mark.{mark_of, is_mark_byte}
+use Rattle.ans_tokens.specs.declared.unfinished.Current as code_current
+use Rattle.ans_tokens.specs.declared.unfinished.Current.TheVariants as current
+use Rattle.ans_tokens.specs.declared.unfinished.Step.{Step}
+use Rattle.ans_tokens.specs.declared.unfinished.Step.TheVariants.{More, Letter, Refused}
+use Rattle.ans_tokens.specs.declared.unfinished.Unfinished.{Unfinished}
+
+-- the text of a string is not kept
+abbrev pub ShowsCurrent : code_current.Current → Current → Type 0
+ShowsCurrent current.Fresh c = c ≡ Fresh
+ShowsCurrent (current.InNumber n) c = c ≡ InNumber n
+ShowsCurrent (current.InString quote) c = (text : List ℕ) × (c ≡ InString quote text)
+ShowsCurrent current.AfterString c = (quote : ℕ) × (text : List ℕ) × (c ≡ AfterString quote text)
+
+-- the state is that of such a part
+pub record Shows (held : Unfinished) (part : Part) : Type 0 where
+  pub mark_is : part.mark ≡ mark_of held.mark
+  pub numbers : map colour_number part.done ≡ held.done.items
+  pub quoted_is : list_any is_quoted part.done ≡ held.quoted
+  pub current_is : ShowsCurrent held.current part.current
+
+-- directly behind `[`
+abbrev pub begun : Part
+begun = record { mark = Unmarked; done = []; current = Fresh }
+
+-- the byte is this mark, directly behind `[`
+abbrev pub IsMarkAt : Part → Mark → ℕ → Type 0
+IsMarkAt part mark byte = (part.mark ≡ Unmarked) × (part.done ≡ []) × (mark_bytes mark ≡ byte ∷ [])
+
+-- directly behind `[` the byte is no mark
+abbrev pub IsNoMarkAt : Part → ℕ → Type 0
+IsNoMarkAt part byte = part.mark ≡ Unmarked → part.done ≡ [] → is_mark_byte byte ≡ false
+
+-- a letter may come next: the list is not that of one omitted member, and no string is open
+abbrev pub IsWhole : Part → Type 0
+IsWhole part = (lacks part.current ≡ []) × (members_of part.done part.current ≢ Omitted ∷ [])
+
+-- behind the `;` that ends the current member
+abbrev pub with_next : Part → Part
+with_next part = record { mark = part.mark; done = part.done ++ member_of part.current ∷ []; current = Fresh }
+
+-- Behind a part that spells y, the byte b: the sequence goes on, b is its letter, or no sequence goes on so.
+abbrev pub Outcome : Step → Unfinished → Part → List ℕ → ℕ → Type 0
+Outcome More held part y b = (next : Part) × Shows held next × SpellsPart next (y ++ b ∷ [])
+Outcome Letter held part y b = Shows held part × (lacks part.current ≡ []) × Spells (raw_of part b) (y ++ b ∷ [])
+Outcome (Refused cause) held part y b = ¬ IsPrefixOfSpelling (y ++ b ∷ []) × IsWhy (y ++ b ∷ []) b cause

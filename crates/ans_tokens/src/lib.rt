@@ -1,0 +1,17 @@
+//! Which bytes of a content form which token: the sequences of ANSI.SYS, exactly.
+//!
+//! A `Scanner` is given one byte at a time. It answers a token where the bytes since the last one
+//! spell it, nothing where they begin a spelling, and a fault where they begin none. The
+//! definitions stand in `ans_model`: `Sequence`, `Meaning` and `Reads`.
+#![tactic(auto)]
+
+mod mark;
+mod meaning;
+mod scanner;
+mod token;
+mod unfinished;
+
+pub use ans_model::fault::{Cause, Fault};
+pub use ans_model::kind::Kind;
+pub use scanner::Scanner;
+pub use token::Token;

@@ -1,0 +1,35 @@
+//! What may stand directly behind `[`.
+
+ghost use Rattle.std.specs.Prelude.{◌≡◌, ◌∷◌, [], false, MatchOption};
+ghost use Rattle.ans_model.specs.Sequence.{mark_bytes};
+ghost use Rattle.ans_model.specs.Meaning.{is_marked};
+ghost use Rattle.ans_tokens.specs.Mark.{mark_of, is_mark_byte};
+
+/// The mark of a sequence: none, `=` or `?`.
+#[derive(Debug, Clone, Copy, PartialEq, Eq)]
+pub(crate) enum Mark {
+    Unmarked,
+    Equals,
+    Question,
+}
+
+/// Whether there is a mark.
+pub(crate) fn has_mark(mark: Mark) -> bool
+    ensures { result ≡ is_marked (mark_of mark) }
+{
+    match mark {
+        Mark::Unmarked => false,
+        Mark::Equals | Mark::Question => true,
+    }
+}
+
+/// The mark that a byte is.
+pub(crate) fn mark_of_byte(byte: u8) -> Option<Mark>
+    ensures { MatchOption result (is_mark_byte byte ≡ false) (λ mark. mark_bytes (mark_of mark) ≡ byte ∷ []) }
+{
+    match byte {
+        b'=' => Some(Mark::Equals),
+        b'?' => Some(Mark::Question),
+        _ => None,
+    }
+}

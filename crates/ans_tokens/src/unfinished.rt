@@ -1,0 +1,216 @@
+//! A sequence of which bytes are still to come.
+
+ghost use Rattle.std.specs.Prelude.{◌≤◌};
+ghost use Rattle.arrayvec.specs.ArrayVec.{array_vec_len};
+
+use crate::mark::{Mark, has_mark, mark_of_byte};
+use crate::meaning::kind_meant;
+use ans_model::fault::Cause;
+use ans_model::kind::Kind;
+use arrayvec::ArrayVec;
+use std::mem;
+
+/// What there is of the member that is being read.
+#[derive(Debug, Clone, Copy, PartialEq, Eq)]
+pub(crate) enum Current {
+    /// Nothing yet.
+    Fresh,
+    /// Digits of this value.
+    InNumber(u8),
+    /// A string that ends at this quote.
+    InString(u8),
+    /// A string that has ended.
+    AfterString,
+}
+
+impl Current {
+    ghost use Rattle.std.specs.Prelude.{◌≡◌, true, false, MatchBool};
+    ghost use Rattle.ans_model.specs.Parts as parts;
+    ghost use Rattle.ans_model.specs.Parts.{member_of};
+    ghost use Rattle.ans_model.specs.Meaning.{colour_number, is_quoted};
+    ghost use Rattle.ans_tokens.specs.Shows.{ShowsCurrent};
+
+    /// Whether there is nothing of the member yet.
+    fn is_fresh(self) -> bool
+        ensures { (current : parts.Current) → ShowsCurrent self current
+            → MatchBool result (current ≡ parts.Fresh) (current ≡ parts.Fresh → ⊥) }
+    {
+        matches!(self, Current::Fresh)
+    }
+
+    /// Whether the member is a string.
+    fn is_string(self) -> bool
+        ensures { (current : parts.Current) → ShowsCurrent self current → result ≡ is_quoted (member_of current) }
+    {
+        matches!(self, Current::InString(_) | Current::AfterString)
+    }
+
+    /// The number that stands for the member.
+    fn number(self) -> u8
+        ensures { (current : parts.Current) → ShowsCurrent self current → result ≡ colour_number (member_of current) }
+    {
+        match self {
+            Current::InNumber(value) => value,
+            _ => 0,
+        }
+    }
+}
+
+/// What the next byte makes of an unfinished sequence.
+#[derive(Debug, Clone, Copy, PartialEq, Eq)]
+pub(crate) enum Step {
+    /// It is still unfinished.
+    More,
+    /// The byte is its letter.
+    Letter,
+    /// No sequence goes on so.
+    Refused(Cause),
+}
+
+/// The bytes since `ESC [`. Of each member a number is kept, 0 where it is none.
+#[derive(Debug, Drop)]
+pub(crate) struct Unfinished {
+    mark: Mark,
+    /// The members that a `;` has ended.
+    done: ArrayVec<u8, 16>,
+    /// Whether a string is among them.
+    quoted: bool,
+    current: Current,
+    ghost room: { array_vec_len done ≤ 15 },
+}
+
+impl Unfinished {
+    ghost use Rattle.std.specs.Prelude.{◌≡◌, ◌<◌, ◌++◌, ◌∷◌, [], ℕ, List, map, false, MatchOption, MatchResult, Ok, Err};
+    ghost use Rattle.ans_model.specs.Parts.{Part, Fresh, SpellsPart, is_stop, lacks, members_of, raw_of};
+    ghost use Rattle.ans_model.specs.Sequence.{IsPrefixOfLoose};
+    ghost use Rattle.ans_model.specs.Meaning.{meaning, colour_number};
+    ghost use Rattle.ans_model.specs.View.{token_of};
+    ghost use Rattle.ans_tokens.specs.Mark.{mark_of};
+    ghost use Rattle.ans_tokens.specs.Shows.{Shows, Outcome, IsMarkAt, IsNoMarkAt, IsWhole, begun, with_next};
+
+    /// Directly behind `[`.
+    pub(crate) fn new() -> Unfinished
+        ensures { Shows result begun }
+    {
+        Unfinished {
+            mark: Mark::Unmarked,
+            done: ArrayVec::new(),
+            quoted: false,
+            current: Current::Fresh,
+        }
+    }
+
+    /// Takes the next byte.
+    pub(crate) fn advance(&mut self, byte: u8) -> Step
+        ensures { (part : Part) (y : List ℕ) → Shows self.old part → SpellsPart part y
+            → Outcome result self.new part y byte }
+    {
+        match self.current {
+            Current::InString(quote) => {
+                if byte == quote {
+                    self.current = Current::AfterString;
+                }
+                Step::More
+            }
+            Current::AfterString => self.stop(byte),
+            Current::InNumber(value) => {
+                if !byte.is_ascii_digit() {
+                    return self.stop(byte);
+                }
+                let next = value as u16 * 10 + (byte - b'0') as u16;
+                if next > 255 {
+                    return Step::Refused(Cause::NumberTooLarge);
+                }
+                self.current = Current::InNumber(next as u8);
+                Step::More
+            }
+            Current::Fresh => self.begin(byte),
+        }
+    }
+
+    /// Takes a byte where a member may begin.
+    fn begin(&mut self, byte: u8) -> Step
+        requires { (part : Part) → Shows self.old part → part.current ≡ Fresh }
+        ensures { (part : Part) (y : List ℕ) → Shows self.old part → SpellsPart part y
+            → Outcome result self.new part y byte }
+    {
+        if byte.is_ascii_digit() {
+            self.current = Current::InNumber(byte - b'0');
+            return Step::More;
+        }
+        if byte == b'"' || byte == b'\'' {
+            self.current = Current::InString(byte);
+            return Step::More;
+        }
+        if let Some(mark) = self.mark_at(byte) {
+            self.mark = mark;
+            return Step::More;
+        }
+        self.stop(byte)
+    }
+
+    /// The mark that the byte is, where a mark may stand.
+    fn mark_at(&self, byte: u8) -> Option<Mark>
+        ensures { (part : Part) → Shows self.now part
+            → MatchOption result (IsNoMarkAt part byte) (λ mark. IsMarkAt part (mark_of mark) byte) }
+    {
+        if self.done.is_empty() && !has_mark(self.mark) {
+            mark_of_byte(byte)
+        } else {
+            None
+        }
+    }
+
+    /// Takes a byte behind a whole member.
+    fn stop(&mut self, byte: u8) -> Step
+        requires { (part : Part) → Shows self.old part → lacks part.current ≡ [] }
+        ensures { (part : Part) (y : List ℕ) → Shows self.old part → SpellsPart part y
+            → (is_stop byte ≡ false → ¬ IsPrefixOfLoose (y ++ byte ∷ [])) → Outcome result self.new part y byte }
+    {
+        if byte == b';' {
+            if self.done.len() >= 15 {
+                return Step::Refused(Cause::TooManyParameters);
+            }
+            self.end_member();
+            Step::More
+        } else if byte.is_ascii_alphabetic() {
+            Step::Letter
+        } else {
+            Step::Refused(Cause::BrokenSequence)
+        }
+    }
+
+    /// Ends the current member at a `;`.
+    fn end_member(&mut self)
+        requires { array_vec_len self.old.done < 15 }
+        ensures { (part : Part) → Shows self.old part → Shows self.new (with_next part) }
+    {
+        self.done.push(self.current.number());
+        self.quoted = self.quoted || self.current.is_string();
+        self.current = Current::Fresh;
+    }
+
+    /// The numbers of all members, where a letter comes next. Those that are done are taken.
+    fn take_numbers(&mut self) -> ArrayVec<u8, 16>
+        ensures { (part : Part) → Shows self.old part
+            → result.items ≡ map colour_number (members_of part.done part.current) }
+    {
+        let mut numbers = mem::replace(&mut self.done, ArrayVec::new());
+        if !(numbers.is_empty() && self.current.is_fresh()) {
+            numbers.push(self.current.number());
+        }
+        numbers
+    }
+
+    /// What the sequence means with this letter behind it. Afterwards nothing is left of it.
+    pub(crate) fn finish(&mut self, letter: u8) -> Result<Kind, Cause>
+        ensures { (part : Part) → Shows self.old part → IsWhole part
+            → MatchResult result (λ kind. meaning (raw_of part letter) ≡ Ok (token_of kind))
+            (λ cause. meaning (raw_of part letter) ≡ Err cause) }
+    {
+        let mark = self.mark;
+        let quoted = self.quoted || self.current.is_string();
+        let numbers = self.take_numbers();
+        kind_meant(mark, numbers, quoted, letter)
+    }
+}
