@@ -14,3 +14,4 @@ pub mod OwnCharacters
 pub mod OwnLines
 pub mod WholeLines
 pub mod Scanning
+pub mod SpellingExamples

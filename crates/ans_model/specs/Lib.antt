@@ -26,3 +26,4 @@ pub mod ReportText
 pub mod RecordText
 pub mod TokensText
 pub mod Lines
+pub mod TextExamples

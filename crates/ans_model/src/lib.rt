@@ -9,4 +9,5 @@ pub mod limits;
 pub mod note;
 pub mod report_laws;
 pub mod start;
+pub mod text_examples;
 pub mod text_laws;
