@@ -15,3 +15,4 @@ pub mod OwnLines
 pub mod WholeLines
 pub mod Scanning
 pub mod SpellingExamples
+pub mod SequenceExamples
