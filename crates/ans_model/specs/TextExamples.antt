@@ -1,8 +1,14 @@
 -- Files and contents of the examples.
-use Rattle.std.specs.Prelude.{◌≡◌, ℕ, List, [], ◌∷◌, ◌++◌, codes, replicate, None}
+use Rattle.std.specs.Prelude.{◌≡◌, ℕ, List, [], ◌∷◌, ◌++◌, codes, replicate, Option, None}
 use Rattle.std.specs.Int.{to_le_bytes, w16, w32}
 use Rattle.ans_model.specs.Bytes.{escape, blank, end_mark}
+use Rattle.ans_model.specs.declared.fault.Fault.{Fault}
 use Rattle.ans_model.specs.declared.note.Note.{Note}
+use Rattle.ans_model.specs.declared.start.Start.{Start}
+use Rattle.ans_model.specs.declared.cell.Cell.{Cell}
+use Rattle.ans_model.specs.State.{Size}
+use Rattle.ans_model.specs.Good.{Picture}
+use Rattle.ans_model.specs.ReportText.{Heading}
 use Rattle.ans_model.specs.Layout.{comment_block}
 use Rattle.ans_model.specs.Refusals.{record_fault}
 use Rattle.ans_model.specs.Notes.{notes}
@@ -59,10 +65,24 @@ sample_record =
 abbrev pub sample_comment : List ℕ
 sample_comment = padded_with 59 (codes "hello")
 
+-- what refuses the file of a body and a record
+abbrev pub fault_with : List ℕ → Fields → Option Fault
+fault_with body f = record_fault (body ++ record_of f)
+
 -- The file of a body, so many comments and a record is accepted, with these notes.
 abbrev pub IsAcceptedWith : List ℕ → List ℕ → Fields → List Note → Type 0
 IsAcceptedWith body comment_bytes f expected =
     (record_fault (body ++ comment_block f.comments comment_bytes ++ record_of f) ≡ None) × (notes body (record_of f) ≡ expected)
+
+abbrev pub IsAccepted : List ℕ → Fields → List Note → Type 0
+IsAccepted body f expected = IsAcceptedWith body [] f expected
+
+-- ---- reports
+abbrev pub heading : Size → Start → ℕ → List Note → Heading
+heading size start content_length expected = record { size = size; start = start; content_length = content_length; notes = expected }
+
+abbrev pub picture : Size → List Cell → Picture
+picture size cells = record { size = size; cells = cells }
 
 -- ---- contents
 -- ESC and a text
