@@ -1,6 +1,6 @@
 //! Examples of files, sequences and texts, one a clause, worked out apart from the definitions.
 
-ghost use Rattle.std.specs.Prelude.{◌≡◌, ◌++◌, [], ◌∷◌, ℕ, List, codes, length, take, replicate, true, false, Some, None};
+ghost use Rattle.std.specs.Prelude.{◌≡◌, ◌++◌, [], ◌∷◌, codes, replicate, true, false, Some, None};
 ghost use Rattle.ans_model.specs.Bytes.{end_mark};
 ghost use Rattle.ans_model.specs.Token.{Bell, BackSpace, LineFeed, CarriageReturn, Glyph, Up, Down, Forward, Backward, Place, Clear, EraseLine, Save, Restore, Colours, Wrap, Mode, Keys, Ask, Tab};
 ghost use Rattle.ans_model.specs.declared.fault.Cause.TheVariants.{NoRecord, WrongVersion, WrongKind, CommentsMissing, LinesUnstated, WidthTooLarge, LinesTooLarge, BytesAfterEndMark, BrokenSequence, NumberTooLarge, TooManyParameters, EndInSequence, UnknownSequence, WrongParameters, PrintUnknownPlace, UnknownCell};
@@ -19,7 +19,7 @@ ghost use Rattle.ans_model.specs.FaultText.{fault_line};
 ghost use Rattle.ans_model.specs.ReportText.{heading_text, report_text, refusal_text, cells_line, Passed, RefusedFor};
 ghost use Rattle.ans_model.specs.RecordText.{record_text};
 ghost use Rattle.ans_model.specs.TokensText.{TokensText};
-ghost use Rattle.ans_model.specs.TextExamples.{Fields, plain, record_of, fault_with, heading, picture, hi, sample_record, sample_comment, IsAccepted, IsAcceptedWith, esc, cut_content, short_forms, other_kinds};
+ghost use Rattle.ans_model.specs.TextExamples.{plain, record_of, fault_with, heading, picture, hi, sample_record, sample_comment, IsAccepted, IsAcceptedWith, esc, cut_content, short_forms, other_kinds};
 
 /// Files that are refused, each for one thing.
 pub fn refused_files()
