@@ -71,6 +71,9 @@ backward_with_leading_zeros = token (sequence Unmarked (Number 255 ∷ []) 0x44)
 pub place_by_H : SpellsToken (Place 3 1) (esc (codes "[3;1H"))
 place_by_H = token (sequence Unmarked (Number 3 ∷ Number 1 ∷ []) 0x48) (Place 3 1) _ (spelled _ ((codes "3") ∷ (codes "1") ∷ []) ((omega arith, refl, refl), ((omega arith, refl, refl), tt)) (λ e. cc) refl (omega arith, (omega arith, tt)) (omega arith)) refl
 
+pub place_in_the_row_below : SpellsToken (Place 2 2) (esc (codes "[2;2H"))
+place_in_the_row_below = token (sequence Unmarked (Number 2 ∷ Number 2 ∷ []) 0x48) (Place 2 2) _ (spelled _ ((codes "2") ∷ (codes "2") ∷ []) ((omega arith, refl, refl), ((omega arith, refl, refl), tt)) (λ e. cc) refl (omega arith, (omega arith, tt)) (omega arith)) refl
+
 pub place_by_f : SpellsToken (Place 1 3) (esc (codes "[1;3f"))
 place_by_f = token (sequence Unmarked (Number 1 ∷ Number 3 ∷ []) 0x66) (Place 1 3) _ (spelled _ ((codes "1") ∷ (codes "3") ∷ []) ((omega arith, refl, refl), ((omega arith, refl, refl), tt)) (λ e. cc) refl (omega arith, (omega arith, tt)) (omega arith)) refl
 
@@ -179,6 +182,9 @@ erase_with_two_omitted = refused (sequence Unmarked (Omitted ∷ Omitted ∷ [])
 
 pub string_before_m : IsRefused (esc (codes "[\"x\"m")) WrongParameters
 string_before_m = refused (sequence Unmarked (Quoted 0x22 (codes "x") ∷ []) 0x6D) WrongParameters _ (spelled _ ((codes "\"x\"") ∷ []) ((refl, refl, refl), tt) (λ e. cc) refl (tt, tt) (omega arith)) refl
+
+pub letter_in_a_string : IsRefused (esc (codes "[\"p\"m")) WrongParameters
+letter_in_a_string = refused (sequence Unmarked (Quoted 0x22 (codes "p") ∷ []) 0x6D) WrongParameters _ (spelled _ ((codes "\"p\"") ∷ []) ((refl, refl, refl), tt) (λ e. cc) refl (tt, tt) (omega arith)) refl
 
 pub string_behind_a_mark : IsRefused (esc (codes "[?\"7\"h")) WrongParameters
 string_behind_a_mark = refused (sequence Question (Quoted 0x22 (codes "7") ∷ []) 0x68) WrongParameters _ (spelled _ ((codes "\"7\"") ∷ []) ((refl, refl, refl), tt) (λ e. cc) refl (tt, tt) (omega arith)) refl

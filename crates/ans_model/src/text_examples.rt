@@ -140,6 +140,7 @@ pub fn sequences_with_a_meaning()
     ensures backward_by_the_largest_number { SpellsToken (Backward 255) (esc (codes "[255D")) }
     ensures backward_with_leading_zeros { SpellsToken (Backward 255) (esc (codes "[000255D")) }
     ensures place_by_H { SpellsToken (Place 3 1) (esc (codes "[3;1H")) }
+    ensures place_in_the_row_below { SpellsToken (Place 2 2) (esc (codes "[2;2H")) }
     ensures place_by_f { SpellsToken (Place 1 3) (esc (codes "[1;3f")) }
     ensures place_with_row_omitted { SpellsToken (Place 1 3) (esc (codes "[;3f")) }
     ensures place_with_column_omitted { SpellsToken (Place 2 1) (esc (codes "[2;f")) }
@@ -183,6 +184,7 @@ pub fn sequences_refused_for_their_meaning()
     ensures erase_by_one { IsRefused (esc (codes "[1K")) WrongParameters }
     ensures erase_with_two_omitted { IsRefused (esc (codes "[;K")) WrongParameters }
     ensures string_before_m { IsRefused (esc (codes "[\"x\"m")) WrongParameters }
+    ensures letter_in_a_string { IsRefused (esc (codes "[\"p\"m")) WrongParameters }
     ensures string_behind_a_mark { IsRefused (esc (codes "[?\"7\"h")) WrongParameters }
     ensures string_before_h { IsRefused (esc (codes "[\"7\"h")) WrongParameters }
     ensures save_with_a_number { IsRefused (esc (codes "[1s")) WrongParameters }
@@ -234,6 +236,8 @@ pub fn token_texts()
         None (codes "0 14 keys\n") }
     ensures key_with_escape { TokensText (esc (codes "[\"" ++ esc (codes "[2J\"p")))
         None (codes "0 9 keys\n") }
+    ensures escape_alone { TokensText (esc []) (Some (fault_at 0 EndInSequence))
+        (codes "at 0: F12 content ends in a sequence\n") }
     ensures unfinished { TokensText (esc (codes "[3")) (Some (fault_at 0 EndInSequence))
         (codes "at 0: F12 content ends in a sequence\n") }
     ensures number_above_the_limit { TokensText (esc (codes "[256C"))

@@ -31,6 +31,9 @@ returns-clause-erase_with_two_omitted c = example.erase_with_two_omitted
 pub returns-clause-string_before_m : goal.returns-clause-string_before_m
 returns-clause-string_before_m c = example.string_before_m
 
+pub returns-clause-letter_in_a_string : goal.returns-clause-letter_in_a_string
+returns-clause-letter_in_a_string c = example.letter_in_a_string
+
 pub returns-clause-string_behind_a_mark : goal.returns-clause-string_behind_a_mark
 returns-clause-string_behind_a_mark c = example.string_behind_a_mark
 

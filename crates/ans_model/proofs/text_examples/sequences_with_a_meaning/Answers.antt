@@ -37,6 +37,9 @@ returns-clause-backward_with_leading_zeros c = example.backward_with_leading_zer
 pub returns-clause-place_by_H : goal.returns-clause-place_by_H
 returns-clause-place_by_H c = example.place_by_H
 
+pub returns-clause-place_in_the_row_below : goal.returns-clause-place_in_the_row_below
+returns-clause-place_in_the_row_below c = example.place_in_the_row_below
+
 pub returns-clause-place_by_f : goal.returns-clause-place_by_f
 returns-clause-place_by_f c = example.place_by_f
 

@@ -86,6 +86,10 @@ returns-clause-key_with_escape c = record {
   text_is = refl;
 }
 
+pub returns-clause-escape_alone : goal.returns-clause-escape_alone
+unfolding digits
+returns-clause-escape_alone c = spelling.cut_at_once _ spelling.escape_unfinished
+
 pub returns-clause-unfinished : goal.returns-clause-unfinished
 unfolding digits
 returns-clause-unfinished c = spelling.cut_at_once _ (part_unfinished _ _ spelling.three_part)
