@@ -20,3 +20,5 @@ pub mod OwnCharacters
 pub mod OwnLines
 pub mod WholeLines
 pub mod Scanning
+pub mod SpellingExamples
+pub mod SequenceExamples

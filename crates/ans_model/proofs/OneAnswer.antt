@@ -1,5 +1,5 @@
 -- Of good, a first fault and a last fault bytes have one at most, and each of them once.
-use Rattle.std.proofs.Common.{◌≡◌, ◌⊎◌, inl, inr, ℕ, ◌+◌, ◌<◌, List, [], ◌∷◌, ◌++◌, length, take, refl, ap, ap₂, sym, ◌∙◌, subst, arith, append_assoc, length-append, Some}
+use Rattle.std.proofs.Common.{◌≡◌, ◌⊎◌, inl, inr, ℕ, ◌+◌, ◌<◌, List, [], ◌∷◌, ◌++◌, length, take, refl, ap, ap₂, sym, ◌∙◌, subst, arith, append_assoc, Some}
 use Rattle.std.specs.Prelude.{slice_get}
 use Rattle.std.proofs.lemmas.List.{append_cancel_right, append-nil}
 use Rattle.std.proofs.Math.Seq.{take-append_seam}
@@ -12,7 +12,7 @@ use Rattle.ans_model.specs.declared.fault.Cause.TheVariants.{EndInSequence, Prin
 use Rattle.ans_model.specs.declared.cell.Position.{Position}
 use Rattle.ans_model.specs.declared.start.Start.TheVariants.{Cleared}
 use Rattle.ans_model.specs.Certain.{IsCertain}
-use Rattle.ans_model.specs.Sequence.{Raw, Spells, IsUnfinished}
+use Rattle.ans_model.specs.Sequence.{IsUnfinished}
 use Rattle.ans_model.specs.Reads.{SpellsToken, Reads}
 use Rattle.ans_model.specs.Refusals.{fault_at}
 use Rattle.ans_model.specs.State.{Size, State, IsStated, cell_at}
@@ -22,8 +22,7 @@ use Rattle.ans_model.specs.TokenFault.{HasFault, HasFaultAfter, IsClean}
 use Rattle.ans_model.specs.FirstFault.{IsWhy, IsRefused, IsToBlame, IsFirstFault}
 use Rattle.ans_model.specs.LastFault.{CellsDiffer, SameCell, IsBefore, IsFirstUnknown, EndsInSequence, LeavesUnknown, IsLastFault}
 use Rattle.ans_model.specs.Good.{Picture, Shows, PlaysWell, GoodWith, IsGood}
-use Rattle.ans_model.proofs.Spelling.{first_or, one_spelling_in_front}
-use Rattle.ans_model.proofs.Reading.{token_law, token_nonempty, refused_no_token, refused_nonempty, reads_law, unfinished_first, means_well}
+use Rattle.ans_model.proofs.Reading.{token_law, token_nonempty, refused_no_token, refused_nonempty, reads_law, spelled_no_front, unfinished_no_token, means_well}
 use Rattle.ans_model.proofs.Refusing.{refused_law, unfinished_broken}
 use Rattle.ans_model.proofs.OneCause.{one_cause, certain_cause, cleared_is_one}
 use Rattle.ans_model.proofs.StartLemmas.{low_is_start}
@@ -66,17 +65,6 @@ same_front bytes ts us x y h g e = append_cancel_right h.front g.front y (ap (λ
 -- ---- what stands at an end: nothing, or an unfinished sequence
 abbrev IsEnd : List ℕ → Type 0
 IsEnd text = (text ≡ []) ⊎ IsUnfinished text
-
--- nothing that is spelled begins an unfinished sequence
-spelled_no_front : (r : Raw) (a y : List ℕ) → Spells r a → IsUnfinished (a ++ y) → ⊥
-spelled_no_front r a y h o =
-    let l = one_spelling_in_front r o.raw a ((a ++ y) ++ o.rest) (y ++ o.rest) [] h.loose o.spelled.loose (sym (append_assoc a y o.rest) ∙ sym (append-nil ((a ++ y) ++ o.rest))) in
-    let none : length (y ++ o.rest) ≡ 0 = ap length l.2 in
-    omega (arith, o.more, none, length-append y o.rest)
-
-unfinished_no_token : (t : Token) (a y : List ℕ) → SpellsToken t a → IsUnfinished (a ++ y) → ⊥
-unfinished_no_token t a y (inl h) o = h.not_escape (ap (λ (v : List ℕ). first_or 0 ((v ++ y) ++ [])) (sym h.whole) ∙ unfinished_first (a ++ y) [] o)
-unfinished_no_token t a y (inr h) o = spelled_no_front h.raw a y h.spelled o
 
 -- no token begins an end
 end_no_token : (t : Token) (a x y : List ℕ) → SpellsToken t a → IsEnd x → x ≡ a ++ y → ⊥

@@ -83,6 +83,28 @@ pub unfinished_first : (a x : List ℕ) → IsUnfinished a → first_or 0 (a ++ 
 unfinished_first [] x o = absurd (omega (arith, o.begun))
 unfinished_first (u ∷ a) x o = ap (first_or 0) o.spelled.loose.whole
 
+-- nothing that is spelled begins an unfinished sequence
+pub spelled_no_front : (r : Raw) (a y : List ℕ) → Spells r a → IsUnfinished (a ++ y) → ⊥
+spelled_no_front r a y h o =
+    let l = one_spelling_in_front r o.raw a ((a ++ y) ++ o.rest) (y ++ o.rest) [] h.loose o.spelled.loose (sym (append_assoc a y o.rest) ∙ sym (append-nil ((a ++ y) ++ o.rest))) in
+    let none : length (y ++ o.rest) ≡ 0 = ap length l.2 in
+    omega (arith, o.more, none, length-append y o.rest)
+
+-- no token begins an unfinished sequence
+pub unfinished_no_token : (t : Token) (a y : List ℕ) → SpellsToken t a → IsUnfinished (a ++ y) → ⊥
+unfinished_no_token t a y (inl h) o = h.not_escape (ap (λ (v : List ℕ). first_or 0 ((v ++ y) ++ [])) (sym h.whole) ∙ unfinished_first (a ++ y) [] o)
+unfinished_no_token t a y (inr h) o = spelled_no_front h.raw a y h.spelled o
+
+unfinished_texts : (ts : List Token) (xs : List (List ℕ)) → AllZip SpellsToken ts xs → IsUnfinished (concat xs) → ⊥
+unfinished_texts [] [] h o = omega (arith, o.begun)
+unfinished_texts [] (x ∷ xs) h o = h
+unfinished_texts (t ∷ ts) [] h o = h
+unfinished_texts (t ∷ ts) (x ∷ xs) h o = unfinished_no_token t x (concat xs) h.0 o
+
+-- What goes on is no reading.
+pub unfinished_not_read : (text : List ℕ) (ts : List Token) → IsUnfinished text → Reads text ts → ⊥
+unfinished_not_read text ts o h = unfinished_texts ts h.0 h.1.each (rw h.1.whole at o)
+
 -- no token begins what the reading refuses
 pub refused_no_token : (t : Token) (text a x y : List ℕ) (cause : Cause) → IsRefused text cause → SpellsToken t a → text ++ x ≡ a ++ y → ⊥
 refused_no_token t text a x y cause (inl h) (inl g) e =

@@ -31,3 +31,4 @@ pub mod AttributeFields
 pub mod StepLaws
 pub mod StartLaws
 pub mod Lines
+pub mod TextExamples

@@ -11,10 +11,11 @@ ghost use Rattle.ans_model.specs.FileLaws.{IsFirstThatApplies, note_number};
 /// A file is accepted exactly where no refusal applies to it, and is laid out in one way.
 pub fn accepted_or_refused()
     ensures accepted { (file : List ℕ) → record_fault file ≡ None
-        → (body comment_bytes record_bytes : List ℕ) × Accepts file body comment_bytes record_bytes }
-    ensures no_fault { (file body comment_bytes record_bytes : List ℕ)
-        → Accepts file body comment_bytes record_bytes → record_fault file ≡ None }
-    ensures one_layout { (file body comments record_bytes other_body other_comments other_record : List ℕ)
+        → (body comments record_bytes : List ℕ) × Accepts file body comments record_bytes }
+    ensures no_fault { (file body comments record_bytes : List ℕ)
+        → Accepts file body comments record_bytes → record_fault file ≡ None }
+    ensures one_layout { (file body comments record_bytes : List ℕ)
+        → (other_body other_comments other_record : List ℕ)
         → Laid file body comments record_bytes → Laid file other_body other_comments other_record
         → (body ≡ other_body) × (comments ≡ other_comments) × (record_bytes ≡ other_record) }
 {}

@@ -14,4 +14,5 @@ pub mod report_laws;
 pub mod start;
 pub mod start_laws;
 pub mod step_laws;
+pub mod text_examples;
 pub mod text_laws;

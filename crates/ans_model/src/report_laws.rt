@@ -30,7 +30,8 @@ pub fn own_characters()
 /// A fault's line tells the fault, and a note's line the note. The text of a cause tells the cause,
 /// but for an unknown cell's place.
 pub fn own_lines()
-    ensures fault { (f g : Fault) → FitsTypes f → FitsTypes g → fault_line f ≡ fault_line g → f ≡ g }
+    ensures fault { (f g : Fault) → FitsTypes f → FitsTypes g
+        → fault_line f ≡ fault_line g → f ≡ g }
     ensures cause { (c d : Cause) → fault_text c ≡ fault_text d
         → (c ≡ d) ⊎ (IsUnknownCell c × IsUnknownCell d) }
     ensures note { (m n : Note) → note_line m ≡ note_line n → m ≡ n }

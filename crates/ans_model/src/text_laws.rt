@@ -27,10 +27,13 @@ pub fn one_reading()
         → Reads bytes tokens → All PrintsByte tokens }
 {}
 
-/// No reading begins with a text that the reading refuses, and nothing that is spelled goes on.
+/// No reading begins with a text that the reading refuses, nothing that is spelled goes on, and
+/// what goes on is no reading.
 pub fn refused_or_read()
     ensures refused { (text rest : List ℕ) (cause : Cause) (tokens : List Token)
         → IsRefused text cause → Reads (text ++ rest) tokens → ⊥ }
+    ensures unfinished { (text : List ℕ) (tokens : List Token)
+        → IsUnfinished text → Reads text tokens → ⊥ }
     ensures ended { (raw : Raw) (text : List ℕ) → Spells raw text → IsUnfinished text → ⊥ }
 {}
 
