@@ -15,3 +15,6 @@ pub use ans_model::fault::{Cause, Fault};
 pub use ans_model::kind::Kind;
 pub use scanner::Scanner;
 pub use token::Token;
+
+#[cfg(test)]
+mod tests;
