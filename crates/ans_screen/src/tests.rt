@@ -5,20 +5,6 @@ use std::alloc::Global;
 use std::process::Abort;
 use std::test::Fail;
 
-fn cell(glyph: u8, attr: u8) -> HalfCell {
-    HalfCell {
-        glyph: Some(glyph),
-        attr: Attr::whole(attr),
-    }
-}
-
-fn unknown() -> HalfCell {
-    HalfCell {
-        glyph: None,
-        attr: Attr::none(),
-    }
-}
-
 #[test]
 fn parameters_make_bits_known(rt: HostRuntime) {
     let mut attr = Attr::none();
@@ -57,22 +43,22 @@ fn cells_are_known_whole(rt: HostRuntime) {
 
 /// A grid of one row of 33 cells, through each of its calls.
 fn edit_a_row<G: Grid>(rt: &impl Abort, alloc: Global) -> Result<(), Fail> {
-    let mut grid = G::new(alloc, 33, 1, cell(b' ', 0x07))?;
+    let mut grid = G::new(alloc, 33, 1, HalfCell::known(b' ', 0x07))?;
     assert_eq!(rt; grid.width(), 33);
     assert_eq!(rt; grid.rows(), 1);
-    grid.put(32, unknown());
+    grid.put(32, HalfCell::unknown());
     assert_eq!(rt; grid.first_unknown(33), Some(32));
     assert_eq!(rt; grid.first_unknown(32), None);
-    grid.fill(31, 33, cell(b'x', 0x1F));
+    grid.fill(31, 33, HalfCell::known(b'x', 0x1F));
     assert_eq!(rt; grid.first_unknown(33), None);
-    assert_eq!(rt; grid.get(30), cell(b' ', 0x07));
-    assert_eq!(rt; grid.get(31), cell(b'x', 0x1F));
-    assert_eq!(rt; grid.get(32), cell(b'x', 0x1F));
+    assert_eq!(rt; grid.get(30), HalfCell::known(b' ', 0x07));
+    assert_eq!(rt; grid.get(31), HalfCell::known(b'x', 0x1F));
+    assert_eq!(rt; grid.get(32), HalfCell::known(b'x', 0x1F));
     grid.write_run(1, b"Hi", Attr::whole(0x4E));
-    assert_eq!(rt; grid.get(0), cell(b' ', 0x07));
-    assert_eq!(rt; grid.get(1), cell(b'H', 0x4E));
-    assert_eq!(rt; grid.get(2), cell(b'i', 0x4E));
-    assert_eq!(rt; grid.get(3), cell(b' ', 0x07));
+    assert_eq!(rt; grid.get(0), HalfCell::known(b' ', 0x07));
+    assert_eq!(rt; grid.get(1), HalfCell::known(b'H', 0x4E));
+    assert_eq!(rt; grid.get(2), HalfCell::known(b'i', 0x4E));
+    assert_eq!(rt; grid.get(3), HalfCell::known(b' ', 0x07));
     Ok(())
 }
 
