@@ -1,0 +1,14 @@
+pub mod Allowed
+pub mod Zips
+pub mod HullScreens
+pub mod HullAttributes
+pub mod Describing
+pub mod HullSteps
+pub mod HullOfStarts
+pub mod Faults
+pub mod Clean
+pub mod Spans
+pub mod Feeding
+pub mod Certainty
+pub mod Cells
+pub mod NewPlayer
