@@ -12,3 +12,6 @@ pub mod Feeding
 pub mod Certainty
 pub mod Cells
 pub mod NewPlayer
+pub mod KnownCells
+pub mod PlaysWell
+pub mod Finishing

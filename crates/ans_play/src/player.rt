@@ -179,17 +179,19 @@ impl<G: Grid> Player<G> {
         ensures certain { (s : List ℕ) → Stands self s → self.start ≡ Cleared → IfErr result (λ f. IsCertain f.cause) }
     {
         self.without_fault()?;
-        if let Some(i) = self.grid.first_unknown(self.lines * self.width) {
-            let cause = Cause::UnknownCell {
-                row: (i / self.width + 1) as u16,
-                col: (i % self.width + 1) as u16,
-            };
-            return Err(Fault {
-                offset: self.fed,
-                cause,
-            });
+        match self.grid.first_unknown(self.lines * self.width) {
+            None => Ok(Picture::new(self.width, self.lines, self.grid)),
+            Some(i) => {
+                let cause = Cause::UnknownCell {
+                    row: (i / self.width + 1) as u16,
+                    col: (i % self.width + 1) as u16,
+                };
+                Err(Fault {
+                    offset: self.fed,
+                    cause,
+                })
+            }
         }
-        Ok(Picture::new(self.width, self.lines, self.grid))
     }
 
     /// The fault that was answered before, if any.
