@@ -41,4 +41,3 @@ clean_more z class played t clean none k cause b = elim (cases_lt k (length play
 
 pub clean_none : (z : Size) (class : Class) → IsClean z class []
 clean_none z class k cause b = absurd (cc)
-

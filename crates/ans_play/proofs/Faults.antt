@@ -65,12 +65,17 @@ one_place_then e h =
 differ_if : (z : Size) (class : Class) (played : List Token) (h : HalfState) → 0 < z.width → IsKnownAfter z class played h → is_one_place h.cursor ≡ false → PlacesDiffer z class played
 differ_if z class played h w st apart =
     let low : State = low_start z class in
-    let high : State = high_start z class in
-    (low, high, low_is_start z class w, high_is_start z class w, λ e.
-        true_not_false (is_one_place h.cursor)
-        (one_place_then h.cursor
-        (rw (st.is_hull, sym e) (ap (λ (x : Span). x.low) (hull_itself (final z low played).cursor) ∙ sym (ap (λ (x : Span). x.high) (hull_itself (final z low played).cursor)))))
-        apart)
+    let high : State = high_start z class in (
+      low,
+      high,
+      low_is_start z class w,
+      high_is_start z class w,
+      λ e.
+          true_not_false (is_one_place h.cursor)
+          (one_place_then h.cursor
+          (rw (st.is_hull, sym e) (ap (λ (x : Span). x.low) (hull_itself (final z low played).cursor) ∙ sym (ap (λ (x : Span). x.high) (hull_itself (final z low played).cursor)))))
+          apart,
+    )
   where
     true_not_false : (b : Bool) → b ≡ true → b ≡ false → ⊥
     true_not_false b p q = cc

@@ -120,7 +120,7 @@ first_in_piece old mid piece s i byte cause lt e h d known none st =
     let whole : (s ++ take i piece) ++ byte ∷ drop (i + 1) piece ≡ s ++ piece = append_assoc s (take i piece) (byte ∷ drop (i + 1) piece) ∙ ap (λ (xs : List ℕ). s ++ xs) (piece_at piece i byte lt e) in
     let before : IsPlayed mid.size (class_of old.start) (s ++ take i piece) mid.state = rw h.same.size (h.played (class_of old.start) s (st.played none)) in
     let first : IsFirstFault mid.size (class_of old.start) ((s ++ take i piece) ++ byte ∷ drop (i + 1) piece) (fault_at (length (s ++ take i piece)) cause)
-        = d (class_of old.start) (s ++ take i piece) (drop (i + 1) piece) known before in
+    = d (class_of old.start) (s ++ take i piece) (drop (i + 1) piece) known before in
     subst (λ (n : ℕ). IsFirstFault old.size (class_of old.start) (s ++ piece) (fault_at n cause)) at
     (subst (λ (xs : List ℕ). IsFirstFault old.size (class_of old.start) xs (fault_at (length (s ++ take i piece)) cause)) whole
     (subst (λ (z : Size). IsFirstFault z (class_of old.start) ((s ++ take i piece) ++ byte ∷ drop (i + 1) piece) (fault_at (length (s ++ take i piece)) cause)) h.same.size first))

@@ -74,8 +74,8 @@ module _ (z : Size) (class : Class) (tokens : List Token) (h : HalfState) (w : 0
     low_is_start z class w,
     high_is_start z class w,
     rw at_i
-    (unknown_at (final z (low_start z class) tokens).screen (final z (high_start z class) tokens).screen i c
-    (sym (ap (λ (g : HalfState). slice_get g.screen i) st.is_hull) ∙ e) k),
+        (unknown_at (final z (low_start z class) tokens).screen (final z (high_start z class) tokens).screen i c
+        (sym (ap (λ (g : HalfState). slice_get g.screen i) st.is_hull) ∙ e) k),
   )
 
   first_is : (i : ℕ) → FirstUnknown h.screen (z.lines * z.width) i → IsFirstUnknown z class tokens (place_of z i)

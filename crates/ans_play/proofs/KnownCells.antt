@@ -112,7 +112,7 @@ pub record FirstUnknown (hs : List HalfCell) (n place : ℕ) : Type 0 where
 pub found_unknown : (hs : List HalfCell) (n place : ℕ) (d : HalfCell) → first_unknown hs n ≡ Some place → FirstUnknown hs n place
 found_unknown hs n place d e =
     let p : (place < length (take n hs)) × (is_unknown (get_or (take n hs) place d) ≡ true) × ((k : ℕ) → k < place → is_unknown (get_or (take n hs) k d) ≡ false)
-        = position-Some is_unknown (take n hs) place d e in
+    = position-Some is_unknown (take n hs) place d e in
     let l : place < n = omega (arith, p.0, length-take n hs) in
     record {
       within = l;

@@ -15,3 +15,4 @@ pub mod NewPlayer
 pub mod KnownCells
 pub mod PlaysWell
 pub mod Finishing
+pub mod Pictures

@@ -26,7 +26,7 @@ returns-in-Err-clause-certain g c s st e =
     let within : c.loop-i.i < length c.args.piece.now = omega arith in
     certain_fault c.args.self.now.size c.args.self.now.start _ (fault_at (c.loop-i.self.fed + c.loop-i.i) c.in-Err.cause) e
     (λ known. first_in_piece c.args.self.now c.loop-i.self c.args.piece.now s c.loop-i.i (get_or c.args.piece.now c.loop-i.i 0) c.in-Err.cause within refl c.loop-i.invariant
-      c.in-Err.ensures.refused known c.in_ok-without_fault.ensures.ok st)
+    c.in-Err.ensures.refused known c.in_ok-without_fault.ensures.ok st)
 
 pub loop-i-preserved : goal.loop-i-preserved
 loop-i-preserved g c =
