@@ -1,5 +1,6 @@
 pub mod Token
 pub mod Mark
 pub mod Kept
+pub mod Scanning
 pub mod Shows
-pub mod Holds
+pub mod ScannerInside

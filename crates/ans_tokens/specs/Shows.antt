@@ -1,30 +1,19 @@
 -- What the state of an unfinished sequence says of its bytes, and what a step may answer.
-use Rattle.std.specs.Prelude.{◌≡◌, ◌≢◌, ℕ, false, List, [], ◌∷◌, ◌++◌, map}
-use Rattle.std.specs.List.{list_any}
+use Rattle.std.specs.Prelude.{◌≡◌, ◌≢◌, ℕ, false, List, [], ◌∷◌, ◌++◌}
 use Rattle.ans_model.specs.Sequence.{Mark, Unmarked, Omitted, mark_bytes, Spells, IsPrefixOfSpelling}
-use Rattle.ans_model.specs.Meaning.{colour_number, is_quoted}
-use Rattle.ans_model.specs.Parts.{Part, Current, Fresh, InNumber, InString, AfterString, SpellsPart, lacks, member_of, members_of, raw_of}
+use Rattle.ans_model.specs.Parts.{Part, Fresh, SpellsPart, lacks, member_of, members_of, raw_of}
 use Rattle.ans_model.specs.FirstFault.{IsWhy}
 use Rattle.ans_tokens.specs.Mark.{mark_of, is_mark_byte}
-use Rattle.ans_tokens.specs.declared.unfinished.Current as code_current
-use Rattle.ans_tokens.specs.declared.unfinished.Current.TheVariants as current
+use Rattle.ans_tokens.specs.Scanning.{Kept, Nothing, Escape, Sequence, ShowsPart, Keeps}
+use Rattle.ans_tokens.specs.declared.scanner.Open as code_open
+use Rattle.ans_tokens.specs.declared.scanner.Open.TheVariants as bytes
 use Rattle.ans_tokens.specs.declared.unfinished.Step.{Step}
 use Rattle.ans_tokens.specs.declared.unfinished.Step.TheVariants.{More, Letter, Refused}
 use Rattle.ans_tokens.specs.declared.unfinished.Unfinished.{Unfinished}
 
--- the text of a string is not kept
-abbrev pub ShowsCurrent : code_current.Current → Current → Type 0
-ShowsCurrent current.Fresh c = c ≡ Fresh
-ShowsCurrent (current.InNumber n) c = c ≡ InNumber n
-ShowsCurrent (current.InString quote) c = (text : List ℕ) × (c ≡ InString quote text)
-ShowsCurrent current.AfterString c = (quote : ℕ) × (text : List ℕ) × (c ≡ AfterString quote text)
-
 -- the state is that of such a part
-pub record Shows (held : Unfinished) (part : Part) : Type 0 where
-  pub mark_is : part.mark ≡ mark_of held.mark
-  pub numbers : map colour_number part.done ≡ held.done.items
-  pub quoted_is : list_any is_quoted part.done ≡ held.quoted
-  pub current_is : ShowsCurrent held.current part.current
+abbrev pub Shows : Unfinished → Part → Type 0
+Shows held part = ShowsPart (mark_of held.mark) held.done.items held.quoted held.current part
 
 -- directly behind `[`
 abbrev pub begun : Part
@@ -51,3 +40,13 @@ abbrev pub Outcome : Step → Unfinished → Part → List ℕ → ℕ → Type 
 Outcome More held part y b = (next : Part) × Shows held next × SpellsPart next (y ++ b ∷ [])
 Outcome Letter held part y b = Shows held part × (lacks part.current ≡ []) × Spells (raw_of part b) (y ++ b ∷ [])
 Outcome (Refused cause) held part y b = ¬ IsPrefixOfSpelling (y ++ b ∷ []) × IsWhy (y ++ b ∷ []) b cause
+
+-- what a scanner keeps of the bytes since the last token
+abbrev pub kept_of : code_open.Open → Kept
+kept_of bytes.Nothing = Nothing
+kept_of bytes.Escape = Escape
+kept_of (bytes.Sequence held) = Sequence (mark_of held.mark) held.done.items held.quoted held.current
+
+-- the state is that of an open part y
+abbrev pub HoldsOpen : code_open.Open → List ℕ → Type 0
+HoldsOpen held y = Keeps (kept_of held) y

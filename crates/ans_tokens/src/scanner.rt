@@ -1,6 +1,6 @@
 //! The scanner of a content.
 
-ghost use Rattle.std.specs.Prelude.{◌≡◌, ◌≤◌, ◌++◌, ◌∷◌, [], ℕ, List, MatchBool, MatchResult, MatchOption};
+ghost use Rattle.std.specs.Prelude.{◌≡◌, ◌++◌, ◌∷◌, [], ℕ, List, MatchBool, MatchResult, MatchOption};
 ghost use Rattle.ans_model.specs.Reads.{SpellsToken, token_of_byte};
 ghost use Rattle.ans_model.specs.Sequence.{IsUnfinished};
 ghost use Rattle.ans_model.specs.FirstFault.{IsRefused};
@@ -10,6 +10,7 @@ use crate::token::Token;
 use crate::unfinished::{Step, Unfinished};
 use ans_model::fault::{Cause, Fault};
 use ans_model::kind::Kind;
+use std::marker::Model;
 
 const ESCAPE: u8 = 0x1B;
 
@@ -39,7 +40,7 @@ fn kind_of_byte(byte: u8) -> Kind
 }
 
 impl Open {
-    ghost use Rattle.ans_tokens.specs.Holds.{HoldsOpen};
+    ghost use Rattle.ans_tokens.specs.Shows.{HoldsOpen};
 
     /// Whether there are no bytes since the last token.
     fn is_nothing(&self) -> bool
@@ -98,19 +99,29 @@ pub struct Scanner {
     start: usize,
     open_part: Open,
     refusal: Option<Fault>,
-    ghost ordered: { start ≤ offset },
+}
+
+impl Model for Scanner {
+    ghost use Rattle.std.specs.Prelude.{◌≤◌};
+    ghost use Rattle.ans_tokens.specs.Scanning.{Scanning};
+
+    ghost Value = { Scanning };
+
+    ghost use Rattle.ans_tokens.specs.ScannerInside.{shown_scanner};
+
+    ghost view = { shown_scanner };
+
+    ghost invariant = { λ s. s.start ≤ s.offset };
 }
 
 impl Scanner {
-    ghost use Rattle.std.specs.Prelude.{◌≡◌, ◌+◌, ◌<◌, [], None, Some, OnOk, IfErr, IfSome, IsErrOf};
+    ghost use Rattle.std.specs.Prelude.{◌≡◌, ◌+◌, ◌<◌, None, Some, OnOk, IfErr, IfSome, IsErrOf};
     ghost use Rattle.ans_model.specs.Bytes.{longest_file};
-    ghost use Rattle.ans_tokens.specs.Holds.{Holds, Scans, Ends, offset_of, refusal_of};
+    ghost use Rattle.ans_tokens.specs.Scanning.{Scans, Ends, fresh};
 
     /// A scanner before the first byte.
     pub fn new() -> Scanner
-        ensures holds { Holds result [] }
-        ensures offset { offset_of result ≡ 0 }
-        ensures refusal { refusal_of result ≡ None }
+        ensures { result ≡ fresh }
     {
         Scanner {
             offset: 0,
@@ -122,7 +133,7 @@ impl Scanner {
 
     /// How many bytes it has taken without a refusal.
     pub fn offset(&self) -> usize
-        ensures { result ≡ offset_of self.now }
+        ensures { result ≡ self.now.offset }
     {
         self.offset
     }
@@ -131,13 +142,13 @@ impl Scanner {
     /// where they begin a spelling, and a fault at the first of them where they begin none: F9, F10,
     /// F11, F13 or F14. Once it has refused, each later call answers the same fault.
     pub fn byte(&mut self, byte: u8) -> Result<Option<Token>, Fault>
-        requires { offset_of self.old < longest_file }
-        ensures scans { refusal_of self.old ≡ None → Scans self.old self.new byte result }
-        ensures taken { OnOk result (offset_of self.new ≡ offset_of self.old + 1) }
-        ensures accepted { OnOk result (refusal_of self.new ≡ None) }
-        ensures refused { IfErr result (λ fault. refusal_of self.new ≡ Some fault) }
-        ensures stays { IfErr result (λ _. offset_of self.new ≡ offset_of self.old) }
-        ensures repeats { IfSome (refusal_of self.old) (λ fault. IsErrOf result fault) }
+        requires { self.old.offset < longest_file }
+        ensures scans { self.old.refusal ≡ None → Scans self.old self.new byte result }
+        ensures taken { OnOk result (self.new.offset ≡ self.old.offset + 1) }
+        ensures accepted { OnOk result (self.new.refusal ≡ None) }
+        ensures refused { IfErr result (λ fault. self.new.refusal ≡ Some fault) }
+        ensures stays { IfErr result (λ _. self.new.offset ≡ self.old.offset) }
+        ensures repeats { IfSome self.old.refusal (λ fault. IsErrOf result fault) }
     {
         if let Some(fault) = self.refusal {
             return Err(fault);
@@ -172,8 +183,8 @@ impl Scanner {
     /// Whether the content may end here. It answers the fault that was answered before, or F12 at
     /// the start of a sequence that is not finished. It changes nothing.
     pub fn end(&self) -> Result<(), Fault>
-        ensures ends { refusal_of self.now ≡ None → Ends self.now result }
-        ensures repeats { IfSome (refusal_of self.now) (λ fault. IsErrOf result fault) }
+        ensures ends { self.now.refusal ≡ None → Ends self.now result }
+        ensures repeats { IfSome self.now.refusal (λ fault. IsErrOf result fault) }
     {
         if let Some(fault) = self.refusal {
             return Err(fault);

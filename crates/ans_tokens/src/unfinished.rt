@@ -28,7 +28,7 @@ impl Current {
     ghost use Rattle.ans_model.specs.Parts as parts;
     ghost use Rattle.ans_model.specs.Parts.{member_of};
     ghost use Rattle.ans_model.specs.Meaning.{colour_number, is_quoted};
-    ghost use Rattle.ans_tokens.specs.Shows.{ShowsCurrent};
+    ghost use Rattle.ans_tokens.specs.Scanning.{ShowsCurrent};
 
     /// Whether there is nothing of the member yet.
     fn is_fresh(self) -> bool

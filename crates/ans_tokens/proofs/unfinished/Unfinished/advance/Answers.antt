@@ -11,7 +11,7 @@ returns-then-byte-quote c part y shows spelled =
     let last : SpellsCurrent (InString c.in-InString.quote current.0) spelled.loose.last = rw current.1 at spelled.loose.current in
     let e : c.args.byte ≡ c.in-InString.quote = c.if-byte-quote.true in (
       record { mark = part.mark; done = part.done; current = AfterString c.in-InString.quote current.0 },
-      record { mark_is = shows.mark_is; numbers = shows.numbers; quoted_is = shows.quoted_is; current_is = (c.in-InString.quote, current.0, refl) },
+      record { mark_is = shows.mark_is; numbers_are = shows.numbers_are; quoted_is = shows.quoted_is; current_is = (c.in-InString.quote, current.0, refl) },
       rw e (extend part y c.in-InString.quote (AfterString c.in-InString.quote current.0) spelled (closed_text c.in-InString.quote current.0 spelled.loose.last last) tt),
     )
 
@@ -20,7 +20,7 @@ returns-else-byte-quote c part y shows spelled =
     let current = rw c.in-InString.is at shows.current_is in
     let last : SpellsCurrent (InString c.in-InString.quote current.0) spelled.loose.last = rw current.1 at spelled.loose.current in (
       record { mark = part.mark; done = part.done; current = InString c.in-InString.quote (current.0 ++ c.args.byte ∷ []) },
-      record { mark_is = shows.mark_is; numbers = shows.numbers; quoted_is = shows.quoted_is; current_is = rw c.in-InString.is (current.0 ++ c.args.byte ∷ [], refl) },
+      record { mark_is = shows.mark_is; numbers_are = shows.numbers_are; quoted_is = shows.quoted_is; current_is = rw c.in-InString.is (current.0 ++ c.args.byte ∷ [], refl) },
       extend part y c.args.byte (InString c.in-InString.quote (current.0 ++ c.args.byte ∷ [])) spelled (more_text c.in-InString.quote c.args.byte current.0 spelled.loose.last last c.if-byte-quote.false) tt,
     )
 
@@ -45,7 +45,7 @@ returns-else-next-gt255 c part y shows spelled =
     let last : SpellsCurrent (InNumber c.in-InNumber.value) spelled.loose.last = rw current at spelled.loose.current in
     let next : ℕ = c.in-InNumber.value * 10 + (c.args.byte - 48) in (
       record { mark = part.mark; done = part.done; current = InNumber next },
-      record { mark_is = shows.mark_is; numbers = shows.numbers; quoted_is = shows.quoted_is; current_is = refl },
+      record { mark_is = shows.mark_is; numbers_are = shows.numbers_are; quoted_is = shows.quoted_is; current_is = refl },
       extend part y c.args.byte (InNumber next) spelled (more_digits c.in-InNumber.value c.args.byte spelled.loose.last last digit) (omega arith),
     )
 

@@ -6,7 +6,7 @@ use Rattle.ans_model.specs.Meaning.{colour_number, is_quoted}
 use Rattle.ans_model.specs.Parts.{Current, Fresh, InNumber, InString, may_follow}
 use Rattle.ans_model.proofs.Scanning.{refuses_byte}
 use Rattle.ans_tokens.specs.Mark.{mark_of}
-use Rattle.ans_tokens.specs.Shows.{ShowsCurrent}
+use Rattle.ans_tokens.specs.Scanning.{ShowsCurrent}
 use Rattle.ans_tokens.proofs.StepLemmas.{fresh_digit, fresh_quote, quote_is, quote_not, marked}
 use Rattle.ans_tokens.proofs.unfinished.Unfinished.begin.Goals as goal
 
@@ -14,14 +14,14 @@ pub returns-then-is_ascii_digit : goal.returns-then-is_ascii_digit
 returns-then-is_ascii_digit c part y shows spelled =
     let digit : is_ascii_digit c.args.byte ≡ true = sym c.is_ascii_digit.ensures.value ∙ c.if-is_ascii_digit.true in (
       record { mark = part.mark; done = part.done; current = InNumber (c.args.byte - 48) },
-      record { mark_is = shows.mark_is; numbers = shows.numbers; quoted_is = shows.quoted_is; current_is = refl },
+      record { mark_is = shows.mark_is; numbers_are = shows.numbers_are; quoted_is = shows.quoted_is; current_is = refl },
       fresh_digit part y c.args.byte spelled (c.requires part shows) digit (omega arith),
     )
 
 pub returns-then-byte-eq34 : goal.returns-then-byte-eq34
 returns-then-byte-eq34 c part y shows spelled = (
   record { mark = part.mark; done = part.done; current = InString c.args.byte [] },
-  record { mark_is = shows.mark_is; numbers = shows.numbers; quoted_is = shows.quoted_is; current_is = ([], refl) },
+  record { mark_is = shows.mark_is; numbers_are = shows.numbers_are; quoted_is = shows.quoted_is; current_is = ([], refl) },
   fresh_quote part y c.args.byte spelled (c.requires part shows) (quote_is c.args.byte c.then-byte-eq34.either),
 )
 
@@ -30,7 +30,7 @@ returns-in-Some c part y shows spelled =
     let at = c.in-Some.ensures part shows in
     let fresh : part.current ≡ Fresh = c.requires part shows in (
       record { mark = mark_of c.in-Some.mark; done = []; current = Fresh },
-      record { mark_is = refl; numbers = ap (map colour_number) (sym at.1) ∙ shows.numbers; quoted_is = ap (list_any is_quoted) (sym at.1) ∙ shows.quoted_is; current_is = subst (λ (v : Current). ShowsCurrent c.args.self.now.current v) fresh shows.current_is },
+      record { mark_is = refl; numbers_are = ap (map colour_number) (sym at.1) ∙ shows.numbers_are; quoted_is = ap (list_any is_quoted) (sym at.1) ∙ shows.quoted_is; current_is = subst (λ (v : Current). ShowsCurrent c.args.self.now.current v) fresh shows.current_is },
       marked part y (mark_of c.in-Some.mark) c.args.byte spelled at.0 at.1 fresh at.2,
     )
 
