@@ -1,20 +1,20 @@
 -- A byte played behind others, and a piece of bytes.
-use Rattle.std.proofs.Common.{◌≡◌, ◌≢◌, ℕ, ◌+◌, ◌<◌, refl, sym, ap, ◌∙◌, arith, List, [], ◌∷◌, ◌++◌, length, length-append, take, drop, get_or, append_assoc, Option, Some, None, inl, inr, subst}
-use Rattle.std.specs.Prelude.{Result, Ok, Err, OnOk, IfErr}
+use Rattle.std.proofs.Common.{◌≡◌, ℕ, ◌+◌, ◌<◌, ◌≤◌, refl, sym, ap, ◌∙◌, arith, List, [], ◌∷◌, ◌++◌, length, length-append, take, drop, get_or, append_assoc, Some, None, inl, inr, subst}
 use Rattle.std.specs.List.{concat}
-use Rattle.std.proofs.lemmas.List.{append-nil, take_more, take-append-drop, length-take}
+use Rattle.std.proofs.lemmas.List.{append-nil, take_more, take-append-drop}
 use Rattle.std.proofs.lemmas.List.Folds.{concat-append}
-use Rattle.ans_model.specs.Bytes.{IsByte, escape}
-use Rattle.ans_model.specs.Token.{Token, PrintsByte}
-use Rattle.ans_model.specs.Reads.{token_of_byte, IsByteOf, SpellsToken, Reads}
+use Rattle.ans_model.specs.Token.{Token}
+use Rattle.ans_model.specs.Reads.{SpellsToken, Reads}
 use Rattle.ans_model.specs.State.{Size}
 use Rattle.ans_model.specs.Starts.{Class, class_of}
-use Rattle.ans_model.specs.FirstFault.{IsFirstFault}
-use Rattle.ans_model.specs.Refusals.{fault_at}
+use Rattle.ans_model.specs.FirstFault.{IsRefused, IsFirstFault}
 use Rattle.ans_model.specs.declared.fault.Fault.{Fault}
-use Rattle.ans_model.specs.declared.fault.Cause.{Cause}
-use Rattle.ans_model.specs.declared.fault.Cause.TheVariants.{UnknownSequence}
 use Rattle.ans_model.proofs.Reading.{token_prints}
+use Rattle.ans_model.specs.Sequence.{IsUnfinished}
+use Rattle.ans_model.specs.View.{token_of}
+use Rattle.ans_tokens.specs.Scanning.{Scanning, Holds, IsTokenOf, IsFaultOf}
+use Rattle.ans_tokens.specs.Token.{kind_of, start_of}
+use Rattle.ans_tokens.specs.declared.token.Token.{Token as Spelled}
 use Rattle.ans_play.specs.HalfState.{HalfState}
 use Rattle.ans_play.specs.HalfStep.{half_step}
 use Rattle.ans_play.specs.HalfFault.{half_fault}
@@ -25,9 +25,6 @@ use Rattle.ans_play.proofs.Faults.{known_more, blamed, unblamed, allowed}
 use Rattle.ans_play.proofs.Clean.{clean_more}
 
 -- ---- one byte
-byte_spells : (byte : ℕ) → IsByte byte → byte ≢ escape → SpellsToken (token_of_byte byte) (byte ∷ [])
-byte_spells byte is_byte not_escape = inl (record { byte = byte; is_byte = is_byte; not_escape = not_escape; whole = refl; means = refl })
-
 reads_more : (bytes text : List ℕ) (tokens : List Token) (t : Token) → Reads bytes tokens → SpellsToken t text → Reads (bytes ++ text) (tokens ++ t ∷ [])
 reads_more bytes text tokens t (texts, r) spelled = (
   texts ++ text ∷ [],
@@ -37,51 +34,101 @@ reads_more bytes text tokens t (texts, r) spelled = (
   },
 )
 
-pub played_more : (z : Size) (class : Class) (s : List ℕ) (h : HalfState) (byte : ℕ) → IsByte byte → byte ≢ escape → half_fault z h (token_of_byte byte) ≡ None →
-    IsPlayed z class s h → IsPlayed z class (s ++ byte ∷ []) (half_step z h (token_of_byte byte))
-played_more z class s h byte is_byte not_escape none p =
-    let t : Token = token_of_byte byte in
-    let spelled : SpellsToken t (byte ∷ []) = byte_spells byte is_byte not_escape in
-    record {
-      size = p.size;
-      tokens = p.tokens ++ t ∷ [];
-      reads = reads_more s (byte ∷ []) p.tokens t p.reads spelled;
-      clean = clean_more z class p.tokens t p.clean (λ cause. unblamed z class p.tokens h p.size.some_columns p.known t cause none);
-      known = known_more z class p.tokens h t p.size.some_columns (token_prints t (byte ∷ []) spelled) p.known
-          (allowed z class p.tokens h p.size.some_columns p.known t none);
-    }
+-- a front and an open part, with one more byte
+longer : (front y : List ℕ) (s : List ℕ) (byte : ℕ) → s ≡ front ++ y → s ++ byte ∷ [] ≡ front ++ (y ++ byte ∷ [])
+longer front y s byte e = ap (λ (xs : List ℕ). xs ++ byte ∷ []) e ∙ append_assoc front y (byte ∷ [])
 
-pub deserved : (z : Size) (class : Class) (s rest : List ℕ) (h : HalfState) (byte : ℕ) (cause : Cause) → IsByte byte → byte ≢ escape → half_fault z h (token_of_byte byte) ≡ Some cause →
-    IsPlayed z class s h → IsFirstFault z class (s ++ byte ∷ rest) (fault_at (length s) cause)
-deserved z class s rest h byte cause is_byte not_escape some p = record {
+-- the byte leaves the open part unfinished
+pub played_on : (z : Size) (class : Class) (s : List ℕ) (old new : Scanning) (h : HalfState) (byte : ℕ) (p : IsPlayed z class s old h) →
+    Holds new (p.open_part ++ byte ∷ []) → new.offset ≡ old.offset + 1 → new.refusal ≡ None → IsPlayed z class (s ++ byte ∷ []) new h
+played_on z class s old new h byte p holds offset unrefused = record {
   size = p.size;
-  front = s;
-  text = byte ∷ [];
-  rest = rest;
-  whole = refl;
+  front = p.front;
+  open_part = p.open_part ++ byte ∷ [];
+  whole = longer p.front p.open_part s byte p.whole;
   tokens = p.tokens;
   reads = p.reads;
   clean = p.clean;
-  offset = refl;
-  faulty = inl (record {
-    token = token_of_byte byte;
-    spelled = byte_spells byte is_byte not_escape;
-    fault = blamed z class p.tokens h p.size.some_columns p.known (token_of_byte byte) cause some;
-  });
+  known = p.known;
+  holds = holds;
+  offset = simp length-append (omega (arith, offset, p.offset));
+  unrefused = unrefused;
+}
+
+-- the byte ends a token that has no fault
+pub played_more : (z : Size) (class : Class) (s : List ℕ) (old new : Scanning) (h : HalfState) (byte : ℕ) (t : Token) (p : IsPlayed z class s old h) →
+    SpellsToken t (p.open_part ++ byte ∷ []) → half_fault z h t ≡ None → Holds new [] → new.offset ≡ old.offset + 1 → new.refusal ≡ None →
+    IsPlayed z class (s ++ byte ∷ []) new (half_step z h t)
+played_more z class s old new h byte t p spelled none holds offset unrefused = record {
+  size = p.size;
+  front = p.front ++ (p.open_part ++ byte ∷ []);
+  open_part = [];
+  whole = longer p.front p.open_part s byte p.whole ∙ sym (append-nil (p.front ++ (p.open_part ++ byte ∷ [])));
+  tokens = p.tokens ++ t ∷ [];
+  reads = reads_more p.front (p.open_part ++ byte ∷ []) p.tokens t p.reads spelled;
+  clean = clean_more z class p.tokens t p.clean (λ cause. unblamed z class p.tokens h p.size.some_columns p.known t cause none);
+  known = known_more z class p.tokens h t p.size.some_columns (token_prints t (p.open_part ++ byte ∷ []) spelled) p.known
+      (allowed z class p.tokens h p.size.some_columns p.known t none);
+  holds = holds;
+  offset = simp length-append (omega (arith, offset, p.offset));
+  unrefused = unrefused;
+}
+
+-- where the open part began, if the offset is known
+began : (z : Size) (class : Class) (s : List ℕ) (scanner : Scanning) (h : HalfState) (p : IsPlayed z class s scanner h) (start : ℕ) → start + length p.open_part ≡ scanner.offset → start ≡ length p.front
+began z class s scanner h p start e =
+    let whole : length s ≡ length p.front + length p.open_part = ap length p.whole ∙ length-append p.front p.open_part in
+    omega (arith, e, p.offset, whole)
+
+around : (front y s rest : List ℕ) (byte : ℕ) → s ≡ front ++ y → s ++ byte ∷ rest ≡ front ++ ((y ++ byte ∷ []) ++ rest)
+around front y s rest byte e =
+    ap (λ (xs : List ℕ). xs ++ byte ∷ rest) e ∙ append_assoc front y (byte ∷ rest)
+    ∙ ap (λ (xs : List ℕ). front ++ xs) (sym (append_assoc y (byte ∷ []) rest))
+
+-- the byte ends a token that has a fault
+pub deserved : (z : Size) (class : Class) (s rest : List ℕ) (scanner : Scanning) (h : HalfState) (byte : ℕ) (t : Token) (fault : Fault) (p : IsPlayed z class s scanner h) →
+    SpellsToken t (p.open_part ++ byte ∷ []) → half_fault z h t ≡ Some fault.cause → fault.offset + length p.open_part ≡ scanner.offset → IsFirstFault z class (s ++ byte ∷ rest) fault
+deserved z class s rest scanner h byte t fault p spelled some start = record {
+  size = p.size;
+  front = p.front;
+  text = p.open_part ++ byte ∷ [];
+  rest = rest;
+  whole = around p.front p.open_part s rest byte p.whole;
+  tokens = p.tokens;
+  reads = p.reads;
+  clean = p.clean;
+  offset = began z class s scanner h p fault.offset start;
+  faulty = inl (record { token = t; spelled = spelled; fault = blamed z class p.tokens h p.size.some_columns p.known t fault.cause some });
+}
+
+-- the reading refuses the byte
+pub refused : (z : Size) (class : Class) (s rest : List ℕ) (scanner : Scanning) (h : HalfState) (byte : ℕ) (fault : Fault) (p : IsPlayed z class s scanner h) →
+    IsRefused (p.open_part ++ byte ∷ []) fault.cause → fault.offset + length p.open_part ≡ scanner.offset → IsFirstFault z class (s ++ byte ∷ rest) fault
+refused z class s rest scanner h byte fault p refuses start = record {
+  size = p.size;
+  front = p.front;
+  text = p.open_part ++ byte ∷ [];
+  rest = rest;
+  whole = around p.front p.open_part s rest byte p.whole;
+  tokens = p.tokens;
+  reads = p.reads;
+  clean = p.clean;
+  offset = began z class s scanner h p fault.offset start;
+  faulty = inr refuses;
 }
 
 -- ---- a piece
 -- the bytes of a front of the piece are played
 pub record HasPlayed (old new : Playing) (front : List ℕ) : Type 0 where
   pub same : SamePlay old new
-  pub fed : new.fed ≡ old.fed
+  pub fed : new.fed ≡ old.fed + length front
   pub fault : new.fault ≡ old.fault
-  pub played : (class : Class) (s : List ℕ) → IsPlayed old.size class s old.state → IsPlayed old.size class (s ++ front) new.state
+  pub played : (class : Class) (s : List ℕ) → IsPlayed old.size class s old.scanner old.state → IsPlayed old.size class (s ++ front) new.scanner new.state
 
 pub has_played_none : (p : Playing) → HasPlayed p p []
 has_played_none p = record {
   same = record { size = refl; start = refl };
-  fed = refl;
+  fed = omega arith;
   fault = refl;
   played = λ class s h. rw append-nil h;
 }
@@ -89,22 +136,21 @@ has_played_none p = record {
 pub has_played_more : (old mid new : Playing) (front : List ℕ) (byte : ℕ) → HasPlayed old mid front → GoesOn mid byte new → HasPlayed old new (front ++ byte ∷ [])
 has_played_more old mid new front byte h g = record {
   same = record { size = g.same.size ∙ h.same.size; start = g.same.start ∙ h.same.start };
-  fed = g.fed ∙ h.fed;
+  fed = simp length-append (omega (arith, g.fed, h.fed));
   fault = g.fault ∙ h.fault;
   played = λ class s p.
-      let before : IsPlayed mid.size class (s ++ front) mid.state = rw h.same.size (h.played class s p) in
-      let after : IsPlayed mid.size class ((s ++ front) ++ byte ∷ []) new.state = g.played class (s ++ front) before in
-      subst (λ (xs : List ℕ). IsPlayed old.size class xs new.state) (append_assoc s front (byte ∷ []))
-      (subst (λ (z : Size). IsPlayed z class ((s ++ front) ++ byte ∷ []) new.state) h.same.size after);
+      let before : IsPlayed mid.size class (s ++ front) mid.scanner mid.state = rw h.same.size (h.played class s p) in
+      let after : IsPlayed mid.size class ((s ++ front) ++ byte ∷ []) new.scanner new.state = g.played class (s ++ front) before in
+      subst (λ (xs : List ℕ). IsPlayed old.size class xs new.scanner new.state) (append_assoc s front (byte ∷ []))
+      (subst (λ (z : Size). IsPlayed z class ((s ++ front) ++ byte ∷ []) new.scanner new.state) h.same.size after);
 }
 
-pub stands_played : (old new : Playing) (piece s : List ℕ) → HasPlayed old new piece → old.fault ≡ None → Stands old s →
-    (fed : Playing) → fed ≡ record new { fed = new.fed + length piece } → Stands fed (s ++ piece)
-stands_played old new piece s h none st fed e = rw e (record {
+pub stands_played : (old new : Playing) (piece s : List ℕ) → HasPlayed old new piece → old.fault ≡ None → Stands old s → Stands new (s ++ piece)
+stands_played old new piece s h none st = record {
   fed = λ n. let before : old.fed ≡ length s = st.fed none in simp length-append (omega (arith, h.fed));
   played = λ n. rw (h.same.size, h.same.start) (h.played (class_of old.start) s (st.played none));
   faulted = λ f some. absurd (let clash : Some f ≡ None = sym some ∙ (h.fault ∙ none) in cc);
-})
+}
 
 -- the piece around its byte i
 piece_at : (piece : List ℕ) (i byte : ℕ) → i < length piece → get_or piece i 0 ≡ byte → take i piece ++ byte ∷ drop (i + 1) piece ≡ piece
@@ -113,50 +159,76 @@ piece_at piece i byte lt e =
     ∙ ap (λ (xs : List ℕ). xs ++ drop (i + 1) piece) (sym (take_more piece i 0 lt))
     ∙ take-append-drop (i + 1) piece)
 
-pub first_in_piece : (old mid : Playing) (piece s : List ℕ) (i byte : ℕ) (cause : Cause) → i < length piece → get_or piece i 0 ≡ byte → HasPlayed old mid (take i piece) →
-    IsDeserved mid byte cause → cause ≢ UnknownSequence → old.fault ≡ None → Stands old s → IsFirstFault old.size (class_of old.start) (s ++ piece) (fault_at (mid.fed + i) cause)
-first_in_piece old mid piece s i byte cause lt e h d known none st =
-    let at : length (s ++ take i piece) ≡ mid.fed + i = simp (length-append, length-take) (omega (arith, st.fed none, h.fed)) in
+pub first_in_piece : (old mid : Playing) (piece s : List ℕ) (i byte : ℕ) (fault : Fault) → i < length piece → get_or piece i 0 ≡ byte → HasPlayed old mid (take i piece) →
+    IsDeserved mid byte fault → old.fault ≡ None → Stands old s → IsFirstFault old.size (class_of old.start) (s ++ piece) fault
+first_in_piece old mid piece s i byte fault lt e h d none st =
     let whole : (s ++ take i piece) ++ byte ∷ drop (i + 1) piece ≡ s ++ piece = append_assoc s (take i piece) (byte ∷ drop (i + 1) piece) ∙ ap (λ (xs : List ℕ). s ++ xs) (piece_at piece i byte lt e) in
-    let before : IsPlayed mid.size (class_of old.start) (s ++ take i piece) mid.state = rw h.same.size (h.played (class_of old.start) s (st.played none)) in
-    let first : IsFirstFault mid.size (class_of old.start) ((s ++ take i piece) ++ byte ∷ drop (i + 1) piece) (fault_at (length (s ++ take i piece)) cause)
-    = d (class_of old.start) (s ++ take i piece) (drop (i + 1) piece) known before in
-    subst (λ (n : ℕ). IsFirstFault old.size (class_of old.start) (s ++ piece) (fault_at n cause)) at
-    (subst (λ (xs : List ℕ). IsFirstFault old.size (class_of old.start) xs (fault_at (length (s ++ take i piece)) cause)) whole
-    (subst (λ (z : Size). IsFirstFault z (class_of old.start) ((s ++ take i piece) ++ byte ∷ drop (i + 1) piece) (fault_at (length (s ++ take i piece)) cause)) h.same.size first))
+    let before : IsPlayed mid.size (class_of old.start) (s ++ take i piece) mid.scanner mid.state = rw h.same.size (h.played (class_of old.start) s (st.played none)) in
+    let first : IsFirstFault mid.size (class_of old.start) ((s ++ take i piece) ++ byte ∷ drop (i + 1) piece) fault
+    = d (class_of old.start) (s ++ take i piece) (drop (i + 1) piece) before in
+    subst (λ (xs : List ℕ). IsFirstFault old.size (class_of old.start) xs fault) whole
+    (subst (λ (z : Size). IsFirstFault z (class_of old.start) ((s ++ take i piece) ++ byte ∷ drop (i + 1) piece) fault) h.same.size first)
 
-pub stands_faulted : (old mid new : Playing) (piece s : List ℕ) (i byte : ℕ) (cause : Cause) → i < length piece → get_or piece i 0 ≡ byte → HasPlayed old mid (take i piece) →
-    IsDeserved mid byte cause → old.fault ≡ None → new ≡ record mid { fault = Some (fault_at (mid.fed + i) cause) } → Stands old s → Stands new (s ++ piece)
-stands_faulted old mid new piece s i byte cause lt e h d none is st = rw is (record {
-  fed = λ n. absurd (cc);
-  played = λ n. absurd (cc);
-  faulted = λ f some known.
-      let same : fault_at (mid.fed + i) cause ≡ f = same_some (fault_at (mid.fed + i) cause) f some in
-      rw (h.same.size, h.same.start)
-      (subst (λ (x : Fault). IsFirstFault old.size (class_of old.start) (s ++ piece) x) same
-      (first_in_piece old mid piece s i byte cause lt e h d (subst (λ (x : Fault). x.cause ≢ UnknownSequence) (sym same) known) none st));
-})
+-- a player with the fault of its bytes
+pub stands_faulted : (old new : Playing) (bytes : List ℕ) (fault : Fault) → SamePlay old new → new.fault ≡ Some fault → IsFirstFault old.size (class_of old.start) bytes fault → Stands new bytes
+stands_faulted old new bytes fault same is first = record {
+  fed = λ n. absurd (let clash : Some fault ≡ None = sym is ∙ n in cc);
+  played = λ n. absurd (let clash : Some fault ≡ None = sym is ∙ n in cc);
+  faulted = λ f some.
+      let equal : fault ≡ f = same_some fault f (sym is ∙ some) in
+      rw (same.size, same.start) (subst (λ (x : Fault). IsFirstFault old.size (class_of old.start) bytes x) equal first);
+}
   where
     same_some : (a b : Fault) → Some a ≡ Some b → a ≡ b
     same_some a b x = cc
 
+-- the byte i of the piece has the fault
+pub stands_at : (old mid after : Playing) (piece s : List ℕ) (i byte : ℕ) (fault : Fault) → i < length piece → get_or piece i 0 ≡ byte → HasPlayed old mid (take i piece) →
+    SamePlay mid after → after.fault ≡ Some fault → IsDeserved mid byte fault → old.fault ≡ None → Stands old s → (fed : ℕ) → Stands (record after { fed = fed }) (s ++ piece)
+stands_at old mid after piece s i byte fault lt e h same is d none st fed =
+    stands_faulted old (record after { fed = fed }) (s ++ piece) fault (record { size = same.size ∙ h.same.size; start = same.start ∙ h.same.start }) is
+    (first_in_piece old mid piece s i byte fault lt e h d none st)
+
+-- a first fault stands within the bytes
+pub first_within : (z : Size) (class : Class) (bytes : List ℕ) (fault : Fault) → IsFirstFault z class bytes fault → fault.offset ≤ length bytes
+first_within z class bytes fault h =
+    omega (arith, h.offset, ap length h.whole, length-append h.front (h.text ++ h.rest))
+
 -- ---- what the code of one byte gives
-goes_on : (old new : Playing) (byte : ℕ) (t : Token) → IsByte byte → byte ≢ escape → t ≡ token_of_byte byte → half_fault old.size old.state t ≡ None →
-    new ≡ record old { state = half_step old.size old.state t } → GoesOn old byte new
-goes_on old new byte t is_byte not_escape same none is = rw is (record {
+pub byte_refused : (old : Playing) (scanner : Scanning) (byte : ℕ) (fault : Fault) → scanner ≡ old.scanner →
+    (scanner.refusal ≡ None → (y : List ℕ) → Holds scanner y → IsFaultOf fault scanner.offset y byte) → IsDeserved old byte fault
+byte_refused old scanner byte fault same scans class s rest p =
+    let told : IsFaultOf fault old.scanner.offset p.open_part byte = (rw same at scans) p.unrefused p.open_part p.holds in
+    refused old.size class s rest old.scanner old.state byte fault p told.refused told.starts
+
+pub byte_goes_on : (old new : Playing) (scanner after : Scanning) (byte : ℕ) → scanner ≡ old.scanner → new ≡ record old { fed = old.fed + 1; scanner = after } →
+    (scanner.refusal ≡ None → (y : List ℕ) → Holds scanner y → IsUnfinished (y ++ byte ∷ []) × Holds after (y ++ byte ∷ [])) →
+    after.offset ≡ scanner.offset + 1 → after.refusal ≡ None → GoesOn old byte new
+byte_goes_on old new scanner after byte same is scans offset unrefused = rw is (record {
   same = record { size = refl; start = refl };
   fed = refl;
   fault = refl;
-  played = λ class s p. rw same (played_more old.size class s old.state byte is_byte not_escape (rw same at none) p);
+  played = λ class s p.
+      let told = (rw same at scans) p.unrefused p.open_part p.holds in
+      played_on old.size class s old.scanner after old.state byte p told.1 (rw same at offset) unrefused;
 })
 
-pub byte_goes_on : (r : Result (Unit {0}) Cause) (old new : Playing) (byte : ℕ) (t : Token) → IsByte byte → byte ≢ escape → t ≡ token_of_byte byte →
-    OnOk r (half_fault old.size old.state t ≡ None) → OnOk r (new ≡ record old { state = half_step old.size old.state t }) → OnOk r (GoesOn old byte new)
-byte_goes_on (Ok u) old new byte t is_byte not_escape same none is = goes_on old new byte t is_byte not_escape same none is
-byte_goes_on (Err cause) old new byte t is_byte not_escape same none is = tt
+pub byte_plays : (old new : Playing) (scanner after : Scanning) (byte : ℕ) (token : Spelled) (t : Token) → scanner ≡ old.scanner → t ≡ token_of (kind_of token) →
+    new ≡ record old { fed = old.fed + 1; scanner = after; state = half_step old.size old.state t } → half_fault old.size old.state t ≡ None →
+    (scanner.refusal ≡ None → (y : List ℕ) → Holds scanner y → IsTokenOf token scanner.offset y byte × Holds after []) →
+    after.offset ≡ scanner.offset + 1 → after.refusal ≡ None → GoesOn old byte new
+byte_plays old new scanner after byte token t same kind is none scans offset unrefused = rw is (record {
+  same = record { size = refl; start = refl };
+  fed = refl;
+  fault = refl;
+  played = λ class s p.
+      let told = (rw same at scans) p.unrefused p.open_part p.holds in
+      played_more old.size class s old.scanner after old.state byte t p (rw kind told.0.spelled) none told.1 (rw same at offset) unrefused;
+})
 
-pub byte_deserved : (r : Result (Unit {0}) Cause) (old : Playing) (byte : ℕ) (t : Token) → IsByte byte → byte ≢ escape → t ≡ token_of_byte byte →
-    IfErr r (λ cause. half_fault old.size old.state t ≡ Some cause) → IfErr r (λ cause. IsDeserved old byte cause)
-byte_deserved (Ok u) old byte t is_byte not_escape same some = tt
-byte_deserved (Err cause) old byte t is_byte not_escape same some = λ class s rest known p.
-    deserved old.size class s rest old.state byte cause is_byte not_escape (rw same at some) p
+pub byte_deserved : (old : Playing) (scanner after : Scanning) (byte : ℕ) (token : Spelled) (t : Token) (fault : Fault) → scanner ≡ old.scanner → t ≡ token_of (kind_of token) →
+    fault.offset ≡ start_of token → half_fault old.size old.state t ≡ Some fault.cause →
+    (scanner.refusal ≡ None → (y : List ℕ) → Holds scanner y → IsTokenOf token scanner.offset y byte × Holds after []) → IsDeserved old byte fault
+byte_deserved old scanner after byte token t fault same kind start some scans class s rest p =
+    let told = (rw same at scans) p.unrefused p.open_part p.holds in
+    deserved old.size class s rest old.scanner old.state byte t fault p (rw kind told.0.spelled) some (rw start told.0.starts)

@@ -1,24 +1,28 @@
 -- The end of a play: the picture that it shows, or the first cell that stays unknown.
-use Rattle.std.proofs.Common.{◌≡◌, ◌≢◌, ℕ, zero, ◌+◌, ◌*◌, ◌/◌, ◌%◌, ◌<◌, ◌≤◌, true, false, refl, sym, ap, ◌∙◌, arith, List, length, map, take, Option, Some, None, subst, inl, inr}
+use Rattle.std.proofs.Common.{◌≡◌, ℕ, ◌+◌, ◌*◌, ◌/◌, ◌%◌, ◌<◌, ◌≤◌, true, false, refl, sym, ap, ◌∙◌, arith, List, [], ◌++◌, length, length-append, map, take, Some, None, subst, inl, inr}
 use Rattle.std.specs.Prelude.{slice_get}
 use Rattle.std.specs.List.{list_all}
-use Rattle.std.proofs.lemmas.List.{length-take}
+use Rattle.std.proofs.lemmas.List.{length-take, append-nil}
 use Rattle.std.proofs.lemmas.List.Elements.{All-take}
 use Rattle.std.proofs.lemmas.Nat.{mul-le}
 use Rattle.std.proofs.Math.Nat.{div-lt_iff_lt-mul}
 use Rattle.ans_model.specs.Token.{Token}
 use Rattle.ans_model.specs.Reads.{Reads}
-use Rattle.ans_model.specs.State.{Size, IsSize, State, at, index, cell_at, cell_count, IsStated, IsByteCell, IsWellFormed}
+use Rattle.ans_model.specs.State.{Size, State, at, index, cell_count, IsStated, IsByteCell, IsWellFormed}
 use Rattle.ans_model.specs.declared.cell.Cell.{Cell}
 use Rattle.ans_model.specs.declared.cell.Position.{Position}
 use Rattle.ans_model.specs.Step.{final}
 use Rattle.ans_model.specs.Starts.{Class, class_of, IsStart, low_start, high_start}
-use Rattle.ans_model.specs.Good.{Picture, IsPictureOf, Shows, GoodWith, IsGood}
+use Rattle.ans_model.specs.Good.{Picture, Shows, GoodWith, IsGood}
 use Rattle.ans_model.specs.Refusals.{fault_at}
-use Rattle.ans_model.specs.LastFault.{SameCell, CellsDiffer, IsBefore, IsFirstUnknown, LeavesUnknown, IsLastFault}
-use Rattle.ans_model.specs.declared.fault.Cause.TheVariants.{UnknownCell}
+use Rattle.ans_model.specs.LastFault.{SameCell, CellsDiffer, IsBefore, IsFirstUnknown, EndsInSequence, LeavesUnknown, IsLastFault}
+use Rattle.ans_model.specs.Sequence.{IsUnfinished}
+use Rattle.ans_model.specs.declared.fault.Fault.{Fault}
+use Rattle.ans_tokens.specs.Scanning.{Scanning, Holds}
+use Rattle.ans_model.specs.declared.fault.Cause.TheVariants.{EndInSequence, UnknownCell}
 use Rattle.ans_model.proofs.StartLemmas.{low_is_start, high_is_start}
 use Rattle.ans_model.proofs.Reading.{reads_law}
+use Rattle.ans_model.proofs.OneAnswer.{good_or_last}
 use Rattle.ans_screen.specs.KnownBits.{known_bits}
 use Rattle.ans_screen.specs.Cells.{half_cell, is_known}
 use Rattle.ans_screen.specs.Grids.{first_unknown}
@@ -113,31 +117,52 @@ module _ (z : Size) (class : Class) (tokens : List Token) (h : HalfState) (w : 0
       }
 
 -- ---- of bytes
-module _ (z : Size) (class : Class) (bytes : List ℕ) (h : HalfState) (p : IsPlayed z class bytes h) where
-  good_if : list_all is_known (stated_cells z h.screen) ≡ true → GoodWith z class bytes (picture_of z h.screen)
-  good_if k = record {
+module _ (z : Size) (class : Class) (bytes : List ℕ) (scanner : Scanning) (h : HalfState) (p : IsPlayed z class bytes scanner h) where
+  -- at the end of the tokens
+  read_whole : p.open_part ≡ [] → Reads bytes p.tokens
+  read_whole e = subst (λ (xs : List ℕ). Reads xs p.tokens) (sym (append-nil p.front) ∙ ap (λ (y : List ℕ). p.front ++ y) (sym e) ∙ sym p.whole) p.reads
+
+  -- within a sequence
+  pub in_sequence : (fault : Fault) → IsUnfinished p.open_part → fault.cause ≡ EndInSequence → fault.offset + length p.open_part ≡ scanner.offset → EndsInSequence z class bytes fault
+  in_sequence fault unfinished cause start = record {
     size = p.size;
+    front = p.front;
+    text = p.open_part;
+    whole = p.whole;
     tokens = p.tokens;
     reads = p.reads;
+    clean = p.clean;
+    unfinished = unfinished;
+    fault_is =
+        let size : length bytes ≡ length p.front + length p.open_part = ap length p.whole ∙ length-append p.front p.open_part in
+        let offset : fault.offset ≡ length p.front = omega (arith, start, p.offset, size) in
+        λ i. record { offset = offset i; cause = cause i };
+  }
+
+  good_if : p.open_part ≡ [] → list_all is_known (stated_cells z h.screen) ≡ true → GoodWith z class bytes (picture_of z h.screen)
+  good_if e k = record {
+    size = p.size;
+    tokens = p.tokens;
+    reads = read_whole e;
     plays = plays_well z class p.tokens p.clean;
     shows = shows z class p.tokens h p.size.some_columns p.known k;
   }
 
-  last_if : (i : ℕ) → FirstUnknown h.screen (z.lines * z.width) i → LeavesUnknown z class bytes (fault_at (length bytes) (UnknownCell (i / z.width + 1) (i % z.width + 1)))
+  last_if : p.open_part ≡ [] → (i : ℕ) → FirstUnknown h.screen (z.lines * z.width) i → LeavesUnknown z class bytes (fault_at (length bytes) (UnknownCell (i / z.width + 1) (i % z.width + 1)))
   unfolding place_of
-  last_if i u = record {
+  last_if e i u = record {
     size = p.size;
     tokens = p.tokens;
-    reads = p.reads;
+    reads = read_whole e;
     clean = p.clean;
     place = place_of z i;
     first = first_is z class p.tokens h p.size.some_columns p.known i u;
     fault_is = refl;
   }
 
-  not_good_if : (i : ℕ) → FirstUnknown h.screen (z.lines * z.width) i → ¬ IsGood z class bytes
-  not_good_if i u (picture, good) =
-      let same : good.tokens ≡ p.tokens = reads_law bytes good.tokens p.tokens good.reads p.reads in
+  not_good_if : p.open_part ≡ [] → (i : ℕ) → FirstUnknown h.screen (z.lines * z.width) i → ¬ IsGood z class bytes
+  not_good_if e i u (picture, good) =
+      let same : good.tokens ≡ p.tokens = reads_law bytes good.tokens p.tokens good.reads (read_whole e) in
       let shown : Shows z class p.tokens picture = rw same at good.shows in
       let first : IsFirstUnknown z class p.tokens (place_of z i) = first_is z class p.tokens h p.size.some_columns p.known i u in
       let d : CellsDiffer z class p.tokens (place_of z i) = first.differs in
@@ -152,15 +177,37 @@ pub known_if : (cells : List HalfCell) (n : ℕ) → first_unknown cells n ≡ N
 known_if cells n e = none_unknown (take n cells) no_cell e
 
 module _ (p : Playing) (s : List ℕ) (st : Stands p s) (none : p.fault ≡ None) where
-  pub ends_good : (picture : Picture) → first_unknown p.state.screen (p.size.lines * p.size.width) ≡ None → picture ≡ picture_of p.size p.state.screen →
-      GoodWith p.size (class_of p.start) s picture
-  ends_good picture e is = rw is (good_if p.size (class_of p.start) s p.state (st.played none) (known_if p.state.screen (p.size.lines * p.size.width) e))
+  -- the bytes end within a sequence
+  pub ends_open : (fault : Fault) → (p.scanner.refusal ≡ None → (y : List ℕ) → Holds p.scanner y → IsUnfinished y × (fault.cause ≡ EndInSequence) × (fault.offset + length y ≡ p.scanner.offset)) →
+      IsLastFault p.size (class_of p.start) s fault
+  ends_open fault ends =
+      let at = ends (st.played none).unrefused (st.played none).open_part (st.played none).holds in
+      inl (in_sequence p.size (class_of p.start) s p.scanner p.state (st.played none) fault at.0 at.1 at.2)
 
-  pub ends_unknown : (i fed width : ℕ) → first_unknown p.state.screen (p.size.lines * p.size.width) ≡ Some i → p.fed ≡ fed → p.size.width ≡ width →
-      IsLastFault p.size (class_of p.start) s (fault_at fed (UnknownCell (i / width + 1) (i % width + 1)))
-  ends_unknown i fed width e f w =
-      rw (← f, ← w, st.fed none)
-      (inr (last_if p.size (class_of p.start) s p.state (st.played none) i (found_unknown p.state.screen (p.size.lines * p.size.width) i no_cell e)))
+  -- good bytes do not
+  pub ends_open_not_good : (fault : Fault) → (p.scanner.refusal ≡ None → (y : List ℕ) → Holds p.scanner y → IsUnfinished y × (fault.cause ≡ EndInSequence) × (fault.offset + length y ≡ p.scanner.offset)) →
+      ¬ IsGood p.size (class_of p.start) s
+  ends_open_not_good fault ends good = good_or_last p.size (class_of p.start) s fault good (ends_open fault ends)
 
-  pub ends_not_good : (i : ℕ) → first_unknown p.state.screen (p.size.lines * p.size.width) ≡ Some i → ¬ IsGood p.size (class_of p.start) s
-  ends_not_good i e good = not_good_if p.size (class_of p.start) s p.state (st.played none) i (found_unknown p.state.screen (p.size.lines * p.size.width) i no_cell e) good
+  module _ (closed : p.scanner.refusal ≡ None → (y : List ℕ) → Holds p.scanner y → y ≡ []) where
+    nothing_open : (st.played none).open_part ≡ []
+    nothing_open = closed (st.played none).unrefused (st.played none).open_part (st.played none).holds
+
+    pub ends_good : (picture : Picture) → first_unknown p.state.screen (p.size.lines * p.size.width) ≡ None → picture ≡ picture_of p.size p.state.screen →
+        GoodWith p.size (class_of p.start) s picture
+    ends_good picture e is = rw is (good_if p.size (class_of p.start) s p.scanner p.state (st.played none) nothing_open (known_if p.state.screen (p.size.lines * p.size.width) e))
+
+    pub ends_unknown : (i fed width : ℕ) → first_unknown p.state.screen (p.size.lines * p.size.width) ≡ Some i → p.fed ≡ fed → p.size.width ≡ width →
+        IsLastFault p.size (class_of p.start) s (fault_at fed (UnknownCell (i / width + 1) (i % width + 1)))
+    ends_unknown i fed width e f w =
+        rw (← f, ← w, st.fed none)
+        (inr (last_if p.size (class_of p.start) s p.scanner p.state (st.played none) nothing_open i (found_unknown p.state.screen (p.size.lines * p.size.width) i no_cell e)))
+
+    pub ends_not_good : (i : ℕ) → first_unknown p.state.screen (p.size.lines * p.size.width) ≡ Some i → ¬ IsGood p.size (class_of p.start) s
+    ends_not_good i e good = not_good_if p.size (class_of p.start) s p.scanner p.state (st.played none) nothing_open i (found_unknown p.state.screen (p.size.lines * p.size.width) i no_cell e) good
+
+-- a last fault stands within the bytes
+pub last_within : (z : Size) (class : Class) (bytes : List ℕ) (fault : Fault) → IsLastFault z class bytes fault → fault.offset ≤ length bytes
+last_within z class bytes fault (inl h) =
+    omega (arith, ap (λ (f : Fault). f.offset) h.fault_is, ap length h.whole, length-append h.front h.text)
+last_within z class bytes fault (inr h) = omega (arith, ap (λ (f : Fault). f.offset) h.fault_is)

@@ -2,10 +2,10 @@
 use Rattle.std.proofs.Common.{◌≡◌, ℕ, ◌-◌, ◌*◌, ◌+◌, refl, sym, ap, ◌∙◌, arith, List, [], replicate, mul_comm, Some, None}
 use Rattle.ans_model.specs.State.{Size, IsSize, at, cell, cell_count}
 use Rattle.ans_model.specs.Step.{blank_cell}
-use Rattle.ans_model.specs.Starts.{Class, class_of, low_start, high_start}
+use Rattle.ans_model.specs.Starts.{class_of, low_start, high_start}
 use Rattle.ans_model.specs.declared.start.Start.{Start}
 use Rattle.ans_model.specs.declared.start.Start.TheVariants.{Any, Cleared}
-use Rattle.ans_model.specs.declared.fault.Fault.{Fault}
+use Rattle.ans_tokens.specs.Scanning.{fresh}
 use Rattle.ans_screen.specs.KnownBits.{known_bits}
 use Rattle.ans_screen.specs.Cells.{half_cell}
 use Rattle.ans_screen.specs.declared.cell.HalfCell.{HalfCell}
@@ -14,21 +14,27 @@ use Rattle.ans_play.specs.declared.wrap.WrapMode.{WrapMode}
 use Rattle.ans_play.specs.declared.wrap.WrapMode.TheVariants.{On, Unknown}
 use Rattle.ans_play.specs.HalfState.{HalfState, half_state, span, one_place}
 use Rattle.ans_play.specs.Hull.{hull, hull_place, hull_screen}
-use Rattle.ans_play.specs.Playing.{Playing, playing}
+use Rattle.ans_play.specs.Playing.{playing}
 use Rattle.ans_play.specs.Stands.{Stands}
 use Rattle.ans_play.proofs.Faults.{known_none}
 use Rattle.ans_play.proofs.Clean.{clean_none}
 use Rattle.ans_play.proofs.HullScreens.{hull_screen-replicate}
 
-pub stands_new : (z : Size) (start : Start) (h : HalfState) → IsSize z → h ≡ hull (low_start z (class_of start)) (high_start z (class_of start)) → Stands (playing z start 0 None h) []
+pub stands_new : (z : Size) (start : Start) (h : HalfState) → IsSize z → h ≡ hull (low_start z (class_of start)) (high_start z (class_of start)) → Stands (playing z start 0 None fresh h) []
 stands_new z start h size e = rw e (record {
   fed = λ n. refl;
   played = λ n. record {
     size = size;
+    front = [];
+    open_part = [];
+    whole = refl;
     tokens = [];
     reads = ([], record { each = tt; whole = refl });
     clean = clean_none z (class_of start);
     known = known_none z (class_of start);
+    holds = record { keeps = refl; begun_at = refl };
+    offset = refl;
+    unrefused = refl;
   };
   faulted = λ f some. absurd (cc);
 })
@@ -66,12 +72,12 @@ in_rows z cells c e = e ∙ ap (λ (n : ℕ). replicate n c) (mul_comm z.width (
 -- from the parts that the code chooses
 pub stands_any : (z : Size) (start : Start) (cells : List HalfCell) (cell : HalfCell) (s : Span) (wrap : WrapMode) → IsSize z →
     start ≡ Any → cell ≡ half_cell None (known_bits 0 0) → s ≡ span (at 0 0) (at z.lines (z.width - 1)) → wrap ≡ Unknown → cells ≡ replicate (z.width * (z.lines + 1)) cell →
-    Stands (playing z start 0 None (half_state cells s s cell.attr wrap)) []
+    Stands (playing z start 0 None fresh (half_state cells s s cell.attr wrap)) []
 stands_any z start cells cell s wrap size a b d f e =
     rw (a, b, d, f) (stands_new z Any _ size (any_hull z cells (in_rows z cells (half_cell None (known_bits 0 0)) (rw b at e))))
 
 pub stands_cleared : (z : Size) (start : Start) (cells : List HalfCell) (cell : HalfCell) (s : Span) (wrap : WrapMode) → IsSize z →
     start ≡ Cleared → cell ≡ half_cell (Some 0x20) (known_bits 255 7) → s ≡ one_place 0 0 → wrap ≡ On → cells ≡ replicate (z.width * (z.lines + 1)) cell →
-    Stands (playing z start 0 None (half_state cells s s cell.attr wrap)) []
+    Stands (playing z start 0 None fresh (half_state cells s s cell.attr wrap)) []
 stands_cleared z start cells cell s wrap size a b d f e =
     rw (a, b, d, f) (stands_new z Cleared _ size (cleared_hull z cells (in_rows z cells (half_cell (Some 0x20) (known_bits 255 7)) (rw b at e))))

@@ -5,4 +5,3 @@ pub mod HalfFault
 pub mod Playing
 pub mod Stands
 pub mod Shown
-pub mod Bytes

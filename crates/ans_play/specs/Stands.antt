@@ -1,5 +1,5 @@
 -- What a player says of the bytes that it was fed.
-use Rattle.std.specs.Prelude.{◌≡◌, ◌≢◌, ℕ, ◌+◌, List, [], ◌∷◌, ◌++◌, length, Option, Some, None}
+use Rattle.std.specs.Prelude.{◌≡◌, ℕ, ◌+◌, List, [], ◌∷◌, ◌++◌, length, Some, None}
 use Rattle.ans_model.specs.Token.{Token}
 use Rattle.ans_model.specs.Reads.{Reads}
 use Rattle.ans_model.specs.State.{Size, IsSize, IsWellFormed}
@@ -8,10 +8,8 @@ use Rattle.ans_model.specs.Starts.{Class, class_of, low_start, high_start}
 use Rattle.ans_model.specs.TokenFault.{FromEvery, IsClean}
 use Rattle.ans_model.specs.FirstFault.{IsFirstFault}
 use Rattle.ans_model.specs.declared.start.Start.{Start}
-use Rattle.ans_model.specs.Refusals.{fault_at}
 use Rattle.ans_model.specs.declared.fault.Fault.{Fault}
-use Rattle.ans_model.specs.declared.fault.Cause.{Cause}
-use Rattle.ans_model.specs.declared.fault.Cause.TheVariants.{UnknownSequence}
+use Rattle.ans_tokens.specs.Scanning.{Scanning, Holds}
 use Rattle.ans_play.specs.HalfState.{HalfState, Describes}
 use Rattle.ans_play.specs.Hull.{hull}
 use Rattle.ans_play.specs.Playing.{Playing}
@@ -23,20 +21,26 @@ pub record IsKnownAfter (z : Size) (class : Class) (tokens : List Token) (h : Ha
   pub is_hull : h ≡ hull (final z (low_start z class) tokens) (final z (high_start z class) tokens)
   pub well_formed : FromEvery z class (λ s. IsWellFormed z (final z s tokens))
 
--- the bytes are read as clean tokens, and the half-known state is what is known after them
-pub record IsPlayed (z : Size) (class : Class) (bytes : List ℕ) (h : HalfState) : Type 0 where
+-- The bytes are a front that is read as clean tokens, and then an open part that the scanner holds; the half-known state is
+-- what is known after the tokens.
+pub record IsPlayed (z : Size) (class : Class) (bytes : List ℕ) (scanner : Scanning) (h : HalfState) : Type 0 where
   pub size : IsSize z
+  pub front : List ℕ
+  pub open_part : List ℕ
+  pub whole : bytes ≡ front ++ open_part
   pub tokens : List Token
-  pub reads : Reads bytes tokens
+  pub reads : Reads front tokens
   pub clean : IsClean z class tokens
   pub known : IsKnownAfter z class tokens h
+  pub holds : Holds scanner open_part
+  pub offset : scanner.offset ≡ length bytes
+  pub unrefused : scanner.refusal ≡ None
 
--- A player without a fault stands where the bytes fed have brought it. One with a fault has their first; of the sequences it
--- knows none yet, and does not say of what it refuses as unknown that it is.
+-- A player without a fault stands where the bytes fed have brought it. One with a fault has their first.
 pub record Stands (p : Playing) (bytes : List ℕ) : Type 0 where
   pub fed : p.fault ≡ None → p.fed ≡ length bytes
-  pub played : p.fault ≡ None → IsPlayed p.size (class_of p.start) bytes p.state
-  pub faulted : (f : Fault) → p.fault ≡ Some f → f.cause ≢ UnknownSequence → IsFirstFault p.size (class_of p.start) bytes f
+  pub played : p.fault ≡ None → IsPlayed p.size (class_of p.start) bytes p.scanner p.state
+  pub faulted : (f : Fault) → p.fault ≡ Some f → IsFirstFault p.size (class_of p.start) bytes f
 
 -- a player that is fed nothing yet
 pub record IsNew (p : Playing) (z : Size) (from : Start) : Type 0 where
@@ -59,12 +63,11 @@ pub record IsFed (old new : Playing) (count : ℕ) : Type 0 where
 -- What is played of these bytes is played with this one behind them; the rest of the player stays.
 pub record GoesOn (old : Playing) (byte : ℕ) (new : Playing) : Type 0 where
   pub same : SamePlay old new
-  pub fed : new.fed ≡ old.fed
+  pub fed : new.fed ≡ old.fed + 1
   pub fault : new.fault ≡ old.fault
-  pub played : (class : Class) (s : List ℕ) → IsPlayed old.size class s old.state → IsPlayed old.size class (s ++ byte ∷ []) new.state
+  pub played : (class : Class) (s : List ℕ) → IsPlayed old.size class s old.scanner old.state → IsPlayed old.size class (s ++ byte ∷ []) new.scanner new.state
 
--- after whatever bytes are played, this one has the fault
-abbrev pub IsDeserved : Playing → ℕ → Cause → Type 0
-IsDeserved old byte cause =
-    (class : Class) (s rest : List ℕ) → cause ≢ UnknownSequence → IsPlayed old.size class s old.state →
-    IsFirstFault old.size class (s ++ byte ∷ rest) (fault_at (length s) cause)
+-- after whatever bytes are played, with this one they have the fault
+abbrev pub IsDeserved : Playing → ℕ → Fault → Type 0
+IsDeserved old byte fault =
+    (class : Class) (s rest : List ℕ) → IsPlayed old.size class s old.scanner old.state → IsFirstFault old.size class (s ++ byte ∷ rest) fault

@@ -10,7 +10,6 @@ ghost use Rattle.ans_model.specs.Good.{GoodWith, IsGood};
 ghost use Rattle.ans_model.specs.LastFault.{IsLastFault};
 ghost use Rattle.ans_model.specs.Certain.{IsCertain};
 ghost use Rattle.ans_model.specs.declared.start.Start.TheVariants.{Cleared};
-ghost use Rattle.ans_play.specs.Bytes.{IsKindOf};
 ghost use Rattle.ans_play.specs.HalfStep.{known_after_all};
 
 use crate::picture::Picture;
@@ -21,6 +20,7 @@ use ans_model::fault::{Cause, Fault};
 use ans_model::kind::Kind;
 use ans_model::start::Start;
 use ans_screen::{Attr, Grid, HalfCell};
+use ans_tokens::Scanner;
 use std::alloc::{AllocError, Global};
 use std::marker::Model;
 
@@ -33,6 +33,7 @@ pub struct Player<G: Grid> {
     start: Start,
     fed: usize,
     fault: Option<Fault>,
+    scanner: Scanner,
     grid: G,
     cursor: Span,
     saved: Span,
@@ -47,24 +48,9 @@ impl<G: Grid> Model for Player<G> {
 
     ghost Value = { Playing };
 
-    ghost view = { λ p. playing (sized p.width p.lines) p.start p.fed p.fault (half_state (G.cells_of p.grid) p.cursor p.saved p.attribute p.wrap) };
+    ghost view = { λ p. playing (sized p.width p.lines) p.start p.fed p.fault p.scanner (half_state (G.cells_of p.grid) p.cursor p.saved p.attribute p.wrap) };
 
-    ghost invariant = { λ p. IsPlaying (playing (sized p.width p.lines) p.start p.fed p.fault (half_state (G.cells_of p.grid) p.cursor p.saved p.attribute p.wrap)) };
-}
-
-/// The token that a byte is, unless it is ESC.
-fn kind_of_byte(byte: u8) -> Option<Kind>
-    ensures { IsKindOf byte result }
-{
-    match byte {
-        0x07 => Some(Kind::Bell),
-        0x08 => Some(Kind::BackSpace),
-        0x09 => Some(Kind::Tab),
-        0x0A => Some(Kind::LineFeed),
-        0x0D => Some(Kind::CarriageReturn),
-        0x1B => None,
-        _ => Some(Kind::Glyph(byte)),
-    }
+    ghost invariant = { λ p. IsPlaying (playing (sized p.width p.lines) p.start p.fed p.fault p.scanner (half_state (G.cells_of p.grid) p.cursor p.saved p.attribute p.wrap)) };
 }
 
 /// What is known of an attribute after colour parameters, one after the other.
@@ -118,6 +104,7 @@ impl<G: Grid> Player<G> {
             start,
             fed: 0,
             fault: None,
+            scanner: Scanner::new(),
             grid,
             cursor: span,
             saved: span,
@@ -149,36 +136,33 @@ impl<G: Grid> Player<G> {
         ensures kept { (f : Fault) → self.old.fault ≡ Some f → self.new ≡ self.old }
 
         ensures stands { (s : List ℕ) → self.old.fault ≡ None → Stands self.old s → Stands self.new (s ++ piece.now) }
-        ensures offset { self.old.fault ≡ None → IfErr result (λ f. f.offset ≤ self.old.fed + length piece.now) }
+        ensures offset { (s : List ℕ) → self.old.fault ≡ None → Stands self.old s → IfErr result (λ f. f.offset ≤ self.old.fed + length piece.now) }
         ensures certain { (s : List ℕ) → Stands self.old s → self.old.start ≡ Cleared → IfErr result (λ f. IsCertain f.cause) }
     {
         self.without_fault()?;
-        for (i, byte) in piece.iter().enumerate() {
-            if let Err(cause) = self.play_byte(*byte) {
-                let fault = Fault {
-                    offset: self.fed + i,
-                    cause,
-                };
-                self.fault = Some(fault);
+        let fed = self.fed;
+        for byte in piece {
+            if let Err(fault) = self.play_byte(*byte) {
+                self.fed = fed;
                 return Err(fault);
             }
         }
-        self.fed += piece.len();
         Ok(())
     }
 
-    /// The picture that every play of the bytes shows. An error is the fault of an earlier feed, or
-    /// else the first cell of the stated lines that stays unknown, its row and column counted from
-    /// 1.
+    /// The picture that every play of the bytes shows. An error is the fault of an earlier feed; else
+    /// F12, where the bytes end in a sequence, at its offset; else F25, the first cell of the stated
+    /// lines that stays unknown, its row and column counted from 1, at the number of bytes fed.
     pub fn finish(self) -> Result<Picture<G>, Fault>
         ensures repeats { (f : Fault) → self.fault ≡ Some f → result ≡ Err f }
         ensures ok { IfOk result (λ p. (s : List ℕ) → Stands self s → GoodWith self.size (class_of self.start) s p) }
         ensures last { self.fault ≡ None → IfErr result (λ f. (s : List ℕ) → Stands self s → IsLastFault self.size (class_of self.start) s f) }
         ensures exact { (s : List ℕ) → self.fault ≡ None → Stands self s → IsGood self.size (class_of self.start) s → IsOk result }
-        ensures offset { self.fault ≡ None → IfErr result (λ f. f.offset ≡ self.fed) }
+        ensures offset { (s : List ℕ) → self.fault ≡ None → Stands self s → IfErr result (λ f. f.offset ≤ self.fed) }
         ensures certain { (s : List ℕ) → Stands self s → self.start ≡ Cleared → IfErr result (λ f. IsCertain f.cause) }
     {
         self.without_fault()?;
+        self.scanner.end()?;
         match self.grid.first_unknown(self.lines * self.width) {
             None => Ok(Picture::new(self.width, self.lines, self.grid)),
             Some(i) => {
@@ -202,15 +186,39 @@ impl<G: Grid> Player<G> {
         self.fault.map_or(Ok(()), Err)
     }
 
-    /// Plays the token that a byte is, or answers why it is refused.
-    fn play_byte(&mut self, byte: u8) -> Result<(), Cause>
+    /// Takes a byte, and plays the token that it ends, if it ends one. An error is the fault that
+    /// stands from then on.
+    fn play_byte(&mut self, byte: u8) -> Result<(), Fault>
+        requires no_fault { self.old.fault ≡ None }
+        requires room { self.old.fed < longest_file }
+        ensures same { SamePlay self.old self.new }
         ensures played { OnOk result (GoesOn self.old byte self.new) }
-        ensures kept { OnErr result (self.new ≡ self.old) }
-        ensures refused { IfErr result (λ cause. IsDeserved self.old byte cause) }
+        ensures fault { IfErr result (λ fault. self.new.fault ≡ Some fault) }
+        ensures deserved { IfErr result (λ fault. IsDeserved self.old byte fault) }
     {
-        match kind_of_byte(byte) {
-            Some(kind) => self.play(&kind),
-            None => Err(Cause::UnknownSequence),
+        match self.scanner.byte(byte) {
+            Err(fault) => {
+                self.fault = Some(fault);
+                Err(fault)
+            }
+            Ok(None) => {
+                self.fed += 1;
+                Ok(())
+            }
+            Ok(Some(token)) => {
+                self.fed += 1;
+                match self.play(token.kind()) {
+                    Ok(()) => Ok(()),
+                    Err(cause) => {
+                        let fault = Fault {
+                            offset: token.start(),
+                            cause,
+                        };
+                        self.fault = Some(fault);
+                        Err(fault)
+                    }
+                }
+            }
         }
     }
 

@@ -1,6 +1,6 @@
 use Rattle.std.proofs.Common.{◌+◌, ◌*◌, lit<}
 use Rattle.ans_model.specs.Bytes.{IsByte}
-use Rattle.ans_play.specs.Playing.{Playing, IsByteHalfCell}
+use Rattle.ans_play.specs.Playing.{IsByteHalfCell}
 use Rattle.ans_play.proofs.Cells.{All-filled}
 use Rattle.ans_play.proofs.player.Player.erase_line.Goals as goal
 
@@ -17,4 +17,5 @@ invariant_of-self g c =
       attribute = c.self.invariant.attribute;
       cursor = c.self.invariant.cursor;
       saved = c.self.invariant.saved;
+      scanned = c.self.invariant.scanned;
     }
