@@ -1,12 +1,12 @@
 -- A byte played behind others, and a piece of bytes.
-use Rattle.std.proofs.Common.{◌≡◌, ◌≢◌, ℕ, ◌+◌, ◌<◌, refl, sym, ap, ◌∙◌, arith, List, [], ◌∷◌, ◌++◌, length, length-append, take, drop, get_or, append_assoc, Option, Some, None, inl, inr, subst}
+use Rattle.std.proofs.Common.{◌≡◌, ◌≢◌, ℕ, ◌+◌, ◌<◌, refl, sym, ap, ◌∙◌, arith, List, [], ◌∷◌, ◌++◌, length, length-append, take, drop, get_or, append_assoc, Some, None, inl, subst}
 use Rattle.std.specs.Prelude.{Result, Ok, Err, OnOk, IfErr}
 use Rattle.std.specs.List.{concat}
 use Rattle.std.proofs.lemmas.List.{append-nil, take_more, take-append-drop, length-take}
 use Rattle.std.proofs.lemmas.List.Folds.{concat-append}
 use Rattle.ans_model.specs.Bytes.{IsByte, escape}
-use Rattle.ans_model.specs.Token.{Token, PrintsByte}
-use Rattle.ans_model.specs.Reads.{token_of_byte, IsByteOf, SpellsToken, Reads}
+use Rattle.ans_model.specs.Token.{Token}
+use Rattle.ans_model.specs.Reads.{token_of_byte, SpellsToken, Reads}
 use Rattle.ans_model.specs.State.{Size}
 use Rattle.ans_model.specs.Starts.{Class, class_of}
 use Rattle.ans_model.specs.FirstFault.{IsFirstFault}

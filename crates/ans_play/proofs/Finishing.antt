@@ -1,5 +1,5 @@
 -- The end of a play: the picture that it shows, or the first cell that stays unknown.
-use Rattle.std.proofs.Common.{◌≡◌, ◌≢◌, ℕ, zero, ◌+◌, ◌*◌, ◌/◌, ◌%◌, ◌<◌, ◌≤◌, true, false, refl, sym, ap, ◌∙◌, arith, List, length, map, take, Option, Some, None, subst, inl, inr}
+use Rattle.std.proofs.Common.{◌≡◌, ℕ, ◌+◌, ◌*◌, ◌/◌, ◌%◌, ◌<◌, ◌≤◌, true, false, refl, sym, ap, ◌∙◌, arith, List, length, map, take, Some, None, subst, inl, inr}
 use Rattle.std.specs.Prelude.{slice_get}
 use Rattle.std.specs.List.{list_all}
 use Rattle.std.proofs.lemmas.List.{length-take}
@@ -7,13 +7,12 @@ use Rattle.std.proofs.lemmas.List.Elements.{All-take}
 use Rattle.std.proofs.lemmas.Nat.{mul-le}
 use Rattle.std.proofs.Math.Nat.{div-lt_iff_lt-mul}
 use Rattle.ans_model.specs.Token.{Token}
-use Rattle.ans_model.specs.Reads.{Reads}
-use Rattle.ans_model.specs.State.{Size, IsSize, State, at, index, cell_at, cell_count, IsStated, IsByteCell, IsWellFormed}
+use Rattle.ans_model.specs.State.{Size, State, at, index, cell_count, IsStated, IsByteCell, IsWellFormed}
 use Rattle.ans_model.specs.declared.cell.Cell.{Cell}
 use Rattle.ans_model.specs.declared.cell.Position.{Position}
 use Rattle.ans_model.specs.Step.{final}
 use Rattle.ans_model.specs.Starts.{Class, class_of, IsStart, low_start, high_start}
-use Rattle.ans_model.specs.Good.{Picture, IsPictureOf, Shows, GoodWith, IsGood}
+use Rattle.ans_model.specs.Good.{Picture, Shows, GoodWith, IsGood}
 use Rattle.ans_model.specs.Refusals.{fault_at}
 use Rattle.ans_model.specs.LastFault.{SameCell, CellsDiffer, IsBefore, IsFirstUnknown, LeavesUnknown, IsLastFault}
 use Rattle.ans_model.specs.declared.fault.Cause.TheVariants.{UnknownCell}

@@ -3,7 +3,7 @@ use Rattle.std.proofs.Common.{◌≡◌, ℕ, zero, suc, ◌-◌, Bool, true, fa
 use Rattle.std.specs.Prelude.{if◌then◌else◌, IsTrue}
 use Rattle.std.specs.List.{AllZip}
 use Rattle.std.specs.Int.Bits.{and_zero_r}
-use Rattle.ans_model.specs.State.{Size, State, at, cell, cell_count, IsOnScreen}
+use Rattle.ans_model.specs.State.{Size, State, at, cell_count, IsOnScreen}
 use Rattle.ans_model.specs.declared.cell.Cell.{Cell}
 use Rattle.ans_model.specs.declared.cell.Position.{Position}
 use Rattle.ans_model.specs.Step.{blank_cell}

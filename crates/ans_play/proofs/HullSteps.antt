@@ -1,5 +1,5 @@
 -- The hull of two states, after a token that has no fault, is the hull of the two states after it.
-use Rattle.std.proofs.Common.{◌≡◌, ℕ, ◌+◌, ◌<◌, ◌≤◌, min, max, Bool, true, false, refl, sym, ap, ◌∙◌, arith, List, length, set, Option, Some, inl, inr}
+use Rattle.std.proofs.Common.{◌≡◌, ℕ, ◌+◌, ◌<◌, ◌≤◌, min, Bool, true, false, refl, sym, ap, ◌∙◌, arith, List, length, set, Option, Some, inl, inr}
 use Rattle.std.specs.Prelude.{if◌then◌else◌}
 use Rattle.std.proofs.lemmas.Bool.{cases_lt, lt-ltb, le-ltb, eq-eqb}
 use Rattle.ans_model.specs.Token.{Token, Glyph, BackSpace, LineFeed, CarriageReturn, Up, Down, Forward, Backward, Place, Clear, EraseLine, Save, Restore, Colours, Wrap}
@@ -12,7 +12,7 @@ use Rattle.ans_screen.specs.Cells.{half_cell}
 use Rattle.ans_screen.specs.declared.cell.HalfCell.{HalfCell}
 use Rattle.ans_play.specs.declared.span.Span.{Span}
 use Rattle.ans_play.specs.declared.wrap.WrapMode.{WrapMode}
-use Rattle.ans_play.specs.HalfState.{HalfState, half_state, span, one_place}
+use Rattle.ans_play.specs.HalfState.{half_state, span, one_place}
 use Rattle.ans_play.specs.Hull.{hull_attribute, hull_byte, hull_place, hull_wrap, hull_screen, hull}
 use Rattle.ans_play.specs.HalfStep.{moved, half_wrapped, half_advanced, wrap_of, half_step}
 use Rattle.ans_play.proofs.Allowed.{IsOnePlace, IsAllowed}

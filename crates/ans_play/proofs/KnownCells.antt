@@ -1,5 +1,5 @@
 -- Known and unknown cells of a half-known screen.
-use Rattle.std.proofs.Common.{◌≡◌, ◌≢◌, ℕ, zero, suc, ◌+◌, ◌<◌, ◌≤◌, ◌%◌, Bool, true, false, refl, sym, ap, ◌∙◌, arith, List, [], ◌∷◌, length, map, take, get_or, All, Option, Some, None, subst}
+use Rattle.std.proofs.Common.{◌≡◌, ◌≢◌, ℕ, zero, suc, ◌<◌, ◌≤◌, ◌%◌, Bool, true, false, refl, sym, ap, ◌∙◌, arith, List, [], ◌∷◌, length, map, take, get_or, All, Option, Some, None, subst}
 use Rattle.std.specs.Prelude.{◌&&◌, not, ◌==◌, slice_get, is_some, unwrap_or, IfSome, if◌then◌else◌, bit_and, nat_lt}
 use Rattle.std.specs.List.{AllZip, list_all, position, position_or_len}
 use Rattle.std.specs.Int.Bits.{xor_self}

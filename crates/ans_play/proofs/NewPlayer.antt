@@ -2,10 +2,9 @@
 use Rattle.std.proofs.Common.{◌≡◌, ℕ, ◌-◌, ◌*◌, ◌+◌, refl, sym, ap, ◌∙◌, arith, List, [], replicate, mul_comm, Some, None}
 use Rattle.ans_model.specs.State.{Size, IsSize, at, cell, cell_count}
 use Rattle.ans_model.specs.Step.{blank_cell}
-use Rattle.ans_model.specs.Starts.{Class, class_of, low_start, high_start}
+use Rattle.ans_model.specs.Starts.{class_of, low_start, high_start}
 use Rattle.ans_model.specs.declared.start.Start.{Start}
 use Rattle.ans_model.specs.declared.start.Start.TheVariants.{Any, Cleared}
-use Rattle.ans_model.specs.declared.fault.Fault.{Fault}
 use Rattle.ans_screen.specs.KnownBits.{known_bits}
 use Rattle.ans_screen.specs.Cells.{half_cell}
 use Rattle.ans_screen.specs.declared.cell.HalfCell.{HalfCell}
@@ -14,7 +13,7 @@ use Rattle.ans_play.specs.declared.wrap.WrapMode.{WrapMode}
 use Rattle.ans_play.specs.declared.wrap.WrapMode.TheVariants.{On, Unknown}
 use Rattle.ans_play.specs.HalfState.{HalfState, half_state, span, one_place}
 use Rattle.ans_play.specs.Hull.{hull, hull_place, hull_screen}
-use Rattle.ans_play.specs.Playing.{Playing, playing}
+use Rattle.ans_play.specs.Playing.{playing}
 use Rattle.ans_play.specs.Stands.{Stands}
 use Rattle.ans_play.proofs.Faults.{known_none}
 use Rattle.ans_play.proofs.Clean.{clean_none}

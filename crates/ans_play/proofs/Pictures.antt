@@ -1,5 +1,5 @@
 -- Known cells are a picture.
-use Rattle.std.proofs.Common.{◌≡◌, ℕ, ◌*◌, refl, arith, List, length, map, take, All, Option, Some, None, lit<}
+use Rattle.std.proofs.Common.{◌≡◌, ℕ, ◌*◌, refl, arith, List, Option, Some, None, lit<}
 use Rattle.std.specs.Prelude.{IfSome, unwrap_or}
 use Rattle.std.proofs.lemmas.List.{length-map, length-take}
 use Rattle.std.proofs.lemmas.List.Elements.{All-map, All-take, All-weaker}

@@ -3,10 +3,10 @@ use Rattle.std.proofs.Common.{◌≡◌, ◌≢◌, ℕ, ap, ◌∙◌, List, ta
 use Rattle.std.specs.Prelude.{◌⊎◌, slice_get}
 use Rattle.std.proofs.lemmas.Bool.{cases_eq}
 use Rattle.ans_model.specs.Token.{Token, Glyph, LineFeed, EraseLine}
-use Rattle.ans_model.specs.State.{Size, State}
+use Rattle.ans_model.specs.State.{Size}
 use Rattle.ans_model.specs.declared.cell.Position.{Position}
 use Rattle.ans_model.specs.Step.{final}
-use Rattle.ans_model.specs.Starts.{Class, IsStart}
+use Rattle.ans_model.specs.Starts.{Class}
 use Rattle.ans_model.specs.TokenFault.{HasFault, IsClean, SamePlace, PlacesDiffer}
 use Rattle.ans_model.specs.declared.fault.Cause.{Cause}
 use Rattle.ans_model.specs.declared.fault.Cause.TheVariants.{PrintBelow, Scrolls, PrintUnknownPlace, EraseUnknownPlace, MayScroll}

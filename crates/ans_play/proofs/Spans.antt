@@ -1,5 +1,5 @@
 -- A move keeps a cursor's span on the screen.
-use Rattle.std.proofs.Common.{◌<◌, arith}
+use Rattle.std.proofs.Common.{arith}
 use Rattle.ans_model.specs.Token.{Token, BackSpace, CarriageReturn, Up, Down, Forward, Backward, Place}
 use Rattle.ans_model.specs.State.{Size}
 use Rattle.ans_play.specs.declared.span.Span.{Span}

@@ -1,5 +1,5 @@
 -- A player, as contracts see it.
-use Rattle.std.specs.Prelude.{◌≡◌, ℕ, ◌≤◌, List, length, All, Option, IfSome}
+use Rattle.std.specs.Prelude.{◌≡◌, ℕ, ◌≤◌, length, All, Option, IfSome}
 use Rattle.ans_model.specs.Bytes.{IsByte, most_columns, most_lines}
 use Rattle.ans_model.specs.State.{Size, cell_count}
 use Rattle.ans_model.specs.declared.start.Start.{Start}

@@ -1,5 +1,5 @@
 -- What a player says of the bytes that it was fed.
-use Rattle.std.specs.Prelude.{◌≡◌, ◌≢◌, ℕ, ◌+◌, List, [], ◌∷◌, ◌++◌, length, Option, Some, None}
+use Rattle.std.specs.Prelude.{◌≡◌, ◌≢◌, ℕ, ◌+◌, List, [], ◌∷◌, ◌++◌, length, Some, None}
 use Rattle.ans_model.specs.Token.{Token}
 use Rattle.ans_model.specs.Reads.{Reads}
 use Rattle.ans_model.specs.State.{Size, IsSize, IsWellFormed}

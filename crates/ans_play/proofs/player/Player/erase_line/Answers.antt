@@ -1,6 +1,6 @@
 use Rattle.std.proofs.Common.{◌+◌, ◌*◌, lit<}
 use Rattle.ans_model.specs.Bytes.{IsByte}
-use Rattle.ans_play.specs.Playing.{Playing, IsByteHalfCell}
+use Rattle.ans_play.specs.Playing.{IsByteHalfCell}
 use Rattle.ans_play.proofs.Cells.{All-filled}
 use Rattle.ans_play.proofs.player.Player.erase_line.Goals as goal
 

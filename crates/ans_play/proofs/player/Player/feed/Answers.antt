@@ -1,9 +1,9 @@
-use Rattle.std.proofs.Common.{◌≡◌, ◌+◌, ◌<◌, ◌≤◌, refl, sym, ap, ◌∙◌, length, get_or, Some, arith, rules}
+use Rattle.std.proofs.Common.{◌≡◌, ◌+◌, ◌<◌, ◌≤◌, refl, ap, ◌∙◌, length, get_or, Some, arith, rules}
 use Rattle.std.specs.Prelude.{Err}
 use Rattle.std.proofs.lemmas.List.{take_more, take_all}
 use Rattle.ans_model.specs.Refusals.{fault_at}
 use Rattle.ans_play.specs.Playing.{Playing}
-use Rattle.ans_play.proofs.Feeding.{has_played_none, has_played_more, stands_played, stands_faulted, first_in_piece}
+use Rattle.ans_play.proofs.Feeding.{has_played_more, stands_played, stands_faulted, first_in_piece}
 use Rattle.ans_play.proofs.Certainty.{certain_fault}
 use Rattle.ans_play.proofs.player.Player.feed.Goals as goal
 
