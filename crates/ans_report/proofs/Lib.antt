@@ -1,0 +1,2 @@
+pub mod WritesLemmas
+pub mod GathersLemmas
