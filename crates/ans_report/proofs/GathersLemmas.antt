@@ -7,7 +7,7 @@ use Rattle.std.specs.Prelude.{Option, Result}
 use Rattle.std.specs.Io.KnownBytes.{Appends}
 use Rattle.std.proofs.KnownBytes.{Appends-nil, Appends-trans}
 use Rattle.ans_report.specs.Writes.{AppendsPrefix, WritesText, Gathers, GathersText}
-use Rattle.ans_report.proofs.WritesLemmas.{AppendsPrefix-then, AppendsPrefix-longer}
+use Rattle.ans_report.proofs.WritesLemmas.{AppendsPrefix-then, AppendsPrefix-longer, WritesText-then, WritesText-stopped}
 
 -- nothing was gathered yet
 pub Gathers-none : (a : Option (List ℕ)) (waiting : List ℕ) → Gathers a a waiting waiting []
@@ -80,3 +80,16 @@ pub Gathers-last : {A : Type 0} (f : A → List ℕ) (a b c : Option (List ℕ))
 Gathers-last f a b c h0 h1 xs i d lt before stopped =
     let P : List ℕ → Type 0 = λ t. AppendsPrefix a c (h0 ++ t) in
     subst P (sym (flat_map-at f xs i d lt)) (gathered-longer a c h0 _ _ (Gathers-stopped a b c h0 h1 _ _ before stopped))
+
+-- the gathered text was written, where nothing waited before it
+pub WritesText-flushed : {T E : Type 0} (a b c : Option (List ℕ)) (h0 h1 : List ℕ) (r : Result T E) (text : List ℕ) → h0 ≡ [] → Gathers a b h0 h1 text → WritesText b c r h1 → WritesText a c r text
+WritesText-flushed a b c h0 h1 r text none p after =
+    let whole : p.written ++ h1 ≡ text = p.whole ∙ ap (λ t. t ++ text) none in
+    let P : List ℕ → Type 0 = λ t. WritesText a c r t in
+    subst P whole (WritesText-then a b c r p.written h1 p.appended after)
+
+-- a prefix was written, where nothing waited before the text
+pub WritesText-failed : {T E : Type 0} (a b : Option (List ℕ)) (h0 : List ℕ) (r : Result T E) (text : List ℕ) → h0 ≡ [] → IsErr r → AppendsPrefix a b (h0 ++ text) → WritesText a b r text
+WritesText-failed a b h0 r text none failed p =
+    let P : List ℕ → Type 0 = λ t. AppendsPrefix a b t in
+    WritesText-stopped a b r text failed (subst P (ap (λ t. t ++ text) none) p)

@@ -1,2 +1,3 @@
 pub mod Tried
 pub mod Writes
+pub mod PlainText

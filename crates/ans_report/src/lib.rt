@@ -7,7 +7,11 @@
 #![tactic(auto)]
 
 mod outbox;
+mod report;
+mod texts;
 mod tried;
 
 pub use outbox::WriteFault;
+pub use report::write_refusal;
+pub use texts::fault_text;
 pub use tried::{DeviceFault, Tried};
