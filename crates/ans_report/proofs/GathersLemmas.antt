@@ -16,11 +16,11 @@ Gathers-none a waiting = record { written = []; appended = Appends-nil a; whole 
 -- one text after the other
 pub Gathers-then : (a b c : Option (List ℕ)) (h0 h1 h2 x y : List ℕ) → Gathers a b h0 h1 x → Gathers b c h1 h2 y → Gathers a c h0 h2 (x ++ y)
 Gathers-then a b c h0 h1 h2 x y p q = record {
-    written = p.written ++ q.written;
-    appended = Appends-trans a b c p.written q.written p.appended q.appended;
-    whole = append_assoc p.written q.written h2 ∙ ap (λ v. p.written ++ v) q.whole ∙ sym (append_assoc p.written h1 y)
+  written = p.written ++ q.written;
+  appended = Appends-trans a b c p.written q.written p.appended q.appended;
+  whole = append_assoc p.written q.written h2 ∙ ap (λ v. p.written ++ v) q.whole ∙ sym (append_assoc p.written h1 y)
       ∙ ap (λ v. v ++ y) p.whole ∙ append_assoc h0 x y;
-  }
+}
 
 -- the second text stopped
 pub Gathers-stopped : (a b c : Option (List ℕ)) (h0 h1 x y : List ℕ) → Gathers a b h0 h1 x → AppendsPrefix b c (h1 ++ y) → AppendsPrefix a c (h0 ++ (x ++ y))
@@ -43,10 +43,10 @@ gathered-longer a b h0 x y stopped =
 -- what waited was written, and then a text without waiting
 pub GathersText-directly : {T E : Type 0} (a b c : Option (List ℕ)) (h0 h1 : List ℕ) (r : Result T E) (text : List ℕ) → Appends a b h0 → h1 ≡ [] → WritesText b c r text → GathersText a c h0 h1 r text
 GathersText-directly a b c h0 h1 (Ok v) text before none after = record {
-    written = h0 ++ text;
-    appended = Appends-trans a b c h0 text before after;
-    whole = ap (λ t. (h0 ++ text) ++ t) none ∙ append-nil (h0 ++ text);
-  }
+  written = h0 ++ text;
+  appended = Appends-trans a b c h0 text before after;
+  whole = ap (λ t. (h0 ++ text) ++ t) none ∙ append-nil (h0 ++ text);
+}
 GathersText-directly a b c h0 h1 (Err e) text before none after = AppendsPrefix-then a b c h0 text before after
 
 -- at an error a prefix was written

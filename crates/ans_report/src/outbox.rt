@@ -75,7 +75,11 @@ impl Outbox {
     }
 
     /// Adds one text after the other.
-    pub(crate) fn put_all<W: Write>(&mut self, w: &mut Tried<W>, texts: &[&[u8]]) -> Result<(), WriteFault>
+    pub(crate) fn put_all<W: Write>(
+        &mut self,
+        w: &mut Tried<W>,
+        texts: &[&[u8]],
+    ) -> Result<(), WriteFault>
         requires { has_failed w.old ≡ false }
         ensures fault { IsErr result ↔ IsTrue (has_failed w.new) }
         ensures bytes { GathersText (W.contents (inner_of w.old)) (W.contents (inner_of w.new)) self.old.waiting.items self.new.waiting.items result (flat_map (λ t. t.now) texts.now) }

@@ -118,7 +118,11 @@ fn put_place<W: Write>(out: &mut Outbox, w: &mut Tried<W>, cause: &Cause) -> Res
 }
 
 /// Puts a refusal's two lines.
-pub(crate) fn put_refusal<W: Write>(out: &mut Outbox, w: &mut Tried<W>, fault: &Fault) -> Result<(), WriteFault>
+pub(crate) fn put_refusal<W: Write>(
+    out: &mut Outbox,
+    w: &mut Tried<W>,
+    fault: &Fault,
+) -> Result<(), WriteFault>
     requires { has_failed w.old ≡ false }
     ensures fault { IsErr result ↔ IsTrue (has_failed w.new) }
     ensures bytes { GathersText (W.contents (inner_of w.old)) (W.contents (inner_of w.new)) out.old.waiting.items out.new.waiting.items result (refusal_text fault.now) }

@@ -9,6 +9,6 @@ returns-in_err-put-clause-bytes g c =
 
 pub loop-text-preserved : goal.loop-text-preserved
 loop-text-preserved g c = record {
-    works = search rules;
-    so_far = Gathers-next (λ t. t.now) _ _ _ _ _ _ c.args.texts.now c.loop-text.text-index _ c.loop-text-test.true c.loop-text.invariant.so_far c.in_ok-put.ensures.bytes;
-  }
+  works = search rules;
+  so_far = Gathers-next (λ t. t.now) _ _ _ _ _ _ c.args.texts.now c.loop-text.text-index _ c.loop-text-test.true c.loop-text.invariant.so_far c.in_ok-put.ensures.bytes;
+}
