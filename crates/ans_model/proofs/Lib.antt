@@ -1,3 +1,11 @@
 pub mod Attributes
 pub mod WellFormed
 pub mod StartLemmas
+pub mod Spelling
+pub mod Reading
+pub mod Refusing
+pub mod OneCause
+pub mod OneAnswer
+pub mod Layouts
+pub mod FirstRefusal
+pub mod NoteOrder

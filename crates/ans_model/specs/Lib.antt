@@ -3,6 +3,7 @@ pub mod Record
 pub mod Layout
 pub mod Notes
 pub mod Refusals
+pub mod FileLaws
 pub mod Token
 pub mod View
 pub mod Sequence
@@ -14,6 +15,7 @@ pub mod Step
 pub mod Starts
 pub mod TokenFault
 pub mod Good
+pub mod Certain
 pub mod FirstFault
 pub mod LastFault
 pub mod Glyphs

@@ -1,0 +1,8 @@
+use Rattle.ans_model.proofs.Reading.{refused_not_read, spelled_not_unfinished}
+use Rattle.ans_model.proofs.text_laws.refused_or_read.Goals as goal
+
+pub returns-clause-refused : goal.returns-clause-refused
+returns-clause-refused c = refused_not_read
+
+pub returns-clause-ended : goal.returns-clause-ended
+returns-clause-ended c = spelled_not_unfinished

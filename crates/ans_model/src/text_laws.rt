@@ -1,0 +1,57 @@
+//! Laws of sequences and of the reading: each is the contract of a function that does nothing.
+
+ghost use Rattle.std.specs.Prelude.{◌≡◌, ◌++◌, ℕ, List, All};
+ghost use Rattle.ans_model.specs.Token.{Token, PrintsByte};
+ghost use Rattle.ans_model.specs.Sequence.{Raw, Spells, IsUnfinished, OneSpellingInFront};
+ghost use Rattle.ans_model.specs.Reads.{Reads};
+ghost use Rattle.ans_model.specs.declared.fault.Cause.{Cause};
+ghost use Rattle.ans_model.specs.declared.fault.Fault.{Fault};
+ghost use Rattle.ans_model.specs.declared.start.Start.TheVariants.{Cleared};
+ghost use Rattle.ans_model.specs.Certain.{IsCertain};
+ghost use Rattle.ans_model.specs.State.{Size};
+ghost use Rattle.ans_model.specs.Starts.{Class, class_of};
+ghost use Rattle.ans_model.specs.FirstFault.{IsRefused, IsFirstFault};
+ghost use Rattle.ans_model.specs.LastFault.{IsLastFault};
+ghost use Rattle.ans_model.specs.Good.{IsGood};
+
+/// No spelling is a proper prefix of another, and no bytes spell two sequences.
+pub fn one_spelling()
+    ensures { OneSpellingInFront }
+{}
+
+/// Bytes are read as one list of tokens at most, and what is printed is a byte.
+pub fn one_reading()
+    ensures one { (bytes : List ℕ) (tokens others : List Token)
+        → Reads bytes tokens → Reads bytes others → tokens ≡ others }
+    ensures prints_bytes { (bytes : List ℕ) (tokens : List Token)
+        → Reads bytes tokens → All PrintsByte tokens }
+{}
+
+/// No reading begins with a text that the reading refuses, and nothing that is spelled goes on.
+pub fn refused_or_read()
+    ensures refused { (text rest : List ℕ) (cause : Cause) (tokens : List Token)
+        → IsRefused text cause → Reads (text ++ rest) tokens → ⊥ }
+    ensures ended { (raw : Raw) (text : List ℕ) → Spells raw text → IsUnfinished text → ⊥ }
+{}
+
+/// Bytes are good, or have one first fault, or have one last fault: two of these never.
+pub fn one_answer()
+    ensures one_first_fault { (z : Size) (class : Class) (bytes : List ℕ) (f g : Fault)
+        → IsFirstFault z class bytes f → IsFirstFault z class bytes g → f ≡ g }
+    ensures one_last_fault { (z : Size) (class : Class) (bytes : List ℕ) (f g : Fault)
+        → IsLastFault z class bytes f → IsLastFault z class bytes g → f ≡ g }
+    ensures not_first_and_last { (z : Size) (class : Class) (bytes : List ℕ) (f g : Fault)
+        → IsFirstFault z class bytes f → IsLastFault z class bytes g → ⊥ }
+    ensures not_good_and_first { (z : Size) (class : Class) (bytes : List ℕ) (f : Fault)
+        → IsGood z class bytes → IsFirstFault z class bytes f → ⊥ }
+    ensures not_good_and_last { (z : Size) (class : Class) (bytes : List ℕ) (f : Fault)
+        → IsGood z class bytes → IsLastFault z class bytes f → ⊥ }
+{}
+
+/// From the cleared start nothing is unknown: each fault is one of F1 to F21.
+pub fn certain_from_cleared()
+    ensures first { (z : Size) (bytes : List ℕ) (f : Fault)
+        → IsFirstFault z (class_of Cleared) bytes f → IsCertain f.cause }
+    ensures last { (z : Size) (bytes : List ℕ) (f : Fault)
+        → IsLastFault z (class_of Cleared) bytes f → IsCertain f.cause }
+{}

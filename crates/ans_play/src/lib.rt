@@ -1,0 +1,16 @@
+//! The play of a content over one half-known state, which stands for the plays from every start.
+//!
+//! A [`Player`] is fed the content in pieces, and answers the first fault. [`Player::finish`] gives
+//! the [`Picture`] that every play shows, or tells which cell stays unknown. What a player says of
+//! its bytes is `Stands` of `specs/Stands.antt`: what is known of its state is exactly what is so
+//! from every start. Sequences are not known yet: ESC is refused as an unknown sequence.
+#![tactic(auto)]
+
+pub mod picture;
+pub mod player;
+mod span;
+mod wrap;
+
+pub use ans_model::start::Start;
+pub use picture::Picture;
+pub use player::Player;

@@ -1,0 +1,82 @@
+//! The picture that a content shows.
+
+ghost use Rattle.std.specs.Prelude.{◌≡◌, ◌<◌, Some};
+
+use ans_screen::{Grid, HalfCell};
+use std::marker::Model;
+
+/// A byte and an attribute at each row and column of the stated size.
+#[derive(Drop)]
+pub struct Picture<G: Grid> {
+    width: usize,
+    lines: usize,
+    grid: G,
+}
+
+impl<G: Grid> Model for Picture<G> {
+    ghost use Rattle.ans_model.specs.State.{sized};
+    ghost use Rattle.ans_model.specs.Good.{Picture};
+    ghost use Rattle.ans_play.specs.Shown.{picture_of, IsShown};
+
+    ghost Value = { Picture };
+
+    ghost view = { λ p. picture_of (sized p.width p.lines) (G.cells_of p.grid) };
+
+    ghost invariant = { λ p. IsShown (sized p.width p.lines) (G.cells_of p.grid) };
+}
+
+impl<G: Grid> Picture<G> {
+    ghost use Rattle.ans_model.specs.State.{sized, at, cell_at};
+    ghost use Rattle.ans_model.specs.Good.{IsPictureOf};
+    ghost use Rattle.ans_play.specs.Shown.{IsShown, picture_of, known_cell, byte_at, attribute_at};
+
+    pub(crate) fn new(width: usize, lines: usize, grid: G) -> Picture<G>
+        requires { IsShown (sized width lines) (G.cells_of grid) }
+        ensures { result ≡ picture_of (sized width lines) (G.cells_of grid) }
+    {
+        Picture { width, lines, grid }
+    }
+
+    /// The number of columns.
+    pub fn width(&self) -> usize
+        ensures width { result ≡ self.now.size.width }
+        ensures whole { IsPictureOf self.now.size self.now }
+    {
+        self.width
+    }
+
+    /// The number of lines.
+    pub fn lines(&self) -> usize
+        ensures lines { result ≡ self.now.size.lines }
+        ensures whole { IsPictureOf self.now.size self.now }
+    {
+        self.lines
+    }
+
+    fn cell(&self, row: usize, col: usize) -> HalfCell
+        requires row { row < self.now.size.lines }
+        requires col { col < self.now.size.width }
+        ensures { cell_at self.now.size self.now.cells (at row col) ≡ Some (known_cell result) }
+    {
+        self.grid.get(row * self.width + col)
+    }
+
+    /// The byte at a row and a column, counted from 0.
+    pub fn glyph(&self, row: usize, col: usize) -> u8
+        requires row { row < self.now.size.lines }
+        requires col { col < self.now.size.width }
+        ensures { byte_at self.now row col ≡ Some result }
+    {
+        self.cell(row, col).glyph.unwrap_or(0)
+    }
+
+    /// The attribute at a row and a column, counted from 0.
+    pub fn attr(&self, row: usize, col: usize) -> u8
+        requires row { row < self.now.size.lines }
+        requires col { col < self.now.size.width }
+        ensures { attribute_at self.now row col ≡ Some result }
+    {
+        let attr = self.cell(row, col).attr;
+        attr.value
+    }
+}

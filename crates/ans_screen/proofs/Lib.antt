@@ -1,0 +1,2 @@
+pub mod KnownAfter
+pub mod Copies

@@ -1,0 +1,15 @@
+-- Half-known cells.
+use Rattle.std.specs.Prelude.{ℕ, Bool, ◌&&◌, Option, Some, is_some}
+use Rattle.ans_screen.specs.KnownBits.{KnownBits, is_whole}
+use Rattle.ans_screen.specs.declared.cell.HalfCell.{HalfCell}
+
+abbrev pub half_cell : Option ℕ → KnownBits → HalfCell
+half_cell glyph attr = record { glyph = glyph; attr = attr }
+
+-- a byte that is known, with an attribute
+abbrev pub printed_cell : KnownBits → ℕ → HalfCell
+printed_cell attr byte = half_cell (Some byte) attr
+
+-- the byte and all bits of the attribute are known
+abbrev pub is_known : HalfCell → Bool
+is_known c = is_some c.glyph && is_whole c.attr

@@ -1,0 +1,21 @@
+-- Edits of a grid's cells.
+use Rattle.std.specs.Prelude.{ℕ, ◌+◌, Bool, not, List, ◌++◌, length, map, take, drop, Option}
+use Rattle.std.specs.List.{position}
+use Rattle.ans_screen.specs.KnownBits.{KnownBits}
+use Rattle.ans_screen.specs.Cells.{printed_cell, is_known}
+use Rattle.ans_screen.specs.declared.cell.HalfCell.{HalfCell}
+
+-- the elements from `from` on are `new`
+abbrev pub written : {A : Type 0} → List A → ℕ → List A → List A
+written xs from new = take from xs ++ (new ++ drop (from + length new) xs)
+
+-- printed bytes, all with one attribute
+abbrev pub printed_run : KnownBits → List ℕ → List HalfCell
+printed_run attr bytes = map (printed_cell attr) bytes
+
+abbrev pub is_unknown : HalfCell → Bool
+is_unknown c = not (is_known c)
+
+-- the least place below `to` whose cell is not known
+abbrev pub first_unknown : List HalfCell → ℕ → Option ℕ
+first_unknown cells to = position is_unknown (take to cells)

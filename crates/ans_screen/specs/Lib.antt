@@ -1,0 +1,4 @@
+pub mod KnownBits
+pub mod Cells
+pub mod Grids
+pub mod Renditions

@@ -1,0 +1,43 @@
+//! A cell of which some parts are known.
+
+use crate::attr::Attr;
+
+/// A byte, where it is known, and what is known of its attribute.
+#[derive(Debug, Clone, Copy, PartialEq, Eq)]
+pub struct HalfCell {
+    pub glyph: Option<u8>,
+    pub attr: Attr,
+}
+
+impl HalfCell {
+    ghost use Rattle.std.specs.Prelude.{◌≡◌, Some, None};
+    ghost use Rattle.ans_screen.specs.KnownBits.{known_bits};
+    ghost use Rattle.ans_screen.specs.Cells.{half_cell, is_known};
+
+    /// A byte and an attribute, both known.
+    pub fn known(glyph: u8, attr: u8) -> HalfCell
+        ensures { result ≡ half_cell (Some glyph) (known_bits 0xFF attr) }
+    {
+        HalfCell {
+            glyph: Some(glyph),
+            attr: Attr::whole(attr),
+        }
+    }
+
+    /// A cell of which nothing is known.
+    pub fn unknown() -> HalfCell
+        ensures { result ≡ half_cell None (known_bits 0x00 0x00) }
+    {
+        HalfCell {
+            glyph: None,
+            attr: Attr::none(),
+        }
+    }
+
+    /// Whether the byte and all bits of the attribute are known.
+    pub fn is_known(self) -> bool
+        ensures { result ≡ is_known self }
+    {
+        self.glyph.is_some() && self.attr.is_known()
+    }
+}

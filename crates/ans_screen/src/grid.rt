@@ -1,0 +1,70 @@
+//! What a grid of half-known cells does.
+
+ghost use Rattle.std.specs.Prelude.{◌≡◌, ℕ, ◌+◌, ◌*◌, ◌<◌, ◌≤◌, List, length, set, replicate, slice_get, Some, IfOk};
+ghost use Rattle.ans_model.specs.Step.{filled};
+ghost use Rattle.ans_screen.specs.declared.cell.HalfCell.{HalfCell};
+ghost use Rattle.ans_screen.specs.Grids.{written, printed_run, first_unknown};
+
+use crate::attr::Attr;
+use crate::cell::HalfCell;
+use std::alloc::{AllocError, Global};
+
+/// Cells in row order: cell `i` stands in row `i / width` and column `i % width`, counted from 0.
+pub trait Grid: Sized + Drop {
+    ghost width_of: { Self → ℕ };
+
+    ghost rows_of: { Self → ℕ };
+
+    ghost cells_of: { Self → List HalfCell };
+
+    /// A grid of `width * rows` equal cells. The only error is want of memory.
+    fn new(alloc: Global, width: usize, rows: usize, cell: HalfCell) -> Result<Self, AllocError>
+        requires some_width { 1 ≤ width }
+        requires width { width ≤ 1024 }
+        requires some_rows { 1 ≤ rows }
+        requires rows { rows ≤ 8193 }
+        ensures width { IfOk result (λ g. width_of g ≡ width) }
+        ensures rows { IfOk result (λ g. rows_of g ≡ rows) }
+        ensures cells { IfOk result (λ g. cells_of g ≡ replicate (width * rows) cell) };
+
+    fn width(&self) -> usize
+        ensures { result ≡ width_of self.now };
+
+    fn rows(&self) -> usize
+        ensures { result ≡ rows_of self.now };
+
+    /// Cell `i`.
+    fn get(&self, i: usize) -> HalfCell
+        requires { i < length (cells_of self.now) }
+        ensures { slice_get (cells_of self.now) i ≡ Some result };
+
+    /// Makes cell `i` this one.
+    fn put(&mut self, i: usize, cell: HalfCell)
+        requires { i < length (cells_of self.old) }
+        ensures cells { cells_of self.new ≡ set (cells_of self.old) i cell }
+        ensures width { width_of self.new ≡ width_of self.old }
+        ensures rows { rows_of self.new ≡ rows_of self.old };
+
+    /// Makes the cells from `from` up to and without `to` this one.
+    fn fill(&mut self, from: usize, to: usize, cell: HalfCell)
+        requires ordered { from ≤ to }
+        requires within { to ≤ length (cells_of self.old) }
+        ensures cells { cells_of self.new ≡ filled (cells_of self.old) from to cell }
+        ensures width { width_of self.new ≡ width_of self.old }
+        ensures rows { rows_of self.new ≡ rows_of self.old };
+
+    /// Writes bytes side by side from cell `from` on, all with one attribute.
+    fn write_run(&mut self, from: usize, bytes: &[u8], attr: Attr)
+        requires { from + length bytes.now ≤ length (cells_of self.old) }
+        ensures cells { cells_of self.new ≡ written (cells_of self.old) from (printed_run attr bytes.now) }
+        ensures width { width_of self.new ≡ width_of self.old }
+        ensures rows { rows_of self.new ≡ rows_of self.old };
+
+    /// The least place below `to` whose cell is not known.
+    fn first_unknown(&self, to: usize) -> Option<usize>
+        requires { to ≤ length (cells_of self.now) }
+        ensures { result ≡ first_unknown (cells_of self.now) to };
+
+    // a cell for each row and column
+    ghost whole: { (g : Self) → length (cells_of g) ≡ width_of g * rows_of g };
+}
