@@ -1,5 +1,5 @@
 -- The text of a report whose picture shows only the printable characters of ASCII.
-use Rattle.std.specs.Prelude.{ℕ, ◌≤◌, nat_le, ◌&&◌, List, [], ◌++◌, length, map, All, codes, if◌then◌else◌}
+use Rattle.std.specs.Prelude.{ℕ, ◌*◌, ◌≤◌, nat_le, ◌&&◌, List, [], ◌++◌, length, map, take, drop, All, codes, if◌then◌else◌}
 use Rattle.std.specs.List.{flat_map}
 use Rattle.ans_model.specs.declared.cell.Cell.{Cell}
 use Rattle.ans_model.specs.declared.start.Start.{Start}
@@ -13,6 +13,10 @@ use Rattle.ans_sauce.specs.Parts.{content_of, width_of, lines_of}
 -- a byte from 20h to 7Eh is shown as itself, and any other as `?`
 abbrev pub plain_glyph : ℕ → ℕ
 plain_glyph byte = if nat_le 0x20 byte && nat_le byte 0x7E then byte else 0x3F
+
+-- a row of the picture, counted from 0
+abbrev pub row_of : Picture → ℕ → List Cell
+row_of picture row = take picture.size.width (drop (row * picture.size.width) picture.cells)
 
 -- a character for each cell
 abbrev pub plain_line : List Cell → List ℕ

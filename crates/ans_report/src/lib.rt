@@ -7,11 +7,12 @@
 #![tactic(auto)]
 
 mod outbox;
+mod picture_text;
 mod report;
 mod texts;
 mod tried;
 
 pub use outbox::WriteFault;
-pub use report::write_refusal;
+pub use report::{Report, write_refusal, write_report};
 pub use texts::fault_text;
 pub use tried::{DeviceFault, Tried};

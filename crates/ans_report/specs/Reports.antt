@@ -1,0 +1,30 @@
+-- What a report says.
+use Rattle.std.specs.Prelude.{◌≡◌, ℕ, false, List, Some, None}
+use Rattle.ans_model.specs.State.{sized}
+use Rattle.ans_model.specs.ReportText.{Passed, RefusedFor, refusal_text, report_text}
+use Rattle.ans_report.specs.declared.report.Report.{Report}
+use Rattle.ans_report.specs.declared.report.Report.TheVariants.{Pass, Refused}
+use Rattle.ans_sauce.specs.Parts.{width_of, lines_of}
+use Rattle.ans_report.specs.PlainText.{plain_report_text, heading_of, IsPlainPicture}
+
+-- a picture has the size that the parts state
+abbrev pub IsFitting : {G : Type 0} → Report G → Type 0
+IsFitting (Pass parts start picture) = picture.now.size ≡ sized (width_of parts.now) (lines_of parts.now)
+IsFitting (Refused parts start fault) = Unit {0}
+
+-- the report's text; without parts it is the refusal's alone
+abbrev pub report_bytes : {G : Type 0} → Report G → List ℕ
+report_bytes (Pass parts start picture) = plain_report_text (heading_of parts.now start) (Passed picture.now false)
+report_bytes (Refused None start fault) = refusal_text fault
+report_bytes (Refused (Some parts) start fault) = plain_report_text (heading_of parts.now start) (RefusedFor fault)
+
+-- a picture, if there is one, is of bytes from 20h to 7Eh
+abbrev pub IsPlainReport : {G : Type 0} → Report G → Type 0
+IsPlainReport (Pass parts start picture) = IsPlainPicture picture.now
+IsPlainReport (Refused parts start fault) = Unit {0}
+
+-- the text with each character of code page 437
+abbrev pub full_report_bytes : {G : Type 0} → Report G → List ℕ
+full_report_bytes (Pass parts start picture) = report_text (heading_of parts.now start) (Passed picture.now false)
+full_report_bytes (Refused None start fault) = refusal_text fault
+full_report_bytes (Refused (Some parts) start fault) = report_text (heading_of parts.now start) (RefusedFor fault)
