@@ -12,9 +12,9 @@ use Rattle.std.proofs.Math.Utf8.{encode}
 use Rattle.ans_model.specs.declared.cell.Cell.{Cell}
 use Rattle.ans_model.specs.Good.{Picture}
 use Rattle.ans_model.specs.Glyphs.{glyph_text, shown_bytes}
-use Rattle.ans_model.specs.ReportText.{rows, rows_of, picture_line, picture_text, heading_text}
+use Rattle.ans_model.specs.ReportText.{rows, rows_of, picture_line, picture_text, Heading, Passed, heading_text, report_text}
 use Rattle.ans_play.specs.Shown.{byte_at}
-use Rattle.ans_report.specs.PlainText.{plain_glyph, plain_line, plain_picture_text, row_of, IsPlainPicture, heading_of}
+use Rattle.ans_report.specs.PlainText.{plain_glyph, plain_line, plain_picture_text, row_of, IsPlainPicture, heading_of, plain_report_text}
 use Rattle.ans_report.specs.Reports.{IsPlainReport, report_bytes, full_report_bytes}
 use Rattle.ans_report.specs.declared.report.Report.{Report}
 use Rattle.ans_report.specs.declared.report.Report.TheVariants.{Pass, Refused}
@@ -89,9 +89,10 @@ pub plain_picture : (p : Picture) → IsPlainPicture p → plain_picture_text p 
 plain_picture p all = ap (λ (xs : List ℕ). codes "picture:\n" ++ xs) (lines_shown p.size.width p.size.lines p.cells all)
 
 -- a report of such a picture has the same text
+pub plain_text : (h : Heading) (p : Picture) → IsPlainPicture p → plain_report_text h (Passed p false) ≡ report_text h (Passed p false)
+plain_text h p all =
+    ap (λ (xs : List ℕ). heading_text h ++ (codes "verdict: pass\n" ++ xs)) (plain_picture p all ∙ sym (append-nil (picture_text p)))
+
 pub plain_report : {G : Type 0} (r : Report G) → IsPlainReport r → report_bytes r ≡ full_report_bytes r
-plain_report (Pass parts start picture) all =
-    ap (λ (xs : List ℕ). heading_text (heading_of parts.now start) ++ (codes "verdict: pass\n" ++ xs))
-    (plain_picture picture.now all ∙ sym (append-nil (picture_text picture.now)))
-plain_report (Refused None start fault) all = refl
-plain_report (Refused (Some parts) start fault) all = refl
+plain_report (Pass parts start picture) all = plain_text (heading_of parts.now start) picture.now all
+plain_report (Refused parts start fault) all = refl

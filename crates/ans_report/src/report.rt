@@ -16,6 +16,7 @@ use ans_screen::Grid;
 use std::io::Write;
 
 /// What is told of a file.
+#[derive(Drop)]
 pub enum Report<'a, G: Grid> {
     /// The content plays well from every start, and shows the picture.
     Pass {

@@ -2,9 +2,9 @@
 ghost use Rattle.std.specs.Prelude.{◌≡◌, ◌↔◌, false, IsTrue, IsErr};
 ghost use Rattle.ans_report.specs.Tried.{has_failed, inner_of};
 ghost use Rattle.ans_report.specs.Writes.{GathersText};
-ghost use Rattle.ans_report.specs.PlainText.{heading_of, plain_report_text};
+ghost use Rattle.ans_report.specs.PlainText.{heading_of};
 ghost use Rattle.ans_model.specs.FaultText.{fault_text, place_text};
-ghost use Rattle.ans_model.specs.ReportText.{RefusedFor, start_name, heading_text, refusal_text};
+ghost use Rattle.ans_model.specs.ReportText.{RefusedFor, report_text, start_name, heading_text, refusal_text};
 
 use crate::outbox::{Outbox, WriteFault};
 use crate::tried::Tried;
@@ -141,7 +141,7 @@ pub(crate) fn put_refused<W: Write>(
 ) -> Result<(), WriteFault>
     requires { has_failed w.old ≡ false }
     ensures fault { IsErr result ↔ IsTrue (has_failed w.new) }
-    ensures bytes { GathersText (W.contents (inner_of w.old)) (W.contents (inner_of w.new)) out.old.waiting.items out.new.waiting.items result (plain_report_text (heading_of parts.now start) (RefusedFor fault.now)) }
+    ensures bytes { GathersText (W.contents (inner_of w.old)) (W.contents (inner_of w.new)) out.old.waiting.items out.new.waiting.items result (report_text (heading_of parts.now start) (RefusedFor fault.now)) }
 {
     put_heading(out, w, parts, start)?;
     put_refusal(out, w, fault)

@@ -189,3 +189,10 @@ clean_end b body front r body_is front_is tested passed =
 -- no body and record lay out a file that fails the test
 pub unaccepted : (file : List ℕ) → is_plain file ≡ false → IsUnaccepted file
 unaccepted file fails body record_bytes h = let p : is_plain file ≡ true = (plain_complete file body record_bytes h).passes in cc
+
+-- a file is laid out in one way at most
+pub one_layout : (file body record_bytes other_body other_record : List ℕ) → IsPlain file body record_bytes → IsPlain file other_body other_record
+    → (body ≡ other_body) × (record_bytes ≡ other_record)
+one_layout file body record_bytes other_body other_record h k =
+    let a = plain_complete file body record_bytes h in
+    let b = plain_complete file other_body other_record k in (sym a.body_is ∙ b.body_is, sym a.record_is ∙ b.record_is)
