@@ -14,3 +14,6 @@ mod wrap;
 pub use ans_model::start::Start;
 pub use picture::Picture;
 pub use player::Player;
+
+#[cfg(test)]
+mod tests;

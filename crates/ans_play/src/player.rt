@@ -2,7 +2,7 @@
 
 ghost use Rattle.std.specs.Prelude.{◌≡◌, ℕ, ◌+◌, ◌*◌, ◌<◌, ◌≤◌, List, [], ◌∷◌, ◌++◌, length, None, Some, IsOk, IfOk, IfErr, OnOk, OnErr};
 ghost use Rattle.ans_model.specs.Bytes.{most_columns, most_lines, longest_file};
-ghost use Rattle.ans_model.specs.Token.{Glyph, EraseLine, Clear, Place};
+ghost use Rattle.ans_model.specs.Token.{Glyph, EraseLine, Clear};
 ghost use Rattle.ans_model.specs.View.{token_of};
 ghost use Rattle.ans_model.specs.State.{Size, sized};
 ghost use Rattle.ans_model.specs.Starts.{class_of};
@@ -86,7 +86,12 @@ impl<G: Grid> Player<G> {
 
     /// A player of a width and a number of lines, from the starts of a class, to which nothing is
     /// fed yet. The only error is want of memory.
-    pub fn new(alloc: Global, width: usize, lines: usize, start: Start) -> Result<Player<G>, AllocError>
+    pub fn new(
+        alloc: Global,
+        width: usize,
+        lines: usize,
+        start: Start,
+    ) -> Result<Player<G>, AllocError>
         requires some_columns { 1 ≤ width }
         requires columns { width ≤ most_columns }
         requires some_lines { 1 ≤ lines }
@@ -147,9 +152,7 @@ impl<G: Grid> Player<G> {
         ensures offset { self.old.fault ≡ None → IfErr result (λ f. f.offset ≤ self.old.fed + length piece.now) }
         ensures certain { (s : List ℕ) → Stands self.old s → self.old.start ≡ Cleared → IfErr result (λ f. IsCertain f.cause) }
     {
-        if let Some(fault) = self.fault {
-            return Err(fault);
-        }
+        self.without_fault()?;
         for (i, byte) in piece.iter().enumerate() {
             if let Err(cause) = self.play_byte(*byte) {
                 let fault = Fault {
@@ -175,20 +178,28 @@ impl<G: Grid> Player<G> {
         ensures offset { self.fault ≡ None → IfErr result (λ f. f.offset ≡ self.fed) }
         ensures certain { (s : List ℕ) → Stands self s → self.start ≡ Cleared → IfErr result (λ f. IsCertain f.cause) }
     {
-        if let Some(fault) = self.fault {
-            return Err(fault);
+        self.without_fault()?;
+        match self.grid.first_unknown(self.lines * self.width) {
+            None => Ok(Picture::new(self.width, self.lines, self.grid)),
+            Some(i) => {
+                let cause = Cause::UnknownCell {
+                    row: (i / self.width + 1) as u16,
+                    col: (i % self.width + 1) as u16,
+                };
+                Err(Fault {
+                    offset: self.fed,
+                    cause,
+                })
+            }
         }
-        if let Some(i) = self.grid.first_unknown(self.lines * self.width) {
-            let cause = Cause::UnknownCell {
-                row: (i / self.width + 1) as u16,
-                col: (i % self.width + 1) as u16,
-            };
-            return Err(Fault {
-                offset: self.fed,
-                cause,
-            });
-        }
-        Ok(Picture::new(self.width, self.lines, self.grid))
+    }
+
+    /// The fault that was answered before, if any.
+    fn without_fault(&self) -> Result<(), Fault>
+        ensures ok { OnOk result (self.now.fault ≡ None) }
+        ensures err { IfErr result (λ f. self.now.fault ≡ Some f) }
+    {
+        self.fault.map_or(Ok(()), Err)
     }
 
     /// Plays the token that a byte is, or answers why it is refused.
@@ -271,21 +282,14 @@ impl<G: Grid> Player<G> {
     {
         match kind {
             Kind::Glyph(byte) => self.print(*byte),
+            Kind::LineFeed => self.cursor = self.cursor.lowered(self.width, self.lines),
             Kind::Clear => self.clear(),
             Kind::EraseLine => self.erase_line(),
-            Kind::BackSpace => self.cursor.backward(1),
-            Kind::CarriageReturn => self.cursor.carriage_return(),
-            Kind::LineFeed => self.cursor.line_feed(),
-            Kind::Up(rows) => self.cursor.up(*rows),
-            Kind::Down(rows) => self.cursor.down(*rows, self.lines),
-            Kind::Forward(columns) => self.cursor.forward(*columns, self.width - 1),
-            Kind::Backward(columns) => self.cursor.backward(*columns),
-            Kind::Place(row, column) => self.place(*row, *column),
             Kind::Save => self.saved = self.cursor,
             Kind::Restore => self.cursor = self.saved,
             Kind::Colours(parameters) => self.attribute = recoloured(self.attribute, parameters),
             Kind::Wrap(on) => self.wrap = WrapMode::of(*on),
-            Kind::Bell | Kind::Tab | Kind::Mode | Kind::Keys | Kind::Ask => {}
+            _ => self.cursor = self.cursor.moved(kind, self.width, self.lines),
         }
     }
 
@@ -300,7 +304,7 @@ impl<G: Grid> Player<G> {
             attr: self.attribute,
         };
         self.grid.put(place.row * self.width + place.column, cell);
-        self.cursor = self.wrap.after_print(place, self.width);
+        self.cursor = self.wrap.after_print(place, self.width, self.lines);
     }
 
     /// A blank of the current attribute.
@@ -319,7 +323,8 @@ impl<G: Grid> Player<G> {
     {
         let row = self.cursor.low.row * self.width;
         let blank = self.blank();
-        self.grid.fill(row + self.cursor.low.column, row + self.width, blank);
+        self.grid
+            .fill(row + self.cursor.low.column, row + self.width, blank);
     }
 
     /// Blanks everywhere, and the cursor at home.
@@ -329,14 +334,5 @@ impl<G: Grid> Player<G> {
         let blank = self.blank();
         self.grid.fill(0, (self.lines + 1) * self.width, blank);
         self.cursor = Span::at(0, 0);
-    }
-
-    /// The cursor to a row and a column, counted from 1, of the screen.
-    fn place(&mut self, row: u8, column: u8)
-        ensures { self.new ≡ record self.old { state = half_step self.old.size self.old.state (Place row column) } }
-    {
-        let row = (row as usize).saturating_sub(1).min(self.lines);
-        let column = (column as usize).saturating_sub(1).min(self.width - 1);
-        self.cursor = Span::at(row, column);
     }
 }

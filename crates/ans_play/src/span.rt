@@ -1,10 +1,13 @@
 //! Where a cursor may stand.
 
 ghost use Rattle.std.specs.Prelude.{◌≡◌, ◌-◌, ◌<◌, ◌≤◌, ◌^◌};
-ghost use Rattle.ans_model.specs.Token.{BackSpace, CarriageReturn, Up, Down, Forward, Backward};
-ghost use Rattle.ans_model.specs.State.{Size};
+ghost use Rattle.ans_model.specs.Bytes.{most_columns, most_lines};
+ghost use Rattle.ans_model.specs.State.{sized, IsOnScreen};
+ghost use Rattle.ans_model.specs.Step.{destination};
+ghost use Rattle.ans_model.specs.View.{token_of};
 
 use ans_model::cell::Position;
+use ans_model::kind::Kind;
 
 /// A lowest and a highest row and column. The cursor of every play stands between them, and in each
 /// direction that of some play at either end.
@@ -14,8 +17,46 @@ pub struct Span {
     pub high: Position,
 }
 
+/// Where a token takes a cursor, if that is all that it does. A move stops at the screen's edge.
+fn destination(place: Position, kind: &Kind, width: usize, lines: usize) -> Position
+    requires on_screen { IsOnScreen (sized width lines) place }
+    requires columns { width ≤ most_columns }
+    requires lines { lines ≤ most_lines }
+    ensures { result ≡ destination (sized width lines) (token_of kind.now) place }
+{
+    let Position { row, column } = place;
+    match kind {
+        Kind::Up(rows) => Position {
+            row: row.saturating_sub(*rows as usize),
+            column,
+        },
+        Kind::Down(rows) => Position {
+            row: (row + *rows as usize).min(lines),
+            column,
+        },
+        Kind::Forward(columns) => Position {
+            row,
+            column: (column + *columns as usize).min(width - 1),
+        },
+        Kind::Backward(columns) => Position {
+            row,
+            column: column.saturating_sub(*columns as usize),
+        },
+        Kind::Place(to_row, to_column) => Position {
+            row: (*to_row as usize).saturating_sub(1).min(lines),
+            column: (*to_column as usize).saturating_sub(1).min(width - 1),
+        },
+        Kind::BackSpace => Position {
+            row,
+            column: column.saturating_sub(1),
+        },
+        Kind::CarriageReturn => Position { row, column: 0 },
+        _ => place,
+    }
+}
+
 impl Span {
-    ghost use Rattle.ans_play.specs.HalfState.{one_place};
+    ghost use Rattle.ans_play.specs.HalfState.{one_place, IsSpanOnScreen};
     ghost use Rattle.ans_play.specs.HalfStep.{moved, lowered};
     ghost use Rattle.ans_play.specs.HalfFault.{is_one_place};
 
@@ -37,60 +78,35 @@ impl Span {
         self.low.row == self.high.row && self.low.column == self.high.column
     }
 
-    /// Up by so many rows, to row 0 at most.
-    pub fn up(&mut self, rows: u8)
-        ensures { (z : Size) → self.new ≡ moved z (Up rows) self.old }
+    /// After a token that only moves the cursor.
+    pub fn moved(self, kind: &Kind, width: usize, lines: usize) -> Span
+        requires on_screen { IsSpanOnScreen (sized width lines) self }
+        requires columns { width ≤ most_columns }
+        requires lines { lines ≤ most_lines }
+        ensures moved { result ≡ moved (sized width lines) (token_of kind.now) self }
+        ensures on_screen { IsSpanOnScreen (sized width lines) result }
     {
-        self.low.row = self.low.row.saturating_sub(rows as usize);
-        self.high.row = self.high.row.saturating_sub(rows as usize);
+        Span {
+            low: destination(self.low, kind, width, lines),
+            high: destination(self.high, kind, width, lines),
+        }
     }
 
-    /// Down by so many rows, to the last row at most.
-    pub fn down(&mut self, rows: u8, last_row: usize)
-        requires low { self.old.low.row ≤ last_row }
-        requires high { self.old.high.row ≤ last_row }
-        requires rows { last_row < 2 ^ 32 }
-        ensures { (z : Size) → z.lines ≡ last_row → self.new ≡ moved z (Down rows) self.old }
+    /// One row down, of a screen of which the highest row is not the last.
+    pub fn lowered(self, width: usize, lines: usize) -> Span
+        requires on_screen { IsSpanOnScreen (sized width lines) self }
+        requires above { self.high.row < lines }
+        ensures lowered { result ≡ lowered self }
+        ensures on_screen { IsSpanOnScreen (sized width lines) result }
     {
-        self.low.row = (self.low.row + rows as usize).min(last_row);
-        self.high.row = (self.high.row + rows as usize).min(last_row);
-    }
-
-    /// Right by so many columns, to the last column at most.
-    pub fn forward(&mut self, columns: u8, last_column: usize)
-        requires low { self.old.low.column ≤ last_column }
-        requires high { self.old.high.column ≤ last_column }
-        requires columns { last_column < 2 ^ 32 }
-        ensures { (z : Size) → z.width - 1 ≡ last_column → self.new ≡ moved z (Forward columns) self.old }
-    {
-        self.low.column = (self.low.column + columns as usize).min(last_column);
-        self.high.column = (self.high.column + columns as usize).min(last_column);
-    }
-
-    /// Left by so many columns, to column 0 at most.
-    pub fn backward(&mut self, columns: u8)
-        ensures step { (z : Size) → self.new ≡ moved z (Backward columns) self.old }
-        ensures one { columns ≡ 1 → (z : Size) → self.new ≡ moved z BackSpace self.old }
-    {
-        self.low.column = self.low.column.saturating_sub(columns as usize);
-        self.high.column = self.high.column.saturating_sub(columns as usize);
-    }
-
-    /// To column 0.
-    pub fn carriage_return(&mut self)
-        ensures { (z : Size) → self.new ≡ moved z CarriageReturn self.old }
-    {
-        self.low.column = 0;
-        self.high.column = 0;
-    }
-
-    /// One row down.
-    pub fn line_feed(&mut self)
-        requires low { self.old.low.row < 2 ^ 32 }
-        requires high { self.old.high.row < 2 ^ 32 }
-        ensures { self.new ≡ lowered self.old }
-    {
-        self.low.row += 1;
-        self.high.row += 1;
+        let low = Position {
+            row: self.low.row + 1,
+            column: self.low.column,
+        };
+        let high = Position {
+            row: self.high.row + 1,
+            column: self.high.column,
+        };
+        Span { low, high }
     }
 }

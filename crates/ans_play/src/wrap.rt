@@ -1,7 +1,7 @@
 //! What is known of wrap.
 
-ghost use Rattle.std.specs.Prelude.{◌≡◌, ◌+◌, ◌<◌, ◌≤◌, ◌^◌};
-ghost use Rattle.ans_model.specs.State.{Size};
+ghost use Rattle.std.specs.Prelude.{◌≡◌};
+ghost use Rattle.ans_model.specs.State.{sized, IsStated};
 
 use crate::span::Span;
 use ans_model::cell::Position;
@@ -16,6 +16,7 @@ pub enum WrapMode {
 }
 
 impl WrapMode {
+    ghost use Rattle.ans_play.specs.HalfState.{IsSpanOnScreen};
     ghost use Rattle.ans_play.specs.HalfStep.{wrap_of, half_advanced};
 
     pub fn of(on: bool) -> WrapMode
@@ -24,12 +25,11 @@ impl WrapMode {
         if on { WrapMode::On } else { WrapMode::Off }
     }
 
-    /// Where the cursor may stand after a byte printed at one place.
-    pub fn after_print(self, place: Position, width: usize) -> Span
-        requires row { place.row < 2 ^ 32 }
-        requires column { place.column < width }
-        requires width { width < 2 ^ 32 }
-        ensures { (z : Size) → z.width ≡ width → result ≡ half_advanced z self place }
+    /// Where the cursor may stand after a byte printed at one place of the stated lines.
+    pub fn after_print(self, place: Position, width: usize, lines: usize) -> Span
+        requires stated { IsStated (sized width lines) place }
+        ensures advanced { result ≡ half_advanced (sized width lines) self place }
+        ensures on_screen { IsSpanOnScreen (sized width lines) result }
     {
         if place.column + 1 < width {
             return Span::at(place.row, place.column + 1);

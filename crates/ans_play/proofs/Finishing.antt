@@ -1,0 +1,166 @@
+-- The end of a play: the picture that it shows, or the first cell that stays unknown.
+use Rattle.std.proofs.Common.{◌≡◌, ◌≢◌, ℕ, zero, ◌+◌, ◌*◌, ◌/◌, ◌%◌, ◌<◌, ◌≤◌, true, false, refl, sym, ap, ◌∙◌, arith, List, length, map, take, Option, Some, None, subst, inl, inr}
+use Rattle.std.specs.Prelude.{slice_get}
+use Rattle.std.specs.List.{list_all}
+use Rattle.std.proofs.lemmas.List.{length-take}
+use Rattle.std.proofs.lemmas.List.Elements.{All-take}
+use Rattle.std.proofs.lemmas.Nat.{mul-le}
+use Rattle.std.proofs.Math.Nat.{div-lt_iff_lt-mul}
+use Rattle.ans_model.specs.Token.{Token}
+use Rattle.ans_model.specs.Reads.{Reads}
+use Rattle.ans_model.specs.State.{Size, IsSize, State, at, index, cell_at, cell_count, IsStated, IsByteCell, IsWellFormed}
+use Rattle.ans_model.specs.declared.cell.Cell.{Cell}
+use Rattle.ans_model.specs.declared.cell.Position.{Position}
+use Rattle.ans_model.specs.Step.{final}
+use Rattle.ans_model.specs.Starts.{Class, class_of, IsStart, low_start, high_start}
+use Rattle.ans_model.specs.Good.{Picture, IsPictureOf, Shows, GoodWith, IsGood}
+use Rattle.ans_model.specs.Refusals.{fault_at}
+use Rattle.ans_model.specs.LastFault.{SameCell, CellsDiffer, IsBefore, IsFirstUnknown, LeavesUnknown, IsLastFault}
+use Rattle.ans_model.specs.declared.fault.Cause.TheVariants.{UnknownCell}
+use Rattle.ans_model.proofs.StartLemmas.{low_is_start, high_is_start}
+use Rattle.ans_model.proofs.Reading.{reads_law}
+use Rattle.ans_screen.specs.KnownBits.{known_bits}
+use Rattle.ans_screen.specs.Cells.{half_cell, is_known}
+use Rattle.ans_screen.specs.Grids.{first_unknown}
+use Rattle.ans_screen.specs.declared.cell.HalfCell.{HalfCell}
+use Rattle.ans_play.specs.HalfState.{HalfState, DescribesCell}
+use Rattle.ans_play.specs.Shown.{known_cell, stated_cells, picture_of}
+use Rattle.ans_play.specs.Playing.{Playing}
+use Rattle.ans_play.specs.Stands.{IsKnownAfter, IsPlayed, Stands}
+use Rattle.ans_play.proofs.Zips.{AllZip-take}
+use Rattle.ans_play.proofs.KnownCells.{known_at, unknown_at, all_known, slice_get-take, FirstUnknown, found_unknown, none_unknown}
+use Rattle.ans_play.proofs.PlaysWell.{plays_well}
+
+-- ---- places in row order
+-- a place of the stated lines stands among their cells
+index_lt : (z : Size) (p : Position) → IsStated z p → index z p < z.lines * z.width
+index_lt z p h =
+    let below : (p.row + 1) * z.width ≤ z.lines * z.width = mul-le (p.row + 1) z.width z.lines z.width (omega (arith, h.0)) (omega arith) in
+    omega (arith, h.1)
+
+-- an earlier place stands before
+index_before : (z : Size) (p q : Position) → IsStated z q → IsBefore q p → index z q < index z p
+index_before z p q h (inl above) =
+    let below : (q.row + 1) * z.width ≤ p.row * z.width = mul-le (q.row + 1) z.width p.row z.width (omega (arith, above)) (omega arith) in
+    omega (arith, h.1)
+index_before z p q h (inr (row, column)) =
+    let same : q.row * z.width ≡ p.row * z.width = ap (λ (n : ℕ). n * z.width) row in
+    omega (arith, column)
+
+-- where cell i stands
+place_of : Size → ℕ → Position
+place_of z i = at (i / z.width) (i % z.width)
+
+place_index : (z : Size) (i : ℕ) → 0 < z.width → index z (place_of z i) ≡ i
+unfolding place_of
+place_index z i w = omega arith
+
+place_stated : (z : Size) (i : ℕ) → 0 < z.width → i < z.lines * z.width → IsStated z (place_of z i)
+unfolding place_of
+place_stated z i w l = ((div-lt_iff_lt-mul w).1 l, omega arith)
+
+module _ (z : Size) (class : Class) (tokens : List Token) (h : HalfState) (w : 0 < z.width) (st : IsKnownAfter z class tokens h) where
+  -- ---- one cell
+  same_if : (p : Position) (i : ℕ) (c : HalfCell) → index z p ≡ i → slice_get h.screen i ≡ Some c → is_known c ≡ true → SameCell z class tokens p
+  same_if p i c at_i e k s t start_s start_t =
+      rw at_i
+      (known_at h.screen (final z s tokens).screen i c (st.describes s start_s).screen (st.well_formed s start_s).bytes e k
+      ∙ sym (known_at h.screen (final z t tokens).screen i c (st.describes t start_t).screen (st.well_formed t start_t).bytes e k))
+
+  differ_if : (p : Position) (i : ℕ) (c : HalfCell) → index z p ≡ i → slice_get h.screen i ≡ Some c → is_known c ≡ false → CellsDiffer z class tokens p
+  differ_if p i c at_i e k = (
+    low_start z class,
+    high_start z class,
+    low_is_start z class w,
+    high_is_start z class w,
+    rw at_i
+        (unknown_at (final z (low_start z class) tokens).screen (final z (high_start z class) tokens).screen i c
+        (sym (ap (λ (g : HalfState). slice_get g.screen i) st.is_hull) ∙ e) k),
+  )
+
+  first_is : (i : ℕ) → FirstUnknown h.screen (z.lines * z.width) i → IsFirstUnknown z class tokens (place_of z i)
+  first_is i u = record {
+    stated = place_stated z i w u.within;
+    differs = differ_if (place_of z i) i u.cell (place_index z i w) u.here u.unknown;
+    earlier = λ q stated before.
+        let l : index z q < i = subst (λ (n : ℕ). index z q < n) (place_index z i w) (index_before z (place_of z i) q stated before) in
+        let c : (c : HalfCell) × (slice_get h.screen (index z q) ≡ Some c) × (is_known c ≡ true) = u.earlier (index z q) l in
+        same_if q (index z q) c.0 refl c.1 c.2;
+  }
+
+  -- ---- the whole picture
+  shown_from : list_all is_known (stated_cells z h.screen) ≡ true → (s : State) → IsStart z class s → take (z.lines * z.width) (final z s tokens).screen ≡ map known_cell (stated_cells z h.screen)
+  shown_from k s start =
+      all_known (stated_cells z h.screen) (take (z.lines * z.width) (final z s tokens).screen)
+      (AllZip-take DescribesCell (z.lines * z.width) h.screen (final z s tokens).screen (st.describes s start).screen)
+      (All-take IsByteCell (z.lines * z.width) (final z s tokens).screen (st.well_formed s start).bytes) k
+
+  shows : list_all is_known (stated_cells z h.screen) ≡ true → Shows z class tokens (picture_of z h.screen)
+  shows k =
+      let low : State = low_start z class in
+      let start : IsStart z class low = low_is_start z class w in
+      let well : IsWellFormed z (final z low tokens) = st.well_formed low start in
+      let fits : z.lines * z.width ≤ cell_count z = mul-le z.lines z.width (z.lines + 1) z.width (omega arith) (omega arith) in
+      record {
+        is_picture = record {
+          size = refl;
+          count = rw (← shown_from k low start) (simp length-take (omega (arith, well.fits.cells)));
+          bytes = rw (← shown_from k low start) (All-take IsByteCell (z.lines * z.width) (final z low tokens).screen well.bytes);
+        };
+        shown = λ s p start_s stated.
+            sym (slice_get-take (z.lines * z.width) (final z s tokens).screen (index z p) (index_lt z p stated))
+            ∙ ap (λ (xs : List Cell). slice_get xs (index z p)) (shown_from k s start_s);
+      }
+
+-- ---- of bytes
+module _ (z : Size) (class : Class) (bytes : List ℕ) (h : HalfState) (p : IsPlayed z class bytes h) where
+  good_if : list_all is_known (stated_cells z h.screen) ≡ true → GoodWith z class bytes (picture_of z h.screen)
+  good_if k = record {
+    size = p.size;
+    tokens = p.tokens;
+    reads = p.reads;
+    plays = plays_well z class p.tokens p.clean;
+    shows = shows z class p.tokens h p.size.some_columns p.known k;
+  }
+
+  last_if : (i : ℕ) → FirstUnknown h.screen (z.lines * z.width) i → LeavesUnknown z class bytes (fault_at (length bytes) (UnknownCell (i / z.width + 1) (i % z.width + 1)))
+  unfolding place_of
+  last_if i u = record {
+    size = p.size;
+    tokens = p.tokens;
+    reads = p.reads;
+    clean = p.clean;
+    place = place_of z i;
+    first = first_is z class p.tokens h p.size.some_columns p.known i u;
+    fault_is = refl;
+  }
+
+  not_good_if : (i : ℕ) → FirstUnknown h.screen (z.lines * z.width) i → ¬ IsGood z class bytes
+  not_good_if i u (picture, good) =
+      let same : good.tokens ≡ p.tokens = reads_law bytes good.tokens p.tokens good.reads p.reads in
+      let shown : Shows z class p.tokens picture = rw same at good.shows in
+      let first : IsFirstUnknown z class p.tokens (place_of z i) = first_is z class p.tokens h p.size.some_columns p.known i u in
+      let d : CellsDiffer z class p.tokens (place_of z i) = first.differs in
+      d.4 (shown.shown d.0 (place_of z i) d.2 first.stated ∙ sym (shown.shown d.1 (place_of z i) d.3 first.stated))
+
+-- ---- of a player
+no_cell : HalfCell
+no_cell = half_cell None (known_bits 0 0)
+
+-- where no cell is found, the picture is known
+pub known_if : (cells : List HalfCell) (n : ℕ) → first_unknown cells n ≡ None → list_all is_known (take n cells) ≡ true
+known_if cells n e = none_unknown (take n cells) no_cell e
+
+module _ (p : Playing) (s : List ℕ) (st : Stands p s) (none : p.fault ≡ None) where
+  pub ends_good : (picture : Picture) → first_unknown p.state.screen (p.size.lines * p.size.width) ≡ None → picture ≡ picture_of p.size p.state.screen →
+      GoodWith p.size (class_of p.start) s picture
+  ends_good picture e is = rw is (good_if p.size (class_of p.start) s p.state (st.played none) (known_if p.state.screen (p.size.lines * p.size.width) e))
+
+  pub ends_unknown : (i fed width : ℕ) → first_unknown p.state.screen (p.size.lines * p.size.width) ≡ Some i → p.fed ≡ fed → p.size.width ≡ width →
+      IsLastFault p.size (class_of p.start) s (fault_at fed (UnknownCell (i / width + 1) (i % width + 1)))
+  ends_unknown i fed width e f w =
+      rw (← f, ← w, st.fed none)
+      (inr (last_if p.size (class_of p.start) s p.state (st.played none) i (found_unknown p.state.screen (p.size.lines * p.size.width) i no_cell e)))
+
+  pub ends_not_good : (i : ℕ) → first_unknown p.state.screen (p.size.lines * p.size.width) ≡ Some i → ¬ IsGood p.size (class_of p.start) s
+  ends_not_good i e good = not_good_if p.size (class_of p.start) s p.state (st.played none) i (found_unknown p.state.screen (p.size.lines * p.size.width) i no_cell e) good

@@ -1,0 +1,140 @@
+-- Known and unknown cells of a half-known screen.
+use Rattle.std.proofs.Common.{◌≡◌, ◌≢◌, ℕ, zero, suc, ◌+◌, ◌<◌, ◌≤◌, ◌%◌, Bool, true, false, refl, sym, ap, ◌∙◌, arith, List, [], ◌∷◌, length, map, take, get_or, All, Option, Some, None, subst}
+use Rattle.std.specs.Prelude.{◌&&◌, not, ◌==◌, slice_get, is_some, unwrap_or, IfSome, if◌then◌else◌, bit_and, nat_lt}
+use Rattle.std.specs.List.{AllZip, list_all, position, position_or_len}
+use Rattle.std.specs.Int.Bits.{xor_self}
+use Rattle.std.proofs.lemmas.Bool.{eq-eqb, eqb-true, ltb-false}
+use Rattle.std.proofs.lemmas.Nat.{and_mask}
+use Rattle.std.proofs.lemmas.List.{length-take}
+use Rattle.std.proofs.lemmas.List.Elements.{All-head, All-tail}
+use Rattle.std.proofs.lemmas.List.Quantifiers.{position-Some}
+use Rattle.std.proofs.lemmas.List.Sums.{fails_before_first}
+use Rattle.std.proofs.lemmas.Option.{slice_get-get_or}
+use Rattle.ans_model.specs.State.{cell, IsByteCell}
+use Rattle.ans_model.specs.declared.cell.Cell.{Cell}
+use Rattle.ans_screen.specs.Cells.{is_known}
+use Rattle.ans_screen.specs.Grids.{is_unknown, first_unknown}
+use Rattle.ans_screen.specs.declared.cell.HalfCell.{HalfCell}
+use Rattle.ans_play.specs.HalfState.{DescribesCell}
+use Rattle.ans_play.specs.Hull.{hull_cell, hull_screen}
+use Rattle.ans_play.specs.Shown.{known_cell}
+
+-- ---- one cell
+known_byte : (o : Option ℕ) (b : ℕ) → is_some o ≡ true → IfSome o (λ x. b ≡ x) → b ≡ unwrap_or o 0
+known_byte None b k e = absurd (cc)
+known_byte (Some x) b k e = e
+
+known_attribute : (k v a : ℕ) → k ≡ 255 → bit_and a k ≡ v → a < 256 → a ≡ v
+known_attribute k v a e d l = let m : bit_and a 255 ≡ a % 256 = and_mask a 8 in omega (arith, ap (λ (x : ℕ). bit_and a x) e)
+
+same_cell : (b c a d : ℕ) → b ≡ c → a ≡ d → cell b a ≡ cell c d
+same_cell b c a d e f = cc
+
+and_true : (a b : Bool) → (a && b) ≡ true → (a ≡ true) × (b ≡ true)
+and_true true true e = (refl, refl)
+and_true true false e = absurd (cc)
+and_true false b e = absurd (cc)
+
+-- a known cell describes one cell
+known_is : (h : HalfCell) (c : Cell) → is_known h ≡ true → DescribesCell h c → IsByteCell c → c ≡ known_cell h
+known_is h c k d byte =
+    let parts : (is_some h.glyph ≡ true) × ((h.attr.known == 255) ≡ true) = and_true (is_some h.glyph) (h.attr.known == 255) k in
+    same_cell c.byte (unwrap_or h.glyph 0) c.attribute h.attr.value
+    (known_byte h.glyph c.byte parts.0 d.0)
+    (known_attribute h.attr.known h.attr.value c.attribute (eqb-true h.attr.known 255 parts.1) d.1 byte.1)
+
+-- the hull of a cell with itself is known
+hull_known : (a : Cell) → is_known (hull_cell a a) ≡ true
+hull_known a = rw (eq-eqb a.byte a.byte refl, xor_self a.attribute) refl
+
+-- ---- a screen
+some_same : (a b : HalfCell) → Some a ≡ Some b → a ≡ b
+some_same a b e = cc
+
+-- a known cell is that of each screen that is described
+pub known_at : (hs : List HalfCell) (xs : List Cell) (i : ℕ) (h : HalfCell) → AllZip DescribesCell hs xs → All IsByteCell xs → slice_get hs i ≡ Some h → is_known h ≡ true → slice_get xs i ≡ Some (known_cell h)
+known_at [] xs i h d b e k = absurd (cc)
+known_at (g ∷ hs) [] i h d b e k = absurd d
+known_at (g ∷ hs) (x ∷ xs) zero h d b e k =
+    let same : g ≡ h = some_same g h e in
+    ap (λ (c : Cell). Some c) (known_is h x k (subst (λ (y : HalfCell). DescribesCell y x) same d.0) (All-head IsByteCell x xs b))
+known_at (g ∷ hs) (x ∷ xs) (suc i) h d b e k = known_at hs xs i h d.1 (All-tail IsByteCell x xs b) e k
+
+-- an unknown cell of a hull differs
+pub unknown_at : (xs ys : List Cell) (i : ℕ) (h : HalfCell) → slice_get (hull_screen xs ys) i ≡ Some h → is_known h ≡ false → slice_get xs i ≢ slice_get ys i
+unknown_at [] ys i h e k same = cc
+unknown_at (x ∷ xs) [] i h e k same = cc
+unknown_at (x ∷ xs) (y ∷ ys) zero h e k same =
+    let equal : y ≡ x = cell_same y x (sym same) in
+    let it : h ≡ hull_cell x x = sym (some_same (hull_cell x y) h e) ∙ ap (λ (c : Cell). hull_cell x c) equal in
+    true_not_false (is_known h) (ap (λ (g : HalfCell). is_known g) it ∙ hull_known x) k
+  where
+    cell_same : (a b : Cell) → Some a ≡ Some b → a ≡ b
+    cell_same a b e = cc
+
+    true_not_false : (b : Bool) → b ≡ true → b ≡ false → ⊥
+    true_not_false b p q = cc
+unknown_at (x ∷ xs) (y ∷ ys) (suc i) h e k same = unknown_at xs ys i h e k same
+
+pub all_known : (hs : List HalfCell) (xs : List Cell) → AllZip DescribesCell hs xs → All IsByteCell xs → list_all is_known hs ≡ true → xs ≡ map known_cell hs
+all_known [] [] d b k = refl
+all_known [] (x ∷ xs) d b k = absurd d
+all_known (h ∷ hs) [] d b k = absurd d
+all_known (h ∷ hs) (x ∷ xs) d b k =
+    let parts : (is_known h ≡ true) × (list_all is_known hs ≡ true) = and_true (is_known h) (list_all is_known hs) k in
+    let first : x ≡ known_cell h = known_is h x parts.0 d.0 (All-head IsByteCell x xs b) in
+    let rest : xs ≡ map known_cell hs = all_known hs xs d.1 (All-tail IsByteCell x xs b) parts.1 in
+    ap (λ (c : Cell). c ∷ xs) first ∙ ap (λ (cs : List Cell). known_cell h ∷ cs) rest
+
+-- ---- what a search finds
+pub slice_get-take : {X : Type 0} (n : ℕ) (xs : List X) (i : ℕ) → i < n → slice_get (take n xs) i ≡ slice_get xs i
+slice_get-take zero xs i l = absurd (omega arith)
+slice_get-take (suc n) [] i l = refl
+slice_get-take (suc n) (y ∷ xs) zero l = refl
+slice_get-take (suc n) (y ∷ xs) (suc i) l = slice_get-take n xs i (omega arith)
+
+not_true : (b : Bool) → not b ≡ true → b ≡ false
+not_true true e = absurd (cc)
+not_true false e = refl
+
+not_false : (b : Bool) → not b ≡ false → b ≡ true
+not_false true e = refl
+not_false false e = absurd (cc)
+
+-- the first of the first n cells that is not known
+pub record FirstUnknown (hs : List HalfCell) (n place : ℕ) : Type 0 where
+  pub within : place < n
+  pub cell : HalfCell
+  pub here : slice_get hs place ≡ Some cell
+  pub unknown : is_known cell ≡ false
+  pub earlier : (j : ℕ) → j < place → (c : HalfCell) × (slice_get hs j ≡ Some c) × (is_known c ≡ true)
+
+pub found_unknown : (hs : List HalfCell) (n place : ℕ) (d : HalfCell) → first_unknown hs n ≡ Some place → FirstUnknown hs n place
+found_unknown hs n place d e =
+    let p : (place < length (take n hs)) × (is_unknown (get_or (take n hs) place d) ≡ true) × ((k : ℕ) → k < place → is_unknown (get_or (take n hs) k d) ≡ false)
+    = position-Some is_unknown (take n hs) place d e in
+    let l : place < n = omega (arith, p.0, length-take n hs) in
+    record {
+      within = l;
+      cell = get_or (take n hs) place d;
+      here = sym (slice_get-take n hs place l) ∙ slice_get-get_or (take n hs) place d p.0;
+      unknown = not_true (is_known (get_or (take n hs) place d)) p.1;
+      earlier = λ j k.
+          let m : j < n = omega arith in
+          let k' : j < length (take n hs) = omega (arith, p.0) in
+          (get_or (take n hs) j d, sym (slice_get-take n hs j m) ∙ slice_get-get_or (take n hs) j d k', not_false (is_known (get_or (take n hs) j d)) (p.2 j k));
+    }
+
+-- where there is none, all are known
+all_by_place : (hs : List HalfCell) (d : HalfCell) → ((j : ℕ) → j < length hs → is_known (get_or hs j d) ≡ true) → list_all is_known hs ≡ true
+all_by_place [] d f = refl
+all_by_place (h ∷ hs) d f = rw (f 0 (omega arith)) (all_by_place hs d (λ j l. f (suc j) (omega arith)))
+
+none_if : (b : Bool) (n : ℕ) → (if b then Some n else None) ≡ None → b ≡ false
+none_if true n e = absurd (cc)
+none_if false n e = refl
+
+pub none_unknown : (hs : List HalfCell) (d : HalfCell) → position is_unknown hs ≡ None → list_all is_known hs ≡ true
+none_unknown hs d e =
+    let past : length hs ≤ position_or_len is_unknown hs = ltb-false (position_or_len is_unknown hs) (length hs) (none_if (nat_lt (position_or_len is_unknown hs) (length hs)) (position_or_len is_unknown hs) e) in
+    all_by_place hs d (λ j l. not_false (is_known (get_or hs j d)) (fails_before_first is_unknown hs j d (omega arith)))

@@ -1,0 +1,49 @@
+-- Clean tokens play well, and tokens that play well are clean.
+use Rattle.std.proofs.Common.{◌≡◌, ◌≢◌, ℕ, ap, ◌∙◌, List, take, Some, inl, inr}
+use Rattle.std.specs.Prelude.{◌⊎◌, slice_get}
+use Rattle.std.proofs.lemmas.Bool.{cases_eq}
+use Rattle.ans_model.specs.Token.{Token, Glyph, LineFeed, EraseLine}
+use Rattle.ans_model.specs.State.{Size, State}
+use Rattle.ans_model.specs.declared.cell.Position.{Position}
+use Rattle.ans_model.specs.Step.{final}
+use Rattle.ans_model.specs.Starts.{Class, IsStart}
+use Rattle.ans_model.specs.TokenFault.{HasFault, IsClean, SamePlace, PlacesDiffer}
+use Rattle.ans_model.specs.declared.fault.Cause.{Cause}
+use Rattle.ans_model.specs.declared.fault.Cause.TheVariants.{PrintBelow, Scrolls, PrintUnknownPlace, EraseUnknownPlace, MayScroll}
+use Rattle.ans_model.specs.Good.{PlaysWell}
+use Rattle.ans_play.proofs.Describing.{same_position}
+
+place_eq : (p q : Position) → (p ≡ q) ⊎ (p ≢ q)
+place_eq p q = elim (cases_eq p.row q.row) [
+  | inl r ↦ elim (cases_eq p.column q.column) [
+    | inl c ↦ inl (same_position p q r c)
+    | inr n ↦ inr (λ e. n (ap (λ (x : Position). x.column) e))
+  ]
+  | inr n ↦ inr (λ e. n (ap (λ (x : Position). x.row) e))
+]
+
+module _ (z : Size) (class : Class) (tokens : List Token) (clean : IsClean z class tokens) where
+  one_place : (k : ℕ) (t : Token) (cause : Cause) → slice_get tokens k ≡ Some t → (PlacesDiffer z class (take k tokens) → HasFault z class (take k tokens) t cause) → SamePlace z class (take k tokens)
+  one_place k t cause e f s r start_s start_r = elim (place_eq (final z s (take k tokens)).cursor (final z r (take k tokens)).cursor) [
+    | inl same ↦ same
+    | inr ne ↦ absurd (clean k cause (t, e, f (s, r, start_s, start_r, ne)))
+  ]
+
+  pub plays_well : PlaysWell z class tokens
+  plays_well = record {
+    no_static_fault = λ k t cause e f. clean k cause (t, e, inl f);
+    never_scrolls = λ k e s start b. clean k Scrolls (
+      LineFeed,
+      e,
+      inr (λ r start_r.
+          elim (cases_eq (final z r (take k tokens)).cursor.row z.lines) [
+            | inl bottom ↦ bottom
+            | inr n ↦ absurd (clean k MayScroll (LineFeed, e, inr ((s, start, b), (r, start_r, n))))
+          ]),
+    );
+    never_prints_below = λ k byte e s start b.
+        let same : SamePlace z class (take k tokens) = one_place k (Glyph byte) PrintUnknownPlace e (λ n. inr n) in
+        clean k PrintBelow (Glyph byte, e, inr (same, λ r start_r. ap (λ (p : Position). p.row) (same r s start_r start) ∙ b));
+    prints_at_one_place = λ k byte e. one_place k (Glyph byte) PrintUnknownPlace e (λ n. inr n);
+    erases_at_one_place = λ k e. one_place k EraseLine EraseUnknownPlace e (λ n. inr n);
+  }
