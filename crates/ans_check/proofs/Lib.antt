@@ -1,0 +1,4 @@
+pub mod WordsLemmas
+pub mod PlayLemmas
+pub mod VerdictLemmas
+pub mod ReportLemmas

@@ -1,0 +1,30 @@
+-- The answers of a run.
+use Rattle.std.specs.Prelude.{◌≤◌, ℕ, Bool, true, false, List, Option, Result, Ok, Err, codes, length}
+use Rattle.std.specs.Io.KnownBytes.{Consumes, IsAtEnd}
+use Rattle.ans_model.specs.Bytes.{longest_file}
+use Rattle.ans_check.specs.declared.errors.RunError.{RunError}
+use Rattle.ans_check.specs.declared.errors.RunError.TheVariants as error
+use Rattle.ans_check.specs.declared.reading.ReadFault.{ReadFault}
+use Rattle.ans_check.specs.declared.reading.ReadFault.TheVariants as fault
+
+-- the text of each error
+abbrev pub run_error_text : RunError → List ℕ
+run_error_text error.Read = codes "cannot read the file"
+run_error_text error.TooLong = codes "file above 16777216 bytes"
+run_error_text error.Memory = codes "out of memory"
+run_error_text error.Write = codes "cannot write the report"
+
+abbrev pub run_error_of : ReadFault → RunError
+run_error_of fault.Device = error.Read
+run_error_of fault.TooLong = error.TooLong
+run_error_of fault.Memory = error.Memory
+
+-- the exit status of each answer
+abbrev pub status_of : Result Bool RunError → ℕ
+status_of (Ok true) = 0
+status_of (Ok false) = 1
+status_of (Err e) = 2
+
+-- a reader gave this file, to its end
+abbrev pub HasRead : Option (List ℕ) → Option (List ℕ) → List ℕ → Type 0
+HasRead old new file = Consumes old new file × IsAtEnd new × (length file ≤ longest_file)

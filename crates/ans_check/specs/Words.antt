@@ -1,0 +1,62 @@
+-- The words of the command line, and what options they give.
+use Rattle.std.specs.Prelude.{◌≡◌, ◌≢◌, ◌↔◌, Bool, true, false, List, Option, Some, IsSomeAnd, codes, IsTrue, ⊤}
+use Rattle.std.specs.Option.{option_map_or}
+use Rattle.std.specs.Str.{bytes_eq}
+use Rattle.clap.specs.Words.{App, Row, Rule, Text, first_of, kind_of, one_of, new_app, new_rule, subcommand_of, with_rule, with_subcommand}
+use Rattle.clap.specs.declared.builder.ArgAction.TheVariants.{SetTrue}
+use Rattle.clap.specs.declared.error.ErrorKind.TheVariants.{OutOfMemory}
+use Rattle.ans_model.specs.declared.start.Start.TheVariants.{Cleared}
+use Rattle.ans_check.specs.declared.words.WordsError.{WordsError}
+use Rattle.ans_check.specs.declared.words.WordsError.TheVariants as words_error
+use Rattle.ans_check.specs.declared.choices.Command.{Command}
+use Rattle.ans_check.specs.declared.choices.Command.TheVariants.{Check}
+use Rattle.ans_check.specs.declared.choices.Options.{Options}
+
+-- `--NAME`
+abbrev pub flag_rule : Text → Rule
+flag_rule name = record (new_rule name) { long = Some name; action = Some SetTrue }
+
+-- `[FILE]`
+abbrev pub file_rule : Rule
+file_rule = record (new_rule (codes "file")) { value_names = 1 }
+
+-- `NAME [FILE]`
+abbrev pub file_app : Text → App
+file_app name = with_rule (new_app name) file_rule
+
+-- `check [--cleared] [FILE]`
+abbrev pub check_app : App
+check_app = with_rule (file_app (codes "check")) (flag_rule (codes "cleared"))
+
+-- `anscheck`, which wants a subcommand and has no subcommand `help`
+abbrev pub anscheck_top : App
+anscheck_top = let a = new_app (codes "anscheck") in
+    record a { top = record a.top { subcommand_required = true; disable_help_subcommand = true } }
+
+-- the program's command line
+abbrev pub anscheck : App
+anscheck = with_subcommand anscheck_top check_app.top
+
+-- the subcommand of each command
+abbrev pub command_name : Command → Text
+command_name Check = codes "check"
+
+-- no command has this name
+abbrev pub IsNoCommand : Text → Type 0
+IsNoCommand name = (c : Command) → name ≢ command_name c
+
+-- the matches hold the flag
+abbrev pub holds_flag : Text → List Row → Bool
+holds_flag id rows = option_map_or (λ t. bytes_eq t (codes "true")) (one_of id rows) false
+
+-- Clap's matches of the words name the command as their subcommand, hold the flag exactly where the start is the
+-- cleared screen, and hold the file exactly where one is given, with that text.
+abbrev pub AreOptionsOf : List Text → Options → Option Text → Type 0
+AreOptionsOf words o file = IsSomeAnd (subcommand_of anscheck words) (λ p. (p.0 ≡ command_name o.command)
+    × ((o.start ≡ Cleared) ↔ IsTrue (holds_flag (codes "cleared") p.1))
+    × (file ≡ first_of (codes "file") p.1))
+
+-- the error is want of memory
+abbrev pub IsWantOfMemory : WordsError → Type 0
+IsWantOfMemory (words_error.Clap e) = kind_of e ≡ OutOfMemory
+IsWantOfMemory words_error.Memory = ⊤

@@ -1,0 +1,117 @@
+//! Bytes to bytes.
+ghost use Rattle.std.specs.Prelude.{◌≡◌, ◌≢◌, ◌⊎◌, ◌+◌, ◌<◌, ◌≤◌, ◌↔◌, ℕ, List, Bool, false, length, IsTrue, IfOk, IsErr, IfErr, IfSome, IsErrOf};
+ghost use Rattle.std.specs.Io.KnownBytes.{Appends};
+ghost use Rattle.ans_model.specs.Bytes.{longest_file};
+ghost use Rattle.ans_report.specs.Tried.{call_count, has_failed, inner_of};
+ghost use Rattle.ans_report.specs.Writes.{AppendsPrefix, WritesText};
+ghost use Rattle.ans_check.specs.Reported.{Reports, HasFittingPicture, is_pass, verdict_bytes};
+ghost use Rattle.ans_check.specs.Run.{HasRead};
+
+use crate::choices::{Command, Options};
+use crate::errors::RunError;
+use crate::reading::read_all;
+use crate::verdict::{Verdict, check};
+use ans_model::start::Start;
+use ans_report::{Report, Tried, WriteFault, write_report};
+use ans_screen::{Grid, PlainGrid};
+use std::alloc::Global;
+use std::io::{Read, Write};
+
+/// Writes the report of a verdict. Tells whether it is a pass.
+fn write_verdict<W: Write, G: Grid>(
+    writer: &mut Tried<W>,
+    verdict: &Verdict<'_, G>,
+    start: Start,
+) -> Result<bool, WriteFault>
+    requires works { has_failed writer.old ≡ false }
+    requires fits { HasFittingPicture verdict.now }
+    ensures passed { IfOk result (λ passed. passed ≡ is_pass verdict.now) }
+    ensures fault { IsErr result ↔ IsTrue (has_failed writer.new) }
+    ensures bytes { WritesText (W.contents (inner_of writer.old)) (W.contents (inner_of writer.new)) result (verdict_bytes start verdict.now) }
+{
+    match verdict {
+        Verdict::Pass(parts, picture) => {
+            let report = Report::Pass {
+                parts,
+                start,
+                picture,
+            };
+            write_report(writer, &report)?;
+            Ok(true)
+        }
+        Verdict::Refused(parts, fault) => {
+            let report: Report<'_, G> = Report::Refused {
+                parts: parts.as_ref(),
+                start,
+                fault: *fault,
+            };
+            write_report(writer, &report)?;
+            Ok(false)
+        }
+    }
+}
+
+/// Checks a file, and writes its report. Tells whether the file passes.
+fn report<W: Write>(
+    alloc: Global,
+    writer: &mut Tried<W>,
+    file: &[u8],
+    start: Start,
+) -> Result<bool, RunError>
+    requires works { has_failed writer.old ≡ false }
+    requires length { length file.now ≤ longest_file }
+    ensures ok { IfOk result (λ passed. (text : List ℕ)
+        × Reports file.now start passed text
+        × Appends (W.contents (inner_of writer.old)) (W.contents (inner_of writer.new)) text) }
+    ensures prefix { IsErrOf result RunError.Write → ((passed : Bool) × (text : List ℕ)
+        × Reports file.now start passed text
+        × AppendsPrefix (W.contents (inner_of writer.old)) (W.contents (inner_of writer.new)) text) }
+    ensures unwritten { IfErr result (λ e. e ≢ RunError.Write → writer.new ≡ writer.old) }
+    ensures write { IsErrOf result RunError.Write ↔ IsTrue (has_failed writer.new) }
+    ensures errors { IfErr result (λ e. (e ≡ RunError.Memory) ⊎ (e ≡ RunError.Write)) }
+{
+    let Ok(verdict) = check::<PlainGrid>(alloc, file, start) else {
+        return Err(RunError::Memory);
+    };
+    let passed = write_verdict(writer, &verdict, start)?;
+    Ok(passed)
+}
+
+/// Reads all, checks it and writes the report. `Ok` tells whether the file passes.
+///
+/// `Read` comes exactly where the reader failed in the call, `Write` exactly where the writer did,
+/// and `TooLong` as soon as more than 16,777,216 bytes were read. After `Write` a prefix of the
+/// report was written, and after any other error nothing. It makes at most 16,777,218 reads.
+pub fn run<R: Read, W: Write>(
+    alloc: Global,
+    reader: &mut Tried<R>,
+    writer: &mut Tried<W>,
+    options: &Options,
+) -> Result<bool, RunError>
+    requires reads { has_failed reader.old ≡ false }
+    requires writes { has_failed writer.old ≡ false }
+
+    // One file was read, is judged and is reported on.
+    ensures ok { IfOk result (λ passed. (file : List ℕ) × (text : List ℕ)
+        × HasRead (R.remaining (inner_of reader.old)) (R.remaining (inner_of reader.new)) file
+        × Reports file options.now.start passed text
+        × Appends (W.contents (inner_of writer.old)) (W.contents (inner_of writer.new)) text) }
+    ensures prefix { IsErrOf result RunError.Write → ((file : List ℕ) × (passed : Bool) × (text : List ℕ)
+        × HasRead (R.remaining (inner_of reader.old)) (R.remaining (inner_of reader.new)) file
+        × Reports file options.now.start passed text
+        × AppendsPrefix (W.contents (inner_of writer.old)) (W.contents (inner_of writer.new)) text) }
+    ensures unwritten { IfErr result (λ e. e ≢ RunError.Write → writer.new ≡ writer.old) }
+
+    // When each error comes.
+    ensures read { IsErrOf result RunError.Read ↔ IsTrue (has_failed reader.new) }
+    ensures write { IsErrOf result RunError.Write ↔ IsTrue (has_failed writer.new) }
+    ensures too_long { IfSome (R.remaining (inner_of reader.old)) (λ xs.
+        IfSome (R.remaining (inner_of reader.new)) (λ ys.
+        IsErrOf result RunError.TooLong ↔ (longest_file + length ys < length xs))) }
+    ensures calls { call_count reader.new ≤ call_count reader.old + 16777218 }
+{
+    let file = read_all(alloc, reader)?;
+    match options.command {
+        Command::Check => report(alloc, writer, file.as_slice(), options.start),
+    }
+}

@@ -1,0 +1,66 @@
+//! What the checker finds of a file.
+ghost use Rattle.std.specs.Prelude.{◌≡◌, ◌≤◌, length, [], None, IsOk, IfOk, IfErr};
+ghost use Rattle.ans_model.specs.Bytes.{longest_file};
+ghost use Rattle.ans_model.specs.Starts.{class_of};
+ghost use Rattle.ans_model.specs.Good.{GoodWith};
+ghost use Rattle.ans_model.specs.declared.start.Start.TheVariants.{Cleared};
+ghost use Rattle.ans_sauce.specs.Layouts.{IsUnaccepted};
+ghost use Rattle.ans_play.specs.Stands.{Stands};
+ghost use Rattle.ans_check.specs.Verdicts.{Deserves, IsVerdictOn, IsPass, IsGoodFile, HasOffsetWithin, HasCertainFault};
+
+use ans_model::start::Start;
+use ans_play::{Picture, Player};
+use ans_sauce::{Fault, Parts, split};
+use ans_screen::Grid;
+use std::alloc::{AllocError, Global};
+
+/// How many bytes of the content are played at once.
+const PIECE: usize = 4096;
+
+/// What the checker finds of a file.
+#[derive(Drop)]
+pub enum Verdict<'a, G: Grid> {
+    /// The content plays well from every start, and shows the picture.
+    Pass(Parts<'a>, Picture<G>),
+    /// The file is refused. There are no parts where its record or its layout is.
+    Refused(Option<Parts<'a>>, Fault),
+}
+
+/// Plays a content in pieces, on a player to which nothing is fed yet.
+fn play<G: Grid>(mut player: Player<G>, content: &[u8]) -> Result<Picture<G>, Fault>
+    requires length { length content.now ≤ longest_file }
+    requires unfed { player.fed ≡ 0 }
+    requires no_fault { player.fault ≡ None }
+    requires stands { Stands player [] }
+    ensures good { IfOk result (GoodWith player.size (class_of player.start) content.now) }
+    ensures refused { IfErr result (Deserves player.size player.start content.now) }
+{
+    for piece in content.chunks(PIECE) {
+        player.feed(piece)?;
+    }
+    player.finish()
+}
+
+/// Checks a file: the record first, and then the play of its content from the starts of a class.
+///
+/// The only error is want of memory; a file whose record or layout is refused takes none. An
+/// offset counts bytes from the file's start, which is the content's. A sequence is refused as
+/// unknown for now.
+pub fn check<G: Grid>(alloc: Global, file: &[u8], start: Start) -> Result<Verdict<'_, G>, AllocError>
+    requires { length file.now ≤ longest_file }
+    ensures verdict { IfOk result (IsVerdictOn file.now start) }
+    ensures exact { IfOk result (λ v. IsGoodFile file.now start → IsPass v) }
+    ensures certain { start ≡ Cleared → IfOk result HasCertainFault }
+    ensures offset { IfOk result (HasOffsetWithin (length file.now)) }
+    ensures memory { IsUnaccepted file.now → IsOk result }
+{
+    let parts = match split(file) {
+        Ok(parts) => parts,
+        Err(fault) => return Ok(Verdict::Refused(None, fault)),
+    };
+    let player = Player::new(alloc, parts.width(), parts.lines(), start)?;
+    match play(player, parts.content()) {
+        Ok(picture) => Ok(Verdict::Pass(parts, picture)),
+        Err(fault) => Ok(Verdict::Refused(Some(parts), fault)),
+    }
+}

@@ -1,0 +1,131 @@
+//! The words of the command line.
+ghost use Rattle.std.specs.Prelude.{◌≡◌, true, false, IfOk, map, option_map, string_bytes, codes, IfSome, IfNone, IfErr, IsTrue, ◌↔◌};
+ghost use Rattle.clap.specs.Words.{app_of, first_of, found_of, is_simple, rows_of, takes};
+ghost use Rattle.ans_check.specs.Words.{AreOptionsOf, IsNoCommand, IsWantOfMemory, anscheck, check_app, command_name, file_app, holds_flag};
+ghost use Rattle.ans_check.specs.declared.words.WordsError.TheVariants.{Clap};
+
+use crate::choices::{Command, Options};
+use ans_model::start::Start;
+use clap::{Arg, ArgAction, ArgMatches};
+use std::alloc::{AllocError, Global};
+
+/// Why the words give no options.
+#[derive(Debug, Drop)]
+pub enum WordsError {
+    /// They are refused, or ask for help; or there was no memory for reading them.
+    Clap(clap::Error),
+    /// There was no memory for the file's name.
+    Memory,
+}
+
+impl From<clap::Error> for WordsError {
+    ghost from_gives = { λ e w. w ≡ Clap e };
+
+    fn from(error: clap::Error) -> WordsError {
+        WordsError::Clap(error)
+    }
+}
+
+/// `NAME [FILE]`.
+fn file_command<'a>(
+    alloc: Global,
+    name: &'a str,
+    about: &'a str,
+) -> Result<clap::Command<'a>, AllocError>
+    ensures { IfOk result (λ c. app_of c ≡ file_app name.now) }
+{
+    let file = Arg::new(alloc, "file")
+        .value_name("FILE")
+        .help("The file; without it standard input is read");
+    clap::Command::new(alloc, name).about(about).arg(file)
+}
+
+/// `check [--cleared] [FILE]`.
+fn check_command<'a>(alloc: Global) -> Result<clap::Command<'a>, AllocError>
+    ensures { IfOk result (λ c. app_of c ≡ check_app) }
+{
+    let cleared = Arg::new(alloc, "cleared")
+        .long("cleared")
+        .action(ArgAction::SetTrue)
+        .help("Starts from a cleared screen");
+    file_command(alloc, "check", "Checks a file")?.arg(cleared)
+}
+
+/// The program's command line.
+fn program<'a>(alloc: Global) -> Result<clap::Command<'a>, AllocError>
+    ensures { IfOk result (λ c. app_of c ≡ anscheck) }
+{
+    let check = check_command(alloc)?;
+    clap::Command::new(alloc, "anscheck")
+        .about("Checks SAUCE-marked ANSI art")
+        .subcommand_required(true)
+        .disable_help_subcommand(true)
+        .subcommand(check)
+}
+
+/// Whether the matches hold the flag.
+fn holds(matches: &ArgMatches<'_>, id: &str) -> bool
+    ensures { result ≡ holds_flag id.now (rows_of (found_of matches.now)) }
+{
+    matches.get_one::<bool>(id).unwrap_or(false)
+}
+
+/// The command of a subcommand's name.
+fn command_named(name: &str) -> Option<Command>
+    ensures some { IfSome result (λ c. name.now ≡ command_name c) }
+    ensures none { IfNone result (IsNoCommand name.now) }
+{
+    match name {
+        "check" => Some(Command::Check),
+        _ => None,
+    }
+}
+
+/// The start that the words ask for.
+fn start_of(cleared: bool) -> Start
+    ensures { (result ≡ Start.Cleared) ↔ IsTrue cleared }
+{
+    if cleared { Start::Cleared } else { Start::Any }
+}
+
+/// The copy of the file's name, where one is given.
+fn file_of(alloc: Global, matches: &ArgMatches<'_>) -> Result<Option<String>, WordsError>
+    ensures memory { IfErr result (λ e. e ≡ WordsError.Memory) }
+    ensures ok { IfOk result (λ f. option_map string_bytes f ≡ first_of (codes "file") (rows_of (found_of matches.now))) }
+{
+    match matches.get_str("file") {
+        Some(text) => match String::from_str(alloc, text) {
+            Ok(file) => Ok(Some(file)),
+            Err(_) => Err(WordsError::Memory),
+        },
+        None => Ok(None),
+    }
+}
+
+/// The options and the file that the program's words give, its own name first:
+/// `anscheck check [--cleared] [FILE]`. Without `--cleared` the start is any.
+///
+/// `Err` comes only where clap refuses the words or answers with help, and where memory is wanting.
+pub fn options(alloc: Global, words: &[&str]) -> Result<(Options, Option<String>), WordsError>
+    ensures simple { is_simple anscheck ≡ true }
+    ensures ok { IfOk result (λ r. AreOptionsOf (map (λ w. w.now) words.now) r.0 (option_map string_bytes r.1)) }
+    ensures refuses { IfErr result (λ e. takes anscheck (map (λ w. w.now) words.now) ≡ true → IsWantOfMemory e) }
+{
+    let program = match program(alloc) {
+        Ok(program) => program,
+        Err(error) => return Err(WordsError::Clap(clap::Error::from(error))),
+    };
+    let matches = program.try_get_matches_from(words)?;
+    let Some((name, found)) = matches.subcommand() else {
+        unreachable!()
+    };
+    let Some(command) = command_named(name) else {
+        unreachable!()
+    };
+    let start = start_of(holds(found, "cleared"));
+    let file = file_of(alloc, found)?;
+    Ok((
+        Options { command, start },
+        file,
+    ))
+}

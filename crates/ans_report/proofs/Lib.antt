@@ -1,0 +1,3 @@
+pub mod WritesLemmas
+pub mod GathersLemmas
+pub mod Pictures

@@ -1,0 +1,4 @@
+pub mod Tried
+pub mod Writes
+pub mod PlainText
+pub mod Reports

@@ -1,0 +1,18 @@
+//! The texts that the checker writes, and the devices that they go to.
+//!
+//! A device is a `Tried` reader or writer, which counts its calls and remembers whether one failed.
+//! Others rely on one contract of the writers here: at `Ok` exactly the text was appended, at `Err`
+//! a prefix of it, and `Err` comes exactly where the device failed in the call. The texts are
+//! defined in `ans_model`; `specs/Writes.antt` says what appending means.
+#![tactic(auto)]
+
+mod outbox;
+mod picture_text;
+mod report;
+mod texts;
+mod tried;
+
+pub use outbox::WriteFault;
+pub use report::{Report, write_refusal, write_report};
+pub use texts::fault_text;
+pub use tried::{DeviceFault, Tried};

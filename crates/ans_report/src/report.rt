@@ -1,0 +1,97 @@
+//! The report on a file.
+ghost use Rattle.std.specs.Prelude.{◌≡◌, ◌↔◌, false, IsTrue, IsErr};
+ghost use Rattle.ans_report.specs.Tried.{has_failed, inner_of};
+ghost use Rattle.ans_report.specs.Writes.{WritesText, GathersText};
+ghost use Rattle.ans_report.specs.Reports.{IsFitting, IsPlainReport, report_bytes, full_report_bytes};
+ghost use Rattle.ans_model.specs.ReportText.{refusal_text};
+
+use crate::outbox::{Outbox, WriteFault};
+use crate::picture_text::put_pass;
+use crate::texts::{put_refusal, put_refused};
+use crate::tried::Tried;
+use ans_model::start::Start;
+use ans_play::Picture;
+use ans_sauce::{Fault, Parts};
+use ans_screen::Grid;
+use std::io::Write;
+
+/// What is told of a file.
+#[derive(Drop)]
+pub enum Report<'a, G: Grid> {
+    /// The content plays well from every start, and shows the picture.
+    Pass {
+        parts: &'a Parts<'a>,
+        start: Start,
+        picture: &'a Picture<G>,
+    },
+    /// The file is refused. There are no parts where its record or its layout is.
+    Refused {
+        parts: Option<&'a Parts<'a>>,
+        start: Start,
+        fault: Fault,
+    },
+}
+
+/// Puts the report.
+fn put_report<W: Write, G: Grid>(
+    out: &mut Outbox,
+    w: &mut Tried<W>,
+    r: &Report<'_, G>,
+) -> Result<(), WriteFault>
+    requires works { has_failed w.old ≡ false }
+    requires fits { IsFitting r.now }
+    ensures fault { IsErr result ↔ IsTrue (has_failed w.new) }
+    ensures bytes { GathersText (W.contents (inner_of w.old)) (W.contents (inner_of w.new)) out.old.waiting.items out.new.waiting.items result (report_bytes r.now) }
+{
+    match r {
+        Report::Pass {
+            parts,
+            start,
+            picture,
+        } => put_pass(out, w, parts, *start, picture),
+        Report::Refused {
+            parts: Some(parts),
+            start,
+            fault,
+        } => put_refused(out, w, parts, *start, fault),
+        Report::Refused {
+            parts: None,
+            start: _,
+            fault,
+        } => put_refusal(out, w, fault),
+    }
+}
+
+/// Writes the report: the size, the start and the content's length, and then the picture of a pass
+/// or the fault of a refusal. Without parts only the fault is written.
+///
+/// `Err` comes exactly where the device failed in the call, and then a prefix of the text was
+/// written. Notes are not written yet, and a byte of the picture outside 20h to 7Eh is shown as
+/// `?`; where there is none the text is the whole report's.
+pub fn write_report<W: Write, G: Grid>(
+    w: &mut Tried<W>,
+    r: &Report<'_, G>,
+) -> Result<(), WriteFault>
+    requires works { has_failed w.old ≡ false }
+    requires fits { IsFitting r.now }
+    ensures fault { IsErr result ↔ IsTrue (has_failed w.new) }
+    ensures bytes { WritesText (W.contents (inner_of w.old)) (W.contents (inner_of w.new)) result (report_bytes r.now) }
+    ensures plain { IsPlainReport r.now → WritesText (W.contents (inner_of w.old)) (W.contents (inner_of w.new)) result (full_report_bytes r.now) }
+{
+    let mut out = Outbox::new();
+    put_report(&mut out, w, r)?;
+    out.flush(w)
+}
+
+/// Writes the two lines of a refusal alone.
+///
+/// `Err` comes exactly where the device failed in the call, and then a prefix of them was written.
+pub fn write_refusal<W: Write>(w: &mut Tried<W>, f: &Fault) -> Result<(), WriteFault>
+    requires { has_failed w.old ≡ false }
+    ensures fault { IsErr result ↔ IsTrue (has_failed w.new) }
+    ensures bytes { WritesText (W.contents (inner_of w.old)) (W.contents (inner_of w.new)) result (refusal_text f.now) }
+{
+    let mut out = Outbox::new();
+    put_refusal(&mut out, w, f)?;
+    out.flush(w)
+}
