@@ -1,9 +1,10 @@
 //! What is odd about a record that is accepted all the same.
 
 /// A note on a record. It refuses nothing.
-#[derive(Debug, Clone, Copy, PartialEq, Eq)]
+#[derive(Debug, Clone, Copy, PartialEq, Eq, Default)]
 pub enum Note {
     /// N1: the record states the width 0, which counts as 80.
+    #[default]
     WidthAssumed,
     /// N2: no end mark stands after the content.
     NoEndMark,

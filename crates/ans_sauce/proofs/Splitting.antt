@@ -1,198 +1,214 @@
--- The test of a file decides whether some body and record lay it out.
-use Rattle.std.proofs.Common.{◌≡◌, ℕ, ◌+◌, ◌-◌, ◌*◌, ◌≤◌, Bool, true, false, not, ◌&&◌, ◌==◌, nat_le, List, [], ◌++◌, length, take, drop, codes, refl, ap, ap₂, sym, ◌∙◌, arith, length-append, length-drop, bytes_eq, if◌then◌else◌}
-use Rattle.std.specs.List.{list_all}
+-- A file is split as it is laid out, or its first refusal answers.
+use Rattle.std.proofs.Common.{◌≡◌, ℕ, suc, ◌+◌, ◌-◌, ◌*◌, ◌<◌, ◌≤◌, Bool, true, false, not, ◌&&◌, ◌||◌, ◌==◌, nat_lt, nat_eq, List, [], ◌∷◌, ◌++◌, length, take, drop, codes, refl, ap, ap₂, sym, ◌∙◌, arith, append_assoc, length-append, length-drop, bytes_eq, nat_le, Option, Some, None, if◌then◌else◌, cond, unwrap_or}
+use Rattle.std.specs.List.{list_any, list_all, position, position_or_len, prefix_len}
 use Rattle.std.proofs.lemmas.Bool.Decides.{nat_tests}
 use Rattle.std.proofs.lemmas.Slice.Eq.{bytes_eq-Decides}
-use Rattle.std.proofs.lemmas.List.{take-append-drop, take_rest}
-use Rattle.std.proofs.Math.Seq.{drop-append_seam, take-append_seam}
-use Rattle.ans_model.specs.Record.{version_field, data_type, file_type, tinfo, comment_count, stated_width, stated_lines}
-use Rattle.ans_model.specs.Layout.{comment_block, content, is_end_mark, is_clean_end}
-use Rattle.ans_model.specs.Refusals.{has_record}
-use Rattle.ans_sauce.specs.Layouts.{IsPlain, IsUnaccepted, record_of, body_of, is_plain_record, is_plain}
-
-and_true : (a b : Bool) → (a && b) ≡ true → (a ≡ true) × (b ≡ true)
-and_true true b h = (refl, h)
-and_true false b h = (cc, cc)
-
-both_true : (a b : Bool) → a ≡ true → b ≡ true → (a && b) ≡ true
-both_true a b ha hb = rw (ha, hb) refl
-
-not_true : (b : Bool) → not b ≡ true → b ≡ false
-not_true true h = cc
-not_true false h = refl
-
-not_from : (b : Bool) → b ≡ false → not b ≡ true
-not_from true h = cc
-not_from false h = refl
+use Rattle.std.proofs.lemmas.List.{append-nil, take-append-drop}
+use Rattle.std.proofs.lemmas.List.Sums.{prefix_len-le-length}
+use Rattle.std.proofs.lemmas.List.Folds.{length-prefix_len}
+use Rattle.std.proofs.Math.Seq.{take-append_seam, take-length}
+use Rattle.ans_model.specs.declared.fault.Fault.{Fault}
+use Rattle.ans_model.specs.declared.fault.Cause.TheVariants.{CommentsMissing, BytesAfterEndMark}
+use Rattle.ans_model.specs.Record.{version_field, data_type, file_type, comment_count}
+use Rattle.ans_model.specs.Layout.{Laid, comment_block, content, after_content, is_end_mark, is_clean_end}
+use Rattle.ans_model.specs.Refusals.{Refusal, first_refusal, fault_at, refused_if, block_size, has_block, has_record, refusals, record_fault, Accepts}
+use Rattle.ans_model.proofs.Layouts.{accepted, laid_law, le_true}
+use Rattle.ans_model.proofs.Spelling.{both}
+use Rattle.ans_sauce.specs.Layouts.{IsCut, record_refusals}
 
 same_bytes : (a b : List ℕ) → bytes_eq a b ≡ true → a ≡ b
 same_bytes a b h = (bytes_eq-Decides a b).0 h
 
-equal_bytes : (a b : List ℕ) → a ≡ b → bytes_eq a b ≡ true
-equal_bytes a b h = (bytes_eq-Decides a b).1 h
+-- ---- the first element that passes a test
+first_or_length : {X : Type 0} (p : X → Bool) (xs : List X) → position_or_len p xs ≤ length xs
+first_or_length p xs = prefix_len-le-length (λ x. not (p x)) xs
 
-eq_true : (a b : ℕ) → (a == b) ≡ true → a ≡ b
-eq_true a b h = grind (arith, nat_tests)
+unwrapped_or : (b : Bool) (n m : ℕ) → nat_lt n m ≡ b → n ≤ m → unwrap_or (cond b (Some n) None) m ≡ n
+unwrapped_or true n m e h = refl
+unwrapped_or false n m e h = grind (arith, nat_tests)
 
-eq_from : (a b : ℕ) → a ≡ b → (a == b) ≡ true
-eq_from a b h = grind (arith, nat_tests)
+position-or_length : (p : ℕ → Bool) (xs : List ℕ) → unwrap_or (position p xs) (length xs) ≡ position_or_len p xs
+position-or_length p xs = unwrapped_or (nat_lt (position_or_len p xs) (length xs)) (position_or_len p xs) (length xs) refl (first_or_length p xs)
 
-zero_false : (a : ℕ) → (a == 0) ≡ false → 1 ≤ a
-zero_false a h = grind (arith, nat_tests)
+-- where the content ends
+pub end_of_content : (body : List ℕ) (place : Option ℕ) (n : ℕ) → place ≡ position is_end_mark body → n ≡ unwrap_or place (length body) → n ≡ position_or_len is_end_mark body
+end_of_content body place n p e = e ∙ ap (λ (v : Option ℕ). unwrap_or v (length body)) p ∙ position-or_length is_end_mark body
 
-nonzero_false : (a : ℕ) → 1 ≤ a → (a == 0) ≡ false
-nonzero_false a h = grind (arith, nat_tests)
+pub length-content : (body : List ℕ) → length (content body) ≡ position_or_len is_end_mark body
+length-content body = length-prefix_len (λ b. not (is_end_mark b)) body
 
-le_true : (a b : ℕ) → nat_le a b ≡ true → a ≤ b
-le_true a b h = grind (arith, nat_tests)
+-- some element passes exactly where the first that does stands before the end
+any_is_first : (p : ℕ → Bool) (xs : List ℕ) → list_any p xs ≡ nat_lt (position_or_len p xs) (length xs)
+any_is_first p [] = refl
+any_is_first p (x ∷ xs) = here (p x) (any_is_first p xs)
+  where
+    here : (b : Bool) → list_any p xs ≡ nat_lt (position_or_len p xs) (length xs) → (b || list_any p xs) ≡ nat_lt (cond (not b) (1 + position_or_len p xs) 0) (length (x ∷ xs))
+    here true more = grind (arith, nat_tests)
+    here false more = more ∙ grind (arith, nat_tests)
 
-le_from : (a b : ℕ) → a ≤ b → nat_le a b ≡ true
-le_from a b h = grind (arith, nat_tests)
+-- there is an end mark exactly where the content is not the whole body
+pub any_end_mark : (body front : List ℕ) → front ≡ content body → not (length front == length body) ≡ list_any is_end_mark body
+any_end_mark body front e =
+    let size : length front ≡ position_or_len is_end_mark body = ap length e ∙ length-content body in
+    let within : position_or_len is_end_mark body ≤ length body = first_or_length is_end_mark body in
+    rw size (shorter (position_or_len is_end_mark body) (length body) within ∙ sym (any_is_first is_end_mark body))
+  where
+    shorter : (n m : ℕ) → n ≤ m → not (n == m) ≡ nat_lt n m
+    shorter n m h = grind (arith, nat_tests)
 
--- what the record of a file that passes the test says
-pub record PlainRecord (record_bytes : List ℕ) : Type 0 where
-  pub version_00 : version_field record_bytes ≡ codes "00"
-  pub character : data_type record_bytes ≡ 1
-  pub ansi : file_type record_bytes ≡ 1
-  pub no_comments : comment_count record_bytes ≡ 0
-  pub some_columns : 1 ≤ stated_width record_bytes
-  pub width_in_limit : stated_width record_bytes ≤ 1024
-  pub some_lines : 1 ≤ stated_lines record_bytes
-  pub lines_in_limit : stated_lines record_bytes ≤ 8192
+lt-suc : (n m : ℕ) → nat_lt n m ≡ nat_lt (1 + n) (suc m)
+lt-suc n m = grind (arith, nat_tests)
 
--- the stated width from the field, and back
-width_some : (b : Bool) (w : ℕ) → (w == 0) ≡ b → 1 ≤ (if b then 80 else w)
-width_some true w h = omega arith
-width_some false w h = zero_false w h
+zero-lt : (m : ℕ) → false ≡ not (nat_lt 0 (suc m))
+zero-lt m = grind (arith, nat_tests)
 
-width_fits : (b : Bool) (w : ℕ) → (w == 0) ≡ b → (if b then 80 else w) ≤ 1024 → w ≤ 1024
-width_fits true w h k = let z : w ≡ 0 = eq_true w 0 h in omega arith
-width_fits false w h k = k
+-- all pass exactly where none fails before the end
+all_is_first : (p : ℕ → Bool) (xs : List ℕ) → list_all p xs ≡ not (nat_lt (position_or_len (λ x. not (p x)) xs) (length xs))
+all_is_first p [] = refl
+all_is_first p (x ∷ xs) = here (p x) (all_is_first p xs)
+  where
+    here : (b : Bool) → list_all p xs ≡ not (nat_lt (position_or_len (λ x. not (p x)) xs) (length xs)) → (b && list_all p xs) ≡ not (nat_lt (cond (not (not b)) (1 + position_or_len (λ x. not (p x)) xs) 0) (length (x ∷ xs)))
+    here true more = more ∙ ap not (lt-suc (position_or_len (λ x. not (p x)) xs) (length xs))
+    here false more = zero-lt (length xs)
 
-fits_width : (b : Bool) (w : ℕ) → w ≤ 1024 → (if b then 80 else w) ≤ 1024
-fits_width true w k = omega arith
-fits_width false w k = k
+-- the first that fails, and where it stands
+record FirstFails (p : ℕ → Bool) (xs : List ℕ) (i : ℕ) : Type 0 where
+  fails : list_all p xs ≡ false
+  place : position_or_len (λ x. not (p x)) xs ≡ i
 
-pub plain_record : (r : List ℕ) → is_plain_record r ≡ true → PlainRecord r
-plain_record r h =
-    let t1 = and_true (bytes_eq (version_field r) (codes "00")) _ h in
-    let t2 = and_true (data_type r == 1) _ t1.1 in
-    let t3 = and_true (file_type r == 1) _ t2.1 in
-    let t4 = and_true (comment_count r == 0) _ t3.1 in
-    let t5 = and_true (nat_le (stated_width r) 1024) _ t4.1 in
-    let t6 = and_true (not (stated_lines r == 0)) (nat_le (stated_lines r) 8192) t5.1 in
+first_fails : (p : ℕ → Bool) (xs : List ℕ) (i : ℕ) → position (λ x. not (p x)) xs ≡ Some i → FirstFails p xs i
+first_fails p xs i e = here (nat_lt (position_or_len (λ x. not (p x)) xs) (length xs)) refl e
+  where
+    here : (b : Bool) → nat_lt (position_or_len (λ x. not (p x)) xs) (length xs) ≡ b → cond b (Some (position_or_len (λ x. not (p x)) xs)) None ≡ Some i → FirstFails p xs i
+    here true t s = record { fails = all_is_first p xs ∙ ap not t; place = cc }
+    here false t s = absurd (cc)
+
+none_fails : (p : ℕ → Bool) (xs : List ℕ) → position (λ x. not (p x)) xs ≡ None → list_all p xs ≡ true
+none_fails p xs e = here (nat_lt (position_or_len (λ x. not (p x)) xs) (length xs)) refl e
+  where
+    here : (b : Bool) → nat_lt (position_or_len (λ x. not (p x)) xs) (length xs) ≡ b → cond b (Some (position_or_len (λ x. not (p x)) xs)) None ≡ None → list_all p xs ≡ true
+    here true t s = cc
+    here false t s = all_is_first p xs ∙ ap not t
+
+-- ---- the first refusal of several lists of them
+first_of_both : (rs more : List Refusal) (f : Fault) → first_refusal rs ≡ Some f → first_refusal (rs ++ more) ≡ Some f
+first_of_both [] more f e = cc
+first_of_both (r ∷ rs) more f e = here r.applies (first_of_both rs more f) e
+  where
+    here : (b : Bool) → (first_refusal rs ≡ Some f → first_refusal (rs ++ more) ≡ Some f) → (if b then Some (fault_at r.offset r.cause) else first_refusal rs) ≡ Some f → (if b then Some (fault_at r.offset r.cause) else first_refusal (rs ++ more)) ≡ Some f
+    here true behind s = s
+    here false behind s = behind s
+
+first_of_rest : (rs more : List Refusal) → first_refusal rs ≡ None → first_refusal (rs ++ more) ≡ first_refusal more
+first_of_rest [] more e = refl
+first_of_rest (r ∷ rs) more e = here r.applies (first_of_rest rs more) e
+  where
+    here : (b : Bool) → (first_refusal rs ≡ None → first_refusal (rs ++ more) ≡ first_refusal more) → (if b then Some (fault_at r.offset r.cause) else first_refusal rs) ≡ None → (if b then Some (fault_at r.offset r.cause) else first_refusal (rs ++ more)) ≡ first_refusal more
+    here true behind s = cc
+    here false behind s = behind s
+
+-- F4
+pub block_missing : (n : ℕ) (front r : List ℕ) → bytes_eq (version_field r) (codes "00") ≡ true → (data_type r == 1 && file_type r == 1) ≡ true → n ≡ comment_count r → has_block n front ≡ false
+    → first_refusal (record_refusals front r) ≡ Some (fault_at (length front + 104) CommentsMissing)
+block_missing n front r version kind count missing =
+    let none : has_block (comment_count r) front ≡ false = ap (λ (v : ℕ). has_block v front) (sym count) ∙ missing in
+    rw (version, kind, none) refl
+
+-- ---- a file with a record
+-- the last refusal, F8
+end_refusal : List ℕ → Refusal
+end_refusal body = refused_if (not (is_clean_end body)) (length (content body) + position_or_len (λ b. not (is_end_mark b)) (after_content body)) BytesAfterEndMark
+
+body_of : List ℕ → List ℕ → List ℕ
+body_of front r = take (length front - block_size (comment_count r)) front
+
+refusals_split : (front r : List ℕ) → refusals front r ≡ record_refusals front r ++ end_refusal (body_of front r) ∷ []
+unfolding end_refusal body_of
+refusals_split front r = refl
+
+-- the file's record, and what stands before it
+pub record HasRecord (file front record_bytes : List ℕ) : Type 0 where
+  pub found : true ≡ has_record file
+  pub front_is : front ≡ take (length file - 128) file
+  pub record_is : record_bytes ≡ drop (length file - 128) file
+
+refusals_behind : (file front r : List ℕ) → HasRecord file front r → record_fault file ≡ first_refusal (refusals front r)
+refusals_behind file front r h = rw (sym h.found, h.front_is, h.record_is) refl
+
+-- F2 to F7
+pub refused_by_record : (file front r : List ℕ) (f : Fault) → HasRecord file front r → first_refusal (record_refusals front r) ≡ Some f → record_fault file ≡ Some f
+refused_by_record file front r f h e =
+    refusals_behind file front r h ∙ ap first_refusal (refusals_split front r) ∙ first_of_both (record_refusals front r) (end_refusal (body_of front r) ∷ []) f e
+
+-- the body is what stands before the block
+cut_body : (b : Bool) (n : ℕ) (front body comment_bytes : List ℕ) → (n == 0) ≡ b → IsCut n front body comment_bytes → take (length front - block_size n) front ≡ body
+cut_body true n front body comment_bytes e h =
+    let bare : front ≡ body = h.whole ∙ rw e (append-nil body) in
+    let all : length front - 0 ≡ length front = omega arith in
+    rw e (ap (λ (v : ℕ). take v front) all ∙ take-length front ∙ bare)
+cut_body false n front body comment_bytes e h =
+    let block = codes "COMNT" ++ comment_bytes in
+    let whole : front ≡ body ++ block = h.whole ∙ rw e refl in
+    let size : length front ≡ length body + (5 + 64 * n) = ap length whole ∙ length-append body block ∙ ap (λ (v : ℕ). length body + v) (omega (arith, h.comments)) in
+    let at : length front - (5 + 64 * n) ≡ length body = omega (arith, size) in
+    rw e (ap₂ (λ (v : ℕ) (w : List ℕ). take v w) at whole ∙ take-append_seam body block)
+
+body_is : (front body comment_bytes r : List ℕ) → IsCut (comment_count r) front body comment_bytes → body_of front r ≡ body
+unfolding body_of
+body_is front body comment_bytes r h = cut_body (comment_count r == 0) (comment_count r) front body comment_bytes refl h
+
+-- what follows the content of a file whose record is accepted
+pub record HasEnd (file front body comment_bytes record_bytes rest : List ℕ) : Type 0 where
+  pub record_there : HasRecord file front record_bytes
+  pub none : first_refusal (record_refusals front record_bytes) ≡ None
+  pub cut : IsCut (comment_count record_bytes) front body comment_bytes
+  pub rest_is : rest ≡ after_content body
+
+last_refusal : (file front body comment_bytes r rest : List ℕ) → HasEnd file front body comment_bytes r rest → record_fault file ≡ first_refusal (end_refusal body ∷ [])
+last_refusal file front body comment_bytes r rest h =
+    refusals_behind file front r h.record_there ∙ ap first_refusal (refusals_split front r) ∙ first_of_rest (record_refusals front r) (end_refusal (body_of front r) ∷ []) h.none
+    ∙ ap (λ (v : List ℕ). first_refusal (end_refusal v ∷ [])) (body_is front body comment_bytes r h.cut)
+
+-- F8
+pub refused_at_end : (file front body comment_bytes r rest front_of_mark : List ℕ) (i : ℕ) → HasEnd file front body comment_bytes r rest → front_of_mark ≡ content body → Some i ≡ position (λ b. not (is_end_mark b)) rest
+    → record_fault file ≡ Some (fault_at (length front_of_mark + i) BytesAfterEndMark)
+unfolding end_refusal
+refused_at_end file front body comment_bytes r rest front_of_mark i h content_is place =
+    let e : FirstFails is_end_mark (after_content body) i = first_fails is_end_mark (after_content body) i (ap (λ (v : List ℕ). position (λ b. not (is_end_mark b)) v) (sym h.rest_is) ∙ sym place) in
+    last_refusal file front body comment_bytes r rest h ∙ rw (e.fails, e.place, content_is) refl
+
+no_refusal : (file front body comment_bytes r rest : List ℕ) → HasEnd file front body comment_bytes r rest → is_clean_end body ≡ true → record_fault file ≡ None
+unfolding end_refusal
+no_refusal file front body comment_bytes r rest h e = last_refusal file front body comment_bytes r rest h ∙ rw e refl
+
+laid_out : (file front body comment_bytes r rest : List ℕ) → HasEnd file front body comment_bytes r rest → Laid file body comment_bytes r
+laid_out file front body comment_bytes r rest h =
+    let found = both (nat_le 128 (length file)) (bytes_eq (take 5 (drop (length file - 128) file)) (codes "SAUCE")) (sym h.record_there.found) in
+    let long : 128 ≤ length file = le_true 128 (length file) found.0 in
+    let record_is = h.record_there.record_is in
     record {
-      version_00 = same_bytes (version_field r) (codes "00") t1.0;
-      character = eq_true (data_type r) 1 t2.0;
-      ansi = eq_true (file_type r) 1 t3.0;
-      no_comments = eq_true (comment_count r) 0 t4.0;
-      some_columns = width_some (tinfo 1 r == 0) (tinfo 1 r) refl;
-      width_in_limit = le_true (stated_width r) 1024 t5.0;
-      some_lines = zero_false (stated_lines r) (not_true (stated_lines r == 0) t6.0);
-      lines_in_limit = le_true (stated_lines r) 8192 t6.1;
+      size = ap length record_is ∙ simp length-drop (omega arith);
+      id = ap (λ (v : List ℕ). take 5 v) record_is ∙ same_bytes (take 5 (drop (length file - 128) file)) (codes "SAUCE") found.1;
+      comments = h.cut.comments;
+      whole = sym (take-append-drop (length file - 128) file) ∙ ap₂ (λ (v w : List ℕ). v ++ w) (sym h.record_there.front_is ∙ h.cut.whole) (sym record_is) ∙ append_assoc body (comment_block (comment_count r) comment_bytes) r;
     }
 
-plain_from : (r : List ℕ) → PlainRecord r → is_plain_record r ≡ true
-plain_from r p =
-    both_true (bytes_eq (version_field r) (codes "00")) _ (equal_bytes (version_field r) (codes "00") p.version_00)
-    (both_true (data_type r == 1) _ (eq_from (data_type r) 1 p.character)
-    (both_true (file_type r == 1) _ (eq_from (file_type r) 1 p.ansi)
-    (both_true (comment_count r == 0) _ (eq_from (comment_count r) 0 p.no_comments)
-    (both_true (nat_le (stated_width r) 1024) _ (le_from (stated_width r) 1024 p.width_in_limit)
-    (both_true (not (stated_lines r == 0)) (nat_le (stated_lines r) 8192) (not_from (stated_lines r == 0) (nonzero_false (stated_lines r) p.some_lines))
-    (le_from (stated_lines r) 8192 p.lines_in_limit))))))
-
--- without comments there is no block
-no_block : (n : ℕ) → n ≡ 0 → comment_block n [] ≡ []
-no_block n h = rw h refl
-
--- a file that passes the test is laid out
-pub plain_sound : (file : List ℕ) → is_plain file ≡ true → IsPlain file (body_of file) (record_of file)
-plain_sound file h =
-    let at = length file - 128 in
-    let r = record_of file in
-    let t = and_true (has_record file) _ h in
-    let k = and_true (is_plain_record r) (is_clean_end (body_of file)) t.1 in
-    let first = and_true (nat_le 128 (length file)) (bytes_eq (take 5 (drop at file)) (codes "SAUCE")) t.0 in
-    let long : 128 ≤ length file = le_true 128 (length file) first.0 in
-    let p = plain_record r k.0 in
+-- no refusal applies
+pub accepts : (file front body comment_bytes r rest : List ℕ) → HasEnd file front body comment_bytes r rest → None ≡ position (λ b. not (is_end_mark b)) rest → Accepts file body comment_bytes r
+accepts file front body comment_bytes r rest h end =
+    let clean : is_clean_end body ≡ true = none_fails is_end_mark (after_content body) (ap (λ (v : List ℕ). position (λ b. not (is_end_mark b)) v) (sym h.rest_is) ∙ sym end) in
+    let laid = laid_out file front body comment_bytes r rest h in
+    let some = accepted file (no_refusal file front body comment_bytes r rest h clean) in
+    let other : Accepts file some.0 some.1 some.2 = some.3 in
+    let same = laid_law file some.0 some.1 some.2 body comment_bytes r other.laid laid in
+    let record_is : some.2 ≡ r = same.2 in
     record {
-      accepts = record {
-        laid = record {
-          size = simp length-drop (omega arith);
-          id = same_bytes (take 5 (drop at file)) (codes "SAUCE") first.1;
-          comments = sym (ap (λ (v : ℕ). 64 * v) p.no_comments);
-          whole = sym (take-append-drop at file) ∙ ap (λ (v : List ℕ). take at file ++ (v ++ drop at file)) (sym (no_block (comment_count r) p.no_comments));
-        };
-        version_00 = p.version_00;
-        character = p.character;
-        ansi = p.ansi;
-        lines_stated = p.some_lines;
-        width_in_limit = width_fits (tinfo 1 r == 0) (tinfo 1 r) refl p.width_in_limit;
-        lines_in_limit = p.lines_in_limit;
-        clean_end = k.1;
-      };
-      no_comments = p.no_comments;
+      laid = laid;
+      version_00 = ap version_field (sym record_is) ∙ other.version_00;
+      character = ap data_type (sym record_is) ∙ other.character;
+      ansi = ap file_type (sym record_is) ∙ other.ansi;
+      lines_stated = rw record_is at other.lines_stated;
+      width_in_limit = rw record_is at other.width_in_limit;
+      lines_in_limit = rw record_is at other.lines_in_limit;
+      clean_end = clean;
     }
-
--- a file that is laid out passes the test, and is laid out in this way only
-pub record PassesTest (file body record_bytes : List ℕ) : Type 0 where
-  pub passes : is_plain file ≡ true
-  pub body_is : body_of file ≡ body
-  pub record_is : record_of file ≡ record_bytes
-
-pub plain_complete : (file body record_bytes : List ℕ) → IsPlain file body record_bytes → PassesTest file body record_bytes
-plain_complete file body r h =
-    let a = h.accepts in
-    let joined : file ≡ body ++ r = a.laid.whole ∙ ap (λ (v : List ℕ). body ++ (v ++ r)) (no_block (comment_count r) h.no_comments) in
-    let size : length r ≡ 128 = a.laid.size in
-    let whole : length file ≡ length body + 128 = ap length joined ∙ length-append body r ∙ ap (λ (v : ℕ). length body + v) size in
-    let at : length file - 128 ≡ length body = omega (arith, whole) in
-    let taken : body_of file ≡ body = ap₂ (λ (v : ℕ) (w : List ℕ). take v w) at joined ∙ take-append_seam body r in
-    let left : record_of file ≡ r = ap₂ (λ (v : ℕ) (w : List ℕ). drop v w) at joined ∙ drop-append_seam body r in
-    let long : nat_le 128 (length file) ≡ true = le_from 128 (length file) (omega (arith, whole)) in
-    let id : bytes_eq (take 5 (record_of file)) (codes "SAUCE") ≡ true =
-    equal_bytes (take 5 (record_of file)) (codes "SAUCE") (ap (λ (v : List ℕ). take 5 v) left ∙ a.laid.id) in
-    let p : PlainRecord r = record {
-      version_00 = a.version_00;
-      character = a.character;
-      ansi = a.ansi;
-      no_comments = h.no_comments;
-      some_columns = width_some (tinfo 1 r == 0) (tinfo 1 r) refl;
-      width_in_limit = fits_width (tinfo 1 r == 0) (tinfo 1 r) a.width_in_limit;
-      some_lines = a.lines_stated;
-      lines_in_limit = a.lines_in_limit;
-    } in
-    let plain : is_plain_record (record_of file) ≡ true = ap is_plain_record left ∙ plain_from r p in
-    let clean : is_clean_end (body_of file) ≡ true = ap is_clean_end taken ∙ a.clean_end in
-    record {
-      passes = both_true (has_record file) (is_plain_record (record_of file) && is_clean_end (body_of file))
-          (both_true (nat_le 128 (length file)) (bytes_eq (take 5 (record_of file)) (codes "SAUCE")) long id)
-          (both_true (is_plain_record (record_of file)) (is_clean_end (body_of file)) plain clean);
-      body_is = taken;
-      record_is = left;
-    }
-
-pub test_passes : (file : List ℕ) → has_record file ≡ true → is_plain_record (record_of file) ≡ true → is_clean_end (body_of file) ≡ true → is_plain file ≡ true
-test_passes file h r e =
-    both_true (has_record file) (is_plain_record (record_of file) && is_clean_end (body_of file)) h
-    (both_true (is_plain_record (record_of file)) (is_clean_end (body_of file)) r e)
-
--- the test of what stands behind the content
-pub clean_end : (b body front : List ℕ) (r : Bool) → b ≡ body → front ≡ content body
-    → r ≡ list_all is_end_mark (take (length b - length front) (drop (length front) b)) → r ≡ true → is_clean_end body ≡ true
-clean_end b body front r body_is front_is tested passed =
-    let rest : take (length b - length front) (drop (length front) b) ≡ drop (length (content body)) body =
-    take_rest b (length front) ∙ ap₂ (λ (v w : List ℕ). drop (length v) w) front_is body_is in
-    ap (list_all is_end_mark) (sym rest) ∙ sym tested ∙ passed
-
--- no body and record lay out a file that fails the test
-pub unaccepted : (file : List ℕ) → is_plain file ≡ false → IsUnaccepted file
-unaccepted file fails body record_bytes h = let p : is_plain file ≡ true = (plain_complete file body record_bytes h).passes in cc
-
--- a file is laid out in one way at most
-pub one_layout : (file body record_bytes other_body other_record : List ℕ) → IsPlain file body record_bytes → IsPlain file other_body other_record
-    → (body ≡ other_body) × (record_bytes ≡ other_record)
-one_layout file body record_bytes other_body other_record h k =
-    let a = plain_complete file body record_bytes h in
-    let b = plain_complete file other_body other_record k in (sym a.body_is ∙ b.body_is, sym a.record_is ∙ b.record_is)

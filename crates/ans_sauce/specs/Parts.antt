@@ -1,23 +1,41 @@
 -- What a file's parts show.
 use Rattle.std.specs.Prelude.{◌≡◌, ℕ, List}
+use Rattle.ans_model.specs.declared.note.Note.{Note}
 use Rattle.ans_model.specs.Record.{stated_width, stated_lines}
 use Rattle.ans_model.specs.Layout.{content}
+use Rattle.ans_model.specs.Notes.{notes}
 use Rattle.ans_sauce.specs.declared.parts.Parts.{Parts}
+use Rattle.ans_sauce.specs.Records.{bytes_of}
 
 -- `parts.content()`
 abbrev pub content_of : Parts → List ℕ
 content_of parts = parts.content.now
 
+-- `parts.comments()`, 64 bytes for each comment
+abbrev pub comments_of : Parts → List ℕ
+comments_of parts = parts.comments.now
+
+-- the 128 bytes of `parts.sauce()`
+abbrev pub record_of : Parts → List ℕ
+record_of parts = bytes_of parts.sauce
+
 -- `parts.width()`
 abbrev pub width_of : Parts → ℕ
-width_of parts = parts.width
+width_of parts = stated_width (record_of parts)
 
 -- `parts.lines()`
 abbrev pub lines_of : Parts → ℕ
-lines_of parts = parts.lines
+lines_of parts = stated_lines (record_of parts)
 
--- the parts are those of this body and this record
-pub record ShowsParts (body record_bytes : List ℕ) (parts : Parts) : Type 0 where
+-- `parts.notes()`
+abbrev pub notes_of : Parts → List Note
+notes_of parts = parts.notes.items
+
+-- the parts are those of this body, these comments and this record
+pub record ShowsParts (body comment_bytes record_bytes : List ℕ) (parts : Parts) : Type 0 where
   pub content : content_of parts ≡ content body
+  pub comments : comments_of parts ≡ comment_bytes
+  pub sauce : record_of parts ≡ record_bytes
   pub width : width_of parts ≡ stated_width record_bytes
   pub lines : lines_of parts ≡ stated_lines record_bytes
+  pub notes : notes_of parts ≡ notes body record_bytes

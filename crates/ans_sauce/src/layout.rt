@@ -1,32 +1,81 @@
-//! How a file is laid out.
-ghost use Rattle.std.specs.Prelude.{position, ◌≡◌, false, ◌-◌, ◌↔◌, length, take, drop, IfOk, IfErr, IfSome, IfNone, IsSome, IsTrue};
-ghost use Rattle.std.specs.List.{list_all};
-ghost use Rattle.ans_model.specs.Layout.{content, is_end_mark};
-ghost use Rattle.ans_model.specs.Refusals.{has_record, fault_at};
-ghost use Rattle.ans_sauce.specs.Layouts.{IsSplit, is_plain, record_of, body_of, IsPlain, IsUnaccepted};
-ghost use Rattle.ans_sauce.specs.Parts.{ShowsParts};
-ghost use Rattle.ans_model.specs.declared.fault.Cause.TheVariants.{NoRecord};
+//! How a file is laid out, and which files are refused.
+ghost use Rattle.std.specs.Prelude.{◌≡◌, ◌-◌, not, length, take, drop, is_some, IfOk, IfErr, IfSome, Some, None};
+ghost use Rattle.std.specs.List.{position};
+ghost use Rattle.ans_model.specs.Layout.{content, after_content, is_end_mark};
+ghost use Rattle.ans_model.specs.Record.{comment_count};
+ghost use Rattle.ans_model.specs.Refusals.{has_record, has_block, fault_at, first_refusal, record_fault};
+ghost use Rattle.ans_sauce.specs.Records.{bytes_of};
+ghost use Rattle.ans_sauce.specs.Layouts.{IsSplit, IsCut, record_refusals};
 
-use crate::parts::Parts;
-use crate::record::{RECORD_SIZE, Record};
+use crate::notes::notes_on;
+use crate::parts::{COMMENT_SIZE, Parts};
+use crate::record::{COMMENT_COUNT, DATA_TYPE, RECORD_SIZE, Record, TINFO_1, TINFO_2, VERSION};
 use ans_model::fault::{Cause, Fault};
 
 /// SAUCE 00.5: the end of file character.
 const END_MARK: u8 = 0x1A;
 
-/// What stands before the record, and the record.
-fn cut(file: &[u8]) -> Option<(&[u8], Record<'_>)>
-    ensures found { IsSome result ↔ IsTrue (has_record file.now) }
-    ensures body { IfSome result (λ r. r.0.now ≡ body_of file.now) }
-    ensures record { IfSome result (λ r. r.1.bytes.now ≡ record_of file.now) }
+fn fault(offset: usize, cause: Cause) -> Fault
+    ensures { result ≡ fault_at offset cause }
 {
-    let at = file.len().checked_sub(RECORD_SIZE)?;
-    let (body, bytes) = file.split_at(at);
-    if &bytes[..5] == b"SAUCE".as_slice() {
-        Some((body, Record { bytes }))
+    Fault { offset, cause }
+}
+
+/// What stands before the record, and the record, where there is one.
+fn cut_record(file: &[u8]) -> Option<(&[u8], Record<'_>)>
+    ensures found { is_some result ≡ has_record file.now }
+    ensures front { IfSome result (λ cut. cut.0.now ≡ take (length file.now - 128) file.now) }
+    ensures sauce { IfSome result (λ cut. bytes_of cut.1 ≡ drop (length file.now - 128) file.now) }
+{
+    let (front, bytes) = file.split_at(file.len().checked_sub(RECORD_SIZE)?);
+    if bytes.starts_with(b"SAUCE") {
+        Some((front, Record { bytes }))
     } else {
         None
     }
+}
+
+/// The body, and the lines of the block of so many comments that ends the front, where there is
+/// one. Without comments the front is the body.
+fn cut_block(front: &[u8], count: u8) -> Option<(&[u8], &[u8])>
+    ensures found { is_some result ≡ has_block count front.now }
+    ensures parts { IfSome result (λ cut. IsCut count front.now cut.0.now cut.1.now) }
+{
+    if count == 0 {
+        return Some(front.split_at(front.len()));
+    }
+    let size = b"COMNT".len() + COMMENT_SIZE * count as usize;
+    let (body, block) = front.split_at(front.len().checked_sub(size)?);
+    Some((body, block.strip_prefix(b"COMNT")?))
+}
+
+/// The body and the lines of comments before a record, where nothing in the record is refused: the
+/// refusals F2 to F7, in their order.
+fn cut_front<'a>(front: &'a [u8], sauce: &Record<'_>) -> Result<(&'a [u8], &'a [u8]), Fault>
+    ensures ok { IfOk result (λ cut. first_refusal (record_refusals front.now (bytes_of sauce.now)) ≡ None) }
+    ensures parts { IfOk result (λ cut. IsCut (comment_count (bytes_of sauce.now)) front.now cut.0.now cut.1.now) }
+    ensures err { IfErr result (λ fault. first_refusal (record_refusals front.now (bytes_of sauce.now)) ≡ Some fault) }
+{
+    let at = front.len();
+    if !sauce.is_version_00() {
+        return Err(fault(at + VERSION, Cause::WrongVersion));
+    }
+    if !sauce.is_character_ansi() {
+        return Err(fault(at + DATA_TYPE, Cause::WrongKind));
+    }
+    let Some((body, comments)) = cut_block(front, sauce.comment_count()) else {
+        return Err(fault(at + COMMENT_COUNT, Cause::CommentsMissing));
+    };
+    if sauce.states_no_lines() {
+        return Err(fault(at + TINFO_2, Cause::LinesUnstated));
+    }
+    if sauce.is_too_wide() {
+        return Err(fault(at + TINFO_1, Cause::WidthTooLarge));
+    }
+    if sauce.is_too_long() {
+        return Err(fault(at + TINFO_2, Cause::LinesTooLarge));
+    }
+    Ok((body, comments))
 }
 
 /// The place of the first end mark.
@@ -36,54 +85,54 @@ fn first_end_mark(body: &[u8]) -> Option<usize>
     body.iter().position(|b| *b == END_MARK)
 }
 
-/// Whether there are only end marks.
-fn only_end_marks(bytes: &[u8]) -> bool
-    ensures { result ≡ list_all is_end_mark bytes.now }
+/// What stands before the first end mark, and the rest.
+fn cut_content(body: &[u8]) -> (&[u8], &[u8])
+    ensures content { result.0.now ≡ content body.now }
+    ensures rest { result.1.now ≡ after_content body.now }
 {
-    bytes.iter().all(|b| *b == END_MARK)
+    body.split_at(first_end_mark(body).unwrap_or(body.len()))
 }
 
-/// What stands before the first end mark.
-fn before_end_mark(body: &[u8]) -> &[u8]
-    ensures { result.now ≡ content body.now }
+/// The place of the first byte that is no end mark.
+fn past_end_marks(rest: &[u8]) -> Option<usize>
+    ensures { result ≡ position (λ b. not (is_end_mark b)) rest.now }
 {
-    match first_end_mark(body) {
-        Some(end) => &body[..end],
-        None => body,
-    }
-}
-
-/// The parts of a file that is accepted.
-fn accepted(file: &[u8]) -> Option<Parts<'_>>
-    ensures some { IfSome result (λ parts. IsTrue (is_plain file.now) × ShowsParts (body_of file.now) (record_of file.now) parts) }
-    ensures none { IfNone result (is_plain file.now ≡ false) }
-{
-    let (body, record) = cut(file)?;
-    if !record.is_plain() {
-        return None;
-    }
-    let content = before_end_mark(body);
-    if only_end_marks(&body[content.len()..]) {
-        Some(Parts::new(content, record.width(), record.lines()))
-    } else {
-        None
-    }
+    rest.iter().position(|b| *b != END_MARK)
 }
 
 /// Takes a file apart by the record in its last 128 bytes (SAUCE 00.5), whatever its length. It
 /// takes no memory and copies nothing.
 ///
-/// A file whose record counts comments is refused for now. Each file that is refused has the fault
-/// `Cause::NoRecord` at its length.
+/// It answers `Ok` exactly where some body, comments and record lay the file out and nothing in it
+/// is refused, with the parts that they determine. Otherwise it answers the first of the refusals
+/// F1 to F8 that applies; its offset, in bytes from the file's start, is at most the file's length:
+///
+/// | cause | when | offset |
+/// |---|---|---|
+/// | F1 `NoRecord` | fewer than 128 bytes, or no `SAUCE` 128 bytes before the end | the file's length |
+/// | F2 `WrongVersion` | the version is not `00` | the version |
+/// | F3 `WrongKind` | it is not of type Character/ANSi | DataType |
+/// | F4 `CommentsMissing` | comments are counted, and there is no block before the record | Comments |
+/// | F5 `LinesUnstated` | no lines are stated | TInfo2 |
+/// | F6 `WidthTooLarge` | the width is above 1024 | TInfo1 |
+/// | F7 `LinesTooLarge` | there are more than 8192 lines | TInfo2 |
+/// | F8 `BytesAfterEndMark` | a byte after the first end mark is no end mark | that byte |
 pub fn split(file: &[u8]) -> Result<Parts<'_>, Fault>
     ensures ok { IfOk result (IsSplit file.now) }
-    ensures err { IfErr result (λ fault. IsUnaccepted file.now × (fault ≡ fault_at (length file.now) NoRecord)) }
+    ensures err { IfErr result (λ fault. record_fault file.now ≡ Some fault) }
 {
-    match accepted(file) {
-        Some(parts) => Ok(parts),
-        None => Err(Fault {
-            offset: file.len(),
-            cause: Cause::NoRecord,
-        }),
+    let Some((front, sauce)) = cut_record(file) else {
+        return Err(fault(file.len(), Cause::NoRecord));
+    };
+    let (body, comments) = cut_front(front, &sauce)?;
+    let (content, rest) = cut_content(body);
+    if let Some(i) = past_end_marks(rest) {
+        return Err(fault(content.len() + i, Cause::BytesAfterEndMark));
     }
+    Ok(Parts {
+        content,
+        comments,
+        sauce,
+        notes: notes_on(body, content, &sauce),
+    })
 }

@@ -1,18 +1,25 @@
-//! The SAUCE record of a file: where it stands, what it says of the file, and the content before it.
+//! The SAUCE record of a file (SAUCE 00.5): where it stands, what it says of the file, and the
+//! comments and the content before it.
 //!
-//! `split` takes a file apart. Others rely on its contract: it answers `Ok` exactly where some body
-//! and record lay the file out and nothing in it is refused, with the parts that they determine.
-//! For now only records without comments are accepted, and every other file is refused as having
-//! no record. What the parts show is in `specs/Parts.antt`, and which files are accepted in
-//! `specs/Layouts.antt`, over the definitions of `ans_model`.
+//! `split` takes a file apart. Others rely on its contract: it answers `Ok` exactly where some
+//! body, comments and record lay the file out and nothing in it is refused, with the parts that
+//! they determine; else the first refusal that applies. Which parts belong to which file is in
+//! `specs/Layouts.antt`, and what the parts show in `specs/Parts.antt` and `specs/Records.antt`,
+//! over the definitions of `ans_model`: its `Layout`, `Record`, `Refusals` and `Notes`.
 #![tactic(auto)]
 
 mod layout;
+mod notes;
 mod parts;
 mod record;
+mod text;
 
 pub use ans_model::fault::{Cause, Fault};
 pub use ans_model::limits::MAX_FILE;
 pub use ans_model::note::Note;
 pub use layout::split;
 pub use parts::Parts;
+pub use record::Record;
+
+#[cfg(test)]
+mod tests;

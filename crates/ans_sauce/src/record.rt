@@ -1,60 +1,150 @@
-//! The record's fields.
-ghost use Rattle.std.specs.Prelude.{◌≡◌, ◌+◌, ◌≤◌, ◌<◌, length, IsTrue};
+//! The SAUCE record: its fields, and what in it is refused.
+ghost use Rattle.std.specs.Prelude.{◌≡◌, ◌+◌, ◌≤◌, ◌<◌, ◌==◌, ◌&&◌, not, nat_lt, length, bytes_eq, codes};
+ghost use Rattle.ans_model.specs.Bytes.{most_columns, most_lines};
+ghost use Rattle.ans_model.specs.Record.{number, field, version_field, title_field, author_field, group_field, date_field, font_field, file_size, data_type, file_type, tinfo, comment_count, flags, stated_width, stated_lines, trimmed};
 
+use crate::text::trimmed;
 use ans_model::limits::{MAX_LINES, MAX_WIDTH};
 use byteorder::{ByteOrder, LittleEndian};
 
 /// How many bytes a record has.
 pub(crate) const RECORD_SIZE: usize = 128;
 
-/// The bytes of a SAUCE record. Numbers are unsigned, their least byte first.
+/// Where the fields that may be refused stand in a record.
+pub(crate) const VERSION: usize = 5;
+
+pub(crate) const DATA_TYPE: usize = 94;
+
+pub(crate) const TINFO_1: usize = 96;
+
+pub(crate) const TINFO_2: usize = 98;
+
+pub(crate) const COMMENT_COUNT: usize = 104;
+
+/// The record of a file (SAUCE 00.5, record layout), by its fields. It has 128 bytes. Numbers are
+/// unsigned, their least byte first. Texts come without their trailing blanks and zero bytes; a
+/// byte of them is a character of code page 437.
 #[derive(Debug, Clone, Copy)]
-pub(crate) struct Record<'a> {
+pub struct Record<'a> {
     pub(crate) bytes: &'a [u8],
     pub(crate) ghost whole: { length bytes.now ≡ 128 },
 }
 
-impl Record<'_> {
-    ghost use Rattle.ans_model.specs.Record.{number, field, version_field, data_type, file_type, tinfo, comment_count, stated_width, stated_lines};
-    ghost use Rattle.ans_sauce.specs.Layouts.{is_plain_record};
+impl<'a> Record<'a> {
+    ghost use Rattle.ans_sauce.specs.Records.{bytes_of};
 
-    fn byte(&self, offset: usize) -> u8
-        requires { offset < 128 }
-        ensures { result ≡ number (field offset 1 self.now.bytes.now) }
+    /// The title, of at most 35 bytes.
+    pub fn title(&self) -> &'a [u8]
+        ensures { result.now ≡ trimmed (title_field (bytes_of self.now)) }
     {
-        self.bytes[offset]
+        trimmed(self.field(7, 35))
     }
 
-    fn word(&self, offset: usize) -> u16
-        requires { offset + 2 ≤ 128 }
-        ensures { result ≡ number (field offset 2 self.now.bytes.now) }
+    /// The author's name, of at most 20 bytes.
+    pub fn author(&self) -> &'a [u8]
+        ensures { result.now ≡ trimmed (author_field (bytes_of self.now)) }
     {
-        LittleEndian::read_u16(&self.bytes[offset..])
+        trimmed(self.field(42, 20))
     }
 
-    fn data_type(&self) -> u8
-        ensures { result ≡ data_type self.now.bytes.now }
+    /// The name of the author's group, of at most 20 bytes.
+    pub fn group(&self) -> &'a [u8]
+        ensures { result.now ≡ trimmed (group_field (bytes_of self.now)) }
     {
-        self.byte(94)
+        trimmed(self.field(62, 20))
     }
 
-    fn file_type(&self) -> u8
-        ensures { result ≡ file_type self.now.bytes.now }
+    /// The date, as CCYYMMDD where the record keeps to its layout; whether it does says
+    /// `Note::OddDate`.
+    pub fn date(&self) -> &'a [u8]
+        ensures { result.now ≡ trimmed (date_field (bytes_of self.now)) }
     {
-        self.byte(95)
+        trimmed(self.date_bytes())
     }
 
-    fn comment_count(&self) -> u8
-        ensures { result ≡ comment_count self.now.bytes.now }
+    /// The name of the font (TInfoS), of at most 22 bytes.
+    pub fn font(&self) -> &'a [u8]
+        ensures { result.now ≡ trimmed (font_field (bytes_of self.now)) }
     {
-        self.byte(104)
+        trimmed(self.field(106, 22))
+    }
+
+    /// The stated size in bytes of the file without its record (FileSize). Nothing else rests on
+    /// it; whether it fits says `Note::SizeDiffers`.
+    pub fn file_size(&self) -> u32
+        ensures { result ≡ file_size (bytes_of self.now) }
+    {
+        LittleEndian::read_u32(self.field(90, 4))
+    }
+
+    /// TInfo1 to TInfo4, by their numbers from 1. For Character/ANSi the first is the width in
+    /// columns and the second the number of lines.
+    pub fn tinfo(&self, i: usize) -> u16
+        requires first { 1 ≤ i }
+        requires last { i ≤ 4 }
+        ensures { result ≡ tinfo i (bytes_of self.now) }
+    {
+        LittleEndian::read_u16(self.field(94 + 2 * i, 2))
+    }
+
+    /// How many lines of 64 bytes the comment block has (Comments), from 0 to 255.
+    pub fn comment_count(&self) -> u8
+        ensures { result ≡ comment_count (bytes_of self.now) }
+    {
+        self.byte(COMMENT_COUNT)
+    }
+
+    /// The flags (TFlags, for Character/ANSi the ANSiFlags): bit 0 is non-blink, bits 1 and 2 the
+    /// letter spacing, bits 3 and 4 the aspect ratio.
+    pub fn flags(&self) -> u8
+        ensures { result ≡ flags (bytes_of self.now) }
+    {
+        self.byte(105)
+    }
+
+    /// The eight bytes of the date.
+    pub(crate) fn date_bytes(&self) -> &'a [u8]
+        ensures { result.now ≡ date_field (bytes_of self.now) }
+    {
+        self.field(82, 8)
+    }
+
+    pub(crate) fn is_version_00(&self) -> bool
+        ensures { result ≡ bytes_eq (version_field (bytes_of self.now)) (codes "00") }
+    {
+        self.field(VERSION, 2) == b"00".as_slice()
+    }
+
+    /// Whether DataType is 1, Character, and FileType is 1, ANSi.
+    pub(crate) fn is_character_ansi(&self) -> bool
+        ensures { result ≡ (data_type (bytes_of self.now) == 1 && file_type (bytes_of self.now) == 1) }
+    {
+        self.byte(DATA_TYPE) == 1 && self.byte(95) == 1
+    }
+
+    pub(crate) fn states_no_lines(&self) -> bool
+        ensures { result ≡ (tinfo 2 (bytes_of self.now) == 0) }
+    {
+        self.tinfo(2) == 0
+    }
+
+    pub(crate) fn is_too_wide(&self) -> bool
+        ensures { result ≡ nat_lt most_columns (tinfo 1 (bytes_of self.now)) }
+    {
+        self.tinfo(1) as usize > MAX_WIDTH
+    }
+
+    pub(crate) fn is_too_long(&self) -> bool
+        ensures { result ≡ nat_lt most_lines (tinfo 2 (bytes_of self.now)) }
+    {
+        self.tinfo(2) as usize > MAX_LINES
     }
 
     /// The width: TInfo1, or 80 where that is 0.
     pub(crate) fn width(&self) -> usize
-        ensures { result ≡ stated_width self.now.bytes.now }
+        ensures { result ≡ stated_width (bytes_of self.now) }
     {
-        match self.word(96) {
+        match self.tinfo(1) {
             0 => 80,
             width => width as usize,
         }
@@ -62,21 +152,23 @@ impl Record<'_> {
 
     /// The number of lines: TInfo2.
     pub(crate) fn lines(&self) -> usize
-        ensures { result ≡ stated_lines self.now.bytes.now }
+        ensures { result ≡ stated_lines (bytes_of self.now) }
     {
-        self.word(98) as usize
+        self.tinfo(2) as usize
     }
 
-    /// Whether nothing in the record is refused, and it counts no comments.
-    pub(crate) fn is_plain(&self) -> bool
-        ensures { result ≡ is_plain_record self.now.bytes.now }
+    fn byte(&self, offset: usize) -> u8
+        requires { offset < 128 }
+        ensures { result ≡ number (field offset 1 (bytes_of self.now)) }
     {
-        &self.bytes[5..7] == b"00".as_slice()
-            && self.data_type() == 1
-            && self.file_type() == 1
-            && self.comment_count() == 0
-            && self.width() <= MAX_WIDTH
-            && self.lines() != 0
-            && self.lines() <= MAX_LINES
+        self.bytes[offset]
+    }
+
+    fn field(&self, offset: usize, size: usize) -> &'a [u8]
+        requires { offset + size ≤ 128 }
+        ensures bytes { result.now ≡ field offset size (bytes_of self.now) }
+        ensures size { length result.now ≡ size }
+    {
+        &self.bytes[offset..offset + size]
     }
 }

@@ -1,15 +1,60 @@
-use Rattle.std.proofs.Common.{refl}
-use Rattle.ans_sauce.specs.Layouts.{body_of, record_of}
-use Rattle.ans_sauce.proofs.Splitting.{plain_sound, unaccepted}
+use Rattle.std.proofs.Common.{◌≡◌, List, rules, refl, ap, sym, ◌∙◌, Some}
+use Rattle.ans_model.specs.declared.fault.Fault.{Fault}
+use Rattle.ans_model.specs.Refusals.{record_fault, Accepts}
+use Rattle.ans_sauce.proofs.Splitting.{HasRecord, HasEnd, refused_by_record, refused_at_end, accepts}
 use Rattle.ans_sauce.proofs.layout.split.Goals as goal
 
-pub returns-in-Some-clause-ok : goal.returns-in-Some-clause-ok
-returns-in-Some-clause-ok c = record {
-  body = body_of c.args.file.now;
-  record_bytes = record_of c.args.file.now;
-  plain = plain_sound c.args.file.now c.in-Some.ensures.some.0;
-  shows = c.in-Some.ensures.some.1;
-}
+pub returns-in_err-body-clause-err : goal.returns-in_err-body-clause-err
+returns-in_err-body-clause-err c =
+    let record_there : HasRecord c.args.file.now c.in-Some.front.now c.in-Some.sauce.bytes.now = record { found = c.in-Some.ensures.found; front_is = c.in-Some.ensures.front; record_is = c.in-Some.ensures.sauce } in
+    let refused : record_fault c.args.file.now ≡ Some c.in_err-body.field-0.0 = refused_by_record _ _ _ _ record_there c.in_err-body.ensures.err in
+    search (rules, refused)
 
-pub returns-in-None-clause-err : goal.returns-in-None-clause-err
-returns-in-None-clause-err c = (unaccepted c.args.file.now c.in-None.ensures.none, refl)
+pub returns-in-Some-past_end_marks-clause-err : goal.returns-in-Some-past_end_marks-clause-err
+returns-in-Some-past_end_marks-clause-err c =
+    let end : HasEnd c.args.file.now c.in-Some.front.now c.in_ok-body.body.now c.in_ok-body.comments.now c.in-Some.sauce.bytes.now c.cut_content.result.1.now = record {
+      record_there = record { found = c.in-Some.ensures.found; front_is = c.in-Some.ensures.front; record_is = c.in-Some.ensures.sauce };
+      none = c.in_ok-body.ensures.ok;
+      cut = c.in_ok-body.ensures.parts;
+      rest_is = c.cut_content.ensures.rest;
+    } in
+    refused_at_end _ _ _ _ _ _ _ _ end c.cut_content.ensures.content c.in-Some-past_end_marks.ensures ∙ ap (λ (v : Fault). Some v) (sym c.fault-in-Some-past_end_marks.ensures)
+
+pub invariant_of-result : goal.invariant_of-result
+invariant_of-result c =
+    let end : HasEnd c.args.file.now c.in-Some.front.now c.in_ok-body.body.now c.in_ok-body.comments.now c.in-Some.sauce.bytes.now c.cut_content.result.1.now = record {
+      record_there = record { found = c.in-Some.ensures.found; front_is = c.in-Some.ensures.front; record_is = c.in-Some.ensures.sauce };
+      none = c.in_ok-body.ensures.ok;
+      cut = c.in_ok-body.ensures.parts;
+      rest_is = c.cut_content.ensures.rest;
+    } in
+    let a = accepts _ _ _ _ _ _ end c.in_default-past_end_marks.ensures in
+    record {
+      whole_lines = a.laid.comments;
+      width_in_limit = a.width_in_limit;
+      some_lines = a.lines_stated;
+      lines_in_limit = a.lines_in_limit;
+    }
+
+pub returns-clause-ok : goal.returns-clause-ok
+returns-clause-ok c =
+    let end : HasEnd c.args.file.now c.in-Some.front.now c.in_ok-body.body.now c.in_ok-body.comments.now c.in-Some.sauce.bytes.now c.cut_content.result.1.now = record {
+      record_there = record { found = c.in-Some.ensures.found; front_is = c.in-Some.ensures.front; record_is = c.in-Some.ensures.sauce };
+      none = c.in_ok-body.ensures.ok;
+      cut = c.in_ok-body.ensures.parts;
+      rest_is = c.cut_content.ensures.rest;
+    } in
+    record {
+      body = c.in_ok-body.body.now;
+      comment_bytes = c.in_ok-body.comments.now;
+      record_bytes = c.in-Some.sauce.bytes.now;
+      accepts = accepts _ _ _ _ _ _ end c.in_default-past_end_marks.ensures;
+      shows = record {
+        content = c.cut_content.ensures.content;
+        comments = refl;
+        sauce = refl;
+        width = refl;
+        lines = refl;
+        notes = c.notes_on.ensures;
+      };
+    }
