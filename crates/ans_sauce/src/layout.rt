@@ -27,9 +27,8 @@ fn cut_record(file: &[u8]) -> Option<(&[u8], Record<'_>)>
     ensures front { IfSome result (λ cut. cut.0.now ≡ take (length file.now - 128) file.now) }
     ensures sauce { IfSome result (λ cut. bytes_of cut.1 ≡ drop (length file.now - 128) file.now) }
 {
-    let at = file.len().checked_sub(RECORD_SIZE)?;
-    let (front, bytes) = file.split_at(at);
-    if &bytes[..5] == b"SAUCE".as_slice() {
+    let (front, bytes) = file.split_at(file.len().checked_sub(RECORD_SIZE)?);
+    if bytes.starts_with(b"SAUCE") {
         Some((front, Record { bytes }))
     } else {
         None
@@ -42,17 +41,12 @@ fn cut_block(front: &[u8], count: u8) -> Option<(&[u8], &[u8])>
     ensures found { is_some result ≡ has_block count front.now }
     ensures parts { IfSome result (λ cut. IsCut count front.now cut.0.now cut.1.now) }
 {
-    let size = COMMENT_SIZE * count as usize;
-    if size == 0 {
+    if count == 0 {
         return Some(front.split_at(front.len()));
     }
-    let at = front.len().checked_sub(5 + size)?;
-    let (body, block) = front.split_at(at);
-    if &block[..5] == b"COMNT".as_slice() {
-        Some((body, &block[5..]))
-    } else {
-        None
-    }
+    let size = b"COMNT".len() + COMMENT_SIZE * count as usize;
+    let (body, block) = front.split_at(front.len().checked_sub(size)?);
+    Some((body, block.strip_prefix(b"COMNT")?))
 }
 
 /// The body and the lines of comments before a record, where nothing in the record is refused: the

@@ -20,3 +20,6 @@ pub use ans_model::note::Note;
 pub use layout::split;
 pub use parts::Parts;
 pub use record::Record;
+
+#[cfg(test)]
+mod tests;
