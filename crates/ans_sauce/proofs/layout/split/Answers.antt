@@ -1,6 +1,6 @@
-use Rattle.std.proofs.Common.{◌≡◌, List, rules, refl, ap, sym, ◌∙◌, Some}
+use Rattle.std.proofs.Common.{◌≡◌, rules, refl, ap, sym, ◌∙◌, Some}
 use Rattle.ans_model.specs.declared.fault.Fault.{Fault}
-use Rattle.ans_model.specs.Refusals.{record_fault, Accepts}
+use Rattle.ans_model.specs.Refusals.{record_fault}
 use Rattle.ans_sauce.proofs.Splitting.{HasRecord, HasEnd, refused_by_record, refused_at_end, accepts}
 use Rattle.ans_sauce.proofs.layout.split.Goals as goal
 
