@@ -1,18 +1,14 @@
 -- The play of a content in pieces.
 use Rattle.std.proofs.Common.{◌≡◌, ◌≢◌, ℕ, ◌+◌, ◌≤◌, List, [], ◌++◌, length, take, drop, Option, Some, None, refl, sym, ap, subst, ◌∙◌, arith, append_assoc, append-nil, length-append, take-append-drop, inl, inr, ◌⊎◌}
-use Rattle.std.specs.Prelude.{Contains, Result, Ok, Err, IfErr}
+use Rattle.std.specs.Prelude.{Result, Ok, Err, IfErr}
 use Rattle.std.proofs.lemmas.List.{length-take-le, take_all}
-use Rattle.std.proofs.lemmas.List.Elements.{Contains-append_left, Contains-append_right}
 use Rattle.std.proofs.Math.Seq.{drop-append_seam, take-append_seam, take-length}
-use Rattle.ans_model.specs.Bytes.{escape}
 use Rattle.ans_model.specs.State.{Size}
 use Rattle.ans_model.specs.Starts.{Class, class_of}
 use Rattle.ans_model.specs.FirstFault.{IsFirstFault}
-use Rattle.ans_model.specs.LastFault.{IsLastFault, EndsInSequence, LeavesUnknown}
+use Rattle.ans_model.specs.LastFault.{IsLastFault}
 use Rattle.ans_model.specs.Certain.{IsCertain}
 use Rattle.ans_model.specs.declared.fault.Fault.{Fault}
-use Rattle.ans_model.specs.declared.fault.Cause.{Cause}
-use Rattle.ans_model.specs.declared.fault.Cause.TheVariants.{UnknownSequence, EndInSequence, UnknownCell}
 use Rattle.ans_model.specs.declared.start.Start.{Start}
 use Rattle.ans_model.specs.declared.start.Start.TheVariants.{Cleared}
 use Rattle.ans_play.specs.Playing.{Playing}
@@ -63,29 +59,20 @@ SamePlay-then a b c p q = record { size = q.size ∙ p.size; start = q.start ∙
 
 -- the fault of a piece is the content's
 pub fed_fault : (a b : Playing) (content piece rest : List ℕ) (n : ℕ) (f : Fault) → SamePlay a b → Cut content piece rest n
-    → Stands b (take n content ++ piece) → b.fault ≡ Some f → (f.cause ≡ UnknownSequence → Contains piece escape)
+    → Stands b (take n content ++ piece) → b.fault ≡ Some f
     → (a.start ≡ Cleared → IsCertain f.cause) → f.offset ≤ n + length piece → Deserves a.size a.start content f
-fed_fault a b content piece rest n f same c stands fault sequence certain offset =
+fed_fault a b content piece rest n f same c stands fault certain offset =
     let front = take n content ++ piece in
-    let first : f.cause ≢ UnknownSequence → IsFirstFault a.size (class_of a.start) content f = λ known.
-    let found : IsFirstFault b.size (class_of b.start) front f = stands.faulted f fault known in
+    let found : IsFirstFault b.size (class_of b.start) front f = stands.faulted f fault in
     let here : IsFirstFault a.size (class_of a.start) front f =
     subst (λ (z : Size). IsFirstFault z (class_of a.start) front f) same.size (subst (λ (s : Start). IsFirstFault b.size (class_of s) front f) same.start found) in
+    let first : IsFirstFault a.size (class_of a.start) content f =
     subst (λ (v : List ℕ). IsFirstFault a.size (class_of a.start) v f) (sym c.whole) (first_longer a.size (class_of a.start) front rest f here) in
-    let there : f.cause ≡ UnknownSequence → Contains content escape = λ unknown.
-    subst (λ (v : List ℕ). Contains v escape) (sym c.whole) (Contains-append_left front rest escape (Contains-append_right (take n content) piece escape (sequence unknown))) in
     record {
-      deserved = λ known. inl (first known);
-      sequence = there;
+      deserved = inl first;
       certain = certain;
       offset = omega (arith, c.fits);
     }
-
--- a last fault is none of a sequence's
-last_cause : (z : Size) (class : Class) (bytes : List ℕ) (f : Fault) → IsLastFault z class bytes f → f.cause ≡ UnknownSequence → ⊥
-last_cause z class bytes f (inl h) e = let k : f.cause ≡ EndInSequence = ap (λ (v : Fault). v.cause) h.fault_is in cc
-last_cause z class bytes f (inr h) e =
-    let k : f.cause ≡ UnknownCell (h.place.row + 1) (h.place.column + 1) = ap (λ (v : Fault). v.cause) h.fault_is in cc
 
 -- the fault in the end is the content's
 pub last_fault : (a b : Playing) (content : List ℕ) (f : Fault) → SamePlay a b → IsLastFault b.size (class_of b.start) content f
@@ -94,8 +81,7 @@ last_fault a b content f same last certain offset =
     let here : IsLastFault a.size (class_of a.start) content f =
     subst (λ (z : Size). IsLastFault z (class_of a.start) content f) same.size (subst (λ (s : Start). IsLastFault b.size (class_of s) content f) same.start last) in
     record {
-      deserved = λ known. inr here;
-      sequence = λ unknown. absurd (last_cause a.size (class_of a.start) content f here unknown);
+      deserved = inr here;
       certain = certain;
       offset = offset;
     }
@@ -110,7 +96,7 @@ all_taken content rest n e none le =
 -- the same of whatever fault an answer has
 pub last_faults : {T : Type 0} (r : Result T Fault) (a b : Playing) (content : List ℕ) → SamePlay a b → Stands b content
     → IfErr r (λ f. (s : List ℕ) → Stands b s → IsLastFault b.size (class_of b.start) s f)
-    → (b.start ≡ Cleared → IfErr r (λ f. IsCertain f.cause)) → IfErr r (λ f. f.offset ≡ b.fed) → b.fed ≡ length content
+    → (b.start ≡ Cleared → IfErr r (λ f. IsCertain f.cause)) → IfErr r (λ f. f.offset ≤ b.fed) → b.fed ≡ length content
     → IfErr r (Deserves a.size a.start content)
 last_faults (Ok v) a b content same stands last certain offset fed = tt
 last_faults (Err f) a b content same stands last certain offset fed =

@@ -1,15 +1,15 @@
 -- A report on what was found is right of the file.
-use Rattle.std.proofs.Common.{◌≡◌, ◌⊎◌, ◌↔◌, ◌+◌, ◌<◌, ℕ, Bool, false, List, length, Option, Some, None, Result, Ok, Err, inl, inr, sym, ap, ap₂, ◌∙◌}
+use Rattle.std.proofs.Common.{◌≡◌, ◌⊎◌, ◌↔◌, ◌+◌, ◌<◌, ℕ, Bool, false, List, length, Option, Some, None, Result, Ok, Err, inl, inr, refl, sym, ap, ap₂, ◌∙◌}
 use Rattle.std.specs.Prelude.{IfSome, IfErr, IsErrOf}
 use Rattle.ans_model.specs.Good.{Picture}
+use Rattle.ans_model.specs.Refusals.{record_fault}
 use Rattle.ans_model.specs.ReportText.{Heading, Passed, RefusedFor, refusal_text, report_text}
 use Rattle.ans_model.specs.State.{sized}
 use Rattle.ans_model.specs.declared.fault.Fault.{Fault}
 use Rattle.ans_model.specs.declared.start.Start.{Start}
 use Rattle.ans_sauce.specs.declared.parts.Parts.{Parts}
 use Rattle.ans_sauce.specs.Parts.{ShowsParts}
-use Rattle.ans_report.specs.PlainText.{heading_of, plain_report_text}
-use Rattle.ans_report.proofs.Pictures.{plain_text}
+use Rattle.ans_report.specs.Headings.{heading_of}
 use Rattle.ans_model.specs.Bytes.{longest_file}
 use Rattle.ans_check.specs.declared.reading.ReadFault.{ReadFault}
 use Rattle.ans_check.specs.declared.reading.ReadFault.TheVariants as fault
@@ -17,42 +17,40 @@ use Rattle.ans_check.specs.declared.errors.RunError.{RunError}
 use Rattle.ans_check.specs.declared.errors.RunError.TheVariants.{TooLong, Memory, Write}
 use Rattle.ans_check.specs.declared.verdict.Verdict.{Verdict}
 use Rattle.ans_check.specs.declared.verdict.Verdict.TheVariants.{Pass, Refused}
-use Rattle.ans_check.specs.Verdicts.{Passes, RefusesContent, RefusesLayout, IsVerdictOn, IsPass, IsGoodFile}
-use Rattle.ans_check.specs.Reported.{heading, ReportsPass, ReportsFault, ReportsNoRecord, Reports, HasFittingPicture, is_pass, verdict_bytes}
+use Rattle.ans_check.specs.Verdicts.{Passes, RefusesContent, IsVerdictOn, IsPass, IsGoodFile}
+use Rattle.ans_check.specs.Reported.{heading, ReportsPass, ReportsFault, ReportsRecordFault, Reports, HasFittingPicture, is_pass, verdict_bytes}
 
 -- the heading of a file's parts
-heading_is : (body record_bytes : List ℕ) (parts : Parts) (start : Start) → ShowsParts body record_bytes parts → heading_of parts start ≡ heading body record_bytes start
-heading_is body record_bytes parts start h = rw (h.content, h.width, h.lines)
+heading_is : (body comment_bytes record_bytes : List ℕ) (parts : Parts) (start : Start) → ShowsParts body comment_bytes record_bytes parts
+    → heading_of parts start ≡ heading body record_bytes start
+heading_is body comment_bytes record_bytes parts start h = rw (h.content, h.width, h.lines, h.notes)
 
 pub pass_reported : (file : List ℕ) (start : Start) (parts : Parts) (picture : Picture) → Passes file start parts picture
-    → ReportsPass file start (plain_report_text (heading_of parts start) (Passed picture false))
-pass_reported file start parts picture h =
-    let same = heading_is h.body h.record_bytes parts start h.shows in
-    let text : plain_report_text (heading_of parts start) (Passed picture false) ≡ plain_report_text (heading h.body h.record_bytes start) (Passed picture false) =
-    ap (λ (v : Heading). plain_report_text v (Passed picture false)) same in
-    record {
-      body = h.body;
-      record_bytes = h.record_bytes;
-      picture = picture;
-      plain = h.plain;
-      good = h.good;
-      text_is = text;
-      whole_text = λ all. text ∙ plain_text (heading h.body h.record_bytes start) picture all;
-    }
+    → ReportsPass file start (report_text (heading_of parts start) (Passed picture false))
+pass_reported file start parts picture h = record {
+    body = h.body;
+    comment_bytes = h.comment_bytes;
+    record_bytes = h.record_bytes;
+    picture = picture;
+    accepts = h.accepts;
+    good = h.good;
+    text_is = ap (λ (v : Heading). report_text v (Passed picture false)) (heading_is h.body h.comment_bytes h.record_bytes parts start h.shows);
+  }
 
 pub fault_reported : (file : List ℕ) (start : Start) (parts : Parts) (f : Fault) → RefusesContent file start parts f
     → ReportsFault file start (report_text (heading_of parts start) (RefusedFor f))
 fault_reported file start parts f h = record {
     body = h.body;
+    comment_bytes = h.comment_bytes;
     record_bytes = h.record_bytes;
     fault = f;
-    plain = h.plain;
+    accepts = h.accepts;
     fault_is = h.fault_is;
-    text_is = ap (λ (v : Heading). report_text v (RefusedFor f)) (heading_is h.body h.record_bytes parts start h.shows);
+    text_is = ap (λ (v : Heading). report_text v (RefusedFor f)) (heading_is h.body h.comment_bytes h.record_bytes parts start h.shows);
   }
 
-pub no_record_reported : (file : List ℕ) (f : Fault) → RefusesLayout file f → ReportsNoRecord file (refusal_text f)
-no_record_reported file f h = record { unaccepted = h.unaccepted; text_is = ap refusal_text h.fault_is }
+pub record_reported : (file : List ℕ) (f : Fault) → record_fault file ≡ Some f → ReportsRecordFault file (refusal_text f)
+record_reported file f e = record { fault = f; fault_is = e; text_is = refl }
 
 -- an error of the memory or the writer is none of the length
 not_too_long : (r : Result Bool RunError) → IfErr r (λ e. (e ≡ Memory) ⊎ (e ≡ Write)) → IsErrOf r TooLong → ⊥
@@ -79,7 +77,7 @@ pub verdict_reported : {G : Type 0} (file : List ℕ) (start : Start) (v : Verdi
     → Reports file start (is_pass v) (verdict_bytes start v)
 verdict_reported file start (Pass parts picture) h good = pass_reported file start parts picture h
 verdict_reported file start (Refused (Some parts) f) h good = (good, inl (fault_reported file start parts f h))
-verdict_reported file start (Refused None f) h good = (good, inr (no_record_reported file f h))
+verdict_reported file start (Refused None f) h good = (good, inr (record_reported file f h))
 
 -- its picture fits its parts
 pub fitting : {G : Type 0} (file : List ℕ) (start : Start) (v : Verdict G) → IsVerdictOn file start v → HasFittingPicture v

@@ -14,3 +14,6 @@ pub use errors::{RunError, status};
 pub use pipeline::run;
 pub use verdict::{Verdict, check};
 pub use words::{WordsError, options};
+
+#[cfg(test)]
+mod tests;

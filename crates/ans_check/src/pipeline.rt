@@ -27,7 +27,8 @@ fn write_verdict<W: Write, G: Grid>(
     requires fits { HasFittingPicture verdict.now }
     ensures passed { IfOk result (λ passed. passed ≡ is_pass verdict.now) }
     ensures fault { IsErr result ↔ IsTrue (has_failed writer.new) }
-    ensures bytes { WritesText (W.contents (inner_of writer.old)) (W.contents (inner_of writer.new)) result (verdict_bytes start verdict.now) }
+    ensures bytes { WritesText (W.contents (inner_of writer.old)) (W.contents (inner_of writer.new))
+        result (verdict_bytes start verdict.now) }
 {
     match verdict {
         Verdict::Pass(parts, picture) => {
@@ -63,9 +64,11 @@ fn report<W: Write>(
     ensures ok { IfOk result (λ passed. (text : List ℕ)
         × Reports file.now start passed text
         × Appends (W.contents (inner_of writer.old)) (W.contents (inner_of writer.new)) text) }
-    ensures prefix { IsErrOf result RunError.Write → ((passed : Bool) × (text : List ℕ)
+    ensures prefix { IsErrOf result RunError.Write → (
+        (passed : Bool) × (text : List ℕ)
         × Reports file.now start passed text
-        × AppendsPrefix (W.contents (inner_of writer.old)) (W.contents (inner_of writer.new)) text) }
+        × AppendsPrefix (W.contents (inner_of writer.old)) (W.contents (inner_of writer.new))
+        text) }
     ensures unwritten { IfErr result (λ e. e ≢ RunError.Write → writer.new ≡ writer.old) }
     ensures write { IsErrOf result RunError.Write ↔ IsTrue (has_failed writer.new) }
     ensures errors { IfErr result (λ e. (e ≡ RunError.Memory) ⊎ (e ≡ RunError.Write)) }
@@ -96,10 +99,12 @@ pub fn run<R: Read, W: Write>(
         × HasRead (R.remaining (inner_of reader.old)) (R.remaining (inner_of reader.new)) file
         × Reports file options.now.start passed text
         × Appends (W.contents (inner_of writer.old)) (W.contents (inner_of writer.new)) text) }
-    ensures prefix { IsErrOf result RunError.Write → ((file : List ℕ) × (passed : Bool) × (text : List ℕ)
+    ensures prefix { IsErrOf result RunError.Write → (
+        (file : List ℕ) × (passed : Bool) × (text : List ℕ)
         × HasRead (R.remaining (inner_of reader.old)) (R.remaining (inner_of reader.new)) file
         × Reports file options.now.start passed text
-        × AppendsPrefix (W.contents (inner_of writer.old)) (W.contents (inner_of writer.new)) text) }
+        × AppendsPrefix (W.contents (inner_of writer.old)) (W.contents (inner_of writer.new))
+        text) }
     ensures unwritten { IfErr result (λ e. e ≢ RunError.Write → writer.new ≡ writer.old) }
 
     // When each error comes.

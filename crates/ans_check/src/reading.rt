@@ -1,5 +1,5 @@
 //! The whole input.
-ghost use Rattle.std.specs.Prelude.{◌≡◌, ◌+◌, ◌-◌, ◌^◌, ◌<◌, ◌≤◌, ◌↔◌, false, length, vec_len, IsTrue, IfOk, IfSome, IsErrOf, MatchResult};
+ghost use Rattle.std.specs.Prelude.{◌≡◌, ◌+◌, ◌<◌, ◌≤◌, ◌↔◌, false, length, IsTrue, IfOk, IfSome, IsErrOf};
 ghost use Rattle.ans_report.specs.Tried.{has_failed, call_count, inner_of};
 ghost use Rattle.ans_model.specs.Bytes.{longest_file};
 ghost use Rattle.ans_check.specs.Run.{HasRead};
@@ -26,9 +26,11 @@ pub(crate) enum ReadFault {
 /// Reads to the end.
 pub(crate) fn read_all<R: Read>(alloc: Global, r: &mut Tried<R>) -> Result<Vec<u8>, ReadFault>
     requires { has_failed r.old ≡ false }
-    ensures whole { IfOk result (λ v. HasRead (R.remaining (inner_of r.old)) (R.remaining (inner_of r.new)) v.items) }
+    ensures whole { IfOk result (λ v.
+        HasRead (R.remaining (inner_of r.old)) (R.remaining (inner_of r.new)) v.items) }
     ensures device { IsErrOf result ReadFault.Device ↔ IsTrue (has_failed r.new) }
-    ensures too_long { IfSome (R.remaining (inner_of r.old)) (λ xs. IfSome (R.remaining (inner_of r.new)) (λ ys.
+    ensures too_long { IfSome (R.remaining (inner_of r.old)) (λ xs.
+        IfSome (R.remaining (inner_of r.new)) (λ ys.
         IsErrOf result ReadFault.TooLong ↔ (longest_file + length ys < length xs))) }
     ensures calls { call_count r.new ≤ call_count r.old + 16777218 }
 {

@@ -1,10 +1,10 @@
 //! What the checker finds of a file.
-ghost use Rattle.std.specs.Prelude.{◌≡◌, ◌≤◌, length, [], None, IsOk, IfOk, IfErr};
+ghost use Rattle.std.specs.Prelude.{◌≡◌, ◌≤◌, length, [], None, IsOk, IsSome, IfOk, IfErr};
 ghost use Rattle.ans_model.specs.Bytes.{longest_file};
 ghost use Rattle.ans_model.specs.Starts.{class_of};
 ghost use Rattle.ans_model.specs.Good.{GoodWith};
 ghost use Rattle.ans_model.specs.declared.start.Start.TheVariants.{Cleared};
-ghost use Rattle.ans_sauce.specs.Layouts.{IsUnaccepted};
+ghost use Rattle.ans_model.specs.Refusals.{record_fault};
 ghost use Rattle.ans_play.specs.Stands.{Stands};
 ghost use Rattle.ans_check.specs.Verdicts.{Deserves, IsVerdictOn, IsPass, IsGoodFile, HasOffsetWithin, HasCertainFault};
 
@@ -43,16 +43,15 @@ fn play<G: Grid>(mut player: Player<G>, content: &[u8]) -> Result<Picture<G>, Fa
 
 /// Checks a file: the record first, and then the play of its content from the starts of a class.
 ///
-/// The only error is want of memory; a file whose record or layout is refused takes none. An
-/// offset counts bytes from the file's start, which is the content's. A sequence is refused as
-/// unknown for now.
+/// The only error is want of memory; a file that is refused for its record or its layout takes
+/// none. An offset counts bytes from the file's start, which is the content's too.
 pub fn check<G: Grid>(alloc: Global, file: &[u8], start: Start) -> Result<Verdict<'_, G>, AllocError>
     requires { length file.now ≤ longest_file }
     ensures verdict { IfOk result (IsVerdictOn file.now start) }
     ensures exact { IfOk result (λ v. IsGoodFile file.now start → IsPass v) }
     ensures certain { start ≡ Cleared → IfOk result HasCertainFault }
     ensures offset { IfOk result (HasOffsetWithin (length file.now)) }
-    ensures memory { IsUnaccepted file.now → IsOk result }
+    ensures memory { IsSome (record_fault file.now) → IsOk result }
 {
     let parts = match split(file) {
         Ok(parts) => parts,

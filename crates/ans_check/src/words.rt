@@ -1,5 +1,5 @@
 //! The words of the command line.
-ghost use Rattle.std.specs.Prelude.{◌≡◌, true, false, IfOk, map, option_map, string_bytes, codes, IfSome, IfNone, IfErr, IsTrue, ◌↔◌};
+ghost use Rattle.std.specs.Prelude.{◌≡◌, true, IfOk, map, option_map, string_bytes, codes, IfSome, IfNone, IfErr, IsTrue, ◌↔◌};
 ghost use Rattle.clap.specs.Words.{app_of, first_of, found_of, is_simple, rows_of, takes};
 ghost use Rattle.ans_check.specs.Words.{AreOptionsOf, IsNoCommand, IsWantOfMemory, anscheck, check_app, command_name, file_app, holds_flag};
 ghost use Rattle.ans_check.specs.declared.words.WordsError.TheVariants.{Clap};
@@ -91,7 +91,8 @@ fn start_of(cleared: bool) -> Start
 /// The copy of the file's name, where one is given.
 fn file_of(alloc: Global, matches: &ArgMatches<'_>) -> Result<Option<String>, WordsError>
     ensures memory { IfErr result (λ e. e ≡ WordsError.Memory) }
-    ensures ok { IfOk result (λ f. option_map string_bytes f ≡ first_of (codes "file") (rows_of (found_of matches.now))) }
+    ensures ok { IfOk result (λ f.
+        option_map string_bytes f ≡ first_of (codes "file") (rows_of (found_of matches.now))) }
 {
     match matches.get_str("file") {
         Some(text) => match String::from_str(alloc, text) {
@@ -108,8 +109,10 @@ fn file_of(alloc: Global, matches: &ArgMatches<'_>) -> Result<Option<String>, Wo
 /// `Err` comes only where clap refuses the words or answers with help, and where memory is wanting.
 pub fn options(alloc: Global, words: &[&str]) -> Result<(Options, Option<String>), WordsError>
     ensures simple { is_simple anscheck ≡ true }
-    ensures ok { IfOk result (λ r. AreOptionsOf (map (λ w. w.now) words.now) r.0 (option_map string_bytes r.1)) }
-    ensures refuses { IfErr result (λ e. takes anscheck (map (λ w. w.now) words.now) ≡ true → IsWantOfMemory e) }
+    ensures ok { IfOk result (λ r.
+        AreOptionsOf (map (λ w. w.now) words.now) r.0 (option_map string_bytes r.1)) }
+    ensures refuses { IfErr result (λ e.
+        takes anscheck (map (λ w. w.now) words.now) ≡ true → IsWantOfMemory e) }
 {
     let program = match program(alloc) {
         Ok(program) => program,
@@ -124,8 +127,5 @@ pub fn options(alloc: Global, words: &[&str]) -> Result<(Options, Option<String>
     };
     let start = start_of(holds(found, "cleared"));
     let file = file_of(alloc, found)?;
-    Ok((
-        Options { command, start },
-        file,
-    ))
+    Ok((Options { command, start }, file))
 }

@@ -4,6 +4,8 @@
 //! the reason then goes to standard error.
 #![tactic(auto)]
 
+ghost use Rattle.std.specs.Prelude.{◌≡◌, ◌⊎◌};
+
 use ans_check::{Options, RunError, WordsError, options, run, status};
 use ans_report::Tried;
 use std::env;
@@ -15,13 +17,17 @@ const UNREADABLE_WORDS: &str = "cannot read the command line";
 const UNOPENED_FILE: &str = "cannot open the file";
 
 /// Tells of a fault on standard error. Answers the status that all of them have.
-fn fault(rt: &impl Eprint, text: &str) -> u8 {
+fn fault(rt: &impl Eprint, text: &str) -> u8
+    ensures { result ≡ 2 }
+{
     let _ = eprintln!(rt; "anscheck: {text}");
     2
 }
 
 /// Tells why the words give no options, or prints the help that they ask for.
-fn refuse_words(rt: &(impl Print + Eprint), error: &WordsError) -> u8 {
+fn refuse_words(rt: &(impl Print + Eprint), error: &WordsError) -> u8
+    ensures { (result ≡ 0) ⊎ (result ≡ 2) }
+{
     let WordsError::Clap(error) = error else {
         return fault(rt, UNREADABLE_WORDS);
     };

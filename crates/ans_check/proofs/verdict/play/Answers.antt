@@ -43,7 +43,7 @@ returns-in_err-feed-clause-refused g c =
     let found : Deserves c.args.player.size c.args.player.start content f =
     fed_fault c.args.player c.feed.new.self content c.in-Some.piece.now (chunks_rest c.next.new.self) old.fed f
     (SamePlay-then c.args.player old c.feed.new.self here.same told.same) k (told.stands (take old.fed content) here.no_fault here.stands) told.fault
-    (told.escape here.no_fault) (λ cleared. told.certain (take old.fed content) here.stands (here.same.start ∙ cleared)) (told.offset here.no_fault) in
+    (λ cleared. told.certain (take old.fed content) here.stands (here.same.start ∙ cleared)) (told.offset (take old.fed content) here.no_fault here.stands) in
     err_weaker c.from_residual.result _ _ c.from_residual.ensures.1
     (λ e is. subst (λ (v : Fault). Deserves c.args.player.size c.args.player.start content v) (sym is) found)
 
@@ -66,4 +66,4 @@ returns-clause-refused g c =
     let all = all_taken content (chunks_rest c.loop-piece.piece-iterator) old.fed here.rest c.in-None.ensures.steps.1.0 here.fed in
     let stands : Stands old content = subst (λ (v : List ℕ). Stands old v) all here.stands in
     last_faults c.finish.result c.args.player old content here.same stands (c.finish.ensures.last here.no_fault)
-    (c.finish.ensures.certain content stands) (c.finish.ensures.offset here.no_fault) (stands.fed here.no_fault)
+    (c.finish.ensures.certain content stands) (c.finish.ensures.offset content here.no_fault stands) (stands.fed here.no_fault)
