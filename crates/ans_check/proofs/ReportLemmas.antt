@@ -1,6 +1,7 @@
 -- A report on what was found is right of the file.
 use Rattle.std.proofs.Common.{◌≡◌, ◌⊎◌, ◌↔◌, ◌+◌, ◌<◌, ℕ, Bool, false, List, length, Option, Some, None, Result, Ok, Err, inl, inr, refl, sym, ap, ap₂, ◌∙◌}
-use Rattle.std.specs.Prelude.{IfSome, IfErr, IsErrOf}
+use Rattle.std.specs.Prelude.{IfSome, IfErr, IsErrAnd, IsErrOf}
+use Rattle.ans_report.specs.Writes.{AppendsPrefix, WritesText}
 use Rattle.ans_model.specs.Good.{Picture}
 use Rattle.ans_model.specs.Refusals.{record_fault}
 use Rattle.ans_model.specs.ReportText.{Heading, Passed, RefusedFor, refusal_text, report_text}
@@ -83,3 +84,9 @@ verdict_reported file start (Refused None f) h good = (good, inr (record_reporte
 pub fitting : {G : Type 0} (file : List ℕ) (start : Start) (v : Verdict G) → IsVerdictOn file start v → HasFittingPicture v
 fitting file start (Pass parts picture) h = h.good.shows.is_picture.size ∙ sym (ap₂ sized h.shows.width h.shows.lines)
 fitting file start (Refused parts f) h = tt
+
+-- at an error a prefix of the text was written
+pub failed_writing : {A E : Type 0} (r : Result A E) (P : E → Type 0) (a b : Option (List ℕ)) (text : List ℕ) → IsErrAnd r P → AppendsPrefix a b text
+    → WritesText a b r text
+failed_writing (Ok v) P a b text h k = absurd h
+failed_writing (Err e) P a b text h k = k

@@ -1,4 +1,5 @@
 pub mod Tried
 pub mod Writes
-pub mod PlainText
+pub mod Headings
+pub mod Rows
 pub mod Reports

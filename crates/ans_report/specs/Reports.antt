@@ -9,7 +9,7 @@ use Rattle.ans_report.specs.declared.report.Report.{Report}
 use Rattle.ans_report.specs.declared.report.Report.TheVariants.{Pass, Refused}
 use Rattle.ans_sauce.specs.declared.parts.Parts.{Parts}
 use Rattle.ans_sauce.specs.Parts.{width_of, lines_of}
-use Rattle.ans_report.specs.PlainText.{plain_report_text, heading_of, IsPlainPicture}
+use Rattle.ans_report.specs.Headings.{heading_of}
 
 -- a picture has the size that the parts state
 abbrev pub IsFitting : {G : Type 0} → Report G → Type 0
@@ -23,15 +23,5 @@ refused_text (Some parts) start fault = report_text (heading_of parts start) (Re
 
 -- the report's text
 abbrev pub report_bytes : {G : Type 0} → Report G → List ℕ
-report_bytes (Pass parts start picture) = plain_report_text (heading_of parts.now start) (Passed picture.now false)
+report_bytes (Pass parts start picture) = report_text (heading_of parts.now start) (Passed picture.now false)
 report_bytes (Refused parts start fault) = refused_text (option_copied parts) start fault
-
--- a picture, if there is one, is of bytes from 20h to 7Eh
-abbrev pub IsPlainReport : {G : Type 0} → Report G → Type 0
-IsPlainReport (Pass parts start picture) = IsPlainPicture picture.now
-IsPlainReport (Refused parts start fault) = Unit {0}
-
--- the text with each character of code page 437
-abbrev pub full_report_bytes : {G : Type 0} → Report G → List ℕ
-full_report_bytes (Pass parts start picture) = report_text (heading_of parts.now start) (Passed picture.now false)
-full_report_bytes (Refused parts start fault) = refused_text (option_copied parts) start fault

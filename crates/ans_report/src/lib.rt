@@ -6,13 +6,18 @@
 //! defined in `ans_model`; `specs/Writes.antt` says what appending means.
 #![tactic(auto)]
 
+mod glyphs;
 mod outbox;
 mod picture_text;
 mod report;
 mod texts;
 mod tried;
 
+pub use glyphs::glyph_text;
 pub use outbox::WriteFault;
 pub use report::{Report, write_refusal, write_report};
-pub use texts::fault_text;
+pub use texts::{fault_text, note_text};
 pub use tried::{DeviceFault, Tried};
+
+#[cfg(test)]
+mod tests;

@@ -1,8 +1,9 @@
 //! The report on a file.
 ghost use Rattle.std.specs.Prelude.{◌≡◌, ◌↔◌, false, IsTrue, IsErr};
+ghost use Rattle.std.specs.Option.{option_copied};
 ghost use Rattle.ans_report.specs.Tried.{has_failed, inner_of};
 ghost use Rattle.ans_report.specs.Writes.{WritesText, GathersText};
-ghost use Rattle.ans_report.specs.Reports.{IsFitting, IsPlainReport, report_bytes, full_report_bytes};
+ghost use Rattle.ans_report.specs.Reports.{IsFitting, refused_text, report_bytes};
 ghost use Rattle.ans_model.specs.ReportText.{refusal_text};
 
 use crate::outbox::{Outbox, WriteFault};
@@ -32,6 +33,24 @@ pub enum Report<'a, G: Grid> {
     },
 }
 
+/// Puts the report of a refusal, which is the fault alone where there are no parts.
+fn put_refused_file<W: Write>(
+    out: &mut Outbox,
+    w: &mut Tried<W>,
+    parts: Option<&Parts<'_>>,
+    start: Start,
+    fault: &Fault,
+) -> Result<(), WriteFault>
+    requires { has_failed w.old ≡ false }
+    ensures fault { IsErr result ↔ IsTrue (has_failed w.new) }
+    ensures bytes { GathersText (W.contents (inner_of w.old)) (W.contents (inner_of w.new)) out.old.waiting.items out.new.waiting.items result (refused_text (option_copied parts.entry) start fault.now) }
+{
+    match parts {
+        Some(parts) => put_refused(out, w, parts, start, fault),
+        None => put_refusal(out, w, fault),
+    }
+}
+
 /// Puts the report.
 fn put_report<W: Write, G: Grid>(
     out: &mut Outbox,
@@ -50,24 +69,18 @@ fn put_report<W: Write, G: Grid>(
             picture,
         } => put_pass(out, w, parts, *start, picture),
         Report::Refused {
-            parts: Some(parts),
+            parts,
             start,
             fault,
-        } => put_refused(out, w, parts, *start, fault),
-        Report::Refused {
-            parts: None,
-            start: _,
-            fault,
-        } => put_refusal(out, w, fault),
+        } => put_refused_file(out, w, *parts, *start, fault),
     }
 }
 
-/// Writes the report: the size, the start and the content's length, and then the picture of a pass
-/// or the fault of a refusal. Without parts only the fault is written.
+/// Writes the report: the size, the start, the content's length and the notes, and then the picture
+/// of a pass or the fault of a refusal. Without parts only the fault is written.
 ///
 /// `Err` comes exactly where the device failed in the call, and then a prefix of the text was
-/// written. Notes are not written yet, and a byte of the picture outside 20h to 7Eh is shown as
-/// `?`; where there is none the text is the whole report's.
+/// written.
 pub fn write_report<W: Write, G: Grid>(
     w: &mut Tried<W>,
     r: &Report<'_, G>,
@@ -76,7 +89,6 @@ pub fn write_report<W: Write, G: Grid>(
     requires fits { IsFitting r.now }
     ensures fault { IsErr result ↔ IsTrue (has_failed w.new) }
     ensures bytes { WritesText (W.contents (inner_of w.old)) (W.contents (inner_of w.new)) result (report_bytes r.now) }
-    ensures plain { IsPlainReport r.now → WritesText (W.contents (inner_of w.old)) (W.contents (inner_of w.new)) result (full_report_bytes r.now) }
 {
     let mut out = Outbox::new();
     put_report(&mut out, w, r)?;

@@ -2,14 +2,15 @@
 ghost use Rattle.std.specs.Prelude.{◌≡◌, ◌↔◌, false, IsTrue, IsErr};
 ghost use Rattle.ans_report.specs.Tried.{has_failed, inner_of};
 ghost use Rattle.ans_report.specs.Writes.{GathersText};
-ghost use Rattle.ans_report.specs.PlainText.{heading_of};
-ghost use Rattle.ans_model.specs.FaultText.{fault_text, place_text};
+ghost use Rattle.std.specs.List.{flat_map};
+ghost use Rattle.ans_report.specs.Headings.{heading_of, heading_without_notes};
+ghost use Rattle.ans_model.specs.FaultText.{fault_text, note_text, note_line, place_text};
 ghost use Rattle.ans_model.specs.ReportText.{RefusedFor, report_text, start_name, heading_text, refusal_text};
 
 use crate::outbox::{Outbox, WriteFault};
 use crate::tried::Tried;
 use ans_model::start::Start;
-use ans_sauce::{Cause, Fault, Parts};
+use ans_sauce::{Cause, Fault, Note, Parts};
 use std::io::Write;
 
 /// The text of a fault, without its offset and place.
@@ -45,6 +46,20 @@ pub fn fault_text(fault: &Fault) -> &'static str
     }
 }
 
+/// The text of a note.
+pub fn note_text(note: &Note) -> &'static str
+    ensures { result.now ≡ note_text note.now }
+{
+    match note {
+        Note::WidthAssumed => "width 0 taken as 80",
+        Note::NoEndMark => "no end mark after the content",
+        Note::SizeDiffers => "file size differs from the content",
+        Note::OddDate => "date is not eight digits",
+        Note::FlagBits => "flag bits 5 to 7 are not zero",
+        Note::FlagPair => "a flag pair is 11",
+    }
+}
+
 fn start_name(start: Start) -> &'static str
     ensures { result.now ≡ start_name start }
 {
@@ -54,8 +69,8 @@ fn start_name(start: Start) -> &'static str
     }
 }
 
-/// Puts the lines before the verdict.
-pub(crate) fn put_heading<W: Write>(
+/// Puts the lines before the notes.
+fn put_file_lines<W: Write>(
     out: &mut Outbox,
     w: &mut Tried<W>,
     parts: &Parts<'_>,
@@ -63,7 +78,7 @@ pub(crate) fn put_heading<W: Write>(
 ) -> Result<(), WriteFault>
     requires { has_failed w.old ≡ false }
     ensures fault { IsErr result ↔ IsTrue (has_failed w.new) }
-    ensures bytes { GathersText (W.contents (inner_of w.old)) (W.contents (inner_of w.new)) out.old.waiting.items out.new.waiting.items result (heading_text (heading_of parts.now start)) }
+    ensures bytes { GathersText (W.contents (inner_of w.old)) (W.contents (inner_of w.new)) out.old.waiting.items out.new.waiting.items result (heading_text (heading_without_notes parts.now start)) }
 {
     let mut width = itoa::Buffer::new();
     let mut lines = itoa::Buffer::new();
@@ -82,6 +97,42 @@ pub(crate) fn put_heading<W: Write>(
             b" bytes\n",
         ],
     )
+}
+
+/// Puts a note's line.
+fn put_note<W: Write>(out: &mut Outbox, w: &mut Tried<W>, note: &Note) -> Result<(), WriteFault>
+    requires { has_failed w.old ≡ false }
+    ensures fault { IsErr result ↔ IsTrue (has_failed w.new) }
+    ensures bytes { GathersText (W.contents (inner_of w.old)) (W.contents (inner_of w.new)) out.old.waiting.items out.new.waiting.items result (note_line note.now) }
+{
+    out.put_all(w, &[b"note: ", note_text(note).as_bytes(), b"\n"])
+}
+
+/// Puts the notes' lines.
+fn put_notes<W: Write>(out: &mut Outbox, w: &mut Tried<W>, notes: &[Note]) -> Result<(), WriteFault>
+    requires { has_failed w.old ≡ false }
+    ensures fault { IsErr result ↔ IsTrue (has_failed w.new) }
+    ensures bytes { GathersText (W.contents (inner_of w.old)) (W.contents (inner_of w.new)) out.old.waiting.items out.new.waiting.items result (flat_map note_line notes.now) }
+{
+    for note in notes {
+        put_note(out, w, note)?;
+    }
+    Ok(())
+}
+
+/// Puts the lines before the verdict.
+pub(crate) fn put_heading<W: Write>(
+    out: &mut Outbox,
+    w: &mut Tried<W>,
+    parts: &Parts<'_>,
+    start: Start,
+) -> Result<(), WriteFault>
+    requires { has_failed w.old ≡ false }
+    ensures fault { IsErr result ↔ IsTrue (has_failed w.new) }
+    ensures bytes { GathersText (W.contents (inner_of w.old)) (W.contents (inner_of w.new)) out.old.waiting.items out.new.waiting.items result (heading_text (heading_of parts.now start)) }
+{
+    put_file_lines(out, w, parts, start)?;
+    put_notes(out, w, parts.notes().as_slice())
 }
 
 /// Puts the place of an unknown cell, and nothing for any other cause.

@@ -1,6 +1,5 @@
 use Rattle.std.proofs.Common.{rules}
 use Rattle.ans_report.proofs.GathersLemmas.{WritesText-flushed, WritesText-failed}
-use Rattle.ans_report.proofs.Pictures.{plain_report}
 use Rattle.ans_report.proofs.report.write_report.Goals as goal
 
 pub returns-in_err-put_report-clause-bytes : goal.returns-in_err-put_report-clause-bytes
@@ -9,11 +8,3 @@ returns-in_err-put_report-clause-bytes g c =
 
 pub returns-clause-bytes : goal.returns-clause-bytes
 returns-clause-bytes g c = WritesText-flushed _ _ _ _ _ c.flush.result _ c.new-out.ensures c.in_ok-put_report.ensures.bytes c.flush.ensures.bytes
-
-pub returns-in_err-put_report-clause-plain : goal.returns-in_err-put_report-clause-plain
-returns-in_err-put_report-clause-plain g c plain =
-    rw (← plain_report c.args.r.now plain) (WritesText-failed _ _ _ c.from_residual.result _ c.new-out.ensures (search rules) c.in_err-put_report.ensures.bytes)
-
-pub returns-clause-plain : goal.returns-clause-plain
-returns-clause-plain g c plain =
-    rw (← plain_report c.args.r.now plain) (WritesText-flushed _ _ _ _ _ c.flush.result _ c.new-out.ensures c.in_ok-put_report.ensures.bytes c.flush.ensures.bytes)

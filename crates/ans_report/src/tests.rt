@@ -1,0 +1,52 @@
+//! The tables of texts, by example.
+use crate::{fault_text, glyph_text, note_text};
+use ans_sauce::{Cause, Fault, Note};
+use std::process::Abort;
+
+#[test]
+fn bytes_have_characters(rt: HostRuntime) {
+    let rows = [
+        (0x00, ' '),
+        (0x01, '\u{263A}'),
+        (0x1F, '\u{25BC}'),
+        (0x20, ' '),
+        (0x7E, '~'),
+        (0x7F, '\u{2302}'),
+        (0x80, '\u{00C7}'),
+        (0x9E, '\u{20A7}'),
+        (0xB0, '\u{2591}'),
+        (0xDB, '\u{2588}'),
+        (0xE1, '\u{00DF}'),
+        (0xFF, '\u{00A0}'),
+    ];
+    for (byte, glyph) in rows {
+        assert_eq!(rt; glyph_text(byte), glyph);
+    }
+}
+
+#[test]
+fn faults_and_notes_have_texts(rt: HostRuntime) {
+    let rows = [
+        (Cause::NoRecord, "F1 no SAUCE record"),
+        (Cause::BrokenSequence, "F9 broken sequence"),
+        (Cause::Scrolls, "F21 scrolls"),
+        (
+            Cause::UnknownCell { row: 1, col: 1 },
+            "F25 cell stays unknown",
+        ),
+    ];
+    for (cause, text) in rows {
+        assert_eq!(rt; fault_text(&Fault { offset: 0, cause }), text);
+    }
+    let notes = [
+        (Note::WidthAssumed, "width 0 taken as 80"),
+        (Note::NoEndMark, "no end mark after the content"),
+        (Note::SizeDiffers, "file size differs from the content"),
+        (Note::OddDate, "date is not eight digits"),
+        (Note::FlagBits, "flag bits 5 to 7 are not zero"),
+        (Note::FlagPair, "a flag pair is 11"),
+    ];
+    for (note, text) in notes {
+        assert_eq!(rt; note_text(&note), text);
+    }
+}
