@@ -40,18 +40,18 @@ cut content piece rest n le e =
 -- a first fault stays the first with more bytes behind it
 first_longer : (z : Size) (class : Class) (bytes more : List ℕ) (f : Fault) → IsFirstFault z class bytes f → IsFirstFault z class (bytes ++ more) f
 first_longer z class bytes more f h = record {
-    size = h.size;
-    front = h.front;
-    text = h.text;
-    rest = h.rest ++ more;
-    whole = ap (λ (v : List ℕ). v ++ more) h.whole ∙ append_assoc h.front (h.text ++ h.rest) more
+  size = h.size;
+  front = h.front;
+  text = h.text;
+  rest = h.rest ++ more;
+  whole = ap (λ (v : List ℕ). v ++ more) h.whole ∙ append_assoc h.front (h.text ++ h.rest) more
       ∙ ap (λ (v : List ℕ). h.front ++ v) (append_assoc h.text h.rest more);
-    tokens = h.tokens;
-    reads = h.reads;
-    clean = h.clean;
-    offset = h.offset;
-    faulty = h.faulty;
-  }
+  tokens = h.tokens;
+  reads = h.reads;
+  clean = h.clean;
+  offset = h.offset;
+  faulty = h.faulty;
+}
 
 -- the size and the start stay over two calls
 pub SamePlay-then : (a b c : Playing) → SamePlay a b → SamePlay b c → SamePlay a c

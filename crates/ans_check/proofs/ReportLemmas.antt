@@ -29,26 +29,26 @@ heading_is body comment_bytes record_bytes parts start h = rw (h.content, h.widt
 pub pass_reported : (file : List ℕ) (start : Start) (parts : Parts) (picture : Picture) → Passes file start parts picture
     → ReportsPass file start (report_text (heading_of parts start) (Passed picture false))
 pass_reported file start parts picture h = record {
-    body = h.body;
-    comment_bytes = h.comment_bytes;
-    record_bytes = h.record_bytes;
-    picture = picture;
-    accepts = h.accepts;
-    good = h.good;
-    text_is = ap (λ (v : Heading). report_text v (Passed picture false)) (heading_is h.body h.comment_bytes h.record_bytes parts start h.shows);
-  }
+  body = h.body;
+  comment_bytes = h.comment_bytes;
+  record_bytes = h.record_bytes;
+  picture = picture;
+  accepts = h.accepts;
+  good = h.good;
+  text_is = ap (λ (v : Heading). report_text v (Passed picture false)) (heading_is h.body h.comment_bytes h.record_bytes parts start h.shows);
+}
 
 pub fault_reported : (file : List ℕ) (start : Start) (parts : Parts) (f : Fault) → RefusesContent file start parts f
     → ReportsFault file start (report_text (heading_of parts start) (RefusedFor f))
 fault_reported file start parts f h = record {
-    body = h.body;
-    comment_bytes = h.comment_bytes;
-    record_bytes = h.record_bytes;
-    fault = f;
-    accepts = h.accepts;
-    fault_is = h.fault_is;
-    text_is = ap (λ (v : Heading). report_text v (RefusedFor f)) (heading_is h.body h.comment_bytes h.record_bytes parts start h.shows);
-  }
+  body = h.body;
+  comment_bytes = h.comment_bytes;
+  record_bytes = h.record_bytes;
+  fault = f;
+  accepts = h.accepts;
+  fault_is = h.fault_is;
+  text_is = ap (λ (v : Heading). report_text v (RefusedFor f)) (heading_is h.body h.comment_bytes h.record_bytes parts start h.shows);
+}
 
 pub record_reported : (file : List ℕ) (f : Fault) → record_fault file ≡ Some f → ReportsRecordFault file (refusal_text f)
 record_reported file f e = record { fault = f; fault_is = e; text_is = refl }

@@ -32,25 +32,25 @@ pub passes : (file : List ℕ) (start from : Start) (parts : Parts) (z : Size) (
     → z ≡ sized (width_of parts) (lines_of parts) → from ≡ start → bytes ≡ content_of parts → GoodWith z (class_of from) bytes p
     → Passes file start parts p
 passes file start from parts z bytes p s size same played h = record {
-    body = s.body;
-    comment_bytes = s.comment_bytes;
-    record_bytes = s.record_bytes;
-    accepts = s.accepts;
-    shows = s.shows;
-    good = moved file start from parts z bytes s (λ v w x. GoodWith v (class_of w) x p) size same played h;
-  }
+  body = s.body;
+  comment_bytes = s.comment_bytes;
+  record_bytes = s.record_bytes;
+  accepts = s.accepts;
+  shows = s.shows;
+  good = moved file start from parts z bytes s (λ v w x. GoodWith v (class_of w) x p) size same played h;
+}
 
 pub refuses : (file : List ℕ) (start from : Start) (parts : Parts) (z : Size) (bytes : List ℕ) (f : Fault) → IsSplit file parts
     → z ≡ sized (width_of parts) (lines_of parts) → from ≡ start → bytes ≡ content_of parts → Deserves z from bytes f
     → RefusesContent file start parts f
 refuses file start from parts z bytes f s size same played h = record {
-    body = s.body;
-    comment_bytes = s.comment_bytes;
-    record_bytes = s.record_bytes;
-    accepts = s.accepts;
-    shows = s.shows;
-    fault_is = moved file start from parts z bytes s (λ v w x. Deserves v w x f) size same played h;
-  }
+  body = s.body;
+  comment_bytes = s.comment_bytes;
+  record_bytes = s.record_bytes;
+  accepts = s.accepts;
+  shows = s.shows;
+  fault_is = moved file start from parts z bytes s (λ v w x. Deserves v w x f) size same played h;
+}
 
 -- a good content deserves no fault
 not_good : (z : Size) (start : Start) (bytes : List ℕ) (f : Fault) → Deserves z start bytes f → IsGood z (class_of start) bytes → ⊥

@@ -42,7 +42,7 @@ fn built(alloc: Global, body: &[u8], stated: Stated) -> Result<Vec<u8>, AllocErr
     file.extend_from_slice(stated.version)?;
     file.extend_from_slice(&[b' '; 75])?;
     file.extend_from_slice(b"19960101")?;
-    file.extend_from_slice(&(body.len() as u32).to_le_bytes())?;
+    file.extend_from_slice(&u32::try_from(body.len()).unwrap_or(0).to_le_bytes())?;
     file.extend_from_slice(&[1, stated.file_type])?;
     file.extend_from_slice(&stated.width.to_le_bytes())?;
     file.extend_from_slice(&stated.lines.to_le_bytes())?;
@@ -134,7 +134,13 @@ fn contents_are_played(rt: HostRuntime) {
         (Start::Any, 1, 1, b"\n", Err((0, Cause::MayScroll))),
         (Start::Cleared, 2, 1, b"\t", Err((0, Cause::TabByte))),
         (Start::Cleared, 2, 1, b"\x1b[1;2HA\x1b[HB\x1b[m", Ok(b"BA")),
-        (Start::Cleared, 2, 1, b"H\x1b[", Err((1, Cause::EndInSequence))),
+        (
+            Start::Cleared,
+            2,
+            1,
+            b"H\x1b[",
+            Err((1, Cause::EndInSequence)),
+        ),
         (Start::Any, 2, 1, b"\x1b[0m\x1b[2JHi", Ok(b"Hi")),
         (Start::Any, 2, 1, b"\x1b[6n", Err((0, Cause::ReportAsked))),
     ];

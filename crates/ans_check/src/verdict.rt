@@ -45,7 +45,11 @@ fn play<G: Grid>(mut player: Player<G>, content: &[u8]) -> Result<Picture<G>, Fa
 ///
 /// The only error is want of memory; a file that is refused for its record or its layout takes
 /// none. An offset counts bytes from the file's start, which is the content's too.
-pub fn check<G: Grid>(alloc: Global, file: &[u8], start: Start) -> Result<Verdict<'_, G>, AllocError>
+pub fn check<G: Grid>(
+    alloc: Global,
+    file: &[u8],
+    start: Start,
+) -> Result<Verdict<'_, G>, AllocError>
     requires { length file.now ≤ longest_file }
     ensures verdict { IfOk result (IsVerdictOn file.now start) }
     ensures exact { IfOk result (λ v. IsGoodFile file.now start → IsPass v) }

@@ -1,7 +1,6 @@
 //! The tables of texts, by example.
 use crate::{fault_text, glyph_text, note_text};
 use ans_sauce::{Cause, Fault, Note};
-use std::process::Abort;
 
 #[test]
 fn bytes_have_characters(rt: HostRuntime) {

@@ -25,7 +25,8 @@ fn fault(offset: usize, cause: Cause) -> Fault
 fn cut_record(file: &[u8]) -> Option<(&[u8], Record<'_>)>
     ensures found { is_some result ≡ has_record file.now }
     ensures front { IfSome result (λ cut. cut.0.now ≡ take (length file.now - 128) file.now) }
-    ensures sauce { IfSome result (λ cut. bytes_of cut.1 ≡ drop (length file.now - 128) file.now) }
+    ensures sauce { IfSome result
+        (λ cut. bytes_of cut.1 ≡ drop (length file.now - 128) file.now) }
 {
     let (front, bytes) = file.split_at(file.len().checked_sub(RECORD_SIZE)?);
     if bytes.starts_with(b"SAUCE") {
@@ -52,9 +53,12 @@ fn cut_block(front: &[u8], count: u8) -> Option<(&[u8], &[u8])>
 /// The body and the lines of comments before a record, where nothing in the record is refused: the
 /// refusals F2 to F7, in their order.
 fn cut_front<'a>(front: &'a [u8], sauce: &Record<'_>) -> Result<(&'a [u8], &'a [u8]), Fault>
-    ensures ok { IfOk result (λ cut. first_refusal (record_refusals front.now (bytes_of sauce.now)) ≡ None) }
-    ensures parts { IfOk result (λ cut. IsCut (comment_count (bytes_of sauce.now)) front.now cut.0.now cut.1.now) }
-    ensures err { IfErr result (λ fault. first_refusal (record_refusals front.now (bytes_of sauce.now)) ≡ Some fault) }
+    ensures ok { IfOk result
+        (λ cut. first_refusal (record_refusals front.now (bytes_of sauce.now)) ≡ None) }
+    ensures parts { IfOk result
+        (λ cut. IsCut (comment_count (bytes_of sauce.now)) front.now cut.0.now cut.1.now) }
+    ensures err { IfErr result
+        (λ fault. first_refusal (record_refusals front.now (bytes_of sauce.now)) ≡ Some fault) }
 {
     let at = front.len();
     if !sauce.is_version_00() {
@@ -109,10 +113,10 @@ fn past_end_marks(rest: &[u8]) -> Option<usize>
 ///
 /// | cause | when | offset |
 /// |---|---|---|
-/// | F1 `NoRecord` | fewer than 128 bytes, or no `SAUCE` 128 bytes before the end | the file's length |
+/// | F1 `NoRecord` | fewer than 128 bytes, or the last 128 lack `SAUCE` | the file's length |
 /// | F2 `WrongVersion` | the version is not `00` | the version |
 /// | F3 `WrongKind` | it is not of type Character/ANSi | DataType |
-/// | F4 `CommentsMissing` | comments are counted, and there is no block before the record | Comments |
+/// | F4 `CommentsMissing` | comments are counted, and their block is missing | Comments |
 /// | F5 `LinesUnstated` | no lines are stated | TInfo2 |
 /// | F6 `WidthTooLarge` | the width is above 1024 | TInfo1 |
 /// | F7 `LinesTooLarge` | there are more than 8192 lines | TInfo2 |

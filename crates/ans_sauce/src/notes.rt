@@ -36,7 +36,8 @@ fn has_end_mark(body: &[u8], content: &[u8]) -> bool
 }
 
 fn differs_in_size(sauce: &Record<'_>, content: &[u8]) -> bool
-    ensures { result ≡ not (file_size (bytes_of sauce.now) == length content.now || file_size (bytes_of sauce.now) == length content.now + 1) }
+    ensures { result ≡ not (file_size (bytes_of sauce.now) == length content.now
+        || file_size (bytes_of sauce.now) == length content.now + 1) }
 {
     let size = sauce.file_size() as usize;
     size != content.len() && size != content.len() + 1
@@ -55,7 +56,8 @@ fn sets_unused_flags(sauce: &Record<'_>) -> bool
 }
 
 fn has_invalid_pair(sauce: &Record<'_>) -> bool
-    ensures { result ≡ (bit_and (flags (bytes_of sauce.now)) ratio_flags == ratio_flags || bit_and (flags (bytes_of sauce.now)) spacing_flags == spacing_flags) }
+    ensures { result ≡ (bit_and (flags (bytes_of sauce.now)) ratio_flags == ratio_flags
+        || bit_and (flags (bytes_of sauce.now)) spacing_flags == spacing_flags) }
 {
     let flags = sauce.flags();
     flags & RATIO_FLAGS == RATIO_FLAGS || flags & SPACING_FLAGS == SPACING_FLAGS

@@ -117,7 +117,8 @@ impl<'a> Record<'a> {
 
     /// Whether DataType is 1, Character, and FileType is 1, ANSi.
     pub(crate) fn is_character_ansi(&self) -> bool
-        ensures { result ≡ (data_type (bytes_of self.now) == 1 && file_type (bytes_of self.now) == 1) }
+        ensures { result ≡ (data_type (bytes_of self.now) == 1
+            && file_type (bytes_of self.now) == 1) }
     {
         self.byte(DATA_TYPE) == 1 && self.byte(95) == 1
     }

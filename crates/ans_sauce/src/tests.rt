@@ -37,7 +37,7 @@ fn file(alloc: Global, front: &[u8], edits: Edits) -> Result<Vec<u8>, AllocError
 }
 
 /// What is odd, what stands before the record, the fields changed, and the fault.
-const REFUSED: [(&str, &[u8], Edits, usize, Cause); 20] = [
+static REFUSED: [(&str, &[u8], Edits, usize, Cause); 20] = [
     ("ID SAUCX", b"Hi\x1a", &[(4, b"X")], 131, Cause::NoRecord),
     (
         "version 01",
@@ -176,7 +176,7 @@ const REFUSED: [(&str, &[u8], Edits, usize, Cause); 20] = [
 
 #[test]
 fn first_refusal_answers(rt: HostRuntime) -> Result<(), Fail> {
-    for (what, front, edits, offset, cause) in REFUSED {
+    for &(what, front, edits, offset, cause) in &REFUSED {
         let file = file(rt.alloc(), front, edits)?;
         assert_eq!(rt; split(&file).err(), Some(Fault { offset, cause }), "{what}");
     }
@@ -198,7 +198,7 @@ fn less_than_a_record_is_no_record(rt: HostRuntime) -> Result<(), Fail> {
 
 /// What is odd, what stands before the record, the fields changed, the content, the width, the
 /// lines and the notes.
-const ACCEPTED: [(&str, &[u8], Edits, &[u8], usize, usize, &[Note]); 29] = [
+static ACCEPTED: [(&str, &[u8], Edits, &[u8], usize, usize, &[Note]); 29] = [
     ("nothing", b"Hi\x1a", &[], b"Hi", 2, 1, &[]),
     ("two end marks", b"Hi\x1a\x1a", &[], b"Hi", 2, 1, &[]),
     (
@@ -404,7 +404,7 @@ const ACCEPTED: [(&str, &[u8], Edits, &[u8], usize, usize, &[Note]); 29] = [
 
 #[test]
 fn accepted_files_have_their_notes(rt: HostRuntime) -> Result<(), Fail> {
-    for (what, front, edits, content, width, lines, notes) in ACCEPTED {
+    for &(what, front, edits, content, width, lines, notes) in &ACCEPTED {
         let file = file(rt.alloc(), front, edits)?;
         let parts = split(&file)?;
         assert_eq!(rt; parts.content(), content, "{what}");

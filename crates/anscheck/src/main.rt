@@ -14,6 +14,7 @@ use std::io::{BufWriter, Read, Write};
 use std::process::ExitCode;
 
 const UNREADABLE_WORDS: &str = "cannot read the command line";
+
 const UNOPENED_FILE: &str = "cannot open the file";
 
 /// Tells of a fault on standard error. Answers the status that all of them have.

@@ -28,7 +28,7 @@ loop-piece-preserved g c =
       no_fault = more.none;
       same = SamePlay-then c.args.player old c.feed.new.self here.same c.in_ok-feed.ensures.same;
       stands = subst (λ (v : List ℕ). Stands c.feed.new.self v) (sym (ap (λ (v : ℕ). take v content) more.fed ∙ k.taken))
-        (c.in_ok-feed.ensures.stands (take old.fed content) here.no_fault here.stands);
+          (c.in_ok-feed.ensures.stands (take old.fed content) here.no_fault here.stands);
     }
 
 pub returns-in_err-feed-clause-refused : goal.returns-in_err-feed-clause-refused
