@@ -5,7 +5,10 @@ mod rows;
 use crate::{Picture, Player, Start};
 use ans_model::fault::{Cause, Fault};
 use ans_screen::{Grid, PlainGrid};
-use rows::ROWS;
+use rows::{
+    BROKEN, BYTES, COLOURS, FORBIDDEN, PASSES_FROM_ANY, PASSES_FROM_CLEARED, UNKNOWN_CELLS,
+    UNKNOWN_PLACES, WITHOUT_MEANING,
+};
 use std::alloc::Global;
 use std::process::Abort;
 use std::test::Fail;
@@ -78,17 +81,62 @@ fn play(rt: &impl Abort, alloc: Global, row: Row, first: usize, size: usize) -> 
     Ok(())
 }
 
-#[test]
-fn plays_in_any_pieces(rt: HostRuntime) -> Result<(), Fail> {
-    for row in ROWS {
+/// Plays each content whole, in two pieces at every cut, and byte by byte.
+fn play_all(rt: &impl Abort, alloc: Global, rows: &[Row]) -> Result<(), Fail> {
+    for row in rows {
         let all = row.3.len();
         assert!(rt; all < 200);
         for cut in 0..all + 1 {
-            play(&rt, rt.alloc(), row, cut, all + 1)?;
+            play(rt, alloc, *row, cut, all + 1)?;
         }
-        play(&rt, rt.alloc(), row, 0, 1)?;
+        play(rt, alloc, *row, 0, 1)?;
     }
     Ok(())
+}
+
+#[test]
+fn bytes_alone(rt: HostRuntime) -> Result<(), Fail> {
+    play_all(&rt, rt.alloc(), &BYTES)
+}
+
+#[test]
+fn pictures_from_any_start(rt: HostRuntime) -> Result<(), Fail> {
+    play_all(&rt, rt.alloc(), &PASSES_FROM_ANY)
+}
+
+#[test]
+fn pictures_from_the_cleared_start(rt: HostRuntime) -> Result<(), Fail> {
+    play_all(&rt, rt.alloc(), &PASSES_FROM_CLEARED)
+}
+
+#[test]
+fn pictures_in_colours(rt: HostRuntime) -> Result<(), Fail> {
+    play_all(&rt, rt.alloc(), &COLOURS)
+}
+
+#[test]
+fn broken_sequences(rt: HostRuntime) -> Result<(), Fail> {
+    play_all(&rt, rt.alloc(), &BROKEN)
+}
+
+#[test]
+fn sequences_without_a_meaning(rt: HostRuntime) -> Result<(), Fail> {
+    play_all(&rt, rt.alloc(), &WITHOUT_MEANING)
+}
+
+#[test]
+fn sequences_that_are_not_allowed(rt: HostRuntime) -> Result<(), Fail> {
+    play_all(&rt, rt.alloc(), &FORBIDDEN)
+}
+
+#[test]
+fn cells_that_stay_unknown(rt: HostRuntime) -> Result<(), Fail> {
+    play_all(&rt, rt.alloc(), &UNKNOWN_CELLS)
+}
+
+#[test]
+fn places_that_do_not_fit(rt: HostRuntime) -> Result<(), Fail> {
+    play_all(&rt, rt.alloc(), &UNKNOWN_PLACES)
 }
 
 #[test]
@@ -108,32 +156,37 @@ fn answers_its_fault_again(rt: HostRuntime) -> Result<(), Fail> {
     Ok(())
 }
 
+/// Plays 4095 letters and a coloured one in pieces of a size.
+fn play_letters(rt: &impl Abort, alloc: Global, content: &[u8], size: usize) -> Result<(), Fail> {
+    assert!(rt; 0 < size);
+    let mut player = Player::<PlainGrid>::new(alloc, 80, 52, Start::Cleared)?;
+    for piece in content.chunks(size) {
+        let fed = player.fed();
+        assert!(rt; fed <= 5000 && piece.len() <= 5000);
+        assert_eq!(rt; player.feed(piece), Ok(()));
+    }
+    match player.finish() {
+        Ok(picture) => {
+            assert!(rt; picture.width() == 80 && picture.lines() == 52);
+            assert_eq!(rt; picture.glyph(51, 14), b'a');
+            assert_eq!(rt; picture.glyph(51, 15), b'b');
+            assert_eq!(rt; picture.attr(51, 15), 0x0F);
+            assert_eq!(rt; picture.glyph(51, 16), b' ');
+            assert_eq!(rt; picture.attr(51, 16), 0x07);
+            assert_eq!(rt; picture.glyph(51, 79), b' ');
+        }
+        Err(fault) => panic!(rt; "refused: {fault:?}"),
+    }
+    Ok(())
+}
+
 /// A sequence behind 4095 bytes, whichever way the bytes are cut.
 #[test]
 fn plays_across_long_pieces(rt: HostRuntime) -> Result<(), Fail> {
     let mut content = vec![in rt.alloc(); b'a'; 4095]?;
     content.extend_from_slice(b"\x1b[1mb")?;
     for size in [1usize, 4095, 4096, 4097, 5000] {
-        let mut player = Player::<PlainGrid>::new(rt.alloc(), 80, 52, Start::Cleared)?;
-        for piece in content.chunks(size) {
-            let fed = player.fed();
-            assert!(rt; fed <= 5000 && piece.len() <= 5000);
-            assert_eq!(rt; player.feed(piece), Ok(()));
-        }
-        match player.finish() {
-            Ok(picture) => {
-                assert!(rt; picture.width() == 80 && picture.lines() == 52);
-                assert_eq!(rt; picture.glyph(51, 14), b'a');
-                assert_eq!(rt; picture.glyph(51, 15), b'b');
-                assert_eq!(rt; picture.attr(51, 15), 0x0F);
-                for col in 16..80usize {
-                    assert!(rt; picture.width() == 80 && picture.lines() == 52);
-                    assert_eq!(rt; picture.glyph(51, col), b' ');
-                    assert_eq!(rt; picture.attr(51, col), 0x07);
-                }
-            }
-            Err(fault) => panic!(rt; "refused: {fault:?}"),
-        }
+        play_letters(&rt, rt.alloc(), content.as_slice(), size)?;
     }
     Ok(())
 }
