@@ -32,3 +32,4 @@ pub mod StepLaws
 pub mod StartLaws
 pub mod Lines
 pub mod TextExamples
+pub mod TwoStarts

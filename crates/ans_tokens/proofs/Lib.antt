@@ -2,3 +2,4 @@ pub mod KeptLaw
 pub mod StepLemmas
 pub mod ShowsLemmas
 pub mod OpenLemmas
+pub mod EachByte
