@@ -273,7 +273,7 @@ why_certain text byte c (inl h) = rw h.1 tt
 why_certain text byte c (inr (inl h)) = rw h.2 tt
 why_certain text byte c (inr (inr h)) = rw h.2 tt
 
-refused_certain : (text : List ℕ) (c : Cause) → IsRefused text c → IsCertain c
+pub refused_certain : (text : List ℕ) (c : Cause) → IsRefused text c → IsCertain c
 refused_certain text c (inl h) = rw h.means at (means_well h.raw)
 refused_certain text c (inr h) = why_certain text h.byte c h.why
 

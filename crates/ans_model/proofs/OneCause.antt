@@ -141,6 +141,9 @@ certain_after z played LineFeed c h = elim (feed_after z (class_of Cleared) play
 certain_after z played _ c h = absurd h
 
 -- From the one cleared start a token's fault is certain.
+pub static_is_certain : (z : Size) (t : Token) (c : Cause) → HasStaticFault z t c → IsCertain c
+static_is_certain z t c h = rw (static_is z t c h) at (static_certain t)
+
 pub certain_cause : (z : Size) (played : List Token) (t : Token) (c : Cause) → HasFault z (class_of Cleared) played t c → IsCertain c
-certain_cause z played t c (inl h) = rw (static_is z t c h) at (static_certain t)
+certain_cause z played t c (inl h) = static_is_certain z t c h
 certain_cause z played t c (inr h) = certain_after z played t c h

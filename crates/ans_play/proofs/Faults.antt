@@ -103,11 +103,11 @@ module _ (z : Size) (class : Class) (played : List Token) (h : HalfState) (w : 0
       omega (arith, (st.describes (low_start z class) (low_is_start z class w)).cursor.low_row, on.cursor.0)
 
   -- the lowest end in the spare row: each cursor is there
-  all_in_spare_row : h.cursor.low.row ≡ z.lines → FromEvery z class (IsInSpareRow z played)
+  pub all_in_spare_row : h.cursor.low.row ≡ z.lines → FromEvery z class (IsInSpareRow z played)
   all_in_spare_row e s start = omega (arith, (st.describes s start).cursor.low_row, (st.well_formed s start).fits.cursor.0)
 
   -- the highest end above the spare row: no cursor is there
-  none_in_spare_row : h.cursor.high.row < z.lines → FromEvery z class (λ s. ¬ IsInSpareRow z played s)
+  pub none_in_spare_row : h.cursor.high.row < z.lines → FromEvery z class (λ s. ¬ IsInSpareRow z played s)
   none_in_spare_row e s start b = omega (arith, (st.describes s start).cursor.high_row)
 
   -- the ends on either side: one of the two extreme plays is there, and one is not

@@ -37,7 +37,7 @@ use Rattle.ans_play.proofs.PlaysWell.{plays_well}
 
 -- ---- places in row order
 -- a place of the stated lines stands among their cells
-index_lt : (z : Size) (p : Position) → IsStated z p → index z p < z.lines * z.width
+pub index_lt : (z : Size) (p : Position) → IsStated z p → index z p < z.lines * z.width
 index_lt z p h =
     let below : (p.row + 1) * z.width ≤ z.lines * z.width = mul-le (p.row + 1) z.width z.lines z.width (omega (arith, h.0)) (omega arith) in
     omega (arith, h.1)
@@ -65,13 +65,13 @@ place_stated z i w l = ((div-lt_iff_lt-mul w).1 l, omega arith)
 
 module _ (z : Size) (class : Class) (tokens : List Token) (h : HalfState) (w : 0 < z.width) (st : IsKnownAfter z class tokens h) where
   -- ---- one cell
-  same_if : (p : Position) (i : ℕ) (c : HalfCell) → index z p ≡ i → slice_get h.screen i ≡ Some c → is_known c ≡ true → SameCell z class tokens p
+  pub same_if : (p : Position) (i : ℕ) (c : HalfCell) → index z p ≡ i → slice_get h.screen i ≡ Some c → is_known c ≡ true → SameCell z class tokens p
   same_if p i c at_i e k s t start_s start_t =
       rw at_i
       (known_at h.screen (final z s tokens).screen i c (st.describes s start_s).screen (st.well_formed s start_s).bytes e k
       ∙ sym (known_at h.screen (final z t tokens).screen i c (st.describes t start_t).screen (st.well_formed t start_t).bytes e k))
 
-  differ_if : (p : Position) (i : ℕ) (c : HalfCell) → index z p ≡ i → slice_get h.screen i ≡ Some c → is_known c ≡ false → CellsDiffer z class tokens p
+  pub differ_if : (p : Position) (i : ℕ) (c : HalfCell) → index z p ≡ i → slice_get h.screen i ≡ Some c → is_known c ≡ false → CellsDiffer z class tokens p
   differ_if p i c at_i e k = (
     low_start z class,
     high_start z class,
@@ -139,7 +139,7 @@ module _ (z : Size) (class : Class) (bytes : List ℕ) (scanner : Scanning) (h :
         λ i. record { offset = offset i; cause = cause i };
   }
 
-  good_if : p.open_part ≡ [] → list_all is_known (stated_cells z h.screen) ≡ true → GoodWith z class bytes (picture_of z h.screen)
+  pub good_if : p.open_part ≡ [] → list_all is_known (stated_cells z h.screen) ≡ true → GoodWith z class bytes (picture_of z h.screen)
   good_if e k = record {
     size = p.size;
     tokens = p.tokens;
@@ -148,7 +148,7 @@ module _ (z : Size) (class : Class) (bytes : List ℕ) (scanner : Scanning) (h :
     shows = shows z class p.tokens h p.size.some_columns p.known k;
   }
 
-  last_if : p.open_part ≡ [] → (i : ℕ) → FirstUnknown h.screen (z.lines * z.width) i → LeavesUnknown z class bytes (fault_at (length bytes) (UnknownCell (i / z.width + 1) (i % z.width + 1)))
+  pub last_if : p.open_part ≡ [] → (i : ℕ) → FirstUnknown h.screen (z.lines * z.width) i → LeavesUnknown z class bytes (fault_at (length bytes) (UnknownCell (i / z.width + 1) (i % z.width + 1)))
   unfolding place_of
   last_if e i u = record {
     size = p.size;
@@ -169,7 +169,7 @@ module _ (z : Size) (class : Class) (bytes : List ℕ) (scanner : Scanning) (h :
       d.4 (shown.shown d.0 (place_of z i) d.2 first.stated ∙ sym (shown.shown d.1 (place_of z i) d.3 first.stated))
 
 -- ---- of a player
-no_cell : HalfCell
+pub no_cell : HalfCell
 no_cell = half_cell None (known_bits 0 0)
 
 -- where no cell is found, the picture is known

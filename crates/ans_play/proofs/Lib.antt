@@ -16,3 +16,5 @@ pub mod KnownCells
 pub mod PlaysWell
 pub mod Finishing
 pub mod Pictures
+pub mod TwoStarts
+pub mod OneOfThree

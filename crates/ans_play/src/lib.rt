@@ -6,6 +6,7 @@
 //! from every start. Sequences are not known yet: ESC is refused as an unknown sequence.
 #![tactic(auto)]
 
+pub mod laws;
 pub mod picture;
 pub mod player;
 mod span;

@@ -3,3 +3,4 @@ pub mod StepLemmas
 pub mod ShowsLemmas
 pub mod OpenLemmas
 pub mod EachByte
+pub mod Readable

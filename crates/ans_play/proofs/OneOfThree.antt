@@ -1,0 +1,150 @@
+-- Bytes are good, or have a first fault, or have a last fault.
+use Rattle.std.proofs.Common.{◌≡◌, ◌⊎◌, inl, inr, ℕ, zero, suc, ◌+◌, ◌<◌, ◌≤◌, Bool, true, false, List, [], ◌∷◌, ◌++◌, length, take, drop, All, Option, Some, None, refl, sym, ap, ◌∙◌, arith, subst, append_assoc}
+use Rattle.std.specs.Prelude.{slice_get, ◌*◌}
+use Rattle.std.specs.List.{AllZip, concat}
+use Rattle.std.proofs.lemmas.List.{append-nil}
+use Rattle.std.proofs.lemmas.List.Folds.{concat-append}
+use Rattle.ans_model.specs.Bytes.{IsByte}
+use Rattle.ans_model.specs.Token.{Token}
+use Rattle.ans_model.specs.declared.fault.Fault.{Fault}
+use Rattle.ans_model.specs.declared.fault.Cause.{Cause}
+use Rattle.ans_model.specs.declared.fault.Cause.TheVariants.{EndInSequence, UnknownCell}
+use Rattle.ans_model.specs.Reads.{SpellsToken, ReadsAs, Reads}
+use Rattle.ans_model.specs.Refusals.{fault_at}
+use Rattle.ans_model.specs.Sequence.{IsUnfinished}
+use Rattle.ans_model.specs.State.{Size, IsSize}
+use Rattle.ans_model.specs.Starts.{Class}
+use Rattle.ans_model.specs.TokenFault.{IsClean}
+use Rattle.ans_model.specs.Good.{IsGood}
+use Rattle.ans_model.specs.FirstFault.{IsFirstFault}
+use Rattle.ans_model.specs.LastFault.{IsLastFault}
+use Rattle.ans_model.proofs.Reading.{reads_bytes}
+use Rattle.ans_model.proofs.Scanning.{part_unfinished}
+use Rattle.ans_tokens.specs.Scanning.{Nothing, scanning}
+use Rattle.ans_tokens.proofs.OpenLemmas.{escape_unfinished}
+use Rattle.ans_tokens.proofs.EachByte.{IsOpen}
+use Rattle.ans_tokens.proofs.Readable.{IsRefusedFront, IsReadable, readable}
+use Rattle.ans_screen.specs.Cells.{is_known}
+use Rattle.ans_screen.specs.Grids.{first_unknown}
+use Rattle.ans_play.specs.HalfState.{HalfState}
+use Rattle.ans_play.specs.Shown.{picture_of}
+use Rattle.ans_play.specs.Stands.{IsKnownAfter, IsPlayed}
+use Rattle.ans_play.proofs.KnownCells.{found_unknown}
+use Rattle.ans_play.proofs.Finishing.{good_if, last_if, known_if, no_cell}
+use Rattle.ans_play.proofs.TwoStarts.{HasBlamed, clean_or_blamed}
+use Rattle.ans_play.proofs.Zips.{AllZip-take}
+
+abbrev pub HasAnAnswer : Size → Class → List ℕ → Type 0
+HasAnAnswer z class bytes = IsGood z class bytes ⊎ ((f : Fault) × IsFirstFault z class bytes f) ⊎ ((f : Fault) × IsLastFault z class bytes f)
+
+-- the texts of tokens around one of them
+pub record IsTextAt (tokens : List Token) (texts : List (List ℕ)) (n : ℕ) (t : Token) : Type 0 where
+  pub text : List ℕ
+  pub spelled : SpellsToken t text
+  pub whole : concat texts ≡ concat (take n texts) ++ (text ++ concat (drop (suc n) texts))
+
+same_some : (a b : Token) → Some a ≡ Some b → a ≡ b
+same_some a b e = cc
+
+text_at : (tokens : List Token) (texts : List (List ℕ)) (n : ℕ) (t : Token) → AllZip SpellsToken tokens texts → slice_get tokens n ≡ Some t → IsTextAt tokens texts n t
+text_at [] texts n t each e = absurd (cc)
+text_at (u ∷ tokens) [] n t each e = absurd each
+text_at (u ∷ tokens) (x ∷ texts) zero t each e = record { text = x; spelled = rw (same_some u t e) at each.0; whole = refl }
+text_at (u ∷ tokens) (x ∷ texts) (suc n) t each e =
+    let later = text_at tokens texts n t each.1 e in
+    record {
+      text = later.text;
+      spelled = later.spelled;
+      whole = ap (λ (v : List ℕ). x ++ v) later.whole ∙ sym (append_assoc x (concat (take n texts)) (later.text ++ concat (drop (suc n) texts)));
+    }
+
+module _ (z : Size) (class : Class) (size : IsSize z) (bytes : List ℕ) where
+  -- a token has a fault
+  token_blamed : (r : IsReadable bytes) → HasBlamed z class r.tokens → HasAnAnswer z class bytes
+  token_blamed r b =
+      let at = text_at r.tokens r.texts b.place b.token r.reads.each b.here in
+      let front : List ℕ = concat (take b.place r.texts) in
+      inr (inl (fault_at (length front) b.cause, record {
+        size = size;
+        front = front;
+        text = at.text;
+        rest = concat (drop (suc b.place) r.texts) ++ r.left;
+        whole = r.whole ∙ ap (λ (v : List ℕ). v ++ r.left) (r.reads.whole ∙ at.whole)
+            ∙ append_assoc front (at.text ++ concat (drop (suc b.place) r.texts)) r.left
+            ∙ ap (λ (v : List ℕ). front ++ v) (append_assoc at.text (concat (drop (suc b.place) r.texts)) r.left);
+        tokens = take b.place r.tokens;
+        reads = (take b.place r.texts, record { each = AllZip-take SpellsToken b.place r.tokens r.texts r.reads.each; whole = refl });
+        clean = b.clean;
+        offset = refl;
+        faulty = inl (record { token = b.token; spelled = at.spelled; fault = b.fault });
+      }))
+
+  module _ (r : IsReadable bytes) (clean : IsClean z class r.tokens) (h : HalfState) (known : IsKnownAfter z class r.tokens h) where
+    refused_behind : IsRefusedFront r.left → HasAnAnswer z class bytes
+    refused_behind f = inr (inl (fault_at (length r.front) f.cause, record {
+      size = size;
+      front = r.front;
+      text = f.text;
+      rest = f.rest;
+      whole = r.whole ∙ ap (λ (v : List ℕ). r.front ++ v) f.whole;
+      tokens = r.tokens;
+      reads = (r.texts, r.reads);
+      clean = clean;
+      offset = refl;
+      faulty = inr f.refused;
+    }))
+
+    unfinished_behind : IsUnfinished r.left → HasAnAnswer z class bytes
+    unfinished_behind u = inr (inr (fault_at (length r.front) EndInSequence, inl (record {
+      size = size;
+      front = r.front;
+      text = r.left;
+      whole = r.whole;
+      tokens = r.tokens;
+      reads = (r.texts, r.reads);
+      clean = clean;
+      unfinished = u;
+      fault_is = refl;
+    })))
+
+    -- nothing is behind the tokens
+    played : r.left ≡ [] → IsPlayed z class bytes (scanning (length bytes) (length bytes) Nothing None) h
+    played e =
+        let whole : bytes ≡ r.front = r.whole ∙ ap (λ (v : List ℕ). r.front ++ v) e ∙ append-nil r.front in
+        record {
+          size = size;
+          front = bytes;
+          open_part = [];
+          whole = sym (append-nil bytes);
+          tokens = r.tokens;
+          reads = subst (λ (v : List ℕ). Reads v r.tokens) (sym whole) (r.texts, r.reads);
+          clean = clean;
+          known = known;
+          holds = record { keeps = refl; begun_at = omega arith };
+          offset = refl;
+          unrefused = refl;
+        }
+
+    at_end : r.left ≡ [] → (o : Option ℕ) → first_unknown h.screen (z.lines * z.width) ≡ o → HasAnAnswer z class bytes
+    unfolding played
+    at_end e None none =
+        inl (picture_of z h.screen, good_if z class bytes _ h (played e) refl (known_if h.screen (z.lines * z.width) none))
+    at_end e (Some i) some =
+        inr (inr (_, inr (last_if z class bytes _ h (played e) refl i (found_unknown h.screen (z.lines * z.width) i no_cell some))))
+
+    open_behind : IsOpen r.left → HasAnAnswer z class bytes
+    open_behind (inl e) = at_end e (first_unknown h.screen (z.lines * z.width)) refl
+    open_behind (inr (inl e)) = unfinished_behind (rw e escape_unfinished)
+    open_behind (inr (inr (part, spelled))) = unfinished_behind (part_unfinished part r.left spelled)
+
+    all_clean : IsOpen r.left ⊎ IsRefusedFront r.left → HasAnAnswer z class bytes
+    all_clean (inl o) = open_behind o
+    all_clean (inr f) = refused_behind f
+
+  pub has_an_answer : All IsByte bytes → HasAnAnswer z class bytes
+  has_an_answer all =
+      let r : IsReadable bytes = readable bytes all in
+      elim (clean_or_blamed z class size.some_columns r.tokens (reads_bytes r.front r.tokens (r.texts, r.reads))) [
+        | inl c ↦ all_clean r c.0 c.1.0 c.1.1 r.leaves
+        | inr b ↦ token_blamed r b
+      ]

@@ -1,0 +1,226 @@
+-- What is known after clean tokens, and what the plays from the low and the high start show of a fault.
+use Rattle.std.proofs.Common.{◌≡◌, ◌≢◌, ◌⊎◌, inl, inr, ℕ, zero, suc, ◌+◌, ◌*◌, ◌<◌, ◌≤◌, min, max, Bool, true, false, List, [], ◌∷◌, ◌++◌, length, take, get_or, All, Option, Some, None, refl, sym, ap, ◌∙◌, arith, subst, length-append}
+use Rattle.std.specs.Prelude.{slice_get}
+use Rattle.std.proofs.lemmas.Bool.{cases_eq}
+use Rattle.std.proofs.lemmas.List.{append-nil, take_more, take_all}
+use Rattle.std.proofs.lemmas.List.Elements.{All-get_or}
+use Rattle.std.proofs.lemmas.Option.{slice_get-get_or}
+use Rattle.ans_model.specs.Token.{Token, PrintsByte, Glyph, LineFeed, EraseLine, Bell}
+use Rattle.ans_model.specs.declared.fault.Fault.{Fault}
+use Rattle.ans_model.specs.declared.fault.Cause.{Cause}
+use Rattle.ans_model.specs.declared.fault.Cause.TheVariants.{PrintBelow, Scrolls, PrintUnknownPlace, EraseUnknownPlace, MayScroll, UnknownCell}
+use Rattle.ans_model.specs.declared.cell.Position.{Position}
+use Rattle.ans_model.specs.Reads.{Reads}
+use Rattle.ans_model.specs.Refusals.{fault_at}
+use Rattle.ans_model.specs.State.{Size, State, IsStated, index, cell_at, IsWellFormed, FitsScreen}
+use Rattle.ans_model.specs.Step.{final}
+use Rattle.ans_model.specs.Starts.{Class, IsStart, low_start, high_start}
+use Rattle.ans_model.specs.TokenFault.{HasFault, HasStaticFault, HasFaultAfter, SamePlace, PlacesDiffer, IsInSpareRow, FromEvery, FromSome, IsClean}
+use Rattle.ans_model.specs.FirstFault.{IsFirstFault, IsToBlame, IsRefused}
+use Rattle.ans_model.specs.LastFault.{IsLastFault, SameCell, CellsDiffer, IsFirstUnknown, EndsInSequence, LeavesUnknown}
+use Rattle.ans_model.specs.Certain.{IsCertain}
+use Rattle.ans_model.specs.TwoStarts.{low_final, high_final, CursorsDiffer, OneIsInSpareRow, IsFirstDifference, TwoStartsShow, IsShownByTwoStarts}
+use Rattle.ans_model.proofs.StartLemmas.{low_is_start, high_is_start}
+use Rattle.ans_model.proofs.OneCause.{static_is_certain}
+use Rattle.ans_model.proofs.OneAnswer.{refused_certain}
+use Rattle.ans_model.proofs.Reading.{reads_bytes}
+use Rattle.ans_screen.specs.Cells.{is_known}
+use Rattle.ans_screen.specs.declared.cell.HalfCell.{HalfCell}
+use Rattle.ans_play.specs.declared.span.Span.{Span}
+use Rattle.ans_play.specs.Hull.{hull}
+use Rattle.ans_play.specs.HalfState.{HalfState, DescribesCell}
+use Rattle.ans_play.specs.HalfStep.{half_step}
+use Rattle.ans_play.specs.HalfFault.{half_fault, is_one_place}
+use Rattle.ans_play.specs.Stands.{IsKnownAfter}
+use Rattle.ans_play.proofs.Zips.{AllZip-length}
+use Rattle.ans_play.proofs.HullSteps.{hull_itself}
+use Rattle.ans_play.proofs.KnownCells.{unknown_at}
+use Rattle.ans_play.proofs.Clean.{clean_none, clean_more}
+use Rattle.ans_play.proofs.Faults.{known_none, known_more, blamed, unblamed, allowed, same_if, one_place_then, all_in_spare_row, none_in_spare_row}
+use Rattle.ans_play.proofs.Finishing.{same_if as same_cell_if, index_lt, no_cell}
+
+-- ---- what is known after tokens, up to the first that has a fault
+-- the first n tokens are clean, and this is known after them
+pub record IsCleanTo (z : Size) (class : Class) (tokens : List Token) (n : ℕ) : Type 0 where
+  pub clean : IsClean z class (take n tokens)
+  pub state : HalfState
+  pub known : IsKnownAfter z class (take n tokens) state
+
+-- the tokens before one are clean, and it has a fault
+pub record HasBlamed (z : Size) (class : Class) (tokens : List Token) : Type 0 where
+  pub place : ℕ
+  pub within : place < length tokens
+  pub token : Token
+  pub cause : Cause
+  pub here : slice_get tokens place ≡ Some token
+  pub clean : IsClean z class (take place tokens)
+  pub fault : HasFault z class (take place tokens) token cause
+
+module _ (z : Size) (class : Class) (w : 0 < z.width) (tokens : List Token) (prints : All PrintsByte tokens) where
+  one_more : (n : ℕ) → n < length tokens → (c : IsCleanTo z class tokens n) → (o : Option Cause) → half_fault z c.state (get_or tokens n Bell) ≡ o
+      → IsCleanTo z class tokens (n + 1) ⊎ HasBlamed z class tokens
+  one_more n lt c None e =
+      let t : Token = get_or tokens n Bell in
+      let more : take (n + 1) tokens ≡ take n tokens ++ t ∷ [] = take_more tokens n Bell lt in
+      inl (record {
+        clean = subst (λ (ts : List Token). IsClean z class ts) (sym more)
+            (clean_more z class (take n tokens) t c.clean (λ cause. unblamed z class (take n tokens) c.state w c.known t cause e));
+        state = half_step z c.state t;
+        known = subst (λ (ts : List Token). IsKnownAfter z class ts (half_step z c.state t)) (sym more)
+            (known_more z class (take n tokens) c.state t w (All-get_or PrintsByte tokens n Bell lt prints) c.known
+            (allowed z class (take n tokens) c.state w c.known t e));
+      })
+  one_more n lt c (Some cause) e = inr (record {
+    place = n;
+    within = lt;
+    token = get_or tokens n Bell;
+    cause = cause;
+    here = slice_get-get_or tokens n Bell lt;
+    clean = c.clean;
+    fault = blamed z class (take n tokens) c.state w c.known (get_or tokens n Bell) cause e;
+  })
+
+  clean_or_blamed_to : (n : ℕ) → n ≤ length tokens → IsCleanTo z class tokens n ⊎ HasBlamed z class tokens
+  clean_or_blamed_to zero le = inl (record { clean = clean_none z class; state = hull (low_start z class) (high_start z class); known = known_none z class })
+  clean_or_blamed_to (suc n) le = elim (clean_or_blamed_to n (omega arith)) [
+    | inl c ↦ subst (λ (m : ℕ). IsCleanTo z class tokens m ⊎ HasBlamed z class tokens) (omega arith) (one_more n (omega arith) c (half_fault z c.state (get_or tokens n Bell)) refl)
+    | inr b ↦ inr b
+  ]
+
+  -- tokens are clean, or one has a fault after clean ones
+  pub clean_or_blamed : (IsClean z class tokens × ((h : HalfState) × IsKnownAfter z class tokens h)) ⊎ HasBlamed z class tokens
+  clean_or_blamed = elim (clean_or_blamed_to (length tokens) (omega arith)) [
+    | inl c ↦
+        let all : take (length tokens) tokens ≡ tokens = take_all (length tokens) tokens (omega arith) in
+        inl (
+          subst (λ (ts : List Token). IsClean z class ts) all c.clean,
+          (c.state, subst (λ (ts : List Token). IsKnownAfter z class ts c.state) all c.known),
+        )
+    | inr b ↦ inr b
+  ]
+
+  pub known_after_clean : IsClean z class tokens → (h : HalfState) × IsKnownAfter z class tokens h
+  known_after_clean clean = elim clean_or_blamed [
+    | inl c ↦ c.1
+    | inr b ↦ absurd (clean b.place b.cause (b.token, b.here, b.fault))
+  ]
+
+-- ---- what the two plays show
+certain_shows : (z : Size) (class : Class) (tokens : List Token) (c : Cause) → IsCertain c → TwoStartsShow z class tokens c
+certain_shows z class tokens PrintUnknownPlace h = absurd h
+certain_shows z class tokens EraseUnknownPlace h = absurd h
+certain_shows z class tokens MayScroll h = absurd h
+certain_shows z class tokens (UnknownCell row column) h = absurd h
+certain_shows z class tokens _ h = tt
+
+module _ (z : Size) (class : Class) (tokens : List Token) (w : 0 < z.width) (h : HalfState) (st : IsKnownAfter z class tokens h) where
+  low_well : IsWellFormed z (low_final z class tokens)
+  low_well = st.well_formed (low_start z class) (low_is_start z class w)
+
+  high_well : IsWellFormed z (high_final z class tokens)
+  high_well = st.well_formed (high_start z class) (high_is_start z class w)
+
+  cursors_differ : PlacesDiffer z class tokens → CursorsDiffer z class tokens
+  cursors_differ d e =
+      let one : is_one_place h.cursor ≡ true =
+      one_place_then h.cursor
+      (rw (st.is_hull, sym e) (ap (λ (x : Span). x.low) (hull_itself (low_final z class tokens).cursor) ∙ sym (ap (λ (x : Span). x.high) (hull_itself (low_final z class tokens).cursor)))) in
+      d.4 (same_if z class tokens h st one d.0 d.1 d.2 d.3)
+
+  one_in_spare_row : FromSome z class (IsInSpareRow z tokens) → FromSome z class (λ s. ¬ IsInSpareRow z tokens s) → OneIsInSpareRow z class tokens
+  one_in_spare_row some other =
+      let top : h.cursor.high.row ≡ max (low_final z class tokens).cursor.row (high_final z class tokens).cursor.row = ap (λ (k : HalfState). k.cursor.high.row) st.is_hull in
+      let bottom : h.cursor.low.row ≡ min (low_final z class tokens).cursor.row (high_final z class tokens).cursor.row = ap (λ (k : HalfState). k.cursor.low.row) st.is_hull in
+      elim (cases_eq (low_final z class tokens).cursor.row z.lines) [
+        | inl low ↦ elim (cases_eq (high_final z class tokens).cursor.row z.lines) [
+          | inl high ↦ absurd (other.2 (all_in_spare_row z class tokens h w st (omega arith) other.0 other.1))
+          | inr high ↦ inl (low, high)
+        ]
+        | inr low ↦ elim (cases_eq (high_final z class tokens).cursor.row z.lines) [
+          | inl high ↦ inr (low, high)
+          | inr high ↦ absurd (none_in_spare_row z class tokens h w st (omega (arith, low_well.fits.cursor.0, high_well.fits.cursor.0)) some.0 some.1 some.2)
+        ]
+      ]
+
+  shown_after : (t : Token) (c : Cause) → HasFaultAfter z class tokens t c → TwoStartsShow z class tokens c
+  shown_after (Glyph byte) PrintUnknownPlace f = cursors_differ f
+  shown_after (Glyph byte) PrintBelow f = tt
+  shown_after EraseLine EraseUnknownPlace f = cursors_differ f
+  shown_after LineFeed Scrolls f = tt
+  shown_after LineFeed MayScroll f = one_in_spare_row f.0 f.1
+  shown_after _ _ f = absurd f
+
+  shown_fault : (t : Token) (c : Cause) → HasFault z class tokens t c → TwoStartsShow z class tokens c
+  shown_fault t c (inl f) = certain_shows z class tokens c (static_is_certain z t c f)
+  shown_fault t c (inr f) = shown_after t c f
+
+  cell_count_is : length h.screen ≡ (z.lines + 1) * z.width
+  cell_count_is =
+      AllZip-length DescribesCell h.screen (low_final z class tokens).screen (st.describes (low_start z class) (low_is_start z class w)).screen
+      ∙ low_well.fits.cells
+
+  this_cell_differs : (p : Position) (c : HalfCell) (b : Bool) → slice_get h.screen (index z p) ≡ Some c → is_known c ≡ b → CellsDiffer z class tokens p
+      → cell_at z (low_final z class tokens).screen p ≢ cell_at z (high_final z class tokens).screen p
+  this_cell_differs p c true here known d e = d.4 (same_cell_if z class tokens h w st p (index z p) c refl here known d.0 d.1 d.2 d.3)
+  this_cell_differs p c false here unknown d e =
+      unknown_at (low_final z class tokens).screen (high_final z class tokens).screen (index z p) c
+      (sym (ap (λ (g : HalfState). slice_get g.screen (index z p)) st.is_hull) ∙ here) unknown e
+
+  -- a cell that differs between two starts differs between these two
+  cells_differ : (p : Position) → IsStated z p → CellsDiffer z class tokens p → cell_at z (low_final z class tokens).screen p ≢ cell_at z (high_final z class tokens).screen p
+  cells_differ p stated d =
+      let here = slice_get-get_or h.screen (index z p) no_cell (omega (arith, index_lt z p stated, cell_count_is)) in
+      this_cell_differs p (get_or h.screen (index z p) no_cell) (is_known (get_or h.screen (index z p) no_cell)) here refl d
+
+  first_difference : (p : Position) → IsFirstUnknown z class tokens p → IsFirstDifference z class tokens (p.row + 1) (p.column + 1)
+  first_difference p first = record {
+    place = p;
+    stated = first.stated;
+    row_is = refl;
+    column_is = refl;
+    differs = cells_differ p first.stated first.differs;
+    earlier = λ q stated before. first.earlier q stated before (low_start z class) (high_start z class) (low_is_start z class w) (high_is_start z class w);
+  }
+
+-- ---- of bytes
+module _ (z : Size) (class : Class) (bytes : List ℕ) (fault : Fault) where
+  blame_shown : (h : IsFirstFault z class bytes fault) → IsToBlame z class h.tokens h.text fault.cause ⊎ IsRefused h.text fault.cause → TwoStartsShow z class h.tokens fault.cause
+  blame_shown h (inl b) =
+      let known = known_after_clean z class h.size.some_columns h.tokens (reads_bytes h.front h.tokens h.reads) h.clean in
+      shown_fault z class h.tokens h.size.some_columns known.0 known.1 b.token fault.cause b.fault
+  blame_shown h (inr r) = certain_shows z class h.tokens fault.cause (refused_certain h.text fault.cause r)
+
+  -- of the first fault the two plays show the cause
+  pub first_shown : IsFirstFault z class bytes fault → IsShownByTwoStarts z class bytes fault
+  first_shown h = record {
+    front = h.front;
+    rest = h.text ++ h.rest;
+    whole = h.whole;
+    offset = h.offset;
+    tokens = h.tokens;
+    reads = h.reads;
+    shown = blame_shown h h.faulty;
+  }
+
+  -- and of the last
+  pub last_shown : IsLastFault z class bytes fault → IsShownByTwoStarts z class bytes fault
+  last_shown (inl h) = record {
+    front = h.front;
+    rest = h.text;
+    whole = h.whole;
+    offset = ap (λ (f : Fault). f.offset) h.fault_is;
+    tokens = h.tokens;
+    reads = h.reads;
+    shown = rw h.fault_is tt;
+  }
+  last_shown (inr h) =
+      let known = known_after_clean z class h.size.some_columns h.tokens (reads_bytes bytes h.tokens h.reads) h.clean in
+      record {
+        front = bytes;
+        rest = [];
+        whole = sym (append-nil bytes);
+        offset = ap (λ (f : Fault). f.offset) h.fault_is;
+        tokens = h.tokens;
+        reads = h.reads;
+        shown = rw h.fault_is (first_difference z class h.tokens h.size.some_columns known.0 known.1 h.place h.first);
+      }
