@@ -1,5 +1,5 @@
 #!/usr/bin/env python3
-"""Times `anscheck check` on a file of the greatest size, beside a plain copy of the file.
+"""Times `anscheck check` and `anscheck tokens` on files of the greatest size, beside a plain copy.
 
 Run it in the folder above, after `rt run -- check --cleared data/hi.ans` has built the program:
 
@@ -56,8 +56,11 @@ def main(program):
             with open(path, "wb") as file:
                 file.write(content + b"\x1a" + record(WIDTH, LINES, len(content)))
             copy = least(["cp", path, os.path.join(room, "copy")])
-            check = least([program, "check", path])
-            print(f"{name}: {os.path.getsize(path)} bytes, copy {copy:.3f} s, check {check:.3f} s")
+            size = os.path.getsize(path)
+            print(f"{name}: {size} bytes, copy {copy:.3f} s")
+            for command in "check", "tokens":
+                seconds = least([program, command, path])
+                print(f"  {command} {seconds:.3f} s, {size / seconds / 1e6:.0f} MB/s")
 
 
 if __name__ == "__main__":
