@@ -51,7 +51,7 @@ known_more z class played h t w byte st ok =
     }
 
 -- ---- places
-one_place_if : (e : Span) → is_one_place e ≡ true → e.low ≡ e.high
+pub one_place_if : (e : Span) → is_one_place e ≡ true → e.low ≡ e.high
 one_place_if e h =
     let row : e.low.row ≡ e.high.row = grind (arith, nat_tests) in
     let column : e.low.column ≡ e.high.column = grind (arith, nat_tests) in

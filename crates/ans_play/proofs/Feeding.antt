@@ -1,7 +1,8 @@
 -- A byte played behind others, and a piece of bytes.
-use Rattle.std.proofs.Common.{◌≡◌, ℕ, ◌+◌, ◌<◌, ◌≤◌, refl, sym, ap, ◌∙◌, arith, List, [], ◌∷◌, ◌++◌, length, length-append, take, drop, get_or, append_assoc, Some, None, inl, inr, subst}
+use Rattle.std.proofs.Common.{◌≡◌, ℕ, ◌+◌, ◌-◌, ◌≤◌, refl, sym, ap, ◌∙◌, arith, List, [], ◌∷◌, ◌++◌, length, length-append, take, drop, append_assoc, Some, None, inl, inr, subst}
 use Rattle.std.specs.List.{concat}
-use Rattle.std.proofs.lemmas.List.{append-nil, take_more, take-append-drop}
+use Rattle.std.proofs.lemmas.List.{append-nil, take_all, take-append-drop, length-drop}
+use Rattle.std.proofs.Math.Seq.{take-add}
 use Rattle.std.proofs.lemmas.List.Folds.{concat-append}
 use Rattle.ans_model.specs.Token.{Token}
 use Rattle.ans_model.specs.Reads.{SpellsToken, Reads}
@@ -19,7 +20,7 @@ use Rattle.ans_play.specs.HalfState.{HalfState}
 use Rattle.ans_play.specs.HalfStep.{half_step}
 use Rattle.ans_play.specs.HalfFault.{half_fault}
 use Rattle.ans_play.specs.Playing.{Playing}
-use Rattle.ans_play.specs.Stands.{IsPlayed, Stands, SamePlay, GoesOn, IsDeserved}
+use Rattle.ans_play.specs.Stands.{IsPlayed, Stands, SamePlay, GoesOn, PlaysFront, IsDeserved}
 use Rattle.ans_play.proofs.Zips.{AllZip-append}
 use Rattle.ans_play.proofs.Faults.{known_more, blamed, unblamed, allowed}
 use Rattle.ans_play.proofs.Clean.{clean_more}
@@ -118,56 +119,56 @@ refused z class s rest scanner h byte fault p refuses start = record {
 }
 
 -- ---- a piece
--- the bytes of a front of the piece are played
-pub record HasPlayed (old new : Playing) (front : List ℕ) : Type 0 where
-  pub same : SamePlay old new
-  pub fed : new.fed ≡ old.fed + length front
-  pub fault : new.fault ≡ old.fault
-  pub played : (class : Class) (s : List ℕ) → IsPlayed old.size class s old.scanner old.state → IsPlayed old.size class (s ++ front) new.scanner new.state
-
-pub has_played_none : (p : Playing) → HasPlayed p p []
-has_played_none p = record {
+pub goes_on_none : (p : Playing) → GoesOn p [] p
+goes_on_none p = record {
   same = record { size = refl; start = refl };
   fed = omega arith;
   fault = refl;
   played = λ class s h. rw append-nil h;
 }
 
-pub has_played_more : (old mid new : Playing) (front : List ℕ) (byte : ℕ) → HasPlayed old mid front → GoesOn mid byte new → HasPlayed old new (front ++ byte ∷ [])
-has_played_more old mid new front byte h g = record {
+pub goes_on_more : (old mid new : Playing) (front bytes : List ℕ) → GoesOn old front mid → GoesOn mid bytes new → GoesOn old (front ++ bytes) new
+goes_on_more old mid new front bytes h g = record {
   same = record { size = g.same.size ∙ h.same.size; start = g.same.start ∙ h.same.start };
   fed = simp length-append (omega (arith, g.fed, h.fed));
   fault = g.fault ∙ h.fault;
   played = λ class s p.
       let before : IsPlayed mid.size class (s ++ front) mid.scanner mid.state = rw h.same.size (h.played class s p) in
-      let after : IsPlayed mid.size class ((s ++ front) ++ byte ∷ []) new.scanner new.state = g.played class (s ++ front) before in
-      subst (λ (xs : List ℕ). IsPlayed old.size class xs new.scanner new.state) (append_assoc s front (byte ∷ []))
-      (subst (λ (z : Size). IsPlayed z class ((s ++ front) ++ byte ∷ []) new.scanner new.state) h.same.size after);
+      let after : IsPlayed mid.size class ((s ++ front) ++ bytes) new.scanner new.state = g.played class (s ++ front) before in
+      subst (λ (xs : List ℕ). IsPlayed old.size class xs new.scanner new.state) (append_assoc s front bytes)
+      (subst (λ (z : Size). IsPlayed z class ((s ++ front) ++ bytes) new.scanner new.state) h.same.size after);
 }
 
-pub stands_played : (old new : Playing) (piece s : List ℕ) → HasPlayed old new piece → old.fault ≡ None → Stands old s → Stands new (s ++ piece)
+rest_of : (piece : List ℕ) (i : ℕ) → take (length piece - i) (drop i piece) ≡ drop i piece
+rest_of piece i = take_all (length piece - i) (drop i piece) (omega (arith, length-drop i piece))
+
+-- a front of the piece, and then a front of its rest
+pub front_more : (old mid new : Playing) (piece : List ℕ) (i count : ℕ) → i ≤ length piece → GoesOn old (take i piece) mid → PlaysFront mid (take (length piece - i) (drop i piece)) count new →
+    (i + count ≤ length piece) × GoesOn old (take (i + count) piece) new
+front_more old mid new piece i count within h f =
+    let g : PlaysFront mid (drop i piece) count new = rw rest_of at f in (
+      omega (arith, g.within, length-drop i piece),
+      rw (take-add i count piece) (goes_on_more old mid new (take i piece) (take count (drop i piece)) h g.played),
+    )
+
+pub stands_played : (old new : Playing) (piece s : List ℕ) → GoesOn old piece new → old.fault ≡ None → Stands old s → Stands new (s ++ piece)
 stands_played old new piece s h none st = record {
   fed = λ n. let before : old.fed ≡ length s = st.fed none in simp length-append (omega (arith, h.fed));
   played = λ n. rw (h.same.size, h.same.start) (h.played (class_of old.start) s (st.played none));
   faulted = λ f some. absurd (let clash : Some f ≡ None = sym some ∙ (h.fault ∙ none) in cc);
 }
 
--- the piece around its byte i
-piece_at : (piece : List ℕ) (i byte : ℕ) → i < length piece → get_or piece i 0 ≡ byte → take i piece ++ byte ∷ drop (i + 1) piece ≡ piece
-piece_at piece i byte lt e =
-    rw (← e) (sym (append_assoc (take i piece) (get_or piece i 0 ∷ []) (drop (i + 1) piece))
-    ∙ ap (λ (xs : List ℕ). xs ++ drop (i + 1) piece) (sym (take_more piece i 0 lt))
-    ∙ take-append-drop (i + 1) piece)
+-- what has a fault behind bytes that are played
+pub deserved_behind : (old mid : Playing) (front rest : List ℕ) (fault : Fault) → GoesOn old front mid → IsDeserved mid rest fault → IsDeserved old (front ++ rest) fault
+deserved_behind old mid front rest fault h d class s p =
+    let before : IsPlayed mid.size class (s ++ front) mid.scanner mid.state = rw h.same.size (h.played class s p) in
+    subst (λ (xs : List ℕ). IsFirstFault old.size class xs fault) (append_assoc s front rest)
+    (subst (λ (z : Size). IsFirstFault z class ((s ++ front) ++ rest) fault) h.same.size (d class (s ++ front) before))
 
-pub first_in_piece : (old mid : Playing) (piece s : List ℕ) (i byte : ℕ) (fault : Fault) → i < length piece → get_or piece i 0 ≡ byte → HasPlayed old mid (take i piece) →
-    IsDeserved mid byte fault → old.fault ≡ None → Stands old s → IsFirstFault old.size (class_of old.start) (s ++ piece) fault
-first_in_piece old mid piece s i byte fault lt e h d none st =
-    let whole : (s ++ take i piece) ++ byte ∷ drop (i + 1) piece ≡ s ++ piece = append_assoc s (take i piece) (byte ∷ drop (i + 1) piece) ∙ ap (λ (xs : List ℕ). s ++ xs) (piece_at piece i byte lt e) in
-    let before : IsPlayed mid.size (class_of old.start) (s ++ take i piece) mid.scanner mid.state = rw h.same.size (h.played (class_of old.start) s (st.played none)) in
-    let first : IsFirstFault mid.size (class_of old.start) ((s ++ take i piece) ++ byte ∷ drop (i + 1) piece) fault
-    = d (class_of old.start) (s ++ take i piece) (drop (i + 1) piece) before in
-    subst (λ (xs : List ℕ). IsFirstFault old.size (class_of old.start) xs fault) whole
-    (subst (λ (z : Size). IsFirstFault z (class_of old.start) ((s ++ take i piece) ++ byte ∷ drop (i + 1) piece) fault) h.same.size first)
+pub piece_deserved : (old mid : Playing) (piece : List ℕ) (i : ℕ) (fault : Fault) → GoesOn old (take i piece) mid → IsDeserved mid (take (length piece - i) (drop i piece)) fault → IsDeserved old piece fault
+piece_deserved old mid piece i fault h d =
+    subst (λ (xs : List ℕ). IsDeserved old xs fault) (take-append-drop i piece)
+    (deserved_behind old mid (take i piece) (drop i piece) fault h (subst (λ (xs : List ℕ). IsDeserved mid xs fault) (rest_of piece i) d))
 
 -- a player with the fault of its bytes
 pub stands_faulted : (old new : Playing) (bytes : List ℕ) (fault : Fault) → SamePlay old new → new.fault ≡ Some fault → IsFirstFault old.size (class_of old.start) bytes fault → Stands new bytes
@@ -182,12 +183,12 @@ stands_faulted old new bytes fault same is first = record {
     same_some : (a b : Fault) → Some a ≡ Some b → a ≡ b
     same_some a b x = cc
 
--- the byte i of the piece has the fault
-pub stands_at : (old mid after : Playing) (piece s : List ℕ) (i byte : ℕ) (fault : Fault) → i < length piece → get_or piece i 0 ≡ byte → HasPlayed old mid (take i piece) →
-    SamePlay mid after → after.fault ≡ Some fault → IsDeserved mid byte fault → old.fault ≡ None → Stands old s → (fed : ℕ) → Stands (record after { fed = fed }) (s ++ piece)
-stands_at old mid after piece s i byte fault lt e h same is d none st fed =
+-- the piece has the fault
+pub stands_at : (old mid after : Playing) (piece s : List ℕ) (i : ℕ) (fault : Fault) → GoesOn old (take i piece) mid →
+    SamePlay mid after → after.fault ≡ Some fault → IsDeserved mid (take (length piece - i) (drop i piece)) fault → old.fault ≡ None → Stands old s → (fed : ℕ) → Stands (record after { fed = fed }) (s ++ piece)
+stands_at old mid after piece s i fault h same is d none st fed =
     stands_faulted old (record after { fed = fed }) (s ++ piece) fault (record { size = same.size ∙ h.same.size; start = same.start ∙ h.same.start }) is
-    (first_in_piece old mid piece s i byte fault lt e h d none st)
+    (piece_deserved old mid piece i fault h d (class_of old.start) s (st.played none))
 
 -- a first fault stands within the bytes
 pub first_within : (z : Size) (class : Class) (bytes : List ℕ) (fault : Fault) → IsFirstFault z class bytes fault → fault.offset ≤ length bytes
@@ -196,14 +197,14 @@ first_within z class bytes fault h =
 
 -- ---- what the code of one byte gives
 pub byte_refused : (old : Playing) (scanner : Scanning) (byte : ℕ) (fault : Fault) → scanner ≡ old.scanner →
-    (scanner.refusal ≡ None → (y : List ℕ) → Holds scanner y → IsFaultOf fault scanner.offset y byte) → IsDeserved old byte fault
-byte_refused old scanner byte fault same scans class s rest p =
+    (scanner.refusal ≡ None → (y : List ℕ) → Holds scanner y → IsFaultOf fault scanner.offset y byte) → (rest : List ℕ) → IsDeserved old (byte ∷ rest) fault
+byte_refused old scanner byte fault same scans rest class s p =
     let told : IsFaultOf fault old.scanner.offset p.open_part byte = (rw same at scans) p.unrefused p.open_part p.holds in
     refused old.size class s rest old.scanner old.state byte fault p told.refused told.starts
 
 pub byte_goes_on : (old new : Playing) (scanner after : Scanning) (byte : ℕ) → scanner ≡ old.scanner → new ≡ record old { fed = old.fed + 1; scanner = after } →
     (scanner.refusal ≡ None → (y : List ℕ) → Holds scanner y → IsUnfinished (y ++ byte ∷ []) × Holds after (y ++ byte ∷ [])) →
-    after.offset ≡ scanner.offset + 1 → after.refusal ≡ None → GoesOn old byte new
+    after.offset ≡ scanner.offset + 1 → after.refusal ≡ None → GoesOn old (byte ∷ []) new
 byte_goes_on old new scanner after byte same is scans offset unrefused = rw is (record {
   same = record { size = refl; start = refl };
   fed = refl;
@@ -216,7 +217,7 @@ byte_goes_on old new scanner after byte same is scans offset unrefused = rw is (
 pub byte_plays : (old new : Playing) (scanner after : Scanning) (byte : ℕ) (token : Spelled) (t : Token) → scanner ≡ old.scanner → t ≡ token_of (kind_of token) →
     new ≡ record old { fed = old.fed + 1; scanner = after; state = half_step old.size old.state t } → half_fault old.size old.state t ≡ None →
     (scanner.refusal ≡ None → (y : List ℕ) → Holds scanner y → IsTokenOf token scanner.offset y byte × Holds after []) →
-    after.offset ≡ scanner.offset + 1 → after.refusal ≡ None → GoesOn old byte new
+    after.offset ≡ scanner.offset + 1 → after.refusal ≡ None → GoesOn old (byte ∷ []) new
 byte_plays old new scanner after byte token t same kind is none scans offset unrefused = rw is (record {
   same = record { size = refl; start = refl };
   fed = refl;
@@ -228,7 +229,7 @@ byte_plays old new scanner after byte token t same kind is none scans offset unr
 
 pub byte_deserved : (old : Playing) (scanner after : Scanning) (byte : ℕ) (token : Spelled) (t : Token) (fault : Fault) → scanner ≡ old.scanner → t ≡ token_of (kind_of token) →
     fault.offset ≡ start_of token → half_fault old.size old.state t ≡ Some fault.cause →
-    (scanner.refusal ≡ None → (y : List ℕ) → Holds scanner y → IsTokenOf token scanner.offset y byte × Holds after []) → IsDeserved old byte fault
-byte_deserved old scanner after byte token t fault same kind start some scans class s rest p =
+    (scanner.refusal ≡ None → (y : List ℕ) → Holds scanner y → IsTokenOf token scanner.offset y byte × Holds after []) → (rest : List ℕ) → IsDeserved old (byte ∷ rest) fault
+byte_deserved old scanner after byte token t fault same kind start some scans rest class s p =
     let told = (rw same at scans) p.unrefused p.open_part p.holds in
     deserved old.size class s rest old.scanner old.state byte t fault p (rw kind told.0.spelled) some (rw start told.0.starts)

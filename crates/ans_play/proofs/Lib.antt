@@ -9,6 +9,7 @@ pub mod Faults
 pub mod Clean
 pub mod Spans
 pub mod Feeding
+pub mod Runs
 pub mod Certainty
 pub mod Cells
 pub mod NewPlayer

@@ -1,5 +1,5 @@
 -- What a player says of the bytes that it was fed.
-use Rattle.std.specs.Prelude.{◌≡◌, ℕ, ◌+◌, List, [], ◌∷◌, ◌++◌, length, Some, None}
+use Rattle.std.specs.Prelude.{◌≡◌, ℕ, ◌+◌, ◌<◌, ◌≤◌, List, ◌++◌, length, take, Some, None}
 use Rattle.ans_model.specs.Token.{Token}
 use Rattle.ans_model.specs.Reads.{Reads}
 use Rattle.ans_model.specs.State.{Size, IsSize, IsWellFormed}
@@ -60,14 +60,20 @@ pub record IsFed (old new : Playing) (count : ℕ) : Type 0 where
   pub none : new.fault ≡ None
   pub fed : new.fed ≡ old.fed + count
 
--- What is played of these bytes is played with this one behind them; the rest of the player stays.
-pub record GoesOn (old : Playing) (byte : ℕ) (new : Playing) : Type 0 where
+-- Whatever bytes are played, they are played with these behind them; the rest of the player stays.
+pub record GoesOn (old : Playing) (bytes : List ℕ) (new : Playing) : Type 0 where
   pub same : SamePlay old new
-  pub fed : new.fed ≡ old.fed + 1
+  pub fed : new.fed ≡ old.fed + length bytes
   pub fault : new.fault ≡ old.fault
-  pub played : (class : Class) (s : List ℕ) → IsPlayed old.size class s old.scanner old.state → IsPlayed old.size class (s ++ byte ∷ []) new.scanner new.state
+  pub played : (class : Class) (s : List ℕ) → IsPlayed old.size class s old.scanner old.state → IsPlayed old.size class (s ++ bytes) new.scanner new.state
 
--- after whatever bytes are played, with this one they have the fault
-abbrev pub IsDeserved : Playing → ℕ → Fault → Type 0
-IsDeserved old byte fault =
-    (class : Class) (s rest : List ℕ) → IsPlayed old.size class s old.scanner old.state → IsFirstFault old.size class (s ++ byte ∷ rest) fault
+-- a front of the bytes is played, of so many, and not of none
+pub record PlaysFront (old : Playing) (bytes : List ℕ) (count : ℕ) (new : Playing) : Type 0 where
+  pub some : 0 < count
+  pub within : count ≤ length bytes
+  pub played : GoesOn old (take count bytes) new
+
+-- whatever bytes are played, with these behind them they have the fault
+abbrev pub IsDeserved : Playing → List ℕ → Fault → Type 0
+IsDeserved old bytes fault =
+    (class : Class) (s : List ℕ) → IsPlayed old.size class s old.scanner old.state → IsFirstFault old.size class (s ++ bytes) fault

@@ -3,7 +3,7 @@
 //! A [`Player`] is fed the content in pieces, and answers the first fault. [`Player::finish`] gives
 //! the [`Picture`] that every play shows, or tells which cell stays unknown. What a player says of
 //! its bytes is `Stands` of `specs/Stands.antt`: what is known of its state is exactly what is so
-//! from every start. Sequences are not known yet: ESC is refused as an unknown sequence.
+//! from every start. Glyphs inside a row are played as runs, and every other byte by itself.
 #![tactic(auto)]
 
 pub mod laws;

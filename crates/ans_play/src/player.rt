@@ -1,6 +1,6 @@
 //! The play of a content that is fed in pieces.
 
-ghost use Rattle.std.specs.Prelude.{◌≡◌, ℕ, ◌+◌, ◌*◌, ◌<◌, ◌≤◌, List, [], ◌∷◌, ◌++◌, length, None, Some, IsOk, IfOk, IfErr, OnOk, OnErr};
+ghost use Rattle.std.specs.Prelude.{◌≡◌, ℕ, ◌+◌, ◌*◌, ◌<◌, ◌≤◌, List, [], ◌∷◌, ◌++◌, length, take, None, Some, IsOk, IfOk, IfErr, OnOk, OnErr};
 ghost use Rattle.ans_model.specs.Bytes.{most_columns, most_lines, longest_file};
 ghost use Rattle.ans_model.specs.Token.{Glyph, EraseLine, Clear};
 ghost use Rattle.ans_model.specs.View.{token_of};
@@ -65,10 +65,11 @@ fn recoloured(attribute: Attr, parameters: &[u8]) -> Attr
 }
 
 impl<G: Grid> Player<G> {
+    ghost use Rattle.ans_model.specs.declared.fault.Cause.{Cause};
     ghost use Rattle.ans_play.specs.HalfStep.{half_step, half_blank};
     ghost use Rattle.ans_play.specs.HalfFault.{half_fault};
     ghost use Rattle.ans_play.specs.Playing.{Playing};
-    ghost use Rattle.ans_play.specs.Stands.{IsNew, IsFed, SamePlay, Stands, GoesOn, IsDeserved};
+    ghost use Rattle.ans_play.specs.Stands.{IsNew, IsFed, SamePlay, Stands, GoesOn, PlaysFront, IsDeserved};
 
     /// A player of a width and a number of lines, from the starts of a class, to which nothing is
     /// fed yet. The only error is want of memory.
@@ -141,10 +142,14 @@ impl<G: Grid> Player<G> {
     {
         self.without_fault()?;
         let fed = self.fed;
-        for byte in piece {
-            if let Err(fault) = self.play_byte(*byte) {
-                self.fed = fed;
-                return Err(fault);
+        let mut played = 0;
+        while played < piece.len() {
+            match self.play_front(&piece[played..]) {
+                Ok(count) => played += count,
+                Err(fault) => {
+                    self.fed = fed;
+                    return Err(fault);
+                }
             }
         }
         Ok(())
@@ -186,15 +191,70 @@ impl<G: Grid> Player<G> {
         self.fault.map_or(Ok(()), Err)
     }
 
+    /// Plays a front of the bytes, and answers how many it is: a run of glyphs, or else one byte. An
+    /// error is the fault that stands from then on.
+    fn play_front(&mut self, bytes: &[u8]) -> Result<usize, Fault>
+        requires some { 0 < length bytes.now }
+        requires no_fault { self.old.fault ≡ None }
+        requires room { self.old.fed + length bytes.now ≤ longest_file }
+        ensures same { SamePlay self.old self.new }
+        ensures played { IfOk result (λ count. PlaysFront self.old bytes.now count self.new) }
+        ensures fault { IfErr result (λ fault. self.new.fault ≡ Some fault) }
+        ensures deserved { IfErr result (λ fault. IsDeserved self.old bytes.now fault) }
+    {
+        let count = self.print_run(bytes);
+        if count > 0 {
+            return Ok(count);
+        }
+        match self.play_byte(bytes[0]) {
+            Ok(()) => Ok(1),
+            Err(fault) => Err(fault),
+        }
+    }
+
+    /// Prints the glyphs in front of the bytes, as far as they stand in the cursor's row before its
+    /// last column, and answers how many they are. It prints none within a sequence, and none where
+    /// a glyph is refused.
+    fn print_run(&mut self, bytes: &[u8]) -> usize
+        requires no_fault { self.old.fault ≡ None }
+        requires room { self.old.fed + length bytes.now ≤ longest_file }
+        ensures within { result ≤ length bytes.now }
+        ensures printed { GoesOn self.old (take result bytes.now) self.new }
+    {
+        let columns = self.columns_before_last();
+        let count = self.scanner.glyphs(&bytes[..bytes.len().min(columns)]);
+        if count > 0 {
+            let place = self.cursor.low;
+            let from = place.row * self.width + place.column;
+            self.grid.write_run(from, &bytes[..count], self.attribute);
+            self.cursor = Span::at(place.row, place.column + count);
+            self.fed += count;
+        }
+        count
+    }
+
+    /// How many columns stand between the cursor and its row's last one, where a glyph is printed;
+    /// none where it is refused.
+    fn columns_before_last(&self) -> usize
+        ensures printed { (byte : ℕ) → half_fault self.now.size self.now.state (Glyph byte) ≡ None → self.now.state.cursor.low.column + result + 1 ≡ self.now.size.width }
+        ensures refused { (byte : ℕ) (cause : Cause) → half_fault self.now.size self.now.state (Glyph byte) ≡ Some cause → result ≡ 0 }
+    {
+        if self.cursor.is_one_place() && self.cursor.low.row < self.lines {
+            self.width - 1 - self.cursor.low.column
+        } else {
+            0
+        }
+    }
+
     /// Takes a byte, and plays the token that it ends, if it ends one. An error is the fault that
     /// stands from then on.
     fn play_byte(&mut self, byte: u8) -> Result<(), Fault>
         requires no_fault { self.old.fault ≡ None }
         requires room { self.old.fed < longest_file }
         ensures same { SamePlay self.old self.new }
-        ensures played { OnOk result (GoesOn self.old byte self.new) }
+        ensures played { OnOk result (GoesOn self.old (byte ∷ []) self.new) }
         ensures fault { IfErr result (λ fault. self.new.fault ≡ Some fault) }
-        ensures deserved { IfErr result (λ fault. IsDeserved self.old byte fault) }
+        ensures deserved { IfErr result (λ fault. (rest : List ℕ) → IsDeserved self.old (byte ∷ rest) fault) }
     {
         match self.scanner.byte(byte) {
             Err(fault) => {

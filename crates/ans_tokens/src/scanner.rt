@@ -6,6 +6,7 @@ ghost use Rattle.ans_model.specs.Sequence.{IsUnfinished};
 ghost use Rattle.ans_model.specs.FirstFault.{IsRefused};
 ghost use Rattle.ans_model.specs.View.{token_of};
 
+use crate::glyphs::count_glyphs;
 use crate::token::Token;
 use crate::unfinished::{Step, Unfinished};
 use ans_model::fault::{Cause, Fault};
@@ -115,9 +116,10 @@ impl Model for Scanner {
 }
 
 impl Scanner {
-    ghost use Rattle.std.specs.Prelude.{◌≡◌, ◌+◌, ◌<◌, None, Some, OnOk, IfErr, IfSome, IsErrOf};
+    ghost use Rattle.std.specs.Prelude.{◌≡◌, ◌+◌, ◌<◌, ◌≤◌, length, None, Some, OnOk, IfErr, IfSome, IsErrOf};
     ghost use Rattle.ans_model.specs.Bytes.{longest_file};
     ghost use Rattle.ans_tokens.specs.Scanning.{Scans, Ends, fresh};
+    ghost use Rattle.ans_tokens.specs.Glyphs.{IsGlyphFront, IsBetweenTokens, past};
 
     /// A scanner before the first byte.
     pub fn new() -> Scanner
@@ -177,6 +179,28 @@ impl Scanner {
                 self.refusal = Some(fault);
                 Err(fault)
             }
+        }
+    }
+
+    /// Takes the glyphs in front of the first byte that is none, each as a token of one byte, and
+    /// answers how many they are. Within a sequence and after a refusal it takes none.
+    pub fn glyphs(&mut self, bytes: &[u8]) -> usize
+        requires { self.old.offset + length bytes.now ≤ longest_file }
+        ensures front { IsBetweenTokens self.old → IsGlyphFront bytes.now result }
+        ensures between { 0 < result → IsBetweenTokens self.old }
+        ensures taken { self.new ≡ past self.old result }
+    {
+        if self.refusal.is_some() {
+            return 0;
+        }
+        match self.open_part {
+            Open::Nothing => {
+                let count = count_glyphs(bytes);
+                self.offset += count;
+                self.start += count;
+                count
+            }
+            _ => 0,
         }
     }
 
