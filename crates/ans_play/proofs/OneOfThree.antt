@@ -1,15 +1,13 @@
 -- Bytes are good, or have a first fault, or have a last fault.
-use Rattle.std.proofs.Common.{◌≡◌, ◌⊎◌, inl, inr, ℕ, zero, suc, ◌+◌, ◌<◌, ◌≤◌, Bool, true, false, List, [], ◌∷◌, ◌++◌, length, take, drop, All, Option, Some, None, refl, sym, ap, ◌∙◌, arith, subst, append_assoc}
+use Rattle.std.proofs.Common.{◌≡◌, ◌⊎◌, inl, inr, ℕ, zero, suc, List, [], ◌∷◌, ◌++◌, length, take, drop, All, Option, Some, None, refl, sym, ap, ◌∙◌, arith, subst, append_assoc}
 use Rattle.std.specs.Prelude.{slice_get, ◌*◌}
 use Rattle.std.specs.List.{AllZip, concat}
 use Rattle.std.proofs.lemmas.List.{append-nil}
-use Rattle.std.proofs.lemmas.List.Folds.{concat-append}
 use Rattle.ans_model.specs.Bytes.{IsByte}
 use Rattle.ans_model.specs.Token.{Token}
 use Rattle.ans_model.specs.declared.fault.Fault.{Fault}
-use Rattle.ans_model.specs.declared.fault.Cause.{Cause}
-use Rattle.ans_model.specs.declared.fault.Cause.TheVariants.{EndInSequence, UnknownCell}
-use Rattle.ans_model.specs.Reads.{SpellsToken, ReadsAs, Reads}
+use Rattle.ans_model.specs.declared.fault.Cause.TheVariants.{EndInSequence}
+use Rattle.ans_model.specs.Reads.{SpellsToken, Reads}
 use Rattle.ans_model.specs.Refusals.{fault_at}
 use Rattle.ans_model.specs.Sequence.{IsUnfinished}
 use Rattle.ans_model.specs.State.{Size, IsSize}
@@ -24,7 +22,6 @@ use Rattle.ans_tokens.specs.Scanning.{Nothing, scanning}
 use Rattle.ans_tokens.proofs.OpenLemmas.{escape_unfinished}
 use Rattle.ans_tokens.proofs.EachByte.{IsOpen}
 use Rattle.ans_tokens.proofs.Readable.{IsRefusedFront, IsReadable, readable}
-use Rattle.ans_screen.specs.Cells.{is_known}
 use Rattle.ans_screen.specs.Grids.{first_unknown}
 use Rattle.ans_play.specs.HalfState.{HalfState}
 use Rattle.ans_play.specs.Shown.{picture_of}
@@ -64,48 +61,57 @@ module _ (z : Size) (class : Class) (size : IsSize z) (bytes : List ℕ) where
   token_blamed r b =
       let at = text_at r.tokens r.texts b.place b.token r.reads.each b.here in
       let front : List ℕ = concat (take b.place r.texts) in
-      inr (inl (fault_at (length front) b.cause, record {
-        size = size;
-        front = front;
-        text = at.text;
-        rest = concat (drop (suc b.place) r.texts) ++ r.left;
-        whole = r.whole ∙ ap (λ (v : List ℕ). v ++ r.left) (r.reads.whole ∙ at.whole)
-            ∙ append_assoc front (at.text ++ concat (drop (suc b.place) r.texts)) r.left
-            ∙ ap (λ (v : List ℕ). front ++ v) (append_assoc at.text (concat (drop (suc b.place) r.texts)) r.left);
-        tokens = take b.place r.tokens;
-        reads = (take b.place r.texts, record { each = AllZip-take SpellsToken b.place r.tokens r.texts r.reads.each; whole = refl });
-        clean = b.clean;
-        offset = refl;
-        faulty = inl (record { token = b.token; spelled = at.spelled; fault = b.fault });
-      }))
+      inr (inl (
+        fault_at (length front) b.cause,
+        record {
+          size = size;
+          front = front;
+          text = at.text;
+          rest = concat (drop (suc b.place) r.texts) ++ r.left;
+          whole = r.whole ∙ ap (λ (v : List ℕ). v ++ r.left) (r.reads.whole ∙ at.whole)
+              ∙ append_assoc front (at.text ++ concat (drop (suc b.place) r.texts)) r.left
+              ∙ ap (λ (v : List ℕ). front ++ v) (append_assoc at.text (concat (drop (suc b.place) r.texts)) r.left);
+          tokens = take b.place r.tokens;
+          reads = (take b.place r.texts, record { each = AllZip-take SpellsToken b.place r.tokens r.texts r.reads.each; whole = refl });
+          clean = b.clean;
+          offset = refl;
+          faulty = inl (record { token = b.token; spelled = at.spelled; fault = b.fault });
+        },
+      ))
 
   module _ (r : IsReadable bytes) (clean : IsClean z class r.tokens) (h : HalfState) (known : IsKnownAfter z class r.tokens h) where
     refused_behind : IsRefusedFront r.left → HasAnAnswer z class bytes
-    refused_behind f = inr (inl (fault_at (length r.front) f.cause, record {
-      size = size;
-      front = r.front;
-      text = f.text;
-      rest = f.rest;
-      whole = r.whole ∙ ap (λ (v : List ℕ). r.front ++ v) f.whole;
-      tokens = r.tokens;
-      reads = (r.texts, r.reads);
-      clean = clean;
-      offset = refl;
-      faulty = inr f.refused;
-    }))
+    refused_behind f = inr (inl (
+      fault_at (length r.front) f.cause,
+      record {
+        size = size;
+        front = r.front;
+        text = f.text;
+        rest = f.rest;
+        whole = r.whole ∙ ap (λ (v : List ℕ). r.front ++ v) f.whole;
+        tokens = r.tokens;
+        reads = (r.texts, r.reads);
+        clean = clean;
+        offset = refl;
+        faulty = inr f.refused;
+      },
+    ))
 
     unfinished_behind : IsUnfinished r.left → HasAnAnswer z class bytes
-    unfinished_behind u = inr (inr (fault_at (length r.front) EndInSequence, inl (record {
-      size = size;
-      front = r.front;
-      text = r.left;
-      whole = r.whole;
-      tokens = r.tokens;
-      reads = (r.texts, r.reads);
-      clean = clean;
-      unfinished = u;
-      fault_is = refl;
-    })))
+    unfinished_behind u = inr (inr (
+      fault_at (length r.front) EndInSequence,
+      inl (record {
+        size = size;
+        front = r.front;
+        text = r.left;
+        whole = r.whole;
+        tokens = r.tokens;
+        reads = (r.texts, r.reads);
+        clean = clean;
+        unfinished = u;
+        fault_is = refl;
+      }),
+    ))
 
     -- nothing is behind the tokens
     played : r.left ≡ [] → IsPlayed z class bytes (scanning (length bytes) (length bytes) Nothing None) h

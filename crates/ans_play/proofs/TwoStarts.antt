@@ -1,5 +1,5 @@
 -- What is known after clean tokens, and what the plays from the low and the high start show of a fault.
-use Rattle.std.proofs.Common.{◌≡◌, ◌≢◌, ◌⊎◌, inl, inr, ℕ, zero, suc, ◌+◌, ◌*◌, ◌<◌, ◌≤◌, min, max, Bool, true, false, List, [], ◌∷◌, ◌++◌, length, take, get_or, All, Option, Some, None, refl, sym, ap, ◌∙◌, arith, subst, length-append}
+use Rattle.std.proofs.Common.{◌≡◌, ◌≢◌, ◌⊎◌, inl, inr, ℕ, zero, suc, ◌+◌, ◌*◌, ◌<◌, ◌≤◌, min, max, Bool, true, false, List, [], ◌∷◌, ◌++◌, length, take, get_or, All, Option, Some, None, refl, sym, ap, ◌∙◌, arith, subst}
 use Rattle.std.specs.Prelude.{slice_get}
 use Rattle.std.proofs.lemmas.Bool.{cases_eq}
 use Rattle.std.proofs.lemmas.List.{append-nil, take_more, take_all}
@@ -10,14 +10,11 @@ use Rattle.ans_model.specs.declared.fault.Fault.{Fault}
 use Rattle.ans_model.specs.declared.fault.Cause.{Cause}
 use Rattle.ans_model.specs.declared.fault.Cause.TheVariants.{PrintBelow, Scrolls, PrintUnknownPlace, EraseUnknownPlace, MayScroll, UnknownCell}
 use Rattle.ans_model.specs.declared.cell.Position.{Position}
-use Rattle.ans_model.specs.Reads.{Reads}
-use Rattle.ans_model.specs.Refusals.{fault_at}
-use Rattle.ans_model.specs.State.{Size, State, IsStated, index, cell_at, IsWellFormed, FitsScreen}
-use Rattle.ans_model.specs.Step.{final}
-use Rattle.ans_model.specs.Starts.{Class, IsStart, low_start, high_start}
-use Rattle.ans_model.specs.TokenFault.{HasFault, HasStaticFault, HasFaultAfter, SamePlace, PlacesDiffer, IsInSpareRow, FromEvery, FromSome, IsClean}
+use Rattle.ans_model.specs.State.{Size, IsStated, index, cell_at, IsWellFormed}
+use Rattle.ans_model.specs.Starts.{Class, low_start, high_start}
+use Rattle.ans_model.specs.TokenFault.{HasFault, HasFaultAfter, PlacesDiffer, IsInSpareRow, FromSome, IsClean}
 use Rattle.ans_model.specs.FirstFault.{IsFirstFault, IsToBlame, IsRefused}
-use Rattle.ans_model.specs.LastFault.{IsLastFault, SameCell, CellsDiffer, IsFirstUnknown, EndsInSequence, LeavesUnknown}
+use Rattle.ans_model.specs.LastFault.{IsLastFault, CellsDiffer, IsFirstUnknown}
 use Rattle.ans_model.specs.Certain.{IsCertain}
 use Rattle.ans_model.specs.TwoStarts.{low_final, high_final, CursorsDiffer, OneIsInSpareRow, IsFirstDifference, TwoStartsShow, IsShownByTwoStarts}
 use Rattle.ans_model.proofs.StartLemmas.{low_is_start, high_is_start}

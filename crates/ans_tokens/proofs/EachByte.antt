@@ -1,21 +1,19 @@
 -- What an open part is with one more byte: open again, the text of a token, or what the reading refuses.
-use Rattle.std.proofs.Common.{◌≡◌, ◌≢◌, ◌⊎◌, inl, inr, ℕ, ◌+◌, ◌-◌, ◌*◌, ◌<◌, ◌≤◌, Bool, true, false, List, [], ◌∷◌, ◌++◌, length, refl, sym, ap, arith, subst, Result, Ok, Err}
-use Rattle.std.specs.Prelude.{◌||◌}
+use Rattle.std.proofs.Common.{◌≡◌, ◌≢◌, ◌⊎◌, inl, inr, ℕ, ◌+◌, ◌-◌, ◌*◌, Bool, true, false, List, [], ◌∷◌, ◌++◌, length, refl, sym, ap, arith, subst, Result, Ok, Err}
 use Rattle.std.proofs.lemmas.Bool.{cases_eq, cases_lt}
 use Rattle.std.specs.Char.{is_ascii_digit, is_ascii_alphabetic}
-use Rattle.ans_model.specs.Bytes.{IsByte, escape, bracket, semicolon, double_quote, single_quote}
+use Rattle.ans_model.specs.Bytes.{IsByte, escape, bracket, semicolon}
 use Rattle.ans_model.specs.Token.{Token}
 use Rattle.ans_model.specs.declared.fault.Cause.{Cause}
 use Rattle.ans_model.specs.declared.fault.Cause.TheVariants.{BrokenSequence, NumberTooLarge, TooManyParameters}
 use Rattle.ans_model.specs.Sequence.{Mark, Unmarked, Equals, Question, Raw, Spells, is_quote, IsPrefixOfLoose}
 use Rattle.ans_model.specs.Meaning.{meaning}
 use Rattle.ans_model.specs.Reads.{SpellsToken, token_of_byte}
-use Rattle.ans_model.specs.Parts.{Current, Fresh, InNumber, InString, AfterString, SpellsCurrent, Part, SpellsPart, lacks, raw_of, is_stop, may_follow}
+use Rattle.ans_model.specs.Parts.{Current, Fresh, InNumber, InString, AfterString, SpellsCurrent, Part, SpellsPart, lacks, raw_of, is_stop}
 use Rattle.ans_model.specs.FirstFault.{IsRefused}
-use Rattle.ans_model.proofs.Spelling.{is_mark_byte}
 use Rattle.ans_model.proofs.Scanning.{refuses_byte, IsUnmarkedThere}
 use Rattle.ans_tokens.specs.Shows.{begun}
-use Rattle.ans_tokens.proofs.StepLemmas.{extend, more_digits, more_text, closed_text, next_member, letter_spells, too_many, too_large, marked, fresh_digit, fresh_quote, quote_not, mark_not, no_stop, loose_spells, fresh_not_after, fresh_not_number}
+use Rattle.ans_tokens.proofs.StepLemmas.{extend, more_digits, more_text, closed_text, next_member, letter_spells, too_many, too_large, marked, fresh_digit, fresh_quote, mark_not, no_stop, loose_spells, fresh_not_after, fresh_not_number}
 use Rattle.ans_tokens.proofs.OpenLemmas.{begun_spells, escape_refused, broken}
 
 -- an open part: nothing, ESC, or a part of a sequence
@@ -55,6 +53,7 @@ module _ (p : Part) (y : List ℕ) (b : ℕ) (byte : IsByte b) (h : SpellsPart p
             let t = too_many p y h whole full in
             refuses (y ++ semicolon ∷ []) TooManyParameters (broken p y semicolon TooManyParameters h t.0 (inr (inr (t.1, refl, refl))))
       ]
+
       letter_or_not : (is_letter : Bool) → is_ascii_alphabetic b ≡ is_letter → b ≢ semicolon → IsNext (y ++ b ∷ [])
       letter_or_not true letter ne = spelled (raw_of p b) (y ++ b ∷ []) (meaning (raw_of p b)) (letter_spells p y b h whole letter) refl
       letter_or_not false letter ne = no_sequence (none (no_stop b ne letter))

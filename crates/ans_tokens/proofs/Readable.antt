@@ -7,9 +7,9 @@ use Rattle.std.proofs.lemmas.List.Elements.{All-head, All-tail}
 use Rattle.ans_model.specs.Bytes.{IsByte}
 use Rattle.ans_model.specs.Token.{Token}
 use Rattle.ans_model.specs.declared.fault.Cause.{Cause}
-use Rattle.ans_model.specs.Reads.{SpellsToken, ReadsAs, Reads}
+use Rattle.ans_model.specs.Reads.{SpellsToken, ReadsAs}
 use Rattle.ans_model.specs.FirstFault.{IsRefused}
-use Rattle.ans_tokens.proofs.EachByte.{IsOpen, IsNext, each_byte}
+use Rattle.ans_tokens.proofs.EachByte.{IsOpen, each_byte}
 
 -- the list begins with a text that the reading refuses
 pub record IsRefusedFront (bytes : List ℕ) : Type 0 where
