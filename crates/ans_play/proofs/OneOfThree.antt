@@ -1,8 +1,9 @@
 -- Bytes are good, or have a first fault, or have a last fault.
 use Rattle.std.proofs.Common.{◌≡◌, ◌⊎◌, inl, inr, ℕ, zero, suc, List, [], ◌∷◌, ◌++◌, length, take, drop, All, Option, Some, None, refl, sym, ap, ◌∙◌, arith, subst, append_assoc}
 use Rattle.std.specs.Prelude.{slice_get, ◌*◌}
-use Rattle.std.specs.List.{AllZip, concat}
+use Rattle.std.specs.List.{AllByRecursion, AllZip, concat}
 use Rattle.std.proofs.lemmas.List.{append-nil}
+use Rattle.std.proofs.lemmas.List.Elements.{All-head, All-tail}
 use Rattle.ans_model.specs.Bytes.{IsByte}
 use Rattle.ans_model.specs.Token.{Token}
 use Rattle.ans_model.specs.declared.fault.Fault.{Fault}
@@ -17,10 +18,8 @@ use Rattle.ans_model.specs.Good.{IsGood}
 use Rattle.ans_model.specs.FirstFault.{IsFirstFault}
 use Rattle.ans_model.specs.LastFault.{IsLastFault}
 use Rattle.ans_model.proofs.Reading.{reads_bytes}
-use Rattle.ans_model.proofs.Scanning.{part_unfinished}
 use Rattle.ans_tokens.specs.Scanning.{Nothing, scanning}
-use Rattle.ans_tokens.proofs.OpenLemmas.{escape_unfinished}
-use Rattle.ans_tokens.proofs.EachByte.{IsOpen}
+use Rattle.ans_tokens.proofs.EachByte.{IsOpen, open_ends}
 use Rattle.ans_tokens.proofs.Readable.{IsRefusedFront, IsReadable, readable}
 use Rattle.ans_screen.specs.Grids.{first_unknown}
 use Rattle.ans_play.specs.HalfState.{HalfState}
@@ -54,6 +53,10 @@ text_at (u ∷ tokens) (x ∷ texts) (suc n) t each e =
       spelled = later.spelled;
       whole = ap (λ (v : List ℕ). x ++ v) later.whole ∙ sym (append_assoc x (concat (take n texts)) (later.text ++ concat (drop (suc n) texts)));
     }
+
+by_recursion : (bytes : List ℕ) → All IsByte bytes → AllByRecursion IsByte bytes
+by_recursion [] all = tt
+by_recursion (b ∷ bytes) all = (All-head IsByte b bytes all, by_recursion bytes (All-tail IsByte b bytes all))
 
 module _ (z : Size) (class : Class) (size : IsSize z) (bytes : List ℕ) where
   -- a token has a fault
@@ -138,18 +141,17 @@ module _ (z : Size) (class : Class) (size : IsSize z) (bytes : List ℕ) where
     at_end e (Some i) some =
         inr (inr (_, inr (last_if z class bytes _ h (played e) refl i (found_unknown h.screen (z.lines * z.width) i no_cell some))))
 
-    open_behind : IsOpen r.left → HasAnAnswer z class bytes
+    open_behind : (r.left ≡ []) ⊎ IsUnfinished r.left → HasAnAnswer z class bytes
     open_behind (inl e) = at_end e (first_unknown h.screen (z.lines * z.width)) refl
-    open_behind (inr (inl e)) = unfinished_behind (rw e escape_unfinished)
-    open_behind (inr (inr (part, spelled))) = unfinished_behind (part_unfinished part r.left spelled)
+    open_behind (inr unfinished) = unfinished_behind unfinished
 
     all_clean : IsOpen r.left ⊎ IsRefusedFront r.left → HasAnAnswer z class bytes
-    all_clean (inl o) = open_behind o
+    all_clean (inl o) = open_behind (open_ends r.left o)
     all_clean (inr f) = refused_behind f
 
   pub has_an_answer : All IsByte bytes → HasAnAnswer z class bytes
   has_an_answer all =
-      let r : IsReadable bytes = readable bytes all in
+      let r : IsReadable bytes = readable bytes (by_recursion bytes all) in
       elim (clean_or_blamed z class size.some_columns r.tokens (reads_bytes r.front r.tokens (r.texts, r.reads))) [
         | inl c ↦ all_clean r c.0 c.1.0 c.1.1 r.leaves
         | inr b ↦ token_blamed r b

@@ -1,6 +1,6 @@
 -- The lines of a picture.
 use Rattle.std.proofs.Common.{◌≡◌, ℕ, zero, suc, ◌+◌, ◌*◌, ◌<◌, ◌≤◌, List, [], ◌∷◌, ◌++◌, length, map, take, drop, get_or, Some, None, refl, sym, ap, ◌∙◌, arith, zero-mul, length-drop}
-use Rattle.std.specs.Prelude.{slice_get, Option, min, encode_utf8}
+use Rattle.std.specs.Prelude.{slice_get, Option, encode_utf8}
 use Rattle.std.specs.Option.{option_map}
 use Rattle.std.specs.List.{flat_map}
 use Rattle.std.proofs.lemmas.List.{take_all, drop-drop, get_or-drop, get_or-take, length-take}
@@ -8,7 +8,8 @@ use Rattle.std.proofs.lemmas.Option.{get_or_from_slice_get, slice_get_within}
 use Rattle.ans_model.specs.declared.cell.Cell.{Cell}
 use Rattle.ans_model.specs.Good.{Picture}
 use Rattle.ans_model.specs.Glyphs.{glyph_text, shown_bytes}
-use Rattle.ans_model.specs.ReportText.{rows, rows_of, picture_line}
+use Rattle.ans_model.specs.ReportText.{rows, rows_of, picture_line, cell_digits}
+use Rattle.ans_model.specs.State.{cell}
 use Rattle.ans_report.specs.Rows.{row_of}
 
 -- a cell's character in UTF-8
@@ -39,6 +40,26 @@ cell_at cells w k i b below h =
     let same : get_or (take w (drop k cells)) i c ≡ c =
     get_or-take w (drop k cells) i c below ∙ get_or-drop k cells i c ∙ get_or_from_slice_get cells (k + i) c c found in
     (c, lt, ap cell_text same ∙ ap (λ (v : ℕ). encode_utf8 (glyph_text v)) byte)
+
+-- the cell of an attribute
+attribute_of : (o : Option Cell) (c : Cell) (a : ℕ) → o ≡ Some c → option_map (λ (c : Cell). c.attribute) o ≡ Some a → c.attribute ≡ a
+attribute_of None c a e h = cc
+attribute_of (Some d) c a e h = cc
+
+two_digits : (c : Cell) (b a : ℕ) → c.byte ≡ b → c.attribute ≡ a → cell_digits c ≡ cell_digits (cell b a)
+two_digits c b a e f = rw (e, f) refl
+
+-- the digits of a byte and an attribute in a row of so many columns, which begins at k
+pub digits_at : (cells : List Cell) (w k i b a : ℕ) → i < w → option_map (λ (c : Cell). c.byte) (slice_get cells (k + i)) ≡ Some b
+    → option_map (λ (c : Cell). c.attribute) (slice_get cells (k + i)) ≡ Some a
+    → (c : Cell) × (i < length (take w (drop k cells))) × (cell_digits (get_or (take w (drop k cells)) i c) ≡ cell_digits (cell b a))
+digits_at cells w k i b a below h f =
+    let (c, found, byte) = cell_of (slice_get cells (k + i)) cells (k + i) b refl h in
+    let within : k + i < length cells = slice_get_within cells (k + i) c found in
+    let lt : i < length (take w (drop k cells)) = simp (length-take, length-drop) (omega arith) in
+    let same : get_or (take w (drop k cells)) i c ≡ c =
+    get_or-take w (drop k cells) i c below ∙ get_or-drop k cells i c ∙ get_or_from_slice_get cells (k + i) c c found in
+    (c, lt, ap cell_digits same ∙ two_digits c b a byte (attribute_of (slice_get cells (k + i)) c a found f))
 
 -- a row has no more cells than columns
 pub whole_row : (p : Picture) (row col : ℕ) → p.size.width ≤ col → take col (row_of p row) ≡ row_of p row

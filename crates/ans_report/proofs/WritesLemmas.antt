@@ -53,3 +53,9 @@ AppendsPrefix-flat_map f a b c xs i piece lt is before stopped =
 pub WritesText-stopped : {T E : Type 0} (a b : Option (List ℕ)) (r : Result T E) (xs : List ℕ) → IsErr r → AppendsPrefix a b xs → WritesText a b r xs
 WritesText-stopped a b (Ok v) xs h p = cc
 WritesText-stopped a b (Err e) xs h p = p
+
+-- the same text
+pub WritesText-same : {T E : Type 0} (a b : Option (List ℕ)) (r : Result T E) (xs ys : List ℕ) → xs ≡ ys → WritesText a b r xs → WritesText a b r ys
+WritesText-same a b r xs ys same p =
+    let P : List ℕ → Type 0 = λ t. WritesText a b r t in
+    subst P same p

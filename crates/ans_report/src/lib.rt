@@ -6,17 +6,23 @@
 //! defined in `ans_model`; `specs/Writes.antt` says what appending means.
 #![tactic(auto)]
 
+mod cells_text;
 mod glyphs;
+mod hexadecimal;
 mod outbox;
 mod picture_text;
+mod record_text;
 mod report;
 mod texts;
+mod tokens_text;
 mod tried;
 
 pub use glyphs::glyph_text;
 pub use outbox::WriteFault;
+pub use record_text::write_record;
 pub use report::{Report, write_refusal, write_report};
 pub use texts::{fault_text, note_text};
+pub use tokens_text::write_tokens;
 pub use tried::{DeviceFault, Tried};
 
 #[cfg(test)]

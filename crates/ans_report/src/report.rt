@@ -1,9 +1,9 @@
 //! The report on a file.
-ghost use Rattle.std.specs.Prelude.{◌≡◌, ◌↔◌, false, IsTrue, IsErr};
+ghost use Rattle.std.specs.Prelude.{◌≡◌, ◌↔◌, false, IsTrue, IsErr, OnOk};
 ghost use Rattle.std.specs.Option.{option_copied};
 ghost use Rattle.ans_report.specs.Tried.{has_failed, inner_of};
 ghost use Rattle.ans_report.specs.Writes.{WritesText, GathersText};
-ghost use Rattle.ans_report.specs.Reports.{IsFitting, refused_text, report_bytes};
+ghost use Rattle.ans_report.specs.Reports.{IsFitting, TellsCells, refused_text, report_bytes};
 ghost use Rattle.ans_model.specs.ReportText.{refusal_text};
 
 use crate::outbox::{Outbox, WriteFault};
@@ -19,11 +19,13 @@ use std::io::Write;
 /// What is told of a file.
 #[derive(Drop)]
 pub enum Report<'a, G: Grid> {
-    /// The content plays well from every start, and shows the picture.
+    /// The content plays well from every start, and shows the picture. `cells` says whether each
+    /// cell is told too: its byte and its attribute.
     Pass {
         parts: &'a Parts<'a>,
         start: Start,
         picture: &'a Picture<G>,
+        cells: bool,
     },
     /// The file is refused. There are no parts where its record or its layout is.
     Refused {
@@ -61,13 +63,15 @@ fn put_report<W: Write, G: Grid>(
     requires fits { IsFitting r.now }
     ensures fault { IsErr result ↔ IsTrue (has_failed w.new) }
     ensures bytes { GathersText (W.contents (inner_of w.old)) (W.contents (inner_of w.new)) out.old.waiting.items out.new.waiting.items result (report_bytes r.now) }
+    ensures cells_back { OnOk result (TellsCells r.now) }
 {
     match r {
         Report::Pass {
             parts,
             start,
             picture,
-        } => put_pass(out, w, parts, *start, picture),
+            cells,
+        } => put_pass(out, w, parts, *start, picture, *cells),
         Report::Refused {
             parts,
             start,
@@ -77,7 +81,9 @@ fn put_report<W: Write, G: Grid>(
 }
 
 /// Writes the report: the size, the start, the content's length and the notes, and then the picture
-/// of a pass or the fault of a refusal. Without parts only the fault is written.
+/// of a pass or the fault of a refusal. With `cells` a pass ends in a line `cells:` and one line for
+/// each row, which has four lower-case hexadecimal digits a cell: two for its byte, then two for its
+/// attribute. Without parts only the fault is written.
 ///
 /// `Err` comes exactly where the device failed in the call, and then a prefix of the text was
 /// written.
@@ -89,6 +95,7 @@ pub fn write_report<W: Write, G: Grid>(
     requires fits { IsFitting r.now }
     ensures fault { IsErr result ↔ IsTrue (has_failed w.new) }
     ensures bytes { WritesText (W.contents (inner_of w.old)) (W.contents (inner_of w.new)) result (report_bytes r.now) }
+    ensures cells_back { OnOk result (TellsCells r.now) }
 {
     let mut out = Outbox::new();
     put_report(&mut out, w, r)?;

@@ -4,7 +4,7 @@ ghost use Rattle.ans_report.specs.Tried.{has_failed, inner_of};
 ghost use Rattle.ans_report.specs.Writes.{GathersText};
 ghost use Rattle.std.specs.List.{flat_map};
 ghost use Rattle.ans_report.specs.Headings.{heading_of, heading_without_notes};
-ghost use Rattle.ans_model.specs.FaultText.{fault_text, note_text, note_line, place_text};
+ghost use Rattle.ans_model.specs.FaultText.{fault_text, note_text, note_line, place_text, fault_line};
 ghost use Rattle.ans_model.specs.ReportText.{RefusedFor, report_text, start_name, heading_text, refusal_text};
 
 use crate::outbox::{Outbox, WriteFault};
@@ -109,7 +109,11 @@ fn put_note<W: Write>(out: &mut Outbox, w: &mut Tried<W>, note: &Note) -> Result
 }
 
 /// Puts the notes' lines.
-fn put_notes<W: Write>(out: &mut Outbox, w: &mut Tried<W>, notes: &[Note]) -> Result<(), WriteFault>
+pub(crate) fn put_notes<W: Write>(
+    out: &mut Outbox,
+    w: &mut Tried<W>,
+    notes: &[Note],
+) -> Result<(), WriteFault>
     requires { has_failed w.old ≡ false }
     ensures fault { IsErr result ↔ IsTrue (has_failed w.new) }
     ensures bytes { GathersText (W.contents (inner_of w.old)) (W.contents (inner_of w.new)) out.old.waiting.items out.new.waiting.items result (flat_map note_line notes.now) }
@@ -158,6 +162,30 @@ fn put_place<W: Write>(out: &mut Outbox, w: &mut Tried<W>, cause: &Cause) -> Res
     )
 }
 
+/// Puts a fault's line.
+pub(crate) fn put_fault_line<W: Write>(
+    out: &mut Outbox,
+    w: &mut Tried<W>,
+    fault: &Fault,
+) -> Result<(), WriteFault>
+    requires { has_failed w.old ≡ false }
+    ensures fault { IsErr result ↔ IsTrue (has_failed w.new) }
+    ensures bytes { GathersText (W.contents (inner_of w.old)) (W.contents (inner_of w.new)) out.old.waiting.items out.new.waiting.items result (fault_line fault.now) }
+{
+    let mut offset = itoa::Buffer::new();
+    out.put_all(
+        w,
+        &[
+            b"at ",
+            offset.format(fault.offset).as_bytes(),
+            b": ",
+            fault_text(fault).as_bytes(),
+        ],
+    )?;
+    put_place(out, w, &fault.cause)?;
+    out.put(w, b"\n")
+}
+
 /// Puts a refusal's two lines.
 pub(crate) fn put_refusal<W: Write>(
     out: &mut Outbox,
@@ -168,18 +196,8 @@ pub(crate) fn put_refusal<W: Write>(
     ensures fault { IsErr result ↔ IsTrue (has_failed w.new) }
     ensures bytes { GathersText (W.contents (inner_of w.old)) (W.contents (inner_of w.new)) out.old.waiting.items out.new.waiting.items result (refusal_text fault.now) }
 {
-    let mut offset = itoa::Buffer::new();
-    out.put_all(
-        w,
-        &[
-            b"verdict: refused\nat ",
-            offset.format(fault.offset).as_bytes(),
-            b": ",
-            fault_text(fault).as_bytes(),
-        ],
-    )?;
-    put_place(out, w, &fault.cause)?;
-    out.put(w, b"\n")
+    out.put(w, b"verdict: refused\n")?;
+    put_fault_line(out, w, fault)
 }
 
 /// Puts the report of a refusal.

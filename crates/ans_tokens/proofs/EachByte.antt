@@ -6,19 +6,25 @@ use Rattle.ans_model.specs.Bytes.{IsByte, escape, bracket, semicolon}
 use Rattle.ans_model.specs.Token.{Token}
 use Rattle.ans_model.specs.declared.fault.Cause.{Cause}
 use Rattle.ans_model.specs.declared.fault.Cause.TheVariants.{BrokenSequence, NumberTooLarge, TooManyParameters}
-use Rattle.ans_model.specs.Sequence.{Mark, Unmarked, Equals, Question, Raw, Spells, is_quote, IsPrefixOfLoose}
+use Rattle.ans_model.specs.Sequence.{Mark, Unmarked, Equals, Question, Raw, Spells, is_quote, IsPrefixOfLoose, IsUnfinished}
 use Rattle.ans_model.specs.Meaning.{meaning}
 use Rattle.ans_model.specs.Reads.{SpellsToken, token_of_byte}
 use Rattle.ans_model.specs.Parts.{Current, Fresh, InNumber, InString, AfterString, SpellsCurrent, Part, SpellsPart, lacks, raw_of, is_stop}
 use Rattle.ans_model.specs.FirstFault.{IsRefused}
-use Rattle.ans_model.proofs.Scanning.{refuses_byte, IsUnmarkedThere}
+use Rattle.ans_model.proofs.Scanning.{refuses_byte, IsUnmarkedThere, part_unfinished}
 use Rattle.ans_tokens.specs.Shows.{begun}
 use Rattle.ans_tokens.proofs.StepLemmas.{extend, more_digits, more_text, closed_text, next_member, letter_spells, too_many, too_large, marked, fresh_digit, fresh_quote, mark_not, no_stop, loose_spells, fresh_not_after, fresh_not_number}
-use Rattle.ans_tokens.proofs.OpenLemmas.{begun_spells, escape_refused, broken}
+use Rattle.ans_tokens.proofs.OpenLemmas.{begun_spells, escape_refused, escape_unfinished, broken}
 
 -- an open part: nothing, ESC, or a part of a sequence
 abbrev pub IsOpen : List ℕ → Type 0
 IsOpen y = (y ≡ []) ⊎ (y ≡ escape ∷ []) ⊎ ((part : Part) × SpellsPart part y)
+
+-- what is open is nothing, or an unfinished sequence
+pub open_ends : (y : List ℕ) → IsOpen y → (y ≡ []) ⊎ IsUnfinished y
+open_ends y (inl e) = inl e
+open_ends y (inr (inl e)) = inr (rw e escape_unfinished)
+open_ends y (inr (inr (part, h))) = inr (part_unfinished part y h)
 
 -- open again, the text of a token, or refused
 abbrev pub IsNext : List ℕ → Type 0

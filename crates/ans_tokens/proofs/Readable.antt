@@ -1,9 +1,8 @@
 -- Each list of bytes is read as tokens, up to its end, an open sequence, or the first text that the reading refuses.
 use Rattle.std.proofs.Common.{◌≡◌, ◌⊎◌, inl, inr, ℕ, List, [], ◌∷◌, ◌++◌, All, refl, sym, ap, ◌∙◌, append_assoc, subst}
-use Rattle.std.specs.List.{AllZip, concat}
+use Rattle.std.specs.List.{AllByRecursion, AllZip, concat}
 use Rattle.std.proofs.lemmas.List.{append-nil}
 use Rattle.std.proofs.lemmas.List.Folds.{concat-append}
-use Rattle.std.proofs.lemmas.List.Elements.{All-head, All-tail}
 use Rattle.ans_model.specs.Bytes.{IsByte}
 use Rattle.ans_model.specs.Token.{Token}
 use Rattle.ans_model.specs.declared.fault.Cause.{Cause}
@@ -44,7 +43,7 @@ reads_as_more bytes text tokens texts t r spelled = record {
 }
 
 -- behind tokens and an open part
-read_on : (rest front y : List ℕ) (tokens : List Token) (texts : List (List ℕ)) → All IsByte rest → ReadsAs front tokens texts → IsOpen y → IsReadable (front ++ (y ++ rest))
+read_on : (rest front y : List ℕ) (tokens : List Token) (texts : List (List ℕ)) → AllByRecursion IsByte rest → ReadsAs front tokens texts → IsOpen y → IsReadable (front ++ (y ++ rest))
 read_on [] front y tokens texts bytes reads at = record {
   front = front;
   left = y;
@@ -56,11 +55,11 @@ read_on [] front y tokens texts bytes reads at = record {
 }
 read_on (b ∷ rest) front y tokens texts bytes reads at =
     let longer : (y ++ b ∷ []) ++ rest ≡ y ++ b ∷ rest = append_assoc y (b ∷ []) rest in
-    elim (each_byte y b (All-head IsByte b rest bytes) at) [
-      | inl still ↦ subst (λ (xs : List ℕ). IsReadable (front ++ xs)) longer (read_on rest front (y ++ b ∷ []) tokens texts (All-tail IsByte b rest bytes) reads still)
+    elim (each_byte y b bytes.0 at) [
+      | inl still ↦ subst (λ (xs : List ℕ). IsReadable (front ++ xs)) longer (read_on rest front (y ++ b ∷ []) tokens texts bytes.1 reads still)
       | inr (inl (t, spelled)) ↦
           subst IsReadable (append_assoc front (y ++ b ∷ []) rest ∙ ap (λ (xs : List ℕ). front ++ xs) longer)
-          (read_on rest (front ++ (y ++ b ∷ [])) [] (tokens ++ t ∷ []) (texts ++ (y ++ b ∷ []) ∷ []) (All-tail IsByte b rest bytes)
+          (read_on rest (front ++ (y ++ b ∷ [])) [] (tokens ++ t ∷ []) (texts ++ (y ++ b ∷ []) ∷ []) bytes.1
           (reads_as_more front (y ++ b ∷ []) tokens texts t reads spelled) (inl refl))
       | inr (inr (cause, refused)) ↦ record {
         front = front;
@@ -73,5 +72,5 @@ read_on (b ∷ rest) front y tokens texts bytes reads at =
       }
     ]
 
-pub readable : (bytes : List ℕ) → All IsByte bytes → IsReadable bytes
+pub readable : (bytes : List ℕ) → AllByRecursion IsByte bytes → IsReadable bytes
 readable bytes h = read_on bytes [] [] [] [] h (record { each = tt; whole = refl }) (inl refl)

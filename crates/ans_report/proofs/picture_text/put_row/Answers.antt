@@ -1,4 +1,4 @@
-use Rattle.std.proofs.Common.{rules, arith, ◌≡◌, ◌<◌, ◌*◌, ◌∙◌, ◌∷◌, [], get_or, sym, take, length}
+use Rattle.std.proofs.Common.{rules, arith, ◌≡◌, ◌*◌, get_or}
 use Rattle.std.specs.List.{flat_map}
 use Rattle.ans_report.specs.Rows.{row_of}
 use Rattle.ans_report.proofs.Pictures.{cell_text, cell_at, line_is, whole_row}

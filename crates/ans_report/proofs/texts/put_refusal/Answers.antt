@@ -1,44 +1,12 @@
-use Rattle.std.proofs.Common.{rules, ◌≡◌, List, ℕ, [], ◌∷◌, ◌++◌, codes, decimal, sym, subst, append_assoc, append-nil}
-use Rattle.ans_model.specs.declared.fault.Fault.{Fault}
-use Rattle.ans_model.specs.FaultText.{fault_text, place_text}
-use Rattle.ans_model.specs.ReportText.{refusal_text}
-use Rattle.ans_report.specs.Writes.{AppendsPrefix, GathersText}
-use Rattle.ans_report.proofs.GathersLemmas.{Gathers-then, Gathers-stopped, GathersText-then, GathersText-failed, gathered-longer}
+use Rattle.std.proofs.Common.{rules, codes}
+use Rattle.ans_report.proofs.GathersLemmas.{GathersText-then, GathersText-failed, gathered-longer}
 use Rattle.ans_report.proofs.texts.put_refusal.Goals as goal
 
--- the text up to the place
-abbrev front : Fault → List ℕ
-front f = codes "verdict: refused\nat " ++ (decimal f.offset ++ (codes ": " ++ (fault_text f.cause ++ [])))
-
-refusal_is : (f : Fault) → refusal_text f ≡ front f ++ (place_text f.cause ++ 0x0A ∷ [])
-refusal_is f = simp (append_assoc, append-nil)
-
-refusal_whole : (f : Fault) → refusal_text f ≡ (front f ++ place_text f.cause) ++ 0x0A ∷ []
-refusal_whole f = simp (append_assoc, append-nil)
-
-pub returns-in_err-put_all-clause-bytes : goal.returns-in_err-put_all-clause-bytes
-returns-in_err-put_all-clause-bytes g c =
-    let f = c.args.fault.now in
-    let offset : c.as_bytes.result.now ≡ decimal f.offset = search rules in
-    let text : c.as_bytes-2.result.now ≡ fault_text f.cause = search rules in
-    let put = rw (offset, text) at c.in_err-put_all.ensures.bytes in
+pub returns-in_err-put-clause-bytes : goal.returns-in_err-put-clause-bytes
+returns-in_err-put-clause-bytes g c =
     GathersText-failed _ _ _ _ c.from_residual.result _ (search rules)
-    (rw (refusal_is f) (gathered-longer _ _ _ (front f) _ put))
-
-pub returns-in_err-put_place-clause-bytes : goal.returns-in_err-put_place-clause-bytes
-returns-in_err-put_place-clause-bytes g c =
-    let f = c.args.fault.now in
-    let offset : c.as_bytes.result.now ≡ decimal f.offset = search rules in
-    let text : c.as_bytes-2.result.now ≡ fault_text f.cause = search rules in
-    let put = rw (offset, text) at c.in_ok-put_all.ensures.bytes in
-    GathersText-failed _ _ _ _ c.from_residual-in_err-put_place.result _ (search rules)
-    (rw (refusal_whole f) (gathered-longer _ _ _ (front f ++ place_text f.cause) _ (Gathers-stopped _ _ _ _ _ (front f) (place_text f.cause) put c.in_err-put_place.ensures.bytes)))
+    (gathered-longer _ _ _ (codes "verdict: refused\n") _ c.in_err-put.ensures.bytes)
 
 pub returns-clause-bytes : goal.returns-clause-bytes
 returns-clause-bytes g c =
-    let f = c.args.fault.now in
-    let offset : c.as_bytes.result.now ≡ decimal f.offset = search rules in
-    let text : c.as_bytes-2.result.now ≡ fault_text f.cause = search rules in
-    let put = rw (offset, text) at c.in_ok-put_all.ensures.bytes in
-    rw (refusal_whole f) (GathersText-then _ _ _ _ _ _ c.put.result (front f ++ place_text f.cause) _
-    (Gathers-then _ _ _ _ _ _ (front f) (place_text f.cause) put c.in_ok-put_place.ensures.bytes) c.put.ensures.bytes)
+    GathersText-then _ _ _ _ _ _ c.put_fault_line.result (codes "verdict: refused\n") _ c.in_ok-put.ensures.bytes c.put_fault_line.ensures.bytes

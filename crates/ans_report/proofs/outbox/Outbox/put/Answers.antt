@@ -1,5 +1,4 @@
-use Rattle.std.proofs.Common.{rules, ◌≡◌, [], List, ap, subst, ℕ}
-use Rattle.std.specs.Io.KnownBytes.{Appends}
+use Rattle.std.proofs.Common.{rules, ◌≡◌, []}
 use Rattle.ans_report.proofs.GathersLemmas.{GathersText-directly}
 use Rattle.ans_report.proofs.outbox.Outbox.put.Goals as goal
 

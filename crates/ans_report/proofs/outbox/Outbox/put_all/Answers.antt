@@ -1,4 +1,4 @@
-use Rattle.std.proofs.Common.{rules, ◌≡◌}
+use Rattle.std.proofs.Common.{rules}
 use Rattle.ans_report.proofs.GathersLemmas.{Gathers-next, Gathers-last, GathersText-failed}
 use Rattle.ans_report.proofs.outbox.Outbox.put_all.Goals as goal
 
