@@ -206,10 +206,8 @@ impl<G: Grid> Player<G> {
         if count > 0 {
             return Ok(count);
         }
-        match self.play_byte(bytes[0]) {
-            Ok(()) => Ok(1),
-            Err(fault) => Err(fault),
-        }
+        self.play_byte(bytes[0])?;
+        Ok(1)
     }
 
     /// Prints the glyphs in front of the bytes, as far as they stand in the cursor's row before its
@@ -221,6 +219,9 @@ impl<G: Grid> Player<G> {
         ensures within { result ≤ length bytes.now }
         ensures printed { GoesOn self.old (take result bytes.now) self.new }
     {
+        if !self.scanner.is_between_tokens() {
+            return 0;
+        }
         let columns = self.columns_before_last();
         let count = self.scanner.glyphs(&bytes[..bytes.len().min(columns)]);
         if count > 0 {

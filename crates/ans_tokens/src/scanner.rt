@@ -182,26 +182,25 @@ impl Scanner {
         }
     }
 
+    /// Whether no byte was taken since the last token, and nothing was refused.
+    pub fn is_between_tokens(&self) -> bool
+        ensures { MatchBool result (IsBetweenTokens self.now) (¬ IsBetweenTokens self.now) }
+    {
+        matches!(self.open_part, Open::Nothing) && self.refusal.is_none()
+    }
+
     /// Takes the glyphs in front of the first byte that is none, each as a token of one byte, and
-    /// answers how many they are. Within a sequence and after a refusal it takes none.
+    /// answers how many they are.
     pub fn glyphs(&mut self, bytes: &[u8]) -> usize
-        requires { self.old.offset + length bytes.now ≤ longest_file }
-        ensures front { IsBetweenTokens self.old → IsGlyphFront bytes.now result }
-        ensures between { 0 < result → IsBetweenTokens self.old }
+        requires between { IsBetweenTokens self.old }
+        requires room { self.old.offset + length bytes.now ≤ longest_file }
+        ensures front { IsGlyphFront bytes.now result }
         ensures taken { self.new ≡ past self.old result }
     {
-        if self.refusal.is_some() {
-            return 0;
-        }
-        match self.open_part {
-            Open::Nothing => {
-                let count = count_glyphs(bytes);
-                self.offset += count;
-                self.start += count;
-                count
-            }
-            _ => 0,
-        }
+        let count = count_glyphs(bytes);
+        self.offset += count;
+        self.start += count;
+        count
     }
 
     /// Whether the content may end here. It answers the fault that was answered before, or F12 at

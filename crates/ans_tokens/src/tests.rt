@@ -195,6 +195,31 @@ fn asking_for_the_end_changes_nothing(rt: HostRuntime) {
     assert_eq!(rt; scanner.offset(), 2);
 }
 
+/// Glyphs are taken together up to a control, and only between two tokens.
+#[test]
+fn glyphs_are_taken_together(rt: HostRuntime) {
+    let mut scanner = Scanner::new();
+    assert!(rt; scanner.is_between_tokens());
+    assert_eq!(rt; scanner.glyphs(b"a\x00\x1a\xff\n!"), 4);
+    for control in b"\x07\x08\t\n\r\x1b" {
+        assert!(rt; scanner.is_between_tokens() && scanner.offset() == 4);
+        assert_eq!(rt; scanner.glyphs(&[*control, b'a']), 0);
+    }
+    assert!(rt; scanner.offset() == 4);
+    assert!(rt; scanner.byte(0x1B).is_ok_and(|token| token.is_none()));
+    assert!(rt; !scanner.is_between_tokens());
+    assert!(rt; scanner.offset() == 5);
+    assert!(rt; scanner.byte(b'[').is_ok());
+    assert!(rt; scanner.offset() == 6);
+    assert!(rt; scanner.byte(b'm').is_ok_and(|token| token.is_some()));
+    assert!(rt; scanner.is_between_tokens());
+    assert!(rt; scanner.offset() == 7);
+    assert!(rt; scanner.byte(0x1B).is_ok());
+    assert!(rt; scanner.offset() == 8);
+    assert!(rt; scanner.byte(b'm').is_err());
+    assert!(rt; !scanner.is_between_tokens());
+}
+
 /// A string of 100,000 escapes, a thousand leading zeros: one sequence each, read or left open.
 #[test]
 fn long_sequences(rt: HostRuntime) {

@@ -3,6 +3,7 @@ use Rattle.std.proofs.lemmas.List.{length-take-le}
 use Rattle.std.proofs.lemmas.List.Elements.{All-from_get_or, All-take}
 use Rattle.ans_model.specs.Bytes.{IsByte}
 use Rattle.ans_model.specs.State.{sized}
+use Rattle.ans_tokens.specs.Glyphs.{IsBetweenTokens}
 use Rattle.ans_screen.specs.Grids.{printed_run}
 use Rattle.ans_play.specs.Playing.{IsByteHalfCell}
 use Rattle.ans_play.proofs.Runs.{HasRoom, room_of, room_on_screen, front_of_front, printed_bytes, All-written, run_goes_on}
@@ -11,7 +12,7 @@ use Rattle.ans_play.proofs.player.Player.print_run.Goals as goal
 pub write_run-requires : goal.write_run-requires
 write_run-requires g c =
     let count : ℕ = c.glyphs-count.result in
-    let front = front_of_front c.args.bytes.now c.min.result count (c.glyphs-count.ensures.front (c.glyphs-count.ensures.between c.if-count-gt0.true)) in
+    let front = front_of_front c.args.bytes.now c.min.result count c.glyphs-count.ensures.front in
     let n : length (take count c.args.bytes.now) ≡ count = length-take-le count c.args.bytes.now front.1 in
     let room : HasRoom (sized c.self.inside.width c.self.inside.lines) c.self.inside.cursor count
     = room_of _ c.args.self.now c.columns_before_last-columns.result count c.self.view_is c.self.invariant.cursor c.columns_before_last-columns.ensures.printed c.columns_before_last-columns.ensures.refused c.if-count-gt0.true (omega (arith, front.0, c.min.ensures)) in
@@ -20,7 +21,7 @@ write_run-requires g c =
 pub invariant_of-self : goal.invariant_of-self
 invariant_of-self g c =
     let count : ℕ = c.glyphs-count.result in
-    let front = front_of_front c.args.bytes.now c.min.result count (c.glyphs-count.ensures.front (c.glyphs-count.ensures.between c.if-count-gt0.true)) in
+    let front = front_of_front c.args.bytes.now c.min.result count c.glyphs-count.ensures.front in
     let room : HasRoom (sized c.self.inside.width c.self.inside.lines) c.self.inside.cursor count
     = room_of _ c.args.self.now c.columns_before_last-columns.result count c.self.view_is c.self.invariant.cursor c.columns_before_last-columns.ensures.printed c.columns_before_last-columns.ensures.refused c.if-count-gt0.true (omega (arith, front.0, c.min.ensures)) in
     let bytes : All IsByte (take count c.args.bytes.now) = All-take IsByte count c.args.bytes.now (All-from_get_or IsByte c.args.bytes.now 0 (λ i l. omega (arith, c.type_inv.bytes i))) in
@@ -39,8 +40,8 @@ invariant_of-self g c =
 pub returns-then-count-gt0-clause-printed : goal.returns-then-count-gt0-clause-printed
 returns-then-count-gt0-clause-printed g c =
     let count : ℕ = c.glyphs-count.result in
-    let between = c.glyphs-count.ensures.between c.if-count-gt0.true in
-    let front = front_of_front c.args.bytes.now c.min.result count (c.glyphs-count.ensures.front between) in
+    let between : IsBetweenTokens c.self.inside.scanner = c.if-not-is_between_tokens.ensures in
+    let front = front_of_front c.args.bytes.now c.min.result count c.glyphs-count.ensures.front in
     let room : HasRoom (sized c.self.inside.width c.self.inside.lines) c.self.inside.cursor count
     = room_of _ c.args.self.now c.columns_before_last-columns.result count c.self.view_is c.self.invariant.cursor c.columns_before_last-columns.ensures.printed c.columns_before_last-columns.ensures.refused c.if-count-gt0.true (omega (arith, front.0, c.min.ensures)) in
     rw (← c.self.view_is, c.at-self-inside.ensures)
