@@ -1,6 +1,61 @@
-//! The tables of texts, by example.
-use crate::{fault_text, glyph_text, note_text};
+//! The tables of texts by example, and each writer on a device that takes one byte a call and fails
+//! after so many.
+ghost use Rattle.std.specs.Prelude.{◌≡◌, false};
+ghost use Rattle.ans_report.specs.Tried.{has_failed};
+
+mod records;
+mod reports;
+mod tokens;
+
+use crate::{Tried, fault_text, glyph_text, note_text};
 use ans_sauce::{Cause, Fault, Note};
+use std::io::{self, Write};
+use std::process::Abort;
+
+/// Takes one byte a write, and fails once so many are held.
+#[derive(Drop)]
+struct Narrow {
+    held: [u8; 256],
+    length: usize,
+    room: usize,
+}
+
+fn room_for(room: usize) -> Tried<Narrow>
+    ensures { has_failed result ≡ false }
+{
+    Tried::new(Narrow {
+        held: [0; 256],
+        length: 0,
+        room,
+    })
+}
+
+impl Write for Narrow {
+    fn write(&mut self, buf: &[u8]) -> io::Result<usize> {
+        if self.length >= self.room || self.length >= self.held.len() {
+            return Err(io::Error::from(io::ErrorKind::Other));
+        }
+        match buf.first() {
+            Some(byte) => {
+                self.held[self.length] = *byte;
+                self.length += 1;
+                Ok(1)
+            }
+            None => Ok(0),
+        }
+    }
+
+    fn flush(&mut self) -> io::Result<()> {
+        Ok(())
+    }
+}
+
+/// Asserts which bytes a device holds.
+fn assert_held(rt: &impl Abort, device: Tried<Narrow>, text: &[u8]) {
+    let held = device.into_inner();
+    assert!(rt; held.length <= 256);
+    assert_eq!(rt; &held.held[..held.length], text);
+}
 
 #[test]
 fn bytes_have_characters(rt: HostRuntime) {

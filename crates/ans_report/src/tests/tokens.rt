@@ -1,0 +1,133 @@
+//! The tokens of contents, as they are written.
+use crate::tests::{assert_held, room_for};
+use crate::{WriteFault, write_tokens};
+use ans_sauce::{Cause, Fault};
+use std::process::Abort;
+use std::test::Fail;
+
+/// A content, the lines of its tokens, and its fault.
+#[derive(Clone, Copy)]
+struct Row(&'static [u8], &'static [u8], Option<(usize, Cause)>);
+
+static ROWS: [Row; 18] = [
+    Row(b"", b"", None),
+    Row(
+        b"\x1b[1;37mH\x1b[3",
+        b"0 7 colours 1;37\n7 1 glyph 48\nat 8: F12 content ends in a sequence\n",
+        Some((8, Cause::EndInSequence)),
+    ),
+    Row(
+        b"\x1b[2A\x1b[;3f\x1b[=7l\x1b[m\x1b[1;m\x07",
+        b"0 4 up 2\n4 5 place 1;3\n9 5 wrap off\n14 3 colours 0\n17 5 colours 1;0\n22 1 bell\n",
+        None,
+    ),
+    Row(
+        b"\x07\x08\n\r\t\x1b[B\x1b[2C\x1b[9D\x1b[2J\x1b[K\x1b[s\x1b[u",
+        b"0 1 bell\n1 1 backspace\n2 1 linefeed\n3 1 return\n4 1 tab\n5 3 down 1\n8 4 forward 2\n12 4 backward 9\n16 4 clear\n20 3 erase\n23 3 save\n26 3 restore\n",
+        None,
+    ),
+    Row(
+        b"\x1b[?7h\x1b[?25h\x1b[6n\xff",
+        b"0 5 wrap on\n5 6 mode\n11 4 ask\n15 1 glyph ff\n",
+        None,
+    ),
+    Row(b"\x1b[13;\"dir\";13p", b"0 14 keys\n", None),
+    Row(b"\x1b[\"\x1b[2J\"p", b"0 9 keys\n", None),
+    Row(
+        b"\x1b[3",
+        b"at 0: F12 content ends in a sequence\n",
+        Some((0, Cause::EndInSequence)),
+    ),
+    Row(
+        b"\x1b[256C",
+        b"at 0: F10 number above 255\n",
+        Some((0, Cause::NumberTooLarge)),
+    ),
+    Row(
+        b"\x1b(B",
+        b"at 0: F9 broken sequence\n",
+        Some((0, Cause::BrokenSequence)),
+    ),
+    Row(
+        b"\x1b[0;0 D",
+        b"at 0: F9 broken sequence\n",
+        Some((0, Cause::BrokenSequence)),
+    ),
+    Row(
+        b"\x1b[;;;;;;;;;;;;;;;;m",
+        b"at 0: F11 more than 16 parameters\n",
+        Some((0, Cause::TooManyParameters)),
+    ),
+    Row(
+        b"\x1b[2t",
+        b"at 0: F13 unknown sequence\n",
+        Some((0, Cause::UnknownSequence)),
+    ),
+    Row(
+        b"\x1b[?6n",
+        b"at 0: F13 unknown sequence\n",
+        Some((0, Cause::UnknownSequence)),
+    ),
+    Row(
+        b"\x1b[J",
+        b"at 0: F14 wrong parameters\n",
+        Some((0, Cause::WrongParameters)),
+    ),
+    Row(
+        b"\x1b[1K",
+        b"at 0: F14 wrong parameters\n",
+        Some((0, Cause::WrongParameters)),
+    ),
+    Row(
+        b"\x1b[\"x\"m",
+        b"at 0: F14 wrong parameters\n",
+        Some((0, Cause::WrongParameters)),
+    ),
+    Row(
+        b"Hi\x1b[m\x1b[J!",
+        b"0 1 glyph 48\n1 1 glyph 69\n2 3 colours 0\nat 5: F14 wrong parameters\n",
+        Some((5, Cause::WrongParameters)),
+    ),
+];
+
+/// Asserts what is written of a content to a device that takes all, and to each that takes less.
+fn expect_tokens(rt: &impl Abort, content: &[u8], text: &[u8], fault: Option<(usize, Cause)>) {
+    assert!(rt; content.len() <= 16_777_216);
+    let fault = fault.map(|(offset, cause)| Fault { offset, cause });
+    let mut whole = room_for(256);
+    assert_eq!(rt; write_tokens(&mut whole, content), Ok(fault));
+    assert_held(rt, whole, text);
+    for room in 0..text.len() {
+        let mut narrow = room_for(room);
+        assert_eq!(rt; write_tokens(&mut narrow, content), Err(WriteFault));
+        assert_held(rt, narrow, &text[..room]);
+    }
+}
+
+#[test]
+fn contents_have_tokens(rt: HostRuntime) {
+    for Row(content, text, fault) in &ROWS {
+        expect_tokens(&rt, content, text, *fault);
+    }
+}
+
+#[test]
+fn long_sequences_are_one_token_or_none(rt: HostRuntime) -> Result<(), Fail> {
+    let mut quoted = Vec::from_slice(rt.alloc(), b"\x1b[\"")?;
+    for _ in 0..100_000u32 {
+        quoted.push(0x1B)?;
+    }
+    expect_tokens(
+        &rt,
+        quoted.as_slice(),
+        b"at 0: F12 content ends in a sequence\n",
+        Some((0, Cause::EndInSequence)),
+    );
+    let mut zeros = Vec::from_slice(rt.alloc(), b"\x1b[")?;
+    for _ in 0..1000u32 {
+        zeros.push(b'0')?;
+    }
+    zeros.extend_from_slice(b"5C")?;
+    expect_tokens(&rt, zeros.as_slice(), b"0 1004 forward 5\n", None);
+    Ok(())
+}
