@@ -1,8 +1,8 @@
 -- The play of a content in pieces.
-use Rattle.std.proofs.Common.{◌≡◌, ◌≢◌, ℕ, ◌+◌, ◌≤◌, List, [], ◌++◌, length, take, drop, Option, Some, None, refl, sym, ap, subst, ◌∙◌, arith, append_assoc, append-nil, length-append, take-append-drop, inl, inr, ◌⊎◌}
+use Rattle.std.proofs.Common.{◌≡◌, ℕ, ◌+◌, ◌≤◌, List, ◌++◌, length, take, drop, Some, sym, ap, subst, ◌∙◌, arith, append_assoc, length-append, take-append-drop, inl, inr}
 use Rattle.std.specs.Prelude.{Result, Ok, Err, IfErr}
 use Rattle.std.proofs.lemmas.List.{length-take-le, take_all}
-use Rattle.std.proofs.Math.Seq.{drop-append_seam, take-append_seam, take-length}
+use Rattle.std.proofs.Math.Seq.{drop-append_seam, take-append_seam}
 use Rattle.ans_model.specs.State.{Size}
 use Rattle.ans_model.specs.Starts.{Class, class_of}
 use Rattle.ans_model.specs.FirstFault.{IsFirstFault}
@@ -13,6 +13,7 @@ use Rattle.ans_model.specs.declared.start.Start.{Start}
 use Rattle.ans_model.specs.declared.start.Start.TheVariants.{Cleared}
 use Rattle.ans_play.specs.Playing.{Playing}
 use Rattle.ans_play.specs.Stands.{Stands, SamePlay}
+use Rattle.ans_play.proofs.TwoStarts.{first_shown, last_shown}
 use Rattle.ans_check.specs.Verdicts.{Deserves}
 
 -- a piece comes off what is left of the content
@@ -71,6 +72,7 @@ fed_fault a b content piece rest n f same c stands fault certain offset =
     record {
       deserved = inl first;
       certain = certain;
+      shown = first_shown a.size (class_of a.start) content f first;
       offset = omega (arith, c.fits);
     }
 
@@ -83,6 +85,7 @@ last_fault a b content f same last certain offset =
     record {
       deserved = inr here;
       certain = certain;
+      shown = last_shown a.size (class_of a.start) content f here;
       offset = offset;
     }
 

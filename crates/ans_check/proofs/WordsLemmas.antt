@@ -18,7 +18,7 @@ use Rattle.clap.specs.declared.parser.matches.SubCommand.{SubCommand}
 use Rattle.std.proofs.Common.{inl, inr, ◌⊎◌}
 use Rattle.clap.specs.Walk.{answers_to, stop_after}
 use Rattle.clap.specs.Simple.{built, entered, label_of, rows_at, names_of, argument_words}
-use Rattle.ans_check.specs.declared.choices.Command.TheVariants.{Check}
+use Rattle.ans_check.specs.declared.choices.Command.TheVariants.{Check, Sauce, Tokens}
 use Rattle.std.specs.Prelude.{IsErrAnd, IfErr}
 use Rattle.std.proofs.Common.{subst, ◌↔◌, IsTrue}
 use Rattle.clap.specs.Words.{first_of}
@@ -99,19 +99,27 @@ pub is_command : (words : List Text) (name : Text) (rows : List Row) → subcomm
     → IsNoCommand name → ⊥
 is_command words name rows e none = elim (entered_named (built anscheck) (stop_after (built anscheck).top.rules (names_of (built anscheck)) (argument_words anscheck words)) name rows e) [
   | inl check ↦ none Check (sym check)
-  | inr never ↦ absurd never
+  | inr others ↦ elim others [
+    | inl sauce ↦ none Sauce (sym sauce)
+    | inr last ↦ elim last [
+      | inl tokens ↦ none Tokens (sym tokens)
+      | inr never ↦ absurd never
+    ]
+  ]
 ]
 
 -- the clause, by its parts
 pub options_are : (words : List Text) (o : Options) (file : Option Text) (name : Text) (rows : List Row)
     → subcommand_of anscheck words ≡ Some (name, rows) → name ≡ command_name o.command
     → ((o.start ≡ Cleared) ↔ IsTrue (holds_flag (codes "cleared") rows))
+    → (IsTrue o.cells ↔ IsTrue (holds_flag (codes "cells") rows))
     → file ≡ first_of (codes "file") rows → AreOptionsOf words o file
-options_are words o file name rows e named start given =
+options_are words o file name rows e named start cells given =
     let P : Option (Text × List Row) → Type 0 = λ s. IsSomeAnd s (λ p. (p.0 ≡ command_name o.command)
     × ((o.start ≡ Cleared) ↔ IsTrue (holds_flag (codes "cleared") p.1))
+    × (IsTrue o.cells ↔ IsTrue (holds_flag (codes "cells") p.1))
     × (file ≡ first_of (codes "file") p.1)) in
-    subst P (sym e) (named, start, given)
+    subst P (sym e) (named, start, cells, given)
 
 -- what is known of an error gives what is wanted of it
 pub err_weaker : {T E : Type 0} (r : Result T E) (P Q : E → Type 0) → IsErrAnd r P → ((e : E) → P e → Q e) → IfErr r Q

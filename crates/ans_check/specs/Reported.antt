@@ -1,10 +1,12 @@
 -- What a run writes of a file.
-use Rattle.std.specs.Prelude.{◌≡◌, ◌⊎◌, ℕ, Bool, true, false, List, length, Some}
+use Rattle.std.specs.Prelude.{◌≡◌, ◌⊎◌, ℕ, Bool, true, false, List, length, Option, Some, None}
 use Rattle.ans_model.specs.Layout.{content}
 use Rattle.ans_model.specs.Notes.{notes}
 use Rattle.ans_model.specs.Refusals.{Accepts, record_fault}
 use Rattle.ans_model.specs.Starts.{class_of}
 use Rattle.ans_model.specs.Good.{Picture, GoodWith}
+use Rattle.ans_model.specs.RecordText.{record_text}
+use Rattle.ans_model.specs.TokensText.{TokensText}
 use Rattle.ans_model.specs.ReportText.{Heading, Passed, RefusedFor, refusal_text, report_text}
 use Rattle.ans_model.specs.declared.fault.Fault.{Fault}
 use Rattle.ans_model.specs.declared.start.Start.{Start}
@@ -12,6 +14,9 @@ use Rattle.ans_model.specs.State.{sized}
 use Rattle.ans_sauce.specs.Parts.{width_of, lines_of}
 use Rattle.ans_report.specs.Headings.{heading_of}
 use Rattle.ans_report.specs.Reports.{refused_text}
+use Rattle.ans_check.specs.declared.choices.Command.{Command}
+use Rattle.ans_check.specs.declared.choices.Command.TheVariants.{Check, Sauce, Tokens}
+use Rattle.ans_check.specs.declared.choices.Options.{Options}
 use Rattle.ans_check.specs.declared.verdict.Verdict.{Verdict}
 use Rattle.ans_check.specs.declared.verdict.Verdict.TheVariants.{Pass, Refused}
 use Rattle.ans_check.specs.Verdicts.{Deserves, IsGoodFile, stated_size}
@@ -25,15 +30,15 @@ heading body record_bytes start = record {
   notes = notes body record_bytes;
 }
 
--- The file is accepted so, from every start of the class the body's content plays well and shows the picture, and the text reports this.
-pub record ReportsPass (file : List ℕ) (start : Start) (text : List ℕ) : Type 0 where
+-- The file is accepted so, from every start of the class the body's content plays well and shows the picture, and the text reports this, with the picture's cells where they are asked for.
+pub record ReportsPass (file : List ℕ) (start : Start) (cells : Bool) (text : List ℕ) : Type 0 where
   pub body : List ℕ
   pub comment_bytes : List ℕ
   pub record_bytes : List ℕ
   pub picture : Picture
   pub accepts : Accepts file body comment_bytes record_bytes
   pub good : GoodWith (stated_size record_bytes) (class_of start) (content body) picture
-  pub text_is : text ≡ report_text (heading body record_bytes start) (Passed picture false)
+  pub text_is : text ≡ report_text (heading body record_bytes start) (Passed picture cells)
 
 -- the file is accepted so, the body's content deserves a fault, and the text reports it
 pub record ReportsFault (file : List ℕ) (start : Start) (text : List ℕ) : Type 0 where
@@ -51,10 +56,46 @@ pub record ReportsRecordFault (file text : List ℕ) : Type 0 where
   pub fault_is : record_fault file ≡ Some fault
   pub text_is : text ≡ refusal_text fault
 
--- the answer and the text are right of the file; a good file is not refused
-abbrev pub Reports : List ℕ → Start → Bool → List ℕ → Type 0
-Reports file start true text = ReportsPass file start text
-Reports file start false text = ¬ IsGoodFile file start × (ReportsFault file start text ⊎ ReportsRecordFault file text)
+-- The answer and the text are what a check finds of the file; a good file is not refused.
+abbrev pub ReportsCheck : List ℕ → Start → Bool → Bool → List ℕ → Type 0
+ReportsCheck file start cells true text = ReportsPass file start cells text
+ReportsCheck file start cells false text = ¬ IsGoodFile file start × (ReportsFault file start text ⊎ ReportsRecordFault file text)
+
+-- the file is accepted so, and the text is its record's
+pub record ReportsRecord (file text : List ℕ) : Type 0 where
+  pub body : List ℕ
+  pub comment_bytes : List ℕ
+  pub record_bytes : List ℕ
+  pub accepts : Accepts file body comment_bytes record_bytes
+  pub text_is : text ≡ record_text body comment_bytes record_bytes
+
+-- the file's record is told, or why it is refused
+abbrev pub ReportsSauce : List ℕ → Bool → List ℕ → Type 0
+ReportsSauce file true text = ReportsRecord file text
+ReportsSauce file false text = ReportsRecordFault file text
+
+-- the file is accepted so, and the text has the tokens of the body's content and the fault that ends their reading
+pub record ReportsContent (file : List ℕ) (fault : Option Fault) (text : List ℕ) : Type 0 where
+  pub body : List ℕ
+  pub comment_bytes : List ℕ
+  pub record_bytes : List ℕ
+  pub accepts : Accepts file body comment_bytes record_bytes
+  pub text_is : TokensText (content body) fault text
+
+-- The content's tokens are told; where a fault ends their reading, or the record is refused, the file does not pass.
+abbrev pub ReportsTokens : List ℕ → Bool → List ℕ → Type 0
+ReportsTokens file true text = ReportsContent file None text
+ReportsTokens file false text = ((fault : Fault) × ReportsContent file (Some fault) text) ⊎ ReportsRecordFault file text
+
+-- the answer and the text are what the command is to tell of the file
+abbrev pub ReportsBy : Command → Start → Bool → List ℕ → Bool → List ℕ → Type 0
+ReportsBy Check start cells file passed text = ReportsCheck file start cells passed text
+ReportsBy Sauce start cells file passed text = ReportsSauce file passed text
+ReportsBy Tokens start cells file passed text = ReportsTokens file passed text
+
+-- the answer and the text are what the options ask of the file
+abbrev pub Reports : Options → List ℕ → Bool → List ℕ → Type 0
+Reports options file passed text = ReportsBy options.command options.start options.cells file passed text
 
 abbrev pub is_pass : {G : Type 0} → Verdict G → Bool
 is_pass (Pass parts picture) = true
@@ -65,7 +106,7 @@ abbrev pub HasFittingPicture : {G : Type 0} → Verdict G → Type 0
 HasFittingPicture (Pass parts picture) = picture.size ≡ sized (width_of parts) (lines_of parts)
 HasFittingPicture (Refused parts fault) = Unit {0}
 
--- the text of a verdict
-abbrev pub verdict_bytes : {G : Type 0} → Start → Verdict G → List ℕ
-verdict_bytes start (Pass parts picture) = report_text (heading_of parts start) (Passed picture false)
-verdict_bytes start (Refused parts fault) = refused_text parts start fault
+-- the text of a verdict, with the cells of a pass or without
+abbrev pub verdict_bytes : {G : Type 0} → Start → Bool → Verdict G → List ℕ
+verdict_bytes start cells (Pass parts picture) = report_text (heading_of parts start) (Passed picture cells)
+verdict_bytes start cells (Refused parts fault) = refused_text parts start fault

@@ -1,5 +1,5 @@
 -- What a verdict says of a file.
-use Rattle.std.specs.Prelude.{◌≡◌, ◌⊎◌, ℕ, ◌≤◌, List, length, Option, Some, None}
+use Rattle.std.specs.Prelude.{◌≡◌, ◌⊎◌, ℕ, ◌≤◌, List, length, Some, None}
 use Rattle.ans_model.specs.Record.{stated_width, stated_lines}
 use Rattle.ans_model.specs.Layout.{content}
 use Rattle.ans_model.specs.Refusals.{Accepts, record_fault}
@@ -9,6 +9,7 @@ use Rattle.ans_model.specs.Good.{Picture, GoodWith, IsGood}
 use Rattle.ans_model.specs.FirstFault.{IsFirstFault}
 use Rattle.ans_model.specs.LastFault.{IsLastFault}
 use Rattle.ans_model.specs.Certain.{IsCertain}
+use Rattle.ans_model.specs.TwoStarts.{IsShownByTwoStarts}
 use Rattle.ans_model.specs.declared.fault.Fault.{Fault}
 use Rattle.ans_model.specs.declared.start.Start.{Start}
 use Rattle.ans_model.specs.declared.start.Start.TheVariants.{Cleared}
@@ -21,10 +22,12 @@ use Rattle.ans_check.specs.declared.verdict.Verdict.TheVariants.{Pass, Refused}
 abbrev pub stated_size : List ℕ → Size
 stated_size record_bytes = sized (stated_width record_bytes) (stated_lines record_bytes)
 
--- The fault is the content's first; where no token has one, it is the last. From the cleared start it is certain.
+-- The fault is the content's first; where no token has one, it is the last. From the cleared start it is certain. Where
+-- it depends on the start, the plays from the low and the high start of the class show it.
 pub record Deserves (z : Size) (start : Start) (bytes : List ℕ) (fault : Fault) : Type 0 where
   pub deserved : IsFirstFault z (class_of start) bytes fault ⊎ IsLastFault z (class_of start) bytes fault
   pub certain : start ≡ Cleared → IsCertain fault.cause
+  pub shown : IsShownByTwoStarts z (class_of start) bytes fault
   pub offset : fault.offset ≤ length bytes
 
 -- The file is accepted so, these are its parts, and from every start of the class the body's content plays well and shows the picture.

@@ -9,7 +9,7 @@ use Rattle.ans_model.specs.declared.start.Start.TheVariants.{Cleared}
 use Rattle.ans_check.specs.declared.words.WordsError.{WordsError}
 use Rattle.ans_check.specs.declared.words.WordsError.TheVariants as words_error
 use Rattle.ans_check.specs.declared.choices.Command.{Command}
-use Rattle.ans_check.specs.declared.choices.Command.TheVariants.{Check}
+use Rattle.ans_check.specs.declared.choices.Command.TheVariants.{Check, Sauce, Tokens}
 use Rattle.ans_check.specs.declared.choices.Options.{Options}
 
 -- `--NAME`
@@ -24,9 +24,17 @@ file_rule = record (new_rule (codes "file")) { value_names = 1 }
 abbrev pub file_app : Text → App
 file_app name = with_rule (new_app name) file_rule
 
--- `check [--cleared] [FILE]`
+-- `check [--cleared] [--cells] [FILE]`
 abbrev pub check_app : App
-check_app = with_rule (file_app (codes "check")) (flag_rule (codes "cleared"))
+check_app = with_rule (with_rule (file_app (codes "check")) (flag_rule (codes "cleared"))) (flag_rule (codes "cells"))
+
+-- `sauce [FILE]`
+abbrev pub sauce_app : App
+sauce_app = file_app (codes "sauce")
+
+-- `tokens [FILE]`
+abbrev pub tokens_app : App
+tokens_app = file_app (codes "tokens")
 
 -- `anscheck`, which wants a subcommand and has no subcommand `help`
 abbrev pub anscheck_top : App
@@ -35,11 +43,13 @@ anscheck_top = let a = new_app (codes "anscheck") in
 
 -- the program's command line
 abbrev pub anscheck : App
-anscheck = with_subcommand anscheck_top check_app.top
+anscheck = with_subcommand (with_subcommand (with_subcommand anscheck_top check_app.top) sauce_app.top) tokens_app.top
 
 -- the subcommand of each command
 abbrev pub command_name : Command → Text
 command_name Check = codes "check"
+command_name Sauce = codes "sauce"
+command_name Tokens = codes "tokens"
 
 -- no command has this name
 abbrev pub IsNoCommand : Text → Type 0
@@ -49,11 +59,13 @@ IsNoCommand name = (c : Command) → name ≢ command_name c
 abbrev pub holds_flag : Text → List Row → Bool
 holds_flag id rows = option_map_or (λ t. bytes_eq t (codes "true")) (one_of id rows) false
 
--- Clap's matches of the words name the command as their subcommand, hold the flag exactly where the start is the
--- cleared screen, and hold the file exactly where one is given, with that text.
+-- Clap's matches of the words name the command as their subcommand, hold `--cleared` exactly where the start is the
+-- cleared screen and `--cells` exactly where the cells are asked for, and hold the file exactly where one is given,
+-- with that text.
 abbrev pub AreOptionsOf : List Text → Options → Option Text → Type 0
 AreOptionsOf words o file = IsSomeAnd (subcommand_of anscheck words) (λ p. (p.0 ≡ command_name o.command)
     × ((o.start ≡ Cleared) ↔ IsTrue (holds_flag (codes "cleared") p.1))
+    × (IsTrue o.cells ↔ IsTrue (holds_flag (codes "cells") p.1))
     × (file ≡ first_of (codes "file") p.1))
 
 -- the error is want of memory

@@ -7,12 +7,18 @@ use ans_model::start::Start;
 pub enum Command {
     /// Checks it, and writes the report.
     Check,
+    /// Writes what its record says, or why the file is refused for its record or its layout.
+    Sauce,
+    /// Writes the tokens of its content, or why the file is refused for its record or its layout.
+    Tokens,
 }
 
 /// What the command line asks for.
 #[derive(Debug, Clone, Copy, PartialEq, Eq)]
 pub struct Options {
     pub command: Command,
-    /// The states that the content may find.
+    /// The states that the content may find. Only a check reads it.
     pub start: Start,
+    /// Whether the report of a pass also tells each cell. Only a check reads it.
+    pub cells: bool,
 }

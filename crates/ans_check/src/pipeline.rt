@@ -4,7 +4,7 @@ ghost use Rattle.std.specs.Io.KnownBytes.{Appends};
 ghost use Rattle.ans_model.specs.Bytes.{longest_file};
 ghost use Rattle.ans_report.specs.Tried.{call_count, has_failed, inner_of};
 ghost use Rattle.ans_report.specs.Writes.{AppendsPrefix, WritesText};
-ghost use Rattle.ans_check.specs.Reported.{Reports, HasFittingPicture, is_pass, verdict_bytes};
+ghost use Rattle.ans_check.specs.Reported.{Reports, ReportsCheck, ReportsSauce, ReportsTokens, HasFittingPicture, is_pass, verdict_bytes};
 ghost use Rattle.ans_check.specs.Run.{HasRead};
 
 use crate::choices::{Command, Options};
@@ -12,7 +12,10 @@ use crate::errors::RunError;
 use crate::reading::read_all;
 use crate::verdict::{Verdict, check};
 use ans_model::start::Start;
-use ans_report::{Report, Tried, WriteFault, write_report};
+use ans_report::{
+    Report, Tried, WriteFault, write_record, write_refusal, write_report, write_tokens,
+};
+use ans_sauce::split;
 use ans_screen::{Grid, PlainGrid};
 use std::alloc::Global;
 use std::io::{Read, Write};
@@ -22,13 +25,14 @@ fn write_verdict<W: Write, G: Grid>(
     writer: &mut Tried<W>,
     verdict: &Verdict<'_, G>,
     start: Start,
+    cells: bool,
 ) -> Result<bool, WriteFault>
     requires works { has_failed writer.old ≡ false }
     requires fits { HasFittingPicture verdict.now }
     ensures passed { IfOk result (λ passed. passed ≡ is_pass verdict.now) }
     ensures fault { IsErr result ↔ IsTrue (has_failed writer.new) }
     ensures bytes { WritesText (W.contents (inner_of writer.old)) (W.contents (inner_of writer.new))
-        result (verdict_bytes start verdict.now) }
+        result (verdict_bytes start cells verdict.now) }
 {
     match verdict {
         Verdict::Pass(parts, picture) => {
@@ -36,6 +40,7 @@ fn write_verdict<W: Write, G: Grid>(
                 parts,
                 start,
                 picture,
+                cells,
             };
             write_report(writer, &report)?;
             Ok(true)
@@ -58,15 +63,16 @@ fn report<W: Write>(
     writer: &mut Tried<W>,
     file: &[u8],
     start: Start,
+    cells: bool,
 ) -> Result<bool, RunError>
     requires works { has_failed writer.old ≡ false }
     requires length { length file.now ≤ longest_file }
     ensures ok { IfOk result (λ passed. (text : List ℕ)
-        × Reports file.now start passed text
+        × ReportsCheck file.now start cells passed text
         × Appends (W.contents (inner_of writer.old)) (W.contents (inner_of writer.new)) text) }
     ensures prefix { IsErrOf result RunError.Write → (
         (passed : Bool) × (text : List ℕ)
-        × Reports file.now start passed text
+        × ReportsCheck file.now start cells passed text
         × AppendsPrefix (W.contents (inner_of writer.old)) (W.contents (inner_of writer.new))
         text) }
     ensures unwritten { IfErr result (λ e. e ≢ RunError.Write → writer.new ≡ writer.old) }
@@ -76,15 +82,98 @@ fn report<W: Write>(
     let Ok(verdict) = check::<PlainGrid>(alloc, file, start) else {
         return Err(RunError::Memory);
     };
-    let passed = write_verdict(writer, &verdict, start)?;
+    let passed = write_verdict(writer, &verdict, start, cells)?;
     Ok(passed)
 }
 
-/// Reads all, checks it and writes the report. `Ok` tells whether the file passes.
+/// Writes what a file's record says, or why the file is refused. Tells whether it is accepted.
+fn tell_record<W: Write>(writer: &mut Tried<W>, file: &[u8]) -> Result<bool, WriteFault>
+    requires { has_failed writer.old ≡ false }
+    ensures fault { IsErr result ↔ IsTrue (has_failed writer.new) }
+    ensures ok { IfOk result (λ accepted. (text : List ℕ)
+        × ReportsSauce file.now accepted text
+        × Appends (W.contents (inner_of writer.old)) (W.contents (inner_of writer.new)) text) }
+    ensures prefix { IfErr result (λ _. (accepted : Bool) × (text : List ℕ)
+        × ReportsSauce file.now accepted text
+        × AppendsPrefix (W.contents (inner_of writer.old)) (W.contents (inner_of writer.new))
+        text) }
+{
+    match split(file) {
+        Ok(parts) => {
+            write_record(writer, &parts)?;
+            Ok(true)
+        }
+        Err(fault) => {
+            write_refusal(writer, &fault)?;
+            Ok(false)
+        }
+    }
+}
+
+/// Writes the tokens of a file's content, or why the file is refused. Tells whether it is accepted
+/// and all of its content is read.
+fn tell_tokens<W: Write>(writer: &mut Tried<W>, file: &[u8]) -> Result<bool, WriteFault>
+    requires works { has_failed writer.old ≡ false }
+    requires length { length file.now ≤ longest_file }
+    ensures fault { IsErr result ↔ IsTrue (has_failed writer.new) }
+    ensures ok { IfOk result (λ passed. (text : List ℕ)
+        × ReportsTokens file.now passed text
+        × Appends (W.contents (inner_of writer.old)) (W.contents (inner_of writer.new)) text) }
+    ensures prefix { IfErr result (λ _. (passed : Bool) × (text : List ℕ)
+        × ReportsTokens file.now passed text
+        × AppendsPrefix (W.contents (inner_of writer.old)) (W.contents (inner_of writer.new))
+        text) }
+{
+    match split(file) {
+        Ok(parts) => {
+            let fault = write_tokens(writer, parts.content())?;
+            Ok(fault.is_none())
+        }
+        Err(fault) => {
+            write_refusal(writer, &fault)?;
+            Ok(false)
+        }
+    }
+}
+
+/// Does with a file what is asked. Tells whether the file passes.
+fn answer<W: Write>(
+    alloc: Global,
+    writer: &mut Tried<W>,
+    file: &[u8],
+    options: &Options,
+) -> Result<bool, RunError>
+    requires works { has_failed writer.old ≡ false }
+    requires length { length file.now ≤ longest_file }
+    ensures ok { IfOk result (λ passed. (text : List ℕ)
+        × Reports options.now file.now passed text
+        × Appends (W.contents (inner_of writer.old)) (W.contents (inner_of writer.new)) text) }
+    ensures prefix { IsErrOf result RunError.Write → (
+        (passed : Bool) × (text : List ℕ)
+        × Reports options.now file.now passed text
+        × AppendsPrefix (W.contents (inner_of writer.old)) (W.contents (inner_of writer.new))
+        text) }
+    ensures unwritten { IfErr result (λ e. e ≢ RunError.Write → writer.new ≡ writer.old) }
+    ensures write { IsErrOf result RunError.Write ↔ IsTrue (has_failed writer.new) }
+    ensures errors { IfErr result (λ e. (e ≡ RunError.Memory) ⊎ (e ≡ RunError.Write)) }
+{
+    let passed = match options.command {
+        Command::Check => report(alloc, writer, file, options.start, options.cells)?,
+        Command::Sauce => tell_record(writer, file)?,
+        Command::Tokens => tell_tokens(writer, file)?,
+    };
+    Ok(passed)
+}
+
+/// Reads all, and writes what the options ask of it: the report of a check, the text of the record
+/// (SAUCE 00.5), or the tokens of the content. Where the record or the layout is refused, F1 to F8,
+/// the two lines of the refusal are written instead. `Ok` tells whether the file passes: a check
+/// finds its content good, its record is accepted, or all of its content is read as tokens.
 ///
 /// `Read` comes exactly where the reader failed in the call, `Write` exactly where the writer did,
-/// and `TooLong` as soon as more than 16,777,216 bytes were read. After `Write` a prefix of the
-/// report was written, and after any other error nothing. It makes at most 16,777,218 reads.
+/// and `TooLong` as soon as more than 16,777,216 bytes were read. `Memory` comes where the file, or
+/// for a check its screen, found none. After `Write` a prefix of the text was written, and after any
+/// other error nothing. It makes at most 16,777,218 reads.
 pub fn run<R: Read, W: Write>(
     alloc: Global,
     reader: &mut Tried<R>,
@@ -97,12 +186,12 @@ pub fn run<R: Read, W: Write>(
     // One file was read, is judged and is reported on.
     ensures ok { IfOk result (λ passed. (file : List ℕ) × (text : List ℕ)
         × HasRead (R.remaining (inner_of reader.old)) (R.remaining (inner_of reader.new)) file
-        × Reports file options.now.start passed text
+        × Reports options.now file passed text
         × Appends (W.contents (inner_of writer.old)) (W.contents (inner_of writer.new)) text) }
     ensures prefix { IsErrOf result RunError.Write → (
         (file : List ℕ) × (passed : Bool) × (text : List ℕ)
         × HasRead (R.remaining (inner_of reader.old)) (R.remaining (inner_of reader.new)) file
-        × Reports file options.now.start passed text
+        × Reports options.now file passed text
         × AppendsPrefix (W.contents (inner_of writer.old)) (W.contents (inner_of writer.new))
         text) }
     ensures unwritten { IfErr result (λ e. e ≢ RunError.Write → writer.new ≡ writer.old) }
@@ -116,7 +205,5 @@ pub fn run<R: Read, W: Write>(
     ensures calls { call_count reader.new ≤ call_count reader.old + 16777218 }
 {
     let file = read_all(alloc, reader)?;
-    match options.command {
-        Command::Check => report(alloc, writer, file.as_slice(), options.start),
-    }
+    answer(alloc, writer, file.as_slice(), options)
 }

@@ -26,6 +26,13 @@ impl From<clap::Error> for WordsError {
     }
 }
 
+/// What the help of each command ends in.
+const STATUSES: &str = "\
+Exit status:
+  0  The file passes, or this help was asked for
+  1  The file is refused
+  2  There is no answer; standard error says why";
+
 /// `NAME [FILE]`.
 fn file_command<'a>(
     alloc: Global,
@@ -36,19 +43,31 @@ fn file_command<'a>(
 {
     let file = Arg::new(alloc, "file")
         .value_name("FILE")
-        .help("The file; without it standard input is read");
-    clap::Command::new(alloc, name).about(about).arg(file)
+        .help("The file to read; without it standard input is read");
+    clap::Command::new(alloc, name)
+        .about(about)
+        .after_help(STATUSES)
+        .arg(file)
 }
 
-/// `check [--cleared] [FILE]`.
+/// `check [--cleared] [--cells] [FILE]`.
 fn check_command<'a>(alloc: Global) -> Result<clap::Command<'a>, AllocError>
     ensures { IfOk result (λ c. app_of c ≡ check_app) }
 {
     let cleared = Arg::new(alloc, "cleared")
         .long("cleared")
         .action(ArgAction::SetTrue)
-        .help("Starts from a cleared screen");
-    file_command(alloc, "check", "Checks a file")?.arg(cleared)
+        .help("Play from a cleared screen alone, not from every screen, cursor, colour and wrap");
+    let cells = Arg::new(alloc, "cells")
+        .long("cells")
+        .action(ArgAction::SetTrue)
+        .help("Print each cell of the picture too: its byte and its attribute, in hexadecimal");
+    let command = file_command(
+        alloc,
+        "check",
+        "Check that a file shows one picture from every start, and print that picture",
+    )?;
+    command.arg(cleared)?.arg(cells)
 }
 
 /// The program's command line.
@@ -56,11 +75,20 @@ fn program<'a>(alloc: Global) -> Result<clap::Command<'a>, AllocError>
     ensures { IfOk result (λ c. app_of c ≡ anscheck) }
 {
     let check = check_command(alloc)?;
+    let sauce = file_command(alloc, "sauce", "Print what a file's SAUCE record says")?;
+    let tokens = file_command(
+        alloc,
+        "tokens",
+        "Print the bytes and the escape sequences of a file's content, one a line",
+    )?;
     clap::Command::new(alloc, "anscheck")
-        .about("Checks SAUCE-marked ANSI art")
+        .about("Checks ANSI art files that end in a SAUCE record")
+        .after_help(STATUSES)
         .subcommand_required(true)
         .disable_help_subcommand(true)
-        .subcommand(check)
+        .subcommand(check)?
+        .subcommand(sauce)?
+        .subcommand(tokens)
 }
 
 /// Whether the matches hold the flag.
@@ -77,6 +105,8 @@ fn command_named(name: &str) -> Option<Command>
 {
     match name {
         "check" => Some(Command::Check),
+        "sauce" => Some(Command::Sauce),
+        "tokens" => Some(Command::Tokens),
         _ => None,
     }
 }
@@ -104,7 +134,9 @@ fn file_of(alloc: Global, matches: &ArgMatches<'_>) -> Result<Option<String>, Wo
 }
 
 /// The options and the file that the program's words give, its own name first:
-/// `anscheck check [--cleared] [FILE]`. Without `--cleared` the start is any.
+/// `anscheck check [--cleared] [--cells] [FILE]`, `anscheck sauce [FILE]` or `anscheck tokens
+/// [FILE]`. Without `--cleared` the start is any, and without `--cells` no cells are asked for; so it
+/// is with `sauce` and `tokens`, which take no flags.
 ///
 /// `Err` comes only where clap refuses the words or answers with help, and where memory is wanting.
 pub fn options(alloc: Global, words: &[&str]) -> Result<(Options, Option<String>), WordsError>
@@ -126,6 +158,12 @@ pub fn options(alloc: Global, words: &[&str]) -> Result<(Options, Option<String>
         unreachable!()
     };
     let start = start_of(holds(found, "cleared"));
+    let cells = holds(found, "cells");
     let file = file_of(alloc, found)?;
-    Ok((Options { command, start }, file))
+    let options = Options {
+        command,
+        start,
+        cells,
+    };
+    Ok((options, file))
 }

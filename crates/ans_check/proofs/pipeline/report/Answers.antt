@@ -6,15 +6,15 @@ pub returns-in_err-passed-clause-prefix : goal.returns-in_err-passed-clause-pref
 returns-in_err-passed-clause-prefix g c bad =
     let v = c.in-Ok.verdict in (
       is_pass v,
-      verdict_bytes c.args.start v,
-      verdict_reported c.args.file.now c.args.start v c.in-Ok.ensures.verdict c.in-Ok.ensures.exact,
+      verdict_bytes c.args.start c.args.cells v,
+      verdict_reported c.args.file.now c.args.start c.args.cells v c.in-Ok.ensures.verdict c.in-Ok.ensures.exact,
       c.in_err-passed.ensures.bytes,
     )
 
 pub returns-clause-ok : goal.returns-clause-ok
 returns-clause-ok g c =
     let v = c.in-Ok.verdict in (
-      verdict_bytes c.args.start v,
-      rw c.in_ok-passed.ensures.passed (verdict_reported c.args.file.now c.args.start v c.in-Ok.ensures.verdict c.in-Ok.ensures.exact),
+      verdict_bytes c.args.start c.args.cells v,
+      rw c.in_ok-passed.ensures.passed (verdict_reported c.args.file.now c.args.start c.args.cells v c.in-Ok.ensures.verdict c.in-Ok.ensures.exact),
       c.in_ok-passed.ensures.bytes,
     )

@@ -1,5 +1,5 @@
-use Rattle.std.proofs.Common.{sym, ap₂, ◌∙◌, ◌≡◌}
-use Rattle.ans_model.specs.State.{Size, sized}
+use Rattle.std.proofs.Common.{ap₂, ◌∙◌, ◌≡◌}
+use Rattle.ans_model.specs.State.{sized}
 use Rattle.ans_model.proofs.FirstRefusal.{within_law}
 use Rattle.ans_sauce.specs.Parts.{width_of, lines_of}
 use Rattle.ans_check.specs.Verdicts.{RefusesContent}

@@ -1,4 +1,4 @@
-use Rattle.std.proofs.Common.{◌≡◌, List, ℕ, take, drop, length, ◌∙◌, ap, sym, subst}
+use Rattle.std.proofs.Common.{List, ℕ, take, drop, ◌∙◌, ap, sym, subst}
 use Rattle.std.proofs.lemmas.Result.{IfOk-weaker}
 use Rattle.std.specs.Slice.Iter.{chunks_rest}
 use Rattle.ans_model.specs.State.{Size}

@@ -27,7 +27,7 @@ returns-clause-ok c =
     let met = rows_met m c.in-Some.name.now (rows_of (found_of c.in-Some.found.now)) c.in-Some.ensures.name c.in-Some.ensures.rows in
     let rows = rows_of (found_of c.in-Some.found.now) in
     options_are words _ _ c.in-Some.name.now rows (sym same ∙ met) c.in-Some-command_named.ensures.some
-    (search rules) c.in_ok-file.ensures.ok
+    (search rules) (search rules) c.in_ok-file.ensures.ok
 
 pub returns-in_err-matches-clause-refuses : goal.returns-in_err-matches-clause-refuses
 returns-in_err-matches-clause-refuses c =

@@ -1,0 +1,139 @@
+//! Reports of checks, byte for byte.
+use super::{ANY, CLEARED, expect_run, file_of, of_size, plain};
+use crate::{Command, Options, Start};
+
+/// A check from the cleared screen that tells the cells.
+const CELLS: Options = Options {
+    command: Command::Check,
+    start: Start::Cleared,
+    cells: true,
+};
+
+/// A content, its width and lines, what is asked, whether it passes, and the report.
+static REPORTS: [(&[u8], u16, u16, Options, bool, &[u8]); 8] = [
+    (
+        b"\x1b[?7h\x1b[0m\x1b[2JHi",
+        2,
+        1,
+        ANY,
+        true,
+        b"size: 2 x 1\nstart: any\ncontent: 15 bytes\nverdict: pass\npicture:\nHi\n",
+    ),
+    (
+        b"Hi",
+        2,
+        1,
+        ANY,
+        false,
+        b"size: 2 x 1\nstart: any\ncontent: 2 bytes\nverdict: refused\nat 0: F22 print at an unknown place\n",
+    ),
+    (
+        b"Hi",
+        2,
+        1,
+        CLEARED,
+        true,
+        b"size: 2 x 1\nstart: cleared\ncontent: 2 bytes\nverdict: pass\npicture:\nHi\n",
+    ),
+    (
+        b"",
+        3,
+        2,
+        ANY,
+        false,
+        b"size: 3 x 2\nstart: any\ncontent: 0 bytes\nverdict: refused\nat 0: F25 cell stays unknown (row 1, column 1)\n",
+    ),
+    (
+        b"\xdb\x7f",
+        2,
+        2,
+        CLEARED,
+        true,
+        b"size: 2 x 2\nstart: cleared\ncontent: 2 bytes\nverdict: pass\npicture:\n\xe2\x96\x88\xe2\x8c\x82\n  \n",
+    ),
+    (
+        b"",
+        1,
+        1,
+        CLEARED,
+        true,
+        b"size: 1 x 1\nstart: cleared\ncontent: 0 bytes\nverdict: pass\npicture:\n \n",
+    ),
+    (
+        b"Hi!",
+        2,
+        1,
+        CELLS,
+        false,
+        b"size: 2 x 1\nstart: cleared\ncontent: 3 bytes\nverdict: refused\nat 2: F20 print below the stated lines\n",
+    ),
+    (
+        b"H\x1b[3",
+        2,
+        1,
+        CELLS,
+        false,
+        b"size: 2 x 1\nstart: cleared\ncontent: 4 bytes\nverdict: refused\nat 1: F12 content ends in a sequence\n",
+    ),
+];
+
+#[test]
+fn a_file_is_read_and_reported_on(rt: HostRuntime) {
+    for (content, width, lines, asked, passes, text) in &REPORTS {
+        let file = plain(&rt, content, *width, *lines);
+        expect_run(&rt, file.as_slice(), asked, 256, Ok(*passes), text);
+    }
+}
+
+/// A content, its width and lines, and the report of its pass with the cells.
+static WITH_CELLS: [(&[u8], u16, u16, &[u8]); 5] = [
+    (
+        b"Hi",
+        2,
+        1,
+        b"size: 2 x 1\nstart: cleared\ncontent: 2 bytes\nverdict: pass\npicture:\nHi\ncells:\n48076907\n",
+    ),
+    (
+        b"\x1b[0;1;5;33;44mA",
+        1,
+        1,
+        b"size: 1 x 1\nstart: cleared\ncontent: 15 bytes\nverdict: pass\npicture:\nA\ncells:\n419e\n",
+    ),
+    (
+        b"abc\x1b[1;2H\x1b[44m\x1b[K",
+        3,
+        1,
+        b"size: 3 x 1\nstart: cleared\ncontent: 17 bytes\nverdict: pass\npicture:\na  \ncells:\n610720172017\n",
+    ),
+    (
+        b"\xdb\x00",
+        2,
+        1,
+        b"size: 2 x 1\nstart: cleared\ncontent: 2 bytes\nverdict: pass\npicture:\n\xe2\x96\x88 \ncells:\ndb070007\n",
+    ),
+    (
+        b"ab",
+        1,
+        2,
+        b"size: 1 x 2\nstart: cleared\ncontent: 2 bytes\nverdict: pass\npicture:\na\nb\ncells:\n6107\n6207\n",
+    ),
+];
+
+#[test]
+fn cells_are_told_row_by_row(rt: HostRuntime) {
+    for (content, width, lines, text) in &WITH_CELLS {
+        let file = plain(&rt, content, *width, *lines);
+        expect_run(&rt, file.as_slice(), &CELLS, 256, Ok(true), text);
+    }
+}
+
+#[test]
+fn a_report_without_a_record_is_its_fault(rt: HostRuntime) {
+    let text: &[u8] = b"verdict: refused\nat 127: F1 no SAUCE record\n";
+    expect_run(&rt, &[b'S'; 127], &CLEARED, 256, Ok(false), text);
+    expect_run(&rt, &[b'S'; 127], &CELLS, 256, Ok(false), text);
+    let noted = file_of(&rt, b"", of_size(0, 1));
+    let text: &[u8] =
+        b"size: 80 x 1\nstart: any\ncontent: 0 bytes\nnote: width 0 taken as 80\nnote: no end mark after the content\nnote: file size differs from the content\nverdict: refused\nat 0: F25 cell stays unknown (row 1, column 1)\n";
+    expect_run(&rt, noted.as_slice(), &ANY, 256, Ok(false), text);
+}
