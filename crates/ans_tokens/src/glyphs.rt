@@ -3,7 +3,8 @@
 ghost use Rattle.std.specs.Prelude.{MatchBool};
 ghost use Rattle.ans_tokens.specs.Glyphs.{IsGlyphByte, IsGlyphFront};
 
-/// Whether the byte alone is the token that prints it: all but the controls of ANSI.SYS are.
+/// Whether the byte alone is the token that prints it: all are but BEL, BS, TAB, LF, CR and ESC
+/// (ANSI.SYS).
 fn is_glyph(byte: u8) -> bool
     ensures { MatchBool result (IsGlyphByte byte) (¬ IsGlyphByte byte) }
 {

@@ -89,7 +89,7 @@ impl Open {
     }
 }
 
-/// Reads a content byte by byte.
+/// Reads a content byte by byte, and glyphs also many at a time.
 ///
 /// It keeps its offset and what is needed of the bytes since the last token, and never the bytes
 /// themselves: its size is a small constant.
@@ -182,7 +182,8 @@ impl Scanner {
         }
     }
 
-    /// Whether no byte was taken since the last token, and nothing was refused.
+    /// Whether it stands between two tokens: at the start or behind a whole token, with nothing
+    /// refused.
     pub fn is_between_tokens(&self) -> bool
         ensures { MatchBool result (IsBetweenTokens self.now) (¬ IsBetweenTokens self.now) }
     {
@@ -190,7 +191,8 @@ impl Scanner {
     }
 
     /// Takes the glyphs in front of the first byte that is none, each as a token of one byte, and
-    /// answers how many they are.
+    /// answers how many they are. It is called between two tokens. All bytes but BEL, BS, TAB, LF,
+    /// CR and ESC are glyphs (ANSI.SYS).
     pub fn glyphs(&mut self, bytes: &[u8]) -> usize
         requires between { IsBetweenTokens self.old }
         requires room { self.old.offset + length bytes.now ≤ longest_file }
