@@ -23,7 +23,8 @@ fn put_cells_row<W: Write, G: Grid>(
     requires works { has_failed w.old ≡ false }
     requires row { row < picture.now.size.lines }
     ensures fault { IsErr result ↔ IsTrue (has_failed w.new) }
-    ensures bytes { GathersText (W.contents (inner_of w.old)) (W.contents (inner_of w.new)) out.old.waiting.items out.new.waiting.items result (cells_line (row_of picture.now row)) }
+    ensures bytes { GathersText (W.contents (inner_of w.old)) (W.contents (inner_of w.new))
+        out.old.waiting.items out.new.waiting.items result (cells_line (row_of picture.now row)) }
 {
     for col in 0..picture.width() {
         let digits = cell_digits(picture.glyph(row, col), picture.attr(row, col));
@@ -40,7 +41,9 @@ fn put_cells_rows<W: Write, G: Grid>(
 ) -> Result<(), WriteFault>
     requires { has_failed w.old ≡ false }
     ensures fault { IsErr result ↔ IsTrue (has_failed w.new) }
-    ensures bytes { GathersText (W.contents (inner_of w.old)) (W.contents (inner_of w.new)) out.old.waiting.items out.new.waiting.items result (flat_map cells_line (rows_of picture.now)) }
+    ensures bytes { GathersText (W.contents (inner_of w.old)) (W.contents (inner_of w.new))
+        out.old.waiting.items out.new.waiting.items result
+        (flat_map cells_line (rows_of picture.now)) }
 {
     for row in 0..picture.lines() {
         put_cells_row(out, w, picture, row)?;
@@ -57,7 +60,9 @@ pub(crate) fn put_cells<W: Write, G: Grid>(
 ) -> Result<(), WriteFault>
     requires { has_failed w.old ≡ false }
     ensures fault { IsErr result ↔ IsTrue (has_failed w.new) }
-    ensures bytes { GathersText (W.contents (inner_of w.old)) (W.contents (inner_of w.new)) out.old.waiting.items out.new.waiting.items result (if cells then cells_text picture.now else []) }
+    ensures bytes { GathersText (W.contents (inner_of w.old)) (W.contents (inner_of w.new))
+        out.old.waiting.items out.new.waiting.items result
+        (if cells then cells_text picture.now else []) }
 {
     if !cells {
         return Ok(());

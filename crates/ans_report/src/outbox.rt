@@ -25,7 +25,8 @@ pub(crate) struct Outbox {
 fn write_text<W: Write>(w: &mut Tried<W>, text: &[u8]) -> Result<(), WriteFault>
     requires { has_failed w.old ≡ false }
     ensures fault { IsErr result ↔ IsTrue (has_failed w.new) }
-    ensures bytes { WritesText (W.contents (inner_of w.old)) (W.contents (inner_of w.new)) result text.now }
+    ensures bytes { WritesText (W.contents (inner_of w.old)) (W.contents (inner_of w.new))
+        result text.now }
 {
     let mut written = 0;
     while written < text.len() {
@@ -50,7 +51,8 @@ impl Outbox {
     pub(crate) fn flush<W: Write>(&mut self, w: &mut Tried<W>) -> Result<(), WriteFault>
         requires { has_failed w.old ≡ false }
         ensures fault { IsErr result ↔ IsTrue (has_failed w.new) }
-        ensures bytes { WritesText (W.contents (inner_of w.old)) (W.contents (inner_of w.new)) result self.old.waiting.items }
+        ensures bytes { WritesText (W.contents (inner_of w.old)) (W.contents (inner_of w.new))
+            result self.old.waiting.items }
         ensures empty { OnOk result (self.new.waiting.items ≡ []) }
     {
         write_text(w, self.waiting.as_slice())?;
@@ -62,7 +64,8 @@ impl Outbox {
     pub(crate) fn put<W: Write>(&mut self, w: &mut Tried<W>, text: &[u8]) -> Result<(), WriteFault>
         requires { has_failed w.old ≡ false }
         ensures fault { IsErr result ↔ IsTrue (has_failed w.new) }
-        ensures bytes { GathersText (W.contents (inner_of w.old)) (W.contents (inner_of w.new)) self.old.waiting.items self.new.waiting.items result text.now }
+        ensures bytes { GathersText (W.contents (inner_of w.old)) (W.contents (inner_of w.new))
+            self.old.waiting.items self.new.waiting.items result text.now }
     {
         if self.waiting.try_extend_from_slice(text).is_ok() {
             return Ok(());
@@ -82,7 +85,8 @@ impl Outbox {
     ) -> Result<(), WriteFault>
         requires { has_failed w.old ≡ false }
         ensures fault { IsErr result ↔ IsTrue (has_failed w.new) }
-        ensures bytes { GathersText (W.contents (inner_of w.old)) (W.contents (inner_of w.new)) self.old.waiting.items self.new.waiting.items result (flat_map (λ t. t.now) texts.now) }
+        ensures bytes { GathersText (W.contents (inner_of w.old)) (W.contents (inner_of w.new))
+            self.old.waiting.items self.new.waiting.items result (flat_map (λ t. t.now) texts.now) }
     {
         for text in texts {
             self.put(w, text)?;

@@ -31,7 +31,8 @@ fn put_row<W: Write, G: Grid>(
     requires works { has_failed w.old ≡ false }
     requires row { row < picture.now.size.lines }
     ensures fault { IsErr result ↔ IsTrue (has_failed w.new) }
-    ensures bytes { GathersText (W.contents (inner_of w.old)) (W.contents (inner_of w.new)) out.old.waiting.items out.new.waiting.items result (picture_line (row_of picture.now row)) }
+    ensures bytes { GathersText (W.contents (inner_of w.old)) (W.contents (inner_of w.new))
+        out.old.waiting.items out.new.waiting.items result (picture_line (row_of picture.now row)) }
 {
     for col in 0..picture.width() {
         let mut buffer = [0; 4];
@@ -49,7 +50,9 @@ fn put_rows<W: Write, G: Grid>(
 ) -> Result<(), WriteFault>
     requires { has_failed w.old ≡ false }
     ensures fault { IsErr result ↔ IsTrue (has_failed w.new) }
-    ensures bytes { GathersText (W.contents (inner_of w.old)) (W.contents (inner_of w.new)) out.old.waiting.items out.new.waiting.items result (flat_map picture_line (rows_of picture.now)) }
+    ensures bytes { GathersText (W.contents (inner_of w.old)) (W.contents (inner_of w.new))
+        out.old.waiting.items out.new.waiting.items result
+        (flat_map picture_line (rows_of picture.now)) }
     ensures whole { IsPictureOf picture.now.size picture.now }
 {
     for row in 0..picture.lines() {
@@ -70,7 +73,9 @@ pub(crate) fn put_pass<W: Write, G: Grid>(
     requires works { has_failed w.old ≡ false }
     requires fits { picture.now.size ≡ sized (width_of parts.now) (lines_of parts.now) }
     ensures fault { IsErr result ↔ IsTrue (has_failed w.new) }
-    ensures bytes { GathersText (W.contents (inner_of w.old)) (W.contents (inner_of w.new)) out.old.waiting.items out.new.waiting.items result (report_text (heading_of parts.now start) (Passed picture.now cells)) }
+    ensures bytes { GathersText (W.contents (inner_of w.old)) (W.contents (inner_of w.new))
+        out.old.waiting.items out.new.waiting.items result
+        (report_text (heading_of parts.now start) (Passed picture.now cells)) }
     ensures whole { OnOk result (IsPictureOf picture.now.size picture.now) }
 {
     put_heading(out, w, parts, start)?;

@@ -45,7 +45,9 @@ fn put_refused_file<W: Write>(
 ) -> Result<(), WriteFault>
     requires { has_failed w.old ≡ false }
     ensures fault { IsErr result ↔ IsTrue (has_failed w.new) }
-    ensures bytes { GathersText (W.contents (inner_of w.old)) (W.contents (inner_of w.new)) out.old.waiting.items out.new.waiting.items result (refused_text (option_copied parts.entry) start fault.now) }
+    ensures bytes { GathersText (W.contents (inner_of w.old)) (W.contents (inner_of w.new))
+        out.old.waiting.items out.new.waiting.items result
+        (refused_text (option_copied parts.entry) start fault.now) }
 {
     match parts {
         Some(parts) => put_refused(out, w, parts, start, fault),
@@ -62,7 +64,8 @@ fn put_report<W: Write, G: Grid>(
     requires works { has_failed w.old ≡ false }
     requires fits { IsFitting r.now }
     ensures fault { IsErr result ↔ IsTrue (has_failed w.new) }
-    ensures bytes { GathersText (W.contents (inner_of w.old)) (W.contents (inner_of w.new)) out.old.waiting.items out.new.waiting.items result (report_bytes r.now) }
+    ensures bytes { GathersText (W.contents (inner_of w.old)) (W.contents (inner_of w.new))
+        out.old.waiting.items out.new.waiting.items result (report_bytes r.now) }
     ensures cells_back { OnOk result (TellsCells r.now) }
 {
     match r {
@@ -94,7 +97,8 @@ pub fn write_report<W: Write, G: Grid>(
     requires works { has_failed w.old ≡ false }
     requires fits { IsFitting r.now }
     ensures fault { IsErr result ↔ IsTrue (has_failed w.new) }
-    ensures bytes { WritesText (W.contents (inner_of w.old)) (W.contents (inner_of w.new)) result (report_bytes r.now) }
+    ensures bytes { WritesText (W.contents (inner_of w.old)) (W.contents (inner_of w.new))
+        result (report_bytes r.now) }
     ensures cells_back { OnOk result (TellsCells r.now) }
 {
     let mut out = Outbox::new();
@@ -108,7 +112,8 @@ pub fn write_report<W: Write, G: Grid>(
 pub fn write_refusal<W: Write>(w: &mut Tried<W>, f: &Fault) -> Result<(), WriteFault>
     requires { has_failed w.old ≡ false }
     ensures fault { IsErr result ↔ IsTrue (has_failed w.new) }
-    ensures bytes { WritesText (W.contents (inner_of w.old)) (W.contents (inner_of w.new)) result (refusal_text f.now) }
+    ensures bytes { WritesText (W.contents (inner_of w.old)) (W.contents (inner_of w.new))
+        result (refusal_text f.now) }
 {
     let mut out = Outbox::new();
     put_refusal(&mut out, w, f)?;

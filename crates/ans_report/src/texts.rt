@@ -78,7 +78,9 @@ fn put_file_lines<W: Write>(
 ) -> Result<(), WriteFault>
     requires { has_failed w.old ≡ false }
     ensures fault { IsErr result ↔ IsTrue (has_failed w.new) }
-    ensures bytes { GathersText (W.contents (inner_of w.old)) (W.contents (inner_of w.new)) out.old.waiting.items out.new.waiting.items result (heading_text (heading_without_notes parts.now start)) }
+    ensures bytes { GathersText (W.contents (inner_of w.old)) (W.contents (inner_of w.new))
+        out.old.waiting.items out.new.waiting.items result
+        (heading_text (heading_without_notes parts.now start)) }
 {
     let mut width = itoa::Buffer::new();
     let mut lines = itoa::Buffer::new();
@@ -103,7 +105,8 @@ fn put_file_lines<W: Write>(
 fn put_note<W: Write>(out: &mut Outbox, w: &mut Tried<W>, note: &Note) -> Result<(), WriteFault>
     requires { has_failed w.old ≡ false }
     ensures fault { IsErr result ↔ IsTrue (has_failed w.new) }
-    ensures bytes { GathersText (W.contents (inner_of w.old)) (W.contents (inner_of w.new)) out.old.waiting.items out.new.waiting.items result (note_line note.now) }
+    ensures bytes { GathersText (W.contents (inner_of w.old)) (W.contents (inner_of w.new))
+        out.old.waiting.items out.new.waiting.items result (note_line note.now) }
 {
     out.put_all(w, &[b"note: ", note_text(note).as_bytes(), b"\n"])
 }
@@ -116,7 +119,8 @@ pub(crate) fn put_notes<W: Write>(
 ) -> Result<(), WriteFault>
     requires { has_failed w.old ≡ false }
     ensures fault { IsErr result ↔ IsTrue (has_failed w.new) }
-    ensures bytes { GathersText (W.contents (inner_of w.old)) (W.contents (inner_of w.new)) out.old.waiting.items out.new.waiting.items result (flat_map note_line notes.now) }
+    ensures bytes { GathersText (W.contents (inner_of w.old)) (W.contents (inner_of w.new))
+        out.old.waiting.items out.new.waiting.items result (flat_map note_line notes.now) }
 {
     for note in notes {
         put_note(out, w, note)?;
@@ -133,7 +137,9 @@ pub(crate) fn put_heading<W: Write>(
 ) -> Result<(), WriteFault>
     requires { has_failed w.old ≡ false }
     ensures fault { IsErr result ↔ IsTrue (has_failed w.new) }
-    ensures bytes { GathersText (W.contents (inner_of w.old)) (W.contents (inner_of w.new)) out.old.waiting.items out.new.waiting.items result (heading_text (heading_of parts.now start)) }
+    ensures bytes { GathersText (W.contents (inner_of w.old)) (W.contents (inner_of w.new))
+        out.old.waiting.items out.new.waiting.items result
+        (heading_text (heading_of parts.now start)) }
 {
     put_file_lines(out, w, parts, start)?;
     put_notes(out, w, parts.notes().as_slice())
@@ -143,7 +149,8 @@ pub(crate) fn put_heading<W: Write>(
 fn put_place<W: Write>(out: &mut Outbox, w: &mut Tried<W>, cause: &Cause) -> Result<(), WriteFault>
     requires { has_failed w.old ≡ false }
     ensures fault { IsErr result ↔ IsTrue (has_failed w.new) }
-    ensures bytes { GathersText (W.contents (inner_of w.old)) (W.contents (inner_of w.new)) out.old.waiting.items out.new.waiting.items result (place_text cause.now) }
+    ensures bytes { GathersText (W.contents (inner_of w.old)) (W.contents (inner_of w.new))
+        out.old.waiting.items out.new.waiting.items result (place_text cause.now) }
 {
     let Cause::UnknownCell { row, col } = *cause else {
         return Ok(());
@@ -170,7 +177,8 @@ pub(crate) fn put_fault_line<W: Write>(
 ) -> Result<(), WriteFault>
     requires { has_failed w.old ≡ false }
     ensures fault { IsErr result ↔ IsTrue (has_failed w.new) }
-    ensures bytes { GathersText (W.contents (inner_of w.old)) (W.contents (inner_of w.new)) out.old.waiting.items out.new.waiting.items result (fault_line fault.now) }
+    ensures bytes { GathersText (W.contents (inner_of w.old)) (W.contents (inner_of w.new))
+        out.old.waiting.items out.new.waiting.items result (fault_line fault.now) }
 {
     let mut offset = itoa::Buffer::new();
     out.put_all(
@@ -194,7 +202,8 @@ pub(crate) fn put_refusal<W: Write>(
 ) -> Result<(), WriteFault>
     requires { has_failed w.old ≡ false }
     ensures fault { IsErr result ↔ IsTrue (has_failed w.new) }
-    ensures bytes { GathersText (W.contents (inner_of w.old)) (W.contents (inner_of w.new)) out.old.waiting.items out.new.waiting.items result (refusal_text fault.now) }
+    ensures bytes { GathersText (W.contents (inner_of w.old)) (W.contents (inner_of w.new))
+        out.old.waiting.items out.new.waiting.items result (refusal_text fault.now) }
 {
     out.put(w, b"verdict: refused\n")?;
     put_fault_line(out, w, fault)
@@ -210,7 +219,9 @@ pub(crate) fn put_refused<W: Write>(
 ) -> Result<(), WriteFault>
     requires { has_failed w.old ≡ false }
     ensures fault { IsErr result ↔ IsTrue (has_failed w.new) }
-    ensures bytes { GathersText (W.contents (inner_of w.old)) (W.contents (inner_of w.new)) out.old.waiting.items out.new.waiting.items result (report_text (heading_of parts.now start) (RefusedFor fault.now)) }
+    ensures bytes { GathersText (W.contents (inner_of w.old)) (W.contents (inner_of w.new))
+        out.old.waiting.items out.new.waiting.items result
+        (report_text (heading_of parts.now start) (RefusedFor fault.now)) }
 {
     put_heading(out, w, parts, start)?;
     put_refusal(out, w, fault)
