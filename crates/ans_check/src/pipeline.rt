@@ -129,8 +129,8 @@ fn tell_tokens<W: Write>(writer: &mut Tried<W>, file: &[u8]) -> Result<bool, Wri
             let fault = write_tokens(writer, parts.content())?;
             Ok(fault.is_none())
         }
-        Err(fault) => {
-            write_refusal(writer, &fault)?;
+        Err(refusal) => {
+            write_refusal(writer, &refusal)?;
             Ok(false)
         }
     }

@@ -36,7 +36,8 @@ fn refuse_words(rt: &(impl Print + Eprint), error: &WordsError) -> u8
         clap::error::ErrorKind::OutOfMemory => fault(rt, UNREADABLE_WORDS),
         _ => match error.print(rt) {
             Ok(()) if !error.use_stderr() => 0,
-            _ => 2,
+            Ok(()) => 2,
+            Err(_) => fault(rt, RunError::Write.text()),
         },
     }
 }

@@ -18,7 +18,7 @@ returns-in_err-fault-in-Ok-clause-prefix g c =
 
 pub returns-in_err-write_refusal-in-Err-clause-prefix : goal.returns-in_err-write_refusal-in-Err-clause-prefix
 returns-in_err-write_refusal-in-Err-clause-prefix g c =
-    let f = c.in-Err.fault in
+    let f = c.in-Err.refusal in
     err_weaker c.from_residual-in_err-write_refusal-in-Err.result _ _ c.from_residual-in_err-write_refusal-in-Err.ensures.1 (λ e is. (
       false,
       refusal_text f,
