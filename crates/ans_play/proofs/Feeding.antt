@@ -1,9 +1,7 @@
 -- A byte played behind others, and a piece of bytes.
 use Rattle.std.proofs.Common.{◌≡◌, ℕ, ◌+◌, ◌-◌, ◌≤◌, refl, sym, ap, ◌∙◌, arith, List, [], ◌∷◌, ◌++◌, length, length-append, take, drop, append_assoc, Some, None, inl, inr, subst}
-use Rattle.std.specs.List.{concat}
 use Rattle.std.proofs.lemmas.List.{append-nil, take_all, take-append-drop, length-drop}
 use Rattle.std.proofs.Math.Seq.{take-add}
-use Rattle.std.proofs.lemmas.List.Folds.{concat-append}
 use Rattle.ans_model.specs.Token.{Token}
 use Rattle.ans_model.specs.Reads.{SpellsToken, Reads}
 use Rattle.ans_model.specs.State.{Size}
@@ -13,6 +11,7 @@ use Rattle.ans_model.specs.declared.fault.Fault.{Fault}
 use Rattle.ans_model.proofs.Reading.{token_prints}
 use Rattle.ans_model.specs.Sequence.{IsUnfinished}
 use Rattle.ans_model.specs.View.{token_of}
+use Rattle.ans_tokens.proofs.Readable.{reads_as_more}
 use Rattle.ans_tokens.specs.Scanning.{Scanning, Holds, IsTokenOf, IsFaultOf}
 use Rattle.ans_tokens.specs.Token.{kind_of, start_of}
 use Rattle.ans_tokens.specs.declared.token.Token.{Token as Spelled}
@@ -21,19 +20,12 @@ use Rattle.ans_play.specs.HalfStep.{half_step}
 use Rattle.ans_play.specs.HalfFault.{half_fault}
 use Rattle.ans_play.specs.Playing.{Playing}
 use Rattle.ans_play.specs.Stands.{IsPlayed, Stands, SamePlay, GoesOn, PlaysFront, IsDeserved}
-use Rattle.ans_play.proofs.Zips.{AllZip-append}
 use Rattle.ans_play.proofs.Faults.{known_more, blamed, unblamed, allowed}
 use Rattle.ans_play.proofs.Clean.{clean_more}
 
 -- ---- one byte
 reads_more : (bytes text : List ℕ) (tokens : List Token) (t : Token) → Reads bytes tokens → SpellsToken t text → Reads (bytes ++ text) (tokens ++ t ∷ [])
-reads_more bytes text tokens t (texts, r) spelled = (
-  texts ++ text ∷ [],
-  record {
-    each = AllZip-append SpellsToken tokens texts (t ∷ []) (text ∷ []) r.each (spelled, tt);
-    whole = ap (λ (xs : List ℕ). xs ++ text) r.whole ∙ sym (concat-append texts (text ∷ []) ∙ ap (λ (xs : List ℕ). concat texts ++ xs) (append-nil text));
-  },
-)
+reads_more bytes text tokens t (texts, r) spelled = (texts ++ text ∷ [], reads_as_more bytes text tokens texts t r spelled)
 
 -- a front and an open part, with one more byte
 longer : (front y : List ℕ) (s : List ℕ) (byte : ℕ) → s ≡ front ++ y → s ++ byte ∷ [] ≡ front ++ (y ++ byte ∷ [])

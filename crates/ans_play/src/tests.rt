@@ -156,6 +156,15 @@ fn answers_its_fault_again(rt: HostRuntime) -> Result<(), Fail> {
     Ok(())
 }
 
+/// Asserts that a row's cells are blank from a column on.
+fn expect_blanks(rt: &impl Abort, picture: &Picture<PlainGrid>, row: usize, from: usize) {
+    assert!(rt; row < picture.lines());
+    for col in from..picture.width() {
+        assert_eq!(rt; picture.glyph(row, col), b' ');
+        assert_eq!(rt; picture.attr(row, col), 0x07);
+    }
+}
+
 /// Plays 4095 letters and a coloured one in pieces of a size.
 fn play_letters(rt: &impl Abort, alloc: Global, content: &[u8], size: usize) -> Result<(), Fail> {
     assert!(rt; 0 < size);
@@ -171,9 +180,7 @@ fn play_letters(rt: &impl Abort, alloc: Global, content: &[u8], size: usize) -> 
             assert_eq!(rt; picture.glyph(51, 14), b'a');
             assert_eq!(rt; picture.glyph(51, 15), b'b');
             assert_eq!(rt; picture.attr(51, 15), 0x0F);
-            assert_eq!(rt; picture.glyph(51, 16), b' ');
-            assert_eq!(rt; picture.attr(51, 16), 0x07);
-            assert_eq!(rt; picture.glyph(51, 79), b' ');
+            expect_blanks(rt, &picture, 51, 16);
         }
         Err(fault) => panic!(rt; "refused: {fault:?}"),
     }
