@@ -1,7 +1,6 @@
 -- A report on what was found is right of the file.
 use Rattle.std.proofs.Common.{◌≡◌, ◌⊎◌, ◌↔◌, ◌+◌, ◌<◌, ℕ, Bool, false, List, length, Option, Some, None, Result, Ok, Err, inl, inr, refl, sym, ap, ap₂, subst, ◌∙◌, not, true, true≢false}
 use Rattle.std.specs.Prelude.{IfSome, IsErr, IfErr, IsErrAnd, IsErrOf, is_some}
-use Rattle.ans_report.specs.Writes.{AppendsPrefix, WritesText}
 use Rattle.ans_model.specs.Good.{Picture}
 use Rattle.ans_model.specs.Refusals.{record_fault}
 use Rattle.ans_model.specs.RecordText.{record_text}
@@ -11,9 +10,12 @@ use Rattle.ans_model.specs.State.{sized}
 use Rattle.ans_model.specs.declared.fault.Fault.{Fault}
 use Rattle.ans_model.specs.declared.start.Start.{Start}
 use Rattle.ans_sauce.specs.declared.parts.Parts.{Parts}
-use Rattle.ans_sauce.specs.Parts.{ShowsParts, content_of}
+use Rattle.ans_sauce.specs.Parts.{ShowsParts, content_of, width_of, lines_of}
 use Rattle.ans_sauce.specs.Layouts.{IsSplit}
 use Rattle.ans_report.specs.Headings.{heading_of}
+use Rattle.ans_report.specs.Reports.{IsFitting, refused_text, report_bytes}
+use Rattle.ans_report.specs.declared.report.Report.{Report}
+use Rattle.ans_report.specs.declared.report.Report.TheVariants as report
 use Rattle.ans_model.specs.Bytes.{longest_file}
 use Rattle.ans_check.specs.declared.reading.ReadFault.{ReadFault}
 use Rattle.ans_check.specs.declared.reading.ReadFault.TheVariants as fault
@@ -22,7 +24,7 @@ use Rattle.ans_check.specs.declared.errors.RunError.TheVariants.{TooLong, Memory
 use Rattle.ans_check.specs.declared.verdict.Verdict.{Verdict}
 use Rattle.ans_check.specs.declared.verdict.Verdict.TheVariants.{Pass, Refused}
 use Rattle.ans_check.specs.Verdicts.{Passes, RefusesContent, IsVerdictOn, IsPass, IsGoodFile}
-use Rattle.ans_check.specs.Reported.{heading, ReportsPass, ReportsFault, ReportsRecordFault, ReportsCheck, ReportsRecord, ReportsContent, ReportsTokens, HasFittingPicture, is_pass, verdict_bytes}
+use Rattle.ans_check.specs.Reported.{heading, ReportsPass, ReportsFault, ReportsRecordFault, ReportsCheck, ReportsRecord, ReportsContent, ReportsTokens, IsReportOf, is_pass}
 
 -- the heading of a file's parts
 heading_is : (body comment_bytes record_bytes : List ℕ) (parts : Parts) (start : Start) → ShowsParts body comment_bytes record_bytes parts
@@ -76,23 +78,34 @@ read_whole (Some xs) (Some ys) v r h k = (λ bad. absurd (not_too_long r h bad),
     never : IsErrOf (read_of v) fault.TooLong → ⊥
     never e = cc
 
--- the text of a verdict that is true of a file reports on it
-pub verdict_reported : {G : Type 0} (file : List ℕ) (start : Start) (cells : Bool) (v : Verdict G) → IsVerdictOn file start v → (IsGoodFile file start → IsPass v)
-    → ReportsCheck file start cells (is_pass v) (verdict_bytes start cells v)
-verdict_reported file start cells (Pass parts picture) h good = pass_reported file start cells parts picture h
-verdict_reported file start cells (Refused (Some parts) f) h good = (good, inl (fault_reported file start parts f h))
-verdict_reported file start cells (Refused None f) h good = (good, inr (record_reported file f h))
+-- what holds of some values holds of values equal to them
+of_equals : {A B C : Type 0} (P : A → B → C → Type 0) {a x : A} {b y : B} {c z : C} → a ≡ x → b ≡ y → c ≡ z → P x y z → P a b c
+of_equals P p q r h = rw (p, q, r) h
+
+-- the report that tells a verdict which is true of a file reports on it
+pub verdict_reported : {G : Type 0} (file : List ℕ) (start : Start) (cells : Bool) (v : Verdict G) (r : Report G) → IsReportOf v start cells r
+    → IsVerdictOn file start v → (IsGoodFile file start → IsPass v) → ReportsCheck file start cells (is_pass v) (report_bytes r)
+verdict_reported file start cells (Pass parts picture) (report.Pass told from shown asked) (p, s, i, c) h good =
+    of_equals (λ (v : Parts) (at : Start) (see : Picture × Bool). ReportsPass file start cells (report_text (heading_of v at) (Passed see.0 see.1)))
+    p s (ap₂ (λ (a : Picture) (b : Bool). (a, b)) i c) (pass_reported file start cells parts picture h)
+verdict_reported file start cells (Refused (Some parts) f) (report.Refused told from fault) (p, s, same) h good =
+    of_equals (λ (v : Option Parts) (at : Start) (why : Fault). ReportsCheck file start cells false (refused_text v at why))
+    p s same (good, inl (fault_reported file start parts f h))
+verdict_reported file start cells (Refused None f) (report.Refused told from fault) (p, s, same) h good =
+    of_equals (λ (v : Option Parts) (at : Start) (why : Fault). ReportsCheck file start cells false (refused_text v at why))
+    p s same (good, inr (record_reported file f h))
+verdict_reported file start cells (Pass parts picture) (report.Refused told from fault) never h good = absurd never
+verdict_reported file start cells (Refused parts f) (report.Pass told from shown asked) never h good = absurd never
 
 -- its picture fits its parts
-pub fitting : {G : Type 0} (file : List ℕ) (start : Start) (v : Verdict G) → IsVerdictOn file start v → HasFittingPicture v
-fitting file start (Pass parts picture) h = h.good.shows.is_picture.size ∙ sym (ap₂ sized h.shows.width h.shows.lines)
-fitting file start (Refused parts f) h = tt
-
--- at an error a prefix of the text was written
-pub failed_writing : {A E : Type 0} (r : Result A E) (P : E → Type 0) (a b : Option (List ℕ)) (text : List ℕ) → IsErrAnd r P → AppendsPrefix a b text
-    → WritesText a b r text
-failed_writing (Ok v) P a b text h k = absurd h
-failed_writing (Err e) P a b text h k = k
+pub fitting : {G : Type 0} (file : List ℕ) (start : Start) (cells : Bool) (v : Verdict G) (r : Report G) → IsReportOf v start cells r
+    → IsVerdictOn file start v → IsFitting r
+fitting file start cells (Pass parts picture) (report.Pass told from shown asked) (p, s, i, c) h =
+    of_equals (λ (v : Parts) (see : Picture) (at : Start). see.size ≡ sized (width_of v) (lines_of v))
+    p i s (h.good.shows.is_picture.size ∙ sym (ap₂ sized h.shows.width h.shows.lines))
+fitting file start cells (Refused parts f) (report.Refused told from fault) same h = tt
+fitting file start cells (Pass parts picture) (report.Refused told from fault) never h = absurd never
+fitting file start cells (Refused parts f) (report.Pass told from shown asked) never h = absurd never
 
 -- an error comes exactly where the device has failed, at an error of which that is known
 pub failed_too : {A E : Type 0} (r : Result A E) (P : E → Type 0) (B : Type 0) → IsErrAnd r P → B → IsErr r ↔ B

@@ -1,6 +1,6 @@
 -- What clap's matches give of the program's words.
 use Rattle.std.proofs.Common.{Result, Ok, Err, ◌≡◌, ◌∙◌, Bool, true, false, List, [], ◌∷◌, Option, Some, None, refl, sym, ap, codes, option_map, unwrap_or}
-use Rattle.std.specs.Prelude.{find, IsSomeAnd}
+use Rattle.std.specs.Prelude.{find, IsSome, IsSomeAnd}
 use Rattle.std.specs.Option.{option_map_or}
 use Rattle.std.specs.Str.{bytes_eq}
 use Rattle.std.specs.Str.Parse.{ParsesBool}
@@ -20,11 +20,13 @@ use Rattle.clap.specs.Walk.{answers_to, stop_after}
 use Rattle.clap.specs.Simple.{built, entered, label_of, rows_at, names_of, argument_words}
 use Rattle.ans_check.specs.declared.choices.Command.TheVariants.{Check, Sauce, Tokens}
 use Rattle.std.specs.Prelude.{IsErrAnd, IfErr}
-use Rattle.std.proofs.Common.{subst, ◌↔◌, IsTrue}
-use Rattle.clap.specs.Words.{first_of}
-use Rattle.ans_model.specs.declared.start.Start.TheVariants.{Cleared}
+use Rattle.std.proofs.Common.{subst, ◌&&◌, not}
+use Rattle.clap.specs.declared.builder.command.Command.{Command}
+use Rattle.clap.specs.Words.{app_of, IsParsedFrom}
+use Rattle.clap.proofs.CallerLemmas.{subcommand_required}
+use Rattle.clap.proofs.TakesLemmas.{some_rows}
 use Rattle.ans_check.specs.declared.choices.Options.{Options}
-use Rattle.ans_check.specs.Words.{holds_flag, anscheck, IsNoCommand, AreOptionsOf, command_name}
+use Rattle.ans_check.specs.Words.{holds_flag, anscheck, IsCommand, AsksFor}
 
 not_true : (b : Bool) → (b ≡ true → ⊥) → b ≡ false
 not_true true h = absurd (h refl)
@@ -94,10 +96,11 @@ entered_named : (a : App) (stop : Option (Text × List Text)) (name : Text) (row
 entered_named a None name rows e = cc
 entered_named a (Some p) name rows e = found_named p.1 (λ s. answers_to p.0 (label_of s)) a.subs name rows e
 
--- a subcommand of the program is one of its commands
-pub is_command : (words : List Text) (name : Text) (rows : List Row) → subcommand_of anscheck words ≡ Some (name, rows)
-    → IsNoCommand name → ⊥
-is_command words name rows e none = elim (entered_named (built anscheck) (stop_after (built anscheck).top.rules (names_of (built anscheck)) (argument_words anscheck words)) name rows e) [
+-- the subcommand that the program finds is one of its commands
+pub command_found : (words : List Text) (sub : Option (Text × List Row)) → subcommand_of anscheck words ≡ sub
+    → IsSome sub → IsSomeAnd sub IsCommand
+command_found words None e some = cc
+command_found words (Some p) e some = λ none. elim (entered_named (built anscheck) (stop_after (built anscheck).top.rules (names_of (built anscheck)) (argument_words anscheck words)) p.0 p.1 e) [
   | inl check ↦ none Check (sym check)
   | inr others ↦ elim others [
     | inl sauce ↦ none Sauce (sym sauce)
@@ -108,18 +111,25 @@ is_command words name rows e none = elim (entered_named (built anscheck) (stop_a
   ]
 ]
 
--- the clause, by its parts
-pub options_are : (words : List Text) (o : Options) (file : Option Text) (name : Text) (rows : List Row)
-    → subcommand_of anscheck words ≡ Some (name, rows) → name ≡ command_name o.command
-    → ((o.start ≡ Cleared) ↔ IsTrue (holds_flag (codes "cleared") rows))
-    → (IsTrue o.cells ↔ IsTrue (holds_flag (codes "cells") rows))
-    → file ≡ first_of (codes "file") rows → AreOptionsOf words o file
-options_are words o file name rows e named start cells given =
-    let P : Option (Text × List Row) → Type 0 = λ s. IsSomeAnd s (λ p. (p.0 ≡ command_name o.command)
-    × ((o.start ≡ Cleared) ↔ IsTrue (holds_flag (codes "cleared") p.1))
-    × (IsTrue o.cells ↔ IsTrue (holds_flag (codes "cells") p.1))
-    × (file ≡ first_of (codes "file") p.1)) in
-    subst P (sym e) (named, start, cells, given)
+-- the third of the facts that make a command plain
+no_globals : (groups external globals rest : Bool) → (groups && (not external && (not globals && rest))) ≡ true → globals ≡ false
+no_globals false external globals rest h = cc
+no_globals true true globals rest h = cc
+no_globals true false true rest h = cc
+no_globals true false false rest h = refl
+
+-- a parse by the program has met a subcommand
+pub subcommand_met : (program : Command) (m : ArgMatches) → app_of program ≡ anscheck → IsParsedFrom program m
+    → IsSome (subcommand_rows_of m)
+subcommand_met program m app_is parsed =
+    let plain = ap (λ (a : App). a.top.is_plain) app_is in
+    let needs = ap (λ (a : App). a.top.subcommand_required) app_is in
+    sym (some_rows (out-ArgMatches m).subcommand) ∙ subcommand_required program m parsed (no_globals _ _ _ _ plain) needs
+
+-- the subcommand that is there asks for this
+pub asks_for : (sub : Option (Text × List Row)) (name : Text) (rows : List Row) (o : Options) (file : Option Text)
+    → sub ≡ Some (name, rows) → AsksFor (name, rows) o file → IsSomeAnd sub (λ p. AsksFor p o file)
+asks_for sub name rows o file e asks = subst (λ (s : Option (Text × List Row)). IsSomeAnd s (λ p. AsksFor p o file)) (sym e) asks
 
 -- what is known of an error gives what is wanted of it
 pub err_weaker : {T E : Type 0} (r : Result T E) (P Q : E → Type 0) → IsErrAnd r P → ((e : E) → P e → Q e) → IfErr r Q

@@ -10,10 +10,9 @@ use Rattle.ans_model.specs.TokensText.{TokensText}
 use Rattle.ans_model.specs.ReportText.{Heading, Passed, RefusedFor, refusal_text, report_text}
 use Rattle.ans_model.specs.declared.fault.Fault.{Fault}
 use Rattle.ans_model.specs.declared.start.Start.{Start}
-use Rattle.ans_model.specs.State.{sized}
-use Rattle.ans_sauce.specs.Parts.{width_of, lines_of}
-use Rattle.ans_report.specs.Headings.{heading_of}
-use Rattle.ans_report.specs.Reports.{refused_text}
+use Rattle.std.specs.Option.{option_copied}
+use Rattle.ans_report.specs.declared.report.Report.{Report}
+use Rattle.ans_report.specs.declared.report.Report.TheVariants as report
 use Rattle.ans_check.specs.declared.choices.Command.{Command}
 use Rattle.ans_check.specs.declared.choices.Command.TheVariants.{Check, Sauce, Tokens}
 use Rattle.ans_check.specs.declared.choices.Options.{Options}
@@ -101,12 +100,10 @@ abbrev pub is_pass : {G : Type 0} → Verdict G → Bool
 is_pass (Pass parts picture) = true
 is_pass (Refused parts fault) = false
 
--- a picture has the size that the parts state
-abbrev pub HasFittingPicture : {G : Type 0} → Verdict G → Type 0
-HasFittingPicture (Pass parts picture) = picture.size ≡ sized (width_of parts) (lines_of parts)
-HasFittingPicture (Refused parts fault) = Unit {0}
-
--- the text of a verdict, with the cells of a pass or without
-abbrev pub verdict_bytes : {G : Type 0} → Start → Bool → Verdict G → List ℕ
-verdict_bytes start cells (Pass parts picture) = report_text (heading_of parts start) (Passed picture cells)
-verdict_bytes start cells (Refused parts fault) = refused_text parts start fault
+-- the report tells the verdict, from this start, with the cells of a pass or without
+abbrev pub IsReportOf : {G : Type 0} → Verdict G → Start → Bool → Report G → Type 0
+IsReportOf (Pass parts picture) start cells (report.Pass told told_start told_picture told_cells) =
+    (told.now ≡ parts) × (told_start ≡ start) × (told_picture.now ≡ picture) × (told_cells ≡ cells)
+IsReportOf (Refused parts fault) start cells (report.Refused told told_start told_fault) =
+    (option_copied told ≡ parts) × (told_start ≡ start) × (told_fault ≡ fault)
+IsReportOf _ start cells _ = ⊥

@@ -59,14 +59,21 @@ IsNoCommand name = (c : Command) → name ≢ command_name c
 abbrev pub holds_flag : Text → List Row → Bool
 holds_flag id rows = option_map_or (λ t. bytes_eq t (codes "true")) (one_of id rows) false
 
--- Clap's matches of the words name the command as their subcommand, hold `--cleared` exactly where the start is the
--- cleared screen and `--cells` exactly where the cells are asked for, and hold the file exactly where one is given,
--- with that text.
+-- the subcommand is one of the commands
+abbrev pub IsCommand : (Text × List Row) → Type 0
+IsCommand sub = ¬ IsNoCommand sub.0
+
+-- The subcommand is named as the command. Its matches hold `--cleared` exactly where the start is the cleared screen and
+-- `--cells` exactly where the cells are asked for, and hold the file exactly where one is given, with that text.
+abbrev pub AsksFor : (Text × List Row) → Options → Option Text → Type 0
+AsksFor sub o file = (sub.0 ≡ command_name o.command)
+    × ((o.start ≡ Cleared) ↔ IsTrue (holds_flag (codes "cleared") sub.1))
+    × (IsTrue o.cells ↔ IsTrue (holds_flag (codes "cells") sub.1))
+    × (file ≡ first_of (codes "file") sub.1)
+
+-- clap finds a subcommand in the words, which asks for this
 abbrev pub AreOptionsOf : List Text → Options → Option Text → Type 0
-AreOptionsOf words o file = IsSomeAnd (subcommand_of anscheck words) (λ p. (p.0 ≡ command_name o.command)
-    × ((o.start ≡ Cleared) ↔ IsTrue (holds_flag (codes "cleared") p.1))
-    × (IsTrue o.cells ↔ IsTrue (holds_flag (codes "cells") p.1))
-    × (file ≡ first_of (codes "file") p.1))
+AreOptionsOf words o file = IsSomeAnd (subcommand_of anscheck words) (λ sub. AsksFor sub o file)
 
 -- the error is want of memory
 abbrev pub IsWantOfMemory : WordsError → Type 0

@@ -3,8 +3,8 @@ ghost use Rattle.std.specs.Prelude.{◌≡◌, ◌≢◌, ◌⊎◌, ◌+◌, �
 ghost use Rattle.std.specs.Io.KnownBytes.{Appends};
 ghost use Rattle.ans_model.specs.Bytes.{longest_file};
 ghost use Rattle.ans_report.specs.Tried.{call_count, has_failed, inner_of};
-ghost use Rattle.ans_report.specs.Writes.{AppendsPrefix, WritesText};
-ghost use Rattle.ans_check.specs.Reported.{Reports, ReportsCheck, ReportsSauce, ReportsTokens, HasFittingPicture, is_pass, verdict_bytes};
+ghost use Rattle.ans_report.specs.Writes.{AppendsPrefix};
+ghost use Rattle.ans_check.specs.Reported.{Reports, ReportsCheck, ReportsSauce, ReportsTokens, IsReportOf, is_pass};
 ghost use Rattle.ans_check.specs.Run.{HasRead};
 
 use crate::choices::{Command, Options};
@@ -20,41 +20,30 @@ use ans_screen::{Grid, PlainGrid};
 use std::alloc::Global;
 use std::io::{Read, Write};
 
-/// Writes the report of a verdict. Tells whether it is a pass.
-fn write_verdict<W: Write, G: Grid>(
-    writer: &mut Tried<W>,
-    verdict: &Verdict<'_, G>,
-    start: Start,
-    cells: bool,
-) -> Result<bool, WriteFault>
-    requires works { has_failed writer.old ≡ false }
-    requires fits { HasFittingPicture verdict.now }
-    ensures passed { IfOk result (λ passed. passed ≡ is_pass verdict.now) }
-    ensures fault { IsErr result ↔ IsTrue (has_failed writer.new) }
-    ensures bytes { WritesText (W.contents (inner_of writer.old)) (W.contents (inner_of writer.new))
-        result (verdict_bytes start cells verdict.now) }
+/// The report that tells a verdict.
+fn report_of<'a, G: Grid>(verdict: &'a Verdict<'a, G>, start: Start, cells: bool) -> Report<'a, G>
+    ensures { IsReportOf verdict.now start cells result }
 {
     match verdict {
-        Verdict::Pass(parts, picture) => {
-            let report = Report::Pass {
-                parts,
-                start,
-                picture,
-                cells,
-            };
-            write_report(writer, &report)?;
-            Ok(true)
-        }
-        Verdict::Refused(parts, fault) => {
-            let report: Report<'_, G> = Report::Refused {
-                parts: parts.as_ref(),
-                start,
-                fault: *fault,
-            };
-            write_report(writer, &report)?;
-            Ok(false)
-        }
+        Verdict::Pass(parts, picture) => Report::Pass {
+            parts,
+            start,
+            picture,
+            cells,
+        },
+        Verdict::Refused(parts, fault) => Report::Refused {
+            parts: parts.as_ref(),
+            start,
+            fault: *fault,
+        },
     }
+}
+
+/// Whether a verdict is a pass.
+fn is_pass<G: Grid>(verdict: &Verdict<'_, G>) -> bool
+    ensures { result ≡ is_pass verdict.now }
+{
+    matches!(verdict, Verdict::Pass(_, _))
 }
 
 /// Checks a file, and writes its report. Tells whether the file passes.
@@ -82,8 +71,8 @@ fn report<W: Write>(
     let Ok(verdict) = check::<PlainGrid>(alloc, file, start) else {
         return Err(RunError::Memory);
     };
-    let passed = write_verdict(writer, &verdict, start, cells)?;
-    Ok(passed)
+    write_report(writer, &report_of(&verdict, start, cells))?;
+    Ok(is_pass(&verdict))
 }
 
 /// Writes what a file's record says, or why the file is refused. Tells whether it is accepted.

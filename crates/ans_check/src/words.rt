@@ -1,7 +1,7 @@
 //! The words of the command line.
-ghost use Rattle.std.specs.Prelude.{◌≡◌, true, IfOk, map, option_map, string_bytes, codes, IfSome, IfNone, IfErr, IsTrue, ◌↔◌};
-ghost use Rattle.clap.specs.Words.{app_of, first_of, found_of, is_simple, rows_of, takes};
-ghost use Rattle.ans_check.specs.Words.{AreOptionsOf, IsNoCommand, IsWantOfMemory, anscheck, check_app, command_name, file_app, holds_flag};
+ghost use Rattle.std.specs.Prelude.{◌≡◌, true, IfOk, map, option_map, string_bytes, codes, IfSome, IfNone, IfErr, IsSomeAnd, IsTrue, ◌↔◌};
+ghost use Rattle.clap.specs.Words.{app_of, first_of, found_of, is_simple, rows_of, subcommand_rows_of, takes};
+ghost use Rattle.ans_check.specs.Words.{AreOptionsOf, AsksFor, IsCommand, IsNoCommand, IsWantOfMemory, anscheck, check_app, command_name, file_app, holds_flag};
 ghost use Rattle.ans_check.specs.declared.words.WordsError.TheVariants.{Clap};
 
 use crate::choices::{Command, Options};
@@ -133,6 +133,41 @@ fn file_of(alloc: Global, matches: &ArgMatches<'_>) -> Result<Option<String>, Wo
     }
 }
 
+/// What a command's matches ask for.
+fn options_of(command: Command, matches: &ArgMatches<'_>) -> Options
+    ensures command { result.command ≡ command }
+    ensures start { (result.start ≡ Start.Cleared)
+        ↔ IsTrue (holds_flag (codes "cleared") (rows_of (found_of matches.now))) }
+    ensures cells { IsTrue result.cells
+        ↔ IsTrue (holds_flag (codes "cells") (rows_of (found_of matches.now))) }
+{
+    Options {
+        command,
+        start: start_of(holds(matches, "cleared")),
+        cells: holds(matches, "cells"),
+    }
+}
+
+/// What the subcommand of the program's matches asks for, and the file that it gives.
+fn read_matches(
+    alloc: Global,
+    matches: &ArgMatches<'_>,
+) -> Result<(Options, Option<String>), WordsError>
+    requires { IsSomeAnd (subcommand_rows_of matches.now) IsCommand }
+    ensures memory { IfErr result (λ e. e ≡ WordsError.Memory) }
+    ensures ok { IfOk result (λ r. IsSomeAnd (subcommand_rows_of matches.now)
+        (λ p. AsksFor p r.0 (option_map string_bytes r.1))) }
+{
+    let Some((name, found)) = matches.subcommand() else {
+        unreachable!()
+    };
+    let Some(command) = command_named(name) else {
+        unreachable!()
+    };
+    let file = file_of(alloc, found)?;
+    Ok((options_of(command, found), file))
+}
+
 /// The options and the file that the program's words give, its own name first:
 /// `anscheck check [--cleared] [--cells] [FILE]`, `anscheck sauce [FILE]` or `anscheck tokens
 /// [FILE]`. Without `--cleared` the start is any, and without `--cells` no cells are asked for; so it
@@ -151,19 +186,5 @@ pub fn options(alloc: Global, words: &[&str]) -> Result<(Options, Option<String>
         Err(error) => return Err(WordsError::Clap(clap::Error::from(error))),
     };
     let matches = program.try_get_matches_from(words)?;
-    let Some((name, found)) = matches.subcommand() else {
-        unreachable!()
-    };
-    let Some(command) = command_named(name) else {
-        unreachable!()
-    };
-    let start = start_of(holds(found, "cleared"));
-    let cells = holds(found, "cells");
-    let file = file_of(alloc, found)?;
-    let options = Options {
-        command,
-        start,
-        cells,
-    };
-    Ok((options, file))
+    read_matches(alloc, &matches)
 }

@@ -1,21 +1,21 @@
-use Rattle.std.proofs.Common.{rules, ap, subst, sym, ◌∙◌, ◌≡◌, List, map, Bor}
-use Rattle.clap.specs.Words.{App, Text, app_of, found_of, is_simple, rows_of, subcommand_of, takes, subcommand_rows_of}
-use Rattle.ans_check.specs.Words.{anscheck, IsWantOfMemory}
-use Rattle.ans_check.proofs.WordsLemmas.{err_weaker, is_command, rows_met, options_are}
+use Rattle.std.proofs.Common.{◌∙◌, ◌≡◌, Bor, List, Option, ap, map, option_map, subst, sym}
+use Rattle.std.specs.Prelude.{IfOk, IsSomeAnd, string_bytes}
+use Rattle.clap.specs.Words.{App, Row, Text, app_of, is_simple, subcommand_of, subcommand_rows_of, takes}
+use Rattle.ans_check.specs.Words.{anscheck, AsksFor, IsWantOfMemory}
+use Rattle.ans_check.proofs.WordsLemmas.{command_found, err_weaker, subcommand_met}
 use Rattle.ans_check.proofs.words.options.Goals as goal
 
 abbrev words_of : List (Bor Text) → List Text
 words_of = map (λ w. w.now)
 
-pub unreachable-requires-in_default-command_named : goal.unreachable-requires-in_default-command_named
-unreachable-requires-in_default-command_named c =
+pub read_matches-requires : goal.read_matches-requires
+read_matches-requires c =
     let app_is : app_of c.in-Ok.program ≡ anscheck = c.in-Ok.ensures in
     let words = words_of c.args.words.now in
     let m = c.in_ok-matches.matches in
     let same : subcommand_rows_of m ≡ subcommand_of anscheck words =
     (c.in_ok-matches.ensures.matches (ap is_simple app_is)).1 ∙ ap (λ (a : App). subcommand_of a words) app_is in
-    let met = rows_met m c.in-Some.name.now (rows_of (found_of c.in-Some.found.now)) c.in-Some.ensures.name c.in-Some.ensures.rows in
-    is_command words c.in-Some.name.now (rows_of (found_of c.in-Some.found.now)) (sym same ∙ met) c.in_default-command_named.ensures.none
+    command_found words (subcommand_rows_of m) (sym same) (subcommand_met c.in-Ok.program m app_is c.in_ok-matches.ensures.parsed)
 
 pub returns-clause-ok : goal.returns-clause-ok
 returns-clause-ok c =
@@ -24,10 +24,7 @@ returns-clause-ok c =
     let m = c.in_ok-matches.matches in
     let same : subcommand_rows_of m ≡ subcommand_of anscheck words =
     (c.in_ok-matches.ensures.matches (ap is_simple app_is)).1 ∙ ap (λ (a : App). subcommand_of a words) app_is in
-    let met = rows_met m c.in-Some.name.now (rows_of (found_of c.in-Some.found.now)) c.in-Some.ensures.name c.in-Some.ensures.rows in
-    let rows = rows_of (found_of c.in-Some.found.now) in
-    options_are words _ _ c.in-Some.name.now rows (sym same ∙ met) c.in-Some-command_named.ensures.some
-    (search rules) (search rules) c.in_ok-file.ensures.ok
+    subst (λ (s : Option (Text × List Row)). IfOk c.read_matches.result (λ r. IsSomeAnd s (λ p. AsksFor p r.0 (option_map string_bytes r.1)))) same c.read_matches.ensures.ok
 
 pub returns-in_err-matches-clause-refuses : goal.returns-in_err-matches-clause-refuses
 returns-in_err-matches-clause-refuses c =
@@ -35,8 +32,3 @@ returns-in_err-matches-clause-refuses c =
     let words = words_of c.args.words.now in
     err_weaker c.from_residual.result _ _ c.from_residual.ensures.1
     (λ e is taken. subst IsWantOfMemory (sym is) (c.in_err-matches.ensures.passes (ap (λ (a : App). takes a words) app_is ∙ taken)))
-
-pub returns-in_err-file-clause-refuses : goal.returns-in_err-file-clause-refuses
-returns-in_err-file-clause-refuses c =
-    err_weaker c.from_residual-in_err-file.result _ _ c.from_residual-in_err-file.ensures.1
-    (λ e is taken. subst IsWantOfMemory (sym (is ∙ c.in_err-file.ensures.memory)) tt)
