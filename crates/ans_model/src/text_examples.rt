@@ -126,8 +126,8 @@ pub fn single_bytes()
     ensures last_byte { SpellsToken (Glyph 0xFF) (0xFF ∷ []) }
 {}
 
-/// Sequences, and the tokens that they mean.
-pub fn sequences_with_a_meaning()
+/// Sequences that move the cursor.
+pub fn moves_of_the_cursor()
     ensures up_by_two { SpellsToken (Up 2) (esc (codes "[2A")) }
     ensures up_without_a_number { SpellsToken (Up 1) (esc (codes "[A")) }
     ensures up_by_zero { SpellsToken (Up 1) (esc (codes "[0A")) }
@@ -146,6 +146,10 @@ pub fn sequences_with_a_meaning()
     ensures place_with_column_omitted { SpellsToken (Place 2 1) (esc (codes "[2;f")) }
     ensures place_with_row_alone { SpellsToken (Place 2 1) (esc (codes "[2H")) }
     ensures place_without_numbers { SpellsToken (Place 1 1) (esc (codes "[H")) }
+{}
+
+/// Sequences that erase, save, restore, set colours or modes, assign keys or ask.
+pub fn sequences_with_a_meaning()
     ensures clear_by_two { SpellsToken Clear (esc (codes "[2J")) }
     ensures erase_without_a_number { SpellsToken EraseLine (esc (codes "[K")) }
     ensures erase_by_zero { SpellsToken EraseLine (esc (codes "[0K")) }
@@ -219,7 +223,7 @@ pub fn unfinished_sequences()
     ensures at_the_sixteenth_parameter { IsUnfinished (esc (codes "[" ++ replicate 15 0x3B)) }
 {}
 
-/// The texts of contents: their tokens, and the fault that ends the reading.
+/// The texts of contents whose tokens are all read, or that end in a sequence.
 pub fn token_texts()
     ensures nothing { TokensText [] None [] }
     ensures cut_in_a_sequence { TokensText cut_content (Some (fault_at 8 EndInSequence))
@@ -240,6 +244,10 @@ pub fn token_texts()
         (codes "at 0: F12 content ends in a sequence\n") }
     ensures unfinished { TokensText (esc (codes "[3")) (Some (fault_at 0 EndInSequence))
         (codes "at 0: F12 content ends in a sequence\n") }
+{}
+
+/// The texts of contents that are refused in their first sequence.
+pub fn refused_token_texts()
     ensures number_above_the_limit { TokensText (esc (codes "[256C"))
         (Some (fault_at 0 NumberTooLarge))
         (codes "at 0: F10 number above 255\n") }
@@ -265,7 +273,7 @@ pub fn token_texts()
         (codes "at 0: F14 wrong parameters\n") }
 {}
 
-/// The texts of reports and of a record.
+/// The texts of reports and refusals.
 pub fn report_texts()
     ensures pass_from_any { report_text (heading (sized 2 1) Any 15 [])
         (Passed (picture (sized 2 1) (cell 0x48 0x07 ∷ cell 0x69 0x07 ∷ [])) false)
@@ -290,6 +298,10 @@ pub fn report_texts()
         ≡ codes "verdict: refused\nat 127: F1 no SAUCE record\n" }
     ensures unknown_cell { fault_line (fault_at 4 (UnknownCell 1 1))
         ≡ codes "at 4: F25 cell stays unknown (row 1, column 1)\n" }
+{}
+
+/// The texts of notes, of glyphs and of cells.
+pub fn heading_and_cell_texts()
     ensures four_notes { heading_text
         (heading (sized 2 1) Cleared 2 (SizeDiffers ∷ OddDate ∷ FlagBits ∷ FlagPair ∷ []))
         ≡ codes "size: 2 x 1\nstart: cleared\ncontent: 2 bytes\n"
@@ -305,6 +317,10 @@ pub fn report_texts()
     ensures colour_cells { cells_line (cell 0x41 0x9E ∷ []) ≡ codes "419e\n" }
     ensures erased_cells { cells_line (cell 0x61 0x07 ∷ cell 0x20 0x17 ∷ cell 0x20 0x17 ∷ [])
         ≡ codes "610720172017\n" }
+{}
+
+/// The text of a record, whose file is accepted.
+pub fn record_texts()
     ensures sample_record { record_text hi sample_comment sample_record
         ≡ codes "title: Test\nauthor: Ann\ngroup: \ndate: 19960101\nsize: 2 x 1\n"
         ++ codes "flags: 01\nfont: IBM VGA\nfile size: 2\ncomments: 1\n"
