@@ -115,7 +115,8 @@ impl Machine {
 
     /// One token, by the table of steps.
     pub fn step(&mut self, kind: &Kind)
-        ensures { self.new ≡ played self.old.size (step self.old.size self.old.state (token_of kind.now)) }
+        ensures { self.new
+            ≡ played self.old.size (step self.old.size self.old.state (token_of kind.now)) }
     {
         let last_column = self.width - 1;
         match kind {
@@ -154,7 +155,8 @@ impl Machine {
 impl Machine {
     /// Tokens, one after the other.
     pub fn play(&mut self, kinds: &[Kind])
-        ensures { self.new ≡ played self.old.size (final self.old.size self.old.state (map token_of kinds.now)) }
+        ensures { self.new
+            ≡ played self.old.size (final self.old.size self.old.state (map token_of kinds.now)) }
     {
         for kind in kinds {
             self.step(kind);
@@ -223,7 +225,8 @@ impl Machine {
         requires columns { width ≤ most_columns }
         requires some_lines { 0 < lines }
         requires rows { lines ≤ most_lines }
-        ensures { IfOk result (λ m. m ≡ played (sized width lines) (low_start (sized width lines) (class_of start))) }
+        ensures { IfOk result (λ m.
+            m ≡ played (sized width lines) (low_start (sized width lines) (class_of start))) }
     {
         match start {
             Start::Any => {
@@ -249,7 +252,8 @@ impl Machine {
         requires columns { width ≤ most_columns }
         requires some_lines { 0 < lines }
         requires rows { lines ≤ most_lines }
-        ensures { IfOk result (λ m. m ≡ played (sized width lines) (high_start (sized width lines) (class_of start))) }
+        ensures { IfOk result (λ m.
+            m ≡ played (sized width lines) (high_start (sized width lines) (class_of start))) }
     {
         match start {
             Start::Any => {

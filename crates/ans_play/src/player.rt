@@ -48,9 +48,13 @@ impl<G: Grid> Model for Player<G> {
 
     ghost Value = { Playing };
 
-    ghost view = { λ p. playing (sized p.width p.lines) p.start p.fed p.fault p.scanner (half_state (G.cells_of p.grid) p.cursor p.saved p.attribute p.wrap) };
+    ghost view = { λ p.
+        playing (sized p.width p.lines) p.start p.fed p.fault p.scanner
+        (half_state (G.cells_of p.grid) p.cursor p.saved p.attribute p.wrap) };
 
-    ghost invariant = { λ p. IsPlaying (playing (sized p.width p.lines) p.start p.fed p.fault p.scanner (half_state (G.cells_of p.grid) p.cursor p.saved p.attribute p.wrap)) };
+    ghost invariant = { λ p.
+        IsPlaying (playing (sized p.width p.lines) p.start p.fed p.fault p.scanner
+        (half_state (G.cells_of p.grid) p.cursor p.saved p.attribute p.wrap)) };
 }
 
 /// What is known of an attribute after colour parameters, one after the other.
@@ -136,9 +140,12 @@ impl<G: Grid> Player<G> {
         ensures repeats { (f : Fault) → self.old.fault ≡ Some f → result ≡ Err f }
         ensures kept { (f : Fault) → self.old.fault ≡ Some f → self.new ≡ self.old }
 
-        ensures stands { (s : List ℕ) → self.old.fault ≡ None → Stands self.old s → Stands self.new (s ++ piece.now) }
-        ensures offset { (s : List ℕ) → self.old.fault ≡ None → Stands self.old s → IfErr result (λ f. f.offset ≤ self.old.fed + length piece.now) }
-        ensures certain { (s : List ℕ) → Stands self.old s → self.old.start ≡ Cleared → IfErr result (λ f. IsCertain f.cause) }
+        ensures stands { (s : List ℕ) → self.old.fault ≡ None → Stands self.old s
+            → Stands self.new (s ++ piece.now) }
+        ensures offset { (s : List ℕ) → self.old.fault ≡ None → Stands self.old s
+            → IfErr result (λ f. f.offset ≤ self.old.fed + length piece.now) }
+        ensures certain { (s : List ℕ) → Stands self.old s → self.old.start ≡ Cleared
+            → IfErr result (λ f. IsCertain f.cause) }
     {
         self.without_fault()?;
         let fed = self.fed;
@@ -160,11 +167,16 @@ impl<G: Grid> Player<G> {
     /// lines that stays unknown, its row and column counted from 1, at the number of bytes fed.
     pub fn finish(self) -> Result<Picture<G>, Fault>
         ensures repeats { (f : Fault) → self.fault ≡ Some f → result ≡ Err f }
-        ensures ok { IfOk result (λ p. (s : List ℕ) → Stands self s → GoodWith self.size (class_of self.start) s p) }
-        ensures last { self.fault ≡ None → IfErr result (λ f. (s : List ℕ) → Stands self s → IsLastFault self.size (class_of self.start) s f) }
-        ensures exact { (s : List ℕ) → self.fault ≡ None → Stands self s → IsGood self.size (class_of self.start) s → IsOk result }
-        ensures offset { (s : List ℕ) → self.fault ≡ None → Stands self s → IfErr result (λ f. f.offset ≤ self.fed) }
-        ensures certain { (s : List ℕ) → Stands self s → self.start ≡ Cleared → IfErr result (λ f. IsCertain f.cause) }
+        ensures ok { IfOk result (λ p. (s : List ℕ) → Stands self s
+            → GoodWith self.size (class_of self.start) s p) }
+        ensures last { self.fault ≡ None → IfErr result (λ f. (s : List ℕ) → Stands self s
+            → IsLastFault self.size (class_of self.start) s f) }
+        ensures exact { (s : List ℕ) → self.fault ≡ None → Stands self s
+            → IsGood self.size (class_of self.start) s → IsOk result }
+        ensures offset { (s : List ℕ) → self.fault ≡ None → Stands self s
+            → IfErr result (λ f. f.offset ≤ self.fed) }
+        ensures certain { (s : List ℕ) → Stands self s → self.start ≡ Cleared
+            → IfErr result (λ f. IsCertain f.cause) }
     {
         self.without_fault()?;
         self.scanner.end()?;
@@ -237,8 +249,10 @@ impl<G: Grid> Player<G> {
     /// How many columns stand between the cursor and its row's last one, where a glyph is printed;
     /// none where it is refused.
     fn columns_before_last(&self) -> usize
-        ensures printed { (byte : ℕ) → half_fault self.now.size self.now.state (Glyph byte) ≡ None → self.now.state.cursor.low.column + result + 1 ≡ self.now.size.width }
-        ensures refused { (byte : ℕ) (cause : Cause) → half_fault self.now.size self.now.state (Glyph byte) ≡ Some cause → result ≡ 0 }
+        ensures printed { (byte : ℕ) → half_fault self.now.size self.now.state (Glyph byte) ≡ None
+            → self.now.state.cursor.low.column + result + 1 ≡ self.now.size.width }
+        ensures refused { (byte : ℕ) (cause : Cause)
+            → half_fault self.now.size self.now.state (Glyph byte) ≡ Some cause → result ≡ 0 }
     {
         if self.cursor.is_one_place() && self.cursor.low.row < self.lines {
             self.width - 1 - self.cursor.low.column
@@ -255,7 +269,8 @@ impl<G: Grid> Player<G> {
         ensures same { SamePlay self.old self.new }
         ensures played { OnOk result (GoesOn self.old (byte ∷ []) self.new) }
         ensures fault { IfErr result (λ fault. self.new.fault ≡ Some fault) }
-        ensures deserved { IfErr result (λ fault. (rest : List ℕ) → IsDeserved self.old (byte ∷ rest) fault) }
+        ensures deserved { IfErr result (λ fault. (rest : List ℕ)
+            → IsDeserved self.old (byte ∷ rest) fault) }
     {
         match self.scanner.byte(byte) {
             Err(fault) => {
@@ -285,10 +300,13 @@ impl<G: Grid> Player<G> {
 
     /// Plays a token, or answers why it is refused.
     fn play(&mut self, kind: &Kind) -> Result<(), Cause>
-        ensures played { OnOk result (self.new ≡ record self.old { state = half_step self.old.size self.old.state (token_of kind.now) }) }
-        ensures clean { OnOk result (half_fault self.old.size self.old.state (token_of kind.now) ≡ None) }
+        ensures played { OnOk result (self.new ≡ record self.old {
+            state = half_step self.old.size self.old.state (token_of kind.now) }) }
+        ensures clean { OnOk result
+            (half_fault self.old.size self.old.state (token_of kind.now) ≡ None) }
         ensures kept { OnErr result (self.new ≡ self.old) }
-        ensures refused { IfErr result (λ cause. half_fault self.old.size self.old.state (token_of kind.now) ≡ Some cause) }
+        ensures refused { IfErr result (λ cause.
+            half_fault self.old.size self.old.state (token_of kind.now) ≡ Some cause) }
     {
         match self.cause(kind) {
             Some(cause) => Err(cause),
@@ -347,7 +365,8 @@ impl<G: Grid> Player<G> {
     /// What a token does that is not refused.
     fn step(&mut self, kind: &Kind)
         requires { half_fault self.old.size self.old.state (token_of kind.now) ≡ None }
-        ensures { self.new ≡ record self.old { state = half_step self.old.size self.old.state (token_of kind.now) } }
+        ensures { self.new ≡ record self.old {
+            state = half_step self.old.size self.old.state (token_of kind.now) } }
     {
         match kind {
             Kind::Glyph(byte) => self.print(*byte),
@@ -365,7 +384,8 @@ impl<G: Grid> Player<G> {
     /// A byte at the one place of the cursor, which then goes on.
     fn print(&mut self, byte: u8)
         requires { half_fault self.old.size self.old.state (Glyph byte) ≡ None }
-        ensures { self.new ≡ record self.old { state = half_step self.old.size self.old.state (Glyph byte) } }
+        ensures { self.new ≡ record self.old {
+            state = half_step self.old.size self.old.state (Glyph byte) } }
     {
         let place = self.cursor.low;
         let cell = HalfCell {
@@ -388,7 +408,8 @@ impl<G: Grid> Player<G> {
 
     /// Blanks from the one place of the cursor to its row's end.
     fn erase_line(&mut self)
-        ensures { self.new ≡ record self.old { state = half_step self.old.size self.old.state EraseLine } }
+        ensures { self.new ≡ record self.old {
+            state = half_step self.old.size self.old.state EraseLine } }
     {
         let row = self.cursor.low.row * self.width;
         let blank = self.blank();
@@ -398,7 +419,8 @@ impl<G: Grid> Player<G> {
 
     /// Blanks everywhere, and the cursor at home.
     fn clear(&mut self)
-        ensures { self.new ≡ record self.old { state = half_step self.old.size self.old.state Clear } }
+        ensures { self.new ≡ record self.old {
+            state = half_step self.old.size self.old.state Clear } }
     {
         let blank = self.blank();
         self.grid.fill(0, (self.lines + 1) * self.width, blank);

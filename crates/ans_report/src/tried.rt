@@ -77,7 +77,8 @@ impl<R: Read> Tried<R> {
         ensures fault { IsErr result ↔ IsTrue (has_failed self.new) }
         ensures calls { call_count self.new ≡ min (call_count self.old + 1) u64.MAX }
         ensures bound { ReadsAtMost result buf.new }
-        ensures bytes { ReadConsumes (R.remaining (inner_of self.old)) (R.remaining (inner_of self.new)) result buf.new }
+        ensures bytes { ReadConsumes (R.remaining (inner_of self.old))
+            (R.remaining (inner_of self.new)) result buf.new }
     {
         self.calls = self.calls.saturating_add(1);
         match self.inner.read(buf) {
@@ -100,7 +101,8 @@ impl<W: Write> Tried<W> {
         ensures fault { IsErr result ↔ IsTrue (has_failed self.new) }
         ensures calls { call_count self.new ≡ min (call_count self.old + 1) u64.MAX }
         ensures bound { IfOk result (λ n. (0 < n) × (n ≤ length bytes.now)) }
-        ensures bytes { WriteAppends (W.contents (inner_of self.old)) (W.contents (inner_of self.new)) result bytes.now }
+        ensures bytes { WriteAppends (W.contents (inner_of self.old))
+            (W.contents (inner_of self.new)) result bytes.now }
     {
         self.calls = self.calls.saturating_add(1);
         match self.inner.write(bytes) {

@@ -56,7 +56,8 @@ pub trait Grid: Sized + Drop {
     /// Writes bytes side by side from cell `from` on, all with one attribute.
     fn write_run(&mut self, from: usize, bytes: &[u8], attr: Attr)
         requires { from + length bytes.now ≤ length (cells_of self.old) }
-        ensures cells { cells_of self.new ≡ written (cells_of self.old) from (printed_run attr bytes.now) }
+        ensures cells { cells_of self.new
+            ≡ written (cells_of self.old) from (printed_run attr bytes.now) }
         ensures width { width_of self.new ≡ width_of self.old }
         ensures rows { rows_of self.new ≡ rows_of self.old };
 

@@ -25,7 +25,8 @@ pub(crate) fn has_mark(mark: Mark) -> bool
 
 /// The mark that a byte is.
 pub(crate) fn mark_of_byte(byte: u8) -> Option<Mark>
-    ensures { MatchOption result (is_mark_byte byte ≡ false) (λ mark. mark_bytes (mark_of mark) ≡ byte ∷ []) }
+    ensures { MatchOption result (is_mark_byte byte ≡ false)
+        (λ mark. mark_bytes (mark_of mark) ≡ byte ∷ []) }
 {
     match byte {
         b'=' => Some(Mark::Equals),

@@ -77,7 +77,8 @@ pub(crate) fn kind_meant(
     quoted: bool,
     letter: u8,
 ) -> Result<Kind, Cause>
-    ensures { MatchResult result (λ kind. kept_meaning (mark_of mark) numbers.items quoted letter ≡ Ok (token_of kind))
+    ensures { MatchResult result
+        (λ kind. kept_meaning (mark_of mark) numbers.items quoted letter ≡ Ok (token_of kind))
         (λ cause. kept_meaning (mark_of mark) numbers.items quoted letter ≡ Err cause) }
 {
     if has_mark(mark) && letter != b'h' && letter != b'l' {

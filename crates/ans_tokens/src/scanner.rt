@@ -45,7 +45,8 @@ impl Open {
 
     /// Whether there are no bytes since the last token.
     fn is_nothing(&self) -> bool
-        ensures { (y : List ℕ) → HoldsOpen self.now y → MatchBool result (y ≡ []) (IsUnfinished y) }
+        ensures { (y : List ℕ) → HoldsOpen self.now y
+            → MatchBool result (y ≡ []) (IsUnfinished y) }
     {
         match self {
             Open::Nothing => true,
@@ -58,8 +59,9 @@ impl Open {
     /// spelling, and a cause where they begin none.
     fn take(&mut self, byte: u8) -> Result<Option<Kind>, Cause>
         ensures { (y : List ℕ) → HoldsOpen self.old y → MatchResult result
-            (λ kind. MatchOption kind (IsUnfinished (y ++ byte ∷ []) × HoldsOpen self.new (y ++ byte ∷ []))
-            (λ k. SpellsToken (token_of k) (y ++ byte ∷ [])))
+            (λ kind. MatchOption kind
+                (IsUnfinished (y ++ byte ∷ []) × HoldsOpen self.new (y ++ byte ∷ []))
+                (λ k. SpellsToken (token_of k) (y ++ byte ∷ [])))
             (λ cause. IsRefused (y ++ byte ∷ []) cause) }
     {
         match self {

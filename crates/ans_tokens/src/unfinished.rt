@@ -40,14 +40,16 @@ impl Current {
 
     /// Whether the member is a string.
     fn is_string(self) -> bool
-        ensures { (current : parts.Current) → ShowsCurrent self current → result ≡ is_quoted (member_of current) }
+        ensures { (current : parts.Current) → ShowsCurrent self current
+            → result ≡ is_quoted (member_of current) }
     {
         matches!(self, Current::InString(_) | Current::AfterString)
     }
 
     /// The number that stands for the member.
     fn number(self) -> u8
-        ensures { (current : parts.Current) → ShowsCurrent self current → result ≡ colour_number (member_of current) }
+        ensures { (current : parts.Current) → ShowsCurrent self current
+            → result ≡ colour_number (member_of current) }
     {
         match self {
             Current::InNumber(value) => value,
@@ -165,7 +167,8 @@ impl Unfinished {
     fn stop(&mut self, byte: u8) -> Step
         requires { (part : Part) → Shows self.old part → lacks part.current ≡ [] }
         ensures { (part : Part) (y : List ℕ) → Shows self.old part → SpellsPart part y
-            → (is_stop byte ≡ false → ¬ IsPrefixOfLoose (y ++ byte ∷ [])) → Outcome result self.new part y byte }
+            → (is_stop byte ≡ false → ¬ IsPrefixOfLoose (y ++ byte ∷ []))
+            → Outcome result self.new part y byte }
     {
         if byte == b';' {
             if self.done.len() >= 15 {

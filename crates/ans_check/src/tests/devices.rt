@@ -8,7 +8,15 @@ const HI_REPORT: &[u8] =
     b"size: 2 x 1\nstart: cleared\ncontent: 2 bytes\nverdict: pass\npicture:\nHi\n";
 
 const HI_RECORD: &[u8] =
-    b"title: \nauthor: \ngroup: \ndate: 19960101\nsize: 2 x 1\nflags: 00\nfont: \nfile size: 2\ncomments: 0\n";
+    b"title: \n\
+    author: \n\
+    group: \n\
+    date: 19960101\n\
+    size: 2 x 1\n\
+    flags: 00\n\
+    font: \n\
+    file size: 2\n\
+    comments: 0\n";
 
 const HI_TOKENS: &[u8] = b"0 1 glyph 48\n1 1 glyph 69\n";
 

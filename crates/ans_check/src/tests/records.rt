@@ -14,7 +14,16 @@ fn a_record_is_told(rt: HostRuntime) {
     };
     let file = file_of(&rt, b"Hi\x1a", stated);
     let text: &[u8] =
-        b"title: Test\nauthor: Ann\ngroup: \ndate: 19960101\nsize: 2 x 1\nflags: 01\nfont: IBM VGA\nfile size: 2\ncomments: 1\ncomment: hello\n";
+        b"title: Test\n\
+        author: Ann\n\
+        group: \n\
+        date: 19960101\n\
+        size: 2 x 1\n\
+        flags: 01\n\
+        font: IBM VGA\n\
+        file size: 2\n\
+        comments: 1\n\
+        comment: hello\n";
     expect_run(&rt, file.as_slice(), &SAUCE, 256, Ok(true), text);
 }
 
@@ -29,7 +38,21 @@ fn odd_records_are_told_with_their_notes(rt: HostRuntime) {
     };
     let file = file_of(&rt, b"\x1b[6n", stated);
     let text: &[u8] =
-        "title: Ç ß\nauthor: \ngroup: \ndate: \nsize: 80 x 8192\nflags: fe\nfont: \nfile size: 4294967295\ncomments: 0\nnote: width 0 taken as 80\nnote: no end mark after the content\nnote: file size differs from the content\nnote: date is not eight digits\nnote: flag bits 5 to 7 are not zero\nnote: a flag pair is 11\n".as_bytes();
+        "title: Ç ß\n\
+        author: \n\
+        group: \n\
+        date: \n\
+        size: 80 x 8192\n\
+        flags: fe\n\
+        font: \n\
+        file size: 4294967295\n\
+        comments: 0\n\
+        note: width 0 taken as 80\n\
+        note: no end mark after the content\n\
+        note: file size differs from the content\n\
+        note: date is not eight digits\n\
+        note: flag bits 5 to 7 are not zero\n\
+        note: a flag pair is 11\n".as_bytes();
     expect_run(&rt, file.as_slice(), &SAUCE, 512, Ok(true), text);
 }
 
@@ -61,7 +84,15 @@ fn the_most_comments_are_told(rt: HostRuntime) {
     let (answer, written) = ran(&rt, file.as_slice(), &SAUCE, 4096);
     assert!(rt; answer == Ok(true));
     let fields: &[u8] =
-        b"title: \nauthor: \ngroup: \ndate: 19960101\nsize: 2 x 1\nflags: 00\nfont: \nfile size: 2\ncomments: 255\n";
+        b"title: \n\
+        author: \n\
+        group: \n\
+        date: 19960101\n\
+        size: 2 x 1\n\
+        flags: 00\n\
+        font: \n\
+        file size: 2\n\
+        comments: 255\n";
     let (first, comments) = written.held.split_at(fields.len());
     assert_eq!(rt; first, fields);
     assert_eq!(rt; written.length, fields.len() + 255 * 15);

@@ -25,7 +25,11 @@ static REPORTS: [(&[u8], u16, u16, Options, bool, &[u8]); 8] = [
         1,
         ANY,
         false,
-        b"size: 2 x 1\nstart: any\ncontent: 2 bytes\nverdict: refused\nat 0: F22 print at an unknown place\n",
+        b"size: 2 x 1\n\
+        start: any\n\
+        content: 2 bytes\n\
+        verdict: refused\n\
+        at 0: F22 print at an unknown place\n",
     ),
     (
         b"Hi",
@@ -41,7 +45,11 @@ static REPORTS: [(&[u8], u16, u16, Options, bool, &[u8]); 8] = [
         2,
         ANY,
         false,
-        b"size: 3 x 2\nstart: any\ncontent: 0 bytes\nverdict: refused\nat 0: F25 cell stays unknown (row 1, column 1)\n",
+        b"size: 3 x 2\n\
+        start: any\n\
+        content: 0 bytes\n\
+        verdict: refused\n\
+        at 0: F25 cell stays unknown (row 1, column 1)\n",
     ),
     (
         b"\xdb\x7f",
@@ -49,7 +57,13 @@ static REPORTS: [(&[u8], u16, u16, Options, bool, &[u8]); 8] = [
         2,
         CLEARED,
         true,
-        b"size: 2 x 2\nstart: cleared\ncontent: 2 bytes\nverdict: pass\npicture:\n\xe2\x96\x88\xe2\x8c\x82\n  \n",
+        b"size: 2 x 2\n\
+        start: cleared\n\
+        content: 2 bytes\n\
+        verdict: pass\n\
+        picture:\n\
+        \xe2\x96\x88\xe2\x8c\x82\n\
+        \x20\x20\n",
     ),
     (
         b"",
@@ -65,7 +79,11 @@ static REPORTS: [(&[u8], u16, u16, Options, bool, &[u8]); 8] = [
         1,
         CELLS,
         false,
-        b"size: 2 x 1\nstart: cleared\ncontent: 3 bytes\nverdict: refused\nat 2: F20 print below the stated lines\n",
+        b"size: 2 x 1\n\
+        start: cleared\n\
+        content: 3 bytes\n\
+        verdict: refused\n\
+        at 2: F20 print below the stated lines\n",
     ),
     (
         b"H\x1b[3",
@@ -73,7 +91,11 @@ static REPORTS: [(&[u8], u16, u16, Options, bool, &[u8]); 8] = [
         1,
         CELLS,
         false,
-        b"size: 2 x 1\nstart: cleared\ncontent: 4 bytes\nverdict: refused\nat 1: F12 content ends in a sequence\n",
+        b"size: 2 x 1\n\
+        start: cleared\n\
+        content: 4 bytes\n\
+        verdict: refused\n\
+        at 1: F12 content ends in a sequence\n",
     ),
 ];
 
@@ -91,31 +113,68 @@ static WITH_CELLS: [(&[u8], u16, u16, &[u8]); 5] = [
         b"Hi",
         2,
         1,
-        b"size: 2 x 1\nstart: cleared\ncontent: 2 bytes\nverdict: pass\npicture:\nHi\ncells:\n48076907\n",
+        b"size: 2 x 1\n\
+        start: cleared\n\
+        content: 2 bytes\n\
+        verdict: pass\n\
+        picture:\n\
+        Hi\n\
+        cells:\n\
+        48076907\n",
     ),
     (
         b"\x1b[0;1;5;33;44mA",
         1,
         1,
-        b"size: 1 x 1\nstart: cleared\ncontent: 15 bytes\nverdict: pass\npicture:\nA\ncells:\n419e\n",
+        b"size: 1 x 1\n\
+        start: cleared\n\
+        content: 15 bytes\n\
+        verdict: pass\n\
+        picture:\n\
+        A\n\
+        cells:\n\
+        419e\n",
     ),
     (
         b"abc\x1b[1;2H\x1b[44m\x1b[K",
         3,
         1,
-        b"size: 3 x 1\nstart: cleared\ncontent: 17 bytes\nverdict: pass\npicture:\na  \ncells:\n610720172017\n",
+        b"size: 3 x 1\n\
+        start: cleared\n\
+        content: 17 bytes\n\
+        verdict: pass\n\
+        picture:\n\
+        a  \n\
+        cells:\n\
+        610720172017\n",
     ),
     (
         b"\xdb\x00",
         2,
         1,
-        b"size: 2 x 1\nstart: cleared\ncontent: 2 bytes\nverdict: pass\npicture:\n\xe2\x96\x88 \ncells:\ndb070007\n",
+        b"size: 2 x 1\n\
+        start: cleared\n\
+        content: 2 bytes\n\
+        verdict: pass\n\
+        picture:\n\
+        \xe2\x96\x88 \n\
+        cells:\n\
+        db070007\n",
     ),
     (
         b"ab",
         1,
         2,
-        b"size: 1 x 2\nstart: cleared\ncontent: 2 bytes\nverdict: pass\npicture:\na\nb\ncells:\n6107\n6207\n",
+        b"size: 1 x 2\n\
+        start: cleared\n\
+        content: 2 bytes\n\
+        verdict: pass\n\
+        picture:\n\
+        a\n\
+        b\n\
+        cells:\n\
+        6107\n\
+        6207\n",
     ),
 ];
 
@@ -134,6 +193,13 @@ fn a_report_without_a_record_is_its_fault(rt: HostRuntime) {
     expect_run(&rt, &[b'S'; 127], &CELLS, 256, Ok(false), text);
     let noted = file_of(&rt, b"", of_size(0, 1));
     let text: &[u8] =
-        b"size: 80 x 1\nstart: any\ncontent: 0 bytes\nnote: width 0 taken as 80\nnote: no end mark after the content\nnote: file size differs from the content\nverdict: refused\nat 0: F25 cell stays unknown (row 1, column 1)\n";
+        b"size: 80 x 1\n\
+        start: any\n\
+        content: 0 bytes\n\
+        note: width 0 taken as 80\n\
+        note: no end mark after the content\n\
+        note: file size differs from the content\n\
+        verdict: refused\n\
+        at 0: F25 cell stays unknown (row 1, column 1)\n";
     expect_run(&rt, noted.as_slice(), &ANY, 256, Ok(false), text);
 }

@@ -17,7 +17,16 @@ fn sample_file() -> [u8; 200] {
 }
 
 const SAMPLE_TEXT: &[u8] =
-    b"title: Test\nauthor: Ann\ngroup: \ndate: 19960101\nsize: 2 x 1\nflags: 01\nfont: IBM VGA\nfile size: 2\ncomments: 1\ncomment: hello\n";
+    b"title: Test\n\
+    author: Ann\n\
+    group: \n\
+    date: 19960101\n\
+    size: 2 x 1\n\
+    flags: 01\n\
+    font: IBM VGA\n\
+    file size: 2\n\
+    comments: 1\n\
+    comment: hello\n";
 
 #[test]
 fn a_record_is_written(rt: HostRuntime) {
@@ -49,6 +58,18 @@ fn odd_fields_are_shown_as_they_are(rt: HostRuntime) {
     let mut whole = room_for(256);
     assert_eq!(rt; write_record(&mut whole, &parts), Ok(()));
     let text =
-        "title: █ st\nauthor: Ann\ngroup: \ndate: 1996010x\nsize: 2 x 1\nflags: e1\nfont: IBM VGA\nfile size: 9\ncomments: 1\ncomment: hello\nnote: file size differs from the content\nnote: date is not eight digits\nnote: flag bits 5 to 7 are not zero\n";
+        "title: █ st\n\
+        author: Ann\n\
+        group: \n\
+        date: 1996010x\n\
+        size: 2 x 1\n\
+        flags: e1\n\
+        font: IBM VGA\n\
+        file size: 9\n\
+        comments: 1\n\
+        comment: hello\n\
+        note: file size differs from the content\n\
+        note: date is not eight digits\n\
+        note: flag bits 5 to 7 are not zero\n";
     assert_held(&rt, whole, text.as_bytes());
 }

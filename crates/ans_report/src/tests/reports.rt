@@ -111,7 +111,14 @@ fn a_pass_with_cells_ends_in_their_digits(rt: HostRuntime) -> Result<(), Fail> {
         b"Hi",
         Start::Cleared,
         true,
-        b"size: 2 x 1\nstart: cleared\ncontent: 2 bytes\nverdict: pass\npicture:\nHi\ncells:\n48076907\n",
+        b"size: 2 x 1\n\
+        start: cleared\n\
+        content: 2 bytes\n\
+        verdict: pass\n\
+        picture:\n\
+        Hi\n\
+        cells:\n\
+        48076907\n",
     )?;
     expect_report(
         &rt,
@@ -119,7 +126,14 @@ fn a_pass_with_cells_ends_in_their_digits(rt: HostRuntime) -> Result<(), Fail> {
         b"\x1b[1;33;44mA\xdb",
         Start::Cleared,
         true,
-        "size: 2 x 1\nstart: cleared\ncontent: 12 bytes\nverdict: pass\npicture:\nA█\ncells:\n411edb1e\n".as_bytes(),
+        "size: 2 x 1\n\
+        start: cleared\n\
+        content: 12 bytes\n\
+        verdict: pass\n\
+        picture:\n\
+        A█\n\
+        cells:\n\
+        411edb1e\n".as_bytes(),
     )
 }
 
@@ -131,7 +145,11 @@ fn a_refusal_tells_its_fault(rt: HostRuntime) -> Result<(), Fail> {
         b"Hi",
         Start::Any,
         false,
-        b"size: 2 x 1\nstart: any\ncontent: 2 bytes\nverdict: refused\nat 0: F22 print at an unknown place\n",
+        b"size: 2 x 1\n\
+        start: any\n\
+        content: 2 bytes\n\
+        verdict: refused\n\
+        at 0: F22 print at an unknown place\n",
     )
 }
 

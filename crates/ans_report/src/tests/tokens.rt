@@ -23,7 +23,18 @@ static ROWS: [Row; 18] = [
     ),
     Row(
         b"\x07\x08\n\r\t\x1b[B\x1b[2C\x1b[9D\x1b[2J\x1b[K\x1b[s\x1b[u",
-        b"0 1 bell\n1 1 backspace\n2 1 linefeed\n3 1 return\n4 1 tab\n5 3 down 1\n8 4 forward 2\n12 4 backward 9\n16 4 clear\n20 3 erase\n23 3 save\n26 3 restore\n",
+        b"0 1 bell\n\
+        1 1 backspace\n\
+        2 1 linefeed\n\
+        3 1 return\n\
+        4 1 tab\n\
+        5 3 down 1\n\
+        8 4 forward 2\n\
+        12 4 backward 9\n\
+        16 4 clear\n\
+        20 3 erase\n\
+        23 3 save\n\
+        26 3 restore\n",
         None,
     ),
     Row(
