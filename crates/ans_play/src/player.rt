@@ -301,7 +301,8 @@ impl<G: Grid> Player<G> {
     /// Plays a token, or answers why it is refused.
     fn play(&mut self, kind: &Kind) -> Result<(), Cause>
         ensures played { OnOk result (self.new ≡ record self.old {
-            state = half_step self.old.size self.old.state (token_of kind.now) }) }
+          state = half_step self.old.size self.old.state (token_of kind.now);
+        }) }
         ensures clean { OnOk result
             (half_fault self.old.size self.old.state (token_of kind.now) ≡ None) }
         ensures kept { OnErr result (self.new ≡ self.old) }
@@ -366,7 +367,8 @@ impl<G: Grid> Player<G> {
     fn step(&mut self, kind: &Kind)
         requires { half_fault self.old.size self.old.state (token_of kind.now) ≡ None }
         ensures { self.new ≡ record self.old {
-            state = half_step self.old.size self.old.state (token_of kind.now) } }
+          state = half_step self.old.size self.old.state (token_of kind.now);
+        } }
     {
         match kind {
             Kind::Glyph(byte) => self.print(*byte),
@@ -385,7 +387,8 @@ impl<G: Grid> Player<G> {
     fn print(&mut self, byte: u8)
         requires { half_fault self.old.size self.old.state (Glyph byte) ≡ None }
         ensures { self.new ≡ record self.old {
-            state = half_step self.old.size self.old.state (Glyph byte) } }
+          state = half_step self.old.size self.old.state (Glyph byte);
+        } }
     {
         let place = self.cursor.low;
         let cell = HalfCell {
@@ -409,7 +412,8 @@ impl<G: Grid> Player<G> {
     /// Blanks from the one place of the cursor to its row's end.
     fn erase_line(&mut self)
         ensures { self.new ≡ record self.old {
-            state = half_step self.old.size self.old.state EraseLine } }
+          state = half_step self.old.size self.old.state EraseLine;
+        } }
     {
         let row = self.cursor.low.row * self.width;
         let blank = self.blank();
@@ -420,7 +424,8 @@ impl<G: Grid> Player<G> {
     /// Blanks everywhere, and the cursor at home.
     fn clear(&mut self)
         ensures { self.new ≡ record self.old {
-            state = half_step self.old.size self.old.state Clear } }
+          state = half_step self.old.size self.old.state Clear;
+        } }
     {
         let blank = self.blank();
         self.grid.fill(0, (self.lines + 1) * self.width, blank);

@@ -60,8 +60,8 @@ impl Open {
     fn take(&mut self, byte: u8) -> Result<Option<Kind>, Cause>
         ensures { (y : List ℕ) → HoldsOpen self.old y → MatchResult result
             (λ kind. MatchOption kind
-                (IsUnfinished (y ++ byte ∷ []) × HoldsOpen self.new (y ++ byte ∷ []))
-                (λ k. SpellsToken (token_of k) (y ++ byte ∷ [])))
+            (IsUnfinished (y ++ byte ∷ []) × HoldsOpen self.new (y ++ byte ∷ []))
+            (λ k. SpellsToken (token_of k) (y ++ byte ∷ [])))
             (λ cause. IsRefused (y ++ byte ∷ []) cause) }
     {
         match self {

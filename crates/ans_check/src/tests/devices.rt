@@ -7,8 +7,7 @@ use std::io::{self, Read};
 const HI_REPORT: &[u8] =
     b"size: 2 x 1\nstart: cleared\ncontent: 2 bytes\nverdict: pass\npicture:\nHi\n";
 
-const HI_RECORD: &[u8] =
-    b"title: \n\
+const HI_RECORD: &[u8] = b"title: \n\
     author: \n\
     group: \n\
     date: 19960101\n\

@@ -13,8 +13,7 @@ fn a_record_is_told(rt: HostRuntime) {
         ..of_size(2, 1)
     };
     let file = file_of(&rt, b"Hi\x1a", stated);
-    let text: &[u8] =
-        b"title: Test\n\
+    let text: &[u8] = b"title: Test\n\
         author: Ann\n\
         group: \n\
         date: 19960101\n\
@@ -37,8 +36,7 @@ fn odd_records_are_told_with_their_notes(rt: HostRuntime) {
         ..of_size(0, 8192)
     };
     let file = file_of(&rt, b"\x1b[6n", stated);
-    let text: &[u8] =
-        "title: Ç ß\n\
+    let text: &[u8] = "title: Ç ß\n\
         author: \n\
         group: \n\
         date: \n\
@@ -52,7 +50,8 @@ fn odd_records_are_told_with_their_notes(rt: HostRuntime) {
         note: file size differs from the content\n\
         note: date is not eight digits\n\
         note: flag bits 5 to 7 are not zero\n\
-        note: a flag pair is 11\n".as_bytes();
+        note: a flag pair is 11\n"
+        .as_bytes();
     expect_run(&rt, file.as_slice(), &SAUCE, 512, Ok(true), text);
 }
 
@@ -83,8 +82,7 @@ fn the_most_comments_are_told(rt: HostRuntime) {
     expect_run(&rt, file.as_slice(), &CLEARED, 256, Ok(true), pass);
     let (answer, written) = ran(&rt, file.as_slice(), &SAUCE, 4096);
     assert!(rt; answer == Ok(true));
-    let fields: &[u8] =
-        b"title: \n\
+    let fields: &[u8] = b"title: \n\
         author: \n\
         group: \n\
         date: 19960101\n\

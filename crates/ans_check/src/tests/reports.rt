@@ -192,8 +192,7 @@ fn a_report_without_a_record_is_its_fault(rt: HostRuntime) {
     expect_run(&rt, &[b'S'; 127], &CLEARED, 256, Ok(false), text);
     expect_run(&rt, &[b'S'; 127], &CELLS, 256, Ok(false), text);
     let noted = file_of(&rt, b"", of_size(0, 1));
-    let text: &[u8] =
-        b"size: 80 x 1\n\
+    let text: &[u8] = b"size: 80 x 1\n\
         start: any\n\
         content: 0 bytes\n\
         note: width 0 taken as 80\n\

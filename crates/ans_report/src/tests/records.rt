@@ -16,8 +16,7 @@ fn sample_file() -> [u8; 200] {
     file
 }
 
-const SAMPLE_TEXT: &[u8] =
-    b"title: Test\n\
+const SAMPLE_TEXT: &[u8] = b"title: Test\n\
     author: Ann\n\
     group: \n\
     date: 19960101\n\
@@ -57,8 +56,7 @@ fn odd_fields_are_shown_as_they_are(rt: HostRuntime) {
     };
     let mut whole = room_for(256);
     assert_eq!(rt; write_record(&mut whole, &parts), Ok(()));
-    let text =
-        "title: █ st\n\
+    let text = "title: █ st\n\
         author: Ann\n\
         group: \n\
         date: 1996010x\n\

@@ -133,7 +133,8 @@ fn a_pass_with_cells_ends_in_their_digits(rt: HostRuntime) -> Result<(), Fail> {
         picture:\n\
         A█\n\
         cells:\n\
-        411edb1e\n".as_bytes(),
+        411edb1e\n"
+            .as_bytes(),
     )
 }
 
