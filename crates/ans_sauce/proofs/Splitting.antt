@@ -1,10 +1,10 @@
 -- A file is split as it is laid out, or its first refusal answers.
-use Rattle.std.proofs.Common.{◌≡◌, ℕ, suc, ◌+◌, ◌-◌, ◌*◌, ◌≤◌, Bool, true, false, not, ◌&&◌, ◌||◌, ◌==◌, nat_lt, List, [], ◌∷◌, ◌++◌, length, take, drop, codes, refl, ap, ap₂, sym, ◌∙◌, arith, append_assoc, length-append, length-drop, bytes_eq, nat_le, Option, Some, None, if◌then◌else◌, cond, unwrap_or}
+use Rattle.std.proofs.Common.{◌≡◌, ℕ, suc, ◌+◌, ◌-◌, ◌*◌, ◌≤◌, ◌<◌, Bool, true, false, not, ◌&&◌, ◌||◌, ◌==◌, nat_lt, List, [], ◌∷◌, ◌++◌, length, take, drop, codes, refl, ap, ap₂, sym, ◌∙◌, arith, append_assoc, length-append, length-drop, bytes_eq, nat_le, Option, Some, None, if◌then◌else◌, cond, unwrap_or, slice_index}
 use Rattle.std.specs.List.{list_any, list_all, position, position_or_len}
 use Rattle.std.proofs.lemmas.Bool.Decides.{nat_tests}
 use Rattle.std.proofs.lemmas.Slice.Eq.{bytes_eq-Decides}
 use Rattle.std.proofs.lemmas.List.{append-nil, take-append-drop}
-use Rattle.std.proofs.lemmas.List.Sums.{prefix_len-le-length}
+use Rattle.std.proofs.lemmas.List.Sums.{position_or_len_is, prefix_len-le-length}
 use Rattle.std.proofs.lemmas.List.Folds.{length-prefix_len}
 use Rattle.std.proofs.Math.Seq.{take-append_seam, take-length}
 use Rattle.ans_model.specs.declared.fault.Fault.{Fault}
@@ -14,6 +14,7 @@ use Rattle.ans_model.specs.Layout.{Laid, comment_block, content, after_content, 
 use Rattle.ans_model.specs.Refusals.{Refusal, first_refusal, fault_at, refused_if, block_size, has_block, has_record, refusals, record_fault, Accepts}
 use Rattle.ans_model.proofs.Layouts.{accepted, laid_law, le_true}
 use Rattle.ans_model.proofs.Spelling.{both}
+use Rattle.memchr.specs.Find.{IsFirstByte}
 use Rattle.ans_sauce.specs.Layouts.{IsCut, record_refusals}
 
 same_bytes : (a b : List ℕ) → bytes_eq a b ≡ true → a ≡ b
@@ -26,6 +27,30 @@ first_or_length p xs = prefix_len-le-length (λ x. not (p x)) xs
 unwrapped_or : (b : Bool) (n m : ℕ) → nat_lt n m ≡ b → n ≤ m → unwrap_or (cond b (Some n) None) m ≡ n
 unwrapped_or true n m e h = refl
 unwrapped_or false n m e h = grind (arith, nat_tests)
+
+none_passes : (b : Bool) → (b ≡ true → ⊥) → b ≡ false
+none_passes true h = absurd (h refl)
+none_passes false h = refl
+
+nat_lt-true : (n m : ℕ) → n < m → nat_lt n m ≡ true
+nat_lt-true n m h = grind (arith, nat_tests)
+
+nat_lt-false : (n : ℕ) → nat_lt n n ≡ false
+nat_lt-false n = grind (arith, nat_tests)
+
+position_at : (p : ℕ → Bool) (xs : List ℕ) (k : ℕ) → position_or_len p xs ≡ k → k < length xs → position p xs ≡ Some k
+position_at p xs k same lt = rw (same, nat_lt-true k (length xs) lt) refl
+
+no_position : (p : ℕ → Bool) (xs : List ℕ) → position_or_len p xs ≡ length xs → position p xs ≡ None
+no_position p xs same = rw (same, nat_lt-false (length xs)) refl
+
+-- the first place whose byte passes is the position
+pub first_is_position : (p : ℕ → Bool) (xs : List ℕ) (r : Option ℕ) → IsFirstByte p xs r → r ≡ position p xs
+first_is_position p xs None h = sym (no_position p xs
+    (position_or_len_is p xs (length xs) 0 (omega arith) (λ k lt. none_passes (p (slice_index xs k)) (h k (omega arith) lt)) (λ lt. absurd (omega (arith, lt)))))
+first_is_position p xs (Some k) h = sym (position_at p xs k
+    (position_or_len_is p xs k 0 (omega (arith, h.0.high)) (λ j lt. none_passes (p (slice_index xs j)) (h.0.before j (omega arith) lt)) (λ lt. h.1))
+    h.0.high)
 
 position-or_length : (p : ℕ → Bool) (xs : List ℕ) → unwrap_or (position p xs) (length xs) ≡ position_or_len p xs
 position-or_length p xs = unwrapped_or (nat_lt (position_or_len p xs) (length xs)) (position_or_len p xs) (length xs) refl (first_or_length p xs)

@@ -11,6 +11,7 @@ use crate::notes::notes_on;
 use crate::parts::{COMMENT_SIZE, Parts};
 use crate::record::{COMMENT_COUNT, DATA_TYPE, RECORD_SIZE, Record, TINFO_1, TINFO_2, VERSION};
 use ans_model::fault::{Cause, Fault};
+use memchr::memchr;
 
 /// SAUCE 00.5: the end of file character.
 const END_MARK: u8 = 0x1A;
@@ -86,7 +87,7 @@ fn cut_front<'a>(front: &'a [u8], sauce: &Record<'_>) -> Result<(&'a [u8], &'a [
 fn first_end_mark(body: &[u8]) -> Option<usize>
     ensures { result ≡ position is_end_mark body.now }
 {
-    body.iter().position(|b| *b == END_MARK)
+    memchr(END_MARK, body)
 }
 
 /// What stands before the first end mark, and the rest.
