@@ -100,12 +100,12 @@ entered_named a (Some p) name rows e = found_named p.1 (λ s. answers_to p.0 (la
 pub command_found : (words : List Text) (sub : Option (Text × List Row)) → subcommand_of anscheck words ≡ sub
     → IsSome sub → IsSomeAnd sub IsCommand
 command_found words None e some = cc
-command_found words (Some p) e some = λ none. elim (entered_named (built anscheck) (stop_after (built anscheck).top.rules (names_of (built anscheck)) (argument_words anscheck words)) p.0 p.1 e) [
-  | inl check ↦ none Check (sym check)
+command_found words (Some p) e some = elim (entered_named (built anscheck) (stop_after (built anscheck).top.rules (names_of (built anscheck)) (argument_words anscheck words)) p.0 p.1 e) [
+  | inl check ↦ (Check, sym check)
   | inr others ↦ elim others [
-    | inl sauce ↦ none Sauce (sym sauce)
+    | inl sauce ↦ (Sauce, sym sauce)
     | inr last ↦ elim last [
-      | inl tokens ↦ none Tokens (sym tokens)
+      | inl tokens ↦ (Tokens, sym tokens)
       | inr never ↦ absurd never
     ]
   ]

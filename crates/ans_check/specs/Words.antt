@@ -61,7 +61,7 @@ holds_flag id rows = option_map_or (λ t. bytes_eq t (codes "true")) (one_of id 
 
 -- the subcommand is one of the commands
 abbrev pub IsCommand : (Text × List Row) → Type 0
-IsCommand sub = ¬ IsNoCommand sub.0
+IsCommand sub = (c : Command) × (sub.0 ≡ command_name c)
 
 -- The subcommand is named as the command. Its matches hold `--cleared` exactly where the start is the cleared screen and
 -- `--cells` exactly where the cells are asked for, and hold the file exactly where one is given, with that text.

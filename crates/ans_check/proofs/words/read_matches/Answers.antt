@@ -8,7 +8,8 @@ use Rattle.ans_check.proofs.words.read_matches.Goals as goal
 pub unreachable-requires-in_default-command_named : goal.unreachable-requires-in_default-command_named
 unreachable-requires-in_default-command_named c =
     let met = rows_met c.args.matches.now c.in-Some.name.now (rows_of (found_of c.in-Some.found.now)) c.in-Some.ensures.name c.in-Some.ensures.rows in
-    subst (λ (s : Option (Text × List Row)). IsSomeAnd s IsCommand) met c.requires c.in_default-command_named.ensures.none
+    let command = subst (λ (s : Option (Text × List Row)). IsSomeAnd s IsCommand) met c.requires in
+    c.in_default-command_named.ensures.none command.0 command.1
 
 pub returns-clause-ok : goal.returns-clause-ok
 returns-clause-ok c =
