@@ -1,5 +1,5 @@
 #!/usr/bin/env python3
-"""Times `anscheck check` and `anscheck tokens` on files of the greatest size, beside a plain copy.
+"""Times the commands of `anscheck` on files of the greatest size, beside a plain copy.
 
 Run it in the folder above, after `rt run -- check --cleared data/hi.ans` has built the program:
 
@@ -58,7 +58,7 @@ def main(program):
             copy = least(["cp", path, os.path.join(room, "copy")])
             size = os.path.getsize(path)
             print(f"{name}: {size} bytes, copy {copy:.3f} s")
-            for command in "check", "tokens":
+            for command in "check", "sauce", "tokens":
                 seconds = least([program, command, path])
                 print(f"  {command} {seconds:.3f} s, {size / seconds / 1e6:.0f} MB/s")
 

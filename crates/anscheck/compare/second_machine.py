@@ -1,0 +1,330 @@
+#!/usr/bin/env python3
+"""Plays random contents on a second machine, and compares its answers with those of `anscheck check`.
+
+The proofs say that the program agrees with the definitions. This machine shares nothing with either:
+it was written from the ANSI.SYS and SAUCE rules alone, reads a content whole, and plays it from many
+whole starts, the lowest, the highest and random ones. So it can tell a mistake in the definitions.
+
+Run it in the folder above, after `rt run -- check --cleared data/hi.ans` has built the program, with a
+number that seeds the contents and how many there shall be:
+
+    python3 compare/second_machine.py out/anscheck 1 10000
+
+It prints each content whose answers differ, and then how often each answer came. Its status is 1 where
+one differs.
+"""
+import collections
+import random
+import re
+import struct
+import subprocess
+import sys
+
+FAULTS = {
+    9: "broken sequence", 10: "number above 255", 11: "more than 16 parameters",
+    12: "content ends in a sequence", 13: "unknown sequence", 14: "wrong parameters",
+    15: "key reassigned", 16: "screen mode set", 17: "cursor report asked", 18: "tab byte",
+    19: "place outside the screen", 20: "print below the stated lines", 21: "scrolls",
+    22: "print at an unknown place", 23: "erase at an unknown place", 24: "may scroll",
+    25: "cell stays unknown",
+}
+CONTROLS = {7: "bell", 8: "backspace", 9: "tab", 10: "linefeed", 13: "return"}
+REFUSED = {"keys": 15, "mode": 16, "ask": 17, "tab": 18}
+COLOURS = [0, 4, 2, 6, 1, 5, 3, 7]
+STRING = object()
+
+
+class Refused(Exception):
+    """The number of the fault that ends the reading."""
+
+
+def read_members(bytes_, at):
+    """The members from here on, and the place of the letter behind them."""
+    members, member, begun = [], None, False
+    while at < len(bytes_):
+        char = chr(bytes_[at])
+        if char in "0123456789":
+            if member is STRING:
+                raise Refused(9)
+            member, begun = 10 * (member or 0) + int(char), True
+            if member > 255:
+                raise Refused(10)
+        elif char == ";":
+            members.append(member)
+            member, begun = None, True
+            if len(members) == 16:
+                raise Refused(11)
+        elif char in "\"'":
+            if member is not None:
+                raise Refused(9)
+            at = bytes_.find(bytes_[at], at + 1)
+            if at < 0:
+                raise Refused(12)
+            member, begun = STRING, True
+        elif re.fullmatch("[A-Za-z]", char):
+            return members + [member] if begun else members, at
+        else:
+            raise Refused(9)
+        at += 1
+    raise Refused(12)
+
+
+def meaning(mark, members, letter):
+    """The token of a sequence, by its name and its numbers."""
+    if letter not in "ABCDHfJKmsuhlpn" or (mark and letter not in "hl"):
+        raise Refused(13)
+    if STRING in members and letter != "p":
+        raise Refused(14)
+    counted = [member or 1 for member in members] + [1, 1]
+    if letter in "ABCD" and len(members) <= 1:
+        return letter, counted[0]
+    if letter in "Hf" and len(members) <= 2:
+        return "place", counted[0], counted[1]
+    if letter == "J" and members == [2]:
+        return ("clear",)
+    if letter == "K" and members in ([], [0]):
+        return ("erase",)
+    if letter in "su" and not members:
+        return ("save" if letter == "s" else "restore",)
+    if letter == "m":
+        return "colours", [member or 0 for member in members] or [0]
+    if letter in "hl":
+        return ("wrap", letter == "h") if mark and members == [7] else ("mode",)
+    if letter == "p":
+        return ("keys",)
+    if letter == "n" and members == [6]:
+        return ("ask",)
+    raise Refused(14)
+
+
+def read_sequence(content, at):
+    """The token that begins with the ESC at this place, and the place behind it."""
+    rest = at + 1
+    if content[rest:rest + 1] != b"[":
+        raise Refused(9 if rest < len(content) else 12)
+    rest += 1
+    mark = content[rest:rest + 1] in (b"=", b"?")
+    members, letter = read_members(content, rest + mark)
+    return meaning(mark, members, chr(content[letter])), letter + 1
+
+
+def read(content):
+    """Each token with its offset, and the fault that ends the reading with its own."""
+    tokens, at = [], 0
+    while at < len(content):
+        byte = content[at]
+        if byte != 0x1B:
+            name = CONTROLS.get(byte)
+            tokens.append((at, (name,) if name else ("glyph", byte)))
+            at += 1
+            continue
+        try:
+            token, behind = read_sequence(content, at)
+        except Refused as refused:
+            return tokens, (at, refused.args[0])
+        tokens.append((at, token))
+        at = behind
+    return tokens, None
+
+
+def recoloured(attribute, parameter):
+    if parameter == 0:
+        return 0x07
+    if parameter in (1, 5):
+        return attribute | (0x08 if parameter == 1 else 0x80)
+    if parameter in (4, 7):
+        return attribute & 0xF8 | (0x01 if parameter == 4 else 0x70)
+    if parameter == 8:
+        return attribute & 0x88
+    if 30 <= parameter <= 37:
+        return attribute & 0xF8 | COLOURS[parameter - 30]
+    if 40 <= parameter <= 47:
+        return attribute & 0x8F | COLOURS[parameter - 40] << 4
+    return attribute
+
+
+class Machine:
+    """A screen of the stated lines and one spare row, played from one whole start."""
+
+    def __init__(self, width, lines, number, place, wrap):
+        self.width, self.lines = width, lines
+        self.rows = [[(number(), number()) for _ in range(width)] for _ in range(lines + 1)]
+        self.row, self.column = place()
+        self.saved = place()
+        self.attribute, self.wrap = number(), wrap
+
+    def feed_line(self):
+        if self.row < self.lines:
+            self.row += 1
+        else:
+            self.rows = self.rows[1:] + [[(0x20, self.attribute)] * self.width]
+
+    def put(self, byte):
+        self.rows[self.row][self.column] = (byte, self.attribute)
+        if self.column < self.width - 1:
+            self.column += 1
+        elif self.wrap:
+            self.column = 0
+            self.feed_line()
+
+    def step(self, name, *given):
+        last = self.width - 1
+        if name == "glyph":
+            self.put(*given)
+        elif name == "linefeed":
+            self.feed_line()
+        elif name == "return":
+            self.column = 0
+        elif name == "backspace":
+            self.column = max(0, self.column - 1)
+        elif name == "A":
+            self.row = max(0, self.row - given[0])
+        elif name == "B":
+            self.row = min(self.lines, self.row + given[0])
+        elif name == "C":
+            self.column = min(last, self.column + given[0])
+        elif name == "D":
+            self.column = max(0, self.column - given[0])
+        elif name == "place":
+            self.row, self.column = given[0] - 1, given[1] - 1
+        elif name == "clear":
+            blank = (0x20, self.attribute)
+            self.rows = [[blank] * self.width for _ in range(self.lines + 1)]
+            self.row = self.column = 0
+        elif name == "erase":
+            for column in range(self.column, self.width):
+                self.rows[self.row][column] = (0x20, self.attribute)
+        elif name == "save":
+            self.saved = self.row, self.column
+        elif name == "restore":
+            self.row, self.column = self.saved
+        elif name == "colours":
+            for parameter in given[0]:
+                self.attribute = recoloured(self.attribute, parameter)
+        elif name == "wrap":
+            self.wrap = given[0]
+
+
+def starts(chance, width, lines, cleared):
+    """The cleared start alone, or the lowest, the highest and some between."""
+    if cleared:
+        machine = Machine(width, lines, lambda: 0x07, lambda: (0, 0), True)
+        machine.rows = [[(0x20, 0x07)] * width for _ in range(lines + 1)]
+        return [machine]
+    low = Machine(width, lines, lambda: 0x00, lambda: (0, 0), False)
+    high = Machine(width, lines, lambda: 0xFF, lambda: (lines, width - 1), True)
+    between = [
+        Machine(
+            width, lines, lambda: chance.randrange(256),
+            lambda: (chance.randrange(lines + 1), chance.randrange(width)),
+            chance.random() < 0.5,
+        )
+        for _ in range(6)
+    ]
+    return [low, high] + between
+
+
+def fault_of(token, machines):
+    """The number of the token's fault where these machines stand, or None."""
+    name = token[0]
+    width, lines = machines[0].width, machines[0].lines
+    same_place = len({(machine.row, machine.column) for machine in machines}) == 1
+    in_spare_row = [machine.row == lines for machine in machines]
+    if name in REFUSED:
+        return REFUSED[name]
+    if name == "place" and (token[1] > lines + 1 or token[2] > width):
+        return 19
+    if name == "glyph":
+        return 22 if not same_place else 20 if in_spare_row[0] else None
+    if name == "erase":
+        return None if same_place else 23
+    if name == "linefeed" and any(in_spare_row):
+        return 21 if all(in_spare_row) else 24
+    return None
+
+
+def answer(content, machines):
+    """The fault's line, or the picture as lines of cells."""
+    tokens, ending = read(content)
+    for offset, token in tokens:
+        fault = fault_of(token, machines)
+        if fault:
+            return f"at {offset}: F{fault} {FAULTS[fault]}"
+        for machine in machines:
+            machine.step(*token)
+    if ending:
+        return f"at {ending[0]}: F{ending[1]} {FAULTS[ending[1]]}"
+    for row in range(machines[0].lines):
+        for column in range(machines[0].width):
+            if len({machine.rows[row][column] for machine in machines}) > 1:
+                place = f"(row {row + 1}, column {column + 1})"
+                return f"at {len(content)}: F25 {FAULTS[25]} {place}"
+    picture = machines[0].rows[:-1]
+    return ["".join(f"{byte:02x}{attribute:02x}" for byte, attribute in row) for row in picture]
+
+
+def asked(program, content, width, lines, cleared):
+    """The same answer, as the program prints it."""
+    record = (
+        b"SAUCE00" + b" " * 75 + b"19960101" + struct.pack("<I", len(content))
+        + bytes([1, 1]) + struct.pack("<4H", width, lines, 0, 0) + bytes(24)
+    )
+    words = [program, "check", "--cells"] + ["--cleared"] * cleared
+    run = subprocess.run(words, input=content + b"\x1a" + record, stdout=subprocess.PIPE)
+    printed = run.stdout.decode().splitlines()
+    return printed[-lines:] if run.returncode == 0 else printed[-1]
+
+
+def a_number(chance):
+    odd = [b"", b"", b"000255", b"256", b"00", b'"a"', b"'\x1b'", b'"p"']
+    return chance.choice(odd) if chance.random() < 0.3 else b"%d" % chance.randrange(6)
+
+
+def a_piece(chance, width, lines):
+    """A few bytes that a content may hold: mostly whole sequences, now and then broken ones."""
+    kind = chance.random()
+    if kind < 0.30:
+        return bytes([chance.choice(b"AB \xdb\x00\xff\x7f")]) * chance.randrange(1, 3)
+    if kind < 0.37:
+        return chance.choice([b"\r\n", b"\r\n", b"\n", b"\r", b"\b", b"\x07", b"\t"])
+    if kind < 0.50:
+        some = [b"", b"0", b"1", b"2", b"4", b"5", b"7", b"8", b"31", b"36", b"38", b"40", b"44"]
+        return b"\x1b[" + b";".join(chance.choices(some, k=chance.randrange(4))) + b"m"
+    if kind < 0.60:
+        return b"\x1b[%d;%dH" % (chance.randrange(lines + 2), chance.randrange(width + 1))
+    if kind < 0.78:
+        some = [b"2J", b"K", b"0K", b"s", b"u", b"?7h", b"?7l", b"=7h"]
+        return b"\x1b[" + chance.choice(some)
+    if kind < 0.97:
+        return b"\x1b[" + a_number(chance) + bytes([chance.choice(b"ABCD")])
+    mark = chance.choice([b"", b"", b"=", b"?"])
+    members = b";".join(a_number(chance) for _ in range(chance.choice([0, 1, 1, 2, 3, 17])))
+    return b"\x1b[" + mark + members + bytes([chance.choice(b"ABHJKfhlmnpsutxz \x9b")])
+
+
+def a_content(chance, width, lines, cleared):
+    content = b""
+    if not cleared and chance.random() < 0.8:
+        content = b"".join(chance.sample([b"\x1b[0m", b"\x1b[2J", b"\x1b[?7h"], 3))
+    content += b"".join(a_piece(chance, width, lines) for _ in range(chance.randrange(9)))
+    return content[: chance.randrange(len(content) + 1)] if chance.random() < 0.1 else content
+
+
+def main(program, seed, count):
+    chance = random.Random(int(seed))
+    seen, differing = collections.Counter(), 0
+    for _ in range(int(count)):
+        width, lines, cleared = chance.randrange(1, 5), chance.randrange(1, 4), chance.random() < 0.3
+        content = a_content(chance, width, lines, cleared)
+        expected = answer(content, starts(chance, width, lines, cleared))
+        printed = asked(program, content, width, lines, cleared)
+        seen[expected.split()[2] if isinstance(expected, str) else "pass"] += 1
+        if expected != printed:
+            differing += 1
+            print(f"{width} x {lines} cleared={cleared} {content}: {expected}, not {printed}")
+    print(f"{differing} of {count} differ;", ", ".join(f"{n} {k}" for k, n in seen.most_common()))
+    return differing > 0
+
+
+if __name__ == "__main__":
+    sys.exit(main(*sys.argv[1:]))
