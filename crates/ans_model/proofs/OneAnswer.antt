@@ -190,6 +190,12 @@ module _ (z : Size) (class : Class) where
   first_or_last bytes f g h (inl k) = clean_no_first bytes f k.tokens k.text h (sequence_end bytes g k)
   first_or_last bytes f g h (inr k) = clean_no_first bytes f k.tokens [] h (unknown_end bytes g k)
 
+  -- bytes of clean tokens, behind which stands nothing or an unfinished sequence, have no first fault
+  pub clean_or_first : (bytes front left : List ℕ) (tokens : List Token) (f : Fault) → bytes ≡ front ++ left → Reads front tokens → IsClean z class tokens → (left ≡ []) ⊎ IsUnfinished left
+      → IsFirstFault z class bytes f → ⊥
+  clean_or_first bytes front left tokens f whole reads clean end h =
+      clean_no_first bytes f tokens left h (record { reads = record { front = front; reads = reads; whole = whole }; clean = clean; end = end })
+
   -- ---- the first place that differs
   place_path : (p q : Position) → p.row ≡ q.row → p.column ≡ q.column → p ≡ q
   place_path p q r c = λ i. record { row = r i; column = c i }

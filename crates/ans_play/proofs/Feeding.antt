@@ -12,7 +12,9 @@ use Rattle.ans_model.proofs.Reading.{token_prints}
 use Rattle.ans_model.specs.Sequence.{IsUnfinished}
 use Rattle.ans_model.specs.View.{token_of}
 use Rattle.ans_tokens.proofs.Readable.{reads_as_more}
-use Rattle.ans_tokens.specs.Scanning.{Scanning, Holds, IsTokenOf, IsFaultOf}
+use Rattle.ans_tokens.specs.Scanning.{Scanning, Holds, IsTokenOf, IsFaultOf, Kept, Keeps, Nothing, Escape, Sequence}
+use Rattle.ans_tokens.proofs.EachByte.{IsOpen, open_ends}
+use Rattle.ans_model.proofs.OneAnswer.{clean_or_first}
 use Rattle.ans_tokens.specs.Token.{kind_of, start_of}
 use Rattle.ans_tokens.specs.declared.token.Token.{Token as Spelled}
 use Rattle.ans_play.specs.HalfState.{HalfState}
@@ -149,6 +151,23 @@ stands_played old new piece s h none st = record {
   played = λ n. rw (h.same.size, h.same.start) (h.played (class_of old.start) s (st.played none));
   faulted = λ f some. absurd (let clash : Some f ≡ None = sym some ∙ (h.fault ∙ none) in cc);
 }
+
+kept_open : (kept : Kept) (y : List ℕ) → Keeps kept y → IsOpen y
+kept_open Nothing y e = inl e
+kept_open Escape y e = inr (inl e)
+kept_open (Sequence mark numbers quoted current) y (part, shown, spelled) = inr (inr (part, spelled))
+
+-- bytes that are played have no first fault
+played_or_first : (z : Size) (class : Class) (bytes : List ℕ) (scanner : Scanning) (h : HalfState) (f : Fault) → IsPlayed z class bytes scanner h
+    → ¬ IsFirstFault z class bytes f
+played_or_first z class bytes scanner h f p =
+    clean_or_first z class bytes p.front p.open_part p.tokens f p.whole p.reads p.clean (open_ends p.open_part (kept_open scanner.kept p.open_part p.holds.keeps))
+
+-- nor have those that a player takes without a fault
+pub piece_unfaulted : (old new : Playing) (piece s : List ℕ) (f : Fault) → GoesOn old piece new → old.fault ≡ None → Stands old s
+    → ¬ IsFirstFault old.size (class_of old.start) (s ++ piece) f
+piece_unfaulted old new piece s f h none st =
+    played_or_first old.size (class_of old.start) (s ++ piece) new.scanner new.state f (h.played (class_of old.start) s (st.played none))
 
 -- what has a fault behind bytes that are played
 pub deserved_behind : (old mid : Playing) (front rest : List ℕ) (fault : Fault) → GoesOn old front mid → IsDeserved mid rest fault → IsDeserved old (front ++ rest) fault

@@ -7,6 +7,7 @@ ghost use Rattle.ans_model.specs.View.{token_of};
 ghost use Rattle.ans_model.specs.State.{Size, sized};
 ghost use Rattle.ans_model.specs.Starts.{class_of};
 ghost use Rattle.ans_model.specs.Good.{GoodWith, IsGood};
+ghost use Rattle.ans_model.specs.FirstFault.{IsFirstFault};
 ghost use Rattle.ans_model.specs.LastFault.{IsLastFault};
 ghost use Rattle.ans_model.specs.Certain.{IsCertain};
 ghost use Rattle.ans_model.specs.declared.start.Start.TheVariants.{Cleared};
@@ -125,9 +126,9 @@ impl<G: Grid> Player<G> {
         self.fed
     }
 
-    /// Plays a piece behind the bytes fed so far. An error is the first fault of the bytes, at its
-    /// offset from the first byte fed. The rest of the piece is then not looked at, and every later
-    /// call answers that fault.
+    /// Plays a piece behind the bytes fed so far. `Ok` says that all these bytes have no first fault.
+    /// An error is their first fault, at its offset from the first byte fed. The rest of the piece is
+    /// then not looked at, and every later call answers that fault.
     pub fn feed(&mut self, piece: &[u8]) -> Result<(), Fault>
         requires { self.old.fed + length piece.now ≤ longest_file }
 
@@ -142,6 +143,12 @@ impl<G: Grid> Player<G> {
 
         ensures stands { (s : List ℕ) → self.old.fault ≡ None → Stands self.old s
             → Stands self.new (s ++ piece.now) }
+        // A fault is the first that the bytes have, and without one they have none.
+        ensures first { (s : List ℕ) → self.old.fault ≡ None → Stands self.old s → IfErr result
+            (IsFirstFault self.old.size (class_of self.old.start) (s ++ piece.now)) }
+        ensures none { (s : List ℕ) (f : Fault) → self.old.fault ≡ None → Stands self.old s
+            → OnOk result
+            (¬ IsFirstFault self.old.size (class_of self.old.start) (s ++ piece.now) f) }
         ensures offset { (s : List ℕ) → self.old.fault ≡ None → Stands self.old s
             → IfErr result (λ f. f.offset ≤ self.old.fed + length piece.now) }
         ensures certain { (s : List ℕ) → Stands self.old s → self.old.start ≡ Cleared

@@ -4,7 +4,7 @@ use Rattle.std.proofs.lemmas.List.{take_all}
 use Rattle.ans_model.specs.Starts.{class_of}
 use Rattle.ans_play.specs.Playing.{Playing}
 use Rattle.ans_play.specs.Stands.{Stands}
-use Rattle.ans_play.proofs.Feeding.{goes_on_none, front_more, stands_played, stands_at, piece_deserved, first_within}
+use Rattle.ans_play.proofs.Feeding.{goes_on_none, front_more, stands_played, stands_at, piece_deserved, piece_unfaulted, first_within}
 use Rattle.ans_play.proofs.Certainty.{certain_fault}
 use Rattle.ans_play.proofs.player.Player.feed.Goals as goal
 
@@ -28,6 +28,11 @@ returns-in-Err-clause-stands g c s none st =
     (stands_at c.args.self.now c.loop-played.self c.play_front.new.self c.args.piece.now s c.loop-played.played c.in-Err.fault c.loop-played.invariant.goes_on
     c.in-Err.ensures.same c.in-Err.ensures.fault c.in-Err.ensures.deserved none st c.self.inside.fed)
 
+pub returns-in-Err-clause-first : goal.returns-in-Err-clause-first
+returns-in-Err-clause-first g c s none st =
+    piece_deserved c.args.self.now c.loop-played.self c.args.piece.now c.loop-played.played c.in-Err.fault c.loop-played.invariant.goes_on c.in-Err.ensures.deserved
+    (class_of c.args.self.now.start) s (st.played none)
+
 pub returns-in-Err-clause-offset : goal.returns-in-Err-clause-offset
 returns-in-Err-clause-offset g c s none st =
     let offset = first_within c.args.self.now.size (class_of c.args.self.now.start) (s ++ c.args.piece.now) c.in-Err.fault
@@ -40,6 +45,12 @@ returns-in-Err-clause-certain g c s st e =
     certain_fault c.args.self.now.size c.args.self.now.start (s ++ c.args.piece.now) c.in-Err.fault e
     (piece_deserved c.args.self.now c.loop-played.self c.args.piece.now c.loop-played.played c.in-Err.fault c.loop-played.invariant.goes_on c.in-Err.ensures.deserved
     (class_of c.args.self.now.start) s (st.played c.in_ok-without_fault.ensures.ok))
+
+pub returns-clause-none : goal.returns-clause-none
+returns-clause-none g c s f none st =
+    let end : length c.args.piece.now ≤ c.loop-played.played = omega arith in
+    piece_unfaulted c.args.self.now c.loop-played.self c.args.piece.now s f
+    (rw (take_all c.loop-played.played c.args.piece.now end) at c.loop-played.invariant.goes_on) none st
 
 pub returns-clause-stands : goal.returns-clause-stands
 returns-clause-stands g c s none st =
