@@ -1,9 +1,11 @@
 #!/usr/bin/env python3
-"""Plays random contents on a second machine, and compares its answers with those of `anscheck check`.
+"""Plays random contents on a second machine, and compares its answers with those of `check --cells`.
 
-The proofs say that the program agrees with the definitions. This machine shares nothing with either:
-it was written from the ANSI.SYS and SAUCE rules alone, reads a content whole, and plays it from many
-whole starts, the lowest, the highest and random ones. So it can tell a mistake in the definitions.
+It shares no code with the program and none with the definitions: it reads a content whole, and plays
+it from whole starts, the lowest, the highest and six random ones, or from the cleared one. So it can
+tell a slip in the definitions. It follows the rules as this project states them, its own choices among
+them, and comes from the same hands: a rule that both misread it cannot tell. Its screens are small, of
+at most four columns and three lines, its contents short, and its records plain.
 
 Run it in the folder above, after `rt run -- check --cleared data/hi.ans` has built the program, with a
 number that seeds the contents and how many there shall be:
@@ -277,7 +279,7 @@ def asked(program, content, width, lines, cleared):
 
 def a_number(chance):
     odd = [b"", b"", b"000255", b"256", b"00", b'"a"', b"'\x1b'", b'"p"']
-    return chance.choice(odd) if chance.random() < 0.3 else b"%d" % chance.randrange(6)
+    return chance.choice(odd) if chance.random() < 0.3 else b"%d" % chance.randrange(8)
 
 
 def a_piece(chance, width, lines):
