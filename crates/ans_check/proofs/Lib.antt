@@ -1,4 +1,4 @@
-pub mod WordsLemmas
+pub mod CommandLineLemmas
 pub mod PlayLemmas
 pub mod VerdictLemmas
 pub mod ReportLemmas

@@ -1,20 +1,21 @@
 -- The play of a content in pieces.
-use Rattle.std.proofs.Common.{◌≡◌, ℕ, ◌+◌, ◌≤◌, List, ◌++◌, length, take, drop, Some, sym, ap, subst, ◌∙◌, arith, append_assoc, length-append, take-append-drop, inl, inr}
+use Rattle.std.proofs.Common.{◌≡◌, ℕ, ◌+◌, ◌≤◌, List, ◌++◌, length, take, drop, Some, sym, ap, subst, ◌∙◌, arith}
+use Rattle.std.proofs.Common.{append_assoc, length-append, take-append-drop, inl, inr}
 use Rattle.std.specs.Prelude.{Result, Ok, Err, IfErr}
 use Rattle.std.proofs.lemmas.List.{length-take-le, take_all}
 use Rattle.std.proofs.Math.Seq.{drop-append_seam, take-append_seam}
-use Rattle.ans_model.specs.State.{Size}
-use Rattle.ans_model.specs.Starts.{Class, class_of}
-use Rattle.ans_model.specs.FirstFault.{IsFirstFault}
-use Rattle.ans_model.specs.LastFault.{IsLastFault}
-use Rattle.ans_model.specs.Certain.{IsCertain}
+use Rattle.ans_model.specs.Screen.State.{Size}
+use Rattle.ans_model.specs.Screen.Starts.{Class, class_of}
+use Rattle.ans_model.specs.Verdict.FirstFault.{IsFirstFault}
+use Rattle.ans_model.specs.Verdict.LastFault.{IsLastFault}
+use Rattle.ans_model.specs.Laws.Certain.{IsCertain}
 use Rattle.ans_model.specs.declared.fault.Fault.{Fault}
 use Rattle.ans_model.specs.declared.start.Start.{Start}
 use Rattle.ans_model.specs.declared.start.Start.TheVariants.{Cleared}
 use Rattle.ans_play.specs.Playing.{Playing}
 use Rattle.ans_play.specs.Stands.{Stands, SamePlay}
 use Rattle.ans_play.proofs.TwoStarts.{first_shown, last_shown}
-use Rattle.ans_check.specs.Verdicts.{Deserves}
+use Rattle.ans_check.specs.FileVerdict.{Deserves}
 
 -- a piece comes off what is left of the content
 pub record Cut (content piece rest : List ℕ) (n : ℕ) : Type 0 where
@@ -23,11 +24,13 @@ pub record Cut (content piece rest : List ℕ) (n : ℕ) : Type 0 where
   pub left : drop (n + length piece) content ≡ rest
   pub whole : content ≡ (take n content ++ piece) ++ rest
 
-pub cut : (content piece rest : List ℕ) (n : ℕ) → n ≤ length content → drop n content ≡ piece ++ rest → Cut content piece rest n
+pub cut : (content piece rest : List ℕ) (n : ℕ) → n ≤ length content → drop n content ≡ piece ++ rest
+    → Cut content piece rest n
 cut content piece rest n le e =
     let front = take n content ++ piece in
     let whole : content ≡ front ++ rest =
-    sym (take-append-drop n content) ∙ ap (λ (v : List ℕ). take n content ++ v) e ∙ sym (append_assoc (take n content) piece rest) in
+    sym (take-append-drop n content) ∙ ap (λ (v : List ℕ). take n content ++ v) e
+    ∙ sym (append_assoc (take n content) piece rest) in
     let size : length front ≡ n + length piece =
     length-append (take n content) piece ∙ ap (λ (v : ℕ). v + length piece) (length-take-le n content le) in
     let total : length content ≡ length front + length rest = ap length whole ∙ length-append front rest in
@@ -39,7 +42,8 @@ cut content piece rest n le e =
     }
 
 -- a first fault stays the first with more bytes behind it
-first_longer : (z : Size) (class : Class) (bytes more : List ℕ) (f : Fault) → IsFirstFault z class bytes f → IsFirstFault z class (bytes ++ more) f
+first_longer : (z : Size) (class : Class) (bytes more : List ℕ) (f : Fault) → IsFirstFault z class bytes f
+    → IsFirstFault z class (bytes ++ more) f
 first_longer z class bytes more f h = record {
   size = h.size;
   front = h.front;
@@ -59,16 +63,19 @@ pub SamePlay-then : (a b c : Playing) → SamePlay a b → SamePlay b c → Same
 SamePlay-then a b c p q = record { size = q.size ∙ p.size; start = q.start ∙ p.start }
 
 -- the fault of a piece is the content's
-pub fed_fault : (a b : Playing) (content piece rest : List ℕ) (n : ℕ) (f : Fault) → SamePlay a b → Cut content piece rest n
+pub fed_fault : (a b : Playing) (content piece rest : List ℕ) (n : ℕ) (f : Fault) → SamePlay a b
+    → Cut content piece rest n
     → Stands b (take n content ++ piece) → b.fault ≡ Some f
     → (a.start ≡ Cleared → IsCertain f.cause) → f.offset ≤ n + length piece → Deserves a.size a.start content f
 fed_fault a b content piece rest n f same c stands fault certain offset =
     let front = take n content ++ piece in
     let found : IsFirstFault b.size (class_of b.start) front f = stands.faulted f fault in
     let here : IsFirstFault a.size (class_of a.start) front f =
-    subst (λ (z : Size). IsFirstFault z (class_of a.start) front f) same.size (subst (λ (s : Start). IsFirstFault b.size (class_of s) front f) same.start found) in
+    subst (λ (z : Size). IsFirstFault z (class_of a.start) front f) same.size
+    (subst (λ (s : Start). IsFirstFault b.size (class_of s) front f) same.start found) in
     let first : IsFirstFault a.size (class_of a.start) content f =
-    subst (λ (v : List ℕ). IsFirstFault a.size (class_of a.start) v f) (sym c.whole) (first_longer a.size (class_of a.start) front rest f here) in
+    subst (λ (v : List ℕ). IsFirstFault a.size (class_of a.start) v f) (sym c.whole)
+    (first_longer a.size (class_of a.start) front rest f here) in
     record {
       deserved = inl first;
       certain = certain;
@@ -77,11 +84,13 @@ fed_fault a b content piece rest n f same c stands fault certain offset =
     }
 
 -- the fault in the end is the content's
-pub last_fault : (a b : Playing) (content : List ℕ) (f : Fault) → SamePlay a b → IsLastFault b.size (class_of b.start) content f
+pub last_fault : (a b : Playing) (content : List ℕ) (f : Fault) → SamePlay a b
+    → IsLastFault b.size (class_of b.start) content f
     → (a.start ≡ Cleared → IsCertain f.cause) → f.offset ≤ length content → Deserves a.size a.start content f
 last_fault a b content f same last certain offset =
     let here : IsLastFault a.size (class_of a.start) content f =
-    subst (λ (z : Size). IsLastFault z (class_of a.start) content f) same.size (subst (λ (s : Start). IsLastFault b.size (class_of s) content f) same.start last) in
+    subst (λ (z : Size). IsLastFault z (class_of a.start) content f) same.size
+    (subst (λ (s : Start). IsLastFault b.size (class_of s) content f) same.start last) in
     record {
       deserved = inr here;
       certain = certain;
@@ -90,10 +99,12 @@ last_fault a b content f same last certain offset =
     }
 
 -- once nothing is left, all is taken
-pub all_taken : (content rest : List ℕ) (n : ℕ) → rest ≡ drop n content → length rest ≡ 0 → n ≤ length content → take n content ≡ content
+pub all_taken : (content rest : List ℕ) (n : ℕ) → rest ≡ drop n content → length rest ≡ 0 → n ≤ length content
+    → take n content ≡ content
 all_taken content rest n e none le =
     let left : length (drop n content) ≡ 0 = ap length (sym e) ∙ none in
-    let split : length content ≡ length (take n content) + length (drop n content) = ap length (sym (take-append-drop n content)) ∙ length-append (take n content) (drop n content) in
+    let split : length content ≡ length (take n content) + length (drop n content) =
+    ap length (sym (take-append-drop n content)) ∙ length-append (take n content) (drop n content) in
     take_all n content (omega (arith, split, left, length-take-le n content le))
 
 -- the same of whatever fault an answer has
@@ -103,4 +114,5 @@ pub last_faults : {T : Type 0} (r : Result T Fault) (a b : Playing) (content : L
     → IfErr r (Deserves a.size a.start content)
 last_faults (Ok v) a b content same stands last certain offset fed = tt
 last_faults (Err f) a b content same stands last certain offset fed =
-    last_fault a b content f same (last content stands) (λ cleared. certain (same.start ∙ cleared)) (omega (arith, offset, fed))
+    last_fault a b content f same (last content stands) (λ cleared. certain (same.start ∙ cleared))
+    (omega (arith, offset, fed))

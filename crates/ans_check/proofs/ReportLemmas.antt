@@ -1,17 +1,19 @@
 -- A report on what was found is right of the file.
-use Rattle.std.proofs.Common.{◌≡◌, ◌⊎◌, ◌↔◌, ◌+◌, ◌<◌, ℕ, Bool, false, List, length, Option, Some, None, Result, Ok, Err, inl, inr, refl, sym, ap, ap₂, subst, ◌∙◌, not, true, true≢false}
+use Rattle.std.proofs.Common.{◌≡◌, ◌⊎◌, ◌↔◌, ◌+◌, ◌<◌, ℕ, Bool, false, List, length, Option, Some, None, Result, Ok}
+use Rattle.std.proofs.Common.{Err, inl, inr, refl, sym, ap, ap₂, subst, ◌∙◌, not, true, true≢false}
 use Rattle.std.specs.Prelude.{IfSome, IsErr, IfErr, IsErrAnd, IsErrOf, is_some}
-use Rattle.ans_model.specs.Good.{Picture}
-use Rattle.ans_model.specs.Refusals.{record_fault}
-use Rattle.ans_model.specs.RecordText.{record_text}
-use Rattle.ans_model.specs.TokensText.{TokensText}
-use Rattle.ans_model.specs.ReportText.{Heading, Passed, RefusedFor, refusal_text, report_text}
-use Rattle.ans_model.specs.State.{sized}
+use Rattle.ans_model.specs.Verdict.Good.{Picture}
+use Rattle.ans_model.specs.File.Layout.{FileParts}
+use Rattle.ans_model.specs.File.Refusals.{record_fault}
+use Rattle.ans_model.specs.Text.RecordText.{record_text}
+use Rattle.ans_model.specs.Text.TokensText.{TokensText}
+use Rattle.ans_model.specs.Text.ReportText.{Heading, Passed, RefusedFor, refusal_text, report_text}
+use Rattle.ans_model.specs.Screen.State.{sized}
 use Rattle.ans_model.specs.declared.fault.Fault.{Fault}
 use Rattle.ans_model.specs.declared.start.Start.{Start}
 use Rattle.ans_sauce.specs.declared.parts.Parts.{Parts}
 use Rattle.ans_sauce.specs.Parts.{ShowsParts, content_of, width_of, lines_of}
-use Rattle.ans_sauce.specs.Layouts.{IsSplit}
+use Rattle.ans_sauce.specs.Split.{IsSplit}
 use Rattle.ans_report.specs.Headings.{heading_of}
 use Rattle.ans_report.specs.Reports.{IsFitting, refused_text, report_bytes}
 use Rattle.ans_report.specs.declared.report.Report.{Report}
@@ -23,39 +25,39 @@ use Rattle.ans_check.specs.declared.errors.RunError.{RunError}
 use Rattle.ans_check.specs.declared.errors.RunError.TheVariants.{TooLong, Memory, Write}
 use Rattle.ans_check.specs.declared.verdict.Verdict.{Verdict}
 use Rattle.ans_check.specs.declared.verdict.Verdict.TheVariants.{Pass, Refused}
-use Rattle.ans_check.specs.Verdicts.{Passes, RefusesContent, IsVerdictOn, IsPass, IsGoodFile}
-use Rattle.ans_check.specs.Reported.{heading, ReportsPass, ReportsFault, ReportsRecordFault, ReportsCheck, ReportsRecord, ReportsContent, ReportsTokens, IsReportOf, is_pass}
+use Rattle.ans_check.specs.FileVerdict.{Passes, IsRefusedFor, IsVerdictOn, IsPass, IsGoodFile}
+use Rattle.ans_check.specs.CommandText.{heading, ReportsPass, ReportsFault, ReportsRecordFault, ReportsCheck}
+use Rattle.ans_check.specs.CommandText.{ReportsRecord, ReportsContent, ReportsTokens, IsReportOf, is_pass}
 
 -- the heading of a file's parts
-heading_is : (body comment_bytes record_bytes : List ℕ) (parts : Parts) (start : Start) → ShowsParts body comment_bytes record_bytes parts
-    → heading_of parts start ≡ heading body record_bytes start
-heading_is body comment_bytes record_bytes parts start h = rw (h.content, h.width, h.lines, h.notes)
+heading_is : (apart : FileParts) (parts : Parts) (start : Start) → ShowsParts apart parts
+    → heading_of parts start ≡ heading apart start
+heading_is apart parts start h = rw (h.content, h.width, h.lines, h.notes)
 
-pub pass_reported : (file : List ℕ) (start : Start) (cells : Bool) (parts : Parts) (picture : Picture) → Passes file start parts picture
+-- a pass is reported by the heading of its parts, its picture and its cells
+pass_reported : (file : List ℕ) (start : Start) (cells : Bool) (apart : FileParts) (parts : Parts) (picture : Picture)
+    → ShowsParts apart parts → Passes file start apart picture
     → ReportsPass file start cells (report_text (heading_of parts start) (Passed picture cells))
-pass_reported file start cells parts picture h = record {
-  body = h.body;
-  comment_bytes = h.comment_bytes;
-  record_bytes = h.record_bytes;
+pass_reported file start cells apart parts picture shows h = record {
+  apart = apart;
   picture = picture;
-  accepts = h.accepts;
-  good = h.good;
-  text_is = ap (λ (v : Heading). report_text v (Passed picture cells)) (heading_is h.body h.comment_bytes h.record_bytes parts start h.shows);
+  passes = h;
+  text_is = ap (λ (v : Heading). report_text v (Passed picture cells)) (heading_is apart parts start shows);
 }
 
-pub fault_reported : (file : List ℕ) (start : Start) (parts : Parts) (f : Fault) → RefusesContent file start parts f
+-- a refusal is reported by the heading of its parts and its fault
+fault_reported : (file : List ℕ) (start : Start) (apart : FileParts) (parts : Parts) (f : Fault)
+    → ShowsParts apart parts → IsRefusedFor file start apart f
     → ReportsFault file start (report_text (heading_of parts start) (RefusedFor f))
-fault_reported file start parts f h = record {
-  body = h.body;
-  comment_bytes = h.comment_bytes;
-  record_bytes = h.record_bytes;
+fault_reported file start apart parts f shows h = record {
+  apart = apart;
   fault = f;
-  accepts = h.accepts;
-  fault_is = h.fault_is;
-  text_is = ap (λ (v : Heading). report_text v (RefusedFor f)) (heading_is h.body h.comment_bytes h.record_bytes parts start h.shows);
+  refused = h;
+  text_is = ap (λ (v : Heading). report_text v (RefusedFor f)) (heading_is apart parts start shows);
 }
 
-pub record_reported : (file : List ℕ) (f : Fault) → record_fault file ≡ Some f → ReportsRecordFault file (refusal_text f)
+pub record_reported : (file : List ℕ) (f : Fault) → record_fault file ≡ Some f
+    → ReportsRecordFault file (refusal_text f)
 record_reported file f e = record { fault = f; fault_is = e; text_is = refl }
 
 -- an error of the memory or the writer is none of the length
@@ -68,7 +70,8 @@ abbrev read_of : {V : Type 0} → V → Result V ReadFault
 read_of v = Ok v
 
 -- where all was read, no later error tells of too many bytes
-pub read_whole : {V : Type 0} (a b : Option (List ℕ)) (v : V) (r : Result Bool RunError) → IfErr r (λ e. (e ≡ Memory) ⊎ (e ≡ Write))
+pub read_whole : {V : Type 0} (a b : Option (List ℕ)) (v : V) (r : Result Bool RunError)
+    → IfErr r (λ e. (e ≡ Memory) ⊎ (e ≡ Write))
     → IfSome a (λ xs. IfSome b (λ ys. IsErrOf (read_of v) fault.TooLong ↔ (longest_file + length ys < length xs)))
     → IfSome a (λ xs. IfSome b (λ ys. IsErrOf r TooLong ↔ (longest_file + length ys < length xs)))
 read_whole None b v r h k = tt
@@ -79,30 +82,37 @@ read_whole (Some xs) (Some ys) v r h k = (λ bad. absurd (not_too_long r h bad),
     never e = cc
 
 -- what holds of some values holds of values equal to them
-of_equals : {A B C : Type 0} (P : A → B → C → Type 0) {a x : A} {b y : B} {c z : C} → a ≡ x → b ≡ y → c ≡ z → P x y z → P a b c
+of_equals : {A B C : Type 0} (P : A → B → C → Type 0) {a x : A} {b y : B} {c z : C} → a ≡ x → b ≡ y → c ≡ z → P x y z
+    → P a b c
 of_equals P p q r h = rw (p, q, r) h
 
 -- the report that tells a verdict which is true of a file reports on it
-pub verdict_reported : {G : Type 0} (file : List ℕ) (start : Start) (cells : Bool) (v : Verdict G) (r : Report G) → IsReportOf v start cells r
-    → IsVerdictOn file start v → (IsGoodFile file start → IsPass v) → ReportsCheck file start cells (is_pass v) (report_bytes r)
+pub verdict_reported : {G : Type 0} (file : List ℕ) (start : Start) (cells : Bool) (v : Verdict G) (r : Report G)
+    → IsReportOf v start cells r
+    → IsVerdictOn file start v → (IsGoodFile file start → IsPass v)
+    → ReportsCheck file start cells (is_pass v) (report_bytes r)
 verdict_reported file start cells (Pass parts picture) (report.Pass told from shown asked) (p, s, i, c) h good =
-    of_equals (λ (v : Parts) (at : Start) (see : Picture × Bool). ReportsPass file start cells (report_text (heading_of v at) (Passed see.0 see.1)))
-    p s (ap₂ (λ (a : Picture) (b : Bool). (a, b)) i c) (pass_reported file start cells parts picture h)
+    of_equals (λ (v : Parts) (at : Start) (see : Picture × Bool). ReportsPass file start cells
+    (report_text (heading_of v at) (Passed see.0 see.1)))
+    p s (ap₂ (λ (a : Picture) (b : Bool). (a, b)) i c) (pass_reported file start cells h.0 parts picture h.1 h.2)
 verdict_reported file start cells (Refused (Some parts) f) (report.Refused told from fault) (p, s, same) h good =
-    of_equals (λ (v : Option Parts) (at : Start) (why : Fault). ReportsCheck file start cells false (refused_text v at why))
-    p s same (good, inl (fault_reported file start parts f h))
+    of_equals (λ (v : Option Parts) (at : Start) (why : Fault). ReportsCheck file start cells false
+    (refused_text v at why))
+    p s same (good, inl (fault_reported file start h.0 parts f h.1 h.2))
 verdict_reported file start cells (Refused None f) (report.Refused told from fault) (p, s, same) h good =
-    of_equals (λ (v : Option Parts) (at : Start) (why : Fault). ReportsCheck file start cells false (refused_text v at why))
+    of_equals (λ (v : Option Parts) (at : Start) (why : Fault). ReportsCheck file start cells false
+    (refused_text v at why))
     p s same (good, inr (record_reported file f h))
 verdict_reported file start cells (Pass parts picture) (report.Refused told from fault) never h good = absurd never
 verdict_reported file start cells (Refused parts f) (report.Pass told from shown asked) never h good = absurd never
 
 -- its picture fits its parts
-pub fitting : {G : Type 0} (file : List ℕ) (start : Start) (cells : Bool) (v : Verdict G) (r : Report G) → IsReportOf v start cells r
+pub fitting : {G : Type 0} (file : List ℕ) (start : Start) (cells : Bool) (v : Verdict G) (r : Report G)
+    → IsReportOf v start cells r
     → IsVerdictOn file start v → IsFitting r
 fitting file start cells (Pass parts picture) (report.Pass told from shown asked) (p, s, i, c) h =
     of_equals (λ (v : Parts) (see : Picture) (at : Start). see.size ≡ sized (width_of v) (lines_of v))
-    p i s (h.good.shows.is_picture.size ∙ sym (ap₂ sized h.shows.width h.shows.lines))
+    p i s (h.2.good.shows.is_picture.size ∙ sym (ap₂ sized h.1.width h.1.lines))
 fitting file start cells (Refused parts f) (report.Refused told from fault) same h = tt
 fitting file start cells (Pass parts picture) (report.Refused told from fault) never h = absurd never
 fitting file start cells (Refused parts f) (report.Pass told from shown asked) never h = absurd never
@@ -113,22 +123,15 @@ failed_too (Ok v) P B h b = absurd h
 failed_too (Err e) P B h b = (λ _. b, λ _. refl)
 
 -- the text of an accepted record
-pub sauce_reported : (file : List ℕ) (parts : Parts) (s : IsSplit file parts) → ReportsRecord file (record_text s.body s.comment_bytes s.record_bytes)
-sauce_reported file parts s = record {
-  body = s.body;
-  comment_bytes = s.comment_bytes;
-  record_bytes = s.record_bytes;
-  accepts = s.accepts;
-  text_is = refl;
-}
+pub sauce_reported : (file : List ℕ) (parts : Parts) (s : IsSplit file parts) → ReportsRecord file (record_text s.apart)
+sauce_reported file parts s = record { apart = s.apart; accepts = s.accepts; text_is = refl }
 
 -- the tokens of an accepted file's content
-content_reported : (file : List ℕ) (parts : Parts) (bytes : List ℕ) (fault : Option Fault) (text : List ℕ) → IsSplit file parts → bytes ≡ content_of parts
+content_reported : (file : List ℕ) (parts : Parts) (bytes : List ℕ) (fault : Option Fault) (text : List ℕ)
+    → IsSplit file parts → bytes ≡ content_of parts
     → TokensText bytes fault text → ReportsContent file fault text
 content_reported file parts bytes fault text s same t = record {
-  body = s.body;
-  comment_bytes = s.comment_bytes;
-  record_bytes = s.record_bytes;
+  apart = s.apart;
   accepts = s.accepts;
   text_is = subst (λ (v : List ℕ). TokensText v fault text) (same ∙ s.shows.content) t;
 }
@@ -139,9 +142,12 @@ some_by_none None = refl
 some_by_none (Some v) = refl
 
 -- the answer to it is right where it tells whether there is no fault
-pub tokens_reported : (file : List ℕ) (parts : Parts) (bytes : List ℕ) (fault : Option Fault) (passed : Bool) (text : List ℕ) → IsSplit file parts
-    → bytes ≡ content_of parts → TokensText bytes fault text → is_some fault ≡ not passed → ReportsTokens file passed text
+pub tokens_reported : (file : List ℕ) (parts : Parts) (bytes : List ℕ) (fault : Option Fault) (passed : Bool)
+    (text : List ℕ) → IsSplit file parts
+    → bytes ≡ content_of parts → TokensText bytes fault text → is_some fault ≡ not passed
+    → ReportsTokens file passed text
 tokens_reported file parts bytes None true text s same t e = content_reported file parts bytes None text s same t
 tokens_reported file parts bytes None false text s same t e = absurd (true≢false (sym e))
 tokens_reported file parts bytes (Some f) true text s same t e = absurd (true≢false e)
-tokens_reported file parts bytes (Some f) false text s same t e = inl (f, content_reported file parts bytes (Some f) text s same t)
+tokens_reported file parts bytes (Some f) false text s same t e = inl
+    (f, content_reported file parts bytes (Some f) text s same t)

@@ -1,4 +1,4 @@
 pub mod Run
-pub mod Words
-pub mod Verdicts
-pub mod Reported
+pub mod CommandLine
+pub mod FileVerdict
+pub mod CommandText

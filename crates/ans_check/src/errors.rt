@@ -1,13 +1,13 @@
-//! Why a run gave no answer.
+//! Why a run has no answer.
 ghost use Rattle.std.specs.Prelude.{◌≡◌};
-ghost use Rattle.ans_check.specs.Run.{run_error_of, run_error_text, status_of};
+ghost use Rattle.ans_check.specs.Run.{run_error_of, run_error_text};
 ghost use Rattle.ans_check.specs.declared.errors.RunError.TheVariants.{Write};
 
 use crate::reading::ReadFault;
 use ans_report::WriteFault;
 use thiserror::Error;
 
-/// Why a run gave no answer.
+/// Why a run has no answer.
 #[derive(Debug, Clone, Copy, PartialEq, Eq, Error)]
 pub enum RunError {
     /// The reader failed.
@@ -16,7 +16,7 @@ pub enum RunError {
     /// The input has more than 16,777,216 bytes.
     #[error("file above 16777216 bytes")]
     TooLong,
-    /// There was no memory for the file or its screen.
+    /// Memory ran out for the file or its screen.
     #[error("out of memory")]
     Memory,
     /// The writer failed.
@@ -55,16 +55,5 @@ impl From<WriteFault> for RunError {
 
     fn from(_fault: WriteFault) -> RunError {
         RunError::Write
-    }
-}
-
-/// The exit status of a run's answer: 0 for a pass, 1 for a refusal, 2 for an error.
-pub fn status(answer: &Result<bool, RunError>) -> u8
-    ensures { result ≡ status_of answer.now }
-{
-    match answer {
-        Ok(true) => 0,
-        Ok(false) => 1,
-        Err(_) => 2,
     }
 }

@@ -1,13 +1,14 @@
 //! Bytes to bytes.
-ghost use Rattle.std.specs.Prelude.{◌≡◌, ◌≢◌, ◌⊎◌, ◌+◌, ◌<◌, ◌≤◌, ◌↔◌, ℕ, List, Bool, false, length, IsTrue, IfOk, IsErr, IfErr, IfSome, IsErrOf};
+ghost use Rattle.std.specs.Prelude.{◌≡◌, ◌≢◌, ◌⊎◌, ◌+◌, ◌<◌, ◌≤◌, ◌↔◌, ℕ, List, Bool, false, length, IsTrue, IfOk};
+ghost use Rattle.std.specs.Prelude.{IsErr, IfErr, IfSome, IsErrOf};
 ghost use Rattle.std.specs.Io.KnownBytes.{Appends};
 ghost use Rattle.ans_model.specs.Bytes.{longest_file};
 ghost use Rattle.ans_report.specs.Tried.{call_count, has_failed, inner_of};
 ghost use Rattle.ans_report.specs.Writes.{AppendsPrefix};
-ghost use Rattle.ans_check.specs.Reported.{Reports, ReportsCheck, ReportsSauce, ReportsTokens, IsReportOf, is_pass};
+ghost use Rattle.ans_check.specs.CommandText.{Reports, ReportsCheck, ReportsSauce, ReportsTokens, IsReportOf, is_pass};
 ghost use Rattle.ans_check.specs.Run.{HasRead};
 
-use crate::choices::{Command, Options};
+use crate::command::{Command, Options};
 use crate::errors::RunError;
 use crate::reading::read_all;
 use crate::verdict::{Verdict, check};

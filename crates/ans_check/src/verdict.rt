@@ -1,12 +1,13 @@
 //! What the checker finds of a file.
 ghost use Rattle.std.specs.Prelude.{◌≡◌, ◌≤◌, length, [], None, IsOk, IsSome, IfOk, IfErr};
 ghost use Rattle.ans_model.specs.Bytes.{longest_file};
-ghost use Rattle.ans_model.specs.Starts.{class_of};
-ghost use Rattle.ans_model.specs.Good.{GoodWith};
+ghost use Rattle.ans_model.specs.Screen.Starts.{class_of};
+ghost use Rattle.ans_model.specs.Verdict.Good.{GoodWith};
 ghost use Rattle.ans_model.specs.declared.start.Start.TheVariants.{Cleared};
-ghost use Rattle.ans_model.specs.Refusals.{record_fault};
+ghost use Rattle.ans_model.specs.File.Refusals.{record_fault};
 ghost use Rattle.ans_play.specs.Stands.{Stands};
-ghost use Rattle.ans_check.specs.Verdicts.{Deserves, IsVerdictOn, IsPass, IsGoodFile, HasOffsetWithin, HasCertainFault};
+ghost use Rattle.ans_check.specs.FileVerdict.{Deserves, IsVerdictOn, IsPass, IsGoodFile, HasOffsetWithin};
+ghost use Rattle.ans_check.specs.FileVerdict.{HasCertainFault};
 
 use ans_model::start::Start;
 use ans_play::{Picture, Player};

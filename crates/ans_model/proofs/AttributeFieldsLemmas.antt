@@ -2,8 +2,9 @@
 use Rattle.std.proofs.Common.{◌≡◌, ◌⊎◌, inl, inr, ℕ, zero, suc, ◌+◌, ◌<◌, Bool, true, false, refl, sym, subst, arith}
 use Rattle.std.specs.Prelude.{◌&&◌, ◌==◌}
 use Rattle.std.proofs.lemmas.Bool.{eqb-true, cases_eq}
-use Rattle.ans_model.specs.Attribute.{attribute_after}
-use Rattle.ans_model.specs.AttributeFields.{foreground, bright, background, blink, colour, HasFields, ResetsAttribute, SetsBright, SetsBlink, SetsForeground, SetsBackground}
+use Rattle.ans_model.specs.Screen.Attribute.{attribute_after}
+use Rattle.ans_model.specs.Laws.AttributeLaws.{foreground, bright, background, blink, colour, HasFields}
+use Rattle.ans_model.specs.Laws.AttributeLaws.{ResetsAttribute, SetsBright, SetsBlink, SetsForeground, SetsBackground}
 
 -- the test holds of each number below n
 abbrev all_below : ℕ → (ℕ → Bool) → Bool
@@ -45,29 +46,44 @@ bright_all = refl
 blink_all : all_below 256 (λ a. has_fields (attribute_after a 5) (foreground a) (bright a) (background a) 1) ≡ true
 blink_all = refl
 
-foreground_all : all_below 8 (λ i. all_below 256 (λ a. has_fields (attribute_after a (30 + i)) (colour i) (bright a) (background a) (blink a))) ≡ true
+foreground_all : all_below 8
+    (λ i. all_below 256 (λ a. has_fields (attribute_after a (30 + i)) (colour i) (bright a) (background a)
+    (blink a))) ≡ true
 foreground_all = refl
 
-background_all : all_below 8 (λ i. all_below 256 (λ a. has_fields (attribute_after a (40 + i)) (foreground a) (bright a) (colour i) (blink a))) ≡ true
+background_all : all_below 8
+    (λ i. all_below 256 (λ a. has_fields (attribute_after a (40 + i)) (foreground a) (bright a) (colour i)
+    (blink a))) ≡ true
 background_all = refl
 
 pub resets : ResetsAttribute
-resets a h = fields (attribute_after a 0) 7 0 0 0 (at_each 256 (λ a. has_fields (attribute_after a 0) 7 0 0 0) reset_all a h)
+resets a h = fields (attribute_after a 0) 7 0 0 0
+    (at_each 256 (λ a. has_fields (attribute_after a 0) 7 0 0 0) reset_all a h)
 
 pub sets_bright : SetsBright
-sets_bright a h = fields (attribute_after a 1) (foreground a) 1 (background a) (blink a) (at_each 256 (λ a. has_fields (attribute_after a 1) (foreground a) 1 (background a) (blink a)) bright_all a h)
+sets_bright a h = fields (attribute_after a 1) (foreground a) 1 (background a) (blink a)
+    (at_each 256 (λ a. has_fields (attribute_after a 1) (foreground a) 1 (background a) (blink a)) bright_all a h)
 
 pub sets_blink : SetsBlink
-sets_blink a h = fields (attribute_after a 5) (foreground a) (bright a) (background a) 1 (at_each 256 (λ a. has_fields (attribute_after a 5) (foreground a) (bright a) (background a) 1) blink_all a h)
+sets_blink a h = fields (attribute_after a 5) (foreground a) (bright a) (background a) 1
+    (at_each 256 (λ a. has_fields (attribute_after a 5) (foreground a) (bright a) (background a) 1) blink_all a h)
 
 pub sets_foreground : SetsForeground
 sets_foreground a i h lt =
-    let of_colour = at_each 8 (λ i. all_below 256 (λ a. has_fields (attribute_after a (30 + i)) (colour i) (bright a) (background a) (blink a))) foreground_all i lt in
+    let of_colour =
+    at_each 8
+    (λ i. all_below 256 (λ a. has_fields (attribute_after a (30 + i)) (colour i) (bright a) (background a)
+    (blink a))) foreground_all i lt in
     fields (attribute_after a (30 + i)) (colour i) (bright a) (background a) (blink a)
-    (at_each 256 (λ a. has_fields (attribute_after a (30 + i)) (colour i) (bright a) (background a) (blink a)) of_colour a h)
+    (at_each 256 (λ a. has_fields (attribute_after a (30 + i)) (colour i) (bright a) (background a) (blink a))
+    of_colour a h)
 
 pub sets_background : SetsBackground
 sets_background a i h lt =
-    let of_colour = at_each 8 (λ i. all_below 256 (λ a. has_fields (attribute_after a (40 + i)) (foreground a) (bright a) (colour i) (blink a))) background_all i lt in
+    let of_colour =
+    at_each 8
+    (λ i. all_below 256 (λ a. has_fields (attribute_after a (40 + i)) (foreground a) (bright a) (colour i)
+    (blink a))) background_all i lt in
     fields (attribute_after a (40 + i)) (foreground a) (bright a) (colour i) (blink a)
-    (at_each 256 (λ a. has_fields (attribute_after a (40 + i)) (foreground a) (bright a) (colour i) (blink a)) of_colour a h)
+    (at_each 256 (λ a. has_fields (attribute_after a (40 + i)) (foreground a) (bright a) (colour i) (blink a))
+    of_colour a h)

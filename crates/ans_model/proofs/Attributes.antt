@@ -4,7 +4,8 @@ use Rattle.std.specs.Prelude.{◌&&◌, ◌==◌, nat_lt, IfSome, bit_and, if◌
 use Rattle.std.specs.List.{list_all}
 use Rattle.std.proofs.lemmas.Bool.{ltb-true}
 use Rattle.std.proofs.lemmas.Nat.{and_le_r, or_of_8}
-use Rattle.ans_model.specs.Attribute.{Rendition, renditions, rendition_of, attribute_by, attribute_after, attribute_after_all}
+use Rattle.ans_model.specs.Screen.Attribute.{Rendition, renditions, rendition_of, attribute_by, attribute_after}
+use Rattle.ans_model.specs.Screen.Attribute.{attribute_after_all}
 
 -- the mask and the set bits are bytes
 pub record IsByteRendition (r : Rendition) : Type 0 where
@@ -24,9 +25,11 @@ found_fits (r ∷ rs) p h =
     let t : (fits r ≡ true) × (list_all fits rs ≡ true) = both (fits r) (list_all fits rs) h in
     here (p == r.parameter) t.0 (found_fits rs p t.1)
   where
-    here : (b : Bool) → fits r ≡ true → IfSome (rendition_of rs p) IsByteRendition → IfSome (if b then Some r else rendition_of rs p) IsByteRendition
+    here : (b : Bool) → fits r ≡ true → IfSome (rendition_of rs p) IsByteRendition
+        → IfSome (if b then Some r else rendition_of rs p) IsByteRendition
     here true f more =
-        let bytes : (nat_lt r.mask 256 ≡ true) × (nat_lt r.set 256 ≡ true) = both (nat_lt r.mask 256) (nat_lt r.set 256) f in
+        let bytes : (nat_lt r.mask 256 ≡ true) × (nat_lt r.set 256 ≡ true) =
+        both (nat_lt r.mask 256) (nat_lt r.set 256) f in
         record { mask = ltb-true r.mask 256 bytes.0; set = ltb-true r.set 256 bytes.1 }
     here false f more = more
 

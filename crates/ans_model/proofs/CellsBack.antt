@@ -1,15 +1,17 @@
 -- Digits give back the cells that they were made of.
-use Rattle.std.proofs.Common.{◌≡◌, ℕ, zero, suc, ◌+◌, ◌*◌, ◌/◌, ◌%◌, ◌<◌, List, [], ◌∷◌, ◌++◌, length, take, drop, refl, ap, ap₂, sym, ◌∙◌, arith, append_assoc, length-append, length-take, length-drop, All, mul_comm}
+use Rattle.std.proofs.Common.{◌≡◌, ℕ, zero, suc, ◌+◌, ◌*◌, ◌/◌, ◌%◌, ◌<◌, List, [], ◌∷◌, ◌++◌, length, take, drop}
+use Rattle.std.proofs.Common.{refl, ap, ap₂, sym, ◌∙◌, arith, append_assoc, length-append, length-take, length-drop}
+use Rattle.std.proofs.Common.{All, mul_comm}
 use Rattle.std.specs.Prelude.{flat_map}
 use Rattle.std.proofs.lemmas.Bool.Decides.{nat_tests}
 use Rattle.std.proofs.lemmas.List.{take-append-drop, nil_from_length}
 use Rattle.std.proofs.lemmas.List.Elements.{All-head, All-tail, All-take, All-drop}
 use Rattle.std.proofs.Math.Seq.{take-append_seam, drop-append_seam}
 use Rattle.ans_model.specs.declared.cell.Cell.{Cell}
-use Rattle.ans_model.specs.State.{Size, IsByteCell}
-use Rattle.ans_model.specs.Good.{Picture, IsPictureOf}
-use Rattle.ans_model.specs.Hexadecimal.{hex_digit, hex_value}
-use Rattle.ans_model.specs.ReportText.{cell_digits, cells_line, rows, rows_of, cells_back, picture_back}
+use Rattle.ans_model.specs.Screen.State.{Size, IsByteCell}
+use Rattle.ans_model.specs.Verdict.Good.{Picture, IsPictureOf}
+use Rattle.ans_model.specs.Text.Hexadecimal.{hex_digit, hex_value}
+use Rattle.ans_model.specs.Text.ReportText.{cell_digits, cells_line, rows, rows_of, cells_back, picture_back}
 
 digit_back : (n : ℕ) → n < 16 → hex_value (hex_digit n) ≡ n
 digit_back n h = grind (arith, nat_tests)
@@ -24,13 +26,16 @@ row_law : (row : List Cell) → All IsByteCell row → cells_back (flat_map cell
 row_law [] h = refl
 row_law (c ∷ row) h =
     let byte : IsByteCell c = All-head IsByteCell c row h in
-    ap₂ (λ (u : Cell) (v : List Cell). u ∷ v) (λ i. record { byte = byte_back c.byte byte.0 i; attribute = byte_back c.attribute byte.1 i }) (row_law row (All-tail IsByteCell c row h))
+    ap₂ (λ (u : Cell) (v : List Cell). u ∷ v)
+    (λ i. record { byte = byte_back c.byte byte.0 i; attribute = byte_back c.attribute byte.1 i })
+    (row_law row (All-tail IsByteCell c row h))
 
 row_size : (row : List Cell) → length (flat_map cell_digits row) ≡ 4 * length row
 row_size [] = refl
 row_size (c ∷ row) = let ih = row_size row in omega (arith, ih)
 
-rows_law : (w l : ℕ) (cells : List Cell) → length cells ≡ w * l → All IsByteCell cells → picture_back w l (flat_map cells_line (rows w l cells)) ≡ cells
+rows_law : (w l : ℕ) (cells : List Cell) → length cells ≡ w * l → All IsByteCell cells
+    → picture_back w l (flat_map cells_line (rows w l cells)) ≡ cells
 rows_law w zero cells h a = sym (nil_from_length cells (omega (arith, h)))
 rows_law w (suc l) cells h a =
     let row = take w cells in
@@ -39,12 +44,17 @@ rows_law w (suc l) cells h a =
     let wide : length row ≡ w = simp length-take (omega (arith, h)) in
     let size : length text ≡ 4 * w = row_size row ∙ ap (λ (v : ℕ). 4 * v) wide in
     let ended : (text ++ 0x0A ∷ []) ++ more ≡ text ++ 0x0A ∷ more = append_assoc text (0x0A ∷ []) more in
-    let first : take (4 * w) ((text ++ 0x0A ∷ []) ++ more) ≡ text = ap₂ (λ (n : ℕ) (v : List ℕ). take n v) (sym size) ended ∙ take-append_seam text (0x0A ∷ more) in
+    let first : take (4 * w) ((text ++ 0x0A ∷ []) ++ more) ≡ text =
+    ap₂ (λ (n : ℕ) (v : List ℕ). take n v) (sym size) ended ∙ take-append_seam text (0x0A ∷ more) in
     let past : 4 * w + 1 ≡ length (text ++ 0x0A ∷ []) = omega (arith, size, length-append text (0x0A ∷ [])) in
-    let left : drop (4 * w + 1) ((text ++ 0x0A ∷ []) ++ more) ≡ more = ap (λ (n : ℕ). drop n ((text ++ 0x0A ∷ []) ++ more)) past ∙ drop-append_seam (text ++ 0x0A ∷ []) more in
+    let left : drop (4 * w + 1) ((text ++ 0x0A ∷ []) ++ more) ≡ more =
+    ap (λ (n : ℕ). drop n ((text ++ 0x0A ∷ []) ++ more)) past ∙ drop-append_seam (text ++ 0x0A ∷ []) more in
     let count : length (drop w cells) ≡ w * l = simp length-drop (omega (arith, h)) in
     let ih = rows_law w l (drop w cells) count (All-drop IsByteCell w cells a) in
-    ap₂ (λ (u v : List Cell). u ++ v) (ap cells_back first ∙ row_law row (All-take IsByteCell w cells a)) (ap (λ (v : List ℕ). picture_back w l v) left ∙ ih) ∙ take-append-drop w cells
+    ap₂ (λ (u v : List Cell). u ++ v) (ap cells_back first ∙ row_law row (All-take IsByteCell w cells a))
+    (ap (λ (v : List ℕ). picture_back w l v) left ∙ ih) ∙ take-append-drop w cells
 
-pub picture_law : (z : Size) (picture : Picture) → IsPictureOf z picture → picture_back z.width z.lines (flat_map cells_line (rows_of picture)) ≡ picture.cells
-picture_law z picture h = rw h.size (rows_law z.width z.lines picture.cells (h.count ∙ mul_comm z.lines z.width) h.bytes)
+pub picture_law : (z : Size) (picture : Picture) → IsPictureOf z picture
+    → picture_back z.width z.lines (flat_map cells_line (rows_of picture)) ≡ picture.cells
+picture_law z picture h =
+    rw h.size (rows_law z.width z.lines picture.cells (h.count ∙ mul_comm z.lines z.width) h.bytes)

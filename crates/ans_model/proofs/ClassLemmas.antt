@@ -4,9 +4,9 @@ use Rattle.std.specs.Prelude.{◌↔◌}
 use Rattle.ans_model.specs.declared.start.Start.TheVariants.{Any, Cleared}
 use Rattle.ans_model.specs.declared.cell.Cell.{Cell}
 use Rattle.ans_model.specs.declared.cell.Position.{Position}
-use Rattle.ans_model.specs.State.{Size, State, IsWellFormed}
-use Rattle.ans_model.specs.Starts.{class_of, cleared, IsStart, low_start}
-use Rattle.ans_model.specs.StartLaws.{AnyIsEvery, ClearedIsOne, LowIsStart, HighIsStart}
+use Rattle.ans_model.specs.Screen.State.{Size, State, IsWellFormed}
+use Rattle.ans_model.specs.Screen.Starts.{class_of, cleared, IsStart, low_start}
+use Rattle.ans_model.specs.Laws.StartLaws.{AnyIsEvery, ClearedIsOne, LowIsStart, HighIsStart}
 use Rattle.ans_model.proofs.StartLemmas.{low_is_start, high_is_start}
 
 pub any_is_every : AnyIsEvery
@@ -23,16 +23,20 @@ any_is_every z s = (
 )
 
 state_of : List Cell → Position → Position → ℕ → Bool → State
-state_of screen cursor saved attribute wrap = record { screen = screen; cursor = cursor; saved = saved; attribute = attribute; wrap = wrap }
+state_of screen cursor saved attribute wrap =
+    record { screen = screen; cursor = cursor; saved = saved; attribute = attribute; wrap = wrap }
 
-same_state : (x y : List Cell) (c d s t : Position) (a b : ℕ) (v w : Bool) → x ≡ y → c ≡ d → s ≡ t → a ≡ b → v ≡ w → state_of x c s a v ≡ state_of y d t b w
+same_state : (x y : List Cell) (c d s t : Position) (a b : ℕ) (v w : Bool) → x ≡ y → c ≡ d → s ≡ t → a ≡ b → v ≡ w
+    → state_of x c s a v ≡ state_of y d t b w
 same_state x y c d s t a b v w p q r u e = cc
 
 pub cleared_is_one : ClearedIsOne
 unfolding state_of
 cleared_is_one z s size = (
-  λ start. same_state _ _ _ _ _ _ _ _ _ _ (start.screen refl) (start.cursor refl) (start.saved refl) (start.attribute refl) (start.wrap refl),
-  λ e. subst (λ (t : State). IsStart z (class_of Cleared) t) (sym e) (low_is_start z (class_of Cleared) size.some_columns),
+  λ start. same_state _ _ _ _ _ _ _ _ _ _ (start.screen refl) (start.cursor refl) (start.saved refl)
+      (start.attribute refl) (start.wrap refl),
+  λ e. subst (λ (t : State). IsStart z (class_of Cleared) t) (sym e)
+      (low_is_start z (class_of Cleared) size.some_columns),
 )
 
 pub low_is : LowIsStart

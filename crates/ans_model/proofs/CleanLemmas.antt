@@ -2,27 +2,34 @@
 use Rattle.std.proofs.Common.{◌≡◌, ◌≢◌, inl, inr, ℕ, ◌+◌, Bool, true, false, refl, ap, ◌∙◌, List, take, Some}
 use Rattle.std.specs.Prelude.{if◌then◌else◌, nat_lt, slice_get}
 use Rattle.std.proofs.lemmas.Bool.{cases_eq, ne_eqb}
-use Rattle.ans_model.specs.Token.{Token, Glyph, Bell, BackSpace, LineFeed, CarriageReturn, Tab, Up, Down, Forward, Backward, Place, Clear, EraseLine, Save, Restore, Colours, Wrap, Mode, Keys, Ask}
-use Rattle.ans_model.specs.State.{Size, State, at}
+use Rattle.ans_model.specs.Sequence.TokenKind.{TokenKind, Glyph, Bell, BackSpace, LineFeed, CarriageReturn, Tab, Up}
+use Rattle.ans_model.specs.Sequence.TokenKind.{Down, Forward, Backward, Place, Clear, EraseLine, Save, Restore}
+use Rattle.ans_model.specs.Sequence.TokenKind.{Colours, Wrap, Mode, Keys, Ask}
+use Rattle.ans_model.specs.Screen.State.{Size, State, at}
 use Rattle.ans_model.specs.declared.cell.Cell.{Cell}
 use Rattle.ans_model.specs.declared.cell.Position.{Position}
 use Rattle.ans_model.specs.declared.fault.Cause.{Cause}
 use Rattle.ans_model.specs.declared.fault.Cause.TheVariants.{PrintBelow, Scrolls, PrintUnknownPlace, MayScroll}
-use Rattle.ans_model.specs.Step.{step, final, line_feed, advanced, printed}
-use Rattle.ans_model.specs.Starts.{Class, IsStart}
-use Rattle.ans_model.specs.TokenFault.{FromEvery, SamePlace, PlacesDiffer, IsInSpareRow, HasFault, IsClean}
-use Rattle.ans_model.specs.StepLaws.{written, CleanNeverScrolls}
+use Rattle.ans_model.specs.Screen.Step.{step, final, line_feed, advanced, printed}
+use Rattle.ans_model.specs.Screen.Starts.{Class, IsStart}
+use Rattle.ans_model.specs.Verdict.TokenFault.{FromEvery, SamePosition, PositionsDiffer, IsInSpareRow, HasFault}
+use Rattle.ans_model.specs.Verdict.TokenFault.{IsClean}
+use Rattle.ans_model.specs.Laws.StepLaws.{screen_in_place, CleanNeverScrolls}
 use Rattle.ans_model.proofs.Places.{position_eq}
 
-module _ (z : Size) (class : Class) (tokens : List Token) (clean : IsClean z class tokens) where
+module _ (z : Size) (class : Class) (tokens : List TokenKind) (clean : IsClean z class tokens) where
   -- a token that would have a fault where places differ stands at one place
-  pub at_one_place : (k : ℕ) (t : Token) (cause : Cause) → slice_get tokens k ≡ Some t → (PlacesDiffer z class (take k tokens) → HasFault z class (take k tokens) t cause) → SamePlace z class (take k tokens)
-  at_one_place k t cause e f s r start_s start_r = elim (position_eq (final z s (take k tokens)).cursor (final z r (take k tokens)).cursor) [
-    | inl same ↦ same
-    | inr ne ↦ absurd (clean k cause (t, e, f (s, r, start_s, start_r, ne)))
-  ]
+  pub at_one_place : (k : ℕ) (t : TokenKind) (cause : Cause) → slice_get tokens k ≡ Some t
+      → (PositionsDiffer z class (take k tokens) → HasFault z class (take k tokens) t cause)
+      → SamePosition z class (take k tokens)
+  at_one_place k t cause e f s r start_s start_r =
+      elim (position_eq (final z s (take k tokens)).cursor (final z r (take k tokens)).cursor) [
+        | inl same ↦ same
+        | inr ne ↦ absurd (clean k cause (t, e, f (s, r, start_s, start_r, ne)))
+      ]
 
-  pub no_feed_below : (k : ℕ) → slice_get tokens k ≡ Some LineFeed → FromEvery z class (λ s. ¬ IsInSpareRow z (take k tokens) s)
+  pub no_feed_below : (k : ℕ) → slice_get tokens k ≡ Some LineFeed
+      → FromEvery z class (λ s. ¬ IsInSpareRow z (take k tokens) s)
   no_feed_below k e s start below = clean k Scrolls (
     LineFeed,
     e,
@@ -32,10 +39,12 @@ module _ (z : Size) (class : Class) (tokens : List Token) (clean : IsClean z cla
     ]),
   )
 
-  pub no_print_below : (k byte : ℕ) → slice_get tokens k ≡ Some (Glyph byte) → FromEvery z class (λ s. ¬ IsInSpareRow z (take k tokens) s)
+  pub no_print_below : (k byte : ℕ) → slice_get tokens k ≡ Some (Glyph byte)
+      → FromEvery z class (λ s. ¬ IsInSpareRow z (take k tokens) s)
   no_print_below k byte e s start below =
-      let same : SamePlace z class (take k tokens) = at_one_place k (Glyph byte) PrintUnknownPlace e (λ n. inr n) in
-      clean k PrintBelow (Glyph byte, e, inr (same, λ r start_r. ap (λ (p : Position). p.row) (same r s start_r start) ∙ below))
+      let same : SamePosition z class (take k tokens) = at_one_place k (Glyph byte) PrintUnknownPlace e (λ n. inr n) in
+      clean k PrintBelow
+      (Glyph byte, e, inr (same, λ r start_r. ap (λ (p : Position). p.row) (same r s start_r start) ∙ below))
 
 -- above the spare row a line feed leaves the screen
 feed_keeps : (z : Size) (s : State) → s.cursor.row ≢ z.lines → (line_feed z s).screen ≡ s.screen
@@ -45,13 +54,16 @@ feed_keeps z s n = rw (ne_eqb s.cursor.row z.lines n) refl
 advance_keeps : (z : Size) (s : State) → s.cursor.row ≢ z.lines → (advanced z s).screen ≡ s.screen
 advance_keeps z s n = go (nat_lt (s.cursor.column + 1) z.width) s.wrap
   where
-    go : (b w : Bool) → (if b then record s { cursor = at s.cursor.row (s.cursor.column + 1) } else if w then line_feed z (record s { cursor = at s.cursor.row 0 }) else s).screen ≡ s.screen
+    go : (b w : Bool)
+        → (if b then record s { cursor = at s.cursor.row (s.cursor.column + 1) } else if w then line_feed z
+        (record s { cursor = at s.cursor.row 0 }) else s).screen ≡ s.screen
     go true w = refl
     go false true = feed_keeps z (record s { cursor = at s.cursor.row 0 }) n
     go false false = refl
 
 pub clean_never_scrolls : CleanNeverScrolls
-clean_never_scrolls z class tokens k LineFeed size clean e s start = feed_keeps z (final z s (take k tokens)) (no_feed_below z class tokens clean k e s start)
+clean_never_scrolls z class tokens k LineFeed size clean e s start =
+    feed_keeps z (final z s (take k tokens)) (no_feed_below z class tokens clean k e s start)
 clean_never_scrolls z class tokens k (Glyph byte) size clean e s start =
     let now : State = final z s (take k tokens) in
     advance_keeps z (printed z now byte) (no_print_below z class tokens clean k byte e s start)

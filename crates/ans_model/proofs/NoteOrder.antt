@@ -1,10 +1,12 @@
 -- The notes rise: a test of each of the few cases.
-use Rattle.std.proofs.Common.{◌≡◌, ℕ, zero, suc, ◌+◌, Bool, true, false, ◌&&◌, nat_lt, List, [], ◌∷◌, ◌++◌, map, refl, arith}
+use Rattle.std.proofs.Common.{◌≡◌, ℕ, zero, suc, ◌+◌, Bool, true, false, ◌&&◌, nat_lt, List, [], ◌∷◌, ◌++◌, map, refl}
+use Rattle.std.proofs.Common.{arith}
 use Rattle.std.specs.List.Sorted.{IsStrictlyIncreasing}
 use Rattle.std.proofs.lemmas.Bool.{ltb-true}
-use Rattle.ans_model.specs.declared.note.Note.TheVariants.{WidthAssumed, NoEndMark, SizeDiffers, OddDate, FlagBits, FlagPair}
-use Rattle.ans_model.specs.Notes.{note_if, notes}
-use Rattle.ans_model.specs.FileLaws.{note_number}
+use Rattle.ans_model.specs.declared.note.Note.TheVariants.{WidthAssumed, NoEndMark, SizeDiffers, OddDate, FlagBits}
+use Rattle.ans_model.specs.declared.note.Note.TheVariants.{FlagPair}
+use Rattle.ans_model.specs.File.Notes.{note_if, notes}
+use Rattle.ans_model.specs.Laws.FileLaws.{note_number}
 use Rattle.ans_model.proofs.Spelling.{both}
 
 abbrev rises : List ℕ → Bool
@@ -29,7 +31,8 @@ every_at q h true = (both (q true) (q false) h).0
 every_at q h false = (both (q true) (q false) h).1
 
 abbrev numbers : Bool → Bool → Bool → Bool → Bool → Bool → List ℕ
-numbers a b c d e f = map note_number (note_if a WidthAssumed ++ note_if b NoEndMark ++ note_if c SizeDiffers ++ note_if d OddDate ++ note_if e FlagBits ++ note_if f FlagPair)
+numbers a b c d e f = map note_number (note_if a WidthAssumed ++ note_if b NoEndMark ++ note_if c SizeDiffers
+    ++ note_if d OddDate ++ note_if e FlagBits ++ note_if f FlagPair)
 
 numbers_rise : (a b c d e f : Bool) → rises (numbers a b c d e f) ≡ true
 numbers_rise a b c d e f =
@@ -38,7 +41,9 @@ numbers_rise a b c d e f =
     (every_at (λ d'. every (λ e'. every (λ f'. rises (numbers a b c d' e' f'))))
     (every_at (λ c'. every (λ d'. every (λ e'. every (λ f'. rises (numbers a b c' d' e' f')))))
     (every_at (λ b'. every (λ c'. every (λ d'. every (λ e'. every (λ f'. rises (numbers a b' c' d' e' f'))))))
-    (every_at (λ a'. every (λ b'. every (λ c'. every (λ d'. every (λ e'. every (λ f'. rises (numbers a' b' c' d' e' f'))))))) refl a) b) c) d) e) f
+    (every_at
+    (λ a'. every (λ b'. every (λ c'. every (λ d'. every (λ e'. every (λ f'. rises (numbers a' b' c' d' e' f')))))))
+    refl a) b) c) d) e) f
 
 pub notes_rise : (body record_bytes : List ℕ) → IsStrictlyIncreasing (map note_number (notes body record_bytes))
 notes_rise body record_bytes = increasing _ (numbers_rise _ _ _ _ _ _)

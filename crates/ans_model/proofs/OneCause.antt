@@ -1,18 +1,21 @@
 -- A token has one fault at most, and from the one cleared start a certain one.
 use Rattle.std.proofs.Common.{◌≡◌, ◌⊎◌, ℕ, inl, inr, refl, ap, sym, ◌∙◌, subst, Option, Some, None, List}
 use Rattle.std.specs.Prelude.{IfSome}
-use Rattle.ans_model.specs.Token.{Token, Glyph, LineFeed, EraseLine, Tab, Place, Mode, Keys, Ask}
+use Rattle.ans_model.specs.Sequence.TokenKind.{TokenKind, Glyph, LineFeed, EraseLine, Tab, Place, Mode, Keys, Ask}
 use Rattle.ans_model.specs.declared.fault.Cause.{Cause}
-use Rattle.ans_model.specs.declared.fault.Cause.TheVariants.{KeyReassigned, ScreenMode, ReportAsked, TabByte, OutsideScreen, PrintBelow, Scrolls, PrintUnknownPlace, EraseUnknownPlace, MayScroll}
+use Rattle.ans_model.specs.declared.fault.Cause.TheVariants.{KeyReassigned, ScreenMode, ReportAsked, TabByte}
+use Rattle.ans_model.specs.declared.fault.Cause.TheVariants.{OutsideScreen, PrintBelow, Scrolls, PrintUnknownPlace}
+use Rattle.ans_model.specs.declared.fault.Cause.TheVariants.{EraseUnknownPlace, MayScroll}
 use Rattle.ans_model.specs.declared.start.Start.TheVariants.{Cleared}
-use Rattle.ans_model.specs.Certain.{IsCertain}
-use Rattle.ans_model.specs.State.{Size, State}
-use Rattle.ans_model.specs.Starts.{Class, class_of, cleared, IsStart}
-use Rattle.ans_model.specs.Step.{final}
-use Rattle.ans_model.specs.TokenFault.{HasStaticFault, HasFaultAfter, HasFault, FromEvery, FromSome, SamePlace, PlacesDiffer, IsInSpareRow}
+use Rattle.ans_model.specs.Laws.Certain.{IsCertain}
+use Rattle.ans_model.specs.Screen.State.{Size, State}
+use Rattle.ans_model.specs.Screen.Starts.{Class, class_of, cleared, IsStart}
+use Rattle.ans_model.specs.Screen.Step.{final}
+use Rattle.ans_model.specs.Verdict.TokenFault.{HasStaticFault, HasFaultAfter, HasFault, FromEvery, FromSome}
+use Rattle.ans_model.specs.Verdict.TokenFault.{SamePosition, PositionsDiffer, IsInSpareRow}
 
 -- ---- static faults
-static_cause : Token → Option Cause
+static_cause : TokenKind → Option Cause
 static_cause Keys = Some KeyReassigned
 static_cause Mode = Some ScreenMode
 static_cause Ask = Some ReportAsked
@@ -20,7 +23,7 @@ static_cause Tab = Some TabByte
 static_cause (Place row column) = Some OutsideScreen
 static_cause _ = None
 
-static_is : (z : Size) (t : Token) (c : Cause) → HasStaticFault z t c → static_cause t ≡ Some c
+static_is : (z : Size) (t : TokenKind) (c : Cause) → HasStaticFault z t c → static_cause t ≡ Some c
 unfolding static_cause
 static_is z Keys KeyReassigned h = refl
 static_is z Mode ScreenMode h = refl
@@ -29,7 +32,7 @@ static_is z Tab TabByte h = refl
 static_is z (Place row column) OutsideScreen h = refl
 static_is z _ _ h = absurd h
 
-static_certain : (t : Token) → IfSome (static_cause t) IsCertain
+static_certain : (t : TokenKind) → IfSome (static_cause t) IsCertain
 unfolding static_cause
 static_certain Keys = tt
 static_certain Mode = tt
@@ -39,28 +42,33 @@ static_certain (Place row column) = tt
 static_certain _ = tt
 
 -- ---- faults that depend on what was played
-glyph_after : (z : Size) (class : Class) (played : List Token) (byte : ℕ) (c : Cause) → HasFaultAfter z class played (Glyph byte) c
-    → ((c ≡ PrintUnknownPlace) × PlacesDiffer z class played) ⊎ ((c ≡ PrintBelow) × SamePlace z class played)
+glyph_after : (z : Size) (class : Class) (played : List TokenKind) (byte : ℕ) (c : Cause)
+    → HasFaultAfter z class played (Glyph byte) c
+    → ((c ≡ PrintUnknownPlace) × PositionsDiffer z class played) ⊎ ((c ≡ PrintBelow) × SamePosition z class played)
 glyph_after z class played byte PrintUnknownPlace h = inl (refl, h)
 glyph_after z class played byte PrintBelow h = inr (refl, h.0)
 glyph_after z class played byte _ h = absurd h
 
-erase_after : (z : Size) (class : Class) (played : List Token) (c : Cause) → HasFaultAfter z class played EraseLine c → (c ≡ EraseUnknownPlace) × PlacesDiffer z class played
+erase_after : (z : Size) (class : Class) (played : List TokenKind) (c : Cause)
+    → HasFaultAfter z class played EraseLine c → (c ≡ EraseUnknownPlace) × PositionsDiffer z class played
 erase_after z class played EraseUnknownPlace h = (refl, h)
 erase_after z class played _ h = absurd h
 
 -- from some starts the cursor stands in the spare row, from others it does not
-abbrev MayStandInSpareRow : Size → Class → List Token → Type 0
-MayStandInSpareRow z class played = FromSome z class (IsInSpareRow z played) × FromSome z class (λ s. ¬ IsInSpareRow z played s)
+abbrev MayStandInSpareRow : Size → Class → List TokenKind → Type 0
+MayStandInSpareRow z class played = FromSome z class (IsInSpareRow z played)
+    × FromSome z class (λ s. ¬ IsInSpareRow z played s)
 
-feed_after : (z : Size) (class : Class) (played : List Token) (c : Cause) → HasFaultAfter z class played LineFeed c
-    → ((c ≡ Scrolls) × FromEvery z class (IsInSpareRow z played)) ⊎ ((c ≡ MayScroll) × MayStandInSpareRow z class played)
+feed_after : (z : Size) (class : Class) (played : List TokenKind) (c : Cause) → HasFaultAfter z class played LineFeed c
+    → ((c ≡ Scrolls) × FromEvery z class (IsInSpareRow z played))
+    ⊎ ((c ≡ MayScroll) × MayStandInSpareRow z class played)
 feed_after z class played Scrolls h = inl (refl, h)
 feed_after z class played MayScroll h = inr (refl, h)
 feed_after z class played _ h = absurd h
 
 -- what has such a fault has no static one
-after_not_static : (z : Size) (class : Class) (played : List Token) (t : Token) (c : Cause) → HasFaultAfter z class played t c → static_cause t ≡ None
+after_not_static : (z : Size) (class : Class) (played : List TokenKind) (t : TokenKind) (c : Cause)
+    → HasFaultAfter z class played t c → static_cause t ≡ None
 unfolding static_cause
 after_not_static z class played (Glyph byte) c h = refl
 after_not_static z class played EraseLine c h = refl
@@ -68,43 +76,53 @@ after_not_static z class played LineFeed c h = refl
 after_not_static z class played _ c h = absurd h
 
 -- ---- one cause
-places_clash : (z : Size) (class : Class) (played : List Token) → PlacesDiffer z class played → SamePlace z class played → ⊥
+places_clash : (z : Size) (class : Class) (played : List TokenKind) → PositionsDiffer z class played
+    → SamePosition z class played → ⊥
 places_clash z class played h g = h.4 (g h.0 h.1 h.2 h.3)
 
-rows_clash : (z : Size) (class : Class) (played : List Token) → FromEvery z class (IsInSpareRow z played) → MayStandInSpareRow z class played → ⊥
+rows_clash : (z : Size) (class : Class) (played : List TokenKind) → FromEvery z class (IsInSpareRow z played)
+    → MayStandInSpareRow z class played → ⊥
 rows_clash z class played h g = g.1.2 (h g.1.0 g.1.1)
 
-one_glyph_cause : (z : Size) (class : Class) (played : List Token) (c d : Cause)
-    → ((c ≡ PrintUnknownPlace) × PlacesDiffer z class played) ⊎ ((c ≡ PrintBelow) × SamePlace z class played)
-    → ((d ≡ PrintUnknownPlace) × PlacesDiffer z class played) ⊎ ((d ≡ PrintBelow) × SamePlace z class played)
+one_glyph_cause : (z : Size) (class : Class) (played : List TokenKind) (c d : Cause)
+    → ((c ≡ PrintUnknownPlace) × PositionsDiffer z class played) ⊎ ((c ≡ PrintBelow) × SamePosition z class played)
+    → ((d ≡ PrintUnknownPlace) × PositionsDiffer z class played) ⊎ ((d ≡ PrintBelow) × SamePosition z class played)
     → c ≡ d
 one_glyph_cause z class played c d (inl h) (inl g) = h.0 ∙ sym g.0
 one_glyph_cause z class played c d (inl h) (inr g) = absurd (places_clash z class played h.1 g.1)
 one_glyph_cause z class played c d (inr h) (inl g) = absurd (places_clash z class played g.1 h.1)
 one_glyph_cause z class played c d (inr h) (inr g) = h.0 ∙ sym g.0
 
-one_feed_cause : (z : Size) (class : Class) (played : List Token) (c d : Cause)
-    → ((c ≡ Scrolls) × FromEvery z class (IsInSpareRow z played)) ⊎ ((c ≡ MayScroll) × MayStandInSpareRow z class played)
-    → ((d ≡ Scrolls) × FromEvery z class (IsInSpareRow z played)) ⊎ ((d ≡ MayScroll) × MayStandInSpareRow z class played)
+one_feed_cause : (z : Size) (class : Class) (played : List TokenKind) (c d : Cause)
+    → ((c ≡ Scrolls) × FromEvery z class (IsInSpareRow z played))
+    ⊎ ((c ≡ MayScroll) × MayStandInSpareRow z class played)
+    → ((d ≡ Scrolls) × FromEvery z class (IsInSpareRow z played))
+    ⊎ ((d ≡ MayScroll) × MayStandInSpareRow z class played)
     → c ≡ d
 one_feed_cause z class played c d (inl h) (inl g) = h.0 ∙ sym g.0
 one_feed_cause z class played c d (inl h) (inr g) = absurd (rows_clash z class played h.1 g.1)
 one_feed_cause z class played c d (inr h) (inl g) = absurd (rows_clash z class played g.1 h.1)
 one_feed_cause z class played c d (inr h) (inr g) = h.0 ∙ sym g.0
 
-one_cause_after : (z : Size) (class : Class) (played : List Token) (t : Token) (c d : Cause) → HasFaultAfter z class played t c → HasFaultAfter z class played t d → c ≡ d
-one_cause_after z class played (Glyph byte) c d h g = one_glyph_cause z class played c d (glyph_after z class played byte c h) (glyph_after z class played byte d g)
-one_cause_after z class played EraseLine c d h g = (erase_after z class played c h).0 ∙ sym (erase_after z class played d g).0
-one_cause_after z class played LineFeed c d h g = one_feed_cause z class played c d (feed_after z class played c h) (feed_after z class played d g)
+one_cause_after : (z : Size) (class : Class) (played : List TokenKind) (t : TokenKind) (c d : Cause)
+    → HasFaultAfter z class played t c → HasFaultAfter z class played t d → c ≡ d
+one_cause_after z class played (Glyph byte) c d h g = one_glyph_cause z class played c d
+    (glyph_after z class played byte c h) (glyph_after z class played byte d g)
+one_cause_after z class played EraseLine c d h g = (erase_after z class played c h).0
+    ∙ sym (erase_after z class played d g).0
+one_cause_after z class played LineFeed c d h g = one_feed_cause z class played c d (feed_after z class played c h)
+    (feed_after z class played d g)
 one_cause_after z class played _ c d h g = absurd h
 
-both_kinds : (z : Size) (class : Class) (played : List Token) (t : Token) (c d : Cause) → HasStaticFault z t c → HasFaultAfter z class played t d → ⊥
+both_kinds : (z : Size) (class : Class) (played : List TokenKind) (t : TokenKind) (c d : Cause) → HasStaticFault z t c
+    → HasFaultAfter z class played t d → ⊥
 both_kinds z class played t c d h g =
     let apart : Some c ≡ None = sym (static_is z t c h) ∙ after_not_static z class played t d g in
     cc
 
 -- A token has one fault at most.
-pub one_cause : (z : Size) (class : Class) (played : List Token) (t : Token) (c d : Cause) → HasFault z class played t c → HasFault z class played t d → c ≡ d
+pub one_cause : (z : Size) (class : Class) (played : List TokenKind) (t : TokenKind) (c d : Cause)
+    → HasFault z class played t c → HasFault z class played t d → c ≡ d
 one_cause z class played t c d (inl h) (inl g) =
     let same : Some c ≡ Some d = sym (static_is z t c h) ∙ static_is z t d g in
     cc
@@ -113,22 +131,25 @@ one_cause z class played t c d (inr h) (inl g) = absurd (both_kinds z class play
 one_cause z class played t c d (inr h) (inr g) = one_cause_after z class played t c d h g
 
 -- ---- the one cleared start
-state_path : (s t : State) → s.screen ≡ t.screen → s.cursor ≡ t.cursor → s.saved ≡ t.saved → s.attribute ≡ t.attribute → s.wrap ≡ t.wrap → s ≡ t
+state_path : (s t : State) → s.screen ≡ t.screen → s.cursor ≡ t.cursor → s.saved ≡ t.saved → s.attribute ≡ t.attribute
+    → s.wrap ≡ t.wrap → s ≡ t
 state_path s t a b c d e = λ i. record { screen = a i; cursor = b i; saved = c i; attribute = d i; wrap = e i }
 
 pub cleared_is_one : (z : Size) (s t : State) → IsStart z (class_of Cleared) s → IsStart z (class_of Cleared) t → s ≡ t
 cleared_is_one z s t h g = is_cleared s h ∙ sym (is_cleared t g)
   where
     is_cleared : (r : State) → IsStart z (class_of Cleared) r → r ≡ cleared z
-    is_cleared r k = state_path r (cleared z) (k.screen refl) (k.cursor refl) (k.saved refl) (k.attribute refl) (k.wrap refl)
+    is_cleared r k = state_path r (cleared z) (k.screen refl) (k.cursor refl) (k.saved refl) (k.attribute refl)
+        (k.wrap refl)
 
-same_places : (z : Size) (played : List Token) → PlacesDiffer z (class_of Cleared) played → ⊥
+same_places : (z : Size) (played : List TokenKind) → PositionsDiffer z (class_of Cleared) played → ⊥
 same_places z played h = h.4 (ap (λ (s : State). (final z s played).cursor) (cleared_is_one z h.0 h.1 h.2 h.3))
 
-same_rows : (z : Size) (played : List Token) → MayStandInSpareRow z (class_of Cleared) played → ⊥
+same_rows : (z : Size) (played : List TokenKind) → MayStandInSpareRow z (class_of Cleared) played → ⊥
 same_rows z played h = h.1.2 (subst (IsInSpareRow z played) (cleared_is_one z h.0.0 h.1.0 h.0.1 h.1.1) h.0.2)
 
-certain_after : (z : Size) (played : List Token) (t : Token) (c : Cause) → HasFaultAfter z (class_of Cleared) played t c → IsCertain c
+certain_after : (z : Size) (played : List TokenKind) (t : TokenKind) (c : Cause)
+    → HasFaultAfter z (class_of Cleared) played t c → IsCertain c
 certain_after z played (Glyph byte) c h = elim (glyph_after z (class_of Cleared) played byte c h) [
   | inl g ↦ absurd (same_places z played g.1)
   | inr g ↦ rw g.0 tt
@@ -141,9 +162,10 @@ certain_after z played LineFeed c h = elim (feed_after z (class_of Cleared) play
 certain_after z played _ c h = absurd h
 
 -- From the one cleared start a token's fault is certain.
-pub static_is_certain : (z : Size) (t : Token) (c : Cause) → HasStaticFault z t c → IsCertain c
+pub static_is_certain : (z : Size) (t : TokenKind) (c : Cause) → HasStaticFault z t c → IsCertain c
 static_is_certain z t c h = rw (static_is z t c h) at (static_certain t)
 
-pub certain_cause : (z : Size) (played : List Token) (t : Token) (c : Cause) → HasFault z (class_of Cleared) played t c → IsCertain c
+pub certain_cause : (z : Size) (played : List TokenKind) (t : TokenKind) (c : Cause)
+    → HasFault z (class_of Cleared) played t c → IsCertain c
 certain_cause z played t c (inl h) = static_is_certain z t c h
 certain_cause z played t c (inr h) = certain_after z played t c h

@@ -1,9 +1,10 @@
 -- A byte above 00h is found again from its character: a test of each.
-use Rattle.std.proofs.Common.{◌≡◌, ℕ, zero, suc, ◌+◌, ◌<◌, Bool, true, false, ◌&&◌, ◌||◌, ◌==◌, nat_lt, List, [], ◌∷◌, refl, ap, sym, ◌∙◌, inl, inr, arith}
+use Rattle.std.proofs.Common.{◌≡◌, ℕ, zero, suc, ◌+◌, ◌<◌, Bool, true, false, ◌&&◌, ◌||◌, ◌==◌, nat_lt, List, [], ◌∷◌}
+use Rattle.std.proofs.Common.{refl, ap, sym, ◌∙◌, inl, inr, arith}
 use Rattle.std.specs.Prelude.{if◌then◌else◌}
 use Rattle.std.proofs.lemmas.Bool.{cases_eq}
 use Rattle.std.proofs.lemmas.Bool.Decides.{nat_tests}
-use Rattle.ans_model.specs.Glyphs.{low_glyphs, high_glyphs, glyph_text}
+use Rattle.ans_model.specs.Text.Characters.{low_glyphs, high_glyphs, glyph_text}
 use Rattle.ans_model.proofs.Spelling.{both}
 
 abbrev place_in : List ℕ → ℕ → ℕ

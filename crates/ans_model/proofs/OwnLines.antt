@@ -1,5 +1,7 @@
 -- The line of a fault tells the fault, and that of a note the note.
-use Rattle.std.proofs.Common.{◌≡◌, ◌⊎◌, inl, inr, ℕ, ◌+◌, ◌-◌, ◌*◌, ◌<◌, ◌^◌, Bool, true, false, ◌==◌, nat_lt, List, [], ◌∷◌, ◌++◌, drop, codes, refl, ap, ap₂, sym, ◌∙◌, arith, append_assoc, bytes_eq, if◌then◌else◌}
+use Rattle.std.proofs.Common.{◌≡◌, ◌⊎◌, inl, inr, ℕ, ◌+◌, ◌-◌, ◌*◌, ◌<◌, ◌^◌, Bool, true, false, ◌==◌, nat_lt, List}
+use Rattle.std.proofs.Common.{[], ◌∷◌, ◌++◌, drop, codes, refl, ap, ap₂, sym, ◌∙◌, arith, append_assoc, bytes_eq}
+use Rattle.std.proofs.Common.{if◌then◌else◌}
 use Rattle.std.specs.Prelude.{decimal}
 use Rattle.std.specs.Char.{is_ascii_digit, digit_value}
 use Rattle.std.specs.List.{list_all}
@@ -9,11 +11,19 @@ use Rattle.std.proofs.lemmas.List.{append_cancel_left, append_cancel_right}
 use Rattle.std.proofs.lemmas.Fmt.{decimal_is_IsNumeral, decimal_injective}
 use Rattle.ans_model.specs.declared.fault.Fault.{Fault}
 use Rattle.ans_model.specs.declared.fault.Cause.{Cause}
-use Rattle.ans_model.specs.declared.fault.Cause.TheVariants.{NoRecord, WrongVersion, WrongKind, CommentsMissing, LinesUnstated, WidthTooLarge, LinesTooLarge, BytesAfterEndMark, BrokenSequence, NumberTooLarge, TooManyParameters, EndInSequence, UnknownSequence, WrongParameters, KeyReassigned, ScreenMode, ReportAsked, TabByte, OutsideScreen, PrintBelow, Scrolls, PrintUnknownPlace, EraseUnknownPlace, MayScroll, UnknownCell}
+use Rattle.ans_model.specs.declared.fault.Cause.TheVariants.{NoRecord, WrongVersion, WrongKind, CommentsMissing}
+use Rattle.ans_model.specs.declared.fault.Cause.TheVariants.{LinesUnstated, WidthTooLarge, LinesTooLarge}
+use Rattle.ans_model.specs.declared.fault.Cause.TheVariants.{BytesAfterEndMark, BrokenSequence, NumberTooLarge}
+use Rattle.ans_model.specs.declared.fault.Cause.TheVariants.{TooManyParameters, EndInSequence, UnknownSequence}
+use Rattle.ans_model.specs.declared.fault.Cause.TheVariants.{WrongParameters, KeyReassigned, ScreenMode, ReportAsked}
+use Rattle.ans_model.specs.declared.fault.Cause.TheVariants.{TabByte, OutsideScreen, PrintBelow, Scrolls}
+use Rattle.ans_model.specs.declared.fault.Cause.TheVariants.{PrintUnknownPlace, EraseUnknownPlace, MayScroll}
+use Rattle.ans_model.specs.declared.fault.Cause.TheVariants.{UnknownCell}
 use Rattle.ans_model.specs.declared.note.Note.{Note}
-use Rattle.ans_model.specs.declared.note.Note.TheVariants.{WidthAssumed, NoEndMark, SizeDiffers, OddDate, FlagBits, FlagPair}
-use Rattle.ans_model.specs.FaultText.{fault_text, place_text, fault_line, note_line}
-use Rattle.ans_model.specs.Lines.{FitsTypes, PlaceFitsTypes, IsUnknownCell}
+use Rattle.ans_model.specs.declared.note.Note.TheVariants.{WidthAssumed, NoEndMark, SizeDiffers, OddDate, FlagBits}
+use Rattle.ans_model.specs.declared.note.Note.TheVariants.{FlagPair}
+use Rattle.ans_model.specs.Text.FaultText.{fault_text, place_text, fault_line, note_line}
+use Rattle.ans_model.specs.Laws.LineLaws.{FitsTypes, PlaceFitsTypes, IsUnknownCell}
 use Rattle.ans_model.proofs.Spelling.{tail_of, run_law}
 
 -- ---- numbers
@@ -25,9 +35,11 @@ all_digits [] h = refl
 all_digits (d ∷ ds) h = rw (lt-ltb (digit_value d) 10 h.0) (all_digits ds h.1)
 
 -- two numbers at the front of one text, each before what is no digit
-number_law : (m n c d : ℕ) (x y : List ℕ) → m < 2 ^ 64 → n < 2 ^ 64 → is_digit c ≡ false → is_digit d ≡ false → decimal m ++ c ∷ x ≡ decimal n ++ d ∷ y → (m ≡ n) × (x ≡ y)
+number_law : (m n c d : ℕ) (x y : List ℕ) → m < 2 ^ 64 → n < 2 ^ 64 → is_digit c ≡ false → is_digit d ≡ false
+    → decimal m ++ c ∷ x ≡ decimal n ++ d ∷ y → (m ≡ n) × (x ≡ y)
 number_law m n c d x y hm hn hc hd e =
-    let h = run_law is_digit (decimal m) (decimal n) c d x y (all_digits (decimal m) (decimal_is_IsNumeral m hm).0.1) (all_digits (decimal n) (decimal_is_IsNumeral n hn).0.1) hc hd e in
+    let h = run_law is_digit (decimal m) (decimal n) c d x y (all_digits (decimal m) (decimal_is_IsNumeral m hm).0.1)
+    (all_digits (decimal n) (decimal_is_IsNumeral n hn).0.1) hc hd e in
     (decimal_injective m n hm hn h.0, h.2)
 
 -- ---- causes
@@ -154,7 +166,8 @@ kind PrintUnknownPlace = plain PrintUnknownPlace (omega arith) refl
 kind EraseUnknownPlace = plain EraseUnknownPlace (omega arith) refl
 kind MayScroll = plain MayScroll (omega arith) refl
 
-text_cases : (c d : Cause) → fault_number c ≡ fault_number d → IsPlain c ⊎ IsUnknownCell c → IsPlain d ⊎ IsUnknownCell d → (c ≡ d) ⊎ (IsUnknownCell c × IsUnknownCell d)
+text_cases : (c d : Cause) → fault_number c ≡ fault_number d → IsPlain c ⊎ IsUnknownCell c
+    → IsPlain d ⊎ IsUnknownCell d → (c ≡ d) ⊎ (IsUnknownCell c × IsUnknownCell d)
 text_cases c d e (inl p) (inl q) = inl (sym p.same ∙ ap cause_of e ∙ q.same)
 text_cases c d e (inl p) (inr q) = absurd (omega (arith, p.low, e ∙ ap fault_number q.2))
 text_cases c d e (inr p) (inl q) = absurd (omega (arith, q.low, sym e ∙ ap fault_number p.2))
@@ -162,26 +175,35 @@ text_cases c d e (inr p) (inr q) = inr (p, q)
 
 pub text_law : (c d : Cause) → fault_text c ≡ fault_text d → (c ≡ d) ⊎ (IsUnknownCell c × IsUnknownCell d)
 text_law c d e =
-    let same : fault_number c ≡ fault_number d = sym (text_number c []) ∙ ap (λ (v : List ℕ). number_on 0 (drop 1 (v ++ []))) e ∙ text_number d [] in
+    let same : fault_number c ≡ fault_number d = sym (text_number c [])
+    ∙ ap (λ (v : List ℕ). number_on 0 (drop 1 (v ++ []))) e ∙ text_number d [] in
     text_cases c d same (kind c) (kind d)
 
 abbrev whole_text : Cause → List ℕ
 whole_text c = fault_text c ++ place_text c
 
 same_number : (c d : Cause) → whole_text c ≡ whole_text d → fault_number c ≡ fault_number d
-same_number c d e = sym (text_number c (place_text c)) ∙ ap (λ (v : List ℕ). number_on 0 (drop 1 v)) e ∙ text_number d (place_text d)
+same_number c d e = sym (text_number c (place_text c)) ∙ ap (λ (v : List ℕ). number_on 0 (drop 1 v)) e
+    ∙ text_number d (place_text d)
 
-place_law : (row col row' col' : ℕ) → PlaceFitsTypes (UnknownCell row col) → PlaceFitsTypes (UnknownCell row' col') → whole_text (UnknownCell row col) ≡ whole_text (UnknownCell row' col') → UnknownCell row col ≡ UnknownCell row' col'
+place_law : (row col row' col' : ℕ) → PlaceFitsTypes (UnknownCell row col) → PlaceFitsTypes (UnknownCell row' col')
+    → whole_text (UnknownCell row col) ≡ whole_text (UnknownCell row' col')
+    → UnknownCell row col ≡ UnknownCell row' col'
 place_law row col row' col' h g e =
-    let rows = number_law row row' 0x2C 0x2C (codes " column " ++ (decimal col ++ codes ")")) (codes " column " ++ (decimal col' ++ codes ")")) (omega (arith, h.0)) (omega (arith, g.0)) refl refl
-    (append_cancel_left (codes "F25 cell stays unknown (row ") (decimal row ++ (codes ", column " ++ (decimal col ++ codes ")"))) (decimal row' ++ (codes ", column " ++ (decimal col' ++ codes ")"))) e) in
-    let cols = number_law col col' 0x29 0x29 [] [] (omega (arith, h.1)) (omega (arith, g.1)) refl refl (append_cancel_left (codes " column ") (decimal col ++ codes ")") (decimal col' ++ codes ")") rows.1) in
+    let rows = number_law row row' 0x2C 0x2C (codes " column " ++ (decimal col ++ codes ")"))
+    (codes " column " ++ (decimal col' ++ codes ")")) (omega (arith, h.0)) (omega (arith, g.0)) refl refl
+    (append_cancel_left (codes "F25 cell stays unknown (row ")
+    (decimal row ++ (codes ", column " ++ (decimal col ++ codes ")")))
+    (decimal row' ++ (codes ", column " ++ (decimal col' ++ codes ")"))) e) in
+    let cols = number_law col col' 0x29 0x29 [] [] (omega (arith, h.1)) (omega (arith, g.1)) refl refl
+    (append_cancel_left (codes " column ") (decimal col ++ codes ")") (decimal col' ++ codes ")") rows.1) in
     ap₂ UnknownCell rows.0 cols.0
 
 cause_law : (c d : Cause) → PlaceFitsTypes c → PlaceFitsTypes d → whole_text c ≡ whole_text d → c ≡ d
 cause_law c d h g e = elim (text_cases c d (same_number c d e) (kind c) (kind d)) [
   | inl same ↦ same
-  | inr (p, q) ↦ p.2 ∙ place_law p.0 p.1 q.0 q.1 (rw p.2 at h) (rw q.2 at g) (ap whole_text (sym p.2) ∙ e ∙ ap whole_text q.2) ∙ sym q.2
+  | inr (p, q) ↦ p.2 ∙ place_law p.0 p.1 q.0 q.1 (rw p.2 at h) (rw q.2 at g)
+      (ap whole_text (sym p.2) ∙ e ∙ ap whole_text q.2) ∙ sym q.2
 ]
 
 fault_path : (f g : Fault) → f.offset ≡ g.offset → f.cause ≡ g.cause → f ≡ g
@@ -189,11 +211,15 @@ fault_path f g o c = λ i. record { offset = o i; cause = c i }
 
 pub fault_law : (f g : Fault) → FitsTypes f → FitsTypes g → fault_line f ≡ fault_line g → f ≡ g
 fault_law f g hf hg e =
-    let line : (h : Fault) → (decimal h.offset ++ (codes ": " ++ whole_text h.cause)) ++ 0x0A ∷ [] ≡ decimal h.offset ++ (codes ": " ++ (whole_text h.cause ++ 0x0A ∷ []))
+    let line : (h : Fault) → (decimal h.offset ++ (codes ": " ++ whole_text h.cause)) ++ 0x0A ∷ [] ≡ decimal h.offset
+    ++ (codes ": " ++ (whole_text h.cause ++ 0x0A ∷ []))
     = λ h. append_assoc (decimal h.offset) (codes ": " ++ whole_text h.cause) (0x0A ∷ []) in
-    let s : (decimal f.offset ++ (codes ": " ++ whole_text f.cause)) ++ 0x0A ∷ [] ≡ (decimal g.offset ++ (codes ": " ++ whole_text g.cause)) ++ 0x0A ∷ [] = tail_of (tail_of (tail_of e)) in
-    let offsets = number_law f.offset g.offset 0x3A 0x3A (0x20 ∷ (whole_text f.cause ++ 0x0A ∷ [])) (0x20 ∷ (whole_text g.cause ++ 0x0A ∷ [])) hf.offset hg.offset refl refl (sym (line f) ∙ s ∙ line g) in
-    let texts : whole_text f.cause ≡ whole_text g.cause = append_cancel_right (whole_text f.cause) (whole_text g.cause) (0x0A ∷ []) (tail_of offsets.1) in
+    let s : (decimal f.offset ++ (codes ": " ++ whole_text f.cause)) ++ 0x0A
+    ∷ [] ≡ (decimal g.offset ++ (codes ": " ++ whole_text g.cause)) ++ 0x0A ∷ [] = tail_of (tail_of (tail_of e)) in
+    let offsets = number_law f.offset g.offset 0x3A 0x3A (0x20 ∷ (whole_text f.cause ++ 0x0A ∷ []))
+    (0x20 ∷ (whole_text g.cause ++ 0x0A ∷ [])) hf.offset hg.offset refl refl (sym (line f) ∙ s ∙ line g) in
+    let texts : whole_text f.cause ≡ whole_text g.cause = append_cancel_right (whole_text f.cause)
+    (whole_text g.cause) (0x0A ∷ []) (tail_of offsets.1) in
     fault_path f g offsets.0 (cause_law f.cause g.cause hf.place hg.place texts)
 
 -- ---- notes

@@ -1,10 +1,11 @@
 -- Places and their indices in row order.
-use Rattle.std.proofs.Common.{◌≡◌, ◌≢◌, ◌⊎◌, inl, inr, ℕ, ◌+◌, ◌*◌, ◌<◌, ◌≤◌, refl, ap, ◌∙◌, sym, arith, add-mul, one-mul}
+use Rattle.std.proofs.Common.{◌≡◌, ◌≢◌, ◌⊎◌, inl, inr, ℕ, ◌+◌, ◌*◌, ◌<◌, ◌≤◌, refl, ap, ◌∙◌, sym, arith, add-mul}
+use Rattle.std.proofs.Common.{one-mul}
 use Rattle.std.proofs.lemmas.Bool.{cases_eq, cases_lt}
 use Rattle.std.proofs.lemmas.Nat.{mul-le}
 use Rattle.ans_model.specs.declared.cell.Position.{Position}
-use Rattle.ans_model.specs.State.{Size, at, IsOnScreen, IsStated, cell_count, index}
-use Rattle.ans_model.specs.StepLaws.{OnePlaceAnIndex}
+use Rattle.ans_model.specs.Screen.State.{Size, at, IsOnScreen, IsStated, cell_count, index}
+use Rattle.ans_model.specs.Laws.StepLaws.{OnePlaceAnIndex}
 
 pub same_position : (p q : Position) → p.row ≡ q.row → p.column ≡ q.column → p ≡ q
 same_position p q r c = ap (λ (x : ℕ). at x p.column) r ∙ ap (λ (x : ℕ). at q.row x) c
@@ -21,7 +22,8 @@ position_eq p q = elim (cases_eq p.row q.row) [
 -- a row ends before the next one begins
 pub row_le : (z : Size) (a b : ℕ) → a < b → a * z.width + z.width ≤ b * z.width
 row_le z a b h =
-    let e : (a + 1) * z.width ≡ a * z.width + z.width = add-mul a 1 z.width ∙ ap (λ (n : ℕ). a * z.width + n) (one-mul z.width) in
+    let e : (a + 1) * z.width ≡ a * z.width + z.width = add-mul a 1 z.width
+    ∙ ap (λ (n : ℕ). a * z.width + n) (one-mul z.width) in
     omega (arith, e, mul-le (a + 1) z.width b z.width (omega arith) (omega arith))
 
 pub index-lt_row : (z : Size) (p q : Position) → p.column < z.width → p.row < q.row → index z p < index z q

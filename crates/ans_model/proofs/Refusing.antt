@@ -1,35 +1,42 @@
 -- What the reading refuses at one place has one cause.
-use Rattle.std.proofs.Common.{◌≡◌, inl, inr, ℕ, true, List, [], ◌∷◌, ◌++◌, length, ap, ap₂, sym, ◌∙◌, subst₂, arith, append_assoc, length-append, Err, Result}
+use Rattle.std.proofs.Common.{◌≡◌, inl, inr, ℕ, true, List, [], ◌∷◌, ◌++◌, length, ap, ap₂, sym, ◌∙◌, subst₂, arith}
+use Rattle.std.proofs.Common.{append_assoc, length-append, Err, Result}
 use Rattle.std.proofs.lemmas.List.{append_cancel_left, append-nil}
 use Rattle.std.proofs.lemmas.Bool.Decides.{nat_tests}
 use Rattle.std.specs.Char.{is_ascii_digit}
-use Rattle.ans_model.specs.Token.{Token}
+use Rattle.ans_model.specs.Sequence.TokenKind.{TokenKind}
 use Rattle.ans_model.specs.Bytes.{semicolon}
 use Rattle.ans_model.specs.declared.fault.Cause.{Cause}
-use Rattle.ans_model.specs.Sequence.{Raw, Spells, IsUnfinished}
-use Rattle.ans_model.specs.Meaning.{meaning}
-use Rattle.ans_model.specs.FirstFault.{IsWhy, IsBroken, IsRefused}
+use Rattle.ans_model.specs.Sequence.Spelling.{Raw, Spells, IsUnfinished}
+use Rattle.ans_model.specs.Sequence.Meaning.{meaning}
+use Rattle.ans_model.specs.Verdict.FirstFault.{IsWhy, IsBroken, IsRefused}
 use Rattle.ans_model.proofs.Spelling.{head_of, one_spelling_in_front}
 use Rattle.ans_model.proofs.Reading.{fronts}
 
 -- what is spelled does not begin with what is broken, nor the other way round
-spelled_broken : (raw : Raw) (a text x y : List ℕ) (cause : Cause) → Spells raw a → IsBroken text cause → text ++ x ≡ a ++ y → ⊥
+spelled_broken : (raw : Raw) (a text x y : List ℕ) (cause : Cause) → Spells raw a → IsBroken text cause
+    → text ++ x ≡ a ++ y → ⊥
 spelled_broken raw a text x y cause g h e =
-    let s : h.part ++ (h.byte ∷ x) ≡ a ++ y = sym (ap (λ (v : List ℕ). v ++ x) h.whole ∙ append_assoc h.part (h.byte ∷ []) x) ∙ e in
+    let s : h.part ++ (h.byte ∷ x) ≡ a ++ y =
+    sym (ap (λ (v : List ℕ). v ++ x) h.whole ∙ append_assoc h.part (h.byte ∷ []) x) ∙ e in
     elim (fronts h.part a (h.byte ∷ x) y s) [
       | inl w ↦
           let o : IsUnfinished h.part = h.unfinished in
-          let l = one_spelling_in_front raw o.raw a (h.part ++ o.rest) (w.0 ++ o.rest) [] g.loose o.spelled.loose (sym (append_assoc a w.0 o.rest) ∙ ap (λ (v : List ℕ). v ++ o.rest) (sym w.1) ∙ sym (append-nil (h.part ++ o.rest))) in
+          let l = one_spelling_in_front raw o.raw a (h.part ++ o.rest) (w.0 ++ o.rest) [] g.loose o.spelled.loose
+          (sym (append_assoc a w.0 o.rest) ∙ ap (λ (v : List ℕ). v ++ o.rest) (sym w.1)
+          ∙ sym (append-nil (h.part ++ o.rest))) in
           let none : length (w.0 ++ o.rest) ≡ 0 = ap length l.2 in
           omega (arith, o.more, none, length-append w.0 o.rest)
       | inr w ↦
           let same : h.byte ≡ w.0 = head_of w.3 in
-          let longer : a ≡ text ++ w.1 = w.2 ∙ ap (λ (v : ℕ). h.part ++ v ∷ w.1) (sym same) ∙ sym (append_assoc h.part (h.byte ∷ []) w.1) ∙ ap (λ (v : List ℕ). v ++ w.1) (sym h.whole) in
+          let longer : a ≡ text ++ w.1 = w.2 ∙ ap (λ (v : ℕ). h.part ++ v ∷ w.1) (sym same)
+          ∙ sym (append_assoc h.part (h.byte ∷ []) w.1) ∙ ap (λ (v : List ℕ). v ++ w.1) (sym h.whole) in
           h.not_prefix (record { raw = raw; rest = w.1; spelled = rw longer at g })
     ]
 
 -- an unfinished part does not begin with what is broken
-pub unfinished_broken : (part text w : List ℕ) (cause : Cause) → IsUnfinished part → IsBroken text cause → part ≡ text ++ w → ⊥
+pub unfinished_broken : (part text w : List ℕ) (cause : Cause) → IsUnfinished part → IsBroken text cause
+    → part ≡ text ++ w → ⊥
 unfinished_broken part text w cause o h e =
     h.not_prefix (record { raw = o.raw; rest = w ++ o.rest; spelled = rw (e, append_assoc) at o.spelled })
 
@@ -52,30 +59,38 @@ broken_whole : (text : List ℕ) (c : Cause) (x : List ℕ) (h : IsBroken text c
 broken_whole text c x h = ap (λ (v : List ℕ). v ++ x) h.whole ∙ append_assoc h.part (h.byte ∷ []) x
 
 -- the same part and the same byte
-same_break : (text other : List ℕ) (c d : Cause) (h : IsBroken text c) (g : IsBroken other d) → h.part ≡ g.part → h.byte ≡ g.byte → c ≡ d
+same_break : (text other : List ℕ) (c d : Cause) (h : IsBroken text c) (g : IsBroken other d) → h.part ≡ g.part
+    → h.byte ≡ g.byte → c ≡ d
 same_break text other c d h g p b =
     let t : other ≡ text = g.whole ∙ ap₂ (λ (v : List ℕ) (w : ℕ). v ++ w ∷ []) (sym p) (sym b) ∙ sym h.whole in
     same_why text h.byte c d h.why (subst₂ (λ (v : List ℕ) (w : ℕ). IsWhy v w d) t (sym b) g.why)
 
-longer_break : (text other : List ℕ) (c d : Cause) (x y w : List ℕ) (h : IsBroken text c) (g : IsBroken other d) → h.part ≡ g.part ++ w → w ++ (h.byte ∷ x) ≡ g.byte ∷ y → c ≡ d
+longer_break : (text other : List ℕ) (c d : Cause) (x y w : List ℕ) (h : IsBroken text c) (g : IsBroken other d)
+    → h.part ≡ g.part ++ w → w ++ (h.byte ∷ x) ≡ g.byte ∷ y → c ≡ d
 longer_break text other c d x y [] h g p e = same_break text other c d h g (p ∙ append-nil g.part) (head_of e)
 longer_break text other c d x y (v ∷ w) h g p e =
     let same : v ≡ g.byte = head_of e in
-    absurd (unfinished_broken h.part other w d h.unfinished g (p ∙ ap (λ (u : ℕ). g.part ++ u ∷ w) same ∙ sym (broken_whole other d w g)))
+    absurd (unfinished_broken h.part other w d h.unfinished g
+    (p ∙ ap (λ (u : ℕ). g.part ++ u ∷ w) same ∙ sym (broken_whole other d w g)))
 
 -- two refused texts at the front of one list are refused for one cause
-pub refused_law : (text other x y : List ℕ) (c d : Cause) → IsRefused text c → IsRefused other d → text ++ x ≡ other ++ y → c ≡ d
+pub refused_law : (text other x y : List ℕ) (c d : Cause) → IsRefused text c → IsRefused other d
+    → text ++ x ≡ other ++ y → c ≡ d
 refused_law text other x y c d (inl h) (inl g) e =
     let s = one_spelling_in_front h.raw g.raw text other x y h.spelled.loose g.spelled.loose e in
-    let means : ◌≡◌ {A = Result Token Cause} (Err c) (Err d) = sym h.means ∙ ap meaning s.0 ∙ g.means in
+    let means : ◌≡◌ {A = Result TokenKind Cause} (Err c) (Err d) = sym h.means ∙ ap meaning s.0 ∙ g.means in
     cc
 refused_law text other x y c d (inl h) (inr g) e = absurd (spelled_broken h.raw text other y x d h.spelled g (sym e))
 refused_law text other x y c d (inr h) (inl g) e = absurd (spelled_broken g.raw other text x y c g.spelled h e)
 refused_law text other x y c d (inr h) (inr g) e =
-    let s : h.part ++ (h.byte ∷ x) ≡ g.part ++ (g.byte ∷ y) = sym (broken_whole text c x h) ∙ e ∙ broken_whole other d y g in
+    let s : h.part ++ (h.byte ∷ x) ≡ g.part ++ (g.byte ∷ y) =
+    sym (broken_whole text c x h) ∙ e ∙ broken_whole other d y g in
     elim (fronts h.part g.part (h.byte ∷ x) (g.byte ∷ y) s) [
-      | inl w ↦ longer_break text other c d x y w.0 h g w.1 (append_cancel_left g.part (w.0 ++ (h.byte ∷ x)) (g.byte ∷ y) (sym (append_assoc g.part w.0 (h.byte ∷ x)) ∙ ap (λ (v : List ℕ). v ++ (h.byte ∷ x)) (sym w.1) ∙ s))
+      | inl w ↦ longer_break text other c d x y w.0 h g w.1
+          (append_cancel_left g.part (w.0 ++ (h.byte ∷ x)) (g.byte ∷ y)
+          (sym (append_assoc g.part w.0 (h.byte ∷ x)) ∙ ap (λ (v : List ℕ). v ++ (h.byte ∷ x)) (sym w.1) ∙ s))
       | inr w ↦
           let same : w.0 ≡ h.byte = sym (head_of w.3) in
-          absurd (unfinished_broken g.part text w.1 c g.unfinished h (w.2 ∙ ap (λ (u : ℕ). h.part ++ u ∷ w.1) same ∙ sym (broken_whole text c w.1 h)))
+          absurd (unfinished_broken g.part text w.1 c g.unfinished h
+          (w.2 ∙ ap (λ (u : ℕ). h.part ++ u ∷ w.1) same ∙ sym (broken_whole text c w.1 h)))
     ]

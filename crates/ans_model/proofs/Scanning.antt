@@ -1,5 +1,6 @@
 -- Which bytes may follow an unfinished sequence.
-use Rattle.std.proofs.Common.{◌≡◌, ◌≢◌, ◌⊎◌, inl, inr, ℕ, suc, ◌<◌, ◌≤◌, Bool, true, false, ◌||◌, List, [], ◌∷◌, ◌++◌, length, refl, ap, ap₂, sym, ◌∙◌, arith, append_assoc, length-append}
+use Rattle.std.proofs.Common.{◌≡◌, ◌≢◌, ◌⊎◌, inl, inr, ℕ, suc, ◌<◌, ◌≤◌, Bool, true, false, ◌||◌, List, [], ◌∷◌, ◌++◌}
+use Rattle.std.proofs.Common.{length, refl, ap, ap₂, sym, ◌∙◌, arith, append_assoc, length-append}
 use Rattle.std.proofs.lemmas.List.{append-nil}
 use Rattle.std.proofs.Math.Seq.{take-append_seam}
 use Rattle.std.proofs.lemmas.Str.Parse.{digits_value-take-le}
@@ -7,9 +8,16 @@ use Rattle.std.specs.List.{AllZip, AllByRecursion, join_with_byte, list_all}
 use Rattle.std.specs.Char.{is_ascii_digit, is_ascii_alphabetic}
 use Rattle.std.specs.Str.Parse.{digits_value}
 use Rattle.ans_model.specs.Bytes.{escape, bracket, semicolon, largest_number, most_parameters}
-use Rattle.ans_model.specs.Sequence.{Unmarked, Member, Omitted, Number, Quoted, Raw, is_quote, mark_bytes, SpellsMember, Loose, Spells, IsInLimit, IsUnfinished, IsPrefixOfLoose, IsPrefixOfSpelling}
-use Rattle.ans_model.specs.Parts.{Current, Fresh, InNumber, InString, AfterString, SpellsCurrent, IsCurrentInLimit, SpellsDone, Part, LoosePart, SpellsPart, member_of, lacks, members_of, raw_of, is_stop, may_follow}
-use Rattle.ans_model.proofs.Spelling.{both, head_of, tail_of, run_law, stop_no_digit, stop_no_quote, quote_no_digit, letter_no_semicolon, begins, first_or, first_byte, clash, quoted_law, member_law, letter_stops, semicolon_stops, Rest, Tail, is_mark_byte, digit_no_mark, quote_no_mark, begins_no_mark, tail_first, mark_law, in_front}
+use Rattle.ans_model.specs.Sequence.Spelling.{Unmarked, Member, Omitted, Number, Quoted, Raw, is_quote, mark_bytes}
+use Rattle.ans_model.specs.Sequence.Spelling.{SpellsMember, Loose, Spells, IsInLimit, IsUnfinished, IsPrefixOfLoose}
+use Rattle.ans_model.specs.Sequence.Spelling.{IsPrefixOfSpelling}
+use Rattle.ans_model.specs.Inside.OpenPart.{Current, Fresh, InNumber, InString, AfterString, SpellsCurrent}
+use Rattle.ans_model.specs.Inside.OpenPart.{IsCurrentInLimit, SpellsDone, Part, LoosePart, SpellsPart, member_of}
+use Rattle.ans_model.specs.Inside.OpenPart.{lacks, members_of, raw_of, is_stop, may_follow}
+use Rattle.ans_model.proofs.Spelling.{both, head_of, tail_of, run_law, stop_no_digit, stop_no_quote, quote_no_digit}
+use Rattle.ans_model.proofs.Spelling.{letter_no_semicolon, begins, first_or, first_byte, clash, quoted_law}
+use Rattle.ans_model.proofs.Spelling.{member_law, letter_stops, semicolon_stops, Rest, Tail, is_mark_byte}
+use Rattle.ans_model.proofs.Spelling.{digit_no_mark, quote_no_mark, begins_no_mark, tail_first, mark_law, in_front}
 
 -- a member, and what stands behind it
 pub record Next (member : Member) (bytes : List ℕ) : Type 0 where
@@ -20,44 +28,70 @@ pub record Next (member : Member) (bytes : List ℕ) : Type 0 where
   pub stops : is_stop stop ≡ true
   pub whole : bytes ≡ text ++ stop ∷ more
 
-rest_next : (n : Member) (ns : List Member) (l : ℕ) (x v : List ℕ) → is_ascii_alphabetic l ≡ true → Rest n ns l x v → Next n v
-rest_next n [] l x v hl h = record { text = h.0; stop = l; more = x; spelled = h.1; stops = letter_stops l hl; whole = h.2 }
-rest_next n (m ∷ ms) l x v hl h = record { text = h.0; stop = semicolon; more = h.1; spelled = h.2; stops = semicolon_stops; whole = h.4 }
+rest_next : (n : Member) (ns : List Member) (l : ℕ) (x v : List ℕ) → is_ascii_alphabetic l ≡ true → Rest n ns l x v
+    → Next n v
+rest_next n [] l x v hl h = record {
+  text = h.0;
+  stop = l;
+  more = x;
+  spelled = h.1;
+  stops = letter_stops l hl;
+  whole =
+      h.2;
+}
+rest_next n (m ∷ ms) l x v hl h = record {
+  text = h.0;
+  stop = semicolon;
+  more = h.1;
+  spelled = h.2;
+  stops =
+      semicolon_stops;
+  whole = h.4;
+}
 
 -- what follows members that are done: the others
-peel : (done : List Member) (m : Member) (ms : List Member) (l : ℕ) (x front v : List ℕ) → is_ascii_alphabetic l ≡ true → SpellsDone done front → Rest m ms l x (front ++ v)
+peel : (done : List Member) (m : Member) (ms : List Member) (l : ℕ) (x front v : List ℕ)
+    → is_ascii_alphabetic l ≡ true → SpellsDone done front → Rest m ms l x (front ++ v)
     → (n : Member) × (ns : List Member) × (m ∷ ms ≡ done ++ n ∷ ns) × Rest n ns l x v
 peel [] m ms l x front v hl hd h = (m, ms, refl, rw hd at h)
 peel (d ∷ done) m [] l x front v hl hd h =
-    let e : hd.0 ++ semicolon ∷ (hd.1 ++ v) ≡ h.0 ++ l ∷ x = sym (append_assoc hd.0 (semicolon ∷ hd.1) v) ∙ ap (λ (u : List ℕ). u ++ v) (sym hd.4) ∙ h.2 in
+    let e : hd.0 ++ semicolon ∷ (hd.1 ++ v) ≡ h.0 ++ l ∷ x = sym (append_assoc hd.0 (semicolon ∷ hd.1) v)
+    ∙ ap (λ (u : List ℕ). u ++ v) (sym hd.4) ∙ h.2 in
     let t = member_law d m hd.0 h.0 semicolon l (hd.1 ++ v) x hd.2 h.1 semicolon_stops (letter_stops l hl) e in
     absurd (letter_no_semicolon l hl (sym t.2))
 peel (d ∷ done) m (m' ∷ ms) l x front v hl hd h =
-    let e : hd.0 ++ semicolon ∷ (hd.1 ++ v) ≡ h.0 ++ semicolon ∷ h.1 = sym (append_assoc hd.0 (semicolon ∷ hd.1) v) ∙ ap (λ (u : List ℕ). u ++ v) (sym hd.4) ∙ h.4 in
+    let e : hd.0 ++ semicolon ∷ (hd.1 ++ v) ≡ h.0 ++ semicolon ∷ h.1 =
+    sym (append_assoc hd.0 (semicolon ∷ hd.1) v) ∙ ap (λ (u : List ℕ). u ++ v) (sym hd.4) ∙ h.4 in
     let t = member_law d m hd.0 h.0 semicolon semicolon (hd.1 ++ v) h.1 hd.2 h.2 semicolon_stops semicolon_stops e in
     let ih = peel done m' ms l x hd.1 v hl hd.3 (rw (← t.3) at h.3) in
     (ih.0, ih.1, ap₂ (λ (u : Member) (w : List Member). u ∷ w) (sym t.0) ih.2, ih.3)
 
 -- a letter alone does not begin with a member that is done
-done_no_letter : (d : Member) (done : List Member) (l : ℕ) (x front v : List ℕ) → is_ascii_alphabetic l ≡ true → SpellsDone (d ∷ done) front → front ++ v ≡ l ∷ x → ⊥
+done_no_letter : (d : Member) (done : List Member) (l : ℕ) (x front v : List ℕ) → is_ascii_alphabetic l ≡ true
+    → SpellsDone (d ∷ done) front → front ++ v ≡ l ∷ x → ⊥
 done_no_letter d done l x front v hl hd h =
-    let e : hd.0 ++ semicolon ∷ (hd.1 ++ v) ≡ l ∷ x = sym (append_assoc hd.0 (semicolon ∷ hd.1) v) ∙ ap (λ (u : List ℕ). u ++ v) (sym hd.4) ∙ h in
+    let e : hd.0 ++ semicolon ∷ (hd.1 ++ v) ≡ l ∷ x = sym (append_assoc hd.0 (semicolon ∷ hd.1) v)
+    ∙ ap (λ (u : List ℕ). u ++ v) (sym hd.4) ∙ h in
     let t = member_law d Omitted hd.0 [] semicolon l (hd.1 ++ v) x hd.2 refl semicolon_stops (letter_stops l hl) e in
     letter_no_semicolon l hl (sym t.2)
 
 -- What follows members that are done: nothing but the letter, if there are none; else members, and the letter.
-pub tail_parts : (done ms : List Member) (l : ℕ) (x front v : List ℕ) → is_ascii_alphabetic l ≡ true → SpellsDone done front → Tail ms l x (front ++ v)
-    → ((ms ≡ []) × (done ≡ []) × (v ≡ l ∷ x)) ⊎ ((n : Member) × (ns : List Member) × (ms ≡ done ++ n ∷ ns) × Rest n ns l x v)
+pub tail_parts : (done ms : List Member) (l : ℕ) (x front v : List ℕ) → is_ascii_alphabetic l ≡ true
+    → SpellsDone done front → Tail ms l x (front ++ v)
+    → ((ms ≡ []) × (done ≡ []) × (v ≡ l ∷ x))
+    ⊎ ((n : Member) × (ns : List Member) × (ms ≡ done ++ n ∷ ns) × Rest n ns l x v)
 tail_parts [] [] l x front v hl hd h = inl (refl, refl, rw hd at h)
 tail_parts (d ∷ done) [] l x front v hl hd h = absurd (done_no_letter d done l x front v hl hd h)
 tail_parts [] (m ∷ ms) l x front v hl hd h = inr (peel [] m ms l x front v hl hd h.1)
 tail_parts (d ∷ done) (m ∷ ms) l x front v hl hd h = inr (peel (d ∷ done) m ms l x front v hl hd h.1)
 
 -- in both cases a member and what stands behind it come next
-pub tail_next : (done ms : List Member) (l : ℕ) (x front v : List ℕ) → is_ascii_alphabetic l ≡ true → SpellsDone done front → Tail ms l x (front ++ v) → (n : Member) × Next n v
+pub tail_next : (done ms : List Member) (l : ℕ) (x front v : List ℕ) → is_ascii_alphabetic l ≡ true
+    → SpellsDone done front → Tail ms l x (front ++ v) → (n : Member) × Next n v
 tail_next done ms l x front v hl hd h =
     elim (tail_parts done ms l x front v hl hd h) [
-      | inl w ↦ (Omitted, record { text = []; stop = l; more = x; spelled = refl; stops = letter_stops l hl; whole = w.2 })
+      | inl w ↦
+          (Omitted, record { text = []; stop = l; more = x; spelled = refl; stops = letter_stops l hl; whole = w.2 })
       | inr w ↦ (w.0, rest_next w.0 w.1 l x v hl w.3)
     ]
 
@@ -72,41 +106,52 @@ or_right false b h = h
 -- a member may follow: a stop, a digit or a quote comes first
 begins_follow : (n : Member) (c : ℕ) → begins n c ≡ true → may_follow Fresh c ≡ true
 begins_follow Omitted c h = or_left (is_stop c) (is_ascii_digit c || is_quote c) h
-begins_follow (Number n) c h = or_right (is_stop c) (is_ascii_digit c || is_quote c) (or_left (is_ascii_digit c) (is_quote c) h)
-begins_follow (Quoted q text) c h = or_right (is_stop c) (is_ascii_digit c || is_quote c) (or_right (is_ascii_digit c) (is_quote c) h)
+begins_follow (Number n) c h = or_right (is_stop c) (is_ascii_digit c || is_quote c)
+    (or_left (is_ascii_digit c) (is_quote c) h)
+begins_follow (Quoted q text) c h = or_right (is_stop c) (is_ascii_digit c || is_quote c)
+    (or_right (is_ascii_digit c) (is_quote c) h)
 
 first_of_next : (n : Member) (v : List ℕ) (h : Next n v) → begins n (first_or 0 v) ≡ true
 first_of_next n v h = rw h.whole (first_byte n h.text h.stop h.more h.spelled h.stops)
 
-number_next : (k : ℕ) (last : List ℕ) (b : ℕ) (z : List ℕ) (n : Member) (c : Bool) → is_ascii_digit b ≡ c → SpellsMember (Number k) last → Next n (last ++ b ∷ z) → is_stop b || c ≡ true
+number_next : (k : ℕ) (last : List ℕ) (b : ℕ) (z : List ℕ) (n : Member) (c : Bool) → is_ascii_digit b ≡ c
+    → SpellsMember (Number k) last → Next n (last ++ b ∷ z) → is_stop b || c ≡ true
 number_next k last b z n true e h g = or_right (is_stop b) true refl
 number_next k [] b z n false e h g = absurd (omega (arith, h.0))
 number_next k (v ∷ last) b z Omitted false e h g =
-    absurd (clash is_stop is_ascii_digit stop_no_digit (v ∷ (last ++ b ∷ z)) (v ∷ (last ++ b ∷ z)) refl (first_of_next Omitted _ g) ((both (is_ascii_digit v) (list_all is_ascii_digit last) h.1).0))
+    absurd (clash is_stop is_ascii_digit stop_no_digit (v ∷ (last ++ b ∷ z)) (v ∷ (last ++ b ∷ z)) refl
+    (first_of_next Omitted _ g) ((both (is_ascii_digit v) (list_all is_ascii_digit last) h.1).0))
 number_next k (v ∷ last) b z (Quoted q text) false e h g =
-    absurd (clash is_quote is_ascii_digit quote_no_digit (v ∷ (last ++ b ∷ z)) (v ∷ (last ++ b ∷ z)) refl (first_of_next (Quoted q text) _ g) ((both (is_ascii_digit v) (list_all is_ascii_digit last) h.1).0))
+    absurd (clash is_quote is_ascii_digit quote_no_digit (v ∷ (last ++ b ∷ z)) (v ∷ (last ++ b ∷ z)) refl
+    (first_of_next (Quoted q text) _ g) ((both (is_ascii_digit v) (list_all is_ascii_digit last) h.1).0))
 number_next k (v ∷ last) b z (Number j) false e h g =
-    let t = run_law is_ascii_digit (v ∷ last) g.text b g.stop z g.more h.1 g.spelled.1 e (stop_no_digit g.stop g.stops) g.whole in
+    let t = run_law is_ascii_digit (v ∷ last) g.text b g.stop z g.more h.1 g.spelled.1 e
+    (stop_no_digit g.stop g.stops) g.whole in
     or_left (is_stop b) false (rw t.1 g.stops)
 
-string_next : (q : ℕ) (words last : List ℕ) (b : ℕ) (z : List ℕ) (n : Member) → SpellsMember (Quoted q words) last → Next n (last ++ b ∷ z) → is_stop b ≡ true
+string_next : (q : ℕ) (words last : List ℕ) (b : ℕ) (z : List ℕ) (n : Member) → SpellsMember (Quoted q words) last
+    → Next n (last ++ b ∷ z) → is_stop b ≡ true
 string_next q words last b z Omitted h g =
-    absurd (clash is_stop is_quote stop_no_quote (last ++ b ∷ z) (last ++ b ∷ z) refl (first_of_next Omitted _ g) (rw h.2 h.0))
+    absurd (clash is_stop is_quote stop_no_quote (last ++ b ∷ z) (last ++ b ∷ z) refl (first_of_next Omitted _ g)
+    (rw h.2 h.0))
 string_next q words last b z (Number j) h g =
-    absurd (clash is_quote is_ascii_digit quote_no_digit (last ++ b ∷ z) (last ++ b ∷ z) refl (rw h.2 h.0) (first_of_next (Number j) _ g))
+    absurd (clash is_quote is_ascii_digit quote_no_digit (last ++ b ∷ z) (last ++ b ∷ z) refl (rw h.2 h.0)
+    (first_of_next (Number j) _ g))
 string_next q words last b z (Quoted r text) h g =
     let t = quoted_law q r words text last g.text (b ∷ z) (g.stop ∷ g.more) h g.spelled g.whole in
     rw (head_of t.3) g.stops
 
 -- what there is of a member is followed by a byte that may follow it
-pub current_next : (current : Current) (last : List ℕ) (b : ℕ) (z : List ℕ) (n : Member) → SpellsCurrent current last → Next n (last ++ b ∷ z) → may_follow current b ≡ true
+pub current_next : (current : Current) (last : List ℕ) (b : ℕ) (z : List ℕ) (n : Member) → SpellsCurrent current last
+    → Next n (last ++ b ∷ z) → may_follow current b ≡ true
 current_next Fresh last b z n h g = begins_follow n b (rw h at (first_of_next n (last ++ b ∷ z) g))
 current_next (InNumber k) last b z n h g = number_next k last b z n (is_ascii_digit b) refl h g
 current_next (InString q words) last b z n h g = refl
 current_next (AfterString q words) last b z n h g = string_next q words last b z n h g
 
 -- what there is of a member, with the bytes that it lacks, spells it
-pub completed : (current : Current) (last : List ℕ) → SpellsCurrent current last → SpellsMember (member_of current) (last ++ lacks current)
+pub completed : (current : Current) (last : List ℕ) → SpellsCurrent current last
+    → SpellsMember (member_of current) (last ++ lacks current)
 completed Fresh last h = rw h
 completed (InNumber n) last h = rw append-nil h
 completed (InString q text) last h = (h.0, h.1, ap (λ (v : List ℕ). v ++ q ∷ []) h.2)
@@ -114,14 +159,16 @@ completed (AfterString q text) last h = rw append-nil h
 
 -- members that are done, and one more, joined
 done_texts : (done : List Member) (m : Member) (front last : List ℕ) → SpellsDone done front → SpellsMember m last
-    → (t : List ℕ) × (ts : List (List ℕ)) × AllZip SpellsMember (done ++ m ∷ []) (t ∷ ts) × (front ++ last ≡ join_with_byte semicolon (t ∷ ts))
+    → (t : List ℕ) × (ts : List (List ℕ)) × AllZip SpellsMember (done ++ m ∷ []) (t ∷ ts)
+    × (front ++ last ≡ join_with_byte semicolon (t ∷ ts))
 done_texts [] m front last hd h = (last, [], (h, tt), ap (λ (v : List ℕ). v ++ last) hd)
 done_texts (d ∷ done) m front last hd h =
     let ih = done_texts done m hd.1 last hd.3 h in (
       hd.0,
       ih.0 ∷ ih.1,
       (hd.2, ih.2),
-      ap (λ (v : List ℕ). v ++ last) hd.4 ∙ append_assoc hd.0 (semicolon ∷ hd.1) last ∙ ap (λ (v : List ℕ). hd.0 ++ semicolon ∷ v) ih.3,
+      ap (λ (v : List ℕ). v ++ last) hd.4 ∙ append_assoc hd.0 (semicolon ∷ hd.1) last
+          ∙ ap (λ (v : List ℕ). hd.0 ++ semicolon ∷ v) ih.3,
     )
 
 not_nil_append : (ms : List Member) (m : Member) → ms ++ m ∷ [] ≡ [] → ⊥
@@ -132,21 +179,27 @@ not_omitted : (d : Member) (done : List Member) (m : Member) → d ∷ (done ++ 
 not_omitted d done m e = not_nil_append done m (tail_of e)
 
 -- The texts that a letter completes: those of members_of.
-member_texts : (done : List Member) (current : Current) (front last : List ℕ) → SpellsDone done front → SpellsCurrent current last
-    → (ts : List (List ℕ)) × AllZip SpellsMember (members_of done current) ts × (members_of done current ≢ Omitted ∷ []) × (front ++ (last ++ lacks current) ≡ join_with_byte semicolon ts)
+member_texts : (done : List Member) (current : Current) (front last : List ℕ) → SpellsDone done front
+    → SpellsCurrent current last
+    → (ts : List (List ℕ)) × AllZip SpellsMember (members_of done current) ts
+    × (members_of done current ≢ Omitted ∷ []) × (front ++ (last ++ lacks current) ≡ join_with_byte semicolon ts)
 member_texts [] Fresh front last hd h = ([], tt, (λ e. cc), rw (hd, h))
 member_texts [] (InNumber n) front last hd h =
-    let t = done_texts [] (Number n) front (last ++ []) hd (completed (InNumber n) last h) in (t.0 ∷ t.1, t.2, (λ e. cc), t.3)
+    let t = done_texts [] (Number n) front (last ++ []) hd (completed (InNumber n) last h) in
+    (t.0 ∷ t.1, t.2, (λ e. cc), t.3)
 member_texts [] (InString q text) front last hd h =
-    let t = done_texts [] (Quoted q text) front (last ++ q ∷ []) hd (completed (InString q text) last h) in (t.0 ∷ t.1, t.2, (λ e. cc), t.3)
+    let t = done_texts [] (Quoted q text) front (last ++ q ∷ []) hd (completed (InString q text) last h) in
+    (t.0 ∷ t.1, t.2, (λ e. cc), t.3)
 member_texts [] (AfterString q text) front last hd h =
-    let t = done_texts [] (Quoted q text) front (last ++ []) hd (completed (AfterString q text) last h) in (t.0 ∷ t.1, t.2, (λ e. cc), t.3)
+    let t = done_texts [] (Quoted q text) front (last ++ []) hd (completed (AfterString q text) last h) in
+    (t.0 ∷ t.1, t.2, (λ e. cc), t.3)
 member_texts (d ∷ done) current front last hd h =
     let t = done_texts (d ∷ done) (member_of current) front (last ++ lacks current) hd (completed current last h) in
     (t.0 ∷ t.1, t.2, not_omitted d done (member_of current), t.3)
 
 -- A letter, behind what is lacking, completes a part.
-pub finish : (p : Part) (y : List ℕ) (l : ℕ) → LoosePart p y → is_ascii_alphabetic l ≡ true → Loose (raw_of p l) (y ++ (lacks p.current ++ l ∷ []))
+pub finish : (p : Part) (y : List ℕ) (l : ℕ) → LoosePart p y → is_ascii_alphabetic l ≡ true
+    → Loose (raw_of p l) (y ++ (lacks p.current ++ l ∷ []))
 finish p y l h hl =
     let t = member_texts p.done p.current h.front h.last h.done h.current in
     record {
@@ -164,7 +217,8 @@ finish p y l h hl =
           ∙ ap (λ (v : List ℕ). v ++ l ∷ []) t.3));
     }
 
-pub limit_append : (done : List Member) (m : Member) → AllByRecursion IsInLimit done → IsInLimit m → AllByRecursion IsInLimit (done ++ m ∷ [])
+pub limit_append : (done : List Member) (m : Member) → AllByRecursion IsInLimit done → IsInLimit m
+    → AllByRecursion IsInLimit (done ++ m ∷ [])
 limit_append [] m hs h = (h, tt)
 limit_append (d ∷ done) m hs h = (hs.0, limit_append done m hs.1 h)
 
@@ -174,21 +228,24 @@ limit_member (InNumber n) h = h
 limit_member (InString q text) h = tt
 limit_member (AfterString q text) h = tt
 
-limit_members : (done : List Member) (current : Current) → AllByRecursion IsInLimit done → IsCurrentInLimit current → AllByRecursion IsInLimit (members_of done current)
+limit_members : (done : List Member) (current : Current) → AllByRecursion IsInLimit done → IsCurrentInLimit current
+    → AllByRecursion IsInLimit (members_of done current)
 limit_members [] Fresh hs h = tt
 limit_members [] (InNumber n) hs h = (h, tt)
 limit_members [] (InString q text) hs h = (tt, tt)
 limit_members [] (AfterString q text) hs h = (tt, tt)
 limit_members (d ∷ done) current hs h = limit_append (d ∷ done) (member_of current) hs (limit_member current h)
 
-few_members : (done : List Member) (current : Current) → length done < most_parameters → length (members_of done current) ≤ most_parameters
+few_members : (done : List Member) (current : Current) → length done < most_parameters
+    → length (members_of done current) ≤ most_parameters
 few_members [] Fresh h = omega arith
 few_members [] (InNumber n) h = omega arith
 few_members [] (InString q text) h = omega arith
 few_members [] (AfterString q text) h = omega arith
 few_members (d ∷ done) current h = rw (length-append (d ∷ done) (member_of current ∷ [])) (omega arith)
 
-pub finish_in_limit : (p : Part) (y : List ℕ) (l : ℕ) → SpellsPart p y → is_ascii_alphabetic l ≡ true → Spells (raw_of p l) (y ++ (lacks p.current ++ l ∷ []))
+pub finish_in_limit : (p : Part) (y : List ℕ) (l : ℕ) → SpellsPart p y → is_ascii_alphabetic l ≡ true
+    → Spells (raw_of p l) (y ++ (lacks p.current ++ l ∷ []))
 finish_in_limit p y l h hl = record {
   loose = finish p y l h.loose hl;
   numbers = limit_members p.done p.current h.numbers h.last_number;
@@ -218,21 +275,28 @@ part_loose p y h = record { raw = raw_of p 0x6D; rest = lacks p.current ++ 0x6D 
 abbrev pub IsUnmarkedThere : Part → ℕ → Type 0
 IsUnmarkedThere p b = p.mark ≡ Unmarked → p.done ≡ [] → p.current ≡ Fresh → is_mark_byte b ≡ false
 
-front_no_mark : (done : List Member) (current : Current) (front last w : List ℕ) → SpellsDone done front → SpellsCurrent current last → (done ≡ [] → current ≡ Fresh → is_mark_byte (first_or 0 w) ≡ false)
+front_no_mark : (done : List Member) (current : Current) (front last w : List ℕ) → SpellsDone done front
+    → SpellsCurrent current last → (done ≡ [] → current ≡ Fresh → is_mark_byte (first_or 0 w) ≡ false)
     → is_mark_byte (first_or 0 (front ++ (last ++ w))) ≡ false
 front_no_mark [] Fresh front last w hd h f = rw (hd, h) (f refl refl)
 front_no_mark [] (InNumber n) front [] w hd h f = absurd (omega (arith, h.0))
-front_no_mark [] (InNumber n) front (v ∷ last) w hd h f = rw hd (digit_no_mark v (both (is_ascii_digit v) (list_all is_ascii_digit last) h.1).0)
+front_no_mark [] (InNumber n) front (v ∷ last) w hd h f = rw hd
+    (digit_no_mark v (both (is_ascii_digit v) (list_all is_ascii_digit last) h.1).0)
 front_no_mark [] (InString q text) front last w hd h f = rw (hd, h.2) (quote_no_mark q h.0)
 front_no_mark [] (AfterString q text) front last w hd h f = rw (hd, h.2) (quote_no_mark q h.0)
 front_no_mark (d ∷ done) current front last w hd h f =
-    let e : front ++ (last ++ w) ≡ hd.0 ++ semicolon ∷ (hd.1 ++ (last ++ w)) = ap (λ (v : List ℕ). v ++ (last ++ w)) hd.4 ∙ append_assoc hd.0 (semicolon ∷ hd.1) (last ++ w) in
-    rw e (begins_no_mark d (first_or 0 (hd.0 ++ semicolon ∷ (hd.1 ++ (last ++ w)))) (first_byte d hd.0 semicolon (hd.1 ++ (last ++ w)) hd.2 semicolon_stops))
+    let e : front ++ (last ++ w) ≡ hd.0 ++ semicolon ∷ (hd.1 ++ (last ++ w)) =
+    ap (λ (v : List ℕ). v ++ (last ++ w)) hd.4 ∙ append_assoc hd.0 (semicolon ∷ hd.1) (last ++ w) in
+    rw e (begins_no_mark d (first_or 0 (hd.0 ++ semicolon ∷ (hd.1 ++ (last ++ w))))
+    (first_byte d hd.0 semicolon (hd.1 ++ (last ++ w)) hd.2 semicolon_stops))
 
-part_whole : (p : Part) (y w : List ℕ) (h : LoosePart p y) → y ++ w ≡ escape ∷ bracket ∷ (mark_bytes p.mark ++ (h.front ++ (h.last ++ w)))
+part_whole : (p : Part) (y w : List ℕ) (h : LoosePart p y) → y ++ w ≡ escape ∷ bracket
+    ∷ (mark_bytes p.mark ++ (h.front ++ (h.last ++ w)))
 part_whole p y w h =
     ap (λ (v : List ℕ). v ++ w) h.whole
-    ∙ ap (λ (v : List ℕ). escape ∷ bracket ∷ v) (append_assoc (mark_bytes p.mark) (h.front ++ h.last) w ∙ ap (λ (v : List ℕ). mark_bytes p.mark ++ v) (append_assoc h.front h.last w))
+    ∙ ap (λ (v : List ℕ). escape ∷ bracket ∷ v)
+    (append_assoc (mark_bytes p.mark) (h.front ++ h.last) w ∙ ap (λ (v : List ℕ). mark_bytes p.mark ++ v)
+    (append_assoc h.front h.last w))
 
 -- what a loose spelling that begins with the part is made of
 pub record Goes (p : Part) (raw : Raw) (v : List ℕ) : Type 0 where
@@ -240,16 +304,20 @@ pub record Goes (p : Part) (raw : Raw) (v : List ℕ) : Type 0 where
   pub letter : is_ascii_alphabetic raw.letter ≡ true
   pub tail : Tail raw.members raw.letter [] v
 
-pub residual : (p : Part) (y : List ℕ) (b : ℕ) (z : List ℕ) (raw : Raw) (h : LoosePart p y) → IsUnmarkedThere p b → Loose raw (y ++ b ∷ z) → Goes p raw (h.front ++ (h.last ++ b ∷ z))
+pub residual : (p : Part) (y : List ℕ) (b : ℕ) (z : List ℕ) (raw : Raw) (h : LoosePart p y) → IsUnmarkedThere p b
+    → Loose raw (y ++ b ∷ z) → Goes p raw (h.front ++ (h.last ++ b ∷ z))
 residual p y b z raw h u s =
     let f = in_front raw (y ++ b ∷ z) [] s in
-    let e : mark_bytes raw.mark ++ f.tail ≡ mark_bytes p.mark ++ (h.front ++ (h.last ++ b ∷ z)) = tail_of (tail_of (sym f.whole ∙ append-nil (y ++ b ∷ z) ∙ part_whole p y (b ∷ z) h)) in
-    let m = mark_law raw.mark p.mark f.tail (h.front ++ (h.last ++ b ∷ z)) (tail_first raw.members raw.letter [] f.tail f.letter f.tail_is)
+    let e : mark_bytes raw.mark ++ f.tail ≡ mark_bytes p.mark ++ (h.front ++ (h.last ++ b ∷ z)) =
+    tail_of (tail_of (sym f.whole ∙ append-nil (y ++ b ∷ z) ∙ part_whole p y (b ∷ z) h)) in
+    let m = mark_law raw.mark p.mark f.tail (h.front ++ (h.last ++ b ∷ z))
+    (tail_first raw.members raw.letter [] f.tail f.letter f.tail_is)
     (λ un. front_no_mark p.done p.current h.front h.last (b ∷ z) h.done h.current (u un)) e in
     record { mark = m.0; letter = f.letter; tail = rw m.1 at f.tail_is }
 
 -- A byte that may not follow is in no spelling.
-pub refuses_byte : (p : Part) (y : List ℕ) (b : ℕ) → LoosePart p y → may_follow p.current b ≡ false → IsUnmarkedThere p b → ¬ IsPrefixOfLoose (y ++ b ∷ [])
+pub refuses_byte : (p : Part) (y : List ℕ) (b : ℕ) → LoosePart p y → may_follow p.current b ≡ false
+    → IsUnmarkedThere p b → ¬ IsPrefixOfLoose (y ++ b ∷ [])
 refuses_byte p y b h f u s =
     let g = residual p y b s.rest s.raw h u (rw append_assoc at s.spelled) in
     let n = tail_next p.done s.raw.members s.raw.letter [] h.front (h.last ++ b ∷ s.rest) g.letter h.done g.tail in
@@ -260,7 +328,8 @@ not_both : (b : Bool) → b ≡ true → b ≡ false → ⊥
 not_both b t f = cc
 
 -- a run before what fails the test is no longer than the run of a list that begins so
-run_prefix : (p : ℕ → Bool) (a t : List ℕ) (c : ℕ) (z u : List ℕ) → list_all p a ≡ true → p c ≡ false → a ++ z ≡ t ++ c ∷ u → (w : List ℕ) × (t ≡ a ++ w)
+run_prefix : (p : ℕ → Bool) (a t : List ℕ) (c : ℕ) (z u : List ℕ) → list_all p a ≡ true → p c ≡ false
+    → a ++ z ≡ t ++ c ∷ u → (w : List ℕ) × (t ≡ a ++ w)
 run_prefix p [] t c z u ha hc e = (t, refl)
 run_prefix p (v ∷ a) [] c z u ha hc e =
     let t : p v ≡ true = (both (p v) (list_all p a) ha).0 in
@@ -277,22 +346,27 @@ value_grows a w =
     rw take-append_seam at h
 
 -- digits at the front of a member are those of a number, at least as large
-number_grows : (a : List ℕ) (z : List ℕ) (n : Member) → 0 < length a → list_all is_ascii_digit a ≡ true → Next n (a ++ z) → (k : ℕ) × (n ≡ Number k) × (digits_value 10 a ≤ k)
+number_grows : (a : List ℕ) (z : List ℕ) (n : Member) → 0 < length a → list_all is_ascii_digit a ≡ true
+    → Next n (a ++ z) → (k : ℕ) × (n ≡ Number k) × (digits_value 10 a ≤ k)
 number_grows [] z n l ha g = absurd (omega (arith, l))
 number_grows (v ∷ a) z Omitted l ha g =
-    absurd (clash is_stop is_ascii_digit stop_no_digit (v ∷ (a ++ z)) (v ∷ (a ++ z)) refl (first_of_next Omitted _ g) (both (is_ascii_digit v) (list_all is_ascii_digit a) ha).0)
+    absurd (clash is_stop is_ascii_digit stop_no_digit (v ∷ (a ++ z)) (v ∷ (a ++ z)) refl (first_of_next Omitted _ g)
+    (both (is_ascii_digit v) (list_all is_ascii_digit a) ha).0)
 number_grows (v ∷ a) z (Quoted q text) l ha g =
-    absurd (clash is_quote is_ascii_digit quote_no_digit (v ∷ (a ++ z)) (v ∷ (a ++ z)) refl (first_of_next (Quoted q text) _ g) (both (is_ascii_digit v) (list_all is_ascii_digit a) ha).0)
+    absurd (clash is_quote is_ascii_digit quote_no_digit (v ∷ (a ++ z)) (v ∷ (a ++ z)) refl
+    (first_of_next (Quoted q text) _ g) (both (is_ascii_digit v) (list_all is_ascii_digit a) ha).0)
 number_grows (v ∷ a) z (Number k) l ha g =
     let t = run_prefix is_ascii_digit (v ∷ a) g.text g.stop z g.more ha (stop_no_digit g.stop g.stops) g.whole in
     let value : digits_value 10 ((v ∷ a) ++ t.0) ≡ k = ap (digits_value 10) (sym t.1) ∙ g.spelled.2 in
     (k, refl, omega (arith, value_grows (v ∷ a) t.0, value))
 
-limit_at : (done : List Member) (n : Member) (ns : List Member) → AllByRecursion IsInLimit (done ++ n ∷ ns) → IsInLimit n
+limit_at : (done : List Member) (n : Member) (ns : List Member) → AllByRecursion IsInLimit (done ++ n ∷ ns)
+    → IsInLimit n
 limit_at [] n ns h = h.0
 limit_at (d ∷ done) n ns h = limit_at done n ns h.1
 
-pub all_append : (p : ℕ → Bool) (a : List ℕ) (b : ℕ) → list_all p a ≡ true → p b ≡ true → list_all p (a ++ b ∷ []) ≡ true
+pub all_append : (p : ℕ → Bool) (a : List ℕ) (b : ℕ) → list_all p a ≡ true → p b ≡ true
+    → list_all p (a ++ b ∷ []) ≡ true
 all_append p [] b ha hb = rw hb
 all_append p (v ∷ a) b ha hb =
     let t = both (p v) (list_all p a) ha in
@@ -309,7 +383,8 @@ large_not_in_limit n k v e l g h =
     omega arith
 
 -- Digits that make a number above 255 are in no spelling.
-pub refuses_number : (p : Part) (y : List ℕ) (k b : ℕ) (h : LoosePart p y) → p.current ≡ InNumber k → is_ascii_digit b ≡ true → largest_number < digits_value 10 (h.last ++ b ∷ []) → ¬ IsPrefixOfSpelling (y ++ b ∷ [])
+pub refuses_number : (p : Part) (y : List ℕ) (k b : ℕ) (h : LoosePart p y) → p.current ≡ InNumber k
+    → is_ascii_digit b ≡ true → largest_number < digits_value 10 (h.last ++ b ∷ []) → ¬ IsPrefixOfSpelling (y ++ b ∷ [])
 refuses_number p y k b h c d large s =
     let g = residual p y b s.rest s.raw h (λ _ _ _. digit_no_mark b d) (rw append_assoc at s.spelled.loose) in
     let cur : SpellsCurrent (InNumber k) h.last = rw c at h.current in
@@ -317,36 +392,44 @@ refuses_number p y k b h c d large s =
     let some : 0 < length (h.last ++ b ∷ []) = omega (arith, length-append h.last (b ∷ [])) in
     elim (tail_parts p.done s.raw.members s.raw.letter [] h.front (h.last ++ b ∷ s.rest) g.letter h.done g.tail) [
       | inl w ↦
-          let t = number_grows (h.last ++ b ∷ []) s.rest Omitted some digits (rw append_assoc (letter_next s.raw.letter (h.last ++ b ∷ s.rest) g.letter w.2)) in
+          let t = number_grows (h.last ++ b ∷ []) s.rest Omitted some digits
+          (rw append_assoc (letter_next s.raw.letter (h.last ++ b ∷ s.rest) g.letter w.2)) in
           cc (t.1)
       | inr w ↦
-          let t = number_grows (h.last ++ b ∷ []) s.rest w.0 some digits (rw append_assoc (rest_next w.0 w.1 s.raw.letter [] (h.last ++ b ∷ s.rest) g.letter w.3)) in
-          large_not_in_limit w.0 t.0 (digits_value 10 (h.last ++ b ∷ [])) t.1 large t.2 (limit_at p.done w.0 w.1 (rw w.2 at s.spelled.numbers))
+          let t = number_grows (h.last ++ b ∷ []) s.rest w.0 some digits
+          (rw append_assoc (rest_next w.0 w.1 s.raw.letter [] (h.last ++ b ∷ s.rest) g.letter w.3)) in
+          large_not_in_limit w.0 t.0 (digits_value 10 (h.last ++ b ∷ [])) t.1 large t.2
+          (limit_at p.done w.0 w.1 (rw w.2 at s.spelled.numbers))
     ]
 
 -- one more member is done where a `;` comes
-pub done_more : (done : List Member) (m : Member) (front last : List ℕ) → SpellsDone done front → SpellsMember m last → SpellsDone (done ++ m ∷ []) (front ++ (last ++ semicolon ∷ []))
+pub done_more : (done : List Member) (m : Member) (front last : List ℕ) → SpellsDone done front → SpellsMember m last
+    → SpellsDone (done ++ m ∷ []) (front ++ (last ++ semicolon ∷ []))
 done_more [] m front last hd h = rw hd (last, [], h, refl, refl)
 done_more (d ∷ done) m front last hd h = (
   hd.0,
   hd.1 ++ (last ++ semicolon ∷ []),
   hd.2,
   done_more done m hd.1 last hd.3 h,
-  ap (λ (v : List ℕ). v ++ (last ++ semicolon ∷ [])) hd.4 ∙ append_assoc hd.0 (semicolon ∷ hd.1) (last ++ semicolon ∷ []),
+  ap (λ (v : List ℕ). v ++ (last ++ semicolon ∷ [])) hd.4 ∙ append_assoc hd.0 (semicolon ∷ hd.1)
+      (last ++ semicolon ∷ []),
 )
 
 long_members : (done : List Member) (n : Member) (ns : List Member) → suc (length done) ≤ length (done ++ n ∷ ns)
 long_members done n ns = rw (length-append done (n ∷ ns)) (omega arith)
 
 -- A `;` behind the sixteenth member is in no spelling.
-pub refuses_count : (p : Part) (y : List ℕ) (m : Member) (h : LoosePart p y) → SpellsMember m h.last → length p.done ≡ 15 → ¬ IsPrefixOfSpelling (y ++ semicolon ∷ [])
+pub refuses_count : (p : Part) (y : List ℕ) (m : Member) (h : LoosePart p y) → SpellsMember m h.last
+    → length p.done ≡ 15 → ¬ IsPrefixOfSpelling (y ++ semicolon ∷ [])
 refuses_count p y m h hm len s =
     let g = residual p y semicolon s.rest s.raw h (λ _ _ _. refl) (rw append_assoc at s.spelled.loose) in
     let e : h.front ++ (h.last ++ semicolon ∷ s.rest) ≡ (h.front ++ (h.last ++ semicolon ∷ [])) ++ s.rest =
-    ap (λ (v : List ℕ). h.front ++ v) (sym (append_assoc h.last (semicolon ∷ []) s.rest)) ∙ sym (append_assoc h.front (h.last ++ semicolon ∷ []) s.rest) in
+    ap (λ (v : List ℕ). h.front ++ v) (sym (append_assoc h.last (semicolon ∷ []) s.rest))
+    ∙ sym (append_assoc h.front (h.last ++ semicolon ∷ []) s.rest) in
     let t : Tail s.raw.members s.raw.letter [] ((h.front ++ (h.last ++ semicolon ∷ [])) ++ s.rest) = rw e at g.tail in
     let count : length s.raw.members ≤ most_parameters = s.spelled.count in
-    elim (tail_parts (p.done ++ m ∷ []) s.raw.members s.raw.letter [] (h.front ++ (h.last ++ semicolon ∷ [])) s.rest g.letter (done_more p.done m h.front h.last h.done hm) t) [
+    elim (tail_parts (p.done ++ m ∷ []) s.raw.members s.raw.letter []
+    (h.front ++ (h.last ++ semicolon ∷ [])) s.rest g.letter (done_more p.done m h.front h.last h.done hm) t) [
       | inl w ↦ not_nil_append p.done m w.1
       | inr w ↦
           let n : length s.raw.members ≡ length ((p.done ++ m ∷ []) ++ w.0 ∷ w.1) = ap length w.2 in

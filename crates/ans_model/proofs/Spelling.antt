@@ -1,13 +1,16 @@
 -- No spelling begins another, and none is of two sequences.
-use Rattle.std.proofs.Common.{◌≡◌, ◌≢◌, ℕ, Bool, true, false, not, ◌&&◌, ◌||◌, ◌==◌, List, [], ◌∷◌, ◌++◌, refl, ap, ap₂, sym, ◌∙◌, subst, arith, append_assoc}
+use Rattle.std.proofs.Common.{◌≡◌, ◌≢◌, ℕ, Bool, true, false, not, ◌&&◌, ◌||◌, ◌==◌, List, [], ◌∷◌, ◌++◌, refl, ap}
+use Rattle.std.proofs.Common.{ap₂, sym, ◌∙◌, subst, arith, append_assoc}
 use Rattle.std.proofs.lemmas.Bool.Decides.{nat_tests}
 use Rattle.std.proofs.lemmas.List.{append_cancel_right}
 use Rattle.std.specs.List.{AllZip, join_with_byte, list_all}
 use Rattle.std.specs.Char.{is_ascii_digit, is_ascii_alphabetic}
 use Rattle.std.specs.Str.Parse.{digits_value}
 use Rattle.ans_model.specs.Bytes.{escape, bracket, semicolon}
-use Rattle.ans_model.specs.Parts.{is_stop}
-use Rattle.ans_model.specs.Sequence.{Mark, Unmarked, Equals, Question, Member, Omitted, Number, Quoted, Raw, mark_bytes, is_quote, SpellsMember, Loose, OneSpellingInFront}
+use Rattle.ans_model.specs.Inside.OpenPart.{is_stop}
+use Rattle.ans_model.specs.Sequence.Spelling.{Mark, Unmarked, Equals, Question, Member, Omitted, Number, Quoted, Raw}
+use Rattle.ans_model.specs.Sequence.Spelling.{mark_bytes, is_quote, SpellsMember, Loose}
+use Rattle.ans_model.specs.Laws.SequenceLaws.{OneSpellingInFront}
 
 -- both parts of a test that passes
 pub both : (a b : Bool) → (a && b) ≡ true → (a ≡ true) × (b ≡ true)
@@ -21,7 +24,8 @@ pub tail_of : {A : Type 0} {a b : A} {x y : List A} → a ∷ x ≡ b ∷ y → 
 tail_of e = cc
 
 -- two runs of what passes a test, each before what fails it, at the front of one list
-pub run_law : (p : ℕ → Bool) (a b : List ℕ) (c d : ℕ) (x y : List ℕ) → list_all p a ≡ true → list_all p b ≡ true → p c ≡ false → p d ≡ false → a ++ c ∷ x ≡ b ++ d ∷ y
+pub run_law : (p : ℕ → Bool) (a b : List ℕ) (c d : ℕ) (x y : List ℕ) → list_all p a ≡ true → list_all p b ≡ true
+    → p c ≡ false → p d ≡ false → a ++ c ∷ x ≡ b ++ d ∷ y
     → (a ≡ b) × (c ≡ d) × (x ≡ y)
 run_law p [] [] c d x y ha hb hc hd e = (refl, head_of e, tail_of e)
 run_law p [] (v ∷ b) c d x y ha hb hc hd e =
@@ -60,7 +64,8 @@ abbrev pub first_or : ℕ → List ℕ → ℕ
 first_or d [] = d
 first_or d (b ∷ bs) = b
 
-pub first_byte : (m : Member) (a : List ℕ) (c : ℕ) (x : List ℕ) → SpellsMember m a → is_stop c ≡ true → begins m (first_or 0 (a ++ c ∷ x)) ≡ true
+pub first_byte : (m : Member) (a : List ℕ) (c : ℕ) (x : List ℕ) → SpellsMember m a → is_stop c ≡ true
+    → begins m (first_or 0 (a ++ c ∷ x)) ≡ true
 first_byte Omitted a c x h s = rw h s
 first_byte (Number n) [] c x h s = absurd (omega (arith, h.0))
 first_byte (Number n) (v ∷ b) c x h s = (both (is_ascii_digit v) (list_all is_ascii_digit b) h.1).0
@@ -70,20 +75,25 @@ first_byte (Quoted q text) a c x h s = rw h.2 h.0
 quote_self : (q : ℕ) → not (q == q) ≡ false
 quote_self q = grind (arith, nat_tests)
 
-pub clash : (p q : ℕ → Bool) → ((c : ℕ) → p c ≡ true → q c ≡ false) → (x y : List ℕ) → x ≡ y → p (first_or 0 x) ≡ true → q (first_or 0 y) ≡ true → ⊥
+pub clash : (p q : ℕ → Bool) → ((c : ℕ) → p c ≡ true → q c ≡ false) → (x y : List ℕ) → x ≡ y → p (first_or 0 x) ≡ true
+    → q (first_or 0 y) ≡ true → ⊥
 clash p q apart x y e hp hq =
     let f : q (first_or 0 x) ≡ false = apart (first_or 0 x) hp in
     let t : q (first_or 0 x) ≡ true = rw e hq in
     cc
 
 -- two quoted texts at the front of one list are the same, whatever stands behind them
-pub quoted_law : (r q : ℕ) (words text a b x y : List ℕ) → SpellsMember (Quoted r words) a → SpellsMember (Quoted q text) b → a ++ x ≡ b ++ y → (r ≡ q) × (words ≡ text) × (a ≡ b) × (x ≡ y)
+pub quoted_law : (r q : ℕ) (words text a b x y : List ℕ) → SpellsMember (Quoted r words) a
+    → SpellsMember (Quoted q text) b → a ++ x ≡ b ++ y → (r ≡ q) × (words ≡ text) × (a ≡ b) × (x ≡ y)
 quoted_law r q words text a b x y ha hb e =
-    let left : a ++ x ≡ r ∷ (words ++ r ∷ x) = ap (λ (v : List ℕ). v ++ x) ha.2 ∙ ap (λ (v : List ℕ). r ∷ v) (append_assoc words (r ∷ []) x) in
-    let right : b ++ y ≡ q ∷ (text ++ q ∷ y) = ap (λ (v : List ℕ). v ++ y) hb.2 ∙ ap (λ (v : List ℕ). q ∷ v) (append_assoc text (q ∷ []) y) in
+    let left : a ++ x ≡ r ∷ (words ++ r ∷ x) = ap (λ (v : List ℕ). v ++ x) ha.2
+    ∙ ap (λ (v : List ℕ). r ∷ v) (append_assoc words (r ∷ []) x) in
+    let right : b ++ y ≡ q ∷ (text ++ q ∷ y) = ap (λ (v : List ℕ). v ++ y) hb.2
+    ∙ ap (λ (v : List ℕ). q ∷ v) (append_assoc text (q ∷ []) y) in
     let t : r ∷ (words ++ r ∷ x) ≡ q ∷ (text ++ q ∷ y) = sym left ∙ e ∙ right in
     let same : q ≡ r = sym (head_of t) in
-    let inside : list_all (λ u. not (u == r)) text ≡ true = subst (λ (v : ℕ). list_all (λ u. not (u == v)) text ≡ true) same hb.1 in
+    let inside : list_all (λ u. not (u == r)) text ≡ true = subst
+    (λ (v : ℕ). list_all (λ u. not (u == v)) text ≡ true) same hb.1 in
     let other : not (q == r) ≡ false = rw same (quote_self r) in
     let h = run_law (λ u. not (u == r)) words text r q x y ha.1 inside (quote_self r) other (tail_of t) in
     let texts : words ≡ text = h.0 in
@@ -91,27 +101,34 @@ quoted_law r q words text a b x y ha hb e =
     (sym same, texts, ha.2 ∙ insides ∙ sym hb.2, h.2)
 
 -- Two members, each with what may stand behind it, at the front of one list are the same.
-pub member_law : (m n : Member) (a b : List ℕ) (c d : ℕ) (x y : List ℕ) → SpellsMember m a → SpellsMember n b → is_stop c ≡ true → is_stop d ≡ true → a ++ c ∷ x ≡ b ++ d ∷ y
+pub member_law : (m n : Member) (a b : List ℕ) (c d : ℕ) (x y : List ℕ) → SpellsMember m a → SpellsMember n b
+    → is_stop c ≡ true → is_stop d ≡ true → a ++ c ∷ x ≡ b ++ d ∷ y
     → (m ≡ n) × (a ≡ b) × (c ≡ d) × (x ≡ y)
 member_law Omitted Omitted a b c d x y ha hb hc hd e =
     let t : c ∷ x ≡ d ∷ y = sym (ap (λ (v : List ℕ). v ++ c ∷ x) ha) ∙ e ∙ ap (λ (v : List ℕ). v ++ d ∷ y) hb in
     (refl, ha ∙ sym hb, head_of t, tail_of t)
 member_law Omitted (Number k) a b c d x y ha hb hc hd e =
-    absurd (clash is_stop is_ascii_digit stop_no_digit _ _ e (first_byte Omitted a c x ha hc) (first_byte (Number k) b d y hb hd))
+    absurd (clash is_stop is_ascii_digit stop_no_digit _ _ e (first_byte Omitted a c x ha hc)
+    (first_byte (Number k) b d y hb hd))
 member_law Omitted (Quoted q text) a b c d x y ha hb hc hd e =
-    absurd (clash is_stop is_quote stop_no_quote _ _ e (first_byte Omitted a c x ha hc) (first_byte (Quoted q text) b d y hb hd))
+    absurd (clash is_stop is_quote stop_no_quote _ _ e (first_byte Omitted a c x ha hc)
+    (first_byte (Quoted q text) b d y hb hd))
 member_law (Number j) Omitted a b c d x y ha hb hc hd e =
-    absurd (clash is_stop is_ascii_digit stop_no_digit _ _ (sym e) (first_byte Omitted b d y hb hd) (first_byte (Number j) a c x ha hc))
+    absurd (clash is_stop is_ascii_digit stop_no_digit _ _ (sym e) (first_byte Omitted b d y hb hd)
+    (first_byte (Number j) a c x ha hc))
 member_law (Number j) (Number k) a b c d x y ha hb hc hd e =
     let h = run_law is_ascii_digit a b c d x y ha.1 hb.1 (stop_no_digit c hc) (stop_no_digit d hd) e in
     let v : j ≡ k = sym ha.2 ∙ ap (digits_value 10) h.0 ∙ hb.2 in
     (ap Number v, h.0, h.1, h.2)
 member_law (Number j) (Quoted q text) a b c d x y ha hb hc hd e =
-    absurd (clash is_quote is_ascii_digit quote_no_digit _ _ (sym e) (first_byte (Quoted q text) b d y hb hd) (first_byte (Number j) a c x ha hc))
+    absurd (clash is_quote is_ascii_digit quote_no_digit _ _ (sym e) (first_byte (Quoted q text) b d y hb hd)
+    (first_byte (Number j) a c x ha hc))
 member_law (Quoted r words) Omitted a b c d x y ha hb hc hd e =
-    absurd (clash is_stop is_quote stop_no_quote _ _ (sym e) (first_byte Omitted b d y hb hd) (first_byte (Quoted r words) a c x ha hc))
+    absurd (clash is_stop is_quote stop_no_quote _ _ (sym e) (first_byte Omitted b d y hb hd)
+    (first_byte (Quoted r words) a c x ha hc))
 member_law (Quoted r words) (Number k) a b c d x y ha hb hc hd e =
-    absurd (clash is_quote is_ascii_digit quote_no_digit _ _ e (first_byte (Quoted r words) a c x ha hc) (first_byte (Number k) b d y hb hd))
+    absurd (clash is_quote is_ascii_digit quote_no_digit _ _ e (first_byte (Quoted r words) a c x ha hc)
+    (first_byte (Number k) b d y hb hd))
 member_law (Quoted r words) (Quoted q text) a b c d x y ha hb hc hd e =
     let h = quoted_law r q words text a b (c ∷ x) (d ∷ y) ha hb e in
     (ap₂ Quoted h.0 h.1, h.2, head_of h.3, tail_of h.3)
@@ -125,30 +142,40 @@ semicolon_stops = refl
 -- The bytes begin with a member, the members after it, each behind a `;`, then the letter, and then x.
 abbrev pub Rest : Member → List Member → ℕ → List ℕ → List ℕ → Type 0
 Rest m [] letter x bytes = (text : List ℕ) × SpellsMember m text × (bytes ≡ text ++ letter ∷ x)
-Rest m (n ∷ ms) letter x bytes = (text more : List ℕ) × SpellsMember m text × Rest n ms letter x more × (bytes ≡ text ++ semicolon ∷ more)
+Rest m (n ∷ ms) letter x bytes = (text more : List ℕ) × SpellsMember m text × Rest n ms letter x more
+    × (bytes ≡ text ++ semicolon ∷ more)
 
 -- the texts of one member or more, joined, are such bytes
-pub joined_rest : (m : Member) (ms : List Member) (t : List ℕ) (ts : List (List ℕ)) (letter : ℕ) (x : List ℕ) → AllZip SpellsMember (m ∷ ms) (t ∷ ts) → Rest m ms letter x (join_with_byte semicolon (t ∷ ts) ++ letter ∷ x)
+pub joined_rest : (m : Member) (ms : List Member) (t : List ℕ) (ts : List (List ℕ)) (letter : ℕ) (x : List ℕ)
+    → AllZip SpellsMember (m ∷ ms) (t ∷ ts) → Rest m ms letter x (join_with_byte semicolon (t ∷ ts) ++ letter ∷ x)
 joined_rest m [] t [] letter x h = (t, h.0, refl)
 joined_rest m [] t (u ∷ us) letter x h = absurd h.1
 joined_rest m (n ∷ ms) t [] letter x h = absurd h.1
-joined_rest m (n ∷ ms) t (u ∷ us) letter x h =
-    (t, join_with_byte semicolon (u ∷ us) ++ letter ∷ x, h.0, joined_rest n ms u us letter x h.1, append_assoc t (semicolon ∷ join_with_byte semicolon (u ∷ us)) (letter ∷ x))
+joined_rest m (n ∷ ms) t (u ∷ us) letter x h = (
+  t,
+  join_with_byte semicolon (u ∷ us) ++ letter ∷ x,
+  h.0,
+  joined_rest n ms u us letter x h.1,
+  append_assoc t (semicolon ∷ join_with_byte semicolon (u ∷ us)) (letter ∷ x),
+)
 
 -- the other way: what such bytes begin with are the texts of the members, joined
 pub rest_joined : (m : Member) (ms : List Member) (letter : ℕ) (x bytes : List ℕ) → Rest m ms letter x bytes
-    → (t : List ℕ) × (ts : List (List ℕ)) × AllZip SpellsMember (m ∷ ms) (t ∷ ts) × (bytes ≡ join_with_byte semicolon (t ∷ ts) ++ letter ∷ x)
+    → (t : List ℕ) × (ts : List (List ℕ)) × AllZip SpellsMember (m ∷ ms) (t ∷ ts)
+    × (bytes ≡ join_with_byte semicolon (t ∷ ts) ++ letter ∷ x)
 rest_joined m [] letter x bytes h = (h.0, [], (h.1, tt), h.2)
 rest_joined m (n ∷ ms) letter x bytes h =
     let ih = rest_joined n ms letter x h.1 h.3 in (
       h.0,
       ih.0 ∷ ih.1,
       (h.2, ih.2),
-      h.4 ∙ ap (λ (v : List ℕ). h.0 ++ semicolon ∷ v) ih.3 ∙ sym (append_assoc h.0 (semicolon ∷ join_with_byte semicolon (ih.0 ∷ ih.1)) (letter ∷ x)),
+      h.4 ∙ ap (λ (v : List ℕ). h.0 ++ semicolon ∷ v) ih.3 ∙ sym
+          (append_assoc h.0 (semicolon ∷ join_with_byte semicolon (ih.0 ∷ ih.1)) (letter ∷ x)),
     )
 
 -- members, the letter and what follows are determined by the bytes
-pub rest_law : (m n : Member) (ms ns : List Member) (l k : ℕ) (x y bytes : List ℕ) → is_ascii_alphabetic l ≡ true → is_ascii_alphabetic k ≡ true → Rest m ms l x bytes → Rest n ns k y bytes
+pub rest_law : (m n : Member) (ms ns : List Member) (l k : ℕ) (x y bytes : List ℕ) → is_ascii_alphabetic l ≡ true
+    → is_ascii_alphabetic k ≡ true → Rest m ms l x bytes → Rest n ns k y bytes
     → (m ∷ ms ≡ n ∷ ns) × (l ≡ k) × (x ≡ y)
 rest_law m n [] [] l k x y bytes hl hk h g =
     let e = member_law m n h.0 g.0 l k x y h.1 g.1 (letter_stops l hl) (letter_stops k hk) (sym h.2 ∙ g.2) in
@@ -160,7 +187,8 @@ rest_law m n (m' ∷ ms) [] l k x y bytes hl hk h g =
     let e = member_law m n h.0 g.0 semicolon k h.1 y h.2 g.1 semicolon_stops (letter_stops k hk) (sym h.4 ∙ g.2) in
     absurd (letter_no_semicolon k hk (sym e.2))
 rest_law m n (m' ∷ ms) (n' ∷ ns) l k x y bytes hl hk h g =
-    let e = member_law m n h.0 g.0 semicolon semicolon h.1 g.1 h.2 g.2 semicolon_stops semicolon_stops (sym h.4 ∙ g.4) in
+    let e = member_law m n h.0 g.0 semicolon semicolon h.1 g.1 h.2 g.2 semicolon_stops semicolon_stops
+    (sym h.4 ∙ g.4) in
     let ih = rest_law m' n' ms ns l k x y h.1 hl hk h.3 (rw (← e.3) at g.3) in
     (ap₂ (λ (u : Member) (v : List Member). u ∷ v) e.0 ih.0, ih.1, ih.2)
 
@@ -169,14 +197,16 @@ abbrev pub Tail : List Member → ℕ → List ℕ → List ℕ → Type 0
 Tail [] letter x bytes = bytes ≡ letter ∷ x
 Tail (m ∷ ms) letter x bytes = (m ∷ ms ≢ Omitted ∷ []) × Rest m ms letter x bytes
 
-joined_tail : (ms : List Member) (ts : List (List ℕ)) (letter : ℕ) (x : List ℕ) → AllZip SpellsMember ms ts → ms ≢ Omitted ∷ [] → Tail ms letter x (join_with_byte semicolon ts ++ letter ∷ x)
+joined_tail : (ms : List Member) (ts : List (List ℕ)) (letter : ℕ) (x : List ℕ) → AllZip SpellsMember ms ts
+    → ms ≢ Omitted ∷ [] → Tail ms letter x (join_with_byte semicolon ts ++ letter ∷ x)
 joined_tail [] [] letter x h n = refl
 joined_tail [] (t ∷ ts) letter x h n = absurd h
 joined_tail (m ∷ ms) [] letter x h n = absurd h
 joined_tail (m ∷ ms) (t ∷ ts) letter x h n = (n, joined_rest m ms t ts letter x h)
 
 -- a letter alone is no list of members
-letter_alone : (m : Member) (ms : List Member) (l k : ℕ) (x y : List ℕ) → is_ascii_alphabetic l ≡ true → is_ascii_alphabetic k ≡ true → m ∷ ms ≢ Omitted ∷ [] → Rest m ms l x (k ∷ y) → ⊥
+letter_alone : (m : Member) (ms : List Member) (l k : ℕ) (x y : List ℕ) → is_ascii_alphabetic l ≡ true
+    → is_ascii_alphabetic k ≡ true → m ∷ ms ≢ Omitted ∷ [] → Rest m ms l x (k ∷ y) → ⊥
 letter_alone m [] l k x y hl hk n h =
     let e = member_law m Omitted h.0 [] l k x y h.1 refl (letter_stops l hl) (letter_stops k hk) (sym h.2) in
     n (ap (λ (v : Member). v ∷ []) e.0)
@@ -184,7 +214,8 @@ letter_alone m (m' ∷ ms) l k x y hl hk n h =
     let e = member_law m Omitted h.0 [] semicolon k h.1 y h.2 refl semicolon_stops (letter_stops k hk) (sym h.4) in
     letter_no_semicolon k hk (sym e.2)
 
-pub tail_law : (ms ns : List Member) (l k : ℕ) (x y bytes : List ℕ) → is_ascii_alphabetic l ≡ true → is_ascii_alphabetic k ≡ true → Tail ms l x bytes → Tail ns k y bytes
+pub tail_law : (ms ns : List Member) (l k : ℕ) (x y bytes : List ℕ) → is_ascii_alphabetic l ≡ true
+    → is_ascii_alphabetic k ≡ true → Tail ms l x bytes → Tail ns k y bytes
     → (ms ≡ ns) × (l ≡ k) × (x ≡ y)
 tail_law [] [] l k x y bytes hl hk h g = (refl, head_of (sym h ∙ g), tail_of (sym h ∙ g))
 tail_law [] (n ∷ ns) l k x y bytes hl hk h g = absurd (letter_alone n ns k l y x hk hl g.0 (rw h at g.1))
@@ -208,16 +239,19 @@ begins_no_mark Omitted c h = stop_no_mark c h
 begins_no_mark (Number n) c h = digit_no_mark c h
 begins_no_mark (Quoted q text) c h = quote_no_mark c h
 
-pub rest_first : (m : Member) (ms : List Member) (l : ℕ) (x bytes : List ℕ) → is_ascii_alphabetic l ≡ true → Rest m ms l x bytes → begins m (first_or 0 bytes) ≡ true
+pub rest_first : (m : Member) (ms : List Member) (l : ℕ) (x bytes : List ℕ) → is_ascii_alphabetic l ≡ true
+    → Rest m ms l x bytes → begins m (first_or 0 bytes) ≡ true
 rest_first m [] l x bytes hl h = rw h.2 (first_byte m h.0 l x h.1 (letter_stops l hl))
 rest_first m (n ∷ ms) l x bytes hl h = rw h.4 (first_byte m h.0 semicolon h.1 h.2 semicolon_stops)
 
 -- no mark stands where the members or the letter begin
-pub tail_first : (ms : List Member) (l : ℕ) (x bytes : List ℕ) → is_ascii_alphabetic l ≡ true → Tail ms l x bytes → is_mark_byte (first_or 0 bytes) ≡ false
+pub tail_first : (ms : List Member) (l : ℕ) (x bytes : List ℕ) → is_ascii_alphabetic l ≡ true → Tail ms l x bytes
+    → is_mark_byte (first_or 0 bytes) ≡ false
 tail_first [] l x bytes hl h = rw h (stop_no_mark l (letter_stops l hl))
 tail_first (m ∷ ms) l x bytes hl h = begins_no_mark m (first_or 0 bytes) (rest_first m ms l x bytes hl h.1)
 
-mark_clash : (c : ℕ) (y : List ℕ) (z : List ℕ) → is_mark_byte c ≡ true → is_mark_byte (first_or 0 z) ≡ false → c ∷ y ≡ z → ⊥
+mark_clash : (c : ℕ) (y : List ℕ) (z : List ℕ) → is_mark_byte c ≡ true → is_mark_byte (first_or 0 z) ≡ false
+    → c ∷ y ≡ z → ⊥
 mark_clash c y z h f e =
     let t : is_mark_byte (first_or 0 z) ≡ true = rw (← e) h in
     cc
@@ -225,7 +259,8 @@ mark_clash c y z h f e =
 marks_apart : ◌≡◌ {A = ℕ} 0x3D 0x3F → ⊥
 marks_apart e = omega arith
 
-pub mark_law : (m n : Mark) (z w : List ℕ) → is_mark_byte (first_or 0 z) ≡ false → (n ≡ Unmarked → is_mark_byte (first_or 0 w) ≡ false) → mark_bytes m ++ z ≡ mark_bytes n ++ w → (m ≡ n) × (z ≡ w)
+pub mark_law : (m n : Mark) (z w : List ℕ) → is_mark_byte (first_or 0 z) ≡ false
+    → (n ≡ Unmarked → is_mark_byte (first_or 0 w) ≡ false) → mark_bytes m ++ z ≡ mark_bytes n ++ w → (m ≡ n) × (z ≡ w)
 mark_law Unmarked Unmarked z w hz hw e = (refl, e)
 mark_law Unmarked Equals z w hz hw e = absurd (mark_clash 0x3D w z refl hz (sym e))
 mark_law Unmarked Question z w hz hw e = absurd (mark_clash 0x3F w z refl hz (sym e))
@@ -249,8 +284,10 @@ in_front raw a x h = record {
   tail = join_with_byte semicolon h.texts ++ raw.letter ∷ x;
   tail_is = joined_tail raw.members h.texts raw.letter x h.members h.not_one_omitted;
   whole = ap (λ (v : List ℕ). v ++ x) h.whole
-      ∙ ap (λ (v : List ℕ). escape ∷ bracket ∷ v) (append_assoc (mark_bytes raw.mark) (join_with_byte semicolon h.texts ++ raw.letter ∷ []) x
-      ∙ ap (λ (v : List ℕ). mark_bytes raw.mark ++ v) (append_assoc (join_with_byte semicolon h.texts) (raw.letter ∷ []) x));
+      ∙ ap (λ (v : List ℕ). escape ∷ bracket ∷ v)
+      (append_assoc (mark_bytes raw.mark) (join_with_byte semicolon h.texts ++ raw.letter ∷ []) x
+      ∙ ap (λ (v : List ℕ). mark_bytes raw.mark ++ v)
+      (append_assoc (join_with_byte semicolon h.texts) (raw.letter ∷ []) x));
 }
 
 raw_path : (r s : Raw) → r.mark ≡ s.mark → r.members ≡ s.members → r.letter ≡ s.letter → r ≡ s
@@ -260,8 +297,10 @@ raw_path r s m n l = λ i. record { mark = m i; members = n i; letter = l i }
 pub in_front_law : (r s : Raw) (x y bytes : List ℕ) → InFront r x bytes → InFront s y bytes → (r ≡ s) × (x ≡ y)
 in_front_law r s x y bytes h g =
     let e = sym h.whole ∙ g.whole in
-    let m = mark_law r.mark s.mark h.tail g.tail (tail_first r.members r.letter x h.tail h.letter h.tail_is) (λ _. tail_first s.members s.letter y g.tail g.letter g.tail_is) (tail_of (tail_of e)) in
-    let t = tail_law r.members s.members r.letter s.letter x y h.tail h.letter g.letter h.tail_is (rw (← m.1) at g.tail_is) in
+    let m = mark_law r.mark s.mark h.tail g.tail (tail_first r.members r.letter x h.tail h.letter h.tail_is)
+    (λ _. tail_first s.members s.letter y g.tail g.letter g.tail_is) (tail_of (tail_of e)) in
+    let t = tail_law r.members s.members r.letter s.letter x y h.tail h.letter g.letter h.tail_is
+    (rw (← m.1) at g.tail_is) in
     (raw_path r s m.0 t.0 t.1, t.2)
 
 pub one_spelling_in_front : OneSpellingInFront

@@ -1,15 +1,26 @@
 -- What a step leaves as it was.
-use Rattle.std.proofs.Common.{◌≡◌, ◌≢◌, ◌⊎◌, inl, inr, ℕ, ◌+◌, ◌-◌, ◌*◌, ◌<◌, ◌≤◌, min, Bool, true, false, refl, sym, ap, ◌∙◌, subst, arith, add-mul, one-mul, List, ◌++◌, length, take, drop, set, replicate, Some, Option}
+use Rattle.std.proofs.Common.{◌≡◌, ◌≢◌, ◌⊎◌, inl, inr, ℕ, ◌+◌, ◌-◌, ◌*◌, ◌<◌, ◌≤◌, min, Bool, true, false, refl, sym}
+use Rattle.std.proofs.Common.{ap, ◌∙◌, subst, arith, add-mul, one-mul, List, ◌++◌, length, take, drop, set, replicate}
+use Rattle.std.proofs.Common.{Some, Option}
 use Rattle.std.specs.Prelude.{if◌then◌else◌, nat_lt, ◌==◌, slice_get}
 use Rattle.std.proofs.lemmas.Bool.{cases_lt, cases_eq, lt-ltb, le-ltb, eq-eqb, ne_eqb}
 use Rattle.std.proofs.lemmas.List.{length-take, length-drop, length-append, length-replicate}
-use Rattle.ans_model.specs.Token.{Token, Glyph, Bell, BackSpace, LineFeed, CarriageReturn, Tab, Up, Down, Forward, Backward, Place, Clear, EraseLine, Save, Restore, Colours, Wrap, Mode, Keys, Ask}
-use Rattle.ans_model.specs.State.{Size, State, IsWellFormed, IsOnScreen, at, cell, cell_at, cell_count, index}
+use Rattle.ans_model.specs.Sequence.TokenKind.{TokenKind, Glyph, Bell, BackSpace, LineFeed, CarriageReturn, Tab, Up}
+use Rattle.ans_model.specs.Sequence.TokenKind.{Down, Forward, Backward, Place, Clear, EraseLine, Save, Restore}
+use Rattle.ans_model.specs.Sequence.TokenKind.{Colours, Wrap, Mode, Keys, Ask}
+use Rattle.ans_model.specs.Screen.State.{Size, State, IsWellFormed, IsOnScreen, at, cell, cell_at, cell_count, index}
 use Rattle.ans_model.specs.declared.cell.Cell.{Cell}
 use Rattle.ans_model.specs.declared.cell.Position.{Position}
-use Rattle.ans_model.specs.Step.{step, scrolled, line_feed, advanced, printed, filled, next_row_start, blank_cell, destination}
-use Rattle.ans_model.specs.StepLaws.{OnlyCursor, OnlyScreenAndCursor, MovesChangeCursor, KeepsColumn, KeepsRow, DownUndoesUp, ForwardUndoesBackward, PlacesCursor, SavesCursor, RestoreUndoesSave, ColoursChangeAttribute, WrapChangesWrap, IdleChangesNothing, ClearsScreen, IsErased, IsLineErased, ErasesLine, NextPlace, IsPrinted, GlyphPrints, LineFeedMovesDown, IsScrolled, LineFeedScrolls}
-use Rattle.ans_model.proofs.Slices.{slice_get-append_left, slice_get-append_right, slice_get-set_same, slice_get-set_other, slice_get-take, slice_get-drop, slice_get-replicate}
+use Rattle.ans_model.specs.Screen.Step.{step, scrolled, line_feed, advanced, printed, filled, next_row_start}
+use Rattle.ans_model.specs.Screen.Step.{blank_cell, destination}
+use Rattle.ans_model.specs.Laws.StepLaws.{OnlyCursor, OnlyScreenAndCursor, MovesChangeCursor, KeepsColumn, KeepsRow}
+use Rattle.ans_model.specs.Laws.StepLaws.{DownUndoesUp, ForwardUndoesBackward, PlacesCursor, SavesCursor}
+use Rattle.ans_model.specs.Laws.StepLaws.{RestoreUndoesSave, ColoursChangeAttribute, WrapChangesWrap}
+use Rattle.ans_model.specs.Laws.StepLaws.{IdleChangesNothing, ClearsScreen, IsErased, IsLineErased, ErasesLine}
+use Rattle.ans_model.specs.Laws.StepLaws.{NextPlace, IsPrinted, GlyphPrints, LineFeedMovesDown, IsScrolled}
+use Rattle.ans_model.specs.Laws.StepLaws.{LineFeedScrolls}
+use Rattle.ans_model.proofs.Slices.{slice_get-append_left, slice_get-append_right, slice_get-set_same}
+use Rattle.ans_model.proofs.Slices.{slice_get-set_other, slice_get-take, slice_get-drop, slice_get-replicate}
 use Rattle.ans_model.proofs.Places.{same_position, position_eq, row_le, index-lt, index-lt_row, one_place_an_index}
 
 only_cursor : (s : State) (p : Position) → OnlyCursor s (record s { cursor = p })
@@ -51,12 +62,14 @@ with_cursor s p e = ap (λ (q : Position). record s { cursor = q }) e
 pub down_undoes_up : DownUndoesUp
 down_undoes_up z s n h le =
     let low : s.cursor.row ≤ z.lines = h.fits.cursor.0 in
-    with_cursor s (at (min (s.cursor.row - n + n) z.lines) s.cursor.column) (same_position _ s.cursor (omega arith) refl)
+    with_cursor s (at (min (s.cursor.row - n + n) z.lines) s.cursor.column)
+    (same_position _ s.cursor (omega arith) refl)
 
 pub forward_undoes_backward : ForwardUndoesBackward
 forward_undoes_backward z s n h le =
     let on : s.cursor.column < z.width = h.fits.cursor.1 in
-    with_cursor s (at s.cursor.row (min (s.cursor.column - n + n) (z.width - 1))) (same_position _ s.cursor refl (omega arith))
+    with_cursor s (at s.cursor.row (min (s.cursor.column - n + n) (z.width - 1)))
+    (same_position _ s.cursor refl (omega arith))
 
 pub places_cursor : PlacesCursor
 places_cursor z s p on = same_position _ p (omega (arith, on.0)) (omega (arith, on.1))
@@ -92,49 +105,64 @@ clears_screen z s = record {
 }
 
 -- ---- a filled range
-length-range : (cells : List Cell) (i j : ℕ) (c : Cell) → i ≤ j → j ≤ length cells → length (take i cells ++ replicate (j - i) c) ≡ j
+length-range : (cells : List Cell) (i j : ℕ) (c : Cell) → i ≤ j → j ≤ length cells
+    → length (take i cells ++ replicate (j - i) c) ≡ j
 length-range cells i j c h k = simp (length-append, length-take, length-replicate) (omega arith)
 
-filled_before : (cells : List Cell) (i j : ℕ) (c : Cell) (k : ℕ) → i ≤ j → j ≤ length cells → k < i → slice_get (filled cells i j c) k ≡ slice_get cells k
+filled_before : (cells : List Cell) (i j : ℕ) (c : Cell) (k : ℕ) → i ≤ j → j ≤ length cells → k < i
+    → slice_get (filled cells i j c) k ≡ slice_get cells k
 filled_before cells i j c k h l lt =
     let whole : length (take i cells ++ replicate (j - i) c) ≡ j = length-range cells i j c h l in
     let front : length (take i cells) ≡ i = simp length-take (omega arith) in
     slice_get-append_left (take i cells ++ replicate (j - i) c) (drop j cells) k (omega (arith, whole))
     ∙ slice_get-append_left (take i cells) (replicate (j - i) c) k (omega (arith, front)) ∙ slice_get-take i cells k lt
 
-filled_within : (cells : List Cell) (i j : ℕ) (c : Cell) (k : ℕ) → i ≤ k → k < j → j ≤ length cells → slice_get (filled cells i j c) k ≡ Some c
+filled_within : (cells : List Cell) (i j : ℕ) (c : Cell) (k : ℕ) → i ≤ k → k < j → j ≤ length cells
+    → slice_get (filled cells i j c) k ≡ Some c
 filled_within cells i j c k h lt l =
     let whole : length (take i cells ++ replicate (j - i) c) ≡ j = length-range cells i j c (omega arith) l in
     let front : length (take i cells) ≡ i = simp length-take (omega arith) in
     let at_k : k ≡ length (take i cells) + (k - i) = omega (arith, front) in
     slice_get-append_left (take i cells ++ replicate (j - i) c) (drop j cells) k (omega (arith, whole))
     ∙ ap (λ (n : ℕ). slice_get (take i cells ++ replicate (j - i) c) n) at_k
-    ∙ slice_get-append_right (take i cells) (replicate (j - i) c) (k - i) ∙ slice_get-replicate (j - i) c (k - i) (omega arith)
+    ∙ slice_get-append_right (take i cells) (replicate (j - i) c) (k - i)
+    ∙ slice_get-replicate (j - i) c (k - i) (omega arith)
 
-filled_behind : (cells : List Cell) (i j : ℕ) (c : Cell) (k : ℕ) → i ≤ j → j ≤ k → j ≤ length cells → slice_get (filled cells i j c) k ≡ slice_get cells k
+filled_behind : (cells : List Cell) (i j : ℕ) (c : Cell) (k : ℕ) → i ≤ j → j ≤ k → j ≤ length cells
+    → slice_get (filled cells i j c) k ≡ slice_get cells k
 filled_behind cells i j c k h le l =
     let whole : length (take i cells ++ replicate (j - i) c) ≡ j = length-range cells i j c h l in
     let at_k : k ≡ length (take i cells ++ replicate (j - i) c) + (k - j) = omega (arith, whole) in
     let back : j + (k - j) ≡ k = omega arith in
     ap (λ (n : ℕ). slice_get (filled cells i j c) n) at_k
-    ∙ slice_get-append_right (take i cells ++ replicate (j - i) c) (drop j cells) (k - j) ∙ slice_get-drop j cells (k - j) ∙ ap (λ (n : ℕ). slice_get cells n) back
+    ∙ slice_get-append_right (take i cells ++ replicate (j - i) c) (drop j cells) (k - j)
+    ∙ slice_get-drop j cells (k - j) ∙ ap (λ (n : ℕ). slice_get cells n) back
 
 -- ---- a row's end
 row_start : (z : Size) (p : Position) → next_row_start z p ≡ p.row * z.width + z.width
 row_start z p = add-mul p.row 1 z.width ∙ ap (λ (n : ℕ). p.row * z.width + n) (one-mul z.width)
 
 row_fits : (z : Size) (s : State) → IsWellFormed z s → next_row_start z s.cursor ≤ length s.screen
-row_fits z s h = omega (arith, row_start z s.cursor, row_le z s.cursor.row (z.lines + 1) (omega (arith, h.fits.cursor.0)), h.fits.cells)
+row_fits z s h =
+    omega (
+      arith,
+      row_start z s.cursor,
+      row_le z s.cursor.row (z.lines + 1) (omega (arith, h.fits.cursor.0)),
+      h.fits.cells,
+    )
 
-erased_kept : (z : Size) (s : State) (p : Position) → IsWellFormed z s → IsOnScreen z p → ¬ IsErased s.cursor p → cell_at z (step z s EraseLine).screen p ≡ cell_at z s.screen p
+erased_kept : (z : Size) (s : State) (p : Position) → IsWellFormed z s → IsOnScreen z p → ¬ IsErased s.cursor p
+    → cell_at z (step z s EraseLine).screen p ≡ cell_at z s.screen p
 erased_kept z s p h on outside =
     let fits : next_row_start z s.cursor ≤ length s.screen = row_fits z s h in
     let ends : next_row_start z s.cursor ≡ s.cursor.row * z.width + z.width = row_start z s.cursor in
     let begins : index z s.cursor ≤ next_row_start z s.cursor = omega (arith, ends, h.fits.cursor.1) in
     elim (cases_lt (index z p) (index z s.cursor)) [
-      | inl less ↦ filled_before s.screen (index z s.cursor) (next_row_start z s.cursor) (blank_cell s.attribute) (index z p) begins fits less
+      | inl less ↦ filled_before s.screen (index z s.cursor) (next_row_start z s.cursor) (blank_cell s.attribute)
+          (index z p) begins fits less
       | inr more ↦ elim (cases_lt s.cursor.row p.row) [
-        | inl below ↦ filled_behind s.screen (index z s.cursor) (next_row_start z s.cursor) (blank_cell s.attribute) (index z p) begins (omega (arith, ends, row_le z s.cursor.row p.row below)) fits
+        | inl below ↦ filled_behind s.screen (index z s.cursor) (next_row_start z s.cursor) (blank_cell s.attribute)
+            (index z p) begins (omega (arith, ends, row_le z s.cursor.row p.row below)) fits
         | inr above ↦ elim (cases_lt p.row s.cursor.row) [
           | inl higher ↦ absurd (omega (arith, index-lt_row z p s.cursor on.1 higher))
           | inr same ↦
@@ -145,11 +173,13 @@ erased_kept z s p h on outside =
       ]
     ]
 
-erased_blank : (z : Size) (s : State) (p : Position) → IsWellFormed z s → IsOnScreen z p → IsErased s.cursor p → cell_at z (step z s EraseLine).screen p ≡ Some (blank_cell s.attribute)
+erased_blank : (z : Size) (s : State) (p : Position) → IsWellFormed z s → IsOnScreen z p → IsErased s.cursor p
+    → cell_at z (step z s EraseLine).screen p ≡ Some (blank_cell s.attribute)
 erased_blank z s p h on inside =
     let ends : next_row_start z s.cursor ≡ s.cursor.row * z.width + z.width = row_start z s.cursor in
     let start : p.row * z.width ≡ s.cursor.row * z.width = ap (λ (n : ℕ). n * z.width) inside.0 in
-    filled_within s.screen (index z s.cursor) (next_row_start z s.cursor) (blank_cell s.attribute) (index z p) (omega (arith, start, inside.1)) (omega (arith, start, ends, on.1)) (row_fits z s h)
+    filled_within s.screen (index z s.cursor) (next_row_start z s.cursor) (blank_cell s.attribute) (index z p)
+    (omega (arith, start, inside.1)) (omega (arith, start, ends, on.1)) (row_fits z s h)
 
 pub erases_line : ErasesLine
 erases_line z s h = record {
@@ -160,7 +190,8 @@ erases_line z s h = record {
 }
 
 -- ---- line feeds
-pub line_feed_is : (z : Size) (s : State) → s.cursor.row < z.lines → line_feed z s ≡ record s { cursor = at (s.cursor.row + 1) s.cursor.column }
+pub line_feed_is : (z : Size) (s : State) → s.cursor.row < z.lines
+    → line_feed z s ≡ record s { cursor = at (s.cursor.row + 1) s.cursor.column }
 line_feed_is z s h = rw (ne_eqb s.cursor.row z.lines (λ e. omega arith)) refl
 
 pub line_feed_moves_down : LineFeedMovesDown
@@ -173,13 +204,16 @@ scrolled_is z s h =
     record {
       rows = λ p on below.
           let lt : index z p < z.lines * z.width = omega (arith, row_le z p.row z.lines below, on.1) in
-          let next : z.width + index z p ≡ index z (at (p.row + 1) p.column) = omega (arith, add-mul p.row 1 z.width, one-mul z.width) in
-          slice_get-append_left (drop z.width s.screen) (replicate z.width (blank_cell s.attribute)) (index z p) (omega (arith, left, lt))
+          let next : z.width + index z p ≡ index z (at (p.row + 1) p.column) =
+          omega (arith, add-mul p.row 1 z.width, one-mul z.width) in
+          slice_get-append_left (drop z.width s.screen) (replicate z.width (blank_cell s.attribute)) (index z p)
+          (omega (arith, left, lt))
           ∙ slice_get-drop z.width s.screen (index z p) ∙ ap (λ (n : ℕ). slice_get s.screen n) next;
       last = λ column lt.
           let at_column : index z (at z.lines column) ≡ length (drop z.width s.screen) + column = omega (arith, left) in
           ap (λ (n : ℕ). slice_get (scrolled z s).screen n) at_column
-          ∙ slice_get-append_right (drop z.width s.screen) (replicate z.width (blank_cell s.attribute)) column ∙ slice_get-replicate z.width (blank_cell s.attribute) column lt;
+          ∙ slice_get-append_right (drop z.width s.screen) (replicate z.width (blank_cell s.attribute)) column
+          ∙ slice_get-replicate z.width (blank_cell s.attribute) column lt;
       cursor = refl;
       others = same_others s (scrolled z s) refl refl refl;
     }
@@ -194,25 +228,34 @@ place_after z s =
     else if s.wrap then at (s.cursor.row + 1) 0
     else s.cursor
 
-if_cursor : (b : Bool) (s : State) (p q : Position) → (if b then record s { cursor = p } else record s { cursor = q }) ≡ record s { cursor = if b then p else q }
+if_cursor : (b : Bool) (s : State) (p q : Position)
+    → (if b then record s { cursor = p } else record s { cursor = q }) ≡ record s { cursor = if b then p else q }
 if_cursor true s p q = refl
 if_cursor false s p q = refl
 
-pub advanced_is : (z : Size) (s : State) → s.cursor.row < z.lines → advanced z s ≡ record s { cursor = if nat_lt (s.cursor.column + 1) z.width then at s.cursor.row (s.cursor.column + 1) else if s.wrap then at (s.cursor.row + 1) 0 else s.cursor }
+pub advanced_is : (z : Size) (s : State) → s.cursor.row < z.lines
+    → advanced z s ≡ record s {
+      cursor = if nat_lt (s.cursor.column + 1) z.width then at s.cursor.row
+          (s.cursor.column + 1) else if s.wrap then at (s.cursor.row + 1) 0 else s.cursor;
+    }
 advanced_is z s h =
     let r : State = record s { cursor = at (s.cursor.row + 1) 0 } in
     let q : Position = at s.cursor.row (s.cursor.column + 1) in
     rw (line_feed_is z (record s { cursor = at s.cursor.row 0 }) h)
-    (ap (λ (x : State). if nat_lt (s.cursor.column + 1) z.width then record s { cursor = q } else x) (if_cursor s.wrap s r.cursor s.cursor)
+    (ap (λ (x : State). if nat_lt (s.cursor.column + 1) z.width then record s { cursor = q } else x)
+    (if_cursor s.wrap s r.cursor s.cursor)
     ∙ if_cursor (nat_lt (s.cursor.column + 1) z.width) s q (if s.wrap then r.cursor else s.cursor))
 
-next_place : (z : Size) (s : State) → s.cursor.column < z.width → NextPlace z s (if nat_lt (s.cursor.column + 1) z.width then at s.cursor.row (s.cursor.column + 1) else if s.wrap then at (s.cursor.row + 1) 0 else s.cursor)
+next_place : (z : Size) (s : State) → s.cursor.column < z.width
+    → NextPlace z s (if nat_lt (s.cursor.column + 1) z.width then at s.cursor.row
+    (s.cursor.column + 1) else if s.wrap then at (s.cursor.row + 1) 0 else s.cursor)
 next_place z s on = elim (cases_lt (s.cursor.column + 1) z.width) [
   | inl more ↦ rw (lt-ltb (s.cursor.column + 1) z.width more) (inl (more, refl))
   | inr last ↦ rw (le-ltb (s.cursor.column + 1) z.width last) (wrapped s.wrap refl (omega arith))
 ]
   where
-    wrapped : (b : Bool) → s.wrap ≡ b → s.cursor.column + 1 ≡ z.width → NextPlace z s (if b then at (s.cursor.row + 1) 0 else s.cursor)
+    wrapped : (b : Bool) → s.wrap ≡ b → s.cursor.column + 1 ≡ z.width
+        → NextPlace z s (if b then at (s.cursor.row + 1) 0 else s.cursor)
     wrapped true e last = inr (inl (last, e, refl))
     wrapped false e last = inr (inr (last, e, refl))
 
@@ -221,7 +264,8 @@ glyph_prints z s byte h above =
     let within : index z s.cursor < length s.screen = omega (arith, index-lt z s.cursor h.fits.cursor, h.fits.cells) in
     rw (advanced_is z (printed z s byte) above) (record {
       printed = slice_get-set_same s.screen (index z s.cursor) (cell byte s.attribute) within;
-      kept = λ p on other. slice_get-set_other s.screen (index z s.cursor) (index z p) (cell byte s.attribute) (λ e. other (one_place_an_index z p s.cursor on h.fits.cursor e));
+      kept = λ p on other. slice_get-set_other s.screen (index z s.cursor) (index z p) (cell byte s.attribute)
+          (λ e. other (one_place_an_index z p s.cursor on h.fits.cursor e));
       cursor = next_place z s h.fits.cursor.1;
       others = record { saved = refl; attribute = refl; wrap = refl };
     })

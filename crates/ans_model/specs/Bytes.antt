@@ -1,6 +1,7 @@
 -- Bytes and limits that the definitions name.
 use Rattle.std.specs.Prelude.{ℕ, ◌<◌}
 
+-- a number that fits a byte
 abbrev pub IsByte : ℕ → Type 0
 IsByte b = b < 256
 
@@ -28,6 +29,7 @@ single_quote = 0x27
 abbrev pub end_mark : ℕ
 end_mark = 0x1A
 
+-- the character of code page 437 that erased cells hold
 abbrev pub blank : ℕ
 blank = 0x20
 
@@ -43,6 +45,7 @@ most_parameters = 16
 abbrev pub most_columns : ℕ
 most_columns = 1024
 
+-- the most lines that a record may state (profile)
 abbrev pub most_lines : ℕ
 most_lines = 8192
 

@@ -1,4 +1,4 @@
-//! A cell of the screen, and a place on it.
+//! A cell of the screen, and a position on it.
 
 /// A byte of code page 437 and its attribute: bits 0 to 2 are the foreground's blue, green and red,
 /// 3 is bright, 4 to 6 are the background's blue, green and red, 7 is blink.

@@ -28,7 +28,7 @@ pub enum Cause {
     TooManyParameters,
     /// F12: the content ends in a sequence.
     EndInSequence,
-    /// F13: a sequence without a meaning.
+    /// F13: a sequence that MS-DOS ANSI.SYS gives no meaning.
     UnknownSequence,
     /// F14: parameters that the sequence does not take.
     WrongParameters,
@@ -38,21 +38,21 @@ pub enum Cause {
     ScreenMode,
     /// F17: a cursor report is asked for.
     ReportAsked,
-    /// F18: a tab byte.
+    /// F18: a tab.
     TabByte,
-    /// F19: a place outside the screen.
+    /// F19: a position outside the screen is named.
     OutsideScreen,
     /// F20: a byte is printed below the stated lines.
     PrintBelow,
     /// F21: a line feed scrolls the screen.
     Scrolls,
-    /// F22: a byte is printed at a place that differs between starts.
+    /// F22: a byte is printed at a position that differs between starts.
     PrintUnknownPlace,
-    /// F23: a line is erased from a place that differs between starts.
+    /// F23: a line is erased from a position that differs between starts.
     EraseUnknownPlace,
     /// F24: a line feed scrolls from some start and not from every one.
     MayScroll,
-    /// F25: this cell differs between starts in the end. Row and column are counted from 1.
+    /// F25: in the end this cell differs between starts. Row and column are counted from 1.
     UnknownCell { row: u16, col: u16 },
 }
 

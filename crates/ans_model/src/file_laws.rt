@@ -1,26 +1,24 @@
-//! Laws of files: each is the contract of a function that does nothing.
+//! Laws of files: each is the contract of a function without a body.
 
 ghost use Rattle.std.specs.Prelude.{◌≡◌, ◌≤◌, ◌↔◌, ℕ, List, length, map, Some, None};
 ghost use Rattle.std.specs.List.Sorted.{IsStrictlyIncreasing};
 ghost use Rattle.ans_model.specs.declared.fault.Fault.{Fault};
-ghost use Rattle.ans_model.specs.Layout.{Laid};
-ghost use Rattle.ans_model.specs.Refusals.{Accepts, file_refusals, record_fault};
-ghost use Rattle.ans_model.specs.Notes.{notes};
-ghost use Rattle.ans_model.specs.FileLaws.{IsFirstThatApplies, note_number};
+ghost use Rattle.ans_model.specs.File.Layout.{FileParts, Laid};
+ghost use Rattle.ans_model.specs.File.Refusals.{Accepts, file_refusals, record_fault};
+ghost use Rattle.ans_model.specs.File.Notes.{notes};
+ghost use Rattle.ans_model.specs.Laws.FileLaws.{IsFirstThatApplies, note_number};
 
 /// A file is accepted exactly where no refusal applies to it, and is laid out in one way.
 pub fn accepted_or_refused()
     ensures accepted { (file : List ℕ) → record_fault file ≡ None
-        → (body comments record_bytes : List ℕ) × Accepts file body comments record_bytes }
-    ensures no_fault { (file body comments record_bytes : List ℕ)
-        → Accepts file body comments record_bytes → record_fault file ≡ None }
-    ensures one_layout { (file body comments record_bytes : List ℕ)
-        → (other_body other_comments other_record : List ℕ)
-        → Laid file body comments record_bytes → Laid file other_body other_comments other_record
-        → (body ≡ other_body) × (comments ≡ other_comments) × (record_bytes ≡ other_record) }
+        → (parts : FileParts) × Accepts file parts }
+    ensures no_fault { (file : List ℕ) (parts : FileParts)
+        → Accepts file parts → record_fault file ≡ None }
+    ensures one_layout { (file : List ℕ) (parts other : FileParts)
+        → Laid file parts → Laid file other → parts ≡ other }
 {}
 
-/// Where several refusals apply, the first of them answers, at an offset within the file.
+/// Where several refusals apply, a file gets the first of them, at an offset within the file.
 pub fn first_refusal_answers()
     ensures first { (file : List ℕ) (fault : Fault)
         → (record_fault file ≡ Some fault) ↔ IsFirstThatApplies (file_refusals file) fault }

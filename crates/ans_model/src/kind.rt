@@ -1,39 +1,50 @@
-//! What a content consists of.
+//! What a token is.
 
 use arrayvec::ArrayVec;
 
-/// A byte outside sequences, or what an escape sequence of ANSI.SYS means.
+/// A byte outside sequences, or what an escape sequence means (ANSI.SYS). Rows and columns are
+/// counted from 1, as in the sequences.
 #[derive(Debug, Drop)]
 pub enum Kind {
-    /// A byte that is printed.
+    /// A byte that is printed in the cursor's cell; the cursor then goes on.
     Glyph(u8),
+    /// 07h: does nothing to the screen.
     Bell,
+    /// 08h: one column back, at most to the first.
     BackSpace,
+    /// 0Ah: one row down; in the last row the screen scrolls.
     LineFeed,
+    /// 0Dh: to the first column.
     CarriageReturn,
+    /// 09h: does nothing to the screen (profile).
     Tab,
-    /// Moves by so many rows or columns.
+    /// `ESC[nA`: up by this many rows, at most to the first.
     Up(u8),
+    /// `ESC[nB`: down by this many rows, at most to the last.
     Down(u8),
+    /// `ESC[nC`: right by this many columns, at most to the last.
     Forward(u8),
+    /// `ESC[nD`: left by this many columns, at most to the first.
     Backward(u8),
-    /// The cursor to this row and column, counted from 1.
+    /// `ESC[row;columnH` or `ESC[row;columnf`: to this row and column.
     Place(u8, u8),
-    /// Erases the screen.
+    /// `ESC[2J`: blanks every cell and takes the cursor home, to row 1 and column 1.
     Clear,
-    /// Erases the cursor's cell and those right of it.
+    /// `ESC[K`: blanks the cursor's cell and those to its right.
     EraseLine,
-    /// Keeps the cursor's place, or brings it back.
+    /// `ESC[s`: saves the cursor's position.
     Save,
+    /// `ESC[u`: takes the cursor back to the saved position.
     Restore,
-    /// Colour parameters, one after the other.
+    /// `ESC[..m`: colour parameters, applied one after the other.
     Colours(ArrayVec<u8, 16>),
-    /// Whether a byte printed in the last column takes the cursor to the next row.
+    /// `ESC[?7h` or `ESC[?7l`: whether a byte printed in the last column takes the cursor to the
+    /// next row.
     Wrap(bool),
-    /// Sets a screen mode.
+    /// `ESC[=..h` and the like: sets a screen mode.
     Mode,
-    /// Reassigns a key.
+    /// `ESC[..p`: reassigns a key.
     Keys,
-    /// Asks for a cursor report.
+    /// `ESC[6n`: asks for a cursor report.
     Ask,
 }

@@ -1,4 +1,9 @@
-//! The words and definitions that all of the checker shares.
+//! The words and definitions that all of the checker shares, and the plain machine.
+//!
+//! The types here are plain data. What they mean stands in `specs/`, by rooms: `File`, `Sequence`,
+//! `Screen`, `Verdict` and `Text`. The modules whose names end in `laws` and `examples` hold
+//! functions without a body: their contracts are what is proved of the definitions. A [`machine`]
+//! plays tokens on one whole state, as the definitions say it; the checker itself never does.
 #![tactic(auto)]
 
 pub mod attribute;

@@ -2,12 +2,12 @@
 
 ghost use Rattle.std.specs.Prelude.{◌≡◌, ◌+◌, ◌-◌, ◌*◌, ◌<◌, ◌≤◌, map, replicate, vec_len, length, IfOk};
 ghost use Rattle.ans_model.specs.Bytes.{most_columns, most_lines};
-ghost use Rattle.ans_model.specs.State.{sized};
-ghost use Rattle.ans_model.specs.Step.{filled, line_feed, step, final};
-ghost use Rattle.ans_model.specs.Token.{Glyph, Clear, EraseLine};
-ghost use Rattle.ans_model.specs.View.{token_of};
-ghost use Rattle.ans_model.specs.Machine.{played};
-ghost use Rattle.ans_model.specs.Starts.{class_of, cleared, low_start, high_start};
+ghost use Rattle.ans_model.specs.Screen.State.{sized};
+ghost use Rattle.ans_model.specs.Screen.Step.{filled, line_feed, step, final};
+ghost use Rattle.ans_model.specs.Sequence.TokenKind.{Glyph, Clear, EraseLine};
+ghost use Rattle.ans_model.specs.Inside.ShownKind.{shown_kind};
+ghost use Rattle.ans_model.specs.Inside.MachineView.{played};
+ghost use Rattle.ans_model.specs.Screen.Starts.{class_of, cleared, low_start, high_start};
 
 use crate::attribute::attribute_after_all;
 use crate::cell::{Cell, Position};
@@ -41,11 +41,11 @@ pub struct Machine {
 }
 
 impl Model for Machine {
-    ghost use Rattle.ans_model.specs.Machine.{Played, IsPlayed};
+    ghost use Rattle.ans_model.specs.Inside.MachineView.{Played, IsPlayed};
 
     ghost Value = { Played };
 
-    ghost use Rattle.ans_model.specs.MachineInside.{shown_machine};
+    ghost use Rattle.ans_model.specs.Inside.ShownMachine.{shown_machine};
 
     ghost view = { shown_machine };
 
@@ -116,7 +116,7 @@ impl Machine {
     /// One token, by the table of steps.
     pub fn step(&mut self, kind: &Kind)
         ensures { self.new
-            ≡ played self.old.size (step self.old.size self.old.state (token_of kind.now)) }
+            ≡ played self.old.size (step self.old.size self.old.state (shown_kind kind.now)) }
     {
         let last_column = self.width - 1;
         match kind {
@@ -156,7 +156,7 @@ impl Machine {
     /// Tokens, one after the other.
     pub fn play(&mut self, kinds: &[Kind])
         ensures { self.new
-            ≡ played self.old.size (final self.old.size self.old.state (map token_of kinds.now)) }
+            ≡ played self.old.size (final self.old.size self.old.state (map shown_kind kinds.now)) }
     {
         for kind in kinds {
             self.step(kind);

@@ -1,18 +1,20 @@
-//! Laws of the texts that are written: each is the contract of a function that does nothing.
+//! Laws of the texts that are written: each is the contract of a function without a body.
 
 ghost use Rattle.std.specs.Prelude.{◌≡◌, ◌⊎◌, ◌<◌, ℕ, List, Option, flat_map};
 ghost use Rattle.ans_model.specs.declared.fault.Fault.{Fault};
 ghost use Rattle.ans_model.specs.declared.fault.Cause.{Cause};
 ghost use Rattle.ans_model.specs.declared.note.Note.{Note};
 ghost use Rattle.ans_model.specs.Bytes.{IsByte, blank};
-ghost use Rattle.ans_model.specs.State.{Size};
-ghost use Rattle.ans_model.specs.Good.{Picture, IsPictureOf};
-ghost use Rattle.ans_model.specs.Glyphs.{glyph_text};
-ghost use Rattle.ans_model.specs.FaultText.{fault_text, fault_line, note_line};
-ghost use Rattle.ans_model.specs.ReportText.{Heading, Answer, cells_line, rows_of, picture_back, report_text, refusal_text};
-ghost use Rattle.ans_model.specs.RecordText.{record_text};
-ghost use Rattle.ans_model.specs.TokensText.{TokensText};
-ghost use Rattle.ans_model.specs.Lines.{FitsTypes, IsUnknownCell, EndsInLineFeed, IsEmptyOrEndsInLineFeed};
+ghost use Rattle.ans_model.specs.File.Layout.{FileParts};
+ghost use Rattle.ans_model.specs.Screen.State.{Size};
+ghost use Rattle.ans_model.specs.Verdict.Good.{Picture, IsPictureOf};
+ghost use Rattle.ans_model.specs.Text.Characters.{glyph_text};
+ghost use Rattle.ans_model.specs.Text.FaultText.{fault_text, fault_line, note_line};
+ghost use Rattle.ans_model.specs.Text.ReportText.{Heading, Verdict, cells_line, rows_of, picture_back, report_text};
+ghost use Rattle.ans_model.specs.Text.ReportText.{refusal_text};
+ghost use Rattle.ans_model.specs.Text.RecordText.{record_text};
+ghost use Rattle.ans_model.specs.Text.TokensText.{TokensText};
+ghost use Rattle.ans_model.specs.Laws.LineLaws.{FitsTypes, IsUnknownCell, EndsInLineFeed, IsEmptyOrEndsInLineFeed};
 
 /// The cells of a picture are read back from their digits.
 pub fn cells_read_back()
@@ -39,11 +41,10 @@ pub fn own_lines()
 
 /// What is written ends in a line feed; the text of no tokens is empty.
 pub fn whole_lines()
-    ensures report { (heading : Heading) (answer : Answer)
-        → EndsInLineFeed (report_text heading answer) }
+    ensures report { (heading : Heading) (verdict : Verdict)
+        → EndsInLineFeed (report_text heading verdict) }
     ensures refusal { (fault : Fault) → EndsInLineFeed (refusal_text fault) }
-    ensures record_of { (body comment_bytes record_bytes : List ℕ)
-        → EndsInLineFeed (record_text body comment_bytes record_bytes) }
+    ensures record_lines { (parts : FileParts) → EndsInLineFeed (record_text parts) }
     ensures fault_lines { (fault : Fault) → EndsInLineFeed (fault_line fault) }
     ensures note_lines { (note : Note) → EndsInLineFeed (note_line note) }
     ensures tokens { (content text : List ℕ) (fault : Option Fault)

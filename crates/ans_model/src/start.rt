@@ -1,4 +1,4 @@
-//! The states that a content may find when it is played.
+//! The states that a play may begin from.
 
 /// A class of starting states.
 #[derive(Debug, Clone, Copy, PartialEq, Eq)]

@@ -1,6 +1,6 @@
 //! Laws of the classes of starts.
 
-ghost use Rattle.ans_model.specs.StartLaws.{AnyIsEvery, ClearedIsOne, LowIsStart, HighIsStart};
+ghost use Rattle.ans_model.specs.Laws.StartLaws.{AnyIsEvery, ClearedIsOne, LowIsStart, HighIsStart};
 
 /// `Any` is every state of the machine, and `Cleared` the one cleared state.
 pub fn classes_are_their_starts()

@@ -2,24 +2,35 @@
 
 ghost use Rattle.std.specs.Prelude.{◌≡◌, ◌++◌, [], ◌∷◌, codes, replicate, true, false, Some, None};
 ghost use Rattle.ans_model.specs.Bytes.{end_mark};
-ghost use Rattle.ans_model.specs.Token.{Bell, BackSpace, LineFeed, CarriageReturn, Glyph, Up, Down, Forward, Backward, Place, Clear, EraseLine, Save, Restore, Colours, Wrap, Mode, Keys, Ask, Tab};
-ghost use Rattle.ans_model.specs.declared.fault.Cause.TheVariants.{NoRecord, WrongVersion, WrongKind, CommentsMissing, LinesUnstated, WidthTooLarge, LinesTooLarge, BytesAfterEndMark, BrokenSequence, NumberTooLarge, TooManyParameters, EndInSequence, UnknownSequence, WrongParameters, PrintUnknownPlace, UnknownCell};
-ghost use Rattle.ans_model.specs.declared.note.Note.TheVariants.{WidthAssumed, NoEndMark, SizeDiffers, OddDate, FlagBits, FlagPair};
+ghost use Rattle.ans_model.specs.Sequence.TokenKind.{Bell, BackSpace, LineFeed, CarriageReturn, Glyph, Up, Down};
+ghost use Rattle.ans_model.specs.Sequence.TokenKind.{Forward, Backward, Place, Clear, EraseLine, Save, Restore};
+ghost use Rattle.ans_model.specs.Sequence.TokenKind.{Colours, Wrap, Mode, Keys, Ask, Tab};
+ghost use Rattle.ans_model.specs.declared.fault.Cause.TheVariants.{NoRecord, WrongVersion, WrongKind};
+ghost use Rattle.ans_model.specs.declared.fault.Cause.TheVariants.{CommentsMissing, LinesUnstated, WidthTooLarge};
+ghost use Rattle.ans_model.specs.declared.fault.Cause.TheVariants.{LinesTooLarge, BytesAfterEndMark, BrokenSequence};
+ghost use Rattle.ans_model.specs.declared.fault.Cause.TheVariants.{NumberTooLarge, TooManyParameters, EndInSequence};
+ghost use Rattle.ans_model.specs.declared.fault.Cause.TheVariants.{UnknownSequence, WrongParameters};
+ghost use Rattle.ans_model.specs.declared.fault.Cause.TheVariants.{PrintUnknownPlace, UnknownCell};
+ghost use Rattle.ans_model.specs.declared.note.Note.TheVariants.{WidthAssumed, NoEndMark, SizeDiffers, OddDate};
+ghost use Rattle.ans_model.specs.declared.note.Note.TheVariants.{FlagBits, FlagPair};
 ghost use Rattle.ans_model.specs.declared.start.Start.TheVariants.{Any, Cleared};
-ghost use Rattle.ans_model.specs.Record.{stated_width};
-ghost use Rattle.ans_model.specs.Layout.{content, comment_block};
-ghost use Rattle.ans_model.specs.Notes.{notes};
-ghost use Rattle.ans_model.specs.Refusals.{fault_at, record_fault};
-ghost use Rattle.ans_model.specs.State.{sized, cell};
-ghost use Rattle.ans_model.specs.Sequence.{IsUnfinished};
-ghost use Rattle.ans_model.specs.Reads.{SpellsToken};
-ghost use Rattle.ans_model.specs.FirstFault.{IsRefused};
-ghost use Rattle.ans_model.specs.Glyphs.{shown_bytes};
-ghost use Rattle.ans_model.specs.FaultText.{fault_line};
-ghost use Rattle.ans_model.specs.ReportText.{heading_text, report_text, refusal_text, cells_line, Passed, RefusedFor};
-ghost use Rattle.ans_model.specs.RecordText.{record_text};
-ghost use Rattle.ans_model.specs.TokensText.{TokensText};
-ghost use Rattle.ans_model.specs.TextExamples.{plain, record_of, fault_with, heading, picture, hi, sample_record, sample_comment, IsAccepted, IsAcceptedWith, esc, cut_content, short_forms, other_kinds};
+ghost use Rattle.ans_model.specs.File.Record.{stated_width};
+ghost use Rattle.ans_model.specs.File.Layout.{content, comment_block, file_parts};
+ghost use Rattle.ans_model.specs.File.Notes.{notes};
+ghost use Rattle.ans_model.specs.File.Refusals.{fault_at, record_fault};
+ghost use Rattle.ans_model.specs.Screen.State.{sized, cell};
+ghost use Rattle.ans_model.specs.Sequence.Spelling.{IsUnfinished};
+ghost use Rattle.ans_model.specs.Sequence.Reads.{SpellsToken};
+ghost use Rattle.ans_model.specs.Verdict.FirstFault.{IsRefused};
+ghost use Rattle.ans_model.specs.Text.Characters.{shown_bytes};
+ghost use Rattle.ans_model.specs.Text.FaultText.{fault_line};
+ghost use Rattle.ans_model.specs.Text.ReportText.{heading_text, report_text, refusal_text, cells_line, Passed};
+ghost use Rattle.ans_model.specs.Text.ReportText.{RefusedFor};
+ghost use Rattle.ans_model.specs.Text.RecordText.{record_text};
+ghost use Rattle.ans_model.specs.Text.TokensText.{TokensText};
+ghost use Rattle.ans_model.specs.Examples.TextExamples.{plain, record_with, fault_with, heading_with, picture_with};
+ghost use Rattle.ans_model.specs.Examples.TextExamples.{hi, sample_record, sample_comment, IsAccepted};
+ghost use Rattle.ans_model.specs.Examples.TextExamples.{IsAcceptedWith, esc, cut_content, short_forms, other_kinds};
 
 /// Files that are refused, each for one thing.
 pub fn refused_files()
@@ -51,7 +62,7 @@ pub fn refused_files()
         ≡ Some (fault_at 2 BytesAfterEndMark) }
 {}
 
-/// Files with two things to refuse: the first answers.
+/// Files with two things to refuse get the first.
 pub fn files_refused_twice()
     ensures version_before_kind { fault_with hi
         (record plain { version = codes "01"; file_type = 2 })
@@ -74,7 +85,7 @@ pub fn accepted_files()
     ensures two_end_marks { IsAccepted (hi ++ end_mark ∷ []) plain [] }
     ensures content_before_two_end_marks { content (hi ++ end_mark ∷ []) ≡ codes "Hi" }
     ensures no_width { IsAccepted hi (record plain { width = 0 }) (WidthAssumed ∷ []) }
-    ensures width_assumed { stated_width (record_of (record plain { width = 0 })) ≡ 80 }
+    ensures width_assumed { stated_width (record_with (record plain { width = 0 })) ≡ 80 }
     ensures no_end_mark { IsAccepted (codes "Hi") plain (NoEndMark ∷ []) }
     ensures record_alone { IsAccepted [] (record plain { file_size = 0 }) (NoEndMark ∷ []) }
     ensures most_comments { IsAcceptedWith hi (replicate 16320 0x41)
@@ -105,7 +116,7 @@ pub fn accepted_files()
 
 /// The bytes of the plain file.
 pub fn plain_file()
-    ensures { hi ++ record_of plain
+    ensures { hi ++ record_with plain
         ≡ (0x48 ∷ 0x69 ∷ 0x1A ∷ 0x53 ∷ 0x41 ∷ 0x55 ∷ 0x43 ∷ 0x45 ∷ 0x30 ∷ 0x30 ∷ [])
         ++ replicate 35 0x20 ++ replicate 20 0x20 ++ replicate 20 0x20
         ++ (0x31 ∷ 0x39 ∷ 0x39 ∷ 0x36 ∷ 0x30 ∷ 0x31 ∷ 0x30 ∷ 0x31 ∷ [])
@@ -189,7 +200,7 @@ pub fn sequences_refused_for_their_meaning()
     ensures erase_with_two_omitted { IsRefused (esc (codes "[;K")) WrongParameters }
     ensures string_before_m { IsRefused (esc (codes "[\"x\"m")) WrongParameters }
     ensures letter_in_a_string { IsRefused (esc (codes "[\"p\"m")) WrongParameters }
-    ensures string_behind_a_mark { IsRefused (esc (codes "[?\"7\"h")) WrongParameters }
+    ensures string_after_a_mark { IsRefused (esc (codes "[?\"7\"h")) WrongParameters }
     ensures string_before_h { IsRefused (esc (codes "[\"7\"h")) WrongParameters }
     ensures save_with_a_number { IsRefused (esc (codes "[1s")) WrongParameters }
     ensures save_with_two_omitted { IsRefused (esc (codes "[;s")) WrongParameters }
@@ -205,10 +216,10 @@ pub fn sequences_refused_for_their_meaning()
 /// Bytes with which no sequence goes on.
 pub fn broken_sequences()
     ensures no_bracket { IsRefused (esc (codes "(")) BrokenSequence }
-    ensures blank_behind_a_number { IsRefused (esc (codes "[0;0 ")) BrokenSequence }
-    ensures number_behind_a_string { IsRefused (esc (codes "[\"a\"1")) BrokenSequence }
+    ensures blank_after_a_number { IsRefused (esc (codes "[0;0 ")) BrokenSequence }
+    ensures number_after_a_string { IsRefused (esc (codes "[\"a\"1")) BrokenSequence }
     ensures second_mark { IsRefused (esc (codes "[=?")) BrokenSequence }
-    ensures mark_behind_a_number { IsRefused (esc (codes "[7=")) BrokenSequence }
+    ensures mark_after_a_number { IsRefused (esc (codes "[7=")) BrokenSequence }
     ensures number_above_the_limit { IsRefused (esc (codes "[256")) NumberTooLarge }
     ensures seventeen_parameters { IsRefused (esc (codes "[" ++ replicate 16 0x3B))
         TooManyParameters }
@@ -253,7 +264,7 @@ pub fn refused_token_texts()
         (codes "at 0: F10 number above 255\n") }
     ensures no_bracket { TokensText (esc (codes "(B")) (Some (fault_at 0 BrokenSequence))
         (codes "at 0: F9 broken sequence\n") }
-    ensures blank_behind_a_number { TokensText (esc (codes "[0;0 D"))
+    ensures blank_after_a_number { TokensText (esc (codes "[0;0 D"))
         (Some (fault_at 0 BrokenSequence))
         (codes "at 0: F9 broken sequence\n") }
     ensures seventeen_parameters { TokensText (esc (codes "[" ++ replicate 16 0x3B ++ codes "m"))
@@ -275,22 +286,22 @@ pub fn refused_token_texts()
 
 /// The texts of reports and refusals.
 pub fn report_texts()
-    ensures pass_from_any { report_text (heading (sized 2 1) Any 15 [])
-        (Passed (picture (sized 2 1) (cell 0x48 0x07 ∷ cell 0x69 0x07 ∷ [])) false)
+    ensures pass_from_any { report_text (heading_with (sized 2 1) Any 15 [])
+        (Passed (picture_with (sized 2 1) (cell 0x48 0x07 ∷ cell 0x69 0x07 ∷ [])) false)
         ≡ codes "size: 2 x 1\nstart: any\ncontent: 15 bytes\nverdict: pass\npicture:\nHi\n" }
-    ensures pass_with_cells { report_text (heading (sized 2 1) Cleared 2 [])
-        (Passed (picture (sized 2 1) (cell 0x48 0x07 ∷ cell 0x69 0x07 ∷ [])) true)
+    ensures pass_with_cells { report_text (heading_with (sized 2 1) Cleared 2 [])
+        (Passed (picture_with (sized 2 1) (cell 0x48 0x07 ∷ cell 0x69 0x07 ∷ [])) true)
         ≡ codes "size: 2 x 1\nstart: cleared\ncontent: 2 bytes\nverdict: pass\n"
         ++ codes "picture:\nHi\ncells:\n48076907\n" }
-    ensures blank_picture { report_text (heading (sized 1 1) Cleared 0 [])
-        (Passed (picture (sized 1 1) (cell 0x20 0x07 ∷ [])) false)
+    ensures blank_picture { report_text (heading_with (sized 1 1) Cleared 0 [])
+        (Passed (picture_with (sized 1 1) (cell 0x20 0x07 ∷ [])) false)
         ≡ codes "size: 1 x 1\nstart: cleared\ncontent: 0 bytes\nverdict: pass\npicture:\n \n" }
-    ensures two_lines { report_text (heading (sized 2 2) Cleared 10 [])
-        (Passed (picture (sized 2 2)
+    ensures two_lines { report_text (heading_with (sized 2 2) Cleared 10 [])
+        (Passed (picture_with (sized 2 2)
         (cell 0x61 0x07 ∷ cell 0x62 0x07 ∷ cell 0x20 0x07 ∷ cell 0x20 0x07 ∷ [])) true)
         ≡ codes "size: 2 x 2\nstart: cleared\ncontent: 10 bytes\nverdict: pass\n"
         ++ codes "picture:\nab\n  \ncells:\n61076207\n20072007\n" }
-    ensures refusal_from_any { report_text (heading (sized 2 1) Any 2 [])
+    ensures refusal_from_any { report_text (heading_with (sized 2 1) Any 2 [])
         (RefusedFor (fault_at 0 PrintUnknownPlace))
         ≡ codes "size: 2 x 1\nstart: any\ncontent: 2 bytes\nverdict: refused\n"
         ++ codes "at 0: F22 print at an unknown place\n" }
@@ -303,13 +314,13 @@ pub fn report_texts()
 /// The texts of notes, of glyphs and of cells.
 pub fn heading_and_cell_texts()
     ensures four_notes { heading_text
-        (heading (sized 2 1) Cleared 2 (SizeDiffers ∷ OddDate ∷ FlagBits ∷ FlagPair ∷ []))
+        (heading_with (sized 2 1) Cleared 2 (SizeDiffers ∷ OddDate ∷ FlagBits ∷ FlagPair ∷ []))
         ≡ codes "size: 2 x 1\nstart: cleared\ncontent: 2 bytes\n"
         ++ codes "note: file size differs from the content\n"
         ++ codes "note: date is not eight digits\n"
         ++ codes "note: flag bits 5 to 7 are not zero\nnote: a flag pair is 11\n" }
     ensures two_notes { heading_text
-        (heading (sized 80 1) Any 2 (WidthAssumed ∷ NoEndMark ∷ []))
+        (heading_with (sized 80 1) Any 2 (WidthAssumed ∷ NoEndMark ∷ []))
         ≡ codes "size: 80 x 1\nstart: any\ncontent: 2 bytes\n"
         ++ codes "note: width 0 taken as 80\nnote: no end mark after the content\n" }
     ensures full_block { shown_bytes (0xDB ∷ 0x00 ∷ []) ≡ 0xE2 ∷ 0x96 ∷ 0x88 ∷ 0x20 ∷ [] }
@@ -321,7 +332,7 @@ pub fn heading_and_cell_texts()
 
 /// The text of a record, whose file is accepted.
 pub fn record_texts()
-    ensures sample_record { record_text hi sample_comment sample_record
+    ensures sample_record { record_text (file_parts hi sample_comment sample_record)
         ≡ codes "title: Test\nauthor: Ann\ngroup: \ndate: 19960101\nsize: 2 x 1\n"
         ++ codes "flags: 01\nfont: IBM VGA\nfile size: 2\ncomments: 1\n"
         ++ codes "comment: hello\n" }

@@ -1,18 +1,19 @@
-//! Laws of sequences and of the reading: each is the contract of a function that does nothing.
+//! Laws of sequences and of reading them: each is the contract of a function without a body.
 
 ghost use Rattle.std.specs.Prelude.{◌≡◌, ◌++◌, ℕ, List, All};
-ghost use Rattle.ans_model.specs.Token.{Token, PrintsByte};
-ghost use Rattle.ans_model.specs.Sequence.{Raw, Spells, IsUnfinished, OneSpellingInFront};
-ghost use Rattle.ans_model.specs.Reads.{Reads};
+ghost use Rattle.ans_model.specs.Sequence.TokenKind.{TokenKind, PrintsByte};
+ghost use Rattle.ans_model.specs.Sequence.Spelling.{Raw, Spells, IsUnfinished};
+ghost use Rattle.ans_model.specs.Laws.SequenceLaws.{OneSpellingInFront};
+ghost use Rattle.ans_model.specs.Sequence.Reads.{Reads};
 ghost use Rattle.ans_model.specs.declared.fault.Cause.{Cause};
 ghost use Rattle.ans_model.specs.declared.fault.Fault.{Fault};
 ghost use Rattle.ans_model.specs.declared.start.Start.TheVariants.{Cleared};
-ghost use Rattle.ans_model.specs.Certain.{IsCertain};
-ghost use Rattle.ans_model.specs.State.{Size};
-ghost use Rattle.ans_model.specs.Starts.{Class, class_of};
-ghost use Rattle.ans_model.specs.FirstFault.{IsRefused, IsFirstFault};
-ghost use Rattle.ans_model.specs.LastFault.{IsLastFault};
-ghost use Rattle.ans_model.specs.Good.{IsGood};
+ghost use Rattle.ans_model.specs.Laws.Certain.{IsCertain};
+ghost use Rattle.ans_model.specs.Screen.State.{Size};
+ghost use Rattle.ans_model.specs.Screen.Starts.{Class, class_of};
+ghost use Rattle.ans_model.specs.Verdict.FirstFault.{IsRefused, IsFirstFault};
+ghost use Rattle.ans_model.specs.Verdict.LastFault.{IsLastFault};
+ghost use Rattle.ans_model.specs.Verdict.Good.{IsGood};
 
 /// No spelling is a proper prefix of another, and no bytes spell two sequences.
 pub fn one_spelling()
@@ -21,18 +22,18 @@ pub fn one_spelling()
 
 /// Bytes are read as one list of tokens at most, and what is printed is a byte.
 pub fn one_reading()
-    ensures one { (bytes : List ℕ) (tokens others : List Token)
+    ensures one { (bytes : List ℕ) (tokens others : List TokenKind)
         → Reads bytes tokens → Reads bytes others → tokens ≡ others }
-    ensures prints_bytes { (bytes : List ℕ) (tokens : List Token)
+    ensures prints_bytes { (bytes : List ℕ) (tokens : List TokenKind)
         → Reads bytes tokens → All PrintsByte tokens }
 {}
 
 /// No reading begins with a text that the reading refuses, nothing that is spelled goes on, and
 /// what goes on is no reading.
 pub fn refused_or_read()
-    ensures refused { (text rest : List ℕ) (cause : Cause) (tokens : List Token)
+    ensures refused { (text rest : List ℕ) (cause : Cause) (tokens : List TokenKind)
         → IsRefused text cause → Reads (text ++ rest) tokens → ⊥ }
-    ensures unfinished { (text : List ℕ) (tokens : List Token)
+    ensures unfinished { (text : List ℕ) (tokens : List TokenKind)
         → IsUnfinished text → Reads text tokens → ⊥ }
     ensures ended { (raw : Raw) (text : List ℕ) → Spells raw text → IsUnfinished text → ⊥ }
 {}

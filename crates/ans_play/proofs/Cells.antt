@@ -1,7 +1,7 @@
 -- A fact of each cell, through a fill.
 use Rattle.std.proofs.Common.{◌≡◌, ℕ, ◌-◌, List, ◌++◌, take, drop, replicate, All}
 use Rattle.std.proofs.lemmas.List.Elements.{All-append, All-take, All-drop, All-replicate}
-use Rattle.ans_model.specs.Step.{filled}
+use Rattle.ans_model.specs.Screen.Step.{filled}
 
 pub All-filled : {A : Type 0} (P : A → Type 0) (new cells : List A) (i j : ℕ) (c : A) → new ≡ filled cells i j c → P c → All P cells → All P new
 All-filled P new cells i j c e h k =

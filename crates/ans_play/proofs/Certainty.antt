@@ -1,10 +1,10 @@
 -- From the cleared start each fault is certain.
 use Rattle.std.proofs.Common.{◌≡◌, ℕ, List}
-use Rattle.ans_model.specs.Certain.{IsCertain}
-use Rattle.ans_model.specs.Starts.{class_of}
-use Rattle.ans_model.specs.State.{Size}
-use Rattle.ans_model.specs.FirstFault.{IsFirstFault}
-use Rattle.ans_model.specs.LastFault.{IsLastFault}
+use Rattle.ans_model.specs.Laws.Certain.{IsCertain}
+use Rattle.ans_model.specs.Screen.Starts.{class_of}
+use Rattle.ans_model.specs.Screen.State.{Size}
+use Rattle.ans_model.specs.Verdict.FirstFault.{IsFirstFault}
+use Rattle.ans_model.specs.Verdict.LastFault.{IsLastFault}
 use Rattle.ans_model.specs.declared.start.Start.{Start}
 use Rattle.ans_model.specs.declared.start.Start.TheVariants.{Cleared}
 use Rattle.ans_model.specs.declared.fault.Fault.{Fault}

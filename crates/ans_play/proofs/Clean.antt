@@ -4,39 +4,39 @@ use Rattle.std.specs.Prelude.{slice_get}
 use Rattle.std.proofs.lemmas.Bool.{cases_lt}
 use Rattle.std.proofs.lemmas.List.{take-append-le, take_at, length_push}
 use Rattle.std.proofs.lemmas.Option.{slice_get_within}
-use Rattle.ans_model.specs.Token.{Token}
-use Rattle.ans_model.specs.State.{Size}
-use Rattle.ans_model.specs.Starts.{Class}
-use Rattle.ans_model.specs.TokenFault.{HasFault, IsClean}
+use Rattle.ans_model.specs.Sequence.TokenKind.{TokenKind}
+use Rattle.ans_model.specs.Screen.State.{Size}
+use Rattle.ans_model.specs.Screen.Starts.{Class}
+use Rattle.ans_model.specs.Verdict.TokenFault.{HasFault, IsClean}
 use Rattle.ans_model.specs.declared.fault.Cause.{Cause}
 
-slice_get-append_left : (xs ys : List Token) (k : ℕ) → k < length xs → slice_get (xs ++ ys) k ≡ slice_get xs k
+slice_get-append_left : (xs ys : List TokenKind) (k : ℕ) → k < length xs → slice_get (xs ++ ys) k ≡ slice_get xs k
 slice_get-append_left [] ys k h = absurd (omega arith)
 slice_get-append_left (x ∷ xs) ys zero h = refl
 slice_get-append_left (x ∷ xs) ys (suc k) h = slice_get-append_left xs ys k (omega arith)
 
-slice_get_at : (xs ys : List Token) (t : Token) → slice_get (xs ++ t ∷ ys) (length xs) ≡ Some t
+slice_get_at : (xs ys : List TokenKind) (t : TokenKind) → slice_get (xs ++ t ∷ ys) (length xs) ≡ Some t
 slice_get_at [] ys t = refl
 slice_get_at (x ∷ xs) ys t = slice_get_at xs ys t
 
-same_some : (a b : Token) → Some a ≡ Some b → a ≡ b
+same_some : (a b : TokenKind) → Some a ≡ Some b → a ≡ b
 same_some a b e = cc
 
 -- a clean list stays clean with a token that has no fault
-pub clean_more : (z : Size) (class : Class) (played : List Token) (t : Token) → IsClean z class played → ((cause : Cause) → ¬ HasFault z class played t cause) → IsClean z class (played ++ t ∷ [])
+pub clean_more : (z : Size) (class : Class) (played : List TokenKind) (t : TokenKind) → IsClean z class played → ((cause : Cause) → ¬ HasFault z class played t cause) → IsClean z class (played ++ t ∷ [])
 clean_more z class played t clean none k cause b = elim (cases_lt k (length played)) [
   | inl early ↦ clean k cause (
     b.0,
     sym (slice_get-append_left played (t ∷ []) k early) ∙ b.1,
-    subst (λ (xs : List Token). HasFault z class xs b.0 cause) (take-append-le k played (t ∷ []) (omega arith)) b.2,
+    subst (λ (xs : List TokenKind). HasFault z class xs b.0 cause) (take-append-le k played (t ∷ []) (omega arith)) b.2,
   )
   | inr late ↦
       let within : k < length (played ++ t ∷ []) = slice_get_within (played ++ t ∷ []) k b.0 b.1 in
       let last : k ≡ length played = omega (arith, length_push played t) in
       let same : t ≡ b.0 = same_some t b.0 (sym (slice_get_at played [] t) ∙ ap (λ (i : ℕ). slice_get (played ++ t ∷ []) i) (sym last) ∙ b.1) in
       none cause
-      (subst (λ (x : Token). HasFault z class played x cause) (sym same)
-      (subst (λ (xs : List Token). HasFault z class xs b.0 cause) (take_at played (t ∷ []) k (sym last)) b.2))
+      (subst (λ (x : TokenKind). HasFault z class played x cause) (sym same)
+      (subst (λ (xs : List TokenKind). HasFault z class xs b.0 cause) (take_at played (t ∷ []) k (sym last)) b.2))
 ]
 
 pub clean_none : (z : Size) (class : Class) → IsClean z class []

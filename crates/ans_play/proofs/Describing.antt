@@ -3,11 +3,11 @@ use Rattle.std.proofs.Common.{◌≡◌, ℕ, ◌+◌, ◌<◌, Bool, true, fals
 use Rattle.std.specs.Prelude.{if◌then◌else◌, nat_lt, ◌==◌}
 use Rattle.std.proofs.lemmas.Bool.{cases_lt, lt-ltb, le-ltb}
 use Rattle.std.proofs.lemmas.Bool.Decides.{nat_tests}
-use Rattle.ans_model.specs.Token.{Token, Glyph, BackSpace, LineFeed, CarriageReturn, Up, Down, Forward, Backward, Place, Clear, EraseLine, Save, Restore, Colours, Wrap}
-use Rattle.ans_model.specs.State.{Size, State, at, cell, cell_count, index, IsOnScreen}
+use Rattle.ans_model.specs.Sequence.TokenKind.{TokenKind, Glyph, BackSpace, LineFeed, CarriageReturn, Up, Down, Forward, Backward, Place, Clear, EraseLine, Save, Restore, Colours, Wrap}
+use Rattle.ans_model.specs.Screen.State.{Size, State, at, cell, cell_count, index, IsOnScreen}
 use Rattle.ans_model.specs.declared.cell.Cell.{Cell}
 use Rattle.ans_model.specs.declared.cell.Position.{Position}
-use Rattle.ans_model.specs.Step.{blank_cell, next_row_start, destination, line_feed, advanced, step}
+use Rattle.ans_model.specs.Screen.Step.{blank_cell, next_row_start, destination, line_feed, advanced, step}
 use Rattle.ans_screen.specs.KnownBits.{KnownBits, Agrees}
 use Rattle.ans_screen.specs.Cells.{printed_cell}
 use Rattle.ans_screen.specs.declared.cell.HalfCell.{HalfCell}
@@ -34,7 +34,7 @@ describes_itself : (p : Position) → DescribesPlace (one_place p.row p.column) 
 describes_itself p = record { low_row = omega arith; high_row = omega arith; low_column = omega arith; high_column = omega arith }
 
 -- each token moves a greater row or column to one no smaller
-moved_describes : (z : Size) (t : Token) (e : Span) (p : Position) → DescribesPlace e p → DescribesPlace (moved z t e) (destination z t p)
+moved_describes : (z : Size) (t : TokenKind) (e : Span) (p : Position) → DescribesPlace e p → DescribesPlace (moved z t e) (destination z t p)
 moved_describes z (Up n) e p d = record { low_row = omega arith; high_row = omega arith; low_column = d.low_column; high_column = d.high_column }
 moved_describes z (Down n) e p d = record { low_row = omega arith; high_row = omega arith; low_column = d.low_column; high_column = d.high_column }
 moved_describes z (Forward n) e p d = record { low_row = d.low_row; high_row = d.high_row; low_column = omega arith; high_column = omega arith }
@@ -45,7 +45,7 @@ moved_describes z CarriageReturn e p d = record { low_row = d.low_row; high_row 
 moved_describes z _ e p d = d
 
 -- a token that only moves the cursor
-move_describes : (z : Size) (h : HalfState) (s : State) (t : Token) → Describes h s → Describes (record h { cursor = moved z t h.cursor }) (record s { cursor = destination z t s.cursor })
+move_describes : (z : Size) (h : HalfState) (s : State) (t : TokenKind) → Describes h s → Describes (record h { cursor = moved z t h.cursor }) (record s { cursor = destination z t s.cursor })
 move_describes z h s t d = record {
   screen = d.screen;
   cursor = moved_describes z t h.cursor s.cursor d.cursor;
@@ -126,7 +126,7 @@ wrap_describes : (on : Bool) → DescribesWrap (wrap_of on) on
 wrap_describes true = refl
 wrap_describes false = refl
 
-pub step_describes : (z : Size) (h : HalfState) (s : State) (t : Token) → IsOnScreen z s.cursor → Describes h s → IsAllowed z h t → Describes (half_step z h t) (step z s t)
+pub step_describes : (z : Size) (h : HalfState) (s : State) (t : TokenKind) → IsOnScreen z s.cursor → Describes h s → IsAllowed z h t → Describes (half_step z h t) (step z s t)
 step_describes z h s Clear on d k = record {
   screen = AllZip-replicate DescribesCell (cell_count z) _ _ (blank_describes h.attribute s.attribute d.attribute);
   cursor = record { low_row = omega arith; high_row = omega arith; low_column = omega arith; high_column = omega arith };

@@ -5,11 +5,11 @@ use Rattle.std.proofs.lemmas.Bool.{eq-eqb, cases_eq, eqb-true, eqb-false, ltb-tr
 use Rattle.std.proofs.lemmas.Bool.Decides.{nat_tests}
 use Rattle.std.proofs.lemmas.List.Sums.{fold-append}
 use Rattle.ans_model.specs.declared.cell.Position.{Position}
-use Rattle.ans_model.specs.Token.{Token, PrintsByte, Glyph, LineFeed, Tab, Place, EraseLine, Mode, Keys, Ask}
-use Rattle.ans_model.specs.State.{Size, State, FitsScreen, IsWellFormed}
-use Rattle.ans_model.specs.Step.{step, final}
-use Rattle.ans_model.specs.Starts.{Class, IsStart, low_start, high_start}
-use Rattle.ans_model.specs.TokenFault.{HasStaticFault, HasFaultAfter, HasFault, SamePlace, PlacesDiffer, IsInSpareRow, FromEvery, FromSome}
+use Rattle.ans_model.specs.Sequence.TokenKind.{TokenKind, PrintsByte, Glyph, LineFeed, Tab, Place, EraseLine, Mode, Keys, Ask}
+use Rattle.ans_model.specs.Screen.State.{Size, State, FitsScreen, IsWellFormed}
+use Rattle.ans_model.specs.Screen.Step.{step, final}
+use Rattle.ans_model.specs.Screen.Starts.{Class, IsStart, low_start, high_start}
+use Rattle.ans_model.specs.Verdict.TokenFault.{HasStaticFault, HasFaultAfter, HasFault, SamePosition, PositionsDiffer, IsInSpareRow, FromEvery, FromSome}
 use Rattle.ans_model.specs.declared.fault.Cause.{Cause}
 use Rattle.ans_model.specs.declared.fault.Cause.TheVariants.{KeyReassigned, ScreenMode, ReportAsked, TabByte, OutsideScreen, PrintBelow, Scrolls, PrintUnknownPlace, EraseUnknownPlace, MayScroll}
 use Rattle.ans_model.proofs.StartLemmas.{low_is_start, high_is_start}
@@ -29,11 +29,11 @@ use Rattle.ans_play.proofs.HullOfStarts.{start_describes}
 pub known_none : (z : Size) (class : Class) → IsKnownAfter z class [] (hull (low_start z class) (high_start z class))
 known_none z class = record { is_hull = refl; describes = start_describes z class; well_formed = λ s h. h.well_formed }
 
-final_more : (z : Size) (s : State) (played : List Token) (t : Token) → final z s (played ++ t ∷ []) ≡ step z (final z s played) t
+final_more : (z : Size) (s : State) (played : List TokenKind) (t : TokenKind) → final z s (played ++ t ∷ []) ≡ step z (final z s played) t
 final_more z s played t = fold-append (step z) s played (t ∷ [])
 
 -- after one more token, which is allowed
-pub known_more : (z : Size) (class : Class) (played : List Token) (h : HalfState) (t : Token) → 0 < z.width → PrintsByte t → IsKnownAfter z class played h → IsAllowed z h t → IsKnownAfter z class (played ++ t ∷ []) (half_step z h t)
+pub known_more : (z : Size) (class : Class) (played : List TokenKind) (h : HalfState) (t : TokenKind) → 0 < z.width → PrintsByte t → IsKnownAfter z class played h → IsAllowed z h t → IsKnownAfter z class (played ++ t ∷ []) (half_step z h t)
 known_more z class played h t w byte st ok =
     let low : State = low_start z class in
     let high : State = high_start z class in
@@ -62,7 +62,7 @@ one_place_then e h =
     rw (eq-eqb e.low.row e.high.row (ap (λ (p : Position). p.row) h), eq-eqb e.low.column e.high.column (ap (λ (p : Position). p.column) h))
 
 -- where it has not, the low and the high play differ
-differ_if : (z : Size) (class : Class) (played : List Token) (h : HalfState) → 0 < z.width → IsKnownAfter z class played h → is_one_place h.cursor ≡ false → PlacesDiffer z class played
+differ_if : (z : Size) (class : Class) (played : List TokenKind) (h : HalfState) → 0 < z.width → IsKnownAfter z class played h → is_one_place h.cursor ≡ false → PositionsDiffer z class played
 differ_if z class played h w st apart =
     let low : State = low_start z class in
     let high : State = high_start z class in (
@@ -81,7 +81,7 @@ differ_if z class played h w st apart =
     true_not_false b p q = cc
 
 -- and where it has, the place is the same from every start
-pub same_if : (z : Size) (class : Class) (played : List Token) (h : HalfState) → IsKnownAfter z class played h → is_one_place h.cursor ≡ true → SamePlace z class played
+pub same_if : (z : Size) (class : Class) (played : List TokenKind) (h : HalfState) → IsKnownAfter z class played h → is_one_place h.cursor ≡ true → SamePosition z class played
 same_if z class played h st e s t start_s start_t =
     let one : h.cursor.low ≡ h.cursor.high = one_place_if h.cursor e in
     one_place_is h.cursor (final z s played).cursor (st.describes s start_s).cursor one
@@ -90,11 +90,11 @@ same_if z class played h st e s t start_s start_t =
 same_some : (a b : Cause) → Some a ≡ Some b → a ≡ b
 same_some a b e = cc
 
-differ_not : (z : Size) (class : Class) (played : List Token) → SamePlace z class played → ¬ PlacesDiffer z class played
+differ_not : (z : Size) (class : Class) (played : List TokenKind) → SamePosition z class played → ¬ PositionsDiffer z class played
 differ_not z class played same (s, t, start_s, start_t, ne) = ne (same s t start_s start_t)
 
 -- ---- what the half-known state shows of a token
-module _ (z : Size) (class : Class) (played : List Token) (h : HalfState) (w : 0 < z.width) (st : IsKnownAfter z class played h) where
+module _ (z : Size) (class : Class) (played : List TokenKind) (h : HalfState) (w : 0 < z.width) (st : IsKnownAfter z class played h) where
   low_place : State
   low_place = final z (low_start z class) played
 
@@ -169,7 +169,7 @@ module _ (z : Size) (class : Class) (played : List Token) (h : HalfState) (w : 0
   blamed_place row column cause false false r c e = absurd (cc)
 
   -- the fault that it shows is the token's
-  pub blamed : (t : Token) (cause : Cause) → half_fault z h t ≡ Some cause → HasFault z class played t cause
+  pub blamed : (t : TokenKind) (cause : Cause) → half_fault z h t ≡ Some cause → HasFault z class played t cause
   blamed Keys cause e = subst (λ (c : Cause). HasFault z class played Keys c) (same_some KeyReassigned cause e) (inl tt)
   blamed Mode cause e = subst (λ (c : Cause). HasFault z class played Mode c) (same_some ScreenMode cause e) (inl tt)
   blamed Ask cause e = subst (λ (c : Cause). HasFault z class played Ask c) (same_some ReportAsked cause e) (inl tt)
@@ -199,7 +199,7 @@ module _ (z : Size) (class : Class) (played : List Token) (h : HalfState) (w : 0
   unblamed_feed false true above e = absurd (cc)
   unblamed_feed false false above e = absurd (cc)
 
-  pub allowed : (t : Token) → half_fault z h t ≡ None → IsAllowed z h t
+  pub allowed : (t : TokenKind) → half_fault z h t ≡ None → IsAllowed z h t
   allowed (Glyph b) e = unblamed_print b (is_one_place h.cursor) (h.cursor.low.row == z.lines) refl refl e
   allowed EraseLine e = unblamed_erase (is_one_place h.cursor) refl e
   allowed LineFeed e = unblamed_feed (nat_lt h.cursor.high.row z.lines) (h.cursor.low.row == z.lines) refl e
@@ -236,7 +236,7 @@ module _ (z : Size) (class : Class) (played : List Token) (h : HalfState) (w : 0
   clean_place row column OutsideScreen e f = unblamed_place row column (nat_lt (z.lines + 1) row) (nat_lt z.width column) refl refl e f
   clean_place row column _ e f = f
 
-  pub unblamed : (t : Token) (cause : Cause) → half_fault z h t ≡ None → ¬ HasFault z class played t cause
+  pub unblamed : (t : TokenKind) (cause : Cause) → half_fault z h t ≡ None → ¬ HasFault z class played t cause
   unblamed (Glyph b) cause e (inl f) = f
   unblamed (Glyph b) cause e (inr f) = clean_print b cause (allowed (Glyph b) e) f
   unblamed EraseLine cause e (inl f) = f

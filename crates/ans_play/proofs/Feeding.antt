@@ -2,15 +2,15 @@
 use Rattle.std.proofs.Common.{◌≡◌, ℕ, ◌+◌, ◌-◌, ◌≤◌, refl, sym, ap, ◌∙◌, arith, List, [], ◌∷◌, ◌++◌, length, length-append, take, drop, append_assoc, Some, None, inl, inr, subst}
 use Rattle.std.proofs.lemmas.List.{append-nil, take_all, take-append-drop, length-drop}
 use Rattle.std.proofs.Math.Seq.{take-add}
-use Rattle.ans_model.specs.Token.{Token}
-use Rattle.ans_model.specs.Reads.{SpellsToken, Reads}
-use Rattle.ans_model.specs.State.{Size}
-use Rattle.ans_model.specs.Starts.{Class, class_of}
-use Rattle.ans_model.specs.FirstFault.{IsRefused, IsFirstFault}
+use Rattle.ans_model.specs.Sequence.TokenKind.{TokenKind}
+use Rattle.ans_model.specs.Sequence.Reads.{SpellsToken, Reads}
+use Rattle.ans_model.specs.Screen.State.{Size}
+use Rattle.ans_model.specs.Screen.Starts.{Class, class_of}
+use Rattle.ans_model.specs.Verdict.FirstFault.{IsRefused, IsFirstFault}
 use Rattle.ans_model.specs.declared.fault.Fault.{Fault}
 use Rattle.ans_model.proofs.Reading.{token_prints}
-use Rattle.ans_model.specs.Sequence.{IsUnfinished}
-use Rattle.ans_model.specs.View.{token_of}
+use Rattle.ans_model.specs.Sequence.Spelling.{IsUnfinished}
+use Rattle.ans_model.specs.Inside.ShownKind.{shown_kind}
 use Rattle.ans_tokens.proofs.Readable.{reads_as_more}
 use Rattle.ans_tokens.specs.Scanning.{Scanning, Holds, IsTokenOf, IsFaultOf, Kept, Keeps, Nothing, Escape, Sequence}
 use Rattle.ans_tokens.proofs.EachByte.{IsOpen, open_ends}
@@ -26,7 +26,7 @@ use Rattle.ans_play.proofs.Faults.{known_more, blamed, unblamed, allowed}
 use Rattle.ans_play.proofs.Clean.{clean_more}
 
 -- ---- one byte
-reads_more : (bytes text : List ℕ) (tokens : List Token) (t : Token) → Reads bytes tokens → SpellsToken t text → Reads (bytes ++ text) (tokens ++ t ∷ [])
+reads_more : (bytes text : List ℕ) (tokens : List TokenKind) (t : TokenKind) → Reads bytes tokens → SpellsToken t text → Reads (bytes ++ text) (tokens ++ t ∷ [])
 reads_more bytes text tokens t (texts, r) spelled = (texts ++ text ∷ [], reads_as_more bytes text tokens texts t r spelled)
 
 -- a front and an open part, with one more byte
@@ -51,7 +51,7 @@ played_on z class s old new h byte p holds offset unrefused = record {
 }
 
 -- the byte ends a token that has no fault
-pub played_more : (z : Size) (class : Class) (s : List ℕ) (old new : Scanning) (h : HalfState) (byte : ℕ) (t : Token) (p : IsPlayed z class s old h) →
+pub played_more : (z : Size) (class : Class) (s : List ℕ) (old new : Scanning) (h : HalfState) (byte : ℕ) (t : TokenKind) (p : IsPlayed z class s old h) →
     SpellsToken t (p.open_part ++ byte ∷ []) → half_fault z h t ≡ None → Holds new [] → new.offset ≡ old.offset + 1 → new.refusal ≡ None →
     IsPlayed z class (s ++ byte ∷ []) new (half_step z h t)
 played_more z class s old new h byte t p spelled none holds offset unrefused = record {
@@ -81,7 +81,7 @@ around front y s rest byte e =
     ∙ ap (λ (xs : List ℕ). front ++ xs) (sym (append_assoc y (byte ∷ []) rest))
 
 -- the byte ends a token that has a fault
-pub deserved : (z : Size) (class : Class) (s rest : List ℕ) (scanner : Scanning) (h : HalfState) (byte : ℕ) (t : Token) (fault : Fault) (p : IsPlayed z class s scanner h) →
+pub deserved : (z : Size) (class : Class) (s rest : List ℕ) (scanner : Scanning) (h : HalfState) (byte : ℕ) (t : TokenKind) (fault : Fault) (p : IsPlayed z class s scanner h) →
     SpellsToken t (p.open_part ++ byte ∷ []) → half_fault z h t ≡ Some fault.cause → fault.offset + length p.open_part ≡ scanner.offset → IsFirstFault z class (s ++ byte ∷ rest) fault
 deserved z class s rest scanner h byte t fault p spelled some start = record {
   size = p.size;
@@ -225,7 +225,7 @@ byte_goes_on old new scanner after byte same is scans offset unrefused = rw is (
       played_on old.size class s old.scanner after old.state byte p told.1 (rw same at offset) unrefused;
 })
 
-pub byte_plays : (old new : Playing) (scanner after : Scanning) (byte : ℕ) (token : Spelled) (t : Token) → scanner ≡ old.scanner → t ≡ token_of (kind_of token) →
+pub byte_plays : (old new : Playing) (scanner after : Scanning) (byte : ℕ) (token : Spelled) (t : TokenKind) → scanner ≡ old.scanner → t ≡ shown_kind (kind_of token) →
     new ≡ record old { fed = old.fed + 1; scanner = after; state = half_step old.size old.state t } → half_fault old.size old.state t ≡ None →
     (scanner.refusal ≡ None → (y : List ℕ) → Holds scanner y → IsTokenOf token scanner.offset y byte × Holds after []) →
     after.offset ≡ scanner.offset + 1 → after.refusal ≡ None → GoesOn old (byte ∷ []) new
@@ -238,7 +238,7 @@ byte_plays old new scanner after byte token t same kind is none scans offset unr
       played_more old.size class s old.scanner after old.state byte t p (rw kind told.0.spelled) none told.1 (rw same at offset) unrefused;
 })
 
-pub byte_deserved : (old : Playing) (scanner after : Scanning) (byte : ℕ) (token : Spelled) (t : Token) (fault : Fault) → scanner ≡ old.scanner → t ≡ token_of (kind_of token) →
+pub byte_deserved : (old : Playing) (scanner after : Scanning) (byte : ℕ) (token : Spelled) (t : TokenKind) (fault : Fault) → scanner ≡ old.scanner → t ≡ shown_kind (kind_of token) →
     fault.offset ≡ start_of token → half_fault old.size old.state t ≡ Some fault.cause →
     (scanner.refusal ≡ None → (y : List ℕ) → Holds scanner y → IsTokenOf token scanner.offset y byte × Holds after []) → (rest : List ℕ) → IsDeserved old (byte ∷ rest) fault
 byte_deserved old scanner after byte token t fault same kind start some scans rest class s p =

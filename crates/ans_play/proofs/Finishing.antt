@@ -6,17 +6,17 @@ use Rattle.std.proofs.lemmas.List.{length-take, append-nil}
 use Rattle.std.proofs.lemmas.List.Elements.{All-take}
 use Rattle.std.proofs.lemmas.Nat.{mul-le}
 use Rattle.std.proofs.Math.Nat.{div-lt_iff_lt-mul}
-use Rattle.ans_model.specs.Token.{Token}
-use Rattle.ans_model.specs.Reads.{Reads}
-use Rattle.ans_model.specs.State.{Size, State, at, index, cell_count, IsStated, IsByteCell, IsWellFormed}
+use Rattle.ans_model.specs.Sequence.TokenKind.{TokenKind}
+use Rattle.ans_model.specs.Sequence.Reads.{Reads}
+use Rattle.ans_model.specs.Screen.State.{Size, State, at, index, cell_count, IsStated, IsByteCell, IsWellFormed}
 use Rattle.ans_model.specs.declared.cell.Cell.{Cell}
 use Rattle.ans_model.specs.declared.cell.Position.{Position}
-use Rattle.ans_model.specs.Step.{final}
-use Rattle.ans_model.specs.Starts.{Class, class_of, IsStart, low_start, high_start}
-use Rattle.ans_model.specs.Good.{Picture, Shows, GoodWith, IsGood}
-use Rattle.ans_model.specs.Refusals.{fault_at}
-use Rattle.ans_model.specs.LastFault.{SameCell, CellsDiffer, IsBefore, IsFirstUnknown, EndsInSequence, LeavesUnknown, IsLastFault}
-use Rattle.ans_model.specs.Sequence.{IsUnfinished}
+use Rattle.ans_model.specs.Screen.Step.{final}
+use Rattle.ans_model.specs.Screen.Starts.{Class, class_of, IsStart, low_start, high_start}
+use Rattle.ans_model.specs.Verdict.Good.{Picture, Shows, GoodWith, IsGood}
+use Rattle.ans_model.specs.File.Refusals.{fault_at}
+use Rattle.ans_model.specs.Verdict.LastFault.{SameCell, CellsDiffer, IsBefore, IsFirstUnknown, EndsInSequence, LeavesUnknown, IsLastFault}
+use Rattle.ans_model.specs.Sequence.Spelling.{IsUnfinished}
 use Rattle.ans_model.specs.declared.fault.Fault.{Fault}
 use Rattle.ans_tokens.specs.Scanning.{Scanning, Holds}
 use Rattle.ans_model.specs.declared.fault.Cause.TheVariants.{EndInSequence, UnknownCell}
@@ -63,7 +63,7 @@ place_stated : (z : Size) (i : ℕ) → 0 < z.width → i < z.lines * z.width �
 unfolding place_of
 place_stated z i w l = ((div-lt_iff_lt-mul w).1 l, omega arith)
 
-module _ (z : Size) (class : Class) (tokens : List Token) (h : HalfState) (w : 0 < z.width) (st : IsKnownAfter z class tokens h) where
+module _ (z : Size) (class : Class) (tokens : List TokenKind) (h : HalfState) (w : 0 < z.width) (st : IsKnownAfter z class tokens h) where
   -- ---- one cell
   pub same_if : (p : Position) (i : ℕ) (c : HalfCell) → index z p ≡ i → slice_get h.screen i ≡ Some c → is_known c ≡ true → SameCell z class tokens p
   same_if p i c at_i e k s t start_s start_t =

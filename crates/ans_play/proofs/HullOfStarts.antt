@@ -3,11 +3,11 @@ use Rattle.std.proofs.Common.{◌≡◌, ℕ, zero, suc, ◌-◌, Bool, true, fa
 use Rattle.std.specs.Prelude.{if◌then◌else◌, IsTrue}
 use Rattle.std.specs.List.{AllZip}
 use Rattle.std.specs.Int.Bits.{and_zero_r}
-use Rattle.ans_model.specs.State.{Size, State, at, cell_count, IsOnScreen}
+use Rattle.ans_model.specs.Screen.State.{Size, State, at, cell_count, IsOnScreen}
 use Rattle.ans_model.specs.declared.cell.Cell.{Cell}
 use Rattle.ans_model.specs.declared.cell.Position.{Position}
-use Rattle.ans_model.specs.Step.{blank_cell}
-use Rattle.ans_model.specs.Starts.{Class, cleared, IsStart, low_start, high_start}
+use Rattle.ans_model.specs.Screen.Step.{blank_cell}
+use Rattle.ans_model.specs.Screen.Starts.{Class, cleared, IsStart, low_start, high_start}
 use Rattle.ans_screen.specs.KnownBits.{Agrees}
 use Rattle.ans_screen.specs.declared.cell.HalfCell.{HalfCell}
 use Rattle.ans_play.specs.HalfState.{DescribesCell, DescribesPlace, DescribesWrap, Describes}

@@ -2,7 +2,7 @@
 use Rattle.std.proofs.Common.{◌≡◌, ℕ, zero, suc, ◌-◌, refl, ap, arith, List, [], ◌∷◌, ◌++◌, length, take, drop, set, replicate}
 use Rattle.std.proofs.lemmas.List.{length-take, length-replicate, length-append}
 use Rattle.ans_model.specs.declared.cell.Cell.{Cell}
-use Rattle.ans_model.specs.Step.{filled}
+use Rattle.ans_model.specs.Screen.Step.{filled}
 use Rattle.ans_screen.specs.declared.cell.HalfCell.{HalfCell}
 use Rattle.ans_play.specs.Hull.{hull_cell, hull_screen}
 

@@ -2,11 +2,11 @@
 use Rattle.std.proofs.Common.{◌≡◌, ℕ, ◌+◌, ◌<◌, ◌≤◌, min, Bool, true, false, refl, sym, ap, ◌∙◌, arith, List, length, set, Option, Some, inl, inr}
 use Rattle.std.specs.Prelude.{if◌then◌else◌}
 use Rattle.std.proofs.lemmas.Bool.{cases_lt, lt-ltb, le-ltb, eq-eqb}
-use Rattle.ans_model.specs.Token.{Token, Glyph, BackSpace, LineFeed, CarriageReturn, Up, Down, Forward, Backward, Place, Clear, EraseLine, Save, Restore, Colours, Wrap}
-use Rattle.ans_model.specs.State.{Size, State, at, cell, cell_count, index, IsOnScreen}
+use Rattle.ans_model.specs.Sequence.TokenKind.{TokenKind, Glyph, BackSpace, LineFeed, CarriageReturn, Up, Down, Forward, Backward, Place, Clear, EraseLine, Save, Restore, Colours, Wrap}
+use Rattle.ans_model.specs.Screen.State.{Size, State, at, cell, cell_count, index, IsOnScreen}
 use Rattle.ans_model.specs.declared.cell.Cell.{Cell}
 use Rattle.ans_model.specs.declared.cell.Position.{Position}
-use Rattle.ans_model.specs.Step.{blank_cell, next_row_start, destination, step}
+use Rattle.ans_model.specs.Screen.Step.{blank_cell, next_row_start, destination, step}
 use Rattle.ans_screen.specs.KnownBits.{KnownBits}
 use Rattle.ans_screen.specs.Cells.{half_cell}
 use Rattle.ans_screen.specs.declared.cell.HalfCell.{HalfCell}
@@ -26,7 +26,7 @@ ends_of a b c d = span (at a b) (at c d)
 same_ends : (a b c d a' b' c' d' : ℕ) → a ≡ a' → b ≡ b' → c ≡ c' → d ≡ d' → ends_of a b c d ≡ ends_of a' b' c' d'
 same_ends a b c d a' b' c' d' p q r s = cc
 
-hull_moved : (z : Size) (t : Token) (p q : Position) → hull_place (destination z t p) (destination z t q) ≡ moved z t (hull_place p q)
+hull_moved : (z : Size) (t : TokenKind) (p q : Position) → hull_place (destination z t p) (destination z t q) ≡ moved z t (hull_place p q)
 unfolding ends_of
 hull_moved z (Up n) p q = same_ends _ _ _ _ _ _ _ _ (omega arith) refl (omega arith) refl
 hull_moved z (Down n) p q = same_ends _ _ _ _ _ _ _ _ (omega arith) refl (omega arith) refl
@@ -70,7 +70,7 @@ hull_next z v w p on = elim (cases_lt (p.column + 1) z.width) [
     wrapped true false last = same_ends _ _ _ _ _ _ _ _ (omega arith) (omega arith) (omega arith) (omega arith)
     wrapped false true last = same_ends _ _ _ _ _ _ _ _ (omega arith) (omega arith) (omega arith) (omega arith)
 
-hull_move : (z : Size) (a b : State) (t : Token) → hull (record a { cursor = destination z t a.cursor }) (record b { cursor = destination z t b.cursor }) ≡ record (hull a b) { cursor = moved z t (hull a b).cursor }
+hull_move : (z : Size) (a b : State) (t : TokenKind) → hull (record a { cursor = destination z t a.cursor }) (record b { cursor = destination z t b.cursor }) ≡ record (hull a b) { cursor = moved z t (hull a b).cursor }
 hull_move z a b t = same_half _ _ _ _ _ _ _ _ _ _ refl (hull_moved z t a.cursor b.cursor) refl refl refl
 
 -- what the two states of a hull have to be
@@ -87,7 +87,7 @@ min_self n = omega arith
 hull_byte_itself : (b : ℕ) → hull_byte b b ≡ Some b
 hull_byte_itself b = rw (eq-eqb b b refl)
 
-pub hull_step : (z : Size) (a b : State) (t : Token) → AreComparable z a b → IsAllowed z (hull a b) t → hull (step z a t) (step z b t) ≡ half_step z (hull a b) t
+pub hull_step : (z : Size) (a b : State) (t : TokenKind) → AreComparable z a b → IsAllowed z (hull a b) t → hull (step z a t) (step z b t) ≡ half_step z (hull a b) t
 unfolding ends_of
 hull_step z a b Clear c k = same_half _ _ _ _ _ _ _ _ _ _ (hull_screen-replicate (cell_count z) (blank_cell a.attribute) (blank_cell b.attribute)) refl refl refl refl
 hull_step z a b EraseLine c k =

@@ -10,7 +10,7 @@ use Rattle.std.proofs.lemmas.List.Elements.{All-head, All-tail}
 use Rattle.std.proofs.lemmas.List.Quantifiers.{position-Some}
 use Rattle.std.proofs.lemmas.List.Sums.{fails_before_first}
 use Rattle.std.proofs.lemmas.Option.{slice_get-get_or}
-use Rattle.ans_model.specs.State.{cell, IsByteCell}
+use Rattle.ans_model.specs.Screen.State.{cell, IsByteCell}
 use Rattle.ans_model.specs.declared.cell.Cell.{Cell}
 use Rattle.ans_screen.specs.Cells.{is_known}
 use Rattle.ans_screen.specs.Grids.{is_unknown, first_unknown}

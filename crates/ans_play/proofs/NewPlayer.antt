@@ -1,8 +1,8 @@
 -- A new player stands where nothing was fed.
 use Rattle.std.proofs.Common.{◌≡◌, ℕ, ◌-◌, ◌*◌, ◌+◌, refl, sym, ap, ◌∙◌, arith, List, [], replicate, mul_comm, Some, None}
-use Rattle.ans_model.specs.State.{Size, IsSize, at, cell, cell_count}
-use Rattle.ans_model.specs.Step.{blank_cell}
-use Rattle.ans_model.specs.Starts.{class_of, low_start, high_start}
+use Rattle.ans_model.specs.Screen.State.{Size, IsSize, at, cell, cell_count}
+use Rattle.ans_model.specs.Screen.Step.{blank_cell}
+use Rattle.ans_model.specs.Screen.Starts.{class_of, low_start, high_start}
 use Rattle.ans_model.specs.declared.start.Start.{Start}
 use Rattle.ans_model.specs.declared.start.Start.TheVariants.{Any, Cleared}
 use Rattle.ans_tokens.specs.Scanning.{fresh}

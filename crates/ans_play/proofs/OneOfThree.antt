@@ -5,18 +5,18 @@ use Rattle.std.specs.List.{AllByRecursion, AllZip, concat}
 use Rattle.std.proofs.lemmas.List.{append-nil}
 use Rattle.std.proofs.lemmas.List.Elements.{All-head, All-tail}
 use Rattle.ans_model.specs.Bytes.{IsByte}
-use Rattle.ans_model.specs.Token.{Token}
+use Rattle.ans_model.specs.Sequence.TokenKind.{TokenKind}
 use Rattle.ans_model.specs.declared.fault.Fault.{Fault}
 use Rattle.ans_model.specs.declared.fault.Cause.TheVariants.{EndInSequence}
-use Rattle.ans_model.specs.Reads.{SpellsToken, Reads}
-use Rattle.ans_model.specs.Refusals.{fault_at}
-use Rattle.ans_model.specs.Sequence.{IsUnfinished}
-use Rattle.ans_model.specs.State.{Size, IsSize}
-use Rattle.ans_model.specs.Starts.{Class}
-use Rattle.ans_model.specs.TokenFault.{IsClean}
-use Rattle.ans_model.specs.Good.{IsGood}
-use Rattle.ans_model.specs.FirstFault.{IsFirstFault}
-use Rattle.ans_model.specs.LastFault.{IsLastFault}
+use Rattle.ans_model.specs.Sequence.Reads.{SpellsToken, Reads}
+use Rattle.ans_model.specs.File.Refusals.{fault_at}
+use Rattle.ans_model.specs.Sequence.Spelling.{IsUnfinished}
+use Rattle.ans_model.specs.Screen.State.{Size, IsSize}
+use Rattle.ans_model.specs.Screen.Starts.{Class}
+use Rattle.ans_model.specs.Verdict.TokenFault.{IsClean}
+use Rattle.ans_model.specs.Verdict.Good.{IsGood}
+use Rattle.ans_model.specs.Verdict.FirstFault.{IsFirstFault}
+use Rattle.ans_model.specs.Verdict.LastFault.{IsLastFault}
 use Rattle.ans_model.proofs.Reading.{reads_bytes}
 use Rattle.ans_tokens.specs.Scanning.{Nothing, scanning}
 use Rattle.ans_tokens.proofs.EachByte.{IsOpen, open_ends}
@@ -34,15 +34,15 @@ abbrev pub HasAnAnswer : Size → Class → List ℕ → Type 0
 HasAnAnswer z class bytes = IsGood z class bytes ⊎ ((f : Fault) × IsFirstFault z class bytes f) ⊎ ((f : Fault) × IsLastFault z class bytes f)
 
 -- the texts of tokens around one of them
-pub record IsTextAt (tokens : List Token) (texts : List (List ℕ)) (n : ℕ) (t : Token) : Type 0 where
+pub record IsTextAt (tokens : List TokenKind) (texts : List (List ℕ)) (n : ℕ) (t : TokenKind) : Type 0 where
   pub text : List ℕ
   pub spelled : SpellsToken t text
   pub whole : concat texts ≡ concat (take n texts) ++ (text ++ concat (drop (suc n) texts))
 
-same_some : (a b : Token) → Some a ≡ Some b → a ≡ b
+same_some : (a b : TokenKind) → Some a ≡ Some b → a ≡ b
 same_some a b e = cc
 
-text_at : (tokens : List Token) (texts : List (List ℕ)) (n : ℕ) (t : Token) → AllZip SpellsToken tokens texts → slice_get tokens n ≡ Some t → IsTextAt tokens texts n t
+text_at : (tokens : List TokenKind) (texts : List (List ℕ)) (n : ℕ) (t : TokenKind) → AllZip SpellsToken tokens texts → slice_get tokens n ≡ Some t → IsTextAt tokens texts n t
 text_at [] texts n t each e = absurd (cc)
 text_at (u ∷ tokens) [] n t each e = absurd each
 text_at (u ∷ tokens) (x ∷ texts) zero t each e = record { text = x; spelled = rw (same_some u t e) at each.0; whole = refl }

@@ -4,8 +4,8 @@ use Rattle.std.specs.Prelude.{IfSome, unwrap_or}
 use Rattle.std.proofs.lemmas.List.{length-map, length-take}
 use Rattle.std.proofs.lemmas.List.Elements.{All-map, All-take, All-weaker}
 use Rattle.ans_model.specs.Bytes.{IsByte}
-use Rattle.ans_model.specs.State.{Size, IsByteCell}
-use Rattle.ans_model.specs.Good.{Picture, IsPictureOf}
+use Rattle.ans_model.specs.Screen.State.{Size, IsByteCell}
+use Rattle.ans_model.specs.Verdict.Good.{Picture, IsPictureOf}
 use Rattle.ans_screen.specs.declared.cell.HalfCell.{HalfCell}
 use Rattle.ans_play.specs.Playing.{IsByteHalfCell}
 use Rattle.ans_play.specs.Shown.{known_cell, stated_cells, picture_of, IsShown}

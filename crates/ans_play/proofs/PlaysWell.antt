@@ -2,15 +2,15 @@
 use Rattle.std.proofs.Common.{◌≡◌, ◌≢◌, ℕ, ap, ◌∙◌, List, take, Some, inl, inr}
 use Rattle.std.specs.Prelude.{◌⊎◌, slice_get}
 use Rattle.std.proofs.lemmas.Bool.{cases_eq}
-use Rattle.ans_model.specs.Token.{Token, Glyph, LineFeed, EraseLine}
-use Rattle.ans_model.specs.State.{Size}
+use Rattle.ans_model.specs.Sequence.TokenKind.{TokenKind, Glyph, LineFeed, EraseLine}
+use Rattle.ans_model.specs.Screen.State.{Size}
 use Rattle.ans_model.specs.declared.cell.Position.{Position}
-use Rattle.ans_model.specs.Step.{final}
-use Rattle.ans_model.specs.Starts.{Class}
-use Rattle.ans_model.specs.TokenFault.{HasFault, IsClean, SamePlace, PlacesDiffer}
+use Rattle.ans_model.specs.Screen.Step.{final}
+use Rattle.ans_model.specs.Screen.Starts.{Class}
+use Rattle.ans_model.specs.Verdict.TokenFault.{HasFault, IsClean, SamePosition, PositionsDiffer}
 use Rattle.ans_model.specs.declared.fault.Cause.{Cause}
 use Rattle.ans_model.specs.declared.fault.Cause.TheVariants.{PrintBelow, Scrolls, PrintUnknownPlace, EraseUnknownPlace, MayScroll}
-use Rattle.ans_model.specs.Good.{PlaysWell}
+use Rattle.ans_model.specs.Verdict.Good.{PlaysWell}
 use Rattle.ans_play.proofs.Describing.{same_position}
 
 place_eq : (p q : Position) → (p ≡ q) ⊎ (p ≢ q)
@@ -22,8 +22,8 @@ place_eq p q = elim (cases_eq p.row q.row) [
   | inr n ↦ inr (λ e. n (ap (λ (x : Position). x.row) e))
 ]
 
-module _ (z : Size) (class : Class) (tokens : List Token) (clean : IsClean z class tokens) where
-  one_place : (k : ℕ) (t : Token) (cause : Cause) → slice_get tokens k ≡ Some t → (PlacesDiffer z class (take k tokens) → HasFault z class (take k tokens) t cause) → SamePlace z class (take k tokens)
+module _ (z : Size) (class : Class) (tokens : List TokenKind) (clean : IsClean z class tokens) where
+  one_place : (k : ℕ) (t : TokenKind) (cause : Cause) → slice_get tokens k ≡ Some t → (PositionsDiffer z class (take k tokens) → HasFault z class (take k tokens) t cause) → SamePosition z class (take k tokens)
   one_place k t cause e f s r start_s start_r = elim (place_eq (final z s (take k tokens)).cursor (final z r (take k tokens)).cursor) [
     | inl same ↦ same
     | inr ne ↦ absurd (clean k cause (t, e, f (s, r, start_s, start_r, ne)))
@@ -42,7 +42,7 @@ module _ (z : Size) (class : Class) (tokens : List Token) (clean : IsClean z cla
           ]),
     );
     never_prints_below = λ k byte e s start b.
-        let same : SamePlace z class (take k tokens) = one_place k (Glyph byte) PrintUnknownPlace e (λ n. inr n) in
+        let same : SamePosition z class (take k tokens) = one_place k (Glyph byte) PrintUnknownPlace e (λ n. inr n) in
         clean k PrintBelow (Glyph byte, e, inr (same, λ r start_r. ap (λ (p : Position). p.row) (same r s start_r start) ∙ b));
     prints_at_one_place = λ k byte e. one_place k (Glyph byte) PrintUnknownPlace e (λ n. inr n);
     erases_at_one_place = λ k e. one_place k EraseLine EraseUnknownPlace e (λ n. inr n);

@@ -7,13 +7,13 @@ use Rattle.std.specs.Prelude.{Bool, true, false, ◌≢◌, ◌==◌, if◌then�
 use Rattle.std.proofs.lemmas.Bool.{eqb-false, lt-ltb}
 use Rattle.std.proofs.lemmas.Bool.Decides.{nat_tests}
 use Rattle.ans_model.specs.Bytes.{IsByte}
-use Rattle.ans_model.specs.Token.{Glyph}
-use Rattle.ans_model.specs.State.{Size, at, index, cell_count}
+use Rattle.ans_model.specs.Sequence.TokenKind.{Glyph}
+use Rattle.ans_model.specs.Screen.State.{Size, at, index, cell_count}
 use Rattle.ans_model.specs.declared.start.Start.{Start}
 use Rattle.ans_model.specs.declared.cell.Position.{Position}
 use Rattle.ans_model.specs.declared.fault.Cause.{Cause}
 use Rattle.ans_model.specs.declared.fault.Cause.TheVariants.{PrintBelow, PrintUnknownPlace}
-use Rattle.ans_model.specs.Starts.{Class}
+use Rattle.ans_model.specs.Screen.Starts.{Class}
 use Rattle.ans_model.specs.declared.fault.Fault.{Fault}
 use Rattle.ans_tokens.specs.Scanning.{Scanning, Kept, Holds, scanning}
 use Rattle.ans_tokens.specs.Glyphs.{IsGlyphByte, IsGlyphFront, IsBetweenTokens, past}

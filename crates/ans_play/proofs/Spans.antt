@@ -1,12 +1,12 @@
 -- A move keeps a cursor's span on the screen.
 use Rattle.std.proofs.Common.{arith}
-use Rattle.ans_model.specs.Token.{Token, BackSpace, CarriageReturn, Up, Down, Forward, Backward, Place}
-use Rattle.ans_model.specs.State.{Size}
+use Rattle.ans_model.specs.Sequence.TokenKind.{TokenKind, BackSpace, CarriageReturn, Up, Down, Forward, Backward, Place}
+use Rattle.ans_model.specs.Screen.State.{Size}
 use Rattle.ans_play.specs.declared.span.Span.{Span}
 use Rattle.ans_play.specs.HalfState.{IsSpanOnScreen}
 use Rattle.ans_play.specs.HalfStep.{moved}
 
-pub moved_on_screen : (z : Size) (t : Token) (s : Span) → IsSpanOnScreen z s → IsSpanOnScreen z (moved z t s)
+pub moved_on_screen : (z : Size) (t : TokenKind) (s : Span) → IsSpanOnScreen z s → IsSpanOnScreen z (moved z t s)
 moved_on_screen z (Up n) s h = record { rows = omega (arith, h.rows); columns = h.columns; on_screen = (omega (arith, h.on_screen.0), h.on_screen.1) }
 moved_on_screen z (Down n) s h = record { rows = omega (arith, h.rows); columns = h.columns; on_screen = (omega arith, h.on_screen.1) }
 moved_on_screen z (Forward n) s h = record { rows = h.rows; columns = omega (arith, h.columns); on_screen = (h.on_screen.0, omega (arith, h.on_screen.1)) }

@@ -5,18 +5,18 @@ use Rattle.std.proofs.lemmas.Bool.{cases_eq}
 use Rattle.std.proofs.lemmas.List.{append-nil, take_more, take_all}
 use Rattle.std.proofs.lemmas.List.Elements.{All-get_or}
 use Rattle.std.proofs.lemmas.Option.{slice_get-get_or}
-use Rattle.ans_model.specs.Token.{Token, PrintsByte, Glyph, LineFeed, EraseLine, Bell}
+use Rattle.ans_model.specs.Sequence.TokenKind.{TokenKind, PrintsByte, Glyph, LineFeed, EraseLine, Bell}
 use Rattle.ans_model.specs.declared.fault.Fault.{Fault}
 use Rattle.ans_model.specs.declared.fault.Cause.{Cause}
 use Rattle.ans_model.specs.declared.fault.Cause.TheVariants.{PrintBelow, Scrolls, PrintUnknownPlace, EraseUnknownPlace, MayScroll, UnknownCell}
 use Rattle.ans_model.specs.declared.cell.Position.{Position}
-use Rattle.ans_model.specs.State.{Size, IsStated, index, cell_at, IsWellFormed}
-use Rattle.ans_model.specs.Starts.{Class, low_start, high_start}
-use Rattle.ans_model.specs.TokenFault.{HasFault, HasFaultAfter, PlacesDiffer, IsInSpareRow, FromSome, IsClean}
-use Rattle.ans_model.specs.FirstFault.{IsFirstFault, IsToBlame, IsRefused}
-use Rattle.ans_model.specs.LastFault.{IsLastFault, CellsDiffer, IsFirstUnknown}
-use Rattle.ans_model.specs.Certain.{IsCertain}
-use Rattle.ans_model.specs.TwoStarts.{low_final, high_final, CursorsDiffer, OneIsInSpareRow, IsFirstDifference, TwoStartsShow, IsShownByTwoStarts}
+use Rattle.ans_model.specs.Screen.State.{Size, IsStated, index, cell_at, IsWellFormed}
+use Rattle.ans_model.specs.Screen.Starts.{Class, low_start, high_start}
+use Rattle.ans_model.specs.Verdict.TokenFault.{HasFault, HasFaultAfter, PositionsDiffer, IsInSpareRow, FromSome, IsClean}
+use Rattle.ans_model.specs.Verdict.FirstFault.{IsFirstFault, IsToBlame, IsRefused}
+use Rattle.ans_model.specs.Verdict.LastFault.{IsLastFault, CellsDiffer, IsFirstUnknown}
+use Rattle.ans_model.specs.Laws.Certain.{IsCertain}
+use Rattle.ans_model.specs.Laws.TwoStarts.{low_final, high_final, CursorsDiffer, OneIsInSpareRow, IsFirstDifference, TwoStartsShow, IsShownByTwoStarts}
 use Rattle.ans_model.proofs.StartLemmas.{low_is_start, high_is_start}
 use Rattle.ans_model.proofs.OneCause.{static_is_certain}
 use Rattle.ans_model.proofs.OneAnswer.{refused_certain}
@@ -38,32 +38,32 @@ use Rattle.ans_play.proofs.Finishing.{same_if as same_cell_if, index_lt, no_cell
 
 -- ---- what is known after tokens, up to the first that has a fault
 -- the first n tokens are clean, and this is known after them
-pub record IsCleanTo (z : Size) (class : Class) (tokens : List Token) (n : ℕ) : Type 0 where
+pub record IsCleanTo (z : Size) (class : Class) (tokens : List TokenKind) (n : ℕ) : Type 0 where
   pub clean : IsClean z class (take n tokens)
   pub state : HalfState
   pub known : IsKnownAfter z class (take n tokens) state
 
 -- the tokens before one are clean, and it has a fault
-pub record HasBlamed (z : Size) (class : Class) (tokens : List Token) : Type 0 where
+pub record HasBlamed (z : Size) (class : Class) (tokens : List TokenKind) : Type 0 where
   pub place : ℕ
   pub within : place < length tokens
-  pub token : Token
+  pub token : TokenKind
   pub cause : Cause
   pub here : slice_get tokens place ≡ Some token
   pub clean : IsClean z class (take place tokens)
   pub fault : HasFault z class (take place tokens) token cause
 
-module _ (z : Size) (class : Class) (w : 0 < z.width) (tokens : List Token) (prints : All PrintsByte tokens) where
+module _ (z : Size) (class : Class) (w : 0 < z.width) (tokens : List TokenKind) (prints : All PrintsByte tokens) where
   one_more : (n : ℕ) → n < length tokens → (c : IsCleanTo z class tokens n) → (o : Option Cause) → half_fault z c.state (get_or tokens n Bell) ≡ o
       → IsCleanTo z class tokens (n + 1) ⊎ HasBlamed z class tokens
   one_more n lt c None e =
-      let t : Token = get_or tokens n Bell in
+      let t : TokenKind = get_or tokens n Bell in
       let more : take (n + 1) tokens ≡ take n tokens ++ t ∷ [] = take_more tokens n Bell lt in
       inl (record {
-        clean = subst (λ (ts : List Token). IsClean z class ts) (sym more)
+        clean = subst (λ (ts : List TokenKind). IsClean z class ts) (sym more)
             (clean_more z class (take n tokens) t c.clean (λ cause. unblamed z class (take n tokens) c.state w c.known t cause e));
         state = half_step z c.state t;
-        known = subst (λ (ts : List Token). IsKnownAfter z class ts (half_step z c.state t)) (sym more)
+        known = subst (λ (ts : List TokenKind). IsKnownAfter z class ts (half_step z c.state t)) (sym more)
             (known_more z class (take n tokens) c.state t w (All-get_or PrintsByte tokens n Bell lt prints) c.known
             (allowed z class (take n tokens) c.state w c.known t e));
       })
@@ -90,8 +90,8 @@ module _ (z : Size) (class : Class) (w : 0 < z.width) (tokens : List Token) (pri
     | inl c ↦
         let all : take (length tokens) tokens ≡ tokens = take_all (length tokens) tokens (omega arith) in
         inl (
-          subst (λ (ts : List Token). IsClean z class ts) all c.clean,
-          (c.state, subst (λ (ts : List Token). IsKnownAfter z class ts c.state) all c.known),
+          subst (λ (ts : List TokenKind). IsClean z class ts) all c.clean,
+          (c.state, subst (λ (ts : List TokenKind). IsKnownAfter z class ts c.state) all c.known),
         )
     | inr b ↦ inr b
   ]
@@ -103,21 +103,21 @@ module _ (z : Size) (class : Class) (w : 0 < z.width) (tokens : List Token) (pri
   ]
 
 -- ---- what the two plays show
-certain_shows : (z : Size) (class : Class) (tokens : List Token) (c : Cause) → IsCertain c → TwoStartsShow z class tokens c
+certain_shows : (z : Size) (class : Class) (tokens : List TokenKind) (c : Cause) → IsCertain c → TwoStartsShow z class tokens c
 certain_shows z class tokens PrintUnknownPlace h = absurd h
 certain_shows z class tokens EraseUnknownPlace h = absurd h
 certain_shows z class tokens MayScroll h = absurd h
 certain_shows z class tokens (UnknownCell row column) h = absurd h
 certain_shows z class tokens _ h = tt
 
-module _ (z : Size) (class : Class) (tokens : List Token) (w : 0 < z.width) (h : HalfState) (st : IsKnownAfter z class tokens h) where
+module _ (z : Size) (class : Class) (tokens : List TokenKind) (w : 0 < z.width) (h : HalfState) (st : IsKnownAfter z class tokens h) where
   low_well : IsWellFormed z (low_final z class tokens)
   low_well = st.well_formed (low_start z class) (low_is_start z class w)
 
   high_well : IsWellFormed z (high_final z class tokens)
   high_well = st.well_formed (high_start z class) (high_is_start z class w)
 
-  cursors_differ : PlacesDiffer z class tokens → CursorsDiffer z class tokens
+  cursors_differ : PositionsDiffer z class tokens → CursorsDiffer z class tokens
   cursors_differ d e =
       let one : is_one_place h.cursor ≡ true =
       one_place_then h.cursor
@@ -139,7 +139,7 @@ module _ (z : Size) (class : Class) (tokens : List Token) (w : 0 < z.width) (h :
         ]
       ]
 
-  shown_after : (t : Token) (c : Cause) → HasFaultAfter z class tokens t c → TwoStartsShow z class tokens c
+  shown_after : (t : TokenKind) (c : Cause) → HasFaultAfter z class tokens t c → TwoStartsShow z class tokens c
   shown_after (Glyph byte) PrintUnknownPlace f = cursors_differ f
   shown_after (Glyph byte) PrintBelow f = tt
   shown_after EraseLine EraseUnknownPlace f = cursors_differ f
@@ -147,7 +147,7 @@ module _ (z : Size) (class : Class) (tokens : List Token) (w : 0 < z.width) (h :
   shown_after LineFeed MayScroll f = one_in_spare_row f.0 f.1
   shown_after _ _ f = absurd f
 
-  shown_fault : (t : Token) (c : Cause) → HasFault z class tokens t c → TwoStartsShow z class tokens c
+  shown_fault : (t : TokenKind) (c : Cause) → HasFault z class tokens t c → TwoStartsShow z class tokens c
   shown_fault t c (inl f) = certain_shows z class tokens c (static_is_certain z t c f)
   shown_fault t c (inr f) = shown_after t c f
 

@@ -1,7 +1,7 @@
 -- A relation of two lists, place by place, through the edits of a screen.
 use Rattle.std.specs.List.{AllZip}
 use Rattle.std.proofs.Common.{◌≡◌, ℕ, zero, suc, List, [], ◌∷◌, ◌++◌, take, drop, set, replicate, length, refl, ap}
-use Rattle.ans_model.specs.Step.{filled}
+use Rattle.ans_model.specs.Screen.Step.{filled}
 use Rattle.std.specs.Prelude.{◌-◌}
 
 module _ {A B : Type 0} (R : A → B → Type 0) where

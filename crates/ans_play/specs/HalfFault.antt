@@ -1,7 +1,7 @@
 -- The fault that a half-known state shows at a token.
 use Rattle.std.specs.Prelude.{◌+◌, ◌&&◌, ◌||◌, Bool, Option, Some, None, if◌then◌else◌, nat_lt, ◌==◌}
-use Rattle.ans_model.specs.Token.{Token, Glyph, LineFeed, EraseLine, Tab, Place, Mode, Keys, Ask}
-use Rattle.ans_model.specs.State.{Size}
+use Rattle.ans_model.specs.Sequence.TokenKind.{TokenKind, Glyph, LineFeed, EraseLine, Tab, Place, Mode, Keys, Ask}
+use Rattle.ans_model.specs.Screen.State.{Size}
 use Rattle.ans_model.specs.declared.fault.Cause.{Cause}
 use Rattle.ans_model.specs.declared.fault.Cause.TheVariants.{KeyReassigned, ScreenMode, ReportAsked, TabByte, OutsideScreen, PrintBelow, Scrolls, PrintUnknownPlace, EraseUnknownPlace, MayScroll}
 use Rattle.ans_play.specs.declared.span.Span.{Span}
@@ -10,7 +10,7 @@ use Rattle.ans_play.specs.HalfState.{HalfState}
 abbrev pub is_one_place : Span → Bool
 is_one_place s = s.low.row == s.high.row && s.low.column == s.high.column
 
-abbrev pub half_fault : Size → HalfState → Token → Option Cause
+abbrev pub half_fault : Size → HalfState → TokenKind → Option Cause
 half_fault z h Keys = Some KeyReassigned
 half_fault z h Mode = Some ScreenMode
 half_fault z h Ask = Some ReportAsked

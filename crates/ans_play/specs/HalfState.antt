@@ -1,7 +1,7 @@
 -- A state of which parts are known, and the states that it describes.
 use Rattle.std.specs.Prelude.{◌≡◌, ℕ, ◌≤◌, Bool, true, false, List, IfSome}
 use Rattle.std.specs.List.{AllZip}
-use Rattle.ans_model.specs.State.{Size, State, at, IsOnScreen}
+use Rattle.ans_model.specs.Screen.State.{Size, State, at, IsOnScreen}
 use Rattle.ans_model.specs.declared.cell.Cell.{Cell}
 use Rattle.ans_model.specs.declared.cell.Position.{Position}
 use Rattle.ans_screen.specs.KnownBits.{KnownBits, Agrees}

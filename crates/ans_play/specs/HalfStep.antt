@@ -1,10 +1,10 @@
 -- What one token does to a half-known state, where it has no fault.
 use Rattle.std.specs.Prelude.{ℕ, ◌+◌, ◌-◌, Bool, true, false, List, fold, replicate, set, if◌then◌else◌, nat_lt}
 use Rattle.ans_model.specs.Bytes.{blank}
-use Rattle.ans_model.specs.Token.{Token, Glyph, LineFeed, Clear, EraseLine, Save, Restore, Colours, Wrap}
-use Rattle.ans_model.specs.State.{Size, at, cell_count, index}
+use Rattle.ans_model.specs.Sequence.TokenKind.{TokenKind, Glyph, LineFeed, Clear, EraseLine, Save, Restore, Colours, Wrap}
+use Rattle.ans_model.specs.Screen.State.{Size, at, cell_count, index}
 use Rattle.ans_model.specs.declared.cell.Position.{Position}
-use Rattle.ans_model.specs.Step.{filled, next_row_start, destination}
+use Rattle.ans_model.specs.Screen.Step.{filled, next_row_start, destination}
 use Rattle.ans_screen.specs.KnownBits.{KnownBits, known_after}
 use Rattle.ans_screen.specs.Cells.{printed_cell}
 use Rattle.ans_screen.specs.declared.cell.HalfCell.{HalfCell}
@@ -21,7 +21,7 @@ abbrev pub half_blank : KnownBits → HalfCell
 half_blank attribute = printed_cell attribute blank
 
 -- a token that only moves the cursor moves both ends
-abbrev pub moved : Size → Token → Span → Span
+abbrev pub moved : Size → TokenKind → Span → Span
 moved z t s = span (destination z t s.low) (destination z t s.high)
 
 -- one row down, above the spare row
@@ -43,7 +43,7 @@ abbrev pub wrap_of : Bool → WrapMode
 wrap_of true = On
 wrap_of false = Off
 
-abbrev pub half_step : Size → HalfState → Token → HalfState
+abbrev pub half_step : Size → HalfState → TokenKind → HalfState
 half_step z h Clear = record h { screen = replicate (cell_count z) (half_blank h.attribute); cursor = one_place 0 0 }
 half_step z h EraseLine =
     record h { screen = filled h.screen (index z h.cursor.low) (next_row_start z h.cursor.low) (half_blank h.attribute) }

@@ -1,6 +1,6 @@
 -- All that two states have in common.
 use Rattle.std.specs.Prelude.{ℕ, min, max, Bool, true, false, List, map, zip, Option, Some, None, if◌then◌else◌, ◌==◌, bit_and, bit_xor}
-use Rattle.ans_model.specs.State.{State, at}
+use Rattle.ans_model.specs.Screen.State.{State, at}
 use Rattle.ans_model.specs.declared.cell.Cell.{Cell}
 use Rattle.ans_model.specs.declared.cell.Position.{Position}
 use Rattle.ans_screen.specs.KnownBits.{KnownBits, known_bits}

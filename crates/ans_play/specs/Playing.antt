@@ -1,7 +1,7 @@
 -- A player, as contracts see it.
 use Rattle.std.specs.Prelude.{◌≡◌, ℕ, ◌≤◌, length, All, Option, None, IfSome}
 use Rattle.ans_model.specs.Bytes.{IsByte, most_columns, most_lines}
-use Rattle.ans_model.specs.State.{Size, cell_count}
+use Rattle.ans_model.specs.Screen.State.{Size, cell_count}
 use Rattle.ans_model.specs.declared.start.Start.{Start}
 use Rattle.ans_model.specs.declared.fault.Fault.{Fault}
 use Rattle.ans_tokens.specs.Scanning.{Scanning}

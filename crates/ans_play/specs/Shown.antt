@@ -2,8 +2,8 @@
 use Rattle.std.specs.Prelude.{ℕ, ◌*◌, ◌≤◌, IsTrue, List, length, All, map, take, Option, unwrap_or}
 use Rattle.std.specs.List.{list_all}
 use Rattle.std.specs.Option.{option_map}
-use Rattle.ans_model.specs.State.{Size, at, cell, cell_at}
-use Rattle.ans_model.specs.Good.{Picture}
+use Rattle.ans_model.specs.Screen.State.{Size, at, cell, cell_at}
+use Rattle.ans_model.specs.Verdict.Good.{Picture}
 use Rattle.ans_model.specs.declared.cell.Cell.{Cell}
 use Rattle.ans_screen.specs.Cells.{is_known}
 use Rattle.ans_play.specs.Playing.{IsPlayableSize, IsByteHalfCell}

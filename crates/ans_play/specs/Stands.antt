@@ -1,12 +1,12 @@
 -- What a player says of the bytes that it was fed.
 use Rattle.std.specs.Prelude.{◌≡◌, ℕ, ◌+◌, ◌<◌, ◌≤◌, List, ◌++◌, length, take, Some, None}
-use Rattle.ans_model.specs.Token.{Token}
-use Rattle.ans_model.specs.Reads.{Reads}
-use Rattle.ans_model.specs.State.{Size, IsSize, IsWellFormed}
-use Rattle.ans_model.specs.Step.{final}
-use Rattle.ans_model.specs.Starts.{Class, class_of, low_start, high_start}
-use Rattle.ans_model.specs.TokenFault.{FromEvery, IsClean}
-use Rattle.ans_model.specs.FirstFault.{IsFirstFault}
+use Rattle.ans_model.specs.Sequence.TokenKind.{TokenKind}
+use Rattle.ans_model.specs.Sequence.Reads.{Reads}
+use Rattle.ans_model.specs.Screen.State.{Size, IsSize, IsWellFormed}
+use Rattle.ans_model.specs.Screen.Step.{final}
+use Rattle.ans_model.specs.Screen.Starts.{Class, class_of, low_start, high_start}
+use Rattle.ans_model.specs.Verdict.TokenFault.{FromEvery, IsClean}
+use Rattle.ans_model.specs.Verdict.FirstFault.{IsFirstFault}
 use Rattle.ans_model.specs.declared.start.Start.{Start}
 use Rattle.ans_model.specs.declared.fault.Fault.{Fault}
 use Rattle.ans_tokens.specs.Scanning.{Scanning, Holds}
@@ -16,7 +16,7 @@ use Rattle.ans_play.specs.Playing.{Playing}
 
 -- What is known of a state is all that is so after these tokens from every start: it describes each play, and is the hull of
 -- the plays from the low and the high start.
-pub record IsKnownAfter (z : Size) (class : Class) (tokens : List Token) (h : HalfState) : Type 0 where
+pub record IsKnownAfter (z : Size) (class : Class) (tokens : List TokenKind) (h : HalfState) : Type 0 where
   pub describes : FromEvery z class (λ s. Describes h (final z s tokens))
   pub is_hull : h ≡ hull (final z (low_start z class) tokens) (final z (high_start z class) tokens)
   pub well_formed : FromEvery z class (λ s. IsWellFormed z (final z s tokens))
@@ -28,7 +28,7 @@ pub record IsPlayed (z : Size) (class : Class) (bytes : List ℕ) (scanner : Sca
   pub front : List ℕ
   pub open_part : List ℕ
   pub whole : bytes ≡ front ++ open_part
-  pub tokens : List Token
+  pub tokens : List TokenKind
   pub reads : Reads front tokens
   pub clean : IsClean z class tokens
   pub known : IsKnownAfter z class tokens h

@@ -2,12 +2,12 @@
 
 ghost use Rattle.std.specs.Prelude.{◌⊎◌, ℕ, List, All};
 ghost use Rattle.ans_model.specs.Bytes.{IsByte};
-ghost use Rattle.ans_model.specs.State.{Size, IsSize};
-ghost use Rattle.ans_model.specs.Starts.{Class};
-ghost use Rattle.ans_model.specs.Good.{IsGood};
-ghost use Rattle.ans_model.specs.FirstFault.{IsFirstFault};
-ghost use Rattle.ans_model.specs.LastFault.{IsLastFault};
-ghost use Rattle.ans_model.specs.TwoStarts.{IsShownByTwoStarts};
+ghost use Rattle.ans_model.specs.Screen.State.{Size, IsSize};
+ghost use Rattle.ans_model.specs.Screen.Starts.{Class};
+ghost use Rattle.ans_model.specs.Verdict.Good.{IsGood};
+ghost use Rattle.ans_model.specs.Verdict.FirstFault.{IsFirstFault};
+ghost use Rattle.ans_model.specs.Verdict.LastFault.{IsLastFault};
+ghost use Rattle.ans_model.specs.Laws.TwoStarts.{IsShownByTwoStarts};
 ghost use Rattle.ans_model.specs.declared.fault.Fault.{Fault};
 
 /// Bytes are good, or have a first fault, or have a last one. By `ans_model::text_laws::one_answer`

@@ -14,8 +14,8 @@ pub struct Picture<G: Grid> {
 }
 
 impl<G: Grid> Model for Picture<G> {
-    ghost use Rattle.ans_model.specs.State.{sized};
-    ghost use Rattle.ans_model.specs.Good.{Picture};
+    ghost use Rattle.ans_model.specs.Screen.State.{sized};
+    ghost use Rattle.ans_model.specs.Verdict.Good.{Picture};
     ghost use Rattle.ans_play.specs.Shown.{picture_of, IsShown};
 
     ghost Value = { Picture };
@@ -26,8 +26,8 @@ impl<G: Grid> Model for Picture<G> {
 }
 
 impl<G: Grid> Picture<G> {
-    ghost use Rattle.ans_model.specs.State.{sized, at, cell_at};
-    ghost use Rattle.ans_model.specs.Good.{IsPictureOf};
+    ghost use Rattle.ans_model.specs.Screen.State.{sized, at, cell_at};
+    ghost use Rattle.ans_model.specs.Verdict.Good.{IsPictureOf};
     ghost use Rattle.ans_play.specs.Shown.{IsShown, picture_of, known_cell, byte_at, attribute_at};
 
     pub(crate) fn new(width: usize, lines: usize, grid: G) -> Picture<G>

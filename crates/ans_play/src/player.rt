@@ -2,14 +2,14 @@
 
 ghost use Rattle.std.specs.Prelude.{◌≡◌, ℕ, ◌+◌, ◌*◌, ◌<◌, ◌≤◌, List, [], ◌∷◌, ◌++◌, length, take, None, Some, IsOk, IfOk, IfErr, OnOk, OnErr};
 ghost use Rattle.ans_model.specs.Bytes.{most_columns, most_lines, longest_file};
-ghost use Rattle.ans_model.specs.Token.{Glyph, EraseLine, Clear};
-ghost use Rattle.ans_model.specs.View.{token_of};
-ghost use Rattle.ans_model.specs.State.{Size, sized};
-ghost use Rattle.ans_model.specs.Starts.{class_of};
-ghost use Rattle.ans_model.specs.Good.{GoodWith, IsGood};
-ghost use Rattle.ans_model.specs.FirstFault.{IsFirstFault};
-ghost use Rattle.ans_model.specs.LastFault.{IsLastFault};
-ghost use Rattle.ans_model.specs.Certain.{IsCertain};
+ghost use Rattle.ans_model.specs.Sequence.TokenKind.{Glyph, EraseLine, Clear};
+ghost use Rattle.ans_model.specs.Inside.ShownKind.{shown_kind};
+ghost use Rattle.ans_model.specs.Screen.State.{Size, sized};
+ghost use Rattle.ans_model.specs.Screen.Starts.{class_of};
+ghost use Rattle.ans_model.specs.Verdict.Good.{GoodWith, IsGood};
+ghost use Rattle.ans_model.specs.Verdict.FirstFault.{IsFirstFault};
+ghost use Rattle.ans_model.specs.Verdict.LastFault.{IsLastFault};
+ghost use Rattle.ans_model.specs.Laws.Certain.{IsCertain};
 ghost use Rattle.ans_model.specs.declared.start.Start.TheVariants.{Cleared};
 ghost use Rattle.ans_play.specs.HalfStep.{known_after_all};
 
@@ -43,7 +43,7 @@ pub struct Player<G: Grid> {
 }
 
 impl<G: Grid> Model for Player<G> {
-    ghost use Rattle.ans_model.specs.State.{sized};
+    ghost use Rattle.ans_model.specs.Screen.State.{sized};
     ghost use Rattle.ans_play.specs.HalfState.{half_state};
     ghost use Rattle.ans_play.specs.Playing.{Playing, playing, IsPlaying};
 
@@ -308,13 +308,13 @@ impl<G: Grid> Player<G> {
     /// Plays a token, or answers why it is refused.
     fn play(&mut self, kind: &Kind) -> Result<(), Cause>
         ensures played { OnOk result (self.new ≡ record self.old {
-          state = half_step self.old.size self.old.state (token_of kind.now);
+          state = half_step self.old.size self.old.state (shown_kind kind.now);
         }) }
         ensures clean { OnOk result
-            (half_fault self.old.size self.old.state (token_of kind.now) ≡ None) }
+            (half_fault self.old.size self.old.state (shown_kind kind.now) ≡ None) }
         ensures kept { OnErr result (self.new ≡ self.old) }
         ensures refused { IfErr result (λ cause.
-            half_fault self.old.size self.old.state (token_of kind.now) ≡ Some cause) }
+            half_fault self.old.size self.old.state (shown_kind kind.now) ≡ Some cause) }
     {
         match self.cause(kind) {
             Some(cause) => Err(cause),
@@ -327,7 +327,7 @@ impl<G: Grid> Player<G> {
 
     /// Why a token is refused, if it is.
     fn cause(&self, kind: &Kind) -> Option<Cause>
-        ensures { result ≡ half_fault self.now.size self.now.state (token_of kind.now) }
+        ensures { result ≡ half_fault self.now.size self.now.state (shown_kind kind.now) }
     {
         match kind {
             Kind::Keys => Some(Cause::KeyReassigned),
@@ -372,9 +372,9 @@ impl<G: Grid> Player<G> {
 
     /// What a token does that is not refused.
     fn step(&mut self, kind: &Kind)
-        requires { half_fault self.old.size self.old.state (token_of kind.now) ≡ None }
+        requires { half_fault self.old.size self.old.state (shown_kind kind.now) ≡ None }
         ensures { self.new ≡ record self.old {
-          state = half_step self.old.size self.old.state (token_of kind.now);
+          state = half_step self.old.size self.old.state (shown_kind kind.now);
         } }
     {
         match kind {

@@ -2,9 +2,9 @@
 
 ghost use Rattle.std.specs.Prelude.{◌≡◌, ◌-◌, ◌<◌, ◌≤◌, ◌^◌};
 ghost use Rattle.ans_model.specs.Bytes.{most_columns, most_lines};
-ghost use Rattle.ans_model.specs.State.{sized, IsOnScreen};
-ghost use Rattle.ans_model.specs.Step.{destination};
-ghost use Rattle.ans_model.specs.View.{token_of};
+ghost use Rattle.ans_model.specs.Screen.State.{sized, IsOnScreen};
+ghost use Rattle.ans_model.specs.Screen.Step.{destination};
+ghost use Rattle.ans_model.specs.Inside.ShownKind.{shown_kind};
 
 use ans_model::cell::Position;
 use ans_model::kind::Kind;
@@ -22,7 +22,7 @@ fn destination(place: Position, kind: &Kind, width: usize, lines: usize) -> Posi
     requires on_screen { IsOnScreen (sized width lines) place }
     requires columns { width ≤ most_columns }
     requires lines { lines ≤ most_lines }
-    ensures { result ≡ destination (sized width lines) (token_of kind.now) place }
+    ensures { result ≡ destination (sized width lines) (shown_kind kind.now) place }
 {
     let Position { row, column } = place;
     match kind {
@@ -83,7 +83,7 @@ impl Span {
         requires on_screen { IsSpanOnScreen (sized width lines) self }
         requires columns { width ≤ most_columns }
         requires lines { lines ≤ most_lines }
-        ensures moved { result ≡ moved (sized width lines) (token_of kind.now) self }
+        ensures moved { result ≡ moved (sized width lines) (shown_kind kind.now) self }
         ensures on_screen { IsSpanOnScreen (sized width lines) result }
     {
         Span {

@@ -13,19 +13,19 @@ use std::alloc::Global;
 use std::process::Abort;
 use std::test::Fail;
 
-/// What a content is answered: the bytes of its picture, and their attributes where they are to be
+/// What is expected of a content: the bytes of its picture, and their attributes where they are to be
 /// compared; or its fault.
 #[derive(Clone, Copy)]
-enum Answer {
+enum Expected {
     Shows(&'static [u8], &'static [u8]),
     Refused(usize, Cause),
 }
 
-use Answer::{Refused, Shows};
+use Expected::{Refused, Shows};
 
-/// The start, the stated width and lines, the content, and the answer.
+/// The class of starts, the stated width and lines, the content, and what is expected of it.
 #[derive(Clone, Copy)]
-struct Row(Start, usize, usize, &'static [u8], Answer);
+struct Row(Start, usize, usize, &'static [u8], Expected);
 
 fn feed<G: Grid>(rt: &impl Abort, player: &mut Player<G>, piece: &[u8]) -> Result<(), Fault> {
     let fed = player.fed();
@@ -54,7 +54,7 @@ fn assert_shows<G: Grid>(rt: &impl Abort, picture: &Picture<G>, bytes: &[u8], at
 }
 
 /// Feeds the first bytes of a row's content as one piece and the others in pieces of a size, with an
-/// empty piece behind each.
+/// empty piece after each.
 fn play(rt: &impl Abort, alloc: Global, row: Row, first: usize, size: usize) -> Result<(), Fail> {
     let Row(start, width, lines, content, wanted) = row;
     assert!(rt; 1 <= width && width <= 10 && 1 <= lines && lines <= 10);
@@ -76,7 +76,7 @@ fn play(rt: &impl Abort, alloc: Global, row: Row, first: usize, size: usize) -> 
             assert_eq!(rt; fault, Fault { offset, cause }, "in {content:?}");
             assert!(rt; met.is_ok() || met == Err(fault));
         }
-        _ => panic!(rt; "a picture for a fault, or the other way round, in {content:?}"),
+        _ => panic!(rt; "a picture where a fault was expected, or the reverse, in {content:?}"),
     }
     Ok(())
 }
@@ -187,7 +187,7 @@ fn play_letters(rt: &impl Abort, alloc: Global, content: &[u8], size: usize) -> 
     Ok(())
 }
 
-/// A sequence behind 4095 bytes, whichever way the bytes are cut.
+/// A sequence after 4095 bytes, whichever way the bytes are cut.
 #[test]
 fn plays_across_long_pieces(rt: HostRuntime) -> Result<(), Fail> {
     let mut content = vec![in rt.alloc(); b'a'; 4095]?;

@@ -1,7 +1,7 @@
 //! What is known of wrap.
 
 ghost use Rattle.std.specs.Prelude.{◌≡◌};
-ghost use Rattle.ans_model.specs.State.{sized, IsStated};
+ghost use Rattle.ans_model.specs.Screen.State.{sized, IsStated};
 
 use crate::span::Span;
 use ans_model::cell::Position;

@@ -1,8 +1,8 @@
 -- A report that tells the cells.
 use Rattle.std.proofs.Common.{◌≡◌, ◌++◌, List, ℕ, true, false, codes, append_assoc}
 use Rattle.std.specs.List.{flat_map}
-use Rattle.ans_model.specs.Good.{Picture, IsPictureOf}
-use Rattle.ans_model.specs.ReportText.{Heading, Passed, heading_text, report_text, rows_of, picture_line, cells_line}
+use Rattle.ans_model.specs.Verdict.Good.{Picture, IsPictureOf}
+use Rattle.ans_model.specs.Text.ReportText.{Heading, Passed, heading_text, report_text, rows_of, picture_line, cells_line}
 use Rattle.ans_model.proofs.CellsBack.{picture_law}
 use Rattle.ans_report.specs.declared.report.Report.{Report}
 use Rattle.ans_report.specs.declared.report.Report.TheVariants.{Pass, Refused}

@@ -6,10 +6,10 @@ use Rattle.std.specs.List.{flat_map}
 use Rattle.std.proofs.lemmas.List.{take_all, drop-drop, get_or-drop, get_or-take, length-take}
 use Rattle.std.proofs.lemmas.Option.{get_or_from_slice_get, slice_get_within}
 use Rattle.ans_model.specs.declared.cell.Cell.{Cell}
-use Rattle.ans_model.specs.Good.{Picture}
-use Rattle.ans_model.specs.Glyphs.{glyph_text, shown_bytes}
-use Rattle.ans_model.specs.ReportText.{rows, rows_of, picture_line, cell_digits}
-use Rattle.ans_model.specs.State.{cell}
+use Rattle.ans_model.specs.Verdict.Good.{Picture}
+use Rattle.ans_model.specs.Text.Characters.{glyph_text, shown_bytes}
+use Rattle.ans_model.specs.Text.ReportText.{rows, rows_of, picture_line, cell_digits}
+use Rattle.ans_model.specs.Screen.State.{cell}
 use Rattle.ans_report.specs.Rows.{row_of}
 
 -- a cell's character in UTF-8

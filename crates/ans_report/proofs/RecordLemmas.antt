@@ -3,14 +3,15 @@ use Rattle.std.proofs.Common.{◌≡◌, ℕ, ◌+◌, ◌-◌, ◌<◌, suc, ze
 use Rattle.std.specs.Prelude.{encode_utf8}
 use Rattle.std.specs.List.{flat_map}
 use Rattle.ans_model.specs.declared.note.Note.{Note}
-use Rattle.ans_model.specs.Glyphs.{glyph_text, shown_bytes}
-use Rattle.ans_model.specs.Hexadecimal.{hex_byte}
-use Rattle.ans_model.specs.State.{sized}
-use Rattle.ans_model.specs.Record.{title_field, author_field, group_field, date_field, font_field, file_size, comment_count, flags, stated_width, stated_lines, comment}
-use Rattle.ans_model.specs.Notes.{notes}
-use Rattle.ans_model.specs.FaultText.{note_line}
-use Rattle.ans_model.specs.ReportText.{size_text}
-use Rattle.ans_model.specs.RecordText.{named_line, field_line, comment_lines, record_text}
+use Rattle.ans_model.specs.Text.Characters.{glyph_text, shown_bytes}
+use Rattle.ans_model.specs.Text.Hexadecimal.{hex_byte}
+use Rattle.ans_model.specs.Screen.State.{sized}
+use Rattle.ans_model.specs.File.Record.{title_field, author_field, group_field, date_field, font_field, file_size, comment_count, flags, stated_width, stated_lines, comment}
+use Rattle.ans_model.specs.File.Layout.{FileParts}
+use Rattle.ans_model.specs.File.Notes.{notes}
+use Rattle.ans_model.specs.Text.FaultText.{note_line}
+use Rattle.ans_model.specs.Text.ReportText.{size_text}
+use Rattle.ans_model.specs.Text.RecordText.{named_line, field_line, comment_lines, record_text}
 use Rattle.ans_sauce.specs.declared.parts.Parts.{Parts}
 use Rattle.ans_sauce.specs.Parts.{ShowsParts, comments_of, notes_of}
 use Rattle.ans_report.specs.RecordLines.{lines_text, parts_text}
@@ -58,18 +59,18 @@ regrouped : (t a g d s f o z n c k : List ℕ) → (t ++ (a ++ (g ++ d))) ++ ((s
     ≡ t ++ (a ++ (g ++ (d ++ (s ++ (f ++ (o ++ (z ++ (n ++ (c ++ k)))))))))
 regrouped t a g d s f o z n c k = simp append_assoc
 
-lines_are : (body comment_bytes record_bytes : List ℕ) → lines_text record_bytes comment_bytes (notes body record_bytes) ≡ record_text body comment_bytes record_bytes
-lines_are body comment_bytes record_bytes =
-    let r = record_bytes in
+lines_are : (apart : FileParts) → lines_text apart.record_bytes apart.comment_bytes (notes apart.body apart.record_bytes) ≡ record_text apart
+lines_are apart =
+    let r = apart.record_bytes in
     regrouped
     (field_line (codes "title") (title_field r)) (field_line (codes "author") (author_field r)) (field_line (codes "group") (group_field r)) (field_line (codes "date") (date_field r))
     (named_line (codes "size") (size_text (sized (stated_width r) (stated_lines r)))) (named_line (codes "flags") (hex_byte (flags r))) (field_line (codes "font") (font_field r))
-    (named_line (codes "file size") (decimal (file_size r))) (named_line (codes "comments") (decimal (comment_count r))) (comment_lines 0 (comment_count r) comment_bytes) (flat_map note_line (notes body r))
+    (named_line (codes "file size") (decimal (file_size r))) (named_line (codes "comments") (decimal (comment_count r))) (comment_lines 0 (comment_count r) apart.comment_bytes) (flat_map note_line (notes apart.body r))
 
 -- the text of a record by the parts that show it
-pub parts_text_is : (body comment_bytes record_bytes : List ℕ) (parts : Parts) → ShowsParts body comment_bytes record_bytes parts → parts_text parts ≡ record_text body comment_bytes record_bytes
-parts_text_is body comment_bytes record_bytes parts h =
+pub parts_text_is : (apart : FileParts) (parts : Parts) → ShowsParts apart parts → parts_text parts ≡ record_text apart
+parts_text_is apart parts h =
     ap (λ (r : List ℕ). lines_text r (comments_of parts) (notes_of parts)) h.sauce
-    ∙ ap (λ (c : List ℕ). lines_text record_bytes c (notes_of parts)) h.comments
-    ∙ ap (λ (ns : List Note). lines_text record_bytes comment_bytes ns) h.notes
-    ∙ lines_are body comment_bytes record_bytes
+    ∙ ap (λ (c : List ℕ). lines_text apart.record_bytes c (notes_of parts)) h.comments
+    ∙ ap (λ (ns : List Note). lines_text apart.record_bytes apart.comment_bytes ns) h.notes
+    ∙ lines_are apart

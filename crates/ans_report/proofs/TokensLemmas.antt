@@ -8,13 +8,13 @@ use Rattle.ans_model.specs.Bytes.{IsByte}
 use Rattle.ans_model.specs.declared.fault.Fault.{Fault}
 use Rattle.ans_model.specs.declared.fault.Cause.{Cause}
 use Rattle.ans_model.specs.declared.fault.Cause.TheVariants.{EndInSequence}
-use Rattle.ans_model.specs.Token as token
-use Rattle.ans_model.specs.View.{token_of}
-use Rattle.ans_model.specs.Reads.{SpellsToken, ReadsAs}
-use Rattle.ans_model.specs.Refusals.{fault_at}
-use Rattle.ans_model.specs.Sequence.{IsUnfinished}
-use Rattle.ans_model.specs.FaultText.{fault_line}
-use Rattle.ans_model.specs.TokensText.{token_line, token_lines, Leaves, fault_end, TokensText}
+use Rattle.ans_model.specs.Sequence.TokenKind as token
+use Rattle.ans_model.specs.Inside.ShownKind.{shown_kind}
+use Rattle.ans_model.specs.Sequence.Reads.{SpellsToken, ReadsAs}
+use Rattle.ans_model.specs.File.Refusals.{fault_at}
+use Rattle.ans_model.specs.Sequence.Spelling.{IsUnfinished}
+use Rattle.ans_model.specs.Text.FaultText.{fault_line}
+use Rattle.ans_model.specs.Text.TokensText.{token_line, token_lines, Leaves, fault_end, TokensText}
 use Rattle.ans_tokens.specs.declared.token.Token.{Token}
 use Rattle.ans_tokens.specs.Token.{kind_of, start_of, length_of}
 use Rattle.ans_tokens.specs.Scanning.{Scanning, Holds, Scans, Ends, fresh}
@@ -27,7 +27,7 @@ use Rattle.ans_tokens.proofs.EachByte.{IsOpen, open_ends}
 use Rattle.ans_tokens.proofs.Readable.{IsRefusedFront, readable}
 
 -- the lines of tokens and then of more
-pub lines_append : (start : ℕ) (ts us : List token.Token) (xs zs : List (List ℕ)) → AllZip SpellsToken ts xs
+pub lines_append : (start : ℕ) (ts us : List token.TokenKind) (xs zs : List (List ℕ)) → AllZip SpellsToken ts xs
     → token_lines start (ts ++ us) (xs ++ zs) ≡ token_lines start ts xs ++ token_lines (start + length (concat xs)) us zs
 lines_append start [] us [] zs h =
     let same : start + 0 ≡ start = omega arith in
@@ -40,13 +40,13 @@ lines_append start (t ∷ ts) us (x ∷ xs) zs h =
     ∙ ap (λ (k : ℕ). token_lines (start + length x) ts xs ++ token_lines k us zs) at)
     ∙ sym (append_assoc (token_line start t x) (token_lines (start + length x) ts xs) (token_lines (start + length (concat (x ∷ xs))) us zs))
 
-pub reads_append : (a b : List ℕ) (ts us : List token.Token) (xs zs : List (List ℕ)) → ReadsAs a ts xs → ReadsAs b us zs → ReadsAs (a ++ b) (ts ++ us) (xs ++ zs)
+pub reads_append : (a b : List ℕ) (ts us : List token.TokenKind) (xs zs : List (List ℕ)) → ReadsAs a ts xs → ReadsAs b us zs → ReadsAs (a ++ b) (ts ++ us) (xs ++ zs)
 reads_append a b ts us xs zs h k = record {
   each = AllZip-append SpellsToken ts xs us zs h.each k.each;
   whole = rw (h.whole, k.whole) (sym (concat-append xs zs));
 }
 
-reads_one : (t : token.Token) (x : List ℕ) → SpellsToken t x → ReadsAs x (t ∷ []) (x ∷ [])
+reads_one : (t : token.TokenKind) (x : List ℕ) → SpellsToken t x → ReadsAs x (t ∷ []) (x ∷ [])
 reads_one t x h = record { each = (h, tt); whole = sym (append-nil x) }
 
 pub all_bytes : (xs : List ℕ) → ((k : ℕ) → get_or xs k 0 < 256) → AllByRecursion IsByte xs
@@ -77,7 +77,7 @@ pub record Begins (content text : List ℕ) : Type 0 where
 pub record ReadSoFar (content : List ℕ) (i : ℕ) (s : Scanning) (text : List ℕ) : Type 0 where
   pub front : List ℕ
   pub open_part : List ℕ
-  pub tokens : List token.Token
+  pub tokens : List token.TokenKind
   pub texts : List (List ℕ)
   pub reads : ReadsAs front tokens texts
   pub taken : take i content ≡ front ++ open_part
@@ -155,7 +155,7 @@ byte_kept content i b old new text lt at h scans unrefused offset =
     }
 
 -- a token's line by what spells it
-line_is : (t : Token) (start : ℕ) (x : List ℕ) → start_of t ≡ start → length_of t ≡ length x → token_text t ≡ token_line start (token_of (kind_of t)) x
+line_is : (t : Token) (start : ℕ) (x : List ℕ) → start_of t ≡ start → length_of t ≡ length x → token_text t ≡ token_line start (shown_kind (kind_of t)) x
 line_is t start x s l = rw (s, l) refl
 
 -- a byte that ends a token
@@ -164,7 +164,7 @@ pub token_taken : (content : List ℕ) (i b : ℕ) (old new : Scanning) (text : 
 token_taken content i b old new text t lt at h scans unrefused offset =
     let (is_token, holds) = scans h.open_part h.holds in
     let x = h.open_part ++ b ∷ [] in
-    let k = token_of (kind_of t) in
+    let k = shown_kind (kind_of t) in
     let size : length x ≡ length h.open_part + 1 = length-append h.open_part (b ∷ []) in
     let starts : start_of t ≡ length h.front = omega (arith, is_token.starts, h.offset) in
     let long : length_of t ≡ length x = is_token.long ∙ sym size in
@@ -189,7 +189,7 @@ fault_is : (f : Fault) (start : ℕ) (cause : Cause) → f.offset ≡ start → 
 fault_is f start cause e k = ap (λ (n : ℕ). fault_at n f.cause) e ∙ ap (λ (v : Cause). fault_at start v) k
 
 -- the text that ends at a fault, or at the content's end
-ended_text : (content front left : List ℕ) (ts : List token.Token) (xs : List (List ℕ)) (text : List ℕ) (fault : Option Fault) → content ≡ front ++ left → ReadsAs front ts xs
+ended_text : (content front left : List ℕ) (ts : List token.TokenKind) (xs : List (List ℕ)) (text : List ℕ) (fault : Option Fault) → content ≡ front ++ left → ReadsAs front ts xs
     → text ≡ token_lines 0 ts xs → Leaves (length front) left fault → TokensText content fault (text ++ fault_end fault)
 ended_text content front left ts xs text fault whole reads text_is leaves = record {
   front = front;

@@ -1,8 +1,8 @@
 -- What a report says before its verdict.
 use Rattle.std.specs.Prelude.{[], length}
 use Rattle.ans_model.specs.declared.start.Start.{Start}
-use Rattle.ans_model.specs.State.{sized}
-use Rattle.ans_model.specs.ReportText.{Heading}
+use Rattle.ans_model.specs.Screen.State.{sized}
+use Rattle.ans_model.specs.Text.ReportText.{Heading}
 use Rattle.ans_sauce.specs.declared.parts.Parts.{Parts}
 use Rattle.ans_sauce.specs.Parts.{content_of, width_of, lines_of, notes_of}
 

@@ -1,12 +1,12 @@
 -- The text of a record by what the parts of its file show.
 use Rattle.std.specs.Prelude.{ℕ, List, ◌++◌, codes, decimal, flat_map}
 use Rattle.ans_model.specs.declared.note.Note.{Note}
-use Rattle.ans_model.specs.Record.{title_field, author_field, group_field, date_field, font_field, file_size, comment_count, flags, stated_width, stated_lines}
-use Rattle.ans_model.specs.State.{sized}
-use Rattle.ans_model.specs.Hexadecimal.{hex_byte}
-use Rattle.ans_model.specs.FaultText.{note_line}
-use Rattle.ans_model.specs.ReportText.{size_text}
-use Rattle.ans_model.specs.RecordText.{named_line, field_line, comment_lines}
+use Rattle.ans_model.specs.File.Record.{title_field, author_field, group_field, date_field, font_field, file_size, comment_count, flags, stated_width, stated_lines}
+use Rattle.ans_model.specs.Screen.State.{sized}
+use Rattle.ans_model.specs.Text.Hexadecimal.{hex_byte}
+use Rattle.ans_model.specs.Text.FaultText.{note_line}
+use Rattle.ans_model.specs.Text.ReportText.{size_text}
+use Rattle.ans_model.specs.Text.RecordText.{named_line, field_line, comment_lines}
 use Rattle.ans_sauce.specs.declared.parts.Parts.{Parts}
 use Rattle.ans_sauce.specs.Parts.{comments_of, record_of, notes_of}
 

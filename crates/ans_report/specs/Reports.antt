@@ -3,10 +3,10 @@ use Rattle.std.specs.Prelude.{◌≡◌, ℕ, true, List, ◌++◌, codes, Optio
 use Rattle.std.specs.Option.{option_copied}
 use Rattle.ans_model.specs.declared.fault.Fault.{Fault}
 use Rattle.ans_model.specs.declared.start.Start.{Start}
-use Rattle.ans_model.specs.State.{sized}
-use Rattle.ans_model.specs.ReportText.{Passed, RefusedFor, refusal_text, report_text, picture_back}
-use Rattle.ans_model.specs.FaultText.{line_of}
-use Rattle.ans_model.specs.Good.{Picture}
+use Rattle.ans_model.specs.Screen.State.{sized}
+use Rattle.ans_model.specs.Text.ReportText.{Passed, RefusedFor, refusal_text, report_text, picture_back}
+use Rattle.ans_model.specs.Text.FaultText.{line_of}
+use Rattle.ans_model.specs.Verdict.Good.{Picture}
 use Rattle.ans_report.specs.declared.report.Report.{Report}
 use Rattle.ans_report.specs.declared.report.Report.TheVariants.{Pass, Refused}
 use Rattle.ans_sauce.specs.declared.parts.Parts.{Parts}

@@ -1,7 +1,7 @@
 -- The rows of a picture.
 use Rattle.std.specs.Prelude.{ℕ, ◌*◌, List, take, drop}
 use Rattle.ans_model.specs.declared.cell.Cell.{Cell}
-use Rattle.ans_model.specs.Good.{Picture}
+use Rattle.ans_model.specs.Verdict.Good.{Picture}
 
 -- a row of the picture, counted from 0
 abbrev pub row_of : Picture → ℕ → List Cell

@@ -1,7 +1,7 @@
 //! The lines of a report's cells.
 ghost use Rattle.std.specs.Prelude.{◌≡◌, ◌↔◌, ◌<◌, [], false, if◌then◌else◌, IsTrue, IsErr};
 ghost use Rattle.std.specs.List.{flat_map};
-ghost use Rattle.ans_model.specs.ReportText.{rows_of, cells_line, cells_text};
+ghost use Rattle.ans_model.specs.Text.ReportText.{rows_of, cells_line, cells_text};
 ghost use Rattle.ans_report.specs.Tried.{has_failed, inner_of};
 ghost use Rattle.ans_report.specs.Writes.{GathersText};
 ghost use Rattle.ans_report.specs.Rows.{row_of};

@@ -1,6 +1,6 @@
 //! The characters by which bytes are shown.
 ghost use Rattle.std.specs.Prelude.{◌≡◌};
-ghost use Rattle.ans_model.specs.Glyphs.{glyph_text};
+ghost use Rattle.ans_model.specs.Text.Characters.{glyph_text};
 
 /// 00h to 1Fh: a blank, and the IBM glyphs.
 const LOW_GLYPHS: [char; 32] = [

@@ -1,8 +1,8 @@
 //! Bytes as lower-case hexadecimal digits.
 ghost use Rattle.std.specs.Prelude.{◌≡◌, ◌<◌};
-ghost use Rattle.ans_model.specs.Hexadecimal.{hex_digit, hex_byte};
-ghost use Rattle.ans_model.specs.State.{cell};
-ghost use Rattle.ans_model.specs.ReportText.{cell_digits};
+ghost use Rattle.ans_model.specs.Text.Hexadecimal.{hex_digit, hex_byte};
+ghost use Rattle.ans_model.specs.Screen.State.{cell};
+ghost use Rattle.ans_model.specs.Text.ReportText.{cell_digits};
 
 fn hex_digit(n: u8) -> u8
     requires { n < 16 }

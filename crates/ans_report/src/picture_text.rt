@@ -1,9 +1,9 @@
 //! The lines of a report's picture.
 ghost use Rattle.std.specs.Prelude.{◌≡◌, ◌↔◌, ◌<◌, false, IsTrue, IsErr, OnOk};
 ghost use Rattle.std.specs.List.{flat_map};
-ghost use Rattle.ans_model.specs.State.{sized};
-ghost use Rattle.ans_model.specs.Good.{IsPictureOf};
-ghost use Rattle.ans_model.specs.ReportText.{Passed, rows_of, picture_line, report_text};
+ghost use Rattle.ans_model.specs.Screen.State.{sized};
+ghost use Rattle.ans_model.specs.Verdict.Good.{IsPictureOf};
+ghost use Rattle.ans_model.specs.Text.ReportText.{Passed, rows_of, picture_line, report_text};
 ghost use Rattle.ans_sauce.specs.Parts.{width_of, lines_of};
 ghost use Rattle.ans_report.specs.Tried.{has_failed, inner_of};
 ghost use Rattle.ans_report.specs.Writes.{GathersText};

@@ -1,9 +1,10 @@
 //! The text of a record.
 ghost use Rattle.std.specs.Prelude.{◌≡◌, ◌↔◌, ◌≤◌, ℕ, List, false, decimal, codes, IsTrue, IsErr};
-ghost use Rattle.ans_model.specs.Record.{comment_count};
-ghost use Rattle.ans_model.specs.Glyphs.{shown_bytes};
-ghost use Rattle.ans_model.specs.RecordText.{named_line, comment_lines, record_text};
-ghost use Rattle.ans_sauce.specs.Records.{bytes_of};
+ghost use Rattle.ans_model.specs.File.Layout.{FileParts};
+ghost use Rattle.ans_model.specs.File.Record.{comment_count};
+ghost use Rattle.ans_model.specs.Text.Characters.{shown_bytes};
+ghost use Rattle.ans_model.specs.Text.RecordText.{named_line, comment_lines, record_text};
+ghost use Rattle.ans_sauce.specs.RecordBytes.{bytes_of};
 ghost use Rattle.ans_sauce.specs.Parts.{ShowsParts, comments_of, record_of};
 ghost use Rattle.ans_report.specs.Tried.{has_failed, inner_of};
 ghost use Rattle.ans_report.specs.Writes.{WritesText, GathersText};
@@ -170,10 +171,9 @@ pub fn write_record<W: Write>(w: &mut Tried<W>, parts: &Parts<'_>) -> Result<(),
     ensures fault { IsErr result ↔ IsTrue (has_failed w.new) }
     ensures bytes { WritesText (W.contents (inner_of w.old)) (W.contents (inner_of w.new)) result
         (parts_text parts.now) }
-    ensures of_record { (body comment_bytes record_bytes : List ℕ)
-        → ShowsParts body comment_bytes record_bytes parts.now
+    ensures of_record { (apart : FileParts) → ShowsParts apart parts.now
         → WritesText (W.contents (inner_of w.old)) (W.contents (inner_of w.new)) result
-        (record_text body comment_bytes record_bytes) }
+        (record_text apart) }
 {
     let mut out = Outbox::new();
     put_record(&mut out, w, parts)?;

@@ -4,7 +4,7 @@ ghost use Rattle.std.specs.Option.{option_copied};
 ghost use Rattle.ans_report.specs.Tried.{has_failed, inner_of};
 ghost use Rattle.ans_report.specs.Writes.{WritesText, GathersText};
 ghost use Rattle.ans_report.specs.Reports.{IsFitting, TellsCells, refused_text, report_bytes};
-ghost use Rattle.ans_model.specs.ReportText.{refusal_text};
+ghost use Rattle.ans_model.specs.Text.ReportText.{refusal_text};
 
 use crate::outbox::{Outbox, WriteFault};
 use crate::picture_text::put_pass;

@@ -4,8 +4,8 @@ ghost use Rattle.ans_report.specs.Tried.{has_failed, inner_of};
 ghost use Rattle.ans_report.specs.Writes.{GathersText};
 ghost use Rattle.std.specs.List.{flat_map};
 ghost use Rattle.ans_report.specs.Headings.{heading_of, heading_without_notes};
-ghost use Rattle.ans_model.specs.FaultText.{fault_text, note_text, note_line, place_text, fault_line};
-ghost use Rattle.ans_model.specs.ReportText.{RefusedFor, report_text, start_name, heading_text, refusal_text};
+ghost use Rattle.ans_model.specs.Text.FaultText.{fault_text, note_text, note_line, place_text, fault_line};
+ghost use Rattle.ans_model.specs.Text.ReportText.{RefusedFor, report_text, start_name, heading_text, refusal_text};
 
 use crate::outbox::{Outbox, WriteFault};
 use crate::tried::Tried;

@@ -4,9 +4,9 @@ ghost use Rattle.std.specs.List.{flat_map};
 ghost use Rattle.std.specs.Io.KnownBytes.{Appends};
 ghost use Rattle.ans_model.specs.Bytes.{longest_file};
 ghost use Rattle.ans_model.specs.declared.fault.Fault.{Fault};
-ghost use Rattle.ans_model.specs.Token.{Place};
-ghost use Rattle.ans_model.specs.View.{token_of};
-ghost use Rattle.ans_model.specs.TokensText.{TokensText, token_name};
+ghost use Rattle.ans_model.specs.Sequence.TokenKind.{Place};
+ghost use Rattle.ans_model.specs.Inside.ShownKind.{shown_kind};
+ghost use Rattle.ans_model.specs.Text.TokensText.{TokensText, token_name};
 ghost use Rattle.ans_report.specs.Tried.{has_failed, inner_of};
 ghost use Rattle.ans_report.specs.Writes.{AppendsPrefix, Gathers, GathersText};
 ghost use Rattle.ans_report.specs.TokenLines.{token_text, numbers_text, later_number};
@@ -101,7 +101,7 @@ fn put_kind<W: Write>(out: &mut Outbox, w: &mut Tried<W>, kind: &Kind) -> Result
     requires { has_failed w.old ≡ false }
     ensures fault { IsErr result ↔ IsTrue (has_failed w.new) }
     ensures bytes { GathersText (W.contents (inner_of w.old)) (W.contents (inner_of w.new))
-        out.old.waiting.items out.new.waiting.items result (token_name (token_of kind.now)) }
+        out.old.waiting.items out.new.waiting.items result (token_name (shown_kind kind.now)) }
 {
     match kind {
         Kind::Glyph(byte) => out.put_all(w, &[b"glyph ", &hex_byte(*byte)]),

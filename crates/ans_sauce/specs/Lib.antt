@@ -1,3 +1,3 @@
-pub mod Records
+pub mod RecordBytes
 pub mod Parts
-pub mod Layouts
+pub mod Split

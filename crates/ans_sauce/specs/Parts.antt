@@ -1,11 +1,11 @@
 -- What a file's parts show.
 use Rattle.std.specs.Prelude.{◌≡◌, ℕ, List}
 use Rattle.ans_model.specs.declared.note.Note.{Note}
-use Rattle.ans_model.specs.Record.{stated_width, stated_lines}
-use Rattle.ans_model.specs.Layout.{content}
-use Rattle.ans_model.specs.Notes.{notes}
+use Rattle.ans_model.specs.File.Record.{stated_width, stated_lines}
+use Rattle.ans_model.specs.File.Layout.{FileParts, content}
+use Rattle.ans_model.specs.File.Notes.{notes}
 use Rattle.ans_sauce.specs.declared.parts.Parts.{Parts}
-use Rattle.ans_sauce.specs.Records.{bytes_of}
+use Rattle.ans_sauce.specs.RecordBytes.{bytes_of}
 
 -- `parts.content()`
 abbrev pub content_of : Parts → List ℕ
@@ -31,11 +31,11 @@ lines_of parts = stated_lines (record_of parts)
 abbrev pub notes_of : Parts → List Note
 notes_of parts = parts.notes.items
 
--- the parts are those of this body, these comments and this record
-pub record ShowsParts (body comment_bytes record_bytes : List ℕ) (parts : Parts) : Type 0 where
-  pub content : content_of parts ≡ content body
-  pub comments : comments_of parts ≡ comment_bytes
-  pub sauce : record_of parts ≡ record_bytes
-  pub width : width_of parts ≡ stated_width record_bytes
-  pub lines : lines_of parts ≡ stated_lines record_bytes
-  pub notes : notes_of parts ≡ notes body record_bytes
+-- the parts show this file taken apart
+pub record ShowsParts (apart : FileParts) (parts : Parts) : Type 0 where
+  pub content : content_of parts ≡ content apart.body
+  pub comments : comments_of parts ≡ apart.comment_bytes
+  pub sauce : record_of parts ≡ apart.record_bytes
+  pub width : width_of parts ≡ stated_width apart.record_bytes
+  pub lines : lines_of parts ≡ stated_lines apart.record_bytes
+  pub notes : notes_of parts ≡ notes apart.body apart.record_bytes

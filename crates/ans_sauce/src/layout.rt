@@ -1,11 +1,11 @@
 //! How a file is laid out, and which files are refused.
 ghost use Rattle.std.specs.Prelude.{◌≡◌, ◌-◌, not, length, take, drop, is_some, IfOk, IfErr, IfSome, Some, None};
 ghost use Rattle.std.specs.List.{position};
-ghost use Rattle.ans_model.specs.Layout.{content, after_content, is_end_mark};
-ghost use Rattle.ans_model.specs.Record.{comment_count};
-ghost use Rattle.ans_model.specs.Refusals.{has_record, has_block, fault_at, first_refusal, record_fault};
-ghost use Rattle.ans_sauce.specs.Records.{bytes_of};
-ghost use Rattle.ans_sauce.specs.Layouts.{IsSplit, IsCut, record_refusals};
+ghost use Rattle.ans_model.specs.File.Layout.{content, after_content, is_end_mark};
+ghost use Rattle.ans_model.specs.File.Record.{comment_count};
+ghost use Rattle.ans_model.specs.File.Refusals.{has_record, has_block, fault_at, first_refusal, record_fault};
+ghost use Rattle.ans_sauce.specs.RecordBytes.{bytes_of};
+ghost use Rattle.ans_sauce.specs.Split.{IsSplit, IsCut, record_refusals};
 
 use crate::notes::notes_on;
 use crate::parts::{COMMENT_SIZE, Parts};
@@ -37,8 +37,8 @@ fn cut_record(file: &[u8]) -> Option<(&[u8], Record<'_>)>
     }
 }
 
-/// The body, and the lines of the block of so many comments that ends the front, where there is
-/// one. Without comments the front is the body.
+/// The body, and the lines of the comment block that ends the front, where there is one of this
+/// many comments. Without comments the front is the body.
 fn cut_block(front: &[u8], count: u8) -> Option<(&[u8], &[u8])>
     ensures found { is_some result ≡ has_block count front.now }
     ensures parts { IfSome result (λ cut. IsCut count front.now cut.0.now cut.1.now) }
@@ -83,7 +83,7 @@ fn cut_front<'a>(front: &'a [u8], sauce: &Record<'_>) -> Result<(&'a [u8], &'a [
     Ok((body, comments))
 }
 
-/// The place of the first end mark.
+/// The index of the first end mark, if there is one.
 fn first_end_mark(body: &[u8]) -> Option<usize>
     ensures { result ≡ position is_end_mark body.now }
 {
@@ -98,8 +98,8 @@ fn cut_content(body: &[u8]) -> (&[u8], &[u8])
     body.split_at(first_end_mark(body).unwrap_or(body.len()))
 }
 
-/// The place of the first byte that is no end mark.
-fn past_end_marks(rest: &[u8]) -> Option<usize>
+/// The index of the first byte that is not an end mark, if there is one.
+fn first_other_byte(rest: &[u8]) -> Option<usize>
     ensures { result ≡ position (λ b. not (is_end_mark b)) rest.now }
 {
     rest.iter().position(|b| *b != END_MARK)
@@ -108,9 +108,9 @@ fn past_end_marks(rest: &[u8]) -> Option<usize>
 /// Takes a file apart by the record in its last 128 bytes (SAUCE 00.5), whatever its length. It
 /// takes no memory and copies nothing.
 ///
-/// It answers `Ok` exactly where some body, comments and record lay the file out and nothing in it
-/// is refused, with the parts that they determine. Otherwise it answers the first of the refusals
-/// F1 to F8 that applies; its offset, in bytes from the file's start, is at most the file's length:
+/// Returns `Ok` exactly where some body, comments and record lay the file out and nothing in it
+/// is refused, with the parts that they determine. Otherwise returns the first of the refusals
+/// F1 to F8 that applies, in this order; its offset, in bytes from the file's start, is at most the file's length:
 ///
 /// | cause | when | offset |
 /// |---|---|---|
@@ -121,7 +121,7 @@ fn past_end_marks(rest: &[u8]) -> Option<usize>
 /// | F5 `LinesUnstated` | no lines are stated | TInfo2 |
 /// | F6 `WidthTooLarge` | the width is above 1024 | TInfo1 |
 /// | F7 `LinesTooLarge` | there are more than 8192 lines | TInfo2 |
-/// | F8 `BytesAfterEndMark` | a byte after the first end mark is no end mark | that byte |
+/// | F8 `BytesAfterEndMark` | a byte after the first end mark is not an end mark | that byte |
 pub fn split(file: &[u8]) -> Result<Parts<'_>, Fault>
     ensures ok { IfOk result (IsSplit file.now) }
     ensures err { IfErr result (λ fault. record_fault file.now ≡ Some fault) }
@@ -131,7 +131,7 @@ pub fn split(file: &[u8]) -> Result<Parts<'_>, Fault>
     };
     let (body, comments) = cut_front(front, &sauce)?;
     let (content, rest) = cut_content(body);
-    if let Some(i) = past_end_marks(rest) {
+    if let Some(i) = first_other_byte(rest) {
         return Err(fault(content.len() + i, Cause::BytesAfterEndMark));
     }
     Ok(Parts {

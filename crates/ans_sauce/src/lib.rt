@@ -1,18 +1,18 @@
 //! The SAUCE record of a file (SAUCE 00.5): where it stands, what it says of the file, and the
 //! comments and the content before it.
 //!
-//! `split` takes a file apart. Others rely on its contract: it answers `Ok` exactly where some
+//! `split` takes a file apart. Others rely on its contract: it returns `Ok` exactly where some
 //! body, comments and record lay the file out and nothing in it is refused, with the parts that
-//! they determine; else the first refusal that applies. Which parts belong to which file is in
-//! `specs/Layouts.antt`, and what the parts show in `specs/Parts.antt` and `specs/Records.antt`,
+//! they determine; otherwise the first refusal that applies, in the order of its table. Which parts belong to which file is in
+//! `specs/Split.antt`, and what the parts show in `specs/Parts.antt` and `specs/RecordBytes.antt`,
 //! over the definitions of `ans_model`: its `Layout`, `Record`, `Refusals` and `Notes`.
 #![tactic(auto)]
 
 mod layout;
 mod notes;
+mod padding;
 mod parts;
 mod record;
-mod text;
 
 pub use ans_model::fault::{Cause, Fault};
 pub use ans_model::limits::MAX_FILE;

@@ -3,11 +3,11 @@ ghost use Rattle.std.specs.Prelude.{◌≡◌, ◌+◌, ◌≤◌, ◌<◌, ◌=
 ghost use Rattle.std.specs.List.{list_any, list_all};
 ghost use Rattle.std.specs.Char.{is_ascii_digit};
 ghost use Rattle.arrayvec.specs.ArrayVec.{array_vec_len};
-ghost use Rattle.ans_model.specs.Record.{tinfo, file_size, date_field, flags};
-ghost use Rattle.ans_model.specs.Layout as layout;
-ghost use Rattle.ans_model.specs.Layout.{is_end_mark};
-ghost use Rattle.ans_model.specs.Notes.{note_if, notes, unused_flags, ratio_flags, spacing_flags};
-ghost use Rattle.ans_sauce.specs.Records.{bytes_of};
+ghost use Rattle.ans_model.specs.File.Record.{tinfo, file_size, date_field, flags};
+ghost use Rattle.ans_model.specs.File.Layout as layout;
+ghost use Rattle.ans_model.specs.File.Layout.{is_end_mark};
+ghost use Rattle.ans_model.specs.File.Notes.{note_if, notes, unused_flags, ratio_flags, spacing_flags};
+ghost use Rattle.ans_sauce.specs.RecordBytes.{bytes_of};
 
 use crate::record::Record;
 use ans_model::note::Note;

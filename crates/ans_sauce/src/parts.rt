@@ -1,10 +1,10 @@
 //! What a file with a record consists of.
 ghost use Rattle.std.specs.Prelude.{◌≡◌, ◌*◌, ◌≤◌, ◌<◌, ◌↔◌, length, IsSome, IfSome};
 ghost use Rattle.ans_model.specs.Bytes.{most_columns, most_lines};
-ghost use Rattle.ans_model.specs.Record.{tinfo, comment_count, comment};
+ghost use Rattle.ans_model.specs.File.Record.{tinfo, comment_count, comment};
 
+use crate::padding::trimmed;
 use crate::record::Record;
-use crate::text::trimmed;
 use ans_model::note::Note;
 use arrayvec::ArrayVec;
 
@@ -26,7 +26,7 @@ pub struct Parts<'a> {
 }
 
 impl<'a> Parts<'a> {
-    ghost use Rattle.ans_sauce.specs.Records.{bytes_of};
+    ghost use Rattle.ans_sauce.specs.RecordBytes.{bytes_of};
     ghost use Rattle.ans_sauce.specs.Parts.{content_of, comments_of, record_of, width_of, lines_of, notes_of};
 
     /// The bytes from the file's start up to the first end mark, the comment block or the record.
@@ -36,7 +36,7 @@ impl<'a> Parts<'a> {
         self.content
     }
 
-    /// The lines of the comment block (SAUCE 00.5, comment block) behind its `COMNT`: 64 bytes for
+    /// The lines of the comment block (SAUCE 00.5, comment block) after its `COMNT`: 64 bytes for
     /// each comment that the record counts.
     pub fn comments(&self) -> &'a [u8]
         ensures bytes { result.now ≡ comments_of self.now }

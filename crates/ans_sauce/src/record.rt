@@ -1,9 +1,11 @@
 //! The SAUCE record: its fields, and what in it is refused.
 ghost use Rattle.std.specs.Prelude.{◌≡◌, ◌+◌, ◌≤◌, ◌<◌, ◌==◌, ◌&&◌, not, nat_lt, length, bytes_eq, codes};
 ghost use Rattle.ans_model.specs.Bytes.{most_columns, most_lines};
-ghost use Rattle.ans_model.specs.Record.{number, field, version_field, title_field, author_field, group_field, date_field, font_field, file_size, data_type, file_type, tinfo, comment_count, flags, stated_width, stated_lines, trimmed};
+ghost use Rattle.ans_model.specs.File.Record.{number, field, version_field, title_field, author_field, group_field};
+ghost use Rattle.ans_model.specs.File.Record.{date_field, font_field, file_size, data_type, file_type, tinfo};
+ghost use Rattle.ans_model.specs.File.Record.{comment_count, flags, stated_width, stated_lines, trimmed};
 
-use crate::text::trimmed;
+use crate::padding::trimmed;
 use ans_model::limits::{MAX_LINES, MAX_WIDTH};
 use byteorder::{ByteOrder, LittleEndian};
 
@@ -31,7 +33,7 @@ pub struct Record<'a> {
 }
 
 impl<'a> Record<'a> {
-    ghost use Rattle.ans_sauce.specs.Records.{bytes_of};
+    ghost use Rattle.ans_sauce.specs.RecordBytes.{bytes_of};
 
     /// The title, of at most 35 bytes.
     pub fn title(&self) -> &'a [u8]

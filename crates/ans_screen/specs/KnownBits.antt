@@ -2,7 +2,7 @@
 use Rattle.std.specs.Prelude.{◌≡◌, ◌↔◌, ℕ, ◌<◌, ◌==◌, Bool, Option, Some, None, bit_and, bit_or, bit_xor}
 use Rattle.std.specs.Int.{bit_at}
 use Rattle.ans_model.specs.Bytes.{IsByte}
-use Rattle.ans_model.specs.Attribute.{Rendition, renditions, rendition_of, attribute_after}
+use Rattle.ans_model.specs.Screen.Attribute.{Rendition, renditions, rendition_of, attribute_after}
 
 -- which bits are known, and their values
 pub record KnownBits : Type 0 where

@@ -1,7 +1,7 @@
 -- The program's renditions as those of the table.
 use Rattle.std.specs.Prelude.{ℕ, Option}
 use Rattle.std.specs.Option.{option_map}
-use Rattle.ans_model.specs.Attribute as table
+use Rattle.ans_model.specs.Screen.Attribute as table
 use Rattle.ans_screen.specs.declared.attr.Rendition.{Rendition}
 
 abbrev pub masks_of : table.Rendition → Rendition

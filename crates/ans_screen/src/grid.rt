@@ -1,7 +1,7 @@
 //! What a grid of half-known cells does.
 
 ghost use Rattle.std.specs.Prelude.{◌≡◌, ℕ, ◌+◌, ◌*◌, ◌<◌, ◌≤◌, List, length, set, replicate, slice_get, Some, IfOk};
-ghost use Rattle.ans_model.specs.Step.{filled};
+ghost use Rattle.ans_model.specs.Screen.Step.{filled};
 ghost use Rattle.ans_screen.specs.declared.cell.HalfCell.{HalfCell};
 ghost use Rattle.ans_screen.specs.Grids.{written, printed_run, first_unknown};
 

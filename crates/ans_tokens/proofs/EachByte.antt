@@ -3,14 +3,14 @@ use Rattle.std.proofs.Common.{◌≡◌, ◌≢◌, ◌⊎◌, inl, inr, ℕ, �
 use Rattle.std.proofs.lemmas.Bool.{cases_eq, cases_lt}
 use Rattle.std.specs.Char.{is_ascii_digit, is_ascii_alphabetic}
 use Rattle.ans_model.specs.Bytes.{IsByte, escape, bracket, semicolon}
-use Rattle.ans_model.specs.Token.{Token}
+use Rattle.ans_model.specs.Sequence.TokenKind.{TokenKind}
 use Rattle.ans_model.specs.declared.fault.Cause.{Cause}
 use Rattle.ans_model.specs.declared.fault.Cause.TheVariants.{BrokenSequence, NumberTooLarge, TooManyParameters}
-use Rattle.ans_model.specs.Sequence.{Mark, Unmarked, Equals, Question, Raw, Spells, is_quote, IsPrefixOfLoose, IsUnfinished}
-use Rattle.ans_model.specs.Meaning.{meaning}
-use Rattle.ans_model.specs.Reads.{SpellsToken, token_of_byte}
-use Rattle.ans_model.specs.Parts.{Current, Fresh, InNumber, InString, AfterString, SpellsCurrent, Part, SpellsPart, lacks, raw_of, is_stop}
-use Rattle.ans_model.specs.FirstFault.{IsRefused}
+use Rattle.ans_model.specs.Sequence.Spelling.{Mark, Unmarked, Equals, Question, Raw, Spells, is_quote, IsPrefixOfLoose, IsUnfinished}
+use Rattle.ans_model.specs.Sequence.Meaning.{meaning}
+use Rattle.ans_model.specs.Sequence.Reads.{SpellsToken, kind_of_byte}
+use Rattle.ans_model.specs.Inside.OpenPart.{Current, Fresh, InNumber, InString, AfterString, SpellsCurrent, Part, SpellsPart, lacks, raw_of, is_stop}
+use Rattle.ans_model.specs.Verdict.FirstFault.{IsRefused}
 use Rattle.ans_model.proofs.Scanning.{refuses_byte, IsUnmarkedThere, part_unfinished}
 use Rattle.ans_tokens.specs.Shows.{begun}
 use Rattle.ans_tokens.proofs.StepLemmas.{extend, more_digits, more_text, closed_text, next_member, letter_spells, too_many, too_large, marked, fresh_digit, fresh_quote, mark_not, no_stop, loose_spells, fresh_not_after, fresh_not_number}
@@ -28,7 +28,7 @@ open_ends y (inr (inr (part, h))) = inr (part_unfinished part y h)
 
 -- open again, the text of a token, or refused
 abbrev pub IsNext : List ℕ → Type 0
-IsNext text = IsOpen text ⊎ ((t : Token) × SpellsToken t text) ⊎ ((cause : Cause) × IsRefused text cause)
+IsNext text = IsOpen text ⊎ ((t : TokenKind) × SpellsToken t text) ⊎ ((cause : Cause) × IsRefused text cause)
 
 stays : (text : List ℕ) (part : Part) → SpellsPart part text → IsNext text
 stays text part h = inl (inr (inr (part, h)))
@@ -37,7 +37,7 @@ refuses : (text : List ℕ) (cause : Cause) → IsRefused text cause → IsNext 
 refuses text cause h = inr (inr (cause, h))
 
 -- a sequence that is spelled is a token, or is refused for its meaning
-spelled : (raw : Raw) (text : List ℕ) (m : Result Token Cause) → Spells raw text → meaning raw ≡ m → IsNext text
+spelled : (raw : Raw) (text : List ℕ) (m : Result TokenKind Cause) → Spells raw text → meaning raw ≡ m → IsNext text
 spelled raw text (Ok t) h e = inr (inl (t, inr (record { raw = raw; spelled = h; means = e })))
 spelled raw text (Err cause) h e = refuses text cause (inl (record { raw = raw; spelled = h; means = e }))
 
@@ -125,7 +125,7 @@ module _ (p : Part) (y : List ℕ) (b : ℕ) (byte : IsByte b) (h : SpellsPart p
 nothing_open : (b : ℕ) → IsByte b → IsNext (b ∷ [])
 nothing_open b byte = elim (cases_eq b escape) [
   | inl e ↦ inl (inr (inl (ap (λ (c : ℕ). c ∷ []) e)))
-  | inr ne ↦ inr (inl (token_of_byte b, inl (record { byte = b; is_byte = byte; not_escape = ne; whole = refl; means = refl })))
+  | inr ne ↦ inr (inl (kind_of_byte b, inl (record { byte = b; is_byte = byte; not_escape = ne; whole = refl; means = refl })))
 ]
 
 escape_open : (b : ℕ) → IsNext (escape ∷ b ∷ [])

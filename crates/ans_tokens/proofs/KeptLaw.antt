@@ -1,11 +1,11 @@
 -- What a scanner keeps of a sequence is enough for its meaning.
 use Rattle.std.proofs.Common.{◌≡◌, ◌≢◌, ℕ, Bool, true, false, not, ◌&&◌, ◌||◌, ◌==◌, List, [], ◌∷◌, map, refl, ap, ap₂, cond, codes, Ok, Err, Result}
 use Rattle.std.specs.List.{list_any}
-use Rattle.ans_model.specs.Token.{Token, Up, Down, Forward, Backward, Place, Clear, EraseLine, Save, Restore, Wrap, Mode, Ask}
+use Rattle.ans_model.specs.Sequence.TokenKind.{TokenKind, Up, Down, Forward, Backward, Place, Clear, EraseLine, Save, Restore, Wrap, Mode, Ask}
 use Rattle.ans_model.specs.declared.fault.Cause.{Cause}
 use Rattle.ans_model.specs.declared.fault.Cause.TheVariants.{UnknownSequence, WrongParameters}
-use Rattle.ans_model.specs.Sequence.{Member, Omitted, Number, Quoted, Raw}
-use Rattle.ans_model.specs.Meaning.{is_marked, is_quoted, distance, colour_number, is_just, is_empty, move, place, colours, only_if, wrap_or_mode, table, is_one_of, look_up, has_a_meaning, meaning}
+use Rattle.ans_model.specs.Sequence.Spelling.{Member, Omitted, Number, Quoted, Raw}
+use Rattle.ans_model.specs.Sequence.Meaning.{is_marked, is_quoted, distance, colour_number, is_just, is_empty, move, place, colours, only_if, wrap_or_mode, table, is_one_of, look_up, has_a_meaning, meaning}
 use Rattle.ans_tokens.specs.Kept.{kept_distance, kept_move, kept_place, is_alone, is_none, kept_colours, kept_wrap_or_mode, kept_table, kept_meaning}
 
 branch : {A : Type 0} {x y z w : A} (b : Bool) → x ≡ y → z ≡ w → cond b x z ≡ cond b y w
@@ -17,7 +17,7 @@ distance_law Omitted = refl
 distance_law (Number n) = refl
 distance_law (Quoted q text) = refl
 
-move_law : (by : ℕ → Token) (ms : List Member) → move by ms ≡ kept_move by (map colour_number ms)
+move_law : (by : ℕ → TokenKind) (ms : List Member) → move by ms ≡ kept_move by (map colour_number ms)
 move_law by [] = refl
 move_law by (m ∷ []) = ap (λ (n : ℕ). Ok (by n)) (distance_law m)
 move_law by (m ∷ n ∷ ms) = refl
@@ -68,16 +68,16 @@ colours_law : (ms : List Member) → colours ms ≡ kept_colours (map colour_num
 colours_law [] = refl
 colours_law (m ∷ ms) = refl
 
-only_law : {a b : Bool} (t : Token) → a ≡ b → only_if a t ≡ only_if b t
+only_law : {a b : Bool} (t : TokenKind) → a ≡ b → only_if a t ≡ only_if b t
 only_law t e = ap (λ (v : Bool). only_if v t) e
 
 wrap_law : (raw : Raw) (on : Bool) → wrap_or_mode raw on ≡ kept_wrap_or_mode raw.mark (map colour_number raw.members) on
 wrap_law raw on = ap (λ (v : Bool). cond (is_marked raw.mark && v) (Wrap on) Mode) (seven_law raw.members)
 
-accepted : Token → Result Token Cause
+accepted : TokenKind → Result TokenKind Cause
 accepted t = Ok t
 
-ok_law : (t u : Token) → t ≡ u → ◌≡◌ {A = Result Token Cause} (Ok t) (Ok u)
+ok_law : (t u : TokenKind) → t ≡ u → ◌≡◌ {A = Result TokenKind Cause} (Ok t) (Ok u)
 unfolding accepted
 ok_law t u e = ap accepted e
 
@@ -102,6 +102,6 @@ table_law raw n =
 pub kept_law : (raw : Raw) → raw.members ≢ Omitted ∷ []
     → meaning raw ≡ kept_meaning raw.mark (map colour_number raw.members) (list_any is_quoted raw.members) raw.letter
 kept_law raw n =
-    ap (λ (v : Result Token Cause). cond (not (has_a_meaning raw.letter)) (Err UnknownSequence)
+    ap (λ (v : Result TokenKind Cause). cond (not (has_a_meaning raw.letter)) (Err UnknownSequence)
     (cond (is_marked raw.mark && not (is_one_of (codes "hl") raw.letter)) (Err UnknownSequence)
     (cond (list_any is_quoted raw.members && not (is_one_of (codes "p") raw.letter)) (Err WrongParameters) v))) (table_law raw n)

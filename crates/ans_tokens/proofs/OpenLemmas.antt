@@ -3,9 +3,9 @@ use Rattle.std.proofs.Common.{◌≢◌, inl, inr, ℕ, ◌<◌, List, [], ◌�
 use Rattle.ans_model.specs.Bytes.{escape, bracket}
 use Rattle.ans_model.specs.declared.fault.Cause.{Cause}
 use Rattle.ans_model.specs.declared.fault.Cause.TheVariants.{BrokenSequence}
-use Rattle.ans_model.specs.Sequence.{IsUnfinished, IsPrefixOfLoose, IsPrefixOfSpelling}
-use Rattle.ans_model.specs.Parts.{Part, SpellsPart}
-use Rattle.ans_model.specs.FirstFault.{IsWhy, IsRefused}
+use Rattle.ans_model.specs.Sequence.Spelling.{IsUnfinished, IsPrefixOfLoose, IsPrefixOfSpelling}
+use Rattle.ans_model.specs.Inside.OpenPart.{Part, SpellsPart}
+use Rattle.ans_model.specs.Verdict.FirstFault.{IsWhy, IsRefused}
 use Rattle.ans_model.proofs.Spelling.{head_of, tail_of}
 use Rattle.ans_model.proofs.Scanning.{part_unfinished}
 use Rattle.ans_tokens.specs.Shows.{begun}

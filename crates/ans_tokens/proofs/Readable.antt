@@ -4,10 +4,10 @@ use Rattle.std.specs.List.{AllByRecursion, AllZip, concat}
 use Rattle.std.proofs.lemmas.List.{append-nil}
 use Rattle.std.proofs.lemmas.List.Folds.{concat-append}
 use Rattle.ans_model.specs.Bytes.{IsByte}
-use Rattle.ans_model.specs.Token.{Token}
+use Rattle.ans_model.specs.Sequence.TokenKind.{TokenKind}
 use Rattle.ans_model.specs.declared.fault.Cause.{Cause}
-use Rattle.ans_model.specs.Reads.{SpellsToken, ReadsAs}
-use Rattle.ans_model.specs.FirstFault.{IsRefused}
+use Rattle.ans_model.specs.Sequence.Reads.{SpellsToken, ReadsAs}
+use Rattle.ans_model.specs.Verdict.FirstFault.{IsRefused}
 use Rattle.ans_tokens.proofs.EachByte.{IsOpen, each_byte}
 
 -- the list begins with a text that the reading refuses
@@ -23,19 +23,19 @@ pub record IsReadable (bytes : List ℕ) : Type 0 where
   pub front : List ℕ
   pub left : List ℕ
   pub whole : bytes ≡ front ++ left
-  pub tokens : List Token
+  pub tokens : List TokenKind
   pub texts : List (List ℕ)
   pub reads : ReadsAs front tokens texts
   pub leaves : IsOpen left ⊎ IsRefusedFront left
 
-spells_more : (ts us : List Token) (xs ys : List (List ℕ)) → AllZip SpellsToken ts xs → AllZip SpellsToken us ys → AllZip SpellsToken (ts ++ us) (xs ++ ys)
+spells_more : (ts us : List TokenKind) (xs ys : List (List ℕ)) → AllZip SpellsToken ts xs → AllZip SpellsToken us ys → AllZip SpellsToken (ts ++ us) (xs ++ ys)
 spells_more [] us [] ys h k = k
 spells_more [] us (x ∷ xs) ys h k = absurd h
 spells_more (t ∷ ts) us [] ys h k = absurd h
 spells_more (t ∷ ts) us (x ∷ xs) ys h k = (h.0, spells_more ts us xs ys h.1 k)
 
 -- one more token is read
-pub reads_as_more : (bytes text : List ℕ) (tokens : List Token) (texts : List (List ℕ)) (t : Token) → ReadsAs bytes tokens texts → SpellsToken t text
+pub reads_as_more : (bytes text : List ℕ) (tokens : List TokenKind) (texts : List (List ℕ)) (t : TokenKind) → ReadsAs bytes tokens texts → SpellsToken t text
     → ReadsAs (bytes ++ text) (tokens ++ t ∷ []) (texts ++ text ∷ [])
 reads_as_more bytes text tokens texts t r spelled = record {
   each = spells_more tokens (t ∷ []) texts (text ∷ []) r.each (spelled, tt);
@@ -43,7 +43,7 @@ reads_as_more bytes text tokens texts t r spelled = record {
 }
 
 -- behind tokens and an open part
-read_on : (rest front y : List ℕ) (tokens : List Token) (texts : List (List ℕ)) → AllByRecursion IsByte rest → ReadsAs front tokens texts → IsOpen y → IsReadable (front ++ (y ++ rest))
+read_on : (rest front y : List ℕ) (tokens : List TokenKind) (texts : List (List ℕ)) → AllByRecursion IsByte rest → ReadsAs front tokens texts → IsOpen y → IsReadable (front ++ (y ++ rest))
 read_on [] front y tokens texts bytes reads at = record {
   front = front;
   left = y;

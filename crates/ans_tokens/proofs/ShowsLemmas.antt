@@ -3,13 +3,13 @@ use Rattle.std.proofs.Common.{◌≡◌, ℕ, Bool, true, false, ◌||◌, List,
 use Rattle.std.specs.Prelude.{MatchResult}
 use Rattle.std.specs.List.{list_any}
 use Rattle.std.proofs.lemmas.List.Folds.{list_any-append}
-use Rattle.ans_model.specs.Sequence.{Member}
-use Rattle.ans_model.specs.Meaning.{is_quoted, colour_number, meaning}
-use Rattle.ans_model.specs.Parts.{Current, Fresh, InNumber, InString, AfterString, Part, member_of, members_of, raw_of}
+use Rattle.ans_model.specs.Sequence.Spelling.{Member}
+use Rattle.ans_model.specs.Sequence.Meaning.{is_quoted, colour_number, meaning}
+use Rattle.ans_model.specs.Inside.OpenPart.{Current, Fresh, InNumber, InString, AfterString, Part, member_of, members_of, raw_of}
 use Rattle.ans_model.specs.declared.fault.Cause.{Cause}
 use Rattle.ans_model.specs.declared.kind.Kind.{Kind}
-use Rattle.ans_model.specs.Token.{Token}
-use Rattle.ans_model.specs.View.{token_of}
+use Rattle.ans_model.specs.Sequence.TokenKind.{TokenKind}
+use Rattle.ans_model.specs.Inside.ShownKind.{shown_kind}
 use Rattle.ans_tokens.specs.declared.unfinished.Unfinished.{Unfinished}
 use Rattle.ans_tokens.specs.Mark.{mark_of}
 use Rattle.ans_tokens.specs.Kept.{kept_meaning}
@@ -46,7 +46,7 @@ meant held part letter numbers quoted shows whole n q =
     ∙ ap (λ (b : Bool). kept_meaning part.mark numbers b letter) strings
     ∙ ap (λ m. kept_meaning m numbers quoted letter) shows.mark_is
 
-pub same_result : (m k : Result Token Cause) (r : Result Kind Cause) → m ≡ k
-    → MatchResult r (λ kind. k ≡ Ok (token_of kind)) (λ cause. k ≡ Err cause) → MatchResult r (λ kind. m ≡ Ok (token_of kind)) (λ cause. m ≡ Err cause)
+pub same_result : (m k : Result TokenKind Cause) (r : Result Kind Cause) → m ≡ k
+    → MatchResult r (λ kind. k ≡ Ok (shown_kind kind)) (λ cause. k ≡ Err cause) → MatchResult r (λ kind. m ≡ Ok (shown_kind kind)) (λ cause. m ≡ Err cause)
 same_result m k (Ok kind) e h = e ∙ h
 same_result m k (Err cause) e h = e ∙ h

@@ -6,9 +6,9 @@ use Rattle.std.proofs.lemmas.Int.Digits.{digits_value_push}
 use Rattle.std.specs.Char.{is_ascii_digit, is_ascii_alphabetic, digit_value}
 use Rattle.std.specs.Str.Parse.{digits_value}
 use Rattle.ans_model.specs.Bytes.{escape, bracket, semicolon}
-use Rattle.ans_model.specs.Sequence.{Mark, Unmarked, Equals, Question, Member, is_quote, mark_bytes, SpellsMember, Spells, IsPrefixOfLoose, IsPrefixOfSpelling}
-use Rattle.ans_model.specs.Parts.{Current, Fresh, InNumber, InString, AfterString, SpellsCurrent, IsCurrentInLimit, Part, LoosePart, SpellsPart, member_of, lacks, raw_of, is_stop}
-use Rattle.ans_model.specs.Meaning.{colour_number, is_marked}
+use Rattle.ans_model.specs.Sequence.Spelling.{Mark, Unmarked, Equals, Question, Member, is_quote, mark_bytes, SpellsMember, Spells, IsPrefixOfLoose, IsPrefixOfSpelling}
+use Rattle.ans_model.specs.Inside.OpenPart.{Current, Fresh, InNumber, InString, AfterString, SpellsCurrent, IsCurrentInLimit, Part, LoosePart, SpellsPart, member_of, lacks, raw_of, is_stop}
+use Rattle.ans_model.specs.Sequence.Meaning.{colour_number, is_marked}
 use Rattle.ans_model.proofs.Spelling.{is_mark_byte}
 use Rattle.ans_model.proofs.Scanning.{all_append, done_more, limit_append, limit_member, finish_in_limit, completed, refuses_number, refuses_count, part_loose}
 

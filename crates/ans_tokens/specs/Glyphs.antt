@@ -1,7 +1,7 @@
 -- Bytes that are printed as they stand, one token each.
 use Rattle.std.specs.Prelude.{◌≡◌, ℕ, ◌+◌, ◌≤◌, List, [], ◌∷◌, length, take, slice_get, All, Some, None}
-use Rattle.ans_model.specs.Token.{Glyph}
-use Rattle.ans_model.specs.Reads.{SpellsToken}
+use Rattle.ans_model.specs.Sequence.TokenKind.{Glyph}
+use Rattle.ans_model.specs.Sequence.Reads.{SpellsToken}
 use Rattle.ans_tokens.specs.Scanning.{Scanning, Nothing}
 
 -- the byte alone spells the token that prints it

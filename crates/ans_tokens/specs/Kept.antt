@@ -1,21 +1,21 @@
 -- The meaning of a sequence from what a scanner keeps of it: the mark, a number for each member (0 for one that is
 -- none), and whether a string was among the members.
 use Rattle.std.specs.Prelude.{ℕ, Bool, true, false, not, ◌||◌, ◌&&◌, ◌==◌, List, [], ◌∷◌, codes, Result, Ok, Err, if◌then◌else◌}
-use Rattle.ans_model.specs.Sequence.{Mark}
-use Rattle.ans_model.specs.Token.{Token, Up, Down, Forward, Backward, Place, Clear, EraseLine, Save, Restore, Colours, Wrap, Mode, Keys, Ask}
+use Rattle.ans_model.specs.Sequence.Spelling.{Mark}
+use Rattle.ans_model.specs.Sequence.TokenKind.{TokenKind, Up, Down, Forward, Backward, Place, Clear, EraseLine, Save, Restore, Colours, Wrap, Mode, Keys, Ask}
 use Rattle.ans_model.specs.declared.fault.Cause.{Cause}
 use Rattle.ans_model.specs.declared.fault.Cause.TheVariants.{UnknownSequence, WrongParameters}
-use Rattle.ans_model.specs.Meaning.{is_marked, has_a_meaning, only_if, Entry, entry, is_one_of, look_up}
+use Rattle.ans_model.specs.Sequence.Meaning.{is_marked, has_a_meaning, only_if, Entry, entry, is_one_of, look_up}
 
 abbrev pub kept_distance : ℕ → ℕ
 kept_distance n = if n == 0 then 1 else n
 
-abbrev pub kept_move : (ℕ → Token) → List ℕ → Result Token Cause
+abbrev pub kept_move : (ℕ → TokenKind) → List ℕ → Result TokenKind Cause
 kept_move by [] = Ok (by 1)
 kept_move by (n ∷ []) = Ok (by (kept_distance n))
 kept_move by _ = Err WrongParameters
 
-abbrev pub kept_place : List ℕ → Result Token Cause
+abbrev pub kept_place : List ℕ → Result TokenKind Cause
 kept_place [] = Ok (Place 1 1)
 kept_place (r ∷ []) = Ok (Place (kept_distance r) 1)
 kept_place (r ∷ c ∷ []) = Ok (Place (kept_distance r) (kept_distance c))
@@ -29,11 +29,11 @@ abbrev pub is_none : List ℕ → Bool
 is_none [] = true
 is_none _ = false
 
-abbrev pub kept_colours : List ℕ → Token
+abbrev pub kept_colours : List ℕ → TokenKind
 kept_colours [] = Colours (0 ∷ [])
 kept_colours (n ∷ ns) = Colours (n ∷ ns)
 
-abbrev pub kept_wrap_or_mode : Mark → List ℕ → Bool → Token
+abbrev pub kept_wrap_or_mode : Mark → List ℕ → Bool → TokenKind
 kept_wrap_or_mode mark numbers on = if is_marked mark && is_alone 7 numbers then Wrap on else Mode
 
 abbrev pub kept_table : Mark → List ℕ → Bool → List Entry
@@ -54,7 +54,7 @@ kept_table mark numbers quoted =
     ∷ entry (codes "n") (only_if (is_alone 6 numbers) Ask)
     ∷ []
 
-abbrev pub kept_meaning : Mark → List ℕ → Bool → ℕ → Result Token Cause
+abbrev pub kept_meaning : Mark → List ℕ → Bool → ℕ → Result TokenKind Cause
 kept_meaning mark numbers quoted letter =
     if not (has_a_meaning letter) then Err UnknownSequence
     else if is_marked mark && not (is_one_of (codes "hl") letter) then Err UnknownSequence

@@ -1,6 +1,6 @@
 -- The program's marks as those of the definitions.
 use Rattle.std.specs.Prelude.{ℕ, Bool, ◌||◌, ◌==◌}
-use Rattle.ans_model.specs.Sequence as sequence
+use Rattle.ans_model.specs.Sequence.Spelling as sequence
 use Rattle.ans_tokens.specs.declared.mark.Mark.{Mark}
 use Rattle.ans_tokens.specs.declared.mark.Mark.TheVariants.{Unmarked, Equals, Question}
 

@@ -4,13 +4,13 @@ use Rattle.std.specs.List.{list_any}
 use Rattle.ans_model.specs.declared.fault.Fault.{Fault}
 use Rattle.ans_model.specs.declared.fault.Cause.TheVariants.{EndInSequence}
 use Rattle.ans_model.specs.Bytes.{escape}
-use Rattle.ans_model.specs.Sequence.{Mark, IsUnfinished}
-use Rattle.ans_model.specs.Meaning.{colour_number, is_quoted}
-use Rattle.ans_model.specs.Reads.{SpellsToken}
-use Rattle.ans_model.specs.FirstFault.{IsRefused}
-use Rattle.ans_model.specs.View.{token_of}
-use Rattle.ans_model.specs.Parts as parts
-use Rattle.ans_model.specs.Parts.{Part, SpellsPart}
+use Rattle.ans_model.specs.Sequence.Spelling.{Mark, IsUnfinished}
+use Rattle.ans_model.specs.Sequence.Meaning.{colour_number, is_quoted}
+use Rattle.ans_model.specs.Sequence.Reads.{SpellsToken}
+use Rattle.ans_model.specs.Verdict.FirstFault.{IsRefused}
+use Rattle.ans_model.specs.Inside.ShownKind.{shown_kind}
+use Rattle.ans_model.specs.Inside.OpenPart as parts
+use Rattle.ans_model.specs.Inside.OpenPart.{Part, SpellsPart}
 use Rattle.ans_tokens.specs.Token.{kind_of, start_of, length_of}
 use Rattle.ans_tokens.specs.declared.token.Token.{Token}
 use Rattle.ans_tokens.specs.declared.unfinished.Current.{Current}
@@ -64,7 +64,7 @@ pub record Holds (s : Scanning) (y : List ℕ) : Type 0 where
 
 -- the token is spelled by the open part y and a byte
 pub record IsTokenOf (token : Token) (offset : ℕ) (y : List ℕ) (byte : ℕ) : Type 0 where
-  pub spelled : SpellsToken (token_of (kind_of token)) (y ++ byte ∷ [])
+  pub spelled : SpellsToken (shown_kind (kind_of token)) (y ++ byte ∷ [])
   pub starts : start_of token + length y ≡ offset
   pub long : length_of token ≡ length y + 1
 

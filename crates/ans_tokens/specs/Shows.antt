@@ -1,8 +1,8 @@
 -- What the state of an unfinished sequence says of its bytes, and what a step may answer.
 use Rattle.std.specs.Prelude.{◌≡◌, ◌≢◌, ℕ, false, List, [], ◌∷◌, ◌++◌}
-use Rattle.ans_model.specs.Sequence.{Mark, Unmarked, Omitted, mark_bytes, Spells, IsPrefixOfSpelling}
-use Rattle.ans_model.specs.Parts.{Part, Fresh, SpellsPart, lacks, member_of, members_of, raw_of}
-use Rattle.ans_model.specs.FirstFault.{IsWhy}
+use Rattle.ans_model.specs.Sequence.Spelling.{Mark, Unmarked, Omitted, mark_bytes, Spells, IsPrefixOfSpelling}
+use Rattle.ans_model.specs.Inside.OpenPart.{Part, Fresh, SpellsPart, lacks, member_of, members_of, raw_of}
+use Rattle.ans_model.specs.Verdict.FirstFault.{IsWhy}
 use Rattle.ans_tokens.specs.Mark.{mark_of, is_mark_byte}
 use Rattle.ans_tokens.specs.Scanning.{Kept, Nothing, Escape, Sequence, ShowsPart, Keeps}
 use Rattle.ans_tokens.specs.declared.scanner.Open as code_open

@@ -1,8 +1,8 @@
 //! What may stand directly behind `[`.
 
 ghost use Rattle.std.specs.Prelude.{◌≡◌, ◌∷◌, [], false, MatchOption};
-ghost use Rattle.ans_model.specs.Sequence.{mark_bytes};
-ghost use Rattle.ans_model.specs.Meaning.{is_marked};
+ghost use Rattle.ans_model.specs.Sequence.Spelling.{mark_bytes};
+ghost use Rattle.ans_model.specs.Sequence.Meaning.{is_marked};
 ghost use Rattle.ans_tokens.specs.Mark.{mark_of, is_mark_byte};
 
 /// The mark of a sequence: none, `=` or `?`.

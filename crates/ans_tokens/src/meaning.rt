@@ -1,9 +1,9 @@
 //! What a sequence means, by its letter.
 
 ghost use Rattle.std.specs.Prelude.{◌≡◌, ℕ, Ok, Err, MatchResult, true, false};
-ghost use Rattle.ans_model.specs.Token.{Token, EraseLine, Place};
-ghost use Rattle.ans_model.specs.Meaning.{only_if};
-ghost use Rattle.ans_model.specs.View.{token_of};
+ghost use Rattle.ans_model.specs.Sequence.TokenKind.{TokenKind, EraseLine, Place};
+ghost use Rattle.ans_model.specs.Sequence.Meaning.{only_if};
+ghost use Rattle.ans_model.specs.Inside.ShownKind.{shown_kind};
 ghost use Rattle.ans_tokens.specs.Mark.{mark_of};
 ghost use Rattle.ans_tokens.specs.Kept.{kept_meaning, kept_move, kept_place, kept_colours, is_alone};
 
@@ -14,8 +14,8 @@ use arrayvec::ArrayVec;
 
 /// The distance of a move: of no number, and of 0, it is 1.
 fn distance(numbers: &[u8]) -> Result<u8, Cause>
-    ensures { MatchResult result (λ n. (by : ℕ → Token) → kept_move by numbers.now ≡ Ok (by n))
-        (λ cause. (by : ℕ → Token) → kept_move by numbers.now ≡ Err cause) }
+    ensures { MatchResult result (λ n. (by : ℕ → TokenKind) → kept_move by numbers.now ≡ Ok (by n))
+        (λ cause. (by : ℕ → TokenKind) → kept_move by numbers.now ≡ Err cause) }
 {
     match numbers {
         [] => Ok(1),
@@ -26,7 +26,7 @@ fn distance(numbers: &[u8]) -> Result<u8, Cause>
 
 /// The row and the column of a place, counted from 1.
 fn place(numbers: &[u8]) -> Result<Kind, Cause>
-    ensures { MatchResult result (λ kind. kept_place numbers.now ≡ Ok (token_of kind))
+    ensures { MatchResult result (λ kind. kept_place numbers.now ≡ Ok (shown_kind kind))
         (λ cause. kept_place numbers.now ≡ Err cause) }
 {
     match numbers {
@@ -49,7 +49,7 @@ fn stands_alone(numbers: &[u8], n: u8) -> bool
 
 /// The colours of a list, of which the empty one stands for a 0.
 fn colours(mut numbers: ArrayVec<u8, 16>) -> Kind
-    ensures { token_of result ≡ kept_colours numbers.items }
+    ensures { shown_kind result ≡ kept_colours numbers.items }
 {
     if numbers.is_empty() {
         numbers.push(0);
@@ -59,8 +59,8 @@ fn colours(mut numbers: ArrayVec<u8, 16>) -> Kind
 
 /// A kind where the parameters are those that it takes.
 fn only_if_taken(taken: bool, kind: Kind) -> Result<Kind, Cause>
-    ensures { MatchResult result (λ k. only_if taken (token_of kind) ≡ Ok (token_of k))
-        (λ cause. only_if taken (token_of kind) ≡ Err cause) }
+    ensures { MatchResult result (λ k. only_if taken (shown_kind kind) ≡ Ok (shown_kind k))
+        (λ cause. only_if taken (shown_kind kind) ≡ Err cause) }
 {
     if taken {
         Ok(kind)
@@ -78,7 +78,7 @@ pub(crate) fn kind_meant(
     letter: u8,
 ) -> Result<Kind, Cause>
     ensures { MatchResult result
-        (λ kind. kept_meaning (mark_of mark) numbers.items quoted letter ≡ Ok (token_of kind))
+        (λ kind. kept_meaning (mark_of mark) numbers.items quoted letter ≡ Ok (shown_kind kind))
         (λ cause. kept_meaning (mark_of mark) numbers.items quoted letter ≡ Err cause) }
 {
     if has_mark(mark) && letter != b'h' && letter != b'l' {

@@ -1,10 +1,10 @@
 //! The scanner of a content.
 
 ghost use Rattle.std.specs.Prelude.{◌≡◌, ◌++◌, ◌∷◌, [], ℕ, List, MatchBool, MatchResult, MatchOption};
-ghost use Rattle.ans_model.specs.Reads.{SpellsToken, token_of_byte};
-ghost use Rattle.ans_model.specs.Sequence.{IsUnfinished};
-ghost use Rattle.ans_model.specs.FirstFault.{IsRefused};
-ghost use Rattle.ans_model.specs.View.{token_of};
+ghost use Rattle.ans_model.specs.Sequence.Reads.{SpellsToken, kind_of_byte};
+ghost use Rattle.ans_model.specs.Sequence.Spelling.{IsUnfinished};
+ghost use Rattle.ans_model.specs.Verdict.FirstFault.{IsRefused};
+ghost use Rattle.ans_model.specs.Inside.ShownKind.{shown_kind};
 
 use crate::glyphs::count_glyphs;
 use crate::token::Token;
@@ -28,7 +28,7 @@ pub(crate) enum Open {
 
 /// The token that a byte outside sequences is.
 fn kind_of_byte(byte: u8) -> Kind
-    ensures { token_of result ≡ token_of_byte byte }
+    ensures { shown_kind result ≡ kind_of_byte byte }
 {
     match byte {
         0x07 => Kind::Bell,
@@ -61,7 +61,7 @@ impl Open {
         ensures { (y : List ℕ) → HoldsOpen self.old y → MatchResult result
             (λ kind. MatchOption kind
             (IsUnfinished (y ++ byte ∷ []) × HoldsOpen self.new (y ++ byte ∷ []))
-            (λ k. SpellsToken (token_of k) (y ++ byte ∷ [])))
+            (λ k. SpellsToken (shown_kind k) (y ++ byte ∷ [])))
             (λ cause. IsRefused (y ++ byte ∷ []) cause) }
     {
         match self {

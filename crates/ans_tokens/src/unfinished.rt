@@ -25,9 +25,9 @@ pub(crate) enum Current {
 
 impl Current {
     ghost use Rattle.std.specs.Prelude.{◌≡◌, true, false, MatchBool};
-    ghost use Rattle.ans_model.specs.Parts as parts;
-    ghost use Rattle.ans_model.specs.Parts.{member_of};
-    ghost use Rattle.ans_model.specs.Meaning.{colour_number, is_quoted};
+    ghost use Rattle.ans_model.specs.Inside.OpenPart as parts;
+    ghost use Rattle.ans_model.specs.Inside.OpenPart.{member_of};
+    ghost use Rattle.ans_model.specs.Sequence.Meaning.{colour_number, is_quoted};
     ghost use Rattle.ans_tokens.specs.Scanning.{ShowsCurrent};
 
     /// Whether there is nothing of the member yet.
@@ -83,10 +83,10 @@ pub(crate) struct Unfinished {
 
 impl Unfinished {
     ghost use Rattle.std.specs.Prelude.{◌≡◌, ◌<◌, ◌++◌, ◌∷◌, [], ℕ, List, map, false, MatchOption, MatchResult, Ok, Err};
-    ghost use Rattle.ans_model.specs.Parts.{Part, Fresh, SpellsPart, is_stop, lacks, members_of, raw_of};
-    ghost use Rattle.ans_model.specs.Sequence.{IsPrefixOfLoose};
-    ghost use Rattle.ans_model.specs.Meaning.{meaning, colour_number};
-    ghost use Rattle.ans_model.specs.View.{token_of};
+    ghost use Rattle.ans_model.specs.Inside.OpenPart.{Part, Fresh, SpellsPart, is_stop, lacks, members_of, raw_of};
+    ghost use Rattle.ans_model.specs.Sequence.Spelling.{IsPrefixOfLoose};
+    ghost use Rattle.ans_model.specs.Sequence.Meaning.{meaning, colour_number};
+    ghost use Rattle.ans_model.specs.Inside.ShownKind.{shown_kind};
     ghost use Rattle.ans_tokens.specs.Mark.{mark_of};
     ghost use Rattle.ans_tokens.specs.Shows.{Shows, Outcome, IsMarkAt, IsNoMarkAt, IsWhole, begun, with_next};
 
@@ -208,7 +208,7 @@ impl Unfinished {
     /// What the sequence means with this letter behind it. Afterwards nothing is left of it.
     pub(crate) fn finish(&mut self, letter: u8) -> Result<Kind, Cause>
         ensures { (part : Part) → Shows self.old part → IsWhole part
-            → MatchResult result (λ kind. meaning (raw_of part letter) ≡ Ok (token_of kind))
+            → MatchResult result (λ kind. meaning (raw_of part letter) ≡ Ok (shown_kind kind))
             (λ cause. meaning (raw_of part letter) ≡ Err cause) }
     {
         let mark = self.mark;

@@ -1,779 +1,195 @@
-//! Contents, and what is answered of them.
+//! Contents, each with the picture that it shows or the fault that it is refused for.
+//!
+//! A row is the class of starts, the stated width and lines, the content, and what is expected: the
+//! picture's bytes, with their attributes where these are compared, or the fault and its offset.
 
-use super::Answer::{Refused, Shows};
+use super::Expected::{Refused, Shows};
 use super::Row;
 use ans_model::fault::Cause;
 use ans_model::start::Start;
 
+macro_rules! expected {
+    (shows $bytes:literal, [$($attribute:literal),*]) => {
+        Shows($bytes, &[$($attribute),*])
+    };
+    (refused $offset:literal, UnknownCell $row:literal $col:literal) => {
+        Refused($offset, Cause::UnknownCell { row: $row, col: $col })
+    };
+    (refused $offset:literal, $cause:ident) => {
+        Refused($offset, Cause::$cause)
+    };
+}
+
+macro_rules! start {
+    (any) => {
+        Start::Any
+    };
+    (cleared) => {
+        Start::Cleared
+    };
+}
+
+macro_rules! rows {
+    ($($start:ident $width:literal x $lines:literal, $content:literal => $word:ident($($expected:tt)*);)*) => {
+        [$(Row(start!($start), $width, $lines, $content, expected!($word $($expected)*))),*]
+    };
+}
+
 /// Contents without a sequence.
-pub(super) static BYTES: [Row; 13] = [
-    Row(
-        Start::Any,
-        2,
-        1,
-        b"Hi",
-        Refused(0, Cause::PrintUnknownPlace),
-    ),
-    Row(Start::Cleared, 2, 1, b"Hi", Shows(b"Hi", &[0x07, 0x07])),
-    Row(Start::Cleared, 2, 1, b"Hi\r\n", Refused(3, Cause::Scrolls)),
-    Row(
-        Start::Any,
-        1,
-        1,
-        b"",
-        Refused(0, Cause::UnknownCell { row: 1, col: 1 }),
-    ),
-    Row(Start::Cleared, 1, 1, b"", Shows(b" ", &[0x07])),
-    Row(Start::Cleared, 2, 1, b"a\x08b\x07", Shows(b"b ", &[])),
-    Row(
-        Start::Cleared,
-        2,
-        1,
-        b"\xdb\x00",
-        Shows(b"\xdb\x00", &[0x07, 0x07]),
-    ),
-    Row(Start::Cleared, 2, 1, b"\t", Refused(0, Cause::TabByte)),
-    Row(Start::Any, 1, 1, b"\n", Refused(0, Cause::MayScroll)),
-    Row(
-        Start::Any,
-        2,
-        1,
-        b"",
-        Refused(0, Cause::UnknownCell { row: 1, col: 1 }),
-    ),
-    Row(Start::Cleared, 4, 2, b"ab\rx", Shows(b"xb      ", &[])),
-    Row(Start::Cleared, 4, 2, b"ab\nx", Shows(b"ab    x ", &[])),
-    Row(Start::Cleared, 4, 1, b"abc\x08x", Shows(b"abx ", &[])),
-];
+pub(super) static BYTES: [Row; 13] = rows! {
+    any 2 x 1, b"Hi" => refused(0, PrintUnknownPlace);
+    cleared 2 x 1, b"Hi" => shows(b"Hi", [0x07, 0x07]);
+    cleared 2 x 1, b"Hi\r\n" => refused(3, Scrolls);
+    any 1 x 1, b"" => refused(0, UnknownCell 1 1);
+    cleared 1 x 1, b"" => shows(b" ", [0x07]);
+    cleared 2 x 1, b"a\x08b\x07" => shows(b"b ", []);
+    cleared 2 x 1, b"\xdb\x00" => shows(b"\xdb\x00", [0x07, 0x07]);
+    cleared 2 x 1, b"\t" => refused(0, TabByte);
+    any 1 x 1, b"\n" => refused(0, MayScroll);
+    any 2 x 1, b"" => refused(0, UnknownCell 1 1);
+    cleared 4 x 2, b"ab\rx" => shows(b"xb      ", []);
+    cleared 4 x 2, b"ab\nx" => shows(b"ab    x ", []);
+    cleared 4 x 1, b"abc\x08x" => shows(b"abx ", []);
+};
 
 /// Contents that show a picture from any start.
-pub(super) static PASSES_FROM_ANY: [Row; 9] = [
-    Row(
-        Start::Any,
-        2,
-        1,
-        b"\x1b[?7h\x1b[0m\x1b[2JHi",
-        Shows(b"Hi", &[0x07, 0x07]),
-    ),
-    Row(Start::Any, 1, 1, b"\x1b[0m\x1b[2Ja", Shows(b"a", &[0x07])),
-    Row(
-        Start::Any,
-        2,
-        1,
-        b"\x1b[?7h\x1b[0m\x1b[2J\x1b[s\x1b[ux",
-        Shows(b"x ", &[]),
-    ),
-    Row(
-        Start::Any,
-        2,
-        1,
-        b"\x1b[?7h\x1b[0m\x1b[255A\x1b[255DHi",
-        Shows(b"Hi", &[]),
-    ),
-    Row(
-        Start::Any,
-        1,
-        2,
-        b"\x1b[?7h\x1b[0m\x1b[1A\x1b[1Aab",
-        Shows(b"ab", &[]),
-    ),
-    Row(
-        Start::Any,
-        1,
-        1,
-        b"\x1b[0m\x1b[2Ja\x1b[Ab",
-        Shows(b"b", &[]),
-    ),
-    Row(
-        Start::Any,
-        2,
-        1,
-        b"\x1b[?7h\x1b[0m\x1b[2J",
-        Shows(b"  ", &[]),
-    ),
-    Row(
-        Start::Any,
-        2,
-        1,
-        b"\x1b[?7h\x1b[0m\x1b[2JH",
-        Shows(b"H ", &[]),
-    ),
-    Row(
-        Start::Any,
-        2,
-        1,
-        b"\x1b[?7h\x1b[0m\x1b[2J\x1b[2;2H\x1b[K",
-        Shows(b"  ", &[0x07, 0x07]),
-    ),
-];
+pub(super) static PASSES_FROM_ANY: [Row; 9] = rows! {
+    any 2 x 1, b"\x1b[?7h\x1b[0m\x1b[2JHi" => shows(b"Hi", [0x07, 0x07]);
+    any 1 x 1, b"\x1b[0m\x1b[2Ja" => shows(b"a", [0x07]);
+    any 2 x 1, b"\x1b[?7h\x1b[0m\x1b[2J\x1b[s\x1b[ux" => shows(b"x ", []);
+    any 2 x 1, b"\x1b[?7h\x1b[0m\x1b[255A\x1b[255DHi" => shows(b"Hi", []);
+    any 1 x 2, b"\x1b[?7h\x1b[0m\x1b[1A\x1b[1Aab" => shows(b"ab", []);
+    any 1 x 1, b"\x1b[0m\x1b[2Ja\x1b[Ab" => shows(b"b", []);
+    any 2 x 1, b"\x1b[?7h\x1b[0m\x1b[2J" => shows(b"  ", []);
+    any 2 x 1, b"\x1b[?7h\x1b[0m\x1b[2JH" => shows(b"H ", []);
+    any 2 x 1, b"\x1b[?7h\x1b[0m\x1b[2J\x1b[2;2H\x1b[K" => shows(b"  ", [0x07, 0x07]);
+};
 
 /// Contents without colours that show a picture from the cleared start.
-pub(super) static PASSES_FROM_CLEARED: [Row; 22] = [
-    Row(Start::Cleared, 2, 1, b"\x1b[255D", Shows(b"  ", &[])),
-    Row(Start::Cleared, 2, 1, b"\x1b[?7lHi!", Shows(b"H!", &[])),
-    Row(
-        Start::Cleared,
-        2,
-        2,
-        b"a\x1b[s\r\n\x1b[ub",
-        Shows(b"ab  ", &[]),
-    ),
-    Row(Start::Cleared, 2, 1, b"\x1b[2;2H", Shows(b"  ", &[])),
-    Row(
-        Start::Cleared,
-        4,
-        3,
-        b"\x1b[3;3H\x1b[Ax",
-        Shows(b"      x     ", &[]),
-    ),
-    Row(
-        Start::Cleared,
-        4,
-        3,
-        b"\x1b[3;3H\x1b[2Ax",
-        Shows(b"  x         ", &[]),
-    ),
-    Row(
-        Start::Cleared,
-        4,
-        3,
-        b"\x1b[3;3H\x1b[0Ax",
-        Shows(b"      x     ", &[]),
-    ),
-    Row(
-        Start::Cleared,
-        4,
-        3,
-        b"\x1b[2Bx",
-        Shows(b"        x   ", &[]),
-    ),
-    Row(
-        Start::Cleared,
-        4,
-        3,
-        b"\x1b[Bx",
-        Shows(b"    x       ", &[]),
-    ),
-    Row(Start::Cleared, 4, 1, b"\x1b[2Cx", Shows(b"  x ", &[])),
-    Row(Start::Cleared, 4, 1, b"\x1b[9Cx", Shows(b"   x", &[])),
-    Row(
-        Start::Cleared,
-        4,
-        1,
-        b"\x1b[1;4H\x1b[2Dx",
-        Shows(b" x  ", &[]),
-    ),
-    Row(
-        Start::Cleared,
-        2,
-        2,
-        b"abcd\x1b[1;2H\x1b[K",
-        Shows(b"a cd", &[0x07, 0x07, 0x07, 0x07]),
-    ),
-    Row(
-        Start::Cleared,
-        1,
-        2,
-        b"\x1b[?7l\x1b[s\x1b[uab",
-        Shows(b"b ", &[]),
-    ),
-    Row(
-        Start::Cleared,
-        4,
-        1,
-        b"ab\x1b[s\x1b[2J\x1b[ux",
-        Shows(b"  x ", &[0x07, 0x07, 0x07, 0x07]),
-    ),
-    Row(Start::Cleared, 3, 2, b"\x1b[2;3Hx", Shows(b"     x", &[])),
-    Row(Start::Cleared, 3, 2, b"\x1b[2Hx", Shows(b"   x  ", &[])),
-    Row(Start::Cleared, 3, 2, b"\x1b[;3Hx", Shows(b"  x   ", &[])),
-    Row(Start::Cleared, 3, 2, b"\x1b[2;fx", Shows(b"   x  ", &[])),
-    Row(
-        Start::Cleared,
-        2,
-        1,
-        b"\x1b[2;1H\x1b[K",
-        Shows(b"  ", &[0x07, 0x07]),
-    ),
-    Row(Start::Cleared, 1, 1, b"\x1b[=7lxy", Shows(b"y", &[])),
-    Row(Start::Cleared, 2, 1, b"\x1b[000255D", Shows(b"  ", &[])),
-];
+pub(super) static PASSES_FROM_CLEARED: [Row; 22] = rows! {
+    cleared 2 x 1, b"\x1b[255D" => shows(b"  ", []);
+    cleared 2 x 1, b"\x1b[?7lHi!" => shows(b"H!", []);
+    cleared 2 x 2, b"a\x1b[s\r\n\x1b[ub" => shows(b"ab  ", []);
+    cleared 2 x 1, b"\x1b[2;2H" => shows(b"  ", []);
+    cleared 4 x 3, b"\x1b[3;3H\x1b[Ax" => shows(b"      x     ", []);
+    cleared 4 x 3, b"\x1b[3;3H\x1b[2Ax" => shows(b"  x         ", []);
+    cleared 4 x 3, b"\x1b[3;3H\x1b[0Ax" => shows(b"      x     ", []);
+    cleared 4 x 3, b"\x1b[2Bx" => shows(b"        x   ", []);
+    cleared 4 x 3, b"\x1b[Bx" => shows(b"    x       ", []);
+    cleared 4 x 1, b"\x1b[2Cx" => shows(b"  x ", []);
+    cleared 4 x 1, b"\x1b[9Cx" => shows(b"   x", []);
+    cleared 4 x 1, b"\x1b[1;4H\x1b[2Dx" => shows(b" x  ", []);
+    cleared 2 x 2, b"abcd\x1b[1;2H\x1b[K" => shows(b"a cd", [0x07, 0x07, 0x07, 0x07]);
+    cleared 1 x 2, b"\x1b[?7l\x1b[s\x1b[uab" => shows(b"b ", []);
+    cleared 4 x 1, b"ab\x1b[s\x1b[2J\x1b[ux" => shows(b"  x ", [0x07, 0x07, 0x07, 0x07]);
+    cleared 3 x 2, b"\x1b[2;3Hx" => shows(b"     x", []);
+    cleared 3 x 2, b"\x1b[2Hx" => shows(b"   x  ", []);
+    cleared 3 x 2, b"\x1b[;3Hx" => shows(b"  x   ", []);
+    cleared 3 x 2, b"\x1b[2;fx" => shows(b"   x  ", []);
+    cleared 2 x 1, b"\x1b[2;1H\x1b[K" => shows(b"  ", [0x07, 0x07]);
+    cleared 1 x 1, b"\x1b[=7lxy" => shows(b"y", []);
+    cleared 2 x 1, b"\x1b[000255D" => shows(b"  ", []);
+};
 
 /// Contents with colours that show a picture from the cleared start.
-pub(super) static COLOURS: [Row; 15] = [
-    Row(
-        Start::Cleared,
-        1,
-        1,
-        b"\x1b[0;1;5;33;44mA",
-        Shows(b"A", &[0x9E]),
-    ),
-    Row(
-        Start::Cleared,
-        3,
-        1,
-        b"abc\x1b[1;2H\x1b[44m\x1b[K",
-        Shows(b"a  ", &[0x07, 0x17, 0x17]),
-    ),
-    Row(
-        Start::Cleared,
-        2,
-        1,
-        b"\x1b[;;;;;;;;;;;;;;;m",
-        Shows(b"  ", &[]),
-    ),
-    Row(
-        Start::Cleared,
-        4,
-        3,
-        b"\x1b[3B\x1b[0;7m\x1b[K\x1b[Ax",
-        Shows(
-            b"        x   ",
-            &[
-                0x07, 0x07, 0x07, 0x07, 0x07, 0x07, 0x07, 0x07, 0x70, 0x07, 0x07, 0x07,
-            ],
-        ),
-    ),
-    Row(
-        Start::Cleared,
-        4,
-        1,
-        b"abc\x1b[1;2H\x1b[44m\x1b[0K",
-        Shows(b"a   ", &[0x07, 0x17, 0x17, 0x17]),
-    ),
-    Row(
-        Start::Cleared,
-        3,
-        1,
-        b"\x1b[31m\x1b[s\x1b[32m\x1b[ux",
-        Shows(b"x  ", &[0x02, 0x07, 0x07]),
-    ),
-    Row(
-        Start::Cleared,
-        3,
-        1,
-        b"\x1b[41m\x1b[2Jx",
-        Shows(b"x  ", &[0x47, 0x47, 0x47]),
-    ),
-    Row(
-        Start::Cleared,
-        8,
-        1,
-        b"\x1b[31mx\x1b[32mx\x1b[33mx\x1b[34mx\x1b[35mx\x1b[36mx\x1b[37mx\x1b[30mx",
-        Shows(
-            b"xxxxxxxx",
-            &[0x04, 0x02, 0x06, 0x01, 0x05, 0x03, 0x07, 0x00],
-        ),
-    ),
-    Row(
-        Start::Cleared,
-        8,
-        1,
-        b"\x1b[41mx\x1b[42mx\x1b[43mx\x1b[44mx\x1b[45mx\x1b[46mx\x1b[47mx\x1b[40mx",
-        Shows(
-            b"xxxxxxxx",
-            &[0x47, 0x27, 0x67, 0x17, 0x57, 0x37, 0x77, 0x07],
-        ),
-    ),
-    Row(
-        Start::Cleared,
-        3,
-        1,
-        b"\x1b[1;5;33;44m\x1b[4mx\x1b[7mx\x1b[8mx",
-        Shows(b"xxx", &[0x99, 0xF8, 0x88]),
-    ),
-    Row(
-        Start::Cleared,
-        3,
-        1,
-        b"\x1b[1;5;33;44m\x1b[8mx",
-        Shows(b"x  ", &[0x88, 0x07, 0x07]),
-    ),
-    Row(
-        Start::Cleared,
-        3,
-        1,
-        b"\x1b[1;44m\x1b[7mx",
-        Shows(b"x  ", &[0x78, 0x07, 0x07]),
-    ),
-    Row(
-        Start::Cleared,
-        9,
-        1,
-        b"\x1b[1;5;33;44m\x1b[2mx\x1b[3mx\x1b[6mx\x1b[38mx\x1b[39mx\x1b[48mx\x1b[49mx\x1b[9;10mx\x1b[255mx",
-        Shows(
-            b"xxxxxxxxx",
-            &[0x9E, 0x9E, 0x9E, 0x9E, 0x9E, 0x9E, 0x9E, 0x9E, 0x9E],
-        ),
-    ),
-    Row(
-        Start::Cleared,
-        3,
-        1,
-        b"\x1b[1m\x1b[mx",
-        Shows(b"x  ", &[0x07, 0x07, 0x07]),
-    ),
-    Row(
-        Start::Cleared,
-        3,
-        1,
-        b"\x1b[1m\x1b[;5mx",
-        Shows(b"x  ", &[0x87, 0x07, 0x07]),
-    ),
-];
+pub(super) static COLOURS: [Row; 15] = rows! {
+    cleared 1 x 1, b"\x1b[0;1;5;33;44mA" => shows(b"A", [0x9E]);
+    cleared 3 x 1, b"abc\x1b[1;2H\x1b[44m\x1b[K" => shows(b"a  ", [0x07, 0x17, 0x17]);
+    cleared 2 x 1, b"\x1b[;;;;;;;;;;;;;;;m" => shows(b"  ", []);
+    cleared 4 x 3, b"\x1b[3B\x1b[0;7m\x1b[K\x1b[Ax" => shows(b"        x   ", [0x07, 0x07, 0x07, 0x07, 0x07, 0x07, 0x07, 0x07, 0x70, 0x07, 0x07, 0x07]);
+    cleared 4 x 1, b"abc\x1b[1;2H\x1b[44m\x1b[0K" => shows(b"a   ", [0x07, 0x17, 0x17, 0x17]);
+    cleared 3 x 1, b"\x1b[31m\x1b[s\x1b[32m\x1b[ux" => shows(b"x  ", [0x02, 0x07, 0x07]);
+    cleared 3 x 1, b"\x1b[41m\x1b[2Jx" => shows(b"x  ", [0x47, 0x47, 0x47]);
+    cleared 8 x 1, b"\x1b[31mx\x1b[32mx\x1b[33mx\x1b[34mx\x1b[35mx\x1b[36mx\x1b[37mx\x1b[30mx" => shows(b"xxxxxxxx", [0x04, 0x02, 0x06, 0x01, 0x05, 0x03, 0x07, 0x00]);
+    cleared 8 x 1, b"\x1b[41mx\x1b[42mx\x1b[43mx\x1b[44mx\x1b[45mx\x1b[46mx\x1b[47mx\x1b[40mx" => shows(b"xxxxxxxx", [0x47, 0x27, 0x67, 0x17, 0x57, 0x37, 0x77, 0x07]);
+    cleared 3 x 1, b"\x1b[1;5;33;44m\x1b[4mx\x1b[7mx\x1b[8mx" => shows(b"xxx", [0x99, 0xF8, 0x88]);
+    cleared 3 x 1, b"\x1b[1;5;33;44m\x1b[8mx" => shows(b"x  ", [0x88, 0x07, 0x07]);
+    cleared 3 x 1, b"\x1b[1;44m\x1b[7mx" => shows(b"x  ", [0x78, 0x07, 0x07]);
+    cleared 9 x 1, b"\x1b[1;5;33;44m\x1b[2mx\x1b[3mx\x1b[6mx\x1b[38mx\x1b[39mx\x1b[48mx\x1b[49mx\x1b[9;10mx\x1b[255mx" => shows(b"xxxxxxxxx", [0x9E, 0x9E, 0x9E, 0x9E, 0x9E, 0x9E, 0x9E, 0x9E, 0x9E]);
+    cleared 3 x 1, b"\x1b[1m\x1b[mx" => shows(b"x  ", [0x07, 0x07, 0x07]);
+    cleared 3 x 1, b"\x1b[1m\x1b[;5mx" => shows(b"x  ", [0x87, 0x07, 0x07]);
+};
 
 /// Sequences that are broken, too large or unfinished.
-pub(super) static BROKEN: [Row; 18] = [
-    Row(
-        Start::Cleared,
-        2,
-        1,
-        b"\x1b[3",
-        Refused(0, Cause::EndInSequence),
-    ),
-    Row(
-        Start::Cleared,
-        2,
-        1,
-        b"\x1b[256C",
-        Refused(0, Cause::NumberTooLarge),
-    ),
-    Row(
-        Start::Cleared,
-        2,
-        1,
-        b"\x1b(B",
-        Refused(0, Cause::BrokenSequence),
-    ),
-    Row(
-        Start::Cleared,
-        2,
-        1,
-        b"\x1b[0;0 D",
-        Refused(0, Cause::BrokenSequence),
-    ),
-    Row(
-        Start::Cleared,
-        2,
-        1,
-        b"\x1b[;;;;;;;;;;;;;;;;m",
-        Refused(0, Cause::TooManyParameters),
-    ),
-    Row(Start::Any, 2, 1, b"\x1b", Refused(0, Cause::EndInSequence)),
-    Row(Start::Any, 2, 1, b"\x1b[", Refused(0, Cause::EndInSequence)),
-    Row(
-        Start::Any,
-        2,
-        1,
-        b"\x1b[?",
-        Refused(0, Cause::EndInSequence),
-    ),
-    Row(
-        Start::Any,
-        2,
-        1,
-        b"\x1b[?7",
-        Refused(0, Cause::EndInSequence),
-    ),
-    Row(
-        Start::Any,
-        2,
-        1,
-        b"\x1b[?7h\x1b",
-        Refused(5, Cause::EndInSequence),
-    ),
-    Row(
-        Start::Any,
-        2,
-        1,
-        b"\x1b[?7h\x1b[",
-        Refused(5, Cause::EndInSequence),
-    ),
-    Row(
-        Start::Any,
-        2,
-        1,
-        b"\x1b[?7h\x1b[0",
-        Refused(5, Cause::EndInSequence),
-    ),
-    Row(
-        Start::Any,
-        2,
-        1,
-        b"\x1b[?7h\x1b[0m\x1b",
-        Refused(9, Cause::EndInSequence),
-    ),
-    Row(
-        Start::Any,
-        2,
-        1,
-        b"\x1b[?7h\x1b[0m\x1b[",
-        Refused(9, Cause::EndInSequence),
-    ),
-    Row(
-        Start::Any,
-        2,
-        1,
-        b"\x1b[?7h\x1b[0m\x1b[2",
-        Refused(9, Cause::EndInSequence),
-    ),
-    Row(
-        Start::Cleared,
-        2,
-        1,
-        b"\x1b[\"a\"1p",
-        Refused(0, Cause::BrokenSequence),
-    ),
-    Row(
-        Start::Cleared,
-        2,
-        1,
-        b"\x1b[=?7h",
-        Refused(0, Cause::BrokenSequence),
-    ),
-    Row(
-        Start::Cleared,
-        2,
-        1,
-        b"\x1b[7=h",
-        Refused(0, Cause::BrokenSequence),
-    ),
-];
+pub(super) static BROKEN: [Row; 18] = rows! {
+    cleared 2 x 1, b"\x1b[3" => refused(0, EndInSequence);
+    cleared 2 x 1, b"\x1b[256C" => refused(0, NumberTooLarge);
+    cleared 2 x 1, b"\x1b(B" => refused(0, BrokenSequence);
+    cleared 2 x 1, b"\x1b[0;0 D" => refused(0, BrokenSequence);
+    cleared 2 x 1, b"\x1b[;;;;;;;;;;;;;;;;m" => refused(0, TooManyParameters);
+    any 2 x 1, b"\x1b" => refused(0, EndInSequence);
+    any 2 x 1, b"\x1b[" => refused(0, EndInSequence);
+    any 2 x 1, b"\x1b[?" => refused(0, EndInSequence);
+    any 2 x 1, b"\x1b[?7" => refused(0, EndInSequence);
+    any 2 x 1, b"\x1b[?7h\x1b" => refused(5, EndInSequence);
+    any 2 x 1, b"\x1b[?7h\x1b[" => refused(5, EndInSequence);
+    any 2 x 1, b"\x1b[?7h\x1b[0" => refused(5, EndInSequence);
+    any 2 x 1, b"\x1b[?7h\x1b[0m\x1b" => refused(9, EndInSequence);
+    any 2 x 1, b"\x1b[?7h\x1b[0m\x1b[" => refused(9, EndInSequence);
+    any 2 x 1, b"\x1b[?7h\x1b[0m\x1b[2" => refused(9, EndInSequence);
+    cleared 2 x 1, b"\x1b[\"a\"1p" => refused(0, BrokenSequence);
+    cleared 2 x 1, b"\x1b[=?7h" => refused(0, BrokenSequence);
+    cleared 2 x 1, b"\x1b[7=h" => refused(0, BrokenSequence);
+};
 
 /// Sequences that mean nothing.
-pub(super) static WITHOUT_MEANING: [Row; 21] = [
-    Row(
-        Start::Cleared,
-        2,
-        1,
-        b"\x1b[2t",
-        Refused(0, Cause::UnknownSequence),
-    ),
-    Row(
-        Start::Cleared,
-        2,
-        1,
-        b"\x1b[?6n",
-        Refused(0, Cause::UnknownSequence),
-    ),
-    Row(
-        Start::Cleared,
-        2,
-        1,
-        b"\x1b[J",
-        Refused(0, Cause::WrongParameters),
-    ),
-    Row(
-        Start::Cleared,
-        2,
-        1,
-        b"\x1b[1K",
-        Refused(0, Cause::WrongParameters),
-    ),
-    Row(
-        Start::Cleared,
-        2,
-        1,
-        b"\x1b[\"x\"m",
-        Refused(0, Cause::WrongParameters),
-    ),
-    Row(
-        Start::Cleared,
-        2,
-        1,
-        b"\x1b[?\"7\"h",
-        Refused(0, Cause::WrongParameters),
-    ),
-    Row(
-        Start::Cleared,
-        2,
-        1,
-        b"\x1b[\"7\"h",
-        Refused(0, Cause::WrongParameters),
-    ),
-    Row(
-        Start::Cleared,
-        2,
-        1,
-        b"\x1b[?7m",
-        Refused(0, Cause::UnknownSequence),
-    ),
-    Row(
-        Start::Cleared,
-        2,
-        1,
-        b"\x1b[=p",
-        Refused(0, Cause::UnknownSequence),
-    ),
-    Row(
-        Start::Cleared,
-        2,
-        1,
-        b"\x1b[?7s",
-        Refused(0, Cause::UnknownSequence),
-    ),
-    Row(
-        Start::Cleared,
-        2,
-        1,
-        b"\x1b[;J",
-        Refused(0, Cause::WrongParameters),
-    ),
-    Row(
-        Start::Cleared,
-        2,
-        1,
-        b"\x1b[;K",
-        Refused(0, Cause::WrongParameters),
-    ),
-    Row(
-        Start::Cleared,
-        2,
-        1,
-        b"\x1b[1s",
-        Refused(0, Cause::WrongParameters),
-    ),
-    Row(
-        Start::Cleared,
-        2,
-        1,
-        b"\x1b[0u",
-        Refused(0, Cause::WrongParameters),
-    ),
-    Row(
-        Start::Cleared,
-        2,
-        1,
-        b"\x1b[;s",
-        Refused(0, Cause::WrongParameters),
-    ),
-    Row(
-        Start::Cleared,
-        2,
-        1,
-        b"\x1b[5n",
-        Refused(0, Cause::WrongParameters),
-    ),
-    Row(
-        Start::Cleared,
-        2,
-        1,
-        b"\x1b[n",
-        Refused(0, Cause::WrongParameters),
-    ),
-    Row(
-        Start::Cleared,
-        2,
-        1,
-        b"\x1b[;6n",
-        Refused(0, Cause::WrongParameters),
-    ),
-    Row(
-        Start::Cleared,
-        2,
-        1,
-        b"\x1b[1;2A",
-        Refused(0, Cause::WrongParameters),
-    ),
-    Row(
-        Start::Cleared,
-        2,
-        1,
-        b"\x1b[;A",
-        Refused(0, Cause::WrongParameters),
-    ),
-    Row(
-        Start::Cleared,
-        2,
-        1,
-        b"\x1b[1;1;1H",
-        Refused(0, Cause::WrongParameters),
-    ),
-];
+pub(super) static WITHOUT_MEANING: [Row; 21] = rows! {
+    cleared 2 x 1, b"\x1b[2t" => refused(0, UnknownSequence);
+    cleared 2 x 1, b"\x1b[?6n" => refused(0, UnknownSequence);
+    cleared 2 x 1, b"\x1b[J" => refused(0, WrongParameters);
+    cleared 2 x 1, b"\x1b[1K" => refused(0, WrongParameters);
+    cleared 2 x 1, b"\x1b[\"x\"m" => refused(0, WrongParameters);
+    cleared 2 x 1, b"\x1b[?\"7\"h" => refused(0, WrongParameters);
+    cleared 2 x 1, b"\x1b[\"7\"h" => refused(0, WrongParameters);
+    cleared 2 x 1, b"\x1b[?7m" => refused(0, UnknownSequence);
+    cleared 2 x 1, b"\x1b[=p" => refused(0, UnknownSequence);
+    cleared 2 x 1, b"\x1b[?7s" => refused(0, UnknownSequence);
+    cleared 2 x 1, b"\x1b[;J" => refused(0, WrongParameters);
+    cleared 2 x 1, b"\x1b[;K" => refused(0, WrongParameters);
+    cleared 2 x 1, b"\x1b[1s" => refused(0, WrongParameters);
+    cleared 2 x 1, b"\x1b[0u" => refused(0, WrongParameters);
+    cleared 2 x 1, b"\x1b[;s" => refused(0, WrongParameters);
+    cleared 2 x 1, b"\x1b[5n" => refused(0, WrongParameters);
+    cleared 2 x 1, b"\x1b[n" => refused(0, WrongParameters);
+    cleared 2 x 1, b"\x1b[;6n" => refused(0, WrongParameters);
+    cleared 2 x 1, b"\x1b[1;2A" => refused(0, WrongParameters);
+    cleared 2 x 1, b"\x1b[;A" => refused(0, WrongParameters);
+    cleared 2 x 1, b"\x1b[1;1;1H" => refused(0, WrongParameters);
+};
 
 /// Sequences that are not allowed.
-pub(super) static FORBIDDEN: [Row; 12] = [
-    Row(
-        Start::Cleared,
-        2,
-        1,
-        b"\x1b[13;\"dir\";13p",
-        Refused(0, Cause::KeyReassigned),
-    ),
-    Row(
-        Start::Cleared,
-        2,
-        1,
-        b"\x1b[?25h",
-        Refused(0, Cause::ScreenMode),
-    ),
-    Row(
-        Start::Cleared,
-        2,
-        1,
-        b"\x1b[7h",
-        Refused(0, Cause::ScreenMode),
-    ),
-    Row(
-        Start::Cleared,
-        2,
-        1,
-        b"\x1b[6n",
-        Refused(0, Cause::ReportAsked),
-    ),
-    Row(
-        Start::Cleared,
-        2,
-        1,
-        b"\x1b[3;1H",
-        Refused(0, Cause::OutsideScreen),
-    ),
-    Row(
-        Start::Cleared,
-        2,
-        1,
-        b"\x1b[1;3f",
-        Refused(0, Cause::OutsideScreen),
-    ),
-    Row(
-        Start::Cleared,
-        2,
-        1,
-        b"\x1b[\"\x1b[2J\"p",
-        Refused(0, Cause::KeyReassigned),
-    ),
-    Row(
-        Start::Cleared,
-        2,
-        1,
-        b"ab\x1b[6n",
-        Refused(2, Cause::ReportAsked),
-    ),
-    Row(
-        Start::Any,
-        2,
-        1,
-        b"\x1b[6nx",
-        Refused(0, Cause::ReportAsked),
-    ),
-    Row(
-        Start::Cleared,
-        2,
-        1,
-        b"\x1b[2;1H\x1b[9;1H",
-        Refused(6, Cause::OutsideScreen),
-    ),
-    Row(
-        Start::Cleared,
-        2,
-        1,
-        b"\x1b[?7;7h",
-        Refused(0, Cause::ScreenMode),
-    ),
-    Row(
-        Start::Cleared,
-        2,
-        1,
-        b"\x1b['a\"b'p",
-        Refused(0, Cause::KeyReassigned),
-    ),
-];
+pub(super) static FORBIDDEN: [Row; 12] = rows! {
+    cleared 2 x 1, b"\x1b[13;\"dir\";13p" => refused(0, KeyReassigned);
+    cleared 2 x 1, b"\x1b[?25h" => refused(0, ScreenMode);
+    cleared 2 x 1, b"\x1b[7h" => refused(0, ScreenMode);
+    cleared 2 x 1, b"\x1b[6n" => refused(0, ReportAsked);
+    cleared 2 x 1, b"\x1b[3;1H" => refused(0, OutsideScreen);
+    cleared 2 x 1, b"\x1b[1;3f" => refused(0, OutsideScreen);
+    cleared 2 x 1, b"\x1b[\"\x1b[2J\"p" => refused(0, KeyReassigned);
+    cleared 2 x 1, b"ab\x1b[6n" => refused(2, ReportAsked);
+    any 2 x 1, b"\x1b[6nx" => refused(0, ReportAsked);
+    cleared 2 x 1, b"\x1b[2;1H\x1b[9;1H" => refused(6, OutsideScreen);
+    cleared 2 x 1, b"\x1b[?7;7h" => refused(0, ScreenMode);
+    cleared 2 x 1, b"\x1b['a\"b'p" => refused(0, KeyReassigned);
+};
 
 /// Contents that leave a cell unknown.
-pub(super) static UNKNOWN_CELLS: [Row; 5] = [
-    Row(
-        Start::Any,
-        1,
-        1,
-        b"\x1b[2J",
-        Refused(4, Cause::UnknownCell { row: 1, col: 1 }),
-    ),
-    Row(
-        Start::Any,
-        1,
-        1,
-        b"\x1b[37;40m\x1b[2J\x1b[0m",
-        Refused(16, Cause::UnknownCell { row: 1, col: 1 }),
-    ),
-    Row(
-        Start::Any,
-        2,
-        1,
-        b"\x1b[?7h",
-        Refused(5, Cause::UnknownCell { row: 1, col: 1 }),
-    ),
-    Row(
-        Start::Any,
-        2,
-        1,
-        b"\x1b[?7h\x1b[0m",
-        Refused(9, Cause::UnknownCell { row: 1, col: 1 }),
-    ),
-    Row(
-        Start::Any,
-        2,
-        2,
-        b"\x1b[2;1H\x1b[K",
-        Refused(9, Cause::UnknownCell { row: 1, col: 1 }),
-    ),
-];
+pub(super) static UNKNOWN_CELLS: [Row; 5] = rows! {
+    any 1 x 1, b"\x1b[2J" => refused(4, UnknownCell 1 1);
+    any 1 x 1, b"\x1b[37;40m\x1b[2J\x1b[0m" => refused(16, UnknownCell 1 1);
+    any 2 x 1, b"\x1b[?7h" => refused(5, UnknownCell 1 1);
+    any 2 x 1, b"\x1b[?7h\x1b[0m" => refused(9, UnknownCell 1 1);
+    any 2 x 2, b"\x1b[2;1H\x1b[K" => refused(9, UnknownCell 1 1);
+};
 
 /// Contents that print, erase, or scroll where they must not.
-pub(super) static UNKNOWN_PLACES: [Row; 8] = [
-    Row(
-        Start::Any,
-        2,
-        1,
-        b"\x1b[?7h\x1b[0m\x1b[2JHi!",
-        Refused(15, Cause::PrintBelow),
-    ),
-    Row(
-        Start::Any,
-        2,
-        2,
-        b"\x1b[0m\x1b[2Jabc",
-        Refused(10, Cause::PrintUnknownPlace),
-    ),
-    Row(
-        Start::Any,
-        2,
-        1,
-        b"\x1b[?7h\x1b[0m\x1b[2J\x1b[ux",
-        Refused(16, Cause::PrintUnknownPlace),
-    ),
-    Row(
-        Start::Any,
-        2,
-        1,
-        b"\x1b[K",
-        Refused(0, Cause::EraseUnknownPlace),
-    ),
-    Row(
-        Start::Any,
-        2,
-        2,
-        b"\x1b[0m\x1b[2Jab\r\n\n",
-        Refused(12, Cause::MayScroll),
-    ),
-    Row(
-        Start::Cleared,
-        2,
-        1,
-        b"ab!\x1b[6n",
-        Refused(2, Cause::PrintBelow),
-    ),
-    Row(
-        Start::Any,
-        2,
-        1,
-        b"x\x1b[3",
-        Refused(0, Cause::PrintUnknownPlace),
-    ),
-    Row(
-        Start::Cleared,
-        2,
-        1,
-        b"\x1b[Bx",
-        Refused(3, Cause::PrintBelow),
-    ),
-];
+pub(super) static UNKNOWN_PLACES: [Row; 8] = rows! {
+    any 2 x 1, b"\x1b[?7h\x1b[0m\x1b[2JHi!" => refused(15, PrintBelow);
+    any 2 x 2, b"\x1b[0m\x1b[2Jabc" => refused(10, PrintUnknownPlace);
+    any 2 x 1, b"\x1b[?7h\x1b[0m\x1b[2J\x1b[ux" => refused(16, PrintUnknownPlace);
+    any 2 x 1, b"\x1b[K" => refused(0, EraseUnknownPlace);
+    any 2 x 2, b"\x1b[0m\x1b[2Jab\r\n\n" => refused(12, MayScroll);
+    cleared 2 x 1, b"ab!\x1b[6n" => refused(2, PrintBelow);
+    any 2 x 1, b"x\x1b[3" => refused(0, PrintUnknownPlace);
+    cleared 2 x 1, b"\x1b[Bx" => refused(3, PrintBelow);
+};

@@ -1,7 +1,7 @@
 use Rattle.std.proofs.Common.{true, refl}
-use Rattle.ans_model.specs.RecordText.{record_text}
+use Rattle.ans_model.specs.Text.RecordText.{record_text}
 use Rattle.ans_check.proofs.ReportLemmas.{failed_too, sauce_reported}
-use Rattle.ans_check.proofs.WordsLemmas.{err_weaker}
+use Rattle.ans_check.proofs.CommandLineLemmas.{err_weaker}
 use Rattle.ans_check.proofs.pipeline.tell_record.Goals as goal
 
 pub returns-in_err-write_record-in-Ok-clause-fault : goal.returns-in_err-write_record-in-Ok-clause-fault
@@ -13,15 +13,15 @@ returns-in_err-write_record-in-Ok-clause-prefix g c =
     let s = c.in-Ok.ensures.ok in
     err_weaker c.from_residual.result _ _ c.from_residual.ensures.1 (λ e is. (
       true,
-      record_text s.body s.comment_bytes s.record_bytes,
+      record_text s.apart,
       sauce_reported c.args.file.now c.in-Ok.parts s,
-      c.in_err-write_record-in-Ok.ensures.of_record s.body s.comment_bytes s.record_bytes s.shows,
+      c.in_err-write_record-in-Ok.ensures.of_record s.apart s.shows,
     ))
 
 pub returns-in_ok-write_record-in-Ok-clause-ok : goal.returns-in_ok-write_record-in-Ok-clause-ok
 returns-in_ok-write_record-in-Ok-clause-ok g c =
     let s = c.in-Ok.ensures.ok in (
-      record_text s.body s.comment_bytes s.record_bytes,
+      record_text s.apart,
       sauce_reported c.args.file.now c.in-Ok.parts s,
-      c.in_ok-write_record-in-Ok.ensures.of_record s.body s.comment_bytes s.record_bytes s.shows,
+      c.in_ok-write_record-in-Ok.ensures.of_record s.apart s.shows,
     )

@@ -1,9 +1,9 @@
 use Rattle.std.proofs.Common.{ap₂, ◌∙◌, ◌≡◌}
-use Rattle.ans_model.specs.State.{sized}
+use Rattle.ans_model.specs.Screen.State.{sized}
 use Rattle.ans_model.proofs.FirstRefusal.{within_law}
 use Rattle.ans_sauce.specs.Parts.{width_of, lines_of}
-use Rattle.ans_check.specs.Verdicts.{RefusesContent}
-use Rattle.ans_check.proofs.VerdictLemmas.{passes, refuses, refused_not_good, record_not_good, record_certain, no_refusal}
+use Rattle.ans_check.proofs.VerdictLemmas.{passes, refuses, refused_not_good, record_not_good, record_certain}
+use Rattle.ans_check.proofs.VerdictLemmas.{no_refusal}
 use Rattle.ans_check.proofs.verdict.check.Goals as goal
 
 pub returns-in-Err-clause-exact : goal.returns-in-Err-clause-exact
@@ -39,7 +39,7 @@ returns-in-Err-play-clause-exact g c =
     let p = c.in_ok-player.player in
     let size : p.size ≡ sized (width_of c.in-Ok.parts) (lines_of c.in-Ok.parts) =
     c.in_ok-player.ensures.new.size ∙ ap₂ sized c.width.ensures.width c.lines.ensures.lines in
-    let refused : RefusesContent c.args.file.now c.args.start c.in-Ok.parts c.in-Err-play.fault =
+    let refused =
     refuses c.args.file.now c.args.start p.start c.in-Ok.parts p.size c.content.result.now c.in-Err-play.fault
     c.in-Ok.ensures.ok size c.in_ok-player.ensures.new.start c.content.ensures c.in-Err-play.ensures.refused in
-    refused_not_good c.args.file.now c.args.start c.in-Ok.parts c.in-Err-play.fault refused
+    refused_not_good c.args.file.now c.args.start refused.0 c.in-Err-play.fault refused.2

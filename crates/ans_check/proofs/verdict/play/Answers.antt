@@ -1,14 +1,14 @@
 use Rattle.std.proofs.Common.{List, ℕ, take, drop, ◌∙◌, ap, sym, subst}
 use Rattle.std.proofs.lemmas.Result.{IfOk-weaker}
 use Rattle.std.specs.Slice.Iter.{chunks_rest}
-use Rattle.ans_model.specs.State.{Size}
-use Rattle.ans_model.specs.Starts.{class_of}
-use Rattle.ans_model.specs.Good.{Picture, GoodWith}
+use Rattle.ans_model.specs.Screen.State.{Size}
+use Rattle.ans_model.specs.Screen.Starts.{class_of}
+use Rattle.ans_model.specs.Verdict.Good.{Picture, GoodWith}
 use Rattle.ans_model.specs.declared.fault.Fault.{Fault}
 use Rattle.ans_model.specs.declared.start.Start.{Start}
 use Rattle.ans_play.specs.Stands.{Stands}
-use Rattle.ans_check.specs.Verdicts.{Deserves}
-use Rattle.ans_check.proofs.WordsLemmas.{err_weaker}
+use Rattle.ans_check.specs.FileVerdict.{Deserves}
+use Rattle.ans_check.proofs.CommandLineLemmas.{err_weaker}
 use Rattle.ans_check.proofs.PlayLemmas.{Cut, cut, SamePlay-then, fed_fault, last_faults, all_taken}
 use Rattle.ans_check.proofs.verdict.play.Goals as goal
 
@@ -27,7 +27,8 @@ loop-piece-preserved g c =
       fed = rw more.fed k.fits;
       no_fault = more.none;
       same = SamePlay-then c.args.player old c.feed.new.self here.same c.in_ok-feed.ensures.same;
-      stands = subst (λ (v : List ℕ). Stands c.feed.new.self v) (sym (ap (λ (v : ℕ). take v content) more.fed ∙ k.taken))
+      stands = subst (λ (v : List ℕ). Stands c.feed.new.self v)
+          (sym (ap (λ (v : ℕ). take v content) more.fed ∙ k.taken))
           (c.in_ok-feed.ensures.stands (take old.fed content) here.no_fault here.stands);
     }
 
@@ -38,12 +39,15 @@ returns-in_err-feed-clause-refused g c =
     let here = c.loop-piece.invariant in
     let told = c.in_err-feed.ensures in
     let k : Cut content c.in-Some.piece.now (chunks_rest c.next.new.self) old.fed =
-    cut content c.in-Some.piece.now (chunks_rest c.next.new.self) old.fed here.fed (sym here.rest ∙ c.in-Some.ensures.steps.1.0) in
+    cut content c.in-Some.piece.now (chunks_rest c.next.new.self) old.fed here.fed
+    (sym here.rest ∙ c.in-Some.ensures.steps.1.0) in
     let f = c.in_err-feed.field-0.0 in
     let found : Deserves c.args.player.size c.args.player.start content f =
     fed_fault c.args.player c.feed.new.self content c.in-Some.piece.now (chunks_rest c.next.new.self) old.fed f
-    (SamePlay-then c.args.player old c.feed.new.self here.same told.same) k (told.stands (take old.fed content) here.no_fault here.stands) told.fault
-    (λ cleared. told.certain (take old.fed content) here.stands (here.same.start ∙ cleared)) (told.offset (take old.fed content) here.no_fault here.stands) in
+    (SamePlay-then c.args.player old c.feed.new.self here.same told.same) k
+    (told.stands (take old.fed content) here.no_fault here.stands) told.fault
+    (λ cleared. told.certain (take old.fed content) here.stands (here.same.start ∙ cleared))
+    (told.offset (take old.fed content) here.no_fault here.stands) in
     err_weaker c.from_residual.result _ _ c.from_residual.ensures.1
     (λ e is. subst (λ (v : Fault). Deserves c.args.player.size c.args.player.start content v) (sym is) found)
 
@@ -52,18 +56,22 @@ returns-clause-good g c =
     let content = c.args.content.now in
     let old = c.loop-piece.player in
     let here = c.loop-piece.invariant in
-    let all = all_taken content (chunks_rest c.loop-piece.piece-iterator) old.fed here.rest c.in-None.ensures.steps.1.0 here.fed in
+    let all = all_taken content (chunks_rest c.loop-piece.piece-iterator) old.fed here.rest
+    c.in-None.ensures.steps.1.0 here.fed in
     let stands : Stands old content = subst (λ (v : List ℕ). Stands old v) all here.stands in
     IfOk-weaker c.finish.result _ _ (λ (p : Picture) good.
     subst (λ (z : Size). GoodWith z (class_of c.args.player.start) content p) here.same.size
-    (subst (λ (s : Start). GoodWith old.size (class_of s) content p) here.same.start (good content stands))) c.finish.ensures.ok
+    (subst (λ (s : Start). GoodWith old.size (class_of s) content p) here.same.start (good content stands)))
+    c.finish.ensures.ok
 
 pub returns-clause-refused : goal.returns-clause-refused
 returns-clause-refused g c =
     let content = c.args.content.now in
     let old = c.loop-piece.player in
     let here = c.loop-piece.invariant in
-    let all = all_taken content (chunks_rest c.loop-piece.piece-iterator) old.fed here.rest c.in-None.ensures.steps.1.0 here.fed in
+    let all = all_taken content (chunks_rest c.loop-piece.piece-iterator) old.fed here.rest
+    c.in-None.ensures.steps.1.0 here.fed in
     let stands : Stands old content = subst (λ (v : List ℕ). Stands old v) all here.stands in
     last_faults c.finish.result c.args.player old content here.same stands (c.finish.ensures.last here.no_fault)
-    (c.finish.ensures.certain content stands) (c.finish.ensures.offset content here.no_fault stands) (stands.fed here.no_fault)
+    (c.finish.ensures.certain content stands) (c.finish.ensures.offset content here.no_fault stands)
+    (stands.fed here.no_fault)

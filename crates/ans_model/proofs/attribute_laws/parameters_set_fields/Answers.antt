@@ -2,4 +2,11 @@ use Rattle.ans_model.proofs.AttributeFieldsLemmas.{resets, sets_bright, sets_bli
 use Rattle.ans_model.proofs.attribute_laws.parameters_set_fields.Goals as goal
 
 pub returns : goal.returns
-returns c = record { reset = resets; bright = sets_bright; blink = sets_blink; foreground = sets_foreground; background = sets_background }
+returns c = record {
+  reset = resets;
+  bright = sets_bright;
+  blink = sets_blink;
+  foreground =
+      sets_foreground;
+  background = sets_background;
+}

@@ -1,4 +1,4 @@
-use Rattle.ans_model.proofs.Layouts.{accepted, no_fault, laid_law}
+use Rattle.ans_model.proofs.Layouts.{accepted, no_fault, one_layout}
 use Rattle.ans_model.proofs.file_laws.accepted_or_refused.Goals as goal
 
 pub returns-clause-accepted : goal.returns-clause-accepted
@@ -8,4 +8,4 @@ pub returns-clause-no_fault : goal.returns-clause-no_fault
 returns-clause-no_fault c = no_fault
 
 pub returns-clause-one_layout : goal.returns-clause-one_layout
-returns-clause-one_layout c = laid_law
+returns-clause-one_layout c = one_layout

@@ -1,4 +1,5 @@
-use Rattle.ans_model.proofs.WholeLines.{fault_line_ends, note_line_ends, refusal_ends, report_ends, record_ends, tokens_end}
+use Rattle.ans_model.proofs.WholeLines.{fault_line_ends, note_line_ends, refusal_ends, report_ends, record_ends}
+use Rattle.ans_model.proofs.WholeLines.{tokens_end}
 use Rattle.ans_model.proofs.report_laws.whole_lines.Goals as goal
 
 pub returns-clause-report : goal.returns-clause-report
@@ -7,8 +8,8 @@ returns-clause-report c = report_ends
 pub returns-clause-refusal : goal.returns-clause-refusal
 returns-clause-refusal c = refusal_ends
 
-pub returns-clause-record_of : goal.returns-clause-record_of
-returns-clause-record_of c = record_ends
+pub returns-clause-record_lines : goal.returns-clause-record_lines
+returns-clause-record_lines c = record_ends
 
 pub returns-clause-fault_lines : goal.returns-clause-fault_lines
 returns-clause-fault_lines c = fault_line_ends

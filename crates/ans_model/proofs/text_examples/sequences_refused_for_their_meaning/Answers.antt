@@ -34,8 +34,8 @@ returns-clause-string_before_m c = example.string_before_m
 pub returns-clause-letter_in_a_string : goal.returns-clause-letter_in_a_string
 returns-clause-letter_in_a_string c = example.letter_in_a_string
 
-pub returns-clause-string_behind_a_mark : goal.returns-clause-string_behind_a_mark
-returns-clause-string_behind_a_mark c = example.string_behind_a_mark
+pub returns-clause-string_after_a_mark : goal.returns-clause-string_after_a_mark
+returns-clause-string_after_a_mark c = example.string_after_a_mark
 
 pub returns-clause-string_before_h : goal.returns-clause-string_before_h
 returns-clause-string_before_h c = example.string_before_h

@@ -1,8 +1,10 @@
 -- Each content's tokens, with their spellings, and what is left.
 use Rattle.std.proofs.Common.{inr, [], ◌∷◌, ◌++◌, refl, true, false, codes}
 use Rattle.std.specs.Fmt.{digits}
-use Rattle.ans_model.specs.Token.{Glyph, Bell, BackSpace, LineFeed, CarriageReturn, Tab, Up, Down, Forward, Backward, Place, Clear, EraseLine, Save, Restore, Colours, Wrap, Mode, Keys, Ask}
-use Rattle.ans_model.specs.TextExamples.{esc}
+use Rattle.ans_model.specs.Sequence.TokenKind.{Glyph, Bell, BackSpace, LineFeed, CarriageReturn, Tab, Up, Down}
+use Rattle.ans_model.specs.Sequence.TokenKind.{Forward, Backward, Place, Clear, EraseLine, Save, Restore, Colours}
+use Rattle.ans_model.specs.Sequence.TokenKind.{Wrap, Mode, Keys, Ask}
+use Rattle.ans_model.specs.Examples.TextExamples.{esc}
 use Rattle.ans_model.proofs.Scanning.{part_unfinished}
 use Rattle.ans_model.proofs.SpellingExamples as spelling
 use Rattle.ans_model.proofs.SequenceExamples as sequence
@@ -40,8 +42,21 @@ returns-clause-short_ones c = record {
   left = [];
   whole = refl;
   tokens = Up 2 ∷ Place 1 3 ∷ Wrap false ∷ Colours (0 ∷ []) ∷ Colours (1 ∷ 0 ∷ []) ∷ Bell ∷ [];
-  texts = esc (codes "[2A") ∷ esc (codes "[;3f") ∷ esc (codes "[=7l") ∷ esc (codes "[m") ∷ esc (codes "[1;m") ∷ (0x07 ∷ []) ∷ [];
-  reads = record { each = (sequence.up_by_two, (sequence.place_with_row_omitted, (sequence.wrap_off_by_equals, (sequence.colours_without_a_number, (sequence.colours_with_last_omitted, (sequence.bell, tt)))))); whole = refl };
+  texts = esc (codes "[2A") ∷ esc (codes "[;3f") ∷ esc (codes "[=7l") ∷ esc (codes "[m") ∷ esc (codes "[1;m")
+      ∷ (0x07 ∷ []) ∷ [];
+  reads = record {
+    each = (
+      sequence.up_by_two,
+      (
+        sequence.place_with_row_omitted,
+        (
+          sequence.wrap_off_by_equals,
+          (sequence.colours_without_a_number, (sequence.colours_with_last_omitted, (sequence.bell, tt))),
+        ),
+      ),
+    );
+    whole = refl;
+  };
   leaves = refl;
   text_is = refl;
 }
@@ -52,9 +67,54 @@ returns-clause-other_ones c = record {
   front = _;
   left = [];
   whole = refl;
-  tokens = Bell ∷ BackSpace ∷ LineFeed ∷ CarriageReturn ∷ Tab ∷ Down 1 ∷ Forward 2 ∷ Backward 9 ∷ Clear ∷ EraseLine ∷ Save ∷ Restore ∷ Wrap true ∷ Mode ∷ Ask ∷ Glyph 0xFF ∷ [];
-  texts = (0x07 ∷ []) ∷ (0x08 ∷ []) ∷ (0x0A ∷ []) ∷ (0x0D ∷ []) ∷ (0x09 ∷ []) ∷ esc (codes "[B") ∷ esc (codes "[2C") ∷ esc (codes "[9D") ∷ esc (codes "[2J") ∷ esc (codes "[K") ∷ esc (codes "[s") ∷ esc (codes "[u") ∷ esc (codes "[?7h") ∷ esc (codes "[?25h") ∷ esc (codes "[6n") ∷ (0xFF ∷ []) ∷ [];
-  reads = record { each = (sequence.bell, (sequence.backspace, (sequence.line_feed, (sequence.carriage_return, (sequence.tab, (sequence.down_without_a_number, (sequence.forward_by_two, (sequence.backward_by_nine, (sequence.clear_by_two, (sequence.erase_without_a_number, (sequence.save, (sequence.restore, (sequence.wrap_on, (sequence.cursor_shown_is_a_mode, (sequence.ask_by_six, (sequence.last_byte, tt)))))))))))))))); whole = refl };
+  tokens = Bell ∷ BackSpace ∷ LineFeed ∷ CarriageReturn ∷ Tab ∷ Down 1 ∷ Forward 2 ∷ Backward 9 ∷ Clear ∷ EraseLine
+      ∷ Save ∷ Restore ∷ Wrap true ∷ Mode ∷ Ask ∷ Glyph 0xFF ∷ [];
+  texts = (0x07 ∷ []) ∷ (0x08 ∷ []) ∷ (0x0A ∷ []) ∷ (0x0D ∷ []) ∷ (0x09 ∷ []) ∷ esc (codes "[B") ∷ esc (codes "[2C")
+      ∷ esc (codes "[9D") ∷ esc (codes "[2J") ∷ esc (codes "[K") ∷ esc (codes "[s") ∷ esc (codes "[u")
+      ∷ esc (codes "[?7h") ∷ esc (codes "[?25h") ∷ esc (codes "[6n") ∷ (0xFF ∷ []) ∷ [];
+  reads = record {
+    each = (
+      sequence.bell,
+      (
+        sequence.backspace,
+        (
+          sequence.line_feed,
+          (
+            sequence.carriage_return,
+            (
+              sequence.tab,
+              (
+                sequence.down_without_a_number,
+                (
+                  sequence.forward_by_two,
+                  (
+                    sequence.backward_by_nine,
+                    (
+                      sequence.clear_by_two,
+                      (
+                        sequence.erase_without_a_number,
+                        (
+                          sequence.save,
+                          (
+                            sequence.restore,
+                            (
+                              sequence.wrap_on,
+                              (sequence.cursor_shown_is_a_mode, (sequence.ask_by_six, (sequence.last_byte, tt))),
+                            ),
+                          ),
+                        ),
+                      ),
+                    ),
+                  ),
+                ),
+              ),
+            ),
+          ),
+        ),
+      ),
+    );
+    whole = refl;
+  };
   leaves = refl;
   text_is = refl;
 }

@@ -1,6 +1,6 @@
 use Rattle.std.proofs.Common.{rules, arith, ◌≡◌, ◌*◌, ◌∙◌, get_or, sym}
 use Rattle.std.specs.List.{flat_map}
-use Rattle.ans_model.specs.ReportText.{cell_digits}
+use Rattle.ans_model.specs.Text.ReportText.{cell_digits}
 use Rattle.ans_report.specs.Rows.{row_of}
 use Rattle.ans_report.proofs.Pictures.{digits_at, whole_row}
 use Rattle.ans_report.proofs.GathersLemmas.{Gathers-next, Gathers-last, GathersText-then, GathersText-failed, gathered-longer}

@@ -1,6 +1,6 @@
 use Rattle.std.proofs.Common.{◌≡◌, take, false}
 use Rattle.std.specs.List.{flat_map}
-use Rattle.ans_model.specs.ReportText.{cell_digits}
+use Rattle.ans_model.specs.Text.ReportText.{cell_digits}
 use Rattle.ans_report.specs.Rows.{row_of}
 use Rattle.ans_report.specs.Tried.{has_failed, inner_of}
 use Rattle.ans_report.specs.Writes.{Gathers}

@@ -1,5 +1,5 @@
 use Rattle.std.proofs.Common.{rules, arith, ◌≡◌, ◌<◌, [], get_or, ap, sym}
-use Rattle.ans_model.specs.ReportText.{rows_of, cells_line}
+use Rattle.ans_model.specs.Text.ReportText.{rows_of, cells_line}
 use Rattle.ans_report.specs.Rows.{row_of}
 use Rattle.ans_report.proofs.Pictures.{row_at, within_rows, all_rows}
 use Rattle.ans_report.proofs.GathersLemmas.{Gathers-next, Gathers-last, GathersText-failed}

@@ -1,6 +1,6 @@
 use Rattle.std.proofs.Common.{rules, codes, List, ℕ}
 use Rattle.std.specs.List.{flat_map}
-use Rattle.ans_model.specs.ReportText.{heading_text, rows_of, picture_line}
+use Rattle.ans_model.specs.Text.ReportText.{heading_text, rows_of, picture_line}
 use Rattle.ans_report.specs.Headings.{heading_of}
 use Rattle.ans_report.proofs.GathersLemmas.{Gathers-stopped, GathersText-then, GathersText-failed, gathered-longer}
 use Rattle.ans_report.proofs.picture_text.put_pass.Goals as goal

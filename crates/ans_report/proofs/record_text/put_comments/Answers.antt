@@ -1,7 +1,7 @@
 use Rattle.std.proofs.Common.{rules, arith, ◌≡◌, ◌<◌, ap}
-use Rattle.ans_model.specs.Record.{comment, comment_count}
-use Rattle.ans_model.specs.RecordText.{comment_lines}
-use Rattle.ans_sauce.specs.Records.{bytes_of}
+use Rattle.ans_model.specs.File.Record.{comment, comment_count}
+use Rattle.ans_model.specs.Text.RecordText.{comment_lines}
+use Rattle.ans_sauce.specs.RecordBytes.{bytes_of}
 use Rattle.ans_sauce.specs.Parts.{comments_of, record_of}
 use Rattle.ans_report.proofs.RecordLemmas.{comment_line, comments_next, comments_with}
 use Rattle.ans_report.proofs.GathersLemmas.{Gathers-then, Gathers-stopped, GathersText-failed, gathered-longer}

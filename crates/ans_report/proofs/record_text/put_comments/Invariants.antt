@@ -1,5 +1,5 @@
 use Rattle.std.proofs.Common.{◌≡◌, false}
-use Rattle.ans_model.specs.RecordText.{comment_lines}
+use Rattle.ans_model.specs.Text.RecordText.{comment_lines}
 use Rattle.ans_sauce.specs.Parts.{comments_of}
 use Rattle.ans_report.specs.Tried.{has_failed, inner_of}
 use Rattle.ans_report.specs.Writes.{Gathers}

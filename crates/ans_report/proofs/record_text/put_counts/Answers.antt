@@ -1,7 +1,7 @@
 use Rattle.std.proofs.Common.{rules, ◌≡◌, List, ℕ, [], ◌++◌, codes, decimal, ap, append_assoc}
-use Rattle.ans_model.specs.Record.{file_size, comment_count}
-use Rattle.ans_model.specs.RecordText.{named_line}
-use Rattle.ans_sauce.specs.Records.{bytes_of}
+use Rattle.ans_model.specs.File.Record.{file_size, comment_count}
+use Rattle.ans_model.specs.Text.RecordText.{named_line}
+use Rattle.ans_sauce.specs.RecordBytes.{bytes_of}
 use Rattle.ans_report.proofs.record_text.put_counts.Goals as goal
 
 counts_are : (size count : List ℕ) → named_line (codes "file size") size ++ named_line (codes "comments") count

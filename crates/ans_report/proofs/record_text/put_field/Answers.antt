@@ -1,6 +1,6 @@
 use Rattle.std.proofs.Common.{rules, ◌≡◌, List, ℕ, [], ◌++◌, codes, append_assoc, append-nil}
-use Rattle.ans_model.specs.Glyphs.{shown_bytes}
-use Rattle.ans_model.specs.RecordText.{named_line}
+use Rattle.ans_model.specs.Text.Characters.{shown_bytes}
+use Rattle.ans_model.specs.Text.RecordText.{named_line}
 use Rattle.ans_report.proofs.GathersLemmas.{Gathers-stopped, GathersText-then, GathersText-failed, gathered-longer}
 use Rattle.ans_report.proofs.record_text.put_field.Goals as goal
 

@@ -1,7 +1,7 @@
 use Rattle.std.proofs.Common.{rules, codes}
-use Rattle.ans_model.specs.Record.{title_field, author_field, group_field, date_field}
-use Rattle.ans_model.specs.RecordText.{field_line}
-use Rattle.ans_sauce.specs.Records.{bytes_of}
+use Rattle.ans_model.specs.File.Record.{title_field, author_field, group_field, date_field}
+use Rattle.ans_model.specs.Text.RecordText.{field_line}
+use Rattle.ans_sauce.specs.RecordBytes.{bytes_of}
 use Rattle.ans_report.proofs.GathersLemmas.{Gathers-stopped, GathersText-then, GathersText-failed, gathered-longer}
 use Rattle.ans_report.proofs.record_text.put_names.Goals as goal
 

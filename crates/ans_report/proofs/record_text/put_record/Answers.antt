@@ -1,9 +1,9 @@
 use Rattle.std.proofs.Common.{rules, ◌≡◌, ◌∙◌, ap, codes}
 use Rattle.std.specs.List.{flat_map}
-use Rattle.ans_model.specs.Record.{font_field, comment_count, trimmed}
-use Rattle.ans_model.specs.FaultText.{note_line}
-use Rattle.ans_model.specs.RecordText.{field_line, comment_lines}
-use Rattle.ans_sauce.specs.Records.{bytes_of}
+use Rattle.ans_model.specs.File.Record.{font_field, comment_count, trimmed}
+use Rattle.ans_model.specs.Text.FaultText.{note_line}
+use Rattle.ans_model.specs.Text.RecordText.{field_line, comment_lines}
+use Rattle.ans_sauce.specs.RecordBytes.{bytes_of}
 use Rattle.ans_sauce.specs.Parts.{record_of, comments_of, notes_of}
 use Rattle.ans_report.specs.RecordLines.{names_text, size_and_flags_text, counts_text}
 use Rattle.ans_report.proofs.GathersLemmas.{Gathers-stopped, GathersText-then, GathersText-failed, gathered-longer}

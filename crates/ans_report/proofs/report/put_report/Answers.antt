@@ -1,5 +1,5 @@
 use Rattle.std.proofs.Common.{◌≡◌, ap}
-use Rattle.ans_model.specs.ReportText.{Passed, report_text}
+use Rattle.ans_model.specs.Text.ReportText.{Passed, report_text}
 use Rattle.ans_report.specs.Headings.{heading_of}
 use Rattle.ans_report.specs.Reports.{report_bytes}
 use Rattle.std.proofs.lemmas.Result.{on_ok_weaker}

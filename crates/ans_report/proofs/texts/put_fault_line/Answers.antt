@@ -1,6 +1,6 @@
 use Rattle.std.proofs.Common.{rules, ◌≡◌, List, ℕ, [], ◌∷◌, ◌++◌, codes, decimal, append_assoc, append-nil}
 use Rattle.ans_model.specs.declared.fault.Fault.{Fault}
-use Rattle.ans_model.specs.FaultText.{fault_text, place_text, fault_line}
+use Rattle.ans_model.specs.Text.FaultText.{fault_text, place_text, fault_line}
 use Rattle.ans_report.proofs.GathersLemmas.{Gathers-then, Gathers-stopped, GathersText-then, GathersText-failed, gathered-longer}
 use Rattle.ans_report.proofs.texts.put_fault_line.Goals as goal
 

@@ -1,7 +1,7 @@
 use Rattle.std.proofs.Common.{rules, ◌≡◌, ℕ, List, [], ◌++◌, codes, decimal, append_assoc, append-nil}
 use Rattle.std.specs.List.{flat_map}
-use Rattle.ans_model.specs.FaultText.{line_of, note_line}
-use Rattle.ans_model.specs.ReportText.{heading_text, size_text, start_name}
+use Rattle.ans_model.specs.Text.FaultText.{line_of, note_line}
+use Rattle.ans_model.specs.Text.ReportText.{heading_text, size_text, start_name}
 use Rattle.ans_model.specs.declared.start.Start.{Start}
 use Rattle.ans_sauce.specs.declared.parts.Parts.{Parts}
 use Rattle.ans_sauce.specs.Parts.{notes_of}

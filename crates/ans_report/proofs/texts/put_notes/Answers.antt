@@ -1,5 +1,5 @@
 use Rattle.std.proofs.Common.{rules}
-use Rattle.ans_model.specs.FaultText.{note_line}
+use Rattle.ans_model.specs.Text.FaultText.{note_line}
 use Rattle.ans_report.proofs.GathersLemmas.{Gathers-next, Gathers-last, GathersText-failed}
 use Rattle.ans_report.proofs.texts.put_notes.Goals as goal
 

@@ -1,6 +1,6 @@
 use Rattle.std.proofs.Common.{◌≡◌, take, false}
 use Rattle.std.specs.List.{flat_map}
-use Rattle.ans_model.specs.FaultText.{note_line}
+use Rattle.ans_model.specs.Text.FaultText.{note_line}
 use Rattle.ans_report.specs.Tried.{has_failed, inner_of}
 use Rattle.ans_report.specs.Writes.{Gathers}
 use Rattle.ans_report.proofs.texts.put_notes.Given as goal

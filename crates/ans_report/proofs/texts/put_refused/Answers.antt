@@ -1,5 +1,5 @@
 use Rattle.std.proofs.Common.{rules}
-use Rattle.ans_model.specs.ReportText.{heading_text, refusal_text}
+use Rattle.ans_model.specs.Text.ReportText.{heading_text, refusal_text}
 use Rattle.ans_report.specs.Headings.{heading_of}
 use Rattle.ans_report.proofs.GathersLemmas.{GathersText-then, GathersText-failed, gathered-longer}
 use Rattle.ans_report.proofs.texts.put_refused.Goals as goal

@@ -1,7 +1,7 @@
 use Rattle.std.proofs.Common.{rules, ◌≡◌, List, ℕ, [], ◌++◌, codes, decimal, append_assoc, append-nil}
-use Rattle.ans_model.specs.View.{token_of}
-use Rattle.ans_model.specs.FaultText.{line_of}
-use Rattle.ans_model.specs.TokensText.{token_name}
+use Rattle.ans_model.specs.Inside.ShownKind.{shown_kind}
+use Rattle.ans_model.specs.Text.FaultText.{line_of}
+use Rattle.ans_model.specs.Text.TokensText.{token_name}
 use Rattle.ans_tokens.specs.Token.{kind_of, start_of, length_of}
 use Rattle.ans_tokens.specs.declared.token.Token.{Token}
 use Rattle.ans_report.specs.TokenLines.{token_text}
@@ -13,7 +13,7 @@ abbrev front : Token → List ℕ
 front t = decimal (start_of t) ++ (codes " " ++ (decimal (length_of t) ++ (codes " " ++ [])))
 
 abbrev name : Token → List ℕ
-name t = token_name (token_of (kind_of t))
+name t = token_name (shown_kind (kind_of t))
 
 pieces : (start length name : List ℕ) → line_of (start ++ (codes " " ++ (length ++ (codes " " ++ name))))
     ≡ (start ++ (codes " " ++ (length ++ (codes " " ++ [])))) ++ (name ++ codes "\n")

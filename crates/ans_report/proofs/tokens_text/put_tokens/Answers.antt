@@ -2,7 +2,7 @@ use Rattle.std.proofs.Common.{rules, arith, ◌≡◌, ◌+◌, ◌++◌, [], ta
 use Rattle.std.specs.List.{AllByRecursion}
 use Rattle.std.proofs.lemmas.List.{take_all}
 use Rattle.ans_model.specs.Bytes.{IsByte}
-use Rattle.ans_model.specs.FaultText.{fault_line}
+use Rattle.ans_model.specs.Text.FaultText.{fault_line}
 use Rattle.ans_report.specs.TokenLines.{token_text}
 use Rattle.ans_report.proofs.GathersLemmas.{Gathers-none, Gathers-then}
 use Rattle.ans_report.proofs.TokensLemmas.{all_bytes, nothing_read, goes_on_so, token_taken, byte_refused, ends_in_sequence, stops_in_piece, stops_in_fault, at_error}

@@ -1,4 +1,4 @@
-use Rattle.ans_model.specs.Layout.{is_end_mark}
+use Rattle.ans_model.specs.File.Layout.{is_end_mark}
 use Rattle.ans_sauce.proofs.Splitting.{first_is_position}
 use Rattle.ans_sauce.proofs.layout.first_end_mark.Goals as goal
 

@@ -1,4 +1,4 @@
-use Rattle.ans_model.specs.State.{sized}
+use Rattle.ans_model.specs.Screen.State.{sized}
 use Rattle.ans_play.proofs.Pictures.{is_picture}
 use Rattle.ans_play.proofs.picture.Picture.width.Goals as goal
 

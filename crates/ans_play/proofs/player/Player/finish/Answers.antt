@@ -1,7 +1,7 @@
 use Rattle.std.proofs.Common.{◌≡◌, ◌+◌, ◌*◌, ◌/◌, ◌%◌, sym, ap, ◌∙◌, List, [], ℕ, Some, None, arith, rules}
 use Rattle.std.specs.Prelude.{Err}
 use Rattle.std.proofs.lemmas.Nat.{mul-le}
-use Rattle.ans_model.specs.Refusals.{fault_at}
+use Rattle.ans_model.specs.File.Refusals.{fault_at}
 use Rattle.ans_model.specs.declared.fault.Cause.TheVariants.{UnknownCell}
 use Rattle.ans_screen.specs.Grids.{first_unknown}
 use Rattle.ans_tokens.specs.Scanning.{Holds}

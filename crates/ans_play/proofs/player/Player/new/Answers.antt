@@ -1,5 +1,5 @@
 use Rattle.std.proofs.Common.{ap, ◌∙◌}
-use Rattle.ans_model.specs.State.{sized, IsSize}
+use Rattle.ans_model.specs.Screen.State.{sized, IsSize}
 use Rattle.ans_play.proofs.NewPlayer.{stands_any, stands_cleared}
 use Rattle.ans_play.proofs.player.Player.new.Goals as goal
 use Rattle.ans_play.proofs.player.Player.new.Goals.{in-Any, in-Cleared}

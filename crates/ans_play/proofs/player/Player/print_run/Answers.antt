@@ -2,7 +2,7 @@ use Rattle.std.proofs.Common.{◌≡◌, ◌+◌, ◌*◌, ℕ, take, length, ar
 use Rattle.std.proofs.lemmas.List.{length-take-le}
 use Rattle.std.proofs.lemmas.List.Elements.{All-from_get_or, All-take}
 use Rattle.ans_model.specs.Bytes.{IsByte}
-use Rattle.ans_model.specs.State.{sized}
+use Rattle.ans_model.specs.Screen.State.{sized}
 use Rattle.ans_tokens.specs.Glyphs.{IsBetweenTokens}
 use Rattle.ans_screen.specs.Grids.{printed_run}
 use Rattle.ans_play.specs.Playing.{IsByteHalfCell}

@@ -1,9 +1,9 @@
 use Rattle.std.proofs.Common.{◌≡◌, [], arith, ◌-◌, false, true, refl, sym, ◌∙◌, ap, subst, map}
 use Rattle.std.specs.List.{list_any}
 use Rattle.std.specs.Char.{is_ascii_digit}
-use Rattle.ans_model.specs.Sequence.{is_quote}
-use Rattle.ans_model.specs.Meaning.{colour_number, is_quoted}
-use Rattle.ans_model.specs.Parts.{Current, Fresh, InNumber, InString, may_follow}
+use Rattle.ans_model.specs.Sequence.Spelling.{is_quote}
+use Rattle.ans_model.specs.Sequence.Meaning.{colour_number, is_quoted}
+use Rattle.ans_model.specs.Inside.OpenPart.{Current, Fresh, InNumber, InString, may_follow}
 use Rattle.ans_model.proofs.Scanning.{refuses_byte}
 use Rattle.ans_tokens.specs.Mark.{mark_of}
 use Rattle.ans_tokens.specs.Scanning.{ShowsCurrent}

@@ -1,6 +1,6 @@
 use Rattle.std.proofs.Common.{◌≡◌, ◌||◌, refl}
-use Rattle.ans_model.specs.Meaning.{is_quoted, meaning}
-use Rattle.ans_model.specs.Parts.{member_of, raw_of}
+use Rattle.ans_model.specs.Sequence.Meaning.{is_quoted, meaning}
+use Rattle.ans_model.specs.Inside.OpenPart.{member_of, raw_of}
 use Rattle.ans_tokens.specs.Mark.{mark_of}
 use Rattle.ans_tokens.specs.Kept.{kept_meaning}
 use Rattle.ans_tokens.proofs.ShowsLemmas.{meant, same_result}

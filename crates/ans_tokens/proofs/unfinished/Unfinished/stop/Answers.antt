@@ -1,6 +1,6 @@
 use Rattle.std.proofs.Common.{◌≡◌, inr, refl, length, arith, ◌<◌, ◌≤◌, ap, sym, ◌∙◌}
 use Rattle.std.proofs.lemmas.List.{length-map}
-use Rattle.ans_model.specs.Meaning.{colour_number}
+use Rattle.ans_model.specs.Sequence.Meaning.{colour_number}
 use Rattle.ans_tokens.specs.Shows.{with_next}
 use Rattle.ans_tokens.proofs.StepLemmas.{too_many, next_member, letter_spells}
 use Rattle.ans_tokens.proofs.unfinished.Unfinished.stop.Goals as goal

@@ -1,0 +1,146 @@
+-- What clap's matches give of the program's words.
+use Rattle.std.proofs.Common.{Result, Ok, Err, ◌≡◌, ◌∙◌, Bool, true, false, List, [], ◌∷◌, Option, Some, None, refl}
+use Rattle.std.proofs.Common.{sym, ap, codes, option_map, unwrap_or}
+use Rattle.std.specs.Prelude.{find, IsSome, IsSomeAnd}
+use Rattle.std.specs.Option.{option_map_or}
+use Rattle.std.specs.Str.{bytes_eq}
+use Rattle.std.specs.Str.Parse.{ParsesBool}
+use Rattle.std.proofs.lemmas.Slice.Eq.{bytes_eq-Decides}
+use Rattle.clap.specs.Words.{App, Row, Shape, Text, one_text, rows_of, ReadsOne, subcommand_of}
+use Rattle.clap.specs.declared.parser.matches.Found.{Found}
+use Rattle.clap.proofs.WalkLemmas.{one_text-rows}
+use Rattle.std.specs.Prelude.{Box}
+use Rattle.std.specs.Global.{Global}
+use Rattle.std.specs.Box.{box_value}
+use Rattle.clap.specs.Words.{found_of, subcommand_name_of, subcommand_rows_of}
+use Rattle.clap.specs.declared.parser.matches.ArgMatches.{ArgMatches}
+use Rattle.clap.specs.declared.parser.matches.ArgMatches.TheViews.{out-ArgMatches, out-SubCommand}
+use Rattle.clap.specs.declared.parser.matches.SubCommand.{SubCommand}
+use Rattle.std.proofs.Common.{inl, inr, ◌⊎◌}
+use Rattle.clap.specs.Walk.{answers_to, stop_after}
+use Rattle.clap.specs.Simple.{built, entered, label_of, rows_at, names_of, argument_words}
+use Rattle.ans_check.specs.declared.command.Command.TheVariants.{Check, Sauce, Tokens}
+use Rattle.std.specs.Prelude.{IsErrAnd, IfErr}
+use Rattle.std.proofs.Common.{subst, ◌&&◌, not}
+use Rattle.clap.specs.declared.builder.command.Command.{Command}
+use Rattle.clap.specs.Words.{app_of, IsParsedFrom}
+use Rattle.clap.proofs.CallerLemmas.{subcommand_required}
+use Rattle.clap.proofs.TakesLemmas.{some_rows}
+use Rattle.ans_check.specs.declared.command.Options.{Options}
+use Rattle.ans_check.specs.CommandLine.{holds_flag, anscheck, IsCommand, AsksFor}
+
+not_true : (b : Bool) → (b ≡ true → ⊥) → b ≡ false
+not_true true h = absurd (h refl)
+not_true false h = refl
+
+-- a flag, as `get_one` reads it
+pub flag_reads : (E : Type 0) (f : Found) (id : Text) (r : Option Bool) → (one_text f id ≡ None → r ≡ None)
+    → ((t : Text) → one_text f id ≡ Some t → ReadsOne {E = E} ParsesBool t r)
+    → unwrap_or r false ≡ holds_flag id (rows_of f)
+flag_reads E f id r none value = go (one_text f id) refl ∙ ap test (one_text-rows f id)
+  where
+    test : Option Text → Bool
+    test o = option_map_or (λ t. bytes_eq t (codes "true")) o false
+
+    read : (t : Text) (r : Option Bool) → ReadsOne {E = E} ParsesBool t r
+        → unwrap_or r false ≡ bytes_eq t (codes "true")
+    read t (Some true) h = sym ((bytes_eq-Decides t (codes "true")).1 h)
+    read t (Some false) h = rw h refl
+    read t None (e, h) = sym (not_true _ (λ same. h.0 ((bytes_eq-Decides t (codes "true")).0 same)))
+
+    go : (o : Option Text) → one_text f id ≡ o → unwrap_or r false ≡ test o
+    go None e = rw (none e) refl
+    go (Some t) e = read t r (value t e)
+
+-- the subcommand that the matches have, by its name and its rows
+pub rows_met : (m : ArgMatches) (name : Text) (rows : List Row) → Some name ≡ subcommand_name_of m
+    → Some rows ≡ option_map (λ (p : Text × List Row). p.1) (subcommand_rows_of m)
+    → subcommand_rows_of m ≡ Some (name, rows)
+rows_met m name rows named kept = go (out-ArgMatches m).subcommand named kept
+  where
+    name_in : Box SubCommand Global → Text
+    name_in b = (out-SubCommand (box_value b)).name.now
+
+    rows_in : Box SubCommand Global → List Row
+    rows_in b = rows_of (found_of (out-SubCommand (box_value b)).matches)
+
+    pair_in : Box SubCommand Global → Text × List Row
+    pair_in b = (name_in b, rows_in b)
+
+    go : (o : Option (Box SubCommand Global)) → Some name ≡ option_map name_in o
+        → Some rows ≡ option_map (λ (p : Text × List Row). p.1) (option_map pair_in o)
+        → option_map pair_in o ≡ Some (name, rows)
+    go None e f = cc
+    go (Some b) e f = cc
+
+-- a shape of the list has this name
+abbrev NamedIn : Text → List Shape → Type 0
+NamedIn name [] = ⊥
+NamedIn name (s ∷ xs) = (s.name ≡ name) ⊎ NamedIn name xs
+
+some_same : {X : Type 0} {x y : X} → Some x ≡ Some y → x ≡ y
+some_same {X} {x} {y} h = ap (λ o. unwrap_or o x) h
+
+found_named : (w : List Text) (f : Shape → Bool) (xs : List Shape) (name : Text) (rows : List Row)
+    → option_map (λ s. rows_at s w) (find f xs) ≡ Some (name, rows) → NamedIn name xs
+found_named w f [] name rows e = cc
+found_named w f (s ∷ xs) name rows e = go (f s) refl (found_named w f xs name rows)
+  where
+    go : (b : Bool) → f s ≡ b
+        → (option_map (λ t. rows_at t w) (find f xs) ≡ Some (name, rows) → NamedIn name xs) → NamedIn name (s ∷ xs)
+    go true is rest =
+        let h : Some (rows_at s w) ≡ Some (name, rows) = rw is at e in
+        inl (ap (λ (p : Text × List Row). p.0) (some_same h))
+    go false is rest =
+        let h : option_map (λ t. rows_at t w) (find f xs) ≡ Some (name, rows) = rw is at e in
+        inr (rest h)
+
+entered_named : (a : App) (stop : Option (Text × List Text)) (name : Text) (rows : List Row)
+    → entered a stop ≡ Some (name, rows) → NamedIn name a.subs
+entered_named a None name rows e = cc
+entered_named a (Some p) name rows e = found_named p.1 (λ s. answers_to p.0 (label_of s)) a.subs name rows e
+
+-- the subcommand that the program finds is one of its commands
+pub command_found : (words : List Text) (sub : Option (Text × List Row)) → subcommand_of anscheck words ≡ sub
+    → IsSome sub → IsSomeAnd sub IsCommand
+command_found words None e some = cc
+command_found words (Some p) e some =
+    elim (entered_named (built anscheck) (stop_after (built anscheck).top.rules (names_of (built anscheck))
+    (argument_words anscheck words)) p.0 p.1 e) [
+      | inl check ↦ (Check, sym check)
+      | inr others ↦ elim others [
+        | inl sauce ↦ (Sauce, sym sauce)
+        | inr last ↦ elim last [
+          | inl tokens ↦ (Tokens, sym tokens)
+          | inr never ↦ absurd never
+        ]
+      ]
+    ]
+
+-- the third of the facts that make a command plain
+no_globals : (groups external globals rest : Bool) → (groups && (not external && (not globals && rest))) ≡ true
+    → globals ≡ false
+no_globals false external globals rest h = cc
+no_globals true true globals rest h = cc
+no_globals true false true rest h = cc
+no_globals true false false rest h = refl
+
+-- a parse by the program has met a subcommand
+pub subcommand_met : (program : Command) (m : ArgMatches) → app_of program ≡ anscheck → IsParsedFrom program m
+    → IsSome (subcommand_rows_of m)
+subcommand_met program m app_is parsed =
+    let plain = ap (λ (a : App). a.top.is_plain) app_is in
+    let needs = ap (λ (a : App). a.top.subcommand_required) app_is in
+    sym (some_rows (out-ArgMatches m).subcommand) ∙ subcommand_required program m parsed
+    (no_globals _ _ _ _ plain) needs
+
+-- the subcommand that is there asks for this
+pub asks_for : (sub : Option (Text × List Row)) (name : Text) (rows : List Row) (o : Options) (file : Option Text)
+    → sub ≡ Some (name, rows) → AsksFor (name, rows) o file → IsSomeAnd sub (λ p. AsksFor p o file)
+asks_for sub name rows o file e asks = subst (λ (s : Option (Text × List Row)). IsSomeAnd s (λ p. AsksFor p o file))
+    (sym e) asks
+
+-- what is known of an error gives what is wanted of it
+pub err_weaker : {T E : Type 0} (r : Result T E) (P Q : E → Type 0) → IsErrAnd r P → ((e : E) → P e → Q e) → IfErr r Q
+err_weaker (Ok v) P Q h f = tt
+err_weaker (Err e) P Q h f = f e h

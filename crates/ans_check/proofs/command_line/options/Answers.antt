@@ -1,0 +1,34 @@
+use Rattle.std.proofs.Common.{◌∙◌, ◌≡◌, List, Option, ap, option_map, subst, sym}
+use Rattle.std.specs.Prelude.{IfOk, IsSomeAnd, string_bytes}
+use Rattle.clap.specs.Words.{App, Row, Text, app_of, is_simple, subcommand_of, subcommand_rows_of, takes}
+use Rattle.ans_check.specs.CommandLine.{anscheck, AsksFor, IsWantOfMemory, texts_of}
+use Rattle.ans_check.proofs.CommandLineLemmas.{command_found, err_weaker, subcommand_met}
+use Rattle.ans_check.proofs.command_line.options.Goals as goal
+
+pub read_matches-requires : goal.read_matches-requires
+read_matches-requires c =
+    let app_is : app_of c.in-Ok.program ≡ anscheck = c.in-Ok.ensures in
+    let words = texts_of c.args.words.now in
+    let m = c.in_ok-matches.matches in
+    let same : subcommand_rows_of m ≡ subcommand_of anscheck words =
+    (c.in_ok-matches.ensures.matches (ap is_simple app_is)).1 ∙ ap (λ (a : App). subcommand_of a words) app_is in
+    command_found words (subcommand_rows_of m) (sym same)
+    (subcommand_met c.in-Ok.program m app_is c.in_ok-matches.ensures.parsed)
+
+pub returns-clause-ok : goal.returns-clause-ok
+returns-clause-ok c =
+    let app_is : app_of c.in-Ok.program ≡ anscheck = c.in-Ok.ensures in
+    let words = texts_of c.args.words.now in
+    let m = c.in_ok-matches.matches in
+    let same : subcommand_rows_of m ≡ subcommand_of anscheck words =
+    (c.in_ok-matches.ensures.matches (ap is_simple app_is)).1 ∙ ap (λ (a : App). subcommand_of a words) app_is in
+    subst (λ (s : Option (Text × List Row)). IfOk c.read_matches.result
+    (λ r. IsSomeAnd s (λ p. AsksFor p r.0 (option_map string_bytes r.1)))) same c.read_matches.ensures.ok
+
+pub returns-in_err-matches-clause-refuses : goal.returns-in_err-matches-clause-refuses
+returns-in_err-matches-clause-refuses c =
+    let app_is : app_of c.in-Ok.program ≡ anscheck = c.in-Ok.ensures in
+    let words = texts_of c.args.words.now in
+    err_weaker c.from_residual.result _ _ c.from_residual.ensures.1
+    (λ e is taken. subst IsWantOfMemory (sym is)
+    (c.in_err-matches.ensures.passes (ap (λ (a : App). takes a words) app_is ∙ taken)))

@@ -1,0 +1,32 @@
+use Rattle.std.proofs.Common.{ap, ap₂, ◌∙◌, ◌≡◌, true}
+use Rattle.std.proofs.lemmas.Result.{IfOk-weaker}
+use Rattle.clap.specs.Words.{App, Shape, app_of, with_subcommand}
+use Rattle.clap.specs.Simple.{app_of_fields, on_top}
+use Rattle.clap.proofs.SimpleLemmas.{plain_fields}
+use Rattle.ans_check.specs.CommandLine.{anscheck_top, check_app, sauce_app}
+use Rattle.ans_check.proofs.command_line.program.Goals as goal
+
+abbrev required : App → App
+required = on_top (λ s. record s { subcommand_required = true })
+
+abbrev unhelped : App → App
+unhelped = on_top (λ s. record s { disable_help_subcommand = true })
+
+pub returns : goal.returns
+returns c =
+    let top : App → Shape = λ a. a.top in
+    let plain : App → _ = λ a. a.top.is_plain in
+    let none_is : app_of c.disable_help_subcommand.result ≡ anscheck_top =
+    ap app_of_fields c.disable_help_subcommand.ensures
+    ∙ ap unhelped (ap app_of_fields c.subcommand_required.ensures
+    ∙ ap required (ap app_of_fields c.after_help.ensures ∙ ap app_of_fields c.about.ensures ∙ c.new.ensures.app)) in
+    let one_is : app_of c.in_ok-subcommand.field-0 ≡ with_subcommand anscheck_top check_app.top =
+    c.in_ok-subcommand.ensures.shape (plain_fields c.in_ok-check.check (ap plain c.in_ok-check.ensures)).globals
+    ∙ ap₂ with_subcommand none_is (ap top c.in_ok-check.ensures) in
+    let two_is : app_of c.in_ok-subcommand-2.field-0 ≡ with_subcommand
+    (with_subcommand anscheck_top check_app.top) sauce_app.top =
+    c.in_ok-subcommand-2.ensures.shape (plain_fields c.in_ok-sauce.sauce (ap plain c.in_ok-sauce.ensures)).globals
+    ∙ ap₂ with_subcommand one_is (ap top c.in_ok-sauce.ensures) in
+    IfOk-weaker c.subcommand-3.result _ _ (λ r adds.
+    adds.shape (plain_fields c.in_ok-tokens.tokens (ap plain c.in_ok-tokens.ensures)).globals
+    ∙ ap₂ with_subcommand two_is (ap top c.in_ok-tokens.ensures)) c.subcommand-3.ensures

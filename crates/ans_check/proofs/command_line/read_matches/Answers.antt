@@ -1,0 +1,24 @@
+use Rattle.std.proofs.Common.{rules, subst, List, Option, ◌∙◌}
+use Rattle.std.specs.Prelude.{IsSomeAnd}
+use Rattle.clap.specs.Words.{Row, Text, found_of, rows_of}
+use Rattle.ans_check.specs.CommandLine.{IsCommand}
+use Rattle.ans_check.proofs.CommandLineLemmas.{asks_for, err_weaker, rows_met}
+use Rattle.ans_check.proofs.command_line.read_matches.Goals as goal
+
+pub unreachable-requires-in_default-command_named : goal.unreachable-requires-in_default-command_named
+unreachable-requires-in_default-command_named c =
+    let met = rows_met c.args.matches.now c.in-Some.name.now (rows_of (found_of c.in-Some.found.now))
+    c.in-Some.ensures.name c.in-Some.ensures.rows in
+    let command = subst (λ (s : Option (Text × List Row)). IsSomeAnd s IsCommand) met c.requires in
+    c.in_default-command_named.ensures.none command.0 command.1
+
+pub returns-clause-ok : goal.returns-clause-ok
+returns-clause-ok c =
+    let met = rows_met c.args.matches.now c.in-Some.name.now (rows_of (found_of c.in-Some.found.now))
+    c.in-Some.ensures.name c.in-Some.ensures.rows in
+    asks_for _ c.in-Some.name.now (rows_of (found_of c.in-Some.found.now)) _ _ met
+    (search rules, c.options_of.ensures.start, c.options_of.ensures.cells, c.in_ok-file.ensures.ok)
+
+pub returns-in_err-file-clause-memory : goal.returns-in_err-file-clause-memory
+returns-in_err-file-clause-memory c =
+    err_weaker c.from_residual.result _ _ c.from_residual.ensures.1 (λ e is. is ∙ c.in_err-file.ensures.memory)

@@ -1,0 +1,88 @@
+-- The command line, and the options that its words give.
+use Rattle.std.specs.Prelude.{map, ◌≡◌, ◌≢◌, ◌↔◌, Bool, true, false, List, Option, Some, IsSomeAnd, codes, IsTrue, ⊤}
+use Rattle.std.specs.Borrow.{Bor}
+use Rattle.std.specs.Option.{option_map_or}
+use Rattle.std.specs.Str.{bytes_eq}
+use Rattle.clap.specs.Words.{App, Row, Rule, Text, first_of, kind_of, one_of, new_app, new_rule, subcommand_of}
+use Rattle.clap.specs.Words.{with_rule, with_subcommand}
+use Rattle.clap.specs.declared.builder.ArgAction.TheVariants.{SetTrue}
+use Rattle.clap.specs.declared.error.ErrorKind.TheVariants.{OutOfMemory}
+use Rattle.ans_model.specs.declared.start.Start.TheVariants.{Cleared}
+use Rattle.ans_check.specs.declared.command_line.WordsError.{WordsError}
+use Rattle.ans_check.specs.declared.command_line.WordsError.TheVariants as words_error
+use Rattle.ans_check.specs.declared.command.Command.{Command}
+use Rattle.ans_check.specs.declared.command.Command.TheVariants.{Check, Sauce, Tokens}
+use Rattle.ans_check.specs.declared.command.Options.{Options}
+
+-- the words, as texts
+abbrev pub texts_of : List (Bor Text) → List Text
+texts_of words = map (λ w. w.now) words
+
+-- `--NAME`
+abbrev pub flag_rule : Text → Rule
+flag_rule name = record (new_rule name) { long = Some name; action = Some SetTrue }
+
+-- `[FILE]`
+abbrev pub file_rule : Rule
+file_rule = record (new_rule (codes "file")) { value_names = 1 }
+
+-- `NAME [FILE]`
+abbrev pub file_app : Text → App
+file_app name = with_rule (new_app name) file_rule
+
+-- `check [--cleared] [--cells] [FILE]`
+abbrev pub check_app : App
+check_app = with_rule (with_rule (file_app (codes "check")) (flag_rule (codes "cleared"))) (flag_rule (codes "cells"))
+
+-- `sauce [FILE]`
+abbrev pub sauce_app : App
+sauce_app = file_app (codes "sauce")
+
+-- `tokens [FILE]`
+abbrev pub tokens_app : App
+tokens_app = file_app (codes "tokens")
+
+-- `anscheck`, which wants a subcommand and has no subcommand `help`
+abbrev pub anscheck_top : App
+anscheck_top = let a = new_app (codes "anscheck") in
+    record a { top = record a.top { subcommand_required = true; disable_help_subcommand = true } }
+
+-- the program's command line
+abbrev pub anscheck : App
+anscheck = with_subcommand (with_subcommand (with_subcommand anscheck_top check_app.top) sauce_app.top) tokens_app.top
+
+-- the subcommand of each command
+abbrev pub command_name : Command → Text
+command_name Check = codes "check"
+command_name Sauce = codes "sauce"
+command_name Tokens = codes "tokens"
+
+-- no command has this name
+abbrev pub IsNoCommand : Text → Type 0
+IsNoCommand name = (c : Command) → name ≢ command_name c
+
+-- the matches hold the flag
+abbrev pub holds_flag : Text → List Row → Bool
+holds_flag id rows = option_map_or (λ t. bytes_eq t (codes "true")) (one_of id rows) false
+
+-- the subcommand is one of the commands
+abbrev pub IsCommand : (Text × List Row) → Type 0
+IsCommand sub = (c : Command) × (sub.0 ≡ command_name c)
+
+-- The subcommand is named as the command. Its matches hold `--cleared` exactly where the start is the cleared screen
+-- and
+-- `--cells` exactly where the cells are asked for, and hold the file exactly where one is given, with that text.
+abbrev pub AsksFor : (Text × List Row) → Options → Option Text → Type 0
+AsksFor sub o file = (sub.0 ≡ command_name o.command)
+    × ((o.start ≡ Cleared) ↔ IsTrue (holds_flag (codes "cleared") sub.1))
+    × (IsTrue o.cells ↔ IsTrue (holds_flag (codes "cells") sub.1))
+    × (file ≡ first_of (codes "file") sub.1)
+
+-- clap finds a subcommand in the words, which asks for this
+abbrev pub AreOptionsOf : List Text → Options → Option Text → Type 0
+AreOptionsOf words o file = IsSomeAnd (subcommand_of anscheck words) (λ sub. AsksFor sub o file)
+
+-- the error is want of memory
+abbrev pub IsWantOfMemory : WordsError → Type 0
+IsWantOfMemory (words_error.Clap e) = kind_of e ≡ OutOfMemory
+IsWantOfMemory words_error.Memory = ⊤

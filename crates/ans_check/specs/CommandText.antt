@@ -1,0 +1,100 @@
+-- What a run writes of a file.
+use Rattle.std.specs.Prelude.{◌≡◌, ◌⊎◌, ℕ, Bool, true, false, List, length, Option, Some, None}
+use Rattle.ans_model.specs.File.Layout.{FileParts, content}
+use Rattle.ans_model.specs.File.Notes.{notes}
+use Rattle.ans_model.specs.File.Refusals.{Accepts, record_fault}
+use Rattle.ans_model.specs.Verdict.Good.{Picture}
+use Rattle.ans_model.specs.Text.RecordText.{record_text}
+use Rattle.ans_model.specs.Text.TokensText.{TokensText}
+use Rattle.ans_model.specs.Text.ReportText.{Heading, Passed, RefusedFor, refusal_text, report_text}
+use Rattle.ans_model.specs.declared.fault.Fault.{Fault}
+use Rattle.ans_model.specs.declared.start.Start.{Start}
+use Rattle.std.specs.Option.{option_copied}
+use Rattle.ans_report.specs.declared.report.Report.{Report}
+use Rattle.ans_report.specs.declared.report.Report.TheVariants as report
+use Rattle.ans_check.specs.declared.command.Command.{Command}
+use Rattle.ans_check.specs.declared.command.Command.TheVariants.{Check, Sauce, Tokens}
+use Rattle.ans_check.specs.declared.command.Options.{Options}
+use Rattle.ans_check.specs.declared.verdict.Verdict.{Verdict}
+use Rattle.ans_check.specs.declared.verdict.Verdict.TheVariants.{Pass, Refused}
+use Rattle.ans_check.specs.FileVerdict.{Passes, IsRefusedFor, IsGoodFile, stated_size}
+
+-- what a report says of a file before its verdict
+abbrev pub heading : FileParts → Start → Heading
+heading apart start = record {
+  size = stated_size apart;
+  start = start;
+  content_length = length (content apart.body);
+  notes = notes apart.body apart.record_bytes;
+}
+
+-- the file passes, and the text reports this, with the picture's cells where they are asked for
+pub record ReportsPass (file : List ℕ) (start : Start) (cells : Bool) (text : List ℕ) : Type 0 where
+  pub apart : FileParts
+  pub picture : Picture
+  pub passes : Passes file start apart picture
+  pub text_is : text ≡ report_text (heading apart start) (Passed picture cells)
+
+-- the file's content deserves a fault, and the text reports it
+pub record ReportsFault (file : List ℕ) (start : Start) (text : List ℕ) : Type 0 where
+  pub apart : FileParts
+  pub fault : Fault
+  pub refused : IsRefusedFor file start apart fault
+  pub text_is : text ≡ report_text (heading apart start) (RefusedFor fault)
+
+-- the file's record or its layout has a fault, and the text tells it
+pub record ReportsRecordFault (file text : List ℕ) : Type 0 where
+  pub fault : Fault
+  pub fault_is : record_fault file ≡ Some fault
+  pub text_is : text ≡ refusal_text fault
+
+-- The answer and the text are what a check finds of the file; a good file is not refused.
+abbrev pub ReportsCheck : List ℕ → Start → Bool → Bool → List ℕ → Type 0
+ReportsCheck file start cells true text = ReportsPass file start cells text
+ReportsCheck file start cells false text = ¬ IsGoodFile file start
+    × (ReportsFault file start text ⊎ ReportsRecordFault file text)
+
+-- the file is accepted so, and the text is its record's
+pub record ReportsRecord (file text : List ℕ) : Type 0 where
+  pub apart : FileParts
+  pub accepts : Accepts file apart
+  pub text_is : text ≡ record_text apart
+
+-- the file's record is told, or why it is refused
+abbrev pub ReportsSauce : List ℕ → Bool → List ℕ → Type 0
+ReportsSauce file true text = ReportsRecord file text
+ReportsSauce file false text = ReportsRecordFault file text
+
+-- the file is accepted so, and the text has the tokens of its content and the fault that ends their reading
+pub record ReportsContent (file : List ℕ) (fault : Option Fault) (text : List ℕ) : Type 0 where
+  pub apart : FileParts
+  pub accepts : Accepts file apart
+  pub text_is : TokensText (content apart.body) fault text
+
+-- The content's tokens are told; where a fault ends their reading, or the record is refused, the file does not pass.
+abbrev pub ReportsTokens : List ℕ → Bool → List ℕ → Type 0
+ReportsTokens file true text = ReportsContent file None text
+ReportsTokens file false text = ((fault : Fault) × ReportsContent file (Some fault) text) ⊎ ReportsRecordFault file text
+
+-- the answer and the text are what the command is to tell of the file
+abbrev pub ReportsBy : Command → Start → Bool → List ℕ → Bool → List ℕ → Type 0
+ReportsBy Check start cells file passed text = ReportsCheck file start cells passed text
+ReportsBy Sauce start cells file passed text = ReportsSauce file passed text
+ReportsBy Tokens start cells file passed text = ReportsTokens file passed text
+
+-- the answer and the text are what the options ask of the file
+abbrev pub Reports : Options → List ℕ → Bool → List ℕ → Type 0
+Reports options file passed text = ReportsBy options.command options.start options.cells file passed text
+
+-- whether the verdict is a pass
+abbrev pub is_pass : {G : Type 0} → Verdict G → Bool
+is_pass (Pass parts picture) = true
+is_pass (Refused parts fault) = false
+
+-- the report tells the verdict, from this start, with the cells of a pass or without
+abbrev pub IsReportOf : {G : Type 0} → Verdict G → Start → Bool → Report G → Type 0
+IsReportOf (Pass parts picture) start cells (report.Pass told told_start told_picture told_cells) =
+    (told.now ≡ parts) × (told_start ≡ start) × (told_picture.now ≡ picture) × (told_cells ≡ cells)
+IsReportOf (Refused parts fault) start cells (report.Refused told told_start told_fault) =
+    (option_copied told ≡ parts) × (told_start ≡ start) × (told_fault ≡ fault)
+IsReportOf _ start cells _ = ⊥

@@ -1,0 +1,68 @@
+-- What a verdict says of a file.
+use Rattle.std.specs.Prelude.{◌≡◌, ◌⊎◌, ℕ, ◌≤◌, List, length, Some, None}
+use Rattle.ans_model.specs.File.Record.{stated_width, stated_lines}
+use Rattle.ans_model.specs.File.Layout.{FileParts, content}
+use Rattle.ans_model.specs.File.Refusals.{Accepts, record_fault}
+use Rattle.ans_model.specs.Screen.State.{Size, sized}
+use Rattle.ans_model.specs.Screen.Starts.{class_of}
+use Rattle.ans_model.specs.Verdict.Good.{Picture, GoodWith}
+use Rattle.ans_model.specs.Verdict.FirstFault.{IsFirstFault}
+use Rattle.ans_model.specs.Verdict.LastFault.{IsLastFault}
+use Rattle.ans_model.specs.Laws.Certain.{IsCertain}
+use Rattle.ans_model.specs.Laws.TwoStarts.{IsShownByTwoStarts}
+use Rattle.ans_model.specs.declared.fault.Fault.{Fault}
+use Rattle.ans_model.specs.declared.start.Start.{Start}
+use Rattle.ans_model.specs.declared.start.Start.TheVariants.{Cleared}
+use Rattle.ans_sauce.specs.declared.parts.Parts.{Parts}
+use Rattle.ans_sauce.specs.Parts.{ShowsParts}
+use Rattle.ans_check.specs.declared.verdict.Verdict.{Verdict}
+use Rattle.ans_check.specs.declared.verdict.Verdict.TheVariants.{Pass, Refused}
+
+-- the size that a file's record states
+abbrev pub stated_size : FileParts → Size
+stated_size apart = sized (stated_width apart.record_bytes) (stated_lines apart.record_bytes)
+
+-- The fault is the content's first; where no token has one, it is the last. From the cleared start it is certain. Where
+-- it depends on the start, the plays from the low and the high start of the class show it.
+pub record Deserves (z : Size) (start : Start) (bytes : List ℕ) (fault : Fault) : Type 0 where
+  pub deserved : IsFirstFault z (class_of start) bytes fault ⊎ IsLastFault z (class_of start) bytes fault
+  pub certain : start ≡ Cleared → IsCertain fault.cause
+  pub shown : IsShownByTwoStarts z (class_of start) bytes fault
+  pub offset : fault.offset ≤ length bytes
+
+-- The file is accepted so, and from every start of the class its content plays well and shows the picture.
+pub record Passes (file : List ℕ) (start : Start) (apart : FileParts) (picture : Picture) : Type 0 where
+  pub accepts : Accepts file apart
+  pub good : GoodWith (stated_size apart) (class_of start) (content apart.body) picture
+
+-- the file is accepted so, and its content deserves the fault
+pub record IsRefusedFor (file : List ℕ) (start : Start) (apart : FileParts) (fault : Fault) : Type 0 where
+  pub accepts : Accepts file apart
+  pub deserved : Deserves (stated_size apart) start (content apart.body) fault
+
+-- the verdict is true of the file; without parts the fault is that of the record
+abbrev pub IsVerdictOn : {G : Type 0} → List ℕ → Start → Verdict G → Type 0
+IsVerdictOn file start (Pass parts picture) = (apart : FileParts) × ShowsParts apart parts
+    × Passes file start apart picture
+IsVerdictOn file start (Refused (Some parts) fault) =
+    (apart : FileParts) × ShowsParts apart parts × IsRefusedFor file start apart fault
+IsVerdictOn file start (Refused None fault) = record_fault file ≡ Some fault
+
+-- the verdict is a pass
+abbrev pub IsPass : {G : Type 0} → Verdict G → Type 0
+IsPass (Pass parts picture) = Unit {0}
+IsPass (Refused parts fault) = ⊥
+
+-- the file is accepted, and its content is good
+abbrev pub IsGoodFile : List ℕ → Start → Type 0
+IsGoodFile file start = (apart : FileParts) × (picture : Picture) × Passes file start apart picture
+
+-- the fault's offset, if there is a fault, is one in the file or at its end
+abbrev pub HasOffsetWithin : {G : Type 0} → ℕ → Verdict G → Type 0
+HasOffsetWithin n (Pass parts picture) = Unit {0}
+HasOffsetWithin n (Refused parts fault) = fault.offset ≤ n
+
+-- the fault, if there is one, is certain
+abbrev pub HasCertainFault : {G : Type 0} → Verdict G → Type 0
+HasCertainFault (Pass parts picture) = Unit {0}
+HasCertainFault (Refused parts fault) = IsCertain fault.cause

@@ -1,0 +1,191 @@
+//! The command line, and the options that its words give.
+ghost use Rattle.std.specs.Prelude.{◌≡◌, true, IfOk, option_map, string_bytes, codes, IfSome, IfNone, IfErr};
+ghost use Rattle.std.specs.Prelude.{IsSomeAnd, IsTrue, ◌↔◌};
+ghost use Rattle.clap.specs.Words.{app_of, first_of, found_of, rows_of, subcommand_rows_of, takes};
+ghost use Rattle.ans_check.specs.CommandLine.{AreOptionsOf, AsksFor, IsCommand, IsNoCommand, IsWantOfMemory};
+ghost use Rattle.ans_check.specs.CommandLine.{anscheck, check_app, command_name, file_app, holds_flag, texts_of};
+ghost use Rattle.ans_check.specs.declared.command_line.WordsError.TheVariants.{Clap};
+
+use crate::command::{Command, Options};
+use ans_model::start::Start;
+use clap::{Arg, ArgAction, ArgMatches};
+use std::alloc::{AllocError, Global};
+
+/// Why the words give no options.
+#[derive(Debug, Drop)]
+pub enum WordsError {
+    /// `clap` rejects them, or they ask for help, or memory ran out while they were read.
+    Clap(clap::Error),
+    /// Memory ran out for the file's name.
+    Memory,
+}
+
+impl From<clap::Error> for WordsError {
+    ghost from_gives = { λ e w. w ≡ Clap e };
+
+    fn from(error: clap::Error) -> WordsError {
+        WordsError::Clap(error)
+    }
+}
+
+/// The last lines of each help text.
+const STATUSES: &str = "\
+Exit status:
+  0  The file passes, or this help was asked for
+  1  The file is refused
+  2  There is no answer; standard error says why";
+
+/// `NAME [FILE]`.
+fn file_command<'a>(
+    alloc: Global,
+    name: &'a str,
+    about: &'a str,
+) -> Result<clap::Command<'a>, AllocError>
+    ensures { IfOk result (λ c. app_of c ≡ file_app name.now) }
+{
+    let file = Arg::new(alloc, "file")
+        .value_name("FILE")
+        .help("The file to read; without it standard input is read");
+    clap::Command::new(alloc, name)
+        .about(about)
+        .after_help(STATUSES)
+        .arg(file)
+}
+
+/// `check [--cleared] [--cells] [FILE]`.
+fn check_command<'a>(alloc: Global) -> Result<clap::Command<'a>, AllocError>
+    ensures { IfOk result (λ c. app_of c ≡ check_app) }
+{
+    let cleared = Arg::new(alloc, "cleared")
+        .long("cleared")
+        .action(ArgAction::SetTrue)
+        .help("Play from a cleared screen alone, not from every screen, cursor, colour and wrap");
+    let cells = Arg::new(alloc, "cells")
+        .long("cells")
+        .action(ArgAction::SetTrue)
+        .help("Print each cell of the picture too: its byte and its attribute, in hexadecimal");
+    let command = file_command(
+        alloc,
+        "check",
+        "Check that a file shows one picture from every start, and print that picture",
+    )?;
+    command.arg(cleared)?.arg(cells)
+}
+
+/// The program's command line.
+fn program<'a>(alloc: Global) -> Result<clap::Command<'a>, AllocError>
+    ensures { IfOk result (λ c. app_of c ≡ anscheck) }
+{
+    let check = check_command(alloc)?;
+    let sauce = file_command(alloc, "sauce", "Print what a file's SAUCE record says")?;
+    let tokens = file_command(
+        alloc,
+        "tokens",
+        "Print the bytes and the escape sequences of a file's content, one a line",
+    )?;
+    clap::Command::new(alloc, "anscheck")
+        .about("Checks ANSI art files that end in a SAUCE record")
+        .after_help(STATUSES)
+        .subcommand_required(true)
+        .disable_help_subcommand(true)
+        .subcommand(check)?
+        .subcommand(sauce)?
+        .subcommand(tokens)
+}
+
+/// Whether the flag was given.
+fn holds(matches: &ArgMatches<'_>, id: &str) -> bool
+    ensures { result ≡ holds_flag id.now (rows_of (found_of matches.now)) }
+{
+    matches.get_one::<bool>(id).unwrap_or(false)
+}
+
+/// The command of a subcommand's name.
+fn command_named(name: &str) -> Option<Command>
+    ensures some { IfSome result (λ c. name.now ≡ command_name c) }
+    ensures none { IfNone result (IsNoCommand name.now) }
+{
+    match name {
+        "check" => Some(Command::Check),
+        "sauce" => Some(Command::Sauce),
+        "tokens" => Some(Command::Tokens),
+        _ => None,
+    }
+}
+
+/// The class of starts that the flag asks for.
+fn start_of(cleared: bool) -> Start
+    ensures { (result ≡ Start.Cleared) ↔ IsTrue cleared }
+{
+    if cleared { Start::Cleared } else { Start::Any }
+}
+
+/// A copy of the file's name, if one was given.
+fn file_of(alloc: Global, matches: &ArgMatches<'_>) -> Result<Option<String>, WordsError>
+    ensures memory { IfErr result (λ e. e ≡ WordsError.Memory) }
+    ensures ok { IfOk result (λ f.
+        option_map string_bytes f ≡ first_of (codes "file") (rows_of (found_of matches.now))) }
+{
+    match matches.get_str("file") {
+        Some(text) => match String::from_str(alloc, text) {
+            Ok(file) => Ok(Some(file)),
+            Err(_) => Err(WordsError::Memory),
+        },
+        None => Ok(None),
+    }
+}
+
+/// The options that a command's matches ask for.
+fn options_of(command: Command, matches: &ArgMatches<'_>) -> Options
+    ensures command { result.command ≡ command }
+    ensures start { (result.start ≡ Start.Cleared)
+        ↔ IsTrue (holds_flag (codes "cleared") (rows_of (found_of matches.now))) }
+    ensures cells { IsTrue result.cells
+        ↔ IsTrue (holds_flag (codes "cells") (rows_of (found_of matches.now))) }
+{
+    Options {
+        command,
+        start: start_of(holds(matches, "cleared")),
+        cells: holds(matches, "cells"),
+    }
+}
+
+/// The options that the program's matches ask for, and the file that they name.
+fn read_matches(
+    alloc: Global,
+    matches: &ArgMatches<'_>,
+) -> Result<(Options, Option<String>), WordsError>
+    requires { IsSomeAnd (subcommand_rows_of matches.now) IsCommand }
+    ensures memory { IfErr result (λ e. e ≡ WordsError.Memory) }
+    ensures ok { IfOk result (λ r. IsSomeAnd (subcommand_rows_of matches.now)
+        (λ p. AsksFor p r.0 (option_map string_bytes r.1))) }
+{
+    let Some((name, found)) = matches.subcommand() else {
+        unreachable!()
+    };
+    let Some(command) = command_named(name) else {
+        unreachable!()
+    };
+    let file = file_of(alloc, found)?;
+    Ok((options_of(command, found), file))
+}
+
+/// Reads the options and the file from the program's words, its own name first:
+/// `anscheck check [--cleared] [--cells] [FILE]`, `anscheck sauce [FILE]` or `anscheck tokens
+/// [FILE]`. Without `--cleared` the start is any, and without `--cells` no cells are asked for; the
+/// same holds for `sauce` and `tokens`, which take no flags.
+///
+/// Fails only where `clap` rejects the words, where they ask for help, and where memory runs out.
+pub fn options(alloc: Global, words: &[&str]) -> Result<(Options, Option<String>), WordsError>
+    ensures ok { IfOk result (λ r.
+        AreOptionsOf (texts_of words.now) r.0 (option_map string_bytes r.1)) }
+    ensures refuses { IfErr result (λ e.
+        takes anscheck (texts_of words.now) ≡ true → IsWantOfMemory e) }
+{
+    let program = match program(alloc) {
+        Ok(program) => program,
+        Err(error) => return Err(WordsError::Clap(clap::Error::from(error))),
+    };
+    let matches = program.try_get_matches_from(words)?;
+    read_matches(alloc, &matches)
+}

@@ -1,0 +1,2 @@
+-- Files and contents by example.
+pub mod TextExamples

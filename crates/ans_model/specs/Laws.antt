@@ -1,0 +1,9 @@
+-- What the laws of this crate say; each is proved.
+pub mod FileLaws
+pub mod SequenceLaws
+pub mod AttributeLaws
+pub mod StepLaws
+pub mod StartLaws
+pub mod Certain
+pub mod TwoStarts
+pub mod LineLaws

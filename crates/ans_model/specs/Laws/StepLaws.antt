@@ -1,0 +1,197 @@
+-- Laws of a step: what each line of the table of steps leaves as it was.
+use Rattle.std.specs.Prelude.{◌≡◌, ◌≢◌, ◌⊎◌, ℕ, ◌+◌, ◌≤◌, ◌<◌, Bool, true, false, List, [], ◌∷◌, set, Option, Some}
+use Rattle.std.specs.Prelude.{slice_get, take, replicate}
+use Rattle.ans_model.specs.Sequence.TokenKind.{TokenKind, PrintsByte, Glyph, Bell, BackSpace, LineFeed}
+use Rattle.ans_model.specs.Sequence.TokenKind.{CarriageReturn, Tab, Up, Down, Forward, Backward, Place, Clear}
+use Rattle.ans_model.specs.Sequence.TokenKind.{EraseLine, Save, Restore, Colours, Wrap, Mode, Keys, Ask}
+use Rattle.ans_model.specs.Screen.State.{Size, IsSize, State, IsWellFormed, IsOnScreen, at, cell, cell_at, cell_count}
+use Rattle.ans_model.specs.Screen.State.{index}
+use Rattle.ans_model.specs.declared.cell.Cell.{Cell}
+use Rattle.ans_model.specs.declared.cell.Position.{Position}
+use Rattle.ans_model.specs.Screen.Attribute.{attribute_after_all}
+use Rattle.ans_model.specs.Screen.Step.{step, final, filled, next_row_start, blank_cell, line_feed}
+use Rattle.ans_model.specs.Screen.Starts.{Class}
+use Rattle.ans_model.specs.Verdict.TokenFault.{FromEvery, IsClean}
+
+-- Two places of the screen with one index are one place.
+abbrev pub OnePlaceAnIndex : Type 0
+OnePlaceAnIndex = (z : Size) (p q : Position) → IsOnScreen z p → IsOnScreen z q → index z p ≡ index z q → p ≡ q
+
+-- nothing but the cursor has changed
+pub record OnlyCursor (s t : State) : Type 0 where
+  pub screen : t.screen ≡ s.screen
+  pub saved : t.saved ≡ s.saved
+  pub attribute : t.attribute ≡ s.attribute
+  pub wrap : t.wrap ≡ s.wrap
+
+-- nothing but the screen and the cursor has changed
+pub record OnlyScreenAndCursor (s t : State) : Type 0 where
+  pub saved : t.saved ≡ s.saved
+  pub attribute : t.attribute ≡ s.attribute
+  pub wrap : t.wrap ≡ s.wrap
+
+-- tokens that change the cursor alone
+abbrev pub IsMove : TokenKind → Type 0
+IsMove (Up n) = Unit {0}
+IsMove (Down n) = Unit {0}
+IsMove (Forward n) = Unit {0}
+IsMove (Backward n) = Unit {0}
+IsMove (Place row column) = Unit {0}
+IsMove BackSpace = Unit {0}
+IsMove CarriageReturn = Unit {0}
+IsMove Restore = Unit {0}
+IsMove _ = ⊥
+
+-- A move, a place, a backspace, a carriage return and a restore change the cursor alone.
+abbrev pub MovesChangeCursor : Type 0
+MovesChangeCursor = (z : Size) (s : State) (t : TokenKind) → IsMove t → OnlyCursor s (step z s t)
+
+-- Up, Down and LineFeed keep the column.
+abbrev pub IsUpright : TokenKind → Type 0
+IsUpright (Up n) = Unit {0}
+IsUpright (Down n) = Unit {0}
+IsUpright LineFeed = Unit {0}
+IsUpright _ = ⊥
+
+-- They keep the column.
+abbrev pub KeepsColumn : Type 0
+KeepsColumn = (z : Size) (s : State) (t : TokenKind) → IsUpright t → (step z s t).cursor.column ≡ s.cursor.column
+
+-- Forward, Backward, BackSpace and CarriageReturn keep the row.
+abbrev pub IsLevel : TokenKind → Type 0
+IsLevel (Forward n) = Unit {0}
+IsLevel (Backward n) = Unit {0}
+IsLevel BackSpace = Unit {0}
+IsLevel CarriageReturn = Unit {0}
+IsLevel _ = ⊥
+
+-- They keep the row.
+abbrev pub KeepsRow : Type 0
+KeepsRow = (z : Size) (s : State) (t : TokenKind) → IsLevel t → (step z s t).cursor.row ≡ s.cursor.row
+
+-- Down brings back what Up took, where no edge is met.
+abbrev pub DownUndoesUp : Type 0
+DownUndoesUp = (z : Size) (s : State) (n : ℕ) → IsWellFormed z s → n ≤ s.cursor.row
+    → step z (step z s (Up n)) (Down n) ≡ s
+
+-- Forward brings back what Backward took, where no edge is met.
+abbrev pub ForwardUndoesBackward : Type 0
+ForwardUndoesBackward = (z : Size) (s : State) (n : ℕ) → IsWellFormed z s → n ≤ s.cursor.column
+    → step z (step z s (Backward n)) (Forward n) ≡ s
+
+-- A place within the screen, counted from 1, is where the cursor then stands.
+abbrev pub PlacesCursor : Type 0
+PlacesCursor = (z : Size) (s : State) (p : Position) → IsOnScreen z p
+    → (step z s (Place (p.row + 1) (p.column + 1))).cursor ≡ p
+
+-- Save changes the saved cursor alone.
+abbrev pub SavesCursor : Type 0
+SavesCursor = (z : Size) (s : State) → step z s Save ≡ record s { saved = s.cursor }
+
+-- A Restore after a Save keeps the cursor.
+abbrev pub RestoreUndoesSave : Type 0
+RestoreUndoesSave = (z : Size) (s : State) → step z (step z s Save) Restore ≡ step z s Save
+
+-- Colours change the attribute alone.
+abbrev pub ColoursChangeAttribute : Type 0
+ColoursChangeAttribute = (z : Size) (s : State) (parameters : List ℕ)
+    → step z s (Colours parameters) ≡ record s { attribute = attribute_after_all s.attribute parameters }
+
+-- Wrap changes wrap alone.
+abbrev pub WrapChangesWrap : Type 0
+WrapChangesWrap = (z : Size) (s : State) (on : Bool) → step z s (Wrap on) ≡ record s { wrap = on }
+
+-- tokens that change nothing
+abbrev pub IsIdle : TokenKind → Type 0
+IsIdle Bell = Unit {0}
+IsIdle Tab = Unit {0}
+IsIdle Mode = Unit {0}
+IsIdle Keys = Unit {0}
+IsIdle Ask = Unit {0}
+IsIdle _ = ⊥
+
+-- Bell, Tab, Mode, Keys and Ask change nothing.
+abbrev pub IdleChangesNothing : Type 0
+IdleChangesNothing = (z : Size) (s : State) (t : TokenKind) → IsIdle t → step z s t ≡ s
+
+-- Clear makes each cell blank with the current attribute and takes the cursor home; nothing else changes.
+pub record IsCleared (z : Size) (s t : State) : Type 0 where
+  pub blank : (p : Position) → IsOnScreen z p → cell_at z t.screen p ≡ Some (blank_cell s.attribute)
+  pub home : t.cursor ≡ at 0 0
+  pub others : OnlyScreenAndCursor s t
+
+-- Clear does so.
+abbrev pub ClearsScreen : Type 0
+ClearsScreen = (z : Size) (s : State) → IsCleared z s (step z s Clear)
+
+-- the place stands in the cursor's row, at the cursor or right of it
+abbrev pub IsErased : Position → Position → Type 0
+IsErased cursor p = (p.row ≡ cursor.row) × (cursor.column ≤ p.column)
+
+-- EraseLine makes the cursor's cell and those right of it blank, and leaves each other cell and all else.
+pub record IsLineErased (z : Size) (s t : State) : Type 0 where
+  pub erased : (p : Position) → IsOnScreen z p → IsErased s.cursor p
+      → cell_at z t.screen p ≡ Some (blank_cell s.attribute)
+  pub kept : (p : Position) → IsOnScreen z p → ¬ IsErased s.cursor p → cell_at z t.screen p ≡ cell_at z s.screen p
+  pub cursor : t.cursor ≡ s.cursor
+  pub others : OnlyScreenAndCursor s t
+
+-- EraseLine does so.
+abbrev pub ErasesLine : Type 0
+ErasesLine = (z : Size) (s : State) → IsWellFormed z s → IsLineErased z s (step z s EraseLine)
+
+-- where the cursor goes on to after a printed byte, above the spare row
+abbrev pub NextPlace : Size → State → Position → Type 0
+NextPlace z s next =
+    ((s.cursor.column + 1 < z.width) × (next ≡ at s.cursor.row (s.cursor.column + 1)))
+    ⊎ ((s.cursor.column + 1 ≡ z.width) × (s.wrap ≡ true) × (next ≡ at (s.cursor.row + 1) 0))
+    ⊎ ((s.cursor.column + 1 ≡ z.width) × (s.wrap ≡ false) × (next ≡ s.cursor))
+
+-- A Glyph above the spare row changes one cell, and takes the cursor to the next place.
+pub record IsPrinted (z : Size) (s : State) (byte : ℕ) (t : State) : Type 0 where
+  pub printed : cell_at z t.screen s.cursor ≡ Some (cell byte s.attribute)
+  pub kept : (p : Position) → IsOnScreen z p → p ≢ s.cursor → cell_at z t.screen p ≡ cell_at z s.screen p
+  pub cursor : NextPlace z s t.cursor
+  pub others : OnlyScreenAndCursor s t
+
+-- A Glyph does so.
+abbrev pub GlyphPrints : Type 0
+GlyphPrints = (z : Size) (s : State) (byte : ℕ) → IsWellFormed z s → s.cursor.row < z.lines
+    → IsPrinted z s byte (step z s (Glyph byte))
+
+-- A LineFeed above the spare row takes the cursor down one row and changes nothing else.
+abbrev pub LineFeedMovesDown : Type 0
+LineFeedMovesDown = (z : Size) (s : State) → s.cursor.row < z.lines
+    → step z s LineFeed ≡ record s { cursor = at (s.cursor.row + 1) s.cursor.column }
+
+-- The screen is scrolled by one row: each row but the last is the row below it, and the last is blank.
+pub record IsScrolled (z : Size) (s t : State) : Type 0 where
+  pub rows : (p : Position) → IsOnScreen z p → p.row < z.lines
+      → cell_at z t.screen p ≡ cell_at z s.screen (at (p.row + 1) p.column)
+  pub last : (column : ℕ) → column < z.width → cell_at z t.screen (at z.lines column) ≡ Some (blank_cell s.attribute)
+  pub cursor : t.cursor ≡ s.cursor
+  pub others : OnlyScreenAndCursor s t
+
+-- A LineFeed in the spare row scrolls the screen.
+abbrev pub LineFeedScrolls : Type 0
+LineFeedScrolls = (z : Size) (s : State) → IsWellFormed z s → s.cursor.row ≡ z.lines
+    → IsScrolled z s (step z s LineFeed)
+
+-- A step leaves a state of the machine.
+abbrev pub StepsAreWellFormed : Type 0
+StepsAreWellFormed = (z : Size) (s : State) (t : TokenKind) → IsSize z → PrintsByte t → IsWellFormed z s
+    → IsWellFormed z (step z s t)
+
+-- what a token writes to the screen in place, with no row moved
+abbrev pub screen_in_place : Size → State → TokenKind → List Cell
+screen_in_place z s Clear = replicate (cell_count z) (blank_cell s.attribute)
+screen_in_place z s EraseLine = filled s.screen (index z s.cursor) (next_row_start z s.cursor) (blank_cell s.attribute)
+screen_in_place z s (Glyph byte) = set s.screen (index z s.cursor) (cell byte s.attribute)
+screen_in_place z s _ = s.screen
+
+-- Where tokens are clean none of them scrolls, from any start: not a line feed, and not a print that wraps.
+abbrev pub CleanNeverScrolls : Type 0
+CleanNeverScrolls =
+    (z : Size) (class : Class) (tokens : List TokenKind) (k : ℕ) (t : TokenKind) → IsSize z → IsClean z class tokens
+    → slice_get tokens k ≡ Some t →
+    FromEvery z class (λ s. let now = final z s (take k tokens) in (step z now t).screen ≡ screen_in_place z now t)

@@ -1,0 +1,7 @@
+-- What is written.
+pub mod Characters
+pub mod Hexadecimal
+pub mod FaultText
+pub mod ReportText
+pub mod RecordText
+pub mod TokensText

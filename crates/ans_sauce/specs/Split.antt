@@ -1,0 +1,21 @@
+-- Which parts belong to which file.
+use Rattle.std.specs.Prelude.{◌≡◌, ℕ, ◌*◌, List, ◌++◌, length, take}
+use Rattle.ans_model.specs.File.Layout.{FileParts, comment_block}
+use Rattle.ans_model.specs.File.Refusals.{Accepts, Refusal, refusals}
+use Rattle.ans_sauce.specs.declared.parts.Parts.{Parts}
+use Rattle.ans_sauce.specs.Parts.{ShowsParts}
+
+-- Some body, comments and record lay the file out, nothing in it is refused, and the parts show them.
+pub record IsSplit (file : List ℕ) (parts : Parts) : Type 0 where
+  pub apart : FileParts
+  pub accepts : Accepts file apart
+  pub shows : ShowsParts apart parts
+
+-- what stands before the record is the body and the block of this many comments
+pub record IsCut (count : ℕ) (front body comment_bytes : List ℕ) : Type 0 where
+  pub comments : length comment_bytes ≡ 64 * count
+  pub whole : front ≡ body ++ comment_block count comment_bytes
+
+-- F2 to F7, the refusals of a file with a record but for the last
+abbrev pub record_refusals : List ℕ → List ℕ → List Refusal
+record_refusals front record_bytes = take 6 (refusals front record_bytes)
