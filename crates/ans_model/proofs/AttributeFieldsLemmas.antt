@@ -1,7 +1,7 @@
 -- What a parameter does to each field, shown for each byte.
 use Rattle.std.proofs.Common.{◌≡◌, ◌⊎◌, inl, inr, ℕ, zero, suc, ◌+◌, ◌<◌, Bool, true, false, refl, sym, subst, arith}
 use Rattle.std.specs.Prelude.{◌&&◌, ◌==◌}
-use Rattle.std.proofs.lemmas.Bool.{eqb-true, cases_eq}
+use Rattle.std.proofs.lemmas.Bool.{eqb-true, cases_eq, and_parts}
 use Rattle.ans_model.specs.Screen.Attribute.{attribute_after}
 use Rattle.ans_model.specs.Laws.AttributeLaws.{foreground, bright, background, blink, colour, HasFields}
 use Rattle.ans_model.specs.Laws.AttributeLaws.{ResetsAttribute, SetsBright, SetsBlink, SetsForeground, SetsBackground}
@@ -11,25 +11,21 @@ abbrev all_below : ℕ → (ℕ → Bool) → Bool
 all_below zero p = true
 all_below (suc n) p = p n && all_below n p
 
-both : (a b : Bool) → (a && b) ≡ true → (a ≡ true) × (b ≡ true)
-both true b h = (refl, h)
-both false b h = (cc, cc)
-
-at_each : (n : ℕ) (p : ℕ → Bool) → all_below n p ≡ true → (k : ℕ) → k < n → p k ≡ true
-at_each zero p h k lt = absurd (omega arith)
-at_each (suc n) p h k lt = elim (cases_eq k n) [
-  | inl e ↦ subst (λ (i : ℕ). p i ≡ true) (sym e) (both (p n) (all_below n p) h).0
-  | inr ne ↦ at_each n p (both (p n) (all_below n p) h).1 k (omega arith)
+holds_at_each : (n : ℕ) (p : ℕ → Bool) → all_below n p ≡ true → (k : ℕ) → k < n → p k ≡ true
+holds_at_each zero p h k lt = absurd (omega arith)
+holds_at_each (suc n) p h k lt = elim (cases_eq k n) [
+  | inl e ↦ subst (λ (i : ℕ). p i ≡ true) (sym e) (and_parts (p n) (all_below n p) h).0
+  | inr ne ↦ holds_at_each n p (and_parts (p n) (all_below n p) h).1 k (omega arith)
 ]
 
 abbrev has_fields : ℕ → ℕ → ℕ → ℕ → ℕ → Bool
 has_fields new f b g l = foreground new == f && (bright new == b && (background new == g && blink new == l))
 
-fields : (new f b g l : ℕ) → has_fields new f b g l ≡ true → HasFields new f b g l
-fields new f b g l h =
-    let one = both (foreground new == f) (bright new == b && (background new == g && blink new == l)) h in
-    let two = both (bright new == b) (background new == g && blink new == l) one.1 in
-    let three = both (background new == g) (blink new == l) two.1 in
+fields_of_test : (new f b g l : ℕ) → has_fields new f b g l ≡ true → HasFields new f b g l
+fields_of_test new f b g l h =
+    let one = and_parts (foreground new == f) (bright new == b && (background new == g && blink new == l)) h in
+    let two = and_parts (bright new == b) (background new == g && blink new == l) one.1 in
+    let three = and_parts (background new == g) (blink new == l) two.1 in
     record {
       foreground_is = eqb-true (foreground new) f one.0;
       bright_is = eqb-true (bright new) b two.0;
@@ -57,33 +53,33 @@ background_all : all_below 8
 background_all = refl
 
 pub resets : ResetsAttribute
-resets a h = fields (attribute_after a 0) 7 0 0 0
-    (at_each 256 (λ a. has_fields (attribute_after a 0) 7 0 0 0) reset_all a h)
+resets a h = fields_of_test (attribute_after a 0) 7 0 0 0
+    (holds_at_each 256 (λ a. has_fields (attribute_after a 0) 7 0 0 0) reset_all a h)
 
 pub sets_bright : SetsBright
-sets_bright a h = fields (attribute_after a 1) (foreground a) 1 (background a) (blink a)
-    (at_each 256 (λ a. has_fields (attribute_after a 1) (foreground a) 1 (background a) (blink a)) bright_all a h)
+sets_bright a h = fields_of_test (attribute_after a 1) (foreground a) 1 (background a) (blink a)
+    (holds_at_each 256 (λ a. has_fields (attribute_after a 1) (foreground a) 1 (background a) (blink a)) bright_all a h)
 
 pub sets_blink : SetsBlink
-sets_blink a h = fields (attribute_after a 5) (foreground a) (bright a) (background a) 1
-    (at_each 256 (λ a. has_fields (attribute_after a 5) (foreground a) (bright a) (background a) 1) blink_all a h)
+sets_blink a h = fields_of_test (attribute_after a 5) (foreground a) (bright a) (background a) 1
+    (holds_at_each 256 (λ a. has_fields (attribute_after a 5) (foreground a) (bright a) (background a) 1) blink_all a h)
 
 pub sets_foreground : SetsForeground
 sets_foreground a i h lt =
     let of_colour =
-    at_each 8
+    holds_at_each 8
     (λ i. all_below 256 (λ a. has_fields (attribute_after a (30 + i)) (colour i) (bright a) (background a)
     (blink a))) foreground_all i lt in
-    fields (attribute_after a (30 + i)) (colour i) (bright a) (background a) (blink a)
-    (at_each 256 (λ a. has_fields (attribute_after a (30 + i)) (colour i) (bright a) (background a) (blink a))
+    fields_of_test (attribute_after a (30 + i)) (colour i) (bright a) (background a) (blink a)
+    (holds_at_each 256 (λ a. has_fields (attribute_after a (30 + i)) (colour i) (bright a) (background a) (blink a))
     of_colour a h)
 
 pub sets_background : SetsBackground
 sets_background a i h lt =
     let of_colour =
-    at_each 8
+    holds_at_each 8
     (λ i. all_below 256 (λ a. has_fields (attribute_after a (40 + i)) (foreground a) (bright a) (colour i)
     (blink a))) background_all i lt in
-    fields (attribute_after a (40 + i)) (foreground a) (bright a) (colour i) (blink a)
-    (at_each 256 (λ a. has_fields (attribute_after a (40 + i)) (foreground a) (bright a) (colour i) (blink a))
+    fields_of_test (attribute_after a (40 + i)) (foreground a) (bright a) (colour i) (blink a)
+    (holds_at_each 256 (λ a. has_fields (attribute_after a (40 + i)) (foreground a) (bright a) (colour i) (blink a))
     of_colour a h)

@@ -2,7 +2,7 @@
 use Rattle.std.proofs.Common.{◌≡◌, ℕ, ◌<◌, ◌^◌, Bool, true, false, refl, List, [], ◌∷◌, Option, Some, None, arith}
 use Rattle.std.specs.Prelude.{◌&&◌, ◌==◌, nat_lt, IfSome, bit_and, if◌then◌else◌}
 use Rattle.std.specs.List.{list_all}
-use Rattle.std.proofs.lemmas.Bool.{ltb-true}
+use Rattle.std.proofs.lemmas.Bool.{ltb-true, and_parts}
 use Rattle.std.proofs.lemmas.Nat.{and_le_r, or_of_8}
 use Rattle.ans_model.specs.Screen.Attribute.{Rendition, renditions, rendition_of, attribute_by, attribute_after}
 use Rattle.ans_model.specs.Screen.Attribute.{attribute_after_all}
@@ -15,33 +15,29 @@ pub record IsByteRendition (r : Rendition) : Type 0 where
 abbrev fits : Rendition → Bool
 fits r = nat_lt r.mask 256 && nat_lt r.set 256
 
-both : (a b : Bool) → (a && b) ≡ true → (a ≡ true) × (b ≡ true)
-both true b h = (refl, h)
-both false b h = (cc, cc)
-
 found_fits : (rs : List Rendition) (p : ℕ) → list_all fits rs ≡ true → IfSome (rendition_of rs p) IsByteRendition
 found_fits [] p h = tt
 found_fits (r ∷ rs) p h =
-    let t : (fits r ≡ true) × (list_all fits rs ≡ true) = both (fits r) (list_all fits rs) h in
+    let t : (fits r ≡ true) × (list_all fits rs ≡ true) = and_parts (fits r) (list_all fits rs) h in
     here (p == r.parameter) t.0 (found_fits rs p t.1)
   where
     here : (b : Bool) → fits r ≡ true → IfSome (rendition_of rs p) IsByteRendition
         → IfSome (if b then Some r else rendition_of rs p) IsByteRendition
     here true f more =
         let bytes : (nat_lt r.mask 256 ≡ true) × (nat_lt r.set 256 ≡ true) =
-        both (nat_lt r.mask 256) (nat_lt r.set 256) f in
+        and_parts (nat_lt r.mask 256) (nat_lt r.set 256) f in
         record { mask = ltb-true r.mask 256 bytes.0; set = ltb-true r.set 256 bytes.1 }
     here false f more = more
 
 pub rendition_fits : (p : ℕ) → IfSome (rendition_of renditions p) IsByteRendition
 rendition_fits p = found_fits renditions p refl
 
-by_lt : (o : Option Rendition) (a : ℕ) → IfSome o IsByteRendition → a < 2 ^ 8 → attribute_by o a < 2 ^ 8
-by_lt None a f h = h
-by_lt (Some r) a f h = or_of_8 (bit_and a r.mask) r.set (omega (arith, and_le_r a r.mask, f.mask)) f.set
+attribute_by_lt : (o : Option Rendition) (a : ℕ) → IfSome o IsByteRendition → a < 2 ^ 8 → attribute_by o a < 2 ^ 8
+attribute_by_lt None a f h = h
+attribute_by_lt (Some r) a f h = or_of_8 (bit_and a r.mask) r.set (omega (arith, and_le_r a r.mask, f.mask)) f.set
 
 pub attribute_after_lt : (a p : ℕ) → a < 256 → attribute_after a p < 256
-attribute_after_lt a p h = by_lt (rendition_of renditions p) a (rendition_fits p) h
+attribute_after_lt a p h = attribute_by_lt (rendition_of renditions p) a (rendition_fits p) h
 
 pub attribute_after_all_lt : (a : ℕ) (ps : List ℕ) → a < 256 → attribute_after_all a ps < 256
 attribute_after_all_lt a [] h = h

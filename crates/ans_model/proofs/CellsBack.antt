@@ -22,22 +22,22 @@ byte_back b h =
     let low : b % 16 < 16 = omega arith in
     omega (arith, digit_back (b / 16) high, digit_back (b % 16) low)
 
-row_law : (row : List Cell) → All IsByteCell row → cells_back (flat_map cell_digits row) ≡ row
-row_law [] h = refl
-row_law (c ∷ row) h =
+cells_of_row_back : (row : List Cell) → All IsByteCell row → cells_back (flat_map cell_digits row) ≡ row
+cells_of_row_back [] h = refl
+cells_of_row_back (c ∷ row) h =
     let byte : IsByteCell c = All-head IsByteCell c row h in
     ap₂ (λ (u : Cell) (v : List Cell). u ∷ v)
     (λ i. record { byte = byte_back c.byte byte.0 i; attribute = byte_back c.attribute byte.1 i })
-    (row_law row (All-tail IsByteCell c row h))
+    (cells_of_row_back row (All-tail IsByteCell c row h))
 
 row_size : (row : List Cell) → length (flat_map cell_digits row) ≡ 4 * length row
 row_size [] = refl
 row_size (c ∷ row) = let ih = row_size row in omega (arith, ih)
 
-rows_law : (w l : ℕ) (cells : List Cell) → length cells ≡ w * l → All IsByteCell cells
+cells_of_rows_back : (w l : ℕ) (cells : List Cell) → length cells ≡ w * l → All IsByteCell cells
     → picture_back w l (flat_map cells_line (rows w l cells)) ≡ cells
-rows_law w zero cells h a = sym (nil_from_length cells (omega (arith, h)))
-rows_law w (suc l) cells h a =
+cells_of_rows_back w zero cells h a = sym (nil_from_length cells (omega (arith, h)))
+cells_of_rows_back w (suc l) cells h a =
     let row = take w cells in
     let more = flat_map cells_line (rows w l (drop w cells)) in
     let text = flat_map cell_digits row in
@@ -50,11 +50,11 @@ rows_law w (suc l) cells h a =
     let left : drop (4 * w + 1) ((text ++ 0x0A ∷ []) ++ more) ≡ more =
     ap (λ (n : ℕ). drop n ((text ++ 0x0A ∷ []) ++ more)) past ∙ drop-append_seam (text ++ 0x0A ∷ []) more in
     let count : length (drop w cells) ≡ w * l = simp length-drop (omega (arith, h)) in
-    let ih = rows_law w l (drop w cells) count (All-drop IsByteCell w cells a) in
-    ap₂ (λ (u v : List Cell). u ++ v) (ap cells_back first ∙ row_law row (All-take IsByteCell w cells a))
+    let ih = cells_of_rows_back w l (drop w cells) count (All-drop IsByteCell w cells a) in
+    ap₂ (λ (u v : List Cell). u ++ v) (ap cells_back first ∙ cells_of_row_back row (All-take IsByteCell w cells a))
     (ap (λ (v : List ℕ). picture_back w l v) left ∙ ih) ∙ take-append-drop w cells
 
-pub picture_law : (z : Size) (picture : Picture) → IsPictureOf z picture
+pub cells_of_picture_back : (z : Size) (picture : Picture) → IsPictureOf z picture
     → picture_back z.width z.lines (flat_map cells_line (rows_of picture)) ≡ picture.cells
-picture_law z picture h =
-    rw h.size (rows_law z.width z.lines picture.cells (h.count ∙ mul_comm z.lines z.width) h.bytes)
+cells_of_picture_back z picture h =
+    rw h.size (cells_of_rows_back z.width z.lines picture.cells (h.count ∙ mul_comm z.lines z.width) h.bytes)

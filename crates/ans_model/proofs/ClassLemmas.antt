@@ -39,8 +39,8 @@ cleared_is_one z s size = (
       (low_is_start z (class_of Cleared) size.some_columns),
 )
 
-pub low_is : LowIsStart
-low_is z class size = low_is_start z class size.some_columns
+pub low_start_is_start : LowIsStart
+low_start_is_start z class size = low_is_start z class size.some_columns
 
-pub high_is : HighIsStart
-high_is z class size = high_is_start z class size.some_columns
+pub high_start_is_start : HighIsStart
+high_start_is_start z class size = high_is_start z class size.some_columns

@@ -1,4 +1,5 @@
 -- The first refusal that applies answers, at an offset within the file.
+use Rattle.std.proofs.lemmas.Bool.{and_parts}
 use Rattle.std.proofs.Common.{◌≡◌, ℕ, ◌+◌, ◌-◌, ◌≤◌, Bool, true, false, not, nat_le, List, [], ◌∷◌, ◌++◌, length}
 use Rattle.std.proofs.Common.{take, drop, codes, refl, ap, sym, ◌∙◌, arith, length-take, length-drop, Some, All}
 use Rattle.std.proofs.Common.{bytes_eq, if◌then◌else◌}
@@ -12,7 +13,6 @@ use Rattle.ans_model.specs.File.Refusals.{file_refusals, record_fault}
 use Rattle.ans_model.specs.File.Record.{comment_count}
 use Rattle.ans_model.specs.File.Layout.{content, after_content, is_end_mark}
 use Rattle.ans_model.specs.Laws.FileLaws.{IsFirstThatApplies}
-use Rattle.ans_model.proofs.Spelling.{both}
 use Rattle.ans_model.proofs.Layouts.{le_true}
 
 some_same : (f g : Fault) → Some f ≡ Some g → f ≡ g
@@ -47,20 +47,21 @@ found_first (r ∷ rs) f e = here r.applies (found_first rs f) refl e
           fault_is = more.fault_is;
         }
 
-skips : (earlier : List Refusal) (r : Refusal) (later : List Refusal)
+earlier_are_skipped : (earlier : List Refusal) (r : Refusal) (later : List Refusal)
     → All (λ (q : Refusal). IsFalse q.applies) earlier → IsTrue r.applies
     → first_refusal (earlier ++ r ∷ later) ≡ Some (fault_at r.offset r.cause)
-skips [] r later n a = rw a refl
-skips (e ∷ earlier) r later n a =
+earlier_are_skipped [] r later n a = rw a refl
+earlier_are_skipped (e ∷ earlier) r later n a =
     let no : e.applies ≡ false = All-head (λ (q : Refusal). IsFalse q.applies) e earlier n in
-    rw no (skips earlier r later (All-tail (λ (q : Refusal). IsFalse q.applies) e earlier n) a)
+    rw no (earlier_are_skipped earlier r later (All-tail (λ (q : Refusal). IsFalse q.applies) e earlier n) a)
 
 first_is : (rs : List Refusal) (f : Fault) → IsFirstThatApplies rs f → first_refusal rs ≡ Some f
-first_is rs f h = ap first_refusal h.whole ∙ skips h.earlier h.refusal h.later h.none_earlier h.applies
+first_is rs f h = ap first_refusal h.whole ∙ earlier_are_skipped h.earlier h.refusal h.later h.none_earlier h.applies
     ∙ ap (λ (v : Fault). Some v) (sym h.fault_is)
 
-pub first_law : (file : List ℕ) (f : Fault) → (record_fault file ≡ Some f) ↔ IsFirstThatApplies (file_refusals file) f
-first_law file f = (found_first (file_refusals file) f, first_is (file_refusals file) f)
+pub answers_first_that_applies : (file : List ℕ) (f : Fault) → (record_fault file ≡ Some f)
+    ↔ IsFirstThatApplies (file_refusals file) f
+answers_first_that_applies file f = (found_first (file_refusals file) f, first_is (file_refusals file) f)
 
 -- ---- offsets
 -- where each refusal's offset is within so many bytes, so is the fault's
@@ -99,10 +100,10 @@ file_within : (file : List ℕ) (b : Bool) → has_record file ≡ b
 file_within file false e = rw e (omega arith)
 file_within file true e =
     let long : 128 ≤ length file = le_true 128 (length file)
-    (both (nat_le 128 (length file)) (bytes_eq (take 5 (drop (length file - 128) file)) (codes "SAUCE")) e).0 in
+    (and_parts (nat_le 128 (length file)) (bytes_eq (take 5 (drop (length file - 128) file)) (codes "SAUCE")) e).0 in
     let front : length (take (length file - 128) file) + 128 ≡ length file = simp length-take (omega arith) in
     rw e (within_first (length file) (refusals (take (length file - 128) file) (drop (length file - 128) file))
     (refusals_within (length file) (take (length file - 128) file) (drop (length file - 128) file) front))
 
-pub within_law : (file : List ℕ) (f : Fault) → record_fault file ≡ Some f → f.offset ≤ length file
-within_law file f e = rw e at (file_within file (has_record file) refl)
+pub refusal_within_file : (file : List ℕ) (f : Fault) → record_fault file ≡ Some f → f.offset ≤ length file
+refusal_within_file file f e = rw e at (file_within file (has_record file) refl)

@@ -1,4 +1,5 @@
 -- A file is accepted exactly where it has no fault.
+use Rattle.std.proofs.lemmas.Bool.{and_from, and_parts}
 use Rattle.std.proofs.Common.{◌≡◌, ℕ, ◌+◌, ◌-◌, ◌*◌, ◌≤◌, Bool, true, false, not, ◌&&◌, ◌==◌, nat_lt, nat_le, List}
 use Rattle.std.proofs.Common.{[], ◌++◌, length, take, drop, codes, refl, ap, ap₂, sym, ◌∙◌, arith, append_assoc}
 use Rattle.std.proofs.Common.{length-append, length-drop, Option, Some, None, bytes_eq, if◌then◌else◌}
@@ -12,7 +13,6 @@ use Rattle.ans_model.specs.File.Record.{version_field, data_type, file_type, tin
 use Rattle.ans_model.specs.File.Layout.{FileParts, file_parts, Laid, comment_block, is_clean_end}
 use Rattle.ans_model.specs.File.Refusals.{first_refusal, block_size, has_block, has_record, refusals, record_fault}
 use Rattle.ans_model.specs.File.Refusals.{Accepts}
-use Rattle.ans_model.proofs.Spelling.{both}
 
 -- the first does not apply, and none behind it
 not_first : (b : Bool) (f : Fault) (r : Option Fault) → (if b then Some f else r) ≡ None → (b ≡ false) × (r ≡ None)
@@ -29,9 +29,6 @@ not_false false h = cc
 not_true : (b : Bool) → b ≡ true → not b ≡ false
 not_true true h = refl
 not_true false h = cc
-
-and_both_true : (a b : Bool) → a ≡ true → b ≡ true → (a && b) ≡ true
-and_both_true a b ha hb = rw (ha, hb) refl
 
 same_bytes : (a b : List ℕ) → bytes_eq a b ≡ true → a ≡ b
 same_bytes a b h = (bytes_eq-Decides a b).0 h
@@ -82,7 +79,7 @@ block_cut true n front e h =
 block_cut false n front e h =
     let at = length front - (5 + 64 * n) in
     let block = drop at front in
-    let t = both (nat_le (5 + 64 * n) (length front)) (bytes_eq (take 5 block) (codes "COMNT")) (rw e at h) in
+    let t = and_parts (nat_le (5 + 64 * n) (length front)) (bytes_eq (take 5 block) (codes "COMNT")) (rw e at h) in
     let fits : 5 + 64 * n ≤ length front = le_true (5 + 64 * n) (length front) t.0 in
     let id : take 5 block ≡ codes "COMNT" = same_bytes (take 5 block) (codes "COMNT") t.1 in
     record {
@@ -109,7 +106,7 @@ none_applies front record_bytes h =
     let t6 = not_first (nat_lt most_columns (tinfo 1 record_bytes)) _ _ t5.1 in
     let t7 = not_first (nat_lt most_lines (tinfo 2 record_bytes)) _ _ t6.1 in
     let t8 = not_first (not (is_clean_end body)) _ _ t7.1 in
-    let kinds = both (data_type record_bytes == 1) (file_type record_bytes == 1)
+    let kinds = and_parts (data_type record_bytes == 1) (file_type record_bytes == 1)
     (not_false (data_type record_bytes == 1 && file_type record_bytes == 1) t3.0) in (
       same_bytes (version_field record_bytes) (codes "00")
           (not_false (bytes_eq (version_field record_bytes) (codes "00")) t2.0),
@@ -130,7 +127,7 @@ accepted file h =
     let front = take at file in
     let n = comment_count record_bytes in
     let t1 = not_first (not (has_record file)) _ _ h in
-    let first = both (nat_le 128 (length file)) (bytes_eq (take 5 record_bytes) (codes "SAUCE"))
+    let first = and_parts (nat_le 128 (length file)) (bytes_eq (take 5 record_bytes) (codes "SAUCE"))
     (not_false (has_record file) t1.0) in
     let long : 128 ≤ length file = le_true 128 (length file) first.0 in
     let facts = none_applies front record_bytes t1.1 in
@@ -155,20 +152,20 @@ accepted file h =
       },
     )
 
--- the front of a file that is laid out: its block is found, and its body
+-- the front of a file that is laid out: its block is block_found, and its body
 record Found (n : ℕ) (body front : List ℕ) : Type 0 where
   has : has_block n front ≡ true
   body_is : take (length front - block_size n) front ≡ body
 
-found : (c : Bool) (n : ℕ) (body comment_bytes : List ℕ) → (n == 0) ≡ c → length comment_bytes ≡ 64 * n
+block_found : (c : Bool) (n : ℕ) (body comment_bytes : List ℕ) → (n == 0) ≡ c → length comment_bytes ≡ 64 * n
     → Found n body (body ++ comment_block n comment_bytes)
-found true n body comment_bytes e s =
+block_found true n body comment_bytes e s =
     let all : length body - 0 ≡ length body = omega arith in
     record {
       has = rw e;
       body_is = rw (e, append-nil) (ap (λ (v : ℕ). take v body) all ∙ take-length body);
     }
-found false n body comment_bytes e s =
+block_found false n body comment_bytes e s =
     let block = codes "COMNT" ++ comment_bytes in
     let size : length (body ++ block) ≡ length body + (5 + 64 * n) =
     length-append body block ∙ ap (λ (v : ℕ). length body + v) (omega (arith, s)) in
@@ -181,7 +178,7 @@ found false n body comment_bytes e s =
     equal_bytes (take 5 (drop (length (body ++ block) - (5 + 64 * n)) (body ++ block))) (codes "COMNT")
     (ap (λ (v : List ℕ). take 5 v) there) in
     record {
-      has = rw e (and_both_true (nat_le (5 + 64 * n) (length (body ++ block)))
+      has = rw e (and_from (nat_le (5 + 64 * n) (length (body ++ block)))
           (bytes_eq (take 5 (drop (length (body ++ block) - (5 + 64 * n)) (body ++ block))) (codes "COMNT")) fits id);
       body_is = rw e (ap (λ (v : ℕ). take v (body ++ block)) at ∙ take-append_seam body block);
     }
@@ -195,7 +192,7 @@ no_refusals file front parts h e =
     let comment_bytes = parts.comment_bytes in
     let record_bytes = parts.record_bytes in
     let n = comment_count record_bytes in
-    let f : Found n body front = rw e (found (n == 0) n body comment_bytes refl h.laid.comments) in
+    let f : Found n body front = rw e (block_found (n == 0) n body comment_bytes refl h.laid.comments) in
     let clean : is_clean_end (take (length front - block_size n) front) ≡ true =
     ap is_clean_end f.body_is ∙ h.clean_end in
     let t2 : not (bytes_eq (version_field record_bytes) (codes "00")) ≡ false =
@@ -203,7 +200,7 @@ no_refusals file front parts h e =
     (equal_bytes (version_field record_bytes) (codes "00") h.version_00) in
     let t3 : not (data_type record_bytes == 1 && file_type record_bytes == 1) ≡ false =
     not_true (data_type record_bytes == 1 && file_type record_bytes == 1)
-    (and_both_true (data_type record_bytes == 1) (file_type record_bytes == 1)
+    (and_from (data_type record_bytes == 1) (file_type record_bytes == 1)
     (eq_from (data_type record_bytes) 1 h.character) (eq_from (file_type record_bytes) 1 h.ansi)) in
     let t4 : not (has_block n front) ≡ false = not_true (has_block n front) f.has in
     let t5 : (tinfo 2 record_bytes == 0) ≡ false = nonzero_false (tinfo 2 record_bytes) h.lines_stated in
@@ -238,7 +235,7 @@ no_fault file parts h =
     equal_bytes (take 5 (drop (length file - 128) file)) (codes "SAUCE")
     (ap (λ (v : List ℕ). take 5 v) left ∙ h.laid.id) in
     let t1 : not (has_record file) ≡ false =
-    not_true (has_record file) (and_both_true (nat_le 128 (length file))
+    not_true (has_record file) (and_from (nat_le 128 (length file))
     (bytes_eq (take 5 (drop (length file - 128) file)) (codes "SAUCE")) long id) in
     rw t1 (ap₂ (λ (v w : List ℕ). first_refusal (refusals v w)) taken left ∙ no_refusals file front parts h refl)
 
@@ -285,8 +282,8 @@ one_layout file p q h g =
     let size : length q.comment_bytes ≡ 64 * n = g.comments ∙ ap (λ (v : ℕ). 64 * v) count in
     let fronts : p.body ++ comment_block n p.comment_bytes ≡ q.body ++ comment_block n q.comment_bytes =
     sym a.front_is ∙ b.front_is ∙ ap (λ (v : ℕ). q.body ++ comment_block v q.comment_bytes) count in
-    let one = (found (n == 0) n p.body p.comment_bytes refl h.comments).body_is in
-    let two = (found (n == 0) n q.body q.comment_bytes refl size).body_is in
+    let one = (block_found (n == 0) n p.body p.comment_bytes refl h.comments).body_is in
+    let two = (block_found (n == 0) n q.body q.comment_bytes refl size).body_is in
     let bodies : p.body ≡ q.body = sym one ∙ ap (λ (v : List ℕ). take (length v - block_size n) v) fronts ∙ two in
     let blocks : comment_block n p.comment_bytes ≡ comment_block n q.comment_bytes =
     append_cancel_left q.body (comment_block n p.comment_bytes) (comment_block n q.comment_bytes)

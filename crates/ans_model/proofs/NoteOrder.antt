@@ -2,12 +2,11 @@
 use Rattle.std.proofs.Common.{◌≡◌, ℕ, zero, suc, ◌+◌, Bool, true, false, ◌&&◌, nat_lt, List, [], ◌∷◌, ◌++◌, map, refl}
 use Rattle.std.proofs.Common.{arith}
 use Rattle.std.specs.List.Sorted.{IsStrictlyIncreasing}
-use Rattle.std.proofs.lemmas.Bool.{ltb-true}
+use Rattle.std.proofs.lemmas.Bool.{ltb-true, and_parts}
 use Rattle.ans_model.specs.declared.note.Note.TheVariants.{WidthAssumed, NoEndMark, SizeDiffers, OddDate, FlagBits}
 use Rattle.ans_model.specs.declared.note.Note.TheVariants.{FlagPair}
 use Rattle.ans_model.specs.File.Notes.{note_if, notes}
 use Rattle.ans_model.specs.Laws.FileLaws.{note_number}
-use Rattle.ans_model.proofs.Spelling.{both}
 
 abbrev rises : List ℕ → Bool
 rises [] = true
@@ -17,18 +16,18 @@ rises (x ∷ y ∷ xs) = nat_lt x y && rises (y ∷ xs)
 increasing : (xs : List ℕ) → rises xs ≡ true → IsStrictlyIncreasing xs
 increasing [] h k l = absurd (omega arith)
 increasing (x ∷ []) h k l = absurd (omega arith)
-increasing (x ∷ y ∷ xs) h zero l = ltb-true x y (both (nat_lt x y) (rises (y ∷ xs)) h).0
+increasing (x ∷ y ∷ xs) h zero l = ltb-true x y (and_parts (nat_lt x y) (rises (y ∷ xs)) h).0
 increasing (x ∷ y ∷ xs) h (suc k) l =
     let next : suc k + 1 ≡ suc (k + 1) = omega arith in
-    rw next (increasing (y ∷ xs) (both (nat_lt x y) (rises (y ∷ xs)) h).1 k (omega arith))
+    rw next (increasing (y ∷ xs) (and_parts (nat_lt x y) (rises (y ∷ xs)) h).1 k (omega arith))
 
--- a test of both truth values
+-- a test of and_parts truth values
 abbrev every : (Bool → Bool) → Bool
 every q = q true && q false
 
 every_at : (q : Bool → Bool) → every q ≡ true → (b : Bool) → q b ≡ true
-every_at q h true = (both (q true) (q false) h).0
-every_at q h false = (both (q true) (q false) h).1
+every_at q h true = (and_parts (q true) (q false) h).0
+every_at q h false = (and_parts (q true) (q false) h).1
 
 abbrev numbers : Bool → Bool → Bool → Bool → Bool → Bool → List ℕ
 numbers a b c d e f = map note_number (note_if a WidthAssumed ++ note_if b NoEndMark ++ note_if c SizeDiffers

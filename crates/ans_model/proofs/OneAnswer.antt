@@ -25,9 +25,10 @@ use Rattle.ans_model.specs.Verdict.FirstFault.{IsWhy, IsRefused, IsToBlame, IsFi
 use Rattle.ans_model.specs.Verdict.LastFault.{CellsDiffer, SameCell, IsBefore, IsFirstUnknown, EndsInSequence}
 use Rattle.ans_model.specs.Verdict.LastFault.{LeavesUnknown, IsLastFault}
 use Rattle.ans_model.specs.Verdict.Good.{Picture, Shows, PlaysWell, GoodWith, IsGood}
-use Rattle.ans_model.proofs.Reading.{token_law, token_nonempty, refused_no_token, refused_nonempty, reads_law}
+use Rattle.ans_model.proofs.Reading.{one_token_in_front, token_nonempty, refused_no_token, refused_nonempty}
+use Rattle.ans_model.proofs.Reading.{one_reading}
 use Rattle.ans_model.proofs.Reading.{spelled_no_front, unfinished_no_token, means_well}
-use Rattle.ans_model.proofs.Refusing.{refused_law, unfinished_broken}
+use Rattle.ans_model.proofs.Refusing.{one_cause_of_refused, unfinished_broken}
 use Rattle.ans_model.proofs.OneCause.{one_cause, certain_cause, cleared_is_one}
 use Rattle.ans_model.proofs.StartLemmas.{low_is_start}
 
@@ -46,7 +47,7 @@ readings_split (t ∷ ts) [] xs (b ∷ zs) x y h g e = absurd g
 readings_split (t ∷ ts) (u ∷ us) [] zs x y h g e = absurd h
 readings_split (t ∷ ts) (u ∷ us) (a ∷ xs) [] x y h g e = absurd g
 readings_split (t ∷ ts) (u ∷ us) (a ∷ xs) (b ∷ zs) x y h g e =
-    let s = token_law t u a b (concat xs ++ x) (concat zs ++ y) h.0 g.0
+    let s = one_token_in_front t u a b (concat xs ++ x) (concat zs ++ y) h.0 g.0
     (sym (append_assoc a (concat xs) x) ∙ e ∙ append_assoc b (concat zs) y) in
     elim (readings_split ts us xs zs x y h.1 g.1 s.2) [
       | inl w ↦ inl (w.0, w.1, w.2, ap₂ (λ (v : TokenKind) (l : List TokenKind). v ∷ l) (sym s.0) w.3, w.4)
@@ -110,17 +111,17 @@ module _ (z : Size) (class : Class) where
   faulty_law : (ts : List TokenKind) (text other x y : List ℕ) (c d : Cause) → Faulty ts text c → Faulty ts other d
       → text ++ x ≡ other ++ y → c ≡ d
   faulty_law ts text other x y c d (inl h) (inl g) e =
-      let s = token_law h.token g.token text other x y h.spelled g.spelled e in
+      let s = one_token_in_front h.token g.token text other x y h.spelled g.spelled e in
       one_cause z class ts h.token c d h.fault (subst (λ (t : TokenKind). HasFault z class ts t d) (sym s.0) g.fault)
   faulty_law ts text other x y c d (inl h) (inr g) e = absurd
       (refused_no_token h.token other text y x d g h.spelled (sym e))
   faulty_law ts text other x y c d (inr h) (inl g) e = absurd (refused_no_token g.token text other x y c h g.spelled e)
-  faulty_law ts text other x y c d (inr h) (inr g) e = refused_law text other x y c d h g e
+  faulty_law ts text other x y c d (inr h) (inr g) e = one_cause_of_refused text other x y c d h g e
 
   faulty_ends : (ts : List TokenKind) (t : TokenKind) (us : List TokenKind) (text a x y : List ℕ) (c : Cause)
       → IsClean z class (ts ++ t ∷ us) → SpellsToken t a → Faulty ts text c → text ++ x ≡ a ++ y → ⊥
   faulty_ends ts t us text a x y c clean g (inl h) e =
-      let s = token_law h.token t text a x y h.spelled g e in
+      let s = one_token_in_front h.token t text a x y h.spelled g e in
       clean_no_fault ts t us c clean (subst (λ (u : TokenKind). HasFault z class ts u c) s.0 h.fault)
   faulty_ends ts t us text a x y c clean g (inr h) e = refused_no_token t text a x y c h g e
 
@@ -293,7 +294,7 @@ module _ (z : Size) (class : Class) where
       absurd (nil_not_unfinished k.text (one_end bytes k.tokens h.tokens k.text [] (sequence_end bytes g k)
       (unknown_end bytes f h)).1 k.unfinished)
   one_last_fault bytes f g (inr h) (inr k) =
-      let same : k.tokens ≡ h.tokens = reads_law bytes k.tokens h.tokens k.reads h.reads in
+      let same : k.tokens ≡ h.tokens = one_reading bytes k.tokens h.tokens k.reads h.reads in
       let place : h.place ≡ k.place = one_unknown h.tokens h.place k.place h.first (rw same at k.first) in
       h.fault_is ∙ ap (λ (p : Position). fault_at (length bytes) (UnknownCell (p.row + 1) (p.column + 1))) place
       ∙ sym k.fault_is
@@ -334,7 +335,7 @@ module _ (z : Size) (class : Class) where
       nil_not_unfinished h.text (one_end bytes h.tokens g.tokens h.text [] (sequence_end bytes f h)
       (good_end bytes picture g)).1 h.unfinished
   good_or_last bytes f (picture, g) (inr h) =
-      let same : h.tokens ≡ g.tokens = reads_law bytes h.tokens g.tokens h.reads g.reads in
+      let same : h.tokens ≡ g.tokens = one_reading bytes h.tokens g.tokens h.reads g.reads in
       shows_known h.tokens picture h.place (rw (← same) at g.shows) h.first.stated h.first.differs
 
 -- ---- the one cleared start

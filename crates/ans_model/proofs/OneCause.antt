@@ -23,14 +23,14 @@ static_cause Tab = Some TabByte
 static_cause (Place row column) = Some OutsideScreen
 static_cause _ = None
 
-static_is : (z : Size) (t : TokenKind) (c : Cause) → HasStaticFault z t c → static_cause t ≡ Some c
+cause_of_static_fault : (z : Size) (t : TokenKind) (c : Cause) → HasStaticFault z t c → static_cause t ≡ Some c
 unfolding static_cause
-static_is z Keys KeyReassigned h = refl
-static_is z Mode ScreenMode h = refl
-static_is z Ask ReportAsked h = refl
-static_is z Tab TabByte h = refl
-static_is z (Place row column) OutsideScreen h = refl
-static_is z _ _ h = absurd h
+cause_of_static_fault z Keys KeyReassigned h = refl
+cause_of_static_fault z Mode ScreenMode h = refl
+cause_of_static_fault z Ask ReportAsked h = refl
+cause_of_static_fault z Tab TabByte h = refl
+cause_of_static_fault z (Place row column) OutsideScreen h = refl
+cause_of_static_fault z _ _ h = absurd h
 
 static_certain : (t : TokenKind) → IfSome (static_cause t) IsCertain
 unfolding static_cause
@@ -42,29 +42,30 @@ static_certain (Place row column) = tt
 static_certain _ = tt
 
 -- ---- faults that depend on what was played
-glyph_after : (z : Size) (class : Class) (played : List TokenKind) (byte : ℕ) (c : Cause)
+fault_of_glyph_after : (z : Size) (class : Class) (played : List TokenKind) (byte : ℕ) (c : Cause)
     → HasFaultAfter z class played (Glyph byte) c
     → ((c ≡ PrintUnknownPlace) × PositionsDiffer z class played) ⊎ ((c ≡ PrintBelow) × SamePosition z class played)
-glyph_after z class played byte PrintUnknownPlace h = inl (refl, h)
-glyph_after z class played byte PrintBelow h = inr (refl, h.0)
-glyph_after z class played byte _ h = absurd h
+fault_of_glyph_after z class played byte PrintUnknownPlace h = inl (refl, h)
+fault_of_glyph_after z class played byte PrintBelow h = inr (refl, h.0)
+fault_of_glyph_after z class played byte _ h = absurd h
 
-erase_after : (z : Size) (class : Class) (played : List TokenKind) (c : Cause)
+fault_of_erasing_after : (z : Size) (class : Class) (played : List TokenKind) (c : Cause)
     → HasFaultAfter z class played EraseLine c → (c ≡ EraseUnknownPlace) × PositionsDiffer z class played
-erase_after z class played EraseUnknownPlace h = (refl, h)
-erase_after z class played _ h = absurd h
+fault_of_erasing_after z class played EraseUnknownPlace h = (refl, h)
+fault_of_erasing_after z class played _ h = absurd h
 
 -- from some starts the cursor stands in the spare row, from others it does not
 abbrev MayStandInSpareRow : Size → Class → List TokenKind → Type 0
 MayStandInSpareRow z class played = FromSome z class (IsInSpareRow z played)
     × FromSome z class (λ s. ¬ IsInSpareRow z played s)
 
-feed_after : (z : Size) (class : Class) (played : List TokenKind) (c : Cause) → HasFaultAfter z class played LineFeed c
+fault_of_line_feed_after : (z : Size) (class : Class) (played : List TokenKind) (c : Cause)
+    → HasFaultAfter z class played LineFeed c
     → ((c ≡ Scrolls) × FromEvery z class (IsInSpareRow z played))
     ⊎ ((c ≡ MayScroll) × MayStandInSpareRow z class played)
-feed_after z class played Scrolls h = inl (refl, h)
-feed_after z class played MayScroll h = inr (refl, h)
-feed_after z class played _ h = absurd h
+fault_of_line_feed_after z class played Scrolls h = inl (refl, h)
+fault_of_line_feed_after z class played MayScroll h = inr (refl, h)
+fault_of_line_feed_after z class played _ h = absurd h
 
 -- what has such a fault has no static one
 after_not_static : (z : Size) (class : Class) (played : List TokenKind) (t : TokenKind) (c : Cause)
@@ -76,58 +77,63 @@ after_not_static z class played LineFeed c h = refl
 after_not_static z class played _ c h = absurd h
 
 -- ---- one cause
-places_clash : (z : Size) (class : Class) (played : List TokenKind) → PositionsDiffer z class played
+not_same_and_different_position : (z : Size) (class : Class) (played : List TokenKind) → PositionsDiffer z class played
     → SamePosition z class played → ⊥
-places_clash z class played h g = h.4 (g h.0 h.1 h.2 h.3)
+not_same_and_different_position z class played h g = h.4 (g h.0 h.1 h.2 h.3)
 
-rows_clash : (z : Size) (class : Class) (played : List TokenKind) → FromEvery z class (IsInSpareRow z played)
+not_always_and_sometimes_in_spare_row : (z : Size) (class : Class) (played : List TokenKind)
+    → FromEvery z class (IsInSpareRow z played)
     → MayStandInSpareRow z class played → ⊥
-rows_clash z class played h g = g.1.2 (h g.1.0 g.1.1)
+not_always_and_sometimes_in_spare_row z class played h g = g.1.2 (h g.1.0 g.1.1)
 
 one_glyph_cause : (z : Size) (class : Class) (played : List TokenKind) (c d : Cause)
     → ((c ≡ PrintUnknownPlace) × PositionsDiffer z class played) ⊎ ((c ≡ PrintBelow) × SamePosition z class played)
     → ((d ≡ PrintUnknownPlace) × PositionsDiffer z class played) ⊎ ((d ≡ PrintBelow) × SamePosition z class played)
     → c ≡ d
 one_glyph_cause z class played c d (inl h) (inl g) = h.0 ∙ sym g.0
-one_glyph_cause z class played c d (inl h) (inr g) = absurd (places_clash z class played h.1 g.1)
-one_glyph_cause z class played c d (inr h) (inl g) = absurd (places_clash z class played g.1 h.1)
+one_glyph_cause z class played c d (inl h) (inr g) = absurd (not_same_and_different_position z class played h.1 g.1)
+one_glyph_cause z class played c d (inr h) (inl g) = absurd (not_same_and_different_position z class played g.1 h.1)
 one_glyph_cause z class played c d (inr h) (inr g) = h.0 ∙ sym g.0
 
-one_feed_cause : (z : Size) (class : Class) (played : List TokenKind) (c d : Cause)
+one_line_feed_cause : (z : Size) (class : Class) (played : List TokenKind) (c d : Cause)
     → ((c ≡ Scrolls) × FromEvery z class (IsInSpareRow z played))
     ⊎ ((c ≡ MayScroll) × MayStandInSpareRow z class played)
     → ((d ≡ Scrolls) × FromEvery z class (IsInSpareRow z played))
     ⊎ ((d ≡ MayScroll) × MayStandInSpareRow z class played)
     → c ≡ d
-one_feed_cause z class played c d (inl h) (inl g) = h.0 ∙ sym g.0
-one_feed_cause z class played c d (inl h) (inr g) = absurd (rows_clash z class played h.1 g.1)
-one_feed_cause z class played c d (inr h) (inl g) = absurd (rows_clash z class played g.1 h.1)
-one_feed_cause z class played c d (inr h) (inr g) = h.0 ∙ sym g.0
+one_line_feed_cause z class played c d (inl h) (inl g) = h.0 ∙ sym g.0
+one_line_feed_cause z class played c d (inl h) (inr g) = absurd
+    (not_always_and_sometimes_in_spare_row z class played h.1 g.1)
+one_line_feed_cause z class played c d (inr h) (inl g) = absurd
+    (not_always_and_sometimes_in_spare_row z class played g.1 h.1)
+one_line_feed_cause z class played c d (inr h) (inr g) = h.0 ∙ sym g.0
 
 one_cause_after : (z : Size) (class : Class) (played : List TokenKind) (t : TokenKind) (c d : Cause)
     → HasFaultAfter z class played t c → HasFaultAfter z class played t d → c ≡ d
 one_cause_after z class played (Glyph byte) c d h g = one_glyph_cause z class played c d
-    (glyph_after z class played byte c h) (glyph_after z class played byte d g)
-one_cause_after z class played EraseLine c d h g = (erase_after z class played c h).0
-    ∙ sym (erase_after z class played d g).0
-one_cause_after z class played LineFeed c d h g = one_feed_cause z class played c d (feed_after z class played c h)
-    (feed_after z class played d g)
+    (fault_of_glyph_after z class played byte c h) (fault_of_glyph_after z class played byte d g)
+one_cause_after z class played EraseLine c d h g = (fault_of_erasing_after z class played c h).0
+    ∙ sym (fault_of_erasing_after z class played d g).0
+one_cause_after z class played LineFeed c d h g = one_line_feed_cause z class played c d
+    (fault_of_line_feed_after z class played c h)
+    (fault_of_line_feed_after z class played d g)
 one_cause_after z class played _ c d h g = absurd h
 
-both_kinds : (z : Size) (class : Class) (played : List TokenKind) (t : TokenKind) (c d : Cause) → HasStaticFault z t c
+static_or_after_not_both : (z : Size) (class : Class) (played : List TokenKind) (t : TokenKind) (c d : Cause)
+    → HasStaticFault z t c
     → HasFaultAfter z class played t d → ⊥
-both_kinds z class played t c d h g =
-    let apart : Some c ≡ None = sym (static_is z t c h) ∙ after_not_static z class played t d g in
+static_or_after_not_both z class played t c d h g =
+    let apart : Some c ≡ None = sym (cause_of_static_fault z t c h) ∙ after_not_static z class played t d g in
     cc
 
 -- A token has one fault at most.
 pub one_cause : (z : Size) (class : Class) (played : List TokenKind) (t : TokenKind) (c d : Cause)
     → HasFault z class played t c → HasFault z class played t d → c ≡ d
 one_cause z class played t c d (inl h) (inl g) =
-    let same : Some c ≡ Some d = sym (static_is z t c h) ∙ static_is z t d g in
+    let same : Some c ≡ Some d = sym (cause_of_static_fault z t c h) ∙ cause_of_static_fault z t d g in
     cc
-one_cause z class played t c d (inl h) (inr g) = absurd (both_kinds z class played t c d h g)
-one_cause z class played t c d (inr h) (inl g) = absurd (both_kinds z class played t d c g h)
+one_cause z class played t c d (inl h) (inr g) = absurd (static_or_after_not_both z class played t c d h g)
+one_cause z class played t c d (inr h) (inl g) = absurd (static_or_after_not_both z class played t d c g h)
 one_cause z class played t c d (inr h) (inr g) = one_cause_after z class played t c d h g
 
 -- ---- the one cleared start
@@ -142,28 +148,31 @@ cleared_is_one z s t h g = is_cleared s h ∙ sym (is_cleared t g)
     is_cleared r k = state_path r (cleared z) (k.screen refl) (k.cursor refl) (k.saved refl) (k.attribute refl)
         (k.wrap refl)
 
-same_places : (z : Size) (played : List TokenKind) → PositionsDiffer z (class_of Cleared) played → ⊥
-same_places z played h = h.4 (ap (λ (s : State). (final z s played).cursor) (cleared_is_one z h.0 h.1 h.2 h.3))
+cleared_start_has_one_position : (z : Size) (played : List TokenKind) → PositionsDiffer z (class_of Cleared) played → ⊥
+cleared_start_has_one_position z played h =
+    h.4 (ap (λ (s : State). (final z s played).cursor) (cleared_is_one z h.0 h.1 h.2 h.3))
 
-same_rows : (z : Size) (played : List TokenKind) → MayStandInSpareRow z (class_of Cleared) played → ⊥
-same_rows z played h = h.1.2 (subst (IsInSpareRow z played) (cleared_is_one z h.0.0 h.1.0 h.0.1 h.1.1) h.0.2)
+cleared_start_has_one_row : (z : Size) (played : List TokenKind) → MayStandInSpareRow z (class_of Cleared) played → ⊥
+cleared_start_has_one_row z played h = h.1.2
+    (subst (IsInSpareRow z played) (cleared_is_one z h.0.0 h.1.0 h.0.1 h.1.1) h.0.2)
 
 certain_after : (z : Size) (played : List TokenKind) (t : TokenKind) (c : Cause)
     → HasFaultAfter z (class_of Cleared) played t c → IsCertain c
-certain_after z played (Glyph byte) c h = elim (glyph_after z (class_of Cleared) played byte c h) [
-  | inl g ↦ absurd (same_places z played g.1)
+certain_after z played (Glyph byte) c h = elim (fault_of_glyph_after z (class_of Cleared) played byte c h) [
+  | inl g ↦ absurd (cleared_start_has_one_position z played g.1)
   | inr g ↦ rw g.0 tt
 ]
-certain_after z played EraseLine c h = absurd (same_places z played (erase_after z (class_of Cleared) played c h).1)
-certain_after z played LineFeed c h = elim (feed_after z (class_of Cleared) played c h) [
+certain_after z played EraseLine c h = absurd
+    (cleared_start_has_one_position z played (fault_of_erasing_after z (class_of Cleared) played c h).1)
+certain_after z played LineFeed c h = elim (fault_of_line_feed_after z (class_of Cleared) played c h) [
   | inl g ↦ rw g.0 tt
-  | inr g ↦ absurd (same_rows z played g.1)
+  | inr g ↦ absurd (cleared_start_has_one_row z played g.1)
 ]
 certain_after z played _ c h = absurd h
 
 -- From the one cleared start a token's fault is certain.
 pub static_is_certain : (z : Size) (t : TokenKind) (c : Cause) → HasStaticFault z t c → IsCertain c
-static_is_certain z t c h = rw (static_is z t c h) at (static_certain t)
+static_is_certain z t c h = rw (cause_of_static_fault z t c h) at (static_certain t)
 
 pub certain_cause : (z : Size) (played : List TokenKind) (t : TokenKind) (c : Cause)
     → HasFault z (class_of Cleared) played t c → IsCertain c

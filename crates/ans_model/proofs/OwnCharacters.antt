@@ -1,11 +1,10 @@
--- A byte above 00h is found again from its character: a test of each.
+-- A byte above 00h is byte_of_its_character again from its character: a test of each.
 use Rattle.std.proofs.Common.{◌≡◌, ℕ, zero, suc, ◌+◌, ◌<◌, Bool, true, false, ◌&&◌, ◌||◌, ◌==◌, nat_lt, List, [], ◌∷◌}
 use Rattle.std.proofs.Common.{refl, ap, sym, ◌∙◌, inl, inr, arith}
 use Rattle.std.specs.Prelude.{if◌then◌else◌}
-use Rattle.std.proofs.lemmas.Bool.{cases_eq}
+use Rattle.std.proofs.lemmas.Bool.{cases_eq, and_parts}
 use Rattle.std.proofs.lemmas.Bool.Decides.{nat_tests}
 use Rattle.ans_model.specs.Text.Characters.{low_glyphs, high_glyphs, glyph_text}
-use Rattle.ans_model.proofs.Spelling.{both}
 
 abbrev place_in : List ℕ → ℕ → ℕ
 place_in [] c = 0
@@ -26,8 +25,8 @@ all_below p (suc n) = p n && all_below p n
 below_at : (p : ℕ → Bool) (n b : ℕ) → all_below p n ≡ true → b < n → p b ≡ true
 below_at p zero b h l = absurd (omega arith)
 below_at p (suc n) b h l = elim (cases_eq b n) [
-  | inl e ↦ ap p e ∙ (both (p n) (all_below p n) h).0
-  | inr ne ↦ below_at p n b (both (p n) (all_below p n) h).1 (omega arith)
+  | inl e ↦ ap p e ∙ (and_parts (p n) (all_below p n) h).0
+  | inr ne ↦ below_at p n b (and_parts (p n) (all_below p n) h).1 (omega arith)
 ]
 
 is_found : ℕ → Bool
@@ -37,9 +36,9 @@ all_found : all_below is_found 256 ≡ true
 unfolding is_found
 all_found = refl
 
-found : (b : ℕ) → is_found b ≡ true → 0 < b → byte_of (glyph_text b) ≡ b
+byte_of_its_character : (b : ℕ) → is_found b ≡ true → 0 < b → byte_of (glyph_text b) ≡ b
 unfolding is_found
-found b h l = by_test (b == 0) (byte_of (glyph_text b) == b) refl h
+byte_of_its_character b h l = by_test (b == 0) (byte_of (glyph_text b) == b) refl h
   where
     same : (x : ℕ) → (x == b) ≡ true → x ≡ b
     same x e = grind (arith, nat_tests)
@@ -52,7 +51,7 @@ found b h l = by_test (b == 0) (byte_of (glyph_text b) == b) refl h
     by_test false q e k = same (byte_of (glyph_text b)) k
 
 byte_back : (b : ℕ) → b < 256 → 0 < b → byte_of (glyph_text b) ≡ b
-byte_back b h l = found b (below_at is_found 256 b all_found h) l
+byte_back b h l = byte_of_its_character b (below_at is_found 256 b all_found h) l
 
-pub glyph_law : (b c : ℕ) → b < 256 → c < 256 → 0 < b → 0 < c → glyph_text b ≡ glyph_text c → b ≡ c
-glyph_law b c hb hc lb lc e = sym (byte_back b hb lb) ∙ ap byte_of e ∙ byte_back c hc lc
+pub own_character : (b c : ℕ) → b < 256 → c < 256 → 0 < b → 0 < c → glyph_text b ≡ glyph_text c → b ≡ c
+own_character b c hb hc lb lc e = sym (byte_back b hb lb) ∙ ap byte_of e ∙ byte_back c hc lc

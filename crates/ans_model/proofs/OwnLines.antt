@@ -24,7 +24,7 @@ use Rattle.ans_model.specs.declared.note.Note.TheVariants.{WidthAssumed, NoEndMa
 use Rattle.ans_model.specs.declared.note.Note.TheVariants.{FlagPair}
 use Rattle.ans_model.specs.Text.FaultText.{fault_text, place_text, fault_line, note_line}
 use Rattle.ans_model.specs.Laws.LineLaws.{FitsTypes, PlaceFitsTypes, IsUnknownCell}
-use Rattle.ans_model.proofs.Spelling.{tail_of, run_law}
+use Rattle.ans_model.proofs.Spelling.{tail_of, one_run_before_stop}
 
 -- ---- numbers
 abbrev is_digit : ℕ → Bool
@@ -35,10 +35,11 @@ all_digits [] h = refl
 all_digits (d ∷ ds) h = rw (lt-ltb (digit_value d) 10 h.0) (all_digits ds h.1)
 
 -- two numbers at the front of one text, each before what is no digit
-number_law : (m n c d : ℕ) (x y : List ℕ) → m < 2 ^ 64 → n < 2 ^ 64 → is_digit c ≡ false → is_digit d ≡ false
+one_number_in_front : (m n c d : ℕ) (x y : List ℕ) → m < 2 ^ 64 → n < 2 ^ 64 → is_digit c ≡ false → is_digit d ≡ false
     → decimal m ++ c ∷ x ≡ decimal n ++ d ∷ y → (m ≡ n) × (x ≡ y)
-number_law m n c d x y hm hn hc hd e =
-    let h = run_law is_digit (decimal m) (decimal n) c d x y (all_digits (decimal m) (decimal_is_IsNumeral m hm).0.1)
+one_number_in_front m n c d x y hm hn hc hd e =
+    let h = one_run_before_stop is_digit (decimal m) (decimal n) c d x y
+    (all_digits (decimal m) (decimal_is_IsNumeral m hm).0.1)
     (all_digits (decimal n) (decimal_is_IsNumeral n hn).0.1) hc hd e in
     (decimal_injective m n hm hn h.0, h.2)
 
@@ -136,35 +137,35 @@ record IsPlain (c : Cause) : Type 0 where
   low : fault_number c < 25
   same : cause_of (fault_number c) ≡ c
 
-plain : (c : Cause) → fault_number c < 25 → cause_of (fault_number c) ≡ c → IsPlain c ⊎ IsUnknownCell c
-plain c l e = inl (record { low = l; same = e })
+is_plain : (c : Cause) → fault_number c < 25 → cause_of (fault_number c) ≡ c → IsPlain c ⊎ IsUnknownCell c
+is_plain c l e = inl (record { low = l; same = e })
 
-kind : (c : Cause) → IsPlain c ⊎ IsUnknownCell c
-kind (UnknownCell row col) = inr (row, col, refl)
-kind NoRecord = plain NoRecord (omega arith) refl
-kind WrongVersion = plain WrongVersion (omega arith) refl
-kind WrongKind = plain WrongKind (omega arith) refl
-kind CommentsMissing = plain CommentsMissing (omega arith) refl
-kind LinesUnstated = plain LinesUnstated (omega arith) refl
-kind WidthTooLarge = plain WidthTooLarge (omega arith) refl
-kind LinesTooLarge = plain LinesTooLarge (omega arith) refl
-kind BytesAfterEndMark = plain BytesAfterEndMark (omega arith) refl
-kind BrokenSequence = plain BrokenSequence (omega arith) refl
-kind NumberTooLarge = plain NumberTooLarge (omega arith) refl
-kind TooManyParameters = plain TooManyParameters (omega arith) refl
-kind EndInSequence = plain EndInSequence (omega arith) refl
-kind UnknownSequence = plain UnknownSequence (omega arith) refl
-kind WrongParameters = plain WrongParameters (omega arith) refl
-kind KeyReassigned = plain KeyReassigned (omega arith) refl
-kind ScreenMode = plain ScreenMode (omega arith) refl
-kind ReportAsked = plain ReportAsked (omega arith) refl
-kind TabByte = plain TabByte (omega arith) refl
-kind OutsideScreen = plain OutsideScreen (omega arith) refl
-kind PrintBelow = plain PrintBelow (omega arith) refl
-kind Scrolls = plain Scrolls (omega arith) refl
-kind PrintUnknownPlace = plain PrintUnknownPlace (omega arith) refl
-kind EraseUnknownPlace = plain EraseUnknownPlace (omega arith) refl
-kind MayScroll = plain MayScroll (omega arith) refl
+plain_or_unknown_cell : (c : Cause) → IsPlain c ⊎ IsUnknownCell c
+plain_or_unknown_cell (UnknownCell row col) = inr (row, col, refl)
+plain_or_unknown_cell NoRecord = is_plain NoRecord (omega arith) refl
+plain_or_unknown_cell WrongVersion = is_plain WrongVersion (omega arith) refl
+plain_or_unknown_cell WrongKind = is_plain WrongKind (omega arith) refl
+plain_or_unknown_cell CommentsMissing = is_plain CommentsMissing (omega arith) refl
+plain_or_unknown_cell LinesUnstated = is_plain LinesUnstated (omega arith) refl
+plain_or_unknown_cell WidthTooLarge = is_plain WidthTooLarge (omega arith) refl
+plain_or_unknown_cell LinesTooLarge = is_plain LinesTooLarge (omega arith) refl
+plain_or_unknown_cell BytesAfterEndMark = is_plain BytesAfterEndMark (omega arith) refl
+plain_or_unknown_cell BrokenSequence = is_plain BrokenSequence (omega arith) refl
+plain_or_unknown_cell NumberTooLarge = is_plain NumberTooLarge (omega arith) refl
+plain_or_unknown_cell TooManyParameters = is_plain TooManyParameters (omega arith) refl
+plain_or_unknown_cell EndInSequence = is_plain EndInSequence (omega arith) refl
+plain_or_unknown_cell UnknownSequence = is_plain UnknownSequence (omega arith) refl
+plain_or_unknown_cell WrongParameters = is_plain WrongParameters (omega arith) refl
+plain_or_unknown_cell KeyReassigned = is_plain KeyReassigned (omega arith) refl
+plain_or_unknown_cell ScreenMode = is_plain ScreenMode (omega arith) refl
+plain_or_unknown_cell ReportAsked = is_plain ReportAsked (omega arith) refl
+plain_or_unknown_cell TabByte = is_plain TabByte (omega arith) refl
+plain_or_unknown_cell OutsideScreen = is_plain OutsideScreen (omega arith) refl
+plain_or_unknown_cell PrintBelow = is_plain PrintBelow (omega arith) refl
+plain_or_unknown_cell Scrolls = is_plain Scrolls (omega arith) refl
+plain_or_unknown_cell PrintUnknownPlace = is_plain PrintUnknownPlace (omega arith) refl
+plain_or_unknown_cell EraseUnknownPlace = is_plain EraseUnknownPlace (omega arith) refl
+plain_or_unknown_cell MayScroll = is_plain MayScroll (omega arith) refl
 
 text_cases : (c d : Cause) → fault_number c ≡ fault_number d → IsPlain c ⊎ IsUnknownCell c
     → IsPlain d ⊎ IsUnknownCell d → (c ≡ d) ⊎ (IsUnknownCell c × IsUnknownCell d)
@@ -173,11 +174,11 @@ text_cases c d e (inl p) (inr q) = absurd (omega (arith, p.low, e ∙ ap fault_n
 text_cases c d e (inr p) (inl q) = absurd (omega (arith, q.low, sym e ∙ ap fault_number p.2))
 text_cases c d e (inr p) (inr q) = inr (p, q)
 
-pub text_law : (c d : Cause) → fault_text c ≡ fault_text d → (c ≡ d) ⊎ (IsUnknownCell c × IsUnknownCell d)
-text_law c d e =
+pub text_tells_cause : (c d : Cause) → fault_text c ≡ fault_text d → (c ≡ d) ⊎ (IsUnknownCell c × IsUnknownCell d)
+text_tells_cause c d e =
     let same : fault_number c ≡ fault_number d = sym (text_number c [])
     ∙ ap (λ (v : List ℕ). number_on 0 (drop 1 (v ++ []))) e ∙ text_number d [] in
-    text_cases c d same (kind c) (kind d)
+    text_cases c d same (plain_or_unknown_cell c) (plain_or_unknown_cell d)
 
 abbrev whole_text : Cause → List ℕ
 whole_text c = fault_text c ++ place_text c
@@ -186,41 +187,43 @@ same_number : (c d : Cause) → whole_text c ≡ whole_text d → fault_number c
 same_number c d e = sym (text_number c (place_text c)) ∙ ap (λ (v : List ℕ). number_on 0 (drop 1 v)) e
     ∙ text_number d (place_text d)
 
-place_law : (row col row' col' : ℕ) → PlaceFitsTypes (UnknownCell row col) → PlaceFitsTypes (UnknownCell row' col')
+text_tells_position : (row col row' col' : ℕ) → PlaceFitsTypes (UnknownCell row col)
+    → PlaceFitsTypes (UnknownCell row' col')
     → whole_text (UnknownCell row col) ≡ whole_text (UnknownCell row' col')
     → UnknownCell row col ≡ UnknownCell row' col'
-place_law row col row' col' h g e =
-    let rows = number_law row row' 0x2C 0x2C (codes " column " ++ (decimal col ++ codes ")"))
+text_tells_position row col row' col' h g e =
+    let rows = one_number_in_front row row' 0x2C 0x2C (codes " column " ++ (decimal col ++ codes ")"))
     (codes " column " ++ (decimal col' ++ codes ")")) (omega (arith, h.0)) (omega (arith, g.0)) refl refl
     (append_cancel_left (codes "F25 cell stays unknown (row ")
     (decimal row ++ (codes ", column " ++ (decimal col ++ codes ")")))
     (decimal row' ++ (codes ", column " ++ (decimal col' ++ codes ")"))) e) in
-    let cols = number_law col col' 0x29 0x29 [] [] (omega (arith, h.1)) (omega (arith, g.1)) refl refl
+    let cols = one_number_in_front col col' 0x29 0x29 [] [] (omega (arith, h.1)) (omega (arith, g.1)) refl refl
     (append_cancel_left (codes " column ") (decimal col ++ codes ")") (decimal col' ++ codes ")") rows.1) in
     ap₂ UnknownCell rows.0 cols.0
 
-cause_law : (c d : Cause) → PlaceFitsTypes c → PlaceFitsTypes d → whole_text c ≡ whole_text d → c ≡ d
-cause_law c d h g e = elim (text_cases c d (same_number c d e) (kind c) (kind d)) [
-  | inl same ↦ same
-  | inr (p, q) ↦ p.2 ∙ place_law p.0 p.1 q.0 q.1 (rw p.2 at h) (rw q.2 at g)
-      (ap whole_text (sym p.2) ∙ e ∙ ap whole_text q.2) ∙ sym q.2
-]
+whole_text_tells_cause : (c d : Cause) → PlaceFitsTypes c → PlaceFitsTypes d → whole_text c ≡ whole_text d → c ≡ d
+whole_text_tells_cause c d h g e =
+    elim (text_cases c d (same_number c d e) (plain_or_unknown_cell c) (plain_or_unknown_cell d)) [
+      | inl same ↦ same
+      | inr (p, q) ↦ p.2 ∙ text_tells_position p.0 p.1 q.0 q.1 (rw p.2 at h) (rw q.2 at g)
+          (ap whole_text (sym p.2) ∙ e ∙ ap whole_text q.2) ∙ sym q.2
+    ]
 
 fault_path : (f g : Fault) → f.offset ≡ g.offset → f.cause ≡ g.cause → f ≡ g
 fault_path f g o c = λ i. record { offset = o i; cause = c i }
 
-pub fault_law : (f g : Fault) → FitsTypes f → FitsTypes g → fault_line f ≡ fault_line g → f ≡ g
-fault_law f g hf hg e =
+pub line_tells_fault : (f g : Fault) → FitsTypes f → FitsTypes g → fault_line f ≡ fault_line g → f ≡ g
+line_tells_fault f g hf hg e =
     let line : (h : Fault) → (decimal h.offset ++ (codes ": " ++ whole_text h.cause)) ++ 0x0A ∷ [] ≡ decimal h.offset
     ++ (codes ": " ++ (whole_text h.cause ++ 0x0A ∷ []))
     = λ h. append_assoc (decimal h.offset) (codes ": " ++ whole_text h.cause) (0x0A ∷ []) in
     let s : (decimal f.offset ++ (codes ": " ++ whole_text f.cause)) ++ 0x0A
     ∷ [] ≡ (decimal g.offset ++ (codes ": " ++ whole_text g.cause)) ++ 0x0A ∷ [] = tail_of (tail_of (tail_of e)) in
-    let offsets = number_law f.offset g.offset 0x3A 0x3A (0x20 ∷ (whole_text f.cause ++ 0x0A ∷ []))
+    let offsets = one_number_in_front f.offset g.offset 0x3A 0x3A (0x20 ∷ (whole_text f.cause ++ 0x0A ∷ []))
     (0x20 ∷ (whole_text g.cause ++ 0x0A ∷ [])) hf.offset hg.offset refl refl (sym (line f) ∙ s ∙ line g) in
     let texts : whole_text f.cause ≡ whole_text g.cause = append_cancel_right (whole_text f.cause)
     (whole_text g.cause) (0x0A ∷ []) (tail_of offsets.1) in
-    fault_path f g offsets.0 (cause_law f.cause g.cause hf.place hg.place texts)
+    fault_path f g offsets.0 (whole_text_tells_cause f.cause g.cause hf.place hg.place texts)
 
 -- ---- notes
 abbrev note_of : List ℕ → Note
@@ -240,5 +243,5 @@ note_back OddDate = refl
 note_back FlagBits = refl
 note_back FlagPair = refl
 
-pub note_law : (m n : Note) → note_line m ≡ note_line n → m ≡ n
-note_law m n e = sym (note_back m) ∙ ap note_of e ∙ note_back n
+pub line_tells_note : (m n : Note) → note_line m ≡ note_line n → m ≡ n
+line_tells_note m n e = sym (note_back m) ∙ ap note_of e ∙ note_back n

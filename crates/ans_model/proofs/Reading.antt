@@ -35,21 +35,21 @@ pub byte_not_sequence : (b : ℕ) (a x y : List ℕ) (r : Raw) → b ≢ escape 
 byte_not_sequence b a x y r n h e = n (ap (first_or 0) e ∙ sequence_first r a y h ∙ refl)
 
 -- two tokens at the front of one list are the same
-pub token_law : (t u : TokenKind) (a b x y : List ℕ) → SpellsToken t a → SpellsToken u b → a ++ x ≡ b ++ y
+pub one_token_in_front : (t u : TokenKind) (a b x y : List ℕ) → SpellsToken t a → SpellsToken u b → a ++ x ≡ b ++ y
     → (t ≡ u) × (a ≡ b) × (x ≡ y)
-token_law t u a b x y (inl h) (inl g) e =
+one_token_in_front t u a b x y (inl h) (inl g) e =
     let s : h.byte ∷ x ≡ g.byte ∷ y = ap (λ (v : List ℕ). v ++ x) (sym h.whole) ∙ e
     ∙ ap (λ (v : List ℕ). v ++ y) g.whole in (
       h.means ∙ ap kind_of_byte (head_of s) ∙ sym g.means,
       h.whole ∙ ap (λ (v : ℕ). v ∷ []) (head_of s) ∙ sym g.whole,
       tail_of s,
     )
-token_law t u a b x y (inl h) (inr g) e =
+one_token_in_front t u a b x y (inl h) (inr g) e =
     absurd (byte_not_sequence h.byte b x y g.raw h.not_escape g.spelled (ap (λ (v : List ℕ). v ++ x) (sym h.whole) ∙ e))
-token_law t u a b x y (inr h) (inl g) e =
+one_token_in_front t u a b x y (inr h) (inl g) e =
     absurd (byte_not_sequence g.byte a y x h.raw g.not_escape h.spelled
     (ap (λ (v : List ℕ). v ++ y) (sym g.whole) ∙ sym e))
-token_law t u a b x y (inr h) (inr g) e =
+one_token_in_front t u a b x y (inr h) (inr g) e =
     let s = one_spelling_in_front h.raw g.raw a b x y h.spelled.loose g.spelled.loose e in
     let means : Ok t ≡ Ok u = sym h.means ∙ ap meaning s.0 ∙ g.means in
     (cc means, s.1, s.2)
@@ -62,33 +62,34 @@ token_nonempty t a x (inr h) e =
     let s : ◌≡◌ {A = ℕ} escape 0 = sym (sequence_first h.raw a x h.spelled) ∙ ap (first_or 0) e in
     omega arith
 
-texts_law : (ts us : List TokenKind) (xs zs : List (List ℕ)) → AllZip SpellsToken ts xs → AllZip SpellsToken us zs
+one_list_of_texts : (ts us : List TokenKind) (xs zs : List (List ℕ)) → AllZip SpellsToken ts xs
+    → AllZip SpellsToken us zs
     → concat xs ≡ concat zs → ts ≡ us
-texts_law [] [] xs zs h g e = refl
-texts_law [] (u ∷ us) [] [] h g e = absurd g
-texts_law [] (u ∷ us) [] (b ∷ zs) h g e = absurd (token_nonempty u b (concat zs) g.0 (sym e))
-texts_law [] (u ∷ us) (a ∷ xs) zs h g e = absurd h
-texts_law (t ∷ ts) [] [] zs h g e = absurd h
-texts_law (t ∷ ts) [] (a ∷ xs) [] h g e = absurd (token_nonempty t a (concat xs) h.0 e)
-texts_law (t ∷ ts) [] (a ∷ xs) (b ∷ zs) h g e = absurd g
-texts_law (t ∷ ts) (u ∷ us) [] zs h g e = absurd h
-texts_law (t ∷ ts) (u ∷ us) (a ∷ xs) [] h g e = absurd g
-texts_law (t ∷ ts) (u ∷ us) (a ∷ xs) (b ∷ zs) h g e =
-    let s = token_law t u a b (concat xs) (concat zs) h.0 g.0 e in
-    ap₂ (λ (v : TokenKind) (w : List TokenKind). v ∷ w) s.0 (texts_law ts us xs zs h.1 g.1 s.2)
+one_list_of_texts [] [] xs zs h g e = refl
+one_list_of_texts [] (u ∷ us) [] [] h g e = absurd g
+one_list_of_texts [] (u ∷ us) [] (b ∷ zs) h g e = absurd (token_nonempty u b (concat zs) g.0 (sym e))
+one_list_of_texts [] (u ∷ us) (a ∷ xs) zs h g e = absurd h
+one_list_of_texts (t ∷ ts) [] [] zs h g e = absurd h
+one_list_of_texts (t ∷ ts) [] (a ∷ xs) [] h g e = absurd (token_nonempty t a (concat xs) h.0 e)
+one_list_of_texts (t ∷ ts) [] (a ∷ xs) (b ∷ zs) h g e = absurd g
+one_list_of_texts (t ∷ ts) (u ∷ us) [] zs h g e = absurd h
+one_list_of_texts (t ∷ ts) (u ∷ us) (a ∷ xs) [] h g e = absurd g
+one_list_of_texts (t ∷ ts) (u ∷ us) (a ∷ xs) (b ∷ zs) h g e =
+    let s = one_token_in_front t u a b (concat xs) (concat zs) h.0 g.0 e in
+    ap₂ (λ (v : TokenKind) (w : List TokenKind). v ∷ w) s.0 (one_list_of_texts ts us xs zs h.1 g.1 s.2)
 
 -- There is at most one list of tokens that bytes are read as.
-pub reads_law : (bytes : List ℕ) (ts us : List TokenKind) → Reads bytes ts → Reads bytes us → ts ≡ us
-reads_law bytes ts us h g = texts_law ts us h.0 g.0 h.1.each g.1.each (sym h.1.whole ∙ g.1.whole)
+pub one_reading : (bytes : List ℕ) (ts us : List TokenKind) → Reads bytes ts → Reads bytes us → ts ≡ us
+one_reading bytes ts us h g = one_list_of_texts ts us h.0 g.0 h.1.each g.1.each (sym h.1.whole ∙ g.1.whole)
 
--- of two fronts of one list, one begins the other
-pub fronts : (a b x y : List ℕ) → a ++ x ≡ b ++ y → ((w : List ℕ) × (a ≡ b ++ w))
+-- of two one_begins_the_other of one list, one begins the other
+pub one_begins_the_other : (a b x y : List ℕ) → a ++ x ≡ b ++ y → ((w : List ℕ) × (a ≡ b ++ w))
     ⊎ ((c : ℕ) × (w : List ℕ) × (b ≡ a ++ c ∷ w) × (x ≡ c ∷ (w ++ y)))
-fronts a [] x y e = inl (a, refl)
-fronts [] (v ∷ b) x y e = inr (v, b, refl, e)
-fronts (u ∷ a) (v ∷ b) x y e =
+one_begins_the_other a [] x y e = inl (a, refl)
+one_begins_the_other [] (v ∷ b) x y e = inr (v, b, refl, e)
+one_begins_the_other (u ∷ a) (v ∷ b) x y e =
     let same : u ≡ v = head_of e in
-    elim (fronts a b x y (tail_of e)) [
+    elim (one_begins_the_other a b x y (tail_of e)) [
       | inl w ↦ inl (w.0, ap₂ (λ (m : ℕ) (n : List ℕ). m ∷ n) same w.1)
       | inr w ↦ inr (w.0, w.1, ap₂ (λ (m : ℕ) (n : List ℕ). m ∷ n) (sym same) w.2, w.3)
     ]
@@ -138,7 +139,7 @@ refused_no_token t text a x y cause (inr h) (inl g) e =
 refused_no_token t text a x y cause (inr h) (inr g) e =
     let s : h.part ++ (h.byte ∷ x) ≡ a ++ y =
     sym (ap (λ (v : List ℕ). v ++ x) h.whole ∙ append_assoc h.part (h.byte ∷ []) x) ∙ e in
-    elim (fronts h.part a (h.byte ∷ x) y s) [
+    elim (one_begins_the_other h.part a (h.byte ∷ x) y s) [
       | inl w ↦
           let o : IsUnfinished h.part = h.unfinished in
           let l = one_spelling_in_front g.raw o.raw a (h.part ++ o.rest)

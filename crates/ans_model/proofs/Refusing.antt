@@ -11,7 +11,7 @@ use Rattle.ans_model.specs.Sequence.Spelling.{Raw, Spells, IsUnfinished}
 use Rattle.ans_model.specs.Sequence.Meaning.{meaning}
 use Rattle.ans_model.specs.Verdict.FirstFault.{IsWhy, IsBroken, IsRefused}
 use Rattle.ans_model.proofs.Spelling.{head_of, one_spelling_in_front}
-use Rattle.ans_model.proofs.Reading.{fronts}
+use Rattle.ans_model.proofs.Reading.{one_begins_the_other}
 
 -- what is spelled does not begin with what is broken, nor the other way round
 spelled_broken : (raw : Raw) (a text x y : List ℕ) (cause : Cause) → Spells raw a → IsBroken text cause
@@ -19,7 +19,7 @@ spelled_broken : (raw : Raw) (a text x y : List ℕ) (cause : Cause) → Spells 
 spelled_broken raw a text x y cause g h e =
     let s : h.part ++ (h.byte ∷ x) ≡ a ++ y =
     sym (ap (λ (v : List ℕ). v ++ x) h.whole ∙ append_assoc h.part (h.byte ∷ []) x) ∙ e in
-    elim (fronts h.part a (h.byte ∷ x) y s) [
+    elim (one_begins_the_other h.part a (h.byte ∷ x) y s) [
       | inl w ↦
           let o : IsUnfinished h.part = h.unfinished in
           let l = one_spelling_in_front raw o.raw a (h.part ++ o.rest) (w.0 ++ o.rest) [] g.loose o.spelled.loose
@@ -74,18 +74,19 @@ longer_break text other c d x y (v ∷ w) h g p e =
     (p ∙ ap (λ (u : ℕ). g.part ++ u ∷ w) same ∙ sym (broken_whole other d w g)))
 
 -- two refused texts at the front of one list are refused for one cause
-pub refused_law : (text other x y : List ℕ) (c d : Cause) → IsRefused text c → IsRefused other d
+pub one_cause_of_refused : (text other x y : List ℕ) (c d : Cause) → IsRefused text c → IsRefused other d
     → text ++ x ≡ other ++ y → c ≡ d
-refused_law text other x y c d (inl h) (inl g) e =
+one_cause_of_refused text other x y c d (inl h) (inl g) e =
     let s = one_spelling_in_front h.raw g.raw text other x y h.spelled.loose g.spelled.loose e in
     let means : ◌≡◌ {A = Result TokenKind Cause} (Err c) (Err d) = sym h.means ∙ ap meaning s.0 ∙ g.means in
     cc
-refused_law text other x y c d (inl h) (inr g) e = absurd (spelled_broken h.raw text other y x d h.spelled g (sym e))
-refused_law text other x y c d (inr h) (inl g) e = absurd (spelled_broken g.raw other text x y c g.spelled h e)
-refused_law text other x y c d (inr h) (inr g) e =
+one_cause_of_refused text other x y c d (inl h) (inr g) e = absurd
+    (spelled_broken h.raw text other y x d h.spelled g (sym e))
+one_cause_of_refused text other x y c d (inr h) (inl g) e = absurd (spelled_broken g.raw other text x y c g.spelled h e)
+one_cause_of_refused text other x y c d (inr h) (inr g) e =
     let s : h.part ++ (h.byte ∷ x) ≡ g.part ++ (g.byte ∷ y) =
     sym (broken_whole text c x h) ∙ e ∙ broken_whole other d y g in
-    elim (fronts h.part g.part (h.byte ∷ x) (g.byte ∷ y) s) [
+    elim (one_begins_the_other h.part g.part (h.byte ∷ x) (g.byte ∷ y) s) [
       | inl w ↦ longer_break text other c d x y w.0 h g w.1
           (append_cancel_left g.part (w.0 ++ (h.byte ∷ x)) (g.byte ∷ y)
           (sym (append_assoc g.part w.0 (h.byte ∷ x)) ∙ ap (λ (v : List ℕ). v ++ (h.byte ∷ x)) (sym w.1) ∙ s))

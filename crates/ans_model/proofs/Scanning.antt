@@ -1,4 +1,5 @@
 -- Which bytes may follow an unfinished sequence.
+use Rattle.std.proofs.lemmas.Bool.{and_parts, both_ways}
 use Rattle.std.proofs.Common.{◌≡◌, ◌≢◌, ◌⊎◌, inl, inr, ℕ, suc, ◌<◌, ◌≤◌, Bool, true, false, ◌||◌, List, [], ◌∷◌, ◌++◌}
 use Rattle.std.proofs.Common.{length, refl, ap, ap₂, sym, ◌∙◌, arith, append_assoc, length-append}
 use Rattle.std.proofs.lemmas.List.{append-nil}
@@ -14,10 +15,13 @@ use Rattle.ans_model.specs.Sequence.Spelling.{IsPrefixOfSpelling}
 use Rattle.ans_model.specs.Inside.OpenPart.{Current, Fresh, InNumber, InString, AfterString, SpellsCurrent}
 use Rattle.ans_model.specs.Inside.OpenPart.{IsCurrentInLimit, SpellsDone, Part, LoosePart, SpellsPart, member_of}
 use Rattle.ans_model.specs.Inside.OpenPart.{lacks, members_of, raw_of, is_stop, may_follow}
-use Rattle.ans_model.proofs.Spelling.{both, head_of, tail_of, run_law, stop_no_digit, stop_no_quote, quote_no_digit}
-use Rattle.ans_model.proofs.Spelling.{letter_no_semicolon, begins, first_or, first_byte, clash, quoted_law}
-use Rattle.ans_model.proofs.Spelling.{member_law, letter_stops, semicolon_stops, Rest, Tail, is_mark_byte}
-use Rattle.ans_model.proofs.Spelling.{digit_no_mark, quote_no_mark, begins_no_mark, tail_first, mark_law, in_front}
+use Rattle.ans_model.proofs.Spelling.{head_of, tail_of, one_run_before_stop, stop_no_digit, stop_no_quote}
+use Rattle.ans_model.proofs.Spelling.{quote_no_digit}
+use Rattle.ans_model.proofs.Spelling.{letter_no_semicolon, begins, first_or, first_byte, no_common_first_byte}
+use Rattle.ans_model.proofs.Spelling.{one_quoted_text}
+use Rattle.ans_model.proofs.Spelling.{one_member_in_front, letter_stops, semicolon_stops, Rest, Tail, is_mark_byte}
+use Rattle.ans_model.proofs.Spelling.{digit_no_mark, quote_no_mark, begins_no_mark, tail_first, one_mark_in_front}
+use Rattle.ans_model.proofs.Spelling.{in_front}
 
 -- a member, and what stands behind it
 pub record Next (member : Member) (bytes : List ℕ) : Type 0 where
@@ -57,12 +61,13 @@ peel [] m ms l x front v hl hd h = (m, ms, refl, rw hd at h)
 peel (d ∷ done) m [] l x front v hl hd h =
     let e : hd.0 ++ semicolon ∷ (hd.1 ++ v) ≡ h.0 ++ l ∷ x = sym (append_assoc hd.0 (semicolon ∷ hd.1) v)
     ∙ ap (λ (u : List ℕ). u ++ v) (sym hd.4) ∙ h.2 in
-    let t = member_law d m hd.0 h.0 semicolon l (hd.1 ++ v) x hd.2 h.1 semicolon_stops (letter_stops l hl) e in
+    let t = one_member_in_front d m hd.0 h.0 semicolon l (hd.1 ++ v) x hd.2 h.1 semicolon_stops (letter_stops l hl) e in
     absurd (letter_no_semicolon l hl (sym t.2))
 peel (d ∷ done) m (m' ∷ ms) l x front v hl hd h =
     let e : hd.0 ++ semicolon ∷ (hd.1 ++ v) ≡ h.0 ++ semicolon ∷ h.1 =
     sym (append_assoc hd.0 (semicolon ∷ hd.1) v) ∙ ap (λ (u : List ℕ). u ++ v) (sym hd.4) ∙ h.4 in
-    let t = member_law d m hd.0 h.0 semicolon semicolon (hd.1 ++ v) h.1 hd.2 h.2 semicolon_stops semicolon_stops e in
+    let t = one_member_in_front d m hd.0 h.0 semicolon semicolon
+    (hd.1 ++ v) h.1 hd.2 h.2 semicolon_stops semicolon_stops e in
     let ih = peel done m' ms l x hd.1 v hl hd.3 (rw (← t.3) at h.3) in
     (ih.0, ih.1, ap₂ (λ (u : Member) (w : List Member). u ∷ w) (sym t.0) ih.2, ih.3)
 
@@ -72,7 +77,8 @@ done_no_letter : (d : Member) (done : List Member) (l : ℕ) (x front v : List �
 done_no_letter d done l x front v hl hd h =
     let e : hd.0 ++ semicolon ∷ (hd.1 ++ v) ≡ l ∷ x = sym (append_assoc hd.0 (semicolon ∷ hd.1) v)
     ∙ ap (λ (u : List ℕ). u ++ v) (sym hd.4) ∙ h in
-    let t = member_law d Omitted hd.0 [] semicolon l (hd.1 ++ v) x hd.2 refl semicolon_stops (letter_stops l hl) e in
+    let t = one_member_in_front d Omitted hd.0 [] semicolon l (hd.1 ++ v) x hd.2 refl semicolon_stops
+    (letter_stops l hl) e in
     letter_no_semicolon l hl (sym t.2)
 
 -- What follows members that are done: nothing but the letter, if there are none; else members, and the letter.
@@ -85,7 +91,7 @@ tail_parts (d ∷ done) [] l x front v hl hd h = absurd (done_no_letter d done l
 tail_parts [] (m ∷ ms) l x front v hl hd h = inr (peel [] m ms l x front v hl hd h.1)
 tail_parts (d ∷ done) (m ∷ ms) l x front v hl hd h = inr (peel (d ∷ done) m ms l x front v hl hd h.1)
 
--- in both cases a member and what stands behind it come next
+-- in and_parts cases a member and what stands behind it come next
 pub tail_next : (done ms : List Member) (l : ℕ) (x front v : List ℕ) → is_ascii_alphabetic l ≡ true
     → SpellsDone done front → Tail ms l x (front ++ v) → (n : Member) × Next n v
 tail_next done ms l x front v hl hd h =
@@ -119,26 +125,28 @@ number_next : (k : ℕ) (last : List ℕ) (b : ℕ) (z : List ℕ) (n : Member) 
 number_next k last b z n true e h g = or_right (is_stop b) true refl
 number_next k [] b z n false e h g = absurd (omega (arith, h.0))
 number_next k (v ∷ last) b z Omitted false e h g =
-    absurd (clash is_stop is_ascii_digit stop_no_digit (v ∷ (last ++ b ∷ z)) (v ∷ (last ++ b ∷ z)) refl
-    (first_of_next Omitted _ g) ((both (is_ascii_digit v) (list_all is_ascii_digit last) h.1).0))
+    absurd (no_common_first_byte is_stop is_ascii_digit stop_no_digit (v ∷ (last ++ b ∷ z)) (v ∷ (last ++ b ∷ z)) refl
+    (first_of_next Omitted _ g) ((and_parts (is_ascii_digit v) (list_all is_ascii_digit last) h.1).0))
 number_next k (v ∷ last) b z (Quoted q text) false e h g =
-    absurd (clash is_quote is_ascii_digit quote_no_digit (v ∷ (last ++ b ∷ z)) (v ∷ (last ++ b ∷ z)) refl
-    (first_of_next (Quoted q text) _ g) ((both (is_ascii_digit v) (list_all is_ascii_digit last) h.1).0))
+    absurd (no_common_first_byte is_quote is_ascii_digit quote_no_digit (v ∷ (last ++ b ∷ z)) (v ∷ (last ++ b ∷ z)) refl
+    (first_of_next (Quoted q text) _ g) ((and_parts (is_ascii_digit v) (list_all is_ascii_digit last) h.1).0))
 number_next k (v ∷ last) b z (Number j) false e h g =
-    let t = run_law is_ascii_digit (v ∷ last) g.text b g.stop z g.more h.1 g.spelled.1 e
+    let t = one_run_before_stop is_ascii_digit (v ∷ last) g.text b g.stop z g.more h.1 g.spelled.1 e
     (stop_no_digit g.stop g.stops) g.whole in
     or_left (is_stop b) false (rw t.1 g.stops)
 
 string_next : (q : ℕ) (words last : List ℕ) (b : ℕ) (z : List ℕ) (n : Member) → SpellsMember (Quoted q words) last
     → Next n (last ++ b ∷ z) → is_stop b ≡ true
 string_next q words last b z Omitted h g =
-    absurd (clash is_stop is_quote stop_no_quote (last ++ b ∷ z) (last ++ b ∷ z) refl (first_of_next Omitted _ g)
+    absurd (no_common_first_byte is_stop is_quote stop_no_quote (last ++ b ∷ z) (last ++ b ∷ z) refl
+    (first_of_next Omitted _ g)
     (rw h.2 h.0))
 string_next q words last b z (Number j) h g =
-    absurd (clash is_quote is_ascii_digit quote_no_digit (last ++ b ∷ z) (last ++ b ∷ z) refl (rw h.2 h.0)
+    absurd (no_common_first_byte is_quote is_ascii_digit quote_no_digit (last ++ b ∷ z) (last ++ b ∷ z) refl
+    (rw h.2 h.0)
     (first_of_next (Number j) _ g))
 string_next q words last b z (Quoted r text) h g =
-    let t = quoted_law q r words text last g.text (b ∷ z) (g.stop ∷ g.more) h g.spelled g.whole in
+    let t = one_quoted_text q r words text last g.text (b ∷ z) (g.stop ∷ g.more) h g.spelled g.whole in
     rw (head_of t.3) g.stops
 
 -- what there is of a member is followed by a byte that may follow it
@@ -281,7 +289,7 @@ front_no_mark : (done : List Member) (current : Current) (front last w : List �
 front_no_mark [] Fresh front last w hd h f = rw (hd, h) (f refl refl)
 front_no_mark [] (InNumber n) front [] w hd h f = absurd (omega (arith, h.0))
 front_no_mark [] (InNumber n) front (v ∷ last) w hd h f = rw hd
-    (digit_no_mark v (both (is_ascii_digit v) (list_all is_ascii_digit last) h.1).0)
+    (digit_no_mark v (and_parts (is_ascii_digit v) (list_all is_ascii_digit last) h.1).0)
 front_no_mark [] (InString q text) front last w hd h f = rw (hd, h.2) (quote_no_mark q h.0)
 front_no_mark [] (AfterString q text) front last w hd h f = rw (hd, h.2) (quote_no_mark q h.0)
 front_no_mark (d ∷ done) current front last w hd h f =
@@ -299,18 +307,19 @@ part_whole p y w h =
     (append_assoc h.front h.last w))
 
 -- what a loose spelling that begins with the part is made of
-pub record Goes (p : Part) (raw : Raw) (v : List ℕ) : Type 0 where
+pub record ContinuesPart (p : Part) (raw : Raw) (v : List ℕ) : Type 0 where
   pub mark : raw.mark ≡ p.mark
   pub letter : is_ascii_alphabetic raw.letter ≡ true
   pub tail : Tail raw.members raw.letter [] v
 
-pub residual : (p : Part) (y : List ℕ) (b : ℕ) (z : List ℕ) (raw : Raw) (h : LoosePart p y) → IsUnmarkedThere p b
-    → Loose raw (y ++ b ∷ z) → Goes p raw (h.front ++ (h.last ++ b ∷ z))
-residual p y b z raw h u s =
+pub loose_continues_part : (p : Part) (y : List ℕ) (b : ℕ) (z : List ℕ) (raw : Raw) (h : LoosePart p y)
+    → IsUnmarkedThere p b
+    → Loose raw (y ++ b ∷ z) → ContinuesPart p raw (h.front ++ (h.last ++ b ∷ z))
+loose_continues_part p y b z raw h u s =
     let f = in_front raw (y ++ b ∷ z) [] s in
     let e : mark_bytes raw.mark ++ f.tail ≡ mark_bytes p.mark ++ (h.front ++ (h.last ++ b ∷ z)) =
     tail_of (tail_of (sym f.whole ∙ append-nil (y ++ b ∷ z) ∙ part_whole p y (b ∷ z) h)) in
-    let m = mark_law raw.mark p.mark f.tail (h.front ++ (h.last ++ b ∷ z))
+    let m = one_mark_in_front raw.mark p.mark f.tail (h.front ++ (h.last ++ b ∷ z))
     (tail_first raw.members raw.letter [] f.tail f.letter f.tail_is)
     (λ un. front_no_mark p.done p.current h.front h.last (b ∷ z) h.done h.current (u un)) e in
     record { mark = m.0; letter = f.letter; tail = rw m.1 at f.tail_is }
@@ -319,24 +328,21 @@ residual p y b z raw h u s =
 pub refuses_byte : (p : Part) (y : List ℕ) (b : ℕ) → LoosePart p y → may_follow p.current b ≡ false
     → IsUnmarkedThere p b → ¬ IsPrefixOfLoose (y ++ b ∷ [])
 refuses_byte p y b h f u s =
-    let g = residual p y b s.rest s.raw h u (rw append_assoc at s.spelled) in
+    let g = loose_continues_part p y b s.rest s.raw h u (rw append_assoc at s.spelled) in
     let n = tail_next p.done s.raw.members s.raw.letter [] h.front (h.last ++ b ∷ s.rest) g.letter h.done g.tail in
     let t = current_next p.current h.last b s.rest n.0 h.current n.1 in
     cc
-
-not_both : (b : Bool) → b ≡ true → b ≡ false → ⊥
-not_both b t f = cc
 
 -- a run before what fails the test is no longer than the run of a list that begins so
 run_prefix : (p : ℕ → Bool) (a t : List ℕ) (c : ℕ) (z u : List ℕ) → list_all p a ≡ true → p c ≡ false
     → a ++ z ≡ t ++ c ∷ u → (w : List ℕ) × (t ≡ a ++ w)
 run_prefix p [] t c z u ha hc e = (t, refl)
 run_prefix p (v ∷ a) [] c z u ha hc e =
-    let t : p v ≡ true = (both (p v) (list_all p a) ha).0 in
+    let t : p v ≡ true = (and_parts (p v) (list_all p a) ha).0 in
     let f : p v ≡ false = ap p (head_of e) ∙ hc in
-    absurd (not_both (p v) t f)
+    absurd (both_ways (p v) f t)
 run_prefix p (v ∷ a) (w ∷ t) c z u ha hc e =
-    let ih = run_prefix p a t c z u (both (p v) (list_all p a) ha).1 hc (tail_of e) in
+    let ih = run_prefix p a t c z u (and_parts (p v) (list_all p a) ha).1 hc (tail_of e) in
     let same : v ≡ w = head_of e in
     (ih.0, ap₂ (λ (m : ℕ) (n : List ℕ). m ∷ n) (sym same) ih.1)
 
@@ -350,11 +356,12 @@ number_grows : (a : List ℕ) (z : List ℕ) (n : Member) → 0 < length a → l
     → Next n (a ++ z) → (k : ℕ) × (n ≡ Number k) × (digits_value 10 a ≤ k)
 number_grows [] z n l ha g = absurd (omega (arith, l))
 number_grows (v ∷ a) z Omitted l ha g =
-    absurd (clash is_stop is_ascii_digit stop_no_digit (v ∷ (a ++ z)) (v ∷ (a ++ z)) refl (first_of_next Omitted _ g)
-    (both (is_ascii_digit v) (list_all is_ascii_digit a) ha).0)
+    absurd (no_common_first_byte is_stop is_ascii_digit stop_no_digit (v ∷ (a ++ z)) (v ∷ (a ++ z)) refl
+    (first_of_next Omitted _ g)
+    (and_parts (is_ascii_digit v) (list_all is_ascii_digit a) ha).0)
 number_grows (v ∷ a) z (Quoted q text) l ha g =
-    absurd (clash is_quote is_ascii_digit quote_no_digit (v ∷ (a ++ z)) (v ∷ (a ++ z)) refl
-    (first_of_next (Quoted q text) _ g) (both (is_ascii_digit v) (list_all is_ascii_digit a) ha).0)
+    absurd (no_common_first_byte is_quote is_ascii_digit quote_no_digit (v ∷ (a ++ z)) (v ∷ (a ++ z)) refl
+    (first_of_next (Quoted q text) _ g) (and_parts (is_ascii_digit v) (list_all is_ascii_digit a) ha).0)
 number_grows (v ∷ a) z (Number k) l ha g =
     let t = run_prefix is_ascii_digit (v ∷ a) g.text g.stop z g.more ha (stop_no_digit g.stop g.stops) g.whole in
     let value : digits_value 10 ((v ∷ a) ++ t.0) ≡ k = ap (digits_value 10) (sym t.1) ∙ g.spelled.2 in
@@ -369,7 +376,7 @@ pub all_append : (p : ℕ → Bool) (a : List ℕ) (b : ℕ) → list_all p a �
     → list_all p (a ++ b ∷ []) ≡ true
 all_append p [] b ha hb = rw hb
 all_append p (v ∷ a) b ha hb =
-    let t = both (p v) (list_all p a) ha in
+    let t = and_parts (p v) (list_all p a) ha in
     let ih = all_append p a b t.1 hb in
     rw (t.0, ih)
 
@@ -386,7 +393,8 @@ large_not_in_limit n k v e l g h =
 pub refuses_number : (p : Part) (y : List ℕ) (k b : ℕ) (h : LoosePart p y) → p.current ≡ InNumber k
     → is_ascii_digit b ≡ true → largest_number < digits_value 10 (h.last ++ b ∷ []) → ¬ IsPrefixOfSpelling (y ++ b ∷ [])
 refuses_number p y k b h c d large s =
-    let g = residual p y b s.rest s.raw h (λ _ _ _. digit_no_mark b d) (rw append_assoc at s.spelled.loose) in
+    let g = loose_continues_part p y b s.rest s.raw h (λ _ _ _. digit_no_mark b d)
+    (rw append_assoc at s.spelled.loose) in
     let cur : SpellsCurrent (InNumber k) h.last = rw c at h.current in
     let digits : list_all is_ascii_digit (h.last ++ b ∷ []) ≡ true = all_append is_ascii_digit h.last b cur.1 d in
     let some : 0 < length (h.last ++ b ∷ []) = omega (arith, length-append h.last (b ∷ [])) in
@@ -422,7 +430,7 @@ long_members done n ns = rw (length-append done (n ∷ ns)) (omega arith)
 pub refuses_count : (p : Part) (y : List ℕ) (m : Member) (h : LoosePart p y) → SpellsMember m h.last
     → length p.done ≡ 15 → ¬ IsPrefixOfSpelling (y ++ semicolon ∷ [])
 refuses_count p y m h hm len s =
-    let g = residual p y semicolon s.rest s.raw h (λ _ _ _. refl) (rw append_assoc at s.spelled.loose) in
+    let g = loose_continues_part p y semicolon s.rest s.raw h (λ _ _ _. refl) (rw append_assoc at s.spelled.loose) in
     let e : h.front ++ (h.last ++ semicolon ∷ s.rest) ≡ (h.front ++ (h.last ++ semicolon ∷ [])) ++ s.rest =
     ap (λ (v : List ℕ). h.front ++ v) (sym (append_assoc h.last (semicolon ∷ []) s.rest))
     ∙ sym (append_assoc h.front (h.last ++ semicolon ∷ []) s.rest) in

@@ -1,4 +1,5 @@
 -- No spelling begins another, and none is of two sequences.
+use Rattle.std.proofs.lemmas.Bool.{and_parts}
 use Rattle.std.proofs.Common.{◌≡◌, ◌≢◌, ℕ, Bool, true, false, not, ◌&&◌, ◌||◌, ◌==◌, List, [], ◌∷◌, ◌++◌, refl, ap}
 use Rattle.std.proofs.Common.{ap₂, sym, ◌∙◌, subst, arith, append_assoc}
 use Rattle.std.proofs.lemmas.Bool.Decides.{nat_tests}
@@ -12,11 +13,6 @@ use Rattle.ans_model.specs.Sequence.Spelling.{Mark, Unmarked, Equals, Question, 
 use Rattle.ans_model.specs.Sequence.Spelling.{mark_bytes, is_quote, SpellsMember, Loose}
 use Rattle.ans_model.specs.Laws.SequenceLaws.{OneSpellingInFront}
 
--- both parts of a test that passes
-pub both : (a b : Bool) → (a && b) ≡ true → (a ≡ true) × (b ≡ true)
-both true b h = (refl, h)
-both false b h = (cc, cc)
-
 pub head_of : {A : Type 0} {a b : A} {x y : List A} → a ∷ x ≡ b ∷ y → a ≡ b
 head_of e = cc
 
@@ -24,20 +20,22 @@ pub tail_of : {A : Type 0} {a b : A} {x y : List A} → a ∷ x ≡ b ∷ y → 
 tail_of e = cc
 
 -- two runs of what passes a test, each before what fails it, at the front of one list
-pub run_law : (p : ℕ → Bool) (a b : List ℕ) (c d : ℕ) (x y : List ℕ) → list_all p a ≡ true → list_all p b ≡ true
+pub one_run_before_stop : (p : ℕ → Bool) (a b : List ℕ) (c d : ℕ) (x y : List ℕ) → list_all p a ≡ true
+    → list_all p b ≡ true
     → p c ≡ false → p d ≡ false → a ++ c ∷ x ≡ b ++ d ∷ y
     → (a ≡ b) × (c ≡ d) × (x ≡ y)
-run_law p [] [] c d x y ha hb hc hd e = (refl, head_of e, tail_of e)
-run_law p [] (v ∷ b) c d x y ha hb hc hd e =
-    let t : p v ≡ true = (both (p v) (list_all p b) hb).0 in
+one_run_before_stop p [] [] c d x y ha hb hc hd e = (refl, head_of e, tail_of e)
+one_run_before_stop p [] (v ∷ b) c d x y ha hb hc hd e =
+    let t : p v ≡ true = (and_parts (p v) (list_all p b) hb).0 in
     let f : p v ≡ false = ap p (sym (head_of e)) ∙ hc in
     (cc, cc, cc)
-run_law p (u ∷ a) [] c d x y ha hb hc hd e =
-    let t : p u ≡ true = (both (p u) (list_all p a) ha).0 in
+one_run_before_stop p (u ∷ a) [] c d x y ha hb hc hd e =
+    let t : p u ≡ true = (and_parts (p u) (list_all p a) ha).0 in
     let f : p u ≡ false = ap p (head_of e) ∙ hd in
     (cc, cc, cc)
-run_law p (u ∷ a) (v ∷ b) c d x y ha hb hc hd e =
-    let h = run_law p a b c d x y (both (p u) (list_all p a) ha).1 (both (p v) (list_all p b) hb).1 hc hd (tail_of e) in
+one_run_before_stop p (u ∷ a) (v ∷ b) c d x y ha hb hc hd e =
+    let h = one_run_before_stop p a b c d x y (and_parts (p u) (list_all p a) ha).1
+    (and_parts (p v) (list_all p b) hb).1 hc hd (tail_of e) in
     let same : u ≡ v = head_of e in
     let front : a ≡ b = h.0 in
     (cc, h.1, h.2)
@@ -68,24 +66,25 @@ pub first_byte : (m : Member) (a : List ℕ) (c : ℕ) (x : List ℕ) → Spells
     → begins m (first_or 0 (a ++ c ∷ x)) ≡ true
 first_byte Omitted a c x h s = rw h s
 first_byte (Number n) [] c x h s = absurd (omega (arith, h.0))
-first_byte (Number n) (v ∷ b) c x h s = (both (is_ascii_digit v) (list_all is_ascii_digit b) h.1).0
+first_byte (Number n) (v ∷ b) c x h s = (and_parts (is_ascii_digit v) (list_all is_ascii_digit b) h.1).0
 first_byte (Quoted q text) a c x h s = rw h.2 h.0
 
 -- no byte begins members of two sorts
 quote_self : (q : ℕ) → not (q == q) ≡ false
 quote_self q = grind (arith, nat_tests)
 
-pub clash : (p q : ℕ → Bool) → ((c : ℕ) → p c ≡ true → q c ≡ false) → (x y : List ℕ) → x ≡ y → p (first_or 0 x) ≡ true
+pub no_common_first_byte : (p q : ℕ → Bool) → ((c : ℕ) → p c ≡ true → q c ≡ false) → (x y : List ℕ) → x ≡ y
+    → p (first_or 0 x) ≡ true
     → q (first_or 0 y) ≡ true → ⊥
-clash p q apart x y e hp hq =
+no_common_first_byte p q apart x y e hp hq =
     let f : q (first_or 0 x) ≡ false = apart (first_or 0 x) hp in
     let t : q (first_or 0 x) ≡ true = rw e hq in
     cc
 
 -- two quoted texts at the front of one list are the same, whatever stands behind them
-pub quoted_law : (r q : ℕ) (words text a b x y : List ℕ) → SpellsMember (Quoted r words) a
+pub one_quoted_text : (r q : ℕ) (words text a b x y : List ℕ) → SpellsMember (Quoted r words) a
     → SpellsMember (Quoted q text) b → a ++ x ≡ b ++ y → (r ≡ q) × (words ≡ text) × (a ≡ b) × (x ≡ y)
-quoted_law r q words text a b x y ha hb e =
+one_quoted_text r q words text a b x y ha hb e =
     let left : a ++ x ≡ r ∷ (words ++ r ∷ x) = ap (λ (v : List ℕ). v ++ x) ha.2
     ∙ ap (λ (v : List ℕ). r ∷ v) (append_assoc words (r ∷ []) x) in
     let right : b ++ y ≡ q ∷ (text ++ q ∷ y) = ap (λ (v : List ℕ). v ++ y) hb.2
@@ -95,42 +94,43 @@ quoted_law r q words text a b x y ha hb e =
     let inside : list_all (λ u. not (u == r)) text ≡ true = subst
     (λ (v : ℕ). list_all (λ u. not (u == v)) text ≡ true) same hb.1 in
     let other : not (q == r) ≡ false = rw same (quote_self r) in
-    let h = run_law (λ u. not (u == r)) words text r q x y ha.1 inside (quote_self r) other (tail_of t) in
+    let h = one_run_before_stop (λ u. not (u == r)) words text r q x y ha.1 inside (quote_self r) other (tail_of t) in
     let texts : words ≡ text = h.0 in
     let insides : r ∷ (words ++ r ∷ []) ≡ q ∷ (text ++ q ∷ []) = cc in
     (sym same, texts, ha.2 ∙ insides ∙ sym hb.2, h.2)
 
 -- Two members, each with what may stand behind it, at the front of one list are the same.
-pub member_law : (m n : Member) (a b : List ℕ) (c d : ℕ) (x y : List ℕ) → SpellsMember m a → SpellsMember n b
+pub one_member_in_front : (m n : Member) (a b : List ℕ) (c d : ℕ) (x y : List ℕ) → SpellsMember m a → SpellsMember n b
     → is_stop c ≡ true → is_stop d ≡ true → a ++ c ∷ x ≡ b ++ d ∷ y
     → (m ≡ n) × (a ≡ b) × (c ≡ d) × (x ≡ y)
-member_law Omitted Omitted a b c d x y ha hb hc hd e =
+one_member_in_front Omitted Omitted a b c d x y ha hb hc hd e =
     let t : c ∷ x ≡ d ∷ y = sym (ap (λ (v : List ℕ). v ++ c ∷ x) ha) ∙ e ∙ ap (λ (v : List ℕ). v ++ d ∷ y) hb in
     (refl, ha ∙ sym hb, head_of t, tail_of t)
-member_law Omitted (Number k) a b c d x y ha hb hc hd e =
-    absurd (clash is_stop is_ascii_digit stop_no_digit _ _ e (first_byte Omitted a c x ha hc)
+one_member_in_front Omitted (Number k) a b c d x y ha hb hc hd e =
+    absurd (no_common_first_byte is_stop is_ascii_digit stop_no_digit _ _ e (first_byte Omitted a c x ha hc)
     (first_byte (Number k) b d y hb hd))
-member_law Omitted (Quoted q text) a b c d x y ha hb hc hd e =
-    absurd (clash is_stop is_quote stop_no_quote _ _ e (first_byte Omitted a c x ha hc)
+one_member_in_front Omitted (Quoted q text) a b c d x y ha hb hc hd e =
+    absurd (no_common_first_byte is_stop is_quote stop_no_quote _ _ e (first_byte Omitted a c x ha hc)
     (first_byte (Quoted q text) b d y hb hd))
-member_law (Number j) Omitted a b c d x y ha hb hc hd e =
-    absurd (clash is_stop is_ascii_digit stop_no_digit _ _ (sym e) (first_byte Omitted b d y hb hd)
+one_member_in_front (Number j) Omitted a b c d x y ha hb hc hd e =
+    absurd (no_common_first_byte is_stop is_ascii_digit stop_no_digit _ _ (sym e) (first_byte Omitted b d y hb hd)
     (first_byte (Number j) a c x ha hc))
-member_law (Number j) (Number k) a b c d x y ha hb hc hd e =
-    let h = run_law is_ascii_digit a b c d x y ha.1 hb.1 (stop_no_digit c hc) (stop_no_digit d hd) e in
+one_member_in_front (Number j) (Number k) a b c d x y ha hb hc hd e =
+    let h = one_run_before_stop is_ascii_digit a b c d x y ha.1 hb.1 (stop_no_digit c hc) (stop_no_digit d hd) e in
     let v : j ≡ k = sym ha.2 ∙ ap (digits_value 10) h.0 ∙ hb.2 in
     (ap Number v, h.0, h.1, h.2)
-member_law (Number j) (Quoted q text) a b c d x y ha hb hc hd e =
-    absurd (clash is_quote is_ascii_digit quote_no_digit _ _ (sym e) (first_byte (Quoted q text) b d y hb hd)
+one_member_in_front (Number j) (Quoted q text) a b c d x y ha hb hc hd e =
+    absurd (no_common_first_byte is_quote is_ascii_digit quote_no_digit _ _ (sym e)
+    (first_byte (Quoted q text) b d y hb hd)
     (first_byte (Number j) a c x ha hc))
-member_law (Quoted r words) Omitted a b c d x y ha hb hc hd e =
-    absurd (clash is_stop is_quote stop_no_quote _ _ (sym e) (first_byte Omitted b d y hb hd)
+one_member_in_front (Quoted r words) Omitted a b c d x y ha hb hc hd e =
+    absurd (no_common_first_byte is_stop is_quote stop_no_quote _ _ (sym e) (first_byte Omitted b d y hb hd)
     (first_byte (Quoted r words) a c x ha hc))
-member_law (Quoted r words) (Number k) a b c d x y ha hb hc hd e =
-    absurd (clash is_quote is_ascii_digit quote_no_digit _ _ e (first_byte (Quoted r words) a c x ha hc)
+one_member_in_front (Quoted r words) (Number k) a b c d x y ha hb hc hd e =
+    absurd (no_common_first_byte is_quote is_ascii_digit quote_no_digit _ _ e (first_byte (Quoted r words) a c x ha hc)
     (first_byte (Number k) b d y hb hd))
-member_law (Quoted r words) (Quoted q text) a b c d x y ha hb hc hd e =
-    let h = quoted_law r q words text a b (c ∷ x) (d ∷ y) ha hb e in
+one_member_in_front (Quoted r words) (Quoted q text) a b c d x y ha hb hc hd e =
+    let h = one_quoted_text r q words text a b (c ∷ x) (d ∷ y) ha hb e in
     (ap₂ Quoted h.0 h.1, h.2, head_of h.3, tail_of h.3)
 
 pub letter_stops : (c : ℕ) → is_ascii_alphabetic c ≡ true → is_stop c ≡ true
@@ -174,22 +174,25 @@ rest_joined m (n ∷ ms) letter x bytes h =
     )
 
 -- members, the letter and what follows are determined by the bytes
-pub rest_law : (m n : Member) (ms ns : List Member) (l k : ℕ) (x y bytes : List ℕ) → is_ascii_alphabetic l ≡ true
+pub one_list_of_members : (m n : Member) (ms ns : List Member) (l k : ℕ) (x y bytes : List ℕ)
+    → is_ascii_alphabetic l ≡ true
     → is_ascii_alphabetic k ≡ true → Rest m ms l x bytes → Rest n ns k y bytes
     → (m ∷ ms ≡ n ∷ ns) × (l ≡ k) × (x ≡ y)
-rest_law m n [] [] l k x y bytes hl hk h g =
-    let e = member_law m n h.0 g.0 l k x y h.1 g.1 (letter_stops l hl) (letter_stops k hk) (sym h.2 ∙ g.2) in
+one_list_of_members m n [] [] l k x y bytes hl hk h g =
+    let e = one_member_in_front m n h.0 g.0 l k x y h.1 g.1 (letter_stops l hl) (letter_stops k hk) (sym h.2 ∙ g.2) in
     (ap (λ (v : Member). v ∷ []) e.0, e.2, e.3)
-rest_law m n [] (n' ∷ ns) l k x y bytes hl hk h g =
-    let e = member_law m n h.0 g.0 l semicolon x g.1 h.1 g.2 (letter_stops l hl) semicolon_stops (sym h.2 ∙ g.4) in
+one_list_of_members m n [] (n' ∷ ns) l k x y bytes hl hk h g =
+    let e = one_member_in_front m n h.0 g.0 l semicolon x g.1 h.1 g.2 (letter_stops l hl) semicolon_stops
+    (sym h.2 ∙ g.4) in
     absurd (letter_no_semicolon l hl e.2)
-rest_law m n (m' ∷ ms) [] l k x y bytes hl hk h g =
-    let e = member_law m n h.0 g.0 semicolon k h.1 y h.2 g.1 semicolon_stops (letter_stops k hk) (sym h.4 ∙ g.2) in
+one_list_of_members m n (m' ∷ ms) [] l k x y bytes hl hk h g =
+    let e = one_member_in_front m n h.0 g.0 semicolon k h.1 y h.2 g.1 semicolon_stops (letter_stops k hk)
+    (sym h.4 ∙ g.2) in
     absurd (letter_no_semicolon k hk (sym e.2))
-rest_law m n (m' ∷ ms) (n' ∷ ns) l k x y bytes hl hk h g =
-    let e = member_law m n h.0 g.0 semicolon semicolon h.1 g.1 h.2 g.2 semicolon_stops semicolon_stops
+one_list_of_members m n (m' ∷ ms) (n' ∷ ns) l k x y bytes hl hk h g =
+    let e = one_member_in_front m n h.0 g.0 semicolon semicolon h.1 g.1 h.2 g.2 semicolon_stops semicolon_stops
     (sym h.4 ∙ g.4) in
-    let ih = rest_law m' n' ms ns l k x y h.1 hl hk h.3 (rw (← e.3) at g.3) in
+    let ih = one_list_of_members m' n' ms ns l k x y h.1 hl hk h.3 (rw (← e.3) at g.3) in
     (ap₂ (λ (u : Member) (v : List Member). u ∷ v) e.0 ih.0, ih.1, ih.2)
 
 -- The bytes behind ESC, `[` and the mark: the letter alone, or members and the letter; and then x.
@@ -208,19 +211,20 @@ joined_tail (m ∷ ms) (t ∷ ts) letter x h n = (n, joined_rest m ms t ts lette
 letter_alone : (m : Member) (ms : List Member) (l k : ℕ) (x y : List ℕ) → is_ascii_alphabetic l ≡ true
     → is_ascii_alphabetic k ≡ true → m ∷ ms ≢ Omitted ∷ [] → Rest m ms l x (k ∷ y) → ⊥
 letter_alone m [] l k x y hl hk n h =
-    let e = member_law m Omitted h.0 [] l k x y h.1 refl (letter_stops l hl) (letter_stops k hk) (sym h.2) in
+    let e = one_member_in_front m Omitted h.0 [] l k x y h.1 refl (letter_stops l hl) (letter_stops k hk) (sym h.2) in
     n (ap (λ (v : Member). v ∷ []) e.0)
 letter_alone m (m' ∷ ms) l k x y hl hk n h =
-    let e = member_law m Omitted h.0 [] semicolon k h.1 y h.2 refl semicolon_stops (letter_stops k hk) (sym h.4) in
+    let e = one_member_in_front m Omitted h.0 [] semicolon k h.1 y h.2 refl semicolon_stops (letter_stops k hk)
+    (sym h.4) in
     letter_no_semicolon k hk (sym e.2)
 
-pub tail_law : (ms ns : List Member) (l k : ℕ) (x y bytes : List ℕ) → is_ascii_alphabetic l ≡ true
+pub one_tail_in_front : (ms ns : List Member) (l k : ℕ) (x y bytes : List ℕ) → is_ascii_alphabetic l ≡ true
     → is_ascii_alphabetic k ≡ true → Tail ms l x bytes → Tail ns k y bytes
     → (ms ≡ ns) × (l ≡ k) × (x ≡ y)
-tail_law [] [] l k x y bytes hl hk h g = (refl, head_of (sym h ∙ g), tail_of (sym h ∙ g))
-tail_law [] (n ∷ ns) l k x y bytes hl hk h g = absurd (letter_alone n ns k l y x hk hl g.0 (rw h at g.1))
-tail_law (m ∷ ms) [] l k x y bytes hl hk h g = absurd (letter_alone m ms l k x y hl hk h.0 (rw g at h.1))
-tail_law (m ∷ ms) (n ∷ ns) l k x y bytes hl hk h g = rest_law m n ms ns l k x y bytes hl hk h.1 g.1
+one_tail_in_front [] [] l k x y bytes hl hk h g = (refl, head_of (sym h ∙ g), tail_of (sym h ∙ g))
+one_tail_in_front [] (n ∷ ns) l k x y bytes hl hk h g = absurd (letter_alone n ns k l y x hk hl g.0 (rw h at g.1))
+one_tail_in_front (m ∷ ms) [] l k x y bytes hl hk h g = absurd (letter_alone m ms l k x y hl hk h.0 (rw g at h.1))
+one_tail_in_front (m ∷ ms) (n ∷ ns) l k x y bytes hl hk h g = one_list_of_members m n ms ns l k x y bytes hl hk h.1 g.1
 
 abbrev pub is_mark_byte : ℕ → Bool
 is_mark_byte c = c == 0x3D || c == 0x3F
@@ -259,17 +263,17 @@ mark_clash c y z h f e =
 marks_apart : ◌≡◌ {A = ℕ} 0x3D 0x3F → ⊥
 marks_apart e = omega arith
 
-pub mark_law : (m n : Mark) (z w : List ℕ) → is_mark_byte (first_or 0 z) ≡ false
+pub one_mark_in_front : (m n : Mark) (z w : List ℕ) → is_mark_byte (first_or 0 z) ≡ false
     → (n ≡ Unmarked → is_mark_byte (first_or 0 w) ≡ false) → mark_bytes m ++ z ≡ mark_bytes n ++ w → (m ≡ n) × (z ≡ w)
-mark_law Unmarked Unmarked z w hz hw e = (refl, e)
-mark_law Unmarked Equals z w hz hw e = absurd (mark_clash 0x3D w z refl hz (sym e))
-mark_law Unmarked Question z w hz hw e = absurd (mark_clash 0x3F w z refl hz (sym e))
-mark_law Equals Unmarked z w hz hw e = absurd (mark_clash 0x3D z w refl (hw refl) e)
-mark_law Equals Equals z w hz hw e = (refl, tail_of e)
-mark_law Equals Question z w hz hw e = absurd (marks_apart (head_of e))
-mark_law Question Unmarked z w hz hw e = absurd (mark_clash 0x3F z w refl (hw refl) e)
-mark_law Question Equals z w hz hw e = absurd (marks_apart (sym (head_of e)))
-mark_law Question Question z w hz hw e = (refl, tail_of e)
+one_mark_in_front Unmarked Unmarked z w hz hw e = (refl, e)
+one_mark_in_front Unmarked Equals z w hz hw e = absurd (mark_clash 0x3D w z refl hz (sym e))
+one_mark_in_front Unmarked Question z w hz hw e = absurd (mark_clash 0x3F w z refl hz (sym e))
+one_mark_in_front Equals Unmarked z w hz hw e = absurd (mark_clash 0x3D z w refl (hw refl) e)
+one_mark_in_front Equals Equals z w hz hw e = (refl, tail_of e)
+one_mark_in_front Equals Question z w hz hw e = absurd (marks_apart (head_of e))
+one_mark_in_front Question Unmarked z w hz hw e = absurd (mark_clash 0x3F z w refl (hw refl) e)
+one_mark_in_front Question Equals z w hz hw e = absurd (marks_apart (sym (head_of e)))
+one_mark_in_front Question Question z w hz hw e = (refl, tail_of e)
 
 -- a loose spelling before x, by its parts: ESC, `[`, the mark, and a tail
 pub record InFront (raw : Raw) (x bytes : List ℕ) : Type 0 where
@@ -297,9 +301,9 @@ raw_path r s m n l = λ i. record { mark = m i; members = n i; letter = l i }
 pub in_front_law : (r s : Raw) (x y bytes : List ℕ) → InFront r x bytes → InFront s y bytes → (r ≡ s) × (x ≡ y)
 in_front_law r s x y bytes h g =
     let e = sym h.whole ∙ g.whole in
-    let m = mark_law r.mark s.mark h.tail g.tail (tail_first r.members r.letter x h.tail h.letter h.tail_is)
+    let m = one_mark_in_front r.mark s.mark h.tail g.tail (tail_first r.members r.letter x h.tail h.letter h.tail_is)
     (λ _. tail_first s.members s.letter y g.tail g.letter g.tail_is) (tail_of (tail_of e)) in
-    let t = tail_law r.members s.members r.letter s.letter x y h.tail h.letter g.letter h.tail_is
+    let t = one_tail_in_front r.members s.members r.letter s.letter x y h.tail h.letter g.letter h.tail_is
     (rw (← m.1) at g.tail_is) in
     (raw_path r s m.0 t.0 t.1, t.2)
 

@@ -14,38 +14,41 @@ known_part : {A : Type 0} (b : Bool) (x y : A) → IsTrue b → (if b then x els
 known_part true x y e = refl
 known_part false x y e = absurd (cc)
 
-screen_well : (z : Size) (b : Bool) (c : Cell) → IsByteCell c →
+screen_of_start_fits : (z : Size) (b : Bool) (c : Cell) → IsByteCell c →
     (length (if b then (cleared z).screen else replicate (cell_count z) c) ≡ cell_count z)
     × All IsByteCell (if b then (cleared z).screen else replicate (cell_count z) c)
-screen_well z true c byte = (
+screen_of_start_fits z true c byte = (
   length-replicate (cell_count z) (blank_cell 7),
   All-replicate IsByteCell (cell_count z) (blank_cell 7) (lit< tt, lit< tt),
 )
-screen_well z false c byte = (length-replicate (cell_count z) c, All-replicate IsByteCell (cell_count z) c byte)
+screen_of_start_fits z false c byte = (
+  length-replicate (cell_count z) c,
+  All-replicate IsByteCell (cell_count z) c byte,
+)
 
-position_on : (z : Size) (b : Bool) (p : Position) → 0 < z.width → IsOnScreen z p
+position_of_start_on_screen : (z : Size) (b : Bool) (p : Position) → 0 < z.width → IsOnScreen z p
     → IsOnScreen z (if b then at 0 0 else p)
-position_on z true p w on = (omega arith, w)
-position_on z false p w on = on
+position_of_start_on_screen z true p w on = (omega arith, w)
+position_of_start_on_screen z false p w on = on
 
 colours_lt : (b : Bool) (a : ℕ) → a < 256 → (if b then 7 else a) < 256
 colours_lt true a l = lit< tt
 colours_lt false a l = l
 
-start_with_is : (z : Size) (class : Class) (s : State) (c : Cell) → 0 < z.width
+start_with_is_start : (z : Size) (class : Class) (s : State) (c : Cell) → 0 < z.width
     → s.screen ≡ replicate (cell_count z) c → IsByteCell c → IsOnScreen z s.cursor → IsOnScreen z s.saved
     → s.attribute < 256 → IsStart z class (start_with z class s)
-start_with_is z class s c w e byte cursor saved colours =
+start_with_is_start z class s c w e byte cursor saved colours =
     let screen : (length (if class.screen then (cleared z).screen else s.screen) ≡ cell_count z)
     × All IsByteCell (if class.screen then (cleared z).screen else s.screen)
-    = rw e (screen_well z class.screen c byte) in
+    = rw e (screen_of_start_fits z class.screen c byte) in
     record {
       well_formed = record {
         fits = record {
           cells = screen.0;
-          cursor = position_on z class.cursor s.cursor w cursor;
+          cursor = position_of_start_on_screen z class.cursor s.cursor w cursor;
           saved =
-              position_on z class.saved s.saved w saved;
+              position_of_start_on_screen z class.saved s.saved w saved;
         };
         bytes = screen.1;
         attribute = colours_lt class.attribute s.attribute colours;
@@ -58,9 +61,10 @@ start_with_is z class s c w e byte cursor saved colours =
     }
 
 pub low_is_start : (z : Size) (class : Class) → 0 < z.width → IsStart z class (low_start z class)
-low_is_start z class w = start_with_is z class _ (record { byte = 0; attribute = 0 }) w refl (lit< tt, lit< tt)
+low_is_start z class w = start_with_is_start z class _ (record { byte = 0; attribute = 0 }) w refl (lit< tt, lit< tt)
     (omega arith, w) (omega arith, w) (lit< tt)
 
 pub high_is_start : (z : Size) (class : Class) → 0 < z.width → IsStart z class (high_start z class)
-high_is_start z class w = start_with_is z class _ (record { byte = 255; attribute = 255 }) w refl (lit< tt, lit< tt)
+high_is_start z class w = start_with_is_start z class _ (record { byte = 255; attribute = 255 }) w refl
+    (lit< tt, lit< tt)
     (omega arith, omega arith) (omega arith, omega arith) (lit< tt)

@@ -18,16 +18,16 @@ use Rattle.ans_model.specs.Screen.Step.{blank_cell, filled, next_row_start, dest
 use Rattle.ans_model.specs.Screen.Step.{advanced, step}
 use Rattle.ans_model.proofs.Attributes.{attribute_after_all_lt}
 
-destination_on : (z : Size) (t : TokenKind) (p : Position) → 0 < z.width → IsOnScreen z p
+destination_on_screen : (z : Size) (t : TokenKind) (p : Position) → 0 < z.width → IsOnScreen z p
     → IsOnScreen z (destination z t p)
-destination_on z (Up n) p w h = (omega arith, h.1)
-destination_on z (Down n) p w h = (omega arith, h.1)
-destination_on z (Forward n) p w h = (h.0, omega arith)
-destination_on z (Backward n) p w h = (h.0, omega arith)
-destination_on z (Place row column) p w h = (omega arith, omega arith)
-destination_on z BackSpace p w h = (h.0, omega arith)
-destination_on z CarriageReturn p w h = (h.0, omega arith)
-destination_on z _ p w h = h
+destination_on_screen z (Up n) p w h = (omega arith, h.1)
+destination_on_screen z (Down n) p w h = (omega arith, h.1)
+destination_on_screen z (Forward n) p w h = (h.0, omega arith)
+destination_on_screen z (Backward n) p w h = (h.0, omega arith)
+destination_on_screen z (Place row column) p w h = (omega arith, omega arith)
+destination_on_screen z BackSpace p w h = (h.0, omega arith)
+destination_on_screen z CarriageReturn p w h = (h.0, omega arith)
+destination_on_screen z _ p w h = h
 
 length-filled : (cells : List Cell) (i j : ℕ) (c : Cell) → i ≤ j → j ≤ length cells
     → length (filled cells i j c) ≡ length cells
@@ -42,9 +42,9 @@ All-filled cells i j c h k =
     (All-drop IsByteCell j cells k)
 
 -- a state with another cursor on the screen
-moved_well : (z : Size) (s : State) (p : Position) → IsWellFormed z s → IsOnScreen z p
+well_formed_with_cursor : (z : Size) (s : State) (p : Position) → IsWellFormed z s → IsOnScreen z p
     → IsWellFormed z (record s { cursor = p })
-moved_well z s p h on = record {
+well_formed_with_cursor z s p h on = record {
   fits = record { cells = h.fits.cells; cursor = on; saved = h.fits.saved };
   bytes =
       h.bytes;
@@ -52,9 +52,9 @@ moved_well z s p h on = record {
 }
 
 -- a state with other cells of the screen
-painted_well : (z : Size) (s : State) (cells : List Cell) → IsWellFormed z s → length cells ≡ length s.screen
+well_formed_with_screen : (z : Size) (s : State) (cells : List Cell) → IsWellFormed z s → length cells ≡ length s.screen
     → All IsByteCell cells → IsWellFormed z (record s { screen = cells })
-painted_well z s cells h e all =
+well_formed_with_screen z s cells h e all =
     record {
       fits = record { cells = e ∙ h.fits.cells; cursor = h.fits.cursor; saved = h.fits.saved };
       bytes =
@@ -68,32 +68,33 @@ blank_is_byte a h = (lit< tt, h)
 row_le : (z : Size) (s : State) → IsWellFormed z s → z.width ≤ length s.screen
 row_le z s h = rw h.fits.cells (omega (arith, mul-le 1 z.width (z.lines + 1) z.width (omega arith) (omega arith)))
 
-scroll_well : (z : Size) (s : State) → IsWellFormed z s → IsWellFormed z (scrolled z s)
-scroll_well z s h =
-    painted_well z s (drop z.width s.screen ++ replicate z.width (blank_cell s.attribute)) h
+well_formed_scrolled : (z : Size) (s : State) → IsWellFormed z s → IsWellFormed z (scrolled z s)
+well_formed_scrolled z s h =
+    well_formed_with_screen z s (drop z.width s.screen ++ replicate z.width (blank_cell s.attribute)) h
     (let fits : z.width ≤ length s.screen = row_le z s h in
     simp (length-append, length-drop, length-replicate) (omega arith))
     (All-append IsByteCell (drop z.width s.screen) (replicate z.width (blank_cell s.attribute))
     (All-drop IsByteCell z.width s.screen h.bytes)
     (All-replicate IsByteCell z.width (blank_cell s.attribute) (blank_is_byte s.attribute h.attribute)))
 
-line_feed_well : (z : Size) (s : State) → IsWellFormed z s → IsWellFormed z (line_feed z s)
-line_feed_well z s h = elim (cases_eq s.cursor.row z.lines) [
-  | inl e ↦ rw (eq-eqb s.cursor.row z.lines e) (scroll_well z s h)
+well_formed_after_line_feed : (z : Size) (s : State) → IsWellFormed z s → IsWellFormed z (line_feed z s)
+well_formed_after_line_feed z s h = elim (cases_eq s.cursor.row z.lines) [
+  | inl e ↦ rw (eq-eqb s.cursor.row z.lines e) (well_formed_scrolled z s h)
   | inr ne ↦ rw (ne_eqb s.cursor.row z.lines ne)
-      (moved_well z s (at (s.cursor.row + 1) s.cursor.column) h (omega (arith, h.fits.cursor.0), h.fits.cursor.1))
+      (well_formed_with_cursor z s (at (s.cursor.row + 1) s.cursor.column) h
+      (omega (arith, h.fits.cursor.0), h.fits.cursor.1))
 ]
 
-advance_well : (z : Size) (s : State) → 0 < z.width → IsWellFormed z s → IsWellFormed z (advanced z s)
-advance_well z s w h = elim (cases_lt (s.cursor.column + 1) z.width) [
+well_formed_after_print : (z : Size) (s : State) → 0 < z.width → IsWellFormed z s → IsWellFormed z (advanced z s)
+well_formed_after_print z s w h = elim (cases_lt (s.cursor.column + 1) z.width) [
   | inl more ↦ rw (lt-ltb (s.cursor.column + 1) z.width more)
-      (moved_well z s (at s.cursor.row (s.cursor.column + 1)) h (h.fits.cursor.0, more))
+      (well_formed_with_cursor z s (at s.cursor.row (s.cursor.column + 1)) h (h.fits.cursor.0, more))
   | inr last ↦ rw (le-ltb (s.cursor.column + 1) z.width last) (wrapped s.wrap)
 ]
   where
     wrapped : (b : Bool) → IsWellFormed z (if b then line_feed z (record s { cursor = at s.cursor.row 0 }) else s)
-    wrapped true = line_feed_well z (record s { cursor = at s.cursor.row 0 })
-        (moved_well z s (at s.cursor.row 0) h (h.fits.cursor.0, w))
+    wrapped true = well_formed_after_line_feed z (record s { cursor = at s.cursor.row 0 })
+        (well_formed_with_cursor z s (at s.cursor.row 0) h (h.fits.cursor.0, w))
     wrapped false = h
 
 -- where a row begins and ends
@@ -107,9 +108,9 @@ same_fits : (z : Size) (s t : State) → FitsScreen z s → s.screen ≡ t.scree
     → FitsScreen z t
 same_fits z s t h e f g = record { cells = rw (← e) h.cells; cursor = rw (← f) h.cursor; saved = rw (← g) h.saved }
 
-pub step_well : (z : Size) (s : State) (t : TokenKind) → PrintsByte t → 0 < z.width → IsWellFormed z s
+pub well_formed_after_step : (z : Size) (s : State) (t : TokenKind) → PrintsByte t → 0 < z.width → IsWellFormed z s
     → IsWellFormed z (step z s t)
-step_well z s Clear b w h = record {
+well_formed_after_step z s Clear b w h = record {
   fits = record {
     cells = length-replicate (cell_count z) (blank_cell s.attribute);
     cursor = (omega arith, w);
@@ -119,38 +120,40 @@ step_well z s Clear b w h = record {
   bytes = All-replicate IsByteCell (cell_count z) (blank_cell s.attribute) (blank_is_byte s.attribute h.attribute);
   attribute = h.attribute;
 }
-step_well z s EraseLine b w h =
-    painted_well z s (filled s.screen (index z s.cursor) (next_row_start z s.cursor) (blank_cell s.attribute)) h
+well_formed_after_step z s EraseLine b w h =
+    well_formed_with_screen z s (filled s.screen (index z s.cursor) (next_row_start z s.cursor)
+    (blank_cell s.attribute)) h
     (length-filled s.screen (index z s.cursor) (next_row_start z s.cursor) (blank_cell s.attribute)
     (index_le z s.cursor h.fits.cursor)
     (rw h.fits.cells (row_end_le z s.cursor h.fits.cursor)))
     (All-filled s.screen (index z s.cursor) (next_row_start z s.cursor) (blank_cell s.attribute)
     (blank_is_byte s.attribute h.attribute) h.bytes)
-step_well z s Save b w h =
+well_formed_after_step z s Save b w h =
     record {
       fits = record { cells = h.fits.cells; cursor = h.fits.cursor; saved = h.fits.cursor };
       bytes =
           h.bytes;
       attribute = h.attribute;
     }
-step_well z s Restore b w h = moved_well z s s.saved h h.fits.saved
-step_well z s (Colours ps) b w h =
+well_formed_after_step z s Restore b w h = well_formed_with_cursor z s s.saved h h.fits.saved
+well_formed_after_step z s (Colours ps) b w h =
     record {
       fits = same_fits z s (record s { attribute = attribute_after_all s.attribute ps }) h.fits refl refl refl;
       bytes = h.bytes;
       attribute = attribute_after_all_lt s.attribute ps h.attribute;
     }
-step_well z s (Wrap on) b w h = record {
+well_formed_after_step z s (Wrap on) b w h = record {
   fits = same_fits z s (record s { wrap = on }) h.fits refl refl refl;
   bytes =
       h.bytes;
   attribute = h.attribute;
 }
-step_well z s LineFeed b w h = line_feed_well z s h
-step_well z s (Glyph byte) b w h =
+well_formed_after_step z s LineFeed b w h = well_formed_after_line_feed z s h
+well_formed_after_step z s (Glyph byte) b w h =
     let cell : Cell = record { byte = byte; attribute = s.attribute } in
-    advance_well z (record s { screen = set s.screen (index z s.cursor) cell }) w
-    (painted_well z s (set s.screen (index z s.cursor) cell) h
+    well_formed_after_print z (record s { screen = set s.screen (index z s.cursor) cell }) w
+    (well_formed_with_screen z s (set s.screen (index z s.cursor) cell) h
     (length-set s.screen (index z s.cursor) cell)
     (All-set IsByteCell s.screen (index z s.cursor) cell (b, h.attribute) h.bytes))
-step_well z s t b w h = moved_well z s (destination z t s.cursor) h (destination_on z t s.cursor w h.fits.cursor)
+well_formed_after_step z s t b w h = well_formed_with_cursor z s (destination z t s.cursor) h
+    (destination_on_screen z t s.cursor w h.fits.cursor)

@@ -13,7 +13,7 @@ use Rattle.ans_model.specs.Verdict.TokenFault.{HasStaticFault, HasFaultAfter, Ha
 use Rattle.ans_model.specs.declared.fault.Cause.{Cause}
 use Rattle.ans_model.specs.declared.fault.Cause.TheVariants.{KeyReassigned, ScreenMode, ReportAsked, TabByte, OutsideScreen, PrintBelow, Scrolls, PrintUnknownPlace, EraseUnknownPlace, MayScroll}
 use Rattle.ans_model.proofs.StartLemmas.{low_is_start, high_is_start}
-use Rattle.ans_model.proofs.WellFormed.{step_well}
+use Rattle.ans_model.proofs.WellFormed.{well_formed_after_step}
 use Rattle.ans_play.specs.declared.span.Span.{Span}
 use Rattle.ans_play.specs.HalfState.{HalfState}
 use Rattle.ans_play.specs.Hull.{hull}
@@ -47,7 +47,7 @@ known_more z class played h t w byte st ok =
           (rw st.is_hull at ok)));
       describes = λ s start. rw (final_more z s played t)
           (step_describes z h (final z s played) t (st.well_formed s start).fits.cursor (st.describes s start) ok);
-      well_formed = λ s start. rw (final_more z s played t) (step_well z (final z s played) t byte w (st.well_formed s start));
+      well_formed = λ s start. rw (final_more z s played t) (well_formed_after_step z (final z s played) t byte w (st.well_formed s start));
     }
 
 -- ---- places

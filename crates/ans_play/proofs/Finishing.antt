@@ -21,7 +21,7 @@ use Rattle.ans_model.specs.declared.fault.Fault.{Fault}
 use Rattle.ans_tokens.specs.Scanning.{Scanning, Holds}
 use Rattle.ans_model.specs.declared.fault.Cause.TheVariants.{EndInSequence, UnknownCell}
 use Rattle.ans_model.proofs.StartLemmas.{low_is_start, high_is_start}
-use Rattle.ans_model.proofs.Reading.{reads_law}
+use Rattle.ans_model.proofs.Reading.{one_reading}
 use Rattle.ans_model.proofs.OneAnswer.{good_or_last}
 use Rattle.ans_screen.specs.KnownBits.{known_bits}
 use Rattle.ans_screen.specs.Cells.{half_cell, is_known}
@@ -162,7 +162,7 @@ module _ (z : Size) (class : Class) (bytes : List ℕ) (scanner : Scanning) (h :
 
   not_good_if : p.open_part ≡ [] → (i : ℕ) → FirstUnknown h.screen (z.lines * z.width) i → ¬ IsGood z class bytes
   not_good_if e i u (picture, good) =
-      let same : good.tokens ≡ p.tokens = reads_law bytes good.tokens p.tokens good.reads (read_whole e) in
+      let same : good.tokens ≡ p.tokens = one_reading bytes good.tokens p.tokens good.reads (read_whole e) in
       let shown : Shows z class p.tokens picture = rw same at good.shows in
       let first : IsFirstUnknown z class p.tokens (place_of z i) = first_is z class p.tokens h p.size.some_columns p.known i u in
       let d : CellsDiffer z class p.tokens (place_of z i) = first.differs in

@@ -3,7 +3,7 @@ use Rattle.std.proofs.Common.{◌≡◌, ◌++◌, List, ℕ, true, false, codes
 use Rattle.std.specs.List.{flat_map}
 use Rattle.ans_model.specs.Verdict.Good.{Picture, IsPictureOf}
 use Rattle.ans_model.specs.Text.ReportText.{Heading, Passed, heading_text, report_text, rows_of, picture_line, cells_line}
-use Rattle.ans_model.proofs.CellsBack.{picture_law}
+use Rattle.ans_model.proofs.CellsBack.{cells_of_picture_back}
 use Rattle.ans_report.specs.declared.report.Report.{Report}
 use Rattle.ans_report.specs.declared.report.Report.TheVariants.{Pass, Refused}
 use Rattle.ans_report.specs.Reports.{EndsInCells, TellsCells}
@@ -16,7 +16,7 @@ ends_in_cells h p whole = record {
   front = heading_text h ++ (codes "verdict: pass\npicture:\n" ++ flat_map picture_line (rows_of p));
   digits = flat_map cells_line (rows_of p);
   whole = cells_last (heading_text h) (codes "verdict: pass\npicture:\n") (flat_map picture_line (rows_of p)) (codes "cells:\n" ++ flat_map cells_line (rows_of p));
-  read_back = picture_law p.size p whole;
+  read_back = cells_of_picture_back p.size p whole;
 }
 
 -- the picture, where there is one, has a cell at each place

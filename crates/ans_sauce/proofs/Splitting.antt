@@ -1,4 +1,5 @@
 -- A file is split as it is laid out, or gets its first refusal.
+use Rattle.std.proofs.lemmas.Bool.{and_parts}
 use Rattle.std.proofs.Common.{◌≡◌, ℕ, suc, ◌+◌, ◌-◌, ◌*◌, ◌≤◌, ◌<◌, Bool, true, false, not, ◌&&◌, ◌||◌, ◌==◌, nat_lt}
 use Rattle.std.proofs.Common.{List, [], ◌∷◌, ◌++◌, length, take, drop, codes, refl, ap, ap₂, sym, ◌∙◌, arith}
 use Rattle.std.proofs.Common.{append_assoc, length-append, length-drop, bytes_eq, nat_le, Option, Some, None}
@@ -18,7 +19,6 @@ use Rattle.ans_model.specs.File.Layout.{is_end_mark, is_clean_end}
 use Rattle.ans_model.specs.File.Refusals.{Refusal, first_refusal, fault_at, refused_if, block_size, has_block}
 use Rattle.ans_model.specs.File.Refusals.{has_record, refusals, record_fault, Accepts}
 use Rattle.ans_model.proofs.Layouts.{accepted, one_layout, le_true}
-use Rattle.ans_model.proofs.Spelling.{both}
 use Rattle.memchr.specs.Find.{IsFirstByte}
 use Rattle.ans_sauce.specs.Split.{IsCut, record_refusals}
 
@@ -252,7 +252,7 @@ no_refusal file front body comment_bytes r rest h e = last_refusal file front bo
 laid_out : (file front body comment_bytes r rest : List ℕ) → HasEnd file front body comment_bytes r rest
     → Laid file (file_parts body comment_bytes r)
 laid_out file front body comment_bytes r rest h =
-    let found = both (nat_le 128 (length file)) (bytes_eq (take 5 (drop (length file - 128) file)) (codes "SAUCE"))
+    let found = and_parts (nat_le 128 (length file)) (bytes_eq (take 5 (drop (length file - 128) file)) (codes "SAUCE"))
     (sym h.record_there.found) in
     let long : 128 ≤ length file = le_true 128 (length file) found.0 in
     let record_is = h.record_there.record_is in

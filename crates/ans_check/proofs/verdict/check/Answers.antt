@@ -1,6 +1,6 @@
 use Rattle.std.proofs.Common.{ap₂, ◌∙◌, ◌≡◌}
 use Rattle.ans_model.specs.Screen.State.{sized}
-use Rattle.ans_model.proofs.FirstRefusal.{within_law}
+use Rattle.ans_model.proofs.FirstRefusal.{refusal_within_file}
 use Rattle.ans_sauce.specs.Parts.{width_of, lines_of}
 use Rattle.ans_check.proofs.VerdictLemmas.{passes, refuses, refused_not_good, record_not_good, record_certain}
 use Rattle.ans_check.proofs.VerdictLemmas.{no_refusal}
@@ -13,7 +13,7 @@ pub returns-in-Err-clause-certain : goal.returns-in-Err-clause-certain
 returns-in-Err-clause-certain g c cleared = record_certain c.args.file.now c.in-Err.fault c.in-Err.ensures.err
 
 pub returns-in-Err-clause-offset : goal.returns-in-Err-clause-offset
-returns-in-Err-clause-offset g c = within_law c.args.file.now c.in-Err.fault c.in-Err.ensures.err
+returns-in-Err-clause-offset g c = refusal_within_file c.args.file.now c.in-Err.fault c.in-Err.ensures.err
 
 pub returns-in_err-player-clause-memory : goal.returns-in_err-player-clause-memory
 returns-in_err-player-clause-memory g c some = absurd (no_refusal c.args.file.now c.in-Ok.parts c.in-Ok.ensures.ok some)

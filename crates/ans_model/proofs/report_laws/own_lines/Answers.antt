@@ -1,11 +1,11 @@
-use Rattle.ans_model.proofs.OwnLines.{fault_law, text_law, note_law}
+use Rattle.ans_model.proofs.OwnLines.{line_tells_fault, text_tells_cause, line_tells_note}
 use Rattle.ans_model.proofs.report_laws.own_lines.Goals as goal
 
 pub returns-clause-fault : goal.returns-clause-fault
-returns-clause-fault c = fault_law
+returns-clause-fault c = line_tells_fault
 
 pub returns-clause-cause : goal.returns-clause-cause
-returns-clause-cause c = text_law
+returns-clause-cause c = text_tells_cause
 
 pub returns-clause-note : goal.returns-clause-note
-returns-clause-note c = note_law
+returns-clause-note c = line_tells_note
