@@ -11,6 +11,7 @@ abbrev all_below : ℕ → (ℕ → Bool) → Bool
 all_below zero p = true
 all_below (suc n) p = p n && all_below n p
 
+-- a test that holds below n holds at each number below n
 holds_at_each : (n : ℕ) (p : ℕ → Bool) → all_below n p ≡ true → (k : ℕ) → k < n → p k ≡ true
 holds_at_each zero p h k lt = absurd (omega arith)
 holds_at_each (suc n) p h k lt = elim (cases_eq k n) [
@@ -18,9 +19,11 @@ holds_at_each (suc n) p h k lt = elim (cases_eq k n) [
   | inr ne ↦ holds_at_each n p (and_parts (p n) (all_below n p) h).1 k (omega arith)
 ]
 
+-- an attribute has these fields, as a test
 abbrev has_fields : ℕ → ℕ → ℕ → ℕ → ℕ → Bool
 has_fields new f b g l = foreground new == f && (bright new == b && (background new == g && blink new == l))
 
+-- an attribute that passes the test has the fields
 fields_of_test : (new f b g l : ℕ) → has_fields new f b g l ≡ true → HasFields new f b g l
 fields_of_test new f b g l h =
     let one = and_parts (foreground new == f) (bright new == b && (background new == g && blink new == l)) h in
@@ -33,6 +36,7 @@ fields_of_test new f b g l h =
       blink_is = eqb-true (blink new) l three.1;
     }
 
+-- each of the tests below is run on all attributes
 reset_all : all_below 256 (λ a. has_fields (attribute_after a 0) 7 0 0 0) ≡ true
 reset_all = refl
 

@@ -12,9 +12,11 @@ pub record IsByteRendition (r : Rendition) : Type 0 where
   pub mask : r.mask < 2 ^ 8
   pub set : r.set < 2 ^ 8
 
+-- the mask and the set bits are bytes, as a test
 abbrev fits : Rendition → Bool
 fits r = nat_lt r.mask 256 && nat_lt r.set 256
 
+-- what is found in a table of bytes is bytes
 found_fits : (rs : List Rendition) (p : ℕ) → list_all fits rs ≡ true → IfSome (rendition_of rs p) IsByteRendition
 found_fits [] p h = tt
 found_fits (r ∷ rs) p h =
@@ -29,9 +31,11 @@ found_fits (r ∷ rs) p h =
         record { mask = ltb-true r.mask 256 bytes.0; set = ltb-true r.set 256 bytes.1 }
     here false f more = more
 
+-- the renditions are bytes
 pub rendition_fits : (p : ℕ) → IfSome (rendition_of renditions p) IsByteRendition
 rendition_fits p = found_fits renditions p refl
 
+-- a rendition of bytes leaves a byte a byte
 attribute_by_lt : (o : Option Rendition) (a : ℕ) → IfSome o IsByteRendition → a < 2 ^ 8 → attribute_by o a < 2 ^ 8
 attribute_by_lt None a f h = h
 attribute_by_lt (Some r) a f h = or_of_8 (bit_and a r.mask) r.set (omega (arith, and_le_r a r.mask, f.mask)) f.set

@@ -22,6 +22,7 @@ byte_back b h =
     let low : b % 16 < 16 = omega arith in
     omega (arith, digit_back (b / 16) high, digit_back (b % 16) low)
 
+-- the digits of a row give back its cells
 cells_of_row_back : (row : List Cell) → All IsByteCell row → cells_back (flat_map cell_digits row) ≡ row
 cells_of_row_back [] h = refl
 cells_of_row_back (c ∷ row) h =
@@ -30,10 +31,12 @@ cells_of_row_back (c ∷ row) h =
     (λ i. record { byte = byte_back c.byte byte.0 i; attribute = byte_back c.attribute byte.1 i })
     (cells_of_row_back row (All-tail IsByteCell c row h))
 
+-- a row has four digits a cell
 row_size : (row : List Cell) → length (flat_map cell_digits row) ≡ 4 * length row
 row_size [] = refl
 row_size (c ∷ row) = let ih = row_size row in omega (arith, ih)
 
+-- the lines of rows give back their cells
 cells_of_rows_back : (w l : ℕ) (cells : List Cell) → length cells ≡ w * l → All IsByteCell cells
     → picture_back w l (flat_map cells_line (rows w l cells)) ≡ cells
 cells_of_rows_back w zero cells h a = sym (nil_from_length cells (omega (arith, h)))
@@ -54,6 +57,7 @@ cells_of_rows_back w (suc l) cells h a =
     ap₂ (λ (u v : List Cell). u ++ v) (ap cells_back first ∙ cells_of_row_back row (All-take IsByteCell w cells a))
     (ap (λ (v : List ℕ). picture_back w l v) left ∙ ih) ∙ take-append-drop w cells
 
+-- the lines of a picture give back its cells
 pub cells_of_picture_back : (z : Size) (picture : Picture) → IsPictureOf z picture
     → picture_back z.width z.lines (flat_map cells_line (rows_of picture)) ≡ picture.cells
 cells_of_picture_back z picture h =

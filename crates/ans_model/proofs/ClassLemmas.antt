@@ -26,6 +26,7 @@ state_of : List Cell → Position → Position → ℕ → Bool → State
 state_of screen cursor saved attribute wrap =
     record { screen = screen; cursor = cursor; saved = saved; attribute = attribute; wrap = wrap }
 
+-- states of equal parts are equal
 same_state : (x y : List Cell) (c d s t : Position) (a b : ℕ) (v w : Bool) → x ≡ y → c ≡ d → s ≡ t → a ≡ b → v ≡ w
     → state_of x c s a v ≡ state_of y d t b w
 same_state x y c d s t a b v w p q r u e = cc

@@ -47,6 +47,7 @@ found_first (r ∷ rs) f e = here r.applies (found_first rs f) refl e
           fault_is = more.fault_is;
         }
 
+-- refusals that do not apply are passed over
 earlier_are_skipped : (earlier : List Refusal) (r : Refusal) (later : List Refusal)
     → All (λ (q : Refusal). IsFalse q.applies) earlier → IsTrue r.applies
     → first_refusal (earlier ++ r ∷ later) ≡ Some (fault_at r.offset r.cause)
@@ -55,10 +56,12 @@ earlier_are_skipped (e ∷ earlier) r later n a =
     let no : e.applies ≡ false = All-head (λ (q : Refusal). IsFalse q.applies) e earlier n in
     rw no (earlier_are_skipped earlier r later (All-tail (λ (q : Refusal). IsFalse q.applies) e earlier n) a)
 
+-- the first that applies is the fault
 first_is : (rs : List Refusal) (f : Fault) → IsFirstThatApplies rs f → first_refusal rs ≡ Some f
 first_is rs f h = ap first_refusal h.whole ∙ earlier_are_skipped h.earlier h.refusal h.later h.none_earlier h.applies
     ∙ ap (λ (v : Fault). Some v) (sym h.fault_is)
 
+-- a fault is that of the first refusal that applies, and the other way round
 pub answers_first_that_applies : (file : List ℕ) (f : Fault) → (record_fault file ≡ Some f)
     ↔ IsFirstThatApplies (file_refusals file) f
 answers_first_that_applies file f = (found_first (file_refusals file) f, first_is (file_refusals file) f)
@@ -75,6 +78,7 @@ within_first n (r ∷ rs) h = here r.applies (within_first n rs h.1)
     here true behind = h.0
     here false behind = behind
 
+-- the first byte that is no end mark lies in the body
 content_and_end : (body : List ℕ) → length (content body) + position_or_len (λ b. not (is_end_mark b))
     (after_content body) ≤ length body
 content_and_end body =
@@ -84,6 +88,7 @@ content_and_end body =
     (prefix_len-le-length (λ b. not (not (is_end_mark b))) (after_content body)) in
     omega (arith, front, behind)
 
+-- each refusal of a record has its offset in the file
 refusals_within : (n : ℕ) (front record_bytes : List ℕ) → length front + 128 ≡ n
     → AllByRecursion (λ r. r.offset ≤ n) (refusals front record_bytes)
 refusals_within n front record_bytes e =
@@ -95,6 +100,7 @@ refusals_within n front record_bytes e =
       (omega arith, (omega arith, (omega arith, (omega arith, (omega arith, (omega (arith, short, end, e), tt)))))),
     )
 
+-- so has each refusal of a file
 file_within : (file : List ℕ) (b : Bool) → has_record file ≡ b
     → IfSome (record_fault file) (λ f. f.offset ≤ length file)
 file_within file false e = rw e (omega arith)
@@ -105,5 +111,6 @@ file_within file true e =
     rw e (within_first (length file) (refusals (take (length file - 128) file) (drop (length file - 128) file))
     (refusals_within (length file) (take (length file - 128) file) (drop (length file - 128) file) front))
 
+-- the offset of a fault of the record lies in the file or at its end
 pub refusal_within_file : (file : List ℕ) (f : Fault) → record_fault file ≡ Some f → f.offset ≤ length file
 refusal_within_file file f e = rw e at (file_within file (has_record file) refl)

@@ -66,6 +66,7 @@ record Cut (n : ℕ) (front : List ℕ) : Type 0 where
   size : length comment_bytes ≡ 64 * n
   whole : front ≡ take (length front - block_size n) front ++ comment_block n comment_bytes
 
+-- a front that has a block ends in one
 block_cut : (c : Bool) (n : ℕ) (front : List ℕ) → (n == 0) ≡ c → has_block n front ≡ true → Cut n front
 block_cut true n front e h =
     let zero : n ≡ 0 = eq_true n 0 e in
@@ -157,6 +158,7 @@ record Found (n : ℕ) (body front : List ℕ) : Type 0 where
   has : has_block n front ≡ true
   body_is : take (length front - block_size n) front ≡ body
 
+-- the block of a front is found, and its body
 block_found : (c : Bool) (n : ℕ) (body comment_bytes : List ℕ) → (n == 0) ≡ c → length comment_bytes ≡ 64 * n
     → Found n body (body ++ comment_block n comment_bytes)
 block_found true n body comment_bytes e s =
@@ -244,6 +246,7 @@ pub record Cuts (file front record_bytes : List ℕ) : Type 0 where
   pub front_is : take (length file - 128) file ≡ front
   pub sauce_is : drop (length file - 128) file ≡ record_bytes
 
+-- the last 128 bytes are the record
 last_bytes_are_record : (file : List ℕ) (parts : FileParts) → Laid file parts
     → Cuts file (parts.body ++ comment_block (comment_count parts.record_bytes) parts.comment_bytes) parts.record_bytes
 last_bytes_are_record file parts h =

@@ -8,11 +8,13 @@ use Rattle.ans_model.specs.declared.note.Note.TheVariants.{FlagPair}
 use Rattle.ans_model.specs.File.Notes.{note_if, notes}
 use Rattle.ans_model.specs.Laws.FileLaws.{note_number}
 
+-- each number is less than the next
 abbrev rises : List ℕ → Bool
 rises [] = true
 rises (x ∷ []) = true
 rises (x ∷ y ∷ xs) = nat_lt x y && rises (y ∷ xs)
 
+-- a list that passes the test rises
 increasing : (xs : List ℕ) → rises xs ≡ true → IsStrictlyIncreasing xs
 increasing [] h k l = absurd (omega arith)
 increasing (x ∷ []) h k l = absurd (omega arith)
@@ -25,14 +27,17 @@ increasing (x ∷ y ∷ xs) h (suc k) l =
 abbrev every : (Bool → Bool) → Bool
 every q = q true && q false
 
+-- what holds for both truths holds for each
 every_at : (q : Bool → Bool) → every q ≡ true → (b : Bool) → q b ≡ true
 every_at q h true = (and_parts (q true) (q false) h).0
 every_at q h false = (and_parts (q true) (q false) h).1
 
+-- the numbers of the notes whose tests hold
 abbrev numbers : Bool → Bool → Bool → Bool → Bool → Bool → List ℕ
 numbers a b c d e f = map note_number (note_if a WidthAssumed ++ note_if b NoEndMark ++ note_if c SizeDiffers
     ++ note_if d OddDate ++ note_if e FlagBits ++ note_if f FlagPair)
 
+-- they rise, whichever tests hold
 numbers_rise : (a b c d e f : Bool) → rises (numbers a b c d e f) ≡ true
 numbers_rise a b c d e f =
     every_at (λ f'. rises (numbers a b c d e f'))

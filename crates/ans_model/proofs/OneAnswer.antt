@@ -38,6 +38,7 @@ abbrev Longer : List TokenKind → List TokenKind → List ℕ → List ℕ → 
 Longer ts us x y = (more : List TokenKind) × (texts : List (List ℕ)) × AllZip SpellsToken more texts
     × (us ≡ ts ++ more) × (x ≡ concat texts ++ y)
 
+-- of two readings of one front, one goes on with the other
 readings_split : (ts us : List TokenKind) (xs zs : List (List ℕ)) (x y : List ℕ) → AllZip SpellsToken ts xs
     → AllZip SpellsToken us zs → concat xs ++ x ≡ concat zs ++ y → Longer ts us x y ⊎ Longer us ts y x
 readings_split [] us [] zs x y h g e = inl (us, zs, g, refl, e)
@@ -60,6 +61,7 @@ record ReadsWith (bytes : List ℕ) (tokens : List TokenKind) (left : List ℕ) 
   reads : Reads front tokens
   whole : bytes ≡ front ++ left
 
+-- the same of readings with what is left
 reads_split : (bytes : List ℕ) (ts us : List TokenKind) (x y : List ℕ) → ReadsWith bytes ts x → ReadsWith bytes us y
     → Longer ts us x y ⊎ Longer us ts y x
 reads_split bytes ts us x y h g =
@@ -344,10 +346,12 @@ why_certain text byte c (inl h) = rw h.1 tt
 why_certain text byte c (inr (inl h)) = rw h.2 tt
 why_certain text byte c (inr (inr h)) = rw h.2 tt
 
+-- what the reading refuses is certain
 pub refused_certain : (text : List ℕ) (c : Cause) → IsRefused text c → IsCertain c
 refused_certain text c (inl h) = rw h.means at (means_well h.raw)
 refused_certain text c (inr h) = why_certain text h.byte c h.why
 
+-- from the cleared start a first fault is certain
 pub first_is_certain : (z : Size) (bytes : List ℕ) (f : Fault) → IsFirstFault z (class_of Cleared) bytes f
     → IsCertain f.cause
 first_is_certain z bytes f h = elim h.faulty [
@@ -355,6 +359,7 @@ first_is_certain z bytes f h = elim h.faulty [
   | inr r ↦ refused_certain h.text f.cause r
 ]
 
+-- from the cleared start a last fault is certain
 pub last_is_certain : (z : Size) (bytes : List ℕ) (f : Fault) → IsLastFault z (class_of Cleared) bytes f
     → IsCertain f.cause
 last_is_certain z bytes f (inl h) = rw h.fault_is tt

@@ -23,6 +23,7 @@ static_cause Tab = Some TabByte
 static_cause (Place row column) = Some OutsideScreen
 static_cause _ = None
 
+-- a static fault is the one of its kind
 cause_of_static_fault : (z : Size) (t : TokenKind) (c : Cause) → HasStaticFault z t c → static_cause t ≡ Some c
 unfolding static_cause
 cause_of_static_fault z Keys KeyReassigned h = refl
@@ -32,6 +33,7 @@ cause_of_static_fault z Tab TabByte h = refl
 cause_of_static_fault z (Place row column) OutsideScreen h = refl
 cause_of_static_fault z _ _ h = absurd h
 
+-- it is certain
 static_certain : (t : TokenKind) → IfSome (static_cause t) IsCertain
 unfolding static_cause
 static_certain Keys = tt
@@ -49,6 +51,7 @@ fault_of_glyph_after z class played byte PrintUnknownPlace h = inl (refl, h)
 fault_of_glyph_after z class played byte PrintBelow h = inr (refl, h.0)
 fault_of_glyph_after z class played byte _ h = absurd h
 
+-- what a fault of erasing says of the starts
 fault_of_erasing_after : (z : Size) (class : Class) (played : List TokenKind) (c : Cause)
     → HasFaultAfter z class played EraseLine c → (c ≡ EraseUnknownPlace) × PositionsDiffer z class played
 fault_of_erasing_after z class played EraseUnknownPlace h = (refl, h)
@@ -59,6 +62,7 @@ abbrev MayStandInSpareRow : Size → Class → List TokenKind → Type 0
 MayStandInSpareRow z class played = FromSome z class (IsInSpareRow z played)
     × FromSome z class (λ s. ¬ IsInSpareRow z played s)
 
+-- what a fault of a line feed says of the starts
 fault_of_line_feed_after : (z : Size) (class : Class) (played : List TokenKind) (c : Cause)
     → HasFaultAfter z class played LineFeed c
     → ((c ≡ Scrolls) × FromEvery z class (IsInSpareRow z played))
@@ -81,6 +85,7 @@ not_same_and_different_position : (z : Size) (class : Class) (played : List Toke
     → SamePosition z class played → ⊥
 not_same_and_different_position z class played h g = h.4 (g h.0 h.1 h.2 h.3)
 
+-- a cursor is not in the spare row both always and not always
 not_always_and_sometimes_in_spare_row : (z : Size) (class : Class) (played : List TokenKind)
     → FromEvery z class (IsInSpareRow z played)
     → MayStandInSpareRow z class played → ⊥
@@ -156,6 +161,7 @@ cleared_start_has_one_row : (z : Size) (played : List TokenKind) → MayStandInS
 cleared_start_has_one_row z played h = h.1.2
     (subst (IsInSpareRow z played) (cleared_is_one z h.0.0 h.1.0 h.0.1 h.1.1) h.0.2)
 
+-- from the cleared start a fault of a token is certain
 certain_after : (z : Size) (played : List TokenKind) (t : TokenKind) (c : Cause)
     → HasFaultAfter z (class_of Cleared) played t c → IsCertain c
 certain_after z played (Glyph byte) c h = elim (fault_of_glyph_after z (class_of Cleared) played byte c h) [
@@ -174,6 +180,7 @@ certain_after z played _ c h = absurd h
 pub static_is_certain : (z : Size) (t : TokenKind) (c : Cause) → HasStaticFault z t c → IsCertain c
 static_is_certain z t c h = rw (cause_of_static_fault z t c h) at (static_certain t)
 
+-- so is each fault of a token, static or not
 pub certain_cause : (z : Size) (played : List TokenKind) (t : TokenKind) (c : Cause)
     → HasFault z (class_of Cleared) played t c → IsCertain c
 certain_cause z played t c (inl h) = static_is_certain z t c h

@@ -6,10 +6,12 @@ use Rattle.std.proofs.lemmas.Bool.{cases_eq, and_parts}
 use Rattle.std.proofs.lemmas.Bool.Decides.{nat_tests}
 use Rattle.ans_model.specs.Text.Characters.{low_glyphs, high_glyphs, glyph_text}
 
+-- the index of a number in a list
 abbrev place_in : List ℕ → ℕ → ℕ
 place_in [] c = 0
 place_in (d ∷ ds) c = if d == c then 0 else 1 + place_in ds c
 
+-- the byte that a character shows
 abbrev byte_of : ℕ → ℕ
 byte_of c =
     if nat_lt 0x1F c && nat_lt c 0x7F then c
@@ -29,13 +31,16 @@ below_at p (suc n) b h l = elim (cases_eq b n) [
   | inr ne ↦ below_at p n b (and_parts (p n) (all_below p n) h).1 (omega arith)
 ]
 
+-- the character of a byte gives the byte back, but for 00h
 is_found : ℕ → Bool
 is_found b = b == 0 || byte_of (glyph_text b) == b
 
+-- so it is for all bytes
 all_found : all_below is_found 256 ≡ true
 unfolding is_found
 all_found = refl
 
+-- the test says so of a byte above 0
 byte_of_its_character : (b : ℕ) → is_found b ≡ true → 0 < b → byte_of (glyph_text b) ≡ b
 unfolding is_found
 byte_of_its_character b h l = by_test (b == 0) (byte_of (glyph_text b) == b) refl h

@@ -30,6 +30,7 @@ use Rattle.ans_model.proofs.Spelling.{tail_of, one_run_before_stop}
 abbrev is_digit : ℕ → Bool
 is_digit c = nat_lt (digit_value c) 10
 
+-- the digits of a number pass the test
 all_digits : (ds : List ℕ) → AllDigits 10 ds → list_all is_digit ds ≡ true
 all_digits [] h = refl
 all_digits (d ∷ ds) h = rw (lt-ltb (digit_value d) 10 h.0) (all_digits ds h.1)
@@ -137,9 +138,11 @@ record IsPlain (c : Cause) : Type 0 where
   low : fault_number c < 25
   same : cause_of (fault_number c) ≡ c
 
+-- a cause that its number gives back
 is_plain : (c : Cause) → fault_number c < 25 → cause_of (fault_number c) ≡ c → IsPlain c ⊎ IsUnknownCell c
 is_plain c l e = inl (record { low = l; same = e })
 
+-- each cause but that of an unknown cell is given back by its number
 plain_or_unknown_cell : (c : Cause) → IsPlain c ⊎ IsUnknownCell c
 plain_or_unknown_cell (UnknownCell row col) = inr (row, col, refl)
 plain_or_unknown_cell NoRecord = is_plain NoRecord (omega arith) refl
@@ -167,6 +170,7 @@ plain_or_unknown_cell PrintUnknownPlace = is_plain PrintUnknownPlace (omega arit
 plain_or_unknown_cell EraseUnknownPlace = is_plain EraseUnknownPlace (omega arith) refl
 plain_or_unknown_cell MayScroll = is_plain MayScroll (omega arith) refl
 
+-- causes of one number are one, or both of unknown cells
 text_cases : (c d : Cause) → fault_number c ≡ fault_number d → IsPlain c ⊎ IsUnknownCell c
     → IsPlain d ⊎ IsUnknownCell d → (c ≡ d) ⊎ (IsUnknownCell c × IsUnknownCell d)
 text_cases c d e (inl p) (inl q) = inl (sym p.same ∙ ap cause_of e ∙ q.same)
@@ -174,12 +178,14 @@ text_cases c d e (inl p) (inr q) = absurd (omega (arith, p.low, e ∙ ap fault_n
 text_cases c d e (inr p) (inl q) = absurd (omega (arith, q.low, sym e ∙ ap fault_number p.2))
 text_cases c d e (inr p) (inr q) = inr (p, q)
 
+-- the text of a fault tells its cause
 pub text_tells_cause : (c d : Cause) → fault_text c ≡ fault_text d → (c ≡ d) ⊎ (IsUnknownCell c × IsUnknownCell d)
 text_tells_cause c d e =
     let same : fault_number c ≡ fault_number d = sym (text_number c [])
     ∙ ap (λ (v : List ℕ). number_on 0 (drop 1 (v ++ []))) e ∙ text_number d [] in
     text_cases c d same (plain_or_unknown_cell c) (plain_or_unknown_cell d)
 
+-- the text with the position of an unknown cell
 abbrev whole_text : Cause → List ℕ
 whole_text c = fault_text c ++ place_text c
 
@@ -187,6 +193,7 @@ same_number : (c d : Cause) → whole_text c ≡ whole_text d → fault_number c
 same_number c d e = sym (text_number c (place_text c)) ∙ ap (λ (v : List ℕ). number_on 0 (drop 1 v)) e
     ∙ text_number d (place_text d)
 
+-- the text of an unknown cell tells its position
 text_tells_position : (row col row' col' : ℕ) → PlaceFitsTypes (UnknownCell row col)
     → PlaceFitsTypes (UnknownCell row' col')
     → whole_text (UnknownCell row col) ≡ whole_text (UnknownCell row' col')
@@ -201,6 +208,7 @@ text_tells_position row col row' col' h g e =
     (append_cancel_left (codes " column ") (decimal col ++ codes ")") (decimal col' ++ codes ")") rows.1) in
     ap₂ UnknownCell rows.0 cols.0
 
+-- the whole text tells the cause
 whole_text_tells_cause : (c d : Cause) → PlaceFitsTypes c → PlaceFitsTypes d → whole_text c ≡ whole_text d → c ≡ d
 whole_text_tells_cause c d h g e =
     elim (text_cases c d (same_number c d e) (plain_or_unknown_cell c) (plain_or_unknown_cell d)) [
@@ -212,6 +220,7 @@ whole_text_tells_cause c d h g e =
 fault_path : (f g : Fault) → f.offset ≡ g.offset → f.cause ≡ g.cause → f ≡ g
 fault_path f g o c = λ i. record { offset = o i; cause = c i }
 
+-- the line of a fault tells its offset and cause
 pub line_tells_fault : (f g : Fault) → FitsTypes f → FitsTypes g → fault_line f ≡ fault_line g → f ≡ g
 line_tells_fault f g hf hg e =
     let line : (h : Fault) → (decimal h.offset ++ (codes ": " ++ whole_text h.cause)) ++ 0x0A ∷ [] ≡ decimal h.offset
@@ -243,5 +252,6 @@ note_back OddDate = refl
 note_back FlagBits = refl
 note_back FlagPair = refl
 
+-- the line of a note tells the note
 pub line_tells_note : (m n : Note) → note_line m ≡ note_line n → m ≡ n
 line_tells_note m n e = sym (note_back m) ∙ ap note_of e ∙ note_back n

@@ -26,12 +26,15 @@ row_le z a b h =
     ∙ ap (λ (n : ℕ). a * z.width + n) (one-mul z.width) in
     omega (arith, e, mul-le (a + 1) z.width b z.width (omega arith) (omega arith))
 
+-- a position in an earlier row has a smaller index
 pub index-lt_row : (z : Size) (p q : Position) → p.column < z.width → p.row < q.row → index z p < index z q
 index-lt_row z p q c r = omega (arith, row_le z p.row q.row r)
 
+-- a position on the screen has a cell
 pub index-lt : (z : Size) (p : Position) → IsOnScreen z p → index z p < cell_count z
 index-lt z p h = omega (arith, row_le z p.row (z.lines + 1) (omega (arith, h.0)), h.1)
 
+-- a position of the stated lines has a cell of the picture
 pub index-lt_stated : (z : Size) (p : Position) → IsStated z p → index z p < z.lines * z.width
 index-lt_stated z p h = omega (arith, row_le z p.row z.lines h.0, h.1)
 

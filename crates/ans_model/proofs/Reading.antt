@@ -28,9 +28,11 @@ spelled_not_unfinished r a h o =
     let none : length o.rest ≡ 0 = ap length t.2 in
     omega (arith, o.more, none)
 
+-- a sequence begins with ESC
 pub sequence_first : (r : Raw) (a x : List ℕ) → Spells r a → first_or 0 (a ++ x) ≡ escape
 sequence_first r a x h = rw h.loose.whole
 
+-- no byte but ESC begins a sequence
 pub byte_not_sequence : (b : ℕ) (a x y : List ℕ) (r : Raw) → b ≢ escape → Spells r a → b ∷ x ≡ a ++ y → ⊥
 byte_not_sequence b a x y r n h e = n (ap (first_or 0) e ∙ sequence_first r a y h ∙ refl)
 
@@ -54,6 +56,7 @@ one_token_in_front t u a b x y (inr h) (inr g) e =
     let means : Ok t ≡ Ok u = sym h.means ∙ ap meaning s.0 ∙ g.means in
     (cc means, s.1, s.2)
 
+-- a token has a byte
 pub token_nonempty : (t : TokenKind) (a x : List ℕ) → SpellsToken t a → a ++ x ≡ [] → ⊥
 token_nonempty t a x (inl h) e =
     let s : h.byte ∷ x ≡ [] = ap (λ (v : List ℕ). v ++ x) (sym h.whole) ∙ e in
@@ -62,6 +65,7 @@ token_nonempty t a x (inr h) e =
     let s : ◌≡◌ {A = ℕ} escape 0 = sym (sequence_first h.raw a x h.spelled) ∙ ap (first_or 0) e in
     omega arith
 
+-- equal bytes that are texts of tokens are texts of the same tokens
 one_list_of_texts : (ts us : List TokenKind) (xs zs : List (List ℕ)) → AllZip SpellsToken ts xs
     → AllZip SpellsToken us zs
     → concat xs ≡ concat zs → ts ≡ us
@@ -94,6 +98,7 @@ one_begins_the_other (u ∷ a) (v ∷ b) x y e =
       | inr w ↦ inr (w.0, w.1, ap₂ (λ (m : ℕ) (n : List ℕ). m ∷ n) (sym same) w.2, w.3)
     ]
 
+-- an unfinished sequence begins with ESC
 pub unfinished_first : (a x : List ℕ) → IsUnfinished a → first_or 0 (a ++ x) ≡ escape
 unfinished_first [] x o = absurd (omega (arith, o.begun))
 unfinished_first (u ∷ a) x o = ap (first_or 0) o.spelled.loose.whole
@@ -112,6 +117,7 @@ unfinished_no_token t a y (inl h) o = h.not_escape
     (ap (λ (v : List ℕ). first_or 0 ((v ++ y) ++ [])) (sym h.whole) ∙ unfinished_first (a ++ y) [] o)
 unfinished_no_token t a y (inr h) o = spelled_no_front h.raw a y h.spelled o
 
+-- texts of tokens are no unfinished sequence
 unfinished_texts : (ts : List TokenKind) (xs : List (List ℕ)) → AllZip SpellsToken ts xs → IsUnfinished (concat xs) → ⊥
 unfinished_texts [] [] h o = omega (arith, o.begun)
 unfinished_texts [] (x ∷ xs) h o = h
@@ -155,6 +161,7 @@ refused_no_token t text a x y cause (inr h) (inr g) e =
           h.not_prefix (record { raw = g.raw; rest = w.1; spelled = rw longer at g.spelled })
     ]
 
+-- what is refused has a byte
 pub refused_nonempty : (text x : List ℕ) (cause : Cause) → IsRefused text cause → text ++ x ≡ [] → ⊥
 refused_nonempty text x cause (inl h) e =
     let s : ◌≡◌ {A = ℕ} escape 0 = sym (sequence_first h.raw text x h.spelled) ∙ ap (first_or 0) e in
@@ -164,6 +171,7 @@ refused_nonempty text x cause (inr h) e =
     ∙ ap (first_or 0) (sym (ap (λ (v : List ℕ). v ++ x) h.whole ∙ append_assoc h.part (h.byte ∷ []) x) ∙ e) in
     omega arith
 
+-- texts of tokens do not begin with what is refused
 refused_texts : (text x : List ℕ) (cause : Cause) (ts : List TokenKind) (xs : List (List ℕ)) → IsRefused text cause
     → AllZip SpellsToken ts xs → text ++ x ≡ concat xs → ⊥
 refused_texts text x cause [] [] h g e = refused_nonempty text x cause h e
@@ -181,6 +189,7 @@ by_test : (b : Bool) (t u : TokenKind) → PrintsByte t → PrintsByte u → Pri
 by_test true t u h g = h
 by_test false t u h g = g
 
+-- what a byte prints is a byte
 byte_token_prints : (b : ℕ) → IsByte b → PrintsByte (kind_of_byte b)
 byte_token_prints b h =
     by_test (b == 0x07) Bell _ tt
@@ -193,6 +202,7 @@ byte_token_prints b h =
 abbrev pub MeansWell : Result TokenKind Cause → Type 0
 MeansWell means = MatchResult means PrintsByte IsCertain
 
+-- a test that refuses keeps what is proved
 err_or : (b : Bool) (c : Cause) (r : Result TokenKind Cause) → IsCertain c → MeansWell r
     → MeansWell (if b then Err c else r)
 err_or true c r g h = g
@@ -227,6 +237,7 @@ look_up_well (e ∷ es) letter h = here (is_one_of e.letters letter) h.0 (look_u
     here true m more = m
     here false m more = more
 
+-- each entry of the table is such
 table_well : (raw : Raw) → AllByRecursion (λ e. MeansWell e.means) (table raw)
 table_well raw = (
   move_well Up raw.members (λ n. tt),
@@ -263,6 +274,7 @@ table_well raw = (
   ),
 )
 
+-- so is the meaning of each sequence
 pub means_well : (raw : Raw) → MeansWell (meaning raw)
 means_well raw =
     err_or (not (has_a_meaning raw.letter)) UnknownSequence _ tt
@@ -270,6 +282,7 @@ means_well raw =
     (err_or (list_any is_quoted raw.members && not (is_one_of (codes "p") raw.letter)) WrongParameters _ tt
     (look_up_well (table raw) raw.letter (table_well raw))))
 
+-- what a token prints is a byte
 pub token_prints : (t : TokenKind) (text : List ℕ) → SpellsToken t text → PrintsByte t
 token_prints t text (inl h) = rw h.means (byte_token_prints h.byte h.is_byte)
 token_prints t text (inr h) = rw h.means at (means_well h.raw)

@@ -55,6 +55,7 @@ same_why text b c d (inr (inr h)) (inl g) = absurd (g.0 h.0)
 same_why text b c d (inr (inr h)) (inr (inl g)) = absurd (no_semicolon b g.1 h.1)
 same_why text b c d (inr (inr h)) (inr (inr g)) = h.2 ∙ sym g.2
 
+-- a broken text and what follows, by the byte that breaks it
 broken_whole : (text : List ℕ) (c : Cause) (x : List ℕ) (h : IsBroken text c) → text ++ x ≡ h.part ++ (h.byte ∷ x)
 broken_whole text c x h = ap (λ (v : List ℕ). v ++ x) h.whole ∙ append_assoc h.part (h.byte ∷ []) x
 
@@ -65,6 +66,7 @@ same_break text other c d h g p b =
     let t : other ≡ text = g.whole ∙ ap₂ (λ (v : List ℕ) (w : ℕ). v ++ w ∷ []) (sym p) (sym b) ∙ sym h.whole in
     same_why text h.byte c d h.why (subst₂ (λ (v : List ℕ) (w : ℕ). IsWhy v w d) t (sym b) g.why)
 
+-- where one part is longer than the other, the shorter is broken within it
 longer_break : (text other : List ℕ) (c d : Cause) (x y w : List ℕ) (h : IsBroken text c) (g : IsBroken other d)
     → h.part ≡ g.part ++ w → w ++ (h.byte ∷ x) ≡ g.byte ∷ y → c ≡ d
 longer_break text other c d x y [] h g p e = same_break text other c d h g (p ∙ append-nil g.part) (head_of e)

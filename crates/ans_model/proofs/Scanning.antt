@@ -32,6 +32,7 @@ pub record Next (member : Member) (bytes : List ℕ) : Type 0 where
   pub stops : is_stop stop ≡ true
   pub whole : bytes ≡ text ++ stop ∷ more
 
+-- members and a letter begin with the first member
 rest_next : (n : Member) (ns : List Member) (l : ℕ) (x v : List ℕ) → is_ascii_alphabetic l ≡ true → Rest n ns l x v
     → Next n v
 rest_next n [] l x v hl h = record {
@@ -117,9 +118,11 @@ begins_follow (Number n) c h = or_right (is_stop c) (is_ascii_digit c || is_quot
 begins_follow (Quoted q text) c h = or_right (is_stop c) (is_ascii_digit c || is_quote c)
     (or_right (is_ascii_digit c) (is_quote c) h)
 
+-- what a member begins with
 first_of_next : (n : Member) (v : List ℕ) (h : Next n v) → begins n (first_or 0 v) ≡ true
 first_of_next n v h = rw h.whole (first_byte n h.text h.stop h.more h.spelled h.stops)
 
+-- a byte after digits goes on with them or may follow a number
 number_next : (k : ℕ) (last : List ℕ) (b : ℕ) (z : List ℕ) (n : Member) (c : Bool) → is_ascii_digit b ≡ c
     → SpellsMember (Number k) last → Next n (last ++ b ∷ z) → is_stop b || c ≡ true
 number_next k last b z n true e h g = or_right (is_stop b) true refl
@@ -135,6 +138,7 @@ number_next k (v ∷ last) b z (Number j) false e h g =
     (stop_no_digit g.stop g.stops) g.whole in
     or_left (is_stop b) false (rw t.1 g.stops)
 
+-- a byte after a string may follow it
 string_next : (q : ℕ) (words last : List ℕ) (b : ℕ) (z : List ℕ) (n : Member) → SpellsMember (Quoted q words) last
     → Next n (last ++ b ∷ z) → is_stop b ≡ true
 string_next q words last b z Omitted h g =
@@ -183,6 +187,7 @@ not_nil_append : (ms : List Member) (m : Member) → ms ++ m ∷ [] ≡ [] → �
 not_nil_append [] m e = cc
 not_nil_append (n ∷ ms) m e = cc
 
+-- two members or more are not one that is omitted
 not_omitted : (d : Member) (done : List Member) (m : Member) → d ∷ (done ++ m ∷ []) ≢ Omitted ∷ []
 not_omitted d done m e = not_nil_append done m (tail_of e)
 
@@ -225,6 +230,7 @@ finish p y l h hl =
           ∙ ap (λ (v : List ℕ). v ++ l ∷ []) t.3));
     }
 
+-- members within the limits, and one more
 pub limit_append : (done : List Member) (m : Member) → AllByRecursion IsInLimit done → IsInLimit m
     → AllByRecursion IsInLimit (done ++ m ∷ [])
 limit_append [] m hs h = (h, tt)
@@ -244,6 +250,7 @@ limit_members [] (InString q text) hs h = (tt, tt)
 limit_members [] (AfterString q text) hs h = (tt, tt)
 limit_members (d ∷ done) current hs h = limit_append (d ∷ done) (member_of current) hs (limit_member current h)
 
+-- with the last member there are at most sixteen
 few_members : (done : List Member) (current : Current) → length done < most_parameters
     → length (members_of done current) ≤ most_parameters
 few_members [] Fresh h = omega arith
@@ -252,6 +259,7 @@ few_members [] (InString q text) h = omega arith
 few_members [] (AfterString q text) h = omega arith
 few_members (d ∷ done) current h = rw (length-append (d ∷ done) (member_of current ∷ [])) (omega arith)
 
+-- a letter completes a part within the limits
 pub finish_in_limit : (p : Part) (y : List ℕ) (l : ℕ) → SpellsPart p y → is_ascii_alphabetic l ≡ true
     → Spells (raw_of p l) (y ++ (lacks p.current ++ l ∷ []))
 finish_in_limit p y l h hl = record {
@@ -260,6 +268,7 @@ finish_in_limit p y l h hl = record {
   count = few_members p.done p.current h.room;
 }
 
+-- some bytes are lacking
 rest_nonempty : (c : Current) → 0 < length (lacks c ++ 0x6D ∷ [])
 rest_nonempty Fresh = omega arith
 rest_nonempty (InNumber n) = omega arith
@@ -276,6 +285,7 @@ part_unfinished p y h = record {
   more = rest_nonempty p.current;
 }
 
+-- each part begins a loose spelling
 pub part_loose : (p : Part) (y : List ℕ) → LoosePart p y → IsPrefixOfLoose y
 part_loose p y h = record { raw = raw_of p 0x6D; rest = lacks p.current ++ 0x6D ∷ []; spelled = finish p y 0x6D h refl }
 
@@ -283,6 +293,7 @@ part_loose p y h = record { raw = raw_of p 0x6D; rest = lacks p.current ++ 0x6D 
 abbrev pub IsUnmarkedThere : Part → ℕ → Type 0
 IsUnmarkedThere p b = p.mark ≡ Unmarked → p.done ≡ [] → p.current ≡ Fresh → is_mark_byte b ≡ false
 
+-- after the mark no second one stands
 front_no_mark : (done : List Member) (current : Current) (front last w : List ℕ) → SpellsDone done front
     → SpellsCurrent current last → (done ≡ [] → current ≡ Fresh → is_mark_byte (first_or 0 w) ≡ false)
     → is_mark_byte (first_or 0 (front ++ (last ++ w))) ≡ false
@@ -298,6 +309,7 @@ front_no_mark (d ∷ done) current front last w hd h f =
     rw e (begins_no_mark d (first_or 0 (hd.0 ++ semicolon ∷ (hd.1 ++ (last ++ w))))
     (first_byte d hd.0 semicolon (hd.1 ++ (last ++ w)) hd.2 semicolon_stops))
 
+-- a part and what follows it, in their order
 part_whole : (p : Part) (y w : List ℕ) (h : LoosePart p y) → y ++ w ≡ escape ∷ bracket
     ∷ (mark_bytes p.mark ++ (h.front ++ (h.last ++ w)))
 part_whole p y w h =
@@ -312,6 +324,7 @@ pub record ContinuesPart (p : Part) (raw : Raw) (v : List ℕ) : Type 0 where
   pub letter : is_ascii_alphabetic raw.letter ≡ true
   pub tail : Tail raw.members raw.letter [] v
 
+-- a loose spelling that begins with the part and a byte has the mark of the part and goes on so
 pub loose_continues_part : (p : Part) (y : List ℕ) (b : ℕ) (z : List ℕ) (raw : Raw) (h : LoosePart p y)
     → IsUnmarkedThere p b
     → Loose raw (y ++ b ∷ z) → ContinuesPart p raw (h.front ++ (h.last ++ b ∷ z))
@@ -346,6 +359,7 @@ run_prefix p (v ∷ a) (w ∷ t) c z u ha hc e =
     let same : v ≡ w = head_of e in
     (ih.0, ap₂ (λ (m : ℕ) (n : List ℕ). m ∷ n) (sym same) ih.1)
 
+-- more digits make no smaller number
 value_grows : (a w : List ℕ) → digits_value 10 a ≤ digits_value 10 (a ++ w)
 value_grows a w =
     let h = digits_value-take-le 10 (a ++ w) (length a) (omega arith) in
@@ -367,6 +381,7 @@ number_grows (v ∷ a) z (Number k) l ha g =
     let value : digits_value 10 ((v ∷ a) ++ t.0) ≡ k = ap (digits_value 10) (sym t.1) ∙ g.spelled.2 in
     (k, refl, omega (arith, value_grows (v ∷ a) t.0, value))
 
+-- a member among members within the limits is within them
 limit_at : (done : List Member) (n : Member) (ns : List Member) → AllByRecursion IsInLimit (done ++ n ∷ ns)
     → IsInLimit n
 limit_at [] n ns h = h.0
@@ -380,6 +395,7 @@ all_append p (v ∷ a) b ha hb =
     let ih = all_append p a b t.1 hb in
     rw (t.0, ih)
 
+-- a letter may follow a member that is omitted
 letter_next : (l : ℕ) (v : List ℕ) → is_ascii_alphabetic l ≡ true → v ≡ l ∷ [] → Next Omitted v
 letter_next l v hl e = record { text = []; stop = l; more = []; spelled = refl; stops = letter_stops l hl; whole = e }
 
@@ -423,6 +439,7 @@ done_more (d ∷ done) m front last hd h = (
       (last ++ semicolon ∷ []),
 )
 
+-- members and one more are longer
 long_members : (done : List Member) (n : Member) (ns : List Member) → suc (length done) ≤ length (done ++ n ∷ ns)
 long_members done n ns = rw (length-append done (n ∷ ns)) (omega arith)
 

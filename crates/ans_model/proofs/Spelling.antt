@@ -62,6 +62,7 @@ abbrev pub first_or : ℕ → List ℕ → ℕ
 first_or d [] = d
 first_or d (b ∷ bs) = b
 
+-- a member, or what follows it where it is omitted, begins with a byte of its sort
 pub first_byte : (m : Member) (a : List ℕ) (c : ℕ) (x : List ℕ) → SpellsMember m a → is_stop c ≡ true
     → begins m (first_or 0 (a ++ c ∷ x)) ≡ true
 first_byte Omitted a c x h s = rw h s
@@ -73,6 +74,7 @@ first_byte (Quoted q text) a c x h s = rw h.2 h.0
 quote_self : (q : ℕ) → not (q == q) ≡ false
 quote_self q = grind (arith, nat_tests)
 
+-- equal texts do not begin with bytes of two sorts that exclude each other
 pub no_common_first_byte : (p q : ℕ → Bool) → ((c : ℕ) → p c ≡ true → q c ≡ false) → (x y : List ℕ) → x ≡ y
     → p (first_or 0 x) ≡ true
     → q (first_or 0 y) ≡ true → ⊥
@@ -200,6 +202,7 @@ abbrev pub Tail : List Member → ℕ → List ℕ → List ℕ → Type 0
 Tail [] letter x bytes = bytes ≡ letter ∷ x
 Tail (m ∷ ms) letter x bytes = (m ∷ ms ≢ Omitted ∷ []) × Rest m ms letter x bytes
 
+-- joined texts and a letter are such bytes
 joined_tail : (ms : List Member) (ts : List (List ℕ)) (letter : ℕ) (x : List ℕ) → AllZip SpellsMember ms ts
     → ms ≢ Omitted ∷ [] → Tail ms letter x (join_with_byte semicolon ts ++ letter ∷ x)
 joined_tail [] [] letter x h n = refl
@@ -218,6 +221,7 @@ letter_alone m (m' ∷ ms) l k x y hl hk n h =
     (sym h.4) in
     letter_no_semicolon k hk (sym e.2)
 
+-- members, letter and what follows are determined by such bytes
 pub one_tail_in_front : (ms ns : List Member) (l k : ℕ) (x y bytes : List ℕ) → is_ascii_alphabetic l ≡ true
     → is_ascii_alphabetic k ≡ true → Tail ms l x bytes → Tail ns k y bytes
     → (ms ≡ ns) × (l ≡ k) × (x ≡ y)
@@ -243,6 +247,7 @@ begins_no_mark Omitted c h = stop_no_mark c h
 begins_no_mark (Number n) c h = digit_no_mark c h
 begins_no_mark (Quoted q text) c h = quote_no_mark c h
 
+-- members begin with a byte that the first of them begins with
 pub rest_first : (m : Member) (ms : List Member) (l : ℕ) (x bytes : List ℕ) → is_ascii_alphabetic l ≡ true
     → Rest m ms l x bytes → begins m (first_or 0 bytes) ≡ true
 rest_first m [] l x bytes hl h = rw h.2 (first_byte m h.0 l x h.1 (letter_stops l hl))
@@ -254,6 +259,7 @@ pub tail_first : (ms : List Member) (l : ℕ) (x bytes : List ℕ) → is_ascii_
 tail_first [] l x bytes hl h = rw h (stop_no_mark l (letter_stops l hl))
 tail_first (m ∷ ms) l x bytes hl h = begins_no_mark m (first_or 0 bytes) (rest_first m ms l x bytes hl h.1)
 
+-- a mark is not the first byte of bytes that begin with none
 mark_clash : (c : ℕ) (y : List ℕ) (z : List ℕ) → is_mark_byte c ≡ true → is_mark_byte (first_or 0 z) ≡ false
     → c ∷ y ≡ z → ⊥
 mark_clash c y z h f e =
@@ -263,6 +269,7 @@ mark_clash c y z h f e =
 marks_apart : ◌≡◌ {A = ℕ} 0x3D 0x3F → ⊥
 marks_apart e = omega arith
 
+-- the mark and what follows it are determined by the bytes
 pub one_mark_in_front : (m n : Mark) (z w : List ℕ) → is_mark_byte (first_or 0 z) ≡ false
     → (n ≡ Unmarked → is_mark_byte (first_or 0 w) ≡ false) → mark_bytes m ++ z ≡ mark_bytes n ++ w → (m ≡ n) × (z ≡ w)
 one_mark_in_front Unmarked Unmarked z w hz hw e = (refl, e)
@@ -282,6 +289,7 @@ pub record InFront (raw : Raw) (x bytes : List ℕ) : Type 0 where
   pub tail_is : Tail raw.members raw.letter x tail
   pub whole : bytes ≡ escape ∷ bracket ∷ (mark_bytes raw.mark ++ tail)
 
+-- what a loose spelling at the front of bytes is made of
 pub in_front : (raw : Raw) (a x : List ℕ) → Loose raw a → InFront raw x (a ++ x)
 in_front raw a x h = record {
   letter = h.letter;
@@ -294,6 +302,7 @@ in_front raw a x h = record {
       (append_assoc (join_with_byte semicolon h.texts) (raw.letter ∷ []) x));
 }
 
+-- sequences of equal parts are equal
 raw_path : (r s : Raw) → r.mark ≡ s.mark → r.members ≡ s.members → r.letter ≡ s.letter → r ≡ s
 raw_path r s m n l = λ i. record { mark = m i; members = n i; letter = l i }
 

@@ -14,6 +14,7 @@ known_part : {A : Type 0} (b : Bool) (x y : A) → IsTrue b → (if b then x els
 known_part true x y e = refl
 known_part false x y e = absurd (cc)
 
+-- the screen of a start has all its cells, and each is bytes
 screen_of_start_fits : (z : Size) (b : Bool) (c : Cell) → IsByteCell c →
     (length (if b then (cleared z).screen else replicate (cell_count z) c) ≡ cell_count z)
     × All IsByteCell (if b then (cleared z).screen else replicate (cell_count z) c)
@@ -31,10 +32,12 @@ position_of_start_on_screen : (z : Size) (b : Bool) (p : Position) → 0 < z.wid
 position_of_start_on_screen z true p w on = (omega arith, w)
 position_of_start_on_screen z false p w on = on
 
+-- the attribute of a start is a byte
 colours_lt : (b : Bool) (a : ℕ) → a < 256 → (if b then 7 else a) < 256
 colours_lt true a l = lit< tt
 colours_lt false a l = l
 
+-- a state of the machine with the known parts cleared is a start
 start_with_is_start : (z : Size) (class : Class) (s : State) (c : Cell) → 0 < z.width
     → s.screen ≡ replicate (cell_count z) c → IsByteCell c → IsOnScreen z s.cursor → IsOnScreen z s.saved
     → s.attribute < 256 → IsStart z class (start_with z class s)

@@ -37,6 +37,7 @@ moves_change_cursor z s CarriageReturn m = only_cursor s (destination z Carriage
 moves_change_cursor z s Restore m = only_cursor s s.saved
 moves_change_cursor z s _ m = absurd m
 
+-- a line feed keeps the column
 line_feed_column : (z : Size) (s : State) → (line_feed z s).cursor.column ≡ s.cursor.column
 line_feed_column z s = elim (cases_eq s.cursor.row z.lines) [
   | inl e ↦ rw (eq-eqb s.cursor.row z.lines e) refl
@@ -109,6 +110,7 @@ length-range : (cells : List Cell) (i j : ℕ) (c : Cell) → i ≤ j → j ≤ 
     → length (take i cells ++ replicate (j - i) c) ≡ j
 length-range cells i j c h k = simp (length-append, length-take, length-replicate) (omega arith)
 
+-- filling leaves the cells before it
 filled_before : (cells : List Cell) (i j : ℕ) (c : Cell) (k : ℕ) → i ≤ j → j ≤ length cells → k < i
     → slice_get (filled cells i j c) k ≡ slice_get cells k
 filled_before cells i j c k h l lt =
@@ -117,6 +119,7 @@ filled_before cells i j c k h l lt =
     slice_get-append_left (take i cells ++ replicate (j - i) c) (drop j cells) k (omega (arith, whole))
     ∙ slice_get-append_left (take i cells) (replicate (j - i) c) k (omega (arith, front)) ∙ slice_get-take i cells k lt
 
+-- filling changes the cells in it
 filled_within : (cells : List Cell) (i j : ℕ) (c : Cell) (k : ℕ) → i ≤ k → k < j → j ≤ length cells
     → slice_get (filled cells i j c) k ≡ Some c
 filled_within cells i j c k h lt l =
@@ -128,6 +131,7 @@ filled_within cells i j c k h lt l =
     ∙ slice_get-append_right (take i cells) (replicate (j - i) c) (k - i)
     ∙ slice_get-replicate (j - i) c (k - i) (omega arith)
 
+-- filling leaves the cells after it
 filled_behind : (cells : List Cell) (i j : ℕ) (c : Cell) (k : ℕ) → i ≤ j → j ≤ k → j ≤ length cells
     → slice_get (filled cells i j c) k ≡ slice_get cells k
 filled_behind cells i j c k h le l =
@@ -142,6 +146,7 @@ filled_behind cells i j c k h le l =
 row_start : (z : Size) (p : Position) → next_row_start z p ≡ p.row * z.width + z.width
 row_start z p = add-mul p.row 1 z.width ∙ ap (λ (n : ℕ). p.row * z.width + n) (one-mul z.width)
 
+-- the row of the cursor ends on the screen
 row_fits : (z : Size) (s : State) → IsWellFormed z s → next_row_start z s.cursor ≤ length s.screen
 row_fits z s h =
     omega (
@@ -151,6 +156,7 @@ row_fits z s h =
       h.fits.cells,
     )
 
+-- a cell outside is kept
 erased_kept : (z : Size) (s : State) (p : Position) → IsWellFormed z s → IsOnScreen z p → ¬ IsErased s.cursor p
     → cell_at z (step z s EraseLine).screen p ≡ cell_at z s.screen p
 erased_kept z s p h on outside =
@@ -173,6 +179,7 @@ erased_kept z s p h on outside =
       ]
     ]
 
+-- a cell inside is blank
 erased_blank : (z : Size) (s : State) (p : Position) → IsWellFormed z s → IsOnScreen z p → IsErased s.cursor p
     → cell_at z (step z s EraseLine).screen p ≡ Some (blank_cell s.attribute)
 erased_blank z s p h on inside =
@@ -197,6 +204,7 @@ line_feed_is z s h = rw (ne_eqb s.cursor.row z.lines (λ e. omega arith)) refl
 pub line_feed_moves_down : LineFeedMovesDown
 line_feed_moves_down z s h = line_feed_is z s h
 
+-- each row is the one below it
 scrolled_is : (z : Size) (s : State) → IsWellFormed z s → IsScrolled z s (scrolled z s)
 scrolled_is z s h =
     let left : length (drop z.width s.screen) ≡ z.lines * z.width =
@@ -233,6 +241,7 @@ if_cursor : (b : Bool) (s : State) (p q : Position)
 if_cursor true s p q = refl
 if_cursor false s p q = refl
 
+-- where the cursor goes on to, above the spare row
 pub advanced_is : (z : Size) (s : State) → s.cursor.row < z.lines
     → advanced z s ≡ record s {
       cursor = if nat_lt (s.cursor.column + 1) z.width then at s.cursor.row
@@ -246,6 +255,7 @@ advanced_is z s h =
     (if_cursor s.wrap s r.cursor s.cursor)
     ∙ if_cursor (nat_lt (s.cursor.column + 1) z.width) s q (if s.wrap then r.cursor else s.cursor))
 
+-- it is one of three positions
 next_place : (z : Size) (s : State) → s.cursor.column < z.width
     → NextPlace z s (if nat_lt (s.cursor.column + 1) z.width then at s.cursor.row
     (s.cursor.column + 1) else if s.wrap then at (s.cursor.row + 1) 0 else s.cursor)

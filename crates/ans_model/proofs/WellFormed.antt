@@ -18,6 +18,7 @@ use Rattle.ans_model.specs.Screen.Step.{blank_cell, filled, next_row_start, dest
 use Rattle.ans_model.specs.Screen.Step.{advanced, step}
 use Rattle.ans_model.proofs.Attributes.{attribute_after_all_lt}
 
+-- a move ends on the screen
 destination_on_screen : (z : Size) (t : TokenKind) (p : Position) → 0 < z.width → IsOnScreen z p
     → IsOnScreen z (destination z t p)
 destination_on_screen z (Up n) p w h = (omega arith, h.1)
@@ -65,9 +66,11 @@ well_formed_with_screen z s cells h e all =
 blank_is_byte : (a : ℕ) → a < 256 → IsByteCell (blank_cell a)
 blank_is_byte a h = (lit< tt, h)
 
+-- the screen has a row
 row_le : (z : Size) (s : State) → IsWellFormed z s → z.width ≤ length s.screen
 row_le z s h = rw h.fits.cells (omega (arith, mul-le 1 z.width (z.lines + 1) z.width (omega arith) (omega arith)))
 
+-- a scrolled screen is one
 well_formed_scrolled : (z : Size) (s : State) → IsWellFormed z s → IsWellFormed z (scrolled z s)
 well_formed_scrolled z s h =
     well_formed_with_screen z s (drop z.width s.screen ++ replicate z.width (blank_cell s.attribute)) h
@@ -77,6 +80,7 @@ well_formed_scrolled z s h =
     (All-drop IsByteCell z.width s.screen h.bytes)
     (All-replicate IsByteCell z.width (blank_cell s.attribute) (blank_is_byte s.attribute h.attribute)))
 
+-- a line feed leaves a state of the machine
 well_formed_after_line_feed : (z : Size) (s : State) → IsWellFormed z s → IsWellFormed z (line_feed z s)
 well_formed_after_line_feed z s h = elim (cases_eq s.cursor.row z.lines) [
   | inl e ↦ rw (eq-eqb s.cursor.row z.lines e) (well_formed_scrolled z s h)
@@ -85,6 +89,7 @@ well_formed_after_line_feed z s h = elim (cases_eq s.cursor.row z.lines) [
       (omega (arith, h.fits.cursor.0), h.fits.cursor.1))
 ]
 
+-- the cursor that goes on leaves a state of the machine
 well_formed_after_print : (z : Size) (s : State) → 0 < z.width → IsWellFormed z s → IsWellFormed z (advanced z s)
 well_formed_after_print z s w h = elim (cases_lt (s.cursor.column + 1) z.width) [
   | inl more ↦ rw (lt-ltb (s.cursor.column + 1) z.width more)
@@ -101,13 +106,16 @@ well_formed_after_print z s w h = elim (cases_lt (s.cursor.column + 1) z.width) 
 row_end_le : (z : Size) (p : Position) → IsOnScreen z p → next_row_start z p ≤ cell_count z
 row_end_le z p h = mul-le (p.row + 1) z.width (z.lines + 1) z.width (omega (arith, h.0)) (omega arith)
 
+-- a position comes before the end of its row
 index_le : (z : Size) (p : Position) → IsOnScreen z p → index z p ≤ next_row_start z p
 index_le z p h = rw (add-mul p.row 1 z.width, one-mul) (omega (arith, h.1))
 
+-- a state of the same screen and cursors fits
 same_fits : (z : Size) (s t : State) → FitsScreen z s → s.screen ≡ t.screen → s.cursor ≡ t.cursor → s.saved ≡ t.saved
     → FitsScreen z t
 same_fits z s t h e f g = record { cells = rw (← e) h.cells; cursor = rw (← f) h.cursor; saved = rw (← g) h.saved }
 
+-- each token leaves a state of the machine
 pub well_formed_after_step : (z : Size) (s : State) (t : TokenKind) → PrintsByte t → 0 < z.width → IsWellFormed z s
     → IsWellFormed z (step z s t)
 well_formed_after_step z s Clear b w h = record {

@@ -22,18 +22,22 @@ use Rattle.ans_model.specs.Text.RecordText.{named_line, field_line, comment_line
 use Rattle.ans_model.specs.Text.TokensText.{token_name, token_line, token_lines, fault_end, TokensText}
 use Rattle.ans_model.specs.Laws.LineLaws.{EndsInLineFeed, IsEmptyOrEndsInLineFeed}
 
+-- a text ends as its last part
 ends_append : (a b : List ℕ) → EndsInLineFeed b → EndsInLineFeed (a ++ b)
 ends_append a b h = (a ++ h.0, ap (λ (v : List ℕ). a ++ v) h.1 ∙ sym (append_assoc a h.0 (0x0A ∷ [])))
 
+-- a line and lines after it end in a line feed
 ends_then : (a b : List ℕ) → EndsInLineFeed a → IsEmptyOrEndsInLineFeed b → EndsInLineFeed (a ++ b)
 ends_then a b h (inl e) = (h.0, ap (λ (v : List ℕ). a ++ v) e ∙ append-nil a ∙ h.1)
 ends_then a b h (inr g) = ends_append a b g
 
+-- lines and lines are lines
 lines_append : (a b : List ℕ) → IsEmptyOrEndsInLineFeed a → IsEmptyOrEndsInLineFeed b → IsEmptyOrEndsInLineFeed (a ++ b)
 lines_append a b (inl e) (inl f) = inl (ap (λ (v : List ℕ). v ++ b) e ∙ f)
 lines_append a b h (inr g) = inr (ends_append a b g)
 lines_append a b (inr h) g = inr (ends_then a b h g)
 
+-- one line for each element are lines
 flat_lines : {A : Type 0} (f : A → List ℕ) (xs : List A) → ((x : A) → EndsInLineFeed (f x))
     → IsEmptyOrEndsInLineFeed (flat_map f xs)
 flat_lines f [] h = inl refl
