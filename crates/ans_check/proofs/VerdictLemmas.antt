@@ -14,7 +14,7 @@ use Rattle.ans_model.specs.Verdict.LastFault.{IsLastFault}
 use Rattle.ans_model.specs.declared.fault.Fault.{Fault}
 use Rattle.ans_model.specs.declared.start.Start.{Start}
 use Rattle.ans_model.proofs.OneAnswer.{good_or_first, good_or_last}
-use Rattle.ans_model.proofs.Layouts.{one_layout, no_fault}
+use Rattle.ans_model.proofs.AcceptedFiles.{one_layout, no_fault}
 use Rattle.ans_sauce.specs.declared.parts.Parts.{Parts}
 use Rattle.ans_sauce.specs.Parts.{ShowsParts, content_of, width_of, lines_of}
 use Rattle.ans_sauce.specs.Split.{IsSplit}

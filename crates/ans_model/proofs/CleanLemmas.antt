@@ -15,7 +15,7 @@ use Rattle.ans_model.specs.Screen.Starts.{Class, IsStart}
 use Rattle.ans_model.specs.Verdict.TokenFault.{FromEvery, SamePosition, PositionsDiffer, IsInSpareRow, HasFault}
 use Rattle.ans_model.specs.Verdict.TokenFault.{IsClean}
 use Rattle.ans_model.specs.Laws.StepLaws.{screen_in_place, CleanNeverScrolls}
-use Rattle.ans_model.proofs.Places.{position_eq}
+use Rattle.ans_model.proofs.PositionLemmas.{position_eq}
 
 module _ (z : Size) (class : Class) (tokens : List TokenKind) (clean : IsClean z class tokens) where
   -- a token that would have a fault where places differ stands at one place

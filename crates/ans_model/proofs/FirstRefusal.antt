@@ -13,7 +13,7 @@ use Rattle.ans_model.specs.File.Refusals.{file_refusals, record_fault}
 use Rattle.ans_model.specs.File.Record.{comment_count}
 use Rattle.ans_model.specs.File.Layout.{content, after_content, is_end_mark}
 use Rattle.ans_model.specs.Laws.FileLaws.{IsFirstThatApplies}
-use Rattle.ans_model.proofs.Layouts.{le_true}
+use Rattle.ans_model.proofs.AcceptedFiles.{le_true}
 
 some_same : (f g : Fault) → Some f ≡ Some g → f ≡ g
 some_same f g e = cc

@@ -1,9 +1,9 @@
 pub mod Slices
-pub mod Attributes
+pub mod AttributeBytes
 pub mod WellFormed
 pub mod StartLemmas
 pub mod AttributeFieldsLemmas
-pub mod Places
+pub mod PositionLemmas
 pub mod StepLemmas
 pub mod CleanLemmas
 pub mod ClassLemmas
@@ -12,13 +12,13 @@ pub mod Reading
 pub mod Refusing
 pub mod OneCause
 pub mod OneAnswer
-pub mod Layouts
+pub mod AcceptedFiles
 pub mod FirstRefusal
 pub mod NoteOrder
 pub mod CellsBack
 pub mod OwnCharacters
 pub mod OwnLines
 pub mod WholeLines
-pub mod Scanning
+pub mod AfterPart
 pub mod SpellingExamples
 pub mod SequenceExamples

@@ -20,8 +20,8 @@ use Rattle.ans_model.specs.Text.FaultText.{fault_line}
 use Rattle.ans_model.specs.Text.TokensText.{TokensText}
 use Rattle.ans_model.specs.Examples.TextExamples.{esc}
 use Rattle.ans_model.proofs.Spelling.{head_of, tail_of}
-use Rattle.ans_model.proofs.Scanning.{IsUnmarkedThere, part_unfinished, part_loose, refuses_byte, refuses_number}
-use Rattle.ans_model.proofs.Scanning.{refuses_count}
+use Rattle.ans_model.proofs.AfterPart.{IsUnmarkedThere, part_unfinished, part_loose, refuses_byte, refuses_number}
+use Rattle.ans_model.proofs.AfterPart.{refuses_count}
 
 abbrev pub sequence : Mark → List Member → ℕ → Raw
 sequence mark members letter = record { mark = mark; members = members; letter = letter }

@@ -16,7 +16,7 @@ use Rattle.ans_model.specs.declared.cell.Cell.{Cell}
 use Rattle.ans_model.specs.declared.cell.Position.{Position}
 use Rattle.ans_model.specs.Screen.Step.{blank_cell, filled, next_row_start, destination, scrolled, line_feed}
 use Rattle.ans_model.specs.Screen.Step.{advanced, step}
-use Rattle.ans_model.proofs.Attributes.{attribute_after_all_lt}
+use Rattle.ans_model.proofs.AttributeBytes.{attribute_after_all_lt}
 
 -- a move ends on the screen
 destination_on_screen : (z : Size) (t : TokenKind) (p : Position) → 0 < z.width → IsOnScreen z p

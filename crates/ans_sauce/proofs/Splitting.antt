@@ -18,7 +18,7 @@ use Rattle.ans_model.specs.File.Layout.{FileParts, file_parts, Laid, comment_blo
 use Rattle.ans_model.specs.File.Layout.{is_end_mark, is_clean_end}
 use Rattle.ans_model.specs.File.Refusals.{Refusal, first_refusal, fault_at, refused_if, block_size, has_block}
 use Rattle.ans_model.specs.File.Refusals.{has_record, refusals, record_fault, Accepts}
-use Rattle.ans_model.proofs.Layouts.{accepted, one_layout, le_true}
+use Rattle.ans_model.proofs.AcceptedFiles.{accepted, one_layout, le_true}
 use Rattle.memchr.specs.Find.{IsFirstByte}
 use Rattle.ans_sauce.specs.Split.{IsCut, record_refusals}
 

@@ -5,7 +5,7 @@ use Rattle.std.specs.Int.{bit_at}
 use Rattle.std.proofs.lemmas.Nat.{and_le_r, or_of_8, xor_of_8}
 use Rattle.std.proofs.lemmas.Nat.Bits.{bit_at_and, bit_at_or, bit_at_xor, bit_at-lt, bit_at_ones, same_from_bits_below}
 use Rattle.ans_model.specs.Screen.Attribute.{Rendition, renditions, rendition_of, attribute_by, attribute_after}
-use Rattle.ans_model.proofs.Attributes.{IsByteRendition, rendition_fits}
+use Rattle.ans_model.proofs.AttributeBytes.{IsByteRendition, rendition_fits}
 use Rattle.std.specs.Option.{option_map}
 use Rattle.ans_screen.specs.declared.attr.Rendition as code
 use Rattle.ans_screen.specs.Renditions.{masks_of, rendition_for}

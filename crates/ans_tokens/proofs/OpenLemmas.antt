@@ -7,7 +7,7 @@ use Rattle.ans_model.specs.Sequence.Spelling.{IsUnfinished, IsPrefixOfLoose, IsP
 use Rattle.ans_model.specs.Inside.OpenPart.{Part, SpellsPart}
 use Rattle.ans_model.specs.Verdict.FirstFault.{IsWhy, IsRefused}
 use Rattle.ans_model.proofs.Spelling.{head_of, tail_of}
-use Rattle.ans_model.proofs.Scanning.{part_unfinished}
+use Rattle.ans_model.proofs.AfterPart.{part_unfinished}
 use Rattle.ans_tokens.specs.Shows.{begun}
 use Rattle.ans_tokens.proofs.StepLemmas.{loose_spells}
 

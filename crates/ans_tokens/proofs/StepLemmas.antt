@@ -10,7 +10,7 @@ use Rattle.ans_model.specs.Sequence.Spelling.{Mark, Unmarked, Equals, Question, 
 use Rattle.ans_model.specs.Inside.OpenPart.{Current, Fresh, InNumber, InString, AfterString, SpellsCurrent, IsCurrentInLimit, Part, LoosePart, SpellsPart, member_of, lacks, raw_of, is_stop}
 use Rattle.ans_model.specs.Sequence.Meaning.{colour_number, is_marked}
 use Rattle.ans_model.proofs.Spelling.{is_mark_byte}
-use Rattle.ans_model.proofs.Scanning.{all_append, done_more, limit_append, limit_member, finish_in_limit, completed, refuses_number, refuses_count, part_loose}
+use Rattle.ans_model.proofs.AfterPart.{all_append, done_more, limit_append, limit_member, finish_in_limit, completed, refuses_number, refuses_count, part_loose}
 
 -- one more byte of the member
 pub extend_loose : (p : Part) (y : List ℕ) (b : ℕ) (c : Current) (h : LoosePart p y) → SpellsCurrent c (h.last ++ b ∷ []) → LoosePart (record { mark = p.mark; done = p.done; current = c }) (y ++ b ∷ [])

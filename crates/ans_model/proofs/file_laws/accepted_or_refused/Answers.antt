@@ -1,4 +1,4 @@
-use Rattle.ans_model.proofs.Layouts.{accepted, no_fault, one_layout}
+use Rattle.ans_model.proofs.AcceptedFiles.{accepted, no_fault, one_layout}
 use Rattle.ans_model.proofs.file_laws.accepted_or_refused.Goals as goal
 
 pub returns-clause-accepted : goal.returns-clause-accepted

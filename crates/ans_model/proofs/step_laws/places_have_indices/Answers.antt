@@ -1,4 +1,4 @@
-use Rattle.ans_model.proofs.Places.{one_place_an_index}
+use Rattle.ans_model.proofs.PositionLemmas.{one_place_an_index}
 use Rattle.ans_model.proofs.step_laws.places_have_indices.Goals as goal
 
 pub returns : goal.returns

@@ -5,7 +5,7 @@ use Rattle.ans_model.specs.Sequence.TokenKind.{Glyph, Bell, BackSpace, LineFeed,
 use Rattle.ans_model.specs.Sequence.TokenKind.{Forward, Backward, Place, Clear, EraseLine, Save, Restore, Colours}
 use Rattle.ans_model.specs.Sequence.TokenKind.{Wrap, Mode, Keys, Ask}
 use Rattle.ans_model.specs.Examples.TextExamples.{esc}
-use Rattle.ans_model.proofs.Scanning.{part_unfinished}
+use Rattle.ans_model.proofs.AfterPart.{part_unfinished}
 use Rattle.ans_model.proofs.SpellingExamples as spelling
 use Rattle.ans_model.proofs.SequenceExamples as sequence
 use Rattle.ans_model.proofs.text_examples.token_texts.Goals as goal

@@ -1,4 +1,4 @@
-use Rattle.ans_model.proofs.Scanning.{part_unfinished}
+use Rattle.ans_model.proofs.AfterPart.{part_unfinished}
 use Rattle.ans_model.proofs.SpellingExamples.{escape_unfinished, bracket_part, three_part, string_part, fifteen_done}
 use Rattle.ans_model.proofs.text_examples.unfinished_sequences.Goals as goal
 

@@ -1,6 +1,6 @@
 use Rattle.std.proofs.Common.{◌≡◌, [], ◌∷◌}
 use Rattle.ans_model.specs.Bytes.{escape}
-use Rattle.ans_model.proofs.Scanning.{part_unfinished}
+use Rattle.ans_model.proofs.AfterPart.{part_unfinished}
 use Rattle.ans_tokens.proofs.OpenLemmas.{escape_unfinished}
 use Rattle.ans_tokens.proofs.scanner.Open.is_nothing.Goals as goal
 

@@ -1,7 +1,7 @@
 use Rattle.std.proofs.Common.{◌≡◌, inl, inr, refl, ◌∷◌, []}
 use Rattle.ans_model.specs.Bytes.{escape, bracket}
 use Rattle.ans_model.specs.Inside.OpenPart.{raw_of}
-use Rattle.ans_model.proofs.Scanning.{part_unfinished}
+use Rattle.ans_model.proofs.AfterPart.{part_unfinished}
 use Rattle.ans_tokens.specs.Shows.{begun}
 use Rattle.ans_tokens.proofs.OpenLemmas.{begun_spells, bracket_unfinished, escape_unfinished, escape_refused, broken}
 use Rattle.ans_tokens.proofs.scanner.Open.take.Goals as goal

@@ -1,7 +1,7 @@
 use Rattle.std.proofs.Common.{◌≡◌, ℕ, inl, inr, [], ◌∷◌, ◌++◌, arith, ◌+◌, ◌-◌, ◌*◌, false, true, refl, sym, ◌∙◌}
 use Rattle.std.specs.Char.{is_ascii_digit}
 use Rattle.ans_model.specs.Inside.OpenPart.{SpellsCurrent, InNumber, InString, AfterString, may_follow}
-use Rattle.ans_model.proofs.Scanning.{refuses_byte}
+use Rattle.ans_model.proofs.AfterPart.{refuses_byte}
 use Rattle.ans_tokens.proofs.StepLemmas.{extend, more_digits, too_large, more_text, closed_text, fresh_not_after, fresh_not_number}
 use Rattle.ans_tokens.proofs.unfinished.Unfinished.advance.Goals as goal
 

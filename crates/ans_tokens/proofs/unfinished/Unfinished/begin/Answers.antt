@@ -4,7 +4,7 @@ use Rattle.std.specs.Char.{is_ascii_digit}
 use Rattle.ans_model.specs.Sequence.Spelling.{is_quote}
 use Rattle.ans_model.specs.Sequence.Meaning.{colour_number, is_quoted}
 use Rattle.ans_model.specs.Inside.OpenPart.{Current, Fresh, InNumber, InString, may_follow}
-use Rattle.ans_model.proofs.Scanning.{refuses_byte}
+use Rattle.ans_model.proofs.AfterPart.{refuses_byte}
 use Rattle.ans_tokens.specs.Mark.{mark_of}
 use Rattle.ans_tokens.specs.Scanning.{ShowsCurrent}
 use Rattle.ans_tokens.proofs.StepLemmas.{fresh_digit, fresh_quote, quote_is, quote_not, marked}
