@@ -5,7 +5,7 @@ use Rattle.std.specs.Prelude.{Result, Ok, Err, IfErr}
 use Rattle.std.proofs.lemmas.List.{length-take-le, take_all}
 use Rattle.std.proofs.Math.Seq.{drop-append_seam, take-append_seam}
 use Rattle.ans_model.specs.Screen.State.{Size}
-use Rattle.ans_model.specs.Screen.Starts.{Class, class_of}
+use Rattle.ans_model.specs.Screen.StartClass.{Class, class_of}
 use Rattle.ans_model.specs.Verdict.FirstFault.{IsFirstFault}
 use Rattle.ans_model.specs.Verdict.LastFault.{IsLastFault}
 use Rattle.ans_model.specs.Laws.Certain.{IsCertain}

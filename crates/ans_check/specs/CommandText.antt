@@ -1,7 +1,7 @@
 -- What a run writes of a file.
 use Rattle.std.specs.Prelude.{◌≡◌, ◌⊎◌, ℕ, Bool, true, false, List, length, Option, Some, None}
 use Rattle.ans_model.specs.File.Layout.{FileParts, content}
-use Rattle.ans_model.specs.File.Notes.{notes}
+use Rattle.ans_model.specs.File.NoteConditions.{notes}
 use Rattle.ans_model.specs.File.Refusals.{Accepts, record_fault}
 use Rattle.ans_model.specs.Verdict.Good.{Picture}
 use Rattle.ans_model.specs.Text.RecordText.{record_text}

@@ -1,7 +1,7 @@
 //! What the checker finds of a file.
 ghost use Rattle.std.specs.Prelude.{◌≡◌, ◌≤◌, length, [], None, IsOk, IsSome, IfOk, IfErr};
 ghost use Rattle.ans_model.specs.Bytes.{longest_file};
-ghost use Rattle.ans_model.specs.Screen.Starts.{class_of};
+ghost use Rattle.ans_model.specs.Screen.StartClass.{class_of};
 ghost use Rattle.ans_model.specs.Verdict.Good.{GoodWith};
 ghost use Rattle.ans_model.specs.declared.start.Start.TheVariants.{Cleared};
 ghost use Rattle.ans_model.specs.File.Refusals.{record_fault};

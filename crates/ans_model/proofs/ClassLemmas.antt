@@ -5,7 +5,7 @@ use Rattle.ans_model.specs.declared.start.Start.TheVariants.{Any, Cleared}
 use Rattle.ans_model.specs.declared.cell.Cell.{Cell}
 use Rattle.ans_model.specs.declared.cell.Position.{Position}
 use Rattle.ans_model.specs.Screen.State.{Size, State, IsWellFormed}
-use Rattle.ans_model.specs.Screen.Starts.{class_of, cleared, IsStart, low_start}
+use Rattle.ans_model.specs.Screen.StartClass.{class_of, cleared, IsStart, low_start}
 use Rattle.ans_model.specs.Laws.StartLaws.{AnyIsEvery, ClearedIsOne, LowIsStart, HighIsStart}
 use Rattle.ans_model.proofs.StartLemmas.{low_is_start, high_is_start}
 

@@ -11,7 +11,7 @@ use Rattle.ans_model.specs.declared.cell.Position.{Position}
 use Rattle.ans_model.specs.declared.fault.Cause.{Cause}
 use Rattle.ans_model.specs.declared.fault.Cause.TheVariants.{PrintBelow, Scrolls, PrintUnknownPlace, MayScroll}
 use Rattle.ans_model.specs.Screen.Step.{step, final, line_feed, advanced, printed}
-use Rattle.ans_model.specs.Screen.Starts.{Class, IsStart}
+use Rattle.ans_model.specs.Screen.StartClass.{Class, IsStart}
 use Rattle.ans_model.specs.Verdict.TokenFault.{FromEvery, SamePosition, PositionsDiffer, IsInSpareRow, HasFault}
 use Rattle.ans_model.specs.Verdict.TokenFault.{IsClean}
 use Rattle.ans_model.specs.Laws.StepLaws.{screen_in_place, CleanNeverScrolls}

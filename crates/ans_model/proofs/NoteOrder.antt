@@ -5,7 +5,7 @@ use Rattle.std.specs.List.Sorted.{IsStrictlyIncreasing}
 use Rattle.std.proofs.lemmas.Bool.{ltb-true, and_parts}
 use Rattle.ans_model.specs.declared.note.Note.TheVariants.{WidthAssumed, NoEndMark, SizeDiffers, OddDate, FlagBits}
 use Rattle.ans_model.specs.declared.note.Note.TheVariants.{FlagPair}
-use Rattle.ans_model.specs.File.Notes.{note_if, notes}
+use Rattle.ans_model.specs.File.NoteConditions.{note_if, notes}
 use Rattle.ans_model.specs.Laws.FileLaws.{note_number}
 
 -- each number is less than the next

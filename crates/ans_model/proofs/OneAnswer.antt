@@ -18,7 +18,7 @@ use Rattle.ans_model.specs.Sequence.Spelling.{IsUnfinished}
 use Rattle.ans_model.specs.Sequence.Reads.{SpellsToken, Reads}
 use Rattle.ans_model.specs.File.Refusals.{fault_at}
 use Rattle.ans_model.specs.Screen.State.{Size, State, IsStated, cell_at}
-use Rattle.ans_model.specs.Screen.Starts.{Class, class_of, low_start}
+use Rattle.ans_model.specs.Screen.StartClass.{Class, class_of, low_start}
 use Rattle.ans_model.specs.Screen.Step.{final}
 use Rattle.ans_model.specs.Verdict.TokenFault.{HasFault, HasFaultAfter, IsClean}
 use Rattle.ans_model.specs.Verdict.FirstFault.{IsWhy, IsRefused, IsToBlame, IsFirstFault}

@@ -9,7 +9,7 @@ use Rattle.ans_model.specs.declared.fault.Cause.TheVariants.{EraseUnknownPlace, 
 use Rattle.ans_model.specs.declared.start.Start.TheVariants.{Cleared}
 use Rattle.ans_model.specs.Laws.Certain.{IsCertain}
 use Rattle.ans_model.specs.Screen.State.{Size, State}
-use Rattle.ans_model.specs.Screen.Starts.{Class, class_of, cleared, IsStart}
+use Rattle.ans_model.specs.Screen.StartClass.{Class, class_of, cleared, IsStart}
 use Rattle.ans_model.specs.Screen.Step.{final}
 use Rattle.ans_model.specs.Verdict.TokenFault.{HasStaticFault, HasFaultAfter, HasFault, FromEvery, FromSome}
 use Rattle.ans_model.specs.Verdict.TokenFault.{SamePosition, PositionsDiffer, IsInSpareRow}

@@ -7,7 +7,7 @@ use Rattle.ans_model.specs.Screen.State.{Size, State, at, cell_count, IsOnScreen
 use Rattle.ans_model.specs.declared.cell.Cell.{Cell}
 use Rattle.ans_model.specs.declared.cell.Position.{Position}
 use Rattle.ans_model.specs.Screen.Step.{blank_cell}
-use Rattle.ans_model.specs.Screen.Starts.{Class, cleared, IsStart, start_with, low_start, high_start}
+use Rattle.ans_model.specs.Screen.StartClass.{Class, cleared, IsStart, start_with, low_start, high_start}
 
 -- a part is the cleared state's where it is known
 known_part : {A : Type 0} (b : Bool) (x y : A) → IsTrue b → (if b then x else y) ≡ x

@@ -12,7 +12,7 @@ use Rattle.ans_model.specs.Text.Characters.{shown_bytes}
 use Rattle.ans_model.specs.File.Record.{title_field, author_field, group_field, date_field, font_field, file_size}
 use Rattle.ans_model.specs.File.Record.{comment_count, flags, stated_width, stated_lines, comment}
 use Rattle.ans_model.specs.File.Layout.{FileParts}
-use Rattle.ans_model.specs.File.Notes.{notes}
+use Rattle.ans_model.specs.File.NoteConditions.{notes}
 use Rattle.ans_model.specs.Text.Hexadecimal.{hex_byte}
 use Rattle.ans_model.specs.Text.FaultText.{line_of, fault_text, place_text, fault_line, note_text, note_line}
 use Rattle.ans_model.specs.Text.ReportText.{Heading, Verdict, Passed, RefusedFor, size_text, heading_text, rows_of}

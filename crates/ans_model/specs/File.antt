@@ -1,5 +1,5 @@
 -- A file with a SAUCE record: its fields, how it is laid out, what is odd about it, and why it is refused.
 pub mod Record
 pub mod Layout
-pub mod Notes
+pub mod NoteConditions
 pub mod Refusals

@@ -2,4 +2,4 @@
 pub mod Attribute
 pub mod State
 pub mod Step
-pub mod Starts
+pub mod StartClass

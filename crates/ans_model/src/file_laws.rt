@@ -5,7 +5,7 @@ ghost use Rattle.std.specs.List.Sorted.{IsStrictlyIncreasing};
 ghost use Rattle.ans_model.specs.declared.fault.Fault.{Fault};
 ghost use Rattle.ans_model.specs.File.Layout.{FileParts, Laid};
 ghost use Rattle.ans_model.specs.File.Refusals.{Accepts, file_refusals, record_fault};
-ghost use Rattle.ans_model.specs.File.Notes.{notes};
+ghost use Rattle.ans_model.specs.File.NoteConditions.{notes};
 ghost use Rattle.ans_model.specs.Laws.FileLaws.{IsFirstThatApplies, note_number};
 
 /// A file is accepted exactly where no refusal applies to it, and is laid out in one way.

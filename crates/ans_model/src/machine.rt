@@ -7,7 +7,7 @@ ghost use Rattle.ans_model.specs.Screen.Step.{filled, line_feed, step, final};
 ghost use Rattle.ans_model.specs.Sequence.TokenKind.{Glyph, Clear, EraseLine};
 ghost use Rattle.ans_model.specs.Inside.ShownKind.{shown_kind};
 ghost use Rattle.ans_model.specs.Inside.MachineView.{played};
-ghost use Rattle.ans_model.specs.Screen.Starts.{class_of, cleared, low_start, high_start};
+ghost use Rattle.ans_model.specs.Screen.StartClass.{class_of, cleared, low_start, high_start};
 
 use crate::attribute::attribute_after_all;
 use crate::cell::{Cell, Position};

@@ -16,7 +16,7 @@ ghost use Rattle.ans_model.specs.declared.note.Note.TheVariants.{FlagBits, FlagP
 ghost use Rattle.ans_model.specs.declared.start.Start.TheVariants.{Any, Cleared};
 ghost use Rattle.ans_model.specs.File.Record.{stated_width};
 ghost use Rattle.ans_model.specs.File.Layout.{content, comment_block, file_parts};
-ghost use Rattle.ans_model.specs.File.Notes.{notes};
+ghost use Rattle.ans_model.specs.File.NoteConditions.{notes};
 ghost use Rattle.ans_model.specs.File.Refusals.{fault_at, record_fault};
 ghost use Rattle.ans_model.specs.Screen.State.{sized, cell};
 ghost use Rattle.ans_model.specs.Sequence.Spelling.{IsUnfinished};

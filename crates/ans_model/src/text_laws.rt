@@ -10,7 +10,7 @@ ghost use Rattle.ans_model.specs.declared.fault.Fault.{Fault};
 ghost use Rattle.ans_model.specs.declared.start.Start.TheVariants.{Cleared};
 ghost use Rattle.ans_model.specs.Laws.Certain.{IsCertain};
 ghost use Rattle.ans_model.specs.Screen.State.{Size};
-ghost use Rattle.ans_model.specs.Screen.Starts.{Class, class_of};
+ghost use Rattle.ans_model.specs.Screen.StartClass.{Class, class_of};
 ghost use Rattle.ans_model.specs.Verdict.FirstFault.{IsRefused, IsFirstFault};
 ghost use Rattle.ans_model.specs.Verdict.LastFault.{IsLastFault};
 ghost use Rattle.ans_model.specs.Verdict.Good.{IsGood};

@@ -1,7 +1,7 @@
 -- From the cleared start each fault is certain.
 use Rattle.std.proofs.Common.{◌≡◌, ℕ, List}
 use Rattle.ans_model.specs.Laws.Certain.{IsCertain}
-use Rattle.ans_model.specs.Screen.Starts.{class_of}
+use Rattle.ans_model.specs.Screen.StartClass.{class_of}
 use Rattle.ans_model.specs.Screen.State.{Size}
 use Rattle.ans_model.specs.Verdict.FirstFault.{IsFirstFault}
 use Rattle.ans_model.specs.Verdict.LastFault.{IsLastFault}

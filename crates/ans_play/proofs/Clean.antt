@@ -6,7 +6,7 @@ use Rattle.std.proofs.lemmas.List.{take-append-le, take_at, length_push}
 use Rattle.std.proofs.lemmas.Option.{slice_get_within}
 use Rattle.ans_model.specs.Sequence.TokenKind.{TokenKind}
 use Rattle.ans_model.specs.Screen.State.{Size}
-use Rattle.ans_model.specs.Screen.Starts.{Class}
+use Rattle.ans_model.specs.Screen.StartClass.{Class}
 use Rattle.ans_model.specs.Verdict.TokenFault.{HasFault, IsClean}
 use Rattle.ans_model.specs.declared.fault.Cause.{Cause}
 

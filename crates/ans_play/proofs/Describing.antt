@@ -9,7 +9,7 @@ use Rattle.ans_model.specs.declared.cell.Cell.{Cell}
 use Rattle.ans_model.specs.declared.cell.Position.{Position}
 use Rattle.ans_model.specs.Screen.Step.{blank_cell, next_row_start, destination, line_feed, advanced, step}
 use Rattle.ans_screen.specs.KnownBits.{KnownBits, Agrees}
-use Rattle.ans_screen.specs.Cells.{printed_cell}
+use Rattle.ans_screen.specs.HalfCells.{printed_cell}
 use Rattle.ans_screen.specs.declared.cell.HalfCell.{HalfCell}
 use Rattle.ans_play.specs.declared.span.Span.{Span}
 use Rattle.ans_play.specs.declared.wrap.WrapMode.{WrapMode}

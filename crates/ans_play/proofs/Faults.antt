@@ -8,7 +8,7 @@ use Rattle.ans_model.specs.declared.cell.Position.{Position}
 use Rattle.ans_model.specs.Sequence.TokenKind.{TokenKind, PrintsByte, Glyph, LineFeed, Tab, Place, EraseLine, Mode, Keys, Ask}
 use Rattle.ans_model.specs.Screen.State.{Size, State, FitsScreen, IsWellFormed}
 use Rattle.ans_model.specs.Screen.Step.{step, final}
-use Rattle.ans_model.specs.Screen.Starts.{Class, IsStart, low_start, high_start}
+use Rattle.ans_model.specs.Screen.StartClass.{Class, IsStart, low_start, high_start}
 use Rattle.ans_model.specs.Verdict.TokenFault.{HasStaticFault, HasFaultAfter, HasFault, SamePosition, PositionsDiffer, IsInSpareRow, FromEvery, FromSome}
 use Rattle.ans_model.specs.declared.fault.Cause.{Cause}
 use Rattle.ans_model.specs.declared.fault.Cause.TheVariants.{KeyReassigned, ScreenMode, ReportAsked, TabByte, OutsideScreen, PrintBelow, Scrolls, PrintUnknownPlace, EraseUnknownPlace, MayScroll}

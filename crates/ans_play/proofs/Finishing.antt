@@ -12,7 +12,7 @@ use Rattle.ans_model.specs.Screen.State.{Size, State, at, index, cell_count, IsS
 use Rattle.ans_model.specs.declared.cell.Cell.{Cell}
 use Rattle.ans_model.specs.declared.cell.Position.{Position}
 use Rattle.ans_model.specs.Screen.Step.{final}
-use Rattle.ans_model.specs.Screen.Starts.{Class, class_of, IsStart, low_start, high_start}
+use Rattle.ans_model.specs.Screen.StartClass.{Class, class_of, IsStart, low_start, high_start}
 use Rattle.ans_model.specs.Verdict.Good.{Picture, Shows, GoodWith, IsGood}
 use Rattle.ans_model.specs.File.Refusals.{fault_at}
 use Rattle.ans_model.specs.Verdict.LastFault.{SameCell, CellsDiffer, IsBefore, IsFirstUnknown, EndsInSequence, LeavesUnknown, IsLastFault}
@@ -24,8 +24,8 @@ use Rattle.ans_model.proofs.StartLemmas.{low_is_start, high_is_start}
 use Rattle.ans_model.proofs.Reading.{one_reading}
 use Rattle.ans_model.proofs.OneAnswer.{good_or_last}
 use Rattle.ans_screen.specs.KnownBits.{known_bits}
-use Rattle.ans_screen.specs.Cells.{half_cell, is_known}
-use Rattle.ans_screen.specs.Grids.{first_unknown}
+use Rattle.ans_screen.specs.HalfCells.{half_cell, is_known}
+use Rattle.ans_screen.specs.GridEdits.{first_unknown}
 use Rattle.ans_screen.specs.declared.cell.HalfCell.{HalfCell}
 use Rattle.ans_play.specs.HalfState.{HalfState, DescribesCell}
 use Rattle.ans_play.specs.Shown.{known_cell, stated_cells, picture_of}

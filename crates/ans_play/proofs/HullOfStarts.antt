@@ -7,7 +7,7 @@ use Rattle.ans_model.specs.Screen.State.{Size, State, at, cell_count, IsOnScreen
 use Rattle.ans_model.specs.declared.cell.Cell.{Cell}
 use Rattle.ans_model.specs.declared.cell.Position.{Position}
 use Rattle.ans_model.specs.Screen.Step.{blank_cell}
-use Rattle.ans_model.specs.Screen.Starts.{Class, cleared, IsStart, low_start, high_start}
+use Rattle.ans_model.specs.Screen.StartClass.{Class, cleared, IsStart, low_start, high_start}
 use Rattle.ans_screen.specs.KnownBits.{Agrees}
 use Rattle.ans_screen.specs.declared.cell.HalfCell.{HalfCell}
 use Rattle.ans_play.specs.HalfState.{DescribesCell, DescribesPlace, DescribesWrap, Describes}

@@ -12,8 +12,8 @@ use Rattle.std.proofs.lemmas.List.Sums.{fails_before_first}
 use Rattle.std.proofs.lemmas.Option.{slice_get-get_or}
 use Rattle.ans_model.specs.Screen.State.{cell, IsByteCell}
 use Rattle.ans_model.specs.declared.cell.Cell.{Cell}
-use Rattle.ans_screen.specs.Cells.{is_known}
-use Rattle.ans_screen.specs.Grids.{is_unknown, first_unknown}
+use Rattle.ans_screen.specs.HalfCells.{is_known}
+use Rattle.ans_screen.specs.GridEdits.{is_unknown, first_unknown}
 use Rattle.ans_screen.specs.declared.cell.HalfCell.{HalfCell}
 use Rattle.ans_play.specs.HalfState.{DescribesCell}
 use Rattle.ans_play.specs.Hull.{hull_cell, hull_screen}

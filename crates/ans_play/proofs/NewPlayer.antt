@@ -2,12 +2,12 @@
 use Rattle.std.proofs.Common.{◌≡◌, ℕ, ◌-◌, ◌*◌, ◌+◌, refl, sym, ap, ◌∙◌, arith, List, [], replicate, mul_comm, Some, None}
 use Rattle.ans_model.specs.Screen.State.{Size, IsSize, at, cell, cell_count}
 use Rattle.ans_model.specs.Screen.Step.{blank_cell}
-use Rattle.ans_model.specs.Screen.Starts.{class_of, low_start, high_start}
+use Rattle.ans_model.specs.Screen.StartClass.{class_of, low_start, high_start}
 use Rattle.ans_model.specs.declared.start.Start.{Start}
 use Rattle.ans_model.specs.declared.start.Start.TheVariants.{Any, Cleared}
 use Rattle.ans_tokens.specs.Scanning.{fresh}
 use Rattle.ans_screen.specs.KnownBits.{known_bits}
-use Rattle.ans_screen.specs.Cells.{half_cell}
+use Rattle.ans_screen.specs.HalfCells.{half_cell}
 use Rattle.ans_screen.specs.declared.cell.HalfCell.{HalfCell}
 use Rattle.ans_play.specs.declared.span.Span.{Span}
 use Rattle.ans_play.specs.declared.wrap.WrapMode.{WrapMode}

@@ -12,7 +12,7 @@ use Rattle.ans_model.specs.Sequence.Reads.{SpellsToken, Reads}
 use Rattle.ans_model.specs.File.Refusals.{fault_at}
 use Rattle.ans_model.specs.Sequence.Spelling.{IsUnfinished}
 use Rattle.ans_model.specs.Screen.State.{Size, IsSize}
-use Rattle.ans_model.specs.Screen.Starts.{Class}
+use Rattle.ans_model.specs.Screen.StartClass.{Class}
 use Rattle.ans_model.specs.Verdict.TokenFault.{IsClean}
 use Rattle.ans_model.specs.Verdict.Good.{IsGood}
 use Rattle.ans_model.specs.Verdict.FirstFault.{IsFirstFault}
@@ -21,7 +21,7 @@ use Rattle.ans_model.proofs.Reading.{reads_bytes}
 use Rattle.ans_tokens.specs.Scanning.{Nothing, scanning}
 use Rattle.ans_tokens.proofs.EachByte.{IsOpen, open_ends}
 use Rattle.ans_tokens.proofs.Readable.{IsRefusedFront, IsReadable, readable}
-use Rattle.ans_screen.specs.Grids.{first_unknown}
+use Rattle.ans_screen.specs.GridEdits.{first_unknown}
 use Rattle.ans_play.specs.HalfState.{HalfState}
 use Rattle.ans_play.specs.Shown.{picture_of}
 use Rattle.ans_play.specs.Stands.{IsKnownAfter, IsPlayed}

@@ -6,7 +6,7 @@ use Rattle.ans_model.specs.Sequence.TokenKind.{TokenKind, Glyph, LineFeed, Erase
 use Rattle.ans_model.specs.Screen.State.{Size}
 use Rattle.ans_model.specs.declared.cell.Position.{Position}
 use Rattle.ans_model.specs.Screen.Step.{final}
-use Rattle.ans_model.specs.Screen.Starts.{Class}
+use Rattle.ans_model.specs.Screen.StartClass.{Class}
 use Rattle.ans_model.specs.Verdict.TokenFault.{HasFault, IsClean, SamePosition, PositionsDiffer}
 use Rattle.ans_model.specs.declared.fault.Cause.{Cause}
 use Rattle.ans_model.specs.declared.fault.Cause.TheVariants.{PrintBelow, Scrolls, PrintUnknownPlace, EraseUnknownPlace, MayScroll}

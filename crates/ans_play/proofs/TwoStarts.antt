@@ -11,7 +11,7 @@ use Rattle.ans_model.specs.declared.fault.Cause.{Cause}
 use Rattle.ans_model.specs.declared.fault.Cause.TheVariants.{PrintBelow, Scrolls, PrintUnknownPlace, EraseUnknownPlace, MayScroll, UnknownCell}
 use Rattle.ans_model.specs.declared.cell.Position.{Position}
 use Rattle.ans_model.specs.Screen.State.{Size, IsStated, index, cell_at, IsWellFormed}
-use Rattle.ans_model.specs.Screen.Starts.{Class, low_start, high_start}
+use Rattle.ans_model.specs.Screen.StartClass.{Class, low_start, high_start}
 use Rattle.ans_model.specs.Verdict.TokenFault.{HasFault, HasFaultAfter, PositionsDiffer, IsInSpareRow, FromSome, IsClean}
 use Rattle.ans_model.specs.Verdict.FirstFault.{IsFirstFault, IsToBlame, IsRefused}
 use Rattle.ans_model.specs.Verdict.LastFault.{IsLastFault, CellsDiffer, IsFirstUnknown}
@@ -21,7 +21,7 @@ use Rattle.ans_model.proofs.StartLemmas.{low_is_start, high_is_start}
 use Rattle.ans_model.proofs.OneCause.{static_is_certain}
 use Rattle.ans_model.proofs.OneAnswer.{refused_certain}
 use Rattle.ans_model.proofs.Reading.{reads_bytes}
-use Rattle.ans_screen.specs.Cells.{is_known}
+use Rattle.ans_screen.specs.HalfCells.{is_known}
 use Rattle.ans_screen.specs.declared.cell.HalfCell.{HalfCell}
 use Rattle.ans_play.specs.declared.span.Span.{Span}
 use Rattle.ans_play.specs.Hull.{hull}

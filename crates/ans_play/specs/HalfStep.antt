@@ -6,7 +6,7 @@ use Rattle.ans_model.specs.Screen.State.{Size, at, cell_count, index}
 use Rattle.ans_model.specs.declared.cell.Position.{Position}
 use Rattle.ans_model.specs.Screen.Step.{filled, next_row_start, destination}
 use Rattle.ans_screen.specs.KnownBits.{KnownBits, known_after}
-use Rattle.ans_screen.specs.Cells.{printed_cell}
+use Rattle.ans_screen.specs.HalfCells.{printed_cell}
 use Rattle.ans_screen.specs.declared.cell.HalfCell.{HalfCell}
 use Rattle.ans_play.specs.declared.span.Span.{Span}
 use Rattle.ans_play.specs.declared.wrap.WrapMode.{WrapMode}

@@ -4,7 +4,7 @@ use Rattle.ans_model.specs.Screen.State.{State, at}
 use Rattle.ans_model.specs.declared.cell.Cell.{Cell}
 use Rattle.ans_model.specs.declared.cell.Position.{Position}
 use Rattle.ans_screen.specs.KnownBits.{KnownBits, known_bits}
-use Rattle.ans_screen.specs.Cells.{half_cell}
+use Rattle.ans_screen.specs.HalfCells.{half_cell}
 use Rattle.ans_screen.specs.declared.cell.HalfCell.{HalfCell}
 use Rattle.ans_play.specs.declared.span.Span.{Span}
 use Rattle.ans_play.specs.declared.wrap.WrapMode.{WrapMode}

@@ -5,7 +5,7 @@ use Rattle.std.specs.Option.{option_map}
 use Rattle.ans_model.specs.Screen.State.{Size, at, cell, cell_at}
 use Rattle.ans_model.specs.Verdict.Good.{Picture}
 use Rattle.ans_model.specs.declared.cell.Cell.{Cell}
-use Rattle.ans_screen.specs.Cells.{is_known}
+use Rattle.ans_screen.specs.HalfCells.{is_known}
 use Rattle.ans_play.specs.Playing.{IsPlayableSize, IsByteHalfCell}
 use Rattle.ans_screen.specs.declared.cell.HalfCell.{HalfCell}
 

@@ -4,7 +4,7 @@ use Rattle.ans_model.specs.Sequence.TokenKind.{TokenKind}
 use Rattle.ans_model.specs.Sequence.Reads.{Reads}
 use Rattle.ans_model.specs.Screen.State.{Size, IsSize, IsWellFormed}
 use Rattle.ans_model.specs.Screen.Step.{final}
-use Rattle.ans_model.specs.Screen.Starts.{Class, class_of, low_start, high_start}
+use Rattle.ans_model.specs.Screen.StartClass.{Class, class_of, low_start, high_start}
 use Rattle.ans_model.specs.Verdict.TokenFault.{FromEvery, IsClean}
 use Rattle.ans_model.specs.Verdict.FirstFault.{IsFirstFault}
 use Rattle.ans_model.specs.declared.start.Start.{Start}

@@ -3,7 +3,7 @@
 ghost use Rattle.std.specs.Prelude.{◌⊎◌, ℕ, List, All};
 ghost use Rattle.ans_model.specs.Bytes.{IsByte};
 ghost use Rattle.ans_model.specs.Screen.State.{Size, IsSize};
-ghost use Rattle.ans_model.specs.Screen.Starts.{Class};
+ghost use Rattle.ans_model.specs.Screen.StartClass.{Class};
 ghost use Rattle.ans_model.specs.Verdict.Good.{IsGood};
 ghost use Rattle.ans_model.specs.Verdict.FirstFault.{IsFirstFault};
 ghost use Rattle.ans_model.specs.Verdict.LastFault.{IsLastFault};

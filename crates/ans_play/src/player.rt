@@ -5,7 +5,7 @@ ghost use Rattle.ans_model.specs.Bytes.{most_columns, most_lines, longest_file};
 ghost use Rattle.ans_model.specs.Sequence.TokenKind.{Glyph, EraseLine, Clear};
 ghost use Rattle.ans_model.specs.Inside.ShownKind.{shown_kind};
 ghost use Rattle.ans_model.specs.Screen.State.{Size, sized};
-ghost use Rattle.ans_model.specs.Screen.Starts.{class_of};
+ghost use Rattle.ans_model.specs.Screen.StartClass.{class_of};
 ghost use Rattle.ans_model.specs.Verdict.Good.{GoodWith, IsGood};
 ghost use Rattle.ans_model.specs.Verdict.FirstFault.{IsFirstFault};
 ghost use Rattle.ans_model.specs.Verdict.LastFault.{IsLastFault};

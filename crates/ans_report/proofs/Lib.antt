@@ -1,6 +1,6 @@
 pub mod WritesLemmas
 pub mod GathersLemmas
-pub mod Pictures
+pub mod PictureRows
 pub mod RecordLemmas
 pub mod CellsTold
 pub mod TokensLemmas

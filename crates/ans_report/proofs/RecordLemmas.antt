@@ -8,7 +8,7 @@ use Rattle.ans_model.specs.Text.Hexadecimal.{hex_byte}
 use Rattle.ans_model.specs.Screen.State.{sized}
 use Rattle.ans_model.specs.File.Record.{title_field, author_field, group_field, date_field, font_field, file_size, comment_count, flags, stated_width, stated_lines, comment}
 use Rattle.ans_model.specs.File.Layout.{FileParts}
-use Rattle.ans_model.specs.File.Notes.{notes}
+use Rattle.ans_model.specs.File.NoteConditions.{notes}
 use Rattle.ans_model.specs.Text.FaultText.{note_line}
 use Rattle.ans_model.specs.Text.ReportText.{size_text}
 use Rattle.ans_model.specs.Text.RecordText.{named_line, field_line, comment_lines, record_text}

@@ -7,7 +7,7 @@ ghost use Rattle.ans_model.specs.File.Refusals.{has_record, has_block, fault_at,
 ghost use Rattle.ans_sauce.specs.RecordBytes.{bytes_of};
 ghost use Rattle.ans_sauce.specs.Split.{IsSplit, IsCut, record_refusals};
 
-use crate::notes::notes_on;
+use crate::note_conditions::notes_on;
 use crate::parts::{COMMENT_SIZE, Parts};
 use crate::record::{COMMENT_COUNT, DATA_TYPE, RECORD_SIZE, Record, TINFO_1, TINFO_2, VERSION};
 use ans_model::fault::{Cause, Fault};

@@ -1,4 +1,4 @@
 pub mod KnownBits
-pub mod Cells
-pub mod Grids
+pub mod HalfCells
+pub mod GridEdits
 pub mod Renditions

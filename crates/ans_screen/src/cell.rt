@@ -12,7 +12,7 @@ pub struct HalfCell {
 impl HalfCell {
     ghost use Rattle.std.specs.Prelude.{◌≡◌, Some, None};
     ghost use Rattle.ans_screen.specs.KnownBits.{known_bits};
-    ghost use Rattle.ans_screen.specs.Cells.{half_cell, is_known};
+    ghost use Rattle.ans_screen.specs.HalfCells.{half_cell, is_known};
 
     /// A byte and an attribute, both known.
     pub fn known(glyph: u8, attr: u8) -> HalfCell

@@ -3,7 +3,7 @@
 ghost use Rattle.std.specs.Prelude.{◌≡◌, ℕ, ◌+◌, ◌*◌, ◌<◌, ◌≤◌, List, length, set, replicate, slice_get, Some, IfOk};
 ghost use Rattle.ans_model.specs.Screen.Step.{filled};
 ghost use Rattle.ans_screen.specs.declared.cell.HalfCell.{HalfCell};
-ghost use Rattle.ans_screen.specs.Grids.{written, printed_run, first_unknown};
+ghost use Rattle.ans_screen.specs.GridEdits.{written, printed_run, first_unknown};
 
 use crate::attr::Attr;
 use crate::cell::HalfCell;

@@ -1,7 +1,7 @@
 //! A grid that is a vector of cells.
 
 ghost use Rattle.std.specs.Prelude.{◌≡◌, ◌*◌, length};
-ghost use Rattle.ans_screen.specs.Grids.{printed_run};
+ghost use Rattle.ans_screen.specs.GridEdits.{printed_run};
 
 use crate::attr::Attr;
 use crate::cell::HalfCell;

@@ -13,7 +13,7 @@ use Rattle.ans_model.specs.Inside.OpenPart.{Current, Fresh, InNumber, InString, 
 use Rattle.ans_model.specs.Verdict.FirstFault.{IsRefused}
 use Rattle.ans_model.proofs.AfterPart.{refuses_byte, IsUnmarkedThere, part_unfinished}
 use Rattle.ans_tokens.specs.Shows.{begun}
-use Rattle.ans_tokens.proofs.StepLemmas.{extend, more_digits, more_text, closed_text, next_member, letter_spells, too_many, too_large, marked, fresh_digit, fresh_quote, mark_not, no_stop, loose_spells, fresh_not_after, fresh_not_number}
+use Rattle.ans_tokens.proofs.ScannerSteps.{extend, more_digits, more_text, closed_text, next_member, letter_spells, too_many, too_large, marked, fresh_digit, fresh_quote, mark_not, no_stop, loose_spells, fresh_not_after, fresh_not_number}
 use Rattle.ans_tokens.proofs.OpenLemmas.{begun_spells, escape_refused, escape_unfinished, broken}
 
 -- an open part: nothing, ESC, or a part of a sequence

@@ -1,5 +1,5 @@
 pub mod KeptLaw
-pub mod StepLemmas
+pub mod ScannerSteps
 pub mod ShowsLemmas
 pub mod OpenLemmas
 pub mod EachByte

@@ -9,7 +9,7 @@ use Rattle.ans_model.specs.Verdict.FirstFault.{IsWhy, IsRefused}
 use Rattle.ans_model.proofs.Spelling.{head_of, tail_of}
 use Rattle.ans_model.proofs.AfterPart.{part_unfinished}
 use Rattle.ans_tokens.specs.Shows.{begun}
-use Rattle.ans_tokens.proofs.StepLemmas.{loose_spells}
+use Rattle.ans_tokens.proofs.ScannerSteps.{loose_spells}
 
 -- behind `[`
 pub begun_spells : SpellsPart begun (escape ∷ bracket ∷ [])

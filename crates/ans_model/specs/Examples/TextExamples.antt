@@ -11,7 +11,7 @@ use Rattle.ans_model.specs.Verdict.Good.{Picture}
 use Rattle.ans_model.specs.Text.ReportText.{Heading}
 use Rattle.ans_model.specs.File.Layout.{comment_block}
 use Rattle.ans_model.specs.File.Refusals.{record_fault}
-use Rattle.ans_model.specs.File.Notes.{notes}
+use Rattle.ans_model.specs.File.NoteConditions.{notes}
 
 -- ---- records
 -- the fields of a record that the examples change

@@ -2,7 +2,7 @@
 use Rattle.std.specs.Prelude.{◌≡◌, ◌↔◌}
 use Rattle.ans_model.specs.declared.start.Start.TheVariants.{Any, Cleared}
 use Rattle.ans_model.specs.Screen.State.{Size, IsSize, State, IsWellFormed}
-use Rattle.ans_model.specs.Screen.Starts.{Class, class_of, cleared, IsStart, low_start, high_start}
+use Rattle.ans_model.specs.Screen.StartClass.{Class, class_of, cleared, IsStart, low_start, high_start}
 
 -- `Any` is every state of the machine.
 abbrev pub AnyIsEvery : Type 0

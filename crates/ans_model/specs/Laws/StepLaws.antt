@@ -10,7 +10,7 @@ use Rattle.ans_model.specs.declared.cell.Cell.{Cell}
 use Rattle.ans_model.specs.declared.cell.Position.{Position}
 use Rattle.ans_model.specs.Screen.Attribute.{attribute_after_all}
 use Rattle.ans_model.specs.Screen.Step.{step, final, filled, next_row_start, blank_cell, line_feed}
-use Rattle.ans_model.specs.Screen.Starts.{Class}
+use Rattle.ans_model.specs.Screen.StartClass.{Class}
 use Rattle.ans_model.specs.Verdict.TokenFault.{FromEvery, IsClean}
 
 -- Two places of the screen with one index are one place.

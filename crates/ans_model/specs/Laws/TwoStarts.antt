@@ -9,7 +9,7 @@ use Rattle.ans_model.specs.declared.cell.Position.{Position}
 use Rattle.ans_model.specs.Sequence.Reads.{Reads}
 use Rattle.ans_model.specs.Screen.State.{Size, State, IsStated, cell_at}
 use Rattle.ans_model.specs.Screen.Step.{final}
-use Rattle.ans_model.specs.Screen.Starts.{Class, low_start, high_start}
+use Rattle.ans_model.specs.Screen.StartClass.{Class, low_start, high_start}
 use Rattle.ans_model.specs.Verdict.TokenFault.{IsInSpareRow}
 use Rattle.ans_model.specs.Verdict.LastFault.{IsBefore}
 

@@ -3,7 +3,7 @@ use Rattle.std.specs.Prelude.{ℕ, ◌+◌, zero, suc, List, [], ◌++◌, codes
 use Rattle.ans_model.specs.File.Record.{title_field, author_field, group_field, date_field, font_field, file_size}
 use Rattle.ans_model.specs.File.Record.{comment_count, flags, trimmed, stated_width, stated_lines, comment}
 use Rattle.ans_model.specs.File.Layout.{FileParts}
-use Rattle.ans_model.specs.File.Notes.{notes}
+use Rattle.ans_model.specs.File.NoteConditions.{notes}
 use Rattle.ans_model.specs.Screen.State.{sized}
 use Rattle.ans_model.specs.Text.Characters.{shown_bytes}
 use Rattle.ans_model.specs.Text.Hexadecimal.{hex_byte}

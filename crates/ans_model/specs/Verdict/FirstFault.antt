@@ -10,7 +10,7 @@ use Rattle.ans_model.specs.Sequence.Spelling.{Raw, Spells, IsUnfinished, IsPrefi
 use Rattle.ans_model.specs.Sequence.Meaning.{meaning}
 use Rattle.ans_model.specs.Sequence.Reads.{SpellsToken, Reads}
 use Rattle.ans_model.specs.Screen.State.{Size, IsSize}
-use Rattle.ans_model.specs.Screen.Starts.{Class}
+use Rattle.ans_model.specs.Screen.StartClass.{Class}
 use Rattle.ans_model.specs.Verdict.TokenFault.{HasFault, IsClean}
 
 -- the text spells a sequence that is refused for its meaning

@@ -6,7 +6,7 @@ use Rattle.ans_model.specs.Screen.State.{Size, IsSize, State, IsByteCell, IsStat
 use Rattle.ans_model.specs.declared.cell.Cell.{Cell}
 use Rattle.ans_model.specs.declared.cell.Position.{Position}
 use Rattle.ans_model.specs.Screen.Step.{final}
-use Rattle.ans_model.specs.Screen.Starts.{Class, IsStart}
+use Rattle.ans_model.specs.Screen.StartClass.{Class, IsStart}
 use Rattle.ans_model.specs.Verdict.TokenFault.{HasStaticFault, FromEvery, SamePosition, IsInSpareRow}
 use Rattle.ans_model.specs.declared.fault.Cause.{Cause}
 

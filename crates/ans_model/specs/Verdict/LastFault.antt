@@ -9,7 +9,7 @@ use Rattle.ans_model.specs.Sequence.Reads.{Reads}
 use Rattle.ans_model.specs.File.Refusals.{fault_at}
 use Rattle.ans_model.specs.Screen.State.{Size, IsSize, State, IsStated, cell_at}
 use Rattle.ans_model.specs.Screen.Step.{final}
-use Rattle.ans_model.specs.Screen.Starts.{Class, IsStart}
+use Rattle.ans_model.specs.Screen.StartClass.{Class, IsStart}
 use Rattle.ans_model.specs.Verdict.TokenFault.{IsClean}
 
 -- in the end the cell at this place is the same from every start

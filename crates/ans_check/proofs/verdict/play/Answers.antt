@@ -2,7 +2,7 @@ use Rattle.std.proofs.Common.{List, ℕ, take, drop, ◌∙◌, ap, sym, subst}
 use Rattle.std.proofs.lemmas.Result.{IfOk-weaker}
 use Rattle.std.specs.Slice.Iter.{chunks_rest}
 use Rattle.ans_model.specs.Screen.State.{Size}
-use Rattle.ans_model.specs.Screen.Starts.{class_of}
+use Rattle.ans_model.specs.Screen.StartClass.{class_of}
 use Rattle.ans_model.specs.Verdict.Good.{Picture, GoodWith}
 use Rattle.ans_model.specs.declared.fault.Fault.{Fault}
 use Rattle.ans_model.specs.declared.start.Start.{Start}

@@ -2,7 +2,7 @@ use Rattle.std.proofs.Common.{rules, arith, ◌≡◌, ◌*◌, ◌∙◌, get_o
 use Rattle.std.specs.List.{flat_map}
 use Rattle.ans_model.specs.Text.ReportText.{cell_digits}
 use Rattle.ans_report.specs.Rows.{row_of}
-use Rattle.ans_report.proofs.Pictures.{digits_at, whole_row}
+use Rattle.ans_report.proofs.PictureRows.{digits_at, whole_row}
 use Rattle.ans_report.proofs.GathersLemmas.{Gathers-next, Gathers-last, GathersText-then, GathersText-failed, gathered-longer}
 use Rattle.ans_report.proofs.cells_text.put_cells_row.Goals as goal
 

@@ -1,7 +1,7 @@
 use Rattle.std.proofs.Common.{rules, arith, ◌≡◌, ◌*◌, get_or}
 use Rattle.std.specs.List.{flat_map}
 use Rattle.ans_report.specs.Rows.{row_of}
-use Rattle.ans_report.proofs.Pictures.{cell_text, cell_at, line_is, whole_row}
+use Rattle.ans_report.proofs.PictureRows.{cell_text, cell_at, line_is, whole_row}
 use Rattle.ans_report.proofs.GathersLemmas.{Gathers-next, Gathers-last, GathersText-then, GathersText-failed, gathered-longer}
 use Rattle.ans_report.proofs.picture_text.put_row.Goals as goal
 

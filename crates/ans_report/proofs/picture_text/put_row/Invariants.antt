@@ -3,7 +3,7 @@ use Rattle.std.specs.List.{flat_map}
 use Rattle.ans_report.specs.Tried.{has_failed, inner_of}
 use Rattle.ans_report.specs.Writes.{Gathers}
 use Rattle.ans_report.specs.Rows.{row_of}
-use Rattle.ans_report.proofs.Pictures.{cell_text}
+use Rattle.ans_report.proofs.PictureRows.{cell_text}
 use Rattle.ans_report.proofs.picture_text.put_row.Given as goal
 
 abbrev pub invariant-loop-col : goal.invariant-loop-col

@@ -1,7 +1,7 @@
 use Rattle.std.proofs.Common.{rules, arith, ◌≡◌, ◌<◌, [], get_or, ap, sym}
 use Rattle.ans_model.specs.Text.ReportText.{rows_of, picture_line}
 use Rattle.ans_report.specs.Rows.{row_of}
-use Rattle.ans_report.proofs.Pictures.{row_at, within_rows, all_rows}
+use Rattle.ans_report.proofs.PictureRows.{row_at, within_rows, all_rows}
 use Rattle.ans_report.proofs.GathersLemmas.{Gathers-next, Gathers-last, GathersText-failed}
 use Rattle.ans_report.proofs.picture_text.put_rows.Goals as goal
 

@@ -1,5 +1,5 @@
 use Rattle.std.proofs.Common.{arith}
-use Rattle.ans_screen.specs.Cells.{printed_cell}
+use Rattle.ans_screen.specs.HalfCells.{printed_cell}
 use Rattle.ans_screen.proofs.Copies.{copied_more}
 use Rattle.ans_screen.proofs.plain.print_cells.Goals as goal
 

@@ -1,5 +1,5 @@
 use Rattle.std.proofs.Common.{◌≡◌, ◌++◌, take, drop}
-use Rattle.ans_screen.specs.Grids.{printed_run}
+use Rattle.ans_screen.specs.GridEdits.{printed_run}
 use Rattle.ans_screen.proofs.plain.print_cells.Given as goal
 
 -- the bytes so far are printed, and the other cells are as they were

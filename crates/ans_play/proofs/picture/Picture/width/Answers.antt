@@ -1,5 +1,5 @@
 use Rattle.ans_model.specs.Screen.State.{sized}
-use Rattle.ans_play.proofs.Pictures.{is_picture}
+use Rattle.ans_play.proofs.PictureCells.{is_picture}
 use Rattle.ans_play.proofs.picture.Picture.width.Goals as goal
 
 pub returns-clause-whole : goal.returns-clause-whole

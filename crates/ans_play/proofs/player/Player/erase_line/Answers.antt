@@ -1,7 +1,7 @@
 use Rattle.std.proofs.Common.{◌+◌, ◌*◌, lit<}
 use Rattle.ans_model.specs.Bytes.{IsByte}
 use Rattle.ans_play.specs.Playing.{IsByteHalfCell}
-use Rattle.ans_play.proofs.Cells.{All-filled}
+use Rattle.ans_play.proofs.ByteCells.{All-filled}
 use Rattle.ans_play.proofs.player.Player.erase_line.Goals as goal
 
 pub invariant_of-self : goal.invariant_of-self

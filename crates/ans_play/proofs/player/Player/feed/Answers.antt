@@ -1,7 +1,7 @@
 use Rattle.std.proofs.Common.{◌≡◌, ◌≤◌, sym, ap, length, length-append, ◌++◌, subst, arith, rules}
 use Rattle.std.specs.Prelude.{Err}
 use Rattle.std.proofs.lemmas.List.{take_all}
-use Rattle.ans_model.specs.Screen.Starts.{class_of}
+use Rattle.ans_model.specs.Screen.StartClass.{class_of}
 use Rattle.ans_play.specs.Playing.{Playing}
 use Rattle.ans_play.specs.Stands.{Stands}
 use Rattle.ans_play.proofs.Feeding.{goes_on_none, front_more, stands_played, stands_at, piece_deserved, piece_unfaulted, first_within}

@@ -3,7 +3,7 @@ use Rattle.std.specs.Prelude.{Err}
 use Rattle.std.proofs.lemmas.Nat.{mul-le}
 use Rattle.ans_model.specs.File.Refusals.{fault_at}
 use Rattle.ans_model.specs.declared.fault.Cause.TheVariants.{UnknownCell}
-use Rattle.ans_screen.specs.Grids.{first_unknown}
+use Rattle.ans_screen.specs.GridEdits.{first_unknown}
 use Rattle.ans_tokens.specs.Scanning.{Holds}
 use Rattle.ans_play.specs.Playing.{Playing}
 use Rattle.ans_play.proofs.Finishing.{known_if, ends_open, ends_open_not_good, ends_good, ends_unknown, ends_not_good}

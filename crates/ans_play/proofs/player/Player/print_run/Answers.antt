@@ -4,9 +4,9 @@ use Rattle.std.proofs.lemmas.List.Elements.{All-from_get_or, All-take}
 use Rattle.ans_model.specs.Bytes.{IsByte}
 use Rattle.ans_model.specs.Screen.State.{sized}
 use Rattle.ans_tokens.specs.Glyphs.{IsBetweenTokens}
-use Rattle.ans_screen.specs.Grids.{printed_run}
+use Rattle.ans_screen.specs.GridEdits.{printed_run}
 use Rattle.ans_play.specs.Playing.{IsByteHalfCell}
-use Rattle.ans_play.proofs.Runs.{HasRoom, room_of, room_on_screen, front_of_front, printed_bytes, All-written, run_goes_on}
+use Rattle.ans_play.proofs.GlyphRuns.{HasRoom, room_of, room_on_screen, front_of_front, printed_bytes, All-written, run_goes_on}
 use Rattle.ans_play.proofs.player.Player.print_run.Goals as goal
 
 pub write_run-requires : goal.write_run-requires

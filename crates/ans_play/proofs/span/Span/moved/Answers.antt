@@ -1,6 +1,6 @@
 use Rattle.ans_model.specs.Screen.State.{sized}
 use Rattle.ans_model.specs.Inside.ShownKind.{shown_kind}
-use Rattle.ans_play.proofs.Spans.{moved_on_screen}
+use Rattle.ans_play.proofs.SpanLemmas.{moved_on_screen}
 use Rattle.ans_play.proofs.span.Span.moved.Goals as goal
 
 pub returns-clause-on_screen : goal.returns-clause-on_screen

@@ -2,7 +2,7 @@ use Rattle.std.proofs.Common.{◌≡◌, ℕ, inl, inr, [], ◌∷◌, ◌++◌,
 use Rattle.std.specs.Char.{is_ascii_digit}
 use Rattle.ans_model.specs.Inside.OpenPart.{SpellsCurrent, InNumber, InString, AfterString, may_follow}
 use Rattle.ans_model.proofs.AfterPart.{refuses_byte}
-use Rattle.ans_tokens.proofs.StepLemmas.{extend, more_digits, too_large, more_text, closed_text, fresh_not_after, fresh_not_number}
+use Rattle.ans_tokens.proofs.ScannerSteps.{extend, more_digits, too_large, more_text, closed_text, fresh_not_after, fresh_not_number}
 use Rattle.ans_tokens.proofs.unfinished.Unfinished.advance.Goals as goal
 
 pub returns-then-byte-quote : goal.returns-then-byte-quote

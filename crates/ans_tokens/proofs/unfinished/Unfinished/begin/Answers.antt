@@ -7,7 +7,7 @@ use Rattle.ans_model.specs.Inside.OpenPart.{Current, Fresh, InNumber, InString, 
 use Rattle.ans_model.proofs.AfterPart.{refuses_byte}
 use Rattle.ans_tokens.specs.Mark.{mark_of}
 use Rattle.ans_tokens.specs.Scanning.{ShowsCurrent}
-use Rattle.ans_tokens.proofs.StepLemmas.{fresh_digit, fresh_quote, quote_is, quote_not, marked}
+use Rattle.ans_tokens.proofs.ScannerSteps.{fresh_digit, fresh_quote, quote_is, quote_not, marked}
 use Rattle.ans_tokens.proofs.unfinished.Unfinished.begin.Goals as goal
 
 pub returns-then-is_ascii_digit : goal.returns-then-is_ascii_digit

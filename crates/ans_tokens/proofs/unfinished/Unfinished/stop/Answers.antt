@@ -2,7 +2,7 @@ use Rattle.std.proofs.Common.{◌≡◌, inr, refl, length, arith, ◌<◌, ◌�
 use Rattle.std.proofs.lemmas.List.{length-map}
 use Rattle.ans_model.specs.Sequence.Meaning.{colour_number}
 use Rattle.ans_tokens.specs.Shows.{with_next}
-use Rattle.ans_tokens.proofs.StepLemmas.{too_many, next_member, letter_spells}
+use Rattle.ans_tokens.proofs.ScannerSteps.{too_many, next_member, letter_spells}
 use Rattle.ans_tokens.proofs.unfinished.Unfinished.stop.Goals as goal
 
 pub returns-then-len-ge15 : goal.returns-then-len-ge15

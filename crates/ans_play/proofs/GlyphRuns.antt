@@ -13,13 +13,13 @@ use Rattle.ans_model.specs.declared.start.Start.{Start}
 use Rattle.ans_model.specs.declared.cell.Position.{Position}
 use Rattle.ans_model.specs.declared.fault.Cause.{Cause}
 use Rattle.ans_model.specs.declared.fault.Cause.TheVariants.{PrintBelow, PrintUnknownPlace}
-use Rattle.ans_model.specs.Screen.Starts.{Class}
+use Rattle.ans_model.specs.Screen.StartClass.{Class}
 use Rattle.ans_model.specs.declared.fault.Fault.{Fault}
 use Rattle.ans_tokens.specs.Scanning.{Scanning, Kept, Holds, scanning}
 use Rattle.ans_tokens.specs.Glyphs.{IsGlyphByte, IsGlyphFront, IsBetweenTokens, past}
 use Rattle.ans_screen.specs.KnownBits.{KnownBits}
-use Rattle.ans_screen.specs.Cells.{printed_cell}
-use Rattle.ans_screen.specs.Grids.{written, printed_run}
+use Rattle.ans_screen.specs.HalfCells.{printed_cell}
+use Rattle.ans_screen.specs.GridEdits.{written, printed_run}
 use Rattle.ans_screen.specs.declared.cell.HalfCell.{HalfCell}
 use Rattle.ans_play.specs.declared.span.Span.{Span}
 use Rattle.ans_play.specs.declared.wrap.WrapMode.{WrapMode}

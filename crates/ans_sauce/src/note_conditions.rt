@@ -6,7 +6,7 @@ ghost use Rattle.arrayvec.specs.ArrayVec.{array_vec_len};
 ghost use Rattle.ans_model.specs.File.Record.{tinfo, file_size, date_field, flags};
 ghost use Rattle.ans_model.specs.File.Layout as layout;
 ghost use Rattle.ans_model.specs.File.Layout.{is_end_mark};
-ghost use Rattle.ans_model.specs.File.Notes.{note_if, notes, unused_flags, ratio_flags, spacing_flags};
+ghost use Rattle.ans_model.specs.File.NoteConditions.{note_if, notes, unused_flags, ratio_flags, spacing_flags};
 ghost use Rattle.ans_sauce.specs.RecordBytes.{bytes_of};
 
 use crate::record::Record;

@@ -2,7 +2,7 @@
 use Rattle.std.specs.Prelude.{ℕ, ◌+◌, Bool, not, List, ◌++◌, length, map, take, drop, Option}
 use Rattle.std.specs.List.{position}
 use Rattle.ans_screen.specs.KnownBits.{KnownBits}
-use Rattle.ans_screen.specs.Cells.{printed_cell, is_known}
+use Rattle.ans_screen.specs.HalfCells.{printed_cell, is_known}
 use Rattle.ans_screen.specs.declared.cell.HalfCell.{HalfCell}
 
 -- the elements from `from` on are `new`
