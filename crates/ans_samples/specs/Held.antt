@@ -1,0 +1,7 @@
+-- What a device has taken.
+use Rattle.std.specs.Prelude.{ℕ, List, take}
+use Rattle.ans_samples.specs.declared.narrow.Narrow.{Narrow}
+
+-- `device.held()`
+abbrev pub held_of : Narrow → List ℕ
+held_of device = take device.length device.held
