@@ -4,37 +4,11 @@
 use crate::split;
 use ans_model::fault::{Cause, Fault};
 use ans_model::note::Note;
-use std::alloc::{AllocError, Global};
+use ans_samples::sample_file;
 use std::test::Fail;
 
 /// Fields of a record that are changed: an offset in the record, and the bytes there.
 type Edits = &'static [(usize, &'static [u8])];
-
-/// A record of `Hi` at 2 columns and 1 line, with blank texts and no comments.
-fn plain_record() -> [u8; 128] {
-    let mut record = [0; 128];
-    record[..7].copy_from_slice(b"SAUCE00");
-    record[7..82].fill(b' ');
-    record[82..90].copy_from_slice(b"19960101");
-    record[90] = 2;
-    record[94..100].copy_from_slice(&[1, 1, 2, 0, 1, 0]);
-    record
-}
-
-/// What stands before the record, and then the plain record with these fields changed.
-fn file(alloc: Global, front: &[u8], edits: Edits) -> Result<Vec<u8>, AllocError> {
-    let mut record = plain_record();
-    for (at, bytes) in edits {
-        for (i, byte) in bytes.iter().enumerate() {
-            if let Some(place) = record.get_mut(at.saturating_add(i)) {
-                *place = *byte;
-            }
-        }
-    }
-    let mut file = front.to_vec(alloc)?;
-    file.extend_from_slice(&record)?;
-    Ok(file)
-}
 
 macro_rules! refused {
     ($($what:literal, $front:literal, [$($at:literal => $bytes:literal),*], $offset:literal $cause:ident;)*) => {
@@ -69,7 +43,7 @@ static REFUSED: [(&str, &[u8], Edits, usize, Cause); 20] = refused! {
 #[test]
 fn first_refusal_answers(rt: HostRuntime) -> Result<(), Fail> {
     for &(what, front, edits, offset, cause) in &REFUSED {
-        let file = file(rt.alloc(), front, edits)?;
+        let file = sample_file(rt.alloc(), front, edits)?;
         assert_eq!(rt; split(&file).err(), Some(Fault { offset, cause }), "{what}");
     }
     Ok(())
@@ -77,7 +51,8 @@ fn first_refusal_answers(rt: HostRuntime) -> Result<(), Fail> {
 
 #[test]
 fn less_than_a_record_is_no_record(rt: HostRuntime) -> Result<(), Fail> {
-    let record = plain_record();
+    let record = sample_file(rt.alloc(), b"", &[])?;
+    assert_eq!(rt; record.len(), 128);
     for length in [0, 1, 127] {
         let fault = Fault {
             offset: length,
@@ -132,7 +107,7 @@ static ACCEPTED: [(&str, &[u8], Edits, &[u8], usize, usize, &[Note]); 29] = acce
 #[test]
 fn accepted_files_have_their_notes(rt: HostRuntime) -> Result<(), Fail> {
     for &(what, front, edits, content, width, lines, notes) in &ACCEPTED {
-        let file = file(rt.alloc(), front, edits)?;
+        let file = sample_file(rt.alloc(), front, edits)?;
         let parts = split(&file)?;
         assert_eq!(rt; parts.content(), content, "{what}");
         assert_eq!(rt; parts.width(), width, "{what}");
@@ -145,7 +120,7 @@ fn accepted_files_have_their_notes(rt: HostRuntime) -> Result<(), Fail> {
 #[test]
 fn record_shows_its_fields(rt: HostRuntime) -> Result<(), Fail> {
     let front = b"Hi\x1aCOMNThello                                                           ";
-    let file = file(
+    let file = sample_file(
         rt.alloc(),
         front,
         &[
@@ -190,7 +165,7 @@ fn block_has_255_comments(rt: HostRuntime) -> Result<(), Fail> {
         line[2] = b'.';
         front.extend_from_slice(&line)?;
     }
-    let file = file(rt.alloc(), &front, &[(104, b"\xff")])?;
+    let file = sample_file(rt.alloc(), &front, &[(104, b"\xff")])?;
     assert_eq!(rt; file.len(), 16_456);
     let parts = split(&file)?;
     assert_eq!(rt; parts.content(), b"Hi".as_slice());

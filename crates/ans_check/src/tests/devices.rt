@@ -1,5 +1,5 @@
 //! Readers and writers that fail, and readers that give too much.
-use super::{ANY, CLEARED, SAUCE, TOKENS, expect_run, file_of, of_size, plain, room_for};
+use super::{ANY, CLEARED, SAUCE, TOKENS, expect_run, plain_file, room_for};
 use crate::{Options, RunError, run};
 use ans_report::Tried;
 use std::io::{self, Read};
@@ -49,7 +49,7 @@ static TEXTS: [(Options, &[u8]); 3] = [
 
 #[test]
 fn a_writer_that_fails_has_a_prefix(rt: HostRuntime) {
-    let file = plain(&rt, b"Hi", 2, 1);
+    let file = plain_file(&rt, b"Hi", 2, 1);
     assert_eq!(rt; HI_REPORT.len(), 70);
     for (asked, text) in &TEXTS {
         for room in 0..text.len() {
@@ -73,7 +73,7 @@ fn a_writer_that_fails_has_a_prefix_of_a_refusal(rt: HostRuntime) {
 
 #[test]
 fn a_reader_that_fails_leaves_nothing_written(rt: HostRuntime) {
-    let file = plain(&rt, b"Hi", 2, 1);
+    let file = plain_file(&rt, b"Hi", 2, 1);
     for asked in &[CLEARED, SAUCE, TOKENS] {
         for fails_at in 1..133u64 {
             let mut reader = Tried::new(Dripping {
@@ -83,7 +83,7 @@ fn a_reader_that_fails_leaves_nothing_written(rt: HostRuntime) {
             });
             let mut writer = room_for(256);
             let answer = run(rt.alloc(), &mut reader, &mut writer, asked);
-            assert_eq!(rt; writer.inner().length, 0);
+            assert_eq!(rt; writer.inner().held().len(), 0);
             assert_eq!(rt; writer.calls(), 0);
             if answer != Err(RunError::Memory) {
                 assert!(rt; answer == Err(RunError::Read), "at {fails_at}");
@@ -102,7 +102,7 @@ fn more_than_the_largest_file_is_too_long(rt: HostRuntime) {
         let mut reader = Tried::new(io::repeat(7).take(length));
         let mut writer = room_for(256);
         let answer = run(rt.alloc(), &mut reader, &mut writer, &ANY);
-        assert_eq!(rt; writer.inner().length == 0, answer != Ok(false));
+        assert_eq!(rt; writer.inner().held().is_empty(), answer != Ok(false));
         if answer != Err(RunError::Memory) {
             assert!(rt; answer == expected, "at {length}");
         }

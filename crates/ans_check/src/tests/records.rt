@@ -1,18 +1,14 @@
 //! The texts of records, and files with comments.
-use super::{CLEARED, SAUCE, Stated, expect_run, file_of, of_size, ran};
+use super::{CLEARED, SAUCE, expect_run, file_of, run_once};
 
 #[test]
 fn a_record_is_told(rt: HostRuntime) {
-    let stated = Stated {
-        block: 1,
-        title: b"Test",
-        author: b"Ann",
-        comments: 1,
-        flags: 0x01,
-        font: b"IBM VGA",
-        ..of_size(2, 1)
-    };
-    let file = file_of(&rt, b"Hi\x1a", stated);
+    let front = b"Hi\x1aCOMNThello                                                           ";
+    let file = file_of(
+        &rt,
+        front,
+        &[(7, b"Test"), (42, b"Ann"), (104, b"\x01\x01IBM VGA")],
+    );
     let text: &[u8] = b"title: Test\n\
         author: Ann\n\
         group: \n\
@@ -28,14 +24,13 @@ fn a_record_is_told(rt: HostRuntime) {
 
 #[test]
 fn odd_records_are_told_with_their_notes(rt: HostRuntime) {
-    let stated = Stated {
-        title: b"\x80\x00\xe1 ",
-        date: b"",
-        file_size: 4_294_967_295,
-        flags: 0xfe,
-        ..of_size(0, 8192)
-    };
-    let file = file_of(&rt, b"\x1b[6n", stated);
+    let edits: [(usize, &[u8]); 4] = [
+        (7, b"\x80\x00\xe1 "),
+        (82, b"        \xff\xff\xff\xff"),
+        (96, b"\x00\x00\x00\x20"),
+        (105, b"\xfe"),
+    ];
+    let file = file_of(&rt, b"\x1b[6n", &edits);
     let text: &[u8] = "title: Ç ß\n\
         author: \n\
         group: \n\
@@ -59,29 +54,27 @@ fn odd_records_are_told_with_their_notes(rt: HostRuntime) {
 fn a_file_without_a_record_is_refused(rt: HostRuntime) {
     let text: &[u8] = b"verdict: refused\nat 127: F1 no SAUCE record\n";
     expect_run(&rt, &[b'S'; 127], &SAUCE, 256, Ok(false), text);
-    let stated = Stated {
-        comments: 1,
-        ..of_size(2, 1)
-    };
-    let file = file_of(&rt, b"Hi\x1a", stated);
+    let file = file_of(&rt, b"Hi\x1a", &[(104, b"\x01")]);
     let text: &[u8] = b"verdict: refused\nat 107: F4 comment block missing\n";
     expect_run(&rt, file.as_slice(), &SAUCE, 256, Ok(false), text);
 }
 
 #[test]
 fn the_most_comments_are_told(rt: HostRuntime) {
-    let stated = Stated {
-        block: 255,
-        comments: 255,
-        ..of_size(2, 1)
-    };
-    let file = file_of(&rt, b"Hi\x1a", stated);
+    let mut front = [b' '; 8 + 255 * 64];
+    front[..8].copy_from_slice(b"Hi\x1aCOMNT");
+    for line in front[8..].chunks_mut(64) {
+        if let Some(text) = line.get_mut(..5) {
+            text.copy_from_slice(b"hello");
+        }
+    }
+    let file = file_of(&rt, &front, &[(104, b"\xff")]);
     assert_eq!(rt; file.len(), 16_456);
     let pass: &[u8] =
         b"size: 2 x 1\nstart: cleared\ncontent: 2 bytes\nverdict: pass\npicture:\nHi\n";
     expect_run(&rt, file.as_slice(), &CLEARED, 256, Ok(true), pass);
-    let (answer, written) = ran(&rt, file.as_slice(), &SAUCE, 4096);
-    assert!(rt; answer == Ok(true));
+    let (passed, written) = run_once(&rt, file.as_slice(), &SAUCE, 4096);
+    assert!(rt; passed == Ok(true));
     let fields: &[u8] = b"title: \n\
         author: \n\
         group: \n\
@@ -91,10 +84,11 @@ fn the_most_comments_are_told(rt: HostRuntime) {
         font: \n\
         file size: 2\n\
         comments: 255\n";
-    let (first, comments) = written.held.split_at(fields.len());
+    assert!(rt; fields.len() <= written.held().len());
+    let (first, comments) = written.held().split_at(fields.len());
     assert_eq!(rt; first, fields);
-    assert_eq!(rt; written.length, fields.len() + 255 * 15);
-    for line in comments.chunks(15).take(255) {
+    assert_eq!(rt; comments.len(), 255 * 15);
+    for line in comments.chunks(15) {
         assert!(rt; line == b"comment: hello\n".as_slice());
     }
 }

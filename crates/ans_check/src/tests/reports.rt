@@ -1,5 +1,5 @@
 //! Reports of checks, byte for byte.
-use super::{ANY, CLEARED, expect_run, file_of, of_size, plain};
+use super::{ANY, CLEARED, expect_run, file_of_size, plain_file};
 use crate::{Command, Options, Start};
 
 /// A check from the cleared screen that tells the cells.
@@ -102,7 +102,7 @@ static REPORTS: [(&[u8], u16, u16, Options, bool, &[u8]); 8] = [
 #[test]
 fn a_file_is_read_and_reported_on(rt: HostRuntime) {
     for (content, width, lines, asked, passes, text) in &REPORTS {
-        let file = plain(&rt, content, *width, *lines);
+        let file = plain_file(&rt, content, *width, *lines);
         expect_run(&rt, file.as_slice(), asked, 256, Ok(*passes), text);
     }
 }
@@ -181,7 +181,7 @@ static WITH_CELLS: [(&[u8], u16, u16, &[u8]); 5] = [
 #[test]
 fn cells_are_told_row_by_row(rt: HostRuntime) {
     for (content, width, lines, text) in &WITH_CELLS {
-        let file = plain(&rt, content, *width, *lines);
+        let file = plain_file(&rt, content, *width, *lines);
         expect_run(&rt, file.as_slice(), &CELLS, 256, Ok(true), text);
     }
 }
@@ -191,7 +191,7 @@ fn a_report_without_a_record_is_its_fault(rt: HostRuntime) {
     let text: &[u8] = b"verdict: refused\nat 127: F1 no SAUCE record\n";
     expect_run(&rt, &[b'S'; 127], &CLEARED, 256, Ok(false), text);
     expect_run(&rt, &[b'S'; 127], &CELLS, 256, Ok(false), text);
-    let noted = file_of(&rt, b"", of_size(0, 1));
+    let noted = file_of_size(&rt, b"", 0, 1);
     let text: &[u8] = b"size: 80 x 1\n\
         start: any\n\
         content: 0 bytes\n\

@@ -1,5 +1,5 @@
 //! The texts of contents' tokens.
-use super::{TOKENS, expect_run, plain};
+use super::{TOKENS, expect_run, plain_file};
 
 /// A content, whether all of it is read, and the text.
 static CONTENTS: [(&[u8], bool, &[u8]); 9] = [
@@ -33,7 +33,7 @@ static CONTENTS: [(&[u8], bool, &[u8]); 9] = [
 #[test]
 fn tokens_are_told_up_to_a_fault(rt: HostRuntime) {
     for (content, passes, text) in &CONTENTS {
-        let file = plain(&rt, content, 2, 1);
+        let file = plain_file(&rt, content, 2, 1);
         expect_run(&rt, file.as_slice(), &TOKENS, 256, Ok(*passes), text);
     }
 }

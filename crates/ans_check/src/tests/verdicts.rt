@@ -1,5 +1,5 @@
 //! What a check finds of files.
-use super::{Stated, file_of, of_size};
+use super::{file_of, file_of_size};
 use crate::{Start, Verdict, check};
 use ans_sauce::{Cause, Fault, MAX_FILE};
 use ans_screen::PlainGrid;
@@ -92,42 +92,25 @@ fn contents_are_played(rt: HostRuntime) {
         (Start::Any, 2, 1, b"\x1b[6n", Err((0, Cause::ReportAsked))),
     ];
     for (start, width, lines, content, expected) in rows {
-        let file = file_of(&rt, content, of_size(width, lines));
+        let file = file_of_size(&rt, content, width, lines);
         expect_verdict(&rt, file.as_slice(), start, expected);
     }
 }
 
 #[test]
 fn records_and_layouts_are_refused(rt: HostRuntime) {
-    let plain = of_size(2, 1);
-    let other_version = Stated {
-        version: b"01",
-        ..plain
-    };
-    let other_type = Stated {
-        file_type: 2,
-        ..plain
-    };
-    let one_comment = Stated {
-        comments: 1,
-        ..plain
-    };
-    let most_comments = Stated {
-        comments: 255,
-        ..plain
-    };
-    let rows: [(&[u8], Stated, usize, Cause); 8] = [
-        (b"Hi\x1a", other_version, 8, Cause::WrongVersion),
-        (b"Hi\x1a", other_type, 97, Cause::WrongKind),
-        (b"Hi\x1a", one_comment, 107, Cause::CommentsMissing),
-        (b"Hi\x1a", most_comments, 107, Cause::CommentsMissing),
-        (b"Hi\x1a", of_size(2, 0), 101, Cause::LinesUnstated),
-        (b"Hi\x1a", of_size(1025, 1), 99, Cause::WidthTooLarge),
-        (b"Hi\x1a", of_size(2, 8193), 101, Cause::LinesTooLarge),
-        (b"a\x1ab\x1a", plain, 2, Cause::BytesAfterEndMark),
+    let rows: [(&[u8], &[(usize, &[u8])], usize, Cause); 8] = [
+        (b"Hi\x1a", &[(5, b"01")], 8, Cause::WrongVersion),
+        (b"Hi\x1a", &[(95, b"\x02")], 97, Cause::WrongKind),
+        (b"Hi\x1a", &[(104, b"\x01")], 107, Cause::CommentsMissing),
+        (b"Hi\x1a", &[(104, b"\xff")], 107, Cause::CommentsMissing),
+        (b"Hi\x1a", &[(98, b"\x00\x00")], 101, Cause::LinesUnstated),
+        (b"Hi\x1a", &[(96, b"\x01\x04")], 99, Cause::WidthTooLarge),
+        (b"Hi\x1a", &[(98, b"\x01\x20")], 101, Cause::LinesTooLarge),
+        (b"a\x1ab\x1a", &[], 2, Cause::BytesAfterEndMark),
     ];
-    for (body, stated, offset, cause) in rows {
-        let file = file_of(&rt, body, stated);
+    for (front, edits, offset, cause) in rows {
+        let file = file_of(&rt, front, edits);
         expect_verdict(&rt, file.as_slice(), Start::Cleared, Err((offset, cause)));
     }
     expect_verdict(&rt, b"", Start::Cleared, Err((0, Cause::NoRecord)));
@@ -143,21 +126,21 @@ fn records_and_layouts_are_refused(rt: HostRuntime) {
 fn files_with_odd_ends_are_accepted(rt: HostRuntime) {
     let mut wide = [b' '; 80];
     wide[..2].copy_from_slice(b"Hi");
-    let rows: [(&[u8], Stated, &[u8]); 4] = [
-        (b"Hi", of_size(2, 1), b"Hi"),
-        (b"Hi\x1a\x1a", of_size(2, 1), b"Hi"),
-        (b"\x1a", of_size(1, 2), b"  "),
-        (b"Hi\x1a", of_size(0, 1), &wide),
+    let rows: [(&[u8], u16, u16, &[u8]); 4] = [
+        (b"Hi", 2, 1, b"Hi"),
+        (b"Hi\x1a\x1a", 2, 1, b"Hi"),
+        (b"\x1a", 1, 2, b"  "),
+        (b"Hi\x1a", 0, 1, &wide),
     ];
-    for (body, stated, picture) in rows {
-        let file = file_of(&rt, body, stated);
+    for (front, width, lines, picture) in rows {
+        let file = file_of_size(&rt, front, width, lines);
         expect_verdict(&rt, file.as_slice(), Start::Cleared, Ok(picture));
     }
 }
 
 #[test]
 fn each_proper_prefix_of_a_file_has_no_record(rt: HostRuntime) {
-    let file = file_of(&rt, b"Hi\x1a", of_size(2, 1));
+    let file = file_of(&rt, b"Hi\x1a", &[]);
     assert_eq!(rt; file.len(), 131);
     for n in 0..131usize {
         expect_verdict(
