@@ -15,7 +15,7 @@ use Rattle.ans_sauce.specs.declared.parts.Parts.{Parts}
 use Rattle.ans_sauce.specs.Parts.{ShowsParts, content_of, width_of, lines_of}
 use Rattle.ans_sauce.specs.Split.{IsSplit}
 use Rattle.ans_report.specs.Headings.{heading_of}
-use Rattle.ans_report.specs.Reports.{IsFitting, refused_text, report_bytes}
+use Rattle.ans_report.specs.ReportBytes.{IsFitting, refused_text, report_bytes}
 use Rattle.ans_report.specs.declared.report.Report.{Report}
 use Rattle.ans_report.specs.declared.report.Report.TheVariants as report
 use Rattle.ans_model.specs.Bytes.{longest_file}

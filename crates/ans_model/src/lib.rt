@@ -16,6 +16,7 @@ pub mod limits;
 pub mod machine;
 pub mod note;
 pub mod report_laws;
+pub mod size;
 pub mod start;
 pub mod start_laws;
 pub mod step_laws;

@@ -1,17 +1,17 @@
 //! The machine, played on one whole state. It is the plain form of the definitions, for tests.
 
-ghost use Rattle.std.specs.Prelude.{◌≡◌, ◌+◌, ◌-◌, ◌*◌, ◌<◌, ◌≤◌, map, replicate, vec_len, length, IfOk};
-ghost use Rattle.ans_model.specs.Bytes.{most_columns, most_lines};
-ghost use Rattle.ans_model.specs.Screen.State.{sized};
+ghost use Rattle.std.specs.Prelude.{◌≡◌, ◌≤◌, map, vec_len, IfOk};
+ghost use Rattle.ans_model.specs.Screen.State.{cell, IsOnScreen};
 ghost use Rattle.ans_model.specs.Screen.Step.{filled, line_feed, step, final};
 ghost use Rattle.ans_model.specs.Sequence.TokenKind.{Glyph, Clear, EraseLine};
 ghost use Rattle.ans_model.specs.Inside.ShownKind.{shown_kind};
-ghost use Rattle.ans_model.specs.Inside.MachineView.{played};
-ghost use Rattle.ans_model.specs.Screen.StartClass.{class_of, cleared, low_start, high_start};
+ghost use Rattle.ans_model.specs.Inside.MachineView.{machine_view, uniform_state};
+ghost use Rattle.ans_model.specs.Screen.StartClass.{class_of, cleared, start_with, low_start, high_start};
 
 use crate::attribute::attribute_after_all;
 use crate::cell::{Cell, Position};
 use crate::kind::Kind;
+use crate::size::Size;
 use crate::start::Start;
 use std::alloc::{AllocError, Global};
 use std::marker::Model;
@@ -31,8 +31,7 @@ fn fill(cells: &mut Vec<Cell>, from: usize, to: usize, cell: Cell)
 /// The machine: its size, its screen in row order, and what it keeps beside the screen.
 #[derive(Drop)]
 pub struct Machine {
-    width: usize,
-    lines: usize,
+    size: Size,
     screen: Vec<Cell>,
     cursor: Position,
     saved: Position,
@@ -41,24 +40,24 @@ pub struct Machine {
 }
 
 impl Model for Machine {
-    ghost use Rattle.ans_model.specs.Inside.MachineView.{Played, IsPlayed};
+    ghost use Rattle.ans_model.specs.Inside.MachineView.{MachineView, IsMachineView};
 
-    ghost Value = { Played };
+    ghost Value = { MachineView };
 
     ghost use Rattle.ans_model.specs.Inside.ShownMachine.{shown_machine};
 
     ghost view = { shown_machine };
 
-    ghost invariant = { λ m. IsPlayed (shown_machine m) };
+    ghost invariant = { λ m. IsMachineView (shown_machine m) };
 }
 
 impl Machine {
     /// One row down; in the spare row the screen scrolls.
     fn line_feed(&mut self)
-        ensures { self.new ≡ played self.old.size (line_feed self.old.size self.old.state) }
+        ensures { self.new ≡ machine_view self.old.size (line_feed self.old.size self.old.state) }
     {
-        if self.cursor.row == self.lines {
-            let width = self.width;
+        if self.cursor.row == self.size.lines() {
+            let width = self.size.width();
             let end = self.screen.len();
             let blank = Cell {
                 byte: BLANK,
@@ -73,14 +72,14 @@ impl Machine {
 
     /// A byte at the cursor, which then goes on.
     fn print(&mut self, byte: u8)
-        ensures { self.new ≡ played self.old.size (step self.old.size self.old.state (Glyph byte)) }
+        ensures { self.new ≡ machine_view self.old.size (step self.old.size self.old.state (Glyph byte)) }
     {
-        let at = self.cursor.row * self.width + self.cursor.column;
+        let at = self.cursor.row * self.size.width() + self.cursor.column;
         self.screen[at] = Cell {
             byte,
             attribute: self.attribute,
         };
-        if self.cursor.column + 1 < self.width {
+        if self.cursor.column + 1 < self.size.width() {
             self.cursor.column += 1;
         } else if self.wrap {
             self.cursor.column = 0;
@@ -90,10 +89,10 @@ impl Machine {
 
     /// The cursor's cell and those right of it become blank.
     fn erase_line(&mut self)
-        ensures { self.new ≡ played self.old.size (step self.old.size self.old.state EraseLine) }
+        ensures { self.new ≡ machine_view self.old.size (step self.old.size self.old.state EraseLine) }
     {
-        let at = self.cursor.row * self.width + self.cursor.column;
-        let end = (self.cursor.row + 1) * self.width;
+        let at = self.cursor.row * self.size.width() + self.cursor.column;
+        let end = (self.cursor.row + 1) * self.size.width();
         let blank = Cell {
             byte: BLANK,
             attribute: self.attribute,
@@ -103,7 +102,7 @@ impl Machine {
 
     /// The whole screen becomes blank, and the cursor goes home.
     fn clear(&mut self)
-        ensures { self.new ≡ played self.old.size (step self.old.size self.old.state Clear) }
+        ensures { self.new ≡ machine_view self.old.size (step self.old.size self.old.state Clear) }
     {
         let blank = Cell {
             byte: BLANK,
@@ -116,16 +115,17 @@ impl Machine {
     /// One token, by the table of steps.
     pub fn step(&mut self, kind: &Kind)
         ensures { self.new
-            ≡ played self.old.size (step self.old.size self.old.state (shown_kind kind.now)) }
+            ≡ machine_view self.old.size (step self.old.size self.old.state (shown_kind kind.now)) }
     {
-        let last_column = self.width - 1;
+        let last_row = self.size.lines();
+        let last_column = self.size.width() - 1;
         match kind {
             Kind::Glyph(byte) => self.print(*byte),
             Kind::LineFeed => self.line_feed(),
             Kind::Clear => self.clear(),
             Kind::EraseLine => self.erase_line(),
             Kind::Up(n) => self.cursor.row = self.cursor.row.saturating_sub(*n as usize),
-            Kind::Down(n) => self.cursor.row = (self.cursor.row + *n as usize).min(self.lines),
+            Kind::Down(n) => self.cursor.row = (self.cursor.row + *n as usize).min(last_row),
             Kind::Forward(n) => {
                 self.cursor.column = (self.cursor.column + *n as usize).min(last_column)
             }
@@ -135,7 +135,7 @@ impl Machine {
                 .saturating_sub(*n as usize),
             Kind::Place(row, column) => {
                 self.cursor = Position {
-                    row: (*row as usize).saturating_sub(1).min(self.lines),
+                    row: (*row as usize).saturating_sub(1).min(last_row),
                     column: (*column as usize).saturating_sub(1).min(last_column),
                 }
             }
@@ -156,7 +156,7 @@ impl Machine {
     /// Tokens, one after the other.
     pub fn play(&mut self, kinds: &[Kind])
         ensures { self.new
-            ≡ played self.old.size (final self.old.size self.old.state (map shown_kind kinds.now)) }
+            ≡ machine_view self.old.size (final self.old.size self.old.state (map shown_kind kinds.now)) }
     {
         for kind in kinds {
             self.step(kind);
@@ -179,31 +179,19 @@ impl Machine {
 }
 
 /// A machine of a size whose cells are all `cell`, with both cursors at `cursor`.
-fn machine_with(
+fn uniform_machine(
     alloc: Global,
-    width: usize,
-    lines: usize,
+    size: Size,
     cell: Cell,
     cursor: Position,
     wrap: bool,
 ) -> Result<Machine, AllocError>
-    requires some_columns { 0 < width }
-    requires columns { width ≤ most_columns }
-    requires some_lines { 0 < lines }
-    requires rows { lines ≤ most_lines }
-    requires on_screen { (cursor.row ≤ lines) × (cursor.column < width) }
-    ensures { IfOk result (λ m. m ≡ played (sized width lines) (record {
-      screen = replicate ((lines + 1) * width) cell;
-      cursor = cursor;
-      saved = cursor;
-      attribute = cell.attribute;
-      wrap = wrap;
-    })) }
+    requires { IsOnScreen size cursor }
+    ensures { IfOk result (λ m. m ≡ machine_view size (uniform_state size cell cursor wrap)) }
 {
-    let screen = vec![in alloc; cell; (lines + 1) * width]?;
+    let screen = vec![in alloc; cell; (size.lines() + 1) * size.width()]?;
     Ok(Machine {
-        width,
-        lines,
+        size,
         screen,
         cursor,
         saved: cursor,
@@ -212,78 +200,62 @@ fn machine_with(
     })
 }
 
+/// The start of a class in which each part that is not known has the value given: `byte` each byte
+/// and attribute, `corner` both cursors.
+fn machine_from(
+    alloc: Global,
+    size: Size,
+    start: Start,
+    byte: u8,
+    corner: Position,
+    wrap: bool,
+) -> Result<Machine, AllocError>
+    requires { IsOnScreen size corner }
+    ensures { IfOk result (λ m. m ≡ machine_view size
+        (start_with size (class_of start) (uniform_state size (cell byte byte) corner wrap))) }
+{
+    match start {
+        Start::Any => {
+            let cell = Cell {
+                byte,
+                attribute: byte,
+            };
+            uniform_machine(alloc, size, cell, corner, wrap)
+        }
+        Start::Cleared => Machine::cleared(alloc, size),
+    }
+}
+
 impl Machine {
     /// The lowest start of a class: each part that is not known has its least value. For `Cleared`
-    /// this is the cleared state. Width is 1 to 1024 and lines are 1 to 8192.
-    pub fn low(
-        alloc: Global,
-        width: usize,
-        lines: usize,
-        start: Start,
-    ) -> Result<Machine, AllocError>
-        requires some_columns { 0 < width }
-        requires columns { width ≤ most_columns }
-        requires some_lines { 0 < lines }
-        requires rows { lines ≤ most_lines }
-        ensures { IfOk result (λ m.
-            m ≡ played (sized width lines) (low_start (sized width lines) (class_of start))) }
+    /// this is the cleared state.
+    pub fn low(alloc: Global, size: Size, start: Start) -> Result<Machine, AllocError>
+        ensures { IfOk result (λ m. m ≡ machine_view size (low_start size (class_of start))) }
     {
-        match start {
-            Start::Any => {
-                let cell = Cell {
-                    byte: 0x00,
-                    attribute: 0x00,
-                };
-                machine_with(alloc, width, lines, cell, HOME, false)
-            }
-            Start::Cleared => Machine::cleared(alloc, width, lines),
-        }
+        machine_from(alloc, size, start, 0x00, HOME, false)
     }
 
     /// The highest start of a class: each part that is not known has its greatest value. For
-    /// `Cleared` this is the cleared state. Width is 1 to 1024 and lines are 1 to 8192.
-    pub fn high(
-        alloc: Global,
-        width: usize,
-        lines: usize,
-        start: Start,
-    ) -> Result<Machine, AllocError>
-        requires some_columns { 0 < width }
-        requires columns { width ≤ most_columns }
-        requires some_lines { 0 < lines }
-        requires rows { lines ≤ most_lines }
-        ensures { IfOk result (λ m.
-            m ≡ played (sized width lines) (high_start (sized width lines) (class_of start))) }
+    /// `Cleared` this is the cleared state.
+    pub fn high(alloc: Global, size: Size, start: Start) -> Result<Machine, AllocError>
+        ensures { IfOk result (λ m. m ≡ machine_view size (high_start size (class_of start))) }
     {
-        match start {
-            Start::Any => {
-                let cell = Cell {
-                    byte: 0xFF,
-                    attribute: 0xFF,
-                };
-                let last = Position {
-                    row: lines,
-                    column: width - 1,
-                };
-                machine_with(alloc, width, lines, cell, last, true)
-            }
-            Start::Cleared => Machine::cleared(alloc, width, lines),
-        }
+        let last = Position {
+            row: size.lines(),
+            column: size.width() - 1,
+        };
+        machine_from(alloc, size, start, 0xFF, last, true)
     }
 
-    /// The cleared state. Width is 1 to 1024 and lines are 1 to 8192.
-    pub fn cleared(alloc: Global, width: usize, lines: usize) -> Result<Machine, AllocError>
-        requires some_columns { 0 < width }
-        requires columns { width ≤ most_columns }
-        requires some_lines { 0 < lines }
-        requires rows { lines ≤ most_lines }
-        ensures { IfOk result (λ m. m ≡ played (sized width lines) (cleared (sized width lines))) }
+    /// The cleared state.
+    pub fn cleared(alloc: Global, size: Size) -> Result<Machine, AllocError>
+        ensures { IfOk result (λ m. m ≡ machine_view size (cleared size)) }
     {
         let blank = Cell {
             byte: BLANK,
             attribute: 0x07,
         };
-        machine_with(alloc, width, lines, blank, HOME, true)
+        uniform_machine(alloc, size, blank, HOME, true)
     }
 }
 

@@ -5,11 +5,13 @@ use Rattle.ans_model.specs.Screen.State.{Size}
 use Rattle.ans_play.specs.declared.span.Span.{Span}
 use Rattle.ans_play.specs.HalfState.{HalfState}
 
-abbrev pub IsOnePlace : Span → Type 0
-IsOnePlace s = s.low ≡ s.high
+-- the lowest and the highest position are the same
+abbrev pub IsOnePosition : Span → Type 0
+IsOnePosition s = s.low ≡ s.high
 
+-- a glyph and an erasure want one position, a glyph and a line feed a row above the spare row
 abbrev pub IsAllowed : Size → HalfState → TokenKind → Type 0
-IsAllowed z h (Glyph byte) = IsOnePlace h.cursor × (h.cursor.low.row < z.lines)
-IsAllowed z h EraseLine = IsOnePlace h.cursor
+IsAllowed z h (Glyph byte) = IsOnePosition h.cursor × (h.cursor.low.row < z.lines)
+IsAllowed z h EraseLine = IsOnePosition h.cursor
 IsAllowed z h LineFeed = h.cursor.high.row < z.lines
 IsAllowed z h _ = Unit {0}

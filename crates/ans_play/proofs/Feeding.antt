@@ -1,18 +1,21 @@
--- A byte played behind others, and a piece of bytes.
-use Rattle.std.proofs.Common.{◌≡◌, ℕ, ◌+◌, ◌-◌, ◌≤◌, refl, sym, ap, ◌∙◌, arith, List, [], ◌∷◌, ◌++◌, length, length-append, take, drop, append_assoc, Some, None, inl, inr, subst}
-use Rattle.std.proofs.lemmas.List.{append-nil, take_all, take-append-drop, length-drop}
+-- A byte played after others, and a piece of bytes.
+use Rattle.std.proofs.Common.{◌≡◌, ℕ, suc, ◌+◌, ◌-◌, ◌<◌, ◌≤◌, refl, get_or, drop-cons, sym, ap, ◌∙◌, arith, List, []}
+use Rattle.std.proofs.Common.{◌∷◌, ◌++◌, length, length-append, take, drop, append_assoc, Some, None, inl, inr, subst}
+use Rattle.std.proofs.lemmas.List.{append-nil, take_all, take_more, take-append-drop, length-drop}
+use Rattle.std.specs.Prelude.{◌⊎◌, Ok, Err}
+use Rattle.std.proofs.lemmas.Option.{same_Some}
 use Rattle.std.proofs.Math.Seq.{take-add}
 use Rattle.ans_model.specs.Sequence.TokenKind.{TokenKind}
 use Rattle.ans_model.specs.Sequence.Reads.{SpellsToken, Reads}
 use Rattle.ans_model.specs.Screen.State.{Size}
 use Rattle.ans_model.specs.Screen.StartClass.{Class, class_of}
-use Rattle.ans_model.specs.Verdict.FirstFault.{IsRefused, IsFirstFault}
+use Rattle.ans_model.specs.Verdict.FirstFault.{IsToBlame, IsRefused, IsFirstFault}
 use Rattle.ans_model.specs.declared.fault.Fault.{Fault}
 use Rattle.ans_model.proofs.Reading.{token_prints}
 use Rattle.ans_model.specs.Sequence.Spelling.{IsUnfinished}
 use Rattle.ans_model.specs.Inside.ShownKind.{shown_kind}
 use Rattle.ans_tokens.proofs.Readable.{reads_as_more}
-use Rattle.ans_tokens.specs.Scanning.{Scanning, Holds, IsTokenOf, IsFaultOf, Kept, Keeps, Nothing, Escape, Sequence}
+use Rattle.ans_tokens.specs.ScannerView.{ScannerView, Holds, IsTokenOf, IsFaultOf, Kept, Keeps, Nothing, Escape, Sequence}
 use Rattle.ans_tokens.proofs.EachByte.{IsOpen, open_ends}
 use Rattle.ans_model.proofs.OneAnswer.{clean_or_first}
 use Rattle.ans_tokens.specs.Token.{kind_of, start_of}
@@ -20,27 +23,35 @@ use Rattle.ans_tokens.specs.declared.token.Token.{Token as Spelled}
 use Rattle.ans_play.specs.HalfState.{HalfState}
 use Rattle.ans_play.specs.HalfStep.{half_step}
 use Rattle.ans_play.specs.HalfFault.{half_fault}
-use Rattle.ans_play.specs.Playing.{Playing}
-use Rattle.ans_play.specs.Stands.{IsPlayed, Stands, SamePlay, GoesOn, PlaysFront, IsDeserved}
-use Rattle.ans_play.proofs.Faults.{known_more, blamed, unblamed, allowed}
+use Rattle.ans_play.specs.PlayView.{PlayView}
+use Rattle.ans_play.specs.PlayerView.{PlayerView, play_of}
+use Rattle.ans_play.specs.Stands.{IsPlayed, Stands, SamePlay, IsFed, Feeds, GoesOn, IsDeserved}
+use Rattle.ans_play.proofs.KnownAfter.{known_more}
+use Rattle.ans_play.proofs.FaultShown.{token_has_fault}
+use Rattle.ans_play.proofs.NoFaultShown.{token_is_allowed, token_has_no_fault}
 use Rattle.ans_play.proofs.Clean.{clean_more}
 
 -- ---- one byte
-reads_more : (bytes text : List ℕ) (tokens : List TokenKind) (t : TokenKind) → Reads bytes tokens → SpellsToken t text → Reads (bytes ++ text) (tokens ++ t ∷ [])
-reads_more bytes text tokens t (texts, r) spelled = (texts ++ text ∷ [], reads_as_more bytes text tokens texts t r spelled)
+reads_more : (bytes text : List ℕ) (tokens : List TokenKind) (t : TokenKind) → Reads bytes tokens → SpellsToken t text →
+    Reads (bytes ++ text) (tokens ++ t ∷ [])
+reads_more bytes text tokens t (texts, r) spelled =
+    (texts ++ text ∷ [], reads_as_more bytes text tokens texts t r spelled)
 
 -- a front and an open part, with one more byte
-longer : (front y : List ℕ) (s : List ℕ) (byte : ℕ) → s ≡ front ++ y → s ++ byte ∷ [] ≡ front ++ (y ++ byte ∷ [])
-longer front y s byte e = ap (λ (xs : List ℕ). xs ++ byte ∷ []) e ∙ append_assoc front y (byte ∷ [])
+front_with_byte : (front y : List ℕ) (s : List ℕ) (byte : ℕ) → s ≡ front ++ y →
+    s ++ byte ∷ [] ≡ front ++ (y ++ byte ∷ [])
+front_with_byte front y s byte e = ap (λ (xs : List ℕ). xs ++ byte ∷ []) e ∙ append_assoc front y (byte ∷ [])
 
 -- the byte leaves the open part unfinished
-pub played_on : (z : Size) (class : Class) (s : List ℕ) (old new : Scanning) (h : HalfState) (byte : ℕ) (p : IsPlayed z class s old h) →
-    Holds new (p.open_part ++ byte ∷ []) → new.offset ≡ old.offset + 1 → new.refusal ≡ None → IsPlayed z class (s ++ byte ∷ []) new h
-played_on z class s old new h byte p holds offset unrefused = record {
+pub played_open : (z : Size) (class : Class) (s : List ℕ) (old new : ScannerView) (h : HalfState) (byte : ℕ)
+    (p : IsPlayed z class s old h) →
+    Holds new (p.open_part ++ byte ∷ []) → new.offset ≡ old.offset + 1 → new.fault ≡ None →
+    IsPlayed z class (s ++ byte ∷ []) new h
+played_open z class s old new h byte p holds offset unrefused = record {
   size = p.size;
   front = p.front;
   open_part = p.open_part ++ byte ∷ [];
-  whole = longer p.front p.open_part s byte p.whole;
+  whole = front_with_byte p.front p.open_part s byte p.whole;
   tokens = p.tokens;
   reads = p.reads;
   clean = p.clean;
@@ -51,196 +62,276 @@ played_on z class s old new h byte p holds offset unrefused = record {
 }
 
 -- the byte ends a token that has no fault
-pub played_more : (z : Size) (class : Class) (s : List ℕ) (old new : Scanning) (h : HalfState) (byte : ℕ) (t : TokenKind) (p : IsPlayed z class s old h) →
-    SpellsToken t (p.open_part ++ byte ∷ []) → half_fault z h t ≡ None → Holds new [] → new.offset ≡ old.offset + 1 → new.refusal ≡ None →
+pub played_token : (z : Size) (class : Class) (s : List ℕ) (old new : ScannerView) (h : HalfState) (byte : ℕ)
+    (t : TokenKind)
+    (p : IsPlayed z class s old h) →
+    SpellsToken t (p.open_part ++ byte ∷ []) → half_fault z h t ≡ None → Holds new [] → new.offset ≡ old.offset + 1 →
+    new.fault ≡ None →
     IsPlayed z class (s ++ byte ∷ []) new (half_step z h t)
-played_more z class s old new h byte t p spelled none holds offset unrefused = record {
+played_token z class s old new h byte t p spelled none holds offset unrefused = record {
   size = p.size;
   front = p.front ++ (p.open_part ++ byte ∷ []);
   open_part = [];
-  whole = longer p.front p.open_part s byte p.whole ∙ sym (append-nil (p.front ++ (p.open_part ++ byte ∷ [])));
+  whole = front_with_byte p.front p.open_part s byte p.whole ∙ sym (append-nil (p.front ++ (p.open_part ++ byte ∷ [])));
   tokens = p.tokens ++ t ∷ [];
   reads = reads_more p.front (p.open_part ++ byte ∷ []) p.tokens t p.reads spelled;
-  clean = clean_more z class p.tokens t p.clean (λ cause. unblamed z class p.tokens h p.size.some_columns p.known t cause none);
-  known = known_more z class p.tokens h t p.size.some_columns (token_prints t (p.open_part ++ byte ∷ []) spelled) p.known
-      (allowed z class p.tokens h p.size.some_columns p.known t none);
+  clean = clean_more z class p.tokens t p.clean
+      (λ cause. token_has_no_fault z class p.tokens h p.size.some_columns p.known t cause none);
+  known = known_more z class p.tokens h t p.size.some_columns
+      (token_prints t (p.open_part ++ byte ∷ []) spelled) p.known
+      (token_is_allowed z class p.tokens h p.size.some_columns p.known t none);
   holds = holds;
   offset = simp length-append (omega (arith, offset, p.offset));
   unrefused = unrefused;
 }
 
 -- where the open part began, if the offset is known
-began : (z : Size) (class : Class) (s : List ℕ) (scanner : Scanning) (h : HalfState) (p : IsPlayed z class s scanner h) (start : ℕ) → start + length p.open_part ≡ scanner.offset → start ≡ length p.front
-began z class s scanner h p start e =
-    let whole : length s ≡ length p.front + length p.open_part = ap length p.whole ∙ length-append p.front p.open_part in
+open_part_starts : (z : Size) (class : Class) (s : List ℕ) (scanner : ScannerView) (h : HalfState)
+    (p : IsPlayed z class s scanner h) (start : ℕ) →
+    start + length p.open_part ≡ scanner.offset → start ≡ length p.front
+open_part_starts z class s scanner h p start e =
+    let whole : length s ≡ length p.front + length p.open_part = ap length p.whole
+    ∙ length-append p.front p.open_part in
     omega (arith, e, p.offset, whole)
 
-around : (front y s rest : List ℕ) (byte : ℕ) → s ≡ front ++ y → s ++ byte ∷ rest ≡ front ++ ((y ++ byte ∷ []) ++ rest)
-around front y s rest byte e =
+-- a front, an open part that a byte ends, and a rest
+front_text_rest : (front y s rest : List ℕ) (byte : ℕ) → s ≡ front ++ y →
+    s ++ byte ∷ rest ≡ front ++ ((y ++ byte ∷ []) ++ rest)
+front_text_rest front y s rest byte e =
     ap (λ (xs : List ℕ). xs ++ byte ∷ rest) e ∙ append_assoc front y (byte ∷ rest)
     ∙ ap (λ (xs : List ℕ). front ++ xs) (sym (append_assoc y (byte ∷ []) rest))
 
--- the byte ends a token that has a fault
-pub deserved : (z : Size) (class : Class) (s rest : List ℕ) (scanner : Scanning) (h : HalfState) (byte : ℕ) (t : TokenKind) (fault : Fault) (p : IsPlayed z class s scanner h) →
-    SpellsToken t (p.open_part ++ byte ∷ []) → half_fault z h t ≡ Some fault.cause → fault.offset + length p.open_part ≡ scanner.offset → IsFirstFault z class (s ++ byte ∷ rest) fault
-deserved z class s rest scanner h byte t fault p spelled some start = record {
+-- what is to blame for the fault is the open part with a byte
+first_fault : (z : Size) (class : Class) (s rest : List ℕ) (scanner : ScannerView) (h : HalfState) (byte : ℕ)
+    (fault : Fault) (p : IsPlayed z class s scanner h) →
+    IsToBlame z class p.tokens (p.open_part ++ byte ∷ []) fault.cause
+    ⊎ IsRefused (p.open_part ++ byte ∷ []) fault.cause → fault.offset + length p.open_part ≡ scanner.offset →
+    IsFirstFault z class (s ++ byte ∷ rest) fault
+first_fault z class s rest scanner h byte fault p blame start = record {
   size = p.size;
   front = p.front;
   text = p.open_part ++ byte ∷ [];
   rest = rest;
-  whole = around p.front p.open_part s rest byte p.whole;
+  whole = front_text_rest p.front p.open_part s rest byte p.whole;
   tokens = p.tokens;
   reads = p.reads;
   clean = p.clean;
-  offset = began z class s scanner h p fault.offset start;
-  faulty = inl (record { token = t; spelled = spelled; fault = blamed z class p.tokens h p.size.some_columns p.known t fault.cause some });
+  offset = open_part_starts z class s scanner h p fault.offset start;
+  faulty = blame;
 }
 
--- the reading refuses the byte
-pub refused : (z : Size) (class : Class) (s rest : List ℕ) (scanner : Scanning) (h : HalfState) (byte : ℕ) (fault : Fault) (p : IsPlayed z class s scanner h) →
-    IsRefused (p.open_part ++ byte ∷ []) fault.cause → fault.offset + length p.open_part ≡ scanner.offset → IsFirstFault z class (s ++ byte ∷ rest) fault
-refused z class s rest scanner h byte fault p refuses start = record {
-  size = p.size;
-  front = p.front;
-  text = p.open_part ++ byte ∷ [];
-  rest = rest;
-  whole = around p.front p.open_part s rest byte p.whole;
-  tokens = p.tokens;
-  reads = p.reads;
-  clean = p.clean;
-  offset = began z class s scanner h p fault.offset start;
-  faulty = inr refuses;
+-- ---- one byte after the other
+pub goes_on_none : (p : PlayView) → GoesOn p [] p
+goes_on_none p = record { size = refl; offset = omega arith; played = λ class s h. rw append-nil h }
+
+-- bytes after bytes
+pub goes_on_more : (old mid new : PlayView) (front bytes : List ℕ) → GoesOn old front mid → GoesOn mid bytes new →
+    GoesOn old (front ++ bytes) new
+goes_on_more old mid new front bytes h g = record {
+  size = g.size ∙ h.size;
+  offset = simp length-append (omega (arith, g.offset, h.offset));
+  played = λ class s p.
+      let before : IsPlayed mid.size class (s ++ front) mid.scanner mid.state = rw h.size (h.played class s p) in
+      let after : IsPlayed mid.size class ((s ++ front) ++ bytes) new.scanner new.state =
+      g.played class (s ++ front) before in
+      subst (λ (xs : List ℕ). IsPlayed old.size class xs new.scanner new.state) (append_assoc s front bytes)
+      (subst (λ (z : Size). IsPlayed z class ((s ++ front) ++ bytes) new.scanner new.state) h.size after);
 }
+
+-- the first i bytes of the piece are played
+pub record PlaysTo (old : PlayView) (piece : List ℕ) (i : ℕ) (new : PlayView) : Type 0 where
+  pub within : i ≤ length piece
+  pub goes_on : GoesOn old (take i piece) new
+
+-- a run at the start of the piece
+pub plays_run_first : (old new : PlayView) (piece : List ℕ) (count : ℕ) → count ≤ length piece →
+    GoesOn old (take count piece) new → PlaysTo old piece count new
+plays_run_first old new piece count within h = record { within = within; goes_on = h }
+
+-- one byte more
+pub plays_byte_more : (old mid new : PlayView) (piece : List ℕ) (i : ℕ) → PlaysTo old piece i mid → i < length piece →
+    GoesOn mid (get_or piece i 0 ∷ []) new →
+    PlaysTo old piece (i + 1) new
+plays_byte_more old mid new piece i h within g = record {
+  within = omega arith;
+  goes_on = rw (take_more piece i 0 within) (goes_on_more old mid new (take i piece)
+      (get_or piece i 0 ∷ []) h.goes_on g);
+}
+
+-- the slice from a place to the end
+slice_to_end : (piece : List ℕ) (i : ℕ) → take (length piece - i) (drop i piece) ≡ drop i piece
+slice_to_end piece i = take_all (length piece - i) (drop i piece) (omega (arith, length-drop i piece))
+
+-- a run more
+pub plays_run_more : (old mid new : PlayView) (piece : List ℕ) (i count : ℕ) → PlaysTo old piece i mid →
+    count ≤ length (take (length piece - i) (drop i piece)) →
+    GoesOn mid (take count (take (length piece - i) (drop i piece))) new → PlaysTo old piece (i + count) new
+plays_run_more old mid new piece i count h within g =
+    let within_rest : count ≤ length (drop i piece) = rw slice_to_end at within in
+    let run : GoesOn mid (take count (drop i piece)) new = rw slice_to_end at g in
+    record {
+      within = omega (arith, h.within, within_rest, length-drop i piece);
+      goes_on = rw (take-add i count piece) (goes_on_more old mid new (take i piece)
+          (take count (drop i piece)) h.goes_on run);
+    }
+
+-- the whole piece is played
+pub plays_all : (old new : PlayView) (piece : List ℕ) (i : ℕ) → PlaysTo old piece i new → length piece ≤ i →
+    GoesOn old piece new
+plays_all old new piece i h end = rw (take_all i piece end) at h.goes_on
+
+-- what has a fault after bytes that are played
+deserved_after : (old mid : PlayView) (front rest : List ℕ) (fault : Fault) → GoesOn old front mid →
+    IsDeserved mid rest fault → IsDeserved old (front ++ rest) fault
+deserved_after old mid front rest fault h d class s p =
+    let before : IsPlayed mid.size class (s ++ front) mid.scanner mid.state = rw h.size (h.played class s p) in
+    subst (λ (xs : List ℕ). IsFirstFault old.size class xs fault) (append_assoc s front rest)
+    (subst (λ (z : Size). IsFirstFault z class ((s ++ front) ++ rest) fault) h.size (d class (s ++ front) before))
+
+-- a byte's fault is the piece's
+pub piece_deserved : (old mid : PlayView) (piece : List ℕ) (i : ℕ) (fault : Fault) → PlaysTo old piece i mid →
+    i < length piece →
+    ((rest : List ℕ) → IsDeserved mid (get_or piece i 0 ∷ rest) fault) → IsDeserved old piece fault
+piece_deserved old mid piece i fault h within d =
+    let rest : drop i piece ≡ get_or piece i 0 ∷ drop (suc i) piece = drop-cons piece i 0 within in
+    subst (λ (xs : List ℕ). IsDeserved old xs fault) (take-append-drop i piece)
+    (deserved_after old mid (take i piece) (drop i piece) fault h.goes_on
+    (subst (λ (xs : List ℕ). IsDeserved mid xs fault) (sym rest) (d (drop (suc i) piece))))
 
 -- ---- a piece
-pub goes_on_none : (p : Playing) → GoesOn p [] p
-goes_on_none p = record {
-  same = record { size = refl; start = refl };
-  fed = omega arith;
-  fault = refl;
-  played = λ class s h. rw append-nil h;
-}
-
-pub goes_on_more : (old mid new : Playing) (front bytes : List ℕ) → GoesOn old front mid → GoesOn mid bytes new → GoesOn old (front ++ bytes) new
-goes_on_more old mid new front bytes h g = record {
-  same = record { size = g.same.size ∙ h.same.size; start = g.same.start ∙ h.same.start };
-  fed = simp length-append (omega (arith, g.fed, h.fed));
-  fault = g.fault ∙ h.fault;
-  played = λ class s p.
-      let before : IsPlayed mid.size class (s ++ front) mid.scanner mid.state = rw h.same.size (h.played class s p) in
-      let after : IsPlayed mid.size class ((s ++ front) ++ bytes) new.scanner new.state = g.played class (s ++ front) before in
-      subst (λ (xs : List ℕ). IsPlayed old.size class xs new.scanner new.state) (append_assoc s front bytes)
-      (subst (λ (z : Size). IsPlayed z class ((s ++ front) ++ bytes) new.scanner new.state) h.same.size after);
-}
-
-rest_of : (piece : List ℕ) (i : ℕ) → take (length piece - i) (drop i piece) ≡ drop i piece
-rest_of piece i = take_all (length piece - i) (drop i piece) (omega (arith, length-drop i piece))
-
--- a front of the piece, and then a front of its rest
-pub front_more : (old mid new : Playing) (piece : List ℕ) (i count : ℕ) → i ≤ length piece → GoesOn old (take i piece) mid → PlaysFront mid (take (length piece - i) (drop i piece)) count new →
-    (i + count ≤ length piece) × GoesOn old (take (i + count) piece) new
-front_more old mid new piece i count within h f =
-    let g : PlaysFront mid (drop i piece) count new = rw rest_of at f in (
-      omega (arith, g.within, length-drop i piece),
-      rw (take-add i count piece) (goes_on_more old mid new (take i piece) (take count (drop i piece)) h g.played),
-    )
-
-pub stands_played : (old new : Playing) (piece s : List ℕ) → GoesOn old piece new → old.fault ≡ None → Stands old s → Stands new (s ++ piece)
-stands_played old new piece s h none st = record {
-  fed = λ n. let before : old.fed ≡ length s = st.fed none in simp length-append (omega (arith, h.fed));
-  played = λ n. rw (h.same.size, h.same.start) (h.played (class_of old.start) s (st.played none));
-  faulted = λ f some. absurd (let clash : Some f ≡ None = sym some ∙ (h.fault ∙ none) in cc);
-}
-
 kept_open : (kept : Kept) (y : List ℕ) → Keeps kept y → IsOpen y
 kept_open Nothing y e = inl e
 kept_open Escape y e = inr (inl e)
 kept_open (Sequence mark numbers quoted current) y (part, shown, spelled) = inr (inr (part, spelled))
 
 -- bytes that are played have no first fault
-played_or_first : (z : Size) (class : Class) (bytes : List ℕ) (scanner : Scanning) (h : HalfState) (f : Fault) → IsPlayed z class bytes scanner h
+played_has_no_first_fault : (z : Size) (class : Class) (bytes : List ℕ) (scanner : ScannerView) (h : HalfState)
+    (f : Fault) → IsPlayed z class bytes scanner h
     → ¬ IsFirstFault z class bytes f
-played_or_first z class bytes scanner h f p =
-    clean_or_first z class bytes p.front p.open_part p.tokens f p.whole p.reads p.clean (open_ends p.open_part (kept_open scanner.kept p.open_part p.holds.keeps))
+played_has_no_first_fault z class bytes scanner h f p =
+    clean_or_first z class bytes p.front p.open_part p.tokens f p.whole p.reads p.clean
+    (open_ends p.open_part (kept_open scanner.kept p.open_part p.holds.keeps))
 
--- nor have those that a player takes without a fault
-pub piece_unfaulted : (old new : Playing) (piece s : List ℕ) (f : Fault) → GoesOn old piece new → old.fault ≡ None → Stands old s
-    → ¬ IsFirstFault old.size (class_of old.start) (s ++ piece) f
-piece_unfaulted old new piece s f h none st =
-    played_or_first old.size (class_of old.start) (s ++ piece) new.scanner new.state f (h.played (class_of old.start) s (st.played none))
-
--- what has a fault behind bytes that are played
-pub deserved_behind : (old mid : Playing) (front rest : List ℕ) (fault : Fault) → GoesOn old front mid → IsDeserved mid rest fault → IsDeserved old (front ++ rest) fault
-deserved_behind old mid front rest fault h d class s p =
-    let before : IsPlayed mid.size class (s ++ front) mid.scanner mid.state = rw h.same.size (h.played class s p) in
-    subst (λ (xs : List ℕ). IsFirstFault old.size class xs fault) (append_assoc s front rest)
-    (subst (λ (z : Size). IsFirstFault z class ((s ++ front) ++ rest) fault) h.same.size (d class (s ++ front) before))
-
-pub piece_deserved : (old mid : Playing) (piece : List ℕ) (i : ℕ) (fault : Fault) → GoesOn old (take i piece) mid → IsDeserved mid (take (length piece - i) (drop i piece)) fault → IsDeserved old piece fault
-piece_deserved old mid piece i fault h d =
-    subst (λ (xs : List ℕ). IsDeserved old xs fault) (take-append-drop i piece)
-    (deserved_behind old mid (take i piece) (drop i piece) fault h (subst (λ (xs : List ℕ). IsDeserved mid xs fault) (rest_of piece i) d))
+-- a first fault stays the first with more bytes after it
+pub first_longer : (z : Size) (class : Class) (bytes more : List ℕ) (f : Fault) → IsFirstFault z class bytes f →
+    IsFirstFault z class (bytes ++ more) f
+first_longer z class bytes more f h = record {
+  size = h.size;
+  front = h.front;
+  text = h.text;
+  rest = h.rest ++ more;
+  whole = ap (λ (v : List ℕ). v ++ more) h.whole ∙ append_assoc h.front (h.text ++ h.rest) more
+      ∙ ap (λ (v : List ℕ). h.front ++ v) (append_assoc h.text h.rest more);
+  tokens = h.tokens;
+  reads = h.reads;
+  clean = h.clean;
+  offset = h.offset;
+  faulty = h.faulty;
+}
 
 -- a player with the fault of its bytes
-pub stands_faulted : (old new : Playing) (bytes : List ℕ) (fault : Fault) → SamePlay old new → new.fault ≡ Some fault → IsFirstFault old.size (class_of old.start) bytes fault → Stands new bytes
+stands_faulted : (old new : PlayerView) (bytes : List ℕ) (fault : Fault) → SamePlay old new → new.fault ≡ Some fault →
+    IsFirstFault old.size (class_of old.start) bytes fault → Stands new bytes
 stands_faulted old new bytes fault same is first = record {
-  fed = λ n. absurd (let clash : Some fault ≡ None = sym is ∙ n in cc);
-  played = λ n. absurd (let clash : Some fault ≡ None = sym is ∙ n in cc);
+  fed = λ n. absurd (let no : Some fault ≡ None = sym is ∙ n in cc);
+  played = λ n. absurd (let no : Some fault ≡ None = sym is ∙ n in cc);
   faulted = λ f some.
-      let equal : fault ≡ f = same_some fault f (sym is ∙ some) in
-      rw (same.size, same.start) (subst (λ (x : Fault). IsFirstFault old.size (class_of old.start) bytes x) equal first);
+      let equal : fault ≡ f = same_Some fault f (sym is ∙ some) in
+      rw (same.size, same.start) (subst (λ (x : Fault). IsFirstFault old.size
+      (class_of old.start) bytes x) equal first);
 }
-  where
-    same_some : (a b : Fault) → Some a ≡ Some b → a ≡ b
-    same_some a b x = cc
 
--- the piece has the fault
-pub stands_at : (old mid after : Playing) (piece s : List ℕ) (i : ℕ) (fault : Fault) → GoesOn old (take i piece) mid →
-    SamePlay mid after → after.fault ≡ Some fault → IsDeserved mid (take (length piece - i) (drop i piece)) fault → old.fault ≡ None → Stands old s → (fed : ℕ) → Stands (record after { fed = fed }) (s ++ piece)
-stands_at old mid after piece s i fault h same is d none st fed =
-    stands_faulted old (record after { fed = fed }) (s ++ piece) fault (record { size = same.size ∙ h.same.size; start = same.start ∙ h.same.start }) is
-    (piece_deserved old mid piece i fault h d (class_of old.start) s (st.played none))
+-- the whole piece is played
+pub feeds_all : (old new : PlayerView) (piece s : List ℕ) → GoesOn (play_of old) piece (play_of new) →
+    SamePlay old new →
+    IsFed old new (length piece) → Stands old s → Feeds old s piece new (Ok tt)
+feeds_all old new piece s h same fed st =
+    let played : IsPlayed old.size (class_of old.start) (s ++ piece) new.scanner new.state =
+    h.played (class_of old.start) s (st.played fed.no_fault) in
+    record {
+      stands = record {
+        fed = λ n. let before : old.fed ≡ length s = st.fed fed.no_fault in simp length-append (omega (arith, fed.fed));
+        played = λ n. rw (same.size, same.start) played;
+        faulted = λ f some. absurd (let no : Some f ≡ None = sym some ∙ fed.none in cc);
+      };
+      first = tt;
+      none = λ f. played_has_no_first_fault old.size (class_of old.start) (s ++ piece) new.scanner new.state f played;
+    }
+
+-- the piece has a fault
+pub feeds_fault : (old new : PlayerView) (piece s : List ℕ) (fault : Fault) → IsDeserved (play_of old) piece fault →
+    SamePlay old new →
+    old.fault ≡ None → new.fault ≡ Some fault → Stands old s → Feeds old s piece new (Err fault)
+feeds_fault old new piece s fault d same none is st =
+    let first : IsFirstFault old.size (class_of old.start) (s ++ piece) fault =
+    d (class_of old.start) s (st.played none) in
+    record { stands = stands_faulted old new (s ++ piece) fault same is first; first = first; none = tt }
+
+-- the bytes before it have a fault
+pub feeds_again : (old : PlayerView) (piece s : List ℕ) (fault : Fault) → old.fault ≡ Some fault → Stands old s →
+    Feeds old s piece old (Err fault)
+feeds_again old piece s fault is st =
+    let first : IsFirstFault old.size (class_of old.start) (s ++ piece) fault =
+    first_longer old.size (class_of old.start) s piece fault (st.faulted fault is) in
+    record {
+      stands = stands_faulted old old (s ++ piece) fault (record { size = refl; start = refl }) is first;
+      first = first;
+      none = tt;
+    }
 
 -- a first fault stands within the bytes
-pub first_within : (z : Size) (class : Class) (bytes : List ℕ) (fault : Fault) → IsFirstFault z class bytes fault → fault.offset ≤ length bytes
+pub first_within : (z : Size) (class : Class) (bytes : List ℕ) (fault : Fault) → IsFirstFault z class bytes fault →
+    fault.offset ≤ length bytes
 first_within z class bytes fault h =
     omega (arith, h.offset, ap length h.whole, length-append h.front (h.text ++ h.rest))
 
 -- ---- what the code of one byte gives
-pub byte_refused : (old : Playing) (scanner : Scanning) (byte : ℕ) (fault : Fault) → scanner ≡ old.scanner →
-    (scanner.refusal ≡ None → (y : List ℕ) → Holds scanner y → IsFaultOf fault scanner.offset y byte) → (rest : List ℕ) → IsDeserved old (byte ∷ rest) fault
+pub byte_refused : (old : PlayView) (scanner : ScannerView) (byte : ℕ) (fault : Fault) → scanner ≡ old.scanner →
+    (scanner.fault ≡ None → (y : List ℕ) → Holds scanner y → IsFaultOf fault scanner.offset y byte) →
+    (rest : List ℕ) → IsDeserved old (byte ∷ rest) fault
 byte_refused old scanner byte fault same scans rest class s p =
-    let told : IsFaultOf fault old.scanner.offset p.open_part byte = (rw same at scans) p.unrefused p.open_part p.holds in
-    refused old.size class s rest old.scanner old.state byte fault p told.refused told.starts
+    let told : IsFaultOf fault old.scanner.offset p.open_part byte =
+    (rw same at scans) p.unrefused p.open_part p.holds in
+    first_fault old.size class s rest old.scanner old.state byte fault p (inr told.refused) told.starts
 
-pub byte_goes_on : (old new : Playing) (scanner after : Scanning) (byte : ℕ) → scanner ≡ old.scanner → new ≡ record old { fed = old.fed + 1; scanner = after } →
-    (scanner.refusal ≡ None → (y : List ℕ) → Holds scanner y → IsUnfinished (y ++ byte ∷ []) × Holds after (y ++ byte ∷ [])) →
-    after.offset ≡ scanner.offset + 1 → after.refusal ≡ None → GoesOn old (byte ∷ []) new
+-- the byte leaves a sequence unfinished
+pub byte_goes_on : (old new : PlayView) (scanner after : ScannerView) (byte : ℕ) → scanner ≡ old.scanner →
+    new ≡ record old { scanner = after } →
+    (scanner.fault ≡ None → (y : List ℕ) → Holds scanner y → IsUnfinished (y ++ byte ∷ [])
+    × Holds after (y ++ byte ∷ [])) →
+    after.offset ≡ scanner.offset + 1 → after.fault ≡ None → GoesOn old (byte ∷ []) new
 byte_goes_on old new scanner after byte same is scans offset unrefused = rw is (record {
-  same = record { size = refl; start = refl };
-  fed = refl;
-  fault = refl;
+  size = refl;
+  offset = rw same at offset;
   played = λ class s p.
       let told = (rw same at scans) p.unrefused p.open_part p.holds in
-      played_on old.size class s old.scanner after old.state byte p told.1 (rw same at offset) unrefused;
+      played_open old.size class s old.scanner after old.state byte p told.1 (rw same at offset) unrefused;
 })
 
-pub byte_plays : (old new : Playing) (scanner after : Scanning) (byte : ℕ) (token : Spelled) (t : TokenKind) → scanner ≡ old.scanner → t ≡ shown_kind (kind_of token) →
-    new ≡ record old { fed = old.fed + 1; scanner = after; state = half_step old.size old.state t } → half_fault old.size old.state t ≡ None →
-    (scanner.refusal ≡ None → (y : List ℕ) → Holds scanner y → IsTokenOf token scanner.offset y byte × Holds after []) →
-    after.offset ≡ scanner.offset + 1 → after.refusal ≡ None → GoesOn old (byte ∷ []) new
+-- the byte ends a token that plays
+pub byte_plays : (old new : PlayView) (scanner after : ScannerView) (byte : ℕ) (token : Spelled) (t : TokenKind) →
+    scanner ≡ old.scanner → t ≡ shown_kind (kind_of token) →
+    new ≡ record old { scanner = after; state = half_step old.size old.state t } → half_fault old.size old.state t
+    ≡ None →
+    (scanner.fault ≡ None → (y : List ℕ) → Holds scanner y → IsTokenOf token scanner.offset y byte × Holds after []) →
+    after.offset ≡ scanner.offset + 1 → after.fault ≡ None → GoesOn old (byte ∷ []) new
 byte_plays old new scanner after byte token t same kind is none scans offset unrefused = rw is (record {
-  same = record { size = refl; start = refl };
-  fed = refl;
-  fault = refl;
+  size = refl;
+  offset = rw same at offset;
   played = λ class s p.
       let told = (rw same at scans) p.unrefused p.open_part p.holds in
-      played_more old.size class s old.scanner after old.state byte t p (rw kind told.0.spelled) none told.1 (rw same at offset) unrefused;
+      played_token old.size class s old.scanner after old.state byte t p (rw kind told.0.spelled) none told.1
+      (rw same at offset) unrefused;
 })
 
-pub byte_deserved : (old : Playing) (scanner after : Scanning) (byte : ℕ) (token : Spelled) (t : TokenKind) (fault : Fault) → scanner ≡ old.scanner → t ≡ shown_kind (kind_of token) →
+-- the byte ends a token that is refused
+pub byte_deserved : (old : PlayView) (scanner after : ScannerView) (byte : ℕ) (token : Spelled) (t : TokenKind)
+    (fault : Fault) → scanner ≡ old.scanner → t ≡ shown_kind (kind_of token) →
     fault.offset ≡ start_of token → half_fault old.size old.state t ≡ Some fault.cause →
-    (scanner.refusal ≡ None → (y : List ℕ) → Holds scanner y → IsTokenOf token scanner.offset y byte × Holds after []) → (rest : List ℕ) → IsDeserved old (byte ∷ rest) fault
+    (scanner.fault ≡ None → (y : List ℕ) → Holds scanner y → IsTokenOf token scanner.offset y byte × Holds after []) →
+    (rest : List ℕ) → IsDeserved old (byte ∷ rest) fault
 byte_deserved old scanner after byte token t fault same kind start some scans rest class s p =
     let told = (rw same at scans) p.unrefused p.open_part p.holds in
-    deserved old.size class s rest old.scanner old.state byte t fault p (rw kind told.0.spelled) some (rw start told.0.starts)
+    let has_fault = token_has_fault old.size class p.tokens old.state p.size.some_columns p.known t fault.cause some in
+    first_fault old.size class s rest old.scanner old.state byte fault p
+    (inl (record { token = t; spelled = rw kind told.0.spelled; fault = has_fault })) (rw start told.0.starts)

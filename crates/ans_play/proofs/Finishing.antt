@@ -1,6 +1,7 @@
 -- The end of a play: the picture that it shows, or the first cell that stays unknown.
-use Rattle.std.proofs.Common.{◌≡◌, ℕ, ◌+◌, ◌*◌, ◌/◌, ◌%◌, ◌<◌, ◌≤◌, true, false, refl, sym, ap, ◌∙◌, arith, List, [], ◌++◌, length, length-append, map, take, Some, None, subst, inl, inr}
-use Rattle.std.specs.Prelude.{slice_get}
+use Rattle.std.proofs.Common.{◌≡◌, ℕ, ◌+◌, ◌*◌, ◌/◌, ◌%◌, ◌<◌, ◌≤◌, true, false, refl, sym, ap, ◌∙◌, arith, List, []}
+use Rattle.std.proofs.Common.{◌++◌, length, length-append, map, take, Some, None, subst, inl, inr}
+use Rattle.std.specs.Prelude.{slice_get, Result, Ok, Err}
 use Rattle.std.specs.List.{list_all}
 use Rattle.std.proofs.lemmas.List.{length-take, append-nil}
 use Rattle.std.proofs.lemmas.List.Elements.{All-take}
@@ -13,66 +14,79 @@ use Rattle.ans_model.specs.declared.cell.Cell.{Cell}
 use Rattle.ans_model.specs.declared.cell.Position.{Position}
 use Rattle.ans_model.specs.Screen.Step.{final}
 use Rattle.ans_model.specs.Screen.StartClass.{Class, class_of, IsStart, low_start, high_start}
-use Rattle.ans_model.specs.Verdict.Good.{Picture, Shows, GoodWith, IsGood}
+use Rattle.ans_model.specs.Verdict.Good.{Picture, Shows, GoodWith}
 use Rattle.ans_model.specs.File.Refusals.{fault_at}
-use Rattle.ans_model.specs.Verdict.LastFault.{SameCell, CellsDiffer, IsBefore, IsFirstUnknown, EndsInSequence, LeavesUnknown, IsLastFault}
+use Rattle.ans_model.specs.Verdict.LastFault.{SameCell, CellsDiffer, IsBefore, IsFirstUnknown, EndsInSequence}
+use Rattle.ans_model.specs.Verdict.LastFault.{LeavesUnknown}
+use Rattle.ans_model.specs.Verdict.LastFault.{IsLastFault}
 use Rattle.ans_model.specs.Sequence.Spelling.{IsUnfinished}
 use Rattle.ans_model.specs.declared.fault.Fault.{Fault}
-use Rattle.ans_tokens.specs.Scanning.{Scanning, Holds}
+use Rattle.ans_tokens.specs.ScannerView.{ScannerView, Holds}
 use Rattle.ans_model.specs.declared.fault.Cause.TheVariants.{EndInSequence, UnknownCell}
 use Rattle.ans_model.proofs.StartLemmas.{low_is_start, high_is_start}
-use Rattle.ans_model.proofs.Reading.{one_reading}
-use Rattle.ans_model.proofs.OneAnswer.{good_or_last}
+use Rattle.ans_model.proofs.OneAnswer.{good_or_first, good_or_last}
 use Rattle.ans_screen.specs.KnownBits.{known_bits}
 use Rattle.ans_screen.specs.HalfCells.{half_cell, is_known}
 use Rattle.ans_screen.specs.GridEdits.{first_unknown}
 use Rattle.ans_screen.specs.declared.cell.HalfCell.{HalfCell}
 use Rattle.ans_play.specs.HalfState.{HalfState, DescribesCell}
 use Rattle.ans_play.specs.Shown.{known_cell, stated_cells, picture_of}
-use Rattle.ans_play.specs.Playing.{Playing}
-use Rattle.ans_play.specs.Stands.{IsKnownAfter, IsPlayed, Stands}
+use Rattle.ans_play.specs.PlayView.{PlayView}
+use Rattle.ans_play.specs.PlayerView.{PlayerView, play_of}
+use Rattle.ans_play.specs.Stands.{IsKnownAfter, IsPlayed, Stands, Ends, Finishes}
 use Rattle.ans_play.proofs.Zips.{AllZip-take}
-use Rattle.ans_play.proofs.KnownCells.{known_at, unknown_at, all_known, slice_get-take, FirstUnknown, found_unknown, none_unknown}
+use Rattle.ans_play.proofs.KnownCells.{known_at, unknown_at, all_known, slice_get-take, FirstUnknown, found_unknown}
+use Rattle.ans_play.proofs.KnownCells.{none_unknown}
 use Rattle.ans_play.proofs.PlaysWell.{plays_well}
 
 -- ---- places in row order
 -- a place of the stated lines stands among their cells
 pub index_lt : (z : Size) (p : Position) → IsStated z p → index z p < z.lines * z.width
 index_lt z p h =
-    let below : (p.row + 1) * z.width ≤ z.lines * z.width = mul-le (p.row + 1) z.width z.lines z.width (omega (arith, h.0)) (omega arith) in
+    let below : (p.row + 1) * z.width ≤ z.lines * z.width =
+    mul-le (p.row + 1) z.width z.lines z.width (omega (arith, h.0)) (omega arith) in
     omega (arith, h.1)
 
 -- an earlier place stands before
 index_before : (z : Size) (p q : Position) → IsStated z q → IsBefore q p → index z q < index z p
 index_before z p q h (inl above) =
-    let below : (q.row + 1) * z.width ≤ p.row * z.width = mul-le (q.row + 1) z.width p.row z.width (omega (arith, above)) (omega arith) in
+    let below : (q.row + 1) * z.width ≤ p.row * z.width =
+    mul-le (q.row + 1) z.width p.row z.width (omega (arith, above)) (omega arith) in
     omega (arith, h.1)
 index_before z p q h (inr (row, column)) =
     let same : q.row * z.width ≡ p.row * z.width = ap (λ (n : ℕ). n * z.width) row in
     omega (arith, column)
 
 -- where cell i stands
-place_of : Size → ℕ → Position
-place_of z i = at (i / z.width) (i % z.width)
+position_of : Size → ℕ → Position
+position_of z i = at (i / z.width) (i % z.width)
 
-place_index : (z : Size) (i : ℕ) → 0 < z.width → index z (place_of z i) ≡ i
-unfolding place_of
-place_index z i w = omega arith
+-- and back
+position_index : (z : Size) (i : ℕ) → 0 < z.width → index z (position_of z i) ≡ i
+unfolding position_of
+position_index z i w = omega arith
 
-place_stated : (z : Size) (i : ℕ) → 0 < z.width → i < z.lines * z.width → IsStated z (place_of z i)
-unfolding place_of
-place_stated z i w l = ((div-lt_iff_lt-mul w).1 l, omega arith)
+-- it is one of the stated lines
+position_stated : (z : Size) (i : ℕ) → 0 < z.width → i < z.lines * z.width → IsStated z (position_of z i)
+unfolding position_of
+position_stated z i w l = ((div-lt_iff_lt-mul w).1 l, omega arith)
 
-module _ (z : Size) (class : Class) (tokens : List TokenKind) (h : HalfState) (w : 0 < z.width) (st : IsKnownAfter z class tokens h) where
+module _ (z : Size) (class : Class) (tokens : List TokenKind) (h : HalfState) (w : 0 < z.width)
+    (st : IsKnownAfter z class tokens h) where
   -- ---- one cell
-  pub same_if : (p : Position) (i : ℕ) (c : HalfCell) → index z p ≡ i → slice_get h.screen i ≡ Some c → is_known c ≡ true → SameCell z class tokens p
-  same_if p i c at_i e k s t start_s start_t =
+  pub same_where_known : (p : Position) (i : ℕ) (c : HalfCell) → index z p ≡ i → slice_get h.screen i ≡ Some c →
+      is_known c ≡ true → SameCell z class tokens p
+  same_where_known p i c at_i e k s t start_s start_t =
       rw at_i
-      (known_at h.screen (final z s tokens).screen i c (st.describes s start_s).screen (st.well_formed s start_s).bytes e k
-      ∙ sym (known_at h.screen (final z t tokens).screen i c (st.describes t start_t).screen (st.well_formed t start_t).bytes e k))
+      (known_at h.screen (final z s tokens).screen i c (st.describes s start_s).screen
+      (st.well_formed s start_s).bytes e k
+      ∙ sym (known_at h.screen (final z t tokens).screen i c (st.describes t start_t).screen
+      (st.well_formed t start_t).bytes e k))
 
-  pub differ_if : (p : Position) (i : ℕ) (c : HalfCell) → index z p ≡ i → slice_get h.screen i ≡ Some c → is_known c ≡ false → CellsDiffer z class tokens p
-  differ_if p i c at_i e k = (
+  -- an unknown cell differs between the low and the high start
+  pub differ_where_unknown : (p : Position) (i : ℕ) (c : HalfCell) → index z p ≡ i → slice_get h.screen i ≡ Some c →
+      is_known c ≡ false → CellsDiffer z class tokens p
+  differ_where_unknown p i c at_i e k = (
     low_start z class,
     high_start z class,
     low_is_start z class w,
@@ -82,34 +96,43 @@ module _ (z : Size) (class : Class) (tokens : List TokenKind) (h : HalfState) (w
         (sym (ap (λ (g : HalfState). slice_get g.screen i) st.is_hull) ∙ e) k),
   )
 
-  first_is : (i : ℕ) → FirstUnknown h.screen (z.lines * z.width) i → IsFirstUnknown z class tokens (place_of z i)
-  first_is i u = record {
-    stated = place_stated z i w u.within;
-    differs = differ_if (place_of z i) i u.cell (place_index z i w) u.here u.unknown;
+  -- the first cell that is not known is the first that differs
+  first_unknown_is : (i : ℕ) → FirstUnknown h.screen (z.lines * z.width) i →
+      IsFirstUnknown z class tokens (position_of z i)
+  first_unknown_is i u = record {
+    stated = position_stated z i w u.within;
+    differs = differ_where_unknown (position_of z i) i u.cell (position_index z i w) u.here u.unknown;
     earlier = λ q stated before.
-        let l : index z q < i = subst (λ (n : ℕ). index z q < n) (place_index z i w) (index_before z (place_of z i) q stated before) in
-        let c : (c : HalfCell) × (slice_get h.screen (index z q) ≡ Some c) × (is_known c ≡ true) = u.earlier (index z q) l in
-        same_if q (index z q) c.0 refl c.1 c.2;
+        let l : index z q < i = subst (λ (n : ℕ). index z q < n) (position_index z i w)
+        (index_before z (position_of z i) q stated before) in
+        let c : (c : HalfCell) × (slice_get h.screen (index z q) ≡ Some c) × (is_known c ≡ true) =
+        u.earlier (index z q) l in
+        same_where_known q (index z q) c.0 refl c.1 c.2;
   }
 
   -- ---- the whole picture
-  shown_from : list_all is_known (stated_cells z h.screen) ≡ true → (s : State) → IsStart z class s → take (z.lines * z.width) (final z s tokens).screen ≡ map known_cell (stated_cells z h.screen)
+  shown_from : list_all is_known (stated_cells z h.screen) ≡ true → (s : State) → IsStart z class s →
+      take (z.lines * z.width) (final z s tokens).screen ≡ map known_cell (stated_cells z h.screen)
   shown_from k s start =
       all_known (stated_cells z h.screen) (take (z.lines * z.width) (final z s tokens).screen)
       (AllZip-take DescribesCell (z.lines * z.width) h.screen (final z s tokens).screen (st.describes s start).screen)
       (All-take IsByteCell (z.lines * z.width) (final z s tokens).screen (st.well_formed s start).bytes) k
 
-  shows : list_all is_known (stated_cells z h.screen) ≡ true → Shows z class tokens (picture_of z h.screen)
-  shows k =
+  -- known cells are the picture that every play shows
+  known_picture_shows : list_all is_known (stated_cells z h.screen) ≡ true →
+      Shows z class tokens (picture_of z h.screen)
+  known_picture_shows k =
       let low : State = low_start z class in
       let start : IsStart z class low = low_is_start z class w in
       let well : IsWellFormed z (final z low tokens) = st.well_formed low start in
-      let fits : z.lines * z.width ≤ cell_count z = mul-le z.lines z.width (z.lines + 1) z.width (omega arith) (omega arith) in
+      let fits : z.lines * z.width ≤ cell_count z =
+      mul-le z.lines z.width (z.lines + 1) z.width (omega arith) (omega arith) in
       record {
         is_picture = record {
           size = refl;
           count = rw (← shown_from k low start) (simp length-take (omega (arith, well.fits.cells)));
-          bytes = rw (← shown_from k low start) (All-take IsByteCell (z.lines * z.width) (final z low tokens).screen well.bytes);
+          bytes = rw (← shown_from k low start)
+              (All-take IsByteCell (z.lines * z.width) (final z low tokens).screen well.bytes);
         };
         shown = λ s p start_s stated.
             sym (slice_get-take (z.lines * z.width) (final z s tokens).screen (index z p) (index_lt z p stated))
@@ -117,13 +140,16 @@ module _ (z : Size) (class : Class) (tokens : List TokenKind) (h : HalfState) (w
       }
 
 -- ---- of bytes
-module _ (z : Size) (class : Class) (bytes : List ℕ) (scanner : Scanning) (h : HalfState) (p : IsPlayed z class bytes scanner h) where
+module _ (z : Size) (class : Class) (bytes : List ℕ) (scanner : ScannerView) (h : HalfState)
+    (p : IsPlayed z class bytes scanner h) where
   -- at the end of the tokens
   read_whole : p.open_part ≡ [] → Reads bytes p.tokens
-  read_whole e = subst (λ (xs : List ℕ). Reads xs p.tokens) (sym (append-nil p.front) ∙ ap (λ (y : List ℕ). p.front ++ y) (sym e) ∙ sym p.whole) p.reads
+  read_whole e = subst (λ (xs : List ℕ). Reads xs p.tokens)
+      (sym (append-nil p.front) ∙ ap (λ (y : List ℕ). p.front ++ y) (sym e) ∙ sym p.whole) p.reads
 
   -- within a sequence
-  pub in_sequence : (fault : Fault) → IsUnfinished p.open_part → fault.cause ≡ EndInSequence → fault.offset + length p.open_part ≡ scanner.offset → EndsInSequence z class bytes fault
+  pub in_sequence : (fault : Fault) → IsUnfinished p.open_part → fault.cause ≡ EndInSequence →
+      fault.offset + length p.open_part ≡ scanner.offset → EndsInSequence z class bytes fault
   in_sequence fault unfinished cause start = record {
     size = p.size;
     front = p.front;
@@ -134,41 +160,38 @@ module _ (z : Size) (class : Class) (bytes : List ℕ) (scanner : Scanning) (h :
     clean = p.clean;
     unfinished = unfinished;
     fault_is =
-        let size : length bytes ≡ length p.front + length p.open_part = ap length p.whole ∙ length-append p.front p.open_part in
+        let size : length bytes ≡ length p.front + length p.open_part = ap length p.whole
+        ∙ length-append p.front p.open_part in
         let offset : fault.offset ≡ length p.front = omega (arith, start, p.offset, size) in
         λ i. record { offset = offset i; cause = cause i };
   }
 
-  pub good_if : p.open_part ≡ [] → list_all is_known (stated_cells z h.screen) ≡ true → GoodWith z class bytes (picture_of z h.screen)
-  good_if e k = record {
+  -- bytes whose cells are known are good
+  pub good_where_known : p.open_part ≡ [] → list_all is_known (stated_cells z h.screen) ≡ true →
+      GoodWith z class bytes (picture_of z h.screen)
+  good_where_known e k = record {
     size = p.size;
     tokens = p.tokens;
     reads = read_whole e;
     plays = plays_well z class p.tokens p.clean;
-    shows = shows z class p.tokens h p.size.some_columns p.known k;
+    shows = known_picture_shows z class p.tokens h p.size.some_columns p.known k;
   }
 
-  pub last_if : p.open_part ≡ [] → (i : ℕ) → FirstUnknown h.screen (z.lines * z.width) i → LeavesUnknown z class bytes (fault_at (length bytes) (UnknownCell (i / z.width + 1) (i % z.width + 1)))
-  unfolding place_of
-  last_if e i u = record {
+  -- a first cell that is not known is the last fault
+  pub last_where_unknown : p.open_part ≡ [] → (i : ℕ) → FirstUnknown h.screen (z.lines * z.width) i →
+      LeavesUnknown z class bytes (fault_at (length bytes) (UnknownCell (i / z.width + 1) (i % z.width + 1)))
+  unfolding position_of
+  last_where_unknown e i u = record {
     size = p.size;
     tokens = p.tokens;
     reads = read_whole e;
     clean = p.clean;
-    place = place_of z i;
-    first = first_is z class p.tokens h p.size.some_columns p.known i u;
+    place = position_of z i;
+    first = first_unknown_is z class p.tokens h p.size.some_columns p.known i u;
     fault_is = refl;
   }
 
-  not_good_if : p.open_part ≡ [] → (i : ℕ) → FirstUnknown h.screen (z.lines * z.width) i → ¬ IsGood z class bytes
-  not_good_if e i u (picture, good) =
-      let same : good.tokens ≡ p.tokens = one_reading bytes good.tokens p.tokens good.reads (read_whole e) in
-      let shown : Shows z class p.tokens picture = rw same at good.shows in
-      let first : IsFirstUnknown z class p.tokens (place_of z i) = first_is z class p.tokens h p.size.some_columns p.known i u in
-      let d : CellsDiffer z class p.tokens (place_of z i) = first.differs in
-      d.4 (shown.shown d.0 (place_of z i) d.2 first.stated ∙ sym (shown.shown d.1 (place_of z i) d.3 first.stated))
-
--- ---- of a player
+-- ---- of a play
 pub no_cell : HalfCell
 no_cell = half_cell None (known_bits 0 0)
 
@@ -176,38 +199,61 @@ no_cell = half_cell None (known_bits 0 0)
 pub known_if : (cells : List HalfCell) (n : ℕ) → first_unknown cells n ≡ None → list_all is_known (take n cells) ≡ true
 known_if cells n e = none_unknown (take n cells) no_cell e
 
-module _ (p : Playing) (s : List ℕ) (st : Stands p s) (none : p.fault ≡ None) where
+module _ (v : PlayView) (class : Class) (s : List ℕ) (p : IsPlayed v.size class s v.scanner v.state) where
   -- the bytes end within a sequence
-  pub ends_open : (fault : Fault) → (p.scanner.refusal ≡ None → (y : List ℕ) → Holds p.scanner y → IsUnfinished y × (fault.cause ≡ EndInSequence) × (fault.offset + length y ≡ p.scanner.offset)) →
-      IsLastFault p.size (class_of p.start) s fault
+  pub ends_open : (fault : Fault) → (v.scanner.fault ≡ None → (y : List ℕ) → Holds v.scanner y → IsUnfinished y
+      × (fault.cause ≡ EndInSequence) × (fault.offset + length y ≡ v.scanner.offset)) →
+      IsLastFault v.size class s fault
   ends_open fault ends =
-      let at = ends (st.played none).unrefused (st.played none).open_part (st.played none).holds in
-      inl (in_sequence p.size (class_of p.start) s p.scanner p.state (st.played none) fault at.0 at.1 at.2)
+      let at = ends p.unrefused p.open_part p.holds in
+      inl (in_sequence v.size class s v.scanner v.state p fault at.0 at.1 at.2)
 
-  -- good bytes do not
-  pub ends_open_not_good : (fault : Fault) → (p.scanner.refusal ≡ None → (y : List ℕ) → Holds p.scanner y → IsUnfinished y × (fault.cause ≡ EndInSequence) × (fault.offset + length y ≡ p.scanner.offset)) →
-      ¬ IsGood p.size (class_of p.start) s
-  ends_open_not_good fault ends good = good_or_last p.size (class_of p.start) s fault good (ends_open fault ends)
+  module _ (closed : v.scanner.fault ≡ None → (y : List ℕ) → Holds v.scanner y → y ≡ []) where
+    nothing_open : p.open_part ≡ []
+    nothing_open = closed p.unrefused p.open_part p.holds
 
-  module _ (closed : p.scanner.refusal ≡ None → (y : List ℕ) → Holds p.scanner y → y ≡ []) where
-    nothing_open : (st.played none).open_part ≡ []
-    nothing_open = closed (st.played none).unrefused (st.played none).open_part (st.played none).holds
+    pub ends_good : (picture : Picture) → first_unknown v.state.screen (v.size.lines * v.size.width) ≡ None →
+        picture ≡ picture_of v.size v.state.screen →
+        GoodWith v.size class s picture
+    ends_good picture e is =
+        rw is (good_where_known v.size class s v.scanner v.state p nothing_open
+        (known_if v.state.screen (v.size.lines * v.size.width) e))
 
-    pub ends_good : (picture : Picture) → first_unknown p.state.screen (p.size.lines * p.size.width) ≡ None → picture ≡ picture_of p.size p.state.screen →
-        GoodWith p.size (class_of p.start) s picture
-    ends_good picture e is = rw is (good_if p.size (class_of p.start) s p.scanner p.state (st.played none) nothing_open (known_if p.state.screen (p.size.lines * p.size.width) e))
+    pub ends_unknown : (i offset width : ℕ) → first_unknown v.state.screen (v.size.lines * v.size.width) ≡ Some i →
+        v.scanner.offset ≡ offset → v.size.width ≡ width →
+        IsLastFault v.size class s (fault_at offset (UnknownCell (i / width + 1) (i % width + 1)))
+    ends_unknown i offset width e f w =
+        rw (← f, ← w, p.offset)
+        (inr (last_where_unknown v.size class s v.scanner v.state p nothing_open i
+        (found_unknown v.state.screen (v.size.lines * v.size.width) i no_cell e)))
 
-    pub ends_unknown : (i fed width : ℕ) → first_unknown p.state.screen (p.size.lines * p.size.width) ≡ Some i → p.fed ≡ fed → p.size.width ≡ width →
-        IsLastFault p.size (class_of p.start) s (fault_at fed (UnknownCell (i / width + 1) (i % width + 1)))
-    ends_unknown i fed width e f w =
-        rw (← f, ← w, st.fed none)
-        (inr (last_if p.size (class_of p.start) s p.scanner p.state (st.played none) nothing_open i (found_unknown p.state.screen (p.size.lines * p.size.width) i no_cell e)))
+-- ---- of a player
+-- a play that ends so finishes the player
+pub finishes_played : (p : PlayerView) (s : List ℕ) (result : Result Picture Fault) → Stands p s → p.fault ≡ None →
+    Ends (play_of p) result → Finishes p s result
+finishes_played p s (Ok picture) st none ends =
+    record { good = ends (class_of p.start) s (st.played none); last = λ n. tt; exact = λ good. refl }
+finishes_played p s (Err fault) st none ends =
+    let last : IsLastFault p.size (class_of p.start) s fault = ends (class_of p.start) s (st.played none) in
+    record {
+      good = tt;
+      last = λ n. last;
+      exact =
+          λ good. absurd (good_or_last p.size (class_of p.start) s fault good last);
+    }
 
-    pub ends_not_good : (i : ℕ) → first_unknown p.state.screen (p.size.lines * p.size.width) ≡ Some i → ¬ IsGood p.size (class_of p.start) s
-    ends_not_good i e good = not_good_if p.size (class_of p.start) s p.scanner p.state (st.played none) nothing_open i (found_unknown p.state.screen (p.size.lines * p.size.width) i no_cell e) good
+-- a player with a fault has no good bytes
+pub finishes_faulted : (p : PlayerView) (s : List ℕ) (fault : Fault) → Stands p s → p.fault ≡ Some fault →
+    Finishes p s (Err fault)
+finishes_faulted p s fault st is = record {
+  good = tt;
+  last = λ none. absurd (let no : Some fault ≡ None = sym is ∙ none in cc);
+  exact = λ good. absurd (good_or_first p.size (class_of p.start) s fault good (st.faulted fault is));
+}
 
 -- a last fault stands within the bytes
-pub last_within : (z : Size) (class : Class) (bytes : List ℕ) (fault : Fault) → IsLastFault z class bytes fault → fault.offset ≤ length bytes
+pub last_within : (z : Size) (class : Class) (bytes : List ℕ) (fault : Fault) → IsLastFault z class bytes fault →
+    fault.offset ≤ length bytes
 last_within z class bytes fault (inl h) =
     omega (arith, ap (λ (f : Fault). f.offset) h.fault_is, ap length h.whole, length-append h.front h.text)
 last_within z class bytes fault (inr h) = omega (arith, ap (λ (f : Fault). f.offset) h.fault_is)

@@ -1,6 +1,8 @@
 -- Glyphs in a row before its last column: one run is what they print one by one.
-use Rattle.std.proofs.Common.{◌≡◌, ℕ, zero, suc, ◌+◌, ◌*◌, ◌<◌, ◌≤◌, refl, sym, ap, ◌∙◌, arith, List, [], ◌∷◌, ◌++◌, length, take, drop, set, All, Option, Some, None, subst, append_assoc}
-use Rattle.std.proofs.lemmas.List.{append-nil, take-append-drop, length-set, drop-set-lt, take_more_set, length-take, length-take-le}
+use Rattle.std.proofs.Common.{◌≡◌, ℕ, zero, suc, ◌+◌, ◌*◌, ◌<◌, ◌≤◌, refl, sym, ap, ◌∙◌, arith, List, [], ◌∷◌, ◌++◌}
+use Rattle.std.proofs.Common.{length, take, drop, set, All, Option, Some, None, subst, append_assoc}
+use Rattle.std.proofs.lemmas.List.{append-nil, take-append-drop, length-set, drop-set-lt, take_more_set, length-take}
+use Rattle.std.proofs.lemmas.List.{length-take-le}
 use Rattle.std.proofs.Math.Nat.{mul-le-mul_right}
 use Rattle.std.proofs.lemmas.List.Elements.{All-head, All-tail, All-append, All-take, All-drop, All-map}
 use Rattle.std.specs.Prelude.{Bool, true, false, ◌≢◌, ◌==◌, if◌then◌else◌}
@@ -9,47 +11,54 @@ use Rattle.std.proofs.lemmas.Bool.Decides.{nat_tests}
 use Rattle.ans_model.specs.Bytes.{IsByte}
 use Rattle.ans_model.specs.Sequence.TokenKind.{Glyph}
 use Rattle.ans_model.specs.Screen.State.{Size, at, index, cell_count}
-use Rattle.ans_model.specs.declared.start.Start.{Start}
 use Rattle.ans_model.specs.declared.cell.Position.{Position}
 use Rattle.ans_model.specs.declared.fault.Cause.{Cause}
 use Rattle.ans_model.specs.declared.fault.Cause.TheVariants.{PrintBelow, PrintUnknownPlace}
 use Rattle.ans_model.specs.Screen.StartClass.{Class}
 use Rattle.ans_model.specs.declared.fault.Fault.{Fault}
-use Rattle.ans_tokens.specs.Scanning.{Scanning, Kept, Holds, scanning}
-use Rattle.ans_tokens.specs.Glyphs.{IsGlyphByte, IsGlyphFront, IsBetweenTokens, past}
+use Rattle.ans_tokens.specs.ScannerView.{ScannerView, Kept, Holds, scanner_view}
+use Rattle.ans_tokens.specs.Glyphs.{IsGlyphByte, IsGlyphFront, IsBetweenTokens, scanner_after_glyphs}
 use Rattle.ans_screen.specs.KnownBits.{KnownBits}
 use Rattle.ans_screen.specs.HalfCells.{printed_cell}
 use Rattle.ans_screen.specs.GridEdits.{written, printed_run}
 use Rattle.ans_screen.specs.declared.cell.HalfCell.{HalfCell}
 use Rattle.ans_play.specs.declared.span.Span.{Span}
 use Rattle.ans_play.specs.declared.wrap.WrapMode.{WrapMode}
-use Rattle.ans_play.specs.HalfState.{HalfState, half_state, span, one_place, IsSpanOnScreen}
+use Rattle.ans_play.specs.HalfState.{HalfState, half_state, span, one_position, IsSpanOnScreen}
 use Rattle.ans_play.specs.HalfStep.{half_step}
-use Rattle.ans_play.specs.HalfFault.{half_fault, is_one_place}
+use Rattle.ans_play.specs.HalfFault.{half_fault, is_one_position}
 use Rattle.ans_play.specs.Stands.{IsPlayed, GoesOn}
-use Rattle.ans_play.specs.Playing.{Playing, playing, IsByteHalfCell}
-use Rattle.ans_play.proofs.Feeding.{played_more}
-use Rattle.ans_play.proofs.Faults.{one_place_if}
+use Rattle.ans_play.specs.Plays.{AreFree}
+use Rattle.ans_play.specs.PlayView.{PlayView, play_view, IsByteHalfCell}
+use Rattle.ans_play.proofs.Feeding.{played_token}
+use Rattle.ans_play.proofs.Positions.{one_position_if}
 
 -- ---- cells
 written_none : {A : Type 0} (xs : List A) (i : ℕ) → written xs i [] ≡ xs
 written_none xs i = let same : i + 0 ≡ i = omega arith in rw same (take-append-drop i xs)
 
 -- the first of the new elements, and then the others
-written_first : {A : Type 0} (xs : List A) (i : ℕ) (c : A) (cs : List A) → i < length xs → written (set xs i c) (i + 1) cs ≡ written xs i (c ∷ cs)
+written_first : {A : Type 0} (xs : List A) (i : ℕ) (c : A) (cs : List A) → i < length xs →
+    written (set xs i c) (i + 1) cs ≡ written xs i (c ∷ cs)
 written_first xs i c cs l =
     let end : i + 1 + length cs ≡ i + suc (length cs) = omega arith in
-    let past : drop (i + 1 + length cs) (set xs i c) ≡ drop (i + suc (length cs)) xs = drop-set-lt (i + 1 + length cs) xs i c (omega arith) ∙ ap (λ (n : ℕ). drop n xs) end in
-    rw (take_more_set xs i c l, past) (append_assoc (take i xs) (c ∷ []) (cs ++ drop (i + suc (length cs)) xs))
+    let scanner_after_glyphs : drop (i + 1 + length cs) (set xs i c) ≡ drop (i + suc (length cs)) xs =
+    drop-set-lt (i + 1 + length cs) xs i c (omega arith) ∙ ap (λ (n : ℕ). drop n xs) end in
+    rw (take_more_set xs i c l, scanner_after_glyphs) (append_assoc (take i xs) (c ∷ []) (cs ++ drop (i + suc (length cs)) xs))
 
-pub All-written : {A : Type 0} (P : A → Type 0) (cells : List A) (i : ℕ) (items : List A) → All P cells → All P items → All P (written cells i items)
+-- what is so of the cells and of the new ones is so of them all
+pub All-written : {A : Type 0} (P : A → Type 0) (cells : List A) (i : ℕ) (items : List A) → All P cells → All P items →
+    All P (written cells i items)
 All-written P cells i items h k =
     All-append P (take i cells) (items ++ drop (i + length items) cells) (All-take P i cells h)
     (All-append P items (drop (i + length items) cells) k (All-drop P (i + length items) cells h))
 
-pub printed_bytes : (attribute : KnownBits) (bytes : List ℕ) → IsByte attribute.value → All IsByte bytes → All IsByteHalfCell (printed_run attribute bytes)
+-- printed bytes are known cells
+pub printed_bytes : (attribute : KnownBits) (bytes : List ℕ) → IsByte attribute.value → All IsByte bytes →
+    All IsByteHalfCell (printed_run attribute bytes)
 printed_bytes attribute bytes byte h = All-map IsByteHalfCell (printed_cell attribute) bytes (λ k d l. (h k d l, byte))
 
+-- a front of a front
 pub take_within : {A : Type 0} (n m : ℕ) (xs : List A) → n ≤ m → take n (take m xs) ≡ take n xs
 take_within zero m xs l = refl
 take_within (suc n) zero xs l = absurd (let no : ⊥ = omega arith in no)
@@ -57,139 +66,191 @@ take_within (suc n) (suc m) [] l = refl
 take_within (suc n) (suc m) (x ∷ xs) l = ap (λ ys. x ∷ ys) (take_within n m xs (omega arith))
 
 -- ---- the scanner
-same_scanning : (offset start offset' start' : ℕ) (kept : Kept) (refusal : Option Fault) → offset ≡ offset' → start ≡ start' → scanning offset start kept refusal ≡ scanning offset' start' kept refusal
+same_scanning : (offset start offset' start' : ℕ) (kept : Kept) (refusal : Option Fault) → offset ≡ offset' →
+    start ≡ start' → scanner_view offset start kept refusal ≡ scanner_view offset' start' kept refusal
 same_scanning offset start offset' start' kept refusal p q = cc
 
-past_none : (s : Scanning) → past s 0 ≡ s
+-- no token further
+past_none : (s : ScannerView) → scanner_after_glyphs s 0 ≡ s
 past_none s = same_scanning _ _ _ _ _ _ (omega arith) (omega arith)
 
-past_more : (s : Scanning) (n : ℕ) → past (past s 1) n ≡ past s (suc n)
+-- one token further, and then the others
+past_more : (s : ScannerView) (n : ℕ) → scanner_after_glyphs (scanner_after_glyphs s 1) n ≡ scanner_after_glyphs s (suc n)
 past_more s n = same_scanning _ _ _ _ _ _ (omega arith) (omega arith)
 
 -- ---- one glyph
-prints_here : (z : Size) (screen : List HalfCell) (row column : ℕ) (saved : Span) (attribute : KnownBits) (wrap : WrapMode) (b : ℕ) → row < z.lines →
-    half_fault z (half_state screen (one_place row column) saved attribute wrap) (Glyph b) ≡ None
+prints_here : (z : Size) (screen : List HalfCell) (row column : ℕ) (saved : Span) (attribute : KnownBits)
+    (wrap : WrapMode) (b : ℕ) → row < z.lines →
+    half_fault z (half_state screen (one_position row column) saved attribute wrap) (Glyph b) ≡ None
 prints_here z screen row column saved attribute wrap b above = grind (arith, nat_tests)
 
-prints_on : (z : Size) (screen : List HalfCell) (row column : ℕ) (saved : Span) (attribute : KnownBits) (wrap : WrapMode) (b : ℕ) → column + 1 < z.width →
-    half_step z (half_state screen (one_place row column) saved attribute wrap) (Glyph b)
-    ≡ half_state (set screen (index z (at row column)) (printed_cell attribute b)) (one_place row (column + 1)) saved attribute wrap
+-- and goes one column on
+prints_on : (z : Size) (screen : List HalfCell) (row column : ℕ) (saved : Span) (attribute : KnownBits)
+    (wrap : WrapMode) (b : ℕ) → column + 1 < z.width →
+    half_step z (half_state screen (one_position row column) saved attribute wrap) (Glyph b)
+    ≡ half_state (set screen (index z (at row column)) (printed_cell attribute b))
+    (one_position row (column + 1)) saved attribute wrap
 prints_on z screen row column saved attribute wrap b within = rw (lt-ltb (column + 1) z.width within)
 
-nothing_open : (s : Scanning) (y : List ℕ) → IsBetweenTokens s → Holds s y → y ≡ []
+-- between two tokens nothing is open
+nothing_open : (s : ScannerView) (y : List ℕ) → IsBetweenTokens s → Holds s y → y ≡ []
 nothing_open s y between holds = rw between.nothing at holds.keeps
 
-plays_glyph : (z : Size) (class : Class) (s : List ℕ) (scanner : Scanning) (screen : List HalfCell) (row column : ℕ) (saved : Span) (attribute : KnownBits) (wrap : WrapMode) (b : ℕ) →
-    IsPlayed z class s scanner (half_state screen (one_place row column) saved attribute wrap) → IsBetweenTokens scanner → IsGlyphByte b → row < z.lines → column + 1 < z.width →
-    IsPlayed z class (s ++ b ∷ []) (past scanner 1) (half_state (set screen (index z (at row column)) (printed_cell attribute b)) (one_place row (column + 1)) saved attribute wrap)
+-- one glyph is played
+plays_glyph : (z : Size) (class : Class) (s : List ℕ) (scanner : ScannerView) (screen : List HalfCell) (row column : ℕ)
+    (saved : Span) (attribute : KnownBits) (wrap : WrapMode) (b : ℕ) →
+    IsPlayed z class s scanner (half_state screen (one_position row column) saved attribute wrap) →
+    IsBetweenTokens scanner → IsGlyphByte b → row < z.lines → column + 1 < z.width →
+    IsPlayed z class (s ++ b ∷ []) (scanner_after_glyphs scanner 1)
+    (half_state (set screen (index z (at row column)) (printed_cell attribute b))
+    (one_position row (column + 1)) saved attribute wrap)
 plays_glyph z class s scanner screen row column saved attribute wrap b p between glyph above within =
-    let h : HalfState = half_state screen (one_place row column) saved attribute wrap in
+    let h : HalfState = half_state screen (one_position row column) saved attribute wrap in
     let none : p.open_part ≡ [] = nothing_open scanner p.open_part between p.holds in
-    let begun : scanner.start + length p.open_part ≡ scanner.offset = p.holds.begun_at in
+    let begun : scanner.open_offset + length p.open_part ≡ scanner.offset = p.holds.begun_at in
     let empty : length p.open_part ≡ 0 = ap length none in
-    let holds : Holds (past scanner 1) [] = record { keeps = rw between.nothing refl; begun_at = omega arith } in
-    let after : IsPlayed z class (s ++ b ∷ []) (past scanner 1) (half_step z h (Glyph b))
-    = played_more z class s scanner (past scanner 1) h b (Glyph b) p (rw none glyph) (prints_here z screen row column saved attribute wrap b above) holds refl between.unrefused in
-    subst (λ (k : HalfState). IsPlayed z class (s ++ b ∷ []) (past scanner 1) k) (prints_on z screen row column saved attribute wrap b within) after
+    let holds : Holds (scanner_after_glyphs scanner 1) [] = record { keeps = rw between.nothing refl; begun_at = omega arith } in
+    let after : IsPlayed z class (s ++ b ∷ []) (scanner_after_glyphs scanner 1) (half_step z h (Glyph b))
+    = played_token z class s scanner (scanner_after_glyphs scanner 1) h b (Glyph b) p (rw none glyph)
+    (prints_here z screen row column saved attribute wrap b above) holds refl between.unrefused in
+    subst (λ (k : HalfState). IsPlayed z class (s ++ b ∷ []) (scanner_after_glyphs scanner 1) k)
+    (prints_on z screen row column saved attribute wrap b within) after
 
--- where a glyph is printed, the cursor stands at one place above the spare row
-place_of : (z : Size) (h : HalfState) (b : ℕ) → IsSpanOnScreen z h.cursor → half_fault z h (Glyph b) ≡ None → (h.cursor ≡ one_place h.cursor.low.row h.cursor.low.column) × (h.cursor.low.row < z.lines)
-place_of z h b on e = by_tests (is_one_place h.cursor) (h.cursor.low.row == z.lines) refl refl e
+-- where a glyph is printed, the cursor stands at one position above the spare row
+prints_at_one_position : (z : Size) (h : HalfState) (b : ℕ) → IsSpanOnScreen z h.cursor → half_fault z h (Glyph b)
+    ≡ None → (h.cursor ≡ one_position h.cursor.low.row h.cursor.low.column) × (h.cursor.low.row < z.lines)
+prints_at_one_position z h b on e = by_tests (is_one_position h.cursor) (h.cursor.low.row == z.lines) refl refl e
   where
-    by_tests : (p q : Bool) → is_one_place h.cursor ≡ p → (h.cursor.low.row == z.lines) ≡ q →
-        (if p then (if q then Some PrintBelow else None) else Some PrintUnknownPlace) ≡ None → (h.cursor ≡ one_place h.cursor.low.row h.cursor.low.column) × (h.cursor.low.row < z.lines)
+    by_tests : (p q : Bool) → is_one_position h.cursor ≡ p → (h.cursor.low.row == z.lines) ≡ q →
+        (if p then (if q then Some PrintBelow else None) else Some PrintUnknownPlace) ≡ None →
+        (h.cursor ≡ one_position h.cursor.low.row h.cursor.low.column) × (h.cursor.low.row < z.lines)
     by_tests true true one bottom n = absurd (cc)
     by_tests true false one bottom n =
         let ne : h.cursor.low.row ≢ z.lines = eqb-false h.cursor.low.row z.lines bottom in
-        let same : h.cursor.low ≡ h.cursor.high = one_place_if h.cursor one in
+        let same : h.cursor.low ≡ h.cursor.high = one_position_if h.cursor one in
         (ap (λ (p : Position). span h.cursor.low p) (sym same), omega (arith, on.rows, on.on_screen.0))
     by_tests false q one bottom n = absurd (cc)
 
 -- ---- a run
-plays_run : (z : Size) (class : Class) (run s : List ℕ) (scanner : Scanning) (screen : List HalfCell) (row column : ℕ) (saved : Span) (attribute : KnownBits) (wrap : WrapMode) →
-    IsPlayed z class s scanner (half_state screen (one_place row column) saved attribute wrap) → IsBetweenTokens scanner → All IsGlyphByte run → row < z.lines → column + length run < z.width →
+plays_run : (z : Size) (class : Class) (run s : List ℕ) (scanner : ScannerView) (screen : List HalfCell) (row column : ℕ)
+    (saved : Span) (attribute : KnownBits) (wrap : WrapMode) →
+    IsPlayed z class s scanner (half_state screen (one_position row column) saved attribute wrap) →
+    IsBetweenTokens scanner → All IsGlyphByte run → row < z.lines → column + length run < z.width →
     index z (at row column) + length run ≤ length screen →
-    IsPlayed z class (s ++ run) (past scanner (length run))
-    (half_state (written screen (index z (at row column)) (printed_run attribute run)) (one_place row (column + length run)) saved attribute wrap)
+    IsPlayed z class (s ++ run) (scanner_after_glyphs scanner (length run))
+    (half_state (written screen (index z (at row column)) (printed_run attribute run))
+    (one_position row (column + length run)) saved attribute wrap)
 plays_run z class [] s scanner screen row column saved attribute wrap p between glyphs above within room =
     let same : column + 0 ≡ column = omega arith in
     rw (append-nil s, past_none scanner, written_none screen (index z (at row column)), same) p
 plays_run z class (b ∷ run) s scanner screen row column saved attribute wrap p between glyphs above within room =
     let i : ℕ = index z (at row column) in
-    let first = plays_glyph z class s scanner screen row column saved attribute wrap b p between (All-head IsGlyphByte b run glyphs) above (omega arith) in
+    let first = plays_glyph z class s scanner screen row column saved attribute wrap b p between
+    (All-head IsGlyphByte b run glyphs) above (omega arith) in
     let next : index z (at row (column + 1)) ≡ i + 1 = omega arith in
-    let later = plays_run z class run (s ++ b ∷ []) (past scanner 1) (set screen i (printed_cell attribute b)) row (column + 1) saved attribute wrap first
-    (record { nothing = between.nothing; unrefused = between.unrefused }) (All-tail IsGlyphByte b run glyphs) above (omega arith) (rw length-set (omega arith)) in
-    subst (λ (xs : List ℕ). IsPlayed z class xs (past scanner (suc (length run))) (printed (b ∷ run) column)) (append_assoc s (b ∷ []) run)
-    (subst (λ (c : Scanning). IsPlayed z class ((s ++ b ∷ []) ++ run) c (printed (b ∷ run) column)) (past_more scanner (length run))
-    (subst (λ (k : HalfState). IsPlayed z class ((s ++ b ∷ []) ++ run) (past (past scanner 1) (length run)) k)
+    let later = plays_run z class run (s ++ b ∷ []) (scanner_after_glyphs scanner 1) (set screen i (printed_cell attribute b)) row
+    (column + 1) saved attribute wrap first
+    (record { nothing = between.nothing; unrefused = between.unrefused }) (All-tail IsGlyphByte b run glyphs) above
+    (omega arith) (rw length-set (omega arith)) in
+    subst (λ (xs : List ℕ). IsPlayed z class xs (scanner_after_glyphs scanner (suc (length run))) (printed (b ∷ run) column))
+    (append_assoc s (b ∷ []) run)
+    (subst (λ (c : ScannerView). IsPlayed z class ((s ++ b ∷ []) ++ run) c (printed (b ∷ run) column))
+    (past_more scanner (length run))
+    (subst (λ (k : HalfState). IsPlayed z class ((s ++ b ∷ []) ++ run) (scanner_after_glyphs (scanner_after_glyphs scanner 1) (length run)) k)
     (same_run _ _ _ _ row saved attribute wrap
     (rw next (written_first screen i (printed_cell attribute b) (printed_run attribute run) (omega arith)))
     (omega arith))
     later))
   where
     printed : List ℕ → ℕ → HalfState
-    printed bytes c = half_state (written screen (index z (at row column)) (printed_run attribute bytes)) (one_place row (c + length bytes)) saved attribute wrap
+    printed bytes c = half_state (written screen (index z (at row column)) (printed_run attribute bytes))
+        (one_position row (c + length bytes)) saved attribute wrap
 
-    same_run : (xs ys : List HalfCell) (c d row : ℕ) (saved : Span) (attribute : KnownBits) (wrap : WrapMode) → xs ≡ ys → c ≡ d → half_state xs (one_place row c) saved attribute wrap ≡ half_state ys (one_place row d) saved attribute wrap
+    same_run : (xs ys : List HalfCell) (c d row : ℕ) (saved : Span) (attribute : KnownBits) (wrap : WrapMode) →
+        xs ≡ ys → c ≡ d → half_state xs (one_position row c) saved attribute wrap
+        ≡ half_state ys (one_position row d) saved attribute wrap
     same_run xs ys c d row saved attribute wrap e f = cc
 
 -- ---- what the code of a run gives
--- the cursor stands at one place of the stated lines, and behind so many columns there is one more
+-- the cursor stands at one position of the stated lines, and after so many columns there is one more
 pub record HasRoom (z : Size) (cursor : Span) (count : ℕ) : Type 0 where
-  pub one : cursor ≡ one_place cursor.low.row cursor.low.column
+  pub one : cursor ≡ one_position cursor.low.row cursor.low.column
   pub above : cursor.low.row < z.lines
   pub columns : cursor.low.column + count < z.width
 
-pub has_room : (z : Size) (h : HalfState) (columns count : ℕ) → IsSpanOnScreen z h.cursor →
-    ((b : ℕ) → half_fault z h (Glyph b) ≡ None → h.cursor.low.column + columns + 1 ≡ z.width) →
-    ((b : ℕ) (cause : Cause) → half_fault z h (Glyph b) ≡ Some cause → columns ≡ 0) → 0 < count → count ≤ columns → HasRoom z h.cursor count
-has_room z h columns count on printed refused some within = by_fault (half_fault z h (Glyph 0)) refl
+-- where so many columns are free, the cursor stands at one position
+has_room : (p : PlayView) (columns count : ℕ) → IsSpanOnScreen p.size p.state.cursor → AreFree p columns →
+    0 < count → count ≤ columns → HasRoom p.size p.state.cursor count
+has_room p columns count on free some within = by_fault (half_fault p.size p.state (Glyph 0)) refl
   where
-    by_fault : (o : Option Cause) → half_fault z h (Glyph 0) ≡ o → HasRoom z h.cursor count
-    by_fault (Some cause) e = absurd (let none : columns ≡ 0 = refused 0 cause e in let no : ⊥ = omega arith in no)
+    by_fault : (o : Option Cause) → half_fault p.size p.state (Glyph 0) ≡ o → HasRoom p.size p.state.cursor count
+    by_fault (Some cause) e =
+        absurd (let none : columns ≡ 0 = free.refused 0 cause e in let no : ⊥ = omega arith in no)
     by_fault None e =
-        let p = place_of z h 0 on e in
-        let width : h.cursor.low.column + columns + 1 ≡ z.width = printed 0 e in
-        record { one = p.0; above = p.1; columns = omega arith }
+        let one = prints_at_one_position p.size p.state 0 on e in
+        let width : p.state.cursor.low.column + columns + 1 ≡ p.size.width = free.printed 0 e in
+        record { one = one.0; above = one.1; columns = omega arith }
 
--- the same of what a player shows
-pub room_of : (p old : Playing) (columns count : ℕ) → p ≡ old → IsSpanOnScreen p.size p.state.cursor →
-    ((b : ℕ) → half_fault old.size old.state (Glyph b) ≡ None → old.state.cursor.low.column + columns + 1 ≡ old.size.width) →
-    ((b : ℕ) (cause : Cause) → half_fault old.size old.state (Glyph b) ≡ Some cause → columns ≡ 0) → 0 < count → count ≤ columns → HasRoom p.size p.state.cursor count
-room_of p old columns count same on printed refused some within =
-    has_room p.size p.state columns count on
-    (subst (λ (q : Playing). (b : ℕ) → half_fault q.size q.state (Glyph b) ≡ None → q.state.cursor.low.column + columns + 1 ≡ q.size.width) (sym same) printed)
-    (subst (λ (q : Playing). (b : ℕ) (cause : Cause) → half_fault q.size q.state (Glyph b) ≡ Some cause → columns ≡ 0) (sym same) refused) some within
-
-pub room_on_screen : (width lines row column count cells : ℕ) → row < lines → column + count < width → cells ≡ (lines + 1) * width → row * width + column + count ≤ cells
+-- the run ends on the screen
+pub room_on_screen : (width lines row column count cells : ℕ) → row < lines → column + count < width →
+    cells ≡ (lines + 1) * width → row * width + column + count ≤ cells
 room_on_screen width lines row column count cells above within e =
     let rows : (row + 1) * width ≤ (lines + 1) * width = mul-le-mul_right width (omega arith) in
     omega (arith, rows)
 
-pub front_of_front : (bytes : List ℕ) (m count : ℕ) → IsGlyphFront (take m bytes) count → (count ≤ m) × (count ≤ length bytes) × All IsGlyphByte (take count bytes)
+-- glyphs at the start of a front
+front_of_front : (bytes : List ℕ) (m count : ℕ) → IsGlyphFront (take m bytes) count →
+    (count ≤ m) × (count ≤ length bytes) × All IsGlyphByte (take count bytes)
 front_of_front bytes m count f =
     let within : count ≤ m = omega (arith, f.within, length-take m bytes) in
     (within, omega (arith, f.within, length-take m bytes), rw take_within at f.glyphs)
 
-pub run_goes_on : (z : Size) (start : Start) (fed : ℕ) (fault : Option Fault) (scanner after : Scanning) (screen new : List HalfCell) (cursor saved : Span) (attribute : KnownBits) (wrap : WrapMode)
-    (bytes : List ℕ) (count : ℕ) → count ≤ length bytes → HasRoom z cursor count → IsBetweenTokens scanner → All IsGlyphByte (take count bytes) → length screen ≡ cell_count z →
-    after ≡ past scanner count → new ≡ written screen (index z cursor.low) (printed_run attribute (take count bytes)) →
+-- so many bytes at the start are glyphs, and have room in the cursor's row
+pub record IsRun (p : PlayView) (bytes : List ℕ) (count : ℕ) : Type 0 where
+  pub within : count ≤ length bytes
+  pub taken : length (take count bytes) ≡ count
+  pub glyphs : All IsGlyphByte (take count bytes)
+  pub room : HasRoom p.size p.state.cursor count
+
+-- the glyphs that the scanner counts in the free columns
+pub is_run : (p old : PlayView) (bytes : List ℕ) (columns m count : ℕ) → p ≡ old →
+    IsSpanOnScreen p.size p.state.cursor →
+    AreFree old columns → m ≤ columns → IsGlyphFront (take m bytes) count → 0 < count → IsRun p bytes count
+is_run p old bytes columns m count same on free below glyphs some =
+    let front = front_of_front bytes m count glyphs in
+    record {
+      within = front.1;
+      taken = length-take-le count bytes front.1;
+      glyphs = front.2;
+      room = has_room p columns count on (subst (λ (q : PlayView). AreFree q columns) (sym same) free) some
+          (omega (arith, front.0));
+    }
+
+-- a run is played
+pub run_goes_on : (z : Size) (scanner after : ScannerView) (screen new : List HalfCell) (cursor saved : Span)
+    (attribute : KnownBits) (wrap : WrapMode)
+    (bytes : List ℕ) (count : ℕ) → count ≤ length bytes → HasRoom z cursor count → IsBetweenTokens scanner →
+    All IsGlyphByte (take count bytes) → length screen ≡ cell_count z →
+    after ≡ scanner_after_glyphs scanner count → new ≡ written screen (index z cursor.low) (printed_run attribute (take count bytes)) →
     GoesOn
-    (playing z start fed fault scanner (half_state screen cursor saved attribute wrap))
+    (play_view z scanner (half_state screen cursor saved attribute wrap))
     (take count bytes)
-    (playing z start (fed + count) fault after (half_state new (one_place cursor.low.row (cursor.low.column + count)) saved attribute wrap))
-run_goes_on z start fed fault scanner after screen new cursor saved attribute wrap bytes count within room between glyphs cells is_after is_new =
+    (play_view z after (half_state new (one_position cursor.low.row (cursor.low.column + count)) saved attribute wrap))
+run_goes_on z scanner after screen new cursor saved attribute wrap bytes count within room between glyphs cells is_after
+    is_new =
     let n : length (take count bytes) ≡ count = length-take-le count bytes within in
     record {
-      same = record { size = refl; start = refl };
-      fed = omega (arith, n);
-      fault = refl;
+      size = refl;
+      offset = rw is_after (omega (arith, n));
       played = λ class s p.
-          let before : IsPlayed z class s scanner (half_state screen (one_place cursor.low.row cursor.low.column) saved attribute wrap)
+          let before : IsPlayed z class s scanner
+          (half_state screen (one_position cursor.low.row cursor.low.column) saved attribute wrap)
           = subst (λ (c : Span). IsPlayed z class s scanner (half_state screen c saved attribute wrap)) room.one p in
-          let fits : index z cursor.low + length (take count bytes) ≤ length screen = rw n (room_on_screen z.width z.lines cursor.low.row cursor.low.column count (length screen) room.above room.columns cells) in
+          let fits : index z cursor.low + length (take count bytes) ≤ length screen =
+          rw n (room_on_screen z.width z.lines cursor.low.row cursor.low.column count
+          (length screen) room.above room.columns cells) in
           let columns : cursor.low.column + length (take count bytes) < z.width = rw n room.columns in
-          let on = plays_run z class (take count bytes) s scanner screen cursor.low.row cursor.low.column saved attribute wrap before between glyphs room.above columns fits in
+          let on = plays_run z class (take count bytes) s scanner screen cursor.low.row cursor.low.column saved
+          attribute wrap before between glyphs room.above columns fits in
           rw (is_after, is_new) (rw n at on);
     }

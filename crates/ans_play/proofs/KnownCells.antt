@@ -1,5 +1,6 @@
 -- Known and unknown cells of a half-known screen.
-use Rattle.std.proofs.Common.{◌≡◌, ◌≢◌, ℕ, zero, suc, ◌<◌, ◌≤◌, ◌%◌, Bool, true, false, refl, sym, ap, ◌∙◌, arith, List, [], ◌∷◌, length, map, take, get_or, All, Option, Some, None, subst}
+use Rattle.std.proofs.Common.{◌≡◌, ◌≢◌, ℕ, zero, suc, ◌<◌, ◌≤◌, ◌%◌, Bool, true, false, refl, sym, ap, ◌∙◌, arith, List}
+use Rattle.std.proofs.Common.{[], ◌∷◌, length, map, take, get_or, All, Option, Some, None, subst}
 use Rattle.std.specs.Prelude.{◌&&◌, not, ◌==◌, slice_get, is_some, unwrap_or, IfSome, if◌then◌else◌, bit_and, nat_lt}
 use Rattle.std.specs.List.{AllZip, list_all, position, position_or_len}
 use Rattle.std.specs.Int.Bits.{xor_self}
@@ -24,8 +25,10 @@ known_byte : (o : Option ℕ) (b : ℕ) → is_some o ≡ true → IfSome o (λ 
 known_byte None b k e = absurd (cc)
 known_byte (Some x) b k e = e
 
+-- an attribute of which all bits are known
 known_attribute : (k v a : ℕ) → k ≡ 255 → bit_and a k ≡ v → a < 256 → a ≡ v
-known_attribute k v a e d l = let m : bit_and a 255 ≡ a % 256 = and_mask a 8 in omega (arith, ap (λ (x : ℕ). bit_and a x) e)
+known_attribute k v a e d l = let m : bit_and a 255 ≡ a % 256 = and_mask a 8 in
+    omega (arith, ap (λ (x : ℕ). bit_and a x) e)
 
 same_cell : (b c a d : ℕ) → b ≡ c → a ≡ d → cell b a ≡ cell c d
 same_cell b c a d e f = cc
@@ -38,7 +41,8 @@ and_true false b e = absurd (cc)
 -- a known cell describes one cell
 known_is : (h : HalfCell) (c : Cell) → is_known h ≡ true → DescribesCell h c → IsByteCell c → c ≡ known_cell h
 known_is h c k d byte =
-    let parts : (is_some h.glyph ≡ true) × ((h.attr.known == 255) ≡ true) = and_true (is_some h.glyph) (h.attr.known == 255) k in
+    let parts : (is_some h.glyph ≡ true) × ((h.attr.known == 255) ≡ true) =
+    and_true (is_some h.glyph) (h.attr.known == 255) k in
     same_cell c.byte (unwrap_or h.glyph 0) c.attribute h.attr.value
     (known_byte h.glyph c.byte parts.0 d.0)
     (known_attribute h.attr.known h.attr.value c.attribute (eqb-true h.attr.known 255 parts.1) d.1 byte.1)
@@ -52,16 +56,19 @@ some_same : (a b : HalfCell) → Some a ≡ Some b → a ≡ b
 some_same a b e = cc
 
 -- a known cell is that of each screen that is described
-pub known_at : (hs : List HalfCell) (xs : List Cell) (i : ℕ) (h : HalfCell) → AllZip DescribesCell hs xs → All IsByteCell xs → slice_get hs i ≡ Some h → is_known h ≡ true → slice_get xs i ≡ Some (known_cell h)
+pub known_at : (hs : List HalfCell) (xs : List Cell) (i : ℕ) (h : HalfCell) → AllZip DescribesCell hs xs →
+    All IsByteCell xs → slice_get hs i ≡ Some h → is_known h ≡ true → slice_get xs i ≡ Some (known_cell h)
 known_at [] xs i h d b e k = absurd (cc)
 known_at (g ∷ hs) [] i h d b e k = absurd d
 known_at (g ∷ hs) (x ∷ xs) zero h d b e k =
     let same : g ≡ h = some_same g h e in
-    ap (λ (c : Cell). Some c) (known_is h x k (subst (λ (y : HalfCell). DescribesCell y x) same d.0) (All-head IsByteCell x xs b))
+    ap (λ (c : Cell). Some c) (known_is h x k (subst (λ (y : HalfCell). DescribesCell y x) same d.0)
+    (All-head IsByteCell x xs b))
 known_at (g ∷ hs) (x ∷ xs) (suc i) h d b e k = known_at hs xs i h d.1 (All-tail IsByteCell x xs b) e k
 
 -- an unknown cell of a hull differs
-pub unknown_at : (xs ys : List Cell) (i : ℕ) (h : HalfCell) → slice_get (hull_screen xs ys) i ≡ Some h → is_known h ≡ false → slice_get xs i ≢ slice_get ys i
+pub unknown_at : (xs ys : List Cell) (i : ℕ) (h : HalfCell) → slice_get (hull_screen xs ys) i ≡ Some h →
+    is_known h ≡ false → slice_get xs i ≢ slice_get ys i
 unknown_at [] ys i h e k same = cc
 unknown_at (x ∷ xs) [] i h e k same = cc
 unknown_at (x ∷ xs) (y ∷ ys) zero h e k same =
@@ -76,7 +83,8 @@ unknown_at (x ∷ xs) (y ∷ ys) zero h e k same =
     true_not_false b p q = cc
 unknown_at (x ∷ xs) (y ∷ ys) (suc i) h e k same = unknown_at xs ys i h e k same
 
-pub all_known : (hs : List HalfCell) (xs : List Cell) → AllZip DescribesCell hs xs → All IsByteCell xs → list_all is_known hs ≡ true → xs ≡ map known_cell hs
+pub all_known : (hs : List HalfCell) (xs : List Cell) → AllZip DescribesCell hs xs → All IsByteCell xs →
+    list_all is_known hs ≡ true → xs ≡ map known_cell hs
 all_known [] [] d b k = refl
 all_known [] (x ∷ xs) d b k = absurd d
 all_known (h ∷ hs) [] d b k = absurd d
@@ -109,9 +117,12 @@ pub record FirstUnknown (hs : List HalfCell) (n place : ℕ) : Type 0 where
   pub unknown : is_known cell ≡ false
   pub earlier : (j : ℕ) → j < place → (c : HalfCell) × (slice_get hs j ≡ Some c) × (is_known c ≡ true)
 
-pub found_unknown : (hs : List HalfCell) (n place : ℕ) (d : HalfCell) → first_unknown hs n ≡ Some place → FirstUnknown hs n place
+-- what a search for an unknown cell finds is the first
+pub found_unknown : (hs : List HalfCell) (n place : ℕ) (d : HalfCell) → first_unknown hs n ≡ Some place →
+    FirstUnknown hs n place
 found_unknown hs n place d e =
-    let p : (place < length (take n hs)) × (is_unknown (get_or (take n hs) place d) ≡ true) × ((k : ℕ) → k < place → is_unknown (get_or (take n hs) k d) ≡ false)
+    let p : (place < length (take n hs)) × (is_unknown (get_or (take n hs) place d) ≡ true)
+    × ((k : ℕ) → k < place → is_unknown (get_or (take n hs) k d) ≡ false)
     = position-Some is_unknown (take n hs) place d e in
     let l : place < n = omega (arith, p.0, length-take n hs) in
     record {
@@ -121,12 +132,16 @@ found_unknown hs n place d e =
       unknown = not_true (is_known (get_or (take n hs) place d)) p.1;
       earlier = λ j k.
           let m : j < n = omega arith in
-          let k' : j < length (take n hs) = omega (arith, p.0) in
-          (get_or (take n hs) j d, sym (slice_get-take n hs j m) ∙ slice_get-get_or (take n hs) j d k', not_false (is_known (get_or (take n hs) j d)) (p.2 j k));
+          let k' : j < length (take n hs) = omega (arith, p.0) in (
+            get_or (take n hs) j d,
+            sym (slice_get-take n hs j m) ∙ slice_get-get_or (take n hs) j d k',
+            not_false (is_known (get_or (take n hs) j d)) (p.2 j k),
+          );
     }
 
 -- where there is none, all are known
-all_by_place : (hs : List HalfCell) (d : HalfCell) → ((j : ℕ) → j < length hs → is_known (get_or hs j d) ≡ true) → list_all is_known hs ≡ true
+all_by_place : (hs : List HalfCell) (d : HalfCell) → ((j : ℕ) → j < length hs → is_known (get_or hs j d) ≡ true) →
+    list_all is_known hs ≡ true
 all_by_place [] d f = refl
 all_by_place (h ∷ hs) d f = rw (f 0 (omega arith)) (all_by_place hs d (λ j l. f (suc j) (omega arith)))
 
@@ -134,7 +149,10 @@ none_if : (b : Bool) (n : ℕ) → (if b then Some n else None) ≡ None → b �
 none_if true n e = absurd (cc)
 none_if false n e = refl
 
+-- where it finds none, all cells are known
 pub none_unknown : (hs : List HalfCell) (d : HalfCell) → position is_unknown hs ≡ None → list_all is_known hs ≡ true
 none_unknown hs d e =
-    let past : length hs ≤ position_or_len is_unknown hs = ltb-false (position_or_len is_unknown hs) (length hs) (none_if (nat_lt (position_or_len is_unknown hs) (length hs)) (position_or_len is_unknown hs) e) in
+    let past : length hs ≤ position_or_len is_unknown hs =
+    ltb-false (position_or_len is_unknown hs) (length hs)
+    (none_if (nat_lt (position_or_len is_unknown hs) (length hs)) (position_or_len is_unknown hs) e) in
     all_by_place hs d (λ j l. not_false (is_known (get_or hs j d)) (fails_before_first is_unknown hs j d (omega arith)))

@@ -5,12 +5,14 @@ pub mod HullAttributes
 pub mod Describing
 pub mod HullSteps
 pub mod HullOfStarts
-pub mod Faults
+pub mod KnownAfter
+pub mod Positions
+pub mod FaultShown
+pub mod NoFaultShown
 pub mod Clean
 pub mod SpanLemmas
 pub mod Feeding
 pub mod GlyphRuns
-pub mod Certainty
 pub mod ByteCells
 pub mod NewPlayer
 pub mod KnownCells

@@ -1,7 +1,9 @@
 -- Bytes are good, or have a first fault, or have a last fault.
-use Rattle.std.proofs.Common.{◌≡◌, ◌⊎◌, inl, inr, ℕ, zero, suc, List, [], ◌∷◌, ◌++◌, length, take, drop, All, Option, Some, None, refl, sym, ap, ◌∙◌, arith, subst, append_assoc}
+use Rattle.std.proofs.Common.{◌≡◌, ◌⊎◌, inl, inr, ℕ, zero, suc, List, [], ◌∷◌, ◌++◌, length, take, drop, All, Option}
+use Rattle.std.proofs.Common.{Some, None, refl, sym, ap, ◌∙◌, arith, subst, append_assoc}
 use Rattle.std.specs.Prelude.{slice_get, ◌*◌}
 use Rattle.std.specs.List.{AllByRecursion, AllZip, concat}
+use Rattle.std.proofs.lemmas.Option.{same_Some}
 use Rattle.std.proofs.lemmas.List.{append-nil}
 use Rattle.std.proofs.lemmas.List.Elements.{All-head, All-tail}
 use Rattle.ans_model.specs.Bytes.{IsByte}
@@ -18,7 +20,7 @@ use Rattle.ans_model.specs.Verdict.Good.{IsGood}
 use Rattle.ans_model.specs.Verdict.FirstFault.{IsFirstFault}
 use Rattle.ans_model.specs.Verdict.LastFault.{IsLastFault}
 use Rattle.ans_model.proofs.Reading.{reads_bytes}
-use Rattle.ans_tokens.specs.Scanning.{Nothing, scanning}
+use Rattle.ans_tokens.specs.ScannerView.{Nothing, scanner_view}
 use Rattle.ans_tokens.proofs.EachByte.{IsOpen, open_ends}
 use Rattle.ans_tokens.proofs.Readable.{IsRefusedFront, IsReadable, readable}
 use Rattle.ans_screen.specs.GridEdits.{first_unknown}
@@ -26,12 +28,14 @@ use Rattle.ans_play.specs.HalfState.{HalfState}
 use Rattle.ans_play.specs.Shown.{picture_of}
 use Rattle.ans_play.specs.Stands.{IsKnownAfter, IsPlayed}
 use Rattle.ans_play.proofs.KnownCells.{found_unknown}
-use Rattle.ans_play.proofs.Finishing.{good_if, last_if, known_if, no_cell}
-use Rattle.ans_play.proofs.TwoStarts.{HasBlamed, clean_or_blamed}
+use Rattle.ans_play.proofs.Finishing.{good_where_known, last_where_unknown, known_if, no_cell}
+use Rattle.ans_play.proofs.TwoStarts.{HasFaultyToken, clean_or_faulty}
 use Rattle.ans_play.proofs.Zips.{AllZip-take}
 
+-- bytes are good, or have a first or a last fault
 abbrev pub HasAnAnswer : Size → Class → List ℕ → Type 0
-HasAnAnswer z class bytes = IsGood z class bytes ⊎ ((f : Fault) × IsFirstFault z class bytes f) ⊎ ((f : Fault) × IsLastFault z class bytes f)
+HasAnAnswer z class bytes = IsGood z class bytes ⊎ ((f : Fault) × IsFirstFault z class bytes f)
+    ⊎ ((f : Fault) × IsLastFault z class bytes f)
 
 -- the texts of tokens around one of them
 pub record IsTextAt (tokens : List TokenKind) (texts : List (List ℕ)) (n : ℕ) (t : TokenKind) : Type 0 where
@@ -39,28 +43,33 @@ pub record IsTextAt (tokens : List TokenKind) (texts : List (List ℕ)) (n : ℕ
   pub spelled : SpellsToken t text
   pub whole : concat texts ≡ concat (take n texts) ++ (text ++ concat (drop (suc n) texts))
 
-same_some : (a b : TokenKind) → Some a ≡ Some b → a ≡ b
-same_some a b e = cc
-
-text_at : (tokens : List TokenKind) (texts : List (List ℕ)) (n : ℕ) (t : TokenKind) → AllZip SpellsToken tokens texts → slice_get tokens n ≡ Some t → IsTextAt tokens texts n t
+-- the texts around one token
+text_at : (tokens : List TokenKind) (texts : List (List ℕ)) (n : ℕ) (t : TokenKind) → AllZip SpellsToken tokens texts →
+    slice_get tokens n ≡ Some t → IsTextAt tokens texts n t
 text_at [] texts n t each e = absurd (cc)
 text_at (u ∷ tokens) [] n t each e = absurd each
-text_at (u ∷ tokens) (x ∷ texts) zero t each e = record { text = x; spelled = rw (same_some u t e) at each.0; whole = refl }
+text_at (u ∷ tokens) (x ∷ texts) zero t each e =
+    record { text = x; spelled = rw (same_Some u t e) at each.0; whole = refl }
 text_at (u ∷ tokens) (x ∷ texts) (suc n) t each e =
     let later = text_at tokens texts n t each.1 e in
     record {
       text = later.text;
       spelled = later.spelled;
-      whole = ap (λ (v : List ℕ). x ++ v) later.whole ∙ sym (append_assoc x (concat (take n texts)) (later.text ++ concat (drop (suc n) texts)));
+      whole = ap (λ (v : List ℕ). x ++ v) later.whole
+          ∙ sym (append_assoc x (concat (take n texts)) (later.text ++ concat (drop (suc n) texts)));
     }
 
-by_recursion : (bytes : List ℕ) → All IsByte bytes → AllByRecursion IsByte bytes
-by_recursion [] all = tt
-by_recursion (b ∷ bytes) all = (All-head IsByte b bytes all, by_recursion bytes (All-tail IsByte b bytes all))
+-- the same fact, byte by byte
+bytes_by_recursion : (bytes : List ℕ) → All IsByte bytes → AllByRecursion IsByte bytes
+bytes_by_recursion [] all = tt
+bytes_by_recursion (b ∷ bytes) all = (
+  All-head IsByte b bytes all,
+  bytes_by_recursion bytes (All-tail IsByte b bytes all),
+)
 
 module _ (z : Size) (class : Class) (size : IsSize z) (bytes : List ℕ) where
   -- a token has a fault
-  token_blamed : (r : IsReadable bytes) → HasBlamed z class r.tokens → HasAnAnswer z class bytes
+  token_blamed : (r : IsReadable bytes) → HasFaultyToken z class r.tokens → HasAnAnswer z class bytes
   token_blamed r b =
       let at = text_at r.tokens r.texts b.place b.token r.reads.each b.here in
       let front : List ℕ = concat (take b.place r.texts) in
@@ -75,14 +84,21 @@ module _ (z : Size) (class : Class) (size : IsSize z) (bytes : List ℕ) where
               ∙ append_assoc front (at.text ++ concat (drop (suc b.place) r.texts)) r.left
               ∙ ap (λ (v : List ℕ). front ++ v) (append_assoc at.text (concat (drop (suc b.place) r.texts)) r.left);
           tokens = take b.place r.tokens;
-          reads = (take b.place r.texts, record { each = AllZip-take SpellsToken b.place r.tokens r.texts r.reads.each; whole = refl });
+          reads = (
+            take b.place r.texts,
+            record {
+              each = AllZip-take SpellsToken b.place r.tokens r.texts r.reads.each;
+              whole = refl;
+            },
+          );
           clean = b.clean;
           offset = refl;
           faulty = inl (record { token = b.token; spelled = at.spelled; fault = b.fault });
         },
       ))
 
-  module _ (r : IsReadable bytes) (clean : IsClean z class r.tokens) (h : HalfState) (known : IsKnownAfter z class r.tokens h) where
+  module _ (r : IsReadable bytes) (clean : IsClean z class r.tokens) (h : HalfState)
+      (known : IsKnownAfter z class r.tokens h) where
     refused_behind : IsRefusedFront r.left → HasAnAnswer z class bytes
     refused_behind f = inr (inl (
       fault_at (length r.front) f.cause,
@@ -117,7 +133,7 @@ module _ (z : Size) (class : Class) (size : IsSize z) (bytes : List ℕ) where
     ))
 
     -- nothing is behind the tokens
-    played : r.left ≡ [] → IsPlayed z class bytes (scanning (length bytes) (length bytes) Nothing None) h
+    played : r.left ≡ [] → IsPlayed z class bytes (scanner_view (length bytes) (length bytes) Nothing None) h
     played e =
         let whole : bytes ≡ r.front = r.whole ∙ ap (λ (v : List ℕ). r.front ++ v) e ∙ append-nil r.front in
         record {
@@ -137,9 +153,17 @@ module _ (z : Size) (class : Class) (size : IsSize z) (bytes : List ℕ) where
     at_end : r.left ≡ [] → (o : Option ℕ) → first_unknown h.screen (z.lines * z.width) ≡ o → HasAnAnswer z class bytes
     unfolding played
     at_end e None none =
-        inl (picture_of z h.screen, good_if z class bytes _ h (played e) refl (known_if h.screen (z.lines * z.width) none))
+        inl (
+          picture_of z h.screen,
+          good_where_known z class bytes _ h (played e) refl
+              (known_if h.screen (z.lines * z.width) none),
+        )
     at_end e (Some i) some =
-        inr (inr (_, inr (last_if z class bytes _ h (played e) refl i (found_unknown h.screen (z.lines * z.width) i no_cell some))))
+        inr (inr (
+          _,
+          inr (last_where_unknown z class bytes _ h (played e) refl i
+              (found_unknown h.screen (z.lines * z.width) i no_cell some)),
+        ))
 
     open_behind : (r.left ≡ []) ⊎ IsUnfinished r.left → HasAnAnswer z class bytes
     open_behind (inl e) = at_end e (first_unknown h.screen (z.lines * z.width)) refl
@@ -151,8 +175,8 @@ module _ (z : Size) (class : Class) (size : IsSize z) (bytes : List ℕ) where
 
   pub has_an_answer : All IsByte bytes → HasAnAnswer z class bytes
   has_an_answer all =
-      let r : IsReadable bytes = readable bytes (by_recursion bytes all) in
-      elim (clean_or_blamed z class size.some_columns r.tokens (reads_bytes r.front r.tokens (r.texts, r.reads))) [
+      let r : IsReadable bytes = readable bytes (bytes_by_recursion bytes all) in
+      elim (clean_or_faulty z class size.some_columns r.tokens (reads_bytes r.front r.tokens (r.texts, r.reads))) [
         | inl c ↦ all_clean r c.0 c.1.0 c.1.1 r.leaves
         | inr b ↦ token_blamed r b
       ]

@@ -9,12 +9,13 @@ use Rattle.ans_model.specs.Screen.Step.{final}
 use Rattle.ans_model.specs.Screen.StartClass.{Class}
 use Rattle.ans_model.specs.Verdict.TokenFault.{HasFault, IsClean, SamePosition, PositionsDiffer}
 use Rattle.ans_model.specs.declared.fault.Cause.{Cause}
-use Rattle.ans_model.specs.declared.fault.Cause.TheVariants.{PrintBelow, Scrolls, PrintUnknownPlace, EraseUnknownPlace, MayScroll}
+use Rattle.ans_model.specs.declared.fault.Cause.TheVariants.{PrintBelow, Scrolls, PrintUnknownPlace, EraseUnknownPlace}
+use Rattle.ans_model.specs.declared.fault.Cause.TheVariants.{MayScroll}
 use Rattle.ans_model.specs.Verdict.Good.{PlaysWell}
-use Rattle.ans_play.proofs.Describing.{same_position}
+use Rattle.ans_model.proofs.PositionLemmas.{same_position}
 
-place_eq : (p q : Position) → (p ≡ q) ⊎ (p ≢ q)
-place_eq p q = elim (cases_eq p.row q.row) [
+position_eq : (p q : Position) → (p ≡ q) ⊎ (p ≢ q)
+position_eq p q = elim (cases_eq p.row q.row) [
   | inl r ↦ elim (cases_eq p.column q.column) [
     | inl c ↦ inl (same_position p q r c)
     | inr n ↦ inr (λ e. n (ap (λ (x : Position). x.column) e))
@@ -23,12 +24,17 @@ place_eq p q = elim (cases_eq p.row q.row) [
 ]
 
 module _ (z : Size) (class : Class) (tokens : List TokenKind) (clean : IsClean z class tokens) where
-  one_place : (k : ℕ) (t : TokenKind) (cause : Cause) → slice_get tokens k ≡ Some t → (PositionsDiffer z class (take k tokens) → HasFault z class (take k tokens) t cause) → SamePosition z class (take k tokens)
-  one_place k t cause e f s r start_s start_r = elim (place_eq (final z s (take k tokens)).cursor (final z r (take k tokens)).cursor) [
-    | inl same ↦ same
-    | inr ne ↦ absurd (clean k cause (t, e, f (s, r, start_s, start_r, ne)))
-  ]
+  -- a token that is refused where the positions differ finds them the same
+  same_place_where_asked : (k : ℕ) (t : TokenKind) (cause : Cause) → slice_get tokens k ≡ Some t →
+      (PositionsDiffer z class (take k tokens) → HasFault z class (take k tokens) t cause) →
+      SamePosition z class (take k tokens)
+  same_place_where_asked k t cause e f s r start_s start_r =
+      elim (position_eq (final z s (take k tokens)).cursor (final z r (take k tokens)).cursor) [
+        | inl same ↦ same
+        | inr ne ↦ absurd (clean k cause (t, e, f (s, r, start_s, start_r, ne)))
+      ]
 
+  -- tokens without a fault play well
   pub plays_well : PlaysWell z class tokens
   plays_well = record {
     no_static_fault = λ k t cause e f. clean k cause (t, e, inl f);
@@ -42,8 +48,14 @@ module _ (z : Size) (class : Class) (tokens : List TokenKind) (clean : IsClean z
           ]),
     );
     never_prints_below = λ k byte e s start b.
-        let same : SamePosition z class (take k tokens) = one_place k (Glyph byte) PrintUnknownPlace e (λ n. inr n) in
-        clean k PrintBelow (Glyph byte, e, inr (same, λ r start_r. ap (λ (p : Position). p.row) (same r s start_r start) ∙ b));
-    prints_at_one_place = λ k byte e. one_place k (Glyph byte) PrintUnknownPlace e (λ n. inr n);
-    erases_at_one_place = λ k e. one_place k EraseLine EraseUnknownPlace e (λ n. inr n);
+        let same : SamePosition z class (take k tokens) =
+        same_place_where_asked k (Glyph byte) PrintUnknownPlace e (λ n. inr n) in
+        clean k PrintBelow (
+          Glyph byte,
+          e,
+          inr
+              (same, λ r start_r. ap (λ (p : Position). p.row) (same r s start_r start) ∙ b),
+        );
+    prints_at_one_place = λ k byte e. same_place_where_asked k (Glyph byte) PrintUnknownPlace e (λ n. inr n);
+    erases_at_one_place = λ k e. same_place_where_asked k EraseLine EraseUnknownPlace e (λ n. inr n);
   }

@@ -1,5 +1,7 @@
 -- What is known after clean tokens, and what the plays from the low and the high start show of a fault.
-use Rattle.std.proofs.Common.{◌≡◌, ◌≢◌, ◌⊎◌, inl, inr, ℕ, zero, suc, ◌+◌, ◌*◌, ◌<◌, ◌≤◌, min, max, Bool, true, false, List, [], ◌∷◌, ◌++◌, length, take, get_or, All, Option, Some, None, refl, sym, ap, ◌∙◌, arith, subst}
+use Rattle.std.proofs.Common.{◌≡◌, ◌≢◌, ◌⊎◌, inl, inr, ℕ, zero, suc, ◌+◌, ◌*◌, ◌<◌, ◌≤◌, min, max, Bool, true, false}
+use Rattle.std.proofs.Common.{List, [], ◌∷◌, ◌++◌, length, take, get_or, All, Option, Some, None, refl, sym, ap, ◌∙◌}
+use Rattle.std.proofs.Common.{arith, subst}
 use Rattle.std.specs.Prelude.{slice_get}
 use Rattle.std.proofs.lemmas.Bool.{cases_eq}
 use Rattle.std.proofs.lemmas.List.{append-nil, take_more, take_all}
@@ -8,15 +10,18 @@ use Rattle.std.proofs.lemmas.Option.{slice_get-get_or}
 use Rattle.ans_model.specs.Sequence.TokenKind.{TokenKind, PrintsByte, Glyph, LineFeed, EraseLine, Bell}
 use Rattle.ans_model.specs.declared.fault.Fault.{Fault}
 use Rattle.ans_model.specs.declared.fault.Cause.{Cause}
-use Rattle.ans_model.specs.declared.fault.Cause.TheVariants.{PrintBelow, Scrolls, PrintUnknownPlace, EraseUnknownPlace, MayScroll, UnknownCell}
+use Rattle.ans_model.specs.declared.fault.Cause.TheVariants.{PrintBelow, Scrolls, PrintUnknownPlace, EraseUnknownPlace}
+use Rattle.ans_model.specs.declared.fault.Cause.TheVariants.{MayScroll, UnknownCell}
 use Rattle.ans_model.specs.declared.cell.Position.{Position}
 use Rattle.ans_model.specs.Screen.State.{Size, IsStated, index, cell_at, IsWellFormed}
 use Rattle.ans_model.specs.Screen.StartClass.{Class, low_start, high_start}
-use Rattle.ans_model.specs.Verdict.TokenFault.{HasFault, HasFaultAfter, PositionsDiffer, IsInSpareRow, FromSome, IsClean}
+use Rattle.ans_model.specs.Verdict.TokenFault.{HasFault, HasFaultAfter, PositionsDiffer, IsInSpareRow, FromSome}
+use Rattle.ans_model.specs.Verdict.TokenFault.{IsClean}
 use Rattle.ans_model.specs.Verdict.FirstFault.{IsFirstFault, IsToBlame, IsRefused}
 use Rattle.ans_model.specs.Verdict.LastFault.{IsLastFault, CellsDiffer, IsFirstUnknown}
 use Rattle.ans_model.specs.Laws.Certain.{IsCertain}
-use Rattle.ans_model.specs.Laws.TwoStarts.{low_final, high_final, CursorsDiffer, OneIsInSpareRow, IsFirstDifference, TwoStartsShow, IsShownByTwoStarts}
+use Rattle.ans_model.specs.Laws.TwoStarts.{low_final, high_final, CursorsDiffer, OneIsInSpareRow, IsFirstDifference}
+use Rattle.ans_model.specs.Laws.TwoStarts.{TwoStartsShow, IsShownByTwoStarts}
 use Rattle.ans_model.proofs.StartLemmas.{low_is_start, high_is_start}
 use Rattle.ans_model.proofs.OneCause.{static_is_certain}
 use Rattle.ans_model.proofs.OneAnswer.{refused_certain}
@@ -27,14 +32,17 @@ use Rattle.ans_play.specs.declared.span.Span.{Span}
 use Rattle.ans_play.specs.Hull.{hull}
 use Rattle.ans_play.specs.HalfState.{HalfState, DescribesCell}
 use Rattle.ans_play.specs.HalfStep.{half_step}
-use Rattle.ans_play.specs.HalfFault.{half_fault, is_one_place}
+use Rattle.ans_play.specs.HalfFault.{half_fault, is_one_position}
 use Rattle.ans_play.specs.Stands.{IsKnownAfter}
 use Rattle.ans_play.proofs.Zips.{AllZip-length}
 use Rattle.ans_play.proofs.HullSteps.{hull_itself}
 use Rattle.ans_play.proofs.KnownCells.{unknown_at}
 use Rattle.ans_play.proofs.Clean.{clean_none, clean_more}
-use Rattle.ans_play.proofs.Faults.{known_none, known_more, blamed, unblamed, allowed, same_if, one_place_then, all_in_spare_row, none_in_spare_row}
-use Rattle.ans_play.proofs.Finishing.{same_if as same_cell_if, index_lt, no_cell}
+use Rattle.ans_play.proofs.KnownAfter.{known_none, known_more}
+use Rattle.ans_play.proofs.Positions.{positions_agree, one_position_then, all_in_spare_row, none_in_spare_row}
+use Rattle.ans_play.proofs.FaultShown.{token_has_fault}
+use Rattle.ans_play.proofs.NoFaultShown.{token_is_allowed, token_has_no_fault}
+use Rattle.ans_play.proofs.Finishing.{same_where_known, index_lt, no_cell}
 
 -- ---- what is known after tokens, up to the first that has a fault
 -- the first n tokens are clean, and this is known after them
@@ -44,7 +52,7 @@ pub record IsCleanTo (z : Size) (class : Class) (tokens : List TokenKind) (n : �
   pub known : IsKnownAfter z class (take n tokens) state
 
 -- the tokens before one are clean, and it has a fault
-pub record HasBlamed (z : Size) (class : Class) (tokens : List TokenKind) : Type 0 where
+pub record HasFaultyToken (z : Size) (class : Class) (tokens : List TokenKind) : Type 0 where
   pub place : ℕ
   pub within : place < length tokens
   pub token : TokenKind
@@ -54,39 +62,50 @@ pub record HasBlamed (z : Size) (class : Class) (tokens : List TokenKind) : Type
   pub fault : HasFault z class (take place tokens) token cause
 
 module _ (z : Size) (class : Class) (w : 0 < z.width) (tokens : List TokenKind) (prints : All PrintsByte tokens) where
-  one_more : (n : ℕ) → n < length tokens → (c : IsCleanTo z class tokens n) → (o : Option Cause) → half_fault z c.state (get_or tokens n Bell) ≡ o
-      → IsCleanTo z class tokens (n + 1) ⊎ HasBlamed z class tokens
-  one_more n lt c None e =
+  -- one more token is clean, or is the first that has a fault
+  clean_to_one_more : (n : ℕ) → n < length tokens → (c : IsCleanTo z class tokens n) → (o : Option Cause) →
+      half_fault z c.state (get_or tokens n Bell) ≡ o
+      → IsCleanTo z class tokens (n + 1) ⊎ HasFaultyToken z class tokens
+  clean_to_one_more n lt c None e =
       let t : TokenKind = get_or tokens n Bell in
       let more : take (n + 1) tokens ≡ take n tokens ++ t ∷ [] = take_more tokens n Bell lt in
       inl (record {
         clean = subst (λ (ts : List TokenKind). IsClean z class ts) (sym more)
-            (clean_more z class (take n tokens) t c.clean (λ cause. unblamed z class (take n tokens) c.state w c.known t cause e));
+            (clean_more z class (take n tokens) t c.clean
+            (λ cause. token_has_no_fault z class (take n tokens) c.state w c.known t cause e));
         state = half_step z c.state t;
         known = subst (λ (ts : List TokenKind). IsKnownAfter z class ts (half_step z c.state t)) (sym more)
             (known_more z class (take n tokens) c.state t w (All-get_or PrintsByte tokens n Bell lt prints) c.known
-            (allowed z class (take n tokens) c.state w c.known t e));
+            (token_is_allowed z class (take n tokens) c.state w c.known t e));
       })
-  one_more n lt c (Some cause) e = inr (record {
+  clean_to_one_more n lt c (Some cause) e = inr (record {
     place = n;
     within = lt;
     token = get_or tokens n Bell;
     cause = cause;
     here = slice_get-get_or tokens n Bell lt;
     clean = c.clean;
-    fault = blamed z class (take n tokens) c.state w c.known (get_or tokens n Bell) cause e;
+    fault = token_has_fault z class (take n tokens) c.state w c.known (get_or tokens n Bell) cause e;
   })
 
-  clean_or_blamed_to : (n : ℕ) → n ≤ length tokens → IsCleanTo z class tokens n ⊎ HasBlamed z class tokens
-  clean_or_blamed_to zero le = inl (record { clean = clean_none z class; state = hull (low_start z class) (high_start z class); known = known_none z class })
-  clean_or_blamed_to (suc n) le = elim (clean_or_blamed_to n (omega arith)) [
-    | inl c ↦ subst (λ (m : ℕ). IsCleanTo z class tokens m ⊎ HasBlamed z class tokens) (omega arith) (one_more n (omega arith) c (half_fault z c.state (get_or tokens n Bell)) refl)
+  -- of the first n tokens
+  clean_or_faulty_to : (n : ℕ) → n ≤ length tokens → IsCleanTo z class tokens n ⊎ HasFaultyToken z class tokens
+  clean_or_faulty_to zero le = inl (record {
+    clean = clean_none z class;
+    state =
+        hull (low_start z class) (high_start z class);
+    known = known_none z class;
+  })
+  clean_or_faulty_to (suc n) le = elim (clean_or_faulty_to n (omega arith)) [
+    | inl c ↦ subst (λ (m : ℕ). IsCleanTo z class tokens m ⊎ HasFaultyToken z class tokens) (omega arith)
+        (clean_to_one_more n (omega arith) c (half_fault z c.state (get_or tokens n Bell)) refl)
     | inr b ↦ inr b
   ]
 
   -- tokens are clean, or one has a fault after clean ones
-  pub clean_or_blamed : (IsClean z class tokens × ((h : HalfState) × IsKnownAfter z class tokens h)) ⊎ HasBlamed z class tokens
-  clean_or_blamed = elim (clean_or_blamed_to (length tokens) (omega arith)) [
+  pub clean_or_faulty : (IsClean z class tokens × ((h : HalfState) × IsKnownAfter z class tokens h))
+      ⊎ HasFaultyToken z class tokens
+  clean_or_faulty = elim (clean_or_faulty_to (length tokens) (omega arith)) [
     | inl c ↦
         let all : take (length tokens) tokens ≡ tokens = take_all (length tokens) tokens (omega arith) in
         inl (
@@ -96,38 +115,47 @@ module _ (z : Size) (class : Class) (w : 0 < z.width) (tokens : List TokenKind) 
     | inr b ↦ inr b
   ]
 
+  -- after clean tokens a state is known
   pub known_after_clean : IsClean z class tokens → (h : HalfState) × IsKnownAfter z class tokens h
-  known_after_clean clean = elim clean_or_blamed [
+  known_after_clean clean = elim clean_or_faulty [
     | inl c ↦ c.1
     | inr b ↦ absurd (clean b.place b.cause (b.token, b.here, b.fault))
   ]
 
 -- ---- what the two plays show
-certain_shows : (z : Size) (class : Class) (tokens : List TokenKind) (c : Cause) → IsCertain c → TwoStartsShow z class tokens c
+certain_shows : (z : Size) (class : Class) (tokens : List TokenKind) (c : Cause) → IsCertain c →
+    TwoStartsShow z class tokens c
 certain_shows z class tokens PrintUnknownPlace h = absurd h
 certain_shows z class tokens EraseUnknownPlace h = absurd h
 certain_shows z class tokens MayScroll h = absurd h
 certain_shows z class tokens (UnknownCell row column) h = absurd h
 certain_shows z class tokens _ h = tt
 
-module _ (z : Size) (class : Class) (tokens : List TokenKind) (w : 0 < z.width) (h : HalfState) (st : IsKnownAfter z class tokens h) where
+module _ (z : Size) (class : Class) (tokens : List TokenKind) (w : 0 < z.width) (h : HalfState)
+    (st : IsKnownAfter z class tokens h) where
   low_well : IsWellFormed z (low_final z class tokens)
   low_well = st.well_formed (low_start z class) (low_is_start z class w)
 
   high_well : IsWellFormed z (high_final z class tokens)
   high_well = st.well_formed (high_start z class) (high_is_start z class w)
 
+  -- where positions differ, those of the extreme plays do
   cursors_differ : PositionsDiffer z class tokens → CursorsDiffer z class tokens
   cursors_differ d e =
-      let one : is_one_place h.cursor ≡ true =
-      one_place_then h.cursor
-      (rw (st.is_hull, sym e) (ap (λ (x : Span). x.low) (hull_itself (low_final z class tokens).cursor) ∙ sym (ap (λ (x : Span). x.high) (hull_itself (low_final z class tokens).cursor)))) in
-      d.4 (same_if z class tokens h st one d.0 d.1 d.2 d.3)
+      let one : is_one_position h.cursor ≡ true =
+      one_position_then h.cursor
+      (rw (st.is_hull, sym e) (ap (λ (x : Span). x.low) (hull_itself (low_final z class tokens).cursor)
+      ∙ sym (ap (λ (x : Span). x.high) (hull_itself (low_final z class tokens).cursor)))) in
+      d.4 (positions_agree z class tokens h st one d.0 d.1 d.2 d.3)
 
-  one_in_spare_row : FromSome z class (IsInSpareRow z tokens) → FromSome z class (λ s. ¬ IsInSpareRow z tokens s) → OneIsInSpareRow z class tokens
+  -- where some play is in the spare row and some is not, exactly one extreme play is
+  one_in_spare_row : FromSome z class (IsInSpareRow z tokens) → FromSome z class (λ s. ¬ IsInSpareRow z tokens s) →
+      OneIsInSpareRow z class tokens
   one_in_spare_row some other =
-      let top : h.cursor.high.row ≡ max (low_final z class tokens).cursor.row (high_final z class tokens).cursor.row = ap (λ (k : HalfState). k.cursor.high.row) st.is_hull in
-      let bottom : h.cursor.low.row ≡ min (low_final z class tokens).cursor.row (high_final z class tokens).cursor.row = ap (λ (k : HalfState). k.cursor.low.row) st.is_hull in
+      let top : h.cursor.high.row ≡ max (low_final z class tokens).cursor.row (high_final z class tokens).cursor.row =
+      ap (λ (k : HalfState). k.cursor.high.row) st.is_hull in
+      let bottom : h.cursor.low.row ≡ min (low_final z class tokens).cursor.row (high_final z class tokens).cursor.row =
+      ap (λ (k : HalfState). k.cursor.low.row) st.is_hull in
       elim (cases_eq (low_final z class tokens).cursor.row z.lines) [
         | inl low ↦ elim (cases_eq (high_final z class tokens).cursor.row z.lines) [
           | inl high ↦ absurd (other.2 (all_in_spare_row z class tokens h w st (omega arith) other.0 other.1))
@@ -135,10 +163,12 @@ module _ (z : Size) (class : Class) (tokens : List TokenKind) (w : 0 < z.width) 
         ]
         | inr low ↦ elim (cases_eq (high_final z class tokens).cursor.row z.lines) [
           | inl high ↦ inr (low, high)
-          | inr high ↦ absurd (none_in_spare_row z class tokens h w st (omega (arith, low_well.fits.cursor.0, high_well.fits.cursor.0)) some.0 some.1 some.2)
+          | inr high ↦ absurd (none_in_spare_row z class tokens h w st
+              (omega (arith, low_well.fits.cursor.0, high_well.fits.cursor.0)) some.0 some.1 some.2)
         ]
       ]
 
+  -- a fault that depends on the start is shown
   shown_after : (t : TokenKind) (c : Cause) → HasFaultAfter z class tokens t c → TwoStartsShow z class tokens c
   shown_after (Glyph byte) PrintUnknownPlace f = cursors_differ f
   shown_after (Glyph byte) PrintBelow f = tt
@@ -147,43 +177,56 @@ module _ (z : Size) (class : Class) (tokens : List TokenKind) (w : 0 < z.width) 
   shown_after LineFeed MayScroll f = one_in_spare_row f.0 f.1
   shown_after _ _ f = absurd f
 
+  -- each fault is shown
   shown_fault : (t : TokenKind) (c : Cause) → HasFault z class tokens t c → TwoStartsShow z class tokens c
   shown_fault t c (inl f) = certain_shows z class tokens c (static_is_certain z t c f)
   shown_fault t c (inr f) = shown_after t c f
 
   cell_count_is : length h.screen ≡ (z.lines + 1) * z.width
   cell_count_is =
-      AllZip-length DescribesCell h.screen (low_final z class tokens).screen (st.describes (low_start z class) (low_is_start z class w)).screen
+      AllZip-length DescribesCell h.screen (low_final z class tokens).screen
+      (st.describes (low_start z class) (low_is_start z class w)).screen
       ∙ low_well.fits.cells
 
-  this_cell_differs : (p : Position) (c : HalfCell) (b : Bool) → slice_get h.screen (index z p) ≡ Some c → is_known c ≡ b → CellsDiffer z class tokens p
+  -- a cell that differs is not known
+  this_cell_differs : (p : Position) (c : HalfCell) (b : Bool) → slice_get h.screen (index z p) ≡ Some c →
+      is_known c ≡ b → CellsDiffer z class tokens p
       → cell_at z (low_final z class tokens).screen p ≢ cell_at z (high_final z class tokens).screen p
-  this_cell_differs p c true here known d e = d.4 (same_cell_if z class tokens h w st p (index z p) c refl here known d.0 d.1 d.2 d.3)
+  this_cell_differs p c true here known d e =
+      d.4 (same_where_known z class tokens h w st p (index z p) c refl here known d.0 d.1 d.2 d.3)
   this_cell_differs p c false here unknown d e =
       unknown_at (low_final z class tokens).screen (high_final z class tokens).screen (index z p) c
       (sym (ap (λ (g : HalfState). slice_get g.screen (index z p)) st.is_hull) ∙ here) unknown e
 
   -- a cell that differs between two starts differs between these two
-  cells_differ : (p : Position) → IsStated z p → CellsDiffer z class tokens p → cell_at z (low_final z class tokens).screen p ≢ cell_at z (high_final z class tokens).screen p
+  cells_differ : (p : Position) → IsStated z p → CellsDiffer z class tokens p →
+      cell_at z (low_final z class tokens).screen p ≢ cell_at z (high_final z class tokens).screen p
   cells_differ p stated d =
       let here = slice_get-get_or h.screen (index z p) no_cell (omega (arith, index_lt z p stated, cell_count_is)) in
-      this_cell_differs p (get_or h.screen (index z p) no_cell) (is_known (get_or h.screen (index z p) no_cell)) here refl d
+      this_cell_differs p (get_or h.screen (index z p) no_cell)
+      (is_known (get_or h.screen (index z p) no_cell)) here refl d
 
-  first_difference : (p : Position) → IsFirstUnknown z class tokens p → IsFirstDifference z class tokens (p.row + 1) (p.column + 1)
+  -- the first cell that differs is the first that differs between the extreme plays
+  first_difference : (p : Position) → IsFirstUnknown z class tokens p →
+      IsFirstDifference z class tokens (p.row + 1) (p.column + 1)
   first_difference p first = record {
     place = p;
     stated = first.stated;
     row_is = refl;
     column_is = refl;
     differs = cells_differ p first.stated first.differs;
-    earlier = λ q stated before. first.earlier q stated before (low_start z class) (high_start z class) (low_is_start z class w) (high_is_start z class w);
+    earlier = λ q stated before. first.earlier q stated before (low_start z class) (high_start z class)
+        (low_is_start z class w) (high_is_start z class w);
   }
 
 -- ---- of bytes
 module _ (z : Size) (class : Class) (bytes : List ℕ) (fault : Fault) where
-  blame_shown : (h : IsFirstFault z class bytes fault) → IsToBlame z class h.tokens h.text fault.cause ⊎ IsRefused h.text fault.cause → TwoStartsShow z class h.tokens fault.cause
+  -- a first fault is shown
+  blame_shown : (h : IsFirstFault z class bytes fault) → IsToBlame z class h.tokens h.text fault.cause
+      ⊎ IsRefused h.text fault.cause → TwoStartsShow z class h.tokens fault.cause
   blame_shown h (inl b) =
-      let known = known_after_clean z class h.size.some_columns h.tokens (reads_bytes h.front h.tokens h.reads) h.clean in
+      let known = known_after_clean z class h.size.some_columns h.tokens
+      (reads_bytes h.front h.tokens h.reads) h.clean in
       shown_fault z class h.tokens h.size.some_columns known.0 known.1 b.token fault.cause b.fault
   blame_shown h (inr r) = certain_shows z class h.tokens fault.cause (refused_certain h.text fault.cause r)
 

@@ -5,7 +5,8 @@ use Rattle.ans_model.specs.Screen.Step.{filled}
 use Rattle.std.specs.Prelude.{◌-◌}
 
 module _ {A B : Type 0} (R : A → B → Type 0) where
-  pub AllZip-append : (xs : List A) (ys : List B) (us : List A) (vs : List B) → AllZip R xs ys → AllZip R us vs → AllZip R (xs ++ us) (ys ++ vs)
+  pub AllZip-append : (xs : List A) (ys : List B) (us : List A) (vs : List B) → AllZip R xs ys → AllZip R us vs →
+      AllZip R (xs ++ us) (ys ++ vs)
   AllZip-append [] [] us vs h k = k
   AllZip-append [] (y ∷ ys) us vs h k = absurd h
   AllZip-append (x ∷ xs) [] us vs h k = absurd h
@@ -29,14 +30,16 @@ module _ {A B : Type 0} (R : A → B → Type 0) where
   AllZip-replicate zero x y h = tt
   AllZip-replicate (suc n) x y h = (h, AllZip-replicate n x y h)
 
-  pub AllZip-set : (xs : List A) (ys : List B) (i : ℕ) (x : A) (y : B) → AllZip R xs ys → R x y → AllZip R (set xs i x) (set ys i y)
+  pub AllZip-set : (xs : List A) (ys : List B) (i : ℕ) (x : A) (y : B) → AllZip R xs ys → R x y →
+      AllZip R (set xs i x) (set ys i y)
   AllZip-set [] [] i x y h k = tt
   AllZip-set [] (b ∷ ys) i x y h k = absurd h
   AllZip-set (a ∷ xs) [] i x y h k = absurd h
   AllZip-set (a ∷ xs) (b ∷ ys) zero x y h k = (k, h.1)
   AllZip-set (a ∷ xs) (b ∷ ys) (suc i) x y h k = (h.0, AllZip-set xs ys i x y h.1 k)
 
-  pub AllZip-filled : (xs : List A) (ys : List B) (i j : ℕ) (x : A) (y : B) → AllZip R xs ys → R x y → AllZip R (filled xs i j x) (filled ys i j y)
+  pub AllZip-filled : (xs : List A) (ys : List B) (i j : ℕ) (x : A) (y : B) → AllZip R xs ys → R x y →
+      AllZip R (filled xs i j x) (filled ys i j y)
   AllZip-filled xs ys i j x y h k =
       AllZip-append _ _ _ _
       (AllZip-append _ _ _ _ (AllZip-take i xs ys h) (AllZip-replicate (j - i) x y k))

@@ -2,6 +2,8 @@ pub mod HalfState
 pub mod Hull
 pub mod HalfStep
 pub mod HalfFault
-pub mod Playing
+pub mod PlayView
+pub mod PlayerView
+pub mod Plays
 pub mod Stands
 pub mod Shown

@@ -6,9 +6,10 @@ use Rattle.ans_model.specs.Screen.State.{Size, at, cell, cell_at}
 use Rattle.ans_model.specs.Verdict.Good.{Picture}
 use Rattle.ans_model.specs.declared.cell.Cell.{Cell}
 use Rattle.ans_screen.specs.HalfCells.{is_known}
-use Rattle.ans_play.specs.Playing.{IsPlayableSize, IsByteHalfCell}
+use Rattle.ans_play.specs.PlayView.{IsByteHalfCell}
 use Rattle.ans_screen.specs.declared.cell.HalfCell.{HalfCell}
 
+-- the cell that a known one is
 abbrev pub known_cell : HalfCell → Cell
 known_cell h = cell (unwrap_or h.glyph 0) h.attr.value
 
@@ -16,6 +17,7 @@ known_cell h = cell (unwrap_or h.glyph 0) h.attr.value
 abbrev pub stated_cells : Size → List HalfCell → List HalfCell
 stated_cells z cells = take (z.lines * z.width) cells
 
+-- the picture of the stated lines
 abbrev pub picture_of : Size → List HalfCell → Picture
 picture_of z cells = record { size = z; cells = map known_cell (stated_cells z cells) }
 
@@ -23,12 +25,12 @@ picture_of z cells = record { size = z; cells = map known_cell (stated_cells z c
 abbrev pub byte_at : Picture → ℕ → ℕ → Option ℕ
 byte_at p row column = option_map (λ (c : Cell). c.byte) (cell_at p.size p.cells (at row column))
 
+-- the attribute at a row and a column, counted from 0
 abbrev pub attribute_at : Picture → ℕ → ℕ → Option ℕ
 attribute_at p row column = option_map (λ (c : Cell). c.attribute) (cell_at p.size p.cells (at row column))
 
 -- each cell of the stated lines is known, and what is known are bytes
 pub record IsShown (z : Size) (cells : List HalfCell) : Type 0 where
-  pub size : IsPlayableSize z
   pub enough : z.lines * z.width ≤ length cells
   pub known : IsTrue (list_all is_known (stated_cells z cells))
   pub bytes : All IsByteHalfCell cells

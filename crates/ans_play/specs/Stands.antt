@@ -1,5 +1,6 @@
 -- What a player says of the bytes that it was fed.
-use Rattle.std.specs.Prelude.{◌≡◌, ℕ, ◌+◌, ◌<◌, ◌≤◌, List, ◌++◌, length, take, Some, None}
+use Rattle.std.specs.Prelude.{◌≡◌, ℕ, ◌+◌, List, [], ◌++◌, length, Some, None, Result, Err, IsOk, IfOk, IfErr, OnOk}
+use Rattle.std.specs.Prelude.{MatchResult}
 use Rattle.ans_model.specs.Sequence.TokenKind.{TokenKind}
 use Rattle.ans_model.specs.Sequence.Reads.{Reads}
 use Rattle.ans_model.specs.Screen.State.{Size, IsSize, IsWellFormed}
@@ -7,23 +8,28 @@ use Rattle.ans_model.specs.Screen.Step.{final}
 use Rattle.ans_model.specs.Screen.StartClass.{Class, class_of, low_start, high_start}
 use Rattle.ans_model.specs.Verdict.TokenFault.{FromEvery, IsClean}
 use Rattle.ans_model.specs.Verdict.FirstFault.{IsFirstFault}
+use Rattle.ans_model.specs.Verdict.LastFault.{IsLastFault}
+use Rattle.ans_model.specs.Verdict.Good.{Picture, GoodWith, IsGood}
 use Rattle.ans_model.specs.declared.start.Start.{Start}
 use Rattle.ans_model.specs.declared.fault.Fault.{Fault}
-use Rattle.ans_tokens.specs.Scanning.{Scanning, Holds}
+use Rattle.ans_tokens.specs.ScannerView.{ScannerView, Holds}
 use Rattle.ans_play.specs.HalfState.{HalfState, Describes}
 use Rattle.ans_play.specs.Hull.{hull}
-use Rattle.ans_play.specs.Playing.{Playing}
+use Rattle.ans_play.specs.PlayView.{PlayView}
+use Rattle.ans_play.specs.PlayerView.{PlayerView}
 
--- What is known of a state is all that is so after these tokens from every start: it describes each play, and is the hull of
+-- What is known of a state is all that is so after these tokens from every start: it describes each play, and is the
+-- hull of
 -- the plays from the low and the high start.
 pub record IsKnownAfter (z : Size) (class : Class) (tokens : List TokenKind) (h : HalfState) : Type 0 where
   pub describes : FromEvery z class (λ s. Describes h (final z s tokens))
   pub is_hull : h ≡ hull (final z (low_start z class) tokens) (final z (high_start z class) tokens)
   pub well_formed : FromEvery z class (λ s. IsWellFormed z (final z s tokens))
 
--- The bytes are a front that is read as clean tokens, and then an open part that the scanner holds; the half-known state is
+-- The bytes are a front that is read as clean tokens, and then an open part that the scanner holds; the half-known
+-- state is
 -- what is known after the tokens.
-pub record IsPlayed (z : Size) (class : Class) (bytes : List ℕ) (scanner : Scanning) (h : HalfState) : Type 0 where
+pub record IsPlayed (z : Size) (class : Class) (bytes : List ℕ) (scanner : ScannerView) (h : HalfState) : Type 0 where
   pub size : IsSize z
   pub front : List ℕ
   pub open_part : List ℕ
@@ -34,46 +40,76 @@ pub record IsPlayed (z : Size) (class : Class) (bytes : List ℕ) (scanner : Sca
   pub known : IsKnownAfter z class tokens h
   pub holds : Holds scanner open_part
   pub offset : scanner.offset ≡ length bytes
-  pub unrefused : scanner.refusal ≡ None
+  pub unrefused : scanner.fault ≡ None
 
 -- A player without a fault stands where the bytes fed have brought it. One with a fault has their first.
-pub record Stands (p : Playing) (bytes : List ℕ) : Type 0 where
+pub record Stands (p : PlayerView) (bytes : List ℕ) : Type 0 where
   pub fed : p.fault ≡ None → p.fed ≡ length bytes
   pub played : p.fault ≡ None → IsPlayed p.size (class_of p.start) bytes p.scanner p.state
   pub faulted : (f : Fault) → p.fault ≡ Some f → IsFirstFault p.size (class_of p.start) bytes f
 
 -- a player that is fed nothing yet
-pub record IsNew (p : Playing) (z : Size) (from : Start) : Type 0 where
+pub record IsNew (p : PlayerView) (z : Size) (from : Start) : Type 0 where
   pub size : p.size ≡ z
   pub start : p.start ≡ from
   pub fed : p.fed ≡ 0
   pub fault : p.fault ≡ None
 
 -- the size and the start stay
-pub record SamePlay (old new : Playing) : Type 0 where
+pub record SamePlay (old new : PlayerView) : Type 0 where
   pub size : new.size ≡ old.size
   pub start : new.start ≡ old.start
 
 -- without a fault before and after, so many more bytes were fed
-pub record IsFed (old new : Playing) (count : ℕ) : Type 0 where
+pub record IsFed (old new : PlayerView) (count : ℕ) : Type 0 where
   pub no_fault : old.fault ≡ None
   pub none : new.fault ≡ None
   pub fed : new.fed ≡ old.fed + count
 
--- Whatever bytes are played, they are played with these behind them; the rest of the player stays.
-pub record GoesOn (old : Playing) (bytes : List ℕ) (new : Playing) : Type 0 where
-  pub same : SamePlay old new
-  pub fed : new.fed ≡ old.fed + length bytes
-  pub fault : new.fault ≡ old.fault
-  pub played : (class : Class) (s : List ℕ) → IsPlayed old.size class s old.scanner old.state → IsPlayed old.size class (s ++ bytes) new.scanner new.state
+-- the fault is kept, and no more bytes count as fed
+pub record IsStopped (old new : PlayerView) (f : Fault) : Type 0 where
+  pub fault : new.fault ≡ Some f
+  pub fed : new.fed ≡ old.fed
 
--- a front of the bytes is played, of so many, and not of none
-pub record PlaysFront (old : Playing) (bytes : List ℕ) (count : ℕ) (new : Playing) : Type 0 where
-  pub some : 0 < count
-  pub within : count ≤ length bytes
-  pub played : GoesOn old (take count bytes) new
+-- a player with a fault returns it again, and does not change
+pub record Repeats (old new : PlayerView) (result : Result (Unit {0}) Fault) (f : Fault) : Type 0 where
+  pub again : result ≡ Err f
+  pub unchanged : new ≡ old
 
--- whatever bytes are played, with these behind them they have the fault
-abbrev pub IsDeserved : Playing → List ℕ → Fault → Type 0
+-- After the bytes s a piece is fed: the player stands at all of them, an error is their first fault, and without one
+-- they have none.
+pub record Feeds (old : PlayerView) (s piece : List ℕ) (new : PlayerView)
+    (result : Result (Unit {0}) Fault) : Type 0 where
+  pub stands : Stands new (s ++ piece)
+  pub first : IfErr result (IsFirstFault old.size (class_of old.start) (s ++ piece))
+  pub none : OnOk result ((f : Fault) → ¬ IsFirstFault old.size (class_of old.start) (s ++ piece) f)
+
+-- The bytes s end here: they are good with the picture returned, a fault that no feed returned is their last, and good
+-- bytes have none.
+pub record Finishes (p : PlayerView) (s : List ℕ) (result : Result Picture Fault) : Type 0 where
+  pub good : IfOk result (GoodWith p.size (class_of p.start) s)
+  pub last : p.fault ≡ None → IfErr result (IsLastFault p.size (class_of p.start) s)
+  pub exact : IsGood p.size (class_of p.start) s → IsOk result
+
+-- Whatever bytes are played, they are played with these after them.
+pub record GoesOn (old : PlayView) (bytes : List ℕ) (new : PlayView) : Type 0 where
+  pub size : new.size ≡ old.size
+  pub offset : new.scanner.offset ≡ old.scanner.offset + length bytes
+  pub played : (class : Class) (s : List ℕ) → IsPlayed old.size class s old.scanner old.state
+      → IsPlayed old.size class (s ++ bytes) new.scanner new.state
+
+-- whatever bytes are played, with these after them they have the fault
+abbrev pub IsDeserved : PlayView → List ℕ → Fault → Type 0
 IsDeserved old bytes fault =
-    (class : Class) (s : List ℕ) → IsPlayed old.size class s old.scanner old.state → IsFirstFault old.size class (s ++ bytes) fault
+    (class : Class) (s : List ℕ) → IsPlayed old.size class s old.scanner old.state →
+    IsFirstFault old.size class (s ++ bytes) fault
+
+-- whatever bytes are played, they are good with the picture, or have the last fault
+abbrev pub Ends : PlayView → Result Picture Fault → Type 0
+Ends p result = (class : Class) (s : List ℕ) → IsPlayed p.size class s p.scanner p.state
+    → MatchResult result (GoodWith p.size class s) (IsLastFault p.size class s)
+
+-- a play of no bytes yet, of this size, from the starts of a class
+pub record IsNewPlay (p : PlayView) (z : Size) (class : Class) : Type 0 where
+  pub size : p.size ≡ z
+  pub played : IsPlayed z class [] p.scanner p.state

@@ -1,6 +1,6 @@
 //! Laws of the answers that a play gives: each is the contract of a function that does nothing.
 
-ghost use Rattle.std.specs.Prelude.{◌⊎◌, ℕ, List, All};
+ghost use Rattle.std.specs.Prelude.{◌⊎◌, ◌≤◌, ℕ, List, All, length};
 ghost use Rattle.ans_model.specs.Bytes.{IsByte};
 ghost use Rattle.ans_model.specs.Screen.State.{Size, IsSize};
 ghost use Rattle.ans_model.specs.Screen.StartClass.{Class};
@@ -26,4 +26,12 @@ pub fn two_starts_show()
         → IsFirstFault z class bytes f → IsShownByTwoStarts z class bytes f }
     ensures last { (z : Size) (class : Class) (bytes : List ℕ) (f : Fault)
         → IsLastFault z class bytes f → IsShownByTwoStarts z class bytes f }
+{}
+
+/// A fault's offset is that of a byte, or of the bytes' end.
+pub fn faults_stand_within()
+    ensures first { (z : Size) (class : Class) (bytes : List ℕ) (f : Fault)
+        → IsFirstFault z class bytes f → f.offset ≤ length bytes }
+    ensures last { (z : Size) (class : Class) (bytes : List ℕ) (f : Fault)
+        → IsLastFault z class bytes f → f.offset ≤ length bytes }
 {}

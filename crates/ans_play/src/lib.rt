@@ -1,13 +1,15 @@
 //! The play of a content over one half-known state, which stands for the plays from every start.
 //!
-//! A [`Player`] is fed the content in pieces, and answers the first fault. [`Player::finish`] gives
+//! A [`Player`] is fed the content in pieces, and returns the first fault. [`Player::finish`] gives
 //! the [`Picture`] that every play shows, or tells which cell stays unknown. What a player says of
 //! its bytes is `Stands` of `specs/Stands.antt`: what is known of its state is exactly what is so
-//! from every start. Glyphs inside a row are played as runs, and every other byte by itself.
+//! from every start. The player keeps the fault and counts the bytes fed; inside it a play reads the
+//! bytes and makes the steps. Glyphs inside a row are played as runs, every other byte by itself.
 #![tactic(auto)]
 
 pub mod laws;
 pub mod picture;
+mod play;
 pub mod player;
 mod span;
 mod wrap;

@@ -2,39 +2,39 @@
 
 ghost use Rattle.std.specs.Prelude.{◌≡◌, ◌<◌, Some};
 
+use ans_model::size::Size;
 use ans_screen::{Grid, HalfCell};
 use std::marker::Model;
 
 /// A byte and an attribute at each row and column of the stated size.
 #[derive(Drop)]
 pub struct Picture<G: Grid> {
-    width: usize,
-    lines: usize,
+    size: Size,
     grid: G,
 }
 
 impl<G: Grid> Model for Picture<G> {
-    ghost use Rattle.ans_model.specs.Screen.State.{sized};
     ghost use Rattle.ans_model.specs.Verdict.Good.{Picture};
     ghost use Rattle.ans_play.specs.Shown.{picture_of, IsShown};
 
     ghost Value = { Picture };
 
-    ghost view = { λ p. picture_of (sized p.width p.lines) (G.cells_of p.grid) };
+    ghost view = { λ p. picture_of p.size (G.cells_of p.grid) };
 
-    ghost invariant = { λ p. IsShown (sized p.width p.lines) (G.cells_of p.grid) };
+    ghost invariant = { λ p. IsShown p.size (G.cells_of p.grid) };
 }
 
 impl<G: Grid> Picture<G> {
-    ghost use Rattle.ans_model.specs.Screen.State.{sized, at, cell_at};
+    ghost use Rattle.ans_model.specs.Screen.State.{at, cell_at};
     ghost use Rattle.ans_model.specs.Verdict.Good.{IsPictureOf};
     ghost use Rattle.ans_play.specs.Shown.{IsShown, picture_of, known_cell, byte_at, attribute_at};
 
-    pub(crate) fn new(width: usize, lines: usize, grid: G) -> Picture<G>
-        requires { IsShown (sized width lines) (G.cells_of grid) }
-        ensures { result ≡ picture_of (sized width lines) (G.cells_of grid) }
+    /// The picture of a grid whose cells of the stated lines are all known.
+    pub(crate) fn new(size: Size, grid: G) -> Picture<G>
+        requires { IsShown size (G.cells_of grid) }
+        ensures { result ≡ picture_of size (G.cells_of grid) }
     {
-        Picture { width, lines, grid }
+        Picture { size, grid }
     }
 
     /// The number of columns.
@@ -42,7 +42,7 @@ impl<G: Grid> Picture<G> {
         ensures width { result ≡ self.now.size.width }
         ensures whole { IsPictureOf self.now.size self.now }
     {
-        self.width
+        self.size.width()
     }
 
     /// The number of lines.
@@ -50,15 +50,16 @@ impl<G: Grid> Picture<G> {
         ensures lines { result ≡ self.now.size.lines }
         ensures whole { IsPictureOf self.now.size self.now }
     {
-        self.lines
+        self.size.lines()
     }
 
-    fn cell(&self, row: usize, col: usize) -> HalfCell
+    /// The cell at a row and a column, counted from 0.
+    fn cell(&self, row: usize, column: usize) -> HalfCell
         requires row { row < self.now.size.lines }
-        requires col { col < self.now.size.width }
-        ensures { cell_at self.now.size self.now.cells (at row col) ≡ Some (known_cell result) }
+        requires column { column < self.now.size.width }
+        ensures { cell_at self.now.size self.now.cells (at row column) ≡ Some (known_cell result) }
     {
-        self.grid.get(row * self.width + col)
+        self.grid.get(row * self.size.width() + column)
     }
 
     /// The byte at a row and a column, counted from 0.

@@ -1,6 +1,11 @@
 pub mod WritesLemmas
-pub mod GathersLemmas
+pub mod PutsLemmas
+pub mod HexadecimalDigits
 pub mod PictureRows
 pub mod RecordLemmas
 pub mod CellsTold
-pub mod TokensLemmas
+pub mod TokenReadings
+pub mod ReadSoFar
+pub mod TextGoesOn
+pub mod TextEnds
+pub mod TokensFinished

@@ -1,22 +1,35 @@
--- The lines of tokens as the scanner answers them.
-use Rattle.std.specs.Prelude.{ℕ, List, ◌∷◌, ◌++◌, map, codes, decimal}
+-- The lines of tokens as the scanner returns them.
+use Rattle.std.specs.Prelude.{◌≡◌, ℕ, false, List, ◌∷◌, ◌++◌, map, codes, decimal, Option}
 use Rattle.std.specs.List.{join_with_byte}
 use Rattle.ans_model.specs.Bytes.{semicolon}
+use Rattle.ans_model.specs.declared.fault.Fault.{Fault}
 use Rattle.ans_model.specs.Inside.ShownKind.{shown_kind}
 use Rattle.ans_model.specs.Text.FaultText.{line_of}
-use Rattle.ans_model.specs.Text.TokensText.{token_name}
+use Rattle.ans_model.specs.Text.TokensText.{token_name, TokensText}
 use Rattle.ans_tokens.specs.Token.{kind_of, start_of, length_of}
 use Rattle.ans_tokens.specs.declared.token.Token.{Token}
+use Rattle.ans_report.specs.Puts.{Puts, device_failed}
+use Rattle.ans_report.specs.declared.outbox.Outbox.{Outbox}
 
 -- numbers with a `;` between each two
 abbrev pub numbers_text : List ℕ → List ℕ
 numbers_text numbers = join_with_byte semicolon (map decimal numbers)
 
--- a number behind a `;`
+-- a number after a `;`
 abbrev pub later_number : ℕ → List ℕ
 later_number n = semicolon ∷ decimal n
 
 -- a token's line by its start, its length and its kind
 abbrev pub token_text : Token → List ℕ
 token_text t =
-    line_of (decimal (start_of t) ++ (codes " " ++ (decimal (length_of t) ++ (codes " " ++ token_name (shown_kind (kind_of t))))))
+    line_of (decimal (start_of t)
+    ++ (codes " " ++ (decimal (length_of t) ++ (codes " " ++ token_name (shown_kind (kind_of t))))))
+
+-- The text of the content's tokens was put, and told is the fault that ends it unless the device has failed.
+pub record PutsTokens {W : Type 0} (contents : W → Option (List ℕ)) (old new : Outbox W) (content : List ℕ)
+    (told : Option Fault) : Type 0 where
+  pub fault : Option Fault
+  pub text : List ℕ
+  pub is_text : TokensText content fault text
+  pub puts : Puts contents old new text
+  pub told_is : device_failed new ≡ false → told ≡ fault

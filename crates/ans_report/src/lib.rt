@@ -3,25 +3,28 @@
 //! A device is a `Tried` reader or writer, which counts its calls and remembers whether one failed.
 //! Others rely on one contract of the writers here: at `Ok` exactly the text was appended, at `Err`
 //! a prefix of it, and `Err` comes exactly where the device failed in the call. The texts are
-//! defined in `ans_model`; `specs/Writes.antt` says what appending means.
+//! defined in `ans_model`; `specs/Writes.antt` says what appending means. Within the crate texts
+//! are put in an outbox, and `specs/Puts.antt` says what that means.
 #![tactic(auto)]
 
-mod cells_text;
-mod glyphs;
+mod characters;
+mod fault_lines;
+mod heading;
 mod hexadecimal;
+mod lines;
 mod outbox;
 mod picture_text;
 mod record_text;
 mod report;
-mod texts;
 mod tokens_text;
 mod tried;
 
-pub use glyphs::glyph_text;
+pub use characters::glyph_text;
+pub use fault_lines::fault_text;
+pub use heading::note_text;
 pub use outbox::WriteFault;
 pub use record_text::write_record;
 pub use report::{Report, write_refusal, write_report};
-pub use texts::{fault_text, note_text};
 pub use tokens_text::write_tokens;
 pub use tried::{DeviceFault, Tried};
 

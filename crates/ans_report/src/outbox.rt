@@ -1,10 +1,11 @@
 //! Texts on their way to a device.
-ghost use Rattle.std.specs.Prelude.{◌≡◌, ◌↔◌, [], false, IsTrue, IsErr, OnOk};
+ghost use Rattle.std.specs.Prelude.{◌≡◌, ◌↔◌, ◌++◌, [], false, IsTrue, IsErr, OnOk};
 ghost use Rattle.std.specs.List.{flat_map};
 ghost use Rattle.ans_report.specs.Tried.{has_failed, inner_of};
-ghost use Rattle.ans_report.specs.Writes.{AppendsPrefix, WritesText, GathersText};
+ghost use Rattle.ans_report.specs.Writes.{AppendsUnless};
+ghost use Rattle.ans_report.specs.Puts.{Puts, device_failed};
 
-use crate::tried::{DeviceFault, Tried};
+use crate::tried::Tried;
 use arrayvec::ArrayVec;
 use std::io::Write;
 
@@ -15,81 +16,93 @@ pub struct WriteFault;
 /// How many bytes are gathered before the device is called.
 const SIZE: usize = 8192;
 
-/// Text that was not yet written. It is gathered, so that the device is called for large pieces.
-#[derive(Debug, Drop)]
-pub(crate) struct Outbox {
+/// A device, and text that waits to be written to it. Text is gathered, so that the device is
+/// called for large pieces. Once the device has failed, no more is written.
+#[derive(Drop)]
+pub(crate) struct Outbox<'a, W> {
+    pub(crate) device: &'a mut Tried<W>,
     pub(crate) waiting: ArrayVec<u8, SIZE>,
 }
 
-/// Writes a text: at `Ok` all of it, and at `Err` a prefix.
-fn write_text<W: Write>(w: &mut Tried<W>, text: &[u8]) -> Result<(), WriteFault>
+/// Writes a text: all of it, or a prefix if the device fails.
+fn write_text<W: Write>(w: &mut Tried<W>, text: &[u8])
     requires { has_failed w.old ≡ false }
-    ensures fault { IsErr result ↔ IsTrue (has_failed w.new) }
-    ensures bytes { WritesText (W.contents (inner_of w.old)) (W.contents (inner_of w.new))
-        result text.now }
+    ensures { AppendsUnless (has_failed w.new)
+        (W.contents (inner_of w.old)) (W.contents (inner_of w.new)) text.now }
 {
     let mut written = 0;
     while written < text.len() {
-        match w.write_some(&text[written..]) {
-            Ok(n) => written += n,
-            Err(DeviceFault) => return Err(WriteFault),
-        }
+        let Ok(taken) = w.write_some(&text[written..]) else {
+            return;
+        };
+        written += taken;
     }
-    Ok(())
 }
 
-impl Outbox {
-    pub(crate) fn new() -> Outbox
-        ensures { result.waiting.items ≡ [] }
+impl<'a, W: Write> Outbox<'a, W> {
+    /// An outbox where nothing waits.
+    pub(crate) fn new(device: &'a mut Tried<W>) -> Outbox<'a, W>
+        ensures same_device { result.device.ghost_name ≡ device.entry.ghost_name }
+        ensures unchanged { result.device.now ≡ device.old }
+        ensures empty { result.waiting.items ≡ [] }
     {
         Outbox {
+            device,
             waiting: ArrayVec::new(),
         }
     }
 
+    /// Whether the device has failed.
+    pub(crate) fn has_failed(&self) -> bool
+        ensures { result ≡ device_failed self.now }
+    {
+        self.device.failed()
+    }
+
     /// Writes what waits.
-    pub(crate) fn flush<W: Write>(&mut self, w: &mut Tried<W>) -> Result<(), WriteFault>
-        requires { has_failed w.old ≡ false }
-        ensures fault { IsErr result ↔ IsTrue (has_failed w.new) }
-        ensures bytes { WritesText (W.contents (inner_of w.old)) (W.contents (inner_of w.new))
-            result self.old.waiting.items }
-        ensures empty { OnOk result (self.new.waiting.items ≡ []) }
+    fn flush(&mut self)
+        ensures puts { Puts W.contents self.old self.new [] }
+        ensures empty { device_failed self.new ≡ false → self.new.waiting.items ≡ [] }
     {
-        write_text(w, self.waiting.as_slice())?;
+        if self.has_failed() {
+            return;
+        }
+        write_text(self.device, self.waiting.as_slice());
         self.waiting.clear();
-        Ok(())
     }
 
-    /// Adds a text to what waits, and writes where there is no room.
-    pub(crate) fn put<W: Write>(&mut self, w: &mut Tried<W>, text: &[u8]) -> Result<(), WriteFault>
-        requires { has_failed w.old ≡ false }
-        ensures fault { IsErr result ↔ IsTrue (has_failed w.new) }
-        ensures bytes { GathersText (W.contents (inner_of w.old)) (W.contents (inner_of w.new))
-            self.old.waiting.items self.new.waiting.items result text.now }
+    /// Puts a text: adds it to what waits, and writes where there is no room.
+    pub(crate) fn put(&mut self, text: &[u8])
+        ensures { Puts W.contents self.old self.new text.now }
     {
-        if self.waiting.try_extend_from_slice(text).is_ok() {
-            return Ok(());
+        if self.has_failed() || self.waiting.try_extend_from_slice(text).is_ok() {
+            return;
         }
-        self.flush(w)?;
-        if self.waiting.try_extend_from_slice(text).is_ok() {
-            return Ok(());
+        self.flush();
+        if self.has_failed() || self.waiting.try_extend_from_slice(text).is_ok() {
+            return;
         }
-        write_text(w, text)
+        write_text(self.device, text);
     }
 
-    /// Adds one text after the other.
-    pub(crate) fn put_all<W: Write>(
-        &mut self,
-        w: &mut Tried<W>,
-        texts: &[&[u8]],
-    ) -> Result<(), WriteFault>
-        requires { has_failed w.old ≡ false }
-        ensures fault { IsErr result ↔ IsTrue (has_failed w.new) }
-        ensures bytes { GathersText (W.contents (inner_of w.old)) (W.contents (inner_of w.new))
-            self.old.waiting.items self.new.waiting.items result (flat_map (λ t. t.now) texts.now) }
+    /// Puts one text after the other.
+    pub(crate) fn put_all(&mut self, texts: &[&[u8]])
+        ensures { Puts W.contents self.old self.new (flat_map (λ t. t.now) texts.now) }
     {
         for text in texts {
-            self.put(w, text)?;
+            self.put(text);
+        }
+    }
+
+    /// Writes what waits, and returns `Err` exactly where the device has failed.
+    pub(crate) fn finish(&mut self) -> Result<(), WriteFault>
+        ensures device { IsErr result ↔ IsTrue (device_failed self.new) }
+        ensures puts { Puts W.contents self.old self.new [] }
+        ensures empty { OnOk result (self.new.waiting.items ≡ []) }
+    {
+        self.flush();
+        if self.has_failed() {
+            return Err(WriteFault);
         }
         Ok(())
     }

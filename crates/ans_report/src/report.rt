@@ -2,13 +2,15 @@
 ghost use Rattle.std.specs.Prelude.{◌≡◌, ◌↔◌, false, IsTrue, IsErr, OnOk};
 ghost use Rattle.std.specs.Option.{option_copied};
 ghost use Rattle.ans_report.specs.Tried.{has_failed, inner_of};
-ghost use Rattle.ans_report.specs.Writes.{WritesText, GathersText};
-ghost use Rattle.ans_report.specs.Reports.{IsFitting, TellsCells, refused_text, report_bytes};
+ghost use Rattle.ans_report.specs.Writes.{WritesText};
+ghost use Rattle.ans_report.specs.Puts.{Puts};
+ghost use Rattle.ans_report.specs.ReportBytes.{IsFitting, TellsCells, refused_text, report_bytes};
 ghost use Rattle.ans_model.specs.Text.ReportText.{refusal_text};
 
+use crate::fault_lines::put_refusal;
+use crate::heading::put_heading;
 use crate::outbox::{Outbox, WriteFault};
 use crate::picture_text::put_pass;
-use crate::texts::{put_refusal, put_refused};
 use crate::tried::Tried;
 use ans_model::start::Start;
 use ans_play::Picture;
@@ -36,37 +38,28 @@ pub enum Report<'a, G: Grid> {
 }
 
 /// Puts the report of a refusal, which is the fault alone where there are no parts.
-fn put_refused_file<W: Write>(
-    out: &mut Outbox,
-    w: &mut Tried<W>,
+fn put_refused<W: Write>(
+    out: &mut Outbox<'_, W>,
     parts: Option<&Parts<'_>>,
     start: Start,
     fault: &Fault,
-) -> Result<(), WriteFault>
-    requires { has_failed w.old ≡ false }
-    ensures fault { IsErr result ↔ IsTrue (has_failed w.new) }
-    ensures bytes { GathersText (W.contents (inner_of w.old)) (W.contents (inner_of w.new))
-        out.old.waiting.items out.new.waiting.items result
+)
+    ensures { Puts W.contents out.old out.new
         (refused_text (option_copied parts.entry) start fault.now) }
 {
     match parts {
-        Some(parts) => put_refused(out, w, parts, start, fault),
-        None => put_refusal(out, w, fault),
+        Some(parts) => {
+            put_heading(out, parts, start);
+            put_refusal(out, fault);
+        }
+        None => put_refusal(out, fault),
     }
 }
 
 /// Puts the report.
-fn put_report<W: Write, G: Grid>(
-    out: &mut Outbox,
-    w: &mut Tried<W>,
-    r: &Report<'_, G>,
-) -> Result<(), WriteFault>
-    requires works { has_failed w.old ≡ false }
-    requires fits { IsFitting r.now }
-    ensures fault { IsErr result ↔ IsTrue (has_failed w.new) }
-    ensures bytes { GathersText (W.contents (inner_of w.old)) (W.contents (inner_of w.new))
-        out.old.waiting.items out.new.waiting.items result (report_bytes r.now) }
-    ensures cells_back { OnOk result (TellsCells r.now) }
+fn put_report<W: Write, G: Grid>(out: &mut Outbox<'_, W>, r: &Report<'_, G>)
+    ensures text { Puts W.contents out.old out.new (report_bytes r.now) }
+    ensures cells_back { TellsCells r.now }
 {
     match r {
         Report::Pass {
@@ -74,12 +67,12 @@ fn put_report<W: Write, G: Grid>(
             start,
             picture,
             cells,
-        } => put_pass(out, w, parts, *start, picture, *cells),
+        } => put_pass(out, parts, *start, picture, *cells),
         Report::Refused {
             parts,
             start,
             fault,
-        } => put_refused_file(out, w, *parts, *start, fault),
+        } => put_refused(out, *parts, *start, fault),
     }
 }
 
@@ -96,14 +89,14 @@ pub fn write_report<W: Write, G: Grid>(
 ) -> Result<(), WriteFault>
     requires works { has_failed w.old ≡ false }
     requires fits { IsFitting r.now }
-    ensures fault { IsErr result ↔ IsTrue (has_failed w.new) }
+    ensures device { IsErr result ↔ IsTrue (has_failed w.new) }
     ensures bytes { WritesText (W.contents (inner_of w.old)) (W.contents (inner_of w.new))
         result (report_bytes r.now) }
     ensures cells_back { OnOk result (TellsCells r.now) }
 {
-    let mut out = Outbox::new();
-    put_report(&mut out, w, r)?;
-    out.flush(w)
+    let mut out = Outbox::new(w);
+    put_report(&mut out, r);
+    out.finish()
 }
 
 /// Writes the two lines of a refusal alone.
@@ -111,11 +104,11 @@ pub fn write_report<W: Write, G: Grid>(
 /// `Err` comes exactly where the device failed in the call, and then a prefix of them was written.
 pub fn write_refusal<W: Write>(w: &mut Tried<W>, f: &Fault) -> Result<(), WriteFault>
     requires { has_failed w.old ≡ false }
-    ensures fault { IsErr result ↔ IsTrue (has_failed w.new) }
+    ensures device { IsErr result ↔ IsTrue (has_failed w.new) }
     ensures bytes { WritesText (W.contents (inner_of w.old)) (W.contents (inner_of w.new))
         result (refusal_text f.now) }
 {
-    let mut out = Outbox::new();
-    put_refusal(&mut out, w, f)?;
-    out.flush(w)
+    let mut out = Outbox::new(w);
+    put_refusal(&mut out, f);
+    out.finish()
 }

@@ -4,8 +4,8 @@ ghost use Rattle.std.specs.Prelude.{◌≡◌, false};
 ghost use Rattle.ans_report.specs.Tried.{has_failed};
 
 mod records;
-mod reports;
 mod tokens;
+mod written_reports;
 
 use crate::{Tried, fault_text, glyph_text, note_text};
 use ans_sauce::{Cause, Fault, Note};

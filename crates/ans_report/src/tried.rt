@@ -1,5 +1,6 @@
 //! A reader or writer with what became of its calls.
-ghost use Rattle.std.specs.Prelude.{◌≡◌, ◌+◌, ◌-◌, ◌^◌, ◌<◌, ◌≤◌, ◌↔◌, false, min, length, IsTrue, IsErr, IfOk, MatchResult};
+ghost use Rattle.std.specs.Prelude.{◌≡◌, ◌+◌, ◌-◌, ◌^◌, ◌<◌, ◌≤◌, ◌↔◌, false, min, length, IsTrue};
+ghost use Rattle.std.specs.Prelude.{IsErr, IfOk, MatchResult};
 ghost use Rattle.std.specs.Io.{ReadsAtMost};
 ghost use Rattle.std.specs.Io.KnownBytes.{ReadConsumes, WriteAppends};
 ghost use Rattle.ans_report.specs.Tried.{has_failed, call_count, inner_of};
@@ -14,7 +15,7 @@ pub struct Tried<T> {
     calls: u64,
 }
 
-/// The device failed: its call answered an error, or a write took no byte. An interrupted call
+/// The device failed: its call returned an error, or a write took no byte. An interrupted call
 /// counts as failed.
 #[derive(Debug, Clone, Copy, PartialEq, Eq)]
 pub struct DeviceFault;
@@ -68,13 +69,13 @@ impl<T> Tried<T> {
 }
 
 impl<R: Read> Tried<R> {
-    /// Makes one read, and answers how many bytes came. None came where the input is at its end.
+    /// Makes one read, and returns how many bytes came. None came where the input is at its end.
     ///
     /// `Err` comes exactly where the read failed, and then `failed()` is true.
     pub fn read_some(&mut self, buf: &mut [u8]) -> Result<usize, DeviceFault>
         requires room { 0 < length buf.old }
         requires works { has_failed self.old ≡ false }
-        ensures fault { IsErr result ↔ IsTrue (has_failed self.new) }
+        ensures device { IsErr result ↔ IsTrue (has_failed self.new) }
         ensures calls { call_count self.new ≡ min (call_count self.old + 1) u64.MAX }
         ensures bound { ReadsAtMost result buf.new }
         ensures bytes { ReadConsumes (R.remaining (inner_of self.old))
@@ -92,13 +93,13 @@ impl<R: Read> Tried<R> {
 }
 
 impl<W: Write> Tried<W> {
-    /// Makes one write, and answers how many bytes it took, which is at least one.
+    /// Makes one write, and returns how many bytes it took, which is at least one.
     ///
     /// `Err` comes exactly where the write failed or took no byte, and then `failed()` is true.
     pub fn write_some(&mut self, bytes: &[u8]) -> Result<usize, DeviceFault>
         requires some { 0 < length bytes.now }
         requires works { has_failed self.old ≡ false }
-        ensures fault { IsErr result ↔ IsTrue (has_failed self.new) }
+        ensures device { IsErr result ↔ IsTrue (has_failed self.new) }
         ensures calls { call_count self.new ≡ min (call_count self.old + 1) u64.MAX }
         ensures bound { IfOk result (λ n. (0 < n) × (n ≤ length bytes.now)) }
         ensures bytes { WriteAppends (W.contents (inner_of self.old))

@@ -1,12 +1,15 @@
 -- A loop that writes f of each element of one list over another.
-use Rattle.std.proofs.Common.{◌≡◌, ℕ, zero, suc, ◌+◌, ◌<◌, List, [], ◌∷◌, ◌++◌, take, drop, get_or, set, length, map, refl, ap, ◌∙◌, arith}
+use Rattle.std.proofs.Common.{◌≡◌, ℕ, zero, suc, ◌+◌, ◌<◌, List, [], ◌∷◌, ◌++◌, take, drop, get_or, set, length, map}
+use Rattle.std.proofs.Common.{refl, ap, ◌∙◌, arith}
 
+-- one more element is copied
 copied_next : {X Y : Type 0} (f : X → Y) (xs : List X) (zs : List Y) (i : ℕ) (d : X) → i < length xs → i < length zs
     → set (map f (take i xs) ++ drop i zs) i (f (get_or xs i d)) ≡ map f (take (suc i) xs) ++ drop (suc i) zs
 copied_next f [] zs i d lx lz = let no : ⊥ = omega arith in absurd no
 copied_next f (x ∷ xs) [] i d lx lz = let no : ⊥ = omega arith in absurd no
 copied_next f (x ∷ xs) (z ∷ zs) zero d lx lz = refl
-copied_next f (x ∷ xs) (z ∷ zs) (suc i) d lx lz = ap (λ ys. f x ∷ ys) (copied_next f xs zs i d (omega arith) (omega arith))
+copied_next f (x ∷ xs) (z ∷ zs) (suc i) d lx lz =
+    ap (λ ys. f x ∷ ys) (copied_next f xs zs i d (omega arith) (omega arith))
 
 pub copied_more : {X Y : Type 0} (f : X → Y) (xs : List X) (zs : List Y) (i : ℕ) (d : X) → i < length xs → i < length zs
     → set (map f (take i xs) ++ drop i zs) i (f (get_or xs i d)) ≡ map f (take (i + 1) xs) ++ drop (i + 1) zs

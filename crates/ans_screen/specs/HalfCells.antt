@@ -1,8 +1,9 @@
--- Half-known cells.
+-- Partly known cells.
 use Rattle.std.specs.Prelude.{ℕ, Bool, ◌&&◌, Option, Some, is_some}
 use Rattle.ans_screen.specs.KnownBits.{KnownBits, is_whole}
 use Rattle.ans_screen.specs.declared.cell.HalfCell.{HalfCell}
 
+-- a byte, where it is known, and what is known of the attribute
 abbrev pub half_cell : Option ℕ → KnownBits → HalfCell
 half_cell glyph attr = record { glyph = glyph; attr = attr }
 

@@ -9,6 +9,7 @@ pub record KnownBits : Type 0 where
   pub known : ℕ
   pub value : ℕ
 
+-- these bits, with these values
 abbrev pub known_bits : ℕ → ℕ → KnownBits
 known_bits known value = record { known = known; value = value }
 
@@ -21,6 +22,7 @@ pub record IsKnownBits (a : KnownBits) : Type 0 where
 abbrev pub Agrees : KnownBits → ℕ → Type 0
 Agrees a attribute = bit_and attribute a.known ≡ a.value
 
+-- all bits are known
 abbrev pub is_whole : KnownBits → Bool
 is_whole a = a.known == 0xFF
 
@@ -36,15 +38,16 @@ known_by (Some r) a =
 abbrev pub known_after : KnownBits → ℕ → KnownBits
 known_after a parameter = known_by (rendition_of renditions parameter) a
 
--- whatever attribute agrees with a, after the parameter it agrees with b
+-- whatever attribute agrees with `a`, after the parameter it agrees with `b`
 abbrev pub AgreesAfter : KnownBits → ℕ → KnownBits → Type 0
 AgreesAfter a parameter b = (x : ℕ) → IsByte x → Agrees a x → Agrees b (attribute_after x parameter)
 
--- all attributes that agree with a have the same bit i after the parameter
+-- all attributes that agree with `a` have the same bit `i` after the parameter
 abbrev pub SameBitAfter : KnownBits → ℕ → ℕ → Type 0
 SameBitAfter a parameter i =
-    (x y : ℕ) → IsByte x → IsByte y → Agrees a x → Agrees a y → bit_at (attribute_after x parameter) i ≡ bit_at (attribute_after y parameter) i
+    (x y : ℕ) → IsByte x → IsByte y → Agrees a x → Agrees a y
+    → bit_at (attribute_after x parameter) i ≡ bit_at (attribute_after y parameter) i
 
--- b knows a bit exactly where all those attributes have the same one
+-- `b` knows a bit exactly where all those attributes have the same one
 abbrev pub KnowsJust : KnownBits → ℕ → KnownBits → Type 0
 KnowsJust a parameter b = (i : ℕ) → i < 8 → (bit_at b.known i ≡ 1) ↔ SameBitAfter a parameter i

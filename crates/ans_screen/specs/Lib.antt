@@ -1,4 +1,3 @@
 pub mod KnownBits
 pub mod HalfCells
 pub mod GridEdits
-pub mod Renditions

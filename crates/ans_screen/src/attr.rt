@@ -1,7 +1,8 @@
-//! An attribute of which some bits are known.
+//! A partly known attribute.
 
 ghost use Rattle.std.specs.Prelude.{◌≡◌};
 
+use ans_model::attribute::{Rendition, rendition_of};
 use std::marker::Model;
 
 /// Some bits of an attribute. `value` has no bit outside `known`.
@@ -21,50 +22,6 @@ impl Model for Attr {
     ghost invariant = { λ a. IsKnownBits (known_bits a.known a.value) };
 
     ghost inverse = { λ a. record { known = a.known; value = a.value } };
-}
-
-/// What a colour parameter does to an attribute: of the old bits it keeps those of `mask`, and it
-/// sets those of `set`.
-struct Rendition {
-    mask: u8,
-    set: u8,
-}
-
-impl Rendition {
-    ghost use Rattle.ans_screen.specs.Renditions.{rendition_for};
-
-    /// The renditions of ANSI.SYS, Set Graphics Rendition. What 4, 7 and 8 do is the profile's. Any
-    /// other parameter has none, and changes nothing.
-    fn of(parameter: u8) -> Option<Rendition>
-        ensures { result ≡ rendition_for parameter }
-    {
-        let (mask, set) = match parameter {
-            0 => (0x00, 0x07),
-            1 => (0xFF, 0x08),
-            4 => (0xF8, 0x01),
-            5 => (0xFF, 0x80),
-            7 => (0xF8, 0x70),
-            8 => (0x88, 0x00),
-            30 => (0xF8, 0x00),
-            31 => (0xF8, 0x04),
-            32 => (0xF8, 0x02),
-            33 => (0xF8, 0x06),
-            34 => (0xF8, 0x01),
-            35 => (0xF8, 0x05),
-            36 => (0xF8, 0x03),
-            37 => (0xF8, 0x07),
-            40 => (0x8F, 0x00),
-            41 => (0x8F, 0x40),
-            42 => (0x8F, 0x20),
-            43 => (0x8F, 0x60),
-            44 => (0x8F, 0x10),
-            45 => (0x8F, 0x50),
-            46 => (0x8F, 0x30),
-            47 => (0x8F, 0x70),
-            _ => return None,
-        };
-        Some(Rendition { mask, set })
-    }
 }
 
 impl Attr {
@@ -94,7 +51,7 @@ impl Attr {
         ensures sound { AgreesAfter self parameter result }
         ensures exact { KnowsJust self parameter result }
     {
-        match Rendition::of(parameter) {
+        match rendition_of(parameter) {
             Some(Rendition { mask, set }) => Attr {
                 known: self.known & mask | 0xFF ^ mask | set,
                 value: self.value & mask | set,

@@ -1,4 +1,4 @@
-//! A cell of which some parts are known.
+//! A partly known cell.
 
 use crate::attr::Attr;
 

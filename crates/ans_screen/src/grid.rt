@@ -1,9 +1,10 @@
-//! What a grid of half-known cells does.
+//! Grids of partly known cells.
 
 ghost use Rattle.std.specs.Prelude.{◌≡◌, ℕ, ◌+◌, ◌*◌, ◌<◌, ◌≤◌, List, length, set, replicate, slice_get, Some, IfOk};
+ghost use Rattle.ans_model.specs.Bytes.{most_columns};
 ghost use Rattle.ans_model.specs.Screen.Step.{filled};
 ghost use Rattle.ans_screen.specs.declared.cell.HalfCell.{HalfCell};
-ghost use Rattle.ans_screen.specs.GridEdits.{written, printed_run, first_unknown};
+ghost use Rattle.ans_screen.specs.GridEdits.{most_rows, written, printed_run, first_unknown};
 
 use crate::attr::Attr;
 use crate::cell::HalfCell;
@@ -17,12 +18,12 @@ pub trait Grid: Sized + Drop {
 
     ghost cells_of: { Self → List HalfCell };
 
-    /// A grid of `width * rows` equal cells. The only error is want of memory.
+    /// A grid of `width * rows` equal cells. It fails only if memory runs out.
     fn new(alloc: Global, width: usize, rows: usize, cell: HalfCell) -> Result<Self, AllocError>
         requires some_width { 1 ≤ width }
-        requires width { width ≤ 1024 }
+        requires width { width ≤ most_columns }
         requires some_rows { 1 ≤ rows }
-        requires rows { rows ≤ 8193 }
+        requires rows { rows ≤ most_rows }
         ensures width { IfOk result (λ g. width_of g ≡ width) }
         ensures rows { IfOk result (λ g. rows_of g ≡ rows) }
         ensures cells { IfOk result (λ g. cells_of g ≡ replicate (width * rows) cell) };
@@ -53,7 +54,7 @@ pub trait Grid: Sized + Drop {
         ensures width { width_of self.new ≡ width_of self.old }
         ensures rows { rows_of self.new ≡ rows_of self.old };
 
-    /// Writes bytes side by side from cell `from` on, all with one attribute.
+    /// Writes bytes side by side from cell `from` on, each with this attribute.
     fn write_run(&mut self, from: usize, bytes: &[u8], attr: Attr)
         requires { from + length bytes.now ≤ length (cells_of self.old) }
         ensures cells { cells_of self.new
@@ -61,7 +62,7 @@ pub trait Grid: Sized + Drop {
         ensures width { width_of self.new ≡ width_of self.old }
         ensures rows { rows_of self.new ≡ rows_of self.old };
 
-    /// The least place below `to` whose cell is not known.
+    /// The least `i` below `to` whose cell is not known.
     fn first_unknown(&self, to: usize) -> Option<usize>
         requires { to ≤ length (cells_of self.now) }
         ensures { result ≡ first_unknown (cells_of self.now) to };

@@ -1,20 +1,26 @@
 -- What an open part is with one more byte: open again, the text of a token, or what the reading refuses.
-use Rattle.std.proofs.Common.{◌≡◌, ◌≢◌, ◌⊎◌, inl, inr, ℕ, ◌+◌, ◌-◌, ◌*◌, Bool, true, false, List, [], ◌∷◌, ◌++◌, length, refl, sym, ap, arith, subst, Result, Ok, Err}
+use Rattle.std.proofs.Common.{◌≡◌, ◌≢◌, ◌⊎◌, inl, inr, ℕ, ◌+◌, ◌-◌, ◌*◌, Bool, true, false, List, [], ◌∷◌, ◌++◌, length}
+use Rattle.std.proofs.Common.{refl, sym, ap, arith, subst, Result, Ok, Err}
 use Rattle.std.proofs.lemmas.Bool.{cases_eq, cases_lt}
 use Rattle.std.specs.Char.{is_ascii_digit, is_ascii_alphabetic}
 use Rattle.ans_model.specs.Bytes.{IsByte, escape, bracket, semicolon}
 use Rattle.ans_model.specs.Sequence.TokenKind.{TokenKind}
 use Rattle.ans_model.specs.declared.fault.Cause.{Cause}
 use Rattle.ans_model.specs.declared.fault.Cause.TheVariants.{BrokenSequence, NumberTooLarge, TooManyParameters}
-use Rattle.ans_model.specs.Sequence.Spelling.{Mark, Unmarked, Equals, Question, Raw, Spells, is_quote, IsPrefixOfLoose, IsUnfinished}
+use Rattle.ans_model.specs.Sequence.Spelling.{Mark, Unmarked, Equals, Question, Member, Raw, Spells, is_quote}
+use Rattle.ans_model.specs.Sequence.Spelling.{IsPrefixOfLoose, IsPrefixOfSpelling, IsUnfinished}
 use Rattle.ans_model.specs.Sequence.Meaning.{meaning}
-use Rattle.ans_model.specs.Sequence.Reads.{SpellsToken, kind_of_byte}
-use Rattle.ans_model.specs.Inside.OpenPart.{Current, Fresh, InNumber, InString, AfterString, SpellsCurrent, Part, SpellsPart, lacks, raw_of, is_stop}
-use Rattle.ans_model.specs.Verdict.FirstFault.{IsRefused}
+use Rattle.ans_model.specs.Sequence.Reads.{IsByteOf, SpellsToken, kind_of_byte}
+use Rattle.ans_model.specs.Inside.OpenPart.{Current, Fresh, InNumber, InString, AfterString, SpellsCurrent, Part}
+use Rattle.ans_model.specs.Inside.OpenPart.{SpellsPart}
+use Rattle.ans_model.specs.Inside.OpenPart.{lacks, raw_of, is_stop}
+use Rattle.ans_model.specs.Verdict.FirstFault.{IsWhy, IsRefused}
 use Rattle.ans_model.proofs.AfterPart.{refuses_byte, IsUnmarkedThere, part_unfinished}
-use Rattle.ans_tokens.specs.Shows.{begun}
-use Rattle.ans_tokens.proofs.ScannerSteps.{extend, more_digits, more_text, closed_text, next_member, letter_spells, too_many, too_large, marked, fresh_digit, fresh_quote, mark_not, no_stop, loose_spells, fresh_not_after, fresh_not_number}
-use Rattle.ans_tokens.proofs.OpenLemmas.{begun_spells, escape_refused, escape_unfinished, broken}
+use Rattle.ans_tokens.specs.Unfinished.{empty_part, with_next}
+use Rattle.ans_tokens.proofs.ScannerSteps.{extend, more_digits, more_text, closed_text, next_member, letter_spells}
+use Rattle.ans_tokens.proofs.ScannerSteps.{too_many, too_large, marked, fresh_digit, fresh_quote, mark_not, stop_not}
+use Rattle.ans_tokens.proofs.ScannerSteps.{not_loose_not_spelled, fresh_not_after, fresh_not_number}
+use Rattle.ans_tokens.proofs.OpenLemmas.{empty_part_spells, escape_refused, escape_unfinished, broken}
 
 -- an open part: nothing, ESC, or a part of a sequence
 abbrev pub IsOpen : List ℕ → Type 0
@@ -42,31 +48,38 @@ spelled raw text (Ok t) h e = inr (inl (t, inr (record { raw = raw; spelled = h;
 spelled raw text (Err cause) h e = refuses text cause (inl (record { raw = raw; spelled = h; means = e }))
 
 module _ (p : Part) (y : List ℕ) (b : ℕ) (byte : IsByte b) (h : SpellsPart p y) where
-  no_sequence : ¬ IsPrefixOfLoose (y ++ b ∷ []) → IsNext (y ++ b ∷ [])
-  no_sequence none = refuses (y ++ b ∷ []) BrokenSequence (broken p y b BrokenSequence h (loose_spells (y ++ b ∷ []) none) (inl (none, refl)))
+  is_broken : (cause : Cause) → ¬ IsPrefixOfSpelling (y ++ b ∷ []) → IsWhy (y ++ b ∷ []) b cause → IsNext (y ++ b ∷ [])
+  is_broken cause none why = refuses (y ++ b ∷ []) cause (broken p y b cause h none why)
 
-  -- behind a whole member a `;` or a letter may come
-  behind_member : lacks p.current ≡ [] → (is_stop b ≡ false → ¬ IsPrefixOfLoose (y ++ b ∷ [])) → IsNext (y ++ b ∷ [])
-  behind_member whole none = elim (cases_eq b semicolon) [
-    | inl e ↦ subst (λ (c : ℕ). IsNext (y ++ c ∷ [])) (sym e) semicolon_comes
-    | inr ne ↦ letter_or_not (is_ascii_alphabetic b) refl ne
+  begins_no_sequence : ¬ IsPrefixOfLoose (y ++ b ∷ []) → IsNext (y ++ b ∷ [])
+  begins_no_sequence none =
+      is_broken BrokenSequence (not_loose_not_spelled (y ++ b ∷ []) none) (inl (none, refl))
+
+  semicolon_comes : lacks p.current ≡ [] → b ≡ semicolon → IsNext (y ++ b ∷ [])
+  semicolon_comes whole e = elim (cases_lt (length p.done) 15) [
+    | inl few ↦ stays (y ++ b ∷ []) (with_next p) (rw e (next_member p y h whole few))
+    | inr full ↦
+        let t = too_many p y h whole full in
+        is_broken TooManyParameters (rw e t.0) (inr (inr (rw e t.1, e, refl)))
   ]
-    where
-      semicolon_comes : IsNext (y ++ semicolon ∷ [])
-      semicolon_comes = elim (cases_lt (length p.done) 15) [
-        | inl few ↦ stays (y ++ semicolon ∷ []) _ (next_member p y h whole few)
-        | inr full ↦
-            let t = too_many p y h whole full in
-            refuses (y ++ semicolon ∷ []) TooManyParameters (broken p y semicolon TooManyParameters h t.0 (inr (inr (t.1, refl, refl))))
-      ]
 
-      letter_or_not : (is_letter : Bool) → is_ascii_alphabetic b ≡ is_letter → b ≢ semicolon → IsNext (y ++ b ∷ [])
-      letter_or_not true letter ne = spelled (raw_of p b) (y ++ b ∷ []) (meaning (raw_of p b)) (letter_spells p y b h whole letter) refl
-      letter_or_not false letter ne = no_sequence (none (no_stop b ne letter))
+  letter_or_not : lacks p.current ≡ [] → (is_stop b ≡ false → ¬ IsPrefixOfLoose (y ++ b ∷ [])) → b ≢ semicolon
+      → (is_letter : Bool) → is_ascii_alphabetic b ≡ is_letter → IsNext (y ++ b ∷ [])
+  letter_or_not whole none ne true letter =
+      spelled (raw_of p b) (y ++ b ∷ []) (meaning (raw_of p b)) (letter_spells p y b h whole letter) refl
+  letter_or_not whole none ne false letter = begins_no_sequence (none (stop_not b ne letter))
+
+  -- after a whole member a `;` or a letter may come
+  after_member : lacks p.current ≡ [] → (is_stop b ≡ false → ¬ IsPrefixOfLoose (y ++ b ∷ [])) → IsNext (y ++ b ∷ [])
+  after_member whole none = elim (cases_eq b semicolon) [
+    | inl e ↦ semicolon_comes whole e
+    | inr ne ↦ letter_or_not whole none ne (is_ascii_alphabetic b) refl
+  ]
 
   after_string : (q : ℕ) (text : List ℕ) → p.current ≡ AfterString q text → IsNext (y ++ b ∷ [])
-  after_string q text c = behind_member (rw c refl) (λ stop.
-      refuses_byte p y b h.loose (rw (c, stop) refl) (λ mark done fresh. absurd (fresh_not_after p.current q text c fresh)))
+  after_string q text c = after_member (rw c refl) (λ stop.
+      refuses_byte p y b h.loose (rw (c, stop) refl)
+      (λ mark done fresh. absurd (fresh_not_after p.current q text c fresh)))
 
   in_string : (q : ℕ) (text : List ℕ) → p.current ≡ InString q text → IsNext (y ++ b ∷ [])
   in_string q text c =
@@ -74,32 +87,40 @@ module _ (p : Part) (y : List ℕ) (b : ℕ) (byte : IsByte b) (h : SpellsPart p
       elim (cases_eq b q) [
         | inl e ↦ subst (λ (c : ℕ). IsNext (y ++ c ∷ [])) (sym e)
             (stays (y ++ q ∷ []) _ (extend p y q (AfterString q text) h (closed_text q text h.loose.last last) tt))
-        | inr ne ↦ stays (y ++ b ∷ []) _ (extend p y b (InString q (text ++ b ∷ [])) h (more_text q b text h.loose.last last ne) tt)
+        | inr ne ↦ stays (y ++ b ∷ []) _
+            (extend p y b (InString q (text ++ b ∷ [])) h (more_text q b text h.loose.last last ne) tt)
       ]
 
   in_number : (n : ℕ) → p.current ≡ InNumber n → (digit : Bool) → is_ascii_digit b ≡ digit → IsNext (y ++ b ∷ [])
   in_number n c true digit =
       let last : SpellsCurrent (InNumber n) h.loose.last = rw c at h.loose.current in
-      elim (cases_lt 255 (n * 10 + (b - 48))) [
+      let next : ℕ = n * 10 + (b - 48) in
+      elim (cases_lt 255 next) [
         | inl large ↦
             let t = too_large p y n b h c digit large in
-            refuses (y ++ b ∷ []) NumberTooLarge (broken p y b NumberTooLarge h t.0 (inr (inl (t.1, digit, refl))))
-        | inr small ↦ stays (y ++ b ∷ []) _ (extend p y b (InNumber (n * 10 + (b - 48))) h (more_digits n b h.loose.last last digit) (omega arith))
+            is_broken NumberTooLarge t.0 (inr (inl (t.1, digit, refl)))
+        | inr small ↦ stays (y ++ b ∷ []) _
+            (extend p y b (InNumber next) h (more_digits n b h.loose.last last digit) (omega arith))
       ]
-  in_number n c false digit = behind_member (rw c refl) (λ stop.
-      refuses_byte p y b h.loose (rw (c, stop, digit) refl) (λ mark done fresh. absurd (fresh_not_number p.current n c fresh)))
+  in_number n c false digit = after_member (rw c refl) (λ stop.
+      refuses_byte p y b h.loose (rw (c, stop, digit) refl)
+      (λ mark done fresh. absurd (fresh_not_number p.current n c fresh)))
 
-  -- directly behind `[` a mark may come
-  mark_of : (m : Mark) → p.mark ≡ m → (done : List _) → p.done ≡ done → p.current ≡ Fresh → IsUnmarkedThere p b ⊎ ((p.mark ≡ Unmarked) × (p.done ≡ []))
-  mark_of Unmarked e [] d c = inr (e, d)
-  mark_of Unmarked e (x ∷ xs) d c = inl (λ mark done fresh. absurd (cc))
-  mark_of Equals e done d c = inl (λ mark done fresh. absurd (cc))
-  mark_of Question e done d c = inl (λ mark done fresh. absurd (cc))
+  -- directly after `[` a mark may come
+  no_mark_or_bare : (m : Mark) → p.mark ≡ m → (done : List Member) → p.done ≡ done → p.current ≡ Fresh
+      → IsUnmarkedThere p b ⊎ ((p.mark ≡ Unmarked) × (p.done ≡ []))
+  no_mark_or_bare Unmarked e [] d c = inr (e, d)
+  no_mark_or_bare Unmarked e (x ∷ xs) d c = inl (λ mark done fresh. absurd (cc))
+  no_mark_or_bare Equals e done d c = inl (λ mark done fresh. absurd (cc))
+  no_mark_or_bare Question e done d c = inl (λ mark done fresh. absurd (cc))
 
-  no_member : p.current ≡ Fresh → is_ascii_digit b ≡ false → is_quote b ≡ false → IsUnmarkedThere p b → IsNext (y ++ b ∷ [])
-  no_member c digit quote mark = behind_member (rw c refl) (λ stop. refuses_byte p y b h.loose (rw (c, stop, digit, quote) refl) mark)
+  no_member : p.current ≡ Fresh → is_ascii_digit b ≡ false → is_quote b ≡ false → IsUnmarkedThere p b
+      → IsNext (y ++ b ∷ [])
+  no_member c digit quote mark =
+      after_member (rw c refl) (λ stop. refuses_byte p y b h.loose (rw (c, stop, digit, quote) refl) mark)
 
-  mark_may_come : p.current ≡ Fresh → is_ascii_digit b ≡ false → is_quote b ≡ false → p.mark ≡ Unmarked → p.done ≡ [] → IsNext (y ++ b ∷ [])
+  mark_may_come : p.current ≡ Fresh → is_ascii_digit b ≡ false → is_quote b ≡ false → p.mark ≡ Unmarked → p.done ≡ []
+      → IsNext (y ++ b ∷ [])
   mark_may_come c digit quote unmarked none = elim (cases_eq b 0x3D) [
     | inl e ↦ stays (y ++ b ∷ []) _ (marked p y Equals b h unmarked none c (rw e refl))
     | inr ne ↦ elim (cases_eq b 0x3F) [
@@ -108,16 +129,17 @@ module _ (p : Part) (y : List ℕ) (b : ℕ) (byte : IsByte b) (h : SpellsPart p
     ]
   ]
 
-  fresh : p.current ≡ Fresh → (digit quote : Bool) → is_ascii_digit b ≡ digit → is_quote b ≡ quote → IsNext (y ++ b ∷ [])
-  fresh c true quote d q = stays (y ++ b ∷ []) _ (fresh_digit p y b h c d byte)
-  fresh c false true d q = stays (y ++ b ∷ []) _ (fresh_quote p y b h c q)
-  fresh c false false d q = elim (mark_of p.mark refl p.done refl c) [
+  in_fresh : p.current ≡ Fresh → (digit quote : Bool) → is_ascii_digit b ≡ digit → is_quote b ≡ quote
+      → IsNext (y ++ b ∷ [])
+  in_fresh c true quote d q = stays (y ++ b ∷ []) _ (fresh_digit p y b h c d byte)
+  in_fresh c false true d q = stays (y ++ b ∷ []) _ (fresh_quote p y b h c q)
+  in_fresh c false false d q = elim (no_mark_or_bare p.mark refl p.done refl c) [
     | inl no_mark ↦ no_member c d q no_mark
     | inr bare ↦ mark_may_come c d q bare.0 bare.1
   ]
 
   in_part : (c : Current) → p.current ≡ c → IsNext (y ++ b ∷ [])
-  in_part Fresh c = fresh c (is_ascii_digit b) (is_quote b) refl refl
+  in_part Fresh c = in_fresh c (is_ascii_digit b) (is_quote b) refl refl
   in_part (InNumber n) c = in_number n c (is_ascii_digit b) refl
   in_part (InString q text) c = in_string q text c
   in_part (AfterString q text) c = after_string q text c
@@ -125,16 +147,19 @@ module _ (p : Part) (y : List ℕ) (b : ℕ) (byte : IsByte b) (h : SpellsPart p
 nothing_open : (b : ℕ) → IsByte b → IsNext (b ∷ [])
 nothing_open b byte = elim (cases_eq b escape) [
   | inl e ↦ inl (inr (inl (ap (λ (c : ℕ). c ∷ []) e)))
-  | inr ne ↦ inr (inl (kind_of_byte b, inl (record { byte = b; is_byte = byte; not_escape = ne; whole = refl; means = refl })))
+  | inr ne ↦
+      let alone : IsByteOf (kind_of_byte b) (b ∷ []) =
+      record { byte = b; is_byte = byte; not_escape = ne; whole = refl; means = refl } in
+      inr (inl (kind_of_byte b, inl alone))
 ]
 
 escape_open : (b : ℕ) → IsNext (escape ∷ b ∷ [])
 escape_open b = elim (cases_eq b bracket) [
-  | inl e ↦ rw e (stays (escape ∷ bracket ∷ []) begun begun_spells)
+  | inl e ↦ rw e (stays (escape ∷ bracket ∷ []) empty_part empty_part_spells)
   | inr ne ↦ refuses (escape ∷ b ∷ []) BrokenSequence (escape_refused b ne)
 ]
 
--- each byte behind an open part leaves it open, ends a token, or is refused
+-- each byte after an open part leaves it open, ends a token, or is refused
 pub each_byte : (y : List ℕ) (b : ℕ) → IsByte b → IsOpen y → IsNext (y ++ b ∷ [])
 each_byte y b byte (inl e) = rw e (nothing_open b byte)
 each_byte y b byte (inr (inl e)) = rw e (escape_open b)

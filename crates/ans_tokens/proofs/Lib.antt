@@ -1,6 +1,6 @@
-pub mod KeptLaw
+pub mod PlainSequences
 pub mod ScannerSteps
-pub mod ShowsLemmas
 pub mod OpenLemmas
 pub mod EachByte
 pub mod Readable
+pub mod PartLemmas

@@ -1,4 +1,4 @@
--- What is unfinished, and what is refused, behind each open part.
+-- What is unfinished, and what is refused, after each open part.
 use Rattle.std.proofs.Common.{◌≢◌, inl, inr, ℕ, ◌<◌, List, [], ◌∷◌, ◌++◌, length, refl, arith, append_assoc}
 use Rattle.ans_model.specs.Bytes.{escape, bracket}
 use Rattle.ans_model.specs.declared.fault.Cause.{Cause}
@@ -8,12 +8,11 @@ use Rattle.ans_model.specs.Inside.OpenPart.{Part, SpellsPart}
 use Rattle.ans_model.specs.Verdict.FirstFault.{IsWhy, IsRefused}
 use Rattle.ans_model.proofs.Spelling.{head_of, tail_of}
 use Rattle.ans_model.proofs.AfterPart.{part_unfinished}
-use Rattle.ans_tokens.specs.Shows.{begun}
-use Rattle.ans_tokens.proofs.ScannerSteps.{loose_spells}
+use Rattle.ans_tokens.specs.Unfinished.{empty_part}
+use Rattle.ans_tokens.proofs.ScannerSteps.{not_loose_not_spelled}
 
--- behind `[`
-pub begun_spells : SpellsPart begun (escape ∷ bracket ∷ [])
-begun_spells = record {
+pub empty_part_spells : SpellsPart empty_part (escape ∷ bracket ∷ [])
+empty_part_spells = record {
   loose = record { front = []; last = []; done = refl; current = refl; whole = refl };
   numbers = tt;
   last_number = tt;
@@ -21,8 +20,8 @@ begun_spells = record {
 }
 
 -- a front of what is unfinished is unfinished, if it is not empty
-shorter : (a b : List ℕ) → 0 < length a → IsUnfinished (a ++ b) → IsUnfinished a
-shorter a b begun h = record {
+front_unfinished : (a b : List ℕ) → 0 < length a → IsUnfinished (a ++ b) → IsUnfinished a
+front_unfinished a b begun h = record {
   raw = h.raw;
   rest = b ++ h.rest;
   spelled = rw (← append_assoc a b h.rest) h.spelled;
@@ -35,12 +34,12 @@ shorter a b begun h = record {
     longer (u ∷ x) y l = omega arith
 
 pub bracket_unfinished : IsUnfinished (escape ∷ bracket ∷ [])
-bracket_unfinished = part_unfinished begun (escape ∷ bracket ∷ []) begun_spells
+bracket_unfinished = part_unfinished empty_part (escape ∷ bracket ∷ []) empty_part_spells
 
 pub escape_unfinished : IsUnfinished (escape ∷ [])
-escape_unfinished = shorter (escape ∷ []) (bracket ∷ []) (omega arith) bracket_unfinished
+escape_unfinished = front_unfinished (escape ∷ []) (bracket ∷ []) (omega arith) bracket_unfinished
 
--- behind ESC only `[` may come
+-- after ESC only `[` may come
 not_bracket : (b : ℕ) → b ≢ bracket → ¬ IsPrefixOfLoose (escape ∷ b ∷ [])
 not_bracket b n h = n (head_of (tail_of h.spelled.whole))
 
@@ -50,9 +49,18 @@ escape_refused b n = inr (record {
   byte = b;
   whole = refl;
   unfinished = escape_unfinished;
-  not_prefix = loose_spells (escape ∷ b ∷ []) (not_bracket b n);
+  not_prefix = not_loose_not_spelled (escape ∷ b ∷ []) (not_bracket b n);
   why = inl (not_bracket b n, refl);
 })
 
-pub broken : (part : Part) (y : List ℕ) (b : ℕ) (cause : Cause) → SpellsPart part y → ¬ IsPrefixOfSpelling (y ++ b ∷ []) → IsWhy (y ++ b ∷ []) b cause → IsRefused (y ++ b ∷ []) cause
-broken part y b cause h none why = inr (record { part = y; byte = b; whole = refl; unfinished = part_unfinished part y h; not_prefix = none; why = why })
+-- the byte after the part makes it no sequence
+pub broken : (part : Part) (y : List ℕ) (b : ℕ) (cause : Cause) → SpellsPart part y → ¬ IsPrefixOfSpelling (y ++ b ∷ [])
+    → IsWhy (y ++ b ∷ []) b cause → IsRefused (y ++ b ∷ []) cause
+broken part y b cause h none why = inr (record {
+  part = y;
+  byte = b;
+  whole = refl;
+  unfinished = part_unfinished part y h;
+  not_prefix = none;
+  why = why;
+})

@@ -18,7 +18,7 @@ pub record IsRefusedFront (bytes : List ℕ) : Type 0 where
   pub whole : bytes ≡ text ++ rest
   pub refused : IsRefused text cause
 
--- a front that is read as tokens, and what is left behind it
+-- a front that is read as tokens, and what is left after it
 pub record IsReadable (bytes : List ℕ) : Type 0 where
   pub front : List ℕ
   pub left : List ℕ
@@ -28,22 +28,26 @@ pub record IsReadable (bytes : List ℕ) : Type 0 where
   pub reads : ReadsAs front tokens texts
   pub leaves : IsOpen left ⊎ IsRefusedFront left
 
-spells_more : (ts us : List TokenKind) (xs ys : List (List ℕ)) → AllZip SpellsToken ts xs → AllZip SpellsToken us ys → AllZip SpellsToken (ts ++ us) (xs ++ ys)
+spells_more : (ts us : List TokenKind) (xs ys : List (List ℕ)) → AllZip SpellsToken ts xs → AllZip SpellsToken us ys
+    → AllZip SpellsToken (ts ++ us) (xs ++ ys)
 spells_more [] us [] ys h k = k
 spells_more [] us (x ∷ xs) ys h k = absurd h
 spells_more (t ∷ ts) us [] ys h k = absurd h
 spells_more (t ∷ ts) us (x ∷ xs) ys h k = (h.0, spells_more ts us xs ys h.1 k)
 
 -- one more token is read
-pub reads_as_more : (bytes text : List ℕ) (tokens : List TokenKind) (texts : List (List ℕ)) (t : TokenKind) → ReadsAs bytes tokens texts → SpellsToken t text
+pub reads_as_more : (bytes text : List ℕ) (tokens : List TokenKind) (texts : List (List ℕ)) (t : TokenKind)
+    → ReadsAs bytes tokens texts → SpellsToken t text
     → ReadsAs (bytes ++ text) (tokens ++ t ∷ []) (texts ++ text ∷ [])
 reads_as_more bytes text tokens texts t r spelled = record {
   each = spells_more tokens (t ∷ []) texts (text ∷ []) r.each (spelled, tt);
-  whole = ap (λ (xs : List ℕ). xs ++ text) r.whole ∙ sym (concat-append texts (text ∷ []) ∙ ap (λ (xs : List ℕ). concat texts ++ xs) (append-nil text));
+  whole = ap (λ (xs : List ℕ). xs ++ text) r.whole
+      ∙ sym (concat-append texts (text ∷ []) ∙ ap (λ (xs : List ℕ). concat texts ++ xs) (append-nil text));
 }
 
--- behind tokens and an open part
-read_on : (rest front y : List ℕ) (tokens : List TokenKind) (texts : List (List ℕ)) → AllByRecursion IsByte rest → ReadsAs front tokens texts → IsOpen y → IsReadable (front ++ (y ++ rest))
+-- after tokens and an open part
+read_on : (rest front y : List ℕ) (tokens : List TokenKind) (texts : List (List ℕ)) → AllByRecursion IsByte rest
+    → ReadsAs front tokens texts → IsOpen y → IsReadable (front ++ (y ++ rest))
 read_on [] front y tokens texts bytes reads at = record {
   front = front;
   left = y;
@@ -56,7 +60,9 @@ read_on [] front y tokens texts bytes reads at = record {
 read_on (b ∷ rest) front y tokens texts bytes reads at =
     let longer : (y ++ b ∷ []) ++ rest ≡ y ++ b ∷ rest = append_assoc y (b ∷ []) rest in
     elim (each_byte y b bytes.0 at) [
-      | inl still ↦ subst (λ (xs : List ℕ). IsReadable (front ++ xs)) longer (read_on rest front (y ++ b ∷ []) tokens texts bytes.1 reads still)
+      | inl still ↦
+          subst (λ (xs : List ℕ). IsReadable (front ++ xs)) longer
+          (read_on rest front (y ++ b ∷ []) tokens texts bytes.1 reads still)
       | inr (inl (t, spelled)) ↦
           subst IsReadable (append_assoc front (y ++ b ∷ []) rest ∙ ap (λ (xs : List ℕ). front ++ xs) longer)
           (read_on rest (front ++ (y ++ b ∷ [])) [] (tokens ++ t ∷ []) (texts ++ (y ++ b ∷ []) ∷ []) bytes.1

@@ -2,7 +2,7 @@
 use Rattle.std.specs.Prelude.{◌≡◌, ℕ, ◌+◌, ◌≤◌, List, [], ◌∷◌, length, take, slice_get, All, Some, None}
 use Rattle.ans_model.specs.Sequence.TokenKind.{Glyph}
 use Rattle.ans_model.specs.Sequence.Reads.{SpellsToken}
-use Rattle.ans_tokens.specs.Scanning.{Scanning, Nothing}
+use Rattle.ans_tokens.specs.ScannerView.{ScannerView, Nothing}
 
 -- the byte alone spells the token that prints it
 abbrev pub IsGlyphByte : ℕ → Type 0
@@ -14,11 +14,11 @@ pub record IsGlyphFront (bytes : List ℕ) (count : ℕ) : Type 0 where
   pub glyphs : All IsGlyphByte (take count bytes)
   pub longest : (b : ℕ) → slice_get bytes count ≡ Some b → ¬ IsGlyphByte b
 
--- no byte was taken since the last token, and nothing was refused
-pub record IsBetweenTokens (s : Scanning) : Type 0 where
+-- the open part is empty, and nothing was refused
+pub record IsBetweenTokens (s : ScannerView) : Type 0 where
   pub nothing : s.kept ≡ Nothing
-  pub unrefused : s.refusal ≡ None
+  pub unrefused : s.fault ≡ None
 
--- so many tokens of one byte further
-abbrev pub past : Scanning → ℕ → Scanning
-past s count = record s { offset = s.offset + count; start = s.start + count }
+-- the scanner after so many glyphs, each a token of one byte
+abbrev pub scanner_after_glyphs : ScannerView → ℕ → ScannerView
+scanner_after_glyphs s count = record s { offset = s.offset + count; open_offset = s.open_offset + count }

@@ -1,7 +1,7 @@
 pub mod Token
 pub mod Mark
-pub mod Kept
-pub mod Scanning
+pub mod PlainSequence
+pub mod ScannerView
 pub mod Glyphs
-pub mod Shows
+pub mod Unfinished
 pub mod ScannerInside

@@ -1,7 +1,21 @@
 -- What a scanner's fields show.
-use Rattle.ans_tokens.specs.Scanning.{Scanning, scanning}
-use Rattle.ans_tokens.specs.Shows.{kept_of}
+use Rattle.std.specs.Prelude.{ℕ, List}
+use Rattle.ans_tokens.specs.Mark.{mark_of}
+use Rattle.ans_tokens.specs.ScannerView.{Kept, Nothing, Escape, Sequence, Keeps, ScannerView, scanner_view}
+use Rattle.ans_tokens.specs.declared.scanner.Open.{Open}
+use Rattle.ans_tokens.specs.declared.scanner.Open.TheVariants as open_part
 use Rattle.ans_tokens.specs.declared.scanner.Scanner.TheInside.{Inside}
 
-abbrev pub shown_scanner : Inside → Scanning
-shown_scanner s = scanning s.offset s.start (kept_of s.open_part) s.refusal
+-- what is kept of the open part
+abbrev pub kept_of : Open → Kept
+kept_of open_part.Nothing = Nothing
+kept_of open_part.Escape = Escape
+kept_of (open_part.Sequence held) = Sequence (mark_of held.mark) held.done.items held.quoted held.current
+
+-- this is the state of the open part
+abbrev pub HoldsOpen : Open → List ℕ → Type 0
+HoldsOpen held open_part = Keeps (kept_of held) open_part
+
+-- the scanner as contracts see it
+abbrev pub shown_scanner : Inside → ScannerView
+shown_scanner s = scanner_view s.offset s.open_offset (kept_of s.open_part) s.fault

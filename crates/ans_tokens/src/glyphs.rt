@@ -1,17 +1,17 @@
 //! Bytes that are printed as they stand, one token each.
 
-ghost use Rattle.std.specs.Prelude.{MatchBool};
+ghost use Rattle.std.specs.Prelude.{◌↔◌, IsTrue};
 ghost use Rattle.ans_tokens.specs.Glyphs.{IsGlyphByte, IsGlyphFront};
 
 /// Whether the byte alone is the token that prints it: all are but BEL, BS, TAB, LF, CR and ESC
 /// (ANSI.SYS).
 fn is_glyph(byte: u8) -> bool
-    ensures { MatchBool result (IsGlyphByte byte) (¬ IsGlyphByte byte) }
+    ensures { IsTrue result ↔ IsGlyphByte byte }
 {
     !matches!(byte, 0x07 | 0x08 | b'\t' | b'\n' | b'\r' | 0x1B)
 }
 
-/// How many glyphs stand in front of the first byte that is none.
+/// How many glyphs stand before the first byte that is none.
 pub(crate) fn count_glyphs(bytes: &[u8]) -> usize
     ensures { IsGlyphFront bytes.now result }
 {

@@ -1,6 +1,6 @@
-//! Which bytes of a content form which token: the sequences of ANSI.SYS, exactly.
+//! Which bytes of the content form which token: the sequences of ANSI.SYS, exactly.
 //!
-//! A `Scanner` is given one byte at a time. It answers a token where the bytes since the last one
+//! A `Scanner` is given one byte at a time. It returns a token where the bytes since the last one
 //! spell it, nothing where they begin a spelling, and a fault where they begin none. Between two
 //! tokens it also takes a whole run of glyphs. The definitions stand in `ans_model`: `Sequence`,
 //! `Meaning` and `Reads`.

@@ -1,4 +1,4 @@
-//! What may stand directly behind `[`.
+//! What may stand directly after `[`.
 
 ghost use Rattle.std.specs.Prelude.{◌≡◌, ◌∷◌, [], false, MatchOption};
 ghost use Rattle.ans_model.specs.Sequence.Spelling.{mark_bytes};

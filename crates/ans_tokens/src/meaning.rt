@@ -1,21 +1,33 @@
 //! What a sequence means, by its letter.
 
-ghost use Rattle.std.specs.Prelude.{◌≡◌, ℕ, Ok, Err, MatchResult, true, false};
+ghost use Rattle.std.specs.Prelude.{◌≡◌, ℕ, map, Ok, Err, MatchResult, IfErr, IfOk, true, false};
+ghost use Rattle.ans_model.specs.Sequence.Spelling.{Number};
 ghost use Rattle.ans_model.specs.Sequence.TokenKind.{TokenKind, EraseLine, Place};
-ghost use Rattle.ans_model.specs.Sequence.Meaning.{only_if};
+ghost use Rattle.ans_model.specs.Sequence.Meaning.{
+  meaning,
+  move,
+  place,
+  colours,
+  is_just,
+  is_marked,
+  only_if,
+  wrap_or_mode,
+};
 ghost use Rattle.ans_model.specs.Inside.ShownKind.{shown_kind};
 ghost use Rattle.ans_tokens.specs.Mark.{mark_of};
-ghost use Rattle.ans_tokens.specs.Kept.{kept_meaning, kept_move, kept_place, kept_colours, is_alone};
+ghost use Rattle.ans_tokens.specs.PlainSequence.{Means, TakesNumbersAlone, plain_sequence};
 
 use crate::mark::{Mark, has_mark};
 use ans_model::fault::Cause;
 use ans_model::kind::Kind;
+use ans_model::limits::MAX_PARAMETERS;
 use arrayvec::ArrayVec;
 
 /// The distance of a move: of no number, and of 0, it is 1.
 fn distance(numbers: &[u8]) -> Result<u8, Cause>
-    ensures { MatchResult result (λ n. (by : ℕ → TokenKind) → kept_move by numbers.now ≡ Ok (by n))
-        (λ cause. (by : ℕ → TokenKind) → kept_move by numbers.now ≡ Err cause) }
+    ensures { MatchResult result
+        (λ n. (by : ℕ → TokenKind) → move by (map Number numbers.now) ≡ Ok (by n))
+        (λ cause. (by : ℕ → TokenKind) → move by (map Number numbers.now) ≡ Err cause) }
 {
     match numbers {
         [] => Ok(1),
@@ -26,8 +38,7 @@ fn distance(numbers: &[u8]) -> Result<u8, Cause>
 
 /// The row and the column of a place, counted from 1.
 fn place(numbers: &[u8]) -> Result<Kind, Cause>
-    ensures { MatchResult result (λ kind. kept_place numbers.now ≡ Ok (shown_kind kind))
-        (λ cause. kept_place numbers.now ≡ Err cause) }
+    ensures { Means result (place (map Number numbers.now)) }
 {
     match numbers {
         [] => Ok(Kind::Place(1, 1)),
@@ -38,8 +49,8 @@ fn place(numbers: &[u8]) -> Result<Kind, Cause>
 }
 
 /// Whether the number stands alone.
-fn stands_alone(numbers: &[u8], n: u8) -> bool
-    ensures { result ≡ is_alone n numbers.now }
+fn is_just(n: u8, numbers: &[u8]) -> bool
+    ensures { result ≡ is_just n (map Number numbers.now) }
 {
     match numbers {
         [k] => *k == n,
@@ -48,8 +59,8 @@ fn stands_alone(numbers: &[u8], n: u8) -> bool
 }
 
 /// The colours of a list, of which the empty one stands for a 0.
-fn colours(mut numbers: ArrayVec<u8, 16>) -> Kind
-    ensures { shown_kind result ≡ kept_colours numbers.items }
+fn colours(mut numbers: ArrayVec<u8, MAX_PARAMETERS>) -> Kind
+    ensures { shown_kind result ≡ colours (map Number numbers.items) }
 {
     if numbers.is_empty() {
         numbers.push(0);
@@ -58,9 +69,8 @@ fn colours(mut numbers: ArrayVec<u8, 16>) -> Kind
 }
 
 /// A kind where the parameters are those that it takes.
-fn only_if_taken(taken: bool, kind: Kind) -> Result<Kind, Cause>
-    ensures { MatchResult result (λ k. only_if taken (shown_kind kind) ≡ Ok (shown_kind k))
-        (λ cause. only_if taken (shown_kind kind) ≡ Err cause) }
+fn only_if(taken: bool, kind: Kind) -> Result<Kind, Cause>
+    ensures { Means result (only_if taken (shown_kind kind)) }
 {
     if taken {
         Ok(kind)
@@ -69,54 +79,71 @@ fn only_if_taken(taken: bool, kind: Kind) -> Result<Kind, Cause>
     }
 }
 
+/// The numbers of a sequence whose letter stands with neither a mark nor a string.
+fn plain_numbers(mark: Mark, numbers: &[u8], quoted: bool) -> Result<&[u8], Cause>
+    ensures plain { IfOk result (λ alone. (alone.now ≡ numbers.now)
+        × (is_marked (mark_of mark) ≡ false) × (quoted ≡ false)) }
+    ensures refused { IfErr result (λ cause. (letter : ℕ) → TakesNumbersAlone letter
+        → meaning (plain_sequence (mark_of mark) numbers.now quoted letter) ≡ Err cause) }
+{
+    if has_mark(mark) {
+        return Err(Cause::UnknownSequence);
+    }
+    if quoted {
+        return Err(Cause::WrongParameters);
+    }
+    Ok(numbers)
+}
+
+/// What `h` and `l` mean: a marked 7 alone is wrap, and all else is a screen mode.
+fn wrap_or_mode(mark: Mark, numbers: &[u8], quoted: bool, on: bool) -> Result<Kind, Cause>
+    ensures meant { IfOk result (λ kind. (quoted ≡ false)
+        × (wrap_or_mode (plain_sequence (mark_of mark) numbers.now false 0) on ≡ shown_kind kind)) }
+    ensures refused { IfErr result (λ cause. (quoted ≡ true) × (cause ≡ Cause.WrongParameters)) }
+{
+    if quoted {
+        return Err(Cause::WrongParameters);
+    }
+    if has_mark(mark) && is_just(7, numbers) {
+        Ok(Kind::Wrap(on))
+    } else {
+        Ok(Kind::Mode)
+    }
+}
+
 /// What a sequence means: its mark, a number for each member, whether a string was among them, and
 /// its letter. Where it is refused, the cause is `UnknownSequence` or `WrongParameters`.
+#[tactic(auto, using(crate::proofs::PlainSequences::no_string))]
 pub(crate) fn kind_meant(
     mark: Mark,
-    numbers: ArrayVec<u8, 16>,
+    numbers: ArrayVec<u8, MAX_PARAMETERS>,
     quoted: bool,
     letter: u8,
 ) -> Result<Kind, Cause>
-    ensures { MatchResult result
-        (λ kind. kept_meaning (mark_of mark) numbers.items quoted letter ≡ Ok (shown_kind kind))
-        (λ cause. kept_meaning (mark_of mark) numbers.items quoted letter ≡ Err cause) }
+    ensures { Means result (meaning (plain_sequence (mark_of mark) numbers.items quoted letter)) }
 {
-    if has_mark(mark) && letter != b'h' && letter != b'l' {
-        return Err(Cause::UnknownSequence);
-    }
-    let none = numbers.is_empty();
+    let plain = plain_numbers(mark, &numbers, quoted);
     match letter {
-        b'p' => Ok(Kind::Keys),
-        b'A'
-        | b'B'
-        | b'C'
-        | b'D'
-        | b'H'
-        | b'f'
-        | b'J'
-        | b'K'
-        | b's'
-        | b'u'
-        | b'm'
-        | b'h'
-        | b'l'
-        | b'n'
-            if quoted => Err(Cause::WrongParameters),
-        b'A' => Ok(Kind::Up(distance(&numbers)?)),
-        b'B' => Ok(Kind::Down(distance(&numbers)?)),
-        b'C' => Ok(Kind::Forward(distance(&numbers)?)),
-        b'D' => Ok(Kind::Backward(distance(&numbers)?)),
-        b'H' | b'f' => place(&numbers),
-        b'J' => only_if_taken(stands_alone(&numbers, 2), Kind::Clear),
-        b'K' => only_if_taken(none || stands_alone(&numbers, 0), Kind::EraseLine),
-        b's' => only_if_taken(none, Kind::Save),
-        b'u' => only_if_taken(none, Kind::Restore),
-        b'm' => Ok(colours(numbers)),
-        b'h' | b'l' if has_mark(mark) && stands_alone(&numbers, 7) => Ok(Kind::Wrap(
-            letter == b'h',
-        )),
-        b'h' | b'l' => Ok(Kind::Mode),
-        b'n' => only_if_taken(stands_alone(&numbers, 6), Kind::Ask),
+        b'A' => Ok(Kind::Up(distance(plain?)?)),
+        b'B' => Ok(Kind::Down(distance(plain?)?)),
+        b'C' => Ok(Kind::Forward(distance(plain?)?)),
+        b'D' => Ok(Kind::Backward(distance(plain?)?)),
+        b'H' | b'f' => place(plain?),
+        b'J' => only_if(is_just(2, plain?), Kind::Clear),
+        b'K' => {
+            let plain = plain?;
+            only_if(plain.is_empty() || is_just(0, plain), Kind::EraseLine)
+        }
+        b's' => only_if(plain?.is_empty(), Kind::Save),
+        b'u' => only_if(plain?.is_empty(), Kind::Restore),
+        b'm' => {
+            plain?;
+            Ok(colours(numbers))
+        }
+        b'h' => wrap_or_mode(mark, &numbers, quoted, true),
+        b'l' => wrap_or_mode(mark, &numbers, quoted, false),
+        b'p' if !has_mark(mark) => Ok(Kind::Keys),
+        b'n' => only_if(is_just(6, plain?), Kind::Ask),
         _ => Err(Cause::UnknownSequence),
     }
 }

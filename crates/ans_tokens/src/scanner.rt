@@ -1,6 +1,6 @@
-//! The scanner of a content.
+//! The scanner: bytes in, tokens out.
 
-ghost use Rattle.std.specs.Prelude.{◌≡◌, ◌++◌, ◌∷◌, [], ℕ, List, MatchBool, MatchResult, MatchOption};
+ghost use Rattle.std.specs.Prelude.{◌≡◌, ◌++◌, ◌∷◌, ◌↔◌, [], ℕ, List, IsTrue, MatchBool, MatchResult, MatchOption};
 ghost use Rattle.ans_model.specs.Sequence.Reads.{SpellsToken, kind_of_byte};
 ghost use Rattle.ans_model.specs.Sequence.Spelling.{IsUnfinished};
 ghost use Rattle.ans_model.specs.Verdict.FirstFault.{IsRefused};
@@ -15,14 +15,14 @@ use std::marker::Model;
 
 const ESCAPE: u8 = 0x1B;
 
-/// The bytes since the last token.
+/// What is kept of the bytes since the last token.
 #[derive(Debug, Drop)]
 pub(crate) enum Open {
-    /// None.
+    /// There are none.
     Nothing,
     /// ESC.
     Escape,
-    /// ESC, `[` and what is kept of the bytes behind them.
+    /// ESC, `[` and what is kept of the bytes after them.
     Sequence(Unfinished),
 }
 
@@ -41,12 +41,12 @@ fn kind_of_byte(byte: u8) -> Kind
 }
 
 impl Open {
-    ghost use Rattle.ans_tokens.specs.Shows.{HoldsOpen};
+    ghost use Rattle.ans_tokens.specs.ScannerInside.{HoldsOpen};
 
     /// Whether there are no bytes since the last token.
     fn is_nothing(&self) -> bool
-        ensures { (y : List ℕ) → HoldsOpen self.now y
-            → MatchBool result (y ≡ []) (IsUnfinished y) }
+        ensures { (open_part : List ℕ) → HoldsOpen self.now open_part
+            → MatchBool result (open_part ≡ []) (IsUnfinished open_part) }
     {
         match self {
             Open::Nothing => true,
@@ -55,14 +55,14 @@ impl Open {
         }
     }
 
-    /// Takes the next byte. It answers a token where the bytes spell it, None where they begin a
+    /// Takes the next byte. It returns a token where the bytes spell it, None where they begin a
     /// spelling, and a cause where they begin none.
     fn take(&mut self, byte: u8) -> Result<Option<Kind>, Cause>
-        ensures { (y : List ℕ) → HoldsOpen self.old y → MatchResult result
-            (λ kind. MatchOption kind
-            (IsUnfinished (y ++ byte ∷ []) × HoldsOpen self.new (y ++ byte ∷ []))
-            (λ k. SpellsToken (shown_kind k) (y ++ byte ∷ [])))
-            (λ cause. IsRefused (y ++ byte ∷ []) cause) }
+        ensures { (open_part : List ℕ) → HoldsOpen self.old open_part
+            → let text = open_part ++ byte ∷ [] in MatchResult result
+            (λ kind. MatchOption kind (IsUnfinished text × HoldsOpen self.new text)
+            (λ k. SpellsToken (shown_kind k) text))
+            (λ cause. IsRefused text cause) }
     {
         match self {
             Open::Nothing => {
@@ -91,70 +91,76 @@ impl Open {
     }
 }
 
-/// Reads a content byte by byte, and glyphs also many at a time.
+/// Reads the content byte by byte, and glyphs also many at a time.
 ///
 /// It keeps its offset and what is needed of the bytes since the last token, and never the bytes
 /// themselves: its size is a small constant.
 #[derive(Debug, Drop)]
 pub struct Scanner {
     offset: usize,
-    /// Where the open part began.
-    start: usize,
+    open_offset: usize,
     open_part: Open,
-    refusal: Option<Fault>,
+    fault: Option<Fault>,
 }
 
 impl Model for Scanner {
     ghost use Rattle.std.specs.Prelude.{◌≤◌};
-    ghost use Rattle.ans_tokens.specs.Scanning.{Scanning};
+    ghost use Rattle.ans_tokens.specs.ScannerView.{ScannerView};
 
-    ghost Value = { Scanning };
+    ghost Value = { ScannerView };
 
     ghost use Rattle.ans_tokens.specs.ScannerInside.{shown_scanner};
 
     ghost view = { shown_scanner };
 
-    ghost invariant = { λ s. s.start ≤ s.offset };
+    ghost invariant = { λ s. s.open_offset ≤ s.offset };
 }
 
 impl Scanner {
-    ghost use Rattle.std.specs.Prelude.{◌≡◌, ◌+◌, ◌<◌, ◌≤◌, length, None, Some, OnOk, IfErr, IfSome, IsErrOf};
+    ghost use Rattle.std.specs.Prelude.{◌≡◌, ◌+◌, ◌<◌, ◌≤◌, length, None, Some};
+    ghost use Rattle.std.specs.Prelude.{OnOk, OnErr, IfOk, IfErr, IfNone, IfSome, IsErrOf};
     ghost use Rattle.ans_model.specs.Bytes.{longest_file};
-    ghost use Rattle.ans_tokens.specs.Scanning.{Scans, Ends, fresh};
-    ghost use Rattle.ans_tokens.specs.Glyphs.{IsGlyphFront, IsBetweenTokens, past};
+    ghost use Rattle.ans_tokens.specs.ScannerView.{new_scanner, StaysUnfinished, EndsToken};
+    ghost use Rattle.ans_tokens.specs.ScannerView.{RefusesByte, Ends};
+    ghost use Rattle.ans_tokens.specs.Glyphs.{IsGlyphFront, IsBetweenTokens, scanner_after_glyphs};
 
     /// A scanner before the first byte.
     pub fn new() -> Scanner
-        ensures { result ≡ fresh }
+        ensures { result ≡ new_scanner }
     {
         Scanner {
             offset: 0,
-            start: 0,
+            open_offset: 0,
             open_part: Open::Nothing,
-            refusal: None,
+            fault: None,
         }
     }
 
-    /// How many bytes it has taken without a refusal.
+    /// How many bytes it has taken without a fault.
     pub fn offset(&self) -> usize
         ensures { result ≡ self.now.offset }
     {
         self.offset
     }
 
-    /// Takes the next byte. It answers a token where the bytes since the last one spell it, None
+    /// Takes the next byte. It returns a token where the bytes since the last one spell it, None
     /// where they begin a spelling, and a fault at the first of them where they begin none: F9, F10,
-    /// F11, F13 or F14. Once it has refused, each later call answers the same fault.
+    /// F11, F13 or F14. After a fault each later call returns the same one.
     pub fn byte(&mut self, byte: u8) -> Result<Option<Token>, Fault>
         requires { self.old.offset < longest_file }
-        ensures scans { self.old.refusal ≡ None → Scans self.old self.new byte result }
+        ensures unfinished { self.old.fault ≡ None
+            → IfOk result (λ token. IfNone token (StaysUnfinished self.old self.new byte)) }
+        ensures token { self.old.fault ≡ None
+            → IfOk result (λ token. IfSome token (EndsToken self.old self.new byte)) }
+        ensures fault { self.old.fault ≡ None → IfErr result (RefusesByte self.old byte) }
+
         ensures taken { OnOk result (self.new.offset ≡ self.old.offset + 1) }
-        ensures accepted { OnOk result (self.new.refusal ≡ None) }
-        ensures refused { IfErr result (λ fault. self.new.refusal ≡ Some fault) }
-        ensures stays { IfErr result (λ _. self.new.offset ≡ self.old.offset) }
-        ensures repeats { IfSome self.old.refusal (λ fault. IsErrOf result fault) }
+        ensures accepted { OnOk result (self.new.fault ≡ None) }
+        ensures refused { IfErr result (λ fault. self.new.fault ≡ Some fault) }
+        ensures stays { OnErr result (self.new.offset ≡ self.old.offset) }
+        ensures repeats { IfSome self.old.fault (λ fault. IsErrOf result fault) }
     {
-        if let Some(fault) = self.refusal {
+        if let Some(fault) = self.fault {
             return Err(fault);
         }
         match self.open_part.take(byte) {
@@ -166,61 +172,61 @@ impl Scanner {
                 self.offset += 1;
                 let token = Token {
                     kind,
-                    start: self.start,
-                    length: self.offset - self.start,
+                    start: self.open_offset,
+                    length: self.offset - self.open_offset,
                 };
                 self.open_part = Open::Nothing;
-                self.start = self.offset;
+                self.open_offset = self.offset;
                 Ok(Some(token))
             }
             Err(cause) => {
                 let fault = Fault {
-                    offset: self.start,
+                    offset: self.open_offset,
                     cause,
                 };
-                self.refusal = Some(fault);
+                self.fault = Some(fault);
                 Err(fault)
             }
         }
     }
 
-    /// Whether it stands between two tokens: at the start or behind a whole token, with nothing
-    /// refused.
+    /// Whether it stands between two tokens: at the start or after a whole token, and without a
+    /// fault.
     pub fn is_between_tokens(&self) -> bool
-        ensures { MatchBool result (IsBetweenTokens self.now) (¬ IsBetweenTokens self.now) }
+        ensures { IsTrue result ↔ IsBetweenTokens self.now }
     {
-        matches!(self.open_part, Open::Nothing) && self.refusal.is_none()
+        matches!(self.open_part, Open::Nothing) && self.fault.is_none()
     }
 
-    /// Takes the glyphs in front of the first byte that is none, each as a token of one byte, and
-    /// answers how many they are. It is called between two tokens. All bytes but BEL, BS, TAB, LF,
+    /// Takes the glyphs before the first byte that is none, each as a token of one byte, and
+    /// returns how many they are. It is called between two tokens. All bytes but BEL, BS, TAB, LF,
     /// CR and ESC are glyphs (ANSI.SYS).
     pub fn glyphs(&mut self, bytes: &[u8]) -> usize
         requires between { IsBetweenTokens self.old }
         requires room { self.old.offset + length bytes.now ≤ longest_file }
         ensures front { IsGlyphFront bytes.now result }
-        ensures taken { self.new ≡ past self.old result }
+        ensures taken { self.new ≡ scanner_after_glyphs self.old result }
     {
         let count = count_glyphs(bytes);
         self.offset += count;
-        self.start += count;
+        self.open_offset += count;
         count
     }
 
-    /// Whether the content may end here. It answers the fault that was answered before, or F12 at
+    /// Whether the content may end here. It returns the fault that was returned before, or F12 at
     /// the start of a sequence that is not finished. It changes nothing.
     pub fn end(&self) -> Result<(), Fault>
-        ensures ends { self.now.refusal ≡ None → Ends self.now result }
-        ensures repeats { IfSome self.now.refusal (λ fault. IsErrOf result fault) }
+        ensures ends { self.now.fault ≡ None → Ends self.now result }
+        ensures repeats { IfSome self.now.fault (λ fault. IsErrOf result fault) }
     {
-        if let Some(fault) = self.refusal {
+        if let Some(fault) = self.fault {
             return Err(fault);
         }
         if self.open_part.is_nothing() {
             return Ok(());
         }
         Err(Fault {
-            offset: self.start,
+            offset: self.open_offset,
             cause: Cause::EndInSequence,
         })
     }

@@ -1,19 +1,24 @@
 //! Contents byte by byte: the tokens that they hold, and where they are refused.
 
-use crate::scanner::Scanner;
-use ans_model::fault::{Cause, Fault};
-use ans_model::kind::Kind;
+use crate::{Cause, Fault, Kind, Scanner, Token};
+use ans_model::limits::MAX_FILE;
 use std::alloc::{AllocError, Global};
 use std::process::Abort;
 use std::test::Fail;
 
-/// How many tokens a content holds, and the fault that ends it.
+/// Feeds one byte. The content is never as long as the longest file.
+fn feed(rt: &impl Abort, scanner: &mut Scanner, byte: u8) -> Result<Option<Token>, Fault> {
+    assert!(rt; scanner.offset() < MAX_FILE);
+    scanner.byte(byte)
+}
+
+/// How many tokens the content holds, and the fault that ends it.
 fn scan(rt: &impl Abort, content: &[u8]) -> (usize, Option<Fault>) {
     let mut scanner = Scanner::new();
     let mut tokens = 0usize;
     for (i, byte) in content.iter().enumerate() {
-        assert!(rt; scanner.offset() == i && i < 16_777_216);
-        match scanner.byte(*byte) {
+        assert_eq!(rt; scanner.offset(), i);
+        match feed(rt, &mut scanner, *byte) {
             Ok(Some(token)) => {
                 tokens = tokens.wrapping_add(1);
                 assert_eq!(rt;
@@ -23,7 +28,7 @@ fn scan(rt: &impl Abort, content: &[u8]) -> (usize, Option<Fault>) {
             }
             Ok(None) => {}
             Err(fault) => {
-                assert!(rt; scanner.byte(*byte).is_err_and(|again| again == fault));
+                assert!(rt; feed(rt, &mut scanner, *byte).is_err_and(|again| again == fault));
                 assert_eq!(rt; scanner.end(), Err(fault));
                 assert_eq!(rt; scanner.offset(), i);
                 return (tokens, Some(fault));
@@ -109,15 +114,12 @@ fn contents_are_read(rt: HostRuntime) {
     }
 }
 
-/// The last token of a content as its `Debug` text would name it, with its numbers.
-fn last_kind(alloc: Global, content: &[u8]) -> Result<String, AllocError> {
+/// The last token of the content as its `Debug` text would name it, with its numbers.
+fn last_kind(rt: &impl Abort, alloc: Global, content: &[u8]) -> Result<String, AllocError> {
     let mut scanner = Scanner::new();
     let mut text = String::new(alloc);
     for byte in content {
-        if scanner.offset() >= 16_777_216 {
-            break;
-        }
-        if let Ok(Some(token)) = scanner.byte(*byte) {
+        if let Ok(Some(token)) = feed(rt, &mut scanner, *byte) {
             text = named(alloc, token.kind())?;
         }
     }
@@ -172,88 +174,99 @@ const MEANT: [(&[u8], &str); 24] = [
 #[test]
 fn sequences_have_their_meanings(rt: HostRuntime) -> Result<(), Fail> {
     for (content, meaning) in MEANT {
-        let text = last_kind(rt.alloc(), content)?;
+        let text = last_kind(&rt, rt.alloc(), content)?;
         assert_eq!(rt; text.as_str(), meaning, "in {content:?}");
     }
     Ok(())
 }
 
-/// The end of a content may be asked for within a sequence, which then goes on.
+/// Bytes one after the other. Of each: whether it ends a token, the offset after it, whether the
+/// scanner then stands between two tokens, and the fault at an end there.
+const STEPS: [(u8, bool, usize, bool, Option<(usize, Cause)>); 5] = [
+    (0x1B, false, 1, false, Some((0, Cause::EndInSequence))),
+    (b'[', false, 2, false, Some((0, Cause::EndInSequence))),
+    (b'm', true, 3, true, None),
+    (0x1B, false, 4, false, Some((3, Cause::EndInSequence))),
+    (b'm', false, 4, false, Some((3, Cause::BrokenSequence))),
+];
+
+/// Feeds these bytes from an offset on.
+fn take_steps(rt: &impl Abort, scanner: &mut Scanner, from: usize) {
+    for (byte, ends, offset, between, fault) in STEPS {
+        let token = feed(rt, scanner, byte);
+        assert_eq!(rt; token.is_ok_and(|token| token.is_some()), ends);
+        assert_eq!(rt; scanner.offset().checked_sub(from), Some(offset));
+        assert_eq!(rt; scanner.is_between_tokens(), between);
+        let at_end = scanner.end().err();
+        assert_eq!(rt;
+            at_end.map(|at_end| (at_end.offset.wrapping_sub(from), at_end.cause)),
+            fault
+        );
+    }
+}
+
+/// An end may be asked for within a sequence, which then goes on.
 #[test]
 fn asking_for_the_end_changes_nothing(rt: HostRuntime) {
-    let mut scanner = Scanner::new();
-    assert!(rt; scanner.byte(0x1B).is_ok_and(|token| token.is_none()));
-    assert_eq!(rt;
-        scanner.end(),
-        Err(Fault {
-            offset: 0,
-            cause: Cause::EndInSequence
-        })
-    );
-    assert!(rt; scanner.offset() == 1);
-    assert!(rt; scanner.byte(b'[').is_ok_and(|token| token.is_none()));
-    assert_eq!(rt; scanner.offset(), 2);
+    take_steps(&rt, &mut Scanner::new(), 0);
 }
 
 /// Glyphs are taken together up to a control, and only between two tokens.
 #[test]
 fn glyphs_are_taken_together(rt: HostRuntime) {
+    let rows: [(&[u8], usize); 7] = [
+        (b"a\x00\x1a\xff\n!", 4),
+        (b"\x07a", 0),
+        (b"\x08a", 0),
+        (b"\ta", 0),
+        (b"\na", 0),
+        (b"\ra", 0),
+        (b"\x1ba", 0),
+    ];
     let mut scanner = Scanner::new();
-    assert!(rt; scanner.is_between_tokens());
-    assert_eq!(rt; scanner.glyphs(b"a\x00\x1a\xff\n!"), 4);
-    for control in b"\x07\x08\t\n\r\x1b" {
-        assert!(rt; scanner.is_between_tokens() && scanner.offset() == 4);
-        assert_eq!(rt; scanner.glyphs(&[*control, b'a']), 0);
+    for (bytes, count) in rows {
+        assert!(rt; scanner.is_between_tokens() && scanner.offset() <= 4);
+        assert_eq!(rt; scanner.glyphs(bytes), count, "in {bytes:?}");
+        assert_eq!(rt; scanner.offset(), 4);
     }
-    assert!(rt; scanner.offset() == 4);
-    assert!(rt; scanner.byte(0x1B).is_ok_and(|token| token.is_none()));
-    assert!(rt; !scanner.is_between_tokens());
-    assert!(rt; scanner.offset() == 5);
-    assert!(rt; scanner.byte(b'[').is_ok());
-    assert!(rt; scanner.offset() == 6);
-    assert!(rt; scanner.byte(b'm').is_ok_and(|token| token.is_some()));
-    assert!(rt; scanner.is_between_tokens());
-    assert!(rt; scanner.offset() == 7);
-    assert!(rt; scanner.byte(0x1B).is_ok());
-    assert!(rt; scanner.offset() == 8);
-    assert!(rt; scanner.byte(b'm').is_err());
-    assert!(rt; !scanner.is_between_tokens());
+    take_steps(&rt, &mut scanner, 4);
 }
 
-/// A string of 100,000 escapes, a thousand leading zeros: one sequence each, read or left open.
+/// Long sequences: their first bytes, a byte and how often it follows, their last bytes, and the
+/// length of the token, or none where they are left open.
+const LONG: [(&[u8], u8, u32, &[u8], Option<usize>); 2] = [
+    (b"\x1b[\"", 0x1B, 100_000, b"", None),
+    (b"\x1b[", b'0', 1000, b"5C", Some(1004)),
+];
+
+/// Feeds bytes, and returns the length of the token that the last one ends.
+fn feed_all(rt: &impl Abort, scanner: &mut Scanner, bytes: &[u8]) -> Option<usize> {
+    let mut length = None;
+    for byte in bytes {
+        assert_eq!(rt; length, None);
+        let token = feed(rt, scanner, *byte);
+        assert!(rt; token.is_ok());
+        length = token.ok().flatten().map(|token| token.length());
+    }
+    length
+}
+
 #[test]
 fn long_sequences(rt: HostRuntime) {
-    let mut scanner = Scanner::new();
-    for byte in b"\x1b[\"" {
-        assert!(rt; scanner.offset() < 3);
-        assert!(rt; scanner.byte(*byte).is_ok());
-    }
-    for _ in 0..100_000u32 {
-        assert!(rt; scanner.offset() < 200_000);
-        assert!(rt; scanner.byte(0x1B).is_ok_and(|token| token.is_none()));
-    }
-    assert_eq!(rt;
-        scanner.end(),
-        Err(Fault {
+    for (first, byte, count, last, length) in LONG {
+        let mut scanner = Scanner::new();
+        assert_eq!(rt; feed_all(&rt, &mut scanner, first), None);
+        for _ in 0..count {
+            assert_eq!(rt; feed_all(&rt, &mut scanner, &[byte]), None);
+        }
+        assert_eq!(rt; feed_all(&rt, &mut scanner, last), length);
+        let open = Fault {
             offset: 0,
-            cause: Cause::EndInSequence
-        })
-    );
-    let mut scanner = Scanner::new();
-    for byte in b"\x1b[" {
-        assert!(rt; scanner.offset() < 2);
-        assert!(rt; scanner.byte(*byte).is_ok());
+            cause: Cause::EndInSequence,
+        };
+        assert_eq!(rt;
+            scanner.end().is_err_and(|fault| fault == open),
+            length.is_none()
+        );
     }
-    for _ in 0..1000u32 {
-        assert!(rt; scanner.offset() < 2000);
-        assert!(rt; scanner.byte(b'0').is_ok());
-    }
-    assert!(rt; scanner.offset() < 2000);
-    assert!(rt; scanner.byte(b'5').is_ok());
-    assert!(rt; scanner.offset() < 2000);
-    assert!(rt;
-        scanner
-            .byte(b'C')
-            .is_ok_and(|token| token.is_some_and(|t| t.length() == 1004))
-    );
 }

@@ -1,11 +1,11 @@
-//! A token with its place.
+//! A token with where it stands.
 
 ghost use Rattle.std.specs.Prelude.{◌≡◌};
 ghost use Rattle.ans_tokens.specs.Token.{kind_of, start_of, length_of};
 
 use ans_model::kind::Kind;
 
-/// One token of a content: what it is, and which bytes spell it.
+/// One token of the content: what it is, and which bytes spell it.
 #[derive(Debug, Drop)]
 pub struct Token {
     pub(crate) kind: Kind,

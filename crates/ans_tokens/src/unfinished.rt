@@ -1,12 +1,14 @@
 //! A sequence of which bytes are still to come.
 
-ghost use Rattle.std.specs.Prelude.{◌≤◌};
+ghost use Rattle.std.specs.Prelude.{◌<◌};
+ghost use Rattle.ans_model.specs.Bytes.{most_parameters};
 ghost use Rattle.arrayvec.specs.ArrayVec.{array_vec_len};
 
 use crate::mark::{Mark, has_mark, mark_of_byte};
 use crate::meaning::kind_meant;
 use ans_model::fault::Cause;
 use ans_model::kind::Kind;
+use ans_model::limits::MAX_PARAMETERS;
 use arrayvec::ArrayVec;
 use std::mem;
 
@@ -24,23 +26,23 @@ pub(crate) enum Current {
 }
 
 impl Current {
-    ghost use Rattle.std.specs.Prelude.{◌≡◌, true, false, MatchBool};
+    ghost use Rattle.std.specs.Prelude.{◌≡◌, ◌↔◌, IsTrue};
     ghost use Rattle.ans_model.specs.Inside.OpenPart as parts;
     ghost use Rattle.ans_model.specs.Inside.OpenPart.{member_of};
     ghost use Rattle.ans_model.specs.Sequence.Meaning.{colour_number, is_quoted};
-    ghost use Rattle.ans_tokens.specs.Scanning.{ShowsCurrent};
+    ghost use Rattle.ans_tokens.specs.ScannerView.{KeepsCurrent};
 
     /// Whether there is nothing of the member yet.
     fn is_fresh(self) -> bool
-        ensures { (current : parts.Current) → ShowsCurrent self current
-            → MatchBool result (current ≡ parts.Fresh) (current ≡ parts.Fresh → ⊥) }
+        ensures { (current : parts.Current) → KeepsCurrent self current
+            → (IsTrue result ↔ (current ≡ parts.Fresh)) }
     {
         matches!(self, Current::Fresh)
     }
 
     /// Whether the member is a string.
     fn is_string(self) -> bool
-        ensures { (current : parts.Current) → ShowsCurrent self current
+        ensures { (current : parts.Current) → KeepsCurrent self current
             → result ≡ is_quoted (member_of current) }
     {
         matches!(self, Current::InString(_) | Current::AfterString)
@@ -48,7 +50,7 @@ impl Current {
 
     /// The number that stands for the member.
     fn number(self) -> u8
-        ensures { (current : parts.Current) → ShowsCurrent self current
+        ensures { (current : parts.Current) → KeepsCurrent self current
             → result ≡ colour_number (member_of current) }
     {
         match self {
@@ -74,25 +76,26 @@ pub(crate) enum Step {
 pub(crate) struct Unfinished {
     mark: Mark,
     /// The members that a `;` has ended.
-    done: ArrayVec<u8, 16>,
+    done: ArrayVec<u8, MAX_PARAMETERS>,
     /// Whether a string is among them.
     quoted: bool,
     current: Current,
-    ghost room: { array_vec_len done ≤ 15 },
+    ghost room: { array_vec_len done < most_parameters },
 }
 
 impl Unfinished {
-    ghost use Rattle.std.specs.Prelude.{◌≡◌, ◌<◌, ◌++◌, ◌∷◌, [], ℕ, List, map, false, MatchOption, MatchResult, Ok, Err};
+    ghost use Rattle.std.specs.Prelude.{◌≡◌, ◌<◌, ◌+◌, ◌++◌, ◌∷◌, [], ℕ, List, map, false, MatchOption};
     ghost use Rattle.ans_model.specs.Inside.OpenPart.{Part, Fresh, SpellsPart, is_stop, lacks, members_of, raw_of};
     ghost use Rattle.ans_model.specs.Sequence.Spelling.{IsPrefixOfLoose};
     ghost use Rattle.ans_model.specs.Sequence.Meaning.{meaning, colour_number};
-    ghost use Rattle.ans_model.specs.Inside.ShownKind.{shown_kind};
     ghost use Rattle.ans_tokens.specs.Mark.{mark_of};
-    ghost use Rattle.ans_tokens.specs.Shows.{Shows, Outcome, IsMarkAt, IsNoMarkAt, IsWhole, begun, with_next};
+    ghost use Rattle.ans_tokens.specs.PlainSequence.{Means};
+    ghost use Rattle.ans_tokens.specs.Unfinished.{IsStateOf, Outcome, IsMarkAt, IsNoMarkAt, IsWhole, empty_part};
+    ghost use Rattle.ans_tokens.specs.Unfinished.{with_next};
 
-    /// Directly behind `[`.
+    /// Directly after `[`.
     pub(crate) fn new() -> Unfinished
-        ensures { Shows result begun }
+        ensures { IsStateOf result empty_part }
     {
         Unfinished {
             mark: Mark::Unmarked,
@@ -104,8 +107,8 @@ impl Unfinished {
 
     /// Takes the next byte.
     pub(crate) fn advance(&mut self, byte: u8) -> Step
-        ensures { (part : Part) (y : List ℕ) → Shows self.old part → SpellsPart part y
-            → Outcome result self.new part y byte }
+        ensures { (part : Part) (open_part : List ℕ) → IsStateOf self.old part
+            → SpellsPart part open_part → Outcome result self.new part open_part byte }
     {
         match self.current {
             Current::InString(quote) => {
@@ -120,7 +123,7 @@ impl Unfinished {
                     return self.stop(byte);
                 }
                 let next = value as u16 * 10 + (byte - b'0') as u16;
-                if next > 255 {
+                if next > u8::MAX as u16 {
                     return Step::Refused(Cause::NumberTooLarge);
                 }
                 self.current = Current::InNumber(next as u8);
@@ -132,9 +135,9 @@ impl Unfinished {
 
     /// Takes a byte where a member may begin.
     fn begin(&mut self, byte: u8) -> Step
-        requires { (part : Part) → Shows self.old part → part.current ≡ Fresh }
-        ensures { (part : Part) (y : List ℕ) → Shows self.old part → SpellsPart part y
-            → Outcome result self.new part y byte }
+        requires { (part : Part) → IsStateOf self.old part → part.current ≡ Fresh }
+        ensures { (part : Part) (open_part : List ℕ) → IsStateOf self.old part
+            → SpellsPart part open_part → Outcome result self.new part open_part byte }
     {
         if byte.is_ascii_digit() {
             self.current = Current::InNumber(byte - b'0');
@@ -153,7 +156,7 @@ impl Unfinished {
 
     /// The mark that the byte is, where a mark may stand.
     fn mark_at(&self, byte: u8) -> Option<Mark>
-        ensures { (part : Part) → Shows self.now part
+        ensures { (part : Part) → IsStateOf self.now part
             → MatchOption result (IsNoMarkAt part byte) (λ mark. IsMarkAt part (mark_of mark) byte) }
     {
         if self.done.is_empty() && !has_mark(self.mark) {
@@ -163,15 +166,16 @@ impl Unfinished {
         }
     }
 
-    /// Takes a byte behind a whole member.
+    /// Takes a byte after a whole member.
     fn stop(&mut self, byte: u8) -> Step
-        requires { (part : Part) → Shows self.old part → lacks part.current ≡ [] }
-        ensures { (part : Part) (y : List ℕ) → Shows self.old part → SpellsPart part y
-            → (is_stop byte ≡ false → ¬ IsPrefixOfLoose (y ++ byte ∷ []))
-            → Outcome result self.new part y byte }
+        requires { (part : Part) → IsStateOf self.old part → lacks part.current ≡ [] }
+        ensures { (part : Part) (open_part : List ℕ) → IsStateOf self.old part
+            → SpellsPart part open_part
+            → (is_stop byte ≡ false → ¬ IsPrefixOfLoose (open_part ++ byte ∷ []))
+            → Outcome result self.new part open_part byte }
     {
         if byte == b';' {
-            if self.done.len() >= 15 {
+            if self.done.len() + 1 >= MAX_PARAMETERS {
                 return Step::Refused(Cause::TooManyParameters);
             }
             self.end_member();
@@ -185,8 +189,8 @@ impl Unfinished {
 
     /// Ends the current member at a `;`.
     fn end_member(&mut self)
-        requires { array_vec_len self.old.done < 15 }
-        ensures { (part : Part) → Shows self.old part → Shows self.new (with_next part) }
+        requires { array_vec_len self.old.done + 1 < most_parameters }
+        ensures { (part : Part) → IsStateOf self.old part → IsStateOf self.new (with_next part) }
     {
         self.done.push(self.current.number());
         self.quoted = self.quoted || self.current.is_string();
@@ -194,8 +198,8 @@ impl Unfinished {
     }
 
     /// The numbers of all members, where a letter comes next. Those that are done are taken.
-    fn take_numbers(&mut self) -> ArrayVec<u8, 16>
-        ensures { (part : Part) → Shows self.old part
+    fn take_numbers(&mut self) -> ArrayVec<u8, MAX_PARAMETERS>
+        ensures { (part : Part) → IsStateOf self.old part
             → result.items ≡ map colour_number (members_of part.done part.current) }
     {
         let mut numbers = mem::replace(&mut self.done, ArrayVec::new());
@@ -205,11 +209,10 @@ impl Unfinished {
         numbers
     }
 
-    /// What the sequence means with this letter behind it. Afterwards nothing is left of it.
+    /// What the sequence means with this letter after it. Afterwards nothing is left of it.
     pub(crate) fn finish(&mut self, letter: u8) -> Result<Kind, Cause>
-        ensures { (part : Part) → Shows self.old part → IsWhole part
-            → MatchResult result (λ kind. meaning (raw_of part letter) ≡ Ok (shown_kind kind))
-            (λ cause. meaning (raw_of part letter) ≡ Err cause) }
+        ensures { (part : Part) → IsStateOf self.old part → IsWhole part
+            → Means result (meaning (raw_of part letter)) }
     {
         let mark = self.mark;
         let quoted = self.quoted || self.current.is_string();

@@ -1,17 +1,38 @@
 -- The plain machine, as contracts see it: a state with its size.
-use Rattle.std.specs.Prelude.{ℕ, ◌<◌, ◌≤◌}
+use Rattle.std.proofs.lemmas.Bool.{and_parts}
+use Rattle.std.specs.Prelude.{◌≤◌, Bool, replicate}
 use Rattle.ans_model.specs.Bytes.{most_columns, most_lines}
-use Rattle.ans_model.specs.Screen.State.{Size, State, sized, FitsScreen}
+use Rattle.ans_model.specs.Screen.State.{Size, State, cell_count, FitsScreen}
+use Rattle.ans_model.specs.declared.cell.Cell.{Cell}
+use Rattle.ans_model.specs.declared.cell.Position.{Position}
 
-pub record Played : Type 0 where
+-- the sizes that a machine is made for
+pub record IsPlayableSize (z : Size) : Type 0 where
+  pub some_columns : 1 ≤ z.width
+  pub columns : z.width ≤ most_columns
+  pub some_lines : 1 ≤ z.lines
+  pub lines : z.lines ≤ most_lines
+
+-- the stated size and the state
+pub record MachineView : Type 0 where
   pub size : Size
   pub state : State
 
--- the sizes that the machine is made for, and a state of that size
-pub record IsPlayed (p : Played) : Type 0 where
-  pub width : (0 < p.size.width) × (p.size.width ≤ most_columns)
-  pub lines : (0 < p.size.lines) × (p.size.lines ≤ most_lines)
-  pub fits : FitsScreen p.size p.state
+-- a size that a machine is made for, and a state of that size
+pub record IsMachineView (m : MachineView) : Type 0 where
+  pub size : IsPlayableSize m.size
+  pub fits : FitsScreen m.size m.state
 
-abbrev pub played : Size → State → Played
-played size state = record { size = size; state = state }
+-- the machine of a size and a state
+abbrev pub machine_view : Size → State → MachineView
+machine_view size state = record { size = size; state = state }
+
+-- all cells are this one, whose attribute is the current one, and and_parts cursors stand here
+abbrev pub uniform_state : Size → Cell → Position → Bool → State
+uniform_state z cell cursor wrap = record {
+  screen = replicate (cell_count z) cell;
+  cursor = cursor;
+  saved = cursor;
+  attribute = cell.attribute;
+  wrap = wrap;
+}

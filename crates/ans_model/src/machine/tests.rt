@@ -3,6 +3,7 @@
 use super::Machine;
 use crate::cell::Cell;
 use crate::kind::Kind;
+use crate::size::Size;
 use crate::start::Start;
 use arrayvec::ArrayVec;
 use std::alloc::{AllocError, Global};
@@ -514,9 +515,10 @@ fn plays_show_their_pictures(rt: HostRuntime) -> Result<(), Fail> {
     for play in PLAYS.iter() {
         let (width, lines) = play.size;
         assert!(rt; 0 < width && width <= 1024 && 0 < lines && lines <= 8192);
-        let low = Machine::low(rt.alloc(), width, lines, play.start)?;
+        let size = Size::new(width, lines);
+        let low = Machine::low(rt.alloc(), size, play.start)?;
         shows(&rt, rt.alloc(), play, low)?;
-        let high = Machine::high(rt.alloc(), width, lines, play.start)?;
+        let high = Machine::high(rt.alloc(), size, play.start)?;
         shows(&rt, rt.alloc(), play, high)?;
     }
     Ok(())
@@ -525,7 +527,7 @@ fn plays_show_their_pictures(rt: HostRuntime) -> Result<(), Fail> {
 /// A line of glyphs wraps at once: after the last column the cursor stands in the row below.
 #[test]
 fn wrap_is_immediate(rt: HostRuntime) -> Result<(), Fail> {
-    let mut machine = Machine::cleared(rt.alloc(), 2, 1)?;
+    let mut machine = Machine::cleared(rt.alloc(), Size::new(2, 1))?;
     machine.play(&kinds(rt.alloc(), b"Hi")?);
     assert_eq!(rt; machine.cursor().row, 1);
     assert_eq!(rt; machine.cursor().column, 0);
@@ -535,7 +537,7 @@ fn wrap_is_immediate(rt: HostRuntime) -> Result<(), Fail> {
 /// A line feed in the spare row scrolls: the first line is gone, and the last row is blank.
 #[test]
 fn line_feeds_scroll(rt: HostRuntime) -> Result<(), Fail> {
-    let mut machine = Machine::cleared(rt.alloc(), 2, 2)?;
+    let mut machine = Machine::cleared(rt.alloc(), Size::new(2, 2))?;
     machine.play(&kinds(rt.alloc(), b"abcd\x1b[41m\nx")?);
     let picture = lines_of(rt.alloc(), &machine, (2, 3), true)?;
     assert_eq!(rt;

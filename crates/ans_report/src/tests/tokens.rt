@@ -5,7 +5,7 @@ use ans_sauce::{Cause, Fault};
 use std::process::Abort;
 use std::test::Fail;
 
-/// A content, the lines of its tokens, and its fault.
+/// The content, the lines of its tokens, and its fault.
 #[derive(Clone, Copy)]
 struct Row(&'static [u8], &'static [u8], Option<(usize, Cause)>);
 
@@ -101,7 +101,7 @@ static ROWS: [Row; 18] = [
     ),
 ];
 
-/// Asserts what is written of a content to a device that takes all, and to each that takes less.
+/// Asserts what is written of the content to a device that takes all, and to each that takes less.
 fn expect_tokens(rt: &impl Abort, content: &[u8], text: &[u8], fault: Option<(usize, Cause)>) {
     assert!(rt; content.len() <= 16_777_216);
     let fault = fault.map(|(offset, cause)| Fault { offset, cause });
@@ -140,5 +140,18 @@ fn long_sequences_are_one_token_or_none(rt: HostRuntime) -> Result<(), Fail> {
     }
     zeros.extend_from_slice(b"5C")?;
     expect_tokens(&rt, zeros.as_slice(), b"0 1004 forward 5\n", None);
+    Ok(())
+}
+
+#[test]
+fn a_failed_device_is_not_called_again(rt: HostRuntime) -> Result<(), Fail> {
+    let mut bells = Vec::from_slice(rt.alloc(), b"\x07")?;
+    for _ in 0..2000u32 {
+        bells.push(0x07)?;
+    }
+    assert!(rt; bells.len() <= 16_777_216);
+    let mut full = room_for(0);
+    assert_eq!(rt; write_tokens(&mut full, bells.as_slice()), Err(WriteFault));
+    assert_eq!(rt; full.calls(), 1);
     Ok(())
 }

@@ -1,5 +1,5 @@
 use Rattle.std.proofs.Common.{Bool, subst, sym}
-use Rattle.ans_report.specs.Reports.{report_bytes}
+use Rattle.ans_report.specs.ReportBytes.{report_bytes}
 use Rattle.ans_check.specs.CommandText.{ReportsCheck, is_pass}
 use Rattle.ans_check.proofs.ReportLemmas.{fitting, verdict_reported}
 use Rattle.ans_check.proofs.pipeline.report.Goals as goal

@@ -29,7 +29,7 @@ loop-piece-preserved g c =
       same = SamePlay-then c.args.player old c.feed.new.self here.same c.in_ok-feed.ensures.same;
       stands = subst (λ (v : List ℕ). Stands c.feed.new.self v)
           (sym (ap (λ (v : ℕ). take v content) more.fed ∙ k.taken))
-          (c.in_ok-feed.ensures.stands (take old.fed content) here.no_fault here.stands);
+          (c.in_ok-feed.ensures.fed (take old.fed content) here.stands).stands;
     }
 
 pub returns-in_err-feed-clause-refused : goal.returns-in_err-feed-clause-refused
@@ -37,17 +37,13 @@ returns-in_err-feed-clause-refused g c =
     let content = c.args.content.now in
     let old = c.loop-piece.player in
     let here = c.loop-piece.invariant in
-    let told = c.in_err-feed.ensures in
     let k : Cut content c.in-Some.piece.now (chunks_rest c.next.new.self) old.fed =
     cut content c.in-Some.piece.now (chunks_rest c.next.new.self) old.fed here.fed
     (sym here.rest ∙ c.in-Some.ensures.steps.1.0) in
     let f = c.in_err-feed.field-0.0 in
     let found : Deserves c.args.player.size c.args.player.start content f =
-    fed_fault c.args.player c.feed.new.self content c.in-Some.piece.now (chunks_rest c.next.new.self) old.fed f
-    (SamePlay-then c.args.player old c.feed.new.self here.same told.same) k
-    (told.stands (take old.fed content) here.no_fault here.stands) told.fault
-    (λ cleared. told.certain (take old.fed content) here.stands (here.same.start ∙ cleared))
-    (told.offset (take old.fed content) here.no_fault here.stands) in
+    fed_fault c.args.player old content c.in-Some.piece.now (chunks_rest c.next.new.self) old.fed f here.same k
+    (c.in_err-feed.ensures.fed (take old.fed content) here.stands).first in
     err_weaker c.from_residual.result _ _ c.from_residual.ensures.1
     (λ e is. subst (λ (v : Fault). Deserves c.args.player.size c.args.player.start content v) (sym is) found)
 
@@ -61,8 +57,8 @@ returns-clause-good g c =
     let stands : Stands old content = subst (λ (v : List ℕ). Stands old v) all here.stands in
     IfOk-weaker c.finish.result _ _ (λ (p : Picture) good.
     subst (λ (z : Size). GoodWith z (class_of c.args.player.start) content p) here.same.size
-    (subst (λ (s : Start). GoodWith old.size (class_of s) content p) here.same.start (good content stands)))
-    c.finish.ensures.ok
+    (subst (λ (s : Start). GoodWith old.size (class_of s) content p) here.same.start good))
+    (c.finish.ensures.finished content stands).good
 
 pub returns-clause-refused : goal.returns-clause-refused
 returns-clause-refused g c =
@@ -72,6 +68,5 @@ returns-clause-refused g c =
     let all = all_taken content (chunks_rest c.loop-piece.piece-iterator) old.fed here.rest
     c.in-None.ensures.steps.1.0 here.fed in
     let stands : Stands old content = subst (λ (v : List ℕ). Stands old v) all here.stands in
-    last_faults c.finish.result c.args.player old content here.same stands (c.finish.ensures.last here.no_fault)
-    (c.finish.ensures.certain content stands) (c.finish.ensures.offset content here.no_fault stands)
-    (stands.fed here.no_fault)
+    last_faults c.finish.result c.args.player old content here.same
+    ((c.finish.ensures.finished content stands).last here.no_fault)

@@ -1,31 +1,27 @@
-use Rattle.std.proofs.Common.{rules, arith, ◌≡◌, ◌<◌, [], get_or, ap, sym}
-use Rattle.ans_model.specs.Text.ReportText.{rows_of, picture_line}
-use Rattle.ans_report.specs.Rows.{row_of}
+use Rattle.std.proofs.Common.{rules, arith, ◌≡◌, ◌<◌, [], true, sym, ap}
+use Rattle.ans_model.specs.Text.ReportText.{rows_of}
+use Rattle.ans_report.specs.Puts.{device_failed}
+use Rattle.ans_report.specs.Rows.{line_text}
 use Rattle.ans_report.proofs.PictureRows.{row_at, within_rows, all_rows}
-use Rattle.ans_report.proofs.GathersLemmas.{Gathers-next, Gathers-last, GathersText-failed}
+use Rattle.ans_report.proofs.PutsLemmas.{Puts-nothing, Puts-same, Puts-next, Puts-all}
 use Rattle.ans_report.proofs.picture_text.put_rows.Goals as goal
 
-pub returns-in_err-put_row-clause-bytes : goal.returns-in_err-put_row-clause-bytes
-returns-in_err-put_row-clause-bytes g c =
-    let p = c.args.picture.now in
-    let i = c.loop-row.row in
-    let lt : i < p.size.lines = omega arith in
-    let piece : picture_line (row_of p i) ≡ picture_line (get_or (rows_of p) i []) = ap picture_line (sym (row_at p i lt)) in
-    GathersText-failed _ _ _ _ c.from_residual.result _ (search rules)
-    (Gathers-last picture_line _ _ _ _ _ (rows_of p) i [] (within_rows p i lt) c.loop-row.invariant.so_far (rw piece at c.in_err-put_row.ensures.bytes))
+pub loop-row-init : goal.loop-row-init
+loop-row-init g c = Puts-nothing c.args.out.now
+
+pub returns-then-has_failed-clause-text : goal.returns-then-has_failed-clause-text
+returns-then-has_failed-clause-text g c =
+    let failed : device_failed c.loop-row.out ≡ true = search rules in
+    Puts-all (line_text c.args.shown) (rows_of c.args.picture.now) c.loop-row.row failed c.loop-row.invariant
 
 pub loop-row-preserved : goal.loop-row-preserved
 loop-row-preserved g c =
     let p = c.args.picture.now in
     let i = c.loop-row.row in
+    let line = line_text c.args.shown in
     let lt : i < p.size.lines = omega arith in
-    let piece : picture_line (row_of p i) ≡ picture_line (get_or (rows_of p) i []) = ap picture_line (sym (row_at p i lt)) in
-    record {
-      works = search rules;
-      so_far = Gathers-next picture_line _ _ _ _ _ _ (rows_of p) i [] (within_rows p i lt) c.loop-row.invariant.so_far (rw piece at c.in_ok-put_row.ensures.bytes);
-    }
+    Puts-next line (rows_of p) i [] (within_rows p i lt) c.loop-row.invariant
+    (Puts-same (ap line (sym (row_at p i lt))) c.put_row.ensures)
 
-pub returns-clause-bytes : goal.returns-clause-bytes
-returns-clause-bytes g c =
-    let p = c.args.picture.now in
-    rw (all_rows p c.loop-row.row (omega arith)) at c.loop-row.invariant.so_far
+pub returns-clause-text : goal.returns-clause-text
+returns-clause-text g c = rw (all_rows c.args.picture.now c.loop-row.row (omega arith)) at c.loop-row.invariant

@@ -1,71 +1,35 @@
-use Rattle.std.proofs.Common.{rules, ◌≡◌, ◌∙◌, ap, codes}
-use Rattle.std.specs.List.{flat_map}
-use Rattle.ans_model.specs.File.Record.{font_field, comment_count, trimmed}
-use Rattle.ans_model.specs.Text.FaultText.{note_line}
-use Rattle.ans_model.specs.Text.RecordText.{field_line, comment_lines}
+use Rattle.std.proofs.Common.{rules, ◌≡◌, ◌∙◌, ℕ, List, ap}
+use Rattle.ans_model.specs.File.Record.{title_field, author_field, group_field, date_field, font_field, file_size}
+use Rattle.ans_model.specs.File.Record.{comment_count, flags, trimmed}
+use Rattle.ans_model.specs.Text.Hexadecimal.{hex_byte}
 use Rattle.ans_sauce.specs.RecordBytes.{bytes_of}
-use Rattle.ans_sauce.specs.Parts.{record_of, comments_of, notes_of}
-use Rattle.ans_report.specs.RecordLines.{names_text, size_and_flags_text, counts_text}
-use Rattle.ans_report.proofs.GathersLemmas.{Gathers-stopped, GathersText-then, GathersText-failed, gathered-longer}
+use Rattle.ans_sauce.specs.Parts.{record_of, notes_of}
+use Rattle.ans_report.proofs.PutsLemmas.{Puts-then}
 use Rattle.ans_report.proofs.record_text.put_record.Goals as goal
 
-pub returns-in_err-put_names-clause-bytes : goal.returns-in_err-put_names-clause-bytes
-returns-in_err-put_names-clause-bytes g c =
+pub returns : goal.returns
+returns g c =
     let r = record_of c.args.parts.now in
     let sauce : bytes_of c.sauce-sauce.result ≡ r = c.sauce-sauce.ensures in
-    GathersText-failed _ _ _ _ c.from_residual.result _ (search rules)
-    (gathered-longer _ _ _ (names_text r) _ (rw sauce at c.in_err-put_names.ensures.bytes))
-
-pub returns-in_err-put_size_and_flags-clause-bytes : goal.returns-in_err-put_size_and_flags-clause-bytes
-returns-in_err-put_size_and_flags-clause-bytes g c =
-    let r = record_of c.args.parts.now in
-    let sauce : bytes_of c.sauce-sauce.result ≡ r = c.sauce-sauce.ensures in
-    GathersText-failed _ _ _ _ c.from_residual-in_err-put_size_and_flags.result _ (search rules)
-    (Gathers-stopped _ _ _ _ _ (names_text r) _ (rw sauce at c.in_ok-put_names.ensures.bytes)
-    (gathered-longer _ _ _ (size_and_flags_text r) _ c.in_err-put_size_and_flags.ensures.bytes))
-
-pub returns-in_err-put_field-clause-bytes : goal.returns-in_err-put_field-clause-bytes
-returns-in_err-put_field-clause-bytes g c =
-    let r = record_of c.args.parts.now in
-    let sauce : bytes_of c.sauce-sauce.result ≡ r = c.sauce-sauce.ensures in
-    let font : c.font.result.now ≡ trimmed (font_field r) = c.font.ensures ∙ ap (λ b. trimmed (font_field b)) sauce in
-    GathersText-failed _ _ _ _ c.from_residual-in_err-put_field.result _ (search rules)
-    (Gathers-stopped _ _ _ _ _ (names_text r) _ (rw sauce at c.in_ok-put_names.ensures.bytes)
-    (Gathers-stopped _ _ _ _ _ (size_and_flags_text r) _ c.in_ok-put_size_and_flags.ensures.bytes
-    (gathered-longer _ _ _ (field_line (codes "font") (font_field r)) _ (rw font at c.in_err-put_field.ensures.bytes))))
-
-pub returns-in_err-put_counts-clause-bytes : goal.returns-in_err-put_counts-clause-bytes
-returns-in_err-put_counts-clause-bytes g c =
-    let r = record_of c.args.parts.now in
-    let sauce : bytes_of c.sauce-sauce.result ≡ r = c.sauce-sauce.ensures in
-    let font : c.font.result.now ≡ trimmed (font_field r) = c.font.ensures ∙ ap (λ b. trimmed (font_field b)) sauce in
-    GathersText-failed _ _ _ _ c.from_residual-in_err-put_counts.result _ (search rules)
-    (Gathers-stopped _ _ _ _ _ (names_text r) _ (rw sauce at c.in_ok-put_names.ensures.bytes)
-    (Gathers-stopped _ _ _ _ _ (size_and_flags_text r) _ c.in_ok-put_size_and_flags.ensures.bytes
-    (Gathers-stopped _ _ _ _ _ (field_line (codes "font") (font_field r)) _ (rw font at c.in_ok-put_field.ensures.bytes)
-    (gathered-longer _ _ _ (counts_text r) _ (rw sauce at c.in_err-put_counts.ensures.bytes)))))
-
-pub returns-in_err-put_comments-clause-bytes : goal.returns-in_err-put_comments-clause-bytes
-returns-in_err-put_comments-clause-bytes g c =
-    let r = record_of c.args.parts.now in
-    let sauce : bytes_of c.sauce-sauce.result ≡ r = c.sauce-sauce.ensures in
-    let font : c.font.result.now ≡ trimmed (font_field r) = c.font.ensures ∙ ap (λ b. trimmed (font_field b)) sauce in
-    GathersText-failed _ _ _ _ c.from_residual-in_err-put_comments.result _ (search rules)
-    (Gathers-stopped _ _ _ _ _ (names_text r) _ (rw sauce at c.in_ok-put_names.ensures.bytes)
-    (Gathers-stopped _ _ _ _ _ (size_and_flags_text r) _ c.in_ok-put_size_and_flags.ensures.bytes
-    (Gathers-stopped _ _ _ _ _ (field_line (codes "font") (font_field r)) _ (rw font at c.in_ok-put_field.ensures.bytes)
-    (Gathers-stopped _ _ _ _ _ (counts_text r) _ (rw sauce at c.in_ok-put_counts.ensures.bytes)
-    (gathered-longer _ _ _ (comment_lines 0 (comment_count r) (comments_of c.args.parts.now)) _ c.in_err-put_comments.ensures.bytes)))))
-
-pub returns-clause-bytes : goal.returns-clause-bytes
-returns-clause-bytes g c =
-    let r = record_of c.args.parts.now in
-    let sauce : bytes_of c.sauce-sauce.result ≡ r = c.sauce-sauce.ensures in
-    let font : c.font.result.now ≡ trimmed (font_field r) = c.font.ensures ∙ ap (λ b. trimmed (font_field b)) sauce in
+    let title : c.title.result.now ≡ trimmed (title_field r) =
+    c.title.ensures ∙ ap (λ (b : List ℕ). trimmed (title_field b)) sauce in
+    let author : c.author.result.now ≡ trimmed (author_field r) =
+    c.author.ensures ∙ ap (λ (b : List ℕ). trimmed (author_field b)) sauce in
+    let group : c.group.result.now ≡ trimmed (group_field r) =
+    c.group.ensures ∙ ap (λ (b : List ℕ). trimmed (group_field b)) sauce in
+    let date : c.date.result.now ≡ trimmed (date_field r) =
+    c.date.ensures ∙ ap (λ (b : List ℕ). trimmed (date_field b)) sauce in
+    let digits : c.hex_byte.result ≡ hex_byte (flags r) =
+    c.hex_byte.ensures ∙ ap hex_byte (c.flags.ensures ∙ ap flags sauce) in
+    let font : c.font.result.now ≡ trimmed (font_field r) =
+    c.font.ensures ∙ ap (λ (b : List ℕ). trimmed (font_field b)) sauce in
+    let size : c.file_size.result ≡ file_size r = c.file_size.ensures ∙ ap file_size sauce in
+    let wide : c.from.result ≡ c.comment_count.result = search rules in
+    let count : c.from.result ≡ comment_count r = wide ∙ c.comment_count.ensures ∙ ap comment_count sauce in
     let notes : c.as_slice.result.now ≡ notes_of c.args.parts.now = search rules in
-    GathersText-then _ _ _ _ _ _ c.put_notes.result (names_text r) _ (rw sauce at c.in_ok-put_names.ensures.bytes)
-    (GathersText-then _ _ _ _ _ _ c.put_notes.result (size_and_flags_text r) _ c.in_ok-put_size_and_flags.ensures.bytes
-    (GathersText-then _ _ _ _ _ _ c.put_notes.result (field_line (codes "font") (font_field r)) _ (rw font at c.in_ok-put_field.ensures.bytes)
-    (GathersText-then _ _ _ _ _ _ c.put_notes.result (counts_text r) _ (rw sauce at c.in_ok-put_counts.ensures.bytes)
-    (GathersText-then _ _ _ _ _ _ c.put_notes.result (comment_lines 0 (comment_count r) (comments_of c.args.parts.now)) (flat_map note_line (notes_of c.args.parts.now)) c.in_ok-put_comments.ensures.bytes
-    (rw notes at c.put_notes.ensures.bytes)))))
+    Puts-then (rw title at c.put_field.ensures) (Puts-then (rw author at c.put_field-2.ensures)
+    (Puts-then (rw group at c.put_field-3.ensures) (Puts-then (rw date at c.put_field-4.ensures)
+    (Puts-then c.put_size_line.ensures (Puts-then (rw digits at c.put_named_line.ensures)
+    (Puts-then (rw font at c.put_field-5.ensures) (Puts-then (rw size at c.put_number_line.ensures)
+    (Puts-then (rw count at c.put_number_line-2.ensures) (Puts-then c.put_comments.ensures
+    (rw notes at c.put_notes.ensures))))))))))

@@ -5,4 +5,6 @@ use Rattle.ans_screen.proofs.plain.print_cells.Goals as goal
 
 pub loop-i-preserved : goal.loop-i-preserved
 loop-i-preserved c =
-    rw c.loop-i.invariant (copied_more (printed_cell c.args.attr) c.args.bytes.now c.args.cells.now c.loop-i.i 0 (omega arith) (omega arith))
+    let printed = printed_cell c.args.attr in
+    rw c.loop-i.invariant
+    (copied_more printed c.args.bytes.now c.args.cells.now c.loop-i.i 0 (omega arith) (omega arith))

@@ -1,7 +1,6 @@
-use Rattle.ans_model.specs.Screen.State.{sized}
 use Rattle.ans_play.proofs.PictureCells.{is_picture}
 use Rattle.ans_play.proofs.picture.Picture.lines.Goals as goal
 
 pub returns-clause-whole : goal.returns-clause-whole
 returns-clause-whole g c =
-    is_picture (sized c.self.inside.width c.self.inside.lines) (g.G.Grid.cells_of c.self.inside.grid) c.args.self.now c.self.view_is c.self.invariant
+    is_picture c.self.inside.size (g.G.Grid.cells_of c.self.inside.grid) c.args.self.now c.self.view_is c.self.invariant

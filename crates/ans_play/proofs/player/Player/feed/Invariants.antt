@@ -1,13 +1,15 @@
-use Rattle.std.proofs.Common.{◌≡◌, ◌≤◌, ◌-◌, take, length}
-use Rattle.ans_play.specs.Stands.{GoesOn}
+use Rattle.std.proofs.Common.{◌≡◌, ◌-◌, length}
+use Rattle.ans_play.specs.PlayerView.{play_of}
+use Rattle.ans_play.proofs.Feeding.{PlaysTo}
 use Rattle.ans_play.proofs.player.Player.feed.Given as goal
 
--- the bytes so far are played
+-- so many bytes of the piece are played, and the rest of the player stays
 abbrev pub invariant-loop-played : goal.invariant-loop-played
 invariant-loop-played g l = record {
-  within : l.played ≤ length l.piece;
-  goes_on : GoesOn l.fn.self (take l.played l.piece) l.self;
-  before : l.fed ≡ l.fn.self.fed;
+  plays : PlaysTo (play_of l.fn.self) l.piece l.played l.self-inside.play;
+  start : l.self-inside.start ≡ l.fn.self.start;
+  fed : l.self-inside.fed ≡ l.fn.self.fed;
+  fault : l.self-inside.fault ≡ l.fn.self.fault;
 }
 
 abbrev pub decreases-loop-played : goal.decreases-loop-played

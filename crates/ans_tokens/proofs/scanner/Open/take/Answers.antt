@@ -2,8 +2,9 @@ use Rattle.std.proofs.Common.{◌≡◌, inl, inr, refl, ◌∷◌, []}
 use Rattle.ans_model.specs.Bytes.{escape, bracket}
 use Rattle.ans_model.specs.Inside.OpenPart.{raw_of}
 use Rattle.ans_model.proofs.AfterPart.{part_unfinished}
-use Rattle.ans_tokens.specs.Shows.{begun}
-use Rattle.ans_tokens.proofs.OpenLemmas.{begun_spells, bracket_unfinished, escape_unfinished, escape_refused, broken}
+use Rattle.ans_tokens.specs.Unfinished.{empty_part}
+use Rattle.ans_tokens.proofs.OpenLemmas.{empty_part_spells, bracket_unfinished, escape_unfinished, escape_refused}
+use Rattle.ans_tokens.proofs.OpenLemmas.{broken}
 use Rattle.ans_tokens.proofs.scanner.Open.take.Goals as goal
 
 pub returns-else-byte-ne-ESCAPE : goal.returns-else-byte-ne-ESCAPE
@@ -21,7 +22,7 @@ pub returns-else-byte-ne91 : goal.returns-else-byte-ne91
 returns-else-byte-ne91 c y held =
     let esc : y ≡ escape ∷ [] = rw c.in-Escape.is at held in
     let e : c.args.byte ≡ bracket = c.if-byte-ne91.false in
-    rw (esc, e) (bracket_unfinished, (begun, c.new.ensures, begun_spells))
+    rw (esc, e) (bracket_unfinished, (empty_part, c.new.ensures, empty_part_spells))
 
 pub returns-in-More : goal.returns-in-More
 returns-in-More c y held =
@@ -39,10 +40,12 @@ pub returns-in-Ok : goal.returns-in-Ok
 returns-in-Ok c y held =
     let part = rw c.in-Sequence.is at held in
     let out = c.in-Letter.ensures part.0 y part.1 part.2 in
-    inr (record { raw = raw_of part.0 c.args.byte; spelled = out.2; means = c.in-Ok.ensures part.0 out.0 (out.1, out.2.loose.not_one_omitted) })
+    let means = c.in-Ok.ensures part.0 out.0 (out.1, out.2.loose.not_one_omitted) in
+    inr (record { raw = raw_of part.0 c.args.byte; spelled = out.2; means = means })
 
 pub returns-in-Err : goal.returns-in-Err
 returns-in-Err c y held =
     let part = rw c.in-Sequence.is at held in
     let out = c.in-Letter.ensures part.0 y part.1 part.2 in
-    inl (record { raw = raw_of part.0 c.args.byte; spelled = out.2; means = c.in-Err.ensures part.0 out.0 (out.1, out.2.loose.not_one_omitted) })
+    let means = c.in-Err.ensures part.0 out.0 (out.1, out.2.loose.not_one_omitted) in
+    inl (record { raw = raw_of part.0 c.args.byte; spelled = out.2; means = means })

@@ -1,0 +1,54 @@
+-- What is known of a state stays known.
+use Rattle.std.proofs.Common.{◌≡◌, ◌<◌, refl, sym, ap, ◌∙◌, List, [], ◌∷◌, ◌++◌}
+use Rattle.std.proofs.lemmas.List.Sums.{fold-append}
+use Rattle.ans_model.specs.Sequence.TokenKind.{TokenKind, PrintsByte}
+use Rattle.ans_model.specs.Screen.State.{Size, State, IsWellFormed}
+use Rattle.ans_model.specs.Screen.Step.{step, final}
+use Rattle.ans_model.specs.Screen.StartClass.{Class, low_start, high_start}
+use Rattle.ans_model.proofs.StartLemmas.{low_is_start, high_is_start}
+use Rattle.ans_model.proofs.WellFormed.{well_formed_after_step}
+use Rattle.ans_play.specs.HalfState.{HalfState}
+use Rattle.ans_play.specs.Hull.{hull}
+use Rattle.ans_play.specs.HalfStep.{half_step}
+use Rattle.ans_play.specs.Stands.{IsKnownAfter}
+use Rattle.ans_play.proofs.Allowed.{IsAllowed}
+use Rattle.ans_play.proofs.Describing.{step_describes}
+use Rattle.ans_play.proofs.HullSteps.{hull_step}
+use Rattle.ans_play.proofs.HullOfStarts.{start_describes}
+
+-- at the start
+pub known_none : (z : Size) (class : Class) → IsKnownAfter z class [] (hull (low_start z class) (high_start z class))
+known_none z class = record { is_hull = refl; describes = start_describes z class; well_formed = λ s h. h.well_formed }
+
+-- one more token is one more step
+final_more : (z : Size) (s : State) (played : List TokenKind) (t : TokenKind) →
+    final z s (played ++ t ∷ []) ≡ step z (final z s played) t
+final_more z s played t = fold-append (step z) s played (t ∷ [])
+
+-- after one more token, which is allowed
+pub known_more : (z : Size) (class : Class) (played : List TokenKind) (h : HalfState) (t : TokenKind) → 0 < z.width →
+    PrintsByte t → IsKnownAfter z class played h → IsAllowed z h t →
+    IsKnownAfter z class (played ++ t ∷ []) (half_step z h t)
+known_more z class played h t w byte st ok =
+    let low : State = low_start z class in
+    let high : State = high_start z class in
+    let a : IsWellFormed z (final z low played) = st.well_formed low (low_is_start z class w) in
+    let b : IsWellFormed z (final z high played) = st.well_formed high (high_is_start z class w) in
+    record {
+      is_hull = rw (final_more z low played t, final_more z high played t)
+          (ap (λ (k : HalfState). half_step z k t) st.is_hull
+          ∙ sym (hull_step z (final z low played) (final z high played) t
+          (record {
+            on_a = a.fits.cursor;
+            on_b = b.fits.cursor;
+            cells = a.fits.cells ∙ sym b.fits.cells;
+            attribute_a =
+                a.attribute;
+            attribute_b = b.attribute;
+          })
+          (rw st.is_hull at ok)));
+      describes = λ s start. rw (final_more z s played t)
+          (step_describes z h (final z s played) t (st.well_formed s start).fits.cursor (st.describes s start) ok);
+      well_formed = λ s start. rw (final_more z s played t)
+          (well_formed_after_step z (final z s played) t byte w (st.well_formed s start));
+    }

@@ -1,0 +1,56 @@
+use Rattle.std.proofs.Common.{◌+◌, ◌*◌, take, length, refl, arith, All}
+use Rattle.std.proofs.lemmas.List.Elements.{All-from_get_or, All-take}
+use Rattle.ans_model.specs.Bytes.{IsByte}
+use Rattle.ans_screen.specs.GridEdits.{printed_run}
+use Rattle.ans_play.specs.PlayView.{IsByteHalfCell}
+use Rattle.ans_play.proofs.GlyphRuns.{is_run, room_on_screen, printed_bytes, All-written, run_goes_on}
+use Rattle.ans_play.proofs.play.Play.print_run.Goals as goal
+
+pub write_run-requires : goal.write_run-requires
+write_run-requires g c =
+    let run = is_run _ c.args.self.now c.args.bytes.now c.columns_before_last-columns.result c.min.result
+    c.glyphs-count.result
+    c.self.view_is c.self.invariant.cursor c.columns_before_last-columns.ensures (omega (arith, c.min.ensures))
+    c.glyphs-count.ensures.front c.if-count-gt0.true in
+    rw (c.width.ensures.width, run.taken)
+    (room_on_screen c.self.inside.size.width c.self.inside.size.lines c.self.inside.cursor.low.row
+    c.self.inside.cursor.low.column c.glyphs-count.result (length (g.G.Grid.cells_of c.self.inside.grid))
+    run.room.above run.room.columns c.self.invariant.cells)
+
+pub invariant_of-self : goal.invariant_of-self
+invariant_of-self g c =
+    let run = is_run _ c.args.self.now c.args.bytes.now c.columns_before_last-columns.result c.min.result
+    c.glyphs-count.result
+    c.self.view_is c.self.invariant.cursor c.columns_before_last-columns.ensures (omega (arith, c.min.ensures))
+    c.glyphs-count.ensures.front c.if-count-gt0.true in
+    let bytes = take c.glyphs-count.result c.args.bytes.now in
+    let are_bytes : All IsByte bytes = All-take IsByte c.glyphs-count.result c.args.bytes.now
+    (All-from_get_or IsByte c.args.bytes.now 0 (λ i l. omega (arith, c.type_inv.bytes i))) in
+    record {
+      cells = cc (g.met.G.Grid.whole c.write_run.new.self, g.met.G.Grid.whole c.self.inside.grid);
+      bytes = rw c.write_run.ensures.cells
+          (All-written IsByteHalfCell (g.G.Grid.cells_of c.self.inside.grid)
+          (c.self.inside.cursor.low.row * c.width.result + c.self.inside.cursor.low.column)
+          (printed_run c.self.inside.attribute bytes) c.self.invariant.bytes
+          (printed_bytes c.self.inside.attribute bytes c.self.invariant.attribute are_bytes));
+      attribute = c.self.invariant.attribute;
+      cursor = rw c.at-self-inside.ensures (record {
+        rows = omega arith;
+        columns = omega arith;
+        on_screen = (omega (arith, run.room.above), run.room.columns);
+      });
+      saved = c.self.invariant.saved;
+    }
+
+pub returns-then-count-gt0-clause-printed : goal.returns-then-count-gt0-clause-printed
+returns-then-count-gt0-clause-printed g c =
+    let run = is_run _ c.args.self.now c.args.bytes.now c.columns_before_last-columns.result c.min.result
+    c.glyphs-count.result
+    c.self.view_is c.self.invariant.cursor c.columns_before_last-columns.ensures (omega (arith, c.min.ensures))
+    c.glyphs-count.ensures.front c.if-count-gt0.true in
+    rw (← c.self.view_is, c.at-self-inside.ensures)
+    (run_goes_on c.self.inside.size c.self.inside.scanner c.glyphs-count.new.self (g.G.Grid.cells_of c.self.inside.grid)
+    (g.G.Grid.cells_of c.write_run.new.self) c.self.inside.cursor c.self.inside.saved c.self.inside.attribute
+    c.self.inside.wrap c.args.bytes.now c.glyphs-count.result run.within run.room (c.if-not-is_between_tokens.ensures.0 refl)
+    run.glyphs c.self.invariant.cells c.glyphs-count.ensures.taken
+    (rw c.width.ensures.width at c.write_run.ensures.cells))

@@ -1,0 +1,24 @@
+-- What a play does at one token.
+use Rattle.std.specs.Prelude.{◌≡◌, ℕ, ◌+◌, Some, None, Result, MatchResult}
+use Rattle.ans_model.specs.Sequence.TokenKind.{TokenKind, Glyph}
+use Rattle.ans_model.specs.declared.fault.Cause.{Cause}
+use Rattle.ans_play.specs.HalfStep.{half_step}
+use Rattle.ans_play.specs.HalfFault.{half_fault}
+use Rattle.ans_play.specs.PlayView.{PlayView}
+
+-- the half step of a token is made
+abbrev pub after_token : PlayView → TokenKind → PlayView
+after_token p t = record p { state = half_step p.size p.state t }
+
+-- the token shows no fault and its half step is made, or it shows this fault and nothing changes
+abbrev pub Plays : PlayView → PlayView → TokenKind → Result (Unit {0}) Cause → Type 0
+Plays old new t result = MatchResult result
+    (λ _. (half_fault old.size old.state t ≡ None) × (new ≡ after_token old t))
+    (λ cause. (half_fault old.size old.state t ≡ Some cause) × (new ≡ old))
+
+-- So many columns stand between the cursor and its row's last one where a glyph is printed, and none where it is
+-- refused.
+pub record AreFree (p : PlayView) (columns : ℕ) : Type 0 where
+  pub printed : (byte : ℕ) → half_fault p.size p.state (Glyph byte) ≡ None →
+      p.state.cursor.low.column + columns + 1 ≡ p.size.width
+  pub refused : (byte : ℕ) (cause : Cause) → half_fault p.size p.state (Glyph byte) ≡ Some cause → columns ≡ 0

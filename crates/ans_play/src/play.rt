@@ -1,0 +1,323 @@
+//! The play of bytes over one half-known state.
+
+ghost use Rattle.std.specs.Prelude.{◌≡◌, ◌<◌, ◌≤◌, ◌+◌, ℕ, List, [], ◌∷◌, length, take};
+ghost use Rattle.std.specs.Prelude.{IsOk, IfOk, IfErr, OnOk};
+ghost use Rattle.ans_model.specs.Bytes.{longest_file};
+ghost use Rattle.ans_model.specs.Sequence.TokenKind.{Glyph, LineFeed, Place, EraseLine, Clear};
+ghost use Rattle.ans_model.specs.Sequence.TokenKind.{Save, Restore, Colours, Wrap};
+ghost use Rattle.ans_model.specs.Inside.ShownKind.{shown_kind};
+ghost use Rattle.ans_model.specs.Screen.StartClass.{class_of};
+ghost use Rattle.ans_play.specs.HalfStep.{known_after_all};
+
+use crate::picture::Picture;
+use crate::span::Span;
+use crate::wrap::WrapMode;
+use ans_model::cell::Position;
+use ans_model::fault::{Cause, Fault};
+use ans_model::kind::Kind;
+use ans_model::size::Size;
+use ans_model::start::Start;
+use ans_screen::{Attr, Grid, HalfCell};
+use ans_tokens::Scanner;
+use std::alloc::{AllocError, Global};
+use std::marker::Model;
+
+/// The play of bytes from every start of a class: the scanner that reads them, and one state of
+/// which parts are known.
+#[derive(Drop)]
+pub(crate) struct Play<G: Grid> {
+    size: Size,
+    scanner: Scanner,
+    grid: G,
+    cursor: Span,
+    saved: Span,
+    attribute: Attr,
+    wrap: WrapMode,
+}
+
+impl<G: Grid> Model for Play<G> {
+    ghost use Rattle.ans_play.specs.HalfState.{half_state};
+    ghost use Rattle.ans_play.specs.PlayView.{PlayView, play_view, IsPlayView};
+
+    ghost Value = { PlayView };
+
+    ghost view = { λ p.
+        play_view p.size p.scanner
+        (half_state (G.cells_of p.grid) p.cursor p.saved p.attribute p.wrap) };
+
+    ghost invariant = { λ p.
+        IsPlayView (play_view p.size p.scanner
+        (half_state (G.cells_of p.grid) p.cursor p.saved p.attribute p.wrap)) };
+}
+
+/// What is known of an attribute after colour parameters, one after the other.
+fn attribute_after_all(attribute: Attr, parameters: &[u8]) -> Attr
+    ensures { result ≡ known_after_all attribute parameters.now }
+{
+    let mut new = attribute;
+    for parameter in parameters {
+        new = new.apply(*parameter);
+    }
+    new
+}
+
+impl<G: Grid> Play<G> {
+    ghost use Rattle.ans_play.specs.Plays.{AreFree};
+    ghost use Rattle.ans_play.specs.Stands.{IsNewPlay, GoesOn, IsDeserved, Ends};
+
+    /// A play of no bytes yet, from the starts of a class. It fails only if memory runs out.
+    pub fn new(alloc: Global, size: Size, start: Start) -> Result<Play<G>, AllocError>
+        ensures { IfOk result (λ p. IsNewPlay p size (class_of start)) }
+    {
+        let width = size.width();
+        let lines = size.lines();
+        let (cell, span, wrap) = match start {
+            Start::Any => {
+                let low = Position { row: 0, column: 0 };
+                let high = Position {
+                    row: lines,
+                    column: width - 1,
+                };
+                (HalfCell::unknown(), Span { low, high }, WrapMode::Unknown)
+            }
+            Start::Cleared => (HalfCell::known(b' ', 0x07), Span::at(0, 0), WrapMode::On),
+        };
+        let attribute = cell.attr;
+        let grid = G::new(alloc, width, lines + 1, cell)?;
+        Ok(Play {
+            size,
+            scanner: Scanner::new(),
+            grid,
+            cursor: span,
+            saved: span,
+            attribute,
+            wrap,
+        })
+    }
+
+    /// Prints the glyphs that the bytes begin with, as far as they stand in the cursor's row before
+    /// its last column, and returns how many they are. It prints none within a sequence, and none
+    /// where a glyph is refused.
+    pub fn print_run(&mut self, bytes: &[u8]) -> usize
+        requires { self.old.scanner.offset + length bytes.now ≤ longest_file }
+        ensures within { result ≤ length bytes.now }
+        ensures printed { GoesOn self.old (take result bytes.now) self.new }
+    {
+        if !self.scanner.is_between_tokens() {
+            return 0;
+        }
+        let columns = self.columns_before_last();
+        let count = self.scanner.glyphs(&bytes[..bytes.len().min(columns)]);
+        if count > 0 {
+            let Position { row, column } = self.cursor.low;
+            let from = row * self.size.width() + column;
+            self.grid.write_run(from, &bytes[..count], self.attribute);
+            self.cursor = Span::at(row, column + count);
+        }
+        count
+    }
+
+    /// How many columns stand between the cursor and its row's last one, where a glyph is printed;
+    /// none where it is refused.
+    fn columns_before_last(&self) -> usize
+        ensures { AreFree self.now result }
+    {
+        if self.cursor.is_one_position() && self.cursor.low.row < self.size.lines() {
+            self.size.width() - 1 - self.cursor.low.column
+        } else {
+            0
+        }
+    }
+
+    /// Takes a byte, and plays the token that it ends, if it ends one.
+    pub fn play_byte(&mut self, byte: u8) -> Result<(), Fault>
+        requires { self.old.scanner.offset < longest_file }
+        ensures size { self.new.size ≡ self.old.size }
+        ensures played { OnOk result (GoesOn self.old (byte ∷ []) self.new) }
+        ensures deserved { IfErr result (λ fault. (rest : List ℕ)
+            → IsDeserved self.old (byte ∷ rest) fault) }
+    {
+        let token = match self.scanner.byte(byte)? {
+            None => return Ok(()),
+            Some(token) => token,
+        };
+        let result = match token.kind() {
+            Kind::Glyph(byte) => self.print(*byte),
+            Kind::LineFeed => self.line_feed(),
+            Kind::Place(row, column) => self.place(*row, *column),
+            Kind::Clear => self.clear(),
+            Kind::EraseLine => self.erase_line(),
+            Kind::Save => self.save(),
+            Kind::Restore => self.restore(),
+            Kind::Colours(parameters) => self.colour(parameters),
+            Kind::Wrap(on) => self.set_wrap(*on),
+            Kind::Tab => Err(Cause::TabByte),
+            Kind::Mode => Err(Cause::ScreenMode),
+            Kind::Keys => Err(Cause::KeyReassigned),
+            Kind::Ask => Err(Cause::ReportAsked),
+            kind => self.move_cursor(kind),
+        };
+        match result {
+            Ok(()) => Ok(()),
+            Err(cause) => Err(Fault {
+                offset: token.start(),
+                cause,
+            }),
+        }
+    }
+
+    /// The picture that every play of the bytes shows. An error is F12, where the bytes end in a
+    /// sequence, at its offset; else F25, the first cell of the stated lines that stays unknown, its
+    /// row and column counted from 1, at the number of bytes.
+    pub fn finish(self) -> Result<Picture<G>, Fault>
+        ensures { Ends self result }
+    {
+        self.scanner.end()?;
+        let width = self.size.width();
+        match self.grid.first_unknown(self.size.lines() * width) {
+            None => Ok(Picture::new(self.size, self.grid)),
+            Some(i) => Err(Fault {
+                offset: self.scanner.offset(),
+                cause: Cause::UnknownCell {
+                    row: (i / width + 1) as u16,
+                    col: (i % width + 1) as u16,
+                },
+            }),
+        }
+    }
+}
+
+// The steps: each token plays, or is refused for the fault that it shows.
+impl<G: Grid> Play<G> {
+    ghost use Rattle.ans_play.specs.HalfStep.{half_blank, after_move};
+    ghost use Rattle.ans_play.specs.Plays.{Plays};
+
+    /// Prints a byte at the cursor, which then goes on. It is refused where the cursor is not known
+    /// to stand at one position of the stated lines.
+    pub fn print(&mut self, byte: u8) -> Result<(), Cause>
+        ensures { Plays self.old self.new (Glyph byte) result }
+    {
+        if !self.cursor.is_one_position() {
+            return Err(Cause::PrintUnknownPlace);
+        }
+        let position = self.cursor.low;
+        if position.row == self.size.lines() {
+            return Err(Cause::PrintBelow);
+        }
+        let cell = HalfCell {
+            glyph: Some(byte),
+            attr: self.attribute,
+        };
+        self.grid
+            .put(position.row * self.size.width() + position.column, cell);
+        self.cursor = self.wrap.after_print(position, self.size);
+        Ok(())
+    }
+
+    /// Takes the cursor one row down. It is refused where the screen scrolls from some start.
+    pub fn line_feed(&mut self) -> Result<(), Cause>
+        ensures { Plays self.old self.new LineFeed result }
+    {
+        if self.cursor.high.row < self.size.lines() {
+            self.cursor = self.cursor.one_row_down(self.size);
+            Ok(())
+        } else if self.cursor.low.row == self.size.lines() {
+            Err(Cause::Scrolls)
+        } else {
+            Err(Cause::MayScroll)
+        }
+    }
+
+    /// Takes the cursor to a row and a column, counted from 1. It is refused where they are not on
+    /// the screen.
+    pub fn place(&mut self, row: u8, column: u8) -> Result<(), Cause>
+        ensures { Plays self.old self.new (Place row column) result }
+    {
+        if row as usize > self.size.lines() + 1 || column as usize > self.size.width() {
+            return Err(Cause::OutsideScreen);
+        }
+        self.move_cursor(&Kind::Place(row, column))
+    }
+
+    /// Moves the cursor as a token says that does nothing else. It is never refused.
+    pub fn move_cursor(&mut self, kind: &Kind) -> Result<(), Cause>
+        ensures ok { IsOk result }
+        ensures moved { self.new ≡ record self.old {
+          state = record self.old.state {
+            cursor = after_move self.old.size (shown_kind kind.now) self.old.state.cursor;
+          };
+        } }
+    {
+        self.cursor = self.cursor.after_move(kind, self.size);
+        Ok(())
+    }
+
+    /// Blanks the row from the cursor on. It is refused where the cursor is not known to stand at
+    /// one position.
+    pub fn erase_line(&mut self) -> Result<(), Cause>
+        ensures { Plays self.old self.new EraseLine result }
+    {
+        if !self.cursor.is_one_position() {
+            return Err(Cause::EraseUnknownPlace);
+        }
+        let Position { row, column } = self.cursor.low;
+        let from = row * self.size.width();
+        let blank = self.blank();
+        self.grid
+            .fill(from + column, from + self.size.width(), blank);
+        Ok(())
+    }
+
+    /// Blanks the screen, and takes the cursor home.
+    pub fn clear(&mut self) -> Result<(), Cause>
+        ensures { Plays self.old self.new Clear result }
+    {
+        let blank = self.blank();
+        self.grid
+            .fill(0, (self.size.lines() + 1) * self.size.width(), blank);
+        self.cursor = Span::at(0, 0);
+        Ok(())
+    }
+
+    /// A blank of the current attribute.
+    fn blank(&self) -> HalfCell
+        ensures { result ≡ half_blank self.now.state.attribute }
+    {
+        HalfCell {
+            glyph: Some(b' '),
+            attr: self.attribute,
+        }
+    }
+
+    /// Keeps the cursor.
+    pub fn save(&mut self) -> Result<(), Cause>
+        ensures { Plays self.old self.new Save result }
+    {
+        self.saved = self.cursor;
+        Ok(())
+    }
+
+    /// Brings the saved cursor back.
+    pub fn restore(&mut self) -> Result<(), Cause>
+        ensures { Plays self.old self.new Restore result }
+    {
+        self.cursor = self.saved;
+        Ok(())
+    }
+
+    /// Applies colour parameters to the current attribute, one after the other.
+    pub fn colour(&mut self, parameters: &[u8]) -> Result<(), Cause>
+        ensures { Plays self.old self.new (Colours parameters.now) result }
+    {
+        self.attribute = attribute_after_all(self.attribute, parameters);
+        Ok(())
+    }
+
+    /// Sets wrap on or off.
+    pub fn set_wrap(&mut self, on: bool) -> Result<(), Cause>
+        ensures { Plays self.old self.new (Wrap on) result }
+    {
+        self.wrap = WrapMode::of(on);
+        Ok(())
+    }
+}

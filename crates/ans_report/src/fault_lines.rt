@@ -1,0 +1,83 @@
+//! The lines of a refusal.
+ghost use Rattle.std.specs.Prelude.{◌≡◌};
+ghost use Rattle.ans_model.specs.Text.FaultText.{fault_text, place_text, fault_line};
+ghost use Rattle.ans_model.specs.Text.ReportText.{refusal_text};
+ghost use Rattle.ans_report.specs.Puts.{Puts};
+
+use crate::outbox::Outbox;
+use ans_sauce::{Cause, Fault};
+use std::io::Write;
+
+/// The text of a fault, without its offset and position.
+pub fn fault_text(fault: &Fault) -> &'static str
+    ensures { result.now ≡ fault_text fault.now.cause }
+{
+    match fault.cause {
+        Cause::NoRecord => "F1 no SAUCE record",
+        Cause::WrongVersion => "F2 SAUCE version is not 00",
+        Cause::WrongKind => "F3 not Character/ANSi",
+        Cause::CommentsMissing => "F4 comment block missing",
+        Cause::LinesUnstated => "F5 number of lines not stated",
+        Cause::WidthTooLarge => "F6 width above 1024",
+        Cause::LinesTooLarge => "F7 lines above 8192",
+        Cause::BytesAfterEndMark => "F8 bytes after the end mark",
+        Cause::BrokenSequence => "F9 broken sequence",
+        Cause::NumberTooLarge => "F10 number above 255",
+        Cause::TooManyParameters => "F11 more than 16 parameters",
+        Cause::EndInSequence => "F12 content ends in a sequence",
+        Cause::UnknownSequence => "F13 unknown sequence",
+        Cause::WrongParameters => "F14 wrong parameters",
+        Cause::KeyReassigned => "F15 key reassigned",
+        Cause::ScreenMode => "F16 screen mode set",
+        Cause::ReportAsked => "F17 cursor report asked",
+        Cause::TabByte => "F18 tab byte",
+        Cause::OutsideScreen => "F19 place outside the screen",
+        Cause::PrintBelow => "F20 print below the stated lines",
+        Cause::Scrolls => "F21 scrolls",
+        Cause::PrintUnknownPlace => "F22 print at an unknown place",
+        Cause::EraseUnknownPlace => "F23 erase at an unknown place",
+        Cause::MayScroll => "F24 may scroll",
+        Cause::UnknownCell { row: _, col: _ } => "F25 cell stays unknown",
+    }
+}
+
+/// Puts the position of an unknown cell, and nothing for any other cause.
+fn put_position<W: Write>(out: &mut Outbox<'_, W>, cause: &Cause)
+    ensures { Puts W.contents out.old out.new (place_text cause.now) }
+{
+    let Cause::UnknownCell { row, col } = *cause else {
+        return;
+    };
+    let mut rows = itoa::Buffer::new();
+    let mut columns = itoa::Buffer::new();
+    out.put_all(&[
+        b" (row ",
+        rows.format(row).as_bytes(),
+        b", column ",
+        columns.format(col).as_bytes(),
+        b")",
+    ]);
+}
+
+/// Puts the line of a fault.
+pub(crate) fn put_fault_line<W: Write>(out: &mut Outbox<'_, W>, fault: &Fault)
+    ensures { Puts W.contents out.old out.new (fault_line fault.now) }
+{
+    let mut offset = itoa::Buffer::new();
+    out.put_all(&[
+        b"at ",
+        offset.format(fault.offset).as_bytes(),
+        b": ",
+        fault_text(fault).as_bytes(),
+    ]);
+    put_position(out, &fault.cause);
+    out.put(b"\n");
+}
+
+/// Puts the two lines of a refusal.
+pub(crate) fn put_refusal<W: Write>(out: &mut Outbox<'_, W>, fault: &Fault)
+    ensures { Puts W.contents out.old out.new (refusal_text fault.now) }
+{
+    out.put(b"verdict: refused\n");
+    put_fault_line(out, fault);
+}

@@ -1,0 +1,64 @@
+//! The lines of a report before its verdict.
+ghost use Rattle.std.specs.Prelude.{◌≡◌, ℕ, ◌++◌, codes, decimal};
+ghost use Rattle.std.specs.List.{flat_map};
+ghost use Rattle.ans_model.specs.Text.FaultText.{line_of, note_text, note_line};
+ghost use Rattle.ans_model.specs.Text.ReportText.{start_name, heading_text};
+ghost use Rattle.ans_report.specs.Puts.{Puts};
+ghost use Rattle.ans_report.specs.Headings.{heading_of};
+
+use crate::lines::{put_named_line, put_size_line};
+use crate::outbox::Outbox;
+use ans_model::start::Start;
+use ans_sauce::{Note, Parts};
+use std::io::Write;
+
+/// The text of a note.
+pub fn note_text(note: &Note) -> &'static str
+    ensures { result.now ≡ note_text note.now }
+{
+    match note {
+        Note::WidthAssumed => "width 0 taken as 80",
+        Note::NoEndMark => "no end mark after the content",
+        Note::SizeDiffers => "file size differs from the content",
+        Note::OddDate => "date is not eight digits",
+        Note::FlagBits => "flag bits 5 to 7 are not zero",
+        Note::FlagPair => "a flag pair is 11",
+    }
+}
+
+fn start_name(start: Start) -> &'static str
+    ensures { result.now ≡ start_name start }
+{
+    match start {
+        Start::Any => "any",
+        Start::Cleared => "cleared",
+    }
+}
+
+/// Puts the line of the content's length.
+fn put_length_line<W: Write>(out: &mut Outbox<'_, W>, length: usize)
+    ensures { Puts W.contents out.old out.new
+        (line_of (codes "content: " ++ (decimal length ++ codes " bytes"))) }
+{
+    let mut digits = itoa::Buffer::new();
+    out.put_all(&[b"content: ", digits.format(length).as_bytes(), b" bytes\n"]);
+}
+
+/// Puts the notes' lines.
+pub(crate) fn put_notes<W: Write>(out: &mut Outbox<'_, W>, notes: &[Note])
+    ensures { Puts W.contents out.old out.new (flat_map note_line notes.now) }
+{
+    for note in notes {
+        put_named_line(out, b"note", note_text(note).as_bytes());
+    }
+}
+
+/// Puts the lines before the verdict.
+pub(crate) fn put_heading<W: Write>(out: &mut Outbox<'_, W>, parts: &Parts<'_>, start: Start)
+    ensures { Puts W.contents out.old out.new (heading_text (heading_of parts.now start)) }
+{
+    put_size_line(out, parts);
+    put_named_line(out, b"start", start_name(start).as_bytes());
+    put_length_line(out, parts.content().len());
+    put_notes(out, parts.notes().as_slice());
+}

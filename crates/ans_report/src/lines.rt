@@ -1,0 +1,42 @@
+//! Lines that begin with a name.
+ghost use Rattle.std.specs.Prelude.{◌≡◌, codes, decimal};
+ghost use Rattle.ans_model.specs.Screen.State.{sized};
+ghost use Rattle.ans_model.specs.Text.ReportText.{size_text};
+ghost use Rattle.ans_model.specs.Text.RecordText.{named_line};
+ghost use Rattle.ans_sauce.specs.Parts.{width_of, lines_of};
+ghost use Rattle.ans_report.specs.Puts.{Puts};
+
+use crate::outbox::Outbox;
+use ans_sauce::Parts;
+use std::io::Write;
+
+/// Puts the line of a name and a text.
+pub(crate) fn put_named_line<W: Write>(out: &mut Outbox<'_, W>, name: &[u8], text: &[u8])
+    ensures { Puts W.contents out.old out.new (named_line name.now text.now) }
+{
+    out.put_all(&[name, b": ", text, b"\n"]);
+}
+
+/// Puts the line of a name and a number.
+pub(crate) fn put_number_line<W: Write>(out: &mut Outbox<'_, W>, name: &[u8], number: u32)
+    ensures { Puts W.contents out.old out.new (named_line name.now (decimal number)) }
+{
+    let mut digits = itoa::Buffer::new();
+    put_named_line(out, name, digits.format(number).as_bytes());
+}
+
+/// Puts the line of the stated size.
+pub(crate) fn put_size_line<W: Write>(out: &mut Outbox<'_, W>, parts: &Parts<'_>)
+    ensures { Puts W.contents out.old out.new
+        (named_line (codes "size") (size_text (sized (width_of parts.now) (lines_of parts.now)))) }
+{
+    let mut width = itoa::Buffer::new();
+    let mut lines = itoa::Buffer::new();
+    out.put_all(&[
+        b"size: ",
+        width.format(parts.width()).as_bytes(),
+        b" x ",
+        lines.format(parts.lines()).as_bytes(),
+        b"\n",
+    ]);
+}
