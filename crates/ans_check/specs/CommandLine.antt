@@ -70,8 +70,7 @@ abbrev pub IsCommand : (Text × List Row) → Type 0
 IsCommand sub = (c : Command) × (sub.0 ≡ command_name c)
 
 -- The subcommand is named as the command. Its matches hold `--cleared` exactly where the start is the cleared screen
--- and
--- `--cells` exactly where the cells are asked for, and hold the file exactly where one is given, with that text.
+-- and `--cells` exactly where the cells are asked for, and hold the file exactly where one is given, with that text.
 abbrev pub AsksFor : (Text × List Row) → Options → Option Text → Type 0
 AsksFor sub o file = (sub.0 ≡ command_name o.command)
     × ((o.start ≡ Cleared) ↔ IsTrue (holds_flag (codes "cleared") sub.1))

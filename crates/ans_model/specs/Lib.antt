@@ -1,6 +1,5 @@
 -- The definitions, by rooms. What must be believed stands in Bytes, File, Sequence, Screen, Verdict and Text; the
--- other rooms
--- state laws and examples of it, and what only contracts of this repository's own insides cite.
+-- other rooms state laws and examples of it, and what only contracts of this repository's own insides cite.
 pub mod Bytes
 pub mod File
 pub mod Sequence

@@ -19,16 +19,14 @@ use Rattle.ans_play.specs.PlayView.{PlayView}
 use Rattle.ans_play.specs.PlayerView.{PlayerView}
 
 -- What is known of a state is all that is so after these tokens from every start: it describes each play, and is the
--- hull of
--- the plays from the low and the high start.
+-- hull of the plays from the low and the high start.
 pub record IsKnownAfter (z : Size) (class : Class) (tokens : List TokenKind) (h : HalfState) : Type 0 where
   pub describes : FromEvery z class (λ s. Describes h (final z s tokens))
   pub is_hull : h ≡ hull (final z (low_start z class) tokens) (final z (high_start z class) tokens)
   pub well_formed : FromEvery z class (λ s. IsWellFormed z (final z s tokens))
 
 -- The bytes are a front that is read as clean tokens, and then an open part that the scanner holds; the half-known
--- state is
--- what is known after the tokens.
+-- state is what is known after the tokens.
 pub record IsPlayed (z : Size) (class : Class) (bytes : List ℕ) (scanner : ScannerView) (h : HalfState) : Type 0 where
   pub size : IsSize z
   pub front : List ℕ

@@ -25,8 +25,7 @@ abbrev pub note_if : Bool → Note → List Note
 note_if test note = if test then note ∷ [] else []
 
 -- N1 to N6: width 0; no end mark; a file size that is neither the length of the content nor one more; a date that is
--- not eight
--- digits; an unused flag that is set; a pair of flags that is 11
+-- not eight digits; an unused flag that is set; a pair of flags that is 11
 abbrev pub notes : List ℕ → List ℕ → List Note
 notes body record_bytes =
     note_if (tinfo 1 record_bytes == 0) WidthAssumed
