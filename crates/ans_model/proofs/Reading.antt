@@ -277,7 +277,7 @@ table_well raw = (
 -- so is the meaning of each sequence
 pub means_well : (raw : Raw) → MeansWell (meaning raw)
 means_well raw =
-    err_or (not (has_a_meaning raw.letter)) UnknownSequence _ tt
+    err_or (not (has_a_meaning raw)) UnknownSequence _ tt
     (err_or (is_marked raw.mark && not (is_one_of (codes "hl") raw.letter)) UnknownSequence _ tt
     (err_or (list_any is_quoted raw.members && not (is_one_of (codes "p") raw.letter)) WrongParameters _ tt
     (look_up_well (table raw) raw.letter (table_well raw))))

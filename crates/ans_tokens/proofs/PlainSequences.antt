@@ -83,6 +83,6 @@ same_looked_up raw true e n =
 pub same_meaning : (raw : Raw) (quoted : Bool) → list_any is_quoted raw.members ≡ quoted → raw.members ≢ Omitted ∷ []
     → meaning raw ≡ meaning (plain_sequence raw.mark (map colour_number raw.members) quoted raw.letter)
 same_meaning raw quoted e n = rw (e, same_strings (map colour_number raw.members) quoted)
-    (ap (λ (v : Result TokenKind Cause). cond (not (has_a_meaning raw.letter)) (Err UnknownSequence)
+    (ap (λ (v : Result TokenKind Cause). cond (not (has_a_meaning raw)) (Err UnknownSequence)
     (cond (is_marked raw.mark && not (is_one_of (codes "hl") raw.letter)) (Err UnknownSequence) v))
     (same_looked_up raw quoted e n))

@@ -3,7 +3,7 @@
 use Rattle.std.specs.Prelude.{◌≡◌, ℕ, Bool, true, false, not, ◌&&◌, IsTrue, List, [], ◌∷◌, map, codes}
 use Rattle.std.specs.Prelude.{Result, Ok, Err, MatchResult}
 use Rattle.ans_model.specs.Bytes.{double_quote}
-use Rattle.ans_model.specs.Sequence.Spelling.{Mark, Member, Number, Quoted, Raw}
+use Rattle.ans_model.specs.Sequence.Spelling.{Mark, Unmarked, Member, Number, Quoted, Raw}
 use Rattle.ans_model.specs.Sequence.TokenKind.{TokenKind}
 use Rattle.ans_model.specs.Sequence.Meaning.{has_a_meaning, is_one_of}
 use Rattle.ans_model.specs.Inside.ShownKind.{shown_kind}
@@ -22,7 +22,8 @@ plain_sequence mark numbers quoted letter =
 
 -- the letter stands with neither a mark nor a string
 abbrev pub TakesNumbersAlone : ℕ → Type 0
-TakesNumbersAlone letter = IsTrue (has_a_meaning letter && not (is_one_of (codes "hlp") letter))
+TakesNumbersAlone letter =
+    IsTrue (has_a_meaning (plain_sequence Unmarked [] false letter) && not (is_one_of (codes "hlp") letter))
 
 -- the result is what is meant
 abbrev pub Means : Result Kind Cause → Result TokenKind Cause → Type 0

@@ -107,14 +107,14 @@ abbrev pub look_up : List Entry → ℕ → Result TokenKind Cause
 look_up [] letter = Err UnknownSequence
 look_up (e ∷ es) letter = if is_one_of e.letters letter then e.means else look_up es letter
 
--- the letter is one of the table
-abbrev pub has_a_meaning : ℕ → Bool
-has_a_meaning letter = is_one_of (codes "ABCDHfJKsumhlpn") letter
+-- the table has an entry for the letter
+abbrev pub has_a_meaning : Raw → Bool
+has_a_meaning raw = list_any (λ e. is_one_of e.letters raw.letter) (table raw)
 
 -- A mark stands with `h` and `l` alone, and a string with `p` alone.
 abbrev pub meaning : Raw → Result TokenKind Cause
 meaning raw =
-    if not (has_a_meaning raw.letter) then Err UnknownSequence
+    if not (has_a_meaning raw) then Err UnknownSequence
     else if is_marked raw.mark && not (is_one_of (codes "hl") raw.letter) then Err UnknownSequence
     else if list_any is_quoted raw.members && not (is_one_of (codes "p") raw.letter) then Err WrongParameters
     else look_up (table raw) raw.letter
