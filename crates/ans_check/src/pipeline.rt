@@ -1,10 +1,9 @@
 //! Bytes to bytes.
-ghost use Rattle.std.specs.Prelude.{◌≡◌, ◌≢◌, ◌⊎◌, ◌+◌, ◌<◌, ◌≤◌, ◌↔◌, ℕ, List, Bool, false, length, IsTrue, IfOk};
+ghost use Rattle.std.specs.Prelude.{◌≡◌, ◌≢◌, ◌⊎◌, ◌+◌, ◌<◌, ◌≤◌, ◌↔◌, ℕ, List, Bool, false, length, IsTrue, IfOk, OnErr};
 ghost use Rattle.std.specs.Prelude.{IsErr, IfErr, IfSome, IsErrOf};
-ghost use Rattle.std.specs.Io.KnownBytes.{Appends};
 ghost use Rattle.ans_model.specs.Bytes.{longest_file};
 ghost use Rattle.ans_report.specs.Tried.{call_count, has_failed, inner_of};
-ghost use Rattle.ans_report.specs.Writes.{AppendsPrefix};
+ghost use Rattle.ans_report.specs.Writes.{Wrote, WrotePrefix};
 ghost use Rattle.ans_check.specs.CommandText.{Reports, ReportsCheck, ReportsSauce, ReportsTokens, IsReportOf, is_pass};
 ghost use Rattle.ans_check.specs.Run.{HasRead};
 
@@ -47,7 +46,7 @@ fn is_pass<G: Grid>(verdict: &Verdict<'_, G>) -> bool
     matches!(verdict, Verdict::Pass(_, _))
 }
 
-/// Checks a file, and writes its report. Tells whether the file passes.
+/// Checks a file and writes its report. Returns whether the file passes.
 fn report<W: Write>(
     alloc: Global,
     writer: &mut Tried<W>,
@@ -59,12 +58,11 @@ fn report<W: Write>(
     requires length { length file.now ≤ longest_file }
     ensures ok { IfOk result (λ passed. (text : List ℕ)
         × ReportsCheck file.now start cells passed text
-        × Appends (W.contents (inner_of writer.old)) (W.contents (inner_of writer.new)) text) }
+        × Wrote W.contents writer.old writer.new text) }
     ensures prefix { IsErrOf result RunError.Write → (
         (passed : Bool) × (text : List ℕ)
         × ReportsCheck file.now start cells passed text
-        × AppendsPrefix (W.contents (inner_of writer.old)) (W.contents (inner_of writer.new))
-        text) }
+        × WrotePrefix W.contents writer.old writer.new text) }
     ensures unwritten { IfErr result (λ e. e ≢ RunError.Write → writer.new ≡ writer.old) }
     ensures write { IsErrOf result RunError.Write ↔ IsTrue (has_failed writer.new) }
     ensures errors { IfErr result (λ e. (e ≡ RunError.Memory) ⊎ (e ≡ RunError.Write)) }
@@ -76,17 +74,16 @@ fn report<W: Write>(
     Ok(is_pass(&verdict))
 }
 
-/// Writes what a file's record says, or why the file is refused. Tells whether it is accepted.
+/// Writes what a file's record says, or why the file is refused. Returns whether it is accepted.
 fn tell_record<W: Write>(writer: &mut Tried<W>, file: &[u8]) -> Result<bool, WriteFault>
     requires { has_failed writer.old ≡ false }
-    ensures fault { IsErr result ↔ IsTrue (has_failed writer.new) }
+    ensures device { IsErr result ↔ IsTrue (has_failed writer.new) }
     ensures ok { IfOk result (λ accepted. (text : List ℕ)
         × ReportsSauce file.now accepted text
-        × Appends (W.contents (inner_of writer.old)) (W.contents (inner_of writer.new)) text) }
-    ensures prefix { IfErr result (λ _. (accepted : Bool) × (text : List ℕ)
+        × Wrote W.contents writer.old writer.new text) }
+    ensures prefix { OnErr result ((accepted : Bool) × (text : List ℕ)
         × ReportsSauce file.now accepted text
-        × AppendsPrefix (W.contents (inner_of writer.old)) (W.contents (inner_of writer.new))
-        text) }
+        × WrotePrefix W.contents writer.old writer.new text) }
 {
     match split(file) {
         Ok(parts) => {
@@ -100,19 +97,18 @@ fn tell_record<W: Write>(writer: &mut Tried<W>, file: &[u8]) -> Result<bool, Wri
     }
 }
 
-/// Writes the tokens of a file's content, or why the file is refused. Tells whether it is accepted
+/// Writes the tokens of a file's content, or why the file is refused. Returns whether it is accepted
 /// and all of its content is read.
 fn tell_tokens<W: Write>(writer: &mut Tried<W>, file: &[u8]) -> Result<bool, WriteFault>
     requires works { has_failed writer.old ≡ false }
     requires length { length file.now ≤ longest_file }
-    ensures fault { IsErr result ↔ IsTrue (has_failed writer.new) }
+    ensures device { IsErr result ↔ IsTrue (has_failed writer.new) }
     ensures ok { IfOk result (λ passed. (text : List ℕ)
         × ReportsTokens file.now passed text
-        × Appends (W.contents (inner_of writer.old)) (W.contents (inner_of writer.new)) text) }
-    ensures prefix { IfErr result (λ _. (passed : Bool) × (text : List ℕ)
+        × Wrote W.contents writer.old writer.new text) }
+    ensures prefix { OnErr result ((passed : Bool) × (text : List ℕ)
         × ReportsTokens file.now passed text
-        × AppendsPrefix (W.contents (inner_of writer.old)) (W.contents (inner_of writer.new))
-        text) }
+        × WrotePrefix W.contents writer.old writer.new text) }
 {
     match split(file) {
         Ok(parts) => {
@@ -126,8 +122,8 @@ fn tell_tokens<W: Write>(writer: &mut Tried<W>, file: &[u8]) -> Result<bool, Wri
     }
 }
 
-/// Does with a file what is asked. Tells whether the file passes.
-fn answer<W: Write>(
+/// Runs the chosen command on a file. Returns whether the file passes.
+fn run_command<W: Write>(
     alloc: Global,
     writer: &mut Tried<W>,
     file: &[u8],
@@ -137,12 +133,11 @@ fn answer<W: Write>(
     requires length { length file.now ≤ longest_file }
     ensures ok { IfOk result (λ passed. (text : List ℕ)
         × Reports options.now file.now passed text
-        × Appends (W.contents (inner_of writer.old)) (W.contents (inner_of writer.new)) text) }
+        × Wrote W.contents writer.old writer.new text) }
     ensures prefix { IsErrOf result RunError.Write → (
         (passed : Bool) × (text : List ℕ)
         × Reports options.now file.now passed text
-        × AppendsPrefix (W.contents (inner_of writer.old)) (W.contents (inner_of writer.new))
-        text) }
+        × WrotePrefix W.contents writer.old writer.new text) }
     ensures unwritten { IfErr result (λ e. e ≢ RunError.Write → writer.new ≡ writer.old) }
     ensures write { IsErrOf result RunError.Write ↔ IsTrue (has_failed writer.new) }
     ensures errors { IfErr result (λ e. (e ≡ RunError.Memory) ⊎ (e ≡ RunError.Write)) }
@@ -155,14 +150,14 @@ fn answer<W: Write>(
     Ok(passed)
 }
 
-/// Reads all, and writes what the options ask of it: the report of a check, the text of the record
-/// (SAUCE 00.5), or the tokens of the content. Where the record or the layout is refused, F1 to F8,
-/// the two lines of the refusal are written instead. `Ok` tells whether the file passes: a check
-/// finds its content good, its record is accepted, or all of its content is read as tokens.
+/// Reads the whole input, and writes what the options ask of it: the report of a check, the text of
+/// the record (SAUCE 00.5), or the tokens of the content. Where the record or the layout is refused,
+/// F1 to F8, the two lines of the refusal are written instead. `Ok` says whether the file passes: a
+/// check finds its content good, its record is accepted, or all of its content is read as tokens.
 ///
 /// `Read` comes exactly where the reader failed in the call, `Write` exactly where the writer did,
-/// and `TooLong` as soon as more than 16,777,216 bytes were read. `Memory` comes where the file, or
-/// for a check its screen, found none. After `Write` a prefix of the text was written, and after any
+/// and `TooLong` as soon as more than 16,777,216 bytes were read. `Memory` comes where memory runs out
+/// for the file or, in a check, for its screen. After `Write` a prefix of the text was written, and after any
 /// other error nothing. It makes at most 16,777,218 reads.
 pub fn run<R: Read, W: Write>(
     alloc: Global,
@@ -177,13 +172,12 @@ pub fn run<R: Read, W: Write>(
     ensures ok { IfOk result (λ passed. (file : List ℕ) × (text : List ℕ)
         × HasRead (R.remaining (inner_of reader.old)) (R.remaining (inner_of reader.new)) file
         × Reports options.now file passed text
-        × Appends (W.contents (inner_of writer.old)) (W.contents (inner_of writer.new)) text) }
+        × Wrote W.contents writer.old writer.new text) }
     ensures prefix { IsErrOf result RunError.Write → (
         (file : List ℕ) × (passed : Bool) × (text : List ℕ)
         × HasRead (R.remaining (inner_of reader.old)) (R.remaining (inner_of reader.new)) file
         × Reports options.now file passed text
-        × AppendsPrefix (W.contents (inner_of writer.old)) (W.contents (inner_of writer.new))
-        text) }
+        × WrotePrefix W.contents writer.old writer.new text) }
     ensures unwritten { IfErr result (λ e. e ≢ RunError.Write → writer.new ≡ writer.old) }
 
     // When each error comes.
@@ -195,5 +189,5 @@ pub fn run<R: Read, W: Write>(
     ensures calls { call_count reader.new ≤ call_count reader.old + 16777218 }
 {
     let file = read_all(alloc, reader)?;
-    answer(alloc, writer, file.as_slice(), options)
+    run_command(alloc, writer, file.as_slice(), options)
 }

@@ -15,7 +15,7 @@ use ans_sauce::{Fault, Parts, split};
 use ans_screen::Grid;
 use std::alloc::{AllocError, Global};
 
-/// How many bytes of the content are played at once.
+/// How many bytes of the content are fed at once.
 const PIECE: usize = 4096;
 
 /// What the checker finds of a file.
@@ -27,8 +27,8 @@ pub enum Verdict<'a, G: Grid> {
     Refused(Option<Parts<'a>>, Fault),
 }
 
-/// Plays a content in pieces, on a player to which nothing is fed yet.
-fn play<G: Grid>(mut player: Player<G>, content: &[u8]) -> Result<Picture<G>, Fault>
+/// Plays the content in pieces, on a player to which nothing is fed yet.
+fn play_content<G: Grid>(mut player: Player<G>, content: &[u8]) -> Result<Picture<G>, Fault>
     requires length { length content.now ≤ longest_file }
     requires unfed { player.fed ≡ 0 }
     requires no_fault { player.fault ≡ None }
@@ -44,8 +44,8 @@ fn play<G: Grid>(mut player: Player<G>, content: &[u8]) -> Result<Picture<G>, Fa
 
 /// Checks a file: the record first, and then the play of its content from the starts of a class.
 ///
-/// The only error is want of memory; a file that is refused for its record or its layout takes
-/// none. An offset counts bytes from the file's start, which is the content's too.
+/// Fails only if memory runs out; a file that is refused for its record or its layout takes none.
+/// An offset counts bytes from the file's start, which is the content's too.
 pub fn check<G: Grid>(
     alloc: Global,
     file: &[u8],
@@ -63,7 +63,7 @@ pub fn check<G: Grid>(
         Err(fault) => return Ok(Verdict::Refused(None, fault)),
     };
     let player = Player::new(alloc, parts.width(), parts.lines(), start)?;
-    match play(player, parts.content()) {
+    match play_content(player, parts.content()) {
         Ok(picture) => Ok(Verdict::Pass(parts, picture)),
         Err(fault) => Ok(Verdict::Refused(Some(parts), fault)),
     }

@@ -4,8 +4,8 @@ use Rattle.ans_check.proofs.ReportLemmas.{failed_too, sauce_reported}
 use Rattle.ans_check.proofs.CommandLineLemmas.{err_weaker}
 use Rattle.ans_check.proofs.pipeline.tell_record.Goals as goal
 
-pub returns-in_err-write_record-in-Ok-clause-fault : goal.returns-in_err-write_record-in-Ok-clause-fault
-returns-in_err-write_record-in-Ok-clause-fault g c =
+pub returns-in_err-write_record-in-Ok-clause-device : goal.returns-in_err-write_record-in-Ok-clause-device
+returns-in_err-write_record-in-Ok-clause-device g c =
     failed_too c.from_residual.result _ _ c.from_residual.ensures.1 (c.in_err-write_record-in-Ok.ensures.device.0 refl)
 
 pub returns-in_err-write_record-in-Ok-clause-prefix : goal.returns-in_err-write_record-in-Ok-clause-prefix

@@ -18,28 +18,28 @@ returns-in-Err-clause-offset g c = refusal_within_file c.args.file.now c.in-Err.
 pub returns-in_err-player-clause-memory : goal.returns-in_err-player-clause-memory
 returns-in_err-player-clause-memory g c some = absurd (no_refusal c.args.file.now c.in-Ok.parts c.in-Ok.ensures.ok some)
 
-pub returns-in-Ok-play-clause-verdict : goal.returns-in-Ok-play-clause-verdict
-returns-in-Ok-play-clause-verdict g c =
+pub returns-in-Ok-play_content-clause-verdict : goal.returns-in-Ok-play_content-clause-verdict
+returns-in-Ok-play_content-clause-verdict g c =
     let p = c.in_ok-player.player in
     let size : p.size ≡ sized (width_of c.in-Ok.parts) (lines_of c.in-Ok.parts) =
     c.in_ok-player.ensures.new.size ∙ ap₂ sized c.width.ensures.width c.lines.ensures.lines in
-    passes c.args.file.now c.args.start p.start c.in-Ok.parts p.size c.content.result.now c.in-Ok-play.picture
-    c.in-Ok.ensures.ok size c.in_ok-player.ensures.new.start c.content.ensures c.in-Ok-play.ensures.good
+    passes c.args.file.now c.args.start p.start c.in-Ok.parts p.size c.content.result.now c.in-Ok-play_content.picture
+    c.in-Ok.ensures.ok size c.in_ok-player.ensures.new.start c.content.ensures c.in-Ok-play_content.ensures.good
 
-pub returns-in-Err-play-clause-verdict : goal.returns-in-Err-play-clause-verdict
-returns-in-Err-play-clause-verdict g c =
+pub returns-in-Err-play_content-clause-verdict : goal.returns-in-Err-play_content-clause-verdict
+returns-in-Err-play_content-clause-verdict g c =
     let p = c.in_ok-player.player in
     let size : p.size ≡ sized (width_of c.in-Ok.parts) (lines_of c.in-Ok.parts) =
     c.in_ok-player.ensures.new.size ∙ ap₂ sized c.width.ensures.width c.lines.ensures.lines in
-    refuses c.args.file.now c.args.start p.start c.in-Ok.parts p.size c.content.result.now c.in-Err-play.fault
-    c.in-Ok.ensures.ok size c.in_ok-player.ensures.new.start c.content.ensures c.in-Err-play.ensures.refused
+    refuses c.args.file.now c.args.start p.start c.in-Ok.parts p.size c.content.result.now c.in-Err-play_content.fault
+    c.in-Ok.ensures.ok size c.in_ok-player.ensures.new.start c.content.ensures c.in-Err-play_content.ensures.refused
 
-pub returns-in-Err-play-clause-exact : goal.returns-in-Err-play-clause-exact
-returns-in-Err-play-clause-exact g c =
+pub returns-in-Err-play_content-clause-exact : goal.returns-in-Err-play_content-clause-exact
+returns-in-Err-play_content-clause-exact g c =
     let p = c.in_ok-player.player in
     let size : p.size ≡ sized (width_of c.in-Ok.parts) (lines_of c.in-Ok.parts) =
     c.in_ok-player.ensures.new.size ∙ ap₂ sized c.width.ensures.width c.lines.ensures.lines in
     let refused =
-    refuses c.args.file.now c.args.start p.start c.in-Ok.parts p.size c.content.result.now c.in-Err-play.fault
-    c.in-Ok.ensures.ok size c.in_ok-player.ensures.new.start c.content.ensures c.in-Err-play.ensures.refused in
-    refused_not_good c.args.file.now c.args.start refused.0 c.in-Err-play.fault refused.2
+    refuses c.args.file.now c.args.start p.start c.in-Ok.parts p.size c.content.result.now c.in-Err-play_content.fault
+    c.in-Ok.ensures.ok size c.in_ok-player.ensures.new.start c.content.ensures c.in-Err-play_content.ensures.refused in
+    refused_not_good c.args.file.now c.args.start refused.0 c.in-Err-play_content.fault refused.2

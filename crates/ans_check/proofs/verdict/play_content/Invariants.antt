@@ -1,7 +1,7 @@
 use Rattle.std.proofs.Common.{◌≡◌, ◌≤◌, length, take, drop, None}
 use Rattle.std.specs.Slice.Iter.{chunks_rest, chunks_size}
 use Rattle.ans_play.specs.Stands.{Stands, SamePlay}
-use Rattle.ans_check.proofs.verdict.play.Given as goal
+use Rattle.ans_check.proofs.verdict.play_content.Given as goal
 
 abbrev pub invariant-loop-piece : goal.invariant-loop-piece
 invariant-loop-piece g l = record {

@@ -10,7 +10,7 @@ use Rattle.ans_play.specs.Stands.{Stands}
 use Rattle.ans_check.specs.FileVerdict.{Deserves}
 use Rattle.ans_check.proofs.CommandLineLemmas.{err_weaker}
 use Rattle.ans_check.proofs.PlayLemmas.{Cut, cut, SamePlay-then, fed_fault, last_faults, all_taken}
-use Rattle.ans_check.proofs.verdict.play.Goals as goal
+use Rattle.ans_check.proofs.verdict.play_content.Goals as goal
 
 pub loop-piece-preserved : goal.loop-piece-preserved
 loop-piece-preserved g c =
