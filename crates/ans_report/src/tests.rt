@@ -1,5 +1,5 @@
 //! The tables of texts by example, and each writer on a device that takes one byte a call and fails
-//! after so many.
+//! once it is full.
 ghost use Rattle.std.specs.Prelude.{◌≡◌, false};
 ghost use Rattle.ans_report.specs.Tried.{has_failed};
 
@@ -8,53 +8,20 @@ mod tokens;
 mod written_reports;
 
 use crate::{Tried, fault_text, glyph_text, note_text};
+use ans_samples::Narrow;
 use ans_sauce::{Cause, Fault, Note};
-use std::io::{self, Write};
 use std::process::Abort;
-
-/// Takes one byte a write, and fails once so many are held.
-#[derive(Drop)]
-struct Narrow {
-    held: [u8; 256],
-    length: usize,
-    room: usize,
-}
 
 fn room_for(room: usize) -> Tried<Narrow>
     ensures { has_failed result ≡ false }
 {
-    Tried::new(Narrow {
-        held: [0; 256],
-        length: 0,
-        room,
-    })
-}
-
-impl Write for Narrow {
-    fn write(&mut self, buf: &[u8]) -> io::Result<usize> {
-        if self.length >= self.room || self.length >= self.held.len() {
-            return Err(io::Error::from(io::ErrorKind::Other));
-        }
-        match buf.first() {
-            Some(byte) => {
-                self.held[self.length] = *byte;
-                self.length += 1;
-                Ok(1)
-            }
-            None => Ok(0),
-        }
-    }
-
-    fn flush(&mut self) -> io::Result<()> {
-        Ok(())
-    }
+    Tried::new(Narrow::new(room))
 }
 
 /// Asserts which bytes a device holds.
 fn assert_held(rt: &impl Abort, device: Tried<Narrow>, text: &[u8]) {
-    let held = device.into_inner();
-    assert!(rt; held.length <= 256);
-    assert_eq!(rt; &held.held[..held.length], text);
+    let device = device.into_inner();
+    assert_eq!(rt; device.held(), text);
 }
 
 #[test]

@@ -1,20 +1,12 @@
 //! A record, as it is written.
 use crate::tests::{assert_held, room_for};
 use crate::{WriteFault, write_record};
+use ans_samples::sample_file;
 use ans_sauce::split;
+use std::test::Fail;
 
-/// `Hi` and an end mark, one comment and a record with each field set.
-fn sample_file() -> [u8; 200] {
-    let mut file = [b' '; 200];
-    file[..13].copy_from_slice(b"Hi\x1aCOMNThello");
-    file[72..83].copy_from_slice(b"SAUCE00Test");
-    file[114..117].copy_from_slice(b"Ann");
-    file[154..162].copy_from_slice(b"19960101");
-    file[162..178].copy_from_slice(&[2, 0, 0, 0, 1, 1, 2, 0, 1, 0, 0, 0, 0, 0, 1, 1]);
-    file[178..185].copy_from_slice(b"IBM VGA");
-    file[185..].fill(0);
-    file
-}
+/// `Hi`, an end mark and one comment.
+const FRONT: &[u8] = b"Hi\x1aCOMNThello                                                           ";
 
 const SAMPLE_TEXT: &[u8] = b"title: Test\n\
     author: Ann\n\
@@ -28,8 +20,9 @@ const SAMPLE_TEXT: &[u8] = b"title: Test\n\
     comment: hello\n";
 
 #[test]
-fn a_record_is_written(rt: HostRuntime) {
-    let file = sample_file();
+fn a_record_is_written(rt: HostRuntime) -> Result<(), Fail> {
+    let edits: [(usize, &[u8]); 3] = [(7, b"Test"), (42, b"Ann"), (104, b"\x01\x01IBM VGA")];
+    let file = sample_file(rt.alloc(), FRONT, &edits)?;
     let Ok(parts) = split(&file) else {
         panic!(rt; "the sample is refused");
     };
@@ -41,16 +34,18 @@ fn a_record_is_written(rt: HostRuntime) {
         assert_eq!(rt; write_record(&mut narrow, &parts), Err(WriteFault));
         assert_held(&rt, narrow, &SAMPLE_TEXT[..room]);
     }
+    Ok(())
 }
 
 #[test]
-fn odd_fields_are_shown_as_they_are(rt: HostRuntime) {
-    let mut file = sample_file();
-    file[79] = 0xDB;
-    file[80] = 0x00;
-    file[161] = b'x';
-    file[162] = 9;
-    file[177] = 0xE1;
+fn odd_fields_are_shown_as_they_are(rt: HostRuntime) -> Result<(), Fail> {
+    let edits: [(usize, &[u8]); 4] = [
+        (7, b"\xdb\x00st"),
+        (42, b"Ann"),
+        (89, b"x\x09"),
+        (104, b"\x01\xe1IBM VGA"),
+    ];
+    let file = sample_file(rt.alloc(), FRONT, &edits)?;
     let Ok(parts) = split(&file) else {
         panic!(rt; "the file is refused");
     };
@@ -70,4 +65,5 @@ fn odd_fields_are_shown_as_they_are(rt: HostRuntime) {
         note: date is not eight digits\n\
         note: flag bits 5 to 7 are not zero\n";
     assert_held(&rt, whole, text.as_bytes());
+    Ok(())
 }

@@ -1,28 +1,22 @@
 //! Reports on files, as they are written.
-use crate::tests::{Narrow, assert_held, room_for};
+use crate::tests::{assert_held, room_for};
 use crate::{Report, Tried, WriteFault, write_refusal, write_report};
 use ans_model::start::Start;
 use ans_play::{Picture, Player};
+use ans_samples::{Narrow, sample_file};
 use ans_sauce::{Cause, Fault, Parts, split};
 use ans_screen::PlainGrid;
-use std::alloc::Global;
+use std::alloc::{AllocError, Global};
 use std::process::Abort;
 use std::test::Fail;
 
-/// The content, of at most 20 bytes, an end mark and a record of 2 columns and 1 line, and then zeros.
-fn file_of(rt: &impl Abort, content: &[u8]) -> [u8; 150] {
-    let size = content.len();
-    assert!(rt; size <= 20);
-    let mut file = [0; 150];
-    file[..size].copy_from_slice(content);
-    file[size] = 0x1A;
-    let at = size + 1;
-    file[at..at + 82].fill(b' ');
-    file[at..at + 7].copy_from_slice(b"SAUCE00");
-    file[at + 82..at + 90].copy_from_slice(b"19960101");
-    file[at + 90] = size as u8;
-    file[at + 94..at + 100].copy_from_slice(&[1, 1, 2, 0, 1, 0]);
-    file
+/// The content, of at most 20 bytes, an end mark and a record of 2 columns and 1 line.
+fn file_of(rt: &impl Abort, alloc: Global, content: &[u8]) -> Result<Vec<u8>, AllocError> {
+    let mut front = [0x1A; 21];
+    assert!(rt; content.len() <= 20);
+    front[..content.len()].copy_from_slice(content);
+    let file_size = [content.len() as u8];
+    sample_file(alloc, &front[..content.len() + 1], &[(90, &file_size)])
 }
 
 /// Writes the report of how a play ended.
@@ -64,9 +58,8 @@ fn expect_report(
     cells: bool,
     text: &[u8],
 ) -> Result<(), Fail> {
-    let file = file_of(rt, content);
-    assert!(rt; content.len() <= 20);
-    let Ok(parts) = split(&file[..content.len() + 129]) else {
+    let file = file_of(rt, alloc, content)?;
+    let Ok(parts) = split(&file) else {
         panic!(rt; "the file is refused");
     };
     assert!(rt; parts.content().len() <= 20);
