@@ -81,7 +81,7 @@ AsksFor sub o file = (sub.0 ≡ command_name o.command)
 abbrev pub AreOptionsOf : List Text → Options → Option Text → Type 0
 AreOptionsOf words o file = IsSomeAnd (subcommand_of anscheck words) (λ sub. AsksFor sub o file)
 
--- the error is want of memory
+-- memory ran out
 abbrev pub IsWantOfMemory : WordsError → Type 0
 IsWantOfMemory (words_error.Clap e) = kind_of e ≡ OutOfMemory
 IsWantOfMemory words_error.Memory = ⊤

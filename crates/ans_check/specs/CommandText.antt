@@ -48,7 +48,7 @@ pub record ReportsRecordFault (file text : List ℕ) : Type 0 where
   pub fault_is : record_fault file ≡ Some fault
   pub text_is : text ≡ refusal_text fault
 
--- The answer and the text are what a check finds of the file; a good file is not refused.
+-- Whether the file passes and the text are what a check finds of it; a good file is not refused.
 abbrev pub ReportsCheck : List ℕ → Start → Bool → Bool → List ℕ → Type 0
 ReportsCheck file start cells true text = ReportsPass file start cells text
 ReportsCheck file start cells false text = ¬ IsGoodFile file start
@@ -76,13 +76,13 @@ abbrev pub ReportsTokens : List ℕ → Bool → List ℕ → Type 0
 ReportsTokens file true text = ReportsContent file None text
 ReportsTokens file false text = ((fault : Fault) × ReportsContent file (Some fault) text) ⊎ ReportsRecordFault file text
 
--- the answer and the text are what the command is to tell of the file
+-- whether the file passes and the text are what the command is to tell of it
 abbrev pub ReportsBy : Command → Start → Bool → List ℕ → Bool → List ℕ → Type 0
 ReportsBy Check start cells file passed text = ReportsCheck file start cells passed text
 ReportsBy Sauce start cells file passed text = ReportsSauce file passed text
 ReportsBy Tokens start cells file passed text = ReportsTokens file passed text
 
--- the answer and the text are what the options ask of the file
+-- whether the file passes and the text are what the options ask of it
 abbrev pub Reports : Options → List ℕ → Bool → List ℕ → Type 0
 Reports options file passed text = ReportsBy options.command options.start options.cells file passed text
 

@@ -1,4 +1,4 @@
--- The answers of a run.
+-- What a run returns, and what it has read.
 use Rattle.std.specs.Prelude.{◌≤◌, ℕ, Bool, true, false, List, Option, Result, Ok, Err, codes, length}
 use Rattle.std.specs.Io.KnownBytes.{Consumes, IsAtEnd}
 use Rattle.ans_model.specs.Bytes.{longest_file}
@@ -20,7 +20,7 @@ run_error_of fault.Device = error.Read
 run_error_of fault.TooLong = error.TooLong
 run_error_of fault.Memory = error.Memory
 
--- the exit status of each answer
+-- the exit status of what a run returned
 abbrev pub status_of : Result Bool RunError → ℕ
 status_of (Ok true) = 0
 status_of (Ok false) = 1

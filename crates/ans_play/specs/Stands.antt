@@ -58,7 +58,7 @@ pub record SamePlay (old new : PlayerView) : Type 0 where
   pub size : new.size ≡ old.size
   pub start : new.start ≡ old.start
 
--- without a fault before and after, so many more bytes were fed
+-- without a fault before and after, this many more bytes were fed
 pub record IsFed (old new : PlayerView) (count : ℕ) : Type 0 where
   pub no_fault : old.fault ≡ None
   pub none : new.fault ≡ None

@@ -1,4 +1,4 @@
-//! Laws of the answers that a play gives: each is the contract of a function that does nothing.
+//! Laws of what a play finds: each is the contract of a function without a body.
 
 ghost use Rattle.std.specs.Prelude.{◌⊎◌, ◌≤◌, ℕ, List, All, length};
 ghost use Rattle.ans_model.specs.Bytes.{IsByte};

@@ -1,4 +1,4 @@
-//! The play of a content over one half-known state, which stands for the plays from every start.
+//! The play of the content over one half-known state, which stands for the plays from every start.
 //!
 //! A [`Player`] is fed the content in pieces, and returns the first fault. [`Player::finish`] gives
 //! the [`Picture`] that every play shows, or tells which cell stays unknown. What a player says of

@@ -1,4 +1,4 @@
-//! The picture that a content shows.
+//! The picture that the content shows.
 
 ghost use Rattle.std.specs.Prelude.{◌≡◌, ◌<◌, Some};
 

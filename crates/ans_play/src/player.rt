@@ -1,4 +1,4 @@
-//! The play of a content that is fed in pieces.
+//! The play of the content, which is fed in pieces.
 
 ghost use Rattle.std.specs.Prelude.{◌≡◌, ◌+◌, ◌≤◌, ℕ, List, [], length};
 ghost use Rattle.std.specs.Prelude.{Some, IfOk, IfErr, OnOk};

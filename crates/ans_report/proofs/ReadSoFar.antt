@@ -70,7 +70,8 @@ ReadSoFar-kept content i b old new text lt at h scans unrefused offset =
     }
 
 -- after a byte that ends a token
-pub ReadSoFar-token : (content : List ℕ) (i b : ℕ) (old new : ScannerView) (text : List ℕ) (t : Token) → i < length content
+pub ReadSoFar-token : (content : List ℕ) (i b : ℕ) (old new : ScannerView) (text : List ℕ) (t : Token)
+    → i < length content
     → get_or content i 0 ≡ b → (h : ReadSoFar content i old text) → EndsToken old new b t → new.fault ≡ None
     → new.offset ≡ old.offset + 1 → ReadSoFar content (i + 1) new (text ++ token_text t)
 ReadSoFar-token content i b old new text t lt at h scans unrefused offset =

@@ -1,4 +1,4 @@
-//! The text of a content's tokens.
+//! The text of the content's tokens.
 ghost use Rattle.std.specs.Prelude.{◌≡◌, ◌↔◌, ◌≤◌, ◌++◌, ℕ, List, Option, false, length, decimal, IsTrue};
 ghost use Rattle.std.specs.Prelude.{IsErr, IfOk, IfErr};
 ghost use Rattle.std.specs.List.{flat_map};

@@ -7,8 +7,11 @@ use std::alloc::{AllocError, Global};
 
 /// The plain record (SAUCE 00.5): Character/ANSi of 2 columns and 1 line, a file size of 2, blank
 /// texts, the date 19960101, and no comments, flags or font.
-const PLAIN: &[u8; 128] =
-    b"SAUCE00                                                                           19960101\x02\x00\x00\x00\x01\x01\x02\x00\x01\x00\x00\x00\x00\x00\x00\x00\x00\x00\x00\x00\x00\x00\x00\x00\x00\x00\x00\x00\x00\x00\x00\x00\x00\x00\x00\x00\x00\x00";
+const PLAIN: &[u8; 128] = b"SAUCE00\
+    \x20                                  \
+    \x20                                       19960101\
+    \x02\x00\x00\x00\x01\x01\x02\x00\x01\x00\x00\x00\x00\x00\x00\x00\
+    \x00\x00\x00\x00\x00\x00\x00\x00\x00\x00\x00\x00\x00\x00\x00\x00\x00\x00\x00\x00\x00\x00";
 
 /// Overwrites the bytes from an offset on, where they fit.
 fn overwrite(record: &mut [u8], at: usize, bytes: &[u8])

@@ -3,9 +3,10 @@
 //!
 //! `split` takes a file apart. Others rely on its contract: it returns `Ok` exactly where some
 //! body, comments and record lay the file out and nothing in it is refused, with the parts that
-//! they determine; otherwise the first refusal that applies, in the order of its table. Which parts belong to which file is in
-//! `specs/Split.antt`, and what the parts show in `specs/Parts.antt` and `specs/RecordBytes.antt`,
-//! over the definitions of `ans_model`: its `Layout`, `Record`, `Refusals` and `NoteConditions`.
+//! they determine; otherwise the first refusal that applies, in the order of its table. Which parts
+//! belong to which file is in `specs/Split.antt`, and what the parts show in `specs/Parts.antt` and
+//! `specs/RecordBytes.antt`, over the definitions of `ans_model`: its `Layout`, `Record`, `Refusals`
+//! and `NoteConditions`.
 #![tactic(auto)]
 
 mod layout;

@@ -19,6 +19,6 @@ pub record IsBetweenTokens (s : ScannerView) : Type 0 where
   pub nothing : s.kept ≡ Nothing
   pub unrefused : s.fault ≡ None
 
--- the scanner after so many glyphs, each a token of one byte
+-- the scanner after this many glyphs, each a token of one byte
 abbrev pub scanner_after_glyphs : ScannerView → ℕ → ScannerView
 scanner_after_glyphs s count = record s { offset = s.offset + count; open_offset = s.open_offset + count }

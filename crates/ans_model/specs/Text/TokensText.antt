@@ -1,4 +1,4 @@
--- The text of a content's tokens, up to the first fault of their reading.
+-- The text of the content's tokens, up to the first fault of their reading.
 use Rattle.std.proofs.lemmas.Bool.{and_parts}
 use Rattle.std.specs.Prelude.{◌≡◌, ◌⊎◌, ℕ, ◌+◌, true, false, List, [], ◌∷◌, ◌++◌, length, map, codes, decimal, Option}
 use Rattle.std.specs.Prelude.{Some, None}

@@ -51,6 +51,7 @@ returns-then-count-gt0-clause-printed g c =
     rw (← c.self.view_is, c.at-self-inside.ensures)
     (run_goes_on c.self.inside.size c.self.inside.scanner c.glyphs-count.new.self (g.G.Grid.cells_of c.self.inside.grid)
     (g.G.Grid.cells_of c.write_run.new.self) c.self.inside.cursor c.self.inside.saved c.self.inside.attribute
-    c.self.inside.wrap c.args.bytes.now c.glyphs-count.result run.within run.room (c.if-not-is_between_tokens.ensures.0 refl)
+    c.self.inside.wrap c.args.bytes.now c.glyphs-count.result run.within run.room
+    (c.if-not-is_between_tokens.ensures.0 refl)
     run.glyphs c.self.invariant.cells c.glyphs-count.ensures.taken
     (rw c.width.ensures.width at c.write_run.ensures.cells))
