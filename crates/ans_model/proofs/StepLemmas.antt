@@ -21,7 +21,8 @@ use Rattle.ans_model.specs.Laws.StepLaws.{NextPlace, IsPrinted, GlyphPrints, Lin
 use Rattle.ans_model.specs.Laws.StepLaws.{LineFeedScrolls}
 use Rattle.ans_model.proofs.Slices.{slice_get-append_left, slice_get-append_right, slice_get-set_same}
 use Rattle.ans_model.proofs.Slices.{slice_get-set_other, slice_get-take, slice_get-drop, slice_get-replicate}
-use Rattle.ans_model.proofs.PositionLemmas.{same_position, position_eq, row_le, index-lt, index-lt_row, one_place_an_index}
+use Rattle.ans_model.proofs.PositionLemmas.{same_position, position_eq, row_le, index-lt, index-lt_row}
+use Rattle.ans_model.proofs.PositionLemmas.{one_place_an_index}
 
 only_cursor : (s : State) (p : Position) → OnlyCursor s (record s { cursor = p })
 only_cursor s p = record { screen = refl; saved = refl; attribute = refl; wrap = refl }

@@ -15,7 +15,8 @@ use Rattle.ans_model.proofs.Reading.{token_prints}
 use Rattle.ans_model.specs.Sequence.Spelling.{IsUnfinished}
 use Rattle.ans_model.specs.Inside.ShownKind.{shown_kind}
 use Rattle.ans_tokens.proofs.Readable.{reads_as_more}
-use Rattle.ans_tokens.specs.ScannerView.{ScannerView, Holds, IsTokenOf, IsFaultOf, Kept, Keeps, Nothing, Escape, Sequence}
+use Rattle.ans_tokens.specs.ScannerView.{ScannerView, Holds, IsTokenOf, IsFaultOf, Kept, Keeps, Nothing, Escape}
+use Rattle.ans_tokens.specs.ScannerView.{Sequence}
 use Rattle.ans_tokens.proofs.EachByte.{IsOpen, open_ends}
 use Rattle.ans_model.proofs.OneAnswer.{clean_or_first}
 use Rattle.ans_tokens.specs.Token.{kind_of, start_of}

@@ -42,9 +42,10 @@ written_first : {A : Type 0} (xs : List A) (i : ℕ) (c : A) (cs : List A) → i
     written (set xs i c) (i + 1) cs ≡ written xs i (c ∷ cs)
 written_first xs i c cs l =
     let end : i + 1 + length cs ≡ i + suc (length cs) = omega arith in
-    let scanner_after_glyphs : drop (i + 1 + length cs) (set xs i c) ≡ drop (i + suc (length cs)) xs =
+    let rest_is : drop (i + 1 + length cs) (set xs i c) ≡ drop (i + suc (length cs)) xs =
     drop-set-lt (i + 1 + length cs) xs i c (omega arith) ∙ ap (λ (n : ℕ). drop n xs) end in
-    rw (take_more_set xs i c l, scanner_after_glyphs) (append_assoc (take i xs) (c ∷ []) (cs ++ drop (i + suc (length cs)) xs))
+    rw (take_more_set xs i c l, rest_is)
+    (append_assoc (take i xs) (c ∷ []) (cs ++ drop (i + suc (length cs)) xs))
 
 -- what is so of the cells and of the new ones is so of them all
 pub All-written : {A : Type 0} (P : A → Type 0) (cells : List A) (i : ℕ) (items : List A) → All P cells → All P items →
@@ -75,7 +76,8 @@ past_none : (s : ScannerView) → scanner_after_glyphs s 0 ≡ s
 past_none s = same_scanning _ _ _ _ _ _ (omega arith) (omega arith)
 
 -- one token further, and then the others
-past_more : (s : ScannerView) (n : ℕ) → scanner_after_glyphs (scanner_after_glyphs s 1) n ≡ scanner_after_glyphs s (suc n)
+past_more : (s : ScannerView) (n : ℕ) → scanner_after_glyphs (scanner_after_glyphs s 1) n ≡ scanner_after_glyphs s
+    (suc n)
 past_more s n = same_scanning _ _ _ _ _ _ (omega arith) (omega arith)
 
 -- ---- one glyph
@@ -109,7 +111,8 @@ plays_glyph z class s scanner screen row column saved attribute wrap b p between
     let none : p.open_part ≡ [] = nothing_open scanner p.open_part between p.holds in
     let begun : scanner.open_offset + length p.open_part ≡ scanner.offset = p.holds.begun_at in
     let empty : length p.open_part ≡ 0 = ap length none in
-    let holds : Holds (scanner_after_glyphs scanner 1) [] = record { keeps = rw between.nothing refl; begun_at = omega arith } in
+    let holds : Holds (scanner_after_glyphs scanner 1) [] =
+    record { keeps = rw between.nothing refl; begun_at = omega arith } in
     let after : IsPlayed z class (s ++ b ∷ []) (scanner_after_glyphs scanner 1) (half_step z h (Glyph b))
     = played_token z class s scanner (scanner_after_glyphs scanner 1) h b (Glyph b) p (rw none glyph)
     (prints_here z screen row column saved attribute wrap b above) holds refl between.unrefused in
@@ -132,7 +135,8 @@ prints_at_one_position z h b on e = by_tests (is_one_position h.cursor) (h.curso
     by_tests false q one bottom n = absurd (cc)
 
 -- ---- a run
-plays_run : (z : Size) (class : Class) (run s : List ℕ) (scanner : ScannerView) (screen : List HalfCell) (row column : ℕ)
+plays_run : (z : Size) (class : Class) (run s : List ℕ) (scanner : ScannerView) (screen : List HalfCell)
+    (row column : ℕ)
     (saved : Span) (attribute : KnownBits) (wrap : WrapMode) →
     IsPlayed z class s scanner (half_state screen (one_position row column) saved attribute wrap) →
     IsBetweenTokens scanner → All IsGlyphByte run → row < z.lines → column + length run < z.width →
@@ -148,15 +152,18 @@ plays_run z class (b ∷ run) s scanner screen row column saved attribute wrap p
     let first = plays_glyph z class s scanner screen row column saved attribute wrap b p between
     (All-head IsGlyphByte b run glyphs) above (omega arith) in
     let next : index z (at row (column + 1)) ≡ i + 1 = omega arith in
-    let later = plays_run z class run (s ++ b ∷ []) (scanner_after_glyphs scanner 1) (set screen i (printed_cell attribute b)) row
+    let later = plays_run z class run (s ++ b ∷ []) (scanner_after_glyphs scanner 1)
+    (set screen i (printed_cell attribute b)) row
     (column + 1) saved attribute wrap first
     (record { nothing = between.nothing; unrefused = between.unrefused }) (All-tail IsGlyphByte b run glyphs) above
     (omega arith) (rw length-set (omega arith)) in
-    subst (λ (xs : List ℕ). IsPlayed z class xs (scanner_after_glyphs scanner (suc (length run))) (printed (b ∷ run) column))
+    subst (λ (xs : List ℕ). IsPlayed z class xs (scanner_after_glyphs scanner (suc (length run)))
+    (printed (b ∷ run) column))
     (append_assoc s (b ∷ []) run)
     (subst (λ (c : ScannerView). IsPlayed z class ((s ++ b ∷ []) ++ run) c (printed (b ∷ run) column))
     (past_more scanner (length run))
-    (subst (λ (k : HalfState). IsPlayed z class ((s ++ b ∷ []) ++ run) (scanner_after_glyphs (scanner_after_glyphs scanner 1) (length run)) k)
+    (subst (λ (k : HalfState). IsPlayed z class ((s ++ b ∷ []) ++ run)
+    (scanner_after_glyphs (scanner_after_glyphs scanner 1) (length run)) k)
     (same_run _ _ _ _ row saved attribute wrap
     (rw next (written_first screen i (printed_cell attribute b) (printed_run attribute run) (omega arith)))
     (omega arith))
@@ -231,7 +238,8 @@ pub run_goes_on : (z : Size) (scanner after : ScannerView) (screen new : List Ha
     (attribute : KnownBits) (wrap : WrapMode)
     (bytes : List ℕ) (count : ℕ) → count ≤ length bytes → HasRoom z cursor count → IsBetweenTokens scanner →
     All IsGlyphByte (take count bytes) → length screen ≡ cell_count z →
-    after ≡ scanner_after_glyphs scanner count → new ≡ written screen (index z cursor.low) (printed_run attribute (take count bytes)) →
+    after ≡ scanner_after_glyphs scanner count
+    → new ≡ written screen (index z cursor.low) (printed_run attribute (take count bytes)) →
     GoesOn
     (play_view z scanner (half_state screen cursor saved attribute wrap))
     (take count bytes)

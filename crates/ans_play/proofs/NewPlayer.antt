@@ -123,7 +123,8 @@ fits_any z scanner cells c s wrap size b d e =
     })) e
 
 -- of the cleared start
-pub fits_cleared : (z : Size) (scanner : ScannerView) (cells : List HalfCell) (c : HalfCell) (s : Span) (wrap : WrapMode) →
+pub fits_cleared : (z : Size) (scanner : ScannerView) (cells : List HalfCell) (c : HalfCell) (s : Span)
+    (wrap : WrapMode) →
     IsSize z →
     c ≡ half_cell (Some 0x20) (known_bits 255 7) → s ≡ one_position 0 0 →
     cells ≡ replicate (z.width * (z.lines + 1)) c →
