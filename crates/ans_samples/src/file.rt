@@ -14,11 +14,11 @@ const PLAIN: &[u8; 128] = b"SAUCE00\
     \x00\x00\x00\x00\x00\x00\x00\x00\x00\x00\x00\x00\x00\x00\x00\x00\x00\x00\x00\x00\x00\x00";
 
 /// Overwrites the bytes from an offset on, where they fit.
-fn overwrite(record: &mut [u8], at: usize, bytes: &[u8])
-    ensures { record.new ≡ overwritten record.old at bytes.now }
+fn overwrite(sauce: &mut [u8], at: usize, bytes: &[u8])
+    ensures { sauce.new ≡ overwritten sauce.old at bytes.now }
 {
-    if at <= record.len() && bytes.len() <= record.len() - at {
-        record[at..at + bytes.len()].copy_from_slice(bytes);
+    if at <= sauce.len() && bytes.len() <= sauce.len() - at {
+        sauce[at..at + bytes.len()].copy_from_slice(bytes);
     }
 }
 
@@ -33,11 +33,11 @@ pub fn sample_file(
 ) -> Result<Vec<u8>, AllocError>
     ensures { IfOk result (λ v. v.items ≡ front.now ++ edited PLAIN.now edits.now) }
 {
-    let mut record = *PLAIN;
+    let mut sauce = *PLAIN;
     for (at, bytes) in edits {
-        overwrite(&mut record, *at, bytes);
+        overwrite(&mut sauce, *at, bytes);
     }
     let mut file = front.to_vec(alloc)?;
-    file.extend_from_slice(&record)?;
+    file.extend_from_slice(&sauce)?;
     Ok(file)
 }
