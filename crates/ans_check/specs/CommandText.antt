@@ -42,7 +42,7 @@ pub record ReportsFault (file : List ℕ) (start : Start) (text : List ℕ) : Ty
   pub refused : IsRefusedFor file start apart fault
   pub text_is : text ≡ report_text (heading apart start) (RefusedFor fault)
 
--- the file's record or its layout has a fault, and the text tells it
+-- the file's record or its layout has a fault, and the text reports it
 pub record ReportsRecordFault (file text : List ℕ) : Type 0 where
   pub fault : Fault
   pub fault_is : record_fault file ≡ Some fault
@@ -60,7 +60,7 @@ pub record ReportsRecord (file text : List ℕ) : Type 0 where
   pub accepts : Accepts file apart
   pub text_is : text ≡ record_text apart
 
--- the file's record is told, or why it is refused
+-- the file's record is reported, or why it is refused
 abbrev pub ReportsSauce : List ℕ → Bool → List ℕ → Type 0
 ReportsSauce file true text = ReportsRecord file text
 ReportsSauce file false text = ReportsRecordFault file text
@@ -71,12 +71,12 @@ pub record ReportsContent (file : List ℕ) (fault : Option Fault) (text : List 
   pub accepts : Accepts file apart
   pub text_is : TokensText (content apart.body) fault text
 
--- The content's tokens are told; where a fault ends their reading, or the record is refused, the file does not pass.
+-- The content's tokens are listed; where a fault ends their reading, or the record is refused, the file does not pass.
 abbrev pub ReportsTokens : List ℕ → Bool → List ℕ → Type 0
 ReportsTokens file true text = ReportsContent file None text
 ReportsTokens file false text = ((fault : Fault) × ReportsContent file (Some fault) text) ⊎ ReportsRecordFault file text
 
--- whether the file passes and the text are what the command is to tell of it
+-- whether the file passes and the text are what the command is to write of it
 abbrev pub ReportsBy : Command → Start → Bool → List ℕ → Bool → List ℕ → Type 0
 ReportsBy Check start cells file passed text = ReportsCheck file start cells passed text
 ReportsBy Sauce start cells file passed text = ReportsSauce file passed text

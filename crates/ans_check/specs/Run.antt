@@ -14,7 +14,7 @@ run_error_text error.TooLong = codes "file above 16777216 bytes"
 run_error_text error.Memory = codes "out of memory"
 run_error_text error.Write = codes "cannot write the report"
 
--- the error of a run whose reading failed so
+-- the error of a run for each way that reading fails
 abbrev pub run_error_of : ReadFault → RunError
 run_error_of fault.Device = error.Read
 run_error_of fault.TooLong = error.TooLong

@@ -153,7 +153,7 @@ accepted file h =
       },
     )
 
--- the front of a file that is laid out: its block is block_found, and its body
+-- the front of a file that is laid out: its block is found, and its body
 record Found (n : ℕ) (body front : List ℕ) : Type 0 where
   has : has_block n front ≡ true
   body_is : take (length front - block_size n) front ≡ body

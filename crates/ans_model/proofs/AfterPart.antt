@@ -92,7 +92,7 @@ tail_parts (d ∷ done) [] l x front v hl hd h = absurd (done_no_letter d done l
 tail_parts [] (m ∷ ms) l x front v hl hd h = inr (peel [] m ms l x front v hl hd h.1)
 tail_parts (d ∷ done) (m ∷ ms) l x front v hl hd h = inr (peel (d ∷ done) m ms l x front v hl hd h.1)
 
--- in and_parts cases a member and what stands behind it come next
+-- in both cases a member and what stands after it come next
 pub tail_next : (done ms : List Member) (l : ℕ) (x front v : List ℕ) → is_ascii_alphabetic l ≡ true
     → SpellsDone done front → Tail ms l x (front ++ v) → (n : Member) × Next n v
 tail_next done ms l x front v hl hd h =

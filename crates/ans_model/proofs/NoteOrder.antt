@@ -23,7 +23,7 @@ increasing (x ∷ y ∷ xs) h (suc k) l =
     let next : suc k + 1 ≡ suc (k + 1) = omega arith in
     rw next (increasing (y ∷ xs) (and_parts (nat_lt x y) (rises (y ∷ xs)) h).1 k (omega arith))
 
--- a test of and_parts truth values
+-- a test of both truth values
 abbrev every : (Bool → Bool) → Bool
 every q = q true && q false
 

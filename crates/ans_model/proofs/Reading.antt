@@ -86,7 +86,7 @@ one_list_of_texts (t ∷ ts) (u ∷ us) (a ∷ xs) (b ∷ zs) h g e =
 pub one_reading : (bytes : List ℕ) (ts us : List TokenKind) → Reads bytes ts → Reads bytes us → ts ≡ us
 one_reading bytes ts us h g = one_list_of_texts ts us h.0 g.0 h.1.each g.1.each (sym h.1.whole ∙ g.1.whole)
 
--- of two one_begins_the_other of one list, one begins the other
+-- of two fronts of one list, one begins the other
 pub one_begins_the_other : (a b x y : List ℕ) → a ++ x ≡ b ++ y → ((w : List ℕ) × (a ≡ b ++ w))
     ⊎ ((c : ℕ) × (w : List ℕ) × (b ≡ a ++ c ∷ w) × (x ≡ c ∷ (w ++ y)))
 one_begins_the_other a [] x y e = inl (a, refl)

@@ -18,7 +18,7 @@ pub enum Cause {
     WidthTooLarge,
     /// F7: there are more than 8192 lines.
     LinesTooLarge,
-    /// F8: a byte after the first end mark is no end mark.
+    /// F8: a byte after the first end mark is not an end mark.
     BytesAfterEndMark,
     /// F9: a byte that no sequence has at its place.
     BrokenSequence,

@@ -227,7 +227,7 @@ fn machine_from(
 }
 
 impl Machine {
-    /// The lowest start of a class: each part that is not known has its least value. For `Cleared`
+    /// The low start of a class: each part that is not known has its least value. For `Cleared`
     /// this is the cleared state.
     pub fn low(alloc: Global, size: Size, start: Start) -> Result<Machine, AllocError>
         ensures { IfOk result (λ m. m ≡ machine_view size (low_start size (class_of start))) }
@@ -235,7 +235,7 @@ impl Machine {
         machine_from(alloc, size, start, 0x00, HOME, false)
     }
 
-    /// The highest start of a class: each part that is not known has its greatest value. For
+    /// The high start of a class: each part that is not known has its greatest value. For
     /// `Cleared` this is the cleared state.
     pub fn high(alloc: Global, size: Size, start: Start) -> Result<Machine, AllocError>
         ensures { IfOk result (λ m. m ≡ machine_view size (high_start size (class_of start))) }

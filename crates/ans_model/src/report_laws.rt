@@ -29,8 +29,8 @@ pub fn own_characters()
     ensures zero { glyph_text 0x00 ≡ glyph_text blank }
 {}
 
-/// A fault's line tells the fault, and a note's line the note. The text of a cause tells the cause,
-/// but for an unknown cell's place.
+/// A fault's line determines the fault, and a note's line the note. The text of a cause determines
+/// the cause, but for an unknown cell's position.
 pub fn own_lines()
     ensures fault { (f g : Fault) → FitsTypes f → FitsTypes g
         → fault_line f ≡ fault_line g → f ≡ g }

@@ -1,6 +1,6 @@
 //! The states that a play may begin from.
 
-/// A class of starting states.
+/// A class of starts.
 #[derive(Debug, Clone, Copy, PartialEq, Eq)]
 pub enum Start {
     /// Every state: any screen, cursor, saved cursor and attribute, wrap on or off.

@@ -28,8 +28,8 @@ pub fn one_reading()
         → Reads bytes tokens → All PrintsByte tokens }
 {}
 
-/// No reading begins with a text that the reading refuses, nothing that is spelled goes on, and
-/// what goes on is no reading.
+/// Bytes that begin with a refused text have no reading. Unfinished bytes have none either, and
+/// nothing that is spelled is unfinished.
 pub fn refused_or_read()
     ensures refused { (text rest : List ℕ) (cause : Cause) (tokens : List TokenKind)
         → IsRefused text cause → Reads (text ++ rest) tokens → ⊥ }
@@ -38,7 +38,7 @@ pub fn refused_or_read()
     ensures ended { (raw : Raw) (text : List ℕ) → Spells raw text → IsUnfinished text → ⊥ }
 {}
 
-/// Bytes are good, or have one first fault, or have one last fault: two of these never.
+/// Bytes never have two of these: being good, a first fault, a last fault; and each fault is unique.
 pub fn one_answer()
     ensures one_first_fault { (z : Size) (class : Class) (bytes : List ℕ) (f g : Fault)
         → IsFirstFault z class bytes f → IsFirstFault z class bytes g → f ≡ g }

@@ -21,7 +21,7 @@ use Rattle.ans_play.proofs.Positions.{low_on_screen, none_in_spare_row, one_posi
 
 module _ (z : Size) (class : Class) (played : List TokenKind) (h : HalfState) (w : 0 < z.width)
     (st : IsKnownAfter z class played h) where
-  -- where it shows none, the token is token_is_allowed
+  -- where it shows none, the token is allowed
   print_is_allowed : (b : ℕ) (p q : Bool) → is_one_position h.cursor ≡ p → (h.cursor.low.row == z.lines) ≡ q →
       (if p then (if q then Some PrintBelow else None) else Some PrintUnknownPlace) ≡ None → IsAllowed z h (Glyph b)
   print_is_allowed b true true one bottom e = absurd (cc)

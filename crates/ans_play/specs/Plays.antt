@@ -16,7 +16,7 @@ Plays old new t result = MatchResult result
     (λ _. (half_fault old.size old.state t ≡ None) × (new ≡ after_token old t))
     (λ cause. (half_fault old.size old.state t ≡ Some cause) × (new ≡ old))
 
--- So many columns stand between the cursor and its row's last one where a glyph is printed, and none where it is
+-- This many columns stand between the cursor and its row's last one where a glyph is printed, and none where it is
 -- refused.
 pub record AreFree (p : PlayView) (columns : ℕ) : Type 0 where
   pub printed : (byte : ℕ) → half_fault p.size p.state (Glyph byte) ≡ None →

@@ -18,7 +18,7 @@ use ans_sauce::{Fault, Parts};
 use ans_screen::Grid;
 use std::io::Write;
 
-/// What is told of a file.
+/// What a report says of a file.
 #[derive(Drop)]
 pub enum Report<'a, G: Grid> {
     /// The content plays well from every start, and shows the picture. `cells` says whether each

@@ -1,4 +1,4 @@
-//! The texts of a record.
+//! Texts without their padding.
 ghost use Rattle.std.specs.Prelude.{◌≡◌, ◌||◌, ◌==◌};
 ghost use Rattle.ans_model.specs.File.Record.{is_padding, trimmed};
 

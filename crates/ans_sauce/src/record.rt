@@ -56,8 +56,8 @@ impl<'a> Record<'a> {
         trimmed(self.field(62, 20))
     }
 
-    /// The date, as CCYYMMDD where the record keeps to its layout; whether it does says
-    /// `Note::OddDate`.
+    /// The date, as CCYYMMDD where the record keeps to its layout; `Note::OddDate` says
+    /// where it does not.
     pub fn date(&self) -> &'a [u8]
         ensures { result.now ≡ trimmed (date_field (bytes_of self.now)) }
     {
@@ -72,7 +72,7 @@ impl<'a> Record<'a> {
     }
 
     /// The stated size in bytes of the file without its record (FileSize). Nothing else rests on
-    /// it; whether it fits says `Note::SizeDiffers`.
+    /// it; `Note::SizeDiffers` says where it does not fit.
     pub fn file_size(&self) -> u32
         ensures { result ≡ file_size (bytes_of self.now) }
     {

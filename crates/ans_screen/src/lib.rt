@@ -2,8 +2,8 @@
 //!
 //! An attribute is known by its bits, a glyph whole or not at all. [`Attr::apply`] keeps all that
 //! can be known, and no more. A [`Grid`] is a width, a number of rows and a list of partly known
-//! cells in row order; each call of it is exact. The definitions stand in `specs/KnownBits.antt`
-//! and `specs/GridEdits.antt`.
+//! cells in row order; each call of it is exact. The definitions stand in `specs/KnownBits.antt`,
+//! `specs/HalfCells.antt` and `specs/GridEdits.antt`.
 #![tactic(auto)]
 
 mod attr;

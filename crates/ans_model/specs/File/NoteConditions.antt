@@ -8,7 +8,7 @@ use Rattle.ans_model.specs.declared.note.Note.TheVariants.{FlagPair}
 use Rattle.ans_model.specs.File.Record.{tinfo, file_size, date_field, flags}
 use Rattle.ans_model.specs.File.Layout.{content, is_end_mark}
 
--- the flags' three highest bits, and the two pairs of letter spacing and aspect ratio
+-- the flags' three highest bits, which have no meaning
 abbrev pub unused_flags : ℕ
 unused_flags = 0xE0
 

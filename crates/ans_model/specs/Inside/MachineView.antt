@@ -1,5 +1,4 @@
 -- The plain machine, as contracts see it: a state with its size.
-use Rattle.std.proofs.lemmas.Bool.{and_parts}
 use Rattle.std.specs.Prelude.{◌≤◌, Bool, replicate}
 use Rattle.ans_model.specs.Bytes.{most_columns, most_lines}
 use Rattle.ans_model.specs.Screen.State.{Size, State, cell_count, FitsScreen}
@@ -27,7 +26,7 @@ pub record IsMachineView (m : MachineView) : Type 0 where
 abbrev pub machine_view : Size → State → MachineView
 machine_view size state = record { size = size; state = state }
 
--- all cells are this one, whose attribute is the current one, and and_parts cursors stand here
+-- all cells are this one, whose attribute is the current one, and both cursors stand here
 abbrev pub uniform_state : Size → Cell → Position → Bool → State
 uniform_state z cell cursor wrap = record {
   screen = replicate (cell_count z) cell;

@@ -13,7 +13,7 @@ use Rattle.ans_model.specs.Screen.StartClass.{Class, low_start, high_start}
 use Rattle.ans_model.specs.Verdict.TokenFault.{IsInSpareRow}
 use Rattle.ans_model.specs.Verdict.LastFault.{IsBefore}
 
--- the state after these tokens from the low start, and from the high start
+-- the state after these tokens from the low start
 abbrev pub low_final : Size → Class → List TokenKind → State
 low_final z class tokens = final z (low_start z class) tokens
 

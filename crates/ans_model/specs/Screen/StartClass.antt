@@ -1,5 +1,4 @@
 -- The starting states of a class, and its two extreme ones.
-use Rattle.std.proofs.lemmas.Bool.{and_parts}
 use Rattle.std.specs.Prelude.{◌≡◌, ◌-◌, Bool, true, false, replicate, IsTrue, if◌then◌else◌}
 use Rattle.ans_model.specs.Screen.State.{Size, State, at, cell, cell_count, IsWellFormed}
 use Rattle.ans_model.specs.Screen.Step.{blank_cell}
@@ -19,7 +18,7 @@ abbrev pub class_of : Start → Class
 class_of Any = record { screen = false; cursor = false; saved = false; attribute = false; wrap = false }
 class_of Cleared = record { screen = true; cursor = true; saved = true; attribute = true; wrap = true }
 
--- blank cells of white on black, and_parts cursors at home, wrap on (profile)
+-- blank cells of white on black, both cursors at home, wrap on (profile)
 abbrev pub cleared : Size → State
 cleared z = record {
   screen = replicate (cell_count z) (blank_cell 0x07);

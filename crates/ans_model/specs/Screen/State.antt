@@ -1,5 +1,4 @@
 -- The machine's state: a screen of one row more than the stated lines, two cursors, an attribute and wrap.
-use Rattle.std.proofs.lemmas.Bool.{and_parts}
 use Rattle.std.specs.Prelude.{◌≡◌, ℕ, ◌+◌, ◌*◌, ◌<◌, ◌≤◌, Bool, List, length, All, Option, slice_get}
 use Rattle.ans_model.specs.Bytes.{IsByte}
 use Rattle.ans_model.specs.declared.cell.Cell.{Cell}
@@ -59,7 +58,7 @@ IsStated z p = (p.row < z.lines) × (p.column < z.width)
 abbrev pub IsByteCell : Cell → Type 0
 IsByteCell c = IsByte c.byte × IsByte c.attribute
 
--- the cells are those of the screen, and and_parts cursors stand on it
+-- the cells are those of the screen, and both cursors stand on it
 pub record FitsScreen (z : Size) (s : State) : Type 0 where
   pub cells : length s.screen ≡ cell_count z
   pub cursor : IsOnScreen z s.cursor

@@ -1,5 +1,4 @@
 -- The text of the content's tokens, up to the first fault of their reading.
-use Rattle.std.proofs.lemmas.Bool.{and_parts}
 use Rattle.std.specs.Prelude.{◌≡◌, ◌⊎◌, ℕ, ◌+◌, true, false, List, [], ◌∷◌, ◌++◌, length, map, codes, decimal, Option}
 use Rattle.std.specs.Prelude.{Some, None}
 use Rattle.std.specs.List.{join_with_byte}
@@ -65,7 +64,7 @@ abbrev pub fault_end : Option Fault → List ℕ
 fault_end None = []
 fault_end (Some fault) = fault_line fault
 
--- the content's tokens, the fault that ends their reading, and the text of and_parts
+-- the content's tokens, the fault that ends their reading, and the text of both
 pub record TokensText (content : List ℕ) (fault : Option Fault) (text : List ℕ) : Type 0 where
   pub front : List ℕ
   pub left : List ℕ
