@@ -1,11 +1,11 @@
--- The play of a content in pieces.
-use Rattle.std.proofs.Common.{◌≡◌, ℕ, ◌+◌, ◌≤◌, List, ◌++◌, length, take, drop, Some, sym, ap, subst, ◌∙◌, arith}
+-- Playing the content in pieces.
+use Rattle.std.proofs.Common.{◌≡◌, ℕ, ◌+◌, ◌≤◌, List, ◌++◌, length, take, drop, sym, ap, subst, ◌∙◌, arith}
 use Rattle.std.proofs.Common.{append_assoc, length-append, take-append-drop, inl, inr}
 use Rattle.std.specs.Prelude.{Result, Ok, Err, IfErr}
 use Rattle.std.proofs.lemmas.List.{length-take-le, take_all}
 use Rattle.std.proofs.Math.Seq.{drop-append_seam, take-append_seam}
 use Rattle.ans_model.specs.Screen.State.{Size}
-use Rattle.ans_model.specs.Screen.StartClass.{Class, class_of}
+use Rattle.ans_model.specs.Screen.StartClass.{class_of}
 use Rattle.ans_model.specs.Verdict.FirstFault.{IsFirstFault}
 use Rattle.ans_model.specs.Verdict.LastFault.{IsLastFault}
 use Rattle.ans_model.specs.declared.fault.Fault.{Fault}

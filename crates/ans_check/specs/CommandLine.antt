@@ -82,6 +82,6 @@ abbrev pub AreOptionsOf : List Text → Options → Option Text → Type 0
 AreOptionsOf words o file = IsSomeAnd (subcommand_of anscheck words) (λ sub. AsksFor sub o file)
 
 -- memory ran out
-abbrev pub IsWantOfMemory : WordsError → Type 0
-IsWantOfMemory (words_error.Clap e) = kind_of e ≡ OutOfMemory
-IsWantOfMemory words_error.Memory = ⊤
+abbrev pub RanOutOfMemory : WordsError → Type 0
+RanOutOfMemory (words_error.Clap e) = kind_of e ≡ OutOfMemory
+RanOutOfMemory words_error.Memory = ⊤

@@ -8,12 +8,11 @@ use Rattle.ans_model.specs.Screen.StartClass.{class_of}
 use Rattle.ans_model.specs.Verdict.Good.{Picture, GoodWith}
 use Rattle.ans_model.specs.Verdict.FirstFault.{IsFirstFault}
 use Rattle.ans_model.specs.Verdict.LastFault.{IsLastFault}
-use Rattle.ans_model.specs.Laws.Certain.{IsCertain}
-use Rattle.ans_model.specs.Laws.TwoStarts.{IsShownByTwoStarts}
+use Rattle.ans_model.specs.Verdict.Certain.{IsCertain}
+use Rattle.ans_model.specs.Verdict.TwoStarts.{IsShownByTwoStarts}
 use Rattle.ans_model.specs.declared.fault.Fault.{Fault}
 use Rattle.ans_model.specs.declared.start.Start.{Start}
 use Rattle.ans_model.specs.declared.start.Start.TheVariants.{Cleared}
-use Rattle.ans_sauce.specs.declared.parts.Parts.{Parts}
 use Rattle.ans_sauce.specs.Parts.{ShowsParts}
 use Rattle.ans_check.specs.declared.verdict.Verdict.{Verdict}
 use Rattle.ans_check.specs.declared.verdict.Verdict.TheVariants.{Pass, Refused}

@@ -2,7 +2,7 @@
 ghost use Rattle.std.specs.Prelude.{◌≡◌, true, IfOk, option_map, string_bytes, codes, IfSome, IfNone, IfErr};
 ghost use Rattle.std.specs.Prelude.{IsSomeAnd, IsTrue, ◌↔◌};
 ghost use Rattle.clap.specs.Words.{app_of, first_of, found_of, rows_of, subcommand_rows_of, takes};
-ghost use Rattle.ans_check.specs.CommandLine.{AreOptionsOf, AsksFor, IsCommand, IsNoCommand, IsWantOfMemory};
+ghost use Rattle.ans_check.specs.CommandLine.{AreOptionsOf, AsksFor, IsCommand, IsNoCommand, RanOutOfMemory};
 ghost use Rattle.ans_check.specs.CommandLine.{anscheck, check_app, command_name, file_app, holds_flag, texts_of};
 ghost use Rattle.ans_check.specs.declared.command_line.WordsError.TheVariants.{Clap};
 
@@ -114,7 +114,7 @@ fn command_named(name: &str) -> Option<Command>
 }
 
 /// The class of starts that the flag asks for.
-fn start_of(cleared: bool) -> Start
+fn start_for(cleared: bool) -> Start
     ensures { (result ≡ Start.Cleared) ↔ IsTrue cleared }
 {
     if cleared { Start::Cleared } else { Start::Any }
@@ -145,7 +145,7 @@ fn options_of(command: Command, matches: &ArgMatches<'_>) -> Options
 {
     Options {
         command,
-        start: start_of(holds(matches, "cleared")),
+        start: start_for(holds(matches, "cleared")),
         cells: holds(matches, "cells"),
     }
 }
@@ -180,7 +180,7 @@ pub fn options(alloc: Global, words: &[&str]) -> Result<(Options, Option<String>
     ensures ok { IfOk result (λ r.
         AreOptionsOf (texts_of words.now) r.0 (option_map string_bytes r.1)) }
     ensures refuses { IfErr result (λ e.
-        takes anscheck (texts_of words.now) ≡ true → IsWantOfMemory e) }
+        takes anscheck (texts_of words.now) ≡ true → RanOutOfMemory e) }
 {
     let program = match program(alloc) {
         Ok(program) => program,

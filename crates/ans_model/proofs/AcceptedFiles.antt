@@ -14,7 +14,7 @@ use Rattle.ans_model.specs.File.Layout.{FileParts, file_parts, Laid, comment_blo
 use Rattle.ans_model.specs.File.Refusals.{first_refusal, block_size, has_block, has_record, refusals, record_fault}
 use Rattle.ans_model.specs.File.Refusals.{Accepts}
 
--- the first does not apply, and none behind it
+-- the first does not apply, and none after it
 not_first : (b : Bool) (f : Fault) (r : Option Fault) → (if b then Some f else r) ≡ None → (b ≡ false) × (r ≡ None)
 not_first true f r e = absurd (some_none f e)
   where

@@ -23,7 +23,7 @@ use Rattle.ans_model.proofs.Spelling.{one_member_in_front, letter_stops, semicol
 use Rattle.ans_model.proofs.Spelling.{digit_no_mark, quote_no_mark, begins_no_mark, tail_first, one_mark_in_front}
 use Rattle.ans_model.proofs.Spelling.{in_front}
 
--- a member, and what stands behind it
+-- a member, and what follows it
 pub record Next (member : Member) (bytes : List ℕ) : Type 0 where
   pub text : List ℕ
   pub stop : ℕ
@@ -210,7 +210,7 @@ member_texts (d ∷ done) current front last hd h =
     let t = done_texts (d ∷ done) (member_of current) front (last ++ lacks current) hd (completed current last h) in
     (t.0 ∷ t.1, t.2, not_omitted d done (member_of current), t.3)
 
--- A letter, behind what is lacking, completes a part.
+-- A letter after what is lacking completes a part.
 pub finish : (p : Part) (y : List ℕ) (l : ℕ) → LoosePart p y → is_ascii_alphabetic l ≡ true
     → Loose (raw_of p l) (y ++ (lacks p.current ++ l ∷ []))
 finish p y l h hl =
@@ -289,7 +289,7 @@ part_unfinished p y h = record {
 pub part_loose : (p : Part) (y : List ℕ) → LoosePart p y → IsPrefixOfLoose y
 part_loose p y h = record { raw = raw_of p 0x6D; rest = lacks p.current ++ 0x6D ∷ []; spelled = finish p y 0x6D h refl }
 
--- Only behind `[` itself may a mark come.
+-- Only directly after `[` may a mark come.
 abbrev pub IsUnmarkedThere : Part → ℕ → Type 0
 IsUnmarkedThere p b = p.mark ≡ Unmarked → p.done ≡ [] → p.current ≡ Fresh → is_mark_byte b ≡ false
 
@@ -443,7 +443,7 @@ done_more (d ∷ done) m front last hd h = (
 long_members : (done : List Member) (n : Member) (ns : List Member) → suc (length done) ≤ length (done ++ n ∷ ns)
 long_members done n ns = rw (length-append done (n ∷ ns)) (omega arith)
 
--- A `;` behind the sixteenth member is in no spelling.
+-- No spelling has a `;` after the sixteenth member.
 pub refuses_count : (p : Part) (y : List ℕ) (m : Member) (h : LoosePart p y) → SpellsMember m h.last
     → length p.done ≡ 15 → ¬ IsPrefixOfSpelling (y ++ semicolon ∷ [])
 refuses_count p y m h hm len s =

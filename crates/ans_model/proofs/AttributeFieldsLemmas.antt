@@ -1,5 +1,5 @@
 -- What a parameter does to each field, shown for each byte.
-use Rattle.std.proofs.Common.{◌≡◌, ◌⊎◌, inl, inr, ℕ, zero, suc, ◌+◌, ◌<◌, Bool, true, false, refl, sym, subst, arith}
+use Rattle.std.proofs.Common.{◌≡◌, inl, inr, ℕ, zero, suc, ◌+◌, ◌<◌, Bool, true, refl, sym, subst, arith}
 use Rattle.std.specs.Prelude.{◌&&◌, ◌==◌}
 use Rattle.std.proofs.lemmas.Bool.{eqb-true, cases_eq, and_parts}
 use Rattle.ans_model.specs.Screen.Attribute.{attribute_after}

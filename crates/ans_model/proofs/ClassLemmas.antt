@@ -1,11 +1,10 @@
 -- The two public classes of starts.
-use Rattle.std.proofs.Common.{◌≡◌, true, refl, sym, ap, ◌∙◌, subst, List, IsTrue, Bool, ℕ}
-use Rattle.std.specs.Prelude.{◌↔◌}
-use Rattle.ans_model.specs.declared.start.Start.TheVariants.{Any, Cleared}
+use Rattle.std.proofs.Common.{◌≡◌, refl, sym, subst, List, Bool, ℕ}
+use Rattle.ans_model.specs.declared.start.Start.TheVariants.{Cleared}
 use Rattle.ans_model.specs.declared.cell.Cell.{Cell}
 use Rattle.ans_model.specs.declared.cell.Position.{Position}
-use Rattle.ans_model.specs.Screen.State.{Size, State, IsWellFormed}
-use Rattle.ans_model.specs.Screen.StartClass.{class_of, cleared, IsStart, low_start}
+use Rattle.ans_model.specs.Screen.State.{State}
+use Rattle.ans_model.specs.Screen.StartClass.{class_of, IsStart}
 use Rattle.ans_model.specs.Laws.StartLaws.{AnyIsEvery, ClearedIsOne, LowIsStart, HighIsStart}
 use Rattle.ans_model.proofs.StartLemmas.{low_is_start, high_is_start}
 

@@ -2,19 +2,16 @@
 use Rattle.std.proofs.Common.{◌≡◌, ◌≢◌, inl, inr, ℕ, ◌+◌, Bool, true, false, refl, ap, ◌∙◌, List, take, Some}
 use Rattle.std.specs.Prelude.{if◌then◌else◌, nat_lt, slice_get}
 use Rattle.std.proofs.lemmas.Bool.{cases_eq, ne_eqb}
-use Rattle.ans_model.specs.Sequence.TokenKind.{TokenKind, Glyph, Bell, BackSpace, LineFeed, CarriageReturn, Tab, Up}
-use Rattle.ans_model.specs.Sequence.TokenKind.{Down, Forward, Backward, Place, Clear, EraseLine, Save, Restore}
-use Rattle.ans_model.specs.Sequence.TokenKind.{Colours, Wrap, Mode, Keys, Ask}
+use Rattle.ans_model.specs.Sequence.TokenKind.{TokenKind, Glyph, LineFeed}
 use Rattle.ans_model.specs.Screen.State.{Size, State, at}
-use Rattle.ans_model.specs.declared.cell.Cell.{Cell}
 use Rattle.ans_model.specs.declared.cell.Position.{Position}
 use Rattle.ans_model.specs.declared.fault.Cause.{Cause}
 use Rattle.ans_model.specs.declared.fault.Cause.TheVariants.{PrintBelow, Scrolls, PrintUnknownPlace, MayScroll}
-use Rattle.ans_model.specs.Screen.Step.{step, final, line_feed, advanced, printed}
-use Rattle.ans_model.specs.Screen.StartClass.{Class, IsStart}
+use Rattle.ans_model.specs.Screen.Step.{final, line_feed, advanced, printed}
+use Rattle.ans_model.specs.Screen.StartClass.{Class}
 use Rattle.ans_model.specs.Verdict.TokenFault.{FromEvery, SamePosition, PositionsDiffer, IsInSpareRow, HasFault}
 use Rattle.ans_model.specs.Verdict.TokenFault.{IsClean}
-use Rattle.ans_model.specs.Laws.StepLaws.{screen_in_place, CleanNeverScrolls}
+use Rattle.ans_model.specs.Laws.StepLaws.{CleanNeverScrolls}
 use Rattle.ans_model.proofs.PositionLemmas.{position_eq}
 
 module _ (z : Size) (class : Class) (tokens : List TokenKind) (clean : IsClean z class tokens) where

@@ -67,7 +67,7 @@ pub answers_first_that_applies : (file : List ℕ) (f : Fault) → (record_fault
 answers_first_that_applies file f = (found_first (file_refusals file) f, first_is (file_refusals file) f)
 
 -- ---- offsets
--- where each refusal's offset is within so many bytes, so is the fault's
+-- a bound on each refusal's offset is one on the fault's
 within_first : (n : ℕ) (rs : List Refusal) → AllByRecursion (λ r. r.offset ≤ n) rs
     → IfSome (first_refusal rs) (λ f. f.offset ≤ n)
 within_first n [] h = tt

@@ -13,7 +13,7 @@ use Rattle.ans_model.specs.declared.fault.Cause.TheVariants.{EndInSequence, Prin
 use Rattle.ans_model.specs.declared.fault.Cause.TheVariants.{EraseUnknownPlace, MayScroll, UnknownCell}
 use Rattle.ans_model.specs.declared.cell.Position.{Position}
 use Rattle.ans_model.specs.declared.start.Start.TheVariants.{Cleared}
-use Rattle.ans_model.specs.Laws.Certain.{IsCertain}
+use Rattle.ans_model.specs.Verdict.Certain.{IsCertain}
 use Rattle.ans_model.specs.Sequence.Spelling.{IsUnfinished}
 use Rattle.ans_model.specs.Sequence.Reads.{SpellsToken, Reads}
 use Rattle.ans_model.specs.File.Refusals.{fault_at}
@@ -69,7 +69,7 @@ reads_split bytes ts us x y h g =
     let right : bytes ≡ concat g.reads.0 ++ y = g.whole ∙ ap (λ (v : List ℕ). v ++ y) g.reads.1.whole in
     readings_split ts us h.reads.0 g.reads.0 x y h.reads.1.each g.reads.1.each (sym left ∙ right)
 
--- the same is left behind the same front
+-- after the same front the same is left
 same_front : (bytes : List ℕ) (ts us : List TokenKind) (x y : List ℕ) (h : ReadsWith bytes ts x)
     (g : ReadsWith bytes us y) → x ≡ y → h.front ≡ g.front
 same_front bytes ts us x y h g e = append_cancel_right h.front g.front y
@@ -244,7 +244,7 @@ module _ (z : Size) (class : Class) where
   first_or_last bytes f g h (inl k) = clean_no_first bytes f k.tokens k.text h (sequence_end bytes g k)
   first_or_last bytes f g h (inr k) = clean_no_first bytes f k.tokens [] h (unknown_end bytes g k)
 
-  -- bytes of clean tokens, behind which stands nothing or an unfinished sequence, have no first fault
+  -- bytes of clean tokens, and then nothing or an unfinished sequence, have no first fault
   pub clean_or_first : (bytes front left : List ℕ) (tokens : List TokenKind) (f : Fault) → bytes ≡ front ++ left
       → Reads front tokens → IsClean z class tokens → (left ≡ []) ⊎ IsUnfinished left
       → IsFirstFault z class bytes f → ⊥
@@ -304,10 +304,11 @@ module _ (z : Size) (class : Class) where
   -- ---- good
   clean_at : (tokens : List TokenKind) → 0 < z.width → PlaysWell z class tokens → (k : ℕ) (t : TokenKind) (c : Cause)
       → slice_get tokens k ≡ Some t → ¬ HasFaultAfter z class (take k tokens) t c
-  clean_at tokens w well k (Glyph byte) PrintUnknownPlace e f = f.4 (well.prints_at_one_place k byte e f.0 f.1 f.2 f.3)
+  clean_at tokens w well k (Glyph byte) PrintUnknownPlace e f =
+      f.4 (well.prints_at_one_position k byte e f.0 f.1 f.2 f.3)
   clean_at tokens w well k (Glyph byte) PrintBelow e f = well.never_prints_below k byte e (low_start z class)
       (low_is_start z class w) (f.1 (low_start z class) (low_is_start z class w))
-  clean_at tokens w well k EraseLine EraseUnknownPlace e f = f.4 (well.erases_at_one_place k e f.0 f.1 f.2 f.3)
+  clean_at tokens w well k EraseLine EraseUnknownPlace e f = f.4 (well.erases_at_one_position k e f.0 f.1 f.2 f.3)
   clean_at tokens w well k LineFeed Scrolls e f = well.never_scrolls k e (low_start z class) (low_is_start z class w)
       (f (low_start z class) (low_is_start z class w))
   clean_at tokens w well k LineFeed MayScroll e f = well.never_scrolls k e f.0.0 f.0.1 f.0.2

@@ -7,7 +7,7 @@ use Rattle.ans_model.specs.declared.fault.Cause.TheVariants.{KeyReassigned, Scre
 use Rattle.ans_model.specs.declared.fault.Cause.TheVariants.{OutsideScreen, PrintBelow, Scrolls, PrintUnknownPlace}
 use Rattle.ans_model.specs.declared.fault.Cause.TheVariants.{EraseUnknownPlace, MayScroll}
 use Rattle.ans_model.specs.declared.start.Start.TheVariants.{Cleared}
-use Rattle.ans_model.specs.Laws.Certain.{IsCertain}
+use Rattle.ans_model.specs.Verdict.Certain.{IsCertain}
 use Rattle.ans_model.specs.Screen.State.{Size, State}
 use Rattle.ans_model.specs.Screen.StartClass.{Class, class_of, cleared, IsStart}
 use Rattle.ans_model.specs.Screen.Step.{final}

@@ -22,8 +22,8 @@ use Rattle.ans_model.specs.declared.fault.Cause.TheVariants.{UnknownCell}
 use Rattle.ans_model.specs.declared.note.Note.{Note}
 use Rattle.ans_model.specs.declared.note.Note.TheVariants.{WidthAssumed, NoEndMark, SizeDiffers, OddDate, FlagBits}
 use Rattle.ans_model.specs.declared.note.Note.TheVariants.{FlagPair}
-use Rattle.ans_model.specs.Text.FaultText.{fault_text, place_text, fault_line, note_line}
-use Rattle.ans_model.specs.Laws.LineLaws.{FitsTypes, PlaceFitsTypes, IsUnknownCell}
+use Rattle.ans_model.specs.Text.FaultText.{fault_text, position_text, fault_line, note_line}
+use Rattle.ans_model.specs.Laws.LineLaws.{FitsTypes, PositionFitsTypes, IsUnknownCell}
 use Rattle.ans_model.proofs.Spelling.{tail_of, one_run_before_stop}
 
 -- ---- numbers
@@ -72,7 +72,7 @@ fault_number EraseUnknownPlace = 23
 fault_number MayScroll = 24
 fault_number (UnknownCell row col) = 25
 
--- the number that a text goes on with, behind n
+-- the number that a text goes on with after n
 abbrev number_on : ℕ → List ℕ → ℕ
 number_on n [] = n
 number_on n (b ∷ bs) = if is_ascii_digit b then number_on (10 * n + (b - 0x30)) bs else n
@@ -187,15 +187,15 @@ text_tells_cause c d e =
 
 -- the text with the position of an unknown cell
 abbrev whole_text : Cause → List ℕ
-whole_text c = fault_text c ++ place_text c
+whole_text c = fault_text c ++ position_text c
 
 same_number : (c d : Cause) → whole_text c ≡ whole_text d → fault_number c ≡ fault_number d
-same_number c d e = sym (text_number c (place_text c)) ∙ ap (λ (v : List ℕ). number_on 0 (drop 1 v)) e
-    ∙ text_number d (place_text d)
+same_number c d e = sym (text_number c (position_text c)) ∙ ap (λ (v : List ℕ). number_on 0 (drop 1 v)) e
+    ∙ text_number d (position_text d)
 
 -- the text of an unknown cell tells its position
-text_tells_position : (row col row' col' : ℕ) → PlaceFitsTypes (UnknownCell row col)
-    → PlaceFitsTypes (UnknownCell row' col')
+text_tells_position : (row col row' col' : ℕ) → PositionFitsTypes (UnknownCell row col)
+    → PositionFitsTypes (UnknownCell row' col')
     → whole_text (UnknownCell row col) ≡ whole_text (UnknownCell row' col')
     → UnknownCell row col ≡ UnknownCell row' col'
 text_tells_position row col row' col' h g e =
@@ -209,7 +209,7 @@ text_tells_position row col row' col' h g e =
     ap₂ UnknownCell rows.0 cols.0
 
 -- the whole text tells the cause
-whole_text_tells_cause : (c d : Cause) → PlaceFitsTypes c → PlaceFitsTypes d → whole_text c ≡ whole_text d → c ≡ d
+whole_text_tells_cause : (c d : Cause) → PositionFitsTypes c → PositionFitsTypes d → whole_text c ≡ whole_text d → c ≡ d
 whole_text_tells_cause c d h g e =
     elim (text_cases c d (same_number c d e) (plain_or_unknown_cell c) (plain_or_unknown_cell d)) [
       | inl same ↦ same

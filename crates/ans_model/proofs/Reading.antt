@@ -12,7 +12,7 @@ use Rattle.ans_model.specs.Sequence.TokenKind.{CarriageReturn, Tab, Up, Down, Fo
 use Rattle.ans_model.specs.Sequence.TokenKind.{Save, Restore, Wrap, Mode, Ask}
 use Rattle.ans_model.specs.declared.fault.Cause.{Cause}
 use Rattle.ans_model.specs.declared.fault.Cause.TheVariants.{UnknownSequence, WrongParameters}
-use Rattle.ans_model.specs.Laws.Certain.{IsCertain}
+use Rattle.ans_model.specs.Verdict.Certain.{IsCertain}
 use Rattle.ans_model.specs.Sequence.Spelling.{Member, Raw, Spells, IsUnfinished}
 use Rattle.ans_model.specs.Sequence.Meaning.{is_marked, is_quoted, distance, move, place, colours, only_if, Entry}
 use Rattle.ans_model.specs.Sequence.Meaning.{table, is_one_of, look_up, has_a_meaning, meaning}

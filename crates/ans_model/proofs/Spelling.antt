@@ -1,6 +1,6 @@
 -- No spelling begins another, and none is of two sequences.
 use Rattle.std.proofs.lemmas.Bool.{and_parts}
-use Rattle.std.proofs.Common.{◌≡◌, ◌≢◌, ℕ, Bool, true, false, not, ◌&&◌, ◌||◌, ◌==◌, List, [], ◌∷◌, ◌++◌, refl, ap}
+use Rattle.std.proofs.Common.{◌≡◌, ◌≢◌, ℕ, Bool, true, false, not, ◌||◌, ◌==◌, List, [], ◌∷◌, ◌++◌, refl, ap}
 use Rattle.std.proofs.Common.{ap₂, sym, ◌∙◌, subst, arith, append_assoc}
 use Rattle.std.proofs.lemmas.Bool.Decides.{nat_tests}
 use Rattle.std.proofs.lemmas.List.{append_cancel_right}
@@ -52,7 +52,7 @@ quote_no_digit c h = grind (arith, nat_tests)
 pub letter_no_semicolon : (c : ℕ) → is_ascii_alphabetic c ≡ true → c ≡ semicolon → ⊥
 letter_no_semicolon c h e = grind (arith, nat_tests)
 
--- which byte a member and what stands behind it begin with
+-- which byte a member and what follows it begin with
 abbrev pub begins : Member → ℕ → Bool
 begins Omitted = is_stop
 begins (Number n) = is_ascii_digit
@@ -83,7 +83,7 @@ no_common_first_byte p q apart x y e hp hq =
     let t : q (first_or 0 x) ≡ true = rw e hq in
     cc
 
--- two quoted texts at the front of one list are the same, whatever stands behind them
+-- two quoted texts at the front of one list are the same, whatever follows them
 pub one_quoted_text : (r q : ℕ) (words text a b x y : List ℕ) → SpellsMember (Quoted r words) a
     → SpellsMember (Quoted q text) b → a ++ x ≡ b ++ y → (r ≡ q) × (words ≡ text) × (a ≡ b) × (x ≡ y)
 one_quoted_text r q words text a b x y ha hb e =
@@ -101,7 +101,7 @@ one_quoted_text r q words text a b x y ha hb e =
     let insides : r ∷ (words ++ r ∷ []) ≡ q ∷ (text ++ q ∷ []) = cc in
     (sym same, texts, ha.2 ∙ insides ∙ sym hb.2, h.2)
 
--- Two members, each with what may stand behind it, at the front of one list are the same.
+-- Two members at the front of one list, each with what may follow it, are the same.
 pub one_member_in_front : (m n : Member) (a b : List ℕ) (c d : ℕ) (x y : List ℕ) → SpellsMember m a → SpellsMember n b
     → is_stop c ≡ true → is_stop d ≡ true → a ++ c ∷ x ≡ b ++ d ∷ y
     → (m ≡ n) × (a ≡ b) × (c ≡ d) × (x ≡ y)
@@ -141,7 +141,7 @@ letter_stops c h = grind (arith, nat_tests)
 pub semicolon_stops : is_stop semicolon ≡ true
 semicolon_stops = refl
 
--- The bytes begin with a member, the members after it, each behind a `;`, then the letter, and then x.
+-- The bytes begin with a member, then more members, each after a `;`, then the letter, and then x.
 abbrev pub Rest : Member → List Member → ℕ → List ℕ → List ℕ → Type 0
 Rest m [] letter x bytes = (text : List ℕ) × SpellsMember m text × (bytes ≡ text ++ letter ∷ x)
 Rest m (n ∷ ms) letter x bytes = (text more : List ℕ) × SpellsMember m text × Rest n ms letter x more
@@ -197,7 +197,7 @@ one_list_of_members m n (m' ∷ ms) (n' ∷ ns) l k x y bytes hl hk h g =
     let ih = one_list_of_members m' n' ms ns l k x y h.1 hl hk h.3 (rw (← e.3) at g.3) in
     (ap₂ (λ (u : Member) (v : List Member). u ∷ v) e.0 ih.0, ih.1, ih.2)
 
--- The bytes behind ESC, `[` and the mark: the letter alone, or members and the letter; and then x.
+-- The bytes after ESC, `[` and the mark: the letter alone, or members and the letter; and then x.
 abbrev pub Tail : List Member → ℕ → List ℕ → List ℕ → Type 0
 Tail [] letter x bytes = bytes ≡ letter ∷ x
 Tail (m ∷ ms) letter x bytes = (m ∷ ms ≢ Omitted ∷ []) × Rest m ms letter x bytes

@@ -62,7 +62,7 @@ broken part y b h f u =
       why = inl (loose, refl);
     })
 
--- The reading refuses a content's first bytes, so the fault's line is its whole text.
+-- The reading refuses the content's first bytes, so the fault's line is its whole text.
 pub at_once : (text rest : List ℕ) (cause : Cause) → IsRefused text cause
     → TokensText (text ++ rest) (Some (fault_at 0 cause)) (fault_line (fault_at 0 cause))
 at_once text rest cause h = record {
@@ -76,7 +76,7 @@ at_once text rest cause h = record {
   text_is = refl;
 }
 
--- a content that is an unfinished sequence
+-- content that is an unfinished sequence
 pub cut_at_once : (text : List ℕ) → IsUnfinished text
     → TokensText text (Some (fault_at 0 EndInSequence)) (fault_line (fault_at 0 EndInSequence))
 cut_at_once text h = record {
@@ -121,7 +121,7 @@ pub string_part : SpellsPart (record { mark = Unmarked; done = []; current = InS
     (esc (codes "[\"" ++ esc (codes "[2J")))
 string_part = alone Unmarked (InString 0x22 (esc (codes "[2J"))) (codes "\"" ++ esc (codes "[2J")) (refl, refl, refl) tt
 
--- so many omitted members, each behind which a `;` stands
+-- n omitted members, a `;` after each
 omitted_done : (n : ℕ) → SpellsDone (replicate n Omitted) (replicate n semicolon)
 omitted_done zero = refl
 omitted_done (suc n) = ([], replicate n semicolon, refl, omitted_done n, refl)

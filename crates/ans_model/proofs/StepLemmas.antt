@@ -1,13 +1,13 @@
 -- What a step leaves as it was.
-use Rattle.std.proofs.Common.{◌≡◌, ◌≢◌, ◌⊎◌, inl, inr, ℕ, ◌+◌, ◌-◌, ◌*◌, ◌<◌, ◌≤◌, min, Bool, true, false, refl, sym}
-use Rattle.std.proofs.Common.{ap, ◌∙◌, subst, arith, add-mul, one-mul, List, ◌++◌, length, take, drop, set, replicate}
-use Rattle.std.proofs.Common.{Some, Option}
-use Rattle.std.specs.Prelude.{if◌then◌else◌, nat_lt, ◌==◌, slice_get}
+use Rattle.std.proofs.Common.{◌≡◌, inl, inr, ℕ, ◌+◌, ◌-◌, ◌*◌, ◌<◌, ◌≤◌, min, Bool, true, false, refl}
+use Rattle.std.proofs.Common.{ap, ◌∙◌, arith, add-mul, one-mul, List, ◌++◌, length, take, drop, replicate}
+use Rattle.std.proofs.Common.{Some}
+use Rattle.std.specs.Prelude.{if◌then◌else◌, nat_lt, slice_get}
 use Rattle.std.proofs.lemmas.Bool.{cases_lt, cases_eq, lt-ltb, le-ltb, eq-eqb, ne_eqb}
 use Rattle.std.proofs.lemmas.List.{length-take, length-drop, length-append, length-replicate}
-use Rattle.ans_model.specs.Sequence.TokenKind.{TokenKind, Glyph, Bell, BackSpace, LineFeed, CarriageReturn, Tab, Up}
-use Rattle.ans_model.specs.Sequence.TokenKind.{Down, Forward, Backward, Place, Clear, EraseLine, Save, Restore}
-use Rattle.ans_model.specs.Sequence.TokenKind.{Colours, Wrap, Mode, Keys, Ask}
+use Rattle.ans_model.specs.Sequence.TokenKind.{Bell, BackSpace, LineFeed, CarriageReturn, Tab, Up}
+use Rattle.ans_model.specs.Sequence.TokenKind.{Down, Forward, Backward, Place, Clear, EraseLine, Restore}
+use Rattle.ans_model.specs.Sequence.TokenKind.{Mode, Keys, Ask}
 use Rattle.ans_model.specs.Screen.State.{Size, State, IsWellFormed, IsOnScreen, at, cell, cell_at, cell_count, index}
 use Rattle.ans_model.specs.declared.cell.Cell.{Cell}
 use Rattle.ans_model.specs.declared.cell.Position.{Position}
@@ -16,13 +16,13 @@ use Rattle.ans_model.specs.Screen.Step.{blank_cell, destination}
 use Rattle.ans_model.specs.Laws.StepLaws.{OnlyCursor, OnlyScreenAndCursor, MovesChangeCursor, KeepsColumn, KeepsRow}
 use Rattle.ans_model.specs.Laws.StepLaws.{DownUndoesUp, ForwardUndoesBackward, PlacesCursor, SavesCursor}
 use Rattle.ans_model.specs.Laws.StepLaws.{RestoreUndoesSave, ColoursChangeAttribute, WrapChangesWrap}
-use Rattle.ans_model.specs.Laws.StepLaws.{IdleChangesNothing, ClearsScreen, IsErased, IsLineErased, ErasesLine}
-use Rattle.ans_model.specs.Laws.StepLaws.{NextPlace, IsPrinted, GlyphPrints, LineFeedMovesDown, IsScrolled}
+use Rattle.ans_model.specs.Laws.StepLaws.{IdleChangesNothing, ClearsScreen, IsErased, ErasesLine}
+use Rattle.ans_model.specs.Laws.StepLaws.{NextPosition, GlyphPrints, LineFeedMovesDown, IsScrolled}
 use Rattle.ans_model.specs.Laws.StepLaws.{LineFeedScrolls}
 use Rattle.ans_model.proofs.Slices.{slice_get-append_left, slice_get-append_right, slice_get-set_same}
 use Rattle.ans_model.proofs.Slices.{slice_get-set_other, slice_get-take, slice_get-drop, slice_get-replicate}
-use Rattle.ans_model.proofs.PositionLemmas.{same_position, position_eq, row_le, index-lt, index-lt_row}
-use Rattle.ans_model.proofs.PositionLemmas.{one_place_an_index}
+use Rattle.ans_model.proofs.PositionLemmas.{same_position, row_le, index-lt, index-lt_row}
+use Rattle.ans_model.proofs.PositionLemmas.{one_position_an_index}
 
 only_cursor : (s : State) (p : Position) → OnlyCursor s (record s { cursor = p })
 only_cursor s p = record { screen = refl; saved = refl; attribute = refl; wrap = refl }
@@ -257,16 +257,16 @@ advanced_is z s h =
     ∙ if_cursor (nat_lt (s.cursor.column + 1) z.width) s q (if s.wrap then r.cursor else s.cursor))
 
 -- it is one of three positions
-next_place : (z : Size) (s : State) → s.cursor.column < z.width
-    → NextPlace z s (if nat_lt (s.cursor.column + 1) z.width then at s.cursor.row
+next_position : (z : Size) (s : State) → s.cursor.column < z.width
+    → NextPosition z s (if nat_lt (s.cursor.column + 1) z.width then at s.cursor.row
     (s.cursor.column + 1) else if s.wrap then at (s.cursor.row + 1) 0 else s.cursor)
-next_place z s on = elim (cases_lt (s.cursor.column + 1) z.width) [
+next_position z s on = elim (cases_lt (s.cursor.column + 1) z.width) [
   | inl more ↦ rw (lt-ltb (s.cursor.column + 1) z.width more) (inl (more, refl))
   | inr last ↦ rw (le-ltb (s.cursor.column + 1) z.width last) (wrapped s.wrap refl (omega arith))
 ]
   where
     wrapped : (b : Bool) → s.wrap ≡ b → s.cursor.column + 1 ≡ z.width
-        → NextPlace z s (if b then at (s.cursor.row + 1) 0 else s.cursor)
+        → NextPosition z s (if b then at (s.cursor.row + 1) 0 else s.cursor)
     wrapped true e last = inr (inl (last, e, refl))
     wrapped false e last = inr (inr (last, e, refl))
 
@@ -276,7 +276,7 @@ glyph_prints z s byte h above =
     rw (advanced_is z (printed z s byte) above) (record {
       printed = slice_get-set_same s.screen (index z s.cursor) (cell byte s.attribute) within;
       kept = λ p on other. slice_get-set_other s.screen (index z s.cursor) (index z p) (cell byte s.attribute)
-          (λ e. other (one_place_an_index z p s.cursor on h.fits.cursor e));
-      cursor = next_place z s h.fits.cursor.1;
+          (λ e. other (one_position_an_index z p s.cursor on h.fits.cursor e));
+      cursor = next_position z s h.fits.cursor.1;
       others = record { saved = refl; attribute = refl; wrap = refl };
     })

@@ -14,8 +14,9 @@ use Rattle.ans_model.specs.File.Record.{comment_count, flags, stated_width, stat
 use Rattle.ans_model.specs.File.Layout.{FileParts}
 use Rattle.ans_model.specs.File.NoteConditions.{notes}
 use Rattle.ans_model.specs.Text.Hexadecimal.{hex_byte}
-use Rattle.ans_model.specs.Text.FaultText.{line_of, fault_text, place_text, fault_line, note_text, note_line}
-use Rattle.ans_model.specs.Text.ReportText.{Heading, Verdict, Passed, RefusedFor, size_text, heading_text, rows_of}
+use Rattle.ans_model.specs.Text.FaultText.{line_of, fault_text, position_text, fault_line, note_text, note_line}
+use Rattle.ans_model.specs.Text.ReportText.{Heading, ReportVerdict, Passed, RefusedFor, size_text, heading_text}
+use Rattle.ans_model.specs.Text.ReportText.{rows_of}
 use Rattle.ans_model.specs.Text.ReportText.{picture_line, cell_digits, cells_line, picture_text, cells_text}
 use Rattle.ans_model.specs.Text.ReportText.{refusal_text, verdict_text, report_text}
 use Rattle.ans_model.specs.Text.RecordText.{named_line, field_line, comment_lines, record_text}
@@ -49,7 +50,8 @@ a_line front = (front, refl)
 
 pub fault_line_ends : (fault : Fault) → EndsInLineFeed (fault_line fault)
 fault_line_ends fault =
-    a_line (codes "at " ++ (decimal fault.offset ++ (codes ": " ++ (fault_text fault.cause ++ place_text fault.cause))))
+    a_line (codes "at "
+    ++ (decimal fault.offset ++ (codes ": " ++ (fault_text fault.cause ++ position_text fault.cause))))
 
 pub note_line_ends : (note : Note) → EndsInLineFeed (note_line note)
 note_line_ends note = a_line (codes "note: " ++ note_text note)
@@ -73,14 +75,14 @@ pub refusal_ends : (fault : Fault) → EndsInLineFeed (refusal_text fault)
 refusal_ends fault = ends_append (line_of (codes "verdict: refused")) (fault_line fault) (fault_line_ends fault)
 
 -- a report ends in a line feed whatever its verdict
-verdict_ends : (verdict : Verdict) → EndsInLineFeed (verdict_text verdict)
+verdict_ends : (verdict : ReportVerdict) → EndsInLineFeed (verdict_text verdict)
 verdict_ends (Passed picture with_cells) =
     let cells = if with_cells then cells_text picture else [] in
     ends_append (line_of (codes "verdict: pass")) (picture_text picture ++ cells)
     (ends_then (picture_text picture) cells (picture_ends picture) (cells_lines picture with_cells))
 verdict_ends (RefusedFor fault) = refusal_ends fault
 
-pub report_ends : (heading : Heading) (verdict : Verdict) → EndsInLineFeed (report_text heading verdict)
+pub report_ends : (heading : Heading) (verdict : ReportVerdict) → EndsInLineFeed (report_text heading verdict)
 report_ends heading verdict = ends_append (heading_text heading) (verdict_text verdict) (verdict_ends verdict)
 
 -- ---- records

@@ -4,6 +4,4 @@ pub mod SequenceLaws
 pub mod AttributeLaws
 pub mod StepLaws
 pub mod StartLaws
-pub mod Certain
-pub mod TwoStarts
 pub mod LineLaws

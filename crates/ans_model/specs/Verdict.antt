@@ -3,3 +3,5 @@ pub mod TokenFault
 pub mod Good
 pub mod FirstFault
 pub mod LastFault
+pub mod Certain
+pub mod TwoStarts

@@ -163,7 +163,7 @@ impl Machine {
         }
     }
 
-    /// The cursor's place.
+    /// The cursor's position.
     pub fn cursor(&self) -> Position
         ensures { result ≡ self.now.state.cursor }
     {

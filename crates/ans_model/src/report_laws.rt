@@ -10,7 +10,8 @@ ghost use Rattle.ans_model.specs.Screen.State.{Size};
 ghost use Rattle.ans_model.specs.Verdict.Good.{Picture, IsPictureOf};
 ghost use Rattle.ans_model.specs.Text.Characters.{glyph_text};
 ghost use Rattle.ans_model.specs.Text.FaultText.{fault_text, fault_line, note_line};
-ghost use Rattle.ans_model.specs.Text.ReportText.{Heading, Verdict, cells_line, rows_of, picture_back, report_text};
+ghost use Rattle.ans_model.specs.Text.ReportText.{Heading, ReportVerdict, cells_line, rows_of, picture_back};
+ghost use Rattle.ans_model.specs.Text.ReportText.{report_text};
 ghost use Rattle.ans_model.specs.Text.ReportText.{refusal_text};
 ghost use Rattle.ans_model.specs.Text.RecordText.{record_text};
 ghost use Rattle.ans_model.specs.Text.TokensText.{TokensText};
@@ -41,7 +42,7 @@ pub fn own_lines()
 
 /// What is written ends in a line feed; the text of no tokens is empty.
 pub fn whole_lines()
-    ensures report { (heading : Heading) (verdict : Verdict)
+    ensures report { (heading : Heading) (verdict : ReportVerdict)
         → EndsInLineFeed (report_text heading verdict) }
     ensures refusal { (fault : Fault) → EndsInLineFeed (refusal_text fault) }
     ensures record_lines { (parts : FileParts) → EndsInLineFeed (record_text parts) }

@@ -3,7 +3,7 @@
 ghost use Rattle.std.specs.Prelude.{◌≡◌, ◌≤◌};
 ghost use Rattle.ans_model.specs.Bytes.{most_columns, most_lines};
 ghost use Rattle.ans_model.specs.Screen.State.{sized};
-ghost use Rattle.ans_model.specs.Inside.MachineView.{IsPlayableSize};
+ghost use Rattle.ans_model.specs.Screen.State.{IsPlayableSize};
 
 use std::marker::Model;
 
@@ -16,7 +16,7 @@ pub struct Size {
 
 impl Model for Size {
     ghost use Rattle.ans_model.specs.Screen.State.{Size, sized};
-    ghost use Rattle.ans_model.specs.Inside.MachineView.{IsPlayableSize};
+    ghost use Rattle.ans_model.specs.Screen.State.{IsPlayableSize};
 
     ghost Value = { Size };
 

@@ -1,15 +1,15 @@
 //! Laws of the machine: what each line of the table of steps changes and what it leaves.
 
-ghost use Rattle.ans_model.specs.Laws.StepLaws.{OnePlaceAnIndex, MovesChangeCursor, KeepsColumn, KeepsRow};
+ghost use Rattle.ans_model.specs.Laws.StepLaws.{OnePositionAnIndex, MovesChangeCursor, KeepsColumn, KeepsRow};
 ghost use Rattle.ans_model.specs.Laws.StepLaws.{DownUndoesUp, ForwardUndoesBackward, PlacesCursor, SavesCursor};
 ghost use Rattle.ans_model.specs.Laws.StepLaws.{RestoreUndoesSave, ColoursChangeAttribute, WrapChangesWrap};
 ghost use Rattle.ans_model.specs.Laws.StepLaws.{IdleChangesNothing, ClearsScreen, ErasesLine, GlyphPrints};
 ghost use Rattle.ans_model.specs.Laws.StepLaws.{LineFeedMovesDown, LineFeedScrolls, StepsAreWellFormed};
 ghost use Rattle.ans_model.specs.Laws.StepLaws.{CleanNeverScrolls};
 
-/// Two places of the screen have two indices.
-pub fn places_have_indices()
-    ensures { OnePlaceAnIndex }
+/// Two positions of the screen have two indices.
+pub fn positions_have_indices()
+    ensures { OnePositionAnIndex }
 {}
 
 /// Moves change the cursor alone, each in its own direction.

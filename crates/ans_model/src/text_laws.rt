@@ -8,7 +8,7 @@ ghost use Rattle.ans_model.specs.Sequence.Reads.{Reads};
 ghost use Rattle.ans_model.specs.declared.fault.Cause.{Cause};
 ghost use Rattle.ans_model.specs.declared.fault.Fault.{Fault};
 ghost use Rattle.ans_model.specs.declared.start.Start.TheVariants.{Cleared};
-ghost use Rattle.ans_model.specs.Laws.Certain.{IsCertain};
+ghost use Rattle.ans_model.specs.Verdict.Certain.{IsCertain};
 ghost use Rattle.ans_model.specs.Screen.State.{Size};
 ghost use Rattle.ans_model.specs.Screen.StartClass.{Class, class_of};
 ghost use Rattle.ans_model.specs.Verdict.FirstFault.{IsRefused, IsFirstFault};

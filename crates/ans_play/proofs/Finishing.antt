@@ -33,7 +33,7 @@ use Rattle.ans_play.specs.HalfState.{HalfState, DescribesCell}
 use Rattle.ans_play.specs.Shown.{known_cell, stated_cells, picture_of}
 use Rattle.ans_play.specs.PlayView.{PlayView}
 use Rattle.ans_play.specs.PlayerView.{PlayerView, play_of}
-use Rattle.ans_play.specs.Stands.{IsKnownAfter, IsPlayed, Stands, Ends, Finishes}
+use Rattle.ans_play.specs.Stands.{IsKnownAfter, IsPlayed, Stands, EndsPlay, Finishes}
 use Rattle.ans_play.proofs.Zips.{AllZip-take}
 use Rattle.ans_play.proofs.KnownCells.{known_at, unknown_at, all_known, slice_get-take, FirstUnknown, found_unknown}
 use Rattle.ans_play.proofs.KnownCells.{none_unknown}
@@ -230,7 +230,7 @@ module _ (v : PlayView) (class : Class) (s : List ℕ) (p : IsPlayed v.size clas
 -- ---- of a player
 -- a play that ends so finishes the player
 pub finishes_played : (p : PlayerView) (s : List ℕ) (result : Result Picture Fault) → Stands p s → p.fault ≡ None →
-    Ends (play_of p) result → Finishes p s result
+    EndsPlay (play_of p) result → Finishes p s result
 finishes_played p s (Ok picture) st none ends =
     record { good = ends (class_of p.start) s (st.played none); last = λ n. tt; exact = λ good. refl }
 finishes_played p s (Err fault) st none ends =

@@ -179,13 +179,13 @@ plays_run z class (b ∷ run) s scanner screen row column saved attribute wrap p
     same_run xs ys c d row saved attribute wrap e f = cc
 
 -- ---- what the code of a run gives
--- the cursor stands at one position of the stated lines, and after so many columns there is one more
+-- the cursor stands at one position of the stated lines, with count columns free and one more
 pub record HasRoom (z : Size) (cursor : Span) (count : ℕ) : Type 0 where
   pub one : cursor ≡ one_position cursor.low.row cursor.low.column
   pub above : cursor.low.row < z.lines
   pub columns : cursor.low.column + count < z.width
 
--- where so many columns are free, the cursor stands at one position
+-- where count columns are free, the cursor stands at one position
 has_room : (p : PlayView) (columns count : ℕ) → IsSpanOnScreen p.size p.state.cursor → AreFree p columns →
     0 < count → count ≤ columns → HasRoom p.size p.state.cursor count
 has_room p columns count on free some within = by_fault (half_fault p.size p.state (Glyph 0)) refl
@@ -212,7 +212,7 @@ front_of_front bytes m count f =
     let within : count ≤ m = omega (arith, f.within, length-take m bytes) in
     (within, omega (arith, f.within, length-take m bytes), rw take_within at f.glyphs)
 
--- so many bytes at the start are glyphs, and have room in the cursor's row
+-- the first count bytes are glyphs, and have room in the cursor's row
 pub record IsRun (p : PlayView) (bytes : List ℕ) (count : ℕ) : Type 0 where
   pub within : count ≤ length bytes
   pub taken : length (take count bytes) ≡ count

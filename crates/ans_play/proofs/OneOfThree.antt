@@ -132,7 +132,7 @@ module _ (z : Size) (class : Class) (size : IsSize z) (bytes : List ℕ) where
       }),
     ))
 
-    -- nothing is behind the tokens
+    -- nothing follows the tokens
     played : r.left ≡ [] → IsPlayed z class bytes (scanner_view (length bytes) (length bytes) Nothing None) h
     played e =
         let whole : bytes ≡ r.front = r.whole ∙ ap (λ (v : List ℕ). r.front ++ v) e ∙ append-nil r.front in

@@ -56,6 +56,6 @@ module _ (z : Size) (class : Class) (tokens : List TokenKind) (clean : IsClean z
           inr
               (same, λ r start_r. ap (λ (p : Position). p.row) (same r s start_r start) ∙ b),
         );
-    prints_at_one_place = λ k byte e. same_place_where_asked k (Glyph byte) PrintUnknownPlace e (λ n. inr n);
-    erases_at_one_place = λ k e. same_place_where_asked k EraseLine EraseUnknownPlace e (λ n. inr n);
+    prints_at_one_position = λ k byte e. same_place_where_asked k (Glyph byte) PrintUnknownPlace e (λ n. inr n);
+    erases_at_one_position = λ k e. same_place_where_asked k EraseLine EraseUnknownPlace e (λ n. inr n);
   }

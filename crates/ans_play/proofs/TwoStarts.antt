@@ -19,9 +19,9 @@ use Rattle.ans_model.specs.Verdict.TokenFault.{HasFault, HasFaultAfter, Position
 use Rattle.ans_model.specs.Verdict.TokenFault.{IsClean}
 use Rattle.ans_model.specs.Verdict.FirstFault.{IsFirstFault, IsToBlame, IsRefused}
 use Rattle.ans_model.specs.Verdict.LastFault.{IsLastFault, CellsDiffer, IsFirstUnknown}
-use Rattle.ans_model.specs.Laws.Certain.{IsCertain}
-use Rattle.ans_model.specs.Laws.TwoStarts.{low_final, high_final, CursorsDiffer, OneIsInSpareRow, IsFirstDifference}
-use Rattle.ans_model.specs.Laws.TwoStarts.{TwoStartsShow, IsShownByTwoStarts}
+use Rattle.ans_model.specs.Verdict.Certain.{IsCertain}
+use Rattle.ans_model.specs.Verdict.TwoStarts.{low_final, high_final, CursorsDiffer, OneIsInSpareRow, IsFirstDifference}
+use Rattle.ans_model.specs.Verdict.TwoStarts.{TwoStartsShow, IsShownByTwoStarts}
 use Rattle.ans_model.proofs.StartLemmas.{low_is_start, high_is_start}
 use Rattle.ans_model.proofs.OneCause.{static_is_certain}
 use Rattle.ans_model.proofs.OneAnswer.{refused_certain}

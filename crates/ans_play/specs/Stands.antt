@@ -103,8 +103,8 @@ IsDeserved old bytes fault =
     IsFirstFault old.size class (s ++ bytes) fault
 
 -- whatever bytes are played, they are good with the picture, or have the last fault
-abbrev pub Ends : PlayView → Result Picture Fault → Type 0
-Ends p result = (class : Class) (s : List ℕ) → IsPlayed p.size class s p.scanner p.state
+abbrev pub EndsPlay : PlayView → Result Picture Fault → Type 0
+EndsPlay p result = (class : Class) (s : List ℕ) → IsPlayed p.size class s p.scanner p.state
     → MatchResult result (GoodWith p.size class s) (IsLastFault p.size class s)
 
 -- a play of no bytes yet, of this size, from the starts of a class

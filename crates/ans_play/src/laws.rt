@@ -7,7 +7,7 @@ ghost use Rattle.ans_model.specs.Screen.StartClass.{Class};
 ghost use Rattle.ans_model.specs.Verdict.Good.{IsGood};
 ghost use Rattle.ans_model.specs.Verdict.FirstFault.{IsFirstFault};
 ghost use Rattle.ans_model.specs.Verdict.LastFault.{IsLastFault};
-ghost use Rattle.ans_model.specs.Laws.TwoStarts.{IsShownByTwoStarts};
+ghost use Rattle.ans_model.specs.Verdict.TwoStarts.{IsShownByTwoStarts};
 ghost use Rattle.ans_model.specs.declared.fault.Fault.{Fault};
 
 /// Bytes are good, or have a first fault, or have a last one. By `ans_model::text_laws::one_answer`

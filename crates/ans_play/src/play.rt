@@ -51,7 +51,7 @@ impl<G: Grid> Model for Play<G> {
 }
 
 /// What is known of an attribute after colour parameters, one after the other.
-fn attribute_after_all(attribute: Attr, parameters: &[u8]) -> Attr
+fn known_after_all(attribute: Attr, parameters: &[u8]) -> Attr
     ensures { result ≡ known_after_all attribute parameters.now }
 {
     let mut new = attribute;
@@ -63,7 +63,7 @@ fn attribute_after_all(attribute: Attr, parameters: &[u8]) -> Attr
 
 impl<G: Grid> Play<G> {
     ghost use Rattle.ans_play.specs.Plays.{AreFree};
-    ghost use Rattle.ans_play.specs.Stands.{IsNewPlay, GoesOn, IsDeserved, Ends};
+    ghost use Rattle.ans_play.specs.Stands.{IsNewPlay, GoesOn, IsDeserved, EndsPlay};
 
     /// A play of no bytes yet, from the starts of a class. It fails only if memory runs out.
     pub fn new(alloc: Global, size: Size, start: Start) -> Result<Play<G>, AllocError>
@@ -170,7 +170,7 @@ impl<G: Grid> Play<G> {
     /// sequence, at its offset; else F25, the first cell of the stated lines that stays unknown, its
     /// row and column counted from 1, at the number of bytes.
     pub fn finish(self) -> Result<Picture<G>, Fault>
-        ensures { Ends self result }
+        ensures { EndsPlay self result }
     {
         self.scanner.end()?;
         let width = self.size.width();
@@ -309,7 +309,7 @@ impl<G: Grid> Play<G> {
     pub fn colour(&mut self, parameters: &[u8]) -> Result<(), Cause>
         ensures { Plays self.old self.new (Colours parameters.now) result }
     {
-        self.attribute = attribute_after_all(self.attribute, parameters);
+        self.attribute = known_after_all(self.attribute, parameters);
         Ok(())
     }
 

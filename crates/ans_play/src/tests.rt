@@ -13,7 +13,7 @@ use std::alloc::Global;
 use std::process::Abort;
 use std::test::Fail;
 
-/// What is expected of a content: the bytes of its picture, and their attributes where they are to be
+/// What is expected of the content: the bytes of its picture, and their attributes where they are to be
 /// compared; or its fault.
 #[derive(Clone, Copy)]
 enum Expected {

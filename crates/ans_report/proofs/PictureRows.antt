@@ -41,7 +41,7 @@ cell_is (Some c) b a h f =
     let attribute : c.attribute ≡ a = cc in
     rw (← byte, ← attribute) refl
 
--- the cell of a byte and an attribute in a row of so many columns, which begins at k
+-- the cell of a byte and an attribute in a row of w columns, which begins at k
 pub cell_in_row : (cells : List Cell) (w k i b a : ℕ) → i < w
     → option_map (λ (c : Cell). c.byte) (slice_get cells (k + i)) ≡ Some b
     → option_map (λ (c : Cell). c.attribute) (slice_get cells (k + i)) ≡ Some a

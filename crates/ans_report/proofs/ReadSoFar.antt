@@ -1,7 +1,7 @@
--- What a scanner has read of a content, as it takes one byte after another.
+-- What a scanner has read of the content, as it takes one byte after another.
 use Rattle.std.proofs.Common.{◌≡◌, ℕ, ◌+◌, ◌<◌, List, [], ◌∷◌, ◌++◌, length, take, get_or, refl, ap, sym, ◌∙◌, arith}
 use Rattle.std.proofs.Common.{append_assoc, append-nil, length-append}
-use Rattle.std.specs.Prelude.{Some, None, Ok}
+use Rattle.std.specs.Prelude.{None}
 use Rattle.std.specs.List.{concat}
 use Rattle.std.proofs.lemmas.List.{take_more}
 use Rattle.ans_model.specs.Sequence.TokenKind as token
@@ -10,11 +10,11 @@ use Rattle.ans_model.specs.Sequence.Reads.{ReadsAs}
 use Rattle.ans_model.specs.Text.TokensText.{token_line, token_lines}
 use Rattle.ans_tokens.specs.declared.token.Token.{Token}
 use Rattle.ans_tokens.specs.Token.{kind_of, start_of, length_of}
-use Rattle.ans_tokens.specs.ScannerView.{ScannerView, Holds, StaysUnfinished, EndsToken, RefusesByte, new_scanner}
+use Rattle.ans_tokens.specs.ScannerView.{ScannerView, Holds, StaysUnfinished, EndsToken, new_scanner}
 use Rattle.ans_report.specs.TokenLines.{token_text}
 use Rattle.ans_report.proofs.TokenReadings.{token_lines-append, ReadsAs-append, ReadsAs-one, token_text_is}
 
--- what was read of a content: a front, and the open part that the scanner holds; the text is that of the front
+-- what was read of the content: a front, and the open part that the scanner holds; the text is that of the front
 pub record ReadSoFar (content : List ℕ) (i : ℕ) (s : ScannerView) (text : List ℕ) : Type 0 where
   pub front : List ℕ
   pub open_part : List ℕ

@@ -1,4 +1,4 @@
--- The text of a content's tokens ends at a fault or at the content's end.
+-- The text of the content's tokens ends at a fault or at the content's end.
 use Rattle.std.proofs.Common.{◌≡◌, inl, inr, ℕ, ◌+◌, ◌<◌, List, [], ◌∷◌, ◌++◌, length, take, drop, get_or, refl, ap}
 use Rattle.std.proofs.Common.{sym, subst, ◌∙◌, arith, append_assoc, append-nil, take-append-drop}
 use Rattle.std.specs.Prelude.{Option, Some, None, Ok, Err}
@@ -10,7 +10,7 @@ use Rattle.ans_model.specs.Sequence.Reads.{ReadsAs}
 use Rattle.ans_model.specs.File.Refusals.{fault_at}
 use Rattle.ans_model.specs.Text.FaultText.{fault_line}
 use Rattle.ans_model.specs.Text.TokensText.{token_lines, Leaves, fault_end, TokensText}
-use Rattle.ans_tokens.specs.ScannerView.{ScannerView, StaysUnfinished, EndsToken, RefusesByte, Ends}
+use Rattle.ans_tokens.specs.ScannerView.{ScannerView, RefusesByte, Ends}
 use Rattle.ans_report.proofs.ReadSoFar.{ReadSoFar, taken_more}
 
 fault_at_is : (f : Fault) (start : ℕ) (cause : Cause) → f.offset ≡ start → f.cause ≡ cause → f ≡ fault_at start cause

@@ -1,4 +1,4 @@
--- Whatever was read of a content, some text of it begins with the text of what was read.
+-- Whatever was read of the content, some text of it begins with the text of what was read.
 use Rattle.std.proofs.Common.{◌≡◌, ◌⊎◌, inl, inr, ℕ, ◌+◌, ◌<◌, suc, true, true≢false, List, [], ◌∷◌, ◌++◌, length}
 use Rattle.std.proofs.Common.{drop, get_or, refl, ap, sym, subst, ◌∙◌, append_assoc, take-append-drop}
 use Rattle.std.specs.Prelude.{Option, Some, None}
@@ -28,13 +28,13 @@ AllByRecursion-after : (xs ys : List ℕ) → AllByRecursion IsByte (xs ++ ys) �
 AllByRecursion-after [] ys h = h
 AllByRecursion-after (x ∷ xs) ys h = AllByRecursion-after xs ys h.1
 
--- nothing is left of a content, or an unfinished sequence
+-- nothing is left of the content, or an unfinished sequence
 Leaves-at_end : (start : ℕ) (left : List ℕ) → (left ≡ []) ⊎ IsUnfinished left
     → (fault : Option Fault) × Leaves start left fault
 Leaves-at_end start left (inl none) = (None, none)
 Leaves-at_end start left (inr unfinished) = (Some (fault_at start EndInSequence), inr (unfinished, refl))
 
--- what is left of a content is open or begins with a text that the reading refuses
+-- what is left of the content is open or begins with a text that the reading refuses
 Leaves-some : (start : ℕ) (left : List ℕ) → IsOpen left ⊎ IsRefusedFront left
     → (fault : Option Fault) × Leaves start left fault
 Leaves-some start left (inl is_open) = Leaves-at_end start left (open_ends left is_open)

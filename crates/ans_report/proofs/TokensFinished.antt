@@ -1,4 +1,4 @@
--- The tokens of a content that were put and finished are written.
+-- The tokens of the content that were put and finished are written.
 use Rattle.std.proofs.Common.{◌≡◌, ℕ, false, List, [], sym, subst, append-nil}
 use Rattle.std.specs.Prelude.{Option, Result, Ok, Err, IfErr}
 use Rattle.std.specs.Io.KnownBytes.{Appends}

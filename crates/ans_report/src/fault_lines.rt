@@ -1,6 +1,6 @@
 //! The lines of a refusal.
 ghost use Rattle.std.specs.Prelude.{◌≡◌};
-ghost use Rattle.ans_model.specs.Text.FaultText.{fault_text, place_text, fault_line};
+ghost use Rattle.ans_model.specs.Text.FaultText.{fault_text, position_text, fault_line};
 ghost use Rattle.ans_model.specs.Text.ReportText.{refusal_text};
 ghost use Rattle.ans_report.specs.Puts.{Puts};
 
@@ -43,7 +43,7 @@ pub fn fault_text(fault: &Fault) -> &'static str
 
 /// Puts the position of an unknown cell, and nothing for any other cause.
 fn put_position<W: Write>(out: &mut Outbox<'_, W>, cause: &Cause)
-    ensures { Puts W.contents out.old out.new (place_text cause.now) }
+    ensures { Puts W.contents out.old out.new (position_text cause.now) }
 {
     let Cause::UnknownCell { row, col } = *cause else {
         return;

@@ -1,4 +1,4 @@
--- Partly known cells.
+-- Half-known cells: cells of which some parts may be unknown.
 use Rattle.std.specs.Prelude.{ℕ, Bool, ◌&&◌, Option, Some, is_some}
 use Rattle.ans_screen.specs.KnownBits.{KnownBits, is_whole}
 use Rattle.ans_screen.specs.declared.cell.HalfCell.{HalfCell}

@@ -1,4 +1,4 @@
-//! A partly known attribute.
+//! A half-known attribute.
 
 ghost use Rattle.std.specs.Prelude.{◌≡◌};
 

@@ -1,4 +1,4 @@
-//! A partly known cell.
+//! A half-known cell.
 
 use crate::attr::Attr;
 

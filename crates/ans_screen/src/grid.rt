@@ -1,4 +1,4 @@
-//! Grids of partly known cells.
+//! Grids of half-known cells.
 
 ghost use Rattle.std.specs.Prelude.{◌≡◌, ℕ, ◌+◌, ◌*◌, ◌<◌, ◌≤◌, List, length, set, replicate, slice_get, Some, IfOk};
 ghost use Rattle.ans_model.specs.Bytes.{most_columns};

@@ -1,7 +1,7 @@
-//! What is known of a screen's cells: partly known attributes and cells, and grids of them.
+//! What is known of a screen's cells: half-known attributes and cells, and grids of them.
 //!
 //! An attribute is known by its bits, a glyph whole or not at all. [`Attr::apply`] keeps all that
-//! can be known, and no more. A [`Grid`] is a width, a number of rows and a list of partly known
+//! can be known, and no more. A [`Grid`] is a width, a number of rows and a list of half-known
 //! cells in row order; each call of it is exact. The definitions stand in `specs/KnownBits.antt`,
 //! `specs/HalfCells.antt` and `specs/GridEdits.antt`.
 #![tactic(auto)]

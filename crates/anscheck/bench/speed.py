@@ -29,7 +29,7 @@ def record(width, lines, size):
 
 
 def contents():
-    """A content for each kind of work that a check does; every one passes from any start."""
+    """Content for each kind of work that a check does; every one passes from any start."""
     clear = b"\x1b[0m\x1b[?7h\x1b[2J"
     room = LARGEST_FILE - 128 - 1
     text = b"\x1b[2;1H" + bytes(0x21 + i % 94 for i in range(WIDTH - 1))

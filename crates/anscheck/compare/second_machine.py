@@ -1,7 +1,7 @@
 #!/usr/bin/env python3
 """Plays random contents on a second machine, and compares its answers with those of `check --cells`.
 
-It shares no code with the program and none with the definitions: it reads a content whole, and plays
+It shares no code with the program and none with the definitions: it reads the content whole, and plays
 it from whole starts, the lowest, the highest and six random ones, or from the cleared one. So it can
 tell a slip in the definitions. It follows the rules as this project states them, its own choices among
 them, and comes from the same hands: a rule that both misread it cannot tell. Its screens are small, of
@@ -41,7 +41,7 @@ class Refused(Exception):
 
 
 def read_members(bytes_, at):
-    """The members from here on, and the place of the letter behind them."""
+    """The members from here on, and the place of the letter after them."""
     members, member, begun = [], None, False
     while at < len(bytes_):
         char = chr(bytes_[at])
@@ -100,7 +100,7 @@ def meaning(mark, members, letter):
 
 
 def read_sequence(content, at):
-    """The token that begins with the ESC at this place, and the place behind it."""
+    """The token that begins with the ESC at this place, and the place after it."""
     rest = at + 1
     if content[rest:rest + 1] != b"[":
         raise Refused(9 if rest < len(content) else 12)
@@ -121,11 +121,11 @@ def read(content):
             at += 1
             continue
         try:
-            token, behind = read_sequence(content, at)
+            token, after = read_sequence(content, at)
         except Refused as refused:
             return tokens, (at, refused.args[0])
         tokens.append((at, token))
-        at = behind
+        at = after
     return tokens, None
 
 
@@ -283,7 +283,7 @@ def a_number(chance):
 
 
 def a_piece(chance, width, lines):
-    """A few bytes that a content may hold: mostly whole sequences, now and then broken ones."""
+    """A few bytes that content may hold: mostly whole sequences, now and then broken ones."""
     kind = chance.random()
     if kind < 0.30:
         return bytes([chance.choice(b"AB \xdb\x00\xff\x7f")]) * chance.randrange(1, 3)

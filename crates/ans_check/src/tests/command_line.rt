@@ -9,7 +9,7 @@ const CLEARED_WITH_CELLS: Options = Options {
     ..CLEARED
 };
 
-/// Words behind the program's name, the options that they give, and the file.
+/// Words after the program's name, the options that they give, and the file.
 static TAKEN: [(&[&str], Options, Option<&str>); 10] = [
     (&["anscheck", "check"], ANY, None),
     (&["anscheck", "check", "f"], ANY, Some("f")),

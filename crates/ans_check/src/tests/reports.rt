@@ -9,7 +9,7 @@ const CELLS: Options = Options {
     cells: true,
 };
 
-/// A content, its width and lines, what is asked, whether it passes, and the report.
+/// The content, its width and lines, what is asked, whether it passes, and the report.
 static REPORTS: [(&[u8], u16, u16, Options, bool, &[u8]); 8] = [
     (
         b"\x1b[?7h\x1b[0m\x1b[2JHi",
@@ -107,7 +107,7 @@ fn a_file_is_read_and_reported_on(rt: HostRuntime) {
     }
 }
 
-/// A content, its width and lines, and the report of its pass with the cells.
+/// The content, its width and lines, and the report of its pass with the cells.
 static WITH_CELLS: [(&[u8], u16, u16, &[u8]); 5] = [
     (
         b"Hi",

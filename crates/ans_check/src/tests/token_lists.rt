@@ -1,7 +1,7 @@
 //! The texts of contents' tokens.
 use super::{TOKENS, expect_run, plain_file};
 
-/// A content, whether all of it is read, and the text.
+/// The content, whether all of it is read, and the text.
 static CONTENTS: [(&[u8], bool, &[u8]); 9] = [
     (
         b"\x1b[1;37mH\x1b[3",

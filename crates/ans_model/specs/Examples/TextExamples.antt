@@ -27,7 +27,7 @@ pub record Fields : Type 0 where
   pub comments : ℕ
   pub flags : ℕ
 
--- two columns, one line, and a content of two bytes
+-- two columns, one line, and two bytes of content
 abbrev pub plain : Fields
 plain = record {
   id = codes "SAUCE";

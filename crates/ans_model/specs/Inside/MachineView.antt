@@ -1,16 +1,8 @@
 -- The plain machine, as contracts see it: a state with its size.
-use Rattle.std.specs.Prelude.{◌≤◌, Bool, replicate}
-use Rattle.ans_model.specs.Bytes.{most_columns, most_lines}
-use Rattle.ans_model.specs.Screen.State.{Size, State, cell_count, FitsScreen}
+use Rattle.std.specs.Prelude.{Bool, replicate}
+use Rattle.ans_model.specs.Screen.State.{IsPlayableSize, Size, State, cell_count, FitsScreen}
 use Rattle.ans_model.specs.declared.cell.Cell.{Cell}
 use Rattle.ans_model.specs.declared.cell.Position.{Position}
-
--- the sizes that a machine is made for
-pub record IsPlayableSize (z : Size) : Type 0 where
-  pub some_columns : 1 ≤ z.width
-  pub columns : z.width ≤ most_columns
-  pub some_lines : 1 ≤ z.lines
-  pub lines : z.lines ≤ most_lines
 
 -- the stated size and the state
 pub record MachineView : Type 0 where

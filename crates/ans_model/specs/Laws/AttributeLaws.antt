@@ -1,5 +1,5 @@
 -- An attribute by its fields: foreground in bits 0 to 2, bright in bit 3, background in bits 4 to 6, blink in bit 7.
-use Rattle.std.specs.Prelude.{◌≡◌, ℕ, ◌+◌, ◌/◌, ◌%◌, ◌<◌, List, [], ◌∷◌, slice_index}
+use Rattle.std.specs.Prelude.{◌≡◌, ℕ, ◌+◌, ◌/◌, ◌%◌, ◌<◌, [], ◌∷◌, slice_index}
 use Rattle.ans_model.specs.Bytes.{IsByte}
 use Rattle.ans_model.specs.Screen.Attribute.{attribute_after}
 

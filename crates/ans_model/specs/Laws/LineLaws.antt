@@ -14,9 +14,9 @@ abbrev pub IsEmptyOrEndsInLineFeed : List ℕ → Type 0
 IsEmptyOrEndsInLineFeed text = (text ≡ []) ⊎ EndsInLineFeed text
 
 -- an unknown cell's row and column fit the program's types
-abbrev pub PlaceFitsTypes : Cause → Type 0
-PlaceFitsTypes (UnknownCell row col) = (row < 2 ^ 16) × (col < 2 ^ 16)
-PlaceFitsTypes _ = Unit {0}
+abbrev pub PositionFitsTypes : Cause → Type 0
+PositionFitsTypes (UnknownCell row col) = (row < 2 ^ 16) × (col < 2 ^ 16)
+PositionFitsTypes _ = Unit {0}
 
 -- the cause is that of an unknown cell
 abbrev pub IsUnknownCell : Cause → Type 0
@@ -25,4 +25,4 @@ IsUnknownCell cause = (row col : ℕ) × (cause ≡ UnknownCell row col)
 -- the numbers of a fault are those of the program's types
 pub record FitsTypes (fault : Fault) : Type 0 where
   pub offset : fault.offset < 2 ^ 64
-  pub place : PlaceFitsTypes fault.cause
+  pub place : PositionFitsTypes fault.cause

@@ -1,5 +1,5 @@
 -- Laws of a step: what each line of the table of steps leaves as it was.
-use Rattle.std.specs.Prelude.{◌≡◌, ◌≢◌, ◌⊎◌, ℕ, ◌+◌, ◌≤◌, ◌<◌, Bool, true, false, List, [], ◌∷◌, set, Option, Some}
+use Rattle.std.specs.Prelude.{◌≡◌, ◌≢◌, ◌⊎◌, ℕ, ◌+◌, ◌≤◌, ◌<◌, Bool, true, false, List, set, Some}
 use Rattle.std.specs.Prelude.{slice_get, take, replicate}
 use Rattle.ans_model.specs.Sequence.TokenKind.{TokenKind, PrintsByte, Glyph, Bell, BackSpace, LineFeed}
 use Rattle.ans_model.specs.Sequence.TokenKind.{CarriageReturn, Tab, Up, Down, Forward, Backward, Place, Clear}
@@ -9,13 +9,13 @@ use Rattle.ans_model.specs.Screen.State.{index}
 use Rattle.ans_model.specs.declared.cell.Cell.{Cell}
 use Rattle.ans_model.specs.declared.cell.Position.{Position}
 use Rattle.ans_model.specs.Screen.Attribute.{attribute_after_all}
-use Rattle.ans_model.specs.Screen.Step.{step, final, filled, next_row_start, blank_cell, line_feed}
+use Rattle.ans_model.specs.Screen.Step.{step, final, filled, next_row_start, blank_cell}
 use Rattle.ans_model.specs.Screen.StartClass.{Class}
 use Rattle.ans_model.specs.Verdict.TokenFault.{FromEvery, IsClean}
 
--- Two places of the screen with one index are one place.
-abbrev pub OnePlaceAnIndex : Type 0
-OnePlaceAnIndex = (z : Size) (p q : Position) → IsOnScreen z p → IsOnScreen z q → index z p ≡ index z q → p ≡ q
+-- Two positions of the screen with one index are one position.
+abbrev pub OnePositionAnIndex : Type 0
+OnePositionAnIndex = (z : Size) (p q : Position) → IsOnScreen z p → IsOnScreen z q → index z p ≡ index z q → p ≡ q
 
 -- nothing but the cursor has changed
 pub record OnlyCursor (s t : State) : Type 0 where
@@ -79,7 +79,7 @@ abbrev pub ForwardUndoesBackward : Type 0
 ForwardUndoesBackward = (z : Size) (s : State) (n : ℕ) → IsWellFormed z s → n ≤ s.cursor.column
     → step z (step z s (Backward n)) (Forward n) ≡ s
 
--- A place within the screen, counted from 1, is where the cursor then stands.
+-- A position within the screen, counted from 1, is where the cursor then stands.
 abbrev pub PlacesCursor : Type 0
 PlacesCursor = (z : Size) (s : State) (p : Position) → IsOnScreen z p
     → (step z s (Place (p.row + 1) (p.column + 1))).cursor ≡ p
@@ -124,7 +124,7 @@ pub record IsCleared (z : Size) (s t : State) : Type 0 where
 abbrev pub ClearsScreen : Type 0
 ClearsScreen = (z : Size) (s : State) → IsCleared z s (step z s Clear)
 
--- the place stands in the cursor's row, at the cursor or right of it
+-- the position is in the cursor's row, at the cursor or right of it
 abbrev pub IsErased : Position → Position → Type 0
 IsErased cursor p = (p.row ≡ cursor.row) × (cursor.column ≤ p.column)
 
@@ -141,17 +141,17 @@ abbrev pub ErasesLine : Type 0
 ErasesLine = (z : Size) (s : State) → IsWellFormed z s → IsLineErased z s (step z s EraseLine)
 
 -- where the cursor goes on to after a printed byte, above the spare row
-abbrev pub NextPlace : Size → State → Position → Type 0
-NextPlace z s next =
+abbrev pub NextPosition : Size → State → Position → Type 0
+NextPosition z s next =
     ((s.cursor.column + 1 < z.width) × (next ≡ at s.cursor.row (s.cursor.column + 1)))
     ⊎ ((s.cursor.column + 1 ≡ z.width) × (s.wrap ≡ true) × (next ≡ at (s.cursor.row + 1) 0))
     ⊎ ((s.cursor.column + 1 ≡ z.width) × (s.wrap ≡ false) × (next ≡ s.cursor))
 
--- A Glyph above the spare row changes one cell, and takes the cursor to the next place.
+-- A Glyph above the spare row changes one cell, and takes the cursor to the next position.
 pub record IsPrinted (z : Size) (s : State) (byte : ℕ) (t : State) : Type 0 where
   pub printed : cell_at z t.screen s.cursor ≡ Some (cell byte s.attribute)
   pub kept : (p : Position) → IsOnScreen z p → p ≢ s.cursor → cell_at z t.screen p ≡ cell_at z s.screen p
-  pub cursor : NextPlace z s t.cursor
+  pub cursor : NextPosition z s t.cursor
   pub others : OnlyScreenAndCursor s t
 
 -- A Glyph does so.

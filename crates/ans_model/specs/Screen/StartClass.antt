@@ -1,4 +1,4 @@
--- The starting states of a class, and its two extreme ones.
+-- The starts of a class, and its low and its high one.
 use Rattle.std.specs.Prelude.{◌≡◌, ◌-◌, Bool, true, false, replicate, IsTrue, if◌then◌else◌}
 use Rattle.ans_model.specs.Screen.State.{Size, State, at, cell, cell_count, IsWellFormed}
 use Rattle.ans_model.specs.Screen.Step.{blank_cell}

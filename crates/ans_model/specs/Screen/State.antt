@@ -1,6 +1,6 @@
 -- The machine's state: a screen of one row more than the stated lines, two cursors, an attribute and wrap.
 use Rattle.std.specs.Prelude.{◌≡◌, ℕ, ◌+◌, ◌*◌, ◌<◌, ◌≤◌, Bool, List, length, All, Option, slice_get}
-use Rattle.ans_model.specs.Bytes.{IsByte}
+use Rattle.ans_model.specs.Bytes.{IsByte, most_columns, most_lines}
 use Rattle.ans_model.specs.declared.cell.Cell.{Cell}
 use Rattle.ans_model.specs.declared.cell.Position.{Position}
 
@@ -17,6 +17,13 @@ sized width lines = record { width = width; lines = lines }
 pub record IsSize (z : Size) : Type 0 where
   pub some_columns : 0 < z.width
   pub some_lines : 0 < z.lines
+
+-- a size within the limits of a screen (profile)
+pub record IsPlayableSize (z : Size) : Type 0 where
+  pub some_columns : 1 ≤ z.width
+  pub columns : z.width ≤ most_columns
+  pub some_lines : 1 ≤ z.lines
+  pub lines : z.lines ≤ most_lines
 
 -- the cells in row order, the cursor, the saved cursor, the current attribute, and whether wrap is on
 pub record State : Type 0 where
@@ -38,11 +45,11 @@ cell byte attribute = record { byte = byte; attribute = attribute }
 abbrev pub cell_count : Size → ℕ
 cell_count z = (z.lines + 1) * z.width
 
--- where a place stands in row order
+-- where a position stands in row order
 abbrev pub index : Size → Position → ℕ
 index z p = p.row * z.width + p.column
 
--- the cell at a place
+-- the cell at a position
 abbrev pub cell_at : Size → List Cell → Position → Option Cell
 cell_at z cells p = slice_get cells (index z p)
 
@@ -50,7 +57,7 @@ cell_at z cells p = slice_get cells (index z p)
 abbrev pub IsOnScreen : Size → Position → Type 0
 IsOnScreen z p = (p.row ≤ z.lines) × (p.column < z.width)
 
--- a place of the stated lines
+-- a position of the stated lines
 abbrev pub IsStated : Size → Position → Type 0
 IsStated z p = (p.row < z.lines) × (p.column < z.width)
 

@@ -46,16 +46,17 @@ fault_text EraseUnknownPlace = codes "F23 erase at an unknown place"
 fault_text MayScroll = codes "F24 may scroll"
 fault_text (UnknownCell row col) = codes "F25 cell stays unknown"
 
--- the place of an unknown cell, row and column counted from 1
-abbrev pub place_text : Cause → List ℕ
-place_text (UnknownCell row col) = codes " (row " ++ (decimal row ++ (codes ", column " ++ (decimal col ++ codes ")")))
-place_text _ = []
+-- the position of an unknown cell, row and column counted from 1
+abbrev pub position_text : Cause → List ℕ
+position_text (UnknownCell row column) =
+    codes " (row " ++ (decimal row ++ (codes ", column " ++ (decimal column ++ codes ")")))
+position_text _ = []
 
 -- the line of a fault: its offset, its text and the position of an unknown cell
 abbrev pub fault_line : Fault → List ℕ
 fault_line fault =
     line_of (codes "at "
-    ++ (decimal fault.offset ++ (codes ": " ++ (fault_text fault.cause ++ place_text fault.cause))))
+    ++ (decimal fault.offset ++ (codes ": " ++ (fault_text fault.cause ++ position_text fault.cause))))
 
 -- the text of each note
 abbrev pub note_text : Note → List ℕ

@@ -20,9 +20,9 @@ pub record Heading : Type 0 where
   pub notes : List Note
 
 -- the verdict: a picture, with or without its cells, or a fault
-pub data Verdict : Type 0 where
-  Passed : (picture : Picture) (with_cells : Bool) → Verdict
-  RefusedFor : (fault : Fault) → Verdict
+pub data ReportVerdict : Type 0 where
+  Passed : (picture : Picture) (with_cells : Bool) → ReportVerdict
+  RefusedFor : (fault : Fault) → ReportVerdict
 
 -- the name of a class of starts
 abbrev pub start_name : Start → List ℕ
@@ -75,13 +75,13 @@ abbrev pub refusal_text : Fault → List ℕ
 refusal_text fault = line_of (codes "verdict: refused") ++ fault_line fault
 
 -- the lines of the verdict
-abbrev pub verdict_text : Verdict → List ℕ
+abbrev pub verdict_text : ReportVerdict → List ℕ
 verdict_text (Passed picture with_cells) =
     line_of (codes "verdict: pass") ++ (picture_text picture ++ (if with_cells then cells_text picture else []))
 verdict_text (RefusedFor fault) = refusal_text fault
 
 -- the lines of a report
-abbrev pub report_text : Heading → Verdict → List ℕ
+abbrev pub report_text : Heading → ReportVerdict → List ℕ
 report_text heading verdict = heading_text heading ++ verdict_text verdict
 
 -- four digits are a cell

@@ -15,7 +15,7 @@ pub record Picture : Type 0 where
   pub size : Size
   pub cells : List Cell
 
--- it has a byte and an attribute at each place of the stated lines
+-- it has a byte and an attribute at each position of the stated lines
 pub record IsPictureOf (z : Size) (picture : Picture) : Type 0 where
   pub size : picture.size ≡ z
   pub count : length picture.cells ≡ z.lines * z.width
@@ -28,7 +28,7 @@ pub record Shows (z : Size) (class : Class) (tokens : List TokenKind) (picture :
       → cell_at z (final z s tokens).screen p ≡ cell_at z picture.cells p
 
 -- No token has a static fault, none scrolls or prints below the stated lines from any start, and what is printed
--- or erased stands at one place.
+-- or erased stands at one position.
 pub record PlaysWell (z : Size) (class : Class) (tokens : List TokenKind) : Type 0 where
   pub no_static_fault : (k : ℕ) (t : TokenKind) (cause : Cause) → slice_get tokens k ≡ Some t
       → ¬ HasStaticFault z t cause
@@ -36,8 +36,9 @@ pub record PlaysWell (z : Size) (class : Class) (tokens : List TokenKind) : Type
       → FromEvery z class (λ s. ¬ IsInSpareRow z (take k tokens) s)
   pub never_prints_below : (k byte : ℕ) → slice_get tokens k ≡ Some (Glyph byte)
       → FromEvery z class (λ s. ¬ IsInSpareRow z (take k tokens) s)
-  pub prints_at_one_place : (k byte : ℕ) → slice_get tokens k ≡ Some (Glyph byte) → SamePosition z class (take k tokens)
-  pub erases_at_one_place : (k : ℕ) → slice_get tokens k ≡ Some EraseLine → SamePosition z class (take k tokens)
+  pub prints_at_one_position : (k byte : ℕ) → slice_get tokens k ≡ Some (Glyph byte)
+      → SamePosition z class (take k tokens)
+  pub erases_at_one_position : (k : ℕ) → slice_get tokens k ≡ Some EraseLine → SamePosition z class (take k tokens)
 
 -- the content reads as tokens that play well and show this picture
 pub record GoodWith (z : Size) (class : Class) (content : List ℕ) (picture : Picture) : Type 0 where

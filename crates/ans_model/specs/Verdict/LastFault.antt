@@ -12,13 +12,13 @@ use Rattle.ans_model.specs.Screen.Step.{final}
 use Rattle.ans_model.specs.Screen.StartClass.{Class, IsStart}
 use Rattle.ans_model.specs.Verdict.TokenFault.{IsClean}
 
--- in the end the cell at this place is the same from every start
+-- in the end the cell at this position is the same from every start
 abbrev pub SameCell : Size → Class → List TokenKind → Position → Type 0
 SameCell z class tokens p =
     (s t : State) → IsStart z class s → IsStart z class t
     → cell_at z (final z s tokens).screen p ≡ cell_at z (final z t tokens).screen p
 
--- in the end the cell at this place differs between two starts
+-- in the end the cell at this position differs between two starts
 abbrev pub CellsDiffer : Size → Class → List TokenKind → Position → Type 0
 CellsDiffer z class tokens p =
     (s t : State) × IsStart z class s × IsStart z class t
@@ -28,7 +28,7 @@ CellsDiffer z class tokens p =
 abbrev pub IsBefore : Position → Position → Type 0
 IsBefore p q = (p.row < q.row) ⊎ ((p.row ≡ q.row) × (p.column < q.column))
 
--- the first place of the stated lines whose cell differs
+-- the first position of the stated lines whose cell differs
 pub record IsFirstUnknown (z : Size) (class : Class) (tokens : List TokenKind) (p : Position) : Type 0 where
   pub stated : IsStated z p
   pub differs : CellsDiffer z class tokens p

@@ -9,7 +9,7 @@ use arrayvec::ArrayVec;
 use std::alloc::{AllocError, Global};
 use std::test::Fail;
 
-/// A content, and what it shows on a screen of so many columns and lines. Lines are joined by `/`,
+/// The content, and what it shows on a screen of the given columns and lines. Lines are joined by `/`,
 /// and a dot stands for a blank. Cells are compared where some are given.
 struct Play {
     start: Start,
@@ -79,7 +79,7 @@ fn kind_of_byte(byte: u8) -> Kind {
     }
 }
 
-/// The tokens of a content whose sequences are whole.
+/// The tokens of content whose sequences are whole.
 fn kinds(alloc: Global, content: &[u8]) -> Result<Vec<Kind>, AllocError> {
     let mut kinds = Vec::new(alloc);
     let mut sequence = Sequence::new();

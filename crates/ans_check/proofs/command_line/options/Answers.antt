@@ -1,7 +1,7 @@
 use Rattle.std.proofs.Common.{◌∙◌, ◌≡◌, List, Option, ap, option_map, subst, sym}
 use Rattle.std.specs.Prelude.{IfOk, IsSomeAnd, string_bytes}
 use Rattle.clap.specs.Words.{App, Row, Text, app_of, is_simple, subcommand_of, subcommand_rows_of, takes}
-use Rattle.ans_check.specs.CommandLine.{anscheck, AsksFor, IsWantOfMemory, texts_of}
+use Rattle.ans_check.specs.CommandLine.{anscheck, AsksFor, RanOutOfMemory, texts_of}
 use Rattle.ans_check.proofs.CommandLineLemmas.{command_found, err_weaker, subcommand_met}
 use Rattle.ans_check.proofs.command_line.options.Goals as goal
 
@@ -30,5 +30,5 @@ returns-in_err-matches-clause-refuses c =
     let app_is : app_of c.in-Ok.program ≡ anscheck = c.in-Ok.ensures in
     let words = texts_of c.args.words.now in
     err_weaker c.from_residual.result _ _ c.from_residual.ensures.1
-    (λ e is taken. subst IsWantOfMemory (sym is)
+    (λ e is taken. subst RanOutOfMemory (sym is)
     (c.in_err-matches.ensures.passes (ap (λ (a : App). takes a words) app_is ∙ taken)))

@@ -1,5 +1,5 @@
 -- Each content is refused in its first sequence.
-use Rattle.std.proofs.Common.{[], ◌∷◌, ◌++◌, codes, replicate}
+use Rattle.std.proofs.Common.{[], ◌++◌, codes, replicate}
 use Rattle.std.specs.Fmt.{digits}
 use Rattle.ans_model.specs.declared.fault.Cause.TheVariants.{BrokenSequence, NumberTooLarge, TooManyParameters}
 use Rattle.ans_model.specs.declared.fault.Cause.TheVariants.{UnknownSequence, WrongParameters}

@@ -1,13 +1,13 @@
 use Rattle.std.proofs.Common.{rules, ◌≡◌, [], ◌∷◌, ◌++◌, codes, decimal, append_assoc, append-nil}
 use Rattle.ans_model.specs.declared.fault.Fault.{Fault}
-use Rattle.ans_model.specs.Text.FaultText.{fault_text, place_text, fault_line}
+use Rattle.ans_model.specs.Text.FaultText.{fault_text, position_text, fault_line}
 use Rattle.ans_report.proofs.PutsLemmas.{Puts-same, Puts-then}
 use Rattle.ans_report.proofs.fault_lines.put_fault_line.Goals as goal
 
 -- the text up to the position, the position and the line feed
 fault_line_is : (f : Fault)
     → (codes "at " ++ (decimal f.offset ++ (codes ": " ++ (fault_text f.cause ++ []))))
-    ++ (place_text f.cause ++ 0x0A ∷ []) ≡ fault_line f
+    ++ (position_text f.cause ++ 0x0A ∷ []) ≡ fault_line f
 fault_line_is f = simp (append_assoc, append-nil)
 
 pub returns : goal.returns

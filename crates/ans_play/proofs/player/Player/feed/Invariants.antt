@@ -3,7 +3,7 @@ use Rattle.ans_play.specs.PlayerView.{play_of}
 use Rattle.ans_play.proofs.Feeding.{PlaysTo}
 use Rattle.ans_play.proofs.player.Player.feed.Given as goal
 
--- so many bytes of the piece are played, and the rest of the player stays
+-- the first bytes of the piece are played, and the rest of the player stays
 abbrev pub invariant-loop-played : goal.invariant-loop-played
 invariant-loop-played g l = record {
   plays : PlaysTo (play_of l.fn.self) l.piece l.played l.self-inside.play;
