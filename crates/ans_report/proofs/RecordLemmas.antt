@@ -5,10 +5,10 @@ use Rattle.std.specs.Prelude.{Option}
 use Rattle.ans_model.specs.declared.note.Note.{Note}
 use Rattle.ans_model.specs.Text.Characters.{shown_bytes}
 use Rattle.ans_model.specs.File.Record.{comment}
-use Rattle.ans_model.specs.Text.RecordText.{named_line, comment_lines, record_text}
+use Rattle.ans_model.specs.Text.RecordText.{named_line, comment_lines, record_lines, record_text}
 use Rattle.ans_sauce.specs.declared.parts.Parts.{Parts}
 use Rattle.ans_sauce.specs.Parts.{ShowsParts, comments_of, notes_of}
-use Rattle.ans_report.specs.RecordLines.{lines_text, parts_text}
+use Rattle.ans_report.specs.RecordLines.{parts_text}
 use Rattle.ans_report.specs.Puts.{Puts, device_failed}
 use Rattle.ans_report.specs.declared.outbox.Outbox.{Outbox}
 use Rattle.ans_report.proofs.PutsLemmas.{Puts-same, Puts-then, Puts-longer}
@@ -58,6 +58,6 @@ comments_put i n bytes le failed p =
 -- the text of what the parts show is the record's
 pub parts_text_is : (apart : FileParts) (parts : Parts) → ShowsParts apart parts → parts_text parts ≡ record_text apart
 parts_text_is apart parts h =
-    ap (λ (r : List ℕ). lines_text r (comments_of parts) (notes_of parts)) h.sauce
-    ∙ ap (λ (c : List ℕ). lines_text apart.record_bytes c (notes_of parts)) h.comments
-    ∙ ap (λ (ns : List Note). lines_text apart.record_bytes apart.comment_bytes ns) h.notes
+    ap (λ (r : List ℕ). record_lines r (comments_of parts) (notes_of parts)) h.sauce
+    ∙ ap (λ (c : List ℕ). record_lines apart.record_bytes c (notes_of parts)) h.comments
+    ∙ ap (λ (ns : List Note). record_lines apart.record_bytes apart.comment_bytes ns) h.notes
