@@ -1,7 +1,7 @@
 //! The machine, played on one whole state. It is the plain form of the definitions, for tests.
 
-ghost use Rattle.std.specs.Prelude.{◌≡◌, ◌≤◌, map, vec_len, IfOk};
-ghost use Rattle.ans_model.specs.Screen.State.{cell, IsOnScreen};
+ghost use Rattle.std.specs.Prelude.{◌≡◌, ◌≤◌, length, map, vec_len, IfOk};
+ghost use Rattle.ans_model.specs.Screen.State.{cell, cell_count, IsOnScreen};
 ghost use Rattle.ans_model.specs.Screen.Step.{filled, line_feed, step, final};
 ghost use Rattle.ans_model.specs.Sequence.TokenKind.{Glyph, Clear, EraseLine};
 ghost use Rattle.ans_model.specs.Inside.ShownKind.{shown_kind};
@@ -172,7 +172,8 @@ impl Machine {
 
     /// The cells of the stated lines and of the spare row, in row order.
     pub fn cells(&self) -> &[Cell]
-        ensures { result.now ≡ self.now.state.screen }
+        ensures cells { result.now ≡ self.now.state.screen }
+        ensures count { length result.now ≡ cell_count self.now.size }
     {
         &self.screen
     }

@@ -33,13 +33,13 @@ use Rattle.ans_play.proofs.NoFaultShown.{token_is_allowed, token_has_no_fault}
 use Rattle.ans_play.proofs.Clean.{clean_more}
 
 -- ---- one byte
-reads_more : (bytes text : List ℕ) (tokens : List TokenKind) (t : TokenKind) → Reads bytes tokens → SpellsToken t text →
+pub reads_more : (bytes text : List ℕ) (tokens : List TokenKind) (t : TokenKind) → Reads bytes tokens → SpellsToken t text →
     Reads (bytes ++ text) (tokens ++ t ∷ [])
 reads_more bytes text tokens t (texts, r) spelled =
     (texts ++ text ∷ [], reads_as_more bytes text tokens texts t r spelled)
 
 -- a front and an open part, with one more byte
-front_with_byte : (front y : List ℕ) (s : List ℕ) (byte : ℕ) → s ≡ front ++ y →
+pub front_with_byte : (front y : List ℕ) (s : List ℕ) (byte : ℕ) → s ≡ front ++ y →
     s ++ byte ∷ [] ≡ front ++ (y ++ byte ∷ [])
 front_with_byte front y s byte e = ap (λ (xs : List ℕ). xs ++ byte ∷ []) e ∙ append_assoc front y (byte ∷ [])
 
@@ -96,7 +96,7 @@ open_part_starts z class s scanner h p start e =
     omega (arith, e, p.offset, whole)
 
 -- a front, an open part that a byte ends, and a rest
-front_text_rest : (front y s rest : List ℕ) (byte : ℕ) → s ≡ front ++ y →
+pub front_text_rest : (front y s rest : List ℕ) (byte : ℕ) → s ≡ front ++ y →
     s ++ byte ∷ rest ≡ front ++ ((y ++ byte ∷ []) ++ rest)
 front_text_rest front y s rest byte e =
     ap (λ (xs : List ℕ). xs ++ byte ∷ rest) e ∙ append_assoc front y (byte ∷ rest)

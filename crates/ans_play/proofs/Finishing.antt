@@ -48,7 +48,7 @@ index_lt z p h =
     omega (arith, h.1)
 
 -- an earlier place stands before
-index_before : (z : Size) (p q : Position) → IsStated z q → IsBefore q p → index z q < index z p
+pub index_before : (z : Size) (p q : Position) → IsStated z q → IsBefore q p → index z q < index z p
 index_before z p q h (inl above) =
     let below : (q.row + 1) * z.width ≤ p.row * z.width =
     mul-le (q.row + 1) z.width p.row z.width (omega (arith, above)) (omega arith) in
@@ -58,16 +58,16 @@ index_before z p q h (inr (row, column)) =
     omega (arith, column)
 
 -- where cell i stands
-position_of : Size → ℕ → Position
+pub position_of : Size → ℕ → Position
 position_of z i = at (i / z.width) (i % z.width)
 
 -- and back
-position_index : (z : Size) (i : ℕ) → 0 < z.width → index z (position_of z i) ≡ i
+pub position_index : (z : Size) (i : ℕ) → 0 < z.width → index z (position_of z i) ≡ i
 unfolding position_of
 position_index z i w = omega arith
 
 -- it is one of the stated lines
-position_stated : (z : Size) (i : ℕ) → 0 < z.width → i < z.lines * z.width → IsStated z (position_of z i)
+pub position_stated : (z : Size) (i : ℕ) → 0 < z.width → i < z.lines * z.width → IsStated z (position_of z i)
 unfolding position_of
 position_stated z i w l = ((div-lt_iff_lt-mul w).1 l, omega arith)
 

@@ -52,6 +52,9 @@ hull_known : (a : Cell) → is_known (hull_cell a a) ≡ true
 hull_known a = rw (eq-eqb a.byte a.byte refl, xor_self a.attribute) refl
 
 -- ---- a screen
+same_some_cell : (a b : Cell) → Some a ≡ Some b → a ≡ b
+same_some_cell a b e = cc
+
 some_same : (a b : HalfCell) → Some a ≡ Some b → a ≡ b
 some_same a b e = cc
 
@@ -72,16 +75,29 @@ pub unknown_at : (xs ys : List Cell) (i : ℕ) (h : HalfCell) → slice_get (hul
 unknown_at [] ys i h e k same = cc
 unknown_at (x ∷ xs) [] i h e k same = cc
 unknown_at (x ∷ xs) (y ∷ ys) zero h e k same =
-    let equal : y ≡ x = cell_same y x (sym same) in
+    let equal : y ≡ x = same_some_cell y x (sym same) in
     let it : h ≡ hull_cell x x = sym (some_same (hull_cell x y) h e) ∙ ap (λ (c : Cell). hull_cell x c) equal in
     true_not_false (is_known h) (ap (λ (g : HalfCell). is_known g) it ∙ hull_known x) k
   where
-    cell_same : (a b : Cell) → Some a ≡ Some b → a ≡ b
-    cell_same a b e = cc
-
     true_not_false : (b : Bool) → b ≡ true → b ≡ false → ⊥
     true_not_false b p q = cc
 unknown_at (x ∷ xs) (y ∷ ys) (suc i) h e k same = unknown_at xs ys i h e k same
+
+-- where two screens agree, their hull is known
+pub known_where_same : (xs ys : List Cell) (i : ℕ) → i < length xs → slice_get xs i ≡ slice_get ys i →
+    (h : HalfCell) × (slice_get (hull_screen xs ys) i ≡ Some h) × (is_known h ≡ true)
+known_where_same [] ys i within same = absurd (omega arith)
+known_where_same (x ∷ xs) [] zero within same = absurd (cc)
+known_where_same (x ∷ xs) [] (suc i) within same = absurd (none_within xs i (omega arith) same)
+  where
+    none_within : (cells : List Cell) (j : ℕ) → j < length cells → slice_get cells j ≢ None
+    none_within [] j l e = omega arith
+    none_within (c ∷ cells) zero l e = cc
+    none_within (c ∷ cells) (suc j) l e = none_within cells j (omega arith) e
+known_where_same (x ∷ xs) (y ∷ ys) zero within same =
+    let equal : y ≡ x = same_some_cell y x (sym same) in
+    (hull_cell x y, refl, ap (λ (c : Cell). is_known (hull_cell x c)) equal ∙ hull_known x)
+known_where_same (x ∷ xs) (y ∷ ys) (suc i) within same = known_where_same xs ys i (omega arith) same
 
 pub all_known : (hs : List HalfCell) (xs : List Cell) → AllZip DescribesCell hs xs → All IsByteCell xs →
     list_all is_known hs ≡ true → xs ≡ map known_cell hs

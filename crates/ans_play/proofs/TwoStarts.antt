@@ -15,10 +15,11 @@ use Rattle.ans_model.specs.declared.fault.Cause.TheVariants.{MayScroll, UnknownC
 use Rattle.ans_model.specs.declared.cell.Position.{Position}
 use Rattle.ans_model.specs.Screen.State.{Size, IsStated, index, cell_at, IsWellFormed}
 use Rattle.ans_model.specs.Screen.StartClass.{Class, low_start, high_start}
+use Rattle.ans_model.specs.Screen.Step.{final}
 use Rattle.ans_model.specs.Verdict.TokenFault.{HasFault, HasFaultAfter, PositionsDiffer, IsInSpareRow, FromSome}
-use Rattle.ans_model.specs.Verdict.TokenFault.{IsClean}
+use Rattle.ans_model.specs.Verdict.TokenFault.{IsClean, FromEvery}
 use Rattle.ans_model.specs.Verdict.FirstFault.{IsFirstFault, IsToBlame, IsRefused}
-use Rattle.ans_model.specs.Verdict.LastFault.{IsLastFault, CellsDiffer, IsFirstUnknown}
+use Rattle.ans_model.specs.Verdict.LastFault.{IsLastFault, SameCell, CellsDiffer, IsFirstUnknown}
 use Rattle.ans_model.specs.Verdict.Certain.{IsCertain}
 use Rattle.ans_model.specs.Verdict.TwoStarts.{low_final, high_final, CursorsDiffer, OneIsInSpareRow, IsFirstDifference}
 use Rattle.ans_model.specs.Verdict.TwoStarts.{TwoStartsShow, IsShownByTwoStarts}
@@ -29,14 +30,15 @@ use Rattle.ans_model.proofs.Reading.{reads_bytes}
 use Rattle.ans_screen.specs.HalfCells.{is_known}
 use Rattle.ans_screen.specs.declared.cell.HalfCell.{HalfCell}
 use Rattle.ans_play.specs.declared.span.Span.{Span}
-use Rattle.ans_play.specs.Hull.{hull}
-use Rattle.ans_play.specs.HalfState.{HalfState, DescribesCell}
+use Rattle.ans_play.specs.Between.{IsBetween}
+use Rattle.ans_play.specs.Hull.{hull, hull_position}
+use Rattle.ans_play.specs.HalfState.{HalfState, DescribesCell, DescribesPosition}
 use Rattle.ans_play.specs.HalfStep.{half_step}
 use Rattle.ans_play.specs.HalfFault.{half_fault, is_one_position}
 use Rattle.ans_play.specs.Stands.{IsKnownAfter}
 use Rattle.ans_play.proofs.Zips.{AllZip-length}
 use Rattle.ans_play.proofs.HullSteps.{hull_itself}
-use Rattle.ans_play.proofs.KnownCells.{unknown_at}
+use Rattle.ans_play.proofs.KnownCells.{unknown_at, known_where_same}
 use Rattle.ans_play.proofs.Clean.{clean_none, clean_more}
 use Rattle.ans_play.proofs.KnownAfter.{known_none, known_more}
 use Rattle.ans_play.proofs.Positions.{positions_agree, one_position_then, all_in_spare_row, none_in_spare_row}
@@ -121,6 +123,38 @@ module _ (z : Size) (class : Class) (w : 0 < z.width) (tokens : List TokenKind) 
     | inl c ↦ c.1
     | inr b ↦ absurd (clean b.place b.cause (b.token, b.here, b.fault))
   ]
+
+-- ---- what the two plays tell
+module _ (z : Size) (class : Class) (w : 0 < z.width) (tokens : List TokenKind) (prints : All PrintsByte tokens)
+    (clean : IsClean z class tokens) where
+  -- from every start the cursor stands between the two
+  pub cursor_between : FromEvery z class (λ s. IsBetween (low_final z class tokens).cursor
+      (high_final z class tokens).cursor (final z s tokens).cursor)
+  cursor_between s start =
+      let known = known_after_clean z class w tokens prints clean in
+      let within : DescribesPosition
+      (hull_position (low_final z class tokens).cursor (high_final z class tokens).cursor) (final z s tokens).cursor =
+      rw known.1.is_hull at (known.1.describes s start).cursor in
+      record {
+        row_from = within.low_row;
+        row_to = within.high_row;
+        column_from = within.low_column;
+        column_to = within.high_column;
+      }
+
+  -- a cell in which the two agree is the same from every start
+  pub same_where_agreed : (p : Position) → IsStated z p →
+      cell_at z (low_final z class tokens).screen p ≡ cell_at z (high_final z class tokens).screen p →
+      SameCell z class tokens p
+  same_where_agreed p stated same =
+      let known = known_after_clean z class w tokens prints clean in
+      let fits = (known.1.well_formed (low_start z class) (low_is_start z class w)).fits in
+      let within : index z p < length (low_final z class tokens).screen =
+      omega (arith, index_lt z p stated, fits.cells) in
+      let cell = known_where_same (low_final z class tokens).screen (high_final z class tokens).screen
+      (index z p) within same in
+      same_where_known z class tokens known.0 w known.1 p (index z p) cell.0 refl
+      (ap (λ (h : HalfState). slice_get h.screen (index z p)) known.1.is_hull ∙ cell.1) cell.2
 
 -- ---- what the two plays show
 certain_shows : (z : Size) (class : Class) (tokens : List TokenKind) (c : Cause) → IsCertain c →

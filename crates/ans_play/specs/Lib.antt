@@ -7,3 +7,4 @@ pub mod PlayerView
 pub mod Plays
 pub mod Stands
 pub mod Shown
+pub mod Between

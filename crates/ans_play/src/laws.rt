@@ -1,14 +1,20 @@
 //! Laws of what a play finds: each is the contract of a function without a body.
 
-ghost use Rattle.std.specs.Prelude.{◌⊎◌, ◌≤◌, ℕ, List, All, length};
+ghost use Rattle.std.specs.Prelude.{◌≡◌, ◌⊎◌, ◌≤◌, ℕ, List, All, length};
 ghost use Rattle.ans_model.specs.Bytes.{IsByte};
-ghost use Rattle.ans_model.specs.Screen.State.{Size, IsSize};
+ghost use Rattle.ans_model.specs.Sequence.TokenKind.{TokenKind, PrintsByte};
+ghost use Rattle.ans_model.specs.Screen.State.{Size, IsSize, IsStated, cell_at};
+ghost use Rattle.ans_model.specs.Screen.Step.{final};
 ghost use Rattle.ans_model.specs.Screen.StartClass.{Class};
 ghost use Rattle.ans_model.specs.Verdict.Good.{IsGood};
 ghost use Rattle.ans_model.specs.Verdict.FirstFault.{IsFirstFault};
 ghost use Rattle.ans_model.specs.Verdict.LastFault.{IsLastFault};
-ghost use Rattle.ans_model.specs.Verdict.TwoStarts.{IsShownByTwoStarts};
+ghost use Rattle.ans_model.specs.Verdict.TokenFault.{FromEvery, IsClean};
+ghost use Rattle.ans_model.specs.Verdict.LastFault.{SameCell};
+ghost use Rattle.ans_model.specs.Verdict.TwoStarts.{IsShownByTwoStarts, low_final, high_final};
+ghost use Rattle.ans_model.specs.declared.cell.Position.{Position};
 ghost use Rattle.ans_model.specs.declared.fault.Fault.{Fault};
+ghost use Rattle.ans_play.specs.Between.{IsBetween};
 
 /// Bytes are good, or have a first fault, or have a last one. By `ans_model::text_laws::one_answer`
 /// two of these never hold together, and each fault is the only one of its kind.
@@ -26,6 +32,19 @@ pub fn two_starts_show()
         → IsFirstFault z class bytes f → IsShownByTwoStarts z class bytes f }
     ensures last { (z : Size) (class : Class) (bytes : List ℕ) (f : Fault)
         → IsLastFault z class bytes f → IsShownByTwoStarts z class bytes f }
+{}
+
+/// After clean tokens the plays from the low and the high start tell of every play: its cursor stands
+/// between theirs, and where they agree in a stated cell, it is the same from every start.
+pub fn two_starts_tell()
+    ensures cursors { (z : Size) (class : Class) (tokens : List TokenKind)
+        → IsSize z → All PrintsByte tokens → IsClean z class tokens
+        → FromEvery z class (λ s. IsBetween (low_final z class tokens).cursor
+        (high_final z class tokens).cursor (final z s tokens).cursor) }
+    ensures cells { (z : Size) (class : Class) (tokens : List TokenKind) (p : Position)
+        → IsSize z → All PrintsByte tokens → IsClean z class tokens → IsStated z p
+        → cell_at z (low_final z class tokens).screen p ≡ cell_at z (high_final z class tokens).screen p
+        → SameCell z class tokens p }
 {}
 
 /// A fault's offset is that of a byte, or of the bytes' end.

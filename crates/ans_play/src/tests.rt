@@ -1,31 +1,16 @@
 //! Plays of small contents, each fed whole, in two pieces at every cut, and byte by byte.
 
-mod rows;
-
 use crate::{Picture, Player, Start};
 use ans_model::fault::{Cause, Fault};
-use ans_screen::{Grid, PlainGrid};
-use rows::{
-    BROKEN, BYTES, COLOURS, FORBIDDEN, PASSES_FROM_ANY, PASSES_FROM_CLEARED, UNKNOWN_CELLS,
+use ans_samples::rows::Expected::{Refused, Shows};
+use ans_samples::rows::{
+    BROKEN, BYTES, COLOURS, FORBIDDEN, PASSES_FROM_ANY, PASSES_FROM_CLEARED, Row, UNKNOWN_CELLS,
     UNKNOWN_PLACES, WITHOUT_MEANING,
 };
+use ans_screen::{Grid, PlainGrid};
 use std::alloc::Global;
 use std::process::Abort;
 use std::test::Fail;
-
-/// What is expected of the content: the bytes of its picture, and their attributes where they are to be
-/// compared; or its fault.
-#[derive(Clone, Copy)]
-enum Expected {
-    Shows(&'static [u8], &'static [u8]),
-    Refused(usize, Cause),
-}
-
-use Expected::{Refused, Shows};
-
-/// The class of starts, the stated width and lines, the content, and what is expected of it.
-#[derive(Clone, Copy)]
-struct Row(Start, usize, usize, &'static [u8], Expected);
 
 fn feed<G: Grid>(rt: &impl Abort, player: &mut Player<G>, piece: &[u8]) -> Result<(), Fault> {
     let fed = player.fed();
@@ -55,8 +40,14 @@ fn assert_shows<G: Grid>(rt: &impl Abort, picture: &Picture<G>, bytes: &[u8], at
 
 /// Feeds the first bytes of a row's content as one piece and the others in pieces of a size, with an
 /// empty piece after each.
-fn play(rt: &impl Abort, alloc: Global, row: Row, first: usize, size: usize) -> Result<(), Fail> {
-    let Row(start, width, lines, content, wanted) = row;
+fn play(rt: &impl Abort, alloc: Global, row: &Row, first: usize, size: usize) -> Result<(), Fail> {
+    let Row {
+        start,
+        width,
+        lines,
+        content,
+        expected,
+    } = *row;
     assert!(rt; 1 <= width && width <= 10 && 1 <= lines && lines <= 10);
     assert!(rt; first <= content.len() && 0 < size);
     let mut player = Player::<PlainGrid>::new(alloc, width, lines, start)?;
@@ -70,7 +61,7 @@ fn play(rt: &impl Abort, alloc: Global, row: Row, first: usize, size: usize) -> 
             assert_eq!(rt; answer, met);
         }
     }
-    match (player.finish(), wanted) {
+    match (player.finish(), expected) {
         (Ok(picture), Shows(bytes, attributes)) => assert_shows(rt, &picture, bytes, attributes),
         (Err(fault), Refused(offset, cause)) => {
             assert_eq!(rt; fault, Fault { offset, cause }, "in {content:?}");
@@ -84,12 +75,12 @@ fn play(rt: &impl Abort, alloc: Global, row: Row, first: usize, size: usize) -> 
 /// Plays each content whole, in two pieces at every cut, and byte by byte.
 fn play_all(rt: &impl Abort, alloc: Global, rows: &[Row]) -> Result<(), Fail> {
     for row in rows {
-        let all = row.3.len();
+        let all = row.content.len();
         assert!(rt; all < 200);
         for cut in 0..all + 1 {
-            play(rt, alloc, *row, cut, all + 1)?;
+            play(rt, alloc, row, cut, all + 1)?;
         }
-        play(rt, alloc, *row, 0, 1)?;
+        play(rt, alloc, row, 0, 1)?;
     }
     Ok(())
 }

@@ -1,6 +1,12 @@
 //! What a check finds of files.
 use super::{file_of, file_of_size};
 use crate::{Start, Verdict, check};
+use ans_play::Picture;
+use ans_samples::rows::Expected::{Refused, Shows};
+use ans_samples::rows::{
+    BROKEN, BYTES, COLOURS, FORBIDDEN, PASSES_FROM_ANY, PASSES_FROM_CLEARED, Row, UNKNOWN_CELLS,
+    UNKNOWN_PLACES, WITHOUT_MEANING,
+};
 use ans_sauce::{Cause, Fault, MAX_FILE};
 use ans_screen::PlainGrid;
 use std::alloc::AllocError;
@@ -21,12 +27,31 @@ fn is_of_the_record(cause: Cause) -> bool {
     )
 }
 
-/// Asserts what a check answers: the picture's bytes row by row, or a fault.
+/// Asserts the picture's bytes in row order, and their attributes where these are compared.
+fn assert_shows(rt: &impl Abort, picture: &Picture<PlainGrid>, bytes: &[u8], attributes: &[u8]) {
+    let width = picture.width();
+    assert_eq!(rt; bytes.len(), width * picture.lines());
+    for row in 0..picture.lines() {
+        for col in 0..width {
+            let i = row * width + col;
+            assert_eq!(rt;
+                Some(&picture.glyph(row, col)),
+                bytes.get(i),
+                "at {row}, {col}"
+            );
+            if let Some(attribute) = attributes.get(i) {
+                assert_eq!(rt; picture.attr(row, col), *attribute, "at {row}, {col}");
+            }
+        }
+    }
+}
+
+/// Asserts what a check answers: the picture's bytes and attributes, or a fault.
 fn expect_verdict(
     rt: &(impl Abort + AllocGlobal),
     file: &[u8],
     start: Start,
-    expected: Result<&[u8], (usize, Cause)>,
+    expected: Result<(&[u8], &[u8]), (usize, Cause)>,
 ) {
     assert!(rt; file.len() <= MAX_FILE);
     let verdict = match check::<PlainGrid>(rt.alloc(), file, start) {
@@ -37,19 +62,8 @@ fn expect_verdict(
         Verdict::Pass(parts, picture) => {
             assert_eq!(rt; picture.width(), parts.width());
             assert_eq!(rt; picture.lines(), parts.lines());
-            let mut left = expected.expect(rt, "a fault was expected");
-            for row in 0..picture.lines() {
-                for col in 0..picture.width() {
-                    assert_eq!(rt;
-                        left.first(),
-                        Some(&picture.glyph(row, col)),
-                        "at {row}, {col}"
-                    );
-                    assert_eq!(rt; picture.attr(row, col), 0x07);
-                    left = left.split_first().map_or(left, |(_, rest)| rest);
-                }
-            }
-            assert!(rt; left.is_empty());
+            let (bytes, attributes) = expected.expect(rt, "a fault was expected");
+            assert_shows(rt, &picture, bytes, attributes);
         }
         Verdict::Refused(parts, fault) => {
             let (offset, cause) = expected.expect_err(rt, "a pass was expected");
@@ -59,42 +73,74 @@ fn expect_verdict(
     }
 }
 
-#[test]
-fn contents_are_played(rt: HostRuntime) {
-    let rows: [(Start, u16, u16, &[u8], Result<&[u8], (usize, Cause)>); 16] = [
-        (Start::Cleared, 2, 1, b"Hi", Ok(b"Hi")),
-        (Start::Cleared, 1, 1, b"", Ok(b" ")),
-        (Start::Cleared, 2, 1, b"a\x08b\x07", Ok(b"b ")),
-        (Start::Cleared, 2, 2, b"abc", Ok(b"abc ")),
-        (Start::Cleared, 3, 2, b"ab\r\nc", Ok(b"ab c  ")),
-        (Start::Cleared, 2, 1, b"\xDB\x00", Ok(b"\xDB\x00")),
-        (Start::Any, 2, 1, b"Hi", Err((0, Cause::PrintUnknownPlace))),
-        (Start::Cleared, 2, 1, b"Hi\r\n", Err((3, Cause::Scrolls))),
-        (Start::Cleared, 2, 1, b"Hi!", Err((2, Cause::PrintBelow))),
-        (
-            Start::Any,
-            1,
-            1,
-            b"",
-            Err((0, Cause::UnknownCell { row: 1, col: 1 })),
-        ),
-        (Start::Any, 1, 1, b"\n", Err((0, Cause::MayScroll))),
-        (Start::Cleared, 2, 1, b"\t", Err((0, Cause::TabByte))),
-        (Start::Cleared, 2, 1, b"\x1b[1;2HA\x1b[HB\x1b[m", Ok(b"BA")),
-        (
-            Start::Cleared,
-            2,
-            1,
-            b"H\x1b[",
-            Err((1, Cause::EndInSequence)),
-        ),
-        (Start::Any, 2, 1, b"\x1b[0m\x1b[2JHi", Ok(b"Hi")),
-        (Start::Any, 2, 1, b"\x1b[6n", Err((0, Cause::ReportAsked))),
-    ];
-    for (start, width, lines, content, expected) in rows {
-        let file = file_of_size(&rt, content, width, lines);
-        expect_verdict(&rt, file.as_slice(), start, expected);
+/// The content, an end mark and the plain record of this size.
+fn file_of_content(rt: &(impl Abort + AllocGlobal), row: &Row) -> Vec<u8> {
+    let mut front = [0x1a; 256];
+    assert!(rt; row.content.len() < 256 && row.width < 256 && row.lines < 256);
+    front[..row.content.len()].copy_from_slice(row.content);
+    file_of_size(
+        rt,
+        &front[..row.content.len() + 1],
+        row.width as u16,
+        row.lines as u16,
+    )
+}
+
+/// Asserts that a check finds of each content, as a file, what is expected of it.
+fn expect_rows(rt: &(impl Abort + AllocGlobal), rows: &[Row]) {
+    for row in rows {
+        let file = file_of_content(rt, row);
+        let expected = match row.expected {
+            Shows(bytes, attributes) => Ok((bytes, attributes)),
+            Refused(offset, cause) => Err((offset, cause)),
+        };
+        expect_verdict(rt, file.as_slice(), row.start, expected);
     }
+}
+
+#[test]
+fn bytes_alone(rt: HostRuntime) {
+    expect_rows(&rt, &BYTES);
+}
+
+#[test]
+fn pictures_from_any_start(rt: HostRuntime) {
+    expect_rows(&rt, &PASSES_FROM_ANY);
+}
+
+#[test]
+fn pictures_from_the_cleared_start(rt: HostRuntime) {
+    expect_rows(&rt, &PASSES_FROM_CLEARED);
+}
+
+#[test]
+fn pictures_in_colours(rt: HostRuntime) {
+    expect_rows(&rt, &COLOURS);
+}
+
+#[test]
+fn broken_sequences(rt: HostRuntime) {
+    expect_rows(&rt, &BROKEN);
+}
+
+#[test]
+fn sequences_without_a_meaning(rt: HostRuntime) {
+    expect_rows(&rt, &WITHOUT_MEANING);
+}
+
+#[test]
+fn sequences_that_are_not_allowed(rt: HostRuntime) {
+    expect_rows(&rt, &FORBIDDEN);
+}
+
+#[test]
+fn cells_that_stay_unknown(rt: HostRuntime) {
+    expect_rows(&rt, &UNKNOWN_CELLS);
+}
+
+#[test]
+fn places_that_do_not_fit(rt: HostRuntime) {
+    expect_rows(&rt, &UNKNOWN_PLACES);
 }
 
 #[test]
@@ -134,7 +180,7 @@ fn files_with_odd_ends_are_accepted(rt: HostRuntime) {
     ];
     for (front, width, lines, picture) in rows {
         let file = file_of_size(&rt, front, width, lines);
-        expect_verdict(&rt, file.as_slice(), Start::Cleared, Ok(picture));
+        expect_verdict(&rt, file.as_slice(), Start::Cleared, Ok((picture, &[])));
     }
 }
 
@@ -150,5 +196,5 @@ fn each_proper_prefix_of_a_file_has_no_record(rt: HostRuntime) {
             Err((n, Cause::NoRecord)),
         );
     }
-    expect_verdict(&rt, file.as_slice(), Start::Cleared, Ok(b"Hi"));
+    expect_verdict(&rt, file.as_slice(), Start::Cleared, Ok((b"Hi", &[7, 7])));
 }

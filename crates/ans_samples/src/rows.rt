@@ -1,12 +1,34 @@
 //! Contents, each with the picture that it shows or the fault that it is refused for.
-//!
-//! A row is the class of starts, the stated width and lines, the content, and what is expected: the
-//! picture's bytes, with their attributes where these are compared, or the fault and its offset.
 
-use super::Expected::{Refused, Shows};
-use super::Row;
 use ans_model::fault::Cause;
 use ans_model::start::Start;
+
+/// What is expected of a content.
+#[derive(Debug, Clone, Copy)]
+pub enum Expected {
+    /// A pass: the bytes of the picture in row order, and their attributes where these are compared,
+    /// else none.
+    Shows(&'static [u8], &'static [u8]),
+    /// The offset and the cause of its fault.
+    Refused(usize, Cause),
+}
+
+use Expected::{Refused, Shows};
+
+/// A content, where it is played, and what is expected of it.
+#[derive(Debug, Clone, Copy)]
+pub struct Row {
+    /// The class of starts.
+    pub start: Start,
+    /// The stated width, in columns.
+    pub width: usize,
+    /// The stated lines.
+    pub lines: usize,
+    /// The bytes that are played.
+    pub content: &'static [u8],
+    /// What is expected of them.
+    pub expected: Expected,
+}
 
 macro_rules! expected {
     (shows $bytes:literal, [$($attribute:literal),*]) => {
@@ -31,12 +53,18 @@ macro_rules! start {
 
 macro_rules! rows {
     ($($start:ident $width:literal x $lines:literal, $content:literal => $word:ident($($expected:tt)*);)*) => {
-        [$(Row(start!($start), $width, $lines, $content, expected!($word $($expected)*))),*]
+        [$(Row {
+            start: start!($start),
+            width: $width,
+            lines: $lines,
+            content: $content,
+            expected: expected!($word $($expected)*),
+        }),*]
     };
 }
 
 /// Contents without a sequence.
-pub(super) static BYTES: [Row; 13] = rows! {
+pub static BYTES: [Row; 16] = rows! {
     any 2 x 1, b"Hi" => refused(0, PrintUnknownPlace);
     cleared 2 x 1, b"Hi" => shows(b"Hi", [0x07, 0x07]);
     cleared 2 x 1, b"Hi\r\n" => refused(3, Scrolls);
@@ -50,10 +78,13 @@ pub(super) static BYTES: [Row; 13] = rows! {
     cleared 4 x 2, b"ab\rx" => shows(b"xb      ", []);
     cleared 4 x 2, b"ab\nx" => shows(b"ab    x ", []);
     cleared 4 x 1, b"abc\x08x" => shows(b"abx ", []);
+    cleared 2 x 2, b"abc" => shows(b"abc ", [0x07, 0x07, 0x07, 0x07]);
+    cleared 3 x 2, b"ab\r\nc" => shows(b"ab c  ", []);
+    cleared 2 x 1, b"Hi!" => refused(2, PrintBelow);
 };
 
 /// Contents that show a picture from any start.
-pub(super) static PASSES_FROM_ANY: [Row; 9] = rows! {
+pub static PASSES_FROM_ANY: [Row; 10] = rows! {
     any 2 x 1, b"\x1b[?7h\x1b[0m\x1b[2JHi" => shows(b"Hi", [0x07, 0x07]);
     any 1 x 1, b"\x1b[0m\x1b[2Ja" => shows(b"a", [0x07]);
     any 2 x 1, b"\x1b[?7h\x1b[0m\x1b[2J\x1b[s\x1b[ux" => shows(b"x ", []);
@@ -63,10 +94,11 @@ pub(super) static PASSES_FROM_ANY: [Row; 9] = rows! {
     any 2 x 1, b"\x1b[?7h\x1b[0m\x1b[2J" => shows(b"  ", []);
     any 2 x 1, b"\x1b[?7h\x1b[0m\x1b[2JH" => shows(b"H ", []);
     any 2 x 1, b"\x1b[?7h\x1b[0m\x1b[2J\x1b[2;2H\x1b[K" => shows(b"  ", [0x07, 0x07]);
+    any 2 x 1, b"\x1b[0m\x1b[2JHi" => shows(b"Hi", [0x07, 0x07]);
 };
 
 /// Contents without colours that show a picture from the cleared start.
-pub(super) static PASSES_FROM_CLEARED: [Row; 22] = rows! {
+pub static PASSES_FROM_CLEARED: [Row; 23] = rows! {
     cleared 2 x 1, b"\x1b[255D" => shows(b"  ", []);
     cleared 2 x 1, b"\x1b[?7lHi!" => shows(b"H!", []);
     cleared 2 x 2, b"a\x1b[s\r\n\x1b[ub" => shows(b"ab  ", []);
@@ -89,29 +121,34 @@ pub(super) static PASSES_FROM_CLEARED: [Row; 22] = rows! {
     cleared 2 x 1, b"\x1b[2;1H\x1b[K" => shows(b"  ", [0x07, 0x07]);
     cleared 1 x 1, b"\x1b[=7lxy" => shows(b"y", []);
     cleared 2 x 1, b"\x1b[000255D" => shows(b"  ", []);
+    cleared 2 x 1, b"\x1b[1;2HA\x1b[HB\x1b[m" => shows(b"BA", [0x07, 0x07]);
 };
 
 /// Contents with colours that show a picture from the cleared start.
-pub(super) static COLOURS: [Row; 15] = rows! {
+pub static COLOURS: [Row; 15] = rows! {
     cleared 1 x 1, b"\x1b[0;1;5;33;44mA" => shows(b"A", [0x9E]);
     cleared 3 x 1, b"abc\x1b[1;2H\x1b[44m\x1b[K" => shows(b"a  ", [0x07, 0x17, 0x17]);
     cleared 2 x 1, b"\x1b[;;;;;;;;;;;;;;;m" => shows(b"  ", []);
-    cleared 4 x 3, b"\x1b[3B\x1b[0;7m\x1b[K\x1b[Ax" => shows(b"        x   ", [0x07, 0x07, 0x07, 0x07, 0x07, 0x07, 0x07, 0x07, 0x70, 0x07, 0x07, 0x07]);
+    cleared 4 x 3, b"\x1b[3B\x1b[0;7m\x1b[K\x1b[Ax"
+        => shows(b"        x   ", [0x07, 0x07, 0x07, 0x07, 0x07, 0x07, 0x07, 0x07, 0x70, 0x07, 0x07, 0x07]);
     cleared 4 x 1, b"abc\x1b[1;2H\x1b[44m\x1b[0K" => shows(b"a   ", [0x07, 0x17, 0x17, 0x17]);
     cleared 3 x 1, b"\x1b[31m\x1b[s\x1b[32m\x1b[ux" => shows(b"x  ", [0x02, 0x07, 0x07]);
     cleared 3 x 1, b"\x1b[41m\x1b[2Jx" => shows(b"x  ", [0x47, 0x47, 0x47]);
-    cleared 8 x 1, b"\x1b[31mx\x1b[32mx\x1b[33mx\x1b[34mx\x1b[35mx\x1b[36mx\x1b[37mx\x1b[30mx" => shows(b"xxxxxxxx", [0x04, 0x02, 0x06, 0x01, 0x05, 0x03, 0x07, 0x00]);
-    cleared 8 x 1, b"\x1b[41mx\x1b[42mx\x1b[43mx\x1b[44mx\x1b[45mx\x1b[46mx\x1b[47mx\x1b[40mx" => shows(b"xxxxxxxx", [0x47, 0x27, 0x67, 0x17, 0x57, 0x37, 0x77, 0x07]);
+    cleared 8 x 1, b"\x1b[31mx\x1b[32mx\x1b[33mx\x1b[34mx\x1b[35mx\x1b[36mx\x1b[37mx\x1b[30mx"
+        => shows(b"xxxxxxxx", [0x04, 0x02, 0x06, 0x01, 0x05, 0x03, 0x07, 0x00]);
+    cleared 8 x 1, b"\x1b[41mx\x1b[42mx\x1b[43mx\x1b[44mx\x1b[45mx\x1b[46mx\x1b[47mx\x1b[40mx"
+        => shows(b"xxxxxxxx", [0x47, 0x27, 0x67, 0x17, 0x57, 0x37, 0x77, 0x07]);
     cleared 3 x 1, b"\x1b[1;5;33;44m\x1b[4mx\x1b[7mx\x1b[8mx" => shows(b"xxx", [0x99, 0xF8, 0x88]);
     cleared 3 x 1, b"\x1b[1;5;33;44m\x1b[8mx" => shows(b"x  ", [0x88, 0x07, 0x07]);
     cleared 3 x 1, b"\x1b[1;44m\x1b[7mx" => shows(b"x  ", [0x78, 0x07, 0x07]);
-    cleared 9 x 1, b"\x1b[1;5;33;44m\x1b[2mx\x1b[3mx\x1b[6mx\x1b[38mx\x1b[39mx\x1b[48mx\x1b[49mx\x1b[9;10mx\x1b[255mx" => shows(b"xxxxxxxxx", [0x9E, 0x9E, 0x9E, 0x9E, 0x9E, 0x9E, 0x9E, 0x9E, 0x9E]);
+    cleared 9 x 1, b"\x1b[1;5;33;44m\x1b[2mx\x1b[3mx\x1b[6mx\x1b[38mx\x1b[39mx\x1b[48mx\x1b[49mx\x1b[9;10mx\x1b[255mx"
+        => shows(b"xxxxxxxxx", [0x9E, 0x9E, 0x9E, 0x9E, 0x9E, 0x9E, 0x9E, 0x9E, 0x9E]);
     cleared 3 x 1, b"\x1b[1m\x1b[mx" => shows(b"x  ", [0x07, 0x07, 0x07]);
     cleared 3 x 1, b"\x1b[1m\x1b[;5mx" => shows(b"x  ", [0x87, 0x07, 0x07]);
 };
 
 /// Sequences that are broken, too large or unfinished.
-pub(super) static BROKEN: [Row; 18] = rows! {
+pub static BROKEN: [Row; 19] = rows! {
     cleared 2 x 1, b"\x1b[3" => refused(0, EndInSequence);
     cleared 2 x 1, b"\x1b[256C" => refused(0, NumberTooLarge);
     cleared 2 x 1, b"\x1b(B" => refused(0, BrokenSequence);
@@ -130,10 +167,11 @@ pub(super) static BROKEN: [Row; 18] = rows! {
     cleared 2 x 1, b"\x1b[\"a\"1p" => refused(0, BrokenSequence);
     cleared 2 x 1, b"\x1b[=?7h" => refused(0, BrokenSequence);
     cleared 2 x 1, b"\x1b[7=h" => refused(0, BrokenSequence);
+    cleared 2 x 1, b"H\x1b[" => refused(1, EndInSequence);
 };
 
 /// Sequences that mean nothing.
-pub(super) static WITHOUT_MEANING: [Row; 21] = rows! {
+pub static WITHOUT_MEANING: [Row; 21] = rows! {
     cleared 2 x 1, b"\x1b[2t" => refused(0, UnknownSequence);
     cleared 2 x 1, b"\x1b[?6n" => refused(0, UnknownSequence);
     cleared 2 x 1, b"\x1b[J" => refused(0, WrongParameters);
@@ -158,7 +196,7 @@ pub(super) static WITHOUT_MEANING: [Row; 21] = rows! {
 };
 
 /// Sequences that are not allowed.
-pub(super) static FORBIDDEN: [Row; 12] = rows! {
+pub static FORBIDDEN: [Row; 13] = rows! {
     cleared 2 x 1, b"\x1b[13;\"dir\";13p" => refused(0, KeyReassigned);
     cleared 2 x 1, b"\x1b[?25h" => refused(0, ScreenMode);
     cleared 2 x 1, b"\x1b[7h" => refused(0, ScreenMode);
@@ -171,10 +209,11 @@ pub(super) static FORBIDDEN: [Row; 12] = rows! {
     cleared 2 x 1, b"\x1b[2;1H\x1b[9;1H" => refused(6, OutsideScreen);
     cleared 2 x 1, b"\x1b[?7;7h" => refused(0, ScreenMode);
     cleared 2 x 1, b"\x1b['a\"b'p" => refused(0, KeyReassigned);
+    any 2 x 1, b"\x1b[6n" => refused(0, ReportAsked);
 };
 
 /// Contents that leave a cell unknown.
-pub(super) static UNKNOWN_CELLS: [Row; 5] = rows! {
+pub static UNKNOWN_CELLS: [Row; 5] = rows! {
     any 1 x 1, b"\x1b[2J" => refused(4, UnknownCell 1 1);
     any 1 x 1, b"\x1b[37;40m\x1b[2J\x1b[0m" => refused(16, UnknownCell 1 1);
     any 2 x 1, b"\x1b[?7h" => refused(5, UnknownCell 1 1);
@@ -183,7 +222,7 @@ pub(super) static UNKNOWN_CELLS: [Row; 5] = rows! {
 };
 
 /// Contents that print, erase, or scroll where they must not.
-pub(super) static UNKNOWN_PLACES: [Row; 8] = rows! {
+pub static UNKNOWN_PLACES: [Row; 8] = rows! {
     any 2 x 1, b"\x1b[?7h\x1b[0m\x1b[2JHi!" => refused(15, PrintBelow);
     any 2 x 2, b"\x1b[0m\x1b[2Jabc" => refused(10, PrintUnknownPlace);
     any 2 x 1, b"\x1b[?7h\x1b[0m\x1b[2J\x1b[ux" => refused(16, PrintUnknownPlace);

@@ -1,0 +1,4 @@
+pub mod TwoCursors
+pub mod TokenFaults
+pub mod Played
+pub mod EndOfPlays

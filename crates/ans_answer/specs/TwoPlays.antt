@@ -1,0 +1,54 @@
+-- Two plays, as contracts see them.
+use Rattle.std.specs.Prelude.{◌≡◌, ◌≢◌, ℕ, ◌<◌, List, ◌++◌, length, slice_get, All, Option, None, MatchOption}
+use Rattle.ans_model.specs.Sequence.TokenKind.{TokenKind}
+use Rattle.ans_model.specs.Sequence.Reads.{Reads}
+use Rattle.ans_model.specs.Screen.State.{Size, IsSize, State}
+use Rattle.ans_model.specs.Screen.StartClass.{Class}
+use Rattle.ans_model.specs.Verdict.TokenFault.{HasFault, IsClean}
+use Rattle.ans_model.specs.Verdict.TwoStarts.{low_final, high_final}
+use Rattle.ans_model.specs.declared.cell.Cell.{Cell}
+use Rattle.ans_model.specs.declared.fault.Cause.{Cause}
+use Rattle.ans_tokens.specs.ScannerView.{ScannerView, Holds}
+
+-- the stated size, the states of the two plays, and the scanner
+pub record TwoPlaysView : Type 0 where
+  pub size : Size
+  pub low : State
+  pub high : State
+  pub scanner : ScannerView
+
+-- the two plays of these four
+abbrev pub two_plays_view : Size → State → State → ScannerView → TwoPlaysView
+two_plays_view size low high scanner = record { size = size; low = low; high = high; scanner = scanner }
+
+-- The two states are those after clean tokens from the low and the high start of the class.
+pub record AreAfter (class : Class) (tokens : List TokenKind) (p : TwoPlaysView) : Type 0 where
+  pub size : IsSize p.size
+  pub clean : IsClean p.size class tokens
+  pub low : p.low ≡ low_final p.size class tokens
+  pub high : p.high ≡ high_final p.size class tokens
+
+-- The bytes are a front that is read as tokens, after which the two plays are, and then an open part that the
+-- scanner holds.
+pub record ArePlayed (class : Class) (bytes : List ℕ) (p : TwoPlaysView) : Type 0 where
+  pub front : List ℕ
+  pub open_part : List ℕ
+  pub whole : bytes ≡ front ++ open_part
+  pub tokens : List TokenKind
+  pub reads : Reads front tokens
+  pub after : AreAfter class tokens p
+  pub holds : Holds p.scanner open_part
+  pub offset : p.scanner.offset ≡ length bytes
+  pub unrefused : p.scanner.fault ≡ None
+
+-- Whatever tokens brought the two plays here, the next one has this fault after them, or has none.
+abbrev pub FindsFault : TwoPlaysView → TokenKind → Option Cause → Type 0
+FindsFault p t found = (class : Class) (tokens : List TokenKind) (front : List ℕ) → Reads front tokens →
+    AreAfter class tokens p → MatchOption found ((cause : Cause) → ¬ HasFault p.size class tokens t cause)
+    (HasFault p.size class tokens t)
+
+-- the first index at which two lists of cells differ
+pub record IsFirstDifferenceOf (xs ys : List Cell) (i : ℕ) : Type 0 where
+  pub within : i < length xs
+  pub differs : slice_get xs i ≢ slice_get ys i
+  pub earlier : (j : ℕ) → j < i → slice_get xs j ≡ slice_get ys j

@@ -1,0 +1,110 @@
+//! The worked rows on the plain answer.
+
+use crate::{Answer, plain_answer};
+use ans_model::cell::Cell;
+use ans_model::fault::{Cause, Fault};
+use ans_samples::rows::Expected::{Refused, Shows};
+use ans_samples::rows::{
+    BROKEN, BYTES, COLOURS, FORBIDDEN, PASSES_FROM_ANY, PASSES_FROM_CLEARED, Row, UNKNOWN_CELLS,
+    UNKNOWN_PLACES, WITHOUT_MEANING,
+};
+use std::alloc::{AllocError, Global};
+use std::process::Abort;
+
+/// Asserts the cells' bytes, and their attributes where these are compared.
+fn assert_cells(rt: &impl Abort, cells: &[Cell], bytes: &[u8], attributes: &[u8]) {
+    assert_eq!(rt; cells.len(), bytes.len());
+    for (cell, byte) in cells.iter().zip(bytes) {
+        assert_eq!(rt; cell.byte, *byte);
+    }
+    for (cell, attribute) in cells.iter().zip(attributes) {
+        assert_eq!(rt; cell.attribute, *attribute);
+    }
+}
+
+/// Whether the cause is one of the content's end.
+fn is_of_the_end(cause: Cause) -> bool {
+    matches!(cause, Cause::EndInSequence | Cause::UnknownCell { .. })
+}
+
+/// Asserts a row's answer.
+fn expect_answer(rt: &impl Abort, alloc: Global, row: &Row) {
+    let Row {
+        start,
+        width,
+        lines,
+        content,
+        expected,
+    } = *row;
+    assert!(rt; 1 <= width && width <= 10 && 1 <= lines && lines <= 10 && content.len() < 200);
+    let answer = match plain_answer(alloc, content, width, lines, start) {
+        Ok(answer) => answer,
+        Err(AllocError) => plain_answer(alloc, content, width, lines, start).expect(rt, "memory"),
+    };
+    match (answer, expected) {
+        (Answer::Good(cells), Shows(bytes, attributes)) => {
+            assert_eq!(rt; cells.len(), width * lines);
+            assert_cells(rt, cells.as_slice(), bytes, attributes);
+        }
+        (Answer::First(fault), Refused(offset, cause)) => {
+            assert_eq!(rt; fault, Fault { offset, cause }, "in {content:?}");
+            assert!(rt; !is_of_the_end(cause));
+        }
+        (Answer::Last(fault), Refused(offset, cause)) => {
+            assert_eq!(rt; fault, Fault { offset, cause }, "in {content:?}");
+            assert!(rt; is_of_the_end(cause));
+        }
+        _ => panic!(rt; "a picture where a fault was expected, or the reverse, in {content:?}"),
+    }
+}
+
+fn expect_answers(rt: &impl Abort, alloc: Global, rows: &[Row]) {
+    for row in rows {
+        expect_answer(rt, alloc, row);
+    }
+}
+
+#[test]
+fn bytes_alone(rt: HostRuntime) {
+    expect_answers(&rt, rt.alloc(), &BYTES);
+}
+
+#[test]
+fn pictures_from_any_start(rt: HostRuntime) {
+    expect_answers(&rt, rt.alloc(), &PASSES_FROM_ANY);
+}
+
+#[test]
+fn pictures_from_the_cleared_start(rt: HostRuntime) {
+    expect_answers(&rt, rt.alloc(), &PASSES_FROM_CLEARED);
+}
+
+#[test]
+fn pictures_in_colours(rt: HostRuntime) {
+    expect_answers(&rt, rt.alloc(), &COLOURS);
+}
+
+#[test]
+fn broken_sequences(rt: HostRuntime) {
+    expect_answers(&rt, rt.alloc(), &BROKEN);
+}
+
+#[test]
+fn sequences_without_a_meaning(rt: HostRuntime) {
+    expect_answers(&rt, rt.alloc(), &WITHOUT_MEANING);
+}
+
+#[test]
+fn sequences_that_are_not_allowed(rt: HostRuntime) {
+    expect_answers(&rt, rt.alloc(), &FORBIDDEN);
+}
+
+#[test]
+fn cells_that_stay_unknown(rt: HostRuntime) {
+    expect_answers(&rt, rt.alloc(), &UNKNOWN_CELLS);
+}
+
+#[test]
+fn places_that_do_not_fit(rt: HostRuntime) {
+    expect_answers(&rt, rt.alloc(), &UNKNOWN_PLACES);
+}

@@ -1,0 +1,187 @@
+//! Two plays side by side.
+
+ghost use Rattle.std.specs.Prelude.{◌≡◌, ◌≤◌, ◌<◌, ◌+◌, ◌++◌, ◌∷◌, [], ℕ, List, length, IfOk, IfErr, OnOk};
+ghost use Rattle.std.specs.Prelude.{IfSome, IfNone};
+ghost use Rattle.ans_model.specs.Bytes.{longest_file};
+ghost use Rattle.ans_model.specs.Sequence.TokenKind.{Glyph, LineFeed, Place, EraseLine};
+ghost use Rattle.ans_model.specs.Inside.ShownKind.{shown_kind};
+ghost use Rattle.ans_model.specs.Screen.StartClass.{Class, class_of};
+ghost use Rattle.ans_model.specs.Verdict.FirstFault.{IsFirstFault};
+ghost use Rattle.ans_answer.specs.Answers.{IsAnswer};
+ghost use Rattle.ans_answer.specs.TwoPlays.{IsFirstDifferenceOf};
+
+use crate::answer::Answer;
+use ans_model::cell::Cell;
+use ans_model::fault::{Cause, Fault};
+use ans_model::kind::Kind;
+use ans_model::machine::Machine;
+use ans_model::size::Size;
+use ans_model::start::Start;
+use ans_tokens::Scanner;
+use std::alloc::{AllocError, Global};
+use std::marker::Model;
+
+/// The plays from the low and the high start of a class, and the scanner that reads their bytes.
+#[derive(Drop)]
+pub(crate) struct TwoPlays {
+    size: Size,
+    low: Machine,
+    high: Machine,
+    scanner: Scanner,
+}
+
+impl Model for TwoPlays {
+    ghost use Rattle.ans_answer.specs.TwoPlays.{TwoPlaysView, two_plays_view};
+
+    ghost Value = { TwoPlaysView };
+
+    ghost view = { λ p. two_plays_view p.size p.low.state p.high.state p.scanner };
+
+    ghost invariant = { λ p. (p.low.size ≡ p.size) × (p.high.size ≡ p.size) };
+}
+
+/// The first index at which two screens of one size differ.
+fn first_difference(low: &[Cell], high: &[Cell]) -> Option<usize>
+    requires { length low.now ≡ length high.now }
+    ensures none { IfNone result (low.now ≡ high.now) }
+    ensures some { IfSome result (IsFirstDifferenceOf low.now high.now) }
+{
+    for i in 0..low.len() {
+        if low[i] != high[i] {
+            return Some(i);
+        }
+    }
+    None
+}
+
+impl TwoPlays {
+    ghost use Rattle.ans_answer.specs.TwoPlays.{ArePlayed, FindsFault};
+
+    /// The two plays before the first byte. It fails only if memory runs out.
+    pub fn new(alloc: Global, size: Size, start: Start) -> Result<TwoPlays, AllocError>
+        ensures { IfOk result (λ p. (p.size ≡ size) × ArePlayed (class_of start) [] p) }
+    {
+        Ok(TwoPlays {
+            size,
+            low: Machine::low(alloc, size, start)?,
+            high: Machine::high(alloc, size, start)?,
+            scanner: Scanner::new(),
+        })
+    }
+
+    /// The fault of a printed byte: the two cursors differ, or stand below the stated lines.
+    fn fault_of_print(&self) -> Option<Cause>
+        ensures { (byte : ℕ) → FindsFault self.now (Glyph byte) result }
+    {
+        if self.low.cursor() != self.high.cursor() {
+            Some(Cause::PrintUnknownPlace)
+        } else if self.low.cursor().row == self.size.lines() {
+            Some(Cause::PrintBelow)
+        } else {
+            None
+        }
+    }
+
+    /// The fault of an erased line: the two cursors differ.
+    fn fault_of_erasure(&self) -> Option<Cause>
+        ensures { FindsFault self.now EraseLine result }
+    {
+        if self.low.cursor() != self.high.cursor() {
+            Some(Cause::EraseUnknownPlace)
+        } else {
+            None
+        }
+    }
+
+    /// The fault of a line feed: both plays scroll, or one of them does.
+    fn fault_of_line_feed(&self) -> Option<Cause>
+        ensures { FindsFault self.now LineFeed result }
+    {
+        let spare_row = self.size.lines();
+        let low_scrolls = self.low.cursor().row == spare_row;
+        let high_scrolls = self.high.cursor().row == spare_row;
+        match (low_scrolls, high_scrolls) {
+            (true, true) => Some(Cause::Scrolls),
+            (true, false) => Some(Cause::MayScroll),
+            (false, true) => Some(Cause::MayScroll),
+            (false, false) => None,
+        }
+    }
+
+    /// The fault of a place: its row or its column, counted from 1, is outside the screen.
+    fn fault_of_place(&self, row: u8, column: u8) -> Option<Cause>
+        ensures { FindsFault self.now (Place row column) result }
+    {
+        if row as usize > self.size.lines() + 1 || column as usize > self.size.width() {
+            Some(Cause::OutsideScreen)
+        } else {
+            None
+        }
+    }
+
+    /// The fault of a token, by where the two plays stand before it.
+    fn fault_of(&self, kind: &Kind) -> Option<Cause>
+        ensures { FindsFault self.now (shown_kind kind.now) result }
+    {
+        match kind {
+            Kind::Keys => Some(Cause::KeyReassigned),
+            Kind::Mode => Some(Cause::ScreenMode),
+            Kind::Ask => Some(Cause::ReportAsked),
+            Kind::Tab => Some(Cause::TabByte),
+            Kind::Place(row, column) => self.fault_of_place(*row, *column),
+            Kind::Glyph(_) => self.fault_of_print(),
+            Kind::EraseLine => self.fault_of_erasure(),
+            Kind::LineFeed => self.fault_of_line_feed(),
+            _ => None,
+        }
+    }
+
+    /// Takes a byte, and plays the token that it ends, if it ends one. An error is the first fault
+    /// of the bytes.
+    pub fn play_byte(&mut self, byte: u8) -> Result<(), Fault>
+        requires { self.old.scanner.offset < longest_file }
+        ensures size { self.new.size ≡ self.old.size }
+        ensures taken { OnOk result (self.new.scanner.offset ≡ self.old.scanner.offset + 1) }
+        ensures played { OnOk result ((class : Class) (bytes : List ℕ) → ArePlayed class bytes self.old
+            → ArePlayed class (bytes ++ byte ∷ []) self.new) }
+        ensures fault { IfErr result (λ fault. (class : Class) (bytes rest : List ℕ)
+            → ArePlayed class bytes self.old
+            → IsFirstFault self.old.size class (bytes ++ byte ∷ rest) fault) }
+    {
+        let Some(token) = self.scanner.byte(byte)? else {
+            return Ok(());
+        };
+        if let Some(cause) = self.fault_of(token.kind()) {
+            return Err(Fault {
+                offset: token.start(),
+                cause,
+            });
+        }
+        self.low.step(token.kind());
+        self.high.step(token.kind());
+        Ok(())
+    }
+
+    /// The answer to the bytes, which end here. It fails only if memory runs out.
+    pub fn finish(self, alloc: Global) -> Result<Answer, AllocError>
+        ensures { IfOk result (λ answer. (class : Class) (bytes : List ℕ) → ArePlayed class bytes self
+            → IsAnswer self.size class bytes answer) }
+    {
+        if let Err(fault) = self.scanner.end() {
+            return Ok(Answer::Last(fault));
+        }
+        let width = self.size.width();
+        let count = self.size.lines() * width;
+        let stated = &self.low.cells()[..count];
+        match first_difference(stated, &self.high.cells()[..count]) {
+            None => Ok(Answer::Good(stated.to_vec(alloc)?)),
+            Some(i) => Ok(Answer::Last(Fault {
+                offset: self.scanner.offset(),
+                cause: Cause::UnknownCell {
+                    row: (i / width + 1) as u16,
+                    col: (i % width + 1) as u16,
+                },
+            })),
+        }
+    }
+}
