@@ -1,18 +1,15 @@
 -- The end of the bytes: where the two screens agree the bytes are good, and else a cell stays unknown.
-use Rattle.std.proofs.Common.{◌≡◌, ◌≢◌, inl, inr, ℕ, ◌+◌, ◌*◌, ◌/◌, ◌%◌, ◌<◌, ◌≤◌, refl, sym, ap, ◌∙◌, arith, List, []}
+use Rattle.std.proofs.Common.{◌≡◌, inl, inr, ℕ, ◌+◌, ◌*◌, ◌/◌, ◌%◌, ◌<◌, refl, sym, ap, ◌∙◌, arith, List, []}
 use Rattle.std.proofs.Common.{◌++◌, length, length-append, take, subst}
 use Rattle.std.specs.Prelude.{slice_get}
 use Rattle.std.proofs.lemmas.List.{length-take, append-nil}
 use Rattle.std.proofs.lemmas.List.Elements.{All-take}
-use Rattle.ans_model.specs.Sequence.TokenKind.{TokenKind}
 use Rattle.ans_model.specs.Sequence.Reads.{Reads}
 use Rattle.ans_model.specs.Sequence.Spelling.{IsUnfinished}
-use Rattle.ans_model.specs.Screen.State.{Size, State, index, cell_count, IsStated, IsByteCell, IsWellFormed}
-use Rattle.ans_model.specs.Screen.Step.{final}
-use Rattle.ans_model.specs.Screen.StartClass.{Class, IsStart, low_start, high_start}
+use Rattle.ans_model.specs.Screen.State.{Size, State, index, IsStated, IsByteCell, IsWellFormed}
+use Rattle.ans_model.specs.Screen.StartClass.{Class, low_start, high_start}
 use Rattle.ans_model.specs.Verdict.Good.{Shows, GoodWith}
-use Rattle.ans_model.specs.Verdict.LastFault.{SameCell, IsBefore, IsFirstUnknown, IsLastFault}
-use Rattle.ans_model.specs.Verdict.TwoStarts.{low_final, high_final}
+use Rattle.ans_model.specs.Verdict.LastFault.{SameCell, IsFirstUnknown, IsLastFault}
 use Rattle.ans_model.specs.File.Refusals.{fault_at}
 use Rattle.ans_model.specs.declared.cell.Cell.{Cell}
 use Rattle.ans_model.specs.declared.cell.Position.{Position}
@@ -118,7 +115,7 @@ module _ (v : TwoPlaysView) (class : Class) (bytes : List ℕ) (p : ArePlayed cl
         high_start v.size class,
         low_is_start v.size class p.after.size.some_columns,
         high_is_start v.size class p.after.size.some_columns,
-        rw position_index v.size i p.after.size.some_columns (λ e. d.differs
+        rw (position_index v.size i p.after.size.some_columns) (λ e. d.differs
             (slice_get-take (stated_count v.size) v.low.screen i within
             ∙ ap (λ (s : State). slice_get s.screen i) p.after.low ∙ e
             ∙ ap (λ (s : State). slice_get s.screen i) (sym p.after.high)

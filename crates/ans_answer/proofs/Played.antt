@@ -12,7 +12,11 @@ use Rattle.ans_model.specs.Verdict.TokenFault.{HasFault}
 use Rattle.ans_model.specs.Verdict.FirstFault.{IsFirstFault, IsRefused, IsToBlame}
 use Rattle.ans_model.specs.declared.fault.Fault.{Fault}
 use Rattle.ans_model.specs.declared.fault.Cause.{Cause}
-use Rattle.ans_tokens.specs.ScannerView.{ScannerView, new_scanner, Holds}
+use Rattle.ans_model.specs.Sequence.Spelling.{IsUnfinished}
+use Rattle.ans_model.specs.Inside.ShownKind.{shown_kind}
+use Rattle.ans_tokens.specs.ScannerView.{ScannerView, new_scanner, Holds, IsTokenOf, IsFaultOf}
+use Rattle.ans_tokens.specs.Token.{kind_of, start_of}
+use Rattle.ans_tokens.specs.declared.token.Token.{Token as Spelled}
 use Rattle.ans_play.proofs.Clean.{clean_none, clean_more}
 use Rattle.ans_play.proofs.Feeding.{reads_more, front_with_byte, front_text_rest}
 use Rattle.ans_answer.specs.TwoPlays.{TwoPlaysView, two_plays_view, AreAfter, ArePlayed, FindsFault}
@@ -98,3 +102,60 @@ module _ (old : TwoPlaysView) (class : Class) (bytes : List ℕ) (byte : ℕ) (p
     offset = starts_behind fault.offset start;
     faulty = blame;
   }
+
+-- the same two states, whatever the scanner is
+same_two : (old : TwoPlaysView) (class : Class) (tokens : List TokenKind) (scanner : ScannerView) →
+    AreAfter class tokens old → AreAfter class tokens (record old { scanner = scanner })
+same_two old class tokens scanner a = record { size = a.size; clean = a.clean; low = a.low; high = a.high }
+
+-- ---- what the code of one byte gives
+pub byte_refused : (old : TwoPlaysView) (scanner : ScannerView) (byte : ℕ) (fault : Fault) → scanner ≡ old.scanner →
+    (scanner.fault ≡ None → (y : List ℕ) → Holds scanner y → IsFaultOf fault scanner.offset y byte) →
+    (class : Class) (bytes rest : List ℕ) → ArePlayed class bytes old →
+    IsFirstFault old.size class (bytes ++ byte ∷ rest) fault
+byte_refused old scanner byte fault same scans class bytes rest p =
+    let told : IsFaultOf fault old.scanner.offset p.open_part byte =
+    (rw same at scans) p.unrefused p.open_part p.holds in
+    first_fault old class bytes byte p rest fault (inr told.refused) told.starts
+
+-- the byte leaves a sequence unfinished
+pub byte_goes_on : (old new : TwoPlaysView) (scanner after : ScannerView) (byte : ℕ) → scanner ≡ old.scanner →
+    new ≡ record old { scanner = after } →
+    (scanner.fault ≡ None → (y : List ℕ) → Holds scanner y → IsUnfinished (y ++ byte ∷ [])
+    × Holds after (y ++ byte ∷ [])) →
+    after.offset ≡ scanner.offset + 1 → after.fault ≡ None →
+    (class : Class) (bytes : List ℕ) → ArePlayed class bytes old → ArePlayed class (bytes ++ byte ∷ []) new
+byte_goes_on old new scanner after byte same is scans offset unrefused class bytes p =
+    let told = (rw same at scans) p.unrefused p.open_part p.holds in
+    rw is (played_open old class bytes byte p after told.1 (rw same at offset) unrefused)
+
+-- the byte ends a token that both plays make
+pub byte_plays : (old new : TwoPlaysView) (scanner after : ScannerView) (byte : ℕ) (token : Spelled) (t : TokenKind) →
+    scanner ≡ old.scanner → t ≡ shown_kind (kind_of token) →
+    new ≡ two_plays_view old.size (step old.size old.low t) (step old.size old.high t) after →
+    FindsFault (record old { scanner = after }) t None →
+    (scanner.fault ≡ None → (y : List ℕ) → Holds scanner y → IsTokenOf token scanner.offset y byte × Holds after []) →
+    after.offset ≡ scanner.offset + 1 → after.fault ≡ None →
+    (class : Class) (bytes : List ℕ) → ArePlayed class bytes old → ArePlayed class (bytes ++ byte ∷ []) new
+byte_plays old new scanner after byte token t same kind is none scans offset unrefused class bytes p =
+    let told = (rw same at scans) p.unrefused p.open_part p.holds in
+    rw is (played_token old class bytes byte p after t (rw kind told.0.spelled)
+    (none class p.tokens p.front p.reads (same_two old class p.tokens after p.after)) told.1
+    (rw same at offset) unrefused)
+
+-- the byte ends a token that has a fault
+pub byte_deserved : (old : TwoPlaysView) (scanner after : ScannerView) (byte : ℕ) (token : Spelled) (t : TokenKind)
+    (fault : Fault) → scanner ≡ old.scanner → t ≡ shown_kind (kind_of token) → fault.offset ≡ start_of token →
+    FindsFault (record old { scanner = after }) t (Some fault.cause) →
+    (scanner.fault ≡ None → (y : List ℕ) → Holds scanner y → IsTokenOf token scanner.offset y byte × Holds after []) →
+    (class : Class) (bytes rest : List ℕ) → ArePlayed class bytes old →
+    IsFirstFault old.size class (bytes ++ byte ∷ rest) fault
+byte_deserved old scanner after byte token t fault same kind start found scans class bytes rest p =
+    let told = (rw same at scans) p.unrefused p.open_part p.holds in
+    first_fault old class bytes byte p rest fault
+    (inl (record {
+      token = t;
+      spelled = rw kind told.0.spelled;
+      fault = found class p.tokens p.front p.reads (same_two old class p.tokens after p.after);
+    }))
+    (rw start told.0.starts)

@@ -1,8 +1,7 @@
 -- The fault of the next token, by where the two plays stand.
 use Rattle.std.proofs.Common.{◌≡◌, ◌≢◌, ◌⊎◌, inl, inr, ℕ, ◌+◌, ◌<◌, ◌≤◌, sym, ap, ◌∙◌, arith, List, Some, None}
-use Rattle.ans_model.specs.Sequence.TokenKind.{TokenKind, Glyph, LineFeed, EraseLine, Place, Bell, BackSpace}
-use Rattle.ans_model.specs.Sequence.TokenKind.{CarriageReturn, Up, Down, Forward, Backward, Clear, Save, Restore}
-use Rattle.ans_model.specs.Sequence.TokenKind.{Colours, Wrap, Tab, Mode, Keys, Ask}
+use Rattle.ans_model.specs.Sequence.TokenKind.{TokenKind, Glyph, LineFeed, EraseLine, Place}
+use Rattle.ans_model.specs.Sequence.TokenKind.{Tab, Mode, Keys, Ask}
 use Rattle.ans_model.specs.Sequence.Reads.{Reads}
 use Rattle.ans_model.specs.Screen.State.{Size}
 use Rattle.ans_model.specs.Screen.StartClass.{Class, low_start}

@@ -1,5 +1,5 @@
 -- Two plays, as contracts see them.
-use Rattle.std.specs.Prelude.{◌≡◌, ◌≢◌, ℕ, ◌<◌, List, ◌++◌, length, slice_get, All, Option, None, MatchOption}
+use Rattle.std.specs.Prelude.{◌≡◌, ◌≢◌, ℕ, ◌<◌, List, ◌++◌, length, slice_get, Option, None, MatchOption}
 use Rattle.ans_model.specs.Sequence.TokenKind.{TokenKind}
 use Rattle.ans_model.specs.Sequence.Reads.{Reads}
 use Rattle.ans_model.specs.Screen.State.{Size, IsSize, State}

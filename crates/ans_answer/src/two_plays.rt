@@ -1,13 +1,6 @@
 //! Two plays side by side.
 
-ghost use Rattle.std.specs.Prelude.{◌≡◌, ◌≤◌, ◌<◌, ◌+◌, ◌++◌, ◌∷◌, [], ℕ, List, length, IfOk, IfErr, OnOk};
-ghost use Rattle.std.specs.Prelude.{IfSome, IfNone};
-ghost use Rattle.ans_model.specs.Bytes.{longest_file};
-ghost use Rattle.ans_model.specs.Sequence.TokenKind.{Glyph, LineFeed, Place, EraseLine};
-ghost use Rattle.ans_model.specs.Inside.ShownKind.{shown_kind};
-ghost use Rattle.ans_model.specs.Screen.StartClass.{Class, class_of};
-ghost use Rattle.ans_model.specs.Verdict.FirstFault.{IsFirstFault};
-ghost use Rattle.ans_answer.specs.Answers.{IsAnswer};
+ghost use Rattle.std.specs.Prelude.{◌≡◌, length, IfSome, IfNone};
 ghost use Rattle.ans_answer.specs.TwoPlays.{IsFirstDifferenceOf};
 
 use crate::answer::Answer;
@@ -31,6 +24,7 @@ pub(crate) struct TwoPlays {
 }
 
 impl Model for TwoPlays {
+    ghost use Rattle.std.specs.Prelude.{◌≡◌};
     ghost use Rattle.ans_answer.specs.TwoPlays.{TwoPlaysView, two_plays_view};
 
     ghost Value = { TwoPlaysView };
@@ -55,6 +49,13 @@ fn first_difference(low: &[Cell], high: &[Cell]) -> Option<usize>
 }
 
 impl TwoPlays {
+    ghost use Rattle.std.specs.Prelude.{◌≡◌, ◌<◌, ◌+◌, ◌↔◌, ◌++◌, ◌∷◌, [], ℕ, List, IsTrue, IfOk, IfErr, OnOk};
+    ghost use Rattle.ans_model.specs.Bytes.{longest_file};
+    ghost use Rattle.ans_model.specs.Sequence.TokenKind.{Glyph, LineFeed, Place, EraseLine};
+    ghost use Rattle.ans_model.specs.Inside.ShownKind.{shown_kind};
+    ghost use Rattle.ans_model.specs.Screen.StartClass.{Class, class_of};
+    ghost use Rattle.ans_model.specs.Verdict.FirstFault.{IsFirstFault};
+    ghost use Rattle.ans_answer.specs.Answers.{IsAnswer};
     ghost use Rattle.ans_answer.specs.TwoPlays.{ArePlayed, FindsFault};
 
     /// The two plays before the first byte. It fails only if memory runs out.
@@ -69,13 +70,34 @@ impl TwoPlays {
         })
     }
 
+    /// Whether the two cursors stand at one position.
+    fn is_one_position(&self) -> bool
+        ensures { IsTrue result ↔ (self.now.low.cursor ≡ self.now.high.cursor) }
+    {
+        self.low.cursor() == self.high.cursor()
+    }
+
+    /// Whether the low play's cursor stands in the spare row.
+    fn is_low_in_spare_row(&self) -> bool
+        ensures { IsTrue result ↔ (self.now.low.cursor.row ≡ self.now.size.lines) }
+    {
+        self.low.cursor().row == self.size.lines()
+    }
+
+    /// Whether the high play's cursor stands in the spare row.
+    fn is_high_in_spare_row(&self) -> bool
+        ensures { IsTrue result ↔ (self.now.high.cursor.row ≡ self.now.size.lines) }
+    {
+        self.high.cursor().row == self.size.lines()
+    }
+
     /// The fault of a printed byte: the two cursors differ, or stand below the stated lines.
     fn fault_of_print(&self) -> Option<Cause>
         ensures { (byte : ℕ) → FindsFault self.now (Glyph byte) result }
     {
-        if self.low.cursor() != self.high.cursor() {
+        if !self.is_one_position() {
             Some(Cause::PrintUnknownPlace)
-        } else if self.low.cursor().row == self.size.lines() {
+        } else if self.is_low_in_spare_row() {
             Some(Cause::PrintBelow)
         } else {
             None
@@ -86,10 +108,10 @@ impl TwoPlays {
     fn fault_of_erasure(&self) -> Option<Cause>
         ensures { FindsFault self.now EraseLine result }
     {
-        if self.low.cursor() != self.high.cursor() {
-            Some(Cause::EraseUnknownPlace)
-        } else {
+        if self.is_one_position() {
             None
+        } else {
+            Some(Cause::EraseUnknownPlace)
         }
     }
 
@@ -97,10 +119,7 @@ impl TwoPlays {
     fn fault_of_line_feed(&self) -> Option<Cause>
         ensures { FindsFault self.now LineFeed result }
     {
-        let spare_row = self.size.lines();
-        let low_scrolls = self.low.cursor().row == spare_row;
-        let high_scrolls = self.high.cursor().row == spare_row;
-        match (low_scrolls, high_scrolls) {
+        match (self.is_low_in_spare_row(), self.is_high_in_spare_row()) {
             (true, true) => Some(Cause::Scrolls),
             (true, false) => Some(Cause::MayScroll),
             (false, true) => Some(Cause::MayScroll),
@@ -151,14 +170,15 @@ impl TwoPlays {
         let Some(token) = self.scanner.byte(byte)? else {
             return Ok(());
         };
-        if let Some(cause) = self.fault_of(token.kind()) {
+        let kind = token.kind();
+        if let Some(cause) = self.fault_of(kind) {
             return Err(Fault {
                 offset: token.start(),
                 cause,
             });
         }
-        self.low.step(token.kind());
-        self.high.step(token.kind());
+        self.low.step(kind);
+        self.high.step(kind);
         Ok(())
     }
 

@@ -58,7 +58,7 @@ index_before z p q h (inr (row, column)) =
     omega (arith, column)
 
 -- where cell i stands
-pub position_of : Size → ℕ → Position
+unfoldable pub position_of : Size → ℕ → Position
 position_of z i = at (i / z.width) (i % z.width)
 
 -- and back

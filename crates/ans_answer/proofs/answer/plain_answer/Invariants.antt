@@ -1,0 +1,12 @@
+use Rattle.std.proofs.Common.{◌≡◌, take}
+use Rattle.ans_model.specs.Screen.State.{sized}
+use Rattle.ans_model.specs.Screen.StartClass.{class_of}
+use Rattle.ans_answer.specs.TwoPlays.{ArePlayed}
+use Rattle.ans_answer.proofs.answer.plain_answer.Given as goal
+
+-- the bytes so far are played
+abbrev pub invariant-loop-byte : goal.invariant-loop-byte
+invariant-loop-byte l = record {
+  size : l.plays.size ≡ sized l.width l.lines;
+  played : ArePlayed (class_of l.fn.start) (take l.byte-index l.bytes) l.plays;
+}
