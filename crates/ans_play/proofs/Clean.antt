@@ -1,5 +1,5 @@
 -- A clean list stays clean with one more token that has no fault.
-use Rattle.std.proofs.Common.{◌≡◌, ℕ, zero, suc, ◌<◌, sym, ap, ◌∙◌, arith, refl, List, [], ◌∷◌, ◌++◌, length, Some, inl}
+use Rattle.std.proofs.Common.{◌≡◌, ℕ, ◌<◌, sym, ap, ◌∙◌, arith, refl, List, [], ◌∷◌, ◌++◌, length, Some, inl}
 use Rattle.std.proofs.Common.{inr, subst}
 use Rattle.std.specs.Prelude.{slice_get}
 use Rattle.std.proofs.lemmas.Bool.{cases_lt}
@@ -10,11 +10,7 @@ use Rattle.ans_model.specs.Screen.State.{Size}
 use Rattle.ans_model.specs.Screen.StartClass.{Class}
 use Rattle.ans_model.specs.Verdict.TokenFault.{HasFault, IsClean}
 use Rattle.ans_model.specs.declared.fault.Cause.{Cause}
-
-slice_get-append_left : (xs ys : List TokenKind) (k : ℕ) → k < length xs → slice_get (xs ++ ys) k ≡ slice_get xs k
-slice_get-append_left [] ys k h = absurd (omega arith)
-slice_get-append_left (x ∷ xs) ys zero h = refl
-slice_get-append_left (x ∷ xs) ys (suc k) h = slice_get-append_left xs ys k (omega arith)
+use Rattle.ans_model.proofs.Slices.{slice_get-append_left}
 
 -- the element after a list
 slice_get_at : (xs ys : List TokenKind) (t : TokenKind) → slice_get (xs ++ t ∷ ys) (length xs) ≡ Some t

@@ -25,6 +25,7 @@ use Rattle.ans_tokens.specs.ScannerView.{ScannerView, Holds}
 use Rattle.ans_model.specs.declared.fault.Cause.TheVariants.{EndInSequence, UnknownCell}
 use Rattle.ans_model.proofs.StartLemmas.{low_is_start, high_is_start}
 use Rattle.ans_model.proofs.OneAnswer.{good_or_first, good_or_last}
+use Rattle.ans_model.proofs.Slices.{slice_get-take}
 use Rattle.ans_screen.specs.KnownBits.{known_bits}
 use Rattle.ans_screen.specs.HalfCells.{half_cell, is_known}
 use Rattle.ans_screen.specs.GridEdits.{first_unknown}
@@ -35,7 +36,7 @@ use Rattle.ans_play.specs.PlayView.{PlayView}
 use Rattle.ans_play.specs.PlayerView.{PlayerView, play_of}
 use Rattle.ans_play.specs.Stands.{IsKnownAfter, IsPlayed, Stands, EndsPlay, Finishes}
 use Rattle.ans_play.proofs.Zips.{AllZip-take}
-use Rattle.ans_play.proofs.KnownCells.{known_at, unknown_at, all_known, slice_get-take, FirstUnknown, found_unknown}
+use Rattle.ans_play.proofs.KnownCells.{known_at, unknown_at, all_known, FirstUnknown, found_unknown}
 use Rattle.ans_play.proofs.KnownCells.{none_unknown}
 use Rattle.ans_play.proofs.PlaysWell.{plays_well}
 

@@ -13,6 +13,7 @@ use Rattle.std.proofs.lemmas.List.Sums.{fails_before_first}
 use Rattle.std.proofs.lemmas.Option.{slice_get-get_or}
 use Rattle.ans_model.specs.Screen.State.{cell, IsByteCell}
 use Rattle.ans_model.specs.declared.cell.Cell.{Cell}
+use Rattle.ans_model.proofs.Slices.{slice_get-take}
 use Rattle.ans_screen.specs.HalfCells.{is_known}
 use Rattle.ans_screen.specs.GridEdits.{is_unknown, first_unknown}
 use Rattle.ans_screen.specs.declared.cell.HalfCell.{HalfCell}
@@ -111,12 +112,6 @@ all_known (h ∷ hs) (x ∷ xs) d b k =
     ap (λ (c : Cell). c ∷ xs) first ∙ ap (λ (cs : List Cell). known_cell h ∷ cs) rest
 
 -- ---- what a search finds
-pub slice_get-take : {X : Type 0} (n : ℕ) (xs : List X) (i : ℕ) → i < n → slice_get (take n xs) i ≡ slice_get xs i
-slice_get-take zero xs i l = absurd (omega arith)
-slice_get-take (suc n) [] i l = refl
-slice_get-take (suc n) (y ∷ xs) zero l = refl
-slice_get-take (suc n) (y ∷ xs) (suc i) l = slice_get-take n xs i (omega arith)
-
 not_true : (b : Bool) → not b ≡ true → b ≡ false
 not_true true e = absurd (cc)
 not_true false e = refl
