@@ -1,10 +1,16 @@
 -- What a parameter does to each field, shown for each byte.
-use Rattle.std.proofs.Common.{◌≡◌, inl, inr, ℕ, zero, suc, ◌+◌, ◌<◌, Bool, true, refl, sym, subst, arith}
+use Rattle.std.proofs.Common.{◌≡◌, inl, inr, ℕ, zero, suc, ◌+◌, ◌<◌, Bool, true, false, refl, sym, ap, ◌∙◌, subst}
+use Rattle.std.proofs.Common.{List, [], ◌∷◌, Option, None, arith}
 use Rattle.std.specs.Prelude.{◌&&◌, ◌==◌}
-use Rattle.std.proofs.lemmas.Bool.{eqb-true, cases_eq, and_parts}
-use Rattle.ans_model.specs.Screen.Attribute.{attribute_after}
+use Rattle.std.specs.List.{list_all}
+use Rattle.std.proofs.lemmas.Bool.{eqb-true, cases_eq, and_parts, ne_eqb}
+use Rattle.std.proofs.lemmas.List.Sums.{fold-append}
+use Rattle.ans_model.specs.Screen.Attribute.{Rendition, renditions, rendition_of, attribute_by, attribute_after}
 use Rattle.ans_model.specs.Laws.AttributeLaws.{foreground, bright, background, blink, colour, HasFields}
-use Rattle.ans_model.specs.Laws.AttributeLaws.{ResetsAttribute, SetsBright, SetsBlink, SetsForeground, SetsBackground}
+use Rattle.ans_model.specs.Laws.AttributeLaws.{ResetsAttribute, SetsBright, SetsBlue, SetsBlink, SetsBlackOnWhite}
+use Rattle.ans_model.specs.Laws.AttributeLaws.{SetsBlackOnBlack, SetsForeground, SetsBackground}
+use Rattle.ans_model.specs.Laws.AttributeLaws.{is_colour_parameter, OthersChangeNothing, NoneChangeNothing}
+use Rattle.ans_model.specs.Laws.AttributeLaws.{EachAfterTheOthers}
 
 -- the test holds of each number below n
 abbrev all_below : ℕ → (ℕ → Bool) → Bool
@@ -43,6 +49,15 @@ reset_all = refl
 bright_all : all_below 256 (λ a. has_fields (attribute_after a 1) (foreground a) 1 (background a) (blink a)) ≡ true
 bright_all = refl
 
+blue_all : all_below 256 (λ a. has_fields (attribute_after a 4) 1 (bright a) (background a) (blink a)) ≡ true
+blue_all = refl
+
+black_on_white_all : all_below 256 (λ a. has_fields (attribute_after a 7) 0 (bright a) 7 (blink a)) ≡ true
+black_on_white_all = refl
+
+black_on_black_all : all_below 256 (λ a. has_fields (attribute_after a 8) 0 (bright a) 0 (blink a)) ≡ true
+black_on_black_all = refl
+
 blink_all : all_below 256 (λ a. has_fields (attribute_after a 5) (foreground a) (bright a) (background a) 1) ≡ true
 blink_all = refl
 
@@ -68,6 +83,18 @@ pub sets_blink : SetsBlink
 sets_blink a h = fields_of_test (attribute_after a 5) (foreground a) (bright a) (background a) 1
     (holds_at_each 256 (λ a. has_fields (attribute_after a 5) (foreground a) (bright a) (background a) 1) blink_all a h)
 
+pub sets_blue : SetsBlue
+sets_blue a h = fields_of_test (attribute_after a 4) 1 (bright a) (background a) (blink a)
+    (holds_at_each 256 (λ a. has_fields (attribute_after a 4) 1 (bright a) (background a) (blink a)) blue_all a h)
+
+pub sets_black_on_white : SetsBlackOnWhite
+sets_black_on_white a h = fields_of_test (attribute_after a 7) 0 (bright a) 7 (blink a)
+    (holds_at_each 256 (λ a. has_fields (attribute_after a 7) 0 (bright a) 7 (blink a)) black_on_white_all a h)
+
+pub sets_black_on_black : SetsBlackOnBlack
+sets_black_on_black a h = fields_of_test (attribute_after a 8) 0 (bright a) 0 (blink a)
+    (holds_at_each 256 (λ a. has_fields (attribute_after a 8) 0 (bright a) 0 (blink a)) black_on_black_all a h)
+
 pub sets_foreground : SetsForeground
 sets_foreground a i h lt =
     let of_colour =
@@ -87,3 +114,32 @@ sets_background a i h lt =
     fields_of_test (attribute_after a (40 + i)) (foreground a) (bright a) (colour i) (blink a)
     (holds_at_each 256 (λ a. has_fields (attribute_after a (40 + i)) (foreground a) (bright a) (colour i) (blink a))
     of_colour a h)
+
+-- the law names the parameter of this line
+abbrev is_named : Rendition → Bool
+is_named r = is_colour_parameter r.parameter
+
+-- each line of the table has a name
+lines_are_named : list_all is_named renditions ≡ true
+lines_are_named = refl
+
+-- a number without a name is in no line
+in_no_line : (rs : List Rendition) (p : ℕ) → list_all is_named rs ≡ true → is_colour_parameter p ≡ false
+    → rendition_of rs p ≡ None
+in_no_line [] p named h = refl
+in_no_line (r ∷ rs) p named h =
+    let t : (is_named r ≡ true) × (list_all is_named rs ≡ true) = and_parts (is_named r) (list_all is_named rs) named in
+    elim (cases_eq p r.parameter) [
+      | inl e ↦ let both : true ≡ false = sym t.0 ∙ ap is_colour_parameter (sym e) ∙ h in absurd (cc)
+      | inr ne ↦ rw (ne_eqb p r.parameter ne) (in_no_line rs p t.1 h)
+    ]
+
+pub others_change_nothing : OthersChangeNothing
+others_change_nothing a p h = ap (λ (o : Option Rendition). attribute_by o a)
+    (in_no_line renditions p lines_are_named h)
+
+pub none_change_nothing : NoneChangeNothing
+none_change_nothing a = refl
+
+pub each_after_the_others : EachAfterTheOthers
+each_after_the_others a p others = fold-append attribute_after a others (p ∷ [])

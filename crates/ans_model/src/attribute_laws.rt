@@ -1,13 +1,26 @@
 //! What the table of colour parameters does to an attribute's fields.
 
-ghost use Rattle.ans_model.specs.Laws.AttributeLaws.{ResetsAttribute, SetsBright, SetsBlink, SetsForeground};
-ghost use Rattle.ans_model.specs.Laws.AttributeLaws.{SetsBackground};
+ghost use Rattle.ans_model.specs.Laws.AttributeLaws.{ResetsAttribute, SetsBright, SetsBlue, SetsBlink};
+ghost use Rattle.ans_model.specs.Laws.AttributeLaws.{SetsBlackOnWhite, SetsBlackOnBlack, SetsForeground};
+ghost use Rattle.ans_model.specs.Laws.AttributeLaws.{SetsBackground, OthersChangeNothing, NoneChangeNothing};
+ghost use Rattle.ans_model.specs.Laws.AttributeLaws.{EachAfterTheOthers};
 
-/// 0 gives white on black; 1, 5, 30 to 37 and 40 to 47 set one field and keep the others.
+/// Each line of the table sets some fields and keeps the others. A number without a line changes
+/// nothing.
 pub fn parameters_set_fields()
     ensures reset { ResetsAttribute }
     ensures bright { SetsBright }
+    ensures blue { SetsBlue }
     ensures blink { SetsBlink }
+    ensures black_on_white { SetsBlackOnWhite }
+    ensures black_on_black { SetsBlackOnBlack }
     ensures foreground { SetsForeground }
     ensures background { SetsBackground }
+    ensures others { OthersChangeNothing }
+{}
+
+/// Several parameters apply one after the other, the first one first.
+pub fn parameters_apply_in_turn()
+    ensures none { NoneChangeNothing }
+    ensures each { EachAfterTheOthers }
 {}

@@ -1,7 +1,10 @@
--- An attribute by its fields: foreground in bits 0 to 2, bright in bit 3, background in bits 4 to 6, blink in bit 7.
-use Rattle.std.specs.Prelude.{◌≡◌, ℕ, ◌+◌, ◌/◌, ◌%◌, ◌<◌, [], ◌∷◌, slice_index}
+-- What each line of the table of colours does to an attribute's fields: foreground in bits 0 to 2, bright in bit 3,
+-- background in bits 4 to 6, blink in bit 7.
+use Rattle.std.specs.Prelude.{◌≡◌, ℕ, ◌+◌, ◌/◌, ◌%◌, ◌<◌, Bool, ◌||◌, ◌&&◌, ◌==◌, nat_le, IsFalse, List, [], ◌∷◌, ◌++◌}
+use Rattle.std.specs.Prelude.{slice_index}
+use Rattle.std.specs.List.{list_any}
 use Rattle.ans_model.specs.Bytes.{IsByte}
-use Rattle.ans_model.specs.Screen.Attribute.{attribute_after}
+use Rattle.ans_model.specs.Screen.Attribute.{attribute_after, attribute_after_all}
 
 -- bits 0 to 2
 abbrev pub foreground : ℕ → ℕ
@@ -38,9 +41,21 @@ ResetsAttribute = (a : ℕ) → IsByte a → HasFields (attribute_after a 0) 7 0
 abbrev pub SetsBright : Type 0
 SetsBright = (a : ℕ) → IsByte a → HasFields (attribute_after a 1) (foreground a) 1 (background a) (blink a)
 
+-- 4 sets the foreground to blue and keeps the rest (profile)
+abbrev pub SetsBlue : Type 0
+SetsBlue = (a : ℕ) → IsByte a → HasFields (attribute_after a 4) 1 (bright a) (background a) (blink a)
+
 -- 5 sets blink and keeps the rest
 abbrev pub SetsBlink : Type 0
 SetsBlink = (a : ℕ) → IsByte a → HasFields (attribute_after a 5) (foreground a) (bright a) (background a) 1
+
+-- 7 sets black on white and keeps the rest (profile)
+abbrev pub SetsBlackOnWhite : Type 0
+SetsBlackOnWhite = (a : ℕ) → IsByte a → HasFields (attribute_after a 7) 0 (bright a) 7 (blink a)
+
+-- 8 sets black on black and keeps the rest (profile)
+abbrev pub SetsBlackOnBlack : Type 0
+SetsBlackOnBlack = (a : ℕ) → IsByte a → HasFields (attribute_after a 8) 0 (bright a) 0 (blink a)
 
 -- 30 + i sets the foreground and keeps the rest
 abbrev pub SetsForeground : Type 0
@@ -51,3 +66,21 @@ SetsForeground = (a i : ℕ) → IsByte a → i < 8
 abbrev pub SetsBackground : Type 0
 SetsBackground = (a i : ℕ) → IsByte a → i < 8
     → HasFields (attribute_after a (40 + i)) (foreground a) (bright a) (colour i) (blink a)
+
+-- 0, 1, 4, 5, 7, 8, 30 to 37 and 40 to 47
+abbrev pub is_colour_parameter : ℕ → Bool
+is_colour_parameter p = list_any (λ q. p == q) (0 ∷ 1 ∷ 4 ∷ 5 ∷ 7 ∷ 8 ∷ [])
+    || ((nat_le 30 p && nat_le p 37) || (nat_le 40 p && nat_le p 47))
+
+-- any other number changes nothing (profile)
+abbrev pub OthersChangeNothing : Type 0
+OthersChangeNothing = (a p : ℕ) → IsFalse (is_colour_parameter p) → attribute_after a p ≡ a
+
+-- no parameters change nothing
+abbrev pub NoneChangeNothing : Type 0
+NoneChangeNothing = (a : ℕ) → attribute_after_all a [] ≡ a
+
+-- a parameter after others does what it does alone to the attribute that they give
+abbrev pub EachAfterTheOthers : Type 0
+EachAfterTheOthers = (a p : ℕ) (others : List ℕ)
+    → attribute_after_all a (others ++ p ∷ []) ≡ attribute_after (attribute_after_all a others) p

@@ -1,12 +1,15 @@
-use Rattle.ans_model.proofs.AttributeFieldsLemmas.{resets, sets_bright, sets_blink, sets_foreground, sets_background}
+use Rattle.ans_model.proofs.AttributeFieldsLemmas as field
 use Rattle.ans_model.proofs.attribute_laws.parameters_set_fields.Goals as goal
 
 pub returns : goal.returns
 returns c = record {
-  reset = resets;
-  bright = sets_bright;
-  blink = sets_blink;
-  foreground =
-      sets_foreground;
-  background = sets_background;
+  reset = field.resets;
+  bright = field.sets_bright;
+  blue = field.sets_blue;
+  blink = field.sets_blink;
+  black_on_white = field.sets_black_on_white;
+  black_on_black = field.sets_black_on_black;
+  foreground = field.sets_foreground;
+  background = field.sets_background;
+  others = field.others_change_nothing;
 }
