@@ -12,6 +12,7 @@ pub mod Reading
 pub mod Refusing
 pub mod OneCause
 pub mod OneAnswer
+pub mod OneTokensText
 pub mod AcceptedFiles
 pub mod FirstRefusal
 pub mod NoteOrder

@@ -51,3 +51,12 @@ pub fn whole_lines()
     ensures tokens { (content text : List ℕ) (fault : Option Fault)
         → TokensText content fault text → IsEmptyOrEndsInLineFeed text }
 {}
+
+/// Content has at most one text of its tokens, and at most one end of their reading: a fault, or
+/// none.
+pub fn one_text_of_tokens()
+    ensures text { (content text other : List ℕ) (f g : Option Fault)
+        → TokensText content f text → TokensText content g other → text ≡ other }
+    ensures fault { (content text other : List ℕ) (f g : Option Fault)
+        → TokensText content f text → TokensText content g other → f ≡ g }
+{}
