@@ -41,7 +41,7 @@ largest_number = 255
 abbrev pub most_parameters : ℕ
 most_parameters = 16
 
--- the largest width and the most lines of a file (profile)
+-- the largest width, in columns (profile)
 abbrev pub most_columns : ℕ
 most_columns = 1024
 

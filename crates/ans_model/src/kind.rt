@@ -1,5 +1,6 @@
 //! What a token is.
 
+use crate::limits::MAX_PARAMETERS;
 use arrayvec::ArrayVec;
 
 /// A byte outside sequences, or what an escape sequence means (ANSI.SYS). Rows and columns are
@@ -37,7 +38,7 @@ pub enum Kind {
     /// `ESC[u`: takes the cursor back to the saved position.
     Restore,
     /// `ESC[..m`: colour parameters, applied one after the other.
-    Colours(ArrayVec<u8, 16>),
+    Colours(ArrayVec<u8, MAX_PARAMETERS>),
     /// `ESC[?7h` or `ESC[?7l`: whether a byte printed in the last column takes the cursor to the
     /// next row.
     Wrap(bool),

@@ -71,7 +71,3 @@ step z s t = record s { cursor = destination z t s.cursor }
 -- the state after all tokens
 abbrev pub final : Size → State → List TokenKind → State
 final z start tokens = fold (step z) start tokens
-
--- the state before token k, counted from 0
-abbrev pub before : Size → State → List TokenKind → ℕ → State
-before z start tokens k = final z start (take k tokens)

@@ -3,6 +3,7 @@
 use super::Machine;
 use crate::cell::Cell;
 use crate::kind::Kind;
+use crate::limits::MAX_PARAMETERS;
 use crate::size::Size;
 use crate::start::Start;
 use arrayvec::ArrayVec;
@@ -24,7 +25,7 @@ struct Play {
 struct Sequence {
     open: bool,
     marked: bool,
-    members: ArrayVec<u8, 16>,
+    members: ArrayVec<u8, MAX_PARAMETERS>,
     number: Option<u8>,
 }
 
