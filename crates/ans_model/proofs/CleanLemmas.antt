@@ -11,8 +11,10 @@ use Rattle.ans_model.specs.Screen.Step.{final, line_feed, advanced, printed}
 use Rattle.ans_model.specs.Screen.StartClass.{Class}
 use Rattle.ans_model.specs.Verdict.TokenFault.{FromEvery, SamePosition, PositionsDiffer, IsInSpareRow, HasFault}
 use Rattle.ans_model.specs.Verdict.TokenFault.{IsClean}
-use Rattle.ans_model.specs.Laws.StepLaws.{CleanNeverScrolls}
+use Rattle.ans_model.specs.Laws.StepLaws.{CleanNeverScrolls, GoodNeverScrolls}
 use Rattle.ans_model.proofs.PositionLemmas.{position_eq}
+use Rattle.ans_model.proofs.Reading.{one_reading}
+use Rattle.ans_model.proofs.OneAnswer.{well_is_clean}
 
 module _ (z : Size) (class : Class) (tokens : List TokenKind) (clean : IsClean z class tokens) where
   -- a token that would have a fault where places differ stands at one place
@@ -65,3 +67,9 @@ clean_never_scrolls z class tokens k (Glyph byte) size clean e s start =
     let now : State = final z s (take k tokens) in
     advance_keeps z (printed z now byte) (no_print_below z class tokens clean k byte e s start)
 clean_never_scrolls z class tokens k _ size clean e s start = refl
+
+pub good_never_scrolls : GoodNeverScrolls
+good_never_scrolls z class content tokens k t (picture, good) reads e =
+    let same : good.tokens ≡ tokens = one_reading content good.tokens tokens good.reads reads in
+    let clean : IsClean z class good.tokens = well_is_clean z class good.tokens good.size.some_columns good.plays in
+    clean_never_scrolls z class tokens k t good.size (rw same at clean) e

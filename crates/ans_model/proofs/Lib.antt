@@ -4,6 +4,7 @@ pub mod WellFormed
 pub mod StartLemmas
 pub mod AttributeFieldsLemmas
 pub mod PositionLemmas
+pub mod MoveLemmas
 pub mod StepLemmas
 pub mod CleanLemmas
 pub mod ClassLemmas

@@ -1,86 +1,28 @@
 -- What a step leaves as it was.
-use Rattle.std.proofs.Common.{◌≡◌, inl, inr, ℕ, ◌+◌, ◌-◌, ◌*◌, ◌<◌, ◌≤◌, min, Bool, true, false, refl}
+use Rattle.std.proofs.Common.{◌≡◌, ◌≢◌, inl, inr, ℕ, ◌+◌, ◌-◌, ◌*◌, ◌<◌, ◌≤◌, Bool, true, false, refl}
 use Rattle.std.proofs.Common.{ap, ◌∙◌, arith, add-mul, one-mul, List, ◌++◌, length, take, drop, replicate}
 use Rattle.std.proofs.Common.{Some}
 use Rattle.std.specs.Prelude.{if◌then◌else◌, nat_lt, slice_get}
-use Rattle.std.proofs.lemmas.Bool.{cases_lt, cases_eq, lt-ltb, le-ltb, eq-eqb, ne_eqb}
-use Rattle.std.proofs.lemmas.List.{length-take, length-drop, length-append, length-replicate}
-use Rattle.ans_model.specs.Sequence.TokenKind.{Bell, BackSpace, LineFeed, CarriageReturn, Tab, Up}
-use Rattle.ans_model.specs.Sequence.TokenKind.{Down, Forward, Backward, Place, Clear, EraseLine, Restore}
-use Rattle.ans_model.specs.Sequence.TokenKind.{Mode, Keys, Ask}
+use Rattle.std.proofs.lemmas.Bool.{cases_lt, lt-ltb, le-ltb, eq-eqb, ne_eqb}
+use Rattle.std.proofs.lemmas.List.{length-take, length-drop, length-append, length-replicate, length-set}
+use Rattle.ans_model.specs.Sequence.TokenKind.{Bell, Tab, Clear, EraseLine, Mode, Keys, Ask}
 use Rattle.ans_model.specs.Screen.State.{Size, State, IsWellFormed, IsOnScreen, at, cell, cell_at, cell_count, index}
 use Rattle.ans_model.specs.declared.cell.Cell.{Cell}
 use Rattle.ans_model.specs.declared.cell.Position.{Position}
 use Rattle.ans_model.specs.Screen.Step.{step, scrolled, line_feed, advanced, printed, filled, next_row_start}
-use Rattle.ans_model.specs.Screen.Step.{blank_cell, destination}
-use Rattle.ans_model.specs.Laws.StepLaws.{OnlyCursor, OnlyScreenAndCursor, MovesChangeCursor, KeepsColumn, KeepsRow}
-use Rattle.ans_model.specs.Laws.StepLaws.{DownUndoesUp, ForwardUndoesBackward, PlacesCursor, SavesCursor}
-use Rattle.ans_model.specs.Laws.StepLaws.{RestoreUndoesSave, ColoursChangeAttribute, WrapChangesWrap}
+use Rattle.ans_model.specs.Screen.Step.{blank_cell}
+use Rattle.ans_model.specs.Laws.StepLaws.{OnlyScreenAndCursor, SavesCursor, ColoursChangeAttribute, WrapChangesWrap}
 use Rattle.ans_model.specs.Laws.StepLaws.{IdleChangesNothing, ClearsScreen, IsErased, ErasesLine}
-use Rattle.ans_model.specs.Laws.StepLaws.{NextPosition, GlyphPrints, LineFeedMovesDown, IsScrolled}
-use Rattle.ans_model.specs.Laws.StepLaws.{LineFeedScrolls}
+use Rattle.ans_model.specs.Laws.StepLaws.{NextPosition, GlyphPrints, GlyphScrolls, LineFeedMovesDown, IsScrolled}
+use Rattle.ans_model.specs.Laws.StepLaws.{LineFeedScrolls, IsPrinted, IsPrintedAndScrolled}
+use Rattle.ans_model.specs.Laws.MoveLaws.{IsLastColumn}
 use Rattle.ans_model.proofs.Slices.{slice_get-append_left, slice_get-append_right, slice_get-set_same}
 use Rattle.ans_model.proofs.Slices.{slice_get-set_other, slice_get-take, slice_get-drop, slice_get-replicate}
 use Rattle.ans_model.proofs.PositionLemmas.{same_position, row_le, index-lt, index-lt_row}
 use Rattle.ans_model.proofs.PositionLemmas.{one_position_an_index}
 
-only_cursor : (s : State) (p : Position) → OnlyCursor s (record s { cursor = p })
-only_cursor s p = record { screen = refl; saved = refl; attribute = refl; wrap = refl }
-
-pub moves_change_cursor : MovesChangeCursor
-moves_change_cursor z s (Up n) m = only_cursor s (destination z (Up n) s.cursor)
-moves_change_cursor z s (Down n) m = only_cursor s (destination z (Down n) s.cursor)
-moves_change_cursor z s (Forward n) m = only_cursor s (destination z (Forward n) s.cursor)
-moves_change_cursor z s (Backward n) m = only_cursor s (destination z (Backward n) s.cursor)
-moves_change_cursor z s (Place r c) m = only_cursor s (destination z (Place r c) s.cursor)
-moves_change_cursor z s BackSpace m = only_cursor s (destination z BackSpace s.cursor)
-moves_change_cursor z s CarriageReturn m = only_cursor s (destination z CarriageReturn s.cursor)
-moves_change_cursor z s Restore m = only_cursor s s.saved
-moves_change_cursor z s _ m = absurd m
-
--- a line feed keeps the column
-line_feed_column : (z : Size) (s : State) → (line_feed z s).cursor.column ≡ s.cursor.column
-line_feed_column z s = elim (cases_eq s.cursor.row z.lines) [
-  | inl e ↦ rw (eq-eqb s.cursor.row z.lines e) refl
-  | inr n ↦ rw (ne_eqb s.cursor.row z.lines n) refl
-]
-
-pub keeps_column : KeepsColumn
-keeps_column z s (Up n) u = refl
-keeps_column z s (Down n) u = refl
-keeps_column z s LineFeed u = line_feed_column z s
-keeps_column z s _ u = absurd u
-
-pub keeps_row : KeepsRow
-keeps_row z s (Forward n) l = refl
-keeps_row z s (Backward n) l = refl
-keeps_row z s BackSpace l = refl
-keeps_row z s CarriageReturn l = refl
-keeps_row z s _ l = absurd l
-
-with_cursor : (s : State) (p : Position) → p ≡ s.cursor → record s { cursor = p } ≡ s
-with_cursor s p e = ap (λ (q : Position). record s { cursor = q }) e
-
-pub down_undoes_up : DownUndoesUp
-down_undoes_up z s n h le =
-    let low : s.cursor.row ≤ z.lines = h.fits.cursor.0 in
-    with_cursor s (at (min (s.cursor.row - n + n) z.lines) s.cursor.column)
-    (same_position _ s.cursor (omega arith) refl)
-
-pub forward_undoes_backward : ForwardUndoesBackward
-forward_undoes_backward z s n h le =
-    let on : s.cursor.column < z.width = h.fits.cursor.1 in
-    with_cursor s (at s.cursor.row (min (s.cursor.column - n + n) (z.width - 1)))
-    (same_position _ s.cursor refl (omega arith))
-
-pub places_cursor : PlacesCursor
-places_cursor z s p on = same_position _ p (omega (arith, on.0)) (omega (arith, on.1))
-
 pub saves_cursor : SavesCursor
 saves_cursor z s = refl
-
-pub restore_undoes_save : RestoreUndoesSave
-restore_undoes_save z s = refl
 
 pub colours_change_attribute : ColoursChangeAttribute
 colours_change_attribute z s parameters = refl
@@ -206,10 +148,10 @@ pub line_feed_moves_down : LineFeedMovesDown
 line_feed_moves_down z s h = line_feed_is z s h
 
 -- each row is the one below it
-scrolled_is : (z : Size) (s : State) → IsWellFormed z s → IsScrolled z s (scrolled z s)
-scrolled_is z s h =
+scrolled_is : (z : Size) (s : State) → length s.screen ≡ cell_count z → IsScrolled z s (scrolled z s)
+scrolled_is z s cells =
     let left : length (drop z.width s.screen) ≡ z.lines * z.width =
-    simp length-drop (omega (arith, h.fits.cells, add-mul z.lines 1 z.width, one-mul z.width)) in
+    simp length-drop (omega (arith, cells, add-mul z.lines 1 z.width, one-mul z.width)) in
     record {
       rows = λ p on below.
           let lt : index z p < z.lines * z.width = omega (arith, row_le z p.row z.lines below, on.1) in
@@ -228,15 +170,9 @@ scrolled_is z s h =
     }
 
 pub line_feed_scrolls : LineFeedScrolls
-line_feed_scrolls z s h e = rw (eq-eqb s.cursor.row z.lines e) (scrolled_is z s h)
+line_feed_scrolls z s h e = rw (eq-eqb s.cursor.row z.lines e) (scrolled_is z s h.fits.cells)
 
 -- ---- a printed byte
-place_after : Size → State → Position
-place_after z s =
-    if nat_lt (s.cursor.column + 1) z.width then at s.cursor.row (s.cursor.column + 1)
-    else if s.wrap then at (s.cursor.row + 1) 0
-    else s.cursor
-
 if_cursor : (b : Bool) (s : State) (p q : Position)
     → (if b then record s { cursor = p } else record s { cursor = q }) ≡ record s { cursor = if b then p else q }
 if_cursor true s p q = refl
@@ -256,27 +192,77 @@ advanced_is z s h =
     (if_cursor s.wrap s r.cursor s.cursor)
     ∙ if_cursor (nat_lt (s.cursor.column + 1) z.width) s q (if s.wrap then r.cursor else s.cursor))
 
--- it is one of three positions
-next_position : (z : Size) (s : State) → s.cursor.column < z.width
-    → NextPosition z s (if nat_lt (s.cursor.column + 1) z.width then at s.cursor.row
-    (s.cursor.column + 1) else if s.wrap then at (s.cursor.row + 1) 0 else s.cursor)
-next_position z s on = elim (cases_lt (s.cursor.column + 1) z.width) [
-  | inl more ↦ rw (lt-ltb (s.cursor.column + 1) z.width more) (inl (more, refl))
-  | inr last ↦ rw (le-ltb (s.cursor.column + 1) z.width last) (wrapped s.wrap refl (omega arith))
-]
-  where
-    wrapped : (b : Bool) → s.wrap ≡ b → s.cursor.column + 1 ≡ z.width
-        → NextPosition z s (if b then at (s.cursor.row + 1) 0 else s.cursor)
-    wrapped true e last = inr (inl (last, e, refl))
-    wrapped false e last = inr (inr (last, e, refl))
+-- the cursor's cell has the byte
+cell_is_printed : (z : Size) (s : State) (byte : ℕ) → IsWellFormed z s
+    → cell_at z (printed z s byte).screen s.cursor ≡ Some (cell byte s.attribute)
+cell_is_printed z s byte h =
+    slice_get-set_same s.screen (index z s.cursor) (cell byte s.attribute)
+    (omega (arith, index-lt z s.cursor h.fits.cursor, h.fits.cells))
+
+-- each other cell is kept
+cell_is_kept : (z : Size) (s : State) (byte : ℕ) (p : Position) → IsWellFormed z s → IsOnScreen z p → p ≢ s.cursor
+    → cell_at z (printed z s byte).screen p ≡ cell_at z s.screen p
+cell_is_kept z s byte p h on other =
+    slice_get-set_other s.screen (index z s.cursor) (index z p) (cell byte s.attribute)
+    (λ e. other (one_position_an_index z p s.cursor on h.fits.cursor e))
+
+-- a printed byte, and the cursor at the next position
+printed_at : (z : Size) (s : State) (byte : ℕ) (next : Position) → IsWellFormed z s → NextPosition z s next
+    → IsPrinted z s byte (record (printed z s byte) { cursor = next })
+printed_at z s byte next h goes_on = record {
+  printed = cell_is_printed z s byte h;
+  kept = λ p on other. cell_is_kept z s byte p h on other;
+  cursor = goes_on;
+  others = record { saved = refl; attribute = refl; wrap = refl };
+}
 
 pub glyph_prints : GlyphPrints
-glyph_prints z s byte h above =
-    let within : index z s.cursor < length s.screen = omega (arith, index-lt z s.cursor h.fits.cursor, h.fits.cells) in
-    rw (advanced_is z (printed z s byte) above) (record {
-      printed = slice_get-set_same s.screen (index z s.cursor) (cell byte s.attribute) within;
-      kept = λ p on other. slice_get-set_other s.screen (index z s.cursor) (index z p) (cell byte s.attribute)
-          (λ e. other (one_position_an_index z p s.cursor on h.fits.cursor e));
-      cursor = next_position z s h.fits.cursor.1;
-      others = record { saved = refl; attribute = refl; wrap = refl };
-    })
+glyph_prints z s byte h stays = elim (cases_lt (s.cursor.column + 1) z.width) [
+  | inl more ↦ rw (lt-ltb (s.cursor.column + 1) z.width more)
+      (printed_at z s byte (at s.cursor.row (s.cursor.column + 1)) h (inl (more, refl)))
+  | inr last ↦ rw (le-ltb (s.cursor.column + 1) z.width last)
+      (wrapped s.wrap refl (omega (arith, h.fits.cursor.1)))
+]
+  where
+    wrapped : (b : Bool) → s.wrap ≡ b → IsLastColumn z s.cursor.column
+        → IsPrinted z s byte (if b then line_feed z (record (printed z s byte) { cursor = at s.cursor.row 0 }) else
+        printed z s byte)
+    wrapped true e last =
+        let above : s.cursor.row ≢ z.lines = λ row. stays (row, last, e) in
+        rw (line_feed_is z (record (printed z s byte) { cursor = at s.cursor.row 0 })
+        (omega (arith, above, h.fits.cursor.0)))
+        (printed_at z s byte (at (s.cursor.row + 1) 0) h (inr (inl (last, e, refl))))
+    wrapped false e last = printed_at z s byte s.cursor h (inr (inr (last, e, refl)))
+
+-- a printed byte, and then a scrolled screen
+printed_and_scrolled : (z : Size) (s t : State) (byte : ℕ) → IsWellFormed z s → s.cursor.row ≡ z.lines
+    → IsScrolled z (record (printed z s byte) { cursor = at s.cursor.row 0 }) t → IsPrintedAndScrolled z s byte t
+printed_and_scrolled z s t byte h row scrolls = record {
+  printed = λ p above.
+      let below : at (p.row + 1) p.column ≡ s.cursor =
+      same_position (at (p.row + 1) p.column) s.cursor above.0 above.1 in
+      let on : p.column < z.width = omega (arith, above.1, h.fits.cursor.1) in
+      scrolls.rows p (omega (arith, above.0, row), on) (omega (arith, above.0, row))
+      ∙ ap (λ (q : Position). cell_at z (printed z s byte).screen q) below ∙ cell_is_printed z s byte h;
+  rows = λ p on lt other. scrolls.rows p on lt
+      ∙ cell_is_kept z s byte (at (p.row + 1) p.column) h (omega (arith, lt), on.1)
+      (λ e. other (ap (λ (q : Position). q.row) e, ap (λ (q : Position). q.column) e));
+  last = scrolls.last;
+  cursor = scrolls.cursor ∙ ap (λ (r : ℕ). at r 0) row;
+  others = same_others s t scrolls.others.saved scrolls.others.attribute scrolls.others.wrap;
+}
+
+pub glyph_scrolls : GlyphScrolls
+glyph_scrolls z s byte h (row, last, on) =
+    rw (le-ltb (s.cursor.column + 1) z.width (omega (arith, last))) (wrapped s.wrap on)
+  where
+    wrapped : (b : Bool) → b ≡ true
+        → IsPrintedAndScrolled z s byte (if b then line_feed z
+        (record (printed z s byte) { cursor = at s.cursor.row 0 }) else printed z s byte)
+    wrapped false e = absurd (cc)
+    wrapped true e =
+        let u : State = record (printed z s byte) { cursor = at s.cursor.row 0 } in
+        let cells : length u.screen ≡ cell_count z =
+        length-set s.screen (index z s.cursor) (cell byte s.attribute) ∙ h.fits.cells in
+        rw (eq-eqb s.cursor.row z.lines row)
+        (printed_and_scrolled z s (scrolled z u) byte h row (scrolled_is z u cells))

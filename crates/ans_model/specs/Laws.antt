@@ -2,6 +2,7 @@
 pub mod FileLaws
 pub mod SequenceLaws
 pub mod AttributeLaws
+pub mod MoveLaws
 pub mod StepLaws
 pub mod StartLaws
 pub mod LineLaws

@@ -1,31 +1,46 @@
 //! Laws of the machine: what each line of the table of steps changes and what it leaves.
 
-ghost use Rattle.ans_model.specs.Laws.StepLaws.{OnePositionAnIndex, MovesChangeCursor, KeepsColumn, KeepsRow};
-ghost use Rattle.ans_model.specs.Laws.StepLaws.{DownUndoesUp, ForwardUndoesBackward, PlacesCursor, SavesCursor};
-ghost use Rattle.ans_model.specs.Laws.StepLaws.{RestoreUndoesSave, ColoursChangeAttribute, WrapChangesWrap};
-ghost use Rattle.ans_model.specs.Laws.StepLaws.{IdleChangesNothing, ClearsScreen, ErasesLine, GlyphPrints};
-ghost use Rattle.ans_model.specs.Laws.StepLaws.{LineFeedMovesDown, LineFeedScrolls, StepsAreWellFormed};
-ghost use Rattle.ans_model.specs.Laws.StepLaws.{CleanNeverScrolls};
+ghost use Rattle.ans_model.specs.Laws.MoveLaws.{MovesChangeCursor, UpGoesUp, DownGoesDown, ForwardGoesRight};
+ghost use Rattle.ans_model.specs.Laws.MoveLaws.{BackwardGoesLeft, BackSpaceGoesLeft, ReturnGoesToFirstColumn};
+ghost use Rattle.ans_model.specs.Laws.MoveLaws.{RestoreGoesToSaved, PlacesCursor, PlaceStopsAtEdges, DownUndoesUp};
+ghost use Rattle.ans_model.specs.Laws.MoveLaws.{ForwardUndoesBackward};
+ghost use Rattle.ans_model.specs.Laws.StepLaws.{OnePositionAnIndex, SavesCursor, ColoursChangeAttribute};
+ghost use Rattle.ans_model.specs.Laws.StepLaws.{WrapChangesWrap, IdleChangesNothing, ClearsScreen, ErasesLine};
+ghost use Rattle.ans_model.specs.Laws.StepLaws.{GlyphPrints, GlyphScrolls, LineFeedMovesDown, LineFeedScrolls};
+ghost use Rattle.ans_model.specs.Laws.StepLaws.{StepsAreWellFormed, CleanNeverScrolls, GoodNeverScrolls};
 
 /// Two positions of the screen have two indices.
 pub fn positions_have_indices()
     ensures { OnePositionAnIndex }
 {}
 
-/// Moves change the cursor alone, each in its own direction.
+/// Moves change the cursor alone.
 pub fn moves_change_the_cursor()
-    ensures cursor_alone { MovesChangeCursor }
-    ensures column_kept { KeepsColumn }
-    ensures row_kept { KeepsRow }
-    ensures down_undoes_up { DownUndoesUp }
-    ensures forward_undoes_backward { ForwardUndoesBackward }
-    ensures placed { PlacesCursor }
+    ensures { MovesChangeCursor }
 {}
 
-/// Save, Restore, Colours and Wrap change one part each, and the idle tokens none.
+/// Where each move takes the cursor, inside the screen and at its edges.
+pub fn moves_go_where_they_say()
+    ensures up { UpGoesUp }
+    ensures down { DownGoesDown }
+    ensures forward { ForwardGoesRight }
+    ensures backward { BackwardGoesLeft }
+    ensures back_space { BackSpaceGoesLeft }
+    ensures carriage_return { ReturnGoesToFirstColumn }
+    ensures restore { RestoreGoesToSaved }
+    ensures place { PlacesCursor }
+    ensures place_edges { PlaceStopsAtEdges }
+{}
+
+/// Down undoes Up, and Forward undoes Backward, where no edge is met.
+pub fn moves_are_undone()
+    ensures up { DownUndoesUp }
+    ensures backward { ForwardUndoesBackward }
+{}
+
+/// Save, Colours and Wrap change one part each, and the idle tokens none.
 pub fn settings_change_one_part()
     ensures saved { SavesCursor }
-    ensures restored { RestoreUndoesSave }
     ensures attribute { ColoursChangeAttribute }
     ensures wrap { WrapChangesWrap }
     ensures idle { IdleChangesNothing }
@@ -37,9 +52,11 @@ pub fn erasures_blank_cells()
     ensures line { ErasesLine }
 {}
 
-/// A Glyph changes the cursor's cell alone, and the cursor goes on.
+/// A Glyph changes the cursor's cell, and the cursor goes on. Where it wraps in the spare row, the
+/// screen scrolls.
 pub fn glyphs_print()
-    ensures { GlyphPrints }
+    ensures printed { GlyphPrints }
+    ensures scrolls { GlyphScrolls }
 {}
 
 /// A LineFeed goes down a row, and in the spare row it scrolls the screen.
@@ -56,4 +73,9 @@ pub fn steps_are_well_formed()
 /// Clean tokens scroll from no start: neither a line feed nor a print that wraps.
 pub fn clean_tokens_never_scroll()
     ensures { CleanNeverScrolls }
+{}
+
+/// The tokens of good content scroll from no start.
+pub fn good_content_never_scrolls()
+    ensures { GoodNeverScrolls }
 {}

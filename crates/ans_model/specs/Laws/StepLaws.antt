@@ -1,9 +1,10 @@
--- Laws of a step: what each line of the table of steps leaves as it was.
+-- Laws of a step: what each line of the table of steps changes and what it leaves. Those of the moves stand in
+-- MoveLaws.
 use Rattle.std.specs.Prelude.{◌≡◌, ◌≢◌, ◌⊎◌, ℕ, ◌+◌, ◌≤◌, ◌<◌, Bool, true, false, List, set, Some}
 use Rattle.std.specs.Prelude.{slice_get, take, replicate}
-use Rattle.ans_model.specs.Sequence.TokenKind.{TokenKind, PrintsByte, Glyph, Bell, BackSpace, LineFeed}
-use Rattle.ans_model.specs.Sequence.TokenKind.{CarriageReturn, Tab, Up, Down, Forward, Backward, Place, Clear}
-use Rattle.ans_model.specs.Sequence.TokenKind.{EraseLine, Save, Restore, Colours, Wrap, Mode, Keys, Ask}
+use Rattle.ans_model.specs.Sequence.TokenKind.{TokenKind, PrintsByte, Glyph, Bell, LineFeed, Tab, Clear, EraseLine}
+use Rattle.ans_model.specs.Sequence.TokenKind.{Save, Colours, Wrap, Mode, Keys, Ask}
+use Rattle.ans_model.specs.Sequence.Reads.{Reads}
 use Rattle.ans_model.specs.Screen.State.{Size, IsSize, State, IsWellFormed, IsOnScreen, at, cell, cell_at, cell_count}
 use Rattle.ans_model.specs.Screen.State.{index}
 use Rattle.ans_model.specs.declared.cell.Cell.{Cell}
@@ -12,17 +13,12 @@ use Rattle.ans_model.specs.Screen.Attribute.{attribute_after_all}
 use Rattle.ans_model.specs.Screen.Step.{step, final, filled, next_row_start, blank_cell}
 use Rattle.ans_model.specs.Screen.StartClass.{Class}
 use Rattle.ans_model.specs.Verdict.TokenFault.{FromEvery, IsClean}
+use Rattle.ans_model.specs.Verdict.Good.{IsGood}
+use Rattle.ans_model.specs.Laws.MoveLaws.{IsLastColumn}
 
 -- Two positions of the screen with one index are one position.
 abbrev pub OnePositionAnIndex : Type 0
 OnePositionAnIndex = (z : Size) (p q : Position) → IsOnScreen z p → IsOnScreen z q → index z p ≡ index z q → p ≡ q
-
--- nothing but the cursor has changed
-pub record OnlyCursor (s t : State) : Type 0 where
-  pub screen : t.screen ≡ s.screen
-  pub saved : t.saved ≡ s.saved
-  pub attribute : t.attribute ≡ s.attribute
-  pub wrap : t.wrap ≡ s.wrap
 
 -- nothing but the screen and the cursor has changed
 pub record OnlyScreenAndCursor (s t : State) : Type 0 where
@@ -30,67 +26,9 @@ pub record OnlyScreenAndCursor (s t : State) : Type 0 where
   pub attribute : t.attribute ≡ s.attribute
   pub wrap : t.wrap ≡ s.wrap
 
--- tokens that change the cursor alone
-abbrev pub IsMove : TokenKind → Type 0
-IsMove (Up n) = Unit {0}
-IsMove (Down n) = Unit {0}
-IsMove (Forward n) = Unit {0}
-IsMove (Backward n) = Unit {0}
-IsMove (Place row column) = Unit {0}
-IsMove BackSpace = Unit {0}
-IsMove CarriageReturn = Unit {0}
-IsMove Restore = Unit {0}
-IsMove _ = ⊥
-
--- A move, a place, a backspace, a carriage return and a restore change the cursor alone.
-abbrev pub MovesChangeCursor : Type 0
-MovesChangeCursor = (z : Size) (s : State) (t : TokenKind) → IsMove t → OnlyCursor s (step z s t)
-
--- Up, Down and LineFeed keep the column.
-abbrev pub IsUpright : TokenKind → Type 0
-IsUpright (Up n) = Unit {0}
-IsUpright (Down n) = Unit {0}
-IsUpright LineFeed = Unit {0}
-IsUpright _ = ⊥
-
--- They keep the column.
-abbrev pub KeepsColumn : Type 0
-KeepsColumn = (z : Size) (s : State) (t : TokenKind) → IsUpright t → (step z s t).cursor.column ≡ s.cursor.column
-
--- Forward, Backward, BackSpace and CarriageReturn keep the row.
-abbrev pub IsLevel : TokenKind → Type 0
-IsLevel (Forward n) = Unit {0}
-IsLevel (Backward n) = Unit {0}
-IsLevel BackSpace = Unit {0}
-IsLevel CarriageReturn = Unit {0}
-IsLevel _ = ⊥
-
--- They keep the row.
-abbrev pub KeepsRow : Type 0
-KeepsRow = (z : Size) (s : State) (t : TokenKind) → IsLevel t → (step z s t).cursor.row ≡ s.cursor.row
-
--- Down brings back what Up took, where no edge is met.
-abbrev pub DownUndoesUp : Type 0
-DownUndoesUp = (z : Size) (s : State) (n : ℕ) → IsWellFormed z s → n ≤ s.cursor.row
-    → step z (step z s (Up n)) (Down n) ≡ s
-
--- Forward brings back what Backward took, where no edge is met.
-abbrev pub ForwardUndoesBackward : Type 0
-ForwardUndoesBackward = (z : Size) (s : State) (n : ℕ) → IsWellFormed z s → n ≤ s.cursor.column
-    → step z (step z s (Backward n)) (Forward n) ≡ s
-
--- A position within the screen, counted from 1, is where the cursor then stands.
-abbrev pub PlacesCursor : Type 0
-PlacesCursor = (z : Size) (s : State) (p : Position) → IsOnScreen z p
-    → (step z s (Place (p.row + 1) (p.column + 1))).cursor ≡ p
-
 -- Save changes the saved cursor alone.
 abbrev pub SavesCursor : Type 0
 SavesCursor = (z : Size) (s : State) → step z s Save ≡ record s { saved = s.cursor }
-
--- A Restore after a Save keeps the cursor.
-abbrev pub RestoreUndoesSave : Type 0
-RestoreUndoesSave = (z : Size) (s : State) → step z (step z s Save) Restore ≡ step z s Save
 
 -- Colours change the attribute alone.
 abbrev pub ColoursChangeAttribute : Type 0
@@ -140,24 +78,46 @@ pub record IsLineErased (z : Size) (s t : State) : Type 0 where
 abbrev pub ErasesLine : Type 0
 ErasesLine = (z : Size) (s : State) → IsWellFormed z s → IsLineErased z s (step z s EraseLine)
 
--- where the cursor goes on to after a printed byte, above the spare row
+-- the position is directly above the other
+abbrev pub IsAbove : Position → Position → Type 0
+IsAbove p q = (p.row + 1 ≡ q.row) × (p.column ≡ q.column)
+
+-- a byte that is printed here scrolls the screen: in the last column of the spare row, where wrap is on
+abbrev pub PrintScrolls : Size → State → Type 0
+PrintScrolls z s = (s.cursor.row ≡ z.lines) × IsLastColumn z s.cursor.column × (s.wrap ≡ true)
+
+-- where the cursor goes on to after a printed byte that does not scroll the screen
 abbrev pub NextPosition : Size → State → Position → Type 0
 NextPosition z s next =
     ((s.cursor.column + 1 < z.width) × (next ≡ at s.cursor.row (s.cursor.column + 1)))
-    ⊎ ((s.cursor.column + 1 ≡ z.width) × (s.wrap ≡ true) × (next ≡ at (s.cursor.row + 1) 0))
-    ⊎ ((s.cursor.column + 1 ≡ z.width) × (s.wrap ≡ false) × (next ≡ s.cursor))
+    ⊎ (IsLastColumn z s.cursor.column × (s.wrap ≡ true) × (next ≡ at (s.cursor.row + 1) 0))
+    ⊎ (IsLastColumn z s.cursor.column × (s.wrap ≡ false) × (next ≡ s.cursor))
 
--- A Glyph above the spare row changes one cell, and takes the cursor to the next position.
+-- one cell has changed, and the cursor stands at the next position
 pub record IsPrinted (z : Size) (s : State) (byte : ℕ) (t : State) : Type 0 where
   pub printed : cell_at z t.screen s.cursor ≡ Some (cell byte s.attribute)
   pub kept : (p : Position) → IsOnScreen z p → p ≢ s.cursor → cell_at z t.screen p ≡ cell_at z s.screen p
   pub cursor : NextPosition z s t.cursor
   pub others : OnlyScreenAndCursor s t
 
--- A Glyph does so.
+-- A Glyph that does not scroll the screen changes one cell, and takes the cursor to the next position.
 abbrev pub GlyphPrints : Type 0
-GlyphPrints = (z : Size) (s : State) (byte : ℕ) → IsWellFormed z s → s.cursor.row < z.lines
+GlyphPrints = (z : Size) (s : State) (byte : ℕ) → IsWellFormed z s → ¬ PrintScrolls z s
     → IsPrinted z s byte (step z s (Glyph byte))
+
+-- One cell has changed, then each row has moved up and the last is blank, and the cursor stands at its beginning.
+pub record IsPrintedAndScrolled (z : Size) (s : State) (byte : ℕ) (t : State) : Type 0 where
+  pub printed : (p : Position) → IsAbove p s.cursor → cell_at z t.screen p ≡ Some (cell byte s.attribute)
+  pub rows : (p : Position) → IsOnScreen z p → p.row < z.lines → ¬ IsAbove p s.cursor
+      → cell_at z t.screen p ≡ cell_at z s.screen (at (p.row + 1) p.column)
+  pub last : (column : ℕ) → column < z.width → cell_at z t.screen (at z.lines column) ≡ Some (blank_cell s.attribute)
+  pub cursor : t.cursor ≡ at z.lines 0
+  pub others : OnlyScreenAndCursor s t
+
+-- A Glyph in the last column of the spare row, where wrap is on, is printed and then scrolls the screen.
+abbrev pub GlyphScrolls : Type 0
+GlyphScrolls = (z : Size) (s : State) (byte : ℕ) → IsWellFormed z s → PrintScrolls z s
+    → IsPrintedAndScrolled z s byte (step z s (Glyph byte))
 
 -- A LineFeed above the spare row takes the cursor down one row and changes nothing else.
 abbrev pub LineFeedMovesDown : Type 0
@@ -189,9 +149,20 @@ screen_in_place z s EraseLine = filled s.screen (index z s.cursor) (next_row_sta
 screen_in_place z s (Glyph byte) = set s.screen (index z s.cursor) (cell byte s.attribute)
 screen_in_place z s _ = s.screen
 
+-- from this start, a token after these ones moves no row of the screen
+abbrev pub WritesInPlace : Size → List TokenKind → TokenKind → State → Type 0
+WritesInPlace z played t start =
+    let now = final z start played in (step z now t).screen ≡ screen_in_place z now t
+
 -- Where tokens are clean none of them scrolls, from any start: not a line feed, and not a print that wraps.
 abbrev pub CleanNeverScrolls : Type 0
 CleanNeverScrolls =
     (z : Size) (class : Class) (tokens : List TokenKind) (k : ℕ) (t : TokenKind) → IsSize z → IsClean z class tokens
-    → slice_get tokens k ≡ Some t →
-    FromEvery z class (λ s. let now = final z s (take k tokens) in (step z now t).screen ≡ screen_in_place z now t)
+    → slice_get tokens k ≡ Some t → FromEvery z class (WritesInPlace z (take k tokens) t)
+
+-- The tokens that good content reads as never scroll, from any start.
+abbrev pub GoodNeverScrolls : Type 0
+GoodNeverScrolls =
+    (z : Size) (class : Class) (content : List ℕ) (tokens : List TokenKind) (k : ℕ) (t : TokenKind)
+    → IsGood z class content → Reads content tokens
+    → slice_get tokens k ≡ Some t → FromEvery z class (WritesInPlace z (take k tokens) t)

@@ -1,0 +1,106 @@
+-- Laws of the tokens that move the cursor: one for each line of the table of steps, the screen's edges included.
+use Rattle.std.specs.Prelude.{◌≡◌, ◌⊎◌, ℕ, ◌+◌, ◌<◌, ◌≤◌}
+use Rattle.ans_model.specs.Sequence.TokenKind.{TokenKind, BackSpace, CarriageReturn, Up, Down, Forward, Backward}
+use Rattle.ans_model.specs.Sequence.TokenKind.{Place, Restore}
+use Rattle.ans_model.specs.Screen.State.{Size, State, IsWellFormed, IsOnScreen}
+use Rattle.ans_model.specs.declared.cell.Position.{Position}
+use Rattle.ans_model.specs.Screen.Step.{step}
+
+-- nothing but the cursor has changed
+pub record OnlyCursor (s t : State) : Type 0 where
+  pub screen : t.screen ≡ s.screen
+  pub saved : t.saved ≡ s.saved
+  pub attribute : t.attribute ≡ s.attribute
+  pub wrap : t.wrap ≡ s.wrap
+
+-- tokens that change the cursor alone
+abbrev pub IsMove : TokenKind → Type 0
+IsMove (Up n) = Unit {0}
+IsMove (Down n) = Unit {0}
+IsMove (Forward n) = Unit {0}
+IsMove (Backward n) = Unit {0}
+IsMove (Place row column) = Unit {0}
+IsMove BackSpace = Unit {0}
+IsMove CarriageReturn = Unit {0}
+IsMove Restore = Unit {0}
+IsMove _ = ⊥
+
+-- A move, a place, a backspace, a carriage return and a restore change the cursor alone.
+abbrev pub MovesChangeCursor : Type 0
+MovesChangeCursor = (z : Size) (s : State) (t : TokenKind) → IsMove t → OnlyCursor s (step z s t)
+
+-- the column of the screen that has none to its right
+abbrev pub IsLastColumn : Size → ℕ → Type 0
+IsLastColumn z column = column + 1 ≡ z.width
+
+-- the new number is n less than the old one, or 0 where n is more than that
+abbrev pub IsLessBy : ℕ → ℕ → ℕ → Type 0
+IsLessBy n old new = ((n ≤ old) × (new + n ≡ old)) ⊎ ((old < n) × (new ≡ 0))
+
+-- the new number is n more than the old one, or the last where that is beyond it
+abbrev pub IsMoreBy : ℕ → ℕ → ℕ → ℕ → Type 0
+IsMoreBy n last old new = ((old + n ≤ last) × (new ≡ old + n)) ⊎ ((last < old + n) × (new ≡ last))
+
+-- Up goes n rows up, and stops in row 0.
+abbrev pub UpGoesUp : Type 0
+UpGoesUp = (z : Size) (s : State) (n : ℕ) → let new = (step z s (Up n)).cursor in
+    IsLessBy n s.cursor.row new.row × (new.column ≡ s.cursor.column)
+
+-- Down goes n rows down, and stops in the spare row.
+abbrev pub DownGoesDown : Type 0
+DownGoesDown = (z : Size) (s : State) (n : ℕ) → let new = (step z s (Down n)).cursor in
+    IsMoreBy n z.lines s.cursor.row new.row × (new.column ≡ s.cursor.column)
+
+-- Forward goes n columns to the right, and stops in the last.
+abbrev pub ForwardGoesRight : Type 0
+ForwardGoesRight = (z : Size) (s : State) (n last : ℕ) → IsLastColumn z last →
+    let new = (step z s (Forward n)).cursor in
+    (new.row ≡ s.cursor.row) × IsMoreBy n last s.cursor.column new.column
+
+-- Backward goes n columns to the left, and stops in column 0.
+abbrev pub BackwardGoesLeft : Type 0
+BackwardGoesLeft = (z : Size) (s : State) (n : ℕ) → let new = (step z s (Backward n)).cursor in
+    (new.row ≡ s.cursor.row) × IsLessBy n s.cursor.column new.column
+
+-- BackSpace goes one column to the left, and stays in column 0.
+abbrev pub BackSpaceGoesLeft : Type 0
+BackSpaceGoesLeft = (z : Size) (s : State) → let new = (step z s BackSpace).cursor in
+    (new.row ≡ s.cursor.row) × IsLessBy 1 s.cursor.column new.column
+
+-- CarriageReturn goes to column 0 of the row.
+abbrev pub ReturnGoesToFirstColumn : Type 0
+ReturnGoesToFirstColumn = (z : Size) (s : State) → let new = (step z s CarriageReturn).cursor in
+    (new.row ≡ s.cursor.row) × (new.column ≡ 0)
+
+-- Restore goes to the saved position.
+abbrev pub RestoreGoesToSaved : Type 0
+RestoreGoesToSaved = (z : Size) (s : State) → (step z s Restore).cursor ≡ s.saved
+
+-- A position within the screen, counted from 1, is where the cursor then stands.
+abbrev pub PlacesCursor : Type 0
+PlacesCursor = (z : Size) (s : State) (p : Position) → IsOnScreen z p
+    → (step z s (Place (p.row + 1) (p.column + 1))).cursor ≡ p
+
+-- the new row or column, counted from 0, is the given one, counted from 1; or the first or the last, where the screen
+-- has no such one
+abbrev pub IsNearest : ℕ → ℕ → ℕ → Type 0
+IsNearest given last new =
+    ((given ≡ 0) × (new ≡ 0))
+    ⊎ ((0 < given) × (given ≤ last + 1) × (new + 1 ≡ given))
+    ⊎ ((last + 1 < given) × (new ≡ last))
+
+-- Place goes to the nearest row and to the nearest column that the screen has.
+abbrev pub PlaceStopsAtEdges : Type 0
+PlaceStopsAtEdges = (z : Size) (s : State) (row column last : ℕ) → IsLastColumn z last →
+    let new = (step z s (Place row column)).cursor in
+    IsNearest row z.lines new.row × IsNearest column last new.column
+
+-- Down brings back what Up took, where no edge is met.
+abbrev pub DownUndoesUp : Type 0
+DownUndoesUp = (z : Size) (s : State) (n : ℕ) → IsWellFormed z s → n ≤ s.cursor.row
+    → step z (step z s (Up n)) (Down n) ≡ s
+
+-- Forward brings back what Backward took, where no edge is met.
+abbrev pub ForwardUndoesBackward : Type 0
+ForwardUndoesBackward = (z : Size) (s : State) (n : ℕ) → IsWellFormed z s → n ≤ s.cursor.column
+    → step z (step z s (Backward n)) (Forward n) ≡ s
