@@ -27,46 +27,43 @@ moves_change_cursor z s Restore m = only_cursor s (step z s Restore).cursor
 moves_change_cursor z s _ m = absurd m
 
 -- ---- one coordinate
-less_by : (n old : ℕ) → IsLessBy n old (old - n)
-less_by n old = elim (cases_lt old n) [
-  | inl less ↦ inr (less, omega arith)
-  | inr more ↦ inl (omega arith, omega arith)
+less_by : (n old new : ℕ) → new ≡ old - n → IsLessBy n old new
+less_by n old new e = elim (cases_lt old n) [
+  | inl less ↦ inr (less, omega (arith, e))
+  | inr more ↦ inl (omega arith, omega (arith, e))
 ]
 
-more_by : (n last old : ℕ) → IsMoreBy n last old (min (old + n) last)
-more_by n last old = elim (cases_lt last (old + n)) [
-  | inl beyond ↦ inr (beyond, omega arith)
-  | inr within ↦ inl (omega arith, omega arith)
+more_by : (n last old new : ℕ) → new ≡ min (old + n) last → IsMoreBy n last old new
+more_by n last old new e = elim (cases_lt last (old + n)) [
+  | inl beyond ↦ inr (beyond, omega (arith, e))
+  | inr within ↦ inl (omega arith, omega (arith, e))
 ]
 
-nearest : (given last : ℕ) → IsNearest given last (min (given - 1) last)
-nearest given last = elim (cases_lt 0 given) [
+nearest : (given last new : ℕ) → new ≡ min (given - 1) last → IsNearest given last new
+nearest given last new e = elim (cases_lt 0 given) [
   | inl some ↦ elim (cases_lt (last + 1) given) [
-    | inl beyond ↦ inr (inr (beyond, omega arith))
-    | inr within ↦ inr (inl (some, omega arith, omega arith))
+    | inl beyond ↦ inr (inr (beyond, omega (arith, e)))
+    | inr within ↦ inr (inl (some, omega arith, omega (arith, e)))
   ]
-  | inr none ↦ inl (omega arith, omega arith)
+  | inr none ↦ inl (omega arith, omega (arith, e))
 ]
-
--- the last column, as the definitions write it
-last_column : (width last : ℕ) → last + 1 ≡ width → width - 1 ≡ last
-last_column width last e = omega (arith, e)
 
 -- ---- both
 pub up_goes_up : UpGoesUp
-up_goes_up z s n = (less_by n s.cursor.row, refl)
+up_goes_up z s n = (less_by n s.cursor.row (step z s (Up n)).cursor.row (omega arith), refl)
 
 pub down_goes_down : DownGoesDown
-down_goes_down z s n = (more_by n z.lines s.cursor.row, refl)
+down_goes_down z s n = (more_by n z.lines s.cursor.row (step z s (Down n)).cursor.row (omega arith), refl)
 
 pub forward_goes_right : ForwardGoesRight
-forward_goes_right z s n last e = rw (last_column z.width last e) (refl, more_by n last s.cursor.column)
+forward_goes_right z s n last e =
+    (refl, more_by n last s.cursor.column (step z s (Forward n)).cursor.column (omega (arith, e)))
 
 pub backward_goes_left : BackwardGoesLeft
-backward_goes_left z s n = (refl, less_by n s.cursor.column)
+backward_goes_left z s n = (refl, less_by n s.cursor.column (step z s (Backward n)).cursor.column (omega arith))
 
 pub back_space_goes_left : BackSpaceGoesLeft
-back_space_goes_left z s = (refl, less_by 1 s.cursor.column)
+back_space_goes_left z s = (refl, less_by 1 s.cursor.column (step z s BackSpace).cursor.column (omega arith))
 
 pub return_goes_to_first_column : ReturnGoesToFirstColumn
 return_goes_to_first_column z s = (refl, refl)
@@ -79,7 +76,10 @@ places_cursor z s p on = same_position _ p (omega (arith, on.0)) (omega (arith, 
 
 pub place_stops_at_edges : PlaceStopsAtEdges
 place_stops_at_edges z s row column last e =
-    rw (last_column z.width last e) (nearest row z.lines, nearest column last)
+    let new : Position = (step z s (Place row column)).cursor in (
+      nearest row z.lines new.row (omega arith),
+      nearest column last new.column (omega (arith, e)),
+    )
 
 -- ---- there and back
 with_cursor : (s : State) (p : Position) → p ≡ s.cursor → record s { cursor = p } ≡ s
