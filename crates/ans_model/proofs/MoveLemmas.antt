@@ -26,7 +26,7 @@ moves_change_cursor z s CarriageReturn m = only_cursor s (step z s CarriageRetur
 moves_change_cursor z s Restore m = only_cursor s (step z s Restore).cursor
 moves_change_cursor z s _ m = absurd m
 
--- ---- one coordinate
+-- ---- one coordinate: what the definitions write with `-` and `min`, in the laws' words
 less_by : (n old new : ℕ) → new ≡ old - n → IsLessBy n old new
 less_by n old new e = elim (cases_lt old n) [
   | inl less ↦ inr (less, omega (arith, e))
@@ -48,7 +48,7 @@ nearest given last new e = elim (cases_lt 0 given) [
   | inr none ↦ inl (omega arith, omega (arith, e))
 ]
 
--- ---- both
+-- ---- each move
 pub up_goes_up : UpGoesUp
 up_goes_up z s n = (less_by n s.cursor.row (step z s (Up n)).cursor.row (omega arith), refl)
 
@@ -82,6 +82,7 @@ place_stops_at_edges z s row column last e =
     )
 
 -- ---- there and back
+-- a cursor that is the old one changes nothing
 with_cursor : (s : State) (p : Position) → p ≡ s.cursor → record s { cursor = p } ≡ s
 with_cursor s p e = ap (λ (q : Position). record s { cursor = q }) e
 
