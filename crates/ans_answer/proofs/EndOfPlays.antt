@@ -144,7 +144,7 @@ module _ (v : TwoPlaysView) (class : Class) (bytes : List ℕ) (p : ArePlayed cl
           tokens = p.tokens;
           reads = read_whole;
           clean = p.after.clean;
-          place = position_of v.size i;
+          position = position_of v.size i;
           first = first_unknown i d within;
           fault_is = refl;
         }))

@@ -17,7 +17,7 @@ use Rattle.ans_model.proofs.Reading.{one_reading}
 use Rattle.ans_model.proofs.OneAnswer.{well_is_clean}
 
 module _ (z : Size) (class : Class) (tokens : List TokenKind) (clean : IsClean z class tokens) where
-  -- a token that would have a fault where places differ stands at one place
+  -- a token that would have a fault where positions differ stands at one position
   pub at_one_place : (k : ℕ) (t : TokenKind) (cause : Cause) → slice_get tokens k ≡ Some t
       → (PositionsDiffer z class (take k tokens) → HasFault z class (take k tokens) t cause)
       → SamePosition z class (take k tokens)

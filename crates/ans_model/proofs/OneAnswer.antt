@@ -252,7 +252,7 @@ module _ (z : Size) (class : Class) where
       clean_no_first bytes f tokens left h
       (record { reads = record { front = front; reads = reads; whole = whole }; clean = clean; end = end })
 
-  -- ---- the first place that differs
+  -- ---- the first position that differs
   place_path : (p q : Position) → p.row ≡ q.row → p.column ≡ q.column → p ≡ q
   place_path p q r c = λ i. record { row = r i; column = c i }
 
@@ -297,8 +297,8 @@ module _ (z : Size) (class : Class) where
       (unknown_end bytes f h)).1 k.unfinished)
   one_last_fault bytes f g (inr h) (inr k) =
       let same : k.tokens ≡ h.tokens = one_reading bytes k.tokens h.tokens k.reads h.reads in
-      let place : h.place ≡ k.place = one_unknown h.tokens h.place k.place h.first (rw same at k.first) in
-      h.fault_is ∙ ap (λ (p : Position). fault_at (length bytes) (UnknownCell (p.row + 1) (p.column + 1))) place
+      let position : h.position ≡ k.position = one_unknown h.tokens h.position k.position h.first (rw same at k.first) in
+      h.fault_is ∙ ap (λ (p : Position). fault_at (length bytes) (UnknownCell (p.row + 1) (p.column + 1))) position
       ∙ sym k.fault_is
 
   -- ---- good
@@ -339,7 +339,7 @@ module _ (z : Size) (class : Class) where
       (good_end bytes picture g)).1 h.unfinished
   good_or_last bytes f (picture, g) (inr h) =
       let same : h.tokens ≡ g.tokens = one_reading bytes h.tokens g.tokens h.reads g.reads in
-      shows_known h.tokens picture h.place (rw (← same) at g.shows) h.first.stated h.first.differs
+      shows_known h.tokens picture h.position (rw (← same) at g.shows) h.first.stated h.first.differs
 
 -- ---- the one cleared start
 why_certain : (text : List ℕ) (byte : ℕ) (c : Cause) → IsWhy text byte c → IsCertain c
@@ -366,4 +366,4 @@ pub last_is_certain : (z : Size) (bytes : List ℕ) (f : Fault) → IsLastFault 
 last_is_certain z bytes f (inl h) = rw h.fault_is tt
 last_is_certain z bytes f (inr h) =
     let d = h.first.differs in
-    absurd (d.4 (ap (λ (s : State). cell_at z (final z s h.tokens).screen h.place) (cleared_is_one z d.0 d.1 d.2 d.3)))
+    absurd (d.4 (ap (λ (s : State). cell_at z (final z s h.tokens).screen h.position) (cleared_is_one z d.0 d.1 d.2 d.3)))

@@ -232,7 +232,7 @@ line_tells_fault f g hf hg e =
     (0x20 ∷ (whole_text g.cause ++ 0x0A ∷ [])) hf.offset hg.offset refl refl (sym (line f) ∙ s ∙ line g) in
     let texts : whole_text f.cause ≡ whole_text g.cause = append_cancel_right (whole_text f.cause)
     (whole_text g.cause) (0x0A ∷ []) (tail_of offsets.1) in
-    fault_path f g offsets.0 (whole_text_tells_cause f.cause g.cause hf.place hg.place texts)
+    fault_path f g offsets.0 (whole_text_tells_cause f.cause g.cause hf.position hg.position texts)
 
 -- ---- notes
 abbrev note_of : List ℕ → Note

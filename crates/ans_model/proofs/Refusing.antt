@@ -1,4 +1,4 @@
--- What the reading refuses at one place has one cause.
+-- What the reading refuses after the same bytes has one cause.
 use Rattle.std.proofs.Common.{◌≡◌, inl, inr, ℕ, true, List, [], ◌∷◌, ◌++◌, length, ap, ap₂, sym, ◌∙◌, subst₂, arith}
 use Rattle.std.proofs.Common.{append_assoc, length-append, Err, Result}
 use Rattle.std.proofs.lemmas.List.{append_cancel_left, append-nil}
@@ -43,7 +43,7 @@ unfinished_broken part text w cause o h e =
 no_semicolon : (b : ℕ) → is_ascii_digit b ≡ true → b ≡ semicolon → ⊥
 no_semicolon b d e = grind (arith, nat_tests)
 
--- two breaks at one place have one cause
+-- two breaks after the same bytes have one cause
 same_why : (text : List ℕ) (b : ℕ) (c d : Cause) → IsWhy text b c → IsWhy text b d → c ≡ d
 same_why text b c d (inl h) (inl g) = h.1 ∙ sym g.1
 same_why text b c d (inl h) (inr (inl g)) = absurd (h.0 g.0)

@@ -1,4 +1,4 @@
--- The element at a place of a list, through the edits of a screen.
+-- The element at an index of a list, through the edits of a screen.
 use Rattle.std.proofs.Common.{◌≡◌, ◌≢◌, ℕ, zero, suc, ◌+◌, ◌<◌, List, [], ◌∷◌, ◌++◌, length, take, drop}
 use Rattle.std.proofs.Common.{set, replicate, refl, ap, ◌∙◌, Some, arith}
 use Rattle.std.specs.Prelude.{slice_get}

@@ -1,4 +1,4 @@
--- Where a token has none of the faults that depend on the place.
+-- Where a token has none of the faults that depend on the position.
 use Rattle.std.specs.Prelude.{◌≡◌, ◌<◌}
 use Rattle.ans_model.specs.Sequence.TokenKind.{TokenKind, Glyph, LineFeed, EraseLine}
 use Rattle.ans_model.specs.Screen.State.{Size}

@@ -24,7 +24,7 @@ use Rattle.ans_play.proofs.Allowed.{IsOnePosition, IsAllowed}
 use Rattle.ans_play.proofs.HullAttributes.{agrees_after_all}
 use Rattle.ans_play.proofs.Zips.{AllZip-replicate, AllZip-set, AllZip-filled}
 
--- a described place of one end is that end
+-- a described position of one end is that end
 pub one_position_is : (e : Span) (p : Position) → DescribesPosition e p → IsOnePosition e → p ≡ e.low
 one_position_is e p d same =
     same_position p e.low
@@ -124,7 +124,7 @@ pub advance_is : (z : Size) (s : State) → s.cursor.row < z.lines →
 unfolding next_position
 advance_is z s h = advanced_is z s h
 
--- the ends after a printed byte hold each place that it may leave
+-- the ends after a printed byte hold each position that it may leave
 next_describes : (z : Size) (h : WrapMode) (w : Bool) (p : Position) → p.column < z.width → DescribesWrap h w →
     DescribesPosition (after_print z h p) (next_position z w p)
 unfolding next_position

@@ -159,7 +159,7 @@ plays_byte_more old mid new piece i h within g = record {
       (get_or piece i 0 ∷ []) h.goes_on g);
 }
 
--- the slice from a place to the end
+-- the slice from an index to the end
 slice_to_end : (piece : List ℕ) (i : ℕ) → take (length piece - i) (drop i piece) ≡ drop i piece
 slice_to_end piece i = take_all (length piece - i) (drop i piece) (omega (arith, length-drop i piece))
 

@@ -40,15 +40,15 @@ use Rattle.ans_play.proofs.KnownCells.{known_at, unknown_at, all_known, FirstUnk
 use Rattle.ans_play.proofs.KnownCells.{none_unknown}
 use Rattle.ans_play.proofs.PlaysWell.{plays_well}
 
--- ---- places in row order
--- a place of the stated lines stands among their cells
+-- ---- positions in row order
+-- a position of the stated lines stands among their cells
 pub index_lt : (z : Size) (p : Position) → IsStated z p → index z p < z.lines * z.width
 index_lt z p h =
     let below : (p.row + 1) * z.width ≤ z.lines * z.width =
     mul-le (p.row + 1) z.width z.lines z.width (omega (arith, h.0)) (omega arith) in
     omega (arith, h.1)
 
--- an earlier place stands before
+-- an earlier position stands before
 pub index_before : (z : Size) (p q : Position) → IsStated z q → IsBefore q p → index z q < index z p
 index_before z p q h (inl above) =
     let below : (q.row + 1) * z.width ≤ p.row * z.width =
@@ -187,7 +187,7 @@ module _ (z : Size) (class : Class) (bytes : List ℕ) (scanner : ScannerView) (
     tokens = p.tokens;
     reads = read_whole e;
     clean = p.clean;
-    place = position_of z i;
+    position = position_of z i;
     first = first_unknown_is z class p.tokens h p.size.some_columns p.known i u;
     fault_is = refl;
   }

@@ -44,7 +44,7 @@ same_half : (x y : List HalfCell) (c d s t : Span) (a b : KnownBits) (v w : Wrap
     v ≡ w → half_state x c s a v ≡ half_state y d t b w
 same_half x y c d s t a b v w p q r u e = cc
 
--- ends that are one place have one place within
+-- ends that are one position have one position within
 pub same_where_one : (p q : Position) → IsOnePosition (hull_position p q) → p ≡ q
 same_where_one p q e =
     same_position p q

@@ -121,26 +121,26 @@ not_false true e = refl
 not_false false e = absurd (cc)
 
 -- the first of the first n cells that is not known
-pub record FirstUnknown (hs : List HalfCell) (n place : ℕ) : Type 0 where
-  pub within : place < n
+pub record FirstUnknown (hs : List HalfCell) (n index : ℕ) : Type 0 where
+  pub within : index < n
   pub cell : HalfCell
-  pub here : slice_get hs place ≡ Some cell
+  pub here : slice_get hs index ≡ Some cell
   pub unknown : is_known cell ≡ false
-  pub earlier : (j : ℕ) → j < place → (c : HalfCell) × (slice_get hs j ≡ Some c) × (is_known c ≡ true)
+  pub earlier : (j : ℕ) → j < index → (c : HalfCell) × (slice_get hs j ≡ Some c) × (is_known c ≡ true)
 
 -- what a search for an unknown cell finds is the first
-pub found_unknown : (hs : List HalfCell) (n place : ℕ) (d : HalfCell) → first_unknown hs n ≡ Some place →
-    FirstUnknown hs n place
-found_unknown hs n place d e =
-    let p : (place < length (take n hs)) × (is_unknown (get_or (take n hs) place d) ≡ true)
-    × ((k : ℕ) → k < place → is_unknown (get_or (take n hs) k d) ≡ false)
-    = position-Some is_unknown (take n hs) place d e in
-    let l : place < n = omega (arith, p.0, length-take n hs) in
+pub found_unknown : (hs : List HalfCell) (n index : ℕ) (d : HalfCell) → first_unknown hs n ≡ Some index →
+    FirstUnknown hs n index
+found_unknown hs n index d e =
+    let p : (index < length (take n hs)) × (is_unknown (get_or (take n hs) index d) ≡ true)
+    × ((k : ℕ) → k < index → is_unknown (get_or (take n hs) k d) ≡ false)
+    = position-Some is_unknown (take n hs) index d e in
+    let l : index < n = omega (arith, p.0, length-take n hs) in
     record {
       within = l;
-      cell = get_or (take n hs) place d;
-      here = sym (slice_get-take n hs place l) ∙ slice_get-get_or (take n hs) place d p.0;
-      unknown = not_true (is_known (get_or (take n hs) place d)) p.1;
+      cell = get_or (take n hs) index d;
+      here = sym (slice_get-take n hs index l) ∙ slice_get-get_or (take n hs) index d p.0;
+      unknown = not_true (is_known (get_or (take n hs) index d)) p.1;
       earlier = λ j k.
           let m : j < n = omega arith in
           let k' : j < length (take n hs) = omega (arith, p.0) in (
@@ -151,10 +151,10 @@ found_unknown hs n place d e =
     }
 
 -- where there is none, all are known
-all_by_place : (hs : List HalfCell) (d : HalfCell) → ((j : ℕ) → j < length hs → is_known (get_or hs j d) ≡ true) →
+all_by_index : (hs : List HalfCell) (d : HalfCell) → ((j : ℕ) → j < length hs → is_known (get_or hs j d) ≡ true) →
     list_all is_known hs ≡ true
-all_by_place [] d f = refl
-all_by_place (h ∷ hs) d f = rw (f 0 (omega arith)) (all_by_place hs d (λ j l. f (suc j) (omega arith)))
+all_by_index [] d f = refl
+all_by_index (h ∷ hs) d f = rw (f 0 (omega arith)) (all_by_index hs d (λ j l. f (suc j) (omega arith)))
 
 none_if : (b : Bool) (n : ℕ) → (if b then Some n else None) ≡ None → b ≡ false
 none_if true n e = absurd (cc)
@@ -166,4 +166,4 @@ none_unknown hs d e =
     let past : length hs ≤ position_or_len is_unknown hs =
     ltb-false (position_or_len is_unknown hs) (length hs)
     (none_if (nat_lt (position_or_len is_unknown hs) (length hs)) (position_or_len is_unknown hs) e) in
-    all_by_place hs d (λ j l. not_false (is_known (get_or hs j d)) (fails_before_first is_unknown hs j d (omega arith)))
+    all_by_index hs d (λ j l. not_false (is_known (get_or hs j d)) (fails_before_first is_unknown hs j d (omega arith)))

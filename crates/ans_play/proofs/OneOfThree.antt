@@ -71,23 +71,23 @@ module _ (z : Size) (class : Class) (size : IsSize z) (bytes : List ℕ) where
   -- a token has a fault
   token_blamed : (r : IsReadable bytes) → HasFaultyToken z class r.tokens → HasAnAnswer z class bytes
   token_blamed r b =
-      let at = text_at r.tokens r.texts b.place b.token r.reads.each b.here in
-      let front : List ℕ = concat (take b.place r.texts) in
+      let at = text_at r.tokens r.texts b.index b.token r.reads.each b.here in
+      let front : List ℕ = concat (take b.index r.texts) in
       inr (inl (
         fault_at (length front) b.cause,
         record {
           size = size;
           front = front;
           text = at.text;
-          rest = concat (drop (suc b.place) r.texts) ++ r.left;
+          rest = concat (drop (suc b.index) r.texts) ++ r.left;
           whole = r.whole ∙ ap (λ (v : List ℕ). v ++ r.left) (r.reads.whole ∙ at.whole)
-              ∙ append_assoc front (at.text ++ concat (drop (suc b.place) r.texts)) r.left
-              ∙ ap (λ (v : List ℕ). front ++ v) (append_assoc at.text (concat (drop (suc b.place) r.texts)) r.left);
-          tokens = take b.place r.tokens;
+              ∙ append_assoc front (at.text ++ concat (drop (suc b.index) r.texts)) r.left
+              ∙ ap (λ (v : List ℕ). front ++ v) (append_assoc at.text (concat (drop (suc b.index) r.texts)) r.left);
+          tokens = take b.index r.tokens;
           reads = (
-            take b.place r.texts,
+            take b.index r.texts,
             record {
-              each = AllZip-take SpellsToken b.place r.tokens r.texts r.reads.each;
+              each = AllZip-take SpellsToken b.index r.tokens r.texts r.reads.each;
               whole = refl;
             },
           );

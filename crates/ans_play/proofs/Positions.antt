@@ -53,7 +53,7 @@ positions_differ z class played h w st apart =
     true_not_false : (b : Bool) → b ≡ true → b ≡ false → ⊥
     true_not_false b p q = cc
 
--- and where it has, the place is the same from every start
+-- and where it has, the position is the same from every start
 pub positions_agree : (z : Size) (class : Class) (played : List TokenKind) (h : HalfState)
     → IsKnownAfter z class played h →
     is_one_position h.cursor ≡ true → SamePosition z class played
@@ -112,7 +112,7 @@ module _ (z : Size) (class : Class) (played : List TokenKind) (h : HalfState) (w
         | inr not_low ↦ (low_start z class, low_is_start z class w, not_low)
       ]
 
-  -- a place of one end is each play's place
+  -- a position of one end is each play's position
   pub one_position_of_all : IsOnePosition h.cursor → (s : State) → IsStart z class s →
       (final z s played).cursor ≡ h.cursor.low
   one_position_of_all one s start = one_position_is h.cursor (final z s played).cursor (st.describes s start).cursor one

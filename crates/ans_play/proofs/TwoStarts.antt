@@ -55,13 +55,13 @@ pub record IsCleanTo (z : Size) (class : Class) (tokens : List TokenKind) (n : �
 
 -- the tokens before one are clean, and it has a fault
 pub record HasFaultyToken (z : Size) (class : Class) (tokens : List TokenKind) : Type 0 where
-  pub place : ℕ
-  pub within : place < length tokens
+  pub index : ℕ
+  pub within : index < length tokens
   pub token : TokenKind
   pub cause : Cause
-  pub here : slice_get tokens place ≡ Some token
-  pub clean : IsClean z class (take place tokens)
-  pub fault : HasFault z class (take place tokens) token cause
+  pub here : slice_get tokens index ≡ Some token
+  pub clean : IsClean z class (take index tokens)
+  pub fault : HasFault z class (take index tokens) token cause
 
 module _ (z : Size) (class : Class) (w : 0 < z.width) (tokens : List TokenKind) (prints : All PrintsByte tokens) where
   -- one more token is clean, or is the first that has a fault
@@ -81,7 +81,7 @@ module _ (z : Size) (class : Class) (w : 0 < z.width) (tokens : List TokenKind) 
             (token_is_allowed z class (take n tokens) c.state w c.known t e));
       })
   clean_to_one_more n lt c (Some cause) e = inr (record {
-    place = n;
+    index = n;
     within = lt;
     token = get_or tokens n Bell;
     cause = cause;
@@ -121,7 +121,7 @@ module _ (z : Size) (class : Class) (w : 0 < z.width) (tokens : List TokenKind) 
   pub known_after_clean : IsClean z class tokens → (h : HalfState) × IsKnownAfter z class tokens h
   known_after_clean clean = elim clean_or_faulty [
     | inl c ↦ c.1
-    | inr b ↦ absurd (clean b.place b.cause (b.token, b.here, b.fault))
+    | inr b ↦ absurd (clean b.index b.cause (b.token, b.here, b.fault))
   ]
 
 -- ---- what the two plays tell
@@ -244,7 +244,7 @@ module _ (z : Size) (class : Class) (tokens : List TokenKind) (w : 0 < z.width) 
   first_difference : (p : Position) → IsFirstUnknown z class tokens p →
       IsFirstDifference z class tokens (p.row + 1) (p.column + 1)
   first_difference p first = record {
-    place = p;
+    position = p;
     stated = first.stated;
     row_is = refl;
     column_is = refl;
@@ -296,5 +296,5 @@ module _ (z : Size) (class : Class) (bytes : List ℕ) (fault : Fault) where
         offset = ap (λ (f : Fault). f.offset) h.fault_is;
         tokens = h.tokens;
         reads = h.reads;
-        shown = rw h.fault_is (first_difference z class h.tokens h.size.some_columns known.0 known.1 h.place h.first);
+        shown = rw h.fault_is (first_difference z class h.tokens h.size.some_columns known.0 known.1 h.position h.first);
       }

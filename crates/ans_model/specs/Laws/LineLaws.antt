@@ -25,4 +25,4 @@ IsUnknownCell cause = (row col : ℕ) × (cause ≡ UnknownCell row col)
 -- the numbers of a fault are those of the program's types
 pub record FitsTypes (fault : Fault) : Type 0 where
   pub offset : fault.offset < 2 ^ 64
-  pub place : PositionFitsTypes fault.cause
+  pub position : PositionFitsTypes fault.cause

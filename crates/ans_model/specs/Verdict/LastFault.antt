@@ -52,9 +52,9 @@ pub record LeavesUnknown (z : Size) (class : Class) (bytes : List ℕ) (fault : 
   pub tokens : List TokenKind
   pub reads : Reads bytes tokens
   pub clean : IsClean z class tokens
-  pub place : Position
-  pub first : IsFirstUnknown z class tokens place
-  pub fault_is : fault ≡ fault_at (length bytes) (UnknownCell (place.row + 1) (place.column + 1))
+  pub position : Position
+  pub first : IsFirstUnknown z class tokens position
+  pub fault_is : fault ≡ fault_at (length bytes) (UnknownCell (position.row + 1) (position.column + 1))
 
 -- The fault is that at the end of the bytes.
 abbrev pub IsLastFault : Size → Class → List ℕ → Fault → Type 0

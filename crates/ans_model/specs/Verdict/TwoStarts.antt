@@ -33,12 +33,12 @@ OneIsInSpareRow z class tokens =
 
 -- the two screens agree in each stated cell before this row and column, counted from 1, and differ there
 pub record IsFirstDifference (z : Size) (class : Class) (tokens : List TokenKind) (row column : ℕ) : Type 0 where
-  pub place : Position
-  pub stated : IsStated z place
-  pub row_is : row ≡ place.row + 1
-  pub column_is : column ≡ place.column + 1
-  pub differs : cell_at z (low_final z class tokens).screen place ≢ cell_at z (high_final z class tokens).screen place
-  pub earlier : (p : Position) → IsStated z p → IsBefore p place
+  pub position : Position
+  pub stated : IsStated z position
+  pub row_is : row ≡ position.row + 1
+  pub column_is : column ≡ position.column + 1
+  pub differs : cell_at z (low_final z class tokens).screen position ≢ cell_at z (high_final z class tokens).screen position
+  pub earlier : (p : Position) → IsStated z p → IsBefore p position
       → cell_at z (low_final z class tokens).screen p ≡ cell_at z (high_final z class tokens).screen p
 
 -- After these tokens the two plays show the cause. Of a certain one there is nothing to show.
