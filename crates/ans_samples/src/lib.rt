@@ -1,14 +1,16 @@
-//! Files, contents and devices for the tests of the other crates. No program uses it.
+//! Files and devices for the tests of the other crates. No program uses it.
 //!
 //! [`sample_file`] puts the plain record after some bytes, with fields changed where a test says so.
-//! The [`rows`] are contents with what is expected of each. A [`Narrow`] device takes one byte a call
-//! and fails once it is full.
+//! A [`Narrow`] device takes one byte a call and fails from then on when it is full. A
+//! [`FailingOnce`] device fails at one call and works at all others.
 #![tactic(auto)]
 
+mod failing_once;
 mod file;
 mod narrow;
 pub mod rows;
 
+pub use failing_once::{FailingOnce, Failure};
 pub use file::sample_file;
 pub use narrow::Narrow;
 

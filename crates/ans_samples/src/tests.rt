@@ -1,7 +1,7 @@
-//! A sample file byte for byte, and a device until it is full.
+//! A sample file byte for byte, and devices until they fail.
 
-use crate::{Narrow, sample_file};
-use std::io::Write;
+use crate::{FailingOnce, Failure, Narrow, sample_file};
+use std::io::{Read, Write};
 use std::test::Fail;
 
 #[test]
@@ -32,4 +32,25 @@ fn a_narrow_device_fills_up(rt: HostRuntime) {
     assert_eq!(rt; device.write(b"bc").ok(), Some(1));
     assert!(rt; device.write(b"c").is_err());
     assert_eq!(rt; device.held(), b"ab".as_slice());
+}
+
+#[test]
+fn a_device_fails_at_one_call(rt: HostRuntime) {
+    for failure in [Failure::Error, Failure::Interruption, Failure::Nothing] {
+        let mut writer = FailingOnce::new(Narrow::new(4), 2, failure);
+        assert_eq!(rt; writer.write(b"a").ok(), Some(1));
+        assert_eq!(rt; writer.write(b"b").unwrap_or(0), 0);
+        assert_eq!(rt; writer.write(b"c").ok(), Some(1));
+        assert_eq!(rt; writer.device().held(), b"ac".as_slice());
+        assert_eq!(rt; writer.calls(), 3);
+        let input: &[u8] = b"ab";
+        let mut reader = FailingOnce::new(input, 2, failure);
+        let mut byte = [0; 1];
+        assert_eq!(rt; reader.read(&mut byte).ok(), Some(1));
+        assert_eq!(rt; reader.read(&mut byte).unwrap_or(0), 0);
+        assert_eq!(rt; byte, [b'a']);
+        assert_eq!(rt; reader.read(&mut byte).ok(), Some(1));
+        assert_eq!(rt; byte, [b'b']);
+        assert_eq!(rt; reader.calls(), 3);
+    }
 }
