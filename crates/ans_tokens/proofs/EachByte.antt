@@ -3,7 +3,7 @@ use Rattle.std.proofs.Common.{◌≡◌, ◌≢◌, ◌⊎◌, inl, inr, ℕ, �
 use Rattle.std.proofs.Common.{refl, sym, ap, arith, subst, Result, Ok, Err}
 use Rattle.std.proofs.lemmas.Bool.{cases_eq, cases_lt}
 use Rattle.std.specs.Char.{is_ascii_digit, is_ascii_alphabetic}
-use Rattle.ans_model.specs.Bytes.{IsByte, escape, bracket, semicolon}
+use Rattle.ans_model.specs.Bytes.{IsByte, escape, bracket, semicolon, largest_number, most_parameters}
 use Rattle.ans_model.specs.Sequence.TokenKind.{TokenKind}
 use Rattle.ans_model.specs.declared.fault.Cause.{Cause}
 use Rattle.ans_model.specs.declared.fault.Cause.TheVariants.{BrokenSequence, NumberTooLarge, TooManyParameters}
@@ -16,6 +16,7 @@ use Rattle.ans_model.specs.Inside.OpenPart.{SpellsPart}
 use Rattle.ans_model.specs.Inside.OpenPart.{lacks, raw_of, is_stop}
 use Rattle.ans_model.specs.Verdict.FirstFault.{IsWhy, IsRefused}
 use Rattle.ans_model.proofs.AfterPart.{refuses_byte, IsUnmarkedThere, part_unfinished}
+use Rattle.ans_tokens.specs.ScannerView.{Kept, Nothing, Escape, Sequence, Keeps}
 use Rattle.ans_tokens.specs.Unfinished.{empty_part, with_next}
 use Rattle.ans_tokens.proofs.ScannerSteps.{extend, more_digits, more_text, closed_text, next_member, letter_spells}
 use Rattle.ans_tokens.proofs.ScannerSteps.{too_many, too_large, marked, fresh_digit, fresh_quote, mark_not, stop_not}
@@ -25,6 +26,12 @@ use Rattle.ans_tokens.proofs.OpenLemmas.{empty_part_spells, escape_refused, esca
 -- an open part: nothing, ESC, or a part of a sequence
 abbrev pub IsOpen : List ℕ → Type 0
 IsOpen y = (y ≡ []) ⊎ (y ≡ escape ∷ []) ⊎ ((part : Part) × SpellsPart part y)
+
+-- what a scanner keeps is of an open part
+pub kept_open : (kept : Kept) (y : List ℕ) → Keeps kept y → IsOpen y
+kept_open Nothing y e = inl e
+kept_open Escape y e = inr (inl e)
+kept_open (Sequence mark numbers quoted current) y (part, kept, spelled) = inr (inr (part, spelled))
 
 -- what is open is nothing, or an unfinished sequence
 pub open_ends : (y : List ℕ) → IsOpen y → (y ≡ []) ⊎ IsUnfinished y
@@ -56,7 +63,7 @@ module _ (p : Part) (y : List ℕ) (b : ℕ) (byte : IsByte b) (h : SpellsPart p
       is_broken BrokenSequence (not_loose_not_spelled (y ++ b ∷ []) none) (inl (none, refl))
 
   semicolon_comes : lacks p.current ≡ [] → b ≡ semicolon → IsNext (y ++ b ∷ [])
-  semicolon_comes whole e = elim (cases_lt (length p.done) 15) [
+  semicolon_comes whole e = elim (cases_lt (length p.done + 1) most_parameters) [
     | inl few ↦ stays (y ++ b ∷ []) (with_next p) (rw e (next_member p y h whole few))
     | inr full ↦
         let t = too_many p y h whole full in
@@ -95,7 +102,7 @@ module _ (p : Part) (y : List ℕ) (b : ℕ) (byte : IsByte b) (h : SpellsPart p
   in_number n c true digit =
       let last : SpellsCurrent (InNumber n) h.loose.last = rw c at h.loose.current in
       let next : ℕ = n * 10 + (b - 48) in
-      elim (cases_lt 255 next) [
+      elim (cases_lt largest_number next) [
         | inl large ↦
             let t = too_large p y n b h c digit large in
             is_broken NumberTooLarge t.0 (inr (inl (t.1, digit, refl)))

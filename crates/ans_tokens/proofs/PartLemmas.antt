@@ -12,8 +12,7 @@ use Rattle.ans_model.specs.declared.fault.Cause.{Cause}
 use Rattle.ans_model.specs.declared.kind.Kind.{Kind}
 use Rattle.ans_model.specs.Sequence.TokenKind.{TokenKind}
 use Rattle.ans_tokens.specs.declared.unfinished.Unfinished.{Unfinished}
-use Rattle.ans_tokens.specs.declared.unfinished.Current as code
-use Rattle.ans_tokens.specs.ScannerView.{KeepsCurrent, KeepsPart}
+use Rattle.ans_tokens.specs.ScannerView.{KeptMember, KeepsCurrent, KeepsPart}
 use Rattle.ans_tokens.specs.Mark.{mark_of}
 use Rattle.ans_tokens.specs.PlainSequence.{Means, plain_sequence}
 use Rattle.ans_tokens.specs.Unfinished.{IsStateOf, IsWhole}
@@ -61,10 +60,10 @@ means_same meant other (Ok kind) e h = e ∙ h
 means_same meant other (Err cause) e h = e ∙ h
 
 -- what is kept of a part with this of its current member
-pub keeps_current : (held : Unfinished) (part : Part) (current : code.Current) (c : Current) → IsStateOf held part
-    → KeepsCurrent current c
-    → KeepsPart (mark_of held.mark) held.done.items held.quoted current (with_current part c)
-keeps_current held part current c state keeps = record {
+pub keeps_current : (held : Unfinished) (part : Part) (kept : KeptMember) (c : Current) → IsStateOf held part
+    → KeepsCurrent kept c
+    → KeepsPart (mark_of held.mark) held.done.items held.quoted kept (with_current part c)
+keeps_current held part kept c state keeps = record {
   mark_is = state.mark_is;
   numbers_are = state.numbers_are;
   quoted_is = state.quoted_is;

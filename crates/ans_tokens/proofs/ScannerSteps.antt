@@ -6,7 +6,7 @@ use Rattle.std.proofs.lemmas.List.{append-nil}
 use Rattle.std.proofs.lemmas.Int.Digits.{digits_value_push}
 use Rattle.std.specs.Char.{is_ascii_digit, is_ascii_alphabetic, digit_value}
 use Rattle.std.specs.Str.Parse.{digits_value}
-use Rattle.ans_model.specs.Bytes.{escape, bracket, semicolon}
+use Rattle.ans_model.specs.Bytes.{escape, bracket, semicolon, largest_number, most_parameters}
 use Rattle.ans_model.specs.Sequence.Spelling.{Mark, Unmarked, is_quote, mark_bytes, SpellsMember, Spells}
 use Rattle.ans_model.specs.Sequence.Spelling.{IsPrefixOfLoose}
 use Rattle.ans_model.specs.Sequence.Spelling.{IsPrefixOfSpelling}
@@ -89,10 +89,10 @@ fresh_quote p y b h c q =
 
 -- a digit that makes the number too large
 pub too_large : (p : Part) (y : List ℕ) (k b : ℕ) → SpellsPart p y → p.current ≡ InNumber k → is_ascii_digit b ≡ true
-    → 255 < k * 10 + (b - 48) → ¬ IsPrefixOfSpelling (y ++ b ∷ []) × IsPrefixOfLoose (y ++ b ∷ [])
+    → largest_number < k * 10 + (b - 48) → ¬ IsPrefixOfSpelling (y ++ b ∷ []) × IsPrefixOfLoose (y ++ b ∷ [])
 too_large p y k b h c d large =
     let last : SpellsCurrent (InNumber k) h.loose.last = rw c at h.loose.current in
-    let more : 255 < digits_value 10 (h.loose.last ++ b ∷ []) = rw (value_of_more k b h.loose.last last d) large in
+    let more : largest_number < digits_value 10 (h.loose.last ++ b ∷ []) = rw (value_of_more k b h.loose.last last d) large in
     let next : Current = InNumber (k * 10 + (b - 48)) in (
       refuses_number p y k b h.loose c d more,
       part_loose (with_current p next) (y ++ b ∷ [])
@@ -117,7 +117,8 @@ next_member_loose p y h l =
           ∙ ap (λ (v : List ℕ). escape ∷ bracket ∷ (mark_bytes p.mark ++ v)) (sym (append-nil done));
     }
 
-pub next_member : (p : Part) (y : List ℕ) → SpellsPart p y → lacks p.current ≡ [] → length p.done < 15
+pub next_member : (p : Part) (y : List ℕ) → SpellsPart p y → lacks p.current ≡ []
+    → length p.done + 1 < most_parameters
     → SpellsPart (with_next p) (y ++ semicolon ∷ [])
 next_member p y h l few = record {
   loose = next_member_loose p y h.loose l;
@@ -127,10 +128,11 @@ next_member p y h l few = record {
 }
 
 -- a `;` after the sixteenth member
-pub too_many : (p : Part) (y : List ℕ) → SpellsPart p y → lacks p.current ≡ [] → 15 ≤ length p.done
+pub too_many : (p : Part) (y : List ℕ) → SpellsPart p y → lacks p.current ≡ []
+    → most_parameters ≤ length p.done + 1
     → ¬ IsPrefixOfSpelling (y ++ semicolon ∷ []) × IsPrefixOfLoose (y ++ semicolon ∷ [])
 too_many p y h l full =
-    let room : length p.done < 16 = h.room in (
+    let room : length p.done < most_parameters = h.room in (
       refuses_count p y (member_of p.current) h.loose (whole_member p y h.loose l) (omega arith),
       part_loose (with_next p) (y ++ semicolon ∷ []) (next_member_loose p y h.loose l),
     )

@@ -13,25 +13,31 @@ use Rattle.ans_model.specs.Inside.OpenPart as parts
 use Rattle.ans_model.specs.Inside.OpenPart.{Part, SpellsPart}
 use Rattle.ans_tokens.specs.Token.{kind_of, start_of, length_of}
 use Rattle.ans_tokens.specs.declared.token.Token.{Token}
-use Rattle.ans_tokens.specs.declared.unfinished.Current.{Current}
-use Rattle.ans_tokens.specs.declared.unfinished.Current.TheVariants.{Fresh, InNumber, InString, AfterString}
+
+-- What is kept of the current member: that there is nothing of it yet, the number that its digits make, the quote that
+-- ends its string, or that its string has ended.
+pub data KeptMember : Type 0 where
+  Fresh : KeptMember
+  InNumber : (value : ℕ) → KeptMember
+  InString : (quote : ℕ) → KeptMember
+  AfterString : KeptMember
 
 -- What is kept of the open part: nothing, that it is ESC, or of a sequence its mark, a number for each member that is
 -- done, whether a string was among them, and what there is of the current member.
 pub data Kept : Type 0 where
   Nothing : Kept
   Escape : Kept
-  Sequence : (mark : Mark) (numbers : List ℕ) (quoted : Bool) (current : Current) → Kept
+  Sequence : (mark : Mark) (numbers : List ℕ) (quoted : Bool) (current : KeptMember) → Kept
 
--- what is kept of the current member: all but the text of a string
-abbrev pub KeepsCurrent : Current → parts.Current → Type 0
+-- this is kept of the current member: all but the text of a string
+abbrev pub KeepsCurrent : KeptMember → parts.Current → Type 0
 KeepsCurrent Fresh c = c ≡ parts.Fresh
 KeepsCurrent (InNumber n) c = c ≡ parts.InNumber n
 KeepsCurrent (InString quote) c = (text : List ℕ) × (c ≡ parts.InString quote text)
 KeepsCurrent AfterString c = (quote : ℕ) × (text : List ℕ) × (c ≡ parts.AfterString quote text)
 
 -- what is kept of a part of a sequence
-pub record KeepsPart (mark : Mark) (numbers : List ℕ) (quoted : Bool) (current : Current) (part : Part) : Type 0 where
+pub record KeepsPart (mark : Mark) (numbers : List ℕ) (quoted : Bool) (current : KeptMember) (part : Part) : Type 0 where
   pub mark_is : part.mark ≡ mark
   pub numbers_are : map colour_number part.done ≡ numbers
   pub quoted_is : list_any is_quoted part.done ≡ quoted

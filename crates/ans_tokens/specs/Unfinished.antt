@@ -5,13 +5,14 @@ use Rattle.ans_model.specs.Inside.OpenPart.{Part, Fresh, SpellsPart, lacks, memb
 use Rattle.ans_model.specs.Verdict.FirstFault.{IsWhy}
 use Rattle.ans_tokens.specs.Mark.{mark_of, is_mark_byte}
 use Rattle.ans_tokens.specs.ScannerView.{KeepsPart}
+use Rattle.ans_tokens.specs.KeptMember.{kept_member}
 use Rattle.ans_tokens.specs.declared.unfinished.Step.{Step}
 use Rattle.ans_tokens.specs.declared.unfinished.Step.TheVariants.{More, Letter, Refused}
 use Rattle.ans_tokens.specs.declared.unfinished.Unfinished.{Unfinished}
 
 -- this is the state of the part
 abbrev pub IsStateOf : Unfinished → Part → Type 0
-IsStateOf held part = KeepsPart (mark_of held.mark) held.done.items held.quoted held.current part
+IsStateOf held part = KeepsPart (mark_of held.mark) held.done.items held.quoted (kept_member held.current) part
 
 -- directly after `[`
 abbrev pub empty_part : Part

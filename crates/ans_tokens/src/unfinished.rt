@@ -31,10 +31,11 @@ impl Current {
     ghost use Rattle.ans_model.specs.Inside.OpenPart.{member_of};
     ghost use Rattle.ans_model.specs.Sequence.Meaning.{colour_number, is_quoted};
     ghost use Rattle.ans_tokens.specs.ScannerView.{KeepsCurrent};
+    ghost use Rattle.ans_tokens.specs.KeptMember.{kept_member};
 
     /// Whether there is nothing of the member yet.
     fn is_fresh(self) -> bool
-        ensures { (current : parts.Current) → KeepsCurrent self current
+        ensures { (current : parts.Current) → KeepsCurrent (kept_member self) current
             → (IsTrue result ↔ (current ≡ parts.Fresh)) }
     {
         matches!(self, Current::Fresh)
@@ -42,7 +43,7 @@ impl Current {
 
     /// Whether the member is a string.
     fn is_string(self) -> bool
-        ensures { (current : parts.Current) → KeepsCurrent self current
+        ensures { (current : parts.Current) → KeepsCurrent (kept_member self) current
             → result ≡ is_quoted (member_of current) }
     {
         matches!(self, Current::InString(_) | Current::AfterString)
@@ -50,7 +51,7 @@ impl Current {
 
     /// The number that stands for the member.
     fn number(self) -> u8
-        ensures { (current : parts.Current) → KeepsCurrent self current
+        ensures { (current : parts.Current) → KeepsCurrent (kept_member self) current
             → result ≡ colour_number (member_of current) }
     {
         match self {

@@ -7,6 +7,7 @@ use Rattle.ans_model.specs.Inside.OpenPart.{Current, Fresh, InNumber, InString, 
 use Rattle.ans_model.proofs.AfterPart.{refuses_byte}
 use Rattle.ans_tokens.specs.Mark.{mark_of}
 use Rattle.ans_tokens.specs.ScannerView.{KeepsCurrent}
+use Rattle.ans_tokens.specs.KeptMember.{kept_member}
 use Rattle.ans_tokens.proofs.ScannerSteps.{with_current, fresh_digit, fresh_quote, quote_is, quote_not, marked}
 use Rattle.ans_tokens.proofs.PartLemmas.{keeps_current}
 use Rattle.ans_tokens.proofs.unfinished.Unfinished.begin.Goals as goal
@@ -39,7 +40,8 @@ returns-in-Some c part y state spelled =
         mark_is = refl;
         numbers_are = ap (map colour_number) (sym at.1) ∙ state.numbers_are;
         quoted_is = ap (list_any is_quoted) (sym at.1) ∙ state.quoted_is;
-        current_is = subst (λ (v : Current). KeepsCurrent c.args.self.now.current v) fresh state.current_is;
+        current_is =
+            subst (λ (v : Current). KeepsCurrent (kept_member c.args.self.now.current) v) fresh state.current_is;
       },
       marked part y (mark_of c.in-Some.mark) c.args.byte spelled at.0 at.1 fresh at.2,
     )
