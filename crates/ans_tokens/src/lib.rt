@@ -7,6 +7,7 @@
 #![tactic(auto)]
 
 mod glyphs;
+pub mod laws;
 mod mark;
 mod meaning;
 mod scanner;

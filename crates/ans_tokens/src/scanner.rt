@@ -104,16 +104,15 @@ pub struct Scanner {
 }
 
 impl Model for Scanner {
-    ghost use Rattle.std.specs.Prelude.{◌≤◌};
     ghost use Rattle.ans_tokens.specs.ScannerView.{ScannerView};
 
     ghost Value = { ScannerView };
 
-    ghost use Rattle.ans_tokens.specs.ScannerInside.{shown_scanner};
+    ghost use Rattle.ans_tokens.specs.ScannerInside.{shown_scanner, IsWithin};
 
     ghost view = { shown_scanner };
 
-    ghost invariant = { λ s. s.open_offset ≤ s.offset };
+    ghost invariant = { λ s. IsWithin (shown_scanner s) };
 }
 
 impl Scanner {
@@ -158,6 +157,7 @@ impl Scanner {
         ensures accepted { OnOk result (self.new.fault ≡ None) }
         ensures refused { IfErr result (λ fault. self.new.fault ≡ Some fault) }
         ensures stays { OnErr result (self.new.offset ≡ self.old.offset) }
+        ensures within { IfErr result (λ fault. fault.offset ≤ self.old.offset) }
         ensures repeats { IfSome self.old.fault (λ fault. IsErrOf result fault) }
     {
         if let Some(fault) = self.fault {
@@ -217,6 +217,7 @@ impl Scanner {
     /// the start of a sequence that is not finished. It changes nothing.
     pub fn end(&self) -> Result<(), Fault>
         ensures ends { self.now.fault ≡ None → Ends self.now result }
+        ensures within { IfErr result (λ fault. fault.offset ≤ self.now.offset) }
         ensures repeats { IfSome self.now.fault (λ fault. IsErrOf result fault) }
     {
         if let Some(fault) = self.fault {
