@@ -1,14 +1,15 @@
-//! The tables of texts by example, and each writer on a device that takes one byte a call and fails
-//! once it is full.
+//! The tables of texts by example, and each writer on a device that takes one byte a call, also one
+//! of which a call fails.
 ghost use Rattle.std.specs.Prelude.{◌≡◌, false};
 ghost use Rattle.ans_report.specs.Tried.{has_failed};
 
+mod devices;
 mod records;
 mod tokens;
 mod written_reports;
 
 use crate::{Tried, fault_text, glyph_text, note_text};
-use ans_samples::Narrow;
+use ans_samples::{FailingOnce, Failure, Narrow};
 use ans_sauce::{Cause, Fault, Note};
 use std::process::Abort;
 
@@ -22,6 +23,29 @@ fn room_for(room: usize) -> Tried<Narrow>
 fn assert_held(rt: &impl Abort, device: Tried<Narrow>, text: &[u8]) {
     let device = device.into_inner();
     assert_eq!(rt; device.held(), text);
+}
+
+/// The ways in which a write fails.
+const FAILURES: [Failure; 3] = [Failure::Error, Failure::Interruption, Failure::Nothing];
+
+/// A device that takes one byte a call. After this many it fails once, in each of the ways in turn,
+/// and would then take more.
+fn failing_after(taken: usize) -> Tried<FailingOnce<Narrow>>
+    ensures { has_failed result ≡ false }
+{
+    let failing_call = (taken as u64).saturating_add(1);
+    let failure = FAILURES[taken % FAILURES.len()];
+    Tried::new(FailingOnce::new(Narrow::new(4096), failing_call, failure))
+}
+
+/// Asserts that a device took these bytes, one a call, then failed, and was not called again.
+fn assert_stopped(rt: &impl Abort, device: Tried<FailingOnce<Narrow>>, taken: &[u8]) {
+    assert!(rt; device.failed());
+    let calls = device.calls();
+    let inner = device.into_inner();
+    assert_eq!(rt; inner.device().held(), taken);
+    assert_eq!(rt; inner.calls(), (taken.len() as u64).saturating_add(1));
+    assert_eq!(rt; calls, inner.calls());
 }
 
 #[test]

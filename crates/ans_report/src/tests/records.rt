@@ -1,5 +1,5 @@
 //! A record, as it is written.
-use crate::tests::{assert_held, room_for};
+use crate::tests::{assert_held, assert_stopped, failing_after, room_for};
 use crate::{WriteFault, write_record};
 use ans_samples::sample_file;
 use ans_sauce::split;
@@ -29,10 +29,10 @@ fn a_record_is_written(rt: HostRuntime) -> Result<(), Fail> {
     let mut whole = room_for(256);
     assert_eq!(rt; write_record(&mut whole, &parts), Ok(()));
     assert_held(&rt, whole, SAMPLE_TEXT);
-    for room in 0..SAMPLE_TEXT.len() {
-        let mut narrow = room_for(room);
-        assert_eq!(rt; write_record(&mut narrow, &parts), Err(WriteFault));
-        assert_held(&rt, narrow, &SAMPLE_TEXT[..room]);
+    for taken in 0..SAMPLE_TEXT.len() {
+        let mut device = failing_after(taken);
+        assert_eq!(rt; write_record(&mut device, &parts), Err(WriteFault));
+        assert_stopped(&rt, device, &SAMPLE_TEXT[..taken]);
     }
     Ok(())
 }

@@ -1,7 +1,7 @@
 //! The tokens of contents, as they are written.
-use crate::tests::{assert_held, room_for};
+use crate::tests::{assert_held, assert_stopped, failing_after, room_for};
 use crate::{WriteFault, write_tokens};
-use ans_sauce::{Cause, Fault};
+use ans_sauce::{Cause, Fault, MAX_FILE};
 use std::process::Abort;
 use std::test::Fail;
 
@@ -101,17 +101,18 @@ static ROWS: [Row; 18] = [
     ),
 ];
 
-/// Asserts what is written of the content to a device that takes all, and to each that takes less.
+/// Asserts what is written of the content to a device that takes all, and to one that fails at each
+/// of the calls.
 fn expect_tokens(rt: &impl Abort, content: &[u8], text: &[u8], fault: Option<(usize, Cause)>) {
-    assert!(rt; content.len() <= 16_777_216);
+    assert!(rt; content.len() <= MAX_FILE);
     let fault = fault.map(|(offset, cause)| Fault { offset, cause });
     let mut whole = room_for(256);
     assert_eq!(rt; write_tokens(&mut whole, content), Ok(fault));
     assert_held(rt, whole, text);
-    for room in 0..text.len() {
-        let mut narrow = room_for(room);
-        assert_eq!(rt; write_tokens(&mut narrow, content), Err(WriteFault));
-        assert_held(rt, narrow, &text[..room]);
+    for taken in 0..text.len() {
+        let mut device = failing_after(taken);
+        assert_eq!(rt; write_tokens(&mut device, content), Err(WriteFault));
+        assert_stopped(rt, device, &text[..taken]);
     }
 }
 
@@ -149,9 +150,12 @@ fn a_failed_device_is_not_called_again(rt: HostRuntime) -> Result<(), Fail> {
     for _ in 0..2000u32 {
         bells.push(0x07)?;
     }
-    assert!(rt; bells.len() <= 16_777_216);
-    let mut full = room_for(0);
-    assert_eq!(rt; write_tokens(&mut full, bells.as_slice()), Err(WriteFault));
-    assert_eq!(rt; full.calls(), 1);
+    assert!(rt; bells.len() <= MAX_FILE);
+    let mut device = failing_after(0);
+    assert_eq!(rt;
+        write_tokens(&mut device, bells.as_slice()),
+        Err(WriteFault)
+    );
+    assert_stopped(&rt, device, b"");
     Ok(())
 }

@@ -1,12 +1,13 @@
 //! Reports on files, as they are written.
-use crate::tests::{assert_held, room_for};
+use crate::tests::{assert_held, assert_stopped, failing_after, room_for};
 use crate::{Report, Tried, WriteFault, write_refusal, write_report};
 use ans_model::start::Start;
 use ans_play::{Picture, Player};
-use ans_samples::{Narrow, sample_file};
+use ans_samples::sample_file;
 use ans_sauce::{Cause, Fault, Parts, split};
 use ans_screen::PlainGrid;
 use std::alloc::{AllocError, Global};
+use std::io::Write;
 use std::process::Abort;
 use std::test::Fail;
 
@@ -20,9 +21,9 @@ fn file_of(rt: &impl Abort, alloc: Global, content: &[u8]) -> Result<Vec<u8>, Al
 }
 
 /// Writes the report of how a play ended.
-fn write_end(
+fn write_end<W: Write>(
     rt: &impl Abort,
-    device: &mut Tried<Narrow>,
+    device: &mut Tried<W>,
     parts: &Parts<'_>,
     start: Start,
     end: &Result<Picture<PlainGrid>, Fault>,
@@ -49,7 +50,7 @@ fn write_end(
 }
 
 /// Asserts what is written of the content on 2 columns and 1 line to a device that takes all, and to
-/// each that takes less.
+/// one that fails at each of the calls.
 fn expect_report(
     rt: &impl Abort,
     alloc: Global,
@@ -75,11 +76,11 @@ fn expect_report(
         Ok(())
     );
     assert_held(rt, whole, text);
-    for room in 0..text.len() {
-        let mut narrow = room_for(room);
-        let written = write_end(rt, &mut narrow, &parts, start, &end, cells);
+    for taken in 0..text.len() {
+        let mut device = failing_after(taken);
+        let written = write_end(rt, &mut device, &parts, start, &end, cells);
         assert_eq!(rt; written, Err(WriteFault));
-        assert_held(rt, narrow, &text[..room]);
+        assert_stopped(rt, device, &text[..taken]);
     }
     Ok(())
 }
@@ -165,9 +166,9 @@ fn a_refusal_without_parts_is_two_lines(rt: HostRuntime) {
     let mut alone = room_for(256);
     assert_eq!(rt; write_refusal(&mut alone, &fault), Ok(()));
     assert_held(&rt, alone, text);
-    for room in 0..text.len() {
-        let mut narrow = room_for(room);
-        assert_eq!(rt; write_refusal(&mut narrow, &fault), Err(WriteFault));
-        assert_held(&rt, narrow, &text[..room]);
+    for taken in 0..text.len() {
+        let mut device = failing_after(taken);
+        assert_eq!(rt; write_refusal(&mut device, &fault), Err(WriteFault));
+        assert_stopped(&rt, device, &text[..taken]);
     }
 }
