@@ -18,7 +18,7 @@ use Rattle.clap.specs.declared.parser.matches.ArgMatches.TheViews.{out-ArgMatche
 use Rattle.clap.specs.declared.parser.matches.SubCommand.{SubCommand}
 use Rattle.std.proofs.Common.{inl, inr, ◌⊎◌}
 use Rattle.clap.specs.Walk.{answers_to, stop_after}
-use Rattle.clap.specs.Simple.{built, entered, label_of, rows_at, names_of, argument_words}
+use Rattle.clap.specs.Simple.{argument_words, built, entered, label_of, names_of, rows_at}
 use Rattle.ans_check.specs.declared.command.Command.TheVariants.{Check, Sauce, Tokens}
 use Rattle.std.specs.Prelude.{IsErrAnd, IfErr}
 use Rattle.std.proofs.Common.{subst, ◌&&◌, not}
@@ -27,9 +27,9 @@ use Rattle.clap.specs.Words.{app_of, IsParsedFrom}
 use Rattle.clap.proofs.CallerLemmas.{subcommand_required}
 use Rattle.clap.proofs.TakesLemmas.{some_rows}
 use Rattle.ans_check.specs.declared.command.Options.{Options}
-use Rattle.ans_check.specs.CommandLine.{holds_flag, anscheck, IsCommand, AsksFor}
+use Rattle.ans_check.specs.CommandLine.{AsksFor, IsCommand, anscheck, holds_flag}
 
-not_true : (b : Bool) → (b ≡ true → ⊥) → b ≡ false
+pub not_true : (b : Bool) → (b ≡ true → ⊥) → b ≡ false
 not_true true h = absurd (h refl)
 not_true false h = refl
 
@@ -73,45 +73,55 @@ rows_met m name rows named kept = go (out-ArgMatches m).subcommand named kept
     go None e f = cc
     go (Some b) e f = cc
 
--- a shape of the list has this name
-abbrev NamedIn : Text → List Shape → Type 0
-NamedIn name [] = ⊥
-NamedIn name (s ∷ xs) = (s.name ≡ name) ⊎ NamedIn name xs
+-- the subcommand is one of the list's shapes, with the rows that these words give it
+abbrev pub MetIn : Text × List Row → List Text → List Shape → Type 0
+MetIn met w [] = ⊥
+MetIn met w (s ∷ xs) = (rows_at s w ≡ met) ⊎ MetIn met w xs
 
 some_same : {X : Type 0} {x y : X} → Some x ≡ Some y → x ≡ y
 some_same {X} {x} {y} h = ap (λ o. unwrap_or o x) h
 
-found_named : (w : List Text) (f : Shape → Bool) (xs : List Shape) (name : Text) (rows : List Row)
-    → option_map (λ s. rows_at s w) (find f xs) ≡ Some (name, rows) → NamedIn name xs
-found_named w f [] name rows e = cc
-found_named w f (s ∷ xs) name rows e = go (f s) refl (found_named w f xs name rows)
+found_met : (w : List Text) (f : Shape → Bool) (xs : List Shape) (met : Text × List Row)
+    → option_map (λ s. rows_at s w) (find f xs) ≡ Some met → MetIn met w xs
+found_met w f [] met e = cc
+found_met w f (s ∷ xs) met e = go (f s) refl (found_met w f xs met)
   where
-    go : (b : Bool) → f s ≡ b
-        → (option_map (λ t. rows_at t w) (find f xs) ≡ Some (name, rows) → NamedIn name xs) → NamedIn name (s ∷ xs)
+    go : (b : Bool) → f s ≡ b → (option_map (λ t. rows_at t w) (find f xs) ≡ Some met → MetIn met w xs)
+        → MetIn met w (s ∷ xs)
     go true is rest =
-        let h : Some (rows_at s w) ≡ Some (name, rows) = rw is at e in
-        inl (ap (λ (p : Text × List Row). p.0) (some_same h))
+        let h : Some (rows_at s w) ≡ Some met = rw is at e in
+        inl (some_same h)
     go false is rest =
-        let h : option_map (λ t. rows_at t w) (find f xs) ≡ Some (name, rows) = rw is at e in
+        let h : option_map (λ t. rows_at t w) (find f xs) ≡ Some met = rw is at e in
         inr (rest h)
 
-entered_named : (a : App) (stop : Option (Text × List Text)) (name : Text) (rows : List Row)
-    → entered a stop ≡ Some (name, rows) → NamedIn name a.subs
-entered_named a None name rows e = cc
-entered_named a (Some p) name rows e = found_named p.1 (λ s. answers_to p.0 (label_of s)) a.subs name rows e
+entered_met : (a : App) (stop : Option (Text × List Text)) (met : Text × List Row) → entered a stop ≡ Some met
+    → (w : List Text) × MetIn met w a.subs
+entered_met a None met e = cc
+entered_met a (Some p) met e = (p.1, found_met p.1 (λ s. answers_to p.0 (label_of s)) a.subs met e)
+
+-- the subcommand that the words name is one of the program's three
+pub program_met : (words : List Text) (met : Text × List Row) → subcommand_of anscheck words ≡ Some met
+    → (w : List Text) × MetIn met w (built anscheck).subs
+program_met words met e =
+    entered_met (built anscheck) (stop_after (built anscheck).top.rules (names_of (built anscheck))
+    (argument_words anscheck words)) met e
+
+-- the name of a subcommand that was met
+pub name_met : {met other : Text × List Row} → other ≡ met → met.0 ≡ other.0
+name_met e = ap (λ (q : Text × List Row). q.0) (sym e)
 
 -- the subcommand that the program finds is one of its commands
 pub command_found : (words : List Text) (sub : Option (Text × List Row)) → subcommand_of anscheck words ≡ sub
     → IsSome sub → IsSomeAnd sub IsCommand
 command_found words None e some = cc
 command_found words (Some p) e some =
-    elim (entered_named (built anscheck) (stop_after (built anscheck).top.rules (names_of (built anscheck))
-    (argument_words anscheck words)) p.0 p.1 e) [
-      | inl check ↦ (Check, sym check)
+    elim ((program_met words p e).1) [
+      | inl check ↦ (Check, name_met check)
       | inr others ↦ elim others [
-        | inl sauce ↦ (Sauce, sym sauce)
+        | inl sauce ↦ (Sauce, name_met sauce)
         | inr last ↦ elim last [
-          | inl tokens ↦ (Tokens, sym tokens)
+          | inl tokens ↦ (Tokens, name_met tokens)
           | inr never ↦ absurd never
         ]
       ]

@@ -1,4 +1,5 @@
 pub mod Run
 pub mod CommandLine
+pub mod Ending
 pub mod FileVerdict
 pub mod CommandText

@@ -1,13 +1,16 @@
 //! The command line, and the options that its words give.
 ghost use Rattle.std.specs.Prelude.{◌≡◌, true, IfOk, option_map, string_bytes, codes, IfSome, IfNone, IfErr};
-ghost use Rattle.std.specs.Prelude.{IsSomeAnd, IsTrue, ◌↔◌};
+ghost use Rattle.std.specs.Prelude.{IsSomeAnd, IsTrue, ◌↔◌, ◌≢◌, false};
 ghost use Rattle.clap.specs.Words.{app_of, first_of, found_of, rows_of, subcommand_rows_of, takes};
 ghost use Rattle.ans_check.specs.CommandLine.{AreOptionsOf, AsksFor, IsCommand, IsNoCommand, RanOutOfMemory};
 ghost use Rattle.ans_check.specs.CommandLine.{anscheck, check_app, command_name, file_app, holds_flag, texts_of};
+ghost use Rattle.ans_check.specs.Ending.{ending_of_words};
 ghost use Rattle.ans_check.specs.declared.command_line.WordsError.TheVariants.{Clap};
 
 use crate::command::{Command, Options};
+use crate::exit_status::Ending;
 use ans_model::start::Start;
+use clap::error::ErrorKind;
 use clap::{Arg, ArgAction, ArgMatches};
 use std::alloc::{AllocError, Global};
 
@@ -18,6 +21,23 @@ pub enum WordsError {
     Clap(clap::Error),
     /// Memory ran out for the file's name.
     Memory,
+}
+
+impl WordsError {
+    /// How the program ends: with `clap`'s text, on standard output where help was asked for and on
+    /// standard error where the words are rejected; or without it where memory ran out.
+    pub fn ending(&self) -> Ending
+        ensures { result ≡ ending_of_words self.now }
+    {
+        let WordsError::Clap(error) = self else {
+            return Ending::UnreadableWords;
+        };
+        match error.kind() {
+            ErrorKind::DisplayHelp | ErrorKind::DisplayVersion => Ending::Help,
+            ErrorKind::OutOfMemory => Ending::UnreadableWords,
+            _ => Ending::Usage,
+        }
+    }
 }
 
 impl From<clap::Error> for WordsError {
@@ -172,13 +192,15 @@ fn read_matches(
 
 /// Reads the options and the file from the program's words, its own name first:
 /// `anscheck check [--cleared] [--cells] [FILE]`, `anscheck sauce [FILE]` or `anscheck tokens
-/// [FILE]`. Without `--cleared` the start is any, and without `--cells` no cells are asked for; the
-/// same holds for `sauce` and `tokens`, which take no flags.
+/// [FILE]`. Without `--cleared` the start is any, and without `--cells` no cells are asked for; so it
+/// is with `sauce` and `tokens`, which take no flags.
 ///
 /// Fails only where `clap` rejects the words, where they ask for help, and where memory runs out.
 pub fn options(alloc: Global, words: &[&str]) -> Result<(Options, Option<String>), WordsError>
     ensures ok { IfOk result (λ r.
         AreOptionsOf (texts_of words.now) r.0 (option_map string_bytes r.1)) }
+    ensures flagless { IfOk result (λ r. r.0.command ≢ Command.Check
+        → (r.0.start ≡ Start.Any) × (r.0.cells ≡ false)) }
     ensures refuses { IfErr result (λ e.
         takes anscheck (texts_of words.now) ≡ true → RanOutOfMemory e) }
 {

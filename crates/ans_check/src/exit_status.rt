@@ -1,13 +1,13 @@
-//! The exit status of the program.
+//! How the program ends: its exit status, and what it says on standard error.
 
-ghost use Rattle.std.specs.Prelude.{◌≡◌};
+ghost use Rattle.std.specs.Prelude.{◌≡◌, option_map};
+ghost use Rattle.ans_check.specs.Ending.{ending_message, ending_status};
 ghost use Rattle.ans_check.specs.Run.{status_of};
 
 use crate::errors::RunError;
 
 /// The exit status of what a run returned: 0 where the file passes, 1 where it is refused, and 2
-/// where there is no answer. What the program itself may fail at before and after a run, its words,
-/// its file and its output, also has status 2; help that was asked for and printed has 0.
+/// where there is no answer.
 pub fn status(answer: &Result<bool, RunError>) -> u8
     ensures { result ≡ status_of answer.now }
 {
@@ -15,5 +15,46 @@ pub fn status(answer: &Result<bool, RunError>) -> u8
         Ok(true) => 0,
         Ok(false) => 1,
         Err(_) => 2,
+    }
+}
+
+/// How the program ends.
+#[derive(Debug, Clone, Copy, PartialEq, Eq)]
+pub enum Ending {
+    /// A run has returned this.
+    Run(Result<bool, RunError>),
+    /// Help was asked for: `clap`'s text goes to standard output.
+    Help,
+    /// The words are rejected: `clap`'s text goes to standard error.
+    Usage,
+    /// The command line cannot be read: a word is not text, or memory ran out.
+    UnreadableWords,
+    /// The file that the words name cannot be opened.
+    UnopenedFile,
+}
+
+impl Ending {
+    /// The exit status: that of the run, 0 for help, and 2 where no run began.
+    pub fn status(&self) -> u8
+        ensures { result ≡ ending_status self.now }
+    {
+        match self {
+            Ending::Run(answer) => status(answer),
+            Ending::Help => 0,
+            Ending::Usage | Ending::UnreadableWords | Ending::UnopenedFile => 2,
+        }
+    }
+
+    /// Why there is no answer, for standard error after `anscheck: `. There is none where the file
+    /// has an answer, and none where `clap`'s text says it.
+    pub fn message(&self) -> Option<&'static str>
+        ensures { option_map (λ text. text.now) result ≡ ending_message self.now }
+    {
+        match self {
+            Ending::Run(Err(error)) => Some(error.text()),
+            Ending::Run(Ok(_)) | Ending::Help | Ending::Usage => None,
+            Ending::UnreadableWords => Some("cannot read the command line"),
+            Ending::UnopenedFile => Some("cannot open the file"),
+        }
     }
 }

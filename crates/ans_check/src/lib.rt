@@ -1,9 +1,10 @@
 //! The checker from bytes to bytes, and what its command line asks for.
 //!
 //! [`check`] finds the verdict on a file, [`run`] reads a file and writes what a command tells of
-//! it, [`options`] reads the command line, and [`status`] gives the exit status. What a verdict says
-//! of a file stands in `specs/FileVerdict.antt`, what each command writes in
-//! `specs/CommandText.antt`.
+//! it, and [`serve`] does so from an input to an output. [`options`] reads the command line, and
+//! [`Ending`] is how the program ends: its exit status and what it says. What a verdict says of a
+//! file stands in `specs/FileVerdict.antt`, what each command writes in `specs/CommandText.antt`, and
+//! the endings in `specs/Ending.antt`.
 #![tactic(auto)]
 
 mod command;
@@ -13,14 +14,16 @@ mod exit_status;
 pub mod laws;
 mod pipeline;
 mod reading;
+mod streams;
 mod verdict;
 
 pub use ans_model::start::Start;
 pub use command::{Command, Options};
 pub use command_line::{WordsError, options};
 pub use errors::RunError;
-pub use exit_status::status;
+pub use exit_status::{Ending, status};
 pub use pipeline::run;
+pub use streams::serve;
 pub use verdict::{Verdict, check};
 
 #[cfg(test)]

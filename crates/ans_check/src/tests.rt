@@ -1,19 +1,22 @@
-//! Files, readers and writers from end to end. A call that ran out of memory is made again, so that
-//! each allocation can be refused in turn.
+//! Files, readers and writers from end to end. A call that met a refused allocation is made once
+//! more, and its answer is then insisted on; so each allocation can be refused in turn.
 ghost use Rattle.std.specs.Prelude.{◌≡◌, false};
 ghost use Rattle.ans_report.specs.Tried.{has_failed};
 
 mod command_line;
 mod devices;
+mod endings;
+mod large;
 mod records;
 mod reports;
 mod token_lists;
 mod verdicts;
 
-use crate::{Command, Options, RunError, Start, run, status};
+use crate::{Command, Options, RunError, Start, run};
 use ans_report::Tried;
 use ans_samples::{Narrow, sample_file};
 use std::alloc::AllocError;
+use std::io::Read;
 use std::process::Abort;
 
 /// A check from any start.
@@ -41,6 +44,10 @@ const TOKENS: Options = Options {
     start: Start::Any,
     cells: false,
 };
+
+/// The report of a check of `Hi` from the cleared screen.
+const HI_REPORT: &[u8] =
+    b"size: 2 x 1\nstart: cleared\ncontent: 2 bytes\nverdict: pass\npicture:\nHi\n";
 
 /// What stands before the record, and the plain record with these bytes changed.
 fn file_of(rt: &(impl Abort + AllocGlobal), front: &[u8], edits: &[(usize, &[u8])]) -> Vec<u8> {
@@ -78,23 +85,34 @@ fn room_for(room: usize) -> Tried<Narrow>
     Tried::new(Narrow::new(room))
 }
 
-/// What a run returns for a reader of these bytes and a device with this much room, and the device
-/// afterwards. Nothing is written where memory was refused.
-fn run_once(
+/// What became of a run.
+#[derive(Drop)]
+struct Ran<R> {
+    answer: Result<bool, RunError>,
+    reader: Tried<R>,
+    writer: Tried<Narrow>,
+}
+
+/// Runs on an input, and writes to a device with this much room. Nothing is written where memory was
+/// refused.
+fn run_once<R: Read + Copy + Drop>(
     rt: &(impl Abort + AllocGlobal),
-    file: &[u8],
+    input: R,
     options: &Options,
     room: usize,
-) -> (Result<bool, RunError>, Narrow) {
+) -> Ran<R> {
     for _ in 0..2 {
-        let mut reader = Tried::new(file);
+        let mut reader = Tried::new(input);
         let mut writer = room_for(room);
-        let passed = run(rt.alloc(), &mut reader, &mut writer, options);
-        let written = writer.into_inner();
-        if passed != Err(RunError::Memory) {
-            return (passed, written);
+        let answer = run(rt.alloc(), &mut reader, &mut writer, options);
+        if answer != Err(RunError::Memory) {
+            return Ran {
+                answer,
+                reader,
+                writer,
+            };
         }
-        assert!(rt; written.held().is_empty());
+        assert_eq!(rt; writer.calls(), 0);
     }
     panic!(rt; "memory was refused twice");
 }
@@ -108,26 +126,7 @@ fn expect_run(
     expected: Result<bool, RunError>,
     text: &[u8],
 ) {
-    let (passed, written) = run_once(rt, file, options, room);
-    assert!(rt; passed == expected);
-    assert_eq!(rt; written.held(), text);
-}
-
-#[test]
-fn answers_have_their_statuses_and_texts(rt: HostRuntime) {
-    assert_eq!(rt; status(&Ok(true)), 0);
-    assert_eq!(rt; status(&Ok(false)), 1);
-    let rows = [
-        (RunError::Read, "cannot read the file"),
-        (RunError::TooLong, "file above 16777216 bytes"),
-        (RunError::Memory, "out of memory"),
-        (RunError::Write, "cannot write the report"),
-    ];
-    for (error, text) in rows {
-        assert_eq!(rt; status(&Err(error)), 2);
-        assert_eq!(rt; error.text(), text);
-        if let Ok(shown) = format!(in rt.alloc(); "{error}") {
-            assert_eq!(rt; shown.as_str(), text);
-        }
-    }
+    let ran = run_once(rt, file, options, room);
+    assert!(rt; ran.answer == expected);
+    assert_eq!(rt; ran.writer.inner().held(), text);
 }

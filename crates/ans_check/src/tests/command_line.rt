@@ -1,6 +1,9 @@
 //! The options that words give.
+use super::endings::shown;
 use super::{ANY, CLEARED, SAUCE, TOKENS};
-use crate::{Options, options};
+use crate::{Ending, Options, WordsError, options};
+use clap::error::ErrorKind;
+use std::process::Abort;
 
 const ANY_WITH_CELLS: Options = Options { cells: true, ..ANY };
 
@@ -35,14 +38,27 @@ static TAKEN: [(&[&str], Options, Option<&str>); 10] = [
     (&["anscheck", "tokens"], TOKENS, None),
 ];
 
+/// What words give. Where memory was refused they are read once more.
+fn read_words(
+    rt: &(impl Abort + AllocGlobal),
+    words: &[&str],
+) -> Result<(Options, Option<String>), WordsError> {
+    let answer = options(rt.alloc(), words);
+    let was_refused = match &answer {
+        Ok(_) => false,
+        Err(error) => error.ending() == Ending::UnreadableWords,
+    };
+    if was_refused {
+        options(rt.alloc(), words)
+    } else {
+        answer
+    }
+}
+
 #[test]
 fn words_give_options(rt: HostRuntime) {
     for (words, expected, file) in &TAKEN {
-        let answer = match options(rt.alloc(), words) {
-            Ok(found) => Ok(found),
-            Err(_) => options(rt.alloc(), words),
-        };
-        match answer {
+        match read_words(&rt, words) {
             Ok((found, name)) => {
                 assert!(rt; found == *expected);
                 assert!(rt; name.as_ref().map(|f| f.as_str()) == *file);
@@ -52,24 +68,141 @@ fn words_give_options(rt: HostRuntime) {
     }
 }
 
-static REFUSED: [&[&str]; 12] = [
-    &["anscheck"],
-    &["anscheck", "help"],
-    &["anscheck", "--help"],
-    &["anscheck", "check", "--help"],
-    &["anscheck", "--version"],
-    &["anscheck", "other"],
-    &["anscheck", "check", "--bogus"],
-    &["anscheck", "check", "f", "g"],
-    &["anscheck", "check", "--cells", "--cells"],
-    &["anscheck", "sauce", "--cleared"],
-    &["anscheck", "sauce", "--cells"],
-    &["anscheck", "tokens", "--cells"],
+/// Words that give no options, and of which kind `clap` says they are.
+static REFUSED: [(&[&str], ErrorKind); 12] = [
+    (&["anscheck"], ErrorKind::MissingSubcommand),
+    (&["anscheck", "help"], ErrorKind::InvalidSubcommand),
+    (&["anscheck", "--help"], ErrorKind::DisplayHelp),
+    (&["anscheck", "check", "--help"], ErrorKind::DisplayHelp),
+    (&["anscheck", "--version"], ErrorKind::UnknownArgument),
+    (&["anscheck", "other"], ErrorKind::InvalidSubcommand),
+    (
+        &["anscheck", "check", "--bogus"],
+        ErrorKind::UnknownArgument,
+    ),
+    (&["anscheck", "check", "f", "g"], ErrorKind::UnknownArgument),
+    (
+        &["anscheck", "check", "--cells", "--cells"],
+        ErrorKind::ArgumentConflict,
+    ),
+    (
+        &["anscheck", "sauce", "--cleared"],
+        ErrorKind::UnknownArgument,
+    ),
+    (
+        &["anscheck", "sauce", "--cells"],
+        ErrorKind::UnknownArgument,
+    ),
+    (
+        &["anscheck", "tokens", "--cells"],
+        ErrorKind::UnknownArgument,
+    ),
 ];
 
 #[test]
 fn other_words_give_none(rt: HostRuntime) {
-    for words in &REFUSED {
-        assert!(rt; options(rt.alloc(), words).is_err());
+    for (words, kind) in &REFUSED {
+        match read_words(&rt, words) {
+            Err(WordsError::Clap(error)) => {
+                assert_eq!(rt; error.kind(), *kind);
+                let is_help = *kind == ErrorKind::DisplayHelp;
+                assert_eq!(rt; error.use_stderr(), !is_help);
+                let ending = if is_help { Ending::Help } else { Ending::Usage };
+                assert_eq!(rt; WordsError::Clap(error).ending(), ending);
+            }
+            _ => panic!(rt; "no error of clap's"),
+        }
+    }
+}
+
+/// Words, and what `clap` says of them, in the layout of Rust's clap 4.
+static TEXTS: [(&[&str], &str); 6] = [
+    (
+        &["anscheck", "--help"],
+        "Checks ANSI art files that end in a SAUCE record\n\
+        \n\
+        Usage: anscheck <COMMAND>\n\
+        \n\
+        Commands:\n\
+        \x20 check   Check that a file shows one picture from every start, and print that picture\n\
+        \x20 sauce   Print what a file's SAUCE record says\n\
+        \x20 tokens  Print the bytes and the escape sequences of a file's content, one a line\n\
+        \n\
+        Options:\n\
+        \x20 -h, --help  Print help\n\
+        \n\
+        Exit status:\n\
+        \x20 0  The file passes, or this help was asked for\n\
+        \x20 1  The file is refused\n\
+        \x20 2  There is no answer; standard error says why\n",
+    ),
+    (
+        &["anscheck", "check", "--help"],
+        "Check that a file shows one picture from every start, and print that picture\n\
+        \n\
+        Usage: anscheck check [OPTIONS] [FILE]\n\
+        \n\
+        Arguments:\n\
+        \x20 [FILE]  The file to read; without it standard input is read\n\
+        \n\
+        Options:\n\
+        \x20     --cleared  Play from a cleared screen alone, not from every screen, cursor, \
+        colour and wrap\n\
+        \x20     --cells    Print each cell of the picture too: its byte and its attribute, \
+        in hexadecimal\n\
+        \x20 -h, --help     Print help\n\
+        \n\
+        Exit status:\n\
+        \x20 0  The file passes, or this help was asked for\n\
+        \x20 1  The file is refused\n\
+        \x20 2  There is no answer; standard error says why\n",
+    ),
+    (
+        &["anscheck", "check", "--bogus"],
+        "error: unexpected argument '--bogus' found\n\
+        \n\
+        \x20 tip: to pass '--bogus' as a value, use '-- --bogus'\n\
+        \n\
+        Usage: anscheck check [OPTIONS] [FILE]\n\
+        \n\
+        For more information, try '--help'.\n",
+    ),
+    (
+        &["anscheck", "check", "f", "g"],
+        "error: unexpected argument 'g' found\n\
+        \n\
+        Usage: anscheck check [OPTIONS] [FILE]\n\
+        \n\
+        For more information, try '--help'.\n",
+    ),
+    (
+        &["anscheck"],
+        "error: 'anscheck' requires a subcommand but one was not provided\n\
+        \x20 [subcommands: check, sauce, tokens]\n\
+        \n\
+        Usage: anscheck <COMMAND>\n\
+        \n\
+        For more information, try '--help'.\n",
+    ),
+    (
+        &["anscheck", "other"],
+        "error: unrecognized subcommand 'other'\n\
+        \n\
+        Usage: anscheck <COMMAND>\n\
+        \n\
+        For more information, try '--help'.\n",
+    ),
+];
+
+#[test]
+fn words_have_their_texts(rt: HostRuntime) {
+    for (words, text) in &TEXTS {
+        match read_words(&rt, words) {
+            Err(WordsError::Clap(error)) => {
+                let said = shown(&rt, &error);
+                assert_eq!(rt; said.as_str(), *text);
+            }
+            _ => panic!(rt; "no error of clap's"),
+        }
     }
 }

@@ -1,11 +1,11 @@
-//! Readers and writers that fail, and readers that give too much.
-use super::{ANY, CLEARED, SAUCE, TOKENS, expect_run, plain_file, room_for};
+//! Readers and writers that fail.
+ghost use Rattle.std.specs.Prelude.{◌≤◌};
+
+use super::{ANY, CLEARED, HI_REPORT, SAUCE, TOKENS, expect_run, plain_file, run_once};
 use crate::{Options, RunError, run};
 use ans_report::Tried;
-use std::io::{self, Read};
-
-const HI_REPORT: &[u8] =
-    b"size: 2 x 1\nstart: cleared\ncontent: 2 bytes\nverdict: pass\npicture:\nHi\n";
+use std::io::{self, Read, Write};
+use std::process::Abort;
 
 const HI_RECORD: &[u8] = b"title: \n\
     author: \n\
@@ -19,8 +19,8 @@ const HI_RECORD: &[u8] = b"title: \n\
 
 const HI_TOKENS: &[u8] = b"0 1 glyph 48\n1 1 glyph 69\n";
 
-/// Gives one byte a read, and fails at one of the reads.
-#[derive(Drop)]
+/// Gives one byte a read, and fails at one of the reads alone.
+#[derive(Clone, Copy)]
 struct Dripping<'a> {
     left: &'a [u8],
     reads: u64,
@@ -76,35 +76,90 @@ fn a_reader_that_fails_leaves_nothing_written(rt: HostRuntime) {
     let file = plain_file(&rt, b"Hi", 2, 1);
     for asked in &[CLEARED, SAUCE, TOKENS] {
         for fails_at in 1..133u64 {
-            let mut reader = Tried::new(Dripping {
+            let input = Dripping {
                 left: file.as_slice(),
                 reads: 0,
                 fails_at,
-            });
-            let mut writer = room_for(256);
-            let answer = run(rt.alloc(), &mut reader, &mut writer, asked);
-            assert_eq!(rt; writer.inner().held().len(), 0);
-            assert_eq!(rt; writer.calls(), 0);
-            if answer != Err(RunError::Memory) {
-                assert!(rt; answer == Err(RunError::Read), "at {fails_at}");
-                assert_eq!(rt; reader.calls(), fails_at);
-            }
+            };
+            let ran = run_once(&rt, input, asked, 256);
+            assert!(rt; ran.answer == Err(RunError::Read), "at {fails_at}");
+            assert_eq!(rt; ran.reader.calls(), fails_at);
+            assert_eq!(rt; ran.reader.inner().reads, fails_at);
+            assert_eq!(rt; ran.writer.calls(), 0);
         }
     }
 }
 
-#[test]
-fn more_than_the_largest_file_is_too_long(rt: HostRuntime) {
-    for (length, expected) in [
-        (16_777_216, Ok(false)),
-        (16_777_217, Err(RunError::TooLong)),
-    ] {
-        let mut reader = Tried::new(io::repeat(7).take(length));
-        let mut writer = room_for(256);
-        let answer = run(rt.alloc(), &mut reader, &mut writer, &ANY);
-        assert_eq!(rt; writer.inner().held().is_empty(), answer != Ok(false));
+/// The most bytes that a `Flaky` device holds.
+const SIZE: usize = 128;
+
+/// Takes one byte a write, and fails at one of the writes alone.
+#[derive(Drop)]
+struct Flaky {
+    held: [u8; SIZE],
+    length: usize,
+    writes: u64,
+    fails_at: u64,
+    ghost within: { length ≤ 128 },
+}
+
+impl Write for Flaky {
+    fn write(&mut self, buf: &[u8]) -> io::Result<usize> {
+        self.writes = self.writes.saturating_add(1);
+        if self.writes == self.fails_at || self.length >= SIZE {
+            return Err(io::Error::from(io::ErrorKind::Other));
+        }
+        match buf.first() {
+            Some(byte) => {
+                self.held[self.length] = *byte;
+                self.length += 1;
+                Ok(1)
+            }
+            None => Ok(0),
+        }
+    }
+
+    fn flush(&mut self) -> io::Result<()> {
+        Ok(())
+    }
+}
+
+/// Asserts that a run ends at the one write that fails, with a prefix of its text written.
+fn expect_end_at_write(
+    rt: &(impl Abort + AllocGlobal),
+    file: &[u8],
+    asked: &Options,
+    fails_at: u64,
+    written: &[u8],
+) {
+    for _ in 0..2 {
+        let mut reader = Tried::new(file);
+        let mut writer = Tried::new(Flaky {
+            held: [0; SIZE],
+            length: 0,
+            writes: 0,
+            fails_at,
+        });
+        let answer = run(rt.alloc(), &mut reader, &mut writer, asked);
         if answer != Err(RunError::Memory) {
-            assert!(rt; answer == expected, "at {length}");
+            assert!(rt; answer == Err(RunError::Write), "at {fails_at}");
+            assert_eq!(rt; writer.calls(), fails_at);
+            let device = writer.into_inner();
+            assert_eq!(rt; device.writes, fails_at);
+            assert_eq!(rt; &device.held[..device.length], written);
+            return;
+        }
+    }
+    panic!(rt; "memory was refused twice");
+}
+
+#[test]
+fn a_writer_that_fails_once_is_not_asked_again(rt: HostRuntime) {
+    let file = plain_file(&rt, b"Hi", 2, 1);
+    for (asked, text) in &TEXTS {
+        for written in 0..text.len() {
+            let fails_at = (written as u64).saturating_add(1);
+            expect_end_at_write(&rt, file.as_slice(), asked, fails_at, &text[..written]);
         }
     }
 }

@@ -73,8 +73,9 @@ fn the_most_comments_are_told(rt: HostRuntime) {
     let pass: &[u8] =
         b"size: 2 x 1\nstart: cleared\ncontent: 2 bytes\nverdict: pass\npicture:\nHi\n";
     expect_run(&rt, file.as_slice(), &CLEARED, 256, Ok(true), pass);
-    let (passed, written) = run_once(&rt, file.as_slice(), &SAUCE, 4096);
-    assert!(rt; passed == Ok(true));
+    let ran = run_once(&rt, file.as_slice(), &SAUCE, 4096);
+    assert!(rt; ran.answer == Ok(true));
+    let written = ran.writer.inner();
     let fields: &[u8] = b"title: \n\
         author: \n\
         group: \n\

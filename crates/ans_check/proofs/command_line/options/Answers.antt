@@ -1,8 +1,10 @@
 use Rattle.std.proofs.Common.{◌∙◌, ◌≡◌, List, Option, ap, option_map, subst, sym}
+use Rattle.std.proofs.lemmas.Result.{IfOk-weaker}
 use Rattle.std.specs.Prelude.{IfOk, IsSomeAnd, string_bytes}
 use Rattle.clap.specs.Words.{App, Row, Text, app_of, is_simple, subcommand_of, subcommand_rows_of, takes}
 use Rattle.ans_check.specs.CommandLine.{anscheck, AsksFor, RanOutOfMemory, texts_of}
 use Rattle.ans_check.proofs.CommandLineLemmas.{command_found, err_weaker, subcommand_met}
+use Rattle.ans_check.proofs.FlagLemmas.{flagless}
 use Rattle.ans_check.proofs.command_line.options.Goals as goal
 
 pub read_matches-requires : goal.read_matches-requires
@@ -24,6 +26,12 @@ returns-clause-ok c =
     (c.in_ok-matches.ensures.matches (ap is_simple app_is)).1 ∙ ap (λ (a : App). subcommand_of a words) app_is in
     subst (λ (s : Option (Text × List Row)). IfOk c.read_matches.result
     (λ r. IsSomeAnd s (λ p. AsksFor p r.0 (option_map string_bytes r.1)))) same c.read_matches.ensures.ok
+
+pub returns-clause-flagless : goal.returns-clause-flagless
+returns-clause-flagless c =
+    let words = texts_of c.args.words.now in
+    IfOk-weaker c.read_matches.result _ _ (λ r asked.
+    flagless words r.0 (option_map string_bytes r.1) asked) (returns-clause-ok c)
 
 pub returns-in_err-matches-clause-refuses : goal.returns-in_err-matches-clause-refuses
 returns-in_err-matches-clause-refuses c =

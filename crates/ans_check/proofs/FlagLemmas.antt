@@ -1,0 +1,74 @@
+-- What is asked for with the commands that take no flags.
+use Rattle.std.proofs.Common.{◌≡◌, ◌≢◌, ◌⊎◌, ◌∙◌, ℕ, false, true≢false, List, [], ◌∷◌, Option, Some, None, refl, sym, ap, subst}
+use Rattle.std.proofs.Common.{inl, inr, codes, arith, slice_index}
+use Rattle.std.specs.Prelude.{IsSomeAnd}
+use Rattle.clap.specs.Simple.{filled_from, help_rule}
+use Rattle.clap.specs.Walk.{Rule, rows_after}
+use Rattle.clap.specs.Words.{Row, Text, subcommand_of}
+use Rattle.ans_model.specs.declared.start.Start.{Start}
+use Rattle.ans_model.specs.declared.start.Start.TheVariants.{Any, Cleared}
+use Rattle.ans_check.specs.declared.command.Command.{Command}
+use Rattle.ans_check.specs.declared.command.Command.TheVariants.{Check, Sauce, Tokens}
+use Rattle.ans_check.specs.declared.command.Options.{Options}
+use Rattle.ans_check.specs.CommandLine.{AreOptionsOf, AsksFor, anscheck, command_name, file_rule, holds_flag}
+use Rattle.ans_check.proofs.CommandLineLemmas.{name_met, not_true, program_met}
+use Rattle.ans_check.proofs.RowLemmas.{never_held}
+
+-- the rows hold neither flag
+abbrev HoldsNoFlag : List Row → Type 0
+HoldsNoFlag rows = (holds_flag (codes "cleared") rows ≡ false) × (holds_flag (codes "cells") rows ≡ false)
+
+-- `[FILE]` and `--help`, built
+abbrev file_rules : List Rule
+file_rules = filled_from 1 (file_rule ∷ help_rule ∷ [])
+
+file_holds_no_flag : (w : List Text) → HoldsNoFlag (rows_after file_rules [] w)
+file_holds_no_flag w = (
+  never_held (codes "cleared") file_rules [] w refl,
+  never_held (codes "cells") file_rules [] w refl,
+)
+
+-- every command but `check` finds no flag in the words
+no_flag_met : (words : List Text) (met : Text × List Row) → subcommand_of anscheck words ≡ Some met
+    → (met.0 ≡ codes "check" → ⊥) → HoldsNoFlag met.1
+no_flag_met words met e other =
+    let found = program_met words met e in
+    elim (found.1) [
+      | inl check ↦ absurd (other (name_met check))
+      | inr others ↦ elim others [
+        | inl sauce ↦ subst HoldsNoFlag (ap (λ (q : Text × List Row). q.1) sauce) (file_holds_no_flag found.0)
+        | inr last ↦ elim last [
+          | inl tokens ↦ subst HoldsNoFlag (ap (λ (q : Text × List Row). q.1) tokens) (file_holds_no_flag found.0)
+          | inr never ↦ absurd never
+        ]
+      ]
+    ]
+
+-- the first letter tells `check` from the other commands
+named_check : (c : Command) → command_name c ≡ codes "check" → c ≡ Check
+named_check Check e = refl
+named_check Sauce e =
+    let bad : ◌≡◌ {A = ℕ} 115 99 = ap (λ t. slice_index t 0) e in
+    absurd (omega arith)
+named_check Tokens e =
+    let bad : ◌≡◌ {A = ℕ} 116 99 = ap (λ t. slice_index t 0) e in
+    absurd (omega arith)
+
+not_cleared : (s : Start) → (s ≡ Cleared → ⊥) → s ≡ Any
+not_cleared Any h = refl
+not_cleared Cleared h = absurd (h refl)
+
+-- what is asked for without flags
+pub flagless : (words : List Text) (o : Options) (file : Option Text) → AreOptionsOf words o file
+    → o.command ≢ Check → (o.start ≡ Any) × (o.cells ≡ false)
+flagless words o file asked other = go (subcommand_of anscheck words) refl asked
+  where
+    go : (sub : Option (Text × List Row)) → subcommand_of anscheck words ≡ sub
+        → IsSomeAnd sub (λ p. AsksFor p o file) → (o.start ≡ Any) × (o.cells ≡ false)
+    go None e asks = absurd asks
+    go (Some met) e asks =
+        let none : HoldsNoFlag met.1 =
+        no_flag_met words met e (λ check. other (named_check o.command (sym asks.0 ∙ check))) in (
+          not_cleared o.start (λ on. true≢false (sym (asks.1.0 on) ∙ none.0)),
+          not_true o.cells (λ on. true≢false (sym (asks.2.0 on) ∙ none.1)),
+        )

@@ -1,0 +1,39 @@
+-- How the program ends: its exit status, and what it says on standard error.
+use Rattle.std.specs.Prelude.{ℕ, List, Option, Some, None, Ok, Err, codes}
+use Rattle.clap.specs.Words.{kind_of}
+use Rattle.clap.specs.declared.error.ErrorKind.{ErrorKind}
+use Rattle.clap.specs.declared.error.ErrorKind.TheVariants.{DisplayHelp, DisplayVersion, OutOfMemory}
+use Rattle.ans_check.specs.declared.command_line.WordsError.{WordsError}
+use Rattle.ans_check.specs.declared.command_line.WordsError.TheVariants as words_error
+use Rattle.ans_check.specs.declared.exit_status.Ending.{Ending}
+use Rattle.ans_check.specs.declared.exit_status.Ending.TheVariants.{Run, Help, Usage, UnreadableWords, UnopenedFile}
+use Rattle.ans_check.specs.Run.{run_error_text, status_of}
+
+-- the exit status of each ending
+abbrev pub ending_status : Ending → ℕ
+ending_status (Run answer) = status_of answer
+ending_status Help = 0
+ending_status Usage = 2
+ending_status UnreadableWords = 2
+ending_status UnopenedFile = 2
+
+-- what each ending says on standard error after `anscheck: `, if anything
+abbrev pub ending_message : Ending → Option (List ℕ)
+ending_message (Run (Ok passed)) = None
+ending_message (Run (Err error)) = Some (run_error_text error)
+ending_message Help = None
+ending_message Usage = None
+ending_message UnreadableWords = Some (codes "cannot read the command line")
+ending_message UnopenedFile = Some (codes "cannot open the file")
+
+-- how the program ends at each kind of clap's errors
+abbrev pub ending_of_kind : ErrorKind → Ending
+ending_of_kind DisplayHelp = Help
+ending_of_kind DisplayVersion = Help
+ending_of_kind OutOfMemory = UnreadableWords
+ending_of_kind _ = Usage
+
+-- how the program ends where its words give no options
+abbrev pub ending_of_words : WordsError → Ending
+ending_of_words (words_error.Clap error) = ending_of_kind (kind_of error)
+ending_of_words words_error.Memory = UnreadableWords

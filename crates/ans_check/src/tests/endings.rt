@@ -1,0 +1,143 @@
+//! How the program ends.
+use super::{CLEARED, HI_REPORT, plain_file};
+use crate::{Ending, RunError, serve, status};
+use std::fmt::Display;
+use std::io::{self, Write};
+use std::process::Abort;
+
+/// How a value is displayed. Where memory was refused it is displayed once more.
+pub(super) fn shown<D: Display>(rt: &(impl Abort + AllocGlobal), value: &D) -> String {
+    match format!(in rt.alloc(); "{value}") {
+        Ok(text) => text,
+        Err(_) => format!(in rt.alloc(); "{value}").expect(rt, "no text"),
+    }
+}
+
+/// An ending, its exit status, and what it says.
+static ENDINGS: [(Ending, u8, Option<&str>); 9] = [
+    (Ending::Run(Ok(true)), 0, None),
+    (Ending::Run(Ok(false)), 1, None),
+    (
+        Ending::Run(Err(RunError::Read)),
+        2,
+        Some("cannot read the file"),
+    ),
+    (
+        Ending::Run(Err(RunError::TooLong)),
+        2,
+        Some("file above 16777216 bytes"),
+    ),
+    (Ending::Run(Err(RunError::Memory)), 2, Some("out of memory")),
+    (
+        Ending::Run(Err(RunError::Write)),
+        2,
+        Some("cannot write the report"),
+    ),
+    (Ending::Help, 0, None),
+    (Ending::Usage, 2, None),
+    (
+        Ending::UnreadableWords,
+        2,
+        Some("cannot read the command line"),
+    ),
+];
+
+#[test]
+fn endings_have_their_statuses_and_texts(rt: HostRuntime) {
+    for (ending, expected, message) in &ENDINGS {
+        assert_eq!(rt; ending.status(), *expected);
+        assert!(rt; ending.message() == *message);
+        if let Ending::Run(answer) = ending {
+            assert_eq!(rt; status(answer), *expected);
+        }
+        if let Ending::Run(Err(error)) = ending {
+            let text = shown(&rt, error);
+            assert!(rt; Some(text.as_str()) == *message);
+        }
+    }
+    assert_eq!(rt; Ending::UnopenedFile.status(), 2);
+    assert!(rt; Ending::UnopenedFile.message() == Some("cannot open the file"));
+}
+
+/// A device with room for so many bytes, which may fail to flush.
+#[derive(Clone, Copy)]
+struct Output {
+    room: usize,
+    flushes: bool,
+}
+
+impl Write for Output {
+    fn write(&mut self, buf: &[u8]) -> io::Result<usize> {
+        let n = buf.len().min(self.room);
+        self.room -= n;
+        Ok(n)
+    }
+
+    fn flush(&mut self) -> io::Result<()> {
+        if self.flushes {
+            Ok(())
+        } else {
+            Err(io::Error::from(io::ErrorKind::Other))
+        }
+    }
+}
+
+/// What serving a file into a device returns: whether it passes, and how much room is left.
+fn serve_once(
+    rt: &(impl Abort + AllocGlobal),
+    file: &[u8],
+    output: Output,
+) -> Result<(bool, usize), RunError> {
+    let answer = match serve(rt.alloc(), file, output, &CLEARED) {
+        Err(RunError::Memory) => serve(rt.alloc(), file, output, &CLEARED),
+        answer => answer,
+    };
+    match answer {
+        Ok((passed, left)) => Ok((passed, left.room)),
+        Err(error) => Err(error),
+    }
+}
+
+/// The room, whether the device flushes, and what is returned for a report of 70 bytes.
+static OUTPUTS: [(usize, bool, Result<(bool, usize), RunError>); 6] = [
+    (100, true, Ok((true, 30))),
+    (70, true, Ok((true, 0))),
+    (69, true, Err(RunError::Write)),
+    (1, true, Err(RunError::Write)),
+    (0, true, Err(RunError::Write)),
+    (100, false, Err(RunError::Write)),
+];
+
+#[test]
+fn a_report_is_flushed(rt: HostRuntime) {
+    let file = plain_file(&rt, b"Hi", 2, 1);
+    for (room, flushes, expected) in &OUTPUTS {
+        let output = Output {
+            room: *room,
+            flushes: *flushes,
+        };
+        assert!(rt; serve_once(&rt, file.as_slice(), output) == *expected);
+    }
+    let output = Output {
+        room: 100,
+        flushes: true,
+    };
+    assert!(rt; serve_once(&rt, &[b'S'; 127], output) == Ok((false, 56)));
+    let output = Output {
+        flushes: false,
+        ..output
+    };
+    assert!(rt; serve_once(&rt, &[b'S'; 127], output) == Err(RunError::Write));
+}
+
+#[test]
+fn an_output_takes_the_text(rt: HostRuntime) {
+    let file = plain_file(&rt, b"Hi", 2, 1);
+    let answer = match serve(rt.alloc(), file.as_slice(), Vec::new(rt.alloc()), &CLEARED) {
+        Err(_) => serve(rt.alloc(), file.as_slice(), Vec::new(rt.alloc()), &CLEARED),
+        answer => answer,
+    };
+    let (passed, text) = answer.expect(&rt, "no answer");
+    assert!(rt; passed);
+    assert_eq!(rt; text.as_slice(), HI_REPORT);
+}

@@ -1,0 +1,177 @@
+"""What `anscheck` prints and returns, run by run.
+
+The reports, the tokens and the texts after `anscheck: ` are those of the definitions
+(`ans_model/specs/Text`, `ans_check/specs/Run.antt` and `Ending.antt`). clap's texts have no source
+but clap; they are written in the layout of Rust's clap 4.
+"""
+from dataclasses import dataclass
+
+
+@dataclass
+class Run:
+    """One run: the words after the program's name, what it reads, and what is to come of it."""
+
+    name: str
+    words: list
+    status: int
+    stdout: bytes = b""
+    stderr: bytes = b""
+    # A file of the folder above, bytes, or nothing.
+    stdin: object = b""
+    # Where standard output goes in place of a pipe: a path, or `CLOSED`.
+    output: str = ""
+
+
+CLOSED = "closed"
+
+
+def plain_record(width, lines, file_size):
+    """A SAUCE record of type Character/ANSi, without texts and comments."""
+    return (
+        b"SAUCE00" + b" " * 75 + b"19960101" + file_size.to_bytes(4, "little") + bytes([1, 1])
+        + width.to_bytes(2, "little") + lines.to_bytes(2, "little") + bytes(28)
+    )
+
+
+def file_of(content, width=2, lines=1):
+    """The content, one end mark and its record."""
+    return content + b"\x1a" + plain_record(width, lines, len(content))
+
+
+HI = "data/hi.ans"
+LARGEST_FILE = 16_777_216
+
+HI_PASSES = b"size: 2 x 1\nstart: cleared\ncontent: 2 bytes\nverdict: pass\npicture:\nHi\n"
+HI_IS_REFUSED = (
+    b"size: 2 x 1\nstart: any\ncontent: 2 bytes\nverdict: refused\n"
+    b"at 0: F22 print at an unknown place\n"
+)
+HI_RECORD = (
+    b"title: \nauthor: \ngroup: \ndate: 19960101\nsize: 2 x 1\nflags: 00\nfont: \n"
+    b"file size: 2\ncomments: 0\n"
+)
+HI_TOKENS = b"0 1 glyph 48\n1 1 glyph 69\n"
+NO_RECORD = b"verdict: refused\nat 127: F1 no SAUCE record\n"
+
+STATUSES = b"""
+Exit status:
+  0  The file passes, or this help was asked for
+  1  The file is refused
+  2  There is no answer; standard error says why
+"""
+HELP = b"""Checks ANSI art files that end in a SAUCE record
+
+Usage: anscheck <COMMAND>
+
+Commands:
+  check   Check that a file shows one picture from every start, and print that picture
+  sauce   Print what a file's SAUCE record says
+  tokens  Print the bytes and the escape sequences of a file's content, one a line
+
+Options:
+  -h, --help  Print help
+""" + STATUSES
+CHECK_HELP = b"""Check that a file shows one picture from every start, and print that picture
+
+Usage: anscheck check [OPTIONS] [FILE]
+
+Arguments:
+  [FILE]  The file to read; without it standard input is read
+
+Options:
+      --cleared  Play from a cleared screen alone, not from every screen, cursor, colour and wrap
+      --cells    Print each cell of the picture too: its byte and its attribute, in hexadecimal
+  -h, --help     Print help
+""" + STATUSES
+SAUCE_HELP = b"""Print what a file's SAUCE record says
+
+Usage: anscheck sauce [FILE]
+
+Arguments:
+  [FILE]  The file to read; without it standard input is read
+
+Options:
+  -h, --help  Print help
+""" + STATUSES
+
+
+def mistake(what, usage):
+    """clap's text on words that it rejects."""
+    return (f"error: {what}\n\nUsage: anscheck {usage}\n\nFor more information, try '--help'.\n").encode()
+
+
+CHECK_USAGE = "check [OPTIONS] [FILE]"
+
+RUNS = [
+    # Files that pass, from standard input and by name.
+    Run("check of standard input", ["check", "--cleared"], 0, HI_PASSES, stdin=HI),
+    Run("check of a named file", ["check", "--cleared", HI], 0, HI_PASSES),
+    Run("check of a named file, not of standard input", ["check", "--cleared", HI], 0, HI_PASSES,
+        stdin=file_of(b"No")),
+    Run("check of a file named like a flag", ["check", "--", "--cells"], 2,
+        stderr=b"anscheck: cannot open the file\n", stdin=HI),
+    Run("check from any start",
+        ["check"], 0,
+        b"size: 2 x 1\nstart: any\ncontent: 15 bytes\nverdict: pass\npicture:\nHi\n",
+        stdin=file_of(b"\x1b[?7h\x1b[0m\x1b[2JHi")),
+    Run("check with cells", ["check", "--cleared", "--cells", HI], 0,
+        HI_PASSES + b"cells:\n48076907\n"),
+    Run("record of standard input", ["sauce"], 0, HI_RECORD, stdin=HI),
+    Run("record of a named file", ["sauce", HI], 0, HI_RECORD),
+    Run("tokens of standard input", ["tokens"], 0, HI_TOKENS, stdin=HI),
+    Run("tokens of a named file", ["tokens", HI], 0, HI_TOKENS),
+    # Files that are refused.
+    Run("refused content", ["check", HI], 1, HI_IS_REFUSED),
+    Run("refused content of standard input", ["check"], 1, HI_IS_REFUSED, stdin=HI),
+    Run("tokens up to a fault", ["tokens"], 1,
+        b"0 7 colours 1;37\n7 1 glyph 48\nat 8: F12 content ends in a sequence\n",
+        stdin=file_of(b"\x1b[1;37mH\x1b[3")),
+    Run("check without a record", ["check"], 1, NO_RECORD, stdin=b"S" * 127),
+    Run("record without a record", ["sauce"], 1, NO_RECORD, stdin=b"S" * 127),
+    Run("tokens without a record", ["tokens"], 1, NO_RECORD, stdin=b"S" * 127),
+    Run("check of nothing", ["check"], 1, b"verdict: refused\nat 0: F1 no SAUCE record\n"),
+    Run("check of the longest file", ["check"], 1,
+        b"verdict: refused\nat 16777216: F1 no SAUCE record\n", stdin=bytes(LARGEST_FILE)),
+    # Inputs that cannot be opened or read.
+    Run("check of a file that is not there", ["check", "data/none.ans"], 2,
+        stderr=b"anscheck: cannot open the file\n", stdin=HI),
+    Run("check of a folder", ["check", "data"], 2,
+        stderr=b"anscheck: cannot read the file\n", stdin=HI),
+    Run("record of a folder", ["sauce", "data"], 2, stderr=b"anscheck: cannot read the file\n"),
+    Run("check of too long a file", ["check"], 2,
+        stderr=b"anscheck: file above 16777216 bytes\n", stdin=bytes(LARGEST_FILE + 1)),
+    # Outputs that cannot be written.
+    Run("pass on a full device", ["check", "--cleared", HI], 2,
+        stderr=b"anscheck: cannot write the report\n", output="/dev/full"),
+    Run("refusal on a full device", ["check", HI], 2,
+        stderr=b"anscheck: cannot write the report\n", output="/dev/full"),
+    Run("record on a full device", ["sauce", HI], 2,
+        stderr=b"anscheck: cannot write the report\n", output="/dev/full"),
+    Run("tokens on a full device", ["tokens", HI], 2,
+        stderr=b"anscheck: cannot write the report\n", output="/dev/full"),
+    Run("help on a full device", ["--help"], 2,
+        stderr=b"anscheck: cannot write the report\n", output="/dev/full"),
+    Run("pass on a closed output", ["check", "--cleared"], 2,
+        stderr=b"anscheck: cannot write the report\n", stdin=HI, output=CLOSED),
+    # Words that ask for help, and words that are rejected. Nothing is read.
+    Run("help", ["--help"], 0, HELP, stdin=HI),
+    Run("help of check", ["check", "--help"], 0, CHECK_HELP, stdin=HI),
+    Run("help of sauce", ["sauce", "-h"], 0, SAUCE_HELP, stdin=HI),
+    Run("an unknown flag", ["check", "--bogus"], 2, stdin=HI, stderr=mistake(
+        "unexpected argument '--bogus' found\n\n"
+        "  tip: to pass '--bogus' as a value, use '-- --bogus'", CHECK_USAGE)),
+    Run("a flag of another command", ["sauce", "--cells", HI], 2, stderr=mistake(
+        "unexpected argument '--cells' found\n\n"
+        "  tip: to pass '--cells' as a value, use '-- --cells'", "sauce [FILE]")),
+    Run("a flag twice", ["check", "--cells", "--cells"], 2, stdin=HI, stderr=mistake(
+        "the argument '--cells' cannot be used multiple times", CHECK_USAGE)),
+    Run("a second file", ["check", HI, HI], 2, stderr=mistake(
+        f"unexpected argument '{HI}' found", CHECK_USAGE)),
+    Run("no subcommand", [], 2, stdin=HI, stderr=mistake(
+        "'anscheck' requires a subcommand but one was not provided\n"
+        "  [subcommands: check, sauce, tokens]", "<COMMAND>")),
+    Run("an unknown subcommand", ["other", HI], 2, stderr=mistake(
+        "unrecognized subcommand 'other'", "<COMMAND>")),
+    Run("a word that is not text", ["check", b"\xff"], 2,
+        stderr=b"anscheck: cannot read the command line\n"),
+]
