@@ -1,13 +1,15 @@
 //! Files and devices for the tests of the other crates. No program uses it.
 //!
 //! [`sample_file`] puts the plain record after some bytes, with fields changed where a test says so.
-//! A [`Narrow`] device takes one byte a call and fails from then on when it is full. A
-//! [`FailingOnce`] device fails at one call and works at all others.
+//! The [`records`] are files with what is expected of each, and the [`rows`] contents. A [`Narrow`]
+//! device takes one byte a call and fails from then on when it is full. A [`FailingOnce`] device
+//! fails at one call and works at all others.
 #![tactic(auto)]
 
 mod failing_once;
 mod file;
 mod narrow;
+pub mod records;
 pub mod rows;
 
 pub use failing_once::{FailingOnce, Failure};

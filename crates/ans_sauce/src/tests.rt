@@ -3,48 +3,19 @@
 
 use crate::split;
 use ans_model::fault::{Cause, Fault};
-use ans_model::note::Note;
+use ans_samples::records::{ACCEPTED, REFUSED};
 use ans_samples::sample_file;
 use std::test::Fail;
 
-/// Fields of a record that are changed: an offset in the record, and the bytes there.
-type Edits = &'static [(usize, &'static [u8])];
-
-macro_rules! refused {
-    ($($what:literal, $front:literal, [$($at:literal => $bytes:literal),*], $offset:literal $cause:ident;)*) => {
-        [$(($what, $front, &[$(($at, $bytes)),*], $offset, Cause::$cause)),*]
-    };
-}
-
-/// What is odd, what stands before the record, the fields changed, and the fault.
-static REFUSED: [(&str, &[u8], Edits, usize, Cause); 20] = refused! {
-    "ID SAUCX", b"Hi\x1a", [4 => b"X"], 131 NoRecord;
-    "version 01", b"Hi\x1a", [5 => b"01"], 8 WrongVersion;
-    "version 01 and FileType 2", b"Hi\x1a", [5 => b"01", 95 => b"\x02"], 8 WrongVersion;
-    "FileType 2", b"Hi\x1a", [95 => b"\x02"], 97 WrongKind;
-    "DataType 2", b"Hi\x1a", [94 => b"\x02"], 97 WrongKind;
-    "FileType 2 and no block for 1 comment", b"Hi\x1a", [95 => b"\x02", 104 => b"\x01"], 97 WrongKind;
-    "no room for the block of 1 comment", b"Hi\x1a", [104 => b"\x01"], 107 CommentsMissing;
-    "one byte less than the block of 1 comment", b"COMNTaaaaaaaaaaaaaaaaaaaaaaaaaaaaaaaaaaaaaaaaaaaaaaaaaaaaaaaaaaaaaaa", [104 => b"\x01"], 172 CommentsMissing;
-    "68 times a and no block for 1 comment", b"aaaaaaaaaaaaaaaaaaaaaaaaaaaaaaaaaaaaaaaaaaaaaaaaaaaaaaaaaaaaaaaaaaaa\x1a", [104 => b"\x01"], 173 CommentsMissing;
-    "block COMNX", b"Hi\x1aCOMNXhello                                                           ", [104 => b"\x01"], 176 CommentsMissing;
-    "no block for 1 comment and lines 0", b"Hi\x1a", [98 => b"\x00\x00", 104 => b"\x01"], 107 CommentsMissing;
-    "lines 0", b"Hi\x1a", [98 => b"\x00\x00"], 101 LinesUnstated;
-    "lines 0 and width 1025", b"Hi\x1a", [96 => b"\x01\x04\x00\x00"], 101 LinesUnstated;
-    "width 1025", b"Hi\x1a", [96 => b"\x01\x04"], 99 WidthTooLarge;
-    "width 1025 and lines 8193", b"Hi\x1a", [96 => b"\x01\x04\x01\x20"], 99 WidthTooLarge;
-    "lines 8193", b"Hi\x1a", [98 => b"\x01\x20"], 101 LinesTooLarge;
-    "lines 8193 and a byte after the end mark", b"a\x1ab\x1a", [98 => b"\x01\x20"], 102 LinesTooLarge;
-    "a byte after the end mark", b"a\x1ab\x1a", [], 2 BytesAfterEndMark;
-    "a byte after two end marks", b"\x1a\x1ab", [], 2 BytesAfterEndMark;
-    "a block that is not counted", b"Hi\x1aCOMNThello                                                           ", [], 3 BytesAfterEndMark;
-};
-
 #[test]
 fn first_refusal_answers(rt: HostRuntime) -> Result<(), Fail> {
-    for &(what, front, edits, offset, cause) in &REFUSED {
-        let file = sample_file(rt.alloc(), front, edits)?;
-        assert_eq!(rt; split(&file).err(), Some(Fault { offset, cause }), "{what}");
+    for row in &REFUSED {
+        let file = sample_file(rt.alloc(), row.front, row.edits)?;
+        let fault = Fault {
+            offset: row.offset,
+            cause: row.cause,
+        };
+        assert_eq!(rt; split(&file).err(), Some(fault), "{}", row.what);
     }
     Ok(())
 }
@@ -63,56 +34,15 @@ fn less_than_a_record_is_no_record(rt: HostRuntime) -> Result<(), Fail> {
     Ok(())
 }
 
-macro_rules! accepted {
-    ($($what:literal, $front:literal, [$($at:literal => $bytes:literal),*]
-        => $content:literal $width:literal x $lines:literal, [$($note:ident),*];)*) => {
-        [$(($what, $front, &[$(($at, $bytes)),*], $content, $width, $lines, &[$(Note::$note),*])),*]
-    };
-}
-
-/// What is odd, what stands before the record, the fields changed, and then the content, the width,
-/// the lines and the notes.
-static ACCEPTED: [(&str, &[u8], Edits, &[u8], usize, usize, &[Note]); 29] = accepted! {
-    "nothing", b"Hi\x1a", [] => b"Hi" 2 x 1, [];
-    "two end marks", b"Hi\x1a\x1a", [] => b"Hi" 2 x 1, [];
-    "width 0", b"Hi\x1a", [96 => b"\x00"] => b"Hi" 80 x 1, [WidthAssumed];
-    "width 1", b"Hi\x1a", [96 => b"\x01"] => b"Hi" 1 x 1, [];
-    "width 256", b"Hi\x1a", [96 => b"\x00\x01"] => b"Hi" 256 x 1, [];
-    "width 1024", b"Hi\x1a", [96 => b"\x00\x04"] => b"Hi" 1024 x 1, [];
-    "lines 8192", b"Hi\x1a", [98 => b"\x00\x20"] => b"Hi" 2 x 8192, [];
-    "no end mark", b"Hi", [] => b"Hi" 2 x 1, [NoEndMark];
-    "the record alone", b"", [90 => b"\x00"] => b"" 2 x 1, [NoEndMark];
-    "only an end mark", b"\x1a", [90 => b"\x00"] => b"" 2 x 1, [];
-    "a block right behind the content", b"HiCOMNThello                                                           ", [104 => b"\x01"] => b"Hi" 2 x 1, [NoEndMark];
-    "end marks inside a comment", b"Hi\x1aCOMNTa\x1ab\x1a                                                            ", [104 => b"\x01"] => b"Hi" 2 x 1, [];
-    "FileSize 1", b"Hi\x1a", [90 => b"\x01"] => b"Hi" 2 x 1, [SizeDiffers];
-    "FileSize 3", b"Hi\x1a", [90 => b"\x03"] => b"Hi" 2 x 1, [];
-    "FileSize 4", b"Hi\x1a", [90 => b"\x04"] => b"Hi" 2 x 1, [SizeDiffers];
-    "FileSize 65538", b"Hi\x1a", [90 => b"\x02\x00\x01"] => b"Hi" 2 x 1, [SizeDiffers];
-    "flags 20", b"Hi\x1a", [105 => b"\x20"] => b"Hi" 2 x 1, [FlagBits];
-    "flags 40", b"Hi\x1a", [105 => b"\x40"] => b"Hi" 2 x 1, [FlagBits];
-    "flags 80", b"Hi\x1a", [105 => b"\x80"] => b"Hi" 2 x 1, [FlagBits];
-    "flags 06", b"Hi\x1a", [105 => b"\x06"] => b"Hi" 2 x 1, [FlagPair];
-    "flags 18", b"Hi\x1a", [105 => b"\x18"] => b"Hi" 2 x 1, [FlagPair];
-    "flags 0d", b"Hi\x1a", [105 => b"\x0d"] => b"Hi" 2 x 1, [];
-    "flags 15", b"Hi\x1a", [105 => b"\x15"] => b"Hi" 2 x 1, [];
-    "flags 02", b"Hi\x1a", [105 => b"\x02"] => b"Hi" 2 x 1, [];
-    "flags 10", b"Hi\x1a", [105 => b"\x10"] => b"Hi" 2 x 1, [];
-    "date 1996010a", b"Hi\x1a", [89 => b"a"] => b"Hi" 2 x 1, [OddDate];
-    "a date of seven digits", b"Hi\x1a", [89 => b" "] => b"Hi" 2 x 1, [OddDate];
-    "date of blanks, flags fe and FileSize 9", b"Hi\x1a", [82 => b"        \x09", 105 => b"\xfe"] => b"Hi" 2 x 1, [SizeDiffers, OddDate, FlagBits, FlagPair];
-    "everything that is noted", b"Hi", [82 => b"        \x09", 96 => b"\x00", 105 => b"\xfe"] => b"Hi" 80 x 1, [WidthAssumed, NoEndMark, SizeDiffers, OddDate, FlagBits, FlagPair];
-};
-
 #[test]
 fn accepted_files_have_their_notes(rt: HostRuntime) -> Result<(), Fail> {
-    for &(what, front, edits, content, width, lines, notes) in &ACCEPTED {
-        let file = sample_file(rt.alloc(), front, edits)?;
+    for row in &ACCEPTED {
+        let file = sample_file(rt.alloc(), row.front, row.edits)?;
         let parts = split(&file)?;
-        assert_eq!(rt; parts.content(), content, "{what}");
-        assert_eq!(rt; parts.width(), width, "{what}");
-        assert_eq!(rt; parts.lines(), lines, "{what}");
-        assert_eq!(rt; parts.notes().as_slice(), notes, "{what}");
+        assert_eq!(rt; parts.content(), row.content, "{}", row.what);
+        assert_eq!(rt; parts.width(), row.width, "{}", row.what);
+        assert_eq!(rt; parts.lines(), row.lines, "{}", row.what);
+        assert_eq!(rt; parts.notes().as_slice(), row.notes, "{}", row.what);
     }
     Ok(())
 }

@@ -1,7 +1,12 @@
 //! What a check finds of files.
+
+ghost use Rattle.std.specs.Prelude.{◌≤◌, length};
+ghost use Rattle.ans_model.specs.Bytes.{longest_file};
+
 use super::{file_of, file_of_size};
 use crate::{Start, Verdict, check};
 use ans_play::Picture;
+use ans_samples::records::{ACCEPTED, REFUSED};
 use ans_samples::rows::Expected::{Refused, Shows};
 use ans_samples::rows::{
     BROKEN, BYTES, COLOURS, FORBIDDEN, PASSES_FROM_ANY, PASSES_FROM_CLEARED, Row, UNKNOWN_CELLS,
@@ -46,6 +51,20 @@ fn assert_shows(rt: &impl Abort, picture: &Picture<PlainGrid>, bytes: &[u8], att
     }
 }
 
+/// What a check answers. One that ran out of memory is made again.
+fn check_file<'a>(
+    rt: &(impl Abort + AllocGlobal),
+    file: &'a [u8],
+    start: Start,
+) -> Verdict<'a, PlainGrid>
+    requires { length file.now ≤ longest_file }
+{
+    match check(rt.alloc(), file, start) {
+        Ok(verdict) => verdict,
+        Err(AllocError) => check(rt.alloc(), file, start).expect(rt, "memory"),
+    }
+}
+
 /// Asserts what a check answers: the picture's bytes and attributes, or a fault.
 fn expect_verdict(
     rt: &(impl Abort + AllocGlobal),
@@ -54,11 +73,7 @@ fn expect_verdict(
     expected: Result<(&[u8], &[u8]), (usize, Cause)>,
 ) {
     assert!(rt; file.len() <= MAX_FILE);
-    let verdict = match check::<PlainGrid>(rt.alloc(), file, start) {
-        Ok(verdict) => verdict,
-        Err(AllocError) => check(rt.alloc(), file, start).expect(rt, "memory"),
-    };
-    match verdict {
+    match check_file(rt, file, start) {
         Verdict::Pass(parts, picture) => {
             assert_eq!(rt; picture.width(), parts.width());
             assert_eq!(rt; picture.lines(), parts.lines());
@@ -145,27 +160,32 @@ fn places_that_do_not_fit(rt: HostRuntime) {
 
 #[test]
 fn records_and_layouts_are_refused(rt: HostRuntime) {
-    let rows: [(&[u8], &[(usize, &[u8])], usize, Cause); 8] = [
-        (b"Hi\x1a", &[(5, b"01")], 8, Cause::WrongVersion),
-        (b"Hi\x1a", &[(95, b"\x02")], 97, Cause::WrongKind),
-        (b"Hi\x1a", &[(104, b"\x01")], 107, Cause::CommentsMissing),
-        (b"Hi\x1a", &[(104, b"\xff")], 107, Cause::CommentsMissing),
-        (b"Hi\x1a", &[(98, b"\x00\x00")], 101, Cause::LinesUnstated),
-        (b"Hi\x1a", &[(96, b"\x01\x04")], 99, Cause::WidthTooLarge),
-        (b"Hi\x1a", &[(98, b"\x01\x20")], 101, Cause::LinesTooLarge),
-        (b"a\x1ab\x1a", &[], 2, Cause::BytesAfterEndMark),
-    ];
-    for (front, edits, offset, cause) in rows {
-        let file = file_of(&rt, front, edits);
-        expect_verdict(&rt, file.as_slice(), Start::Cleared, Err((offset, cause)));
+    for row in &REFUSED {
+        let file = file_of(&rt, row.front, row.edits);
+        let fault = (row.offset, row.cause);
+        expect_verdict(&rt, file.as_slice(), Start::Any, Err(fault));
     }
+    let fault = Err((127, Cause::NoRecord));
+    expect_verdict(&rt, &[b'S'; 127], Start::Cleared, fault);
     expect_verdict(&rt, b"", Start::Cleared, Err((0, Cause::NoRecord)));
-    expect_verdict(
-        &rt,
-        &[b'S'; 127],
-        Start::Cleared,
-        Err((127, Cause::NoRecord)),
-    );
+}
+
+#[test]
+fn accepted_files_have_their_parts(rt: HostRuntime) {
+    for row in &ACCEPTED {
+        let file = file_of(&rt, row.front, row.edits);
+        assert!(rt; file.len() <= MAX_FILE);
+        let verdict = check_file(&rt, file.as_slice(), Start::Cleared);
+        let parts = match &verdict {
+            Verdict::Pass(parts, _) => Some(parts),
+            Verdict::Refused(parts, _) => parts.as_ref(),
+        };
+        let parts = parts.expect(&rt, "the record is accepted");
+        assert_eq!(rt; parts.content(), row.content, "{}", row.what);
+        assert_eq!(rt; parts.width(), row.width, "{}", row.what);
+        assert_eq!(rt; parts.lines(), row.lines, "{}", row.what);
+        assert_eq!(rt; parts.notes().as_slice(), row.notes, "{}", row.what);
+    }
 }
 
 #[test]
