@@ -1,5 +1,6 @@
 -- What has gone through a buffer that was flushed.
-use Rattle.std.proofs.Common.{◌≡◌, ◌∙◌, ◌++◌, ℕ, false, true≢false, List, [], Option, Some, None, sym, ap, subst, append-nil}
+use Rattle.std.proofs.Common.{◌≡◌, ◌∙◌, ◌++◌, ℕ, false, true≢false, List, [], Option, Some, None}
+use Rattle.std.proofs.Common.{sym, ap, subst, append-nil}
 use Rattle.std.specs.Prelude.{OnOk, Result, Ok, Err, is_err}
 use Rattle.std.specs.Io.Buffered.{writer_buffer, writer_contents, writer_inner}
 use Rattle.std.specs.Io.KnownBytes.{Appends, Keeps, append_known}

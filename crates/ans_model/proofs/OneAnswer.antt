@@ -297,7 +297,8 @@ module _ (z : Size) (class : Class) where
       (unknown_end bytes f h)).1 k.unfinished)
   one_last_fault bytes f g (inr h) (inr k) =
       let same : k.tokens ≡ h.tokens = one_reading bytes k.tokens h.tokens k.reads h.reads in
-      let position : h.position ≡ k.position = one_unknown h.tokens h.position k.position h.first (rw same at k.first) in
+      let position : h.position ≡ k.position =
+      one_unknown h.tokens h.position k.position h.first (rw same at k.first) in
       h.fault_is ∙ ap (λ (p : Position). fault_at (length bytes) (UnknownCell (p.row + 1) (p.column + 1))) position
       ∙ sym k.fault_is
 
@@ -366,4 +367,5 @@ pub last_is_certain : (z : Size) (bytes : List ℕ) (f : Fault) → IsLastFault 
 last_is_certain z bytes f (inl h) = rw h.fault_is tt
 last_is_certain z bytes f (inr h) =
     let d = h.first.differs in
-    absurd (d.4 (ap (λ (s : State). cell_at z (final z s h.tokens).screen h.position) (cleared_is_one z d.0 d.1 d.2 d.3)))
+    absurd (d.4 (ap (λ (s : State). cell_at z (final z s h.tokens).screen h.position)
+    (cleared_is_one z d.0 d.1 d.2 d.3)))

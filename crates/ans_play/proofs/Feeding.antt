@@ -33,8 +33,8 @@ use Rattle.ans_play.proofs.NoFaultShown.{token_is_allowed, token_has_no_fault}
 use Rattle.ans_play.proofs.Clean.{clean_more}
 
 -- ---- one byte
-pub reads_more : (bytes text : List ℕ) (tokens : List TokenKind) (t : TokenKind) → Reads bytes tokens → SpellsToken t text →
-    Reads (bytes ++ text) (tokens ++ t ∷ [])
+pub reads_more : (bytes text : List ℕ) (tokens : List TokenKind) (t : TokenKind) → Reads bytes tokens
+    → SpellsToken t text → Reads (bytes ++ text) (tokens ++ t ∷ [])
 reads_more bytes text tokens t (texts, r) spelled =
     (texts ++ text ∷ [], reads_as_more bytes text tokens texts t r spelled)
 

@@ -296,5 +296,6 @@ module _ (z : Size) (class : Class) (bytes : List ℕ) (fault : Fault) where
         offset = ap (λ (f : Fault). f.offset) h.fault_is;
         tokens = h.tokens;
         reads = h.reads;
-        shown = rw h.fault_is (first_difference z class h.tokens h.size.some_columns known.0 known.1 h.position h.first);
+        shown = rw h.fault_is
+            (first_difference z class h.tokens h.size.some_columns known.0 known.1 h.position h.first);
       }

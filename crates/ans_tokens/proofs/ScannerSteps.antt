@@ -92,7 +92,8 @@ pub too_large : (p : Part) (y : List ℕ) (k b : ℕ) → SpellsPart p y → p.c
     → largest_number < k * 10 + (b - 48) → ¬ IsPrefixOfSpelling (y ++ b ∷ []) × IsPrefixOfLoose (y ++ b ∷ [])
 too_large p y k b h c d large =
     let last : SpellsCurrent (InNumber k) h.loose.last = rw c at h.loose.current in
-    let more : largest_number < digits_value 10 (h.loose.last ++ b ∷ []) = rw (value_of_more k b h.loose.last last d) large in
+    let more : largest_number < digits_value 10 (h.loose.last ++ b ∷ []) =
+    rw (value_of_more k b h.loose.last last d) large in
     let next : Current = InNumber (k * 10 + (b - 48)) in (
       refuses_number p y k b h.loose c d more,
       part_loose (with_current p next) (y ++ b ∷ [])

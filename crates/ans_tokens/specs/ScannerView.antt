@@ -37,7 +37,8 @@ KeepsCurrent (InString quote) c = (text : List ℕ) × (c ≡ parts.InString quo
 KeepsCurrent AfterString c = (quote : ℕ) × (text : List ℕ) × (c ≡ parts.AfterString quote text)
 
 -- what is kept of a part of a sequence
-pub record KeepsPart (mark : Mark) (numbers : List ℕ) (quoted : Bool) (current : KeptMember) (part : Part) : Type 0 where
+pub record KeepsPart (mark : Mark) (numbers : List ℕ) (quoted : Bool) (current : KeptMember)
+    (part : Part) : Type 0 where
   pub mark_is : part.mark ≡ mark
   pub numbers_are : map colour_number part.done ≡ numbers
   pub quoted_is : list_any is_quoted part.done ≡ quoted

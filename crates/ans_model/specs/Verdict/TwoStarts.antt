@@ -37,7 +37,8 @@ pub record IsFirstDifference (z : Size) (class : Class) (tokens : List TokenKind
   pub stated : IsStated z position
   pub row_is : row ≡ position.row + 1
   pub column_is : column ≡ position.column + 1
-  pub differs : cell_at z (low_final z class tokens).screen position ≢ cell_at z (high_final z class tokens).screen position
+  pub differs : cell_at z (low_final z class tokens).screen position
+      ≢ cell_at z (high_final z class tokens).screen position
   pub earlier : (p : Position) → IsStated z p → IsBefore p position
       → cell_at z (low_final z class tokens).screen p ≡ cell_at z (high_final z class tokens).screen p
 

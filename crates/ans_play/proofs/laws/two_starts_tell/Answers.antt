@@ -5,4 +5,5 @@ pub returns-clause-cursors : goal.returns-clause-cursors
 returns-clause-cursors c z class tokens size prints clean = cursor_between z class size.some_columns tokens prints clean
 
 pub returns-clause-cells : goal.returns-clause-cells
-returns-clause-cells c z class tokens p size prints clean = same_where_agreed z class size.some_columns tokens prints clean p
+returns-clause-cells c z class tokens p size prints clean =
+    same_where_agreed z class size.some_columns tokens prints clean p
