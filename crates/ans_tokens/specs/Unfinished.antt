@@ -6,8 +6,8 @@ use Rattle.ans_model.specs.Verdict.FirstFault.{IsWhy}
 use Rattle.ans_tokens.specs.Mark.{mark_of, is_mark_byte}
 use Rattle.ans_tokens.specs.ScannerView.{KeepsPart}
 use Rattle.ans_tokens.specs.KeptMember.{kept_member}
-use Rattle.ans_tokens.specs.declared.unfinished.Step.{Step}
-use Rattle.ans_tokens.specs.declared.unfinished.Step.TheVariants.{More, Letter, Refused}
+use Rattle.ans_tokens.specs.declared.unfinished.Continuation.{Continuation}
+use Rattle.ans_tokens.specs.declared.unfinished.Continuation.TheVariants.{More, Letter, Refused}
 use Rattle.ans_tokens.specs.declared.unfinished.Unfinished.{Unfinished}
 
 -- this is the state of the part
@@ -35,7 +35,7 @@ abbrev pub with_next : Part → Part
 with_next part = record { mark = part.mark; done = part.done ++ member_of part.current ∷ []; current = Fresh }
 
 -- After the open part, which the part spells, the byte leaves the sequence unfinished, is its letter, or is refused.
-abbrev pub Outcome : Step → Unfinished → Part → List ℕ → ℕ → Type 0
+abbrev pub Outcome : Continuation → Unfinished → Part → List ℕ → ℕ → Type 0
 Outcome More held part open_part byte =
     (next : Part) × IsStateOf held next × SpellsPart next (open_part ++ byte ∷ [])
 Outcome Letter held part open_part byte =

@@ -8,7 +8,7 @@ ghost use Rattle.ans_model.specs.Inside.ShownKind.{shown_kind};
 
 use crate::glyphs::count_glyphs;
 use crate::token::Token;
-use crate::unfinished::{Step, Unfinished};
+use crate::unfinished::{Continuation, Unfinished};
 use ans_model::fault::{Cause, Fault};
 use ans_model::kind::Kind;
 use std::marker::Model;
@@ -80,12 +80,12 @@ impl Open {
                 Ok(None)
             }
             Open::Sequence(sequence) => match sequence.advance(byte) {
-                Step::More => Ok(None),
-                Step::Letter => match sequence.finish(byte) {
+                Continuation::More => Ok(None),
+                Continuation::Letter => match sequence.finish(byte) {
                     Ok(kind) => Ok(Some(kind)),
                     Err(cause) => Err(cause),
                 },
-                Step::Refused(cause) => Err(cause),
+                Continuation::Refused(cause) => Err(cause),
             },
         }
     }

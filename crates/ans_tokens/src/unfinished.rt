@@ -61,9 +61,9 @@ impl Current {
     }
 }
 
-/// What the next byte makes of an unfinished sequence.
+/// How an unfinished sequence goes on with the next byte.
 #[derive(Debug, Clone, Copy, PartialEq, Eq)]
-pub(crate) enum Step {
+pub(crate) enum Continuation {
     /// It is still unfinished.
     More,
     /// The byte is its letter.
@@ -107,7 +107,7 @@ impl Unfinished {
     }
 
     /// Takes the next byte.
-    pub(crate) fn advance(&mut self, byte: u8) -> Step
+    pub(crate) fn advance(&mut self, byte: u8) -> Continuation
         ensures { (part : Part) (open_part : List ℕ) → IsStateOf self.old part
             → SpellsPart part open_part → Outcome result self.new part open_part byte }
     {
@@ -116,7 +116,7 @@ impl Unfinished {
                 if byte == quote {
                     self.current = Current::AfterString;
                 }
-                Step::More
+                Continuation::More
             }
             Current::AfterString => self.stop(byte),
             Current::InNumber(value) => {
@@ -125,32 +125,32 @@ impl Unfinished {
                 }
                 let next = value as u16 * 10 + (byte - b'0') as u16;
                 if next > u8::MAX as u16 {
-                    return Step::Refused(Cause::NumberTooLarge);
+                    return Continuation::Refused(Cause::NumberTooLarge);
                 }
                 self.current = Current::InNumber(next as u8);
-                Step::More
+                Continuation::More
             }
             Current::Fresh => self.begin(byte),
         }
     }
 
     /// Takes a byte where a member may begin.
-    fn begin(&mut self, byte: u8) -> Step
+    fn begin(&mut self, byte: u8) -> Continuation
         requires { (part : Part) → IsStateOf self.old part → part.current ≡ Fresh }
         ensures { (part : Part) (open_part : List ℕ) → IsStateOf self.old part
             → SpellsPart part open_part → Outcome result self.new part open_part byte }
     {
         if byte.is_ascii_digit() {
             self.current = Current::InNumber(byte - b'0');
-            return Step::More;
+            return Continuation::More;
         }
         if byte == b'"' || byte == b'\'' {
             self.current = Current::InString(byte);
-            return Step::More;
+            return Continuation::More;
         }
         if let Some(mark) = self.mark_at(byte) {
             self.mark = mark;
-            return Step::More;
+            return Continuation::More;
         }
         self.stop(byte)
     }
@@ -168,7 +168,7 @@ impl Unfinished {
     }
 
     /// Takes a byte after a whole member.
-    fn stop(&mut self, byte: u8) -> Step
+    fn stop(&mut self, byte: u8) -> Continuation
         requires { (part : Part) → IsStateOf self.old part → lacks part.current ≡ [] }
         ensures { (part : Part) (open_part : List ℕ) → IsStateOf self.old part
             → SpellsPart part open_part
@@ -177,14 +177,14 @@ impl Unfinished {
     {
         if byte == b';' {
             if self.done.len() + 1 >= MAX_PARAMETERS {
-                return Step::Refused(Cause::TooManyParameters);
+                return Continuation::Refused(Cause::TooManyParameters);
             }
             self.end_member();
-            Step::More
+            Continuation::More
         } else if byte.is_ascii_alphabetic() {
-            Step::Letter
+            Continuation::Letter
         } else {
-            Step::Refused(Cause::BrokenSequence)
+            Continuation::Refused(Cause::BrokenSequence)
         }
     }
 
