@@ -18,10 +18,10 @@ use Rattle.ans_model.proofs.OneAnswer.{well_is_clean}
 
 module _ (z : Size) (class : Class) (tokens : List TokenKind) (clean : IsClean z class tokens) where
   -- a token that would have a fault where positions differ stands at one position
-  pub at_one_place : (k : ℕ) (t : TokenKind) (cause : Cause) → slice_get tokens k ≡ Some t
+  pub at_one_position : (k : ℕ) (t : TokenKind) (cause : Cause) → slice_get tokens k ≡ Some t
       → (PositionsDiffer z class (take k tokens) → HasFault z class (take k tokens) t cause)
       → SamePosition z class (take k tokens)
-  at_one_place k t cause e f s r start_s start_r =
+  at_one_position k t cause e f s r start_s start_r =
       elim (position_eq (final z s (take k tokens)).cursor (final z r (take k tokens)).cursor) [
         | inl same ↦ same
         | inr ne ↦ absurd (clean k cause (t, e, f (s, r, start_s, start_r, ne)))
@@ -41,7 +41,7 @@ module _ (z : Size) (class : Class) (tokens : List TokenKind) (clean : IsClean z
   pub no_print_below : (k byte : ℕ) → slice_get tokens k ≡ Some (Glyph byte)
       → FromEvery z class (λ s. ¬ IsInSpareRow z (take k tokens) s)
   no_print_below k byte e s start below =
-      let same : SamePosition z class (take k tokens) = at_one_place k (Glyph byte) PrintUnknownPlace e (λ n. inr n) in
+      let same : SamePosition z class (take k tokens) = at_one_position k (Glyph byte) PrintUnknownPlace e (λ n. inr n) in
       clean k PrintBelow
       (Glyph byte, e, inr (same, λ r start_r. ap (λ (p : Position). p.row) (same r s start_r start) ∙ below))
 
