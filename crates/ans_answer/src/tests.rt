@@ -14,6 +14,7 @@ use std::process::Abort;
 /// Asserts the cells' bytes, and their attributes where these are compared.
 fn assert_cells(rt: &impl Abort, cells: &[Cell], bytes: &[u8], attributes: &[u8]) {
     assert_eq!(rt; cells.len(), bytes.len());
+    assert!(rt; attributes.is_empty() || attributes.len() == bytes.len());
     for (cell, byte) in cells.iter().zip(bytes) {
         assert_eq!(rt; cell.byte, *byte);
     }

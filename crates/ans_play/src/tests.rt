@@ -26,6 +26,7 @@ fn assert_shows<G: Grid>(rt: &impl Abort, picture: &Picture<G>, bytes: &[u8], at
     let lines = picture.lines();
     assert!(rt; width <= 10 && lines <= 10);
     assert_eq!(rt; bytes.len(), width * lines);
+    assert!(rt; attributes.is_empty() || attributes.len() == bytes.len());
     for row in 0..lines {
         for col in 0..width {
             let i = row * width + col;

@@ -30,7 +30,7 @@ impl Failure {
 
 /// A reader or writer of which one call fails. The calls before and after it work. It counts its
 /// calls.
-#[derive(Drop)]
+#[derive(Clone, Copy, Drop)]
 pub struct FailingOnce<D> {
     device: D,
     failing_call: u64,

@@ -75,10 +75,7 @@ fn refuse_words(rt: &(impl Print + Eprint), error: &WordsError) -> Ending
         (Ending::Usage, WordsError::Clap(text)) => rt.eprint(text),
         _ => Ok(()),
     };
-    match printed {
-        Ok(()) => ending,
-        Err(_) => Ending::Run(Err(RunError::Write)),
-    }
+    ending.after_printing(printed)
 }
 
 /// Fetches the words, and does what they ask for.
@@ -97,10 +94,9 @@ fn program(rt: &HostRuntime) -> Ending {
         return Ending::UnreadableWords;
     };
     match prepare(rt, words.as_slice()) {
-        Ok((options, input)) => match serve(rt.alloc(), input, rt.stdout(), &options) {
-            Ok((passed, _)) => Ending::Run(Ok(passed)),
-            Err(error) => Ending::Run(Err(error)),
-        },
+        Ok((options, input)) => {
+            Ending::of_served(&serve(rt.alloc(), input, rt.stdout(), &options))
+        }
         Err(Unready::Words(error)) => refuse_words(rt, &error),
         Err(Unready::File) => Ending::UnopenedFile,
     }

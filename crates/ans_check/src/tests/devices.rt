@@ -1,10 +1,9 @@
 //! Readers and writers that fail.
-ghost use Rattle.std.specs.Prelude.{◌≤◌};
-
 use super::{ANY, CLEARED, HI_REPORT, SAUCE, TOKENS, expect_run, plain_file, run_once};
 use crate::{Options, RunError, run};
 use ans_report::Tried;
-use std::io::{self, Read, Write};
+use ans_samples::{FailingOnce, Failure, Narrow};
+use std::io::{self, Read};
 use std::process::Abort;
 
 const HI_RECORD: &[u8] = b"title: \n\
@@ -90,40 +89,6 @@ fn a_reader_that_fails_leaves_nothing_written(rt: HostRuntime) {
     }
 }
 
-/// The most bytes that a `Flaky` device holds.
-const SIZE: usize = 128;
-
-/// Takes one byte a write, and fails at one of the writes alone.
-#[derive(Drop)]
-struct Flaky {
-    held: [u8; SIZE],
-    length: usize,
-    writes: u64,
-    fails_at: u64,
-    ghost within: { length ≤ 128 },
-}
-
-impl Write for Flaky {
-    fn write(&mut self, buf: &[u8]) -> io::Result<usize> {
-        self.writes = self.writes.saturating_add(1);
-        if self.writes == self.fails_at || self.length >= SIZE {
-            return Err(io::Error::from(io::ErrorKind::Other));
-        }
-        match buf.first() {
-            Some(byte) => {
-                self.held[self.length] = *byte;
-                self.length += 1;
-                Ok(1)
-            }
-            None => Ok(0),
-        }
-    }
-
-    fn flush(&mut self) -> io::Result<()> {
-        Ok(())
-    }
-}
-
 /// Asserts that a run ends at the one write that fails, with a prefix of its text written.
 fn expect_end_at_write(
     rt: &(impl Abort + AllocGlobal),
@@ -134,19 +99,15 @@ fn expect_end_at_write(
 ) {
     for _ in 0..2 {
         let mut reader = Tried::new(file);
-        let mut writer = Tried::new(Flaky {
-            held: [0; SIZE],
-            length: 0,
-            writes: 0,
-            fails_at,
-        });
+        let device = FailingOnce::new(Narrow::new(128), fails_at, Failure::Error);
+        let mut writer = Tried::new(device);
         let answer = run(rt.alloc(), &mut reader, &mut writer, asked);
         if answer != Err(RunError::Memory) {
             assert!(rt; answer == Err(RunError::Write), "at {fails_at}");
             assert_eq!(rt; writer.calls(), fails_at);
             let device = writer.into_inner();
-            assert_eq!(rt; device.writes, fails_at);
-            assert_eq!(rt; &device.held[..device.length], written);
+            assert_eq!(rt; device.calls(), fails_at);
+            assert_eq!(rt; device.device().held(), written);
             return;
         }
     }

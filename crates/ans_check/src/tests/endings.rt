@@ -1,8 +1,9 @@
 //! How the program ends.
 use super::{CLEARED, HI_REPORT, plain_file};
 use crate::{Ending, RunError, serve, status};
+use ans_samples::{FailingOnce, Failure};
 use std::fmt::Display;
-use std::io::{self, Write};
+use std::io::{self, Read, Write};
 use std::process::Abort;
 
 /// How a value is displayed. Where memory was refused it is displayed once more.
@@ -61,9 +62,9 @@ fn endings_have_their_statuses_and_texts(rt: HostRuntime) {
 
 /// A device with room for so many bytes, which may fail to flush.
 #[derive(Clone, Copy)]
-struct Output {
-    room: usize,
-    flushes: bool,
+pub(super) struct Output {
+    pub(super) room: usize,
+    pub(super) flushes: bool,
 }
 
 impl Write for Output {
@@ -82,14 +83,14 @@ impl Write for Output {
     }
 }
 
-/// What serving a file into a device returns: whether it passes, and how much room is left.
-fn serve_once(
+/// What serving an input into a device returns: whether it passes, and how much room is left.
+pub(super) fn serve_once<R: Read + Copy + Drop>(
     rt: &(impl Abort + AllocGlobal),
-    file: &[u8],
+    input: R,
     output: Output,
 ) -> Result<(bool, usize), RunError> {
-    let answer = match serve(rt.alloc(), file, output, &CLEARED) {
-        Err(RunError::Memory) => serve(rt.alloc(), file, output, &CLEARED),
+    let answer = match serve(rt.alloc(), input, output, &CLEARED) {
+        Err(RunError::Memory) => serve(rt.alloc(), input, output, &CLEARED),
         answer => answer,
     };
     match answer {
@@ -122,19 +123,35 @@ fn a_report_is_flushed(rt: HostRuntime) {
         room: 100,
         flushes: true,
     };
-    assert!(rt; serve_once(&rt, &[b'S'; 127], output) == Ok((false, 56)));
+    assert!(rt; serve_once(&rt, [b'S'; 127].as_slice(), output) == Ok((false, 56)));
     let output = Output {
         flushes: false,
         ..output
     };
-    assert!(rt; serve_once(&rt, &[b'S'; 127], output) == Err(RunError::Write));
+    assert!(rt; serve_once(&rt, [b'S'; 127].as_slice(), output) == Err(RunError::Write));
+}
+
+#[test]
+fn errors_of_a_run_are_served(rt: HostRuntime) {
+    let output = Output {
+        room: 100,
+        flushes: true,
+    };
+    let file = plain_file(&rt, b"Hi", 2, 1);
+    let input = FailingOnce::new(file.as_slice(), 2, Failure::Error);
+    assert!(rt; serve_once(&rt, input, output) == Err(RunError::Read));
+    // Its report is longer than the buffer, so the run itself meets the full output.
+    let file = plain_file(&rt, b"", 80, 200);
+    assert!(rt; serve_once(&rt, file.as_slice(), output) == Err(RunError::Write));
 }
 
 #[test]
 fn an_output_takes_the_text(rt: HostRuntime) {
     let file = plain_file(&rt, b"Hi", 2, 1);
     let answer = match serve(rt.alloc(), file.as_slice(), Vec::new(rt.alloc()), &CLEARED) {
-        Err(_) => serve(rt.alloc(), file.as_slice(), Vec::new(rt.alloc()), &CLEARED),
+        Err(RunError::Memory) => {
+            serve(rt.alloc(), file.as_slice(), Vec::new(rt.alloc()), &CLEARED)
+        }
         answer => answer,
     };
     let (passed, text) = answer.expect(&rt, "no answer");

@@ -1,8 +1,9 @@
 //! Files of many chunks, and screens as wide and as long as they may be.
+use super::endings::{Output, serve_once};
 use super::{CLEARED, file_of, file_of_size, run_once};
 use crate::{RunError, Start, Verdict, check};
 use ans_samples::Narrow;
-use ans_sauce::MAX_FILE;
+use ans_sauce::{Cause, Fault, MAX_FILE};
 use ans_screen::PlainGrid;
 use std::alloc::AllocError;
 use std::io::{self, Read};
@@ -102,6 +103,21 @@ fn files_are_read_up_to_the_largest(rt: HostRuntime) {
     assert!(rt; written.held().is_empty());
 }
 
+#[test]
+fn a_longer_file_is_not_served(rt: HostRuntime) {
+    let input = Overprinted {
+        first: b"",
+        line: &[b'y'; 1024],
+        left: MAX_FILE,
+        last: b"y",
+    };
+    let output = Output {
+        room: 100,
+        flushes: true,
+    };
+    assert!(rt; serve_once(&rt, input, output) == Err(RunError::TooLong));
+}
+
 /// The glyph of a cell, where those that are not listed are blank.
 fn glyph_at(glyphs: &[(usize, usize, u8)], row: usize, column: usize) -> u8 {
     for (its_row, its_column, glyph) in glyphs {
@@ -115,25 +131,24 @@ fn glyph_at(glyphs: &[(usize, usize, u8)], row: usize, column: usize) -> u8 {
 /// Some rows of a long screen: the first two, one in the middle and the last.
 const SOME_ROWS: [usize; 4] = [0, 1, 4096, 8191];
 
-/// Asserts that a file passes from the cleared screen, and that its picture has these glyphs on
-/// blanks in the rows looked at.
+/// Asserts that a file passes, and that its picture has these glyphs on blanks of attribute 07h in
+/// the rows looked at.
 fn expect_glyphs(
     rt: &(impl Abort + AllocGlobal),
     file: &[u8],
-    width: usize,
-    lines: usize,
+    start: Start,
+    size: (usize, usize),
     rows: &[usize],
     glyphs: &[(usize, usize, u8)],
 ) {
     assert!(rt; file.len() <= MAX_FILE);
-    let verdict = match check::<PlainGrid>(rt.alloc(), file, Start::Cleared) {
+    let verdict = match check::<PlainGrid>(rt.alloc(), file, start) {
         Ok(verdict) => verdict,
-        Err(AllocError) => check(rt.alloc(), file, Start::Cleared).expect(rt, "memory"),
+        Err(AllocError) => check(rt.alloc(), file, start).expect(rt, "memory"),
     };
     match verdict {
         Verdict::Pass(_, picture) => {
-            assert_eq!(rt; picture.width(), width);
-            assert_eq!(rt; picture.lines(), lines);
+            assert_eq!(rt; (picture.width(), picture.lines()), size);
             for row in rows {
                 assert!(rt; *row < picture.lines());
                 for column in 0..picture.width() {
@@ -152,7 +167,14 @@ fn the_widest_screen_is_played(rt: HostRuntime) {
     let content = b"A\x1b[255C\x1b[255C\x1b[255C\x1b[255C\x1b[255CBC";
     let glyphs = [(0, 0, b'A'), (0, 1023, b'B'), (1, 0, b'C')];
     let file = file_of_size(&rt, content, 1024, 2);
-    expect_glyphs(&rt, file.as_slice(), 1024, 2, &[0, 1], &glyphs);
+    expect_glyphs(
+        &rt,
+        file.as_slice(),
+        Start::Cleared,
+        (1024, 2),
+        &[0, 1],
+        &glyphs,
+    );
 }
 
 #[test]
@@ -162,7 +184,14 @@ fn the_longest_screen_is_played(rt: HostRuntime) {
     content[8191] = b'B';
     let file = file_of_size(&rt, &content, 1, 8192);
     let glyphs = [(0, 0, b'A'), (8191, 0, b'B')];
-    expect_glyphs(&rt, file.as_slice(), 1, 8192, &SOME_ROWS, &glyphs);
+    expect_glyphs(
+        &rt,
+        file.as_slice(),
+        Start::Cleared,
+        (1, 8192),
+        &SOME_ROWS,
+        &glyphs,
+    );
 }
 
 #[test]
@@ -172,5 +201,79 @@ fn the_largest_screen_is_played(rt: HostRuntime) {
     content[8192..].copy_from_slice(b"\x1b[255C\x1b[255C\x1b[255C\x1b[255C\x1b[255CB");
     let file = file_of_size(&rt, &content, 1024, 8192);
     let glyphs = [(0, 0, b'A'), (8191, 1023, b'B')];
-    expect_glyphs(&rt, file.as_slice(), 1024, 8192, &SOME_ROWS, &glyphs);
+    expect_glyphs(
+        &rt,
+        file.as_slice(),
+        Start::Cleared,
+        (1024, 8192),
+        &SOME_ROWS,
+        &glyphs,
+    );
+}
+
+#[test]
+fn the_largest_screen_is_cleared_from_any_start(rt: HostRuntime) {
+    let file = file_of_size(&rt, b"\x1b[0m\x1b[2J", 1024, 8192);
+    expect_glyphs(
+        &rt,
+        file.as_slice(),
+        Start::Any,
+        (1024, 8192),
+        &SOME_ROWS,
+        &[],
+    );
+}
+
+/// The 4096 bytes that are fed at once end within the sequence.
+#[test]
+fn a_sequence_crosses_two_pieces(rt: HostRuntime) {
+    let mut content = [b'a'; 4100];
+    content[4095..].copy_from_slice(b"\x1b[1mb");
+    let file = file_of_size(&rt, &content, 80, 52);
+    assert!(rt; file.len() <= MAX_FILE);
+    let verdict = match check::<PlainGrid>(rt.alloc(), file.as_slice(), Start::Cleared) {
+        Ok(verdict) => verdict,
+        Err(AllocError) => {
+            check(rt.alloc(), file.as_slice(), Start::Cleared).expect(&rt, "memory")
+        }
+    };
+    match verdict {
+        Verdict::Pass(_, picture) => {
+            assert!(rt; picture.width() == 80 && picture.lines() == 52);
+            assert_eq!(rt; picture.glyph(51, 14), b'a');
+            assert_eq!(rt; picture.glyph(51, 15), b'b');
+            assert_eq!(rt; picture.attr(51, 15), 0x0F);
+            for column in 16..80 {
+                assert_eq!(rt; picture.glyph(51, column), b' ');
+                assert_eq!(rt; picture.attr(51, column), 0x07);
+            }
+        }
+        Verdict::Refused(_, _) => panic!(rt; "a pass was expected"),
+    }
+}
+
+#[test]
+fn long_sequences_are_read(rt: HostRuntime) {
+    let mut content = [b'0'; 1004];
+    content[..2].copy_from_slice(b"\x1b[");
+    content[1002..].copy_from_slice(b"5C");
+    let file = file_of_size(&rt, &content, 2, 1);
+    expect_glyphs(&rt, file.as_slice(), Start::Cleared, (2, 1), &[0], &[]);
+    let mut content = [0x1b; 100_003];
+    content[1] = b'[';
+    content[2] = b'"';
+    let file = file_of_size(&rt, &content, 2, 1);
+    assert!(rt; file.len() <= MAX_FILE);
+    let fault = Fault {
+        offset: 0,
+        cause: Cause::EndInSequence,
+    };
+    match check::<PlainGrid>(rt.alloc(), file.as_slice(), Start::Cleared) {
+        Ok(Verdict::Refused(_, found)) => assert_eq!(rt; found, fault),
+        Ok(Verdict::Pass(_, _)) => panic!(rt; "a refusal was expected"),
+        Err(AllocError) => match check::<PlainGrid>(rt.alloc(), file.as_slice(), Start::Cleared) {
+            Ok(Verdict::Refused(_, found)) => assert_eq!(rt; found, fault),
+            _ => panic!(rt; "a refusal was expected"),
+        },
+    }
 }

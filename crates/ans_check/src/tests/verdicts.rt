@@ -36,6 +36,7 @@ fn is_of_the_record(cause: Cause) -> bool {
 fn assert_shows(rt: &impl Abort, picture: &Picture<PlainGrid>, bytes: &[u8], attributes: &[u8]) {
     let width = picture.width();
     assert_eq!(rt; bytes.len(), width * picture.lines());
+    assert!(rt; attributes.is_empty() || attributes.len() == bytes.len());
     for row in 0..picture.lines() {
         for col in 0..width {
             let i = row * width + col;
