@@ -62,11 +62,17 @@ advance_keeps z s n = go (nat_lt (s.cursor.column + 1) z.width) s.wrap
 
 pub clean_never_scrolls : CleanNeverScrolls
 clean_never_scrolls z class tokens k LineFeed size clean e s start =
-    feed_keeps z (final z s (take k tokens)) (no_feed_below z class tokens clean k e s start)
+    let now : State = final z s (take k tokens) in
+    let above : now.cursor.row ≢ z.lines = no_feed_below z class tokens clean k e s start in
+    record { never_scrolls = above; in_place = feed_keeps z now above }
 clean_never_scrolls z class tokens k (Glyph byte) size clean e s start =
     let now : State = final z s (take k tokens) in
-    advance_keeps z (printed z now byte) (no_print_below z class tokens clean k byte e s start)
-clean_never_scrolls z class tokens k _ size clean e s start = refl
+    let above : now.cursor.row ≢ z.lines = no_print_below z class tokens clean k byte e s start in
+    record {
+      never_scrolls = λ scrolls. above scrolls.0;
+      in_place = advance_keeps z (printed z now byte) above;
+    }
+clean_never_scrolls z class tokens k _ size clean e s start = record { never_scrolls = λ h. h; in_place = refl }
 
 pub good_never_scrolls : GoodNeverScrolls
 good_never_scrolls z class content tokens k t (picture, good) reads e =

@@ -149,20 +149,26 @@ screen_in_place z s EraseLine = filled s.screen (index z s.cursor) (next_row_sta
 screen_in_place z s (Glyph byte) = set s.screen (index z s.cursor) (cell byte s.attribute)
 screen_in_place z s _ = s.screen
 
--- from this start, a token after these ones moves no row of the screen
-abbrev pub WritesInPlace : Size → List TokenKind → TokenKind → State → Type 0
-WritesInPlace z played t start =
-    let now = final z start played in (step z now t).screen ≡ screen_in_place z now t
+-- the token scrolls here: a line feed in the spare row, or a byte printed in its last column where wrap is on
+abbrev pub ScrollsAt : Size → State → TokenKind → Type 0
+ScrollsAt z s LineFeed = s.cursor.row ≡ z.lines
+ScrollsAt z s (Glyph byte) = PrintScrolls z s
+ScrollsAt z s _ = ⊥
+
+-- the token does not scroll here, and what it writes to the screen it writes in place
+pub record WritesInPlace (z : Size) (s : State) (t : TokenKind) : Type 0 where
+  pub never_scrolls : ¬ ScrollsAt z s t
+  pub in_place : (step z s t).screen ≡ screen_in_place z s t
 
 -- Where tokens are clean none of them scrolls, from any start: not a line feed, and not a print that wraps.
 abbrev pub CleanNeverScrolls : Type 0
 CleanNeverScrolls =
     (z : Size) (class : Class) (tokens : List TokenKind) (k : ℕ) (t : TokenKind) → IsSize z → IsClean z class tokens
-    → slice_get tokens k ≡ Some t → FromEvery z class (WritesInPlace z (take k tokens) t)
+    → slice_get tokens k ≡ Some t → FromEvery z class (λ s. WritesInPlace z (final z s (take k tokens)) t)
 
 -- The tokens that good content reads as never scroll, from any start.
 abbrev pub GoodNeverScrolls : Type 0
 GoodNeverScrolls =
     (z : Size) (class : Class) (content : List ℕ) (tokens : List TokenKind) (k : ℕ) (t : TokenKind)
     → IsGood z class content → Reads content tokens
-    → slice_get tokens k ≡ Some t → FromEvery z class (WritesInPlace z (take k tokens) t)
+    → slice_get tokens k ≡ Some t → FromEvery z class (λ s. WritesInPlace z (final z s (take k tokens)) t)
