@@ -65,7 +65,7 @@ pub fn line_feeds_go_down()
     ensures scrolls { LineFeedScrolls }
 {}
 
-/// A step leaves a state of the machine.
+/// After a step the state is still one of the machine.
 pub fn steps_are_well_formed()
     ensures { StepsAreWellFormed }
 {}

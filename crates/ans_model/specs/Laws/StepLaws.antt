@@ -26,16 +26,16 @@ pub record OnlyScreenAndCursor (s t : State) : Type 0 where
   pub attribute : t.attribute ≡ s.attribute
   pub wrap : t.wrap ≡ s.wrap
 
--- Save changes the saved cursor alone.
+-- Save copies the cursor to the saved cursor, and changes nothing else.
 abbrev pub SavesCursor : Type 0
 SavesCursor = (z : Size) (s : State) → step z s Save ≡ record s { saved = s.cursor }
 
--- Colours change the attribute alone.
+-- Colours apply the parameters to the attribute, one after the other, and change nothing else.
 abbrev pub ColoursChangeAttribute : Type 0
 ColoursChangeAttribute = (z : Size) (s : State) (parameters : List ℕ)
     → step z s (Colours parameters) ≡ record s { attribute = attribute_after_all s.attribute parameters }
 
--- Wrap changes wrap alone.
+-- Wrap sets wrap on or off, and changes nothing else.
 abbrev pub WrapChangesWrap : Type 0
 WrapChangesWrap = (z : Size) (s : State) (on : Bool) → step z s (Wrap on) ≡ record s { wrap = on }
 
@@ -137,7 +137,7 @@ abbrev pub LineFeedScrolls : Type 0
 LineFeedScrolls = (z : Size) (s : State) → IsWellFormed z s → s.cursor.row ≡ z.lines
     → IsScrolled z s (step z s LineFeed)
 
--- A step leaves a state of the machine.
+-- After a step the state is still one of the machine.
 abbrev pub StepsAreWellFormed : Type 0
 StepsAreWellFormed = (z : Size) (s : State) (t : TokenKind) → IsSize z → PrintsByte t → IsWellFormed z s
     → IsWellFormed z (step z s t)
