@@ -41,7 +41,7 @@ module _ (z : Size) (class : Class) (tokens : List TokenKind) (clean : IsClean z
   pub no_print_below : (k byte : ℕ) → slice_get tokens k ≡ Some (Glyph byte)
       → FromEvery z class (λ s. ¬ IsInSpareRow z (take k tokens) s)
   no_print_below k byte e s start below =
-      let same : SamePosition z class (take k tokens) = at_one_position k (Glyph byte) PrintUnknownPlace e (λ n. inr n) in
+      let same : SamePosition z class (take k tokens) = at_one_position k (Glyph byte) PrintUnknownPlace e inr in
       clean k PrintBelow
       (Glyph byte, e, inr (same, λ r start_r. ap (λ (p : Position). p.row) (same r s start_r start) ∙ below))
 
