@@ -28,8 +28,8 @@ fn assert_held(rt: &impl Abort, device: Tried<Narrow>, text: &[u8]) {
 /// The ways in which a write fails.
 const FAILURES: [Failure; 3] = [Failure::Error, Failure::Interruption, Failure::Nothing];
 
-/// A device that takes one byte a call. After this many it fails once, in each of the ways in turn,
-/// and would then take more.
+/// A device that takes this many bytes, one a call, then fails once, and would then take more. The
+/// ways of failing take turns as the number grows.
 fn failing_after(taken: usize) -> Tried<FailingOnce<Narrow>>
     ensures { has_failed result ≡ false }
 {
