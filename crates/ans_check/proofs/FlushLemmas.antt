@@ -1,7 +1,5 @@
 -- What has gone through a buffer that was flushed.
-use Rattle.std.proofs.Common.{◌≡◌, ◌∙◌, ◌++◌, ℕ, false, true≢false, List, [], Option, Some, None}
-use Rattle.std.proofs.Common.{sym, ap, subst, append-nil}
-use Rattle.std.specs.Prelude.{OnOk, Result, Ok, Err, is_err}
+use Rattle.std.proofs.Common.{◌≡◌, ◌∙◌, ◌++◌, ℕ, List, [], Option, Some, None, sym, ap, subst, append-nil}
 use Rattle.std.specs.Io.Buffered.{writer_buffer, writer_contents, writer_inner}
 use Rattle.std.specs.Io.KnownBytes.{Appends, Keeps, append_known}
 use Rattle.std.specs.declared.io.buffered.BufWriter.{BufWriter}
@@ -22,15 +20,13 @@ held_for contents b w inner empty =
     ap (λ (v : List ℕ). append_known (contents (writer_inner b)) v) empty
     ∙ ap (λ v. append_known (contents v) []) inner
 
--- A new buffer took the text and was flushed: then its writer has the text.
-pub flushed_behind : {W A U E : Type 0} (contents : W → Option (List ℕ)) (before after : W)
-    (made left over : BufWriter W A) (r : Result U E) (text : List ℕ) → writer_inner made ≡ before
-    → writer_buffer made ≡ [] → Appends (writer_contents contents made) (writer_contents contents left) text
-    → Keeps (writer_contents contents left) (writer_contents contents over) → OnOk r (writer_buffer over ≡ [])
-    → false ≡ is_err r → after ≡ writer_inner over → Appends (contents before) (contents after) text
-flushed_behind contents before after made left over (Err e) text inner empty h k flushed ok back =
-    absurd (true≢false (sym ok))
-flushed_behind contents before after made left over (Ok u) text inner empty h k flushed ok back =
+-- a new buffer took the text and is empty again: then its writer has the text
+pub flushed_behind : {W A : Type 0} (contents : W → Option (List ℕ)) (before after : W) (made left over : BufWriter W A)
+    (text : List ℕ) → writer_inner made ≡ before → writer_buffer made ≡ []
+    → Appends (writer_contents contents made) (writer_contents contents left) text
+    → Keeps (writer_contents contents left) (writer_contents contents over) → writer_buffer over ≡ []
+    → after ≡ writer_inner over → Appends (contents before) (contents after) text
+flushed_behind contents before after made left over text inner empty h k flushed back =
     appended_behind (contents before) (writer_contents contents left) (contents after) text
     (subst (λ v. Appends v (writer_contents contents left) text) (held_for contents made before inner empty) h)
     (subst (λ v. Keeps (writer_contents contents left) v) (held_for contents over after (sym back) flushed) k)

@@ -1,6 +1,7 @@
 //! From an input to an output, through a buffer.
-ghost use Rattle.std.specs.Prelude.{◌≡◌, ℕ, List, Option, IfOk};
-ghost use Rattle.std.specs.Io.KnownBytes.{Appends};
+ghost use Rattle.std.specs.Prelude.{◌≡◌, ℕ, List, [], Option, IfOk, OnOk};
+ghost use Rattle.std.specs.Io.Buffered.{writer_buffer, writer_contents};
+ghost use Rattle.std.specs.Io.KnownBytes.{Appends, Keeps};
 ghost use Rattle.ans_check.specs.CommandText.{Reports};
 ghost use Rattle.ans_check.specs.Run.{HasRead};
 
@@ -10,6 +11,18 @@ use crate::pipeline::run;
 use ans_report::Tried;
 use std::alloc::Global;
 use std::io::{BufWriter, Read, Write};
+
+/// Hands all that the buffer holds to its writer.
+fn flush_buffer<W: Write + Drop>(buffer: &mut BufWriter<W>) -> Result<(), RunError>
+    ensures empty { OnOk result (writer_buffer buffer.new ≡ []) }
+    ensures bytes { Keeps (writer_contents W.contents buffer.old)
+        (writer_contents W.contents buffer.new) }
+{
+    match buffer.flush() {
+        Ok(()) => Ok(()),
+        Err(_) => Err(RunError::Write),
+    }
+}
 
 /// Runs on an input, and writes to an output through a buffer of 8 KiB, which is flushed once the
 /// run has its answer. Returns whether the file passes, and the output, which has taken the text.
@@ -34,9 +47,7 @@ pub fn serve<R: Read + Drop, W: Write + Drop>(
     let mut writer = Tried::new(buffer);
     let passed = run(alloc, &mut reader, &mut writer, options)?;
     let mut buffer = writer.into_inner();
-    if buffer.flush().is_err() {
-        return Err(RunError::Write);
-    }
+    flush_buffer(&mut buffer)?;
     let (output, _) = buffer.into_parts();
     Ok((passed, output))
 }

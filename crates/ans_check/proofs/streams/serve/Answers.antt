@@ -18,9 +18,9 @@ returns g c =
           c.new-reader.ensures.inner ok.2,
       ok.3,
       flushed_behind contents c.args.output c.into_parts-output.result.0 (inner_of c.new-writer.result)
-          (inner_of c.run.new.writer) c.flush.new.self c.flush.result ok.1
+          (inner_of c.run.new.writer) c.flush_buffer.new.buffer ok.1
           (ap writer_inner made ∙ c.in-Ok.ensures.inner) (ap writer_buffer made ∙ c.in-Ok.ensures.empty) ok.4
-          (subst (λ v. Keeps (writer_contents contents v) (writer_contents contents c.flush.new.self))
-          c.into_inner-buffer.ensures c.flush.ensures.bytes)
-          c.flush.ensures.ok c.if-is_err.ensures.value c.into_parts-output.ensures.inner,
+          (subst (λ v. Keeps (writer_contents contents v) (writer_contents contents c.flush_buffer.new.buffer))
+          c.into_inner-buffer.ensures c.flush_buffer.ensures.bytes)
+          c.in_ok-flush_buffer.ensures.empty c.into_parts-output.ensures.inner,
     )
