@@ -27,7 +27,7 @@ fn flush_buffer<W: Write + Drop>(buffer: &mut BufWriter<W>) -> Result<(), RunErr
 /// Runs on an input, and writes to an output through a buffer of 8 KiB, which is flushed once the
 /// run has its answer. Returns whether the file passes, and the output, which has taken the text.
 ///
-/// `Err` is [`run`]'s. `Memory` also comes where there is none for the buffer, and `Write` where the
+/// The errors are those of [`run`]. `Memory` also comes where there is none for the buffer, and `Write` where the
 /// buffer cannot be flushed; then a prefix of the text may have been written.
 pub fn serve<R: Read + Drop, W: Write + Drop>(
     alloc: Global,
