@@ -1,6 +1,7 @@
 -- What is asked for with the commands that take no flags.
-use Rattle.std.proofs.Common.{◌≡◌, ◌≢◌, ◌∙◌, ℕ, false, true≢false, List, [], ◌∷◌, Option, Some, None}
-use Rattle.std.proofs.Common.{refl, sym, ap, subst, inl, inr, codes, arith, slice_index}
+use Rattle.std.proofs.Common.{◌≡◌, ◌≢◌, ◌∙◌, ℕ, false, true≢false, List, []}
+use Rattle.std.proofs.Common.{◌∷◌, Option, Some, None, refl, sym, ap, subst}
+use Rattle.std.proofs.Common.{inl, inr, codes, arith, slice_index}
 use Rattle.std.specs.Prelude.{IsSomeAnd}
 use Rattle.clap.specs.Simple.{filled_from, help_rule}
 use Rattle.clap.specs.Walk.{Rule, rows_after}

@@ -10,8 +10,8 @@ use Rattle.clap.specs.Lexer.{long_of, short_of}
 use Rattle.clap.specs.Matches.{count_text}
 use Rattle.clap.specs.Walk.{Held, Names, Outcome, Row, Rule, Step, Text, Waiting, Walk, done, idle, next, option}
 use Rattle.clap.specs.Walk.{plain, positional, refused, subcommand, trailing, value, waits}
-use Rattle.clap.specs.Walk.{action_of, after_flag, after_step, arg_by_id, arg_by_index, arg_by_long}
-use Rattle.clap.specs.Walk.{arg_by_short, at_row}
+use Rattle.clap.specs.Walk.{action_of, after_flag, after_step, arg_by_id}
+use Rattle.clap.specs.Walk.{arg_by_index, arg_by_long, arg_by_short, at_row}
 use Rattle.clap.specs.Walk.{attached_value, bundle, bundle_met, bundle_step, count_of, counted, default_rows}
 use Rattle.clap.specs.Walk.{flag_met, has_long, has_row, has_short, is_pending, long_met, long_or_other, long_word}
 use Rattle.clap.specs.Walk.{more_values, new_count, nothing_held, option_met, option_word, plain_word, positional_held}
