@@ -17,7 +17,7 @@ use Rattle.ans_play.specs.Between.{IsBetween}
 use Rattle.ans_play.proofs.TwoStarts.{cursor_between}
 use Rattle.ans_answer.specs.TwoPlays.{TwoPlaysView, AreAfter}
 
--- tokens leave a state of the machine
+-- after tokens a state of the machine is still one
 pub well_formed_final : (z : Size) (s : State) (tokens : List TokenKind) → 0 < z.width → All PrintsByte tokens →
     IsWellFormed z s → IsWellFormed z (final z s tokens)
 well_formed_final z s [] w prints well = well

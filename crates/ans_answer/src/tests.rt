@@ -1,12 +1,12 @@
-//! The worked rows on the plain answer.
+//! The rows of `ans_samples` on the plain answer.
 
 use crate::{Answer, plain_answer};
 use ans_model::cell::Cell;
 use ans_model::fault::{Cause, Fault};
 use ans_samples::rows::Expected::{Refused, Shows};
 use ans_samples::rows::{
-    BROKEN, BYTES, COLOURS, FORBIDDEN, PASSES_FROM_ANY, PASSES_FROM_CLEARED, Row, UNKNOWN_CELLS,
-    UNKNOWN_PLACES, WITHOUT_MEANING,
+    BROKEN, BYTES, COLOURS, FORBIDDEN, MISPLACED, PASSES_FROM_ANY, PASSES_FROM_CLEARED, Row,
+    UNKNOWN_CELLS, WITHOUT_MEANING,
 };
 use std::alloc::{AllocError, Global};
 use std::process::Abort;
@@ -106,6 +106,6 @@ fn cells_that_stay_unknown(rt: HostRuntime) {
 }
 
 #[test]
-fn places_that_do_not_fit(rt: HostRuntime) {
-    expect_answers(&rt, rt.alloc(), &UNKNOWN_PLACES);
+fn misplaced_tokens(rt: HostRuntime) {
+    expect_answers(&rt, rt.alloc(), &MISPLACED);
 }

@@ -127,7 +127,7 @@ impl TwoPlays {
         }
     }
 
-    /// The fault of a place: its row or its column, counted from 1, is outside the screen.
+    /// The fault of a `Place`: its row or its column, counted from 1, is outside the screen.
     fn fault_of_place(&self, row: u8, column: u8) -> Option<Cause>
         ensures { FindsFault self.now (Place row column) result }
     {

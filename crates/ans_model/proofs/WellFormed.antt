@@ -1,4 +1,4 @@
--- A token leaves a state of the machine, from a state of the machine.
+-- After a token a state of the machine is still one.
 use Rattle.std.proofs.Common.{◌≡◌, ℕ, ◌+◌, ◌-◌, ◌<◌, ◌≤◌, Bool, true, false, refl, arith, ◌∙◌, List, add-mul, one-mul}
 use Rattle.std.proofs.Common.{◌++◌, length, take, drop, set, replicate, All, inl, inr, lit<}
 use Rattle.std.specs.Prelude.{if◌then◌else◌}
@@ -80,7 +80,7 @@ well_formed_scrolled z s h =
     (All-drop IsByteCell z.width s.screen h.bytes)
     (All-replicate IsByteCell z.width (blank_cell s.attribute) (blank_is_byte s.attribute h.attribute)))
 
--- a line feed leaves a state of the machine
+-- after a line feed
 well_formed_after_line_feed : (z : Size) (s : State) → IsWellFormed z s → IsWellFormed z (line_feed z s)
 well_formed_after_line_feed z s h = elim (cases_eq s.cursor.row z.lines) [
   | inl e ↦ rw (eq-eqb s.cursor.row z.lines e) (well_formed_scrolled z s h)
@@ -89,7 +89,7 @@ well_formed_after_line_feed z s h = elim (cases_eq s.cursor.row z.lines) [
       (omega (arith, h.fits.cursor.0), h.fits.cursor.1))
 ]
 
--- the cursor that goes on leaves a state of the machine
+-- after the cursor has gone on
 well_formed_after_print : (z : Size) (s : State) → 0 < z.width → IsWellFormed z s → IsWellFormed z (advanced z s)
 well_formed_after_print z s w h = elim (cases_lt (s.cursor.column + 1) z.width) [
   | inl more ↦ rw (lt-ltb (s.cursor.column + 1) z.width more)
@@ -115,7 +115,7 @@ same_fits : (z : Size) (s t : State) → FitsScreen z s → s.screen ≡ t.scree
     → FitsScreen z t
 same_fits z s t h e f g = record { cells = rw (← e) h.cells; cursor = rw (← f) h.cursor; saved = rw (← g) h.saved }
 
--- each token leaves a state of the machine
+-- after each token
 pub well_formed_after_step : (z : Size) (s : State) (t : TokenKind) → PrintsByte t → 0 < z.width → IsWellFormed z s
     → IsWellFormed z (step z s t)
 well_formed_after_step z s Clear b w h = record {

@@ -17,7 +17,7 @@ use Rattle.ans_model.specs.Inside.ShownKind.{shown_kind}
 use Rattle.ans_tokens.proofs.Readable.{reads_as_more}
 use Rattle.ans_tokens.specs.ScannerView.{ScannerView, Holds, IsTokenOf, IsFaultOf, Kept, Keeps, Nothing, Escape}
 use Rattle.ans_tokens.specs.ScannerView.{Sequence}
-use Rattle.ans_tokens.proofs.EachByte.{IsOpen, open_ends}
+use Rattle.ans_tokens.proofs.EachByte.{kept_open, open_ends}
 use Rattle.ans_model.proofs.OneAnswer.{clean_or_first}
 use Rattle.ans_tokens.specs.Token.{kind_of, start_of}
 use Rattle.ans_tokens.specs.declared.token.Token.{Token as Spelled}
@@ -200,11 +200,6 @@ piece_deserved old mid piece i fault h within d =
     (subst (λ (xs : List ℕ). IsDeserved mid xs fault) (sym rest) (d (drop (suc i) piece))))
 
 -- ---- a piece
-kept_open : (kept : Kept) (y : List ℕ) → Keeps kept y → IsOpen y
-kept_open Nothing y e = inl e
-kept_open Escape y e = inr (inl e)
-kept_open (Sequence mark numbers quoted current) y (part, shown, spelled) = inr (inr (part, spelled))
-
 -- bytes that are played have no first fault
 played_has_no_first_fault : (z : Size) (class : Class) (bytes : List ℕ) (scanner : ScannerView) (h : HalfState)
     (f : Fault) → IsPlayed z class bytes scanner h

@@ -28,7 +28,7 @@ half_state screen cursor saved attribute wrap =
 abbrev pub span : Position → Position → Span
 span low high = record { low = low; high = high }
 
--- the span of one place
+-- the span of one position
 abbrev pub one_position : ℕ → ℕ → Span
 one_position row column = span (at row column) (at row column)
 

@@ -37,7 +37,7 @@ after_last_column z On p = one_position (p.row + 1) 0
 after_last_column z Off p = one_position p.row p.column
 after_last_column z Unknown p = span (at p.row 0) (at (p.row + 1) (z.width - 1))
 
--- where the cursor may stand after a byte at one place
+-- where the cursor may stand after a byte at one position
 abbrev pub after_print : Size → WrapMode → Position → Span
 after_print z wrap p =
     if nat_lt (p.column + 1) z.width then one_position p.row (p.column + 1) else after_last_column z wrap p

@@ -4,8 +4,8 @@ use crate::{Picture, Player, Start};
 use ans_model::fault::{Cause, Fault};
 use ans_samples::rows::Expected::{Refused, Shows};
 use ans_samples::rows::{
-    BROKEN, BYTES, COLOURS, FORBIDDEN, PASSES_FROM_ANY, PASSES_FROM_CLEARED, Row, UNKNOWN_CELLS,
-    UNKNOWN_PLACES, WITHOUT_MEANING,
+    BROKEN, BYTES, COLOURS, FORBIDDEN, MISPLACED, PASSES_FROM_ANY, PASSES_FROM_CLEARED, Row,
+    UNKNOWN_CELLS, WITHOUT_MEANING,
 };
 use ans_screen::{Grid, PlainGrid};
 use std::alloc::Global;
@@ -127,8 +127,8 @@ fn cells_that_stay_unknown(rt: HostRuntime) -> Result<(), Fail> {
 }
 
 #[test]
-fn places_that_do_not_fit(rt: HostRuntime) -> Result<(), Fail> {
-    play_all(&rt, rt.alloc(), &UNKNOWN_PLACES)
+fn misplaced_tokens(rt: HostRuntime) -> Result<(), Fail> {
+    play_all(&rt, rt.alloc(), &MISPLACED)
 }
 
 #[test]

@@ -222,7 +222,7 @@ pub static UNKNOWN_CELLS: [Row; 5] = rows! {
 };
 
 /// Contents that print, erase, or scroll where they must not.
-pub static UNKNOWN_PLACES: [Row; 8] = rows! {
+pub static MISPLACED: [Row; 8] = rows! {
     any 2 x 1, b"\x1b[?7h\x1b[0m\x1b[2JHi!" => refused(15, PrintBelow);
     any 2 x 2, b"\x1b[0m\x1b[2Jabc" => refused(10, PrintUnknownPlace);
     any 2 x 1, b"\x1b[?7h\x1b[0m\x1b[2J\x1b[ux" => refused(16, PrintUnknownPlace);

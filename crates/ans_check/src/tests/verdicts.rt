@@ -9,8 +9,8 @@ use ans_play::Picture;
 use ans_samples::records::{ACCEPTED, REFUSED};
 use ans_samples::rows::Expected::{Refused, Shows};
 use ans_samples::rows::{
-    BROKEN, BYTES, COLOURS, FORBIDDEN, PASSES_FROM_ANY, PASSES_FROM_CLEARED, Row, UNKNOWN_CELLS,
-    UNKNOWN_PLACES, WITHOUT_MEANING,
+    BROKEN, BYTES, COLOURS, FORBIDDEN, MISPLACED, PASSES_FROM_ANY, PASSES_FROM_CLEARED, Row,
+    UNKNOWN_CELLS, WITHOUT_MEANING,
 };
 use ans_sauce::{Cause, Fault, MAX_FILE};
 use ans_screen::PlainGrid;
@@ -155,8 +155,8 @@ fn cells_that_stay_unknown(rt: HostRuntime) {
 }
 
 #[test]
-fn places_that_do_not_fit(rt: HostRuntime) {
-    expect_rows(&rt, &UNKNOWN_PLACES);
+fn misplaced_tokens(rt: HostRuntime) {
+    expect_rows(&rt, &MISPLACED);
 }
 
 #[test]
