@@ -1,6 +1,5 @@
 use Rattle.std.proofs.Common.{true, refl}
 use Rattle.ans_model.specs.Text.RecordText.{record_text}
-use Rattle.ans_report.proofs.RecordLemmas.{parts_text_is}
 use Rattle.ans_check.proofs.ReportLemmas.{failed_too, sauce_reported}
 use Rattle.ans_check.proofs.CommandLineLemmas.{err_weaker}
 use Rattle.ans_check.proofs.pipeline.tell_record.Goals as goal
@@ -16,7 +15,7 @@ returns-in_err-write_record-in-Ok-clause-prefix g c =
       true,
       record_text s.apart,
       sauce_reported c.args.file.now c.in-Ok.parts s,
-      rw (parts_text_is s.apart c.in-Ok.parts s.shows) at c.in_err-write_record-in-Ok.ensures.bytes,
+      c.in_err-write_record-in-Ok.ensures.of_record s.apart s.shows,
     ))
 
 pub returns-in_ok-write_record-in-Ok-clause-ok : goal.returns-in_ok-write_record-in-Ok-clause-ok
@@ -24,5 +23,5 @@ returns-in_ok-write_record-in-Ok-clause-ok g c =
     let s = c.in-Ok.ensures.ok in (
       record_text s.apart,
       sauce_reported c.args.file.now c.in-Ok.parts s,
-      rw (parts_text_is s.apart c.in-Ok.parts s.shows) at c.in_ok-write_record-in-Ok.ensures.bytes,
+      c.in_ok-write_record-in-Ok.ensures.of_record s.apart s.shows,
     )
