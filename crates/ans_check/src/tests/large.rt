@@ -1,11 +1,10 @@
 //! Files of many chunks, and screens as wide and as long as they may be.
 use super::endings::{Output, serve_once};
+use super::verdicts::check_file;
 use super::{CLEARED, file_of, file_of_size, run_once};
-use crate::{RunError, Start, Verdict, check};
+use crate::{RunError, Start, Verdict};
 use ans_samples::Narrow;
 use ans_sauce::{Cause, Fault, MAX_FILE};
-use ans_screen::PlainGrid;
-use std::alloc::AllocError;
 use std::io::{self, Read};
 use std::process::Abort;
 
@@ -142,11 +141,7 @@ fn expect_glyphs(
     glyphs: &[(usize, usize, u8)],
 ) {
     assert!(rt; file.len() <= MAX_FILE);
-    let verdict = match check::<PlainGrid>(rt.alloc(), file, start) {
-        Ok(verdict) => verdict,
-        Err(AllocError) => check(rt.alloc(), file, start).expect(rt, "memory"),
-    };
-    match verdict {
+    match check_file(rt, file, start) {
         Verdict::Pass(_, picture) => {
             assert_eq!(rt; (picture.width(), picture.lines()), size);
             for row in rows {
@@ -231,13 +226,7 @@ fn a_sequence_crosses_two_pieces(rt: HostRuntime) {
     content[4095..].copy_from_slice(b"\x1b[1mb");
     let file = file_of_size(&rt, &content, 80, 52);
     assert!(rt; file.len() <= MAX_FILE);
-    let verdict = match check::<PlainGrid>(rt.alloc(), file.as_slice(), Start::Cleared) {
-        Ok(verdict) => verdict,
-        Err(AllocError) => {
-            check(rt.alloc(), file.as_slice(), Start::Cleared).expect(&rt, "memory")
-        }
-    };
-    match verdict {
+    match check_file(&rt, file.as_slice(), Start::Cleared) {
         Verdict::Pass(_, picture) => {
             assert!(rt; picture.width() == 80 && picture.lines() == 52);
             assert_eq!(rt; picture.glyph(51, 14), b'a');
@@ -268,12 +257,8 @@ fn long_sequences_are_read(rt: HostRuntime) {
         offset: 0,
         cause: Cause::EndInSequence,
     };
-    match check::<PlainGrid>(rt.alloc(), file.as_slice(), Start::Cleared) {
-        Ok(Verdict::Refused(_, found)) => assert_eq!(rt; found, fault),
-        Ok(Verdict::Pass(_, _)) => panic!(rt; "a refusal was expected"),
-        Err(AllocError) => match check::<PlainGrid>(rt.alloc(), file.as_slice(), Start::Cleared) {
-            Ok(Verdict::Refused(_, found)) => assert_eq!(rt; found, fault),
-            _ => panic!(rt; "a refusal was expected"),
-        },
+    match check_file(&rt, file.as_slice(), Start::Cleared) {
+        Verdict::Refused(_, found) => assert_eq!(rt; found, fault),
+        Verdict::Pass(_, _) => panic!(rt; "a refusal was expected"),
     }
 }

@@ -6,13 +6,13 @@ ghost use Rattle.ans_model.specs.Bytes.{longest_file};
 use super::{file_of, file_of_size};
 use crate::{Start, Verdict, check};
 use ans_play::Picture;
-use ans_samples::records::{ACCEPTED, REFUSED};
+use ans_samples::records::{ACCEPTED, AcceptedFile, REFUSED};
 use ans_samples::rows::Expected::{Refused, Shows};
 use ans_samples::rows::{
     BROKEN, BYTES, COLOURS, FORBIDDEN, MISPLACED, PASSES_FROM_ANY, PASSES_FROM_CLEARED, Row,
     UNKNOWN_CELLS, WITHOUT_MEANING,
 };
-use ans_sauce::{Cause, Fault, MAX_FILE};
+use ans_sauce::{Cause, Fault, MAX_FILE, Parts};
 use ans_screen::PlainGrid;
 use std::alloc::AllocError;
 use std::process::Abort;
@@ -35,9 +35,11 @@ fn is_of_the_record(cause: Cause) -> bool {
 /// Asserts the picture's bytes in row order, and their attributes where these are compared.
 fn assert_shows(rt: &impl Abort, picture: &Picture<PlainGrid>, bytes: &[u8], attributes: &[u8]) {
     let width = picture.width();
-    assert_eq!(rt; bytes.len(), width * picture.lines());
+    let lines = picture.lines();
+    assert!(rt; width <= 100 && lines <= 100);
+    assert_eq!(rt; bytes.len(), width * lines);
     assert!(rt; attributes.is_empty() || attributes.len() == bytes.len());
-    for row in 0..picture.lines() {
+    for row in 0..lines {
         for col in 0..width {
             let i = row * width + col;
             assert_eq!(rt;
@@ -53,7 +55,7 @@ fn assert_shows(rt: &impl Abort, picture: &Picture<PlainGrid>, bytes: &[u8], att
 }
 
 /// What a check answers. One that ran out of memory is made again.
-fn check_file<'a>(
+pub(super) fn check_file<'a>(
     rt: &(impl Abort + AllocGlobal),
     file: &'a [u8],
     start: Start,
@@ -171,21 +173,25 @@ fn records_and_layouts_are_refused(rt: HostRuntime) {
     expect_verdict(&rt, b"", Start::Cleared, Err((0, Cause::NoRecord)));
 }
 
+/// Asserts the content, the size and the notes of an accepted file.
+fn expect_parts(rt: &impl Abort, parts: &Parts<'_>, row: &AcceptedFile) {
+    assert_eq!(rt; parts.content(), row.content);
+    assert_eq!(rt; parts.width(), row.width);
+    assert_eq!(rt; parts.lines(), row.lines);
+    assert_eq!(rt; parts.notes().as_slice(), row.notes);
+}
+
 #[test]
 fn accepted_files_have_their_parts(rt: HostRuntime) {
     for row in &ACCEPTED {
         let file = file_of(&rt, row.front, row.edits);
         assert!(rt; file.len() <= MAX_FILE);
         let verdict = check_file(&rt, file.as_slice(), Start::Cleared);
-        let parts = match &verdict {
-            Verdict::Pass(parts, _) => Some(parts),
-            Verdict::Refused(parts, _) => parts.as_ref(),
-        };
-        let parts = parts.expect(&rt, "the record is accepted");
-        assert_eq!(rt; parts.content(), row.content, "{}", row.what);
-        assert_eq!(rt; parts.width(), row.width, "{}", row.what);
-        assert_eq!(rt; parts.lines(), row.lines, "{}", row.what);
-        assert_eq!(rt; parts.notes().as_slice(), row.notes, "{}", row.what);
+        match &verdict {
+            Verdict::Pass(parts, _) => expect_parts(&rt, parts, row),
+            Verdict::Refused(Some(parts), _) => expect_parts(&rt, parts, row),
+            Verdict::Refused(None, _) => panic!(rt; "the record is accepted"),
+        }
     }
 }
 
