@@ -1,4 +1,4 @@
-//! Files and devices for the tests of the other crates. No program uses it.
+//! Files, contents and devices for the tests of the other crates. No program uses it.
 //!
 //! [`sample_file`] puts the plain record after some bytes, with fields changed where a test says so.
 //! The [`records`] are files with what is expected of each, and the [`rows`] contents. A [`Narrow`]
