@@ -149,9 +149,8 @@ fn errors_of_a_run_are_served(rt: HostRuntime) {
 fn an_output_takes_the_text(rt: HostRuntime) {
     let file = plain_file(&rt, b"Hi", 2, 1);
     let answer = match serve(rt.alloc(), file.as_slice(), Vec::new(rt.alloc()), &CLEARED) {
-        Err(RunError::Memory) => {
-            serve(rt.alloc(), file.as_slice(), Vec::new(rt.alloc()), &CLEARED)
-        }
+        // The output grows too, and a growth refused there is told as a write.
+        Err(_) => serve(rt.alloc(), file.as_slice(), Vec::new(rt.alloc()), &CLEARED),
         answer => answer,
     };
     let (passed, text) = answer.expect(&rt, "no answer");
