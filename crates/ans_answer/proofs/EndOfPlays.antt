@@ -7,7 +7,8 @@ use Rattle.std.proofs.lemmas.List.Elements.{All-take}
 use Rattle.ans_model.specs.Sequence.Reads.{Reads}
 use Rattle.ans_model.specs.Sequence.Spelling.{IsUnfinished}
 use Rattle.ans_model.specs.Screen.State.{Size, State, index, IsStated, IsByteCell, IsWellFormed}
-use Rattle.ans_model.specs.Screen.StartClass.{Class, low_start, high_start}
+use Rattle.ans_model.specs.Screen.StartClass.{low_start, high_start}
+use Rattle.ans_model.specs.declared.start.Start.{Start}
 use Rattle.ans_model.specs.Verdict.Good.{Shows, GoodWith}
 use Rattle.ans_model.specs.Verdict.LastFault.{SameCell, IsFirstUnknown, IsLastFault}
 use Rattle.ans_model.specs.File.Refusals.{fault_at}
@@ -30,7 +31,7 @@ use Rattle.ans_answer.proofs.TwoCursors.{low_well}
 abbrev pub stated_count : Size → ℕ
 stated_count z = z.lines * z.width
 
-module _ (v : TwoPlaysView) (class : Class) (bytes : List ℕ) (p : ArePlayed class bytes v) where
+module _ (v : TwoPlaysView) (class : Start) (bytes : List ℕ) (p : ArePlayed class bytes v) where
   -- the bytes end within a sequence
   pub ends_in_sequence : (fault : Fault) → IsUnfinished p.open_part → fault.cause ≡ EndInSequence →
       fault.offset + length p.open_part ≡ v.scanner.offset → IsLastFault v.size class bytes fault
@@ -68,7 +69,7 @@ module _ (v : TwoPlaysView) (class : Class) (bytes : List ℕ) (p : ArePlayed cl
 
     well : IsWellFormed v.size v.low
     well = subst (λ (s : State). IsWellFormed v.size s) (sym p.after.low)
-        (low_well v class p.tokens p.front p.reads p.after)
+        (low_well v class p.tokens (reads_bytes p.front p.tokens p.reads) p.after)
 
     -- screens that agree in the stated lines show one picture
     shows : take (stated_count v.size) v.low.screen ≡ take (stated_count v.size) v.high.screen →

@@ -1,4 +1,5 @@
 pub mod TwoCursors
+pub mod TabPlays
 pub mod TokenFaults
 pub mod Played
 pub mod EndOfPlays

@@ -7,7 +7,8 @@ use Rattle.ans_model.specs.Sequence.TokenKind.{TokenKind}
 use Rattle.ans_model.specs.Sequence.Reads.{SpellsToken}
 use Rattle.ans_model.specs.Screen.State.{Size, IsSize}
 use Rattle.ans_model.specs.Screen.Step.{step}
-use Rattle.ans_model.specs.Screen.StartClass.{Class, low_start, high_start}
+use Rattle.ans_model.specs.Screen.StartClass.{low_start, high_start}
+use Rattle.ans_model.specs.declared.start.Start.{Start}
 use Rattle.ans_model.specs.Verdict.TokenFault.{HasFault}
 use Rattle.ans_model.specs.Verdict.FirstFault.{IsFirstFault, IsRefused, IsToBlame}
 use Rattle.ans_model.specs.declared.fault.Fault.{Fault}
@@ -17,12 +18,13 @@ use Rattle.ans_model.specs.Inside.ShownKind.{shown_kind}
 use Rattle.ans_tokens.specs.ScannerView.{ScannerView, new_scanner, Holds, IsTokenOf, IsFaultOf}
 use Rattle.ans_tokens.specs.Token.{kind_of, start_of}
 use Rattle.ans_tokens.specs.declared.token.Token.{Token as Spelled}
+use Rattle.ans_model.proofs.Reading.{reads_bytes}
 use Rattle.ans_play.proofs.Clean.{clean_none, clean_more}
 use Rattle.ans_play.proofs.Feeding.{reads_more, front_with_byte, front_text_rest}
 use Rattle.ans_answer.specs.TwoPlays.{TwoPlaysView, two_plays_view, AreAfter, ArePlayed, FindsFault}
 
 -- before the first byte
-pub played_none : (z : Size) (class : Class) → IsSize z →
+pub played_none : (z : Size) (class : Start) → IsSize z →
     ArePlayed class [] (two_plays_view z (low_start z class) (high_start z class) new_scanner)
 played_none z class size = record {
   front = [];
@@ -36,7 +38,7 @@ played_none z class size = record {
   unrefused = refl;
 }
 
-module _ (old : TwoPlaysView) (class : Class) (bytes : List ℕ) (byte : ℕ) (p : ArePlayed class bytes old) where
+module _ (old : TwoPlaysView) (class : Start) (bytes : List ℕ) (byte : ℕ) (p : ArePlayed class bytes old) where
   -- the byte leaves a sequence unfinished
   pub played_open : (new : ScannerView) → Holds new (p.open_part ++ byte ∷ []) → new.offset ≡ old.scanner.offset + 1 →
       new.fault ≡ None → ArePlayed class (bytes ++ byte ∷ []) (record old { scanner = new })
@@ -104,14 +106,14 @@ module _ (old : TwoPlaysView) (class : Class) (bytes : List ℕ) (byte : ℕ) (p
   }
 
 -- the same two states, whatever the scanner is
-same_two : (old : TwoPlaysView) (class : Class) (tokens : List TokenKind) (scanner : ScannerView) →
+same_two : (old : TwoPlaysView) (class : Start) (tokens : List TokenKind) (scanner : ScannerView) →
     AreAfter class tokens old → AreAfter class tokens (record old { scanner = scanner })
 same_two old class tokens scanner a = record { size = a.size; clean = a.clean; low = a.low; high = a.high }
 
 -- ---- what the code of one byte gives
 pub byte_refused : (old : TwoPlaysView) (scanner : ScannerView) (byte : ℕ) (fault : Fault) → scanner ≡ old.scanner →
     (scanner.fault ≡ None → (y : List ℕ) → Holds scanner y → IsFaultOf fault scanner.offset y byte) →
-    (class : Class) (bytes rest : List ℕ) → ArePlayed class bytes old →
+    (class : Start) (bytes rest : List ℕ) → ArePlayed class bytes old →
     IsFirstFault old.size class (bytes ++ byte ∷ rest) fault
 byte_refused old scanner byte fault same scans class bytes rest p =
     let told : IsFaultOf fault old.scanner.offset p.open_part byte =
@@ -124,7 +126,7 @@ pub byte_goes_on : (old new : TwoPlaysView) (scanner after : ScannerView) (byte 
     (scanner.fault ≡ None → (y : List ℕ) → Holds scanner y → IsUnfinished (y ++ byte ∷ [])
     × Holds after (y ++ byte ∷ [])) →
     after.offset ≡ scanner.offset + 1 → after.fault ≡ None →
-    (class : Class) (bytes : List ℕ) → ArePlayed class bytes old → ArePlayed class (bytes ++ byte ∷ []) new
+    (class : Start) (bytes : List ℕ) → ArePlayed class bytes old → ArePlayed class (bytes ++ byte ∷ []) new
 byte_goes_on old new scanner after byte same is scans offset unrefused class bytes p =
     let told = (rw same at scans) p.unrefused p.open_part p.holds in
     rw is (played_open old class bytes byte p after told.1 (rw same at offset) unrefused)
@@ -136,11 +138,11 @@ pub byte_plays : (old new : TwoPlaysView) (scanner after : ScannerView) (byte : 
     FindsFault (record old { scanner = after }) t None →
     (scanner.fault ≡ None → (y : List ℕ) → Holds scanner y → IsTokenOf token scanner.offset y byte × Holds after []) →
     after.offset ≡ scanner.offset + 1 → after.fault ≡ None →
-    (class : Class) (bytes : List ℕ) → ArePlayed class bytes old → ArePlayed class (bytes ++ byte ∷ []) new
+    (class : Start) (bytes : List ℕ) → ArePlayed class bytes old → ArePlayed class (bytes ++ byte ∷ []) new
 byte_plays old new scanner after byte token t same kind is none scans offset unrefused class bytes p =
     let told = (rw same at scans) p.unrefused p.open_part p.holds in
     rw is (played_token old class bytes byte p after t (rw kind told.0.spelled)
-    (none class p.tokens p.front p.reads (same_two old class p.tokens after p.after)) told.1
+    (none class p.tokens (reads_bytes p.front p.tokens p.reads) (same_two old class p.tokens after p.after)) told.1
     (rw same at offset) unrefused)
 
 -- the byte ends a token that has a fault
@@ -148,7 +150,7 @@ pub byte_deserved : (old : TwoPlaysView) (scanner after : ScannerView) (byte : �
     (fault : Fault) → scanner ≡ old.scanner → t ≡ shown_kind (kind_of token) → fault.offset ≡ start_of token →
     FindsFault (record old { scanner = after }) t (Some fault.cause) →
     (scanner.fault ≡ None → (y : List ℕ) → Holds scanner y → IsTokenOf token scanner.offset y byte × Holds after []) →
-    (class : Class) (bytes rest : List ℕ) → ArePlayed class bytes old →
+    (class : Start) (bytes rest : List ℕ) → ArePlayed class bytes old →
     IsFirstFault old.size class (bytes ++ byte ∷ rest) fault
 byte_deserved old scanner after byte token t fault same kind start found scans class bytes rest p =
     let told = (rw same at scans) p.unrefused p.open_part p.holds in
@@ -156,6 +158,6 @@ byte_deserved old scanner after byte token t fault same kind start found scans c
     (inl (record {
       token = t;
       spelled = rw kind told.0.spelled;
-      fault = found class p.tokens p.front p.reads (same_two old class p.tokens after p.after);
+      fault = found class p.tokens (reads_bytes p.front p.tokens p.reads) (same_two old class p.tokens after p.after);
     }))
     (rw start told.0.starts)

@@ -2,15 +2,14 @@
 use Rattle.std.proofs.Common.{◌≡◌, ◌≢◌, ◌<◌, sym, ap, ◌∙◌, arith, List, [], ◌∷◌, All, ℕ}
 use Rattle.std.proofs.lemmas.List.Elements.{All-head, All-tail}
 use Rattle.ans_model.specs.Sequence.TokenKind.{TokenKind, PrintsByte}
-use Rattle.ans_model.specs.Sequence.Reads.{Reads}
 use Rattle.ans_model.specs.Screen.State.{Size, State, IsWellFormed}
 use Rattle.ans_model.specs.Screen.Step.{step, final}
-use Rattle.ans_model.specs.Screen.StartClass.{Class, IsStart, low_start, high_start}
+use Rattle.ans_model.specs.Screen.StartClass.{IsStart, low_start, high_start}
+use Rattle.ans_model.specs.declared.start.Start.{Start}
 use Rattle.ans_model.specs.Verdict.TokenFault.{SamePosition, PositionsDiffer, IsInSpareRow, FromEvery, FromSome}
 use Rattle.ans_model.specs.Verdict.TwoStarts.{low_final, high_final}
 use Rattle.ans_model.specs.declared.cell.Position.{Position}
 use Rattle.ans_model.proofs.PositionLemmas.{same_position}
-use Rattle.ans_model.proofs.Reading.{reads_bytes}
 use Rattle.ans_model.proofs.StartLemmas.{low_is_start, high_is_start}
 use Rattle.ans_model.proofs.WellFormed.{well_formed_after_step}
 use Rattle.ans_play.specs.Between.{IsBetween}
@@ -25,7 +24,7 @@ well_formed_final z s (t ∷ tokens) w prints well =
     well_formed_final z (step z s t) tokens w (All-tail PrintsByte t tokens prints)
     (well_formed_after_step z s t (All-head PrintsByte t tokens prints) w well)
 
-module _ (p : TwoPlaysView) (class : Class) (tokens : List TokenKind) (front : List ℕ) (reads : Reads front tokens)
+module _ (p : TwoPlaysView) (class : Start) (tokens : List TokenKind) (prints : All PrintsByte tokens)
     (after : AreAfter class tokens p) where
   low_begins : IsStart p.size class (low_start p.size class)
   low_begins = low_is_start p.size class after.size.some_columns
@@ -36,16 +35,16 @@ module _ (p : TwoPlaysView) (class : Class) (tokens : List TokenKind) (front : L
   -- each play is a state of the machine
   pub low_well : IsWellFormed p.size (low_final p.size class tokens)
   low_well = well_formed_final p.size (low_start p.size class) tokens after.size.some_columns
-      (reads_bytes front tokens reads) low_begins.well_formed
+      prints low_begins.well_formed
 
   pub high_well : IsWellFormed p.size (high_final p.size class tokens)
   high_well = well_formed_final p.size (high_start p.size class) tokens after.size.some_columns
-      (reads_bytes front tokens reads) high_begins.well_formed
+      prints high_begins.well_formed
 
   -- each cursor stands between the two
   between : FromEvery p.size class (λ s. IsBetween (low_final p.size class tokens).cursor
       (high_final p.size class tokens).cursor (final p.size s tokens).cursor)
-  between = cursor_between p.size class after.size.some_columns tokens (reads_bytes front tokens reads) after.clean
+  between = cursor_between p.size class after.size.some_columns tokens prints after.clean
 
   low_cursor : p.low.cursor ≡ (low_final p.size class tokens).cursor
   low_cursor = ap (λ (s : State). s.cursor) after.low

@@ -1,9 +1,10 @@
 -- Two plays, as contracts see them.
-use Rattle.std.specs.Prelude.{◌≡◌, ◌≢◌, ℕ, ◌<◌, List, ◌++◌, length, slice_get, Option, None, MatchOption}
-use Rattle.ans_model.specs.Sequence.TokenKind.{TokenKind}
+use Rattle.std.specs.Prelude.{◌≡◌, ◌≢◌, ℕ, ◌<◌, List, ◌++◌, length, slice_get, All, Option, None, MatchOption}
+use Rattle.ans_model.specs.Sequence.TokenKind.{TokenKind, PrintsByte, Tab}
 use Rattle.ans_model.specs.Sequence.Reads.{Reads}
 use Rattle.ans_model.specs.Screen.State.{Size, IsSize, State}
-use Rattle.ans_model.specs.Screen.StartClass.{Class}
+use Rattle.ans_model.specs.Screen.Step.{step}
+use Rattle.ans_model.specs.declared.start.Start.{Start}
 use Rattle.ans_model.specs.Verdict.TokenFault.{HasFault, IsClean}
 use Rattle.ans_model.specs.Verdict.TwoStarts.{low_final, high_final}
 use Rattle.ans_model.specs.declared.cell.Cell.{Cell}
@@ -22,7 +23,7 @@ abbrev pub two_plays_view : Size → State → State → ScannerView → TwoPlay
 two_plays_view size low high scanner = record { size = size; low = low; high = high; scanner = scanner }
 
 -- The two states are those after clean tokens from the low and the high start of the class.
-pub record AreAfter (class : Class) (tokens : List TokenKind) (p : TwoPlaysView) : Type 0 where
+pub record AreAfter (class : Start) (tokens : List TokenKind) (p : TwoPlaysView) : Type 0 where
   pub size : IsSize p.size
   pub clean : IsClean p.size class tokens
   pub low : p.low ≡ low_final p.size class tokens
@@ -30,7 +31,7 @@ pub record AreAfter (class : Class) (tokens : List TokenKind) (p : TwoPlaysView)
 
 -- The bytes are a front that is read as tokens, after which the two plays are, and then an open part that the
 -- scanner holds.
-pub record ArePlayed (class : Class) (bytes : List ℕ) (p : TwoPlaysView) : Type 0 where
+pub record ArePlayed (class : Start) (bytes : List ℕ) (p : TwoPlaysView) : Type 0 where
   pub front : List ℕ
   pub open_part : List ℕ
   pub whole : bytes ≡ front ++ open_part
@@ -41,10 +42,19 @@ pub record ArePlayed (class : Class) (bytes : List ℕ) (p : TwoPlaysView) : Typ
   pub offset : p.scanner.offset ≡ length bytes
   pub unrefused : p.scanner.fault ≡ None
 
+-- a token is made in both plays
+abbrev pub after_both : TwoPlaysView → TokenKind → TwoPlaysView
+after_both p t = record p { low = step p.size p.low t; high = step p.size p.high t }
+
+-- any token but a tab, which is played as its blanks
+abbrev pub IsOneStep : TokenKind → Type 0
+IsOneStep Tab = ⊥
+IsOneStep _ = Unit {0}
+
 -- Whatever tokens brought the two plays here, the next one has this fault after them, or has none.
 abbrev pub FindsFault : TwoPlaysView → TokenKind → Option Cause → Type 0
-FindsFault p t found = (class : Class) (tokens : List TokenKind) (front : List ℕ) → Reads front tokens →
-    AreAfter class tokens p → MatchOption found ((cause : Cause) → ¬ HasFault p.size class tokens t cause)
+FindsFault p t found = (class : Start) (tokens : List TokenKind) → All PrintsByte tokens → AreAfter class tokens p →
+    MatchOption found ((cause : Cause) → ¬ HasFault p.size class tokens t cause)
     (HasFault p.size class tokens t)
 
 -- the first index at which two lists of cells differ

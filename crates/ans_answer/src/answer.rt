@@ -3,7 +3,7 @@
 ghost use Rattle.std.specs.Prelude.{◌≤◌, length, IfOk};
 ghost use Rattle.ans_model.specs.Bytes.{longest_file, most_columns, most_lines};
 ghost use Rattle.ans_model.specs.Screen.State.{sized};
-ghost use Rattle.ans_model.specs.Screen.StartClass.{class_of};
+ghost use Rattle.ans_model.specs.declared.start.Start.{Start};
 ghost use Rattle.ans_answer.specs.Answers.{IsAnswer};
 
 use crate::two_plays::TwoPlays;
@@ -40,7 +40,7 @@ pub fn plain_answer(
     requires columns { width ≤ most_columns }
     requires some_lines { 1 ≤ lines }
     requires lines { lines ≤ most_lines }
-    ensures { IfOk result (IsAnswer (sized width lines) (class_of start) bytes.now) }
+    ensures { IfOk result (IsAnswer (sized width lines) start bytes.now) }
 {
     let mut plays = TwoPlays::new(alloc, Size::new(width, lines), start)?;
     for byte in bytes {

@@ -5,8 +5,8 @@ use ans_model::cell::Cell;
 use ans_model::fault::{Cause, Fault};
 use ans_samples::rows::Expected::{Refused, Shows};
 use ans_samples::rows::{
-    BROKEN, BYTES, COLOURS, FORBIDDEN, MISPLACED, PASSES_FROM_ANY, PASSES_FROM_CLEARED, Row,
-    UNKNOWN_CELLS, WITHOUT_MEANING,
+    BROKEN, BYTES, COLOURS, FORBIDDEN, MISPLACED, PARTS_KNOWN, PASSES_FROM_ANY,
+    PASSES_FROM_CLEARED, Row, TABS, UNKNOWN_CELLS, WITHOUT_MEANING,
 };
 use std::alloc::{AllocError, Global};
 use std::process::Abort;
@@ -37,7 +37,7 @@ fn expect_answer(rt: &impl Abort, alloc: Global, row: &Row) {
         content,
         expected,
     } = *row;
-    assert!(rt; 1 <= width && width <= 10 && 1 <= lines && lines <= 10 && content.len() < 200);
+    assert!(rt; 1 <= width && width <= 20 && 1 <= lines && lines <= 10 && content.len() < 200);
     let answer = match plain_answer(alloc, content, width, lines, start) {
         Ok(answer) => answer,
         Err(AllocError) => plain_answer(alloc, content, width, lines, start).expect(rt, "memory"),
@@ -68,6 +68,16 @@ fn expect_answers(rt: &impl Abort, alloc: Global, rows: &[Row]) {
 #[test]
 fn bytes_alone(rt: HostRuntime) {
     expect_answers(&rt, rt.alloc(), &BYTES);
+}
+
+#[test]
+fn tabs(rt: HostRuntime) {
+    expect_answers(&rt, rt.alloc(), &TABS);
+}
+
+#[test]
+fn starts_of_known_parts(rt: HostRuntime) {
+    expect_answers(&rt, rt.alloc(), &PARTS_KNOWN);
 }
 
 #[test]

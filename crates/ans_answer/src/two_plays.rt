@@ -50,17 +50,18 @@ fn first_difference(low: &[Cell], high: &[Cell]) -> Option<usize>
 
 impl TwoPlays {
     ghost use Rattle.std.specs.Prelude.{◌≡◌, ◌<◌, ◌+◌, ◌↔◌, ◌++◌, ◌∷◌, [], ℕ, List, IsTrue, IfOk, IfErr, OnOk};
+    ghost use Rattle.std.specs.Prelude.{Some, None};
     ghost use Rattle.ans_model.specs.Bytes.{longest_file};
-    ghost use Rattle.ans_model.specs.Sequence.TokenKind.{Glyph, LineFeed, Place, EraseLine};
+    ghost use Rattle.ans_model.specs.Sequence.TokenKind.{Glyph, LineFeed, Tab, Place, EraseLine};
     ghost use Rattle.ans_model.specs.Inside.ShownKind.{shown_kind};
-    ghost use Rattle.ans_model.specs.Screen.StartClass.{Class, class_of};
+    ghost use Rattle.ans_model.specs.declared.start.Start.{Start};
     ghost use Rattle.ans_model.specs.Verdict.FirstFault.{IsFirstFault};
     ghost use Rattle.ans_answer.specs.Answers.{IsAnswer};
-    ghost use Rattle.ans_answer.specs.TwoPlays.{ArePlayed, FindsFault};
+    ghost use Rattle.ans_answer.specs.TwoPlays.{ArePlayed, FindsFault, IsOneStep, after_both};
 
     /// The two plays before the first byte. It fails only if memory runs out.
     pub fn new(alloc: Global, size: Size, start: Start) -> Result<TwoPlays, AllocError>
-        ensures { IfOk result (λ p. (p.size ≡ size) × ArePlayed (class_of start) [] p) }
+        ensures { IfOk result (λ p. (p.size ≡ size) × ArePlayed start [] p) }
     {
         Ok(TwoPlays {
             size,
@@ -138,15 +139,14 @@ impl TwoPlays {
         }
     }
 
-    /// The fault of a token, by where the two plays stand before it.
+    /// The fault of a token other than a tab, by where the two plays stand before it.
     fn fault_of(&self, kind: &Kind) -> Option<Cause>
-        ensures { FindsFault self.now (shown_kind kind.now) result }
+        ensures { IsOneStep (shown_kind kind.now) → FindsFault self.now (shown_kind kind.now) result }
     {
         match kind {
             Kind::Keys => Some(Cause::KeyReassigned),
             Kind::Mode => Some(Cause::ScreenMode),
             Kind::Ask => Some(Cause::ReportAsked),
-            Kind::Tab => Some(Cause::TabByte),
             Kind::Place(row, column) => self.fault_of_place(*row, *column),
             Kind::Glyph(_) => self.fault_of_print(),
             Kind::EraseLine => self.fault_of_erasure(),
@@ -155,36 +155,78 @@ impl TwoPlays {
         }
     }
 
+    /// A token is played in both plays, whatever it is.
+    fn step(&mut self, kind: &Kind)
+        ensures { self.new ≡ after_both self.old (shown_kind kind.now) }
+    {
+        self.low.step(kind);
+        self.high.step(kind);
+    }
+
+    /// Prints a tab's blanks, one after the other. An error is the fault of the first that has one.
+    fn play_tab(&mut self) -> Result<(), Cause>
+        ensures size { self.new.size ≡ self.old.size }
+        ensures played { OnOk result (self.new ≡ after_both self.old Tab) }
+        ensures none { OnOk result (FindsFault self.old Tab None) }
+        ensures fault { IfErr result (λ cause. FindsFault self.old Tab (Some cause)) }
+    {
+        if !self.is_one_position() {
+            return Err(Cause::PrintUnknownPlace);
+        }
+        let blanks = 8 - self.low.cursor().column % 8;
+        for _ in 0..blanks {
+            if let Some(cause) = self.fault_of_print() {
+                return Err(cause);
+            }
+            self.step(&Kind::Glyph(b' '));
+        }
+        Ok(())
+    }
+
+    /// Plays a token in both plays. An error is its fault.
+    fn play(&mut self, kind: &Kind) -> Result<(), Cause>
+        ensures size { self.new.size ≡ self.old.size }
+        ensures played { OnOk result (self.new ≡ after_both self.old (shown_kind kind.now)) }
+        ensures none { OnOk result (FindsFault self.old (shown_kind kind.now) None) }
+        ensures fault { IfErr result (λ cause. FindsFault self.old (shown_kind kind.now) (Some cause)) }
+    {
+        if let Kind::Tab = kind {
+            return self.play_tab();
+        }
+        if let Some(cause) = self.fault_of(kind) {
+            return Err(cause);
+        }
+        self.step(kind);
+        Ok(())
+    }
+
     /// Takes a byte, and plays the token that it ends, if it ends one. An error is the first fault
     /// of the bytes.
     pub fn play_byte(&mut self, byte: u8) -> Result<(), Fault>
         requires { self.old.scanner.offset < longest_file }
         ensures size { self.new.size ≡ self.old.size }
         ensures taken { OnOk result (self.new.scanner.offset ≡ self.old.scanner.offset + 1) }
-        ensures played { OnOk result ((class : Class) (bytes : List ℕ) → ArePlayed class bytes self.old
+        ensures played { OnOk result ((class : Start) (bytes : List ℕ) → ArePlayed class bytes self.old
             → ArePlayed class (bytes ++ byte ∷ []) self.new) }
-        ensures fault { IfErr result (λ fault. (class : Class) (bytes rest : List ℕ)
+        ensures fault { IfErr result (λ fault. (class : Start) (bytes rest : List ℕ)
             → ArePlayed class bytes self.old
             → IsFirstFault self.old.size class (bytes ++ byte ∷ rest) fault) }
     {
         let Some(token) = self.scanner.byte(byte)? else {
             return Ok(());
         };
-        let kind = token.kind();
-        if let Some(cause) = self.fault_of(kind) {
-            return Err(Fault {
+        match self.play(token.kind()) {
+            Ok(()) => Ok(()),
+            Err(cause) => Err(Fault {
                 offset: token.start(),
                 cause,
-            });
+            }),
         }
-        self.low.step(kind);
-        self.high.step(kind);
-        Ok(())
     }
 
     /// The answer to the bytes, which end here. It fails only if memory runs out.
     pub fn finish(self, alloc: Global) -> Result<Answer, AllocError>
-        ensures { IfOk result (λ answer. (class : Class) (bytes : List ℕ) → ArePlayed class bytes self
+        ensures { IfOk result (λ answer. (class : Start) (bytes : List ℕ) → ArePlayed class bytes self
             → IsAnswer self.size class bytes answer) }
     {
         if let Err(fault) = self.scanner.end() {

@@ -5,7 +5,6 @@ use Rattle.std.specs.Prelude.{Result, Ok, Err, IfErr}
 use Rattle.std.proofs.lemmas.List.{length-take-le, take_all}
 use Rattle.std.proofs.Math.Seq.{drop-append_seam, take-append_seam}
 use Rattle.ans_model.specs.Screen.State.{Size}
-use Rattle.ans_model.specs.Screen.StartClass.{class_of}
 use Rattle.ans_model.specs.Verdict.FirstFault.{IsFirstFault}
 use Rattle.ans_model.specs.Verdict.LastFault.{IsLastFault}
 use Rattle.ans_model.specs.declared.fault.Fault.{Fault}
@@ -47,46 +46,46 @@ pub SamePlay-then : (a b c : PlayerView) → SamePlay a b → SamePlay b c → S
 SamePlay-then a b c p q = record { size = q.size ∙ p.size; start = q.start ∙ p.start }
 
 -- what a first fault of the content tells
-first_deserved : (z : Size) (start : Start) (content : List ℕ) (f : Fault) → IsFirstFault z (class_of start) content f
+first_deserved : (z : Size) (start : Start) (content : List ℕ) (f : Fault) → IsFirstFault z start content f
     → Deserves z start content f
 first_deserved z start content f first = record {
   deserved = inl first;
   certain = λ cleared. first_is_certain z content f (rw cleared at first);
-  shown = first_shown z (class_of start) content f first;
-  offset = first_within z (class_of start) content f first;
+  shown = first_shown z start content f first;
+  offset = first_within z start content f first;
 }
 
 -- and a last one
-last_deserved : (z : Size) (start : Start) (content : List ℕ) (f : Fault) → IsLastFault z (class_of start) content f
+last_deserved : (z : Size) (start : Start) (content : List ℕ) (f : Fault) → IsLastFault z start content f
     → Deserves z start content f
 last_deserved z start content f last = record {
   deserved = inr last;
   certain = λ cleared. last_is_certain z content f (rw cleared at last);
-  shown = last_shown z (class_of start) content f last;
-  offset = last_within z (class_of start) content f last;
+  shown = last_shown z start content f last;
+  offset = last_within z start content f last;
 }
 
 -- the first fault of a front is the content's
 pub fed_fault : (a b : PlayerView) (content piece rest : List ℕ) (n : ℕ) (f : Fault) → SamePlay a b
     → Cut content piece rest n
-    → IsFirstFault b.size (class_of b.start) (take n content ++ piece) f → Deserves a.size a.start content f
+    → IsFirstFault b.size b.start (take n content ++ piece) f → Deserves a.size a.start content f
 fed_fault a b content piece rest n f same c first =
     let front = take n content ++ piece in
-    let here : IsFirstFault a.size (class_of a.start) front f =
-    subst (λ (z : Size). IsFirstFault z (class_of a.start) front f) same.size
-    (subst (λ (s : Start). IsFirstFault b.size (class_of s) front f) same.start first) in
+    let here : IsFirstFault a.size a.start front f =
+    subst (λ (z : Size). IsFirstFault z a.start front f) same.size
+    (subst (λ (s : Start). IsFirstFault b.size s front f) same.start first) in
     first_deserved a.size a.start content f
-    (subst (λ (v : List ℕ). IsFirstFault a.size (class_of a.start) v f) (sym c.whole)
-    (first_longer a.size (class_of a.start) front rest f here))
+    (subst (λ (v : List ℕ). IsFirstFault a.size a.start v f) (sym c.whole)
+    (first_longer a.size a.start front rest f here))
 
 -- the fault in the end is the content's
 pub last_faults : {T : Type 0} (r : Result T Fault) (a b : PlayerView) (content : List ℕ) → SamePlay a b
-    → IfErr r (IsLastFault b.size (class_of b.start) content) → IfErr r (Deserves a.size a.start content)
+    → IfErr r (IsLastFault b.size b.start content) → IfErr r (Deserves a.size a.start content)
 last_faults (Ok v) a b content same last = tt
 last_faults (Err f) a b content same last =
     last_deserved a.size a.start content f
-    (subst (λ (z : Size). IsLastFault z (class_of a.start) content f) same.size
-    (subst (λ (s : Start). IsLastFault b.size (class_of s) content f) same.start last))
+    (subst (λ (z : Size). IsLastFault z a.start content f) same.size
+    (subst (λ (s : Start). IsLastFault b.size s content f) same.start last))
 
 -- once nothing is left, all is taken
 pub all_taken : (content rest : List ℕ) (n : ℕ) → rest ≡ drop n content → length rest ≡ 0 → n ≤ length content

@@ -44,7 +44,7 @@ neither true b e = cc
 neither false b e = (refl, e)
 
 -- and an `or` is false where both sides are
-nor : (a b : Bool) → a ≡ false → b ≡ false → (a || b) ≡ false
+pub nor : (a b : Bool) → a ≡ false → b ≡ false → (a || b) ≡ false
 nor true b e f = cc
 nor false b e f = f
 

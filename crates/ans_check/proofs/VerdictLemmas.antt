@@ -7,7 +7,6 @@ use Rattle.ans_model.specs.File.Layout.{FileParts, content}
 use Rattle.ans_model.specs.File.Refusals.{Refusal, fault_at, first_refusal, file_refusals, record_fault}
 use Rattle.ans_model.specs.Verdict.Certain.{IsCertain}
 use Rattle.ans_model.specs.Screen.State.{Size, sized}
-use Rattle.ans_model.specs.Screen.StartClass.{class_of}
 use Rattle.ans_model.specs.Verdict.Good.{Picture, GoodWith, IsGood}
 use Rattle.ans_model.specs.Verdict.FirstFault.{IsFirstFault}
 use Rattle.ans_model.specs.Verdict.LastFault.{IsLastFault}
@@ -35,14 +34,14 @@ so_of_file file start from parts z bytes s P size same played h =
 pub passes : (file : List ℕ) (start from : Start) (parts : Parts) (z : Size) (bytes : List ℕ) (p : Picture)
     (s : IsSplit file parts)
     → z ≡ sized (width_of parts) (lines_of parts) → from ≡ start → bytes ≡ content_of parts
-    → GoodWith z (class_of from) bytes p
+    → GoodWith z from bytes p
     → (apart : FileParts) × ShowsParts apart parts × Passes file start apart p
 passes file start from parts z bytes p s size same played h = (
   s.apart,
   s.shows,
   record {
     accepts = s.accepts;
-    good = so_of_file file start from parts z bytes s (λ v w x. GoodWith v (class_of w) x p) size same played h;
+    good = so_of_file file start from parts z bytes s (λ v w x. GoodWith v w x p) size same played h;
   },
 )
 
@@ -62,20 +61,20 @@ refuses file start from parts z bytes f s size same played h = (
 
 -- a good content deserves no fault
 not_good : (z : Size) (start : Start) (bytes : List ℕ) (f : Fault) → Deserves z start bytes f
-    → IsGood z (class_of start) bytes → ⊥
+    → IsGood z start bytes → ⊥
 not_good z start bytes f d good = go d.deserved
   where
-    go : IsFirstFault z (class_of start) bytes f ⊎ IsLastFault z (class_of start) bytes f → ⊥
-    go (inl first) = good_or_first z (class_of start) bytes f good first
-    go (inr last) = good_or_last z (class_of start) bytes f good last
+    go : IsFirstFault z start bytes f ⊎ IsLastFault z start bytes f → ⊥
+    go (inl first) = good_or_first z start bytes f good first
+    go (inr last) = good_or_last z start bytes f good last
 
 -- a file that is refused for its content is not good
 pub refused_not_good : (file : List ℕ) (start : Start) (apart : FileParts) (f : Fault)
     → IsRefusedFor file start apart f → IsGoodFile file start → ⊥
 refused_not_good file start apart f r good =
     let same : good.0 ≡ apart = one_layout file good.0 apart good.2.accepts.laid r.accepts.laid in
-    let here : IsGood (stated_size apart) (class_of start) (content apart.body) =
-    subst (λ (a : FileParts). IsGood (stated_size a) (class_of start) (content a.body)) same (good.1, good.2.good) in
+    let here : IsGood (stated_size apart) start (content apart.body) =
+    subst (λ (a : FileParts). IsGood (stated_size a) start (content a.body)) same (good.1, good.2.good) in
     not_good (stated_size apart) start (content apart.body) f r.deserved here
 
 -- a file whose record or layout is refused is not good

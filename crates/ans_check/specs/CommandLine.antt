@@ -1,5 +1,6 @@
 -- The command line, and the options that its words give.
-use Rattle.std.specs.Prelude.{map, ◌≡◌, ◌≢◌, ◌↔◌, Bool, true, false, List, Option, Some, IsSomeAnd, codes, IsTrue, ⊤}
+use Rattle.std.specs.Prelude.{map, fold, ◌≡◌, ◌≢◌, ◌↔◌, ◌||◌, Bool, true, false, List, [], ◌∷◌, Option, Some, codes}
+use Rattle.std.specs.Prelude.{IsSomeAnd, IsTrue, ⊤}
 use Rattle.std.specs.Borrow.{Bor}
 use Rattle.std.specs.Option.{option_map_or}
 use Rattle.std.specs.Str.{bytes_eq}
@@ -7,7 +8,7 @@ use Rattle.clap.specs.Words.{App, Row, Rule, Text, first_of, kind_of, one_of, ne
 use Rattle.clap.specs.Words.{with_rule, with_subcommand}
 use Rattle.clap.specs.declared.builder.ArgAction.TheVariants.{SetTrue}
 use Rattle.clap.specs.declared.error.ErrorKind.TheVariants.{OutOfMemory}
-use Rattle.ans_model.specs.declared.start.Start.TheVariants.{Cleared}
+use Rattle.ans_model.specs.declared.start.Start.{Start}
 use Rattle.ans_check.specs.declared.command_line.WordsError.{WordsError}
 use Rattle.ans_check.specs.declared.command_line.WordsError.TheVariants as words_error
 use Rattle.ans_check.specs.declared.command.Command.{Command}
@@ -30,9 +31,19 @@ file_rule = record (new_rule (codes "file")) { value_names = 1 }
 abbrev pub file_app : Text → App
 file_app name = with_rule (new_app name) file_rule
 
--- `check [--cleared] [--cells] [FILE]`
+-- a command with more flags
+abbrev pub with_flags : App → List Text → App
+with_flags app names = fold (λ a name. with_rule a (flag_rule name)) app names
+
+-- the flags of `check`, in the order of its help
+abbrev pub check_flags : List Text
+check_flags =
+    codes "known-screen" ∷ codes "known-cursor" ∷ codes "known-saved" ∷ codes "known-colours" ∷ codes "known-wrap"
+    ∷ codes "cleared" ∷ codes "cells" ∷ []
+
+-- `check`, its flags and `[FILE]`
 abbrev pub check_app : App
-check_app = with_rule (with_rule (file_app (codes "check")) (flag_rule (codes "cleared"))) (flag_rule (codes "cells"))
+check_app = with_flags (file_app (codes "check")) check_flags
 
 -- `sauce [FILE]`
 abbrev pub sauce_app : App
@@ -69,11 +80,23 @@ holds_flag id rows = option_map_or (λ t. bytes_eq t (codes "true")) (one_of id 
 abbrev pub IsCommand : (Text × List Row) → Type 0
 IsCommand sub = (c : Command) × (sub.0 ≡ command_name c)
 
--- The subcommand is named as the command. Its matches hold `--cleared` exactly where the start is the cleared screen
--- and `--cells` exactly where the cells are asked for, and hold the file exactly where one is given, with that text.
+-- the matches hold the flag, or `--cleared`, which knows all parts
+abbrev pub holds_flag_or_cleared : Text → List Row → Bool
+holds_flag_or_cleared id rows = holds_flag id rows || holds_flag (codes "cleared") rows
+
+-- each part of the start is known exactly where the matches hold its flag or `--cleared`
+pub record KnowsAsHeld (start : Start) (rows : List Row) : Type 0 where
+  pub screen : start.screen ≡ holds_flag_or_cleared (codes "known-screen") rows
+  pub cursor : start.cursor ≡ holds_flag_or_cleared (codes "known-cursor") rows
+  pub saved : start.saved ≡ holds_flag_or_cleared (codes "known-saved") rows
+  pub colours : start.colours ≡ holds_flag_or_cleared (codes "known-colours") rows
+  pub wrap : start.wrap ≡ holds_flag_or_cleared (codes "known-wrap") rows
+
+-- The subcommand is named as the command, and its matches say which parts of the start are known. They hold `--cells`
+-- exactly where the cells are asked for, and the file exactly where one is given, with that text.
 abbrev pub AsksFor : (Text × List Row) → Options → Option Text → Type 0
 AsksFor sub o file = (sub.0 ≡ command_name o.command)
-    × ((o.start ≡ Cleared) ↔ IsTrue (holds_flag (codes "cleared") sub.1))
+    × KnowsAsHeld o.start sub.1
     × (IsTrue o.cells ↔ IsTrue (holds_flag (codes "cells") sub.1))
     × (file ≡ first_of (codes "file") sub.1)
 

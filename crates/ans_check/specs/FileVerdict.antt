@@ -4,7 +4,7 @@ use Rattle.ans_model.specs.File.Record.{stated_width, stated_lines}
 use Rattle.ans_model.specs.File.Layout.{FileParts, content}
 use Rattle.ans_model.specs.File.Refusals.{Accepts, record_fault}
 use Rattle.ans_model.specs.Screen.State.{Size, sized}
-use Rattle.ans_model.specs.Screen.StartClass.{class_of}
+use Rattle.ans_model.specs.Screen.StartClass.{all_known}
 use Rattle.ans_model.specs.Verdict.Good.{Picture, GoodWith}
 use Rattle.ans_model.specs.Verdict.FirstFault.{IsFirstFault}
 use Rattle.ans_model.specs.Verdict.LastFault.{IsLastFault}
@@ -12,7 +12,6 @@ use Rattle.ans_model.specs.Verdict.Certain.{IsCertain}
 use Rattle.ans_model.specs.Verdict.TwoStarts.{IsShownByTwoStarts}
 use Rattle.ans_model.specs.declared.fault.Fault.{Fault}
 use Rattle.ans_model.specs.declared.start.Start.{Start}
-use Rattle.ans_model.specs.declared.start.Start.TheVariants.{Cleared}
 use Rattle.ans_sauce.specs.Parts.{ShowsParts}
 use Rattle.ans_check.specs.declared.verdict.Verdict.{Verdict}
 use Rattle.ans_check.specs.declared.verdict.Verdict.TheVariants.{Pass, Refused}
@@ -24,15 +23,15 @@ stated_size apart = sized (stated_width apart.record_bytes) (stated_lines apart.
 -- The fault is the content's first; where no token has one, it is the last. From the cleared start it is certain. Where
 -- it depends on the start, the plays from the low and the high start of the class show it.
 pub record Deserves (z : Size) (start : Start) (bytes : List ℕ) (fault : Fault) : Type 0 where
-  pub deserved : IsFirstFault z (class_of start) bytes fault ⊎ IsLastFault z (class_of start) bytes fault
-  pub certain : start ≡ Cleared → IsCertain fault.cause
-  pub shown : IsShownByTwoStarts z (class_of start) bytes fault
+  pub deserved : IsFirstFault z start bytes fault ⊎ IsLastFault z start bytes fault
+  pub certain : start ≡ all_known → IsCertain fault.cause
+  pub shown : IsShownByTwoStarts z start bytes fault
   pub offset : fault.offset ≤ length bytes
 
 -- The file is accepted so, and from every start of the class its content plays well and shows the picture.
 pub record Passes (file : List ℕ) (start : Start) (apart : FileParts) (picture : Picture) : Type 0 where
   pub accepts : Accepts file apart
-  pub good : GoodWith (stated_size apart) (class_of start) (content apart.body) picture
+  pub good : GoodWith (stated_size apart) start (content apart.body) picture
 
 -- the file is accepted so, and its content deserves the fault
 pub record IsRefusedFor (file : List ℕ) (start : Start) (apart : FileParts) (fault : Fault) : Type 0 where

@@ -17,7 +17,7 @@ pub enum Command {
 #[derive(Debug, Clone, Copy, PartialEq, Eq)]
 pub struct Options {
     pub command: Command,
-    /// The states that the content may find. Only a check reads it.
+    /// What is known of the state that the content finds. Only a check reads it.
     pub start: Start,
     /// Whether the report of a pass also tells each cell. Only a check reads it.
     pub cells: bool,

@@ -1,8 +1,10 @@
 //! The command line, and the options that its words give.
-ghost use Rattle.std.specs.Prelude.{◌≡◌, true, IfOk, option_map, string_bytes, codes, IfSome, IfNone, IfErr};
+ghost use Rattle.std.specs.Prelude.{◌≡◌, true, IfOk, option_map, string_bytes, codes, map, IfSome, IfNone, IfErr};
 ghost use Rattle.std.specs.Prelude.{IsSomeAnd, IsTrue, ◌↔◌, ◌≢◌, false};
-ghost use Rattle.clap.specs.Words.{app_of, first_of, found_of, rows_of, subcommand_rows_of, takes};
+ghost use Rattle.clap.specs.Words.{app_of, first_of, found_of, rows_of, rule_of, subcommand_rows_of, takes};
+ghost use Rattle.ans_model.specs.Screen.StartClass.{none_known};
 ghost use Rattle.ans_check.specs.CommandLine.{AreOptionsOf, AsksFor, IsCommand, IsNoCommand, RanOutOfMemory};
+ghost use Rattle.ans_check.specs.CommandLine.{KnowsAsHeld, holds_flag_or_cleared, flag_rule, with_flags};
 ghost use Rattle.ans_check.specs.CommandLine.{anscheck, check_app, command_name, file_app, holds_flag, texts_of};
 ghost use Rattle.ans_check.specs.Ending.{ending_of_words};
 ghost use Rattle.ans_check.specs.declared.command_line.WordsError.TheVariants.{Clap};
@@ -55,6 +57,23 @@ Exit status:
   1  The file is refused
   2  There is no answer; standard error says why";
 
+/// The flags of `check`, each with its help.
+const CHECK_FLAGS: [(&str, &str); 7] = [
+    (
+        "known-screen",
+        "Know the screen to be blank, white on black",
+    ),
+    ("known-cursor", "Know the cursor to be at the top left"),
+    ("known-saved", "Know the saved cursor to be at the top left"),
+    ("known-colours", "Know the colours to be white on black"),
+    ("known-wrap", "Know wrap to be on"),
+    ("cleared", "Know all five: play from a cleared screen alone"),
+    (
+        "cells",
+        "Print each cell of the picture too: its byte and its attribute, in hexadecimal",
+    ),
+];
+
 /// `NAME [FILE]`.
 fn file_command<'a>(
     alloc: Global,
@@ -72,24 +91,42 @@ fn file_command<'a>(
         .arg(file)
 }
 
-/// `check [--cleared] [--cells] [FILE]`.
+/// `--NAME`.
+fn flag<'a>(alloc: Global, name: &'a str, help: &'a str) -> Arg<'a>
+    ensures rule { rule_of result ≡ flag_rule name.now }
+    ensures local { result.global ≡ false }
+{
+    Arg::new(alloc, name)
+        .long(name)
+        .action(ArgAction::SetTrue)
+        .help(help)
+}
+
+/// A command with a flag for each name and its help.
+fn with_flags<'a>(
+    alloc: Global,
+    mut command: clap::Command<'a>,
+    flags: &[(&'a str, &'a str)],
+) -> Result<clap::Command<'a>, AllocError>
+    ensures { IfOk result (λ c.
+        app_of c ≡ with_flags (app_of command.entry) (map (λ f. f.0.now) flags.now)) }
+{
+    for (name, help) in flags {
+        command = command.arg(flag(alloc, name, help))?;
+    }
+    Ok(command)
+}
+
+/// `check`, its flags and `[FILE]`.
 fn check_command<'a>(alloc: Global) -> Result<clap::Command<'a>, AllocError>
     ensures { IfOk result (λ c. app_of c ≡ check_app) }
 {
-    let cleared = Arg::new(alloc, "cleared")
-        .long("cleared")
-        .action(ArgAction::SetTrue)
-        .help("Play from a cleared screen alone, not from every screen, cursor, colour and wrap");
-    let cells = Arg::new(alloc, "cells")
-        .long("cells")
-        .action(ArgAction::SetTrue)
-        .help("Print each cell of the picture too: its byte and its attribute, in hexadecimal");
     let command = file_command(
         alloc,
         "check",
-        "Check that a file shows one picture from every start, and print that picture",
+        "Check that a file shows one picture from every start of the class, and print that picture",
     )?;
-    command.arg(cleared)?.arg(cells)
+    with_flags(alloc, command, &CHECK_FLAGS)
 }
 
 /// The program's command line.
@@ -133,11 +170,24 @@ fn command_named(name: &str) -> Option<Command>
     }
 }
 
-/// The class of starts that the flag asks for.
-fn start_for(cleared: bool) -> Start
-    ensures { (result ≡ Start.Cleared) ↔ IsTrue cleared }
+/// Whether a part of the start is known: its flag was given, or `--cleared`.
+fn knows(matches: &ArgMatches<'_>, id: &str) -> bool
+    ensures { result ≡ holds_flag_or_cleared id.now (rows_of (found_of matches.now)) }
 {
-    if cleared { Start::Cleared } else { Start::Any }
+    holds(matches, id) || holds(matches, "cleared")
+}
+
+/// The class of starts that the flags ask for.
+fn start_for(matches: &ArgMatches<'_>) -> Start
+    ensures { KnowsAsHeld result (rows_of (found_of matches.now)) }
+{
+    Start {
+        screen: knows(matches, "known-screen"),
+        cursor: knows(matches, "known-cursor"),
+        saved: knows(matches, "known-saved"),
+        colours: knows(matches, "known-colours"),
+        wrap: knows(matches, "known-wrap"),
+    }
 }
 
 /// A copy of the file's name, if one was given.
@@ -158,14 +208,13 @@ fn file_of(alloc: Global, matches: &ArgMatches<'_>) -> Result<Option<String>, Wo
 /// The options that a command's matches ask for.
 fn options_of(command: Command, matches: &ArgMatches<'_>) -> Options
     ensures command { result.command ≡ command }
-    ensures start { (result.start ≡ Start.Cleared)
-        ↔ IsTrue (holds_flag (codes "cleared") (rows_of (found_of matches.now))) }
+    ensures start { KnowsAsHeld result.start (rows_of (found_of matches.now)) }
     ensures cells { IsTrue result.cells
         ↔ IsTrue (holds_flag (codes "cells") (rows_of (found_of matches.now))) }
 {
     Options {
         command,
-        start: start_for(holds(matches, "cleared")),
+        start: start_for(matches),
         cells: holds(matches, "cells"),
     }
 }
@@ -190,17 +239,18 @@ fn read_matches(
     Ok((options_of(command, found), file))
 }
 
-/// Reads the options and the file from the program's words, its own name first:
-/// `anscheck check [--cleared] [--cells] [FILE]`, `anscheck sauce [FILE]` or `anscheck tokens
-/// [FILE]`. Without `--cleared` the start is any, and without `--cells` no cells are asked for; so it
-/// is with `sauce` and `tokens`, which take no flags.
+/// Reads the options and the file from the program's words, its own name first: `anscheck check`
+/// with its flags and `[FILE]`, `anscheck sauce [FILE]` or `anscheck tokens [FILE]`. A part of the
+/// start is known where its flag is given, as `--known-cursor`, or `--cleared`, and cells are asked
+/// for where `--cells` is. With `sauce` and `tokens`, which take no flags, nothing is known and no
+/// cells are asked for.
 ///
 /// Fails only where `clap` rejects the words, where they ask for help, and where memory runs out.
 pub fn options(alloc: Global, words: &[&str]) -> Result<(Options, Option<String>), WordsError>
     ensures ok { IfOk result (λ r.
         AreOptionsOf (texts_of words.now) r.0 (option_map string_bytes r.1)) }
     ensures flagless { IfOk result (λ r. r.0.command ≢ Command.Check
-        → (r.0.start ≡ Start.Any) × (r.0.cells ≡ false)) }
+        → (r.0.start ≡ none_known) × (r.0.cells ≡ false)) }
     ensures refuses { IfErr result (λ e.
         takes anscheck (texts_of words.now) ≡ true → RanOutOfMemory e) }
 {

@@ -187,7 +187,7 @@ pub fn run<R: Read, W: Write>(
     ensures too_long { IfSome (R.remaining (inner_of reader.old)) (λ xs.
         IfSome (R.remaining (inner_of reader.new)) (λ ys.
         IsErrOf result RunError.TooLong ↔ (longest_file + length ys < length xs))) }
-    ensures calls { call_count reader.new ≤ call_count reader.old + 16777218 }
+    ensures calls { call_count reader.new ≤ call_count reader.old + (longest_file + 2) }
 {
     let file = read_all(alloc, reader)?;
     run_command(alloc, writer, file.as_slice(), options)

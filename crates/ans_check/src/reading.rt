@@ -32,7 +32,7 @@ pub(crate) fn read_all<R: Read>(alloc: Global, r: &mut Tried<R>) -> Result<Vec<u
     ensures too_long { IfSome (R.remaining (inner_of r.old)) (λ xs.
         IfSome (R.remaining (inner_of r.new)) (λ ys.
         IsErrOf result ReadFault.TooLong ↔ (longest_file + length ys < length xs))) }
-    ensures calls { call_count r.new ≤ call_count r.old + 16777218 }
+    ensures calls { call_count r.new ≤ call_count r.old + (longest_file + 2) }
 {
     let mut chunk = [0u8; CHUNK];
     let mut all = Vec::new(alloc);

@@ -19,30 +19,52 @@ use std::alloc::AllocError;
 use std::io::Read;
 use std::process::Abort;
 
+/// The class in which no part is known.
+const NONE_KNOWN: Start = Start {
+    screen: false,
+    cursor: false,
+    saved: false,
+    colours: false,
+    wrap: false,
+};
+
+/// The class in which each part is known.
+const ALL_KNOWN: Start = Start {
+    screen: true,
+    cursor: true,
+    saved: true,
+    colours: true,
+    wrap: true,
+};
+
+/// The class in which the cursor and the colours are known.
+const CURSOR_AND_COLOURS: Start = Start {
+    cursor: true,
+    colours: true,
+    ..NONE_KNOWN
+};
+
 /// A check from any start.
 const ANY: Options = Options {
     command: Command::Check,
-    start: Start::Any,
+    start: NONE_KNOWN,
     cells: false,
 };
 
 /// A check from the cleared screen.
 const CLEARED: Options = Options {
-    command: Command::Check,
-    start: Start::Cleared,
-    cells: false,
+    start: ALL_KNOWN,
+    ..ANY
 };
 
 const SAUCE: Options = Options {
     command: Command::Sauce,
-    start: Start::Any,
-    cells: false,
+    ..ANY
 };
 
 const TOKENS: Options = Options {
     command: Command::Tokens,
-    start: Start::Any,
-    cells: false,
+    ..ANY
 };
 
 /// The report of a check of `Hi` from the cleared screen.

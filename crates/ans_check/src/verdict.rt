@@ -1,9 +1,9 @@
 //! What the checker finds of a file.
 ghost use Rattle.std.specs.Prelude.{◌≡◌, ◌≤◌, length, [], None, IsOk, IsSome, IfOk, IfErr};
 ghost use Rattle.ans_model.specs.Bytes.{longest_file};
-ghost use Rattle.ans_model.specs.Screen.StartClass.{class_of};
+ghost use Rattle.ans_model.specs.declared.start.Start.{Start};
 ghost use Rattle.ans_model.specs.Verdict.Good.{GoodWith};
-ghost use Rattle.ans_model.specs.declared.start.Start.TheVariants.{Cleared};
+ghost use Rattle.ans_model.specs.Screen.StartClass.{all_known};
 ghost use Rattle.ans_model.specs.File.Refusals.{record_fault};
 ghost use Rattle.ans_play.specs.Stands.{Stands};
 ghost use Rattle.ans_check.specs.FileVerdict.{Deserves, IsVerdictOn, IsPass, IsGoodFile, HasOffsetWithin};
@@ -21,7 +21,7 @@ const PIECE: usize = 4096;
 /// What the checker finds of a file.
 #[derive(Drop)]
 pub enum Verdict<'a, G: Grid> {
-    /// The content plays well from every start, and shows the picture.
+    /// The content plays well from every start of the class, and shows the picture.
     Pass(Parts<'a>, Picture<G>),
     /// The file is refused. There are no parts where its record or its layout is.
     Refused(Option<Parts<'a>>, Fault),
@@ -33,7 +33,7 @@ fn play_content<G: Grid>(mut player: Player<G>, content: &[u8]) -> Result<Pictur
     requires unfed { player.fed ≡ 0 }
     requires no_fault { player.fault ≡ None }
     requires stands { Stands player [] }
-    ensures good { IfOk result (GoodWith player.size (class_of player.start) content.now) }
+    ensures good { IfOk result (GoodWith player.size player.start content.now) }
     ensures refused { IfErr result (Deserves player.size player.start content.now) }
 {
     for piece in content.chunks(PIECE) {
@@ -54,7 +54,7 @@ pub fn check<G: Grid>(
     requires { length file.now ≤ longest_file }
     ensures verdict { IfOk result (IsVerdictOn file.now start) }
     ensures exact { IfOk result (λ v. IsGoodFile file.now start → IsPass v) }
-    ensures certain { start ≡ Cleared → IfOk result HasCertainFault }
+    ensures certain { start ≡ all_known → IfOk result HasCertainFault }
     ensures offset { IfOk result (HasOffsetWithin (length file.now)) }
     ensures memory { IsSome (record_fault file.now) → IsOk result }
 {

@@ -1,6 +1,7 @@
 -- Which bytes may follow an unfinished sequence.
 use Rattle.std.proofs.lemmas.Bool.{and_parts, both_ways}
-use Rattle.std.proofs.Common.{◌≡◌, ◌≢◌, ◌⊎◌, inl, inr, ℕ, suc, ◌<◌, ◌≤◌, Bool, true, false, ◌||◌, List, [], ◌∷◌, ◌++◌}
+use Rattle.std.proofs.Common.{◌≡◌, ◌+◌, ◌≢◌, ◌⊎◌, inl, inr, ℕ, suc, ◌<◌, ◌≤◌, Bool, true, false, ◌||◌, List, [], ◌∷◌}
+use Rattle.std.proofs.Common.{◌++◌}
 use Rattle.std.proofs.Common.{length, refl, ap, ap₂, sym, ◌∙◌, arith, append_assoc, length-append}
 use Rattle.std.proofs.lemmas.List.{append-nil}
 use Rattle.std.proofs.Math.Seq.{take-append_seam}
@@ -445,7 +446,7 @@ long_members done n ns = rw (length-append done (n ∷ ns)) (omega arith)
 
 -- No spelling has a `;` after the sixteenth member.
 pub refuses_count : (p : Part) (y : List ℕ) (m : Member) (h : LoosePart p y) → SpellsMember m h.last
-    → length p.done ≡ 15 → ¬ IsPrefixOfSpelling (y ++ semicolon ∷ [])
+    → length p.done + 1 ≡ most_parameters → ¬ IsPrefixOfSpelling (y ++ semicolon ∷ [])
 refuses_count p y m h hm len s =
     let g = loose_continues_part p y semicolon s.rest s.raw h (λ _ _ _. refl) (rw append_assoc at s.spelled.loose) in
     let e : h.front ++ (h.last ++ semicolon ∷ s.rest) ≡ (h.front ++ (h.last ++ semicolon ∷ [])) ++ s.rest =

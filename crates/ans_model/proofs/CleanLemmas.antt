@@ -1,22 +1,96 @@
 -- Where tokens are clean, none prints or scrolls in the spare row.
-use Rattle.std.proofs.Common.{◌≡◌, ◌≢◌, inl, inr, ℕ, ◌+◌, Bool, true, false, refl, ap, ◌∙◌, List, take, Some}
+use Rattle.std.proofs.Common.{◌≡◌, ◌≢◌, inl, inr, ℕ, zero, suc, ◌+◌, ◌%◌, ◌<◌, Bool, true, false, refl, ap, ◌∙◌}
+use Rattle.std.proofs.Common.{arith, List, take, replicate, Some, subst, lit<}
+use Rattle.std.proofs.lemmas.List.{append-nil}
+use Rattle.std.proofs.lemmas.List.Sums.{fold-append}
+use Rattle.std.proofs.Math.Nat.{mod-lt}
 use Rattle.std.specs.Prelude.{if◌then◌else◌, nat_lt, slice_get}
-use Rattle.std.proofs.lemmas.Bool.{cases_eq, ne_eqb}
-use Rattle.ans_model.specs.Sequence.TokenKind.{TokenKind, Glyph, LineFeed}
-use Rattle.ans_model.specs.Screen.State.{Size, State, at}
+use Rattle.std.proofs.lemmas.Bool.{cases_eq, cases_lt, ne_eqb}
+use Rattle.ans_model.specs.Sequence.TokenKind.{TokenKind, Glyph, LineFeed, Tab}
+use Rattle.ans_model.specs.Bytes.{blank}
+use Rattle.ans_model.specs.Screen.State.{Size, State, FitsScreen, at}
 use Rattle.ans_model.specs.declared.cell.Position.{Position}
 use Rattle.ans_model.specs.declared.fault.Cause.{Cause}
 use Rattle.ans_model.specs.declared.fault.Cause.TheVariants.{PrintBelow, Scrolls, PrintUnknownPlace, MayScroll}
-use Rattle.ans_model.specs.Screen.Step.{final, line_feed, advanced, printed}
-use Rattle.ans_model.specs.Screen.StartClass.{Class}
+use Rattle.ans_model.specs.Screen.Step.{final, line_feed, advanced, printed, step, tab_blanks}
+use Rattle.ans_model.specs.declared.start.Start.{Start}
 use Rattle.ans_model.specs.Verdict.TokenFault.{FromEvery, SamePosition, PositionsDiffer, IsInSpareRow, HasFault}
-use Rattle.ans_model.specs.Verdict.TokenFault.{IsClean}
-use Rattle.ans_model.specs.Laws.StepLaws.{CleanNeverScrolls, GoodNeverScrolls}
+use Rattle.ans_model.specs.Verdict.TokenFault.{IsClean, HasPrintFault, HasTabFault, FromSome, then_blanks, TabGoesOn}
+use Rattle.ans_model.specs.Verdict.Good.{PrintsWell}
+use Rattle.ans_model.specs.Laws.StepLaws.{CleanNeverScrolls, GoodNeverScrolls, ScrollsAt}
 use Rattle.ans_model.proofs.PositionLemmas.{position_eq}
+use Rattle.ans_model.proofs.WellFormed.{fits_after_tokens}
+use Rattle.ans_model.proofs.TabLemmas.{tab_in_place}
 use Rattle.ans_model.proofs.Reading.{one_reading}
 use Rattle.ans_model.proofs.OneAnswer.{well_is_clean}
 
-module _ (z : Size) (class : Class) (tokens : List TokenKind) (clean : IsClean z class tokens) where
+-- ---- printed bytes
+-- where a printed byte has no fault, it is printed well
+pub printed_well : (z : Size) (class : Start) (played : List TokenKind)
+    → ((cause : Cause) → ¬ HasPrintFault z class played cause) → PrintsWell z class played
+printed_well z class played none =
+    let same : SamePosition z class played = λ s r start_s start_r.
+    elim (position_eq (final z s played).cursor (final z r played).cursor) [
+      | inl same ↦ same
+      | inr ne ↦ absurd (none PrintUnknownPlace (s, r, start_s, start_r, ne))
+    ] in
+    record {
+      at_one_position = same;
+      never_below = λ s start below. none PrintBelow
+          (same, λ r start_r. ap (λ (p : Position). p.row) (same r s start_r start) ∙ below);
+    }
+
+-- a tab prints a blank at least
+pub some_blanks : (column : ℕ) → 0 < tab_blanks column
+some_blanks column = let below : column % 8 < 8 = mod-lt column (lit< tt) in omega (arith, below)
+
+-- where a tab has no fault, none of its blanks has
+module _ (z : Size) (class : Start) (played : List TokenKind)
+    (none : (cause : Cause) → ¬ HasTabFault z class played cause) where
+  -- where no blank before has a fault, the tab goes on so far from every start
+  goes_on_from_every : (n : ℕ) → FromSome z class (TabGoesOn z played n)
+      → ((m : ℕ) (c : Cause) → m < n → ¬ HasPrintFault z class (then_blanks played m) c)
+      → FromEvery z class (TabGoesOn z played n)
+  goes_on_from_every zero some earlier s start = some_blanks (final z s played).cursor.column
+  goes_on_from_every (suc n) some earlier s start =
+      let well : PrintsWell z class (then_blanks played 0) =
+      printed_well z class (then_blanks played 0) (λ c. earlier 0 c (omega arith)) in
+      let same : (final z some.0 played).cursor ≡ (final z s played).cursor =
+      rw (append-nil played) at (well.at_one_position some.0 s some.1 start) in
+      rw same at some.2
+
+  -- where no blank before has a fault, the next has none
+  blank_has_none : (n : ℕ) → FromSome z class (TabGoesOn z played n)
+      → ((m : ℕ) (c : Cause) → m < n → ¬ HasPrintFault z class (then_blanks played m) c)
+      → (c : Cause) → ¬ HasPrintFault z class (then_blanks played n) c
+  blank_has_none n some earlier c f = none c (record {
+    blanks_before = n;
+    goes_on = goes_on_from_every n some earlier;
+    earlier = earlier;
+    fault = f;
+  })
+
+  -- so the blanks before have none
+  earlier_have_none : (n : ℕ) → FromSome z class (TabGoesOn z played n) → (m : ℕ) (c : Cause) → m < n
+      → ¬ HasPrintFault z class (then_blanks played m) c
+  earlier_have_none zero some m c lt f = absurd (let no : ⊥ = omega arith in no)
+  earlier_have_none (suc n) some m c lt f =
+      let goes_on : FromSome z class (TabGoesOn z played n) = (some.0, some.1, omega (arith, some.2)) in
+      elim (cases_lt m n) [
+        | inl less ↦ earlier_have_none n goes_on m c less f
+        | inr not_less ↦
+            let same : m ≡ n = omega arith in
+            blank_has_none n goes_on (earlier_have_none n goes_on) c
+            (subst (λ (i : ℕ). HasPrintFault z class (then_blanks played i) c) same f)
+      ]
+
+  -- and no blank has one that the tab prints from some start
+  pub no_fault_in_tab : (n : ℕ) → FromSome z class (TabGoesOn z played n) → (c : Cause)
+      → ¬ HasPrintFault z class (then_blanks played n) c
+  no_fault_in_tab n some = blank_has_none n some (earlier_have_none n some)
+
+-- ---- clean tokens
+module _ (z : Size) (class : Start) (tokens : List TokenKind) (clean : IsClean z class tokens) where
   -- a token that would have a fault where positions differ stands at one position
   pub at_one_position : (k : ℕ) (t : TokenKind) (cause : Cause) → slice_get tokens k ≡ Some t
       → (PositionsDiffer z class (take k tokens) → HasFault z class (take k tokens) t cause)
@@ -27,6 +101,7 @@ module _ (z : Size) (class : Class) (tokens : List TokenKind) (clean : IsClean z
         | inr ne ↦ absurd (clean k cause (t, e, f (s, r, start_s, start_r, ne)))
       ]
 
+  -- no line feed comes in the spare row
   pub no_feed_below : (k : ℕ) → slice_get tokens k ≡ Some LineFeed
       → FromEvery z class (λ s. ¬ IsInSpareRow z (take k tokens) s)
   no_feed_below k e s start below = clean k Scrolls (
@@ -38,12 +113,16 @@ module _ (z : Size) (class : Class) (tokens : List TokenKind) (clean : IsClean z
     ]),
   )
 
-  pub no_print_below : (k byte : ℕ) → slice_get tokens k ≡ Some (Glyph byte)
-      → FromEvery z class (λ s. ¬ IsInSpareRow z (take k tokens) s)
-  no_print_below k byte e s start below =
-      let same : SamePosition z class (take k tokens) = at_one_position k (Glyph byte) PrintUnknownPlace e inr in
-      clean k PrintBelow
-      (Glyph byte, e, inr (same, λ r start_r. ap (λ (p : Position). p.row) (same r s start_r start) ∙ below))
+  -- each printed byte is printed well
+  pub prints_well : (k byte : ℕ) → slice_get tokens k ≡ Some (Glyph byte) → PrintsWell z class (take k tokens)
+  prints_well k byte e = printed_well z class (take k tokens) (λ c f. clean k c (Glyph byte, e, inr f))
+
+  -- and so is each blank of a tab
+  pub tabs_well : (k n : ℕ) → slice_get tokens k ≡ Some Tab → FromSome z class (TabGoesOn z (take k tokens) n)
+      → PrintsWell z class (then_blanks (take k tokens) n)
+  tabs_well k n e goes_on =
+      printed_well z class (then_blanks (take k tokens) n)
+      (no_fault_in_tab z class (take k tokens) (λ c f. clean k c (Tab, e, inr f)) n goes_on)
 
 -- above the spare row a line feed leaves the screen
 feed_keeps : (z : Size) (s : State) → s.cursor.row ≢ z.lines → (line_feed z s).screen ≡ s.screen
@@ -60,6 +139,7 @@ advance_keeps z s n = go (nat_lt (s.cursor.column + 1) z.width) s.wrap
     go false true = feed_keeps z (record s { cursor = at s.cursor.row 0 }) n
     go false false = refl
 
+-- clean tokens write in place, from every start
 pub clean_never_scrolls : CleanNeverScrolls
 clean_never_scrolls z class tokens k LineFeed size clean e s start =
     let now : State = final z s (take k tokens) in
@@ -67,13 +147,23 @@ clean_never_scrolls z class tokens k LineFeed size clean e s start =
     record { never_scrolls = above; in_place = feed_keeps z now above }
 clean_never_scrolls z class tokens k (Glyph byte) size clean e s start =
     let now : State = final z s (take k tokens) in
-    let above : now.cursor.row ≢ z.lines = no_print_below z class tokens clean k byte e s start in
+    let above : now.cursor.row ≢ z.lines = (prints_well z class tokens clean k byte e).never_below s start in
     record {
       never_scrolls = λ scrolls. above scrolls.0;
       in_place = advance_keeps z (printed z now byte) above;
     }
+clean_never_scrolls z class tokens k Tab size clean e s start =
+    let now : State = final z s (take k tokens) in
+    let never : ¬ ScrollsAt z now Tab = λ (n, goes_on, scrolls).
+    let well : PrintsWell z class (then_blanks (take k tokens) n) =
+    tabs_well z class tokens clean k n e (s, start, goes_on) in
+    well.never_below s start (rw (fold-append (step z) s (take k tokens) (replicate n (Glyph blank))) scrolls.0) in
+    let fits : FitsScreen z now =
+    fits_after_tokens z s (take k tokens) size.some_columns start.well_formed.fits in
+    record { never_scrolls = never; in_place = tab_in_place z now fits never }
 clean_never_scrolls z class tokens k _ size clean e s start = record { never_scrolls = λ h. h; in_place = refl }
 
+-- the tokens of good content are clean
 pub good_never_scrolls : GoodNeverScrolls
 good_never_scrolls z class content tokens k t (picture, good) reads e =
     let same : good.tokens ≡ tokens = one_reading content good.tokens tokens good.reads reads in

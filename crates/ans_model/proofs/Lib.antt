@@ -1,11 +1,13 @@
 pub mod Slices
+pub mod FilledLemmas
 pub mod AttributeBytes
+pub mod PositionLemmas
 pub mod WellFormed
 pub mod StartLemmas
 pub mod AttributeFieldsLemmas
-pub mod PositionLemmas
 pub mod MoveLemmas
 pub mod StepLemmas
+pub mod TabLemmas
 pub mod CleanLemmas
 pub mod ClassLemmas
 pub mod Spelling

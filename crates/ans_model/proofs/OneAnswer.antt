@@ -6,25 +6,25 @@ use Rattle.std.proofs.lemmas.List.{append_cancel_right, append-nil}
 use Rattle.std.proofs.Math.Seq.{take-append_seam}
 use Rattle.std.proofs.lemmas.Bool.{cases_lt, cases_eq}
 use Rattle.std.specs.List.{AllZip, concat}
-use Rattle.ans_model.specs.Sequence.TokenKind.{TokenKind, Glyph, LineFeed, EraseLine}
+use Rattle.ans_model.specs.Sequence.TokenKind.{TokenKind, Glyph, LineFeed, EraseLine, Tab}
 use Rattle.ans_model.specs.declared.fault.Fault.{Fault}
 use Rattle.ans_model.specs.declared.fault.Cause.{Cause}
 use Rattle.ans_model.specs.declared.fault.Cause.TheVariants.{EndInSequence, PrintBelow, Scrolls, PrintUnknownPlace}
 use Rattle.ans_model.specs.declared.fault.Cause.TheVariants.{EraseUnknownPlace, MayScroll, UnknownCell}
 use Rattle.ans_model.specs.declared.cell.Position.{Position}
-use Rattle.ans_model.specs.declared.start.Start.TheVariants.{Cleared}
 use Rattle.ans_model.specs.Verdict.Certain.{IsCertain}
 use Rattle.ans_model.specs.Sequence.Spelling.{IsUnfinished}
 use Rattle.ans_model.specs.Sequence.Reads.{SpellsToken, Reads}
 use Rattle.ans_model.specs.File.Refusals.{fault_at}
 use Rattle.ans_model.specs.Screen.State.{Size, State, IsStated, cell_at}
-use Rattle.ans_model.specs.Screen.StartClass.{Class, class_of, low_start}
+use Rattle.ans_model.specs.Screen.StartClass.{all_known, low_start}
+use Rattle.ans_model.specs.declared.start.Start.{Start}
 use Rattle.ans_model.specs.Screen.Step.{final}
-use Rattle.ans_model.specs.Verdict.TokenFault.{HasFault, HasFaultAfter, IsClean}
+use Rattle.ans_model.specs.Verdict.TokenFault.{HasFault, HasPrintFault, HasFaultAfter, IsClean, then_blanks}
 use Rattle.ans_model.specs.Verdict.FirstFault.{IsWhy, IsRefused, IsToBlame, IsFirstFault}
 use Rattle.ans_model.specs.Verdict.LastFault.{CellsDiffer, SameCell, IsBefore, IsFirstUnknown, EndsInSequence}
 use Rattle.ans_model.specs.Verdict.LastFault.{LeavesUnknown, IsLastFault}
-use Rattle.ans_model.specs.Verdict.Good.{Picture, Shows, PlaysWell, GoodWith, IsGood}
+use Rattle.ans_model.specs.Verdict.Good.{Picture, Shows, PrintsWell, PlaysWell, GoodWith, IsGood}
 use Rattle.ans_model.proofs.Reading.{one_token_in_front, token_nonempty, refused_no_token, refused_nonempty}
 use Rattle.ans_model.proofs.Reading.{one_reading}
 use Rattle.ans_model.proofs.Reading.{spelled_no_front, unfinished_no_token, means_well}
@@ -91,7 +91,7 @@ end_not_refused text x y c (inl h) (inr o) e = spelled_no_front h.raw text y h.s
 end_not_refused text x y c (inr h) (inr o) e = unfinished_broken x text y c o h e
 
 -- ---- what is clean does not go on over a fault
-module _ (z : Size) (class : Class) where
+module _ (z : Size) (class : Start) where
   get_seam : (ts : List TokenKind) (t : TokenKind) (us : List TokenKind) → slice_get (ts ++ t ∷ us) (length ts) ≡ Some t
   get_seam [] t us = refl
   get_seam (s ∷ ts) t us = get_seam ts t us
@@ -303,12 +303,23 @@ module _ (z : Size) (class : Class) where
       ∙ sym k.fault_is
 
   -- ---- good
+  print_clean : (played : List TokenKind) (c : Cause) → 0 < z.width → PrintsWell z class played
+      → ¬ HasPrintFault z class played c
+  print_clean played PrintUnknownPlace w well f = f.4 (well.at_one_position f.0 f.1 f.2 f.3)
+  print_clean played PrintBelow w well f = well.never_below (low_start z class) (low_is_start z class w)
+      (f.1 (low_start z class) (low_is_start z class w))
+  print_clean played _ w well f = f
+
   clean_at : (tokens : List TokenKind) → 0 < z.width → PlaysWell z class tokens → (k : ℕ) (t : TokenKind) (c : Cause)
       → slice_get tokens k ≡ Some t → ¬ HasFaultAfter z class (take k tokens) t c
-  clean_at tokens w well k (Glyph byte) PrintUnknownPlace e f =
-      f.4 (well.prints_at_one_position k byte e f.0 f.1 f.2 f.3)
-  clean_at tokens w well k (Glyph byte) PrintBelow e f = well.never_prints_below k byte e (low_start z class)
-      (low_is_start z class w) (f.1 (low_start z class) (low_is_start z class w))
+  clean_at tokens w well k (Glyph byte) c e f = print_clean (take k tokens) c w (well.prints_well k byte e) f
+  clean_at tokens w well k Tab c e f =
+      print_clean (then_blanks (take k tokens) f.blanks_before) c w
+      (well.tabs_well k f.blanks_before e (
+        low_start z class,
+        low_is_start z class w,
+        f.goes_on (low_start z class) (low_is_start z class w),
+      )) f.fault
   clean_at tokens w well k EraseLine EraseUnknownPlace e f = f.4 (well.erases_at_one_position k e f.0 f.1 f.2 f.3)
   clean_at tokens w well k LineFeed Scrolls e f = well.never_scrolls k e (low_start z class) (low_is_start z class w)
       (f (low_start z class) (low_is_start z class w))
@@ -354,7 +365,7 @@ refused_certain text c (inl h) = rw h.means at (means_well h.raw)
 refused_certain text c (inr h) = why_certain text h.byte c h.why
 
 -- from the cleared start a first fault is certain
-pub first_is_certain : (z : Size) (bytes : List ℕ) (f : Fault) → IsFirstFault z (class_of Cleared) bytes f
+pub first_is_certain : (z : Size) (bytes : List ℕ) (f : Fault) → IsFirstFault z all_known bytes f
     → IsCertain f.cause
 first_is_certain z bytes f h = elim h.faulty [
   | inl b ↦ certain_cause z h.tokens b.token f.cause b.fault
@@ -362,7 +373,7 @@ first_is_certain z bytes f h = elim h.faulty [
 ]
 
 -- from the cleared start a last fault is certain
-pub last_is_certain : (z : Size) (bytes : List ℕ) (f : Fault) → IsLastFault z (class_of Cleared) bytes f
+pub last_is_certain : (z : Size) (bytes : List ℕ) (f : Fault) → IsLastFault z all_known bytes f
     → IsCertain f.cause
 last_is_certain z bytes f (inl h) = rw h.fault_is tt
 last_is_certain z bytes f (inr h) =

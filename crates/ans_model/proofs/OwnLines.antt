@@ -16,7 +16,7 @@ use Rattle.ans_model.specs.declared.fault.Cause.TheVariants.{LinesUnstated, Widt
 use Rattle.ans_model.specs.declared.fault.Cause.TheVariants.{BytesAfterEndMark, BrokenSequence, NumberTooLarge}
 use Rattle.ans_model.specs.declared.fault.Cause.TheVariants.{TooManyParameters, EndInSequence, UnknownSequence}
 use Rattle.ans_model.specs.declared.fault.Cause.TheVariants.{WrongParameters, KeyReassigned, ScreenMode, ReportAsked}
-use Rattle.ans_model.specs.declared.fault.Cause.TheVariants.{TabByte, OutsideScreen, PrintBelow, Scrolls}
+use Rattle.ans_model.specs.declared.fault.Cause.TheVariants.{OutsideScreen, PrintBelow, Scrolls}
 use Rattle.ans_model.specs.declared.fault.Cause.TheVariants.{PrintUnknownPlace, EraseUnknownPlace, MayScroll}
 use Rattle.ans_model.specs.declared.fault.Cause.TheVariants.{UnknownCell}
 use Rattle.ans_model.specs.declared.note.Note.{Note}
@@ -63,7 +63,6 @@ fault_number WrongParameters = 14
 fault_number KeyReassigned = 15
 fault_number ScreenMode = 16
 fault_number ReportAsked = 17
-fault_number TabByte = 18
 fault_number OutsideScreen = 19
 fault_number PrintBelow = 20
 fault_number Scrolls = 21
@@ -96,7 +95,6 @@ text_number WrongParameters x = refl
 text_number KeyReassigned x = refl
 text_number ScreenMode x = refl
 text_number ReportAsked x = refl
-text_number TabByte x = refl
 text_number OutsideScreen x = refl
 text_number PrintBelow x = refl
 text_number Scrolls x = refl
@@ -125,7 +123,6 @@ cause_of n =
     else if n == 15 then KeyReassigned
     else if n == 16 then ScreenMode
     else if n == 17 then ReportAsked
-    else if n == 18 then TabByte
     else if n == 19 then OutsideScreen
     else if n == 20 then PrintBelow
     else if n == 21 then Scrolls
@@ -162,7 +159,6 @@ plain_or_unknown_cell WrongParameters = is_plain WrongParameters (omega arith) r
 plain_or_unknown_cell KeyReassigned = is_plain KeyReassigned (omega arith) refl
 plain_or_unknown_cell ScreenMode = is_plain ScreenMode (omega arith) refl
 plain_or_unknown_cell ReportAsked = is_plain ReportAsked (omega arith) refl
-plain_or_unknown_cell TabByte = is_plain TabByte (omega arith) refl
 plain_or_unknown_cell OutsideScreen = is_plain OutsideScreen (omega arith) refl
 plain_or_unknown_cell PrintBelow = is_plain PrintBelow (omega arith) refl
 plain_or_unknown_cell Scrolls = is_plain Scrolls (omega arith) refl

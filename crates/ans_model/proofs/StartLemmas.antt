@@ -7,7 +7,8 @@ use Rattle.ans_model.specs.Screen.State.{Size, State, at, cell_count, IsOnScreen
 use Rattle.ans_model.specs.declared.cell.Cell.{Cell}
 use Rattle.ans_model.specs.declared.cell.Position.{Position}
 use Rattle.ans_model.specs.Screen.Step.{blank_cell}
-use Rattle.ans_model.specs.Screen.StartClass.{Class, cleared, IsStart, start_with, low_start, high_start}
+use Rattle.ans_model.specs.Screen.StartClass.{cleared, IsStart, start_with, low_start, high_start}
+use Rattle.ans_model.specs.declared.start.Start.{Start}
 
 -- a part is the cleared state's where it is known
 known_part : {A : Type 0} (b : Bool) (x y : A) → IsTrue b → (if b then x else y) ≡ x
@@ -38,7 +39,7 @@ colours_lt true a l = lit< tt
 colours_lt false a l = l
 
 -- a state of the machine with the known parts cleared is a start
-start_with_is_start : (z : Size) (class : Class) (s : State) (c : Cell) → 0 < z.width
+start_with_is_start : (z : Size) (class : Start) (s : State) (c : Cell) → 0 < z.width
     → s.screen ≡ replicate (cell_count z) c → IsByteCell c → IsOnScreen z s.cursor → IsOnScreen z s.saved
     → s.attribute < 256 → IsStart z class (start_with z class s)
 start_with_is_start z class s c w e byte cursor saved colours =
@@ -54,20 +55,20 @@ start_with_is_start z class s c w e byte cursor saved colours =
               position_of_start_on_screen z class.saved s.saved w saved;
         };
         bytes = screen.1;
-        attribute = colours_lt class.attribute s.attribute colours;
+        attribute = colours_lt class.colours s.attribute colours;
       };
       screen = known_part class.screen (cleared z).screen s.screen;
       cursor = known_part class.cursor (cleared z).cursor s.cursor;
       saved = known_part class.saved (cleared z).saved s.saved;
-      attribute = known_part class.attribute (cleared z).attribute s.attribute;
+      attribute = known_part class.colours (cleared z).attribute s.attribute;
       wrap = known_part class.wrap (cleared z).wrap s.wrap;
     }
 
-pub low_is_start : (z : Size) (class : Class) → 0 < z.width → IsStart z class (low_start z class)
+pub low_is_start : (z : Size) (class : Start) → 0 < z.width → IsStart z class (low_start z class)
 low_is_start z class w = start_with_is_start z class _ (record { byte = 0; attribute = 0 }) w refl (lit< tt, lit< tt)
     (omega arith, w) (omega arith, w) (lit< tt)
 
-pub high_is_start : (z : Size) (class : Class) → 0 < z.width → IsStart z class (high_start z class)
+pub high_is_start : (z : Size) (class : Start) → 0 < z.width → IsStart z class (high_start z class)
 high_is_start z class w = start_with_is_start z class _ (record { byte = 255; attribute = 255 }) w refl
     (lit< tt, lit< tt)
     (omega arith, omega arith) (omega arith, omega arith) (lit< tt)

@@ -1,24 +1,24 @@
 -- What a step leaves as it was.
-use Rattle.std.proofs.Common.{◌≡◌, ◌≢◌, inl, inr, ℕ, ◌+◌, ◌-◌, ◌*◌, ◌<◌, ◌≤◌, Bool, true, false, refl}
-use Rattle.std.proofs.Common.{ap, ◌∙◌, arith, add-mul, one-mul, List, ◌++◌, length, take, drop, replicate}
+use Rattle.std.proofs.Common.{◌≡◌, ◌≢◌, inl, inr, ℕ, ◌+◌, ◌*◌, ◌<◌, ◌≤◌, Bool, true, false, refl}
+use Rattle.std.proofs.Common.{ap, ◌∙◌, arith, add-mul, one-mul, length, drop, replicate}
 use Rattle.std.proofs.Common.{Some}
 use Rattle.std.specs.Prelude.{if◌then◌else◌, nat_lt, slice_get}
 use Rattle.std.proofs.lemmas.Bool.{cases_lt, lt-ltb, le-ltb, eq-eqb, ne_eqb}
-use Rattle.std.proofs.lemmas.List.{length-take, length-drop, length-append, length-replicate, length-set}
-use Rattle.ans_model.specs.Sequence.TokenKind.{Bell, Tab, Clear, EraseLine, Mode, Keys, Ask}
+use Rattle.std.proofs.lemmas.List.{length-drop, length-set}
+use Rattle.ans_model.specs.Sequence.TokenKind.{Bell, Clear, EraseLine, Mode, Keys, Ask}
 use Rattle.ans_model.specs.Screen.State.{Size, State, IsWellFormed, IsOnScreen, at, cell, cell_at, cell_count, index}
-use Rattle.ans_model.specs.declared.cell.Cell.{Cell}
 use Rattle.ans_model.specs.declared.cell.Position.{Position}
-use Rattle.ans_model.specs.Screen.Step.{step, scrolled, line_feed, advanced, printed, filled, next_row_start}
+use Rattle.ans_model.specs.Screen.Step.{step, scrolled, line_feed, advanced, printed, next_row_start}
 use Rattle.ans_model.specs.Screen.Step.{blank_cell}
 use Rattle.ans_model.specs.Laws.StepLaws.{OnlyScreenAndCursor, SavesCursor, ColoursChangeAttribute, WrapChangesWrap}
 use Rattle.ans_model.specs.Laws.StepLaws.{IdleChangesNothing, ClearsScreen, IsErased, ErasesLine}
 use Rattle.ans_model.specs.Laws.StepLaws.{NextPosition, GlyphPrints, GlyphScrolls, LineFeedMovesDown, IsScrolled}
 use Rattle.ans_model.specs.Laws.StepLaws.{LineFeedScrolls, IsPrinted, IsPrintedAndScrolled}
 use Rattle.ans_model.specs.Laws.MoveLaws.{IsLastColumn}
+use Rattle.ans_model.proofs.FilledLemmas.{filled_before, filled_within, filled_behind}
 use Rattle.ans_model.proofs.Slices.{slice_get-append_left, slice_get-append_right, slice_get-set_same}
-use Rattle.ans_model.proofs.Slices.{slice_get-set_other, slice_get-take, slice_get-drop, slice_get-replicate}
-use Rattle.ans_model.proofs.PositionLemmas.{same_position, row_le, index-lt, index-lt_row}
+use Rattle.ans_model.proofs.Slices.{slice_get-set_other, slice_get-drop, slice_get-replicate}
+use Rattle.ans_model.proofs.PositionLemmas.{same_position, row_le, row_start, row_end_le, index-lt, index-lt_row}
 use Rattle.ans_model.proofs.PositionLemmas.{one_position_an_index}
 
 pub saves_cursor : SavesCursor
@@ -32,7 +32,6 @@ wrap_changes_wrap z s on = refl
 
 pub idle_changes_nothing : IdleChangesNothing
 idle_changes_nothing z s Bell i = refl
-idle_changes_nothing z s Tab i = refl
 idle_changes_nothing z s Mode i = refl
 idle_changes_nothing z s Keys i = refl
 idle_changes_nothing z s Ask i = refl
@@ -48,56 +47,10 @@ clears_screen z s = record {
   others = same_others s (step z s Clear) refl refl refl;
 }
 
--- ---- a filled range
-length-range : (cells : List Cell) (i j : ℕ) (c : Cell) → i ≤ j → j ≤ length cells
-    → length (take i cells ++ replicate (j - i) c) ≡ j
-length-range cells i j c h k = simp (length-append, length-take, length-replicate) (omega arith)
-
--- filling leaves the cells before it
-filled_before : (cells : List Cell) (i j : ℕ) (c : Cell) (k : ℕ) → i ≤ j → j ≤ length cells → k < i
-    → slice_get (filled cells i j c) k ≡ slice_get cells k
-filled_before cells i j c k h l lt =
-    let whole : length (take i cells ++ replicate (j - i) c) ≡ j = length-range cells i j c h l in
-    let front : length (take i cells) ≡ i = simp length-take (omega arith) in
-    slice_get-append_left (take i cells ++ replicate (j - i) c) (drop j cells) k (omega (arith, whole))
-    ∙ slice_get-append_left (take i cells) (replicate (j - i) c) k (omega (arith, front)) ∙ slice_get-take i cells k lt
-
--- filling changes the cells in it
-filled_within : (cells : List Cell) (i j : ℕ) (c : Cell) (k : ℕ) → i ≤ k → k < j → j ≤ length cells
-    → slice_get (filled cells i j c) k ≡ Some c
-filled_within cells i j c k h lt l =
-    let whole : length (take i cells ++ replicate (j - i) c) ≡ j = length-range cells i j c (omega arith) l in
-    let front : length (take i cells) ≡ i = simp length-take (omega arith) in
-    let at_k : k ≡ length (take i cells) + (k - i) = omega (arith, front) in
-    slice_get-append_left (take i cells ++ replicate (j - i) c) (drop j cells) k (omega (arith, whole))
-    ∙ ap (λ (n : ℕ). slice_get (take i cells ++ replicate (j - i) c) n) at_k
-    ∙ slice_get-append_right (take i cells) (replicate (j - i) c) (k - i)
-    ∙ slice_get-replicate (j - i) c (k - i) (omega arith)
-
--- filling leaves the cells after it
-filled_behind : (cells : List Cell) (i j : ℕ) (c : Cell) (k : ℕ) → i ≤ j → j ≤ k → j ≤ length cells
-    → slice_get (filled cells i j c) k ≡ slice_get cells k
-filled_behind cells i j c k h le l =
-    let whole : length (take i cells ++ replicate (j - i) c) ≡ j = length-range cells i j c h l in
-    let at_k : k ≡ length (take i cells ++ replicate (j - i) c) + (k - j) = omega (arith, whole) in
-    let back : j + (k - j) ≡ k = omega arith in
-    ap (λ (n : ℕ). slice_get (filled cells i j c) n) at_k
-    ∙ slice_get-append_right (take i cells ++ replicate (j - i) c) (drop j cells) (k - j)
-    ∙ slice_get-drop j cells (k - j) ∙ ap (λ (n : ℕ). slice_get cells n) back
-
 -- ---- a row's end
-row_start : (z : Size) (p : Position) → next_row_start z p ≡ p.row * z.width + z.width
-row_start z p = add-mul p.row 1 z.width ∙ ap (λ (n : ℕ). p.row * z.width + n) (one-mul z.width)
-
 -- the row of the cursor ends on the screen
 row_fits : (z : Size) (s : State) → IsWellFormed z s → next_row_start z s.cursor ≤ length s.screen
-row_fits z s h =
-    omega (
-      arith,
-      row_start z s.cursor,
-      row_le z s.cursor.row (z.lines + 1) (omega (arith, h.fits.cursor.0)),
-      h.fits.cells,
-    )
+row_fits z s h = rw h.fits.cells (row_end_le z s.cursor h.fits.cursor)
 
 -- a cell outside is kept
 erased_kept : (z : Size) (s : State) (p : Position) → IsWellFormed z s → IsOnScreen z p → ¬ IsErased s.cursor p

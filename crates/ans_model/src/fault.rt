@@ -1,7 +1,7 @@
 //! Why a file is refused, and where.
 
-/// Why a file is refused: the faults F1 to F25, in their order. F22 to F25 are the unknown faults,
-/// which depend on the start; the others are certain.
+/// Why a file is refused: the faults F1 to F25, in their order; there is no F18. F22 to F25 are the
+/// unknown faults, which depend on the start; the others are certain.
 #[derive(Debug, Clone, Copy, PartialEq, Eq)]
 pub enum Cause {
     /// F1: there is no SAUCE record.
@@ -38,8 +38,6 @@ pub enum Cause {
     ScreenMode,
     /// F17: a cursor report is asked for.
     ReportAsked,
-    /// F18: a tab.
-    TabByte,
     /// F19: a position outside the screen is named.
     OutsideScreen,
     /// F20: a byte is printed below the stated lines.

@@ -17,7 +17,7 @@ pub enum Kind {
     LineFeed,
     /// 0Dh: to the first column.
     CarriageReturn,
-    /// 09h: does nothing to the screen (profile).
+    /// 09h: prints blanks up to the next column that 8 divides, columns counted from 0 (profile).
     Tab,
     /// `ESC[nA`: up by this many rows, at most to the first.
     Up(u8),

@@ -3,10 +3,10 @@
 ghost use Rattle.std.specs.Prelude.{◌≡◌, ◌≤◌, length, map, vec_len, IfOk};
 ghost use Rattle.ans_model.specs.Screen.State.{cell, cell_count, IsOnScreen};
 ghost use Rattle.ans_model.specs.Screen.Step.{filled, line_feed, step, final};
-ghost use Rattle.ans_model.specs.Sequence.TokenKind.{Glyph, Clear, EraseLine};
+ghost use Rattle.ans_model.specs.Sequence.TokenKind.{Glyph, Clear, EraseLine, Tab};
 ghost use Rattle.ans_model.specs.Inside.ShownKind.{shown_kind};
 ghost use Rattle.ans_model.specs.Inside.MachineView.{machine_view, uniform_state};
-ghost use Rattle.ans_model.specs.Screen.StartClass.{class_of, cleared, start_with, low_start, high_start};
+ghost use Rattle.ans_model.specs.Screen.StartClass.{cleared, start_with, low_start, high_start};
 
 use crate::attribute::attribute_after_all;
 use crate::cell::{Cell, Position};
@@ -19,6 +19,12 @@ use std::marker::Model;
 const BLANK: u8 = 0x20;
 
 const HOME: Position = Position { row: 0, column: 0 };
+
+/// A cell of the cleared screen.
+const CLEARED_CELL: Cell = Cell {
+    byte: BLANK,
+    attribute: 0x07,
+};
 
 fn fill(cells: &mut Vec<Cell>, from: usize, to: usize, cell: Cell)
     requires ordered { from ≤ to }
@@ -87,6 +93,16 @@ impl Machine {
         }
     }
 
+    /// Blanks from the cursor on, up to the next column that 8 divides.
+    fn tab(&mut self)
+        ensures { self.new ≡ machine_view self.old.size (step self.old.size self.old.state Tab) }
+    {
+        let blanks = 8 - self.cursor.column % 8;
+        for _ in 0..blanks {
+            self.print(BLANK);
+        }
+    }
+
     /// The cursor's cell and those right of it become blank.
     fn erase_line(&mut self)
         ensures { self.new ≡ machine_view self.old.size (step self.old.size self.old.state EraseLine) }
@@ -147,7 +163,8 @@ impl Machine {
                 self.attribute = attribute_after_all(self.attribute, parameters)
             }
             Kind::Wrap(on) => self.wrap = *on,
-            Kind::Bell | Kind::Tab | Kind::Mode | Kind::Keys | Kind::Ask => {}
+            Kind::Tab => self.tab(),
+            Kind::Bell | Kind::Mode | Kind::Keys | Kind::Ask => {}
         }
     }
 }
@@ -179,84 +196,69 @@ impl Machine {
     }
 }
 
-/// A machine of a size whose cells are all `cell`, with both cursors at `cursor`.
-fn uniform_machine(
-    alloc: Global,
-    size: Size,
-    cell: Cell,
-    cursor: Position,
-    wrap: bool,
-) -> Result<Machine, AllocError>
-    requires { IsOnScreen size cursor }
-    ensures { IfOk result (λ m. m ≡ machine_view size (uniform_state size cell cursor wrap)) }
-{
-    let screen = vec![in alloc; cell; (size.lines() + 1) * size.width()]?;
-    Ok(Machine {
-        size,
-        screen,
-        cursor,
-        saved: cursor,
-        attribute: cell.attribute,
-        wrap,
-    })
-}
-
-/// The start of a class in which each part that is not known has the value given: `byte` each byte
-/// and attribute, `corner` both cursors.
-fn machine_from(
-    alloc: Global,
-    size: Size,
-    start: Start,
-    byte: u8,
-    corner: Position,
-    wrap: bool,
-) -> Result<Machine, AllocError>
-    requires { IsOnScreen size corner }
-    ensures { IfOk result (λ m. m ≡ machine_view size
-        (start_with size (class_of start) (uniform_state size (cell byte byte) corner wrap))) }
-{
-    match start {
-        Start::Any => {
-            let cell = Cell {
+impl Machine {
+    /// The start of a class in which each part that is not known has the value given: `byte` each
+    /// byte and attribute, `corner` both cursors.
+    fn from_class(
+        alloc: Global,
+        size: Size,
+        start: Start,
+        byte: u8,
+        corner: Position,
+        wrap: bool,
+    ) -> Result<Machine, AllocError>
+        requires { IsOnScreen size corner }
+        ensures { IfOk result (λ m. m ≡ machine_view size
+            (start_with size start (uniform_state size (cell byte byte) corner wrap))) }
+    {
+        let cell = if start.screen {
+            CLEARED_CELL
+        } else {
+            Cell {
                 byte,
                 attribute: byte,
-            };
-            uniform_machine(alloc, size, cell, corner, wrap)
-        }
-        Start::Cleared => Machine::cleared(alloc, size),
+            }
+        };
+        let screen = vec![in alloc; cell; (size.lines() + 1) * size.width()]?;
+        Ok(Machine {
+            size,
+            screen,
+            cursor: if start.cursor { HOME } else { corner },
+            saved: if start.saved { HOME } else { corner },
+            attribute: if start.colours {
+                CLEARED_CELL.attribute
+            } else {
+                byte
+            },
+            wrap: start.wrap || wrap,
+        })
     }
-}
 
-impl Machine {
-    /// The low start of a class: each part that is not known has its least value. For `Cleared`
-    /// this is the cleared state.
+    /// The low start of a class: each part that is not known has its least value. Where each part is
+    /// known, this is the cleared state.
     pub fn low(alloc: Global, size: Size, start: Start) -> Result<Machine, AllocError>
-        ensures { IfOk result (λ m. m ≡ machine_view size (low_start size (class_of start))) }
+        ensures { IfOk result (λ m. m ≡ machine_view size (low_start size start)) }
     {
-        machine_from(alloc, size, start, 0x00, HOME, false)
+        Machine::from_class(alloc, size, start, 0x00, HOME, false)
     }
 
-    /// The high start of a class: each part that is not known has its greatest value. For
-    /// `Cleared` this is the cleared state.
+    /// The high start of a class: each part that is not known has its greatest value. Where each part
+    /// is known, this is the cleared state.
     pub fn high(alloc: Global, size: Size, start: Start) -> Result<Machine, AllocError>
-        ensures { IfOk result (λ m. m ≡ machine_view size (high_start size (class_of start))) }
+        ensures { IfOk result (λ m. m ≡ machine_view size (high_start size start)) }
     {
         let last = Position {
             row: size.lines(),
             column: size.width() - 1,
         };
-        machine_from(alloc, size, start, 0xFF, last, true)
+        Machine::from_class(alloc, size, start, 0xFF, last, true)
     }
 
     /// The cleared state.
     pub fn cleared(alloc: Global, size: Size) -> Result<Machine, AllocError>
         ensures { IfOk result (λ m. m ≡ machine_view size (cleared size)) }
     {
-        let blank = Cell {
-            byte: BLANK,
-            attribute: 0x07,
-        };
-        uniform_machine(alloc, size, blank, HOME, true)
+        Machine::low(alloc, size, Start::cleared())
     }
 }
 

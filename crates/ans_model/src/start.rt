@@ -1,11 +1,64 @@
 //! The states that a play may begin from.
 
-/// A class of starts.
+ghost use Rattle.std.specs.Prelude.{◌≡◌, ◌↔◌, IsTrue};
+ghost use Rattle.ans_model.specs.Screen.StartClass.{none_known, all_known, Covers};
+
+/// A class of starts: which parts of the starting state are known to be as on the cleared screen.
+/// Every other part may have any value; both cursors stand on the screen.
 #[derive(Debug, Clone, Copy, PartialEq, Eq)]
-pub enum Start {
-    /// Every state: any screen, cursor, saved cursor and attribute, wrap on or off.
-    Any,
-    /// The cleared screen alone: blank cells of white on black, both cursors at row 0 and column 0,
-    /// wrap on.
-    Cleared,
+pub struct Start {
+    /// Each cell, those of the spare row included, is a blank of attribute 07h.
+    pub screen: bool,
+    /// The cursor stands at row 0 and column 0.
+    pub cursor: bool,
+    /// The saved cursor stands at row 0 and column 0.
+    pub saved: bool,
+    /// The current attribute is 07h, white on black.
+    pub colours: bool,
+    /// Wrap is on.
+    pub wrap: bool,
 }
+
+impl Start {
+    /// The class of every state: no part is known.
+    pub fn any() -> Start
+        ensures { result ≡ none_known }
+    {
+        Start {
+            screen: false,
+            cursor: false,
+            saved: false,
+            colours: false,
+            wrap: false,
+        }
+    }
+
+    /// The class of the cleared screen alone: each part is known.
+    pub fn cleared() -> Start
+        ensures { result ≡ all_known }
+    {
+        Start {
+            screen: true,
+            cursor: true,
+            saved: true,
+            colours: true,
+            wrap: true,
+        }
+    }
+
+    /// Whether each part that is known in this class is known in the other. Then each start of the
+    /// other class is one of this class, and what is good for this class is good for the other with
+    /// the same picture.
+    pub fn covers(self, other: Start) -> bool
+        ensures { IsTrue result ↔ Covers self other }
+    {
+        (!self.screen || other.screen)
+            && (!self.cursor || other.cursor)
+            && (!self.saved || other.saved)
+            && (!self.colours || other.colours)
+            && (!self.wrap || other.wrap)
+    }
+}
+
+#[cfg(test)]
+mod tests;

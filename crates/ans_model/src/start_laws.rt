@@ -1,15 +1,24 @@
 //! Laws of the classes of starts.
 
-ghost use Rattle.ans_model.specs.Laws.StartLaws.{AnyIsEvery, ClearedIsOne, LowIsStart, HighIsStart};
+ghost use Rattle.ans_model.specs.Laws.StartLaws.{NoneKnownIsEvery, AllKnownIsOne, LowIsStart, HighIsStart};
+ghost use Rattle.ans_model.specs.Laws.StartLaws.{CoversStarts, CoversGood};
 
-/// `Any` is every state of the machine, and `Cleared` the one cleared state.
+/// Where nothing is known, a start is every state of the machine; where all is known, it is the one
+/// cleared state.
 pub fn classes_are_their_starts()
-    ensures any { AnyIsEvery }
-    ensures cleared { ClearedIsOne }
+    ensures any { NoneKnownIsEvery }
+    ensures cleared { AllKnownIsOne }
 {}
 
-/// Each class has a start.
+/// Each of the 32 classes has a start.
 pub fn classes_have_starts()
     ensures low { LowIsStart }
     ensures high { HighIsStart }
+{}
+
+/// Where a class covers another, it has all of the other's starts, and what is good for it is good for
+/// the other with the same picture.
+pub fn covered_classes_keep_what_is_good()
+    ensures starts { CoversStarts }
+    ensures good { CoversGood }
 {}

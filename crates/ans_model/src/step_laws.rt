@@ -7,7 +7,8 @@ ghost use Rattle.ans_model.specs.Laws.MoveLaws.{ForwardUndoesBackward};
 ghost use Rattle.ans_model.specs.Laws.StepLaws.{OnePositionAnIndex, SavesCursor, ColoursChangeAttribute};
 ghost use Rattle.ans_model.specs.Laws.StepLaws.{WrapChangesWrap, IdleChangesNothing, ClearsScreen, ErasesLine};
 ghost use Rattle.ans_model.specs.Laws.StepLaws.{GlyphPrints, GlyphScrolls, LineFeedMovesDown, LineFeedScrolls};
-ghost use Rattle.ans_model.specs.Laws.StepLaws.{StepsAreWellFormed, CleanNeverScrolls, GoodNeverScrolls};
+ghost use Rattle.ans_model.specs.Laws.StepLaws.{TabPrintsBlanks, TabBlanksCells, FullTabScrolls, StepsAreWellFormed};
+ghost use Rattle.ans_model.specs.Laws.StepLaws.{CleanNeverScrolls, GoodNeverScrolls};
 
 /// Two positions of the screen have two indices.
 pub fn positions_have_indices()
@@ -59,6 +60,14 @@ pub fn glyphs_print()
     ensures scrolls { GlyphScrolls }
 {}
 
+/// A Tab is the play of its blanks: they change the cells from the cursor on, and the cursor goes
+/// behind them. Where wrap is on and they reach the end of the spare row, the screen scrolls.
+pub fn tabs_print_blanks()
+    ensures blanks { TabPrintsBlanks }
+    ensures cells { TabBlanksCells }
+    ensures scrolls { FullTabScrolls }
+{}
+
 /// A LineFeed goes down a row, and in the spare row it scrolls the screen.
 pub fn line_feeds_go_down()
     ensures down { LineFeedMovesDown }
@@ -70,7 +79,7 @@ pub fn steps_are_well_formed()
     ensures { StepsAreWellFormed }
 {}
 
-/// Clean tokens scroll from no start: neither a line feed nor a print that wraps.
+/// Clean tokens scroll from no start: no line feed, no print that wraps, and no tab.
 pub fn clean_tokens_never_scroll()
     ensures { CleanNeverScrolls }
 {}

@@ -13,7 +13,7 @@ ghost use Rattle.ans_model.specs.declared.fault.Cause.TheVariants.{UnknownSequen
 ghost use Rattle.ans_model.specs.declared.fault.Cause.TheVariants.{PrintUnknownPlace, UnknownCell};
 ghost use Rattle.ans_model.specs.declared.note.Note.TheVariants.{WidthAssumed, NoEndMark, SizeDiffers, OddDate};
 ghost use Rattle.ans_model.specs.declared.note.Note.TheVariants.{FlagBits, FlagPair};
-ghost use Rattle.ans_model.specs.declared.start.Start.TheVariants.{Any, Cleared};
+ghost use Rattle.ans_model.specs.Screen.StartClass.{none_known, all_known};
 ghost use Rattle.ans_model.specs.File.Record.{stated_width};
 ghost use Rattle.ans_model.specs.File.Layout.{content, comment_block, file_parts};
 ghost use Rattle.ans_model.specs.File.NoteConditions.{notes};
@@ -286,22 +286,22 @@ pub fn refused_token_texts()
 
 /// The texts of reports and refusals.
 pub fn report_texts()
-    ensures pass_from_any { report_text (heading_with (sized 2 1) Any 15 [])
+    ensures pass_from_any { report_text (heading_with (sized 2 1) none_known 15 [])
         (Passed (picture_with (sized 2 1) (cell 0x48 0x07 ∷ cell 0x69 0x07 ∷ [])) false)
         ≡ codes "size: 2 x 1\nstart: any\ncontent: 15 bytes\nverdict: pass\npicture:\nHi\n" }
-    ensures pass_with_cells { report_text (heading_with (sized 2 1) Cleared 2 [])
+    ensures pass_with_cells { report_text (heading_with (sized 2 1) all_known 2 [])
         (Passed (picture_with (sized 2 1) (cell 0x48 0x07 ∷ cell 0x69 0x07 ∷ [])) true)
         ≡ codes "size: 2 x 1\nstart: cleared\ncontent: 2 bytes\nverdict: pass\n"
         ++ codes "picture:\nHi\ncells:\n48076907\n" }
-    ensures blank_picture { report_text (heading_with (sized 1 1) Cleared 0 [])
+    ensures blank_picture { report_text (heading_with (sized 1 1) all_known 0 [])
         (Passed (picture_with (sized 1 1) (cell 0x20 0x07 ∷ [])) false)
         ≡ codes "size: 1 x 1\nstart: cleared\ncontent: 0 bytes\nverdict: pass\npicture:\n \n" }
-    ensures two_lines { report_text (heading_with (sized 2 2) Cleared 10 [])
+    ensures two_lines { report_text (heading_with (sized 2 2) all_known 10 [])
         (Passed (picture_with (sized 2 2)
         (cell 0x61 0x07 ∷ cell 0x62 0x07 ∷ cell 0x20 0x07 ∷ cell 0x20 0x07 ∷ [])) true)
         ≡ codes "size: 2 x 2\nstart: cleared\ncontent: 10 bytes\nverdict: pass\n"
         ++ codes "picture:\nab\n  \ncells:\n61076207\n20072007\n" }
-    ensures refusal_from_any { report_text (heading_with (sized 2 1) Any 2 [])
+    ensures refusal_from_any { report_text (heading_with (sized 2 1) none_known 2 [])
         (RefusedFor (fault_at 0 PrintUnknownPlace))
         ≡ codes "size: 2 x 1\nstart: any\ncontent: 2 bytes\nverdict: refused\n"
         ++ codes "at 0: F22 print at an unknown place\n" }
@@ -311,16 +311,29 @@ pub fn report_texts()
         ≡ codes "at 4: F25 cell stays unknown (row 1, column 1)\n" }
 {}
 
+/// The line of a start of which some parts are known names them in their order.
+pub fn start_lines()
+    ensures two_parts { heading_text
+        (heading_with (sized 2 1) (record none_known { cursor = true; colours = true }) 2 [])
+        ≡ codes "size: 2 x 1\nstart: known cursor colours\ncontent: 2 bytes\n" }
+    ensures all_but_wrap { heading_text
+        (heading_with (sized 1 1) (record all_known { wrap = false }) 0 [])
+        ≡ codes "size: 1 x 1\nstart: known screen cursor saved colours\ncontent: 0 bytes\n" }
+    ensures wrap_alone { heading_text
+        (heading_with (sized 1 1) (record none_known { wrap = true }) 0 [])
+        ≡ codes "size: 1 x 1\nstart: known wrap\ncontent: 0 bytes\n" }
+{}
+
 /// The texts of notes, of glyphs and of cells.
 pub fn heading_and_cell_texts()
     ensures four_notes { heading_text
-        (heading_with (sized 2 1) Cleared 2 (SizeDiffers ∷ OddDate ∷ FlagBits ∷ FlagPair ∷ []))
+        (heading_with (sized 2 1) all_known 2 (SizeDiffers ∷ OddDate ∷ FlagBits ∷ FlagPair ∷ []))
         ≡ codes "size: 2 x 1\nstart: cleared\ncontent: 2 bytes\n"
         ++ codes "note: file size differs from the content\n"
         ++ codes "note: date is not eight digits\n"
         ++ codes "note: flag bits 5 to 7 are not zero\nnote: a flag pair is 11\n" }
     ensures two_notes { heading_text
-        (heading_with (sized 80 1) Any 2 (WidthAssumed ∷ NoEndMark ∷ []))
+        (heading_with (sized 80 1) none_known 2 (WidthAssumed ∷ NoEndMark ∷ []))
         ≡ codes "size: 80 x 1\nstart: any\ncontent: 2 bytes\n"
         ++ codes "note: width 0 taken as 80\nnote: no end mark after the content\n" }
     ensures full_block { shown_bytes (0xDB ∷ 0x00 ∷ []) ≡ 0xE2 ∷ 0x96 ∷ 0x88 ∷ 0x20 ∷ [] }

@@ -7,10 +7,10 @@ ghost use Rattle.ans_model.specs.Laws.SequenceLaws.{OneSpellingInFront};
 ghost use Rattle.ans_model.specs.Sequence.Reads.{Reads};
 ghost use Rattle.ans_model.specs.declared.fault.Cause.{Cause};
 ghost use Rattle.ans_model.specs.declared.fault.Fault.{Fault};
-ghost use Rattle.ans_model.specs.declared.start.Start.TheVariants.{Cleared};
 ghost use Rattle.ans_model.specs.Verdict.Certain.{IsCertain};
 ghost use Rattle.ans_model.specs.Screen.State.{Size};
-ghost use Rattle.ans_model.specs.Screen.StartClass.{Class, class_of};
+ghost use Rattle.ans_model.specs.Screen.StartClass.{all_known};
+ghost use Rattle.ans_model.specs.declared.start.Start.{Start};
 ghost use Rattle.ans_model.specs.Verdict.FirstFault.{IsRefused, IsFirstFault};
 ghost use Rattle.ans_model.specs.Verdict.LastFault.{IsLastFault};
 ghost use Rattle.ans_model.specs.Verdict.Good.{IsGood};
@@ -40,22 +40,22 @@ pub fn refused_or_read()
 
 /// Bytes never have two of these: being good, a first fault, a last fault; and each fault is unique.
 pub fn one_answer()
-    ensures one_first_fault { (z : Size) (class : Class) (bytes : List ℕ) (f g : Fault)
+    ensures one_first_fault { (z : Size) (class : Start) (bytes : List ℕ) (f g : Fault)
         → IsFirstFault z class bytes f → IsFirstFault z class bytes g → f ≡ g }
-    ensures one_last_fault { (z : Size) (class : Class) (bytes : List ℕ) (f g : Fault)
+    ensures one_last_fault { (z : Size) (class : Start) (bytes : List ℕ) (f g : Fault)
         → IsLastFault z class bytes f → IsLastFault z class bytes g → f ≡ g }
-    ensures not_first_and_last { (z : Size) (class : Class) (bytes : List ℕ) (f g : Fault)
+    ensures not_first_and_last { (z : Size) (class : Start) (bytes : List ℕ) (f g : Fault)
         → IsFirstFault z class bytes f → IsLastFault z class bytes g → ⊥ }
-    ensures not_good_and_first { (z : Size) (class : Class) (bytes : List ℕ) (f : Fault)
+    ensures not_good_and_first { (z : Size) (class : Start) (bytes : List ℕ) (f : Fault)
         → IsGood z class bytes → IsFirstFault z class bytes f → ⊥ }
-    ensures not_good_and_last { (z : Size) (class : Class) (bytes : List ℕ) (f : Fault)
+    ensures not_good_and_last { (z : Size) (class : Start) (bytes : List ℕ) (f : Fault)
         → IsGood z class bytes → IsLastFault z class bytes f → ⊥ }
 {}
 
 /// From the cleared start nothing is unknown: each fault is one of F1 to F21.
 pub fn certain_from_cleared()
     ensures first { (z : Size) (bytes : List ℕ) (f : Fault)
-        → IsFirstFault z (class_of Cleared) bytes f → IsCertain f.cause }
+        → IsFirstFault z all_known bytes f → IsCertain f.cause }
     ensures last { (z : Size) (bytes : List ℕ) (f : Fault)
-        → IsLastFault z (class_of Cleared) bytes f → IsCertain f.cause }
+        → IsLastFault z all_known bytes f → IsCertain f.cause }
 {}

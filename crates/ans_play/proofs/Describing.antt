@@ -4,7 +4,7 @@ use Rattle.std.specs.Prelude.{if◌then◌else◌, nat_lt}
 use Rattle.std.proofs.lemmas.Bool.{cases_lt, lt-ltb, le-ltb}
 use Rattle.ans_model.specs.Sequence.TokenKind.{TokenKind, Glyph, BackSpace, LineFeed, CarriageReturn, Up, Down}
 use Rattle.ans_model.specs.Sequence.TokenKind.{Forward, Backward, Place}
-use Rattle.ans_model.specs.Sequence.TokenKind.{Clear, EraseLine, Save, Restore, Colours, Wrap}
+use Rattle.ans_model.specs.Sequence.TokenKind.{Clear, EraseLine, Save, Restore, Colours, Wrap, Tab}
 use Rattle.ans_model.specs.Screen.State.{Size, State, at, cell, cell_count, index, IsOnScreen}
 use Rattle.ans_model.specs.declared.cell.Cell.{Cell}
 use Rattle.ans_model.specs.declared.cell.Position.{Position}
@@ -231,4 +231,5 @@ step_describes z h s LineFeed on d k = rw (line_feed_is z s (omega (arith, d.cur
   wrap = d.wrap;
 })
 step_describes z h s (Glyph b) on d k = print_describes z h s b on d k.0 k.1
+step_describes z h s Tab on d k = absurd k
 step_describes z h s t on d k = move_describes z h s t d

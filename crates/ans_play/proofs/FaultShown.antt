@@ -4,37 +4,24 @@ use Rattle.std.specs.Prelude.{◌||◌, if◌then◌else◌, nat_lt, ◌==◌}
 use Rattle.std.proofs.lemmas.Bool.{eqb-true, eqb-false, ltb-true, ltb-false}
 use Rattle.ans_model.specs.Sequence.TokenKind.{TokenKind, Glyph, LineFeed, Tab, Place, EraseLine, Mode, Keys, Ask}
 use Rattle.ans_model.specs.Screen.State.{Size}
-use Rattle.ans_model.specs.Screen.StartClass.{Class}
+use Rattle.ans_model.specs.declared.start.Start.{Start}
 use Rattle.ans_model.specs.Verdict.TokenFault.{HasFault}
 use Rattle.ans_model.specs.declared.fault.Cause.{Cause}
-use Rattle.ans_model.specs.declared.fault.Cause.TheVariants.{KeyReassigned, ScreenMode, ReportAsked, TabByte}
-use Rattle.ans_model.specs.declared.fault.Cause.TheVariants.{OutsideScreen, PrintBelow, Scrolls, PrintUnknownPlace}
+use Rattle.ans_model.specs.declared.fault.Cause.TheVariants.{KeyReassigned, ScreenMode, ReportAsked}
+use Rattle.ans_model.specs.declared.fault.Cause.TheVariants.{OutsideScreen, Scrolls}
 use Rattle.ans_model.specs.declared.fault.Cause.TheVariants.{EraseUnknownPlace, MayScroll}
 use Rattle.ans_play.specs.HalfState.{HalfState}
 use Rattle.ans_play.specs.HalfFault.{half_fault, is_one_position}
 use Rattle.ans_play.specs.Stands.{IsKnownAfter}
 use Rattle.std.proofs.lemmas.Option.{same_Some}
-use Rattle.ans_play.proofs.Positions.{positions_differ, positions_agree, all_in_spare_row, some_in_spare_row}
+use Rattle.ans_play.proofs.PrintFaults.{print_has_fault}
+use Rattle.ans_play.proofs.Tabs.{tab_has_fault}
+use Rattle.ans_play.proofs.Positions.{positions_differ, all_in_spare_row, some_in_spare_row}
 use Rattle.ans_play.proofs.Positions.{some_above}
 
-module _ (z : Size) (class : Class) (played : List TokenKind) (h : HalfState) (w : 0 < z.width)
+module _ (z : Size) (class : Start) (played : List TokenKind) (h : HalfState) (w : 0 < z.width)
     (st : IsKnownAfter z class played h) where
   -- each token by the tests that its fault makes
-  print_has_fault : (b : ℕ) (cause : Cause) (p q : Bool) → is_one_position h.cursor ≡ p →
-      (h.cursor.low.row == z.lines) ≡ q →
-      (if p then (if q then Some PrintBelow else None) else Some PrintUnknownPlace) ≡ Some cause →
-      HasFault z class played (Glyph b) cause
-  print_has_fault b cause true true one bottom e =
-      subst (λ (c : Cause). HasFault z class played (Glyph b) c) (same_Some PrintBelow cause e)
-      (inr (
-        positions_agree z class played h st one,
-        all_in_spare_row z class played h w st (eqb-true h.cursor.low.row z.lines bottom),
-      ))
-  print_has_fault b cause true false one bottom e = absurd (cc)
-  print_has_fault b cause false q one bottom e =
-      subst (λ (c : Cause). HasFault z class played (Glyph b) c) (same_Some PrintUnknownPlace cause e)
-      (inr (positions_differ z class played h w st one))
-
   erase_has_fault : (cause : Cause) (p : Bool) → is_one_position h.cursor ≡ p →
       (if p then None else Some EraseUnknownPlace) ≡ Some cause → HasFault z class played EraseLine cause
   erase_has_fault cause true one e = absurd (cc)
@@ -77,12 +64,10 @@ module _ (z : Size) (class : Class) (played : List TokenKind) (h : HalfState) (w
       (inl tt)
   token_has_fault Ask cause e = subst (λ (c : Cause). HasFault z class played Ask c) (same_Some ReportAsked cause e)
       (inl tt)
-  token_has_fault Tab cause e = subst (λ (c : Cause). HasFault z class played Tab c) (same_Some TabByte cause e)
-      (inl tt)
+  token_has_fault Tab cause e = inr (tab_has_fault z class played h w st cause e)
   token_has_fault (Place row column) cause e =
       place_has_fault row column cause (nat_lt (z.lines + 1) row) (nat_lt z.width column) refl refl e
-  token_has_fault (Glyph b) cause e = print_has_fault b cause (is_one_position h.cursor)
-      (h.cursor.low.row == z.lines) refl refl e
+  token_has_fault (Glyph b) cause e = inr (print_has_fault z class played h w st cause e)
   token_has_fault EraseLine cause e = erase_has_fault cause (is_one_position h.cursor) refl e
   token_has_fault LineFeed cause e = line_feed_has_fault cause (nat_lt h.cursor.high.row z.lines)
       (h.cursor.low.row == z.lines) refl refl e

@@ -8,15 +8,14 @@ use Rattle.std.proofs.Math.Seq.{take-add}
 use Rattle.ans_model.specs.Sequence.TokenKind.{TokenKind}
 use Rattle.ans_model.specs.Sequence.Reads.{SpellsToken, Reads}
 use Rattle.ans_model.specs.Screen.State.{Size}
-use Rattle.ans_model.specs.Screen.StartClass.{Class, class_of}
+use Rattle.ans_model.specs.declared.start.Start.{Start}
 use Rattle.ans_model.specs.Verdict.FirstFault.{IsToBlame, IsRefused, IsFirstFault}
 use Rattle.ans_model.specs.declared.fault.Fault.{Fault}
 use Rattle.ans_model.proofs.Reading.{token_prints}
 use Rattle.ans_model.specs.Sequence.Spelling.{IsUnfinished}
 use Rattle.ans_model.specs.Inside.ShownKind.{shown_kind}
 use Rattle.ans_tokens.proofs.Readable.{reads_as_more}
-use Rattle.ans_tokens.specs.ScannerView.{ScannerView, Holds, IsTokenOf, IsFaultOf, Kept, Keeps, Nothing, Escape}
-use Rattle.ans_tokens.specs.ScannerView.{Sequence}
+use Rattle.ans_tokens.specs.ScannerView.{ScannerView, Holds, IsTokenOf, IsFaultOf}
 use Rattle.ans_tokens.proofs.EachByte.{kept_open, open_ends}
 use Rattle.ans_model.proofs.OneAnswer.{clean_or_first}
 use Rattle.ans_tokens.specs.Token.{kind_of, start_of}
@@ -27,9 +26,8 @@ use Rattle.ans_play.specs.HalfFault.{half_fault}
 use Rattle.ans_play.specs.PlayView.{PlayView}
 use Rattle.ans_play.specs.PlayerView.{PlayerView, play_of}
 use Rattle.ans_play.specs.Stands.{IsPlayed, Stands, SamePlay, IsFed, Feeds, GoesOn, IsDeserved}
-use Rattle.ans_play.proofs.KnownAfter.{known_more}
 use Rattle.ans_play.proofs.FaultShown.{token_has_fault}
-use Rattle.ans_play.proofs.NoFaultShown.{token_is_allowed, token_has_no_fault}
+use Rattle.ans_play.proofs.NoFaultShown.{known_next, token_has_no_fault}
 use Rattle.ans_play.proofs.Clean.{clean_more}
 
 -- ---- one byte
@@ -44,7 +42,7 @@ pub front_with_byte : (front y : List ℕ) (s : List ℕ) (byte : ℕ) → s ≡
 front_with_byte front y s byte e = ap (λ (xs : List ℕ). xs ++ byte ∷ []) e ∙ append_assoc front y (byte ∷ [])
 
 -- the byte leaves the open part unfinished
-pub played_open : (z : Size) (class : Class) (s : List ℕ) (old new : ScannerView) (h : HalfState) (byte : ℕ)
+pub played_open : (z : Size) (class : Start) (s : List ℕ) (old new : ScannerView) (h : HalfState) (byte : ℕ)
     (p : IsPlayed z class s old h) →
     Holds new (p.open_part ++ byte ∷ []) → new.offset ≡ old.offset + 1 → new.fault ≡ None →
     IsPlayed z class (s ++ byte ∷ []) new h
@@ -63,7 +61,7 @@ played_open z class s old new h byte p holds offset unrefused = record {
 }
 
 -- the byte ends a token that has no fault
-pub played_token : (z : Size) (class : Class) (s : List ℕ) (old new : ScannerView) (h : HalfState) (byte : ℕ)
+pub played_token : (z : Size) (class : Start) (s : List ℕ) (old new : ScannerView) (h : HalfState) (byte : ℕ)
     (t : TokenKind)
     (p : IsPlayed z class s old h) →
     SpellsToken t (p.open_part ++ byte ∷ []) → half_fault z h t ≡ None → Holds new [] → new.offset ≡ old.offset + 1 →
@@ -78,16 +76,15 @@ played_token z class s old new h byte t p spelled none holds offset unrefused = 
   reads = reads_more p.front (p.open_part ++ byte ∷ []) p.tokens t p.reads spelled;
   clean = clean_more z class p.tokens t p.clean
       (λ cause. token_has_no_fault z class p.tokens h p.size.some_columns p.known t cause none);
-  known = known_more z class p.tokens h t p.size.some_columns
-      (token_prints t (p.open_part ++ byte ∷ []) spelled) p.known
-      (token_is_allowed z class p.tokens h p.size.some_columns p.known t none);
+  known = known_next z class p.tokens h p.size.some_columns p.known t
+      (token_prints t (p.open_part ++ byte ∷ []) spelled) none;
   holds = holds;
   offset = simp length-append (omega (arith, offset, p.offset));
   unrefused = unrefused;
 }
 
 -- where the open part began, if the offset is known
-open_part_starts : (z : Size) (class : Class) (s : List ℕ) (scanner : ScannerView) (h : HalfState)
+open_part_starts : (z : Size) (class : Start) (s : List ℕ) (scanner : ScannerView) (h : HalfState)
     (p : IsPlayed z class s scanner h) (start : ℕ) →
     start + length p.open_part ≡ scanner.offset → start ≡ length p.front
 open_part_starts z class s scanner h p start e =
@@ -103,7 +100,7 @@ front_text_rest front y s rest byte e =
     ∙ ap (λ (xs : List ℕ). front ++ xs) (sym (append_assoc y (byte ∷ []) rest))
 
 -- what is to blame for the fault is the open part with a byte
-first_fault : (z : Size) (class : Class) (s rest : List ℕ) (scanner : ScannerView) (h : HalfState) (byte : ℕ)
+first_fault : (z : Size) (class : Start) (s rest : List ℕ) (scanner : ScannerView) (h : HalfState) (byte : ℕ)
     (fault : Fault) (p : IsPlayed z class s scanner h) →
     IsToBlame z class p.tokens (p.open_part ++ byte ∷ []) fault.cause
     ⊎ IsRefused (p.open_part ++ byte ∷ []) fault.cause → fault.offset + length p.open_part ≡ scanner.offset →
@@ -201,7 +198,7 @@ piece_deserved old mid piece i fault h within d =
 
 -- ---- a piece
 -- bytes that are played have no first fault
-played_has_no_first_fault : (z : Size) (class : Class) (bytes : List ℕ) (scanner : ScannerView) (h : HalfState)
+played_has_no_first_fault : (z : Size) (class : Start) (bytes : List ℕ) (scanner : ScannerView) (h : HalfState)
     (f : Fault) → IsPlayed z class bytes scanner h
     → ¬ IsFirstFault z class bytes f
 played_has_no_first_fault z class bytes scanner h f p =
@@ -209,7 +206,7 @@ played_has_no_first_fault z class bytes scanner h f p =
     (open_ends p.open_part (kept_open scanner.kept p.open_part p.holds.keeps))
 
 -- a first fault stays the first with more bytes after it
-pub first_longer : (z : Size) (class : Class) (bytes more : List ℕ) (f : Fault) → IsFirstFault z class bytes f →
+pub first_longer : (z : Size) (class : Start) (bytes more : List ℕ) (f : Fault) → IsFirstFault z class bytes f →
     IsFirstFault z class (bytes ++ more) f
 first_longer z class bytes more f h = record {
   size = h.size;
@@ -227,14 +224,14 @@ first_longer z class bytes more f h = record {
 
 -- a player with the fault of its bytes
 stands_faulted : (old new : PlayerView) (bytes : List ℕ) (fault : Fault) → SamePlay old new → new.fault ≡ Some fault →
-    IsFirstFault old.size (class_of old.start) bytes fault → Stands new bytes
+    IsFirstFault old.size old.start bytes fault → Stands new bytes
 stands_faulted old new bytes fault same is first = record {
   fed = λ n. absurd (let no : Some fault ≡ None = sym is ∙ n in cc);
   played = λ n. absurd (let no : Some fault ≡ None = sym is ∙ n in cc);
   faulted = λ f some.
       let equal : fault ≡ f = same_Some fault f (sym is ∙ some) in
       rw (same.size, same.start) (subst (λ (x : Fault). IsFirstFault old.size
-      (class_of old.start) bytes x) equal first);
+      old.start bytes x) equal first);
 }
 
 -- the whole piece is played
@@ -242,8 +239,8 @@ pub feeds_all : (old new : PlayerView) (piece s : List ℕ) → GoesOn (play_of 
     SamePlay old new →
     IsFed old new (length piece) → Stands old s → Feeds old s piece new (Ok tt)
 feeds_all old new piece s h same fed st =
-    let played : IsPlayed old.size (class_of old.start) (s ++ piece) new.scanner new.state =
-    h.played (class_of old.start) s (st.played fed.no_fault) in
+    let played : IsPlayed old.size old.start (s ++ piece) new.scanner new.state =
+    h.played old.start s (st.played fed.no_fault) in
     record {
       stands = record {
         fed = λ n. let before : old.fed ≡ length s = st.fed fed.no_fault in simp length-append (omega (arith, fed.fed));
@@ -251,7 +248,7 @@ feeds_all old new piece s h same fed st =
         faulted = λ f some. absurd (let no : Some f ≡ None = sym some ∙ fed.none in cc);
       };
       first = tt;
-      none = λ f. played_has_no_first_fault old.size (class_of old.start) (s ++ piece) new.scanner new.state f played;
+      none = λ f. played_has_no_first_fault old.size old.start (s ++ piece) new.scanner new.state f played;
     }
 
 -- the piece has a fault
@@ -259,16 +256,16 @@ pub feeds_fault : (old new : PlayerView) (piece s : List ℕ) (fault : Fault) �
     SamePlay old new →
     old.fault ≡ None → new.fault ≡ Some fault → Stands old s → Feeds old s piece new (Err fault)
 feeds_fault old new piece s fault d same none is st =
-    let first : IsFirstFault old.size (class_of old.start) (s ++ piece) fault =
-    d (class_of old.start) s (st.played none) in
+    let first : IsFirstFault old.size old.start (s ++ piece) fault =
+    d old.start s (st.played none) in
     record { stands = stands_faulted old new (s ++ piece) fault same is first; first = first; none = tt }
 
 -- the bytes before it have a fault
 pub feeds_again : (old : PlayerView) (piece s : List ℕ) (fault : Fault) → old.fault ≡ Some fault → Stands old s →
     Feeds old s piece old (Err fault)
 feeds_again old piece s fault is st =
-    let first : IsFirstFault old.size (class_of old.start) (s ++ piece) fault =
-    first_longer old.size (class_of old.start) s piece fault (st.faulted fault is) in
+    let first : IsFirstFault old.size old.start (s ++ piece) fault =
+    first_longer old.size old.start s piece fault (st.faulted fault is) in
     record {
       stands = stands_faulted old old (s ++ piece) fault (record { size = refl; start = refl }) is first;
       first = first;
@@ -276,7 +273,7 @@ feeds_again old piece s fault is st =
     }
 
 -- a first fault stands within the bytes
-pub first_within : (z : Size) (class : Class) (bytes : List ℕ) (fault : Fault) → IsFirstFault z class bytes fault →
+pub first_within : (z : Size) (class : Start) (bytes : List ℕ) (fault : Fault) → IsFirstFault z class bytes fault →
     fault.offset ≤ length bytes
 first_within z class bytes fault h =
     omega (arith, h.offset, ap length h.whole, length-append h.front (h.text ++ h.rest))

@@ -13,7 +13,8 @@ use Rattle.ans_model.specs.Screen.State.{Size, State, at, index, cell_count, IsS
 use Rattle.ans_model.specs.declared.cell.Cell.{Cell}
 use Rattle.ans_model.specs.declared.cell.Position.{Position}
 use Rattle.ans_model.specs.Screen.Step.{final}
-use Rattle.ans_model.specs.Screen.StartClass.{Class, class_of, IsStart, low_start, high_start}
+use Rattle.ans_model.specs.Screen.StartClass.{IsStart, low_start, high_start}
+use Rattle.ans_model.specs.declared.start.Start.{Start}
 use Rattle.ans_model.specs.Verdict.Good.{Picture, Shows, GoodWith}
 use Rattle.ans_model.specs.File.Refusals.{fault_at}
 use Rattle.ans_model.specs.Verdict.LastFault.{SameCell, CellsDiffer, IsBefore, IsFirstUnknown, EndsInSequence}
@@ -72,7 +73,7 @@ pub position_stated : (z : Size) (i : ℕ) → 0 < z.width → i < z.lines * z.w
 unfolding position_of
 position_stated z i w l = ((div-lt_iff_lt-mul w).1 l, omega arith)
 
-module _ (z : Size) (class : Class) (tokens : List TokenKind) (h : HalfState) (w : 0 < z.width)
+module _ (z : Size) (class : Start) (tokens : List TokenKind) (h : HalfState) (w : 0 < z.width)
     (st : IsKnownAfter z class tokens h) where
   -- ---- one cell
   pub same_where_known : (p : Position) (i : ℕ) (c : HalfCell) → index z p ≡ i → slice_get h.screen i ≡ Some c →
@@ -141,7 +142,7 @@ module _ (z : Size) (class : Class) (tokens : List TokenKind) (h : HalfState) (w
       }
 
 -- ---- of bytes
-module _ (z : Size) (class : Class) (bytes : List ℕ) (scanner : ScannerView) (h : HalfState)
+module _ (z : Size) (class : Start) (bytes : List ℕ) (scanner : ScannerView) (h : HalfState)
     (p : IsPlayed z class bytes scanner h) where
   -- at the end of the tokens
   read_whole : p.open_part ≡ [] → Reads bytes p.tokens
@@ -200,7 +201,7 @@ no_cell = half_cell None (known_bits 0 0)
 pub known_if : (cells : List HalfCell) (n : ℕ) → first_unknown cells n ≡ None → list_all is_known (take n cells) ≡ true
 known_if cells n e = none_unknown (take n cells) no_cell e
 
-module _ (v : PlayView) (class : Class) (s : List ℕ) (p : IsPlayed v.size class s v.scanner v.state) where
+module _ (v : PlayView) (class : Start) (s : List ℕ) (p : IsPlayed v.size class s v.scanner v.state) where
   -- the bytes end within a sequence
   pub ends_open : (fault : Fault) → (v.scanner.fault ≡ None → (y : List ℕ) → Holds v.scanner y → IsUnfinished y
       × (fault.cause ≡ EndInSequence) × (fault.offset + length y ≡ v.scanner.offset)) →
@@ -233,14 +234,14 @@ module _ (v : PlayView) (class : Class) (s : List ℕ) (p : IsPlayed v.size clas
 pub finishes_played : (p : PlayerView) (s : List ℕ) (result : Result Picture Fault) → Stands p s → p.fault ≡ None →
     EndsPlay (play_of p) result → Finishes p s result
 finishes_played p s (Ok picture) st none ends =
-    record { good = ends (class_of p.start) s (st.played none); last = λ n. tt; exact = λ good. refl }
+    record { good = ends p.start s (st.played none); last = λ n. tt; exact = λ good. refl }
 finishes_played p s (Err fault) st none ends =
-    let last : IsLastFault p.size (class_of p.start) s fault = ends (class_of p.start) s (st.played none) in
+    let last : IsLastFault p.size p.start s fault = ends p.start s (st.played none) in
     record {
       good = tt;
       last = λ n. last;
       exact =
-          λ good. absurd (good_or_last p.size (class_of p.start) s fault good last);
+          λ good. absurd (good_or_last p.size p.start s fault good last);
     }
 
 -- a player with a fault has no good bytes
@@ -249,11 +250,11 @@ pub finishes_faulted : (p : PlayerView) (s : List ℕ) (fault : Fault) → Stand
 finishes_faulted p s fault st is = record {
   good = tt;
   last = λ none. absurd (let no : Some fault ≡ None = sym is ∙ none in cc);
-  exact = λ good. absurd (good_or_first p.size (class_of p.start) s fault good (st.faulted fault is));
+  exact = λ good. absurd (good_or_first p.size p.start s fault good (st.faulted fault is));
 }
 
 -- a last fault stands within the bytes
-pub last_within : (z : Size) (class : Class) (bytes : List ℕ) (fault : Fault) → IsLastFault z class bytes fault →
+pub last_within : (z : Size) (class : Start) (bytes : List ℕ) (fault : Fault) → IsLastFault z class bytes fault →
     fault.offset ≤ length bytes
 last_within z class bytes fault (inl h) =
     omega (arith, ap (λ (f : Fault). f.offset) h.fault_is, ap length h.whole, length-append h.front h.text)

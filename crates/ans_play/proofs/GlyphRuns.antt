@@ -1,12 +1,12 @@
 -- Glyphs in a row before its last column: one run is what they print one by one.
 use Rattle.std.proofs.Common.{◌≡◌, ℕ, zero, suc, ◌+◌, ◌*◌, ◌<◌, ◌≤◌, refl, sym, ap, ◌∙◌, arith, List, [], ◌∷◌, ◌++◌}
-use Rattle.std.proofs.Common.{length, take, drop, set, All, Option, Some, None, subst, append_assoc}
+use Rattle.std.proofs.Common.{min, inl, inr, ◌⊎◌, length, take, drop, set, All, Option, Some, None, subst, append_assoc}
 use Rattle.std.proofs.lemmas.List.{append-nil, take-append-drop, length-set, drop-set-lt, take_more_set, length-take}
-use Rattle.std.proofs.lemmas.List.{length-take-le}
+use Rattle.std.proofs.lemmas.List.{length-take-le, take_all}
 use Rattle.std.proofs.Math.Nat.{mul-le-mul_right}
 use Rattle.std.proofs.lemmas.List.Elements.{All-head, All-tail, All-append, All-take, All-drop, All-map}
 use Rattle.std.specs.Prelude.{Bool, true, false, ◌≢◌, ◌==◌, if◌then◌else◌}
-use Rattle.std.proofs.lemmas.Bool.{eqb-false, lt-ltb}
+use Rattle.std.proofs.lemmas.Bool.{cases_lt, eqb-false, lt-ltb}
 use Rattle.std.proofs.lemmas.Bool.Decides.{nat_tests}
 use Rattle.ans_model.specs.Bytes.{IsByte}
 use Rattle.ans_model.specs.Sequence.TokenKind.{Glyph}
@@ -14,7 +14,7 @@ use Rattle.ans_model.specs.Screen.State.{Size, at, index, cell_count}
 use Rattle.ans_model.specs.declared.cell.Position.{Position}
 use Rattle.ans_model.specs.declared.fault.Cause.{Cause}
 use Rattle.ans_model.specs.declared.fault.Cause.TheVariants.{PrintBelow, PrintUnknownPlace}
-use Rattle.ans_model.specs.Screen.StartClass.{Class}
+use Rattle.ans_model.specs.declared.start.Start.{Start}
 use Rattle.ans_model.specs.declared.fault.Fault.{Fault}
 use Rattle.ans_tokens.specs.ScannerView.{ScannerView, Kept, Holds, scanner_view}
 use Rattle.ans_tokens.specs.Glyphs.{IsGlyphByte, IsGlyphFront, IsBetweenTokens, scanner_after_glyphs}
@@ -28,7 +28,7 @@ use Rattle.ans_play.specs.HalfState.{HalfState, half_state, span, one_position, 
 use Rattle.ans_play.specs.HalfStep.{half_step}
 use Rattle.ans_play.specs.HalfFault.{half_fault, is_one_position}
 use Rattle.ans_play.specs.Stands.{IsPlayed, GoesOn}
-use Rattle.ans_play.specs.Plays.{AreFree}
+use Rattle.ans_play.specs.Plays.{AreFree, IsLongestRun}
 use Rattle.ans_play.specs.PlayView.{PlayView, play_view, IsByteHalfCell}
 use Rattle.ans_play.proofs.Feeding.{played_token}
 use Rattle.ans_play.proofs.Positions.{one_position_if}
@@ -99,7 +99,7 @@ nothing_open : (s : ScannerView) (y : List ℕ) → IsBetweenTokens s → Holds 
 nothing_open s y between holds = rw between.nothing at holds.keeps
 
 -- one glyph is played
-plays_glyph : (z : Size) (class : Class) (s : List ℕ) (scanner : ScannerView) (screen : List HalfCell) (row column : ℕ)
+plays_glyph : (z : Size) (class : Start) (s : List ℕ) (scanner : ScannerView) (screen : List HalfCell) (row column : ℕ)
     (saved : Span) (attribute : KnownBits) (wrap : WrapMode) (b : ℕ) →
     IsPlayed z class s scanner (half_state screen (one_position row column) saved attribute wrap) →
     IsBetweenTokens scanner → IsGlyphByte b → row < z.lines → column + 1 < z.width →
@@ -135,7 +135,7 @@ prints_at_one_position z h b on e = by_tests (is_one_position h.cursor) (h.curso
     by_tests false q one bottom n = absurd (cc)
 
 -- ---- a run
-plays_run : (z : Size) (class : Class) (run s : List ℕ) (scanner : ScannerView) (screen : List HalfCell)
+plays_run : (z : Size) (class : Start) (run s : List ℕ) (scanner : ScannerView) (screen : List HalfCell)
     (row column : ℕ)
     (saved : Span) (attribute : KnownBits) (wrap : WrapMode) →
     IsPlayed z class s scanner (half_state screen (one_position row column) saved attribute wrap) →
@@ -262,3 +262,23 @@ run_goes_on z scanner after screen new cursor saved attribute wrap bytes count w
           attribute wrap before between glyphs room.above columns fits in
           rw (is_after, is_new) (rw n at on);
     }
+
+-- the free columns are one number
+free_once : (p : PlayView) (c d : ℕ) → AreFree p c → AreFree p d → c ≡ d
+free_once p c d free other = by_fault (half_fault p.size p.state (Glyph 0)) refl
+  where
+    by_fault : (o : Option Cause) → half_fault p.size p.state (Glyph 0) ≡ o → c ≡ d
+    by_fault None e = omega (arith, free.printed 0 e, other.printed 0 e)
+    by_fault (Some cause) e = free.refused 0 cause e ∙ sym (other.refused 0 cause e)
+
+-- the glyphs that the scanner counts in the free columns are the longest run
+pub longest_run : (p : PlayView) (bytes : List ℕ) (columns m count : ℕ) → AreFree p columns →
+    m ≡ min (length bytes) columns → IsGlyphFront (take m bytes) count → IsLongestRun p bytes count
+longest_run p bytes columns m count free least front other other_free between =
+    let same : columns ≡ other = free_once p columns other free other_free in
+    rw (← same) (subst (λ (xs : List ℕ). IsGlyphFront xs count) (front_is (cases_lt columns (length bytes))) front)
+  where
+    front_is : (columns < length bytes) ⊎ (length bytes ≤ columns) → take m bytes ≡ take columns bytes
+    front_is (inl less) = let e : m ≡ columns = omega (arith, least) in rw e refl
+    front_is (inr all) = let e : m ≡ length bytes = omega (arith, least) in
+        rw e (take_all (length bytes) bytes (omega arith) ∙ sym (take_all columns bytes all))

@@ -7,7 +7,8 @@ use Rattle.ans_model.specs.Screen.State.{Size, State, at, cell_count, IsOnScreen
 use Rattle.ans_model.specs.declared.cell.Cell.{Cell}
 use Rattle.ans_model.specs.declared.cell.Position.{Position}
 use Rattle.ans_model.specs.Screen.Step.{blank_cell}
-use Rattle.ans_model.specs.Screen.StartClass.{Class, cleared, IsStart, low_start, high_start}
+use Rattle.ans_model.specs.Screen.StartClass.{cleared, IsStart, low_start, high_start}
+use Rattle.ans_model.specs.declared.start.Start.{Start}
 use Rattle.ans_screen.specs.KnownBits.{Agrees}
 use Rattle.ans_screen.specs.declared.cell.HalfCell.{HalfCell}
 use Rattle.ans_play.specs.HalfState.{DescribesCell, DescribesPosition, DescribesWrap, Describes}
@@ -64,12 +65,12 @@ wrap_describes : (b w : Bool) → (IsTrue b → w ≡ true) →
 wrap_describes true w h = h refl
 wrap_describes false w h = tt
 
-pub start_describes : (z : Size) (class : Class) (s : State) → IsStart z class s →
+pub start_describes : (z : Size) (class : Start) (s : State) → IsStart z class s →
     Describes (hull (low_start z class) (high_start z class)) s
 start_describes z class s h = record {
   screen = screen_describes z class.screen s.screen h.well_formed.fits.cells h.screen;
   cursor = place_describes z class.cursor s.cursor h.well_formed.fits.cursor h.cursor;
   saved = place_describes z class.saved s.saved h.well_formed.fits.saved h.saved;
-  attribute = colours_describes class.attribute s.attribute h.attribute;
+  attribute = colours_describes class.colours s.attribute h.attribute;
   wrap = wrap_describes class.wrap s.wrap h.wrap;
 }

@@ -5,7 +5,7 @@ use Rattle.std.specs.Prelude.{if◌then◌else◌}
 use Rattle.std.proofs.lemmas.Bool.{cases_lt, lt-ltb, le-ltb, eq-eqb}
 use Rattle.ans_model.specs.Sequence.TokenKind.{TokenKind, Glyph, BackSpace, LineFeed, CarriageReturn, Up, Down}
 use Rattle.ans_model.specs.Sequence.TokenKind.{Forward, Backward, Place}
-use Rattle.ans_model.specs.Sequence.TokenKind.{Clear, EraseLine, Save, Restore, Colours, Wrap}
+use Rattle.ans_model.specs.Sequence.TokenKind.{Clear, EraseLine, Save, Restore, Colours, Wrap, Tab}
 use Rattle.ans_model.specs.Screen.State.{Size, State, at, cell, cell_count, index, IsOnScreen}
 use Rattle.ans_model.specs.declared.cell.Cell.{Cell}
 use Rattle.ans_model.specs.declared.cell.Position.{Position}
@@ -133,4 +133,5 @@ hull_step z a b (Glyph byte) c k =
     (half_cell o (hull_attribute a.attribute b.attribute))) (hull_byte_itself byte)))
     (rw (here, min_self a.cursor.row, min_self a.cursor.column) (hull_next z a.wrap b.wrap a.cursor c.on_a.1))
     refl refl refl)
+hull_step z a b Tab c k = absurd k
 hull_step z a b t c k = hull_move z a b t

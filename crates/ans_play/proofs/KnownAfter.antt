@@ -4,7 +4,8 @@ use Rattle.std.proofs.lemmas.List.Sums.{fold-append}
 use Rattle.ans_model.specs.Sequence.TokenKind.{TokenKind, PrintsByte}
 use Rattle.ans_model.specs.Screen.State.{Size, State, IsWellFormed}
 use Rattle.ans_model.specs.Screen.Step.{step, final}
-use Rattle.ans_model.specs.Screen.StartClass.{Class, low_start, high_start}
+use Rattle.ans_model.specs.Screen.StartClass.{low_start, high_start}
+use Rattle.ans_model.specs.declared.start.Start.{Start}
 use Rattle.ans_model.proofs.StartLemmas.{low_is_start, high_is_start}
 use Rattle.ans_model.proofs.WellFormed.{well_formed_after_step}
 use Rattle.ans_play.specs.HalfState.{HalfState}
@@ -17,7 +18,7 @@ use Rattle.ans_play.proofs.HullSteps.{hull_step}
 use Rattle.ans_play.proofs.HullOfStarts.{start_describes}
 
 -- at the start
-pub known_none : (z : Size) (class : Class) → IsKnownAfter z class [] (hull (low_start z class) (high_start z class))
+pub known_none : (z : Size) (class : Start) → IsKnownAfter z class [] (hull (low_start z class) (high_start z class))
 known_none z class = record { is_hull = refl; describes = start_describes z class; well_formed = λ s h. h.well_formed }
 
 -- one more token is one more step
@@ -26,7 +27,7 @@ final_more : (z : Size) (s : State) (played : List TokenKind) (t : TokenKind) �
 final_more z s played t = fold-append (step z) s played (t ∷ [])
 
 -- after one more token, which is allowed
-pub known_more : (z : Size) (class : Class) (played : List TokenKind) (h : HalfState) (t : TokenKind) → 0 < z.width →
+pub known_more : (z : Size) (class : Start) (played : List TokenKind) (h : HalfState) (t : TokenKind) → 0 < z.width →
     PrintsByte t → IsKnownAfter z class played h → IsAllowed z h t →
     IsKnownAfter z class (played ++ t ∷ []) (half_step z h t)
 known_more z class played h t w byte st ok =

@@ -7,12 +7,15 @@ pub mod HullSteps
 pub mod HullOfStarts
 pub mod KnownAfter
 pub mod Positions
+pub mod PrintFaults
+pub mod Tabs
 pub mod FaultShown
 pub mod NoFaultShown
 pub mod Clean
 pub mod SpanLemmas
 pub mod Feeding
 pub mod GlyphRuns
+pub mod BlankRuns
 pub mod ByteCells
 pub mod NewPlayer
 pub mod KnownCells

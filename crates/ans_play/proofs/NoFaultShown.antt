@@ -1,35 +1,32 @@
 -- Where a half-known state shows no fault at a token, the token is allowed and has none.
-use Rattle.std.proofs.Common.{◌≡◌, ◌≢◌, ℕ, ◌+◌, ◌<◌, Bool, true, false, refl, ap, arith, List, Some, None, inl, inr}
+use Rattle.std.proofs.Common.{◌≡◌, ℕ, ◌+◌, ◌<◌, Bool, true, false, refl, arith, List, [], ◌∷◌, ◌++◌, Some, None, inl}
+use Rattle.std.proofs.Common.{inr}
 use Rattle.std.specs.Prelude.{◌||◌, ◌⊎◌, if◌then◌else◌, nat_lt, ◌==◌}
-use Rattle.std.proofs.lemmas.Bool.{eqb-false, ltb-true, ltb-false}
-use Rattle.ans_model.specs.declared.cell.Position.{Position}
+use Rattle.std.proofs.lemmas.Bool.{ltb-true, ltb-false}
 use Rattle.ans_model.specs.Sequence.TokenKind.{TokenKind, Glyph, LineFeed, Tab, Place, EraseLine, Mode, Keys, Ask}
-use Rattle.ans_model.specs.Screen.State.{Size, State}
-use Rattle.ans_model.specs.Screen.Step.{final}
-use Rattle.ans_model.specs.Screen.StartClass.{Class, IsStart, low_start}
+use Rattle.ans_model.specs.Sequence.TokenKind.{PrintsByte}
+use Rattle.ans_model.specs.Screen.State.{Size}
+use Rattle.ans_model.specs.Screen.StartClass.{low_start}
+use Rattle.ans_model.specs.declared.start.Start.{Start}
 use Rattle.ans_model.specs.Verdict.TokenFault.{HasStaticFault, HasFaultAfter, HasFault}
 use Rattle.ans_model.specs.declared.fault.Cause.{Cause}
-use Rattle.ans_model.specs.declared.fault.Cause.TheVariants.{OutsideScreen, PrintBelow, Scrolls, PrintUnknownPlace}
+use Rattle.ans_model.specs.declared.fault.Cause.TheVariants.{OutsideScreen, Scrolls}
 use Rattle.ans_model.specs.declared.fault.Cause.TheVariants.{EraseUnknownPlace, MayScroll}
 use Rattle.ans_model.proofs.StartLemmas.{low_is_start}
 use Rattle.ans_play.specs.HalfState.{HalfState}
 use Rattle.ans_play.specs.HalfFault.{half_fault, is_one_position}
 use Rattle.ans_play.specs.Stands.{IsKnownAfter}
-use Rattle.ans_play.proofs.Allowed.{IsAllowed}
+use Rattle.ans_play.specs.HalfStep.{half_step}
+use Rattle.ans_play.proofs.Allowed.{IsOneStep, IsAllowed}
+use Rattle.ans_play.proofs.KnownAfter.{known_more}
+use Rattle.ans_play.proofs.PrintFaults.{print_is_allowed, print_has_no_fault}
+use Rattle.ans_play.proofs.Tabs.{tab_has_no_fault, known_tab}
 use Rattle.ans_play.proofs.Positions.{one_position_if, one_position_then, positions_agree, agree_or_differ}
-use Rattle.ans_play.proofs.Positions.{low_on_screen, none_in_spare_row, one_position_of_all}
+use Rattle.ans_play.proofs.Positions.{none_in_spare_row}
 
-module _ (z : Size) (class : Class) (played : List TokenKind) (h : HalfState) (w : 0 < z.width)
+module _ (z : Size) (class : Start) (played : List TokenKind) (h : HalfState) (w : 0 < z.width)
     (st : IsKnownAfter z class played h) where
   -- where it shows none, the token is allowed
-  print_is_allowed : (b : ℕ) (p q : Bool) → is_one_position h.cursor ≡ p → (h.cursor.low.row == z.lines) ≡ q →
-      (if p then (if q then Some PrintBelow else None) else Some PrintUnknownPlace) ≡ None → IsAllowed z h (Glyph b)
-  print_is_allowed b true true one bottom e = absurd (cc)
-  print_is_allowed b true false one bottom e =
-      let ne : h.cursor.low.row ≢ z.lines = eqb-false h.cursor.low.row z.lines bottom in
-      (one_position_if h.cursor one, omega (arith, low_on_screen z class played h w st))
-  print_is_allowed b false q one bottom e = absurd (cc)
-
   erase_is_allowed : (p : Bool) → is_one_position h.cursor ≡ p → (if p then None else Some EraseUnknownPlace) ≡ None →
       IsAllowed z h EraseLine
   erase_is_allowed true one e = one_position_if h.cursor one
@@ -41,13 +38,16 @@ module _ (z : Size) (class : Class) (played : List TokenKind) (h : HalfState) (w
   line_feed_is_allowed false true above e = absurd (cc)
   line_feed_is_allowed false false above e = absurd (cc)
 
-  -- so each token is allowed
-  pub token_is_allowed : (t : TokenKind) → half_fault z h t ≡ None → IsAllowed z h t
-  token_is_allowed (Glyph b) e = print_is_allowed b (is_one_position h.cursor) (h.cursor.low.row == z.lines) refl refl e
-  token_is_allowed EraseLine e = erase_is_allowed (is_one_position h.cursor) refl e
-  token_is_allowed LineFeed e = line_feed_is_allowed (nat_lt h.cursor.high.row z.lines)
+  -- so each token is allowed that is played as one step
+  pub token_is_allowed : (t : TokenKind) → IsOneStep t → half_fault z h t ≡ None → IsAllowed z h t
+  token_is_allowed (Glyph b) one e =
+      let ok = print_is_allowed z class played h w st e in
+      (ok.one, ok.above)
+  token_is_allowed Tab one e = absurd one
+  token_is_allowed EraseLine one e = erase_is_allowed (is_one_position h.cursor) refl e
+  token_is_allowed LineFeed one e = line_feed_is_allowed (nat_lt h.cursor.high.row z.lines)
       (h.cursor.low.row == z.lines) refl e
-  token_is_allowed _ e = tt
+  token_is_allowed _ one e = tt
 
   -- and has no fault
   place_on_screen : (row column : ℕ) (p q : Bool) → nat_lt (z.lines + 1) row ≡ p → nat_lt z.width column ≡ q →
@@ -58,19 +58,6 @@ module _ (z : Size) (class : Class) (played : List TokenKind) (h : HalfState) (w
   place_on_screen row column false false r c e (inr f) = omega (arith, ltb-false z.width column c)
 
   -- an allowed token has none of the faults that depend on the start
-  print_has_no_fault : (b : ℕ) (cause : Cause) → IsAllowed z h (Glyph b) →
-      ¬ HasFaultAfter z class played (Glyph b) cause
-  print_has_no_fault b PrintUnknownPlace ok f =
-      agree_or_differ z class played (positions_agree z class played h st (one_position_then h.cursor ok.0)) f
-  print_has_no_fault b PrintBelow ok f =
-      let low : State = low_start z class in
-      let start : IsStart z class low = low_is_start z class w in
-      let here : (final z low played).cursor ≡ h.cursor.low =
-      one_position_of_all z class played h w st ok.0 low start in
-      let bottom : (final z low played).cursor.row ≡ z.lines = f.1 low start in
-      omega (arith, ok.1, ap (λ (p : Position). p.row) here)
-  print_has_no_fault b _ ok f = f
-
   erase_has_no_fault : (cause : Cause) → IsAllowed z h EraseLine → ¬ HasFaultAfter z class played EraseLine cause
   erase_has_no_fault EraseUnknownPlace ok f =
       agree_or_differ z class played (positions_agree z class played h st (one_position_then h.cursor ok)) f
@@ -91,16 +78,23 @@ module _ (z : Size) (class : Class) (played : List TokenKind) (h : HalfState) (w
   -- so no token has a fault
   pub token_has_no_fault : (t : TokenKind) (cause : Cause) → half_fault z h t ≡ None → ¬ HasFault z class played t cause
   token_has_no_fault (Glyph b) cause e (inl f) = f
-  token_has_no_fault (Glyph b) cause e (inr f) = print_has_no_fault b cause (token_is_allowed (Glyph b) e) f
+  token_has_no_fault (Glyph b) cause e (inr f) = print_has_no_fault z class played h w st cause e f
+  token_has_no_fault Tab cause e (inl f) = f
+  token_has_no_fault Tab cause e (inr f) = tab_has_no_fault z class played h w st cause e f
   token_has_no_fault EraseLine cause e (inl f) = f
-  token_has_no_fault EraseLine cause e (inr f) = erase_has_no_fault cause (token_is_allowed EraseLine e) f
+  token_has_no_fault EraseLine cause e (inr f) = erase_has_no_fault cause (token_is_allowed EraseLine tt e) f
   token_has_no_fault LineFeed cause e (inl f) = f
-  token_has_no_fault LineFeed cause e (inr f) = line_feed_has_no_fault cause (token_is_allowed LineFeed e) f
+  token_has_no_fault LineFeed cause e (inr f) = line_feed_has_no_fault cause (token_is_allowed LineFeed tt e) f
   token_has_no_fault (Place row column) cause e (inl f) = place_has_no_fault row column cause e f
   token_has_no_fault (Place row column) cause e (inr f) = f
   token_has_no_fault Keys cause e f = cc
   token_has_no_fault Mode cause e f = cc
   token_has_no_fault Ask cause e f = cc
-  token_has_no_fault Tab cause e f = cc
   token_has_no_fault _ cause e (inl f) = f
   token_has_no_fault _ cause e (inr f) = f
+
+  -- and what is known after it is its half step
+  pub known_next : (t : TokenKind) → PrintsByte t → half_fault z h t ≡ None →
+      IsKnownAfter z class (played ++ t ∷ []) (half_step z h t)
+  known_next Tab byte e = known_tab z class played h w st e
+  known_next t byte e = known_more z class played h t w byte st (token_is_allowed t tt e)

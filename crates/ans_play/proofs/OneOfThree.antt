@@ -14,7 +14,7 @@ use Rattle.ans_model.specs.Sequence.Reads.{SpellsToken, Reads}
 use Rattle.ans_model.specs.File.Refusals.{fault_at}
 use Rattle.ans_model.specs.Sequence.Spelling.{IsUnfinished}
 use Rattle.ans_model.specs.Screen.State.{Size, IsSize}
-use Rattle.ans_model.specs.Screen.StartClass.{Class}
+use Rattle.ans_model.specs.declared.start.Start.{Start}
 use Rattle.ans_model.specs.Verdict.TokenFault.{IsClean}
 use Rattle.ans_model.specs.Verdict.Good.{IsGood}
 use Rattle.ans_model.specs.Verdict.FirstFault.{IsFirstFault}
@@ -33,7 +33,7 @@ use Rattle.ans_play.proofs.TwoStarts.{HasFaultyToken, clean_or_faulty}
 use Rattle.ans_play.proofs.Zips.{AllZip-take}
 
 -- bytes are good, or have a first or a last fault
-abbrev pub HasAnAnswer : Size → Class → List ℕ → Type 0
+abbrev pub HasAnAnswer : Size → Start → List ℕ → Type 0
 HasAnAnswer z class bytes = IsGood z class bytes ⊎ ((f : Fault) × IsFirstFault z class bytes f)
     ⊎ ((f : Fault) × IsLastFault z class bytes f)
 
@@ -67,7 +67,7 @@ bytes_by_recursion (b ∷ bytes) all = (
   bytes_by_recursion bytes (All-tail IsByte b bytes all),
 )
 
-module _ (z : Size) (class : Class) (size : IsSize z) (bytes : List ℕ) where
+module _ (z : Size) (class : Start) (size : IsSize z) (bytes : List ℕ) where
   -- a token has a fault
   token_blamed : (r : IsReadable bytes) → HasFaultyToken z class r.tokens → HasAnAnswer z class bytes
   token_blamed r b =

@@ -6,7 +6,8 @@ use Rattle.ans_model.specs.declared.cell.Position.{Position}
 use Rattle.ans_model.specs.Sequence.TokenKind.{TokenKind}
 use Rattle.ans_model.specs.Screen.State.{Size, State, FitsScreen}
 use Rattle.ans_model.specs.Screen.Step.{final}
-use Rattle.ans_model.specs.Screen.StartClass.{Class, IsStart, low_start, high_start}
+use Rattle.ans_model.specs.Screen.StartClass.{IsStart, low_start, high_start}
+use Rattle.ans_model.specs.declared.start.Start.{Start}
 use Rattle.ans_model.specs.Verdict.TokenFault.{SamePosition, PositionsDiffer, IsInSpareRow, FromEvery, FromSome}
 use Rattle.ans_model.proofs.StartLemmas.{low_is_start, high_is_start}
 use Rattle.ans_play.specs.declared.span.Span.{Span}
@@ -33,7 +34,7 @@ one_position_then e h =
     )
 
 -- where it has not, the low and the high play differ
-pub positions_differ : (z : Size) (class : Class) (played : List TokenKind) (h : HalfState) → 0 < z.width →
+pub positions_differ : (z : Size) (class : Start) (played : List TokenKind) (h : HalfState) → 0 < z.width →
     IsKnownAfter z class played h → is_one_position h.cursor ≡ false → PositionsDiffer z class played
 positions_differ z class played h w st apart =
     let low : State = low_start z class in
@@ -54,7 +55,7 @@ positions_differ z class played h w st apart =
     true_not_false b p q = cc
 
 -- and where it has, the position is the same from every start
-pub positions_agree : (z : Size) (class : Class) (played : List TokenKind) (h : HalfState)
+pub positions_agree : (z : Size) (class : Start) (played : List TokenKind) (h : HalfState)
     → IsKnownAfter z class played h →
     is_one_position h.cursor ≡ true → SamePosition z class played
 positions_agree z class played h st e s t start_s start_t =
@@ -63,12 +64,12 @@ positions_agree z class played h st e s t start_s start_t =
     ∙ sym (one_position_is h.cursor (final z t played).cursor (st.describes t start_t).cursor one)
 
 -- the two exclude each other
-pub agree_or_differ : (z : Size) (class : Class) (played : List TokenKind) → SamePosition z class played →
+pub agree_or_differ : (z : Size) (class : Start) (played : List TokenKind) → SamePosition z class played →
     ¬ PositionsDiffer z class played
 agree_or_differ z class played same (s, t, start_s, start_t, ne) = ne (same s t start_s start_t)
 
 -- ---- rows
-module _ (z : Size) (class : Class) (played : List TokenKind) (h : HalfState) (w : 0 < z.width)
+module _ (z : Size) (class : Start) (played : List TokenKind) (h : HalfState) (w : 0 < z.width)
     (st : IsKnownAfter z class played h) where
   -- the lowest row is on the screen
   pub low_on_screen : h.cursor.low.row ≤ z.lines

@@ -7,22 +7,24 @@ use Rattle.std.proofs.lemmas.Bool.{cases_eq}
 use Rattle.std.proofs.lemmas.List.{append-nil, take_more, take_all}
 use Rattle.std.proofs.lemmas.List.Elements.{All-get_or}
 use Rattle.std.proofs.lemmas.Option.{slice_get-get_or}
-use Rattle.ans_model.specs.Sequence.TokenKind.{TokenKind, PrintsByte, Glyph, LineFeed, EraseLine, Bell}
+use Rattle.ans_model.specs.Sequence.TokenKind.{TokenKind, PrintsByte, Glyph, LineFeed, EraseLine, Bell, Tab}
 use Rattle.ans_model.specs.declared.fault.Fault.{Fault}
 use Rattle.ans_model.specs.declared.fault.Cause.{Cause}
 use Rattle.ans_model.specs.declared.fault.Cause.TheVariants.{PrintBelow, Scrolls, PrintUnknownPlace, EraseUnknownPlace}
 use Rattle.ans_model.specs.declared.fault.Cause.TheVariants.{MayScroll, UnknownCell}
 use Rattle.ans_model.specs.declared.cell.Position.{Position}
 use Rattle.ans_model.specs.Screen.State.{Size, IsStated, index, cell_at, IsWellFormed}
-use Rattle.ans_model.specs.Screen.StartClass.{Class, low_start, high_start}
+use Rattle.ans_model.specs.Screen.StartClass.{low_start, high_start}
+use Rattle.ans_model.specs.declared.start.Start.{Start}
 use Rattle.ans_model.specs.Screen.Step.{final}
 use Rattle.ans_model.specs.Verdict.TokenFault.{HasFault, HasFaultAfter, PositionsDiffer, IsInSpareRow, FromSome}
-use Rattle.ans_model.specs.Verdict.TokenFault.{IsClean, FromEvery}
+use Rattle.ans_model.specs.Verdict.TokenFault.{IsClean, FromEvery, HasTabFault, then_blanks}
 use Rattle.ans_model.specs.Verdict.FirstFault.{IsFirstFault, IsToBlame, IsRefused}
 use Rattle.ans_model.specs.Verdict.LastFault.{IsLastFault, SameCell, CellsDiffer, IsFirstUnknown}
 use Rattle.ans_model.specs.Verdict.Certain.{IsCertain}
 use Rattle.ans_model.specs.Verdict.TwoStarts.{low_final, high_final, CursorsDiffer, OneIsInSpareRow, IsFirstDifference}
-use Rattle.ans_model.specs.Verdict.TwoStarts.{TwoStartsShow, IsShownByTwoStarts}
+use Rattle.ans_model.specs.Verdict.TwoStarts.{TwoStartsShow, IsShownByTwoStarts, CursorsDifferInTab}
+use Rattle.ans_model.specs.Sequence.Reads.{SpellsToken}
 use Rattle.ans_model.proofs.StartLemmas.{low_is_start, high_is_start}
 use Rattle.ans_model.proofs.OneCause.{static_is_certain}
 use Rattle.ans_model.proofs.OneAnswer.{refused_certain}
@@ -39,22 +41,22 @@ use Rattle.ans_play.specs.Stands.{IsKnownAfter}
 use Rattle.ans_play.proofs.Zips.{AllZip-length}
 use Rattle.ans_play.proofs.HullSteps.{hull_itself}
 use Rattle.ans_play.proofs.KnownCells.{unknown_at, known_where_same}
-use Rattle.ans_play.proofs.Clean.{clean_none, clean_more}
-use Rattle.ans_play.proofs.KnownAfter.{known_none, known_more}
+use Rattle.ans_play.proofs.Clean.{clean_none, clean_more, clean_blanks, blanks_print}
+use Rattle.ans_play.proofs.KnownAfter.{known_none}
 use Rattle.ans_play.proofs.Positions.{positions_agree, one_position_then, all_in_spare_row, none_in_spare_row}
 use Rattle.ans_play.proofs.FaultShown.{token_has_fault}
-use Rattle.ans_play.proofs.NoFaultShown.{token_is_allowed, token_has_no_fault}
+use Rattle.ans_play.proofs.NoFaultShown.{known_next, token_has_no_fault}
 use Rattle.ans_play.proofs.Finishing.{same_where_known, index_lt, no_cell}
 
 -- ---- what is known after tokens, up to the first that has a fault
 -- the first n tokens are clean, and this is known after them
-pub record IsCleanTo (z : Size) (class : Class) (tokens : List TokenKind) (n : ℕ) : Type 0 where
+pub record IsCleanTo (z : Size) (class : Start) (tokens : List TokenKind) (n : ℕ) : Type 0 where
   pub clean : IsClean z class (take n tokens)
   pub state : HalfState
   pub known : IsKnownAfter z class (take n tokens) state
 
 -- the tokens before one are clean, and it has a fault
-pub record HasFaultyToken (z : Size) (class : Class) (tokens : List TokenKind) : Type 0 where
+pub record HasFaultyToken (z : Size) (class : Start) (tokens : List TokenKind) : Type 0 where
   pub index : ℕ
   pub within : index < length tokens
   pub token : TokenKind
@@ -63,7 +65,7 @@ pub record HasFaultyToken (z : Size) (class : Class) (tokens : List TokenKind) :
   pub clean : IsClean z class (take index tokens)
   pub fault : HasFault z class (take index tokens) token cause
 
-module _ (z : Size) (class : Class) (w : 0 < z.width) (tokens : List TokenKind) (prints : All PrintsByte tokens) where
+module _ (z : Size) (class : Start) (w : 0 < z.width) (tokens : List TokenKind) (prints : All PrintsByte tokens) where
   -- one more token is clean, or is the first that has a fault
   clean_to_one_more : (n : ℕ) → n < length tokens → (c : IsCleanTo z class tokens n) → (o : Option Cause) →
       half_fault z c.state (get_or tokens n Bell) ≡ o
@@ -77,8 +79,7 @@ module _ (z : Size) (class : Class) (w : 0 < z.width) (tokens : List TokenKind) 
             (λ cause. token_has_no_fault z class (take n tokens) c.state w c.known t cause e));
         state = half_step z c.state t;
         known = subst (λ (ts : List TokenKind). IsKnownAfter z class ts (half_step z c.state t)) (sym more)
-            (known_more z class (take n tokens) c.state t w (All-get_or PrintsByte tokens n Bell lt prints) c.known
-            (token_is_allowed z class (take n tokens) c.state w c.known t e));
+            (known_next z class (take n tokens) c.state w c.known t (All-get_or PrintsByte tokens n Bell lt prints) e);
       })
   clean_to_one_more n lt c (Some cause) e = inr (record {
     index = n;
@@ -125,7 +126,7 @@ module _ (z : Size) (class : Class) (w : 0 < z.width) (tokens : List TokenKind) 
   ]
 
 -- ---- what the two plays tell
-module _ (z : Size) (class : Class) (w : 0 < z.width) (tokens : List TokenKind) (prints : All PrintsByte tokens)
+module _ (z : Size) (class : Start) (w : 0 < z.width) (tokens : List TokenKind) (prints : All PrintsByte tokens)
     (clean : IsClean z class tokens) where
   -- from every start the cursor stands between the two
   pub cursor_between : FromEvery z class (λ s. IsBetween (low_final z class tokens).cursor
@@ -157,15 +158,15 @@ module _ (z : Size) (class : Class) (w : 0 < z.width) (tokens : List TokenKind) 
       (ap (λ (h : HalfState). slice_get h.screen (index z p)) known.1.is_hull ∙ cell.1) cell.2
 
 -- ---- what the two plays show
-certain_shows : (z : Size) (class : Class) (tokens : List TokenKind) (c : Cause) → IsCertain c →
-    TwoStartsShow z class tokens c
-certain_shows z class tokens PrintUnknownPlace h = absurd h
-certain_shows z class tokens EraseUnknownPlace h = absurd h
-certain_shows z class tokens MayScroll h = absurd h
-certain_shows z class tokens (UnknownCell row column) h = absurd h
-certain_shows z class tokens _ h = tt
+certain_shows : (z : Size) (class : Start) (tokens : List TokenKind) (rest : List ℕ) (c : Cause) → IsCertain c →
+    TwoStartsShow z class tokens rest c
+certain_shows z class tokens rest PrintUnknownPlace h = absurd h
+certain_shows z class tokens rest EraseUnknownPlace h = absurd h
+certain_shows z class tokens rest MayScroll h = absurd h
+certain_shows z class tokens rest (UnknownCell row column) h = absurd h
+certain_shows z class tokens rest _ h = tt
 
-module _ (z : Size) (class : Class) (tokens : List TokenKind) (w : 0 < z.width) (h : HalfState)
+module _ (z : Size) (class : Start) (tokens : List TokenKind) (w : 0 < z.width) (h : HalfState)
     (st : IsKnownAfter z class tokens h) where
   low_well : IsWellFormed z (low_final z class tokens)
   low_well = st.well_formed (low_start z class) (low_is_start z class w)
@@ -202,19 +203,24 @@ module _ (z : Size) (class : Class) (tokens : List TokenKind) (w : 0 < z.width) 
         ]
       ]
 
-  -- a fault that depends on the start is shown
-  shown_after : (t : TokenKind) (c : Cause) → HasFaultAfter z class tokens t c → TwoStartsShow z class tokens c
-  shown_after (Glyph byte) PrintUnknownPlace f = cursors_differ f
-  shown_after (Glyph byte) PrintBelow f = tt
-  shown_after EraseLine EraseUnknownPlace f = cursors_differ f
-  shown_after LineFeed Scrolls f = tt
-  shown_after LineFeed MayScroll f = one_in_spare_row f.0 f.1
-  shown_after _ _ f = absurd f
+  -- a fault that depends on the start is shown; that of a tab at one of its blanks
+  shown_after : (t : TokenKind) (c : Cause) (rest : List ℕ) →
+      (t ≡ Tab → HasTabFault z class tokens c → TwoStartsShow z class tokens rest c) →
+      HasFaultAfter z class tokens t c → TwoStartsShow z class tokens rest c
+  shown_after (Glyph byte) PrintUnknownPlace rest tab f = inl (cursors_differ f)
+  shown_after (Glyph byte) PrintBelow rest tab f = tt
+  shown_after Tab c rest tab f = tab refl f
+  shown_after EraseLine EraseUnknownPlace rest tab f = cursors_differ f
+  shown_after LineFeed Scrolls rest tab f = tt
+  shown_after LineFeed MayScroll rest tab f = one_in_spare_row f.0 f.1
+  shown_after _ _ rest tab f = absurd f
 
   -- each fault is shown
-  shown_fault : (t : TokenKind) (c : Cause) → HasFault z class tokens t c → TwoStartsShow z class tokens c
-  shown_fault t c (inl f) = certain_shows z class tokens c (static_is_certain z t c f)
-  shown_fault t c (inr f) = shown_after t c f
+  shown_fault : (t : TokenKind) (c : Cause) (rest : List ℕ) →
+      (t ≡ Tab → HasTabFault z class tokens c → TwoStartsShow z class tokens rest c) → HasFault z class tokens t c →
+      TwoStartsShow z class tokens rest c
+  shown_fault t c rest tab (inl f) = certain_shows z class tokens rest c (static_is_certain z t c f)
+  shown_fault t c rest tab (inr f) = shown_after t c rest tab f
 
   cell_count_is : length h.screen ≡ (z.lines + 1) * z.width
   cell_count_is =
@@ -253,16 +259,45 @@ module _ (z : Size) (class : Class) (tokens : List TokenKind) (w : 0 < z.width) 
         (low_is_start z class w) (high_is_start z class w);
   }
 
+-- ---- a tab
+module _ (z : Size) (class : Start) (w : 0 < z.width) (tokens : List TokenKind) (prints : All PrintsByte tokens)
+    (clean : IsClean z class tokens) where
+  -- before the blank that decides its fault the cursors of the extreme plays differ
+  differ_in_tab : (text later : List ℕ) → SpellsToken Tab text → HasTabFault z class tokens PrintUnknownPlace →
+      CursorsDifferInTab z class tokens (text ++ later)
+  differ_in_tab text later spelled f =
+      let n : ℕ = f.blanks_before in
+      let known = known_after_clean z class w (then_blanks tokens n) (blanks_print tokens n prints)
+      (clean_blanks z class n tokens clean f.earlier) in
+      record {
+        text = text;
+        later = later;
+        follows = refl;
+        is_tab = spelled;
+        fault = f;
+        differ = cursors_differ z class (then_blanks tokens n) w known.0 known.1 f.fault;
+      }
+
+  -- what the two plays show of a tab's fault
+  shown_tab : (c : Cause) (text later : List ℕ) → SpellsToken Tab text → HasTabFault z class tokens c →
+      TwoStartsShow z class tokens (text ++ later) c
+  shown_tab PrintUnknownPlace text later spelled f = inr (differ_in_tab text later spelled f)
+  shown_tab PrintBelow text later spelled f = tt
+  shown_tab _ text later spelled f = absurd f.fault
+
 -- ---- of bytes
-module _ (z : Size) (class : Class) (bytes : List ℕ) (fault : Fault) where
+module _ (z : Size) (class : Start) (bytes : List ℕ) (fault : Fault) where
   -- a first fault is shown
   blame_shown : (h : IsFirstFault z class bytes fault) → IsToBlame z class h.tokens h.text fault.cause
-      ⊎ IsRefused h.text fault.cause → TwoStartsShow z class h.tokens fault.cause
+      ⊎ IsRefused h.text fault.cause → TwoStartsShow z class h.tokens (h.text ++ h.rest) fault.cause
   blame_shown h (inl b) =
       let known = known_after_clean z class h.size.some_columns h.tokens
       (reads_bytes h.front h.tokens h.reads) h.clean in
-      shown_fault z class h.tokens h.size.some_columns known.0 known.1 b.token fault.cause b.fault
-  blame_shown h (inr r) = certain_shows z class h.tokens fault.cause (refused_certain h.text fault.cause r)
+      shown_fault z class h.tokens h.size.some_columns known.0 known.1 b.token fault.cause (h.text ++ h.rest)
+      (λ is_tab f. shown_tab z class h.size.some_columns h.tokens (reads_bytes h.front h.tokens h.reads) h.clean
+      fault.cause h.text h.rest (rw is_tab at b.spelled) f) b.fault
+  blame_shown h (inr r) = certain_shows z class h.tokens (h.text ++ h.rest) fault.cause
+      (refused_certain h.text fault.cause r)
 
   -- of the first fault the two plays show the cause
   pub first_shown : IsFirstFault z class bytes fault → IsShownByTwoStarts z class bytes fault

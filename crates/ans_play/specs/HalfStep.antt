@@ -2,10 +2,10 @@
 use Rattle.std.specs.Prelude.{ℕ, ◌+◌, ◌-◌, Bool, true, false, List, fold, replicate, set, if◌then◌else◌, nat_lt}
 use Rattle.ans_model.specs.Bytes.{blank}
 use Rattle.ans_model.specs.Sequence.TokenKind.{TokenKind, Glyph, LineFeed, Clear, EraseLine, Save, Restore, Colours}
-use Rattle.ans_model.specs.Sequence.TokenKind.{Wrap}
+use Rattle.ans_model.specs.Sequence.TokenKind.{Wrap, Tab}
 use Rattle.ans_model.specs.Screen.State.{Size, at, cell_count, index}
 use Rattle.ans_model.specs.declared.cell.Position.{Position}
-use Rattle.ans_model.specs.Screen.Step.{filled, next_row_start, destination}
+use Rattle.ans_model.specs.Screen.Step.{filled, next_row_start, destination, tab_blanks}
 use Rattle.ans_screen.specs.KnownBits.{KnownBits, known_after}
 use Rattle.ans_screen.specs.HalfCells.{printed_cell}
 use Rattle.ans_screen.specs.declared.cell.HalfCell.{HalfCell}
@@ -47,6 +47,17 @@ abbrev pub wrap_of : Bool → WrapMode
 wrap_of true = On
 wrap_of false = Off
 
+-- a byte is printed at one position, and the cursor goes on
+abbrev pub half_put : Size → HalfState → ℕ → HalfState
+half_put z h byte = record h {
+  screen = set h.screen (index z h.cursor.low) (printed_cell h.attribute byte);
+  cursor = after_print z h.wrap h.cursor.low;
+}
+
+-- n blanks are printed, one after the other
+abbrev pub half_blanks : Size → HalfState → ℕ → HalfState
+half_blanks z h n = fold (half_put z) h (replicate n blank)
+
 -- the state after one token
 abbrev pub half_step : Size → HalfState → TokenKind → HalfState
 half_step z h Clear = record h { screen = replicate (cell_count z) (half_blank h.attribute); cursor = one_position 0 0 }
@@ -60,8 +71,6 @@ half_step z h Restore = record h { cursor = h.saved }
 half_step z h (Colours parameters) = record h { attribute = known_after_all h.attribute parameters }
 half_step z h (Wrap on) = record h { wrap = wrap_of on }
 half_step z h LineFeed = record h { cursor = one_row_down h.cursor }
-half_step z h (Glyph byte) = record h {
-  screen = set h.screen (index z h.cursor.low) (printed_cell h.attribute byte);
-  cursor = after_print z h.wrap h.cursor.low;
-}
+half_step z h (Glyph byte) = half_put z h byte
+half_step z h Tab = half_blanks z h (tab_blanks h.cursor.low.column)
 half_step z h t = record h { cursor = after_move z t h.cursor }

@@ -1,6 +1,8 @@
 pub mod HalfState
 pub mod Hull
+pub mod HalfStart
 pub mod HalfStep
+pub mod HalfBlanks
 pub mod HalfFault
 pub mod PlayView
 pub mod PlayerView

@@ -1,5 +1,6 @@
 -- What a play does at one token.
-use Rattle.std.specs.Prelude.{◌≡◌, ℕ, ◌+◌, Some, None, Result, MatchResult}
+use Rattle.std.specs.Prelude.{◌≡◌, ℕ, ◌+◌, List, take, Some, None, Result, MatchResult}
+use Rattle.ans_tokens.specs.Glyphs.{IsGlyphFront, IsBetweenTokens}
 use Rattle.ans_model.specs.Sequence.TokenKind.{TokenKind, Glyph}
 use Rattle.ans_model.specs.declared.fault.Cause.{Cause}
 use Rattle.ans_play.specs.HalfStep.{half_step}
@@ -22,3 +23,8 @@ pub record AreFree (p : PlayView) (columns : ℕ) : Type 0 where
   pub printed : (byte : ℕ) → half_fault p.size p.state (Glyph byte) ≡ None →
       p.state.cursor.low.column + columns + 1 ≡ p.size.width
   pub refused : (byte : ℕ) (cause : Cause) → half_fault p.size p.state (Glyph byte) ≡ Some cause → columns ≡ 0
+
+-- Between two tokens a run is as long as may be: all glyphs that stand in front, up to the last column.
+abbrev pub IsLongestRun : PlayView → List ℕ → ℕ → Type 0
+IsLongestRun p bytes count =
+    (columns : ℕ) → AreFree p columns → IsBetweenTokens p.scanner → IsGlyphFront (take columns bytes) count

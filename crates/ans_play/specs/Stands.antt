@@ -5,7 +5,7 @@ use Rattle.ans_model.specs.Sequence.TokenKind.{TokenKind}
 use Rattle.ans_model.specs.Sequence.Reads.{Reads}
 use Rattle.ans_model.specs.Screen.State.{Size, IsSize, IsWellFormed}
 use Rattle.ans_model.specs.Screen.Step.{final}
-use Rattle.ans_model.specs.Screen.StartClass.{Class, class_of, low_start, high_start}
+use Rattle.ans_model.specs.Screen.StartClass.{low_start, high_start}
 use Rattle.ans_model.specs.Verdict.TokenFault.{FromEvery, IsClean}
 use Rattle.ans_model.specs.Verdict.FirstFault.{IsFirstFault}
 use Rattle.ans_model.specs.Verdict.LastFault.{IsLastFault}
@@ -20,14 +20,14 @@ use Rattle.ans_play.specs.PlayerView.{PlayerView}
 
 -- What is known of a state is all that is so after these tokens from every start: it describes each play, and is the
 -- hull of the plays from the low and the high start.
-pub record IsKnownAfter (z : Size) (class : Class) (tokens : List TokenKind) (h : HalfState) : Type 0 where
+pub record IsKnownAfter (z : Size) (class : Start) (tokens : List TokenKind) (h : HalfState) : Type 0 where
   pub describes : FromEvery z class (λ s. Describes h (final z s tokens))
   pub is_hull : h ≡ hull (final z (low_start z class) tokens) (final z (high_start z class) tokens)
   pub well_formed : FromEvery z class (λ s. IsWellFormed z (final z s tokens))
 
 -- The bytes are a front that is read as clean tokens, and then an open part that the scanner holds; the half-known
 -- state is what is known after the tokens.
-pub record IsPlayed (z : Size) (class : Class) (bytes : List ℕ) (scanner : ScannerView) (h : HalfState) : Type 0 where
+pub record IsPlayed (z : Size) (class : Start) (bytes : List ℕ) (scanner : ScannerView) (h : HalfState) : Type 0 where
   pub size : IsSize z
   pub front : List ℕ
   pub open_part : List ℕ
@@ -43,8 +43,8 @@ pub record IsPlayed (z : Size) (class : Class) (bytes : List ℕ) (scanner : Sca
 -- A player without a fault stands where the bytes fed have brought it. One with a fault has their first.
 pub record Stands (p : PlayerView) (bytes : List ℕ) : Type 0 where
   pub fed : p.fault ≡ None → p.fed ≡ length bytes
-  pub played : p.fault ≡ None → IsPlayed p.size (class_of p.start) bytes p.scanner p.state
-  pub faulted : (f : Fault) → p.fault ≡ Some f → IsFirstFault p.size (class_of p.start) bytes f
+  pub played : p.fault ≡ None → IsPlayed p.size p.start bytes p.scanner p.state
+  pub faulted : (f : Fault) → p.fault ≡ Some f → IsFirstFault p.size p.start bytes f
 
 -- a player that is fed nothing yet
 pub record IsNew (p : PlayerView) (z : Size) (from : Start) : Type 0 where
@@ -79,35 +79,35 @@ pub record Repeats (old new : PlayerView) (result : Result (Unit {0}) Fault) (f 
 pub record Feeds (old : PlayerView) (s piece : List ℕ) (new : PlayerView)
     (result : Result (Unit {0}) Fault) : Type 0 where
   pub stands : Stands new (s ++ piece)
-  pub first : IfErr result (IsFirstFault old.size (class_of old.start) (s ++ piece))
-  pub none : OnOk result ((f : Fault) → ¬ IsFirstFault old.size (class_of old.start) (s ++ piece) f)
+  pub first : IfErr result (IsFirstFault old.size old.start (s ++ piece))
+  pub none : OnOk result ((f : Fault) → ¬ IsFirstFault old.size old.start (s ++ piece) f)
 
 -- The bytes s end here: they are good with the picture returned, a fault that no feed returned is their last, and good
 -- bytes have none.
 pub record Finishes (p : PlayerView) (s : List ℕ) (result : Result Picture Fault) : Type 0 where
-  pub good : IfOk result (GoodWith p.size (class_of p.start) s)
-  pub last : p.fault ≡ None → IfErr result (IsLastFault p.size (class_of p.start) s)
-  pub exact : IsGood p.size (class_of p.start) s → IsOk result
+  pub good : IfOk result (GoodWith p.size p.start s)
+  pub last : p.fault ≡ None → IfErr result (IsLastFault p.size p.start s)
+  pub exact : IsGood p.size p.start s → IsOk result
 
 -- Whatever bytes are played, they are played with these after them.
 pub record GoesOn (old : PlayView) (bytes : List ℕ) (new : PlayView) : Type 0 where
   pub size : new.size ≡ old.size
   pub offset : new.scanner.offset ≡ old.scanner.offset + length bytes
-  pub played : (class : Class) (s : List ℕ) → IsPlayed old.size class s old.scanner old.state
+  pub played : (class : Start) (s : List ℕ) → IsPlayed old.size class s old.scanner old.state
       → IsPlayed old.size class (s ++ bytes) new.scanner new.state
 
 -- whatever bytes are played, with these after them they have the fault
 abbrev pub IsDeserved : PlayView → List ℕ → Fault → Type 0
 IsDeserved old bytes fault =
-    (class : Class) (s : List ℕ) → IsPlayed old.size class s old.scanner old.state →
+    (class : Start) (s : List ℕ) → IsPlayed old.size class s old.scanner old.state →
     IsFirstFault old.size class (s ++ bytes) fault
 
 -- whatever bytes are played, they are good with the picture, or have the last fault
 abbrev pub EndsPlay : PlayView → Result Picture Fault → Type 0
-EndsPlay p result = (class : Class) (s : List ℕ) → IsPlayed p.size class s p.scanner p.state
+EndsPlay p result = (class : Start) (s : List ℕ) → IsPlayed p.size class s p.scanner p.state
     → MatchResult result (GoodWith p.size class s) (IsLastFault p.size class s)
 
 -- a play of no bytes yet, of this size, from the starts of a class
-pub record IsNewPlay (p : PlayView) (z : Size) (class : Class) : Type 0 where
+pub record IsNewPlay (p : PlayView) (z : Size) (class : Start) : Type 0 where
   pub size : p.size ≡ z
   pub played : IsPlayed z class [] p.scanner p.state

@@ -5,7 +5,7 @@ ghost use Rattle.ans_model.specs.Bytes.{IsByte};
 ghost use Rattle.ans_model.specs.Sequence.TokenKind.{TokenKind, PrintsByte};
 ghost use Rattle.ans_model.specs.Screen.State.{Size, IsSize, IsStated, cell_at};
 ghost use Rattle.ans_model.specs.Screen.Step.{final};
-ghost use Rattle.ans_model.specs.Screen.StartClass.{Class};
+ghost use Rattle.ans_model.specs.declared.start.Start.{Start};
 ghost use Rattle.ans_model.specs.Verdict.Good.{IsGood};
 ghost use Rattle.ans_model.specs.Verdict.FirstFault.{IsFirstFault};
 ghost use Rattle.ans_model.specs.Verdict.LastFault.{IsLastFault};
@@ -19,7 +19,7 @@ ghost use Rattle.ans_play.specs.Between.{IsBetween};
 /// Bytes are good, or have a first fault, or have a last one. By `ans_model::text_laws::one_answer`
 /// two of these never hold together, and each fault is the only one of its kind.
 pub fn some_answer()
-    ensures { (z : Size) (class : Class) (bytes : List ℕ) → IsSize z → All IsByte bytes
+    ensures { (z : Size) (class : Start) (bytes : List ℕ) → IsSize z → All IsByte bytes
         → IsGood z class bytes ⊎ ((f : Fault) × IsFirstFault z class bytes f)
         ⊎ ((f : Fault) × IsLastFault z class bytes f) }
 {}
@@ -28,20 +28,20 @@ pub fn some_answer()
 /// cursors differ, exactly one of them scrolls, or the first cell in which they differ is the one
 /// named.
 pub fn two_starts_show()
-    ensures first { (z : Size) (class : Class) (bytes : List ℕ) (f : Fault)
+    ensures first { (z : Size) (class : Start) (bytes : List ℕ) (f : Fault)
         → IsFirstFault z class bytes f → IsShownByTwoStarts z class bytes f }
-    ensures last { (z : Size) (class : Class) (bytes : List ℕ) (f : Fault)
+    ensures last { (z : Size) (class : Start) (bytes : List ℕ) (f : Fault)
         → IsLastFault z class bytes f → IsShownByTwoStarts z class bytes f }
 {}
 
 /// After clean tokens the plays from the low and the high start tell of every play: its cursor stands
 /// between theirs, and where they agree in a stated cell, it is the same from every start.
 pub fn two_starts_tell()
-    ensures cursors { (z : Size) (class : Class) (tokens : List TokenKind)
+    ensures cursors { (z : Size) (class : Start) (tokens : List TokenKind)
         → IsSize z → All PrintsByte tokens → IsClean z class tokens
         → FromEvery z class (λ s. IsBetween (low_final z class tokens).cursor
         (high_final z class tokens).cursor (final z s tokens).cursor) }
-    ensures cells { (z : Size) (class : Class) (tokens : List TokenKind) (p : Position)
+    ensures cells { (z : Size) (class : Start) (tokens : List TokenKind) (p : Position)
         → IsSize z → All PrintsByte tokens → IsClean z class tokens → IsStated z p
         → cell_at z (low_final z class tokens).screen p ≡ cell_at z (high_final z class tokens).screen p
         → SameCell z class tokens p }
@@ -49,8 +49,8 @@ pub fn two_starts_tell()
 
 /// A fault's offset is that of a byte, or of the bytes' end.
 pub fn faults_stand_within()
-    ensures first { (z : Size) (class : Class) (bytes : List ℕ) (f : Fault)
+    ensures first { (z : Size) (class : Start) (bytes : List ℕ) (f : Fault)
         → IsFirstFault z class bytes f → f.offset ≤ length bytes }
-    ensures last { (z : Size) (class : Class) (bytes : List ℕ) (f : Fault)
+    ensures last { (z : Size) (class : Start) (bytes : List ℕ) (f : Fault)
         → IsLastFault z class bytes f → f.offset ≤ length bytes }
 {}

@@ -3,10 +3,11 @@
 ghost use Rattle.std.specs.Prelude.{◌≡◌, ◌<◌, ◌≤◌, ◌+◌, ℕ, List, [], ◌∷◌, length, take};
 ghost use Rattle.std.specs.Prelude.{IsOk, IfOk, IfErr, OnOk};
 ghost use Rattle.ans_model.specs.Bytes.{longest_file};
-ghost use Rattle.ans_model.specs.Sequence.TokenKind.{Glyph, LineFeed, Place, EraseLine, Clear};
+ghost use Rattle.ans_model.specs.Sequence.TokenKind.{Glyph, LineFeed, Tab, Place, EraseLine, Clear};
 ghost use Rattle.ans_model.specs.Sequence.TokenKind.{Save, Restore, Colours, Wrap};
 ghost use Rattle.ans_model.specs.Inside.ShownKind.{shown_kind};
-ghost use Rattle.ans_model.specs.Screen.StartClass.{class_of};
+ghost use Rattle.ans_model.specs.declared.start.Start.{Start};
+ghost use Rattle.ans_play.specs.HalfStart.{start_cell, start_attribute};
 ghost use Rattle.ans_play.specs.HalfStep.{known_after_all};
 
 use crate::picture::Picture;
@@ -50,6 +51,28 @@ impl<G: Grid> Model for Play<G> {
         (half_state (G.cells_of p.grid) p.cursor p.saved p.attribute p.wrap)) };
 }
 
+/// A cell of the screen at the start: a blank of white on black, if it is known.
+fn cell_at_start(known: bool) -> HalfCell
+    ensures { result ≡ start_cell known }
+{
+    if known {
+        HalfCell::known(b' ', 0x07)
+    } else {
+        HalfCell::unknown()
+    }
+}
+
+/// The attribute at the start: white on black, if it is known.
+fn attribute_at_start(known: bool) -> Attr
+    ensures { result ≡ start_attribute known }
+{
+    if known {
+        Attr::whole(0x07)
+    } else {
+        Attr::none()
+    }
+}
+
 /// What is known of an attribute after colour parameters, one after the other.
 fn known_after_all(attribute: Attr, parameters: &[u8]) -> Attr
     ensures { result ≡ known_after_all attribute parameters.now }
@@ -62,46 +85,34 @@ fn known_after_all(attribute: Attr, parameters: &[u8]) -> Attr
 }
 
 impl<G: Grid> Play<G> {
-    ghost use Rattle.ans_play.specs.Plays.{AreFree};
+    ghost use Rattle.ans_play.specs.Plays.{AreFree, IsLongestRun};
     ghost use Rattle.ans_play.specs.Stands.{IsNewPlay, GoesOn, IsDeserved, EndsPlay};
 
     /// A play of no bytes yet, from the starts of a class. It fails only if memory runs out.
     pub fn new(alloc: Global, size: Size, start: Start) -> Result<Play<G>, AllocError>
-        ensures { IfOk result (λ p. IsNewPlay p size (class_of start)) }
+        ensures { IfOk result (λ p. IsNewPlay p size start) }
     {
-        let width = size.width();
-        let lines = size.lines();
-        let (cell, span, wrap) = match start {
-            Start::Any => {
-                let low = Position { row: 0, column: 0 };
-                let high = Position {
-                    row: lines,
-                    column: width - 1,
-                };
-                (HalfCell::unknown(), Span { low, high }, WrapMode::Unknown)
-            }
-            Start::Cleared => (HalfCell::known(b' ', 0x07), Span::at(0, 0), WrapMode::On),
-        };
-        let attribute = cell.attr;
-        let grid = G::new(alloc, width, lines + 1, cell)?;
+        let cell = cell_at_start(start.screen);
+        let grid = G::new(alloc, size.width(), size.lines() + 1, cell)?;
         Ok(Play {
             size,
             scanner: Scanner::new(),
             grid,
-            cursor: span,
-            saved: span,
-            attribute,
-            wrap,
+            cursor: Span::of_start(start.cursor, size),
+            saved: Span::of_start(start.saved, size),
+            attribute: attribute_at_start(start.colours),
+            wrap: WrapMode::of_start(start.wrap),
         })
     }
 
     /// Prints the glyphs that the bytes begin with, as far as they stand in the cursor's row before
-    /// its last column, and returns how many they are. It prints none within a sequence, and none
-    /// where a glyph is refused.
+    /// its last column, and returns how many they are: as many as there are. It prints none within a
+    /// sequence, and none where a glyph is refused.
     pub fn print_run(&mut self, bytes: &[u8]) -> usize
         requires { self.old.scanner.offset + length bytes.now ≤ longest_file }
         ensures within { result ≤ length bytes.now }
         ensures printed { GoesOn self.old (take result bytes.now) self.new }
+        ensures longest { IsLongestRun self.old bytes.now result }
     {
         if !self.scanner.is_between_tokens() {
             return 0;
@@ -151,7 +162,7 @@ impl<G: Grid> Play<G> {
             Kind::Restore => self.restore(),
             Kind::Colours(parameters) => self.colour(parameters),
             Kind::Wrap(on) => self.set_wrap(*on),
-            Kind::Tab => Err(Cause::TabByte),
+            Kind::Tab => self.tab(),
             Kind::Mode => Err(Cause::ScreenMode),
             Kind::Keys => Err(Cause::KeyReassigned),
             Kind::Ask => Err(Cause::ReportAsked),
@@ -211,6 +222,28 @@ impl<G: Grid> Play<G> {
         self.grid
             .put(position.row * self.size.width() + position.column, cell);
         self.cursor = self.wrap.after_print(position, self.size);
+        Ok(())
+    }
+
+    /// Prints the blanks of a tab, up to the next column that 8 divides. It is refused where one of
+    /// them is, and then nothing changes.
+    pub fn tab(&mut self) -> Result<(), Cause>
+        ensures { Plays self.old self.new Tab result }
+    {
+        if !self.cursor.is_one_position() {
+            return Err(Cause::PrintUnknownPlace);
+        }
+        let position = self.cursor.low;
+        if position.row == self.size.lines() {
+            return Err(Cause::PrintBelow);
+        }
+        let blanks = 8 - position.column % 8;
+        let cursor = self.wrap.after_blanks(position, blanks, self.size)?;
+        let from = position.row * self.size.width() + position.column;
+        let to = self.wrap.end_of_blanks(position, blanks, self.size);
+        let blank = self.blank();
+        self.grid.fill(from, to, blank);
+        self.cursor = cursor;
         Ok(())
     }
 

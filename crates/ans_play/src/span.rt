@@ -57,6 +57,7 @@ fn destination(position: Position, kind: &Kind, size: Size) -> Position
 
 impl Span {
     ghost use Rattle.ans_play.specs.HalfState.{one_position, IsSpanOnScreen};
+    ghost use Rattle.ans_play.specs.HalfStart.{start_span};
     ghost use Rattle.ans_play.specs.HalfStep.{after_move, one_row_down};
     ghost use Rattle.ans_play.specs.HalfFault.{is_one_position};
 
@@ -68,6 +69,23 @@ impl Span {
         Span {
             low: position,
             high: position,
+        }
+    }
+
+    /// At the start: the top left, if it is known, and else anywhere on the screen.
+    pub fn of_start(known: bool, size: Size) -> Span
+        ensures of_start { result ≡ start_span size known }
+        ensures on_screen { IsSpanOnScreen size result }
+    {
+        if known {
+            return Span::at(0, 0);
+        }
+        Span {
+            low: Position { row: 0, column: 0 },
+            high: Position {
+                row: size.lines(),
+                column: size.width() - 1,
+            },
         }
     }
 

@@ -4,8 +4,8 @@ use crate::{Picture, Player, Start};
 use ans_model::fault::{Cause, Fault};
 use ans_samples::rows::Expected::{Refused, Shows};
 use ans_samples::rows::{
-    BROKEN, BYTES, COLOURS, FORBIDDEN, MISPLACED, PASSES_FROM_ANY, PASSES_FROM_CLEARED, Row,
-    UNKNOWN_CELLS, WITHOUT_MEANING,
+    BROKEN, BYTES, COLOURS, FORBIDDEN, MISPLACED, PARTS_KNOWN, PASSES_FROM_ANY,
+    PASSES_FROM_CLEARED, Row, TABS, UNKNOWN_CELLS, WITHOUT_MEANING,
 };
 use ans_screen::{Grid, PlainGrid};
 use std::alloc::Global;
@@ -24,7 +24,7 @@ fn feed<G: Grid>(rt: &impl Abort, player: &mut Player<G>, piece: &[u8]) -> Resul
 fn assert_shows<G: Grid>(rt: &impl Abort, picture: &Picture<G>, bytes: &[u8], attributes: &[u8]) {
     let width = picture.width();
     let lines = picture.lines();
-    assert!(rt; width <= 10 && lines <= 10);
+    assert!(rt; width <= 20 && lines <= 10);
     assert_eq!(rt; bytes.len(), width * lines);
     assert!(rt; attributes.is_empty() || attributes.len() == bytes.len());
     for row in 0..lines {
@@ -49,7 +49,7 @@ fn play(rt: &impl Abort, alloc: Global, row: &Row, first: usize, size: usize) ->
         content,
         expected,
     } = *row;
-    assert!(rt; 1 <= width && width <= 10 && 1 <= lines && lines <= 10);
+    assert!(rt; 1 <= width && width <= 20 && 1 <= lines && lines <= 10);
     assert!(rt; first <= content.len() && 0 < size);
     let mut player = Player::<PlainGrid>::new(alloc, width, lines, start)?;
     let mut met = feed(rt, &mut player, &content[..first]);
@@ -89,6 +89,16 @@ fn play_all(rt: &impl Abort, alloc: Global, rows: &[Row]) -> Result<(), Fail> {
 #[test]
 fn bytes_alone(rt: HostRuntime) -> Result<(), Fail> {
     play_all(&rt, rt.alloc(), &BYTES)
+}
+
+#[test]
+fn tabs(rt: HostRuntime) -> Result<(), Fail> {
+    play_all(&rt, rt.alloc(), &TABS)
+}
+
+#[test]
+fn starts_of_known_parts(rt: HostRuntime) -> Result<(), Fail> {
+    play_all(&rt, rt.alloc(), &PARTS_KNOWN)
 }
 
 #[test]
@@ -133,7 +143,7 @@ fn misplaced_tokens(rt: HostRuntime) -> Result<(), Fail> {
 
 #[test]
 fn answers_its_fault_again(rt: HostRuntime) -> Result<(), Fail> {
-    let mut player = Player::<PlainGrid>::new(rt.alloc(), 2, 1, Start::Cleared)?;
+    let mut player = Player::<PlainGrid>::new(rt.alloc(), 2, 1, Start::cleared())?;
     let fault = Fault {
         offset: 2,
         cause: Cause::PrintBelow,
@@ -160,7 +170,7 @@ fn expect_blanks(rt: &impl Abort, picture: &Picture<PlainGrid>, row: usize, from
 /// Plays 4095 letters and a coloured one in pieces of a size.
 fn play_letters(rt: &impl Abort, alloc: Global, content: &[u8], size: usize) -> Result<(), Fail> {
     assert!(rt; 0 < size);
-    let mut player = Player::<PlainGrid>::new(alloc, 80, 52, Start::Cleared)?;
+    let mut player = Player::<PlainGrid>::new(alloc, 80, 52, Start::cleared())?;
     for piece in content.chunks(size) {
         let fed = player.fed();
         assert!(rt; fed <= 5000 && piece.len() <= 5000);

@@ -7,6 +7,7 @@ use Rattle.ans_model.specs.Text.ReportText.{cells_line}
 use Rattle.ans_model.proofs.CellsBack.{cells_of_picture_back}
 use Rattle.ans_report.specs.declared.report.Report.{Report}
 use Rattle.ans_report.specs.declared.report.Report.TheVariants.{Pass, Refused}
+use Rattle.ans_report.specs.Headings.{heading_of}
 use Rattle.ans_report.specs.ReportBytes.{EndsInCells, TellsCells}
 
 cells_last : (heading verdict lines cells : List ℕ)
@@ -28,6 +29,6 @@ HasWhole (Pass parts start picture cells) = IsPictureOf picture.now.size picture
 HasWhole (Refused parts start fault) = Unit {0}
 
 pub tells_cells : {G : Type 0} (r : Report G) → HasWhole r → TellsCells r
-tells_cells (Pass parts start picture true) whole = ends_in_cells _ picture.now whole
+tells_cells (Pass parts start picture true) whole = ends_in_cells (heading_of parts.now start) picture.now whole
 tells_cells (Pass parts start picture false) whole = tt
 tells_cells (Refused parts start fault) whole = tt

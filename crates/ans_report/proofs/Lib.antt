@@ -3,6 +3,7 @@ pub mod PutsLemmas
 pub mod HexadecimalDigits
 pub mod PictureRows
 pub mod RecordLemmas
+pub mod StartNames
 pub mod CellsTold
 pub mod TokenReadings
 pub mod ReadSoFar

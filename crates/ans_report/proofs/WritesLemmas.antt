@@ -1,11 +1,10 @@
 -- Steps of the writing of a text.
 use Rattle.std.proofs.Common.{◌≡◌, ℕ, ◌+◌, ◌-◌, List, length, take, drop, sym, subst}
-use Rattle.std.specs.Prelude.{Option, Result}
+use Rattle.std.specs.Prelude.{Option}
 use Rattle.std.proofs.Math.Seq.{take-add}
 use Rattle.std.proofs.lemmas.List.{take_rest}
 use Rattle.std.specs.Io.KnownBytes.{Appends}
 use Rattle.std.proofs.KnownBytes.{Appends-trans}
-use Rattle.ans_report.specs.Writes.{WritesText}
 
 -- one more call took n bytes of what was left
 pub writes_more : (a b c : Option (List ℕ)) (text : List ℕ) (w n : ℕ) → Appends a b (take w text)
@@ -15,10 +14,3 @@ writes_more a b c text w n before call =
     let step : Appends b c (take n (drop w text)) = subst P (take_rest text w) call in
     let Q : List ℕ → Type 0 = λ s. Appends a c s in
     subst Q (sym (take-add w n text)) (Appends-trans a b c _ _ before step)
-
--- the same text
-pub WritesText-same : {T E : Type 0} (a b : Option (List ℕ)) (r : Result T E) (xs ys : List ℕ) → xs ≡ ys
-    → WritesText a b r xs → WritesText a b r ys
-WritesText-same a b r xs ys same p =
-    let P : List ℕ → Type 0 = λ t. WritesText a b r t in
-    subst P same p

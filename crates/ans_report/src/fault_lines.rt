@@ -30,7 +30,6 @@ pub fn fault_text(fault: &Fault) -> &'static str
         Cause::KeyReassigned => "F15 key reassigned",
         Cause::ScreenMode => "F16 screen mode set",
         Cause::ReportAsked => "F17 cursor report asked",
-        Cause::TabByte => "F18 tab byte",
         Cause::OutsideScreen => "F19 place outside the screen",
         Cause::PrintBelow => "F20 print below the stated lines",
         Cause::Scrolls => "F21 scrolls",

@@ -2,7 +2,7 @@
 ghost use Rattle.std.specs.Prelude.{◌≡◌, ℕ, ◌++◌, codes, decimal};
 ghost use Rattle.std.specs.List.{flat_map};
 ghost use Rattle.ans_model.specs.Text.FaultText.{line_of, note_text, note_line};
-ghost use Rattle.ans_model.specs.Text.ReportText.{start_name, heading_text};
+ghost use Rattle.ans_model.specs.Text.ReportText.{known_part, start_name, heading_text};
 ghost use Rattle.ans_report.specs.Puts.{Puts};
 ghost use Rattle.ans_report.specs.Headings.{heading_of};
 
@@ -26,13 +26,42 @@ pub fn note_text(note: &Note) -> &'static str
     }
 }
 
-fn start_name(start: Start) -> &'static str
-    ensures { result.now ≡ start_name start }
+/// Puts a blank and the name of a part of the start, where the part is known; else nothing.
+fn put_known_part<W: Write>(out: &mut Outbox<'_, W>, known: bool, name: &[u8])
+    ensures { Puts W.contents out.old out.new (known_part known name.now) }
 {
-    match start {
-        Start::Any => "any",
-        Start::Cleared => "cleared",
+    if known {
+        out.put_all(&[b" ", name]);
     }
+}
+
+/// Puts the name of a class of starts: `any`, `cleared`, or `known` and the parts that are known.
+fn put_start_name<W: Write>(out: &mut Outbox<'_, W>, start: Start)
+    ensures { Puts W.contents out.old out.new (start_name start) }
+{
+    if start == Start::any() {
+        out.put(b"any");
+        return;
+    }
+    if start == Start::cleared() {
+        out.put(b"cleared");
+        return;
+    }
+    out.put(b"known");
+    put_known_part(out, start.screen, b"screen");
+    put_known_part(out, start.cursor, b"cursor");
+    put_known_part(out, start.saved, b"saved");
+    put_known_part(out, start.colours, b"colours");
+    put_known_part(out, start.wrap, b"wrap");
+}
+
+/// Puts the line of the class of starts.
+fn put_start_line<W: Write>(out: &mut Outbox<'_, W>, start: Start)
+    ensures { Puts W.contents out.old out.new (line_of (codes "start: " ++ start_name start)) }
+{
+    out.put(b"start: ");
+    put_start_name(out, start);
+    out.put(b"\n");
 }
 
 /// Puts the line of the content's length.
@@ -58,7 +87,7 @@ pub(crate) fn put_heading<W: Write>(out: &mut Outbox<'_, W>, parts: &Parts<'_>, 
     ensures { Puts W.contents out.old out.new (heading_text (heading_of parts.now start)) }
 {
     put_size_line(out, parts);
-    put_named_line(out, b"start", start_name(start).as_bytes());
+    put_start_line(out, start);
     put_length_line(out, parts.content().len());
     put_notes(out, parts.notes().as_slice());
 }

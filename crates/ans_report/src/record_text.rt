@@ -1,10 +1,9 @@
 //! The text of a record.
 ghost use Rattle.std.specs.Prelude.{◌≡◌, ◌↔◌, false, IsTrue, IsErr};
-ghost use Rattle.ans_model.specs.File.Layout.{FileParts};
 ghost use Rattle.ans_model.specs.File.Record.{comment_count};
 ghost use Rattle.ans_model.specs.Text.Characters.{shown_bytes};
-ghost use Rattle.ans_model.specs.Text.RecordText.{named_line, comment_lines, record_text};
-ghost use Rattle.ans_sauce.specs.Parts.{ShowsParts, comments_of, record_of};
+ghost use Rattle.ans_model.specs.Text.RecordText.{named_line, comment_lines};
+ghost use Rattle.ans_sauce.specs.Parts.{comments_of, record_of};
 ghost use Rattle.ans_report.specs.Tried.{has_failed, inner_of};
 ghost use Rattle.ans_report.specs.Writes.{WritesText};
 ghost use Rattle.ans_report.specs.Puts.{Puts};
@@ -72,9 +71,6 @@ pub fn write_record<W: Write>(w: &mut Tried<W>, parts: &Parts<'_>) -> Result<(),
     ensures device { IsErr result ↔ IsTrue (has_failed w.new) }
     ensures bytes { WritesText (W.contents (inner_of w.old)) (W.contents (inner_of w.new)) result
         (parts_text parts.now) }
-    ensures of_record { (apart : FileParts) → ShowsParts apart parts.now
-        → WritesText (W.contents (inner_of w.old)) (W.contents (inner_of w.new)) result
-        (record_text apart) }
 {
     let mut out = Outbox::new(w);
     put_record(&mut out, parts);

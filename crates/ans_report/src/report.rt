@@ -21,8 +21,8 @@ use std::io::Write;
 /// What a report says of a file.
 #[derive(Drop)]
 pub enum Report<'a, G: Grid> {
-    /// The content plays well from every start, and shows the picture. `cells` says whether each
-    /// cell is told too: its byte and its attribute.
+    /// The content plays well from every start of the class, and shows the picture. `cells` says
+    /// whether each cell is told too: its byte and its attribute.
     Pass {
         parts: &'a Parts<'a>,
         start: Start,
@@ -77,9 +77,10 @@ fn put_report<W: Write, G: Grid>(out: &mut Outbox<'_, W>, r: &Report<'_, G>)
 }
 
 /// Writes the report: the size, the start, the content's length and the notes, and then the picture
-/// of a pass or the fault of a refusal. With `cells` a pass ends in a line `cells:` and one line for
-/// each row, which has four lower-case hexadecimal digits a cell: two for its byte, then two for its
-/// attribute. Without parts only the fault is written.
+/// of a pass or the fault of a refusal. The start is `any`, `cleared`, or `known` and the parts that
+/// are known. With `cells` a pass ends in a line `cells:` and one line for each row, which has four
+/// lower-case hexadecimal digits a cell: two for its byte, then two for its attribute. Without parts
+/// only the fault is written.
 ///
 /// `Err` comes exactly where the device failed in the call, and then a prefix of the text was
 /// written.

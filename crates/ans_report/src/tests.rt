@@ -4,6 +4,7 @@ ghost use Rattle.std.specs.Prelude.{◌≡◌, false};
 ghost use Rattle.ans_report.specs.Tried.{has_failed};
 
 mod devices;
+mod headings;
 mod records;
 mod tokens;
 mod written_reports;

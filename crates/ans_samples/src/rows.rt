@@ -42,19 +42,40 @@ macro_rules! expected {
     };
 }
 
+/// The class in which no part is known.
+const ANY: Start = Start {
+    screen: false,
+    cursor: false,
+    saved: false,
+    colours: false,
+    wrap: false,
+};
+
+/// The class in which each part is known.
+const CLEARED: Start = Start {
+    screen: true,
+    cursor: true,
+    saved: true,
+    colours: true,
+    wrap: true,
+};
+
 macro_rules! start {
     (any) => {
-        Start::Any
+        ANY
     };
     (cleared) => {
-        Start::Cleared
+        CLEARED
+    };
+    (known $($part:ident)+) => {
+        Start { $($part: true,)+ ..ANY }
     };
 }
 
 macro_rules! rows {
-    ($($start:ident $width:literal x $lines:literal, $content:literal => $word:ident($($expected:tt)*);)*) => {
+    ($($($start:ident)+ $width:literal x $lines:literal, $content:literal => $word:ident($($expected:tt)*);)*) => {
         [$(Row {
-            start: start!($start),
+            start: start!($($start)+),
             width: $width,
             lines: $lines,
             content: $content,
@@ -72,7 +93,7 @@ pub static BYTES: [Row; 16] = rows! {
     cleared 1 x 1, b"" => shows(b" ", [0x07]);
     cleared 2 x 1, b"a\x08b\x07" => shows(b"b ", []);
     cleared 2 x 1, b"\xdb\x00" => shows(b"\xdb\x00", [0x07, 0x07]);
-    cleared 2 x 1, b"\t" => refused(0, TabByte);
+    cleared 2 x 1, b"\t" => refused(0, PrintBelow);
     any 1 x 1, b"\n" => refused(0, MayScroll);
     any 2 x 1, b"" => refused(0, UnknownCell 1 1);
     cleared 4 x 2, b"ab\rx" => shows(b"xb      ", []);
@@ -81,6 +102,49 @@ pub static BYTES: [Row; 16] = rows! {
     cleared 2 x 2, b"abc" => shows(b"abc ", [0x07, 0x07, 0x07, 0x07]);
     cleared 3 x 2, b"ab\r\nc" => shows(b"ab c  ", []);
     cleared 2 x 1, b"Hi!" => refused(2, PrintBelow);
+};
+
+/// Contents with tabs.
+pub static TABS: [Row; 25] = rows! {
+    cleared 16 x 1, b"a\tb" => shows(b"a       b       ", []);
+    cleared 10 x 2, b"\t\tx" => shows(b"                x   ", []);
+    cleared 10 x 1, b"\t\t" => refused(1, PrintBelow);
+    any 10 x 2, b"\x1b[0m\x1b[2J\t\t" => refused(9, PrintUnknownPlace);
+    any 8 x 1, b"\x1b[0m\x1b[2J\t" => shows(b"        ", []);
+    any 2 x 1, b"\t" => refused(0, PrintUnknownPlace);
+    cleared 2 x 1, b"\x1b[?7l\tb" => shows(b" b", []);
+    cleared 8 x 1, b"\x1b[44m\t" => shows(b"        ", [0x17, 0x17, 0x17, 0x17, 0x17, 0x17, 0x17, 0x17]);
+    cleared 4 x 2, b"\t" => shows(b"        ", []);
+    cleared 4 x 2, b"\tx" => refused(1, PrintBelow);
+    cleared 1 x 8, b"\t" => shows(b"        ", []);
+    cleared 1 x 7, b"\t" => refused(0, PrintBelow);
+    cleared 20 x 1, b"12345678\tx" => shows(b"12345678        x   ", []);
+    cleared 20 x 1, b"\x1b[9C\tx" => shows(b"                x   ", []);
+    cleared 10 x 1, b"\x1b[?7l\t\tx" => shows(b"         x", []);
+    any 8 x 2, b"\x1b[0m\x1b[2J\tx" => refused(9, PrintUnknownPlace);
+    cleared 8 x 1, b"\t\n" => refused(1, Scrolls);
+    cleared 8 x 1, b"ab\x1b[44m\t" => shows(b"ab      ", [0x07, 0x07, 0x17, 0x17, 0x17, 0x17, 0x17, 0x17]);
+    cleared 8 x 1, b"abcdefgh\x1b[A\t" => shows(b"        ", []);
+    cleared 8 x 1, b"abcdefg\t" => shows(b"abcdefg ", []);
+    cleared 8 x 1, b"abcdefg\tx" => refused(8, PrintBelow);
+    cleared 8 x 2, b"abcdefg\tx" => shows(b"abcdefg x       ", []);
+    any 1 x 8, b"\x1b[0m\x1b[2J\t" => refused(8, PrintUnknownPlace);
+    cleared 2 x 1, b"\x1b[2;1H\t" => refused(6, PrintBelow);
+    known wrap 10 x 2, b"\x1b[0m\x1b[2J\t\tx" => shows(b"                x   ", []);
+};
+
+/// Contents from starts of which some parts are known.
+pub static PARTS_KNOWN: [Row; 10] = rows! {
+    known cursor 2 x 1, b"Hi" => refused(2, UnknownCell 1 1);
+    known cursor colours 2 x 1, b"Hi" => shows(b"Hi", [0x07, 0x07]);
+    known cursor colours 2 x 1, b"H" => refused(1, UnknownCell 1 2);
+    known screen cursor colours 2 x 1, b"H" => shows(b"H ", [0x07, 0x07]);
+    known cursor colours 2 x 2, b"Hia" => refused(2, PrintUnknownPlace);
+    known cursor colours wrap 2 x 2, b"Hia" => refused(3, UnknownCell 2 2);
+    known saved 2 x 1, b"\x1b[?7h\x1b[0m\x1b[uHi" => shows(b"Hi", [0x07, 0x07]);
+    known wrap 2 x 1, b"\x1b[0m\x1b[2JHi!" => refused(10, PrintBelow);
+    known screen 1 x 1, b"" => shows(b" ", [0x07]);
+    known colours 1 x 1, b"\x1b[2J" => shows(b" ", [0x07]);
 };
 
 /// Contents that show a picture from any start.

@@ -2,18 +2,19 @@
 """Plays random contents on a second machine, and compares its answers with those of `check --cells`.
 
 It shares no code with the program and none with the definitions: it reads the content whole, and plays
-it from whole starts, the lowest, the highest and six random ones, or from the cleared one. So it can
-tell a slip in the definitions. It follows the rules as this project states them, its own choices among
-them, and comes from the same hands: a rule that both misread it cannot tell. Its screens are small, of
-at most four columns and three lines, its contents short, and its records plain.
+it from whole starts of the class, the lowest, the highest and six random ones, or from the cleared one
+alone where each part is known. So it can tell a slip in the definitions. It follows the rules as this
+project states them, its own choices among them, and comes from the same hands: a rule that both misread
+it cannot tell. Its screens are small, most of at most four columns, some of up to twenty, and of at most
+three lines; its contents are short, and its records plain. The class of starts is one of all 32.
 
 Run it in the folder above, after `rt run -- check --cleared data/hi.ans` has built the program, with a
 number that seeds the contents and how many there shall be:
 
     python3 compare/second_machine.py out/anscheck 1 10000
 
-It prints each content whose answers differ, and then how often each answer came. Its status is 1 where
-one differs.
+It prints each content whose answers differ, and then how many classes were asked and how often each
+answer came. Its status is 1 where one differs.
 """
 import collections
 import random
@@ -25,13 +26,14 @@ import sys
 FAULTS = {
     9: "broken sequence", 10: "number above 255", 11: "more than 16 parameters",
     12: "content ends in a sequence", 13: "unknown sequence", 14: "wrong parameters",
-    15: "key reassigned", 16: "screen mode set", 17: "cursor report asked", 18: "tab byte",
+    15: "key reassigned", 16: "screen mode set", 17: "cursor report asked",
     19: "place outside the screen", 20: "print below the stated lines", 21: "scrolls",
     22: "print at an unknown place", 23: "erase at an unknown place", 24: "may scroll",
     25: "cell stays unknown",
 }
 CONTROLS = {7: "bell", 8: "backspace", 9: "tab", 10: "linefeed", 13: "return"}
-REFUSED = {"keys": 15, "mode": 16, "ask": 17, "tab": 18}
+REFUSED = {"keys": 15, "mode": 16, "ask": 17}
+PARTS = ["screen", "cursor", "saved", "colours", "wrap"]
 COLOURS = [0, 4, 2, 6, 1, 5, 3, 7]
 STRING = object()
 
@@ -207,12 +209,23 @@ class Machine:
             self.wrap = given[0]
 
 
-def starts(chance, width, lines, cleared):
-    """The cleared start alone, or the lowest, the highest and some between."""
-    if cleared:
-        machine = Machine(width, lines, lambda: 0x07, lambda: (0, 0), True)
-        machine.rows = [[(0x20, 0x07)] * width for _ in range(lines + 1)]
-        return [machine]
+def known_parts(machine, known):
+    """The machine, with each known part as on the cleared screen."""
+    if "screen" in known:
+        machine.rows = [[(0x20, 0x07)] * machine.width for _ in range(machine.lines + 1)]
+    if "cursor" in known:
+        machine.row = machine.column = 0
+    if "saved" in known:
+        machine.saved = 0, 0
+    if "colours" in known:
+        machine.attribute = 0x07
+    if "wrap" in known:
+        machine.wrap = True
+    return machine
+
+
+def starts(chance, width, lines, known):
+    """The lowest start of the class, the highest, and some between."""
     low = Machine(width, lines, lambda: 0x00, lambda: (0, 0), False)
     high = Machine(width, lines, lambda: 0xFF, lambda: (lines, width - 1), True)
     between = [
@@ -221,9 +234,9 @@ def starts(chance, width, lines, cleared):
             lambda: (chance.randrange(lines + 1), chance.randrange(width)),
             chance.random() < 0.5,
         )
-        for _ in range(6)
+        for _ in range(0 if len(known) == len(PARTS) else 6)
     ]
-    return [low, high] + between
+    return [known_parts(machine, known) for machine in [low, high] + between]
 
 
 def fault_of(token, machines):
@@ -245,15 +258,28 @@ def fault_of(token, machines):
     return None
 
 
+def play(token, machines):
+    """Plays a token on each machine, unless it has a fault: then its number. A tab is its blanks."""
+    if token[0] == "tab":
+        for _ in range(8 - machines[0].column % 8):
+            fault = play(("glyph", 0x20), machines)
+            if fault:
+                return fault
+        return None
+    fault = fault_of(token, machines)
+    if not fault:
+        for machine in machines:
+            machine.step(*token)
+    return fault
+
+
 def answer(content, machines):
     """The fault's line, or the picture as lines of cells."""
     tokens, ending = read(content)
     for offset, token in tokens:
-        fault = fault_of(token, machines)
+        fault = play(token, machines)
         if fault:
             return f"at {offset}: F{fault} {FAULTS[fault]}"
-        for machine in machines:
-            machine.step(*token)
     if ending:
         return f"at {ending[0]}: F{ending[1]} {FAULTS[ending[1]]}"
     for row in range(machines[0].lines):
@@ -265,15 +291,27 @@ def answer(content, machines):
     return ["".join(f"{byte:02x}{attribute:02x}" for byte, attribute in row) for row in picture]
 
 
-def asked(program, content, width, lines, cleared):
+def class_name(known):
+    """What the report's second line calls the class."""
+    if len(known) in (0, len(PARTS)):
+        return "cleared" if known else "any"
+    return " ".join(["known"] + known)
+
+
+def asked(program, content, width, lines, known):
     """The same answer, as the program prints it."""
     record = (
         b"SAUCE00" + b" " * 75 + b"19960101" + struct.pack("<I", len(content))
         + bytes([1, 1]) + struct.pack("<4H", width, lines, 0, 0) + bytes(24)
     )
-    words = [program, "check", "--cells"] + ["--cleared"] * cleared
+    flags = [f"--known-{part}" for part in known]
+    if len(known) == len(PARTS) and content[:1] < b"A":
+        flags = ["--cleared"]
+    words = [program, "check", "--cells"] + flags
     run = subprocess.run(words, input=content + b"\x1a" + record, stdout=subprocess.PIPE)
     printed = run.stdout.decode().splitlines()
+    if printed[1] != "start: " + class_name(known):
+        return printed[1]
     return printed[-lines:] if run.returncode == 0 else printed[-1]
 
 
@@ -287,8 +325,9 @@ def a_piece(chance, width, lines):
     kind = chance.random()
     if kind < 0.30:
         return bytes([chance.choice(b"AB \xdb\x00\xff\x7f")]) * chance.randrange(1, 3)
-    if kind < 0.37:
-        return chance.choice([b"\r\n", b"\r\n", b"\n", b"\r", b"\b", b"\x07", b"\t"])
+    if kind < 0.40:
+        some = [b"\r\n", b"\r\n", b"\n", b"\r", b"\b", b"\x07", b"\t", b"\t", b"\t"]
+        return chance.choice(some)
     if kind < 0.50:
         some = [b"", b"0", b"1", b"2", b"4", b"5", b"7", b"8", b"31", b"36", b"38", b"40", b"44"]
         return b"\x1b[" + b";".join(chance.choices(some, k=chance.randrange(4))) + b"m"
@@ -304,27 +343,32 @@ def a_piece(chance, width, lines):
     return b"\x1b[" + mark + members + bytes([chance.choice(b"ABHJKfhlmnpsutxz \x9b")])
 
 
-def a_content(chance, width, lines, cleared):
+def a_content(chance, width, lines, known):
     content = b""
-    if not cleared and chance.random() < 0.8:
-        content = b"".join(chance.sample([b"\x1b[0m", b"\x1b[2J", b"\x1b[?7h"], 3))
+    if chance.random() < 0.8:
+        making = {"colours": b"\x1b[0m", "screen": b"\x1b[2J", "wrap": b"\x1b[?7h"}
+        wanted = [making[part] for part in making if part not in known]
+        content = b"".join(chance.sample(wanted, len(wanted)))
     content += b"".join(a_piece(chance, width, lines) for _ in range(chance.randrange(9)))
     return content[: chance.randrange(len(content) + 1)] if chance.random() < 0.1 else content
 
 
 def main(program, seed, count):
     chance = random.Random(int(seed))
-    seen, differing = collections.Counter(), 0
+    seen, classes, differing = collections.Counter(), set(), 0
     for _ in range(int(count)):
-        width, lines, cleared = chance.randrange(1, 5), chance.randrange(1, 4), chance.random() < 0.3
-        content = a_content(chance, width, lines, cleared)
-        expected = answer(content, starts(chance, width, lines, cleared))
-        printed = asked(program, content, width, lines, cleared)
+        width = chance.randrange(1, 5) if chance.random() < 0.7 else chance.randrange(5, 21)
+        lines, which = chance.randrange(1, 4), chance.randrange(2 ** len(PARTS))
+        known = [part for i, part in enumerate(PARTS) if which >> i & 1]
+        classes.add(which)
+        content = a_content(chance, width, lines, known)
+        expected = answer(content, starts(chance, width, lines, known))
+        printed = asked(program, content, width, lines, known)
         seen[expected.split()[2] if isinstance(expected, str) else "pass"] += 1
         if expected != printed:
             differing += 1
-            print(f"{width} x {lines} cleared={cleared} {content}: {expected}, not {printed}")
-    print(f"{differing} of {count} differ;", ", ".join(f"{n} {k}" for k, n in seen.most_common()))
+            print(f"{width} x {lines} known={known} {content}: {expected}, not {printed}")
+    print(f"{differing} of {count} differ, in {len(classes)} classes;", ", ".join(f"{n} {k}" for k, n in seen.most_common()))
     return differing > 0
 
 

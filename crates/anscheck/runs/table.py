@@ -64,14 +64,14 @@ HELP = b"""Checks ANSI art files that end in a SAUCE record
 Usage: anscheck <COMMAND>
 
 Commands:
-  check   Check that a file shows one picture from every start, and print that picture
+  check   Check that a file shows one picture from every start of the class, and print that picture
   sauce   Print what a file's SAUCE record says
   tokens  Print the bytes and the escape sequences of a file's content, one a line
 
 Options:
   -h, --help  Print help
 """ + STATUSES
-CHECK_HELP = b"""Check that a file shows one picture from every start, and print that picture
+CHECK_HELP = b"""Check that a file shows one picture from every start of the class, and print that picture
 
 Usage: anscheck check [OPTIONS] [FILE]
 
@@ -79,9 +79,14 @@ Arguments:
   [FILE]  The file to read; without it standard input is read
 
 Options:
-      --cleared  Play from a cleared screen alone, not from every screen, cursor, colour and wrap
-      --cells    Print each cell of the picture too: its byte and its attribute, in hexadecimal
-  -h, --help     Print help
+      --known-screen   Know the screen to be blank, white on black
+      --known-cursor   Know the cursor to be at the top left
+      --known-saved    Know the saved cursor to be at the top left
+      --known-colours  Know the colours to be white on black
+      --known-wrap     Know wrap to be on
+      --cleared        Know all five: play from a cleared screen alone
+      --cells          Print each cell of the picture too: its byte and its attribute, in hexadecimal
+  -h, --help           Print help
 """ + STATUSES
 SAUCE_HELP = b"""Print what a file's SAUCE record says
 
@@ -101,6 +106,7 @@ def mistake(what, usage):
 
 
 CHECK_USAGE = "check [OPTIONS] [FILE]"
+ALL_PARTS = ["--known-screen", "--known-cursor", "--known-saved", "--known-colours", "--known-wrap"]
 
 RUNS = [
     # Files that pass, from standard input and by name.
@@ -116,13 +122,44 @@ RUNS = [
         stdin=file_of(b"\x1b[?7h\x1b[0m\x1b[2JHi")),
     Run("check with cells", ["check", "--cleared", "--cells", HI], 0,
         HI_PASSES + b"cells:\n48076907\n"),
+    Run("check of a tab", ["check", "--cleared"], 0,
+        b"size: 16 x 1\nstart: cleared\ncontent: 3 bytes\n"
+        b"verdict: pass\npicture:\na       b       \n", stdin=file_of(b"a\tb", 16)),
     Run("record of standard input", ["sauce"], 0, HI_RECORD, stdin=HI),
     Run("record of a named file", ["sauce", HI], 0, HI_RECORD),
     Run("tokens of standard input", ["tokens"], 0, HI_TOKENS, stdin=HI),
     Run("tokens of a named file", ["tokens", HI], 0, HI_TOKENS),
+    # Files that pass from the starts of which some parts are known, and not from every start.
+    Run("check with a known screen", ["check", "--known-screen"], 0,
+        b"size: 1 x 1\nstart: known screen\ncontent: 0 bytes\nverdict: pass\npicture:\n \n",
+        stdin=file_of(b"", 1)),
+    Run("check with a known cursor", ["check", "--known-cursor"], 0,
+        b"size: 2 x 1\nstart: known cursor\ncontent: 6 bytes\nverdict: pass\npicture:\nHi\n",
+        stdin=file_of(b"\x1b[0mHi")),
+    Run("check with a known saved cursor", ["check", "--known-saved"], 0,
+        b"size: 2 x 1\nstart: known saved\ncontent: 9 bytes\nverdict: pass\npicture:\nHi\n",
+        stdin=file_of(b"\x1b[0m\x1b[uHi")),
+    Run("check with known colours", ["check", "--known-colours"], 0,
+        b"size: 2 x 1\nstart: known colours\ncontent: 6 bytes\nverdict: pass\npicture:\nHi\n",
+        stdin=file_of(b"\x1b[2JHi")),
+    Run("check with wrap known", ["check", "--known-wrap"], 0,
+        b"size: 2 x 2\nstart: known wrap\ncontent: 11 bytes\nverdict: pass\npicture:\nHi\na \n",
+        stdin=file_of(b"\x1b[0m\x1b[2JHia", 2, 2)),
+    Run("check with two parts known", ["check", "--known-cursor", HI, "--known-colours"], 0,
+        b"size: 2 x 1\nstart: known cursor colours\ncontent: 2 bytes\n"
+        b"verdict: pass\npicture:\nHi\n"),
+    Run("check with each part known", ["check", *ALL_PARTS, HI], 0, HI_PASSES),
+    Run("check from a cleared screen with wrap known",
+        ["check", "--known-wrap", "--cleared", HI], 0, HI_PASSES),
     # Files that are refused.
     Run("refused content", ["check", HI], 1, HI_IS_REFUSED),
     Run("refused content of standard input", ["check"], 1, HI_IS_REFUSED, stdin=HI),
+    Run("refused content with a known cursor", ["check", "--known-cursor", HI], 1,
+        b"size: 2 x 1\nstart: known cursor\ncontent: 2 bytes\nverdict: refused\n"
+        b"at 2: F25 cell stays unknown (row 1, column 1)\n"),
+    Run("a tab at an unknown place", ["check"], 1,
+        b"size: 2 x 1\nstart: any\ncontent: 1 bytes\nverdict: refused\n"
+        b"at 0: F22 print at an unknown place\n", stdin=file_of(b"\t")),
     Run("tokens up to a fault", ["tokens"], 1,
         b"0 7 colours 1;37\n7 1 glyph 48\nat 8: F12 content ends in a sequence\n",
         stdin=file_of(b"\x1b[1;37mH\x1b[3")),
@@ -165,6 +202,11 @@ RUNS = [
         "  tip: to pass '--cells' as a value, use '-- --cells'", "sauce [FILE]")),
     Run("a flag twice", ["check", "--cells", "--cells"], 2, stdin=HI, stderr=mistake(
         "the argument '--cells' cannot be used multiple times", CHECK_USAGE)),
+    Run("a known part twice", ["check", "--known-wrap", "--known-wrap"], 2, stdin=HI,
+        stderr=mistake("the argument '--known-wrap' cannot be used multiple times", CHECK_USAGE)),
+    Run("a known part of another command", ["tokens", "--known-wrap", HI], 2, stderr=mistake(
+        "unexpected argument '--known-wrap' found\n\n"
+        "  tip: to pass '--known-wrap' as a value, use '-- --known-wrap'", "tokens [FILE]")),
     Run("a second file", ["check", HI, HI], 2, stderr=mistake(
         f"unexpected argument '{HI}' found", CHECK_USAGE)),
     Run("no subcommand", [], 2, stdin=HI, stderr=mistake(

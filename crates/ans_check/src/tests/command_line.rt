@@ -1,7 +1,7 @@
 //! The options that words give.
 use super::endings::shown;
-use super::{ANY, CLEARED, SAUCE, TOKENS};
-use crate::{Ending, Options, WordsError, options};
+use super::{ALL_KNOWN, ANY, CLEARED, CURSOR_AND_COLOURS, NONE_KNOWN, SAUCE, TOKENS};
+use crate::{Ending, Options, Start, WordsError, options};
 use clap::error::ErrorKind;
 use std::process::Abort;
 
@@ -12,8 +12,8 @@ const CLEARED_WITH_CELLS: Options = Options {
     ..CLEARED
 };
 
-/// Words after the program's name, the options that they give, and the file.
-static TAKEN: [(&[&str], Options, Option<&str>); 10] = [
+/// The program's words, the options that they give, and the file.
+static TAKEN: [(&[&str], Options, Option<&str>); 11] = [
     (&["anscheck", "check"], ANY, None),
     (&["anscheck", "check", "f"], ANY, Some("f")),
     (&["anscheck", "check", "--cleared"], CLEARED, None),
@@ -32,6 +32,11 @@ static TAKEN: [(&[&str], Options, Option<&str>); 10] = [
         &["anscheck", "check", "--", "--cells"],
         ANY,
         Some("--cells"),
+    ),
+    (
+        &["anscheck", "check", "--", "--known-wrap"],
+        ANY,
+        Some("--known-wrap"),
     ),
     (&["anscheck", "sauce", "f"], SAUCE, Some("f")),
     (&["anscheck", "sauce"], SAUCE, None),
@@ -55,21 +60,150 @@ fn read_words(
     }
 }
 
-#[test]
-fn words_give_options(rt: HostRuntime) {
-    for (words, expected, file) in &TAKEN {
-        match read_words(&rt, words) {
-            Ok((found, name)) => {
-                assert!(rt; found == *expected);
-                assert!(rt; name.as_ref().map(|f| f.as_str()) == *file);
-            }
-            Err(_) => panic!(rt; "no options"),
+/// Asserts which options words give, and which file.
+fn expect_options(
+    rt: &(impl Abort + AllocGlobal),
+    words: &[&str],
+    expected: Options,
+    file: Option<&str>,
+) {
+    match read_words(rt, words) {
+        Ok((found, name)) => {
+            assert!(rt; found == expected);
+            assert!(rt; name.as_ref().map(|f| f.as_str()) == file);
         }
+        Err(_) => panic!(rt; "no options"),
     }
 }
 
+#[test]
+fn words_give_options(rt: HostRuntime) {
+    for (words, expected, file) in &TAKEN {
+        expect_options(&rt, words, *expected, *file);
+    }
+}
+
+/// The program's words, and the class of starts that they ask for.
+static STARTS: [(&[&str], Start); 14] = [
+    (&["anscheck", "check"], NONE_KNOWN),
+    (
+        &["anscheck", "check", "--known-screen"],
+        Start {
+            screen: true,
+            ..NONE_KNOWN
+        },
+    ),
+    (
+        &["anscheck", "check", "--known-cursor"],
+        Start {
+            cursor: true,
+            ..NONE_KNOWN
+        },
+    ),
+    (
+        &["anscheck", "check", "--known-saved"],
+        Start {
+            saved: true,
+            ..NONE_KNOWN
+        },
+    ),
+    (
+        &["anscheck", "check", "--known-colours"],
+        Start {
+            colours: true,
+            ..NONE_KNOWN
+        },
+    ),
+    (
+        &["anscheck", "check", "--known-wrap"],
+        Start {
+            wrap: true,
+            ..NONE_KNOWN
+        },
+    ),
+    (
+        &["anscheck", "check", "--known-cursor", "--known-colours"],
+        CURSOR_AND_COLOURS,
+    ),
+    (
+        &["anscheck", "check", "--known-colours", "--known-cursor"],
+        CURSOR_AND_COLOURS,
+    ),
+    (
+        &["anscheck", "check", "--known-wrap", "--known-screen"],
+        Start {
+            screen: true,
+            wrap: true,
+            ..NONE_KNOWN
+        },
+    ),
+    (
+        &[
+            "anscheck",
+            "check",
+            "--known-screen",
+            "--known-cursor",
+            "--known-saved",
+            "--known-colours",
+        ],
+        Start {
+            wrap: false,
+            ..ALL_KNOWN
+        },
+    ),
+    (
+        &[
+            "anscheck",
+            "check",
+            "--known-screen",
+            "--known-cursor",
+            "--known-saved",
+            "--known-colours",
+            "--known-wrap",
+        ],
+        ALL_KNOWN,
+    ),
+    (&["anscheck", "check", "--cleared"], ALL_KNOWN),
+    (
+        &["anscheck", "check", "--cleared", "--known-saved"],
+        ALL_KNOWN,
+    ),
+    (
+        &["anscheck", "check", "--known-wrap", "--cleared"],
+        ALL_KNOWN,
+    ),
+];
+
+#[test]
+fn flags_say_what_is_known(rt: HostRuntime) {
+    for (words, start) in &STARTS {
+        let expected = Options {
+            start: *start,
+            ..ANY
+        };
+        expect_options(&rt, words, expected, None);
+    }
+}
+
+#[test]
+fn flags_stand_on_both_sides_of_the_file(rt: HostRuntime) {
+    let expected = Options {
+        start: CURSOR_AND_COLOURS,
+        ..ANY_WITH_CELLS
+    };
+    let words = [
+        "anscheck",
+        "check",
+        "--known-cursor",
+        "--cells",
+        "f",
+        "--known-colours",
+    ];
+    expect_options(&rt, &words, expected, Some("f"));
+}
+
 /// Words that give no options, and of which kind `clap` says they are.
-static REFUSED: [(&[&str], ErrorKind); 12] = [
+static REFUSED: [(&[&str], ErrorKind); 16] = [
     (&["anscheck"], ErrorKind::MissingSubcommand),
     (&["anscheck", "help"], ErrorKind::InvalidSubcommand),
     (&["anscheck", "--help"], ErrorKind::DisplayHelp),
@@ -86,7 +220,23 @@ static REFUSED: [(&[&str], ErrorKind); 12] = [
         ErrorKind::ArgumentConflict,
     ),
     (
+        &["anscheck", "check", "--known-wrap", "--known-wrap"],
+        ErrorKind::ArgumentConflict,
+    ),
+    (
+        &["anscheck", "check", "--known"],
+        ErrorKind::UnknownArgument,
+    ),
+    (
         &["anscheck", "sauce", "--cleared"],
+        ErrorKind::UnknownArgument,
+    ),
+    (
+        &["anscheck", "sauce", "--known-screen"],
+        ErrorKind::UnknownArgument,
+    ),
+    (
+        &["anscheck", "tokens", "--known-cursor"],
         ErrorKind::UnknownArgument,
     ),
     (
@@ -124,7 +274,8 @@ static TEXTS: [(&[&str], &str); 6] = [
         Usage: anscheck <COMMAND>\n\
         \n\
         Commands:\n\
-        \x20 check   Check that a file shows one picture from every start, and print that picture\n\
+        \x20 check   Check that a file shows one picture from every start of the class, \
+        and print that picture\n\
         \x20 sauce   Print what a file's SAUCE record says\n\
         \x20 tokens  Print the bytes and the escape sequences of a file's content, one a line\n\
         \n\
@@ -138,7 +289,8 @@ static TEXTS: [(&[&str], &str); 6] = [
     ),
     (
         &["anscheck", "check", "--help"],
-        "Check that a file shows one picture from every start, and print that picture\n\
+        "Check that a file shows one picture from every start of the class, \
+        and print that picture\n\
         \n\
         Usage: anscheck check [OPTIONS] [FILE]\n\
         \n\
@@ -146,11 +298,15 @@ static TEXTS: [(&[&str], &str); 6] = [
         \x20 [FILE]  The file to read; without it standard input is read\n\
         \n\
         Options:\n\
-        \x20     --cleared  Play from a cleared screen alone, not from every screen, cursor, \
-        colour and wrap\n\
-        \x20     --cells    Print each cell of the picture too: its byte and its attribute, \
+        \x20     --known-screen   Know the screen to be blank, white on black\n\
+        \x20     --known-cursor   Know the cursor to be at the top left\n\
+        \x20     --known-saved    Know the saved cursor to be at the top left\n\
+        \x20     --known-colours  Know the colours to be white on black\n\
+        \x20     --known-wrap     Know wrap to be on\n\
+        \x20     --cleared        Know all five: play from a cleared screen alone\n\
+        \x20     --cells          Print each cell of the picture too: its byte and its attribute, \
         in hexadecimal\n\
-        \x20 -h, --help     Print help\n\
+        \x20 -h, --help           Print help\n\
         \n\
         Exit status:\n\
         \x20 0  The file passes, or this help was asked for\n\

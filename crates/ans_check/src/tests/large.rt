@@ -165,7 +165,7 @@ fn the_widest_screen_is_played(rt: HostRuntime) {
     expect_glyphs(
         &rt,
         file.as_slice(),
-        Start::Cleared,
+        Start::cleared(),
         (1024, 2),
         &[0, 1],
         &glyphs,
@@ -182,7 +182,7 @@ fn the_longest_screen_is_played(rt: HostRuntime) {
     expect_glyphs(
         &rt,
         file.as_slice(),
-        Start::Cleared,
+        Start::cleared(),
         (1, 8192),
         &SOME_ROWS,
         &glyphs,
@@ -199,7 +199,7 @@ fn the_largest_screen_is_played(rt: HostRuntime) {
     expect_glyphs(
         &rt,
         file.as_slice(),
-        Start::Cleared,
+        Start::cleared(),
         (1024, 8192),
         &SOME_ROWS,
         &glyphs,
@@ -212,7 +212,7 @@ fn the_largest_screen_is_cleared_from_any_start(rt: HostRuntime) {
     expect_glyphs(
         &rt,
         file.as_slice(),
-        Start::Any,
+        Start::any(),
         (1024, 8192),
         &SOME_ROWS,
         &[],
@@ -226,7 +226,7 @@ fn a_sequence_crosses_two_pieces(rt: HostRuntime) {
     content[4095..].copy_from_slice(b"\x1b[1mb");
     let file = file_of_size(&rt, &content, 80, 52);
     assert!(rt; file.len() <= MAX_FILE);
-    match check_file(&rt, file.as_slice(), Start::Cleared) {
+    match check_file(&rt, file.as_slice(), Start::cleared()) {
         Verdict::Pass(_, picture) => {
             assert!(rt; picture.width() == 80 && picture.lines() == 52);
             assert_eq!(rt; picture.glyph(51, 14), b'a');
@@ -247,7 +247,7 @@ fn long_sequences_are_read(rt: HostRuntime) {
     content[..2].copy_from_slice(b"\x1b[");
     content[1002..].copy_from_slice(b"5C");
     let file = file_of_size(&rt, &content, 2, 1);
-    expect_glyphs(&rt, file.as_slice(), Start::Cleared, (2, 1), &[0], &[]);
+    expect_glyphs(&rt, file.as_slice(), Start::cleared(), (2, 1), &[0], &[]);
     let mut content = [0x1b; 100_003];
     content[1] = b'[';
     content[2] = b'"';
@@ -257,7 +257,7 @@ fn long_sequences_are_read(rt: HostRuntime) {
         offset: 0,
         cause: Cause::EndInSequence,
     };
-    match check_file(&rt, file.as_slice(), Start::Cleared) {
+    match check_file(&rt, file.as_slice(), Start::cleared()) {
         Verdict::Refused(_, found) => assert_eq!(rt; found, fault),
         Verdict::Pass(_, _) => panic!(rt; "a refusal was expected"),
     }

@@ -1,16 +1,15 @@
 //! Reports of checks, byte for byte.
-use super::{ANY, CLEARED, expect_run, file_of_size, plain_file};
-use crate::{Command, Options, Start};
+use super::{ANY, CLEARED, CURSOR_AND_COLOURS, NONE_KNOWN, expect_run, file_of_size, plain_file};
+use crate::{Options, Start};
 
 /// A check from the cleared screen that tells the cells.
 const CELLS: Options = Options {
-    command: Command::Check,
-    start: Start::Cleared,
     cells: true,
+    ..CLEARED
 };
 
 /// The content, its width and lines, what is asked, whether it passes, and the report.
-static REPORTS: [(&[u8], u16, u16, Options, bool, &[u8]); 8] = [
+static REPORTS: [(&[u8], u16, u16, Options, bool, &[u8]); 11] = [
     (
         b"\x1b[?7h\x1b[0m\x1b[2JHi",
         2,
@@ -96,6 +95,53 @@ static REPORTS: [(&[u8], u16, u16, Options, bool, &[u8]); 8] = [
         content: 4 bytes\n\
         verdict: refused\n\
         at 1: F12 content ends in a sequence\n",
+    ),
+    (
+        b"Hi",
+        2,
+        1,
+        Options {
+            start: CURSOR_AND_COLOURS,
+            ..ANY
+        },
+        true,
+        b"size: 2 x 1\n\
+        start: known cursor colours\n\
+        content: 2 bytes\n\
+        verdict: pass\n\
+        picture:\n\
+        Hi\n",
+    ),
+    (
+        b"Hi",
+        2,
+        1,
+        Options {
+            start: Start {
+                cursor: true,
+                ..NONE_KNOWN
+            },
+            ..ANY
+        },
+        false,
+        b"size: 2 x 1\n\
+        start: known cursor\n\
+        content: 2 bytes\n\
+        verdict: refused\n\
+        at 2: F25 cell stays unknown (row 1, column 1)\n",
+    ),
+    (
+        b"\tx",
+        10,
+        1,
+        CLEARED,
+        true,
+        b"size: 10 x 1\n\
+        start: cleared\n\
+        content: 2 bytes\n\
+        verdict: pass\n\
+        picture:\n\
+        \x20       x \n",
     ),
 ];
 

@@ -9,8 +9,8 @@ use ans_play::Picture;
 use ans_samples::records::{ACCEPTED, AcceptedFile, REFUSED};
 use ans_samples::rows::Expected::{Refused, Shows};
 use ans_samples::rows::{
-    BROKEN, BYTES, COLOURS, FORBIDDEN, MISPLACED, PASSES_FROM_ANY, PASSES_FROM_CLEARED, Row,
-    UNKNOWN_CELLS, WITHOUT_MEANING,
+    BROKEN, BYTES, COLOURS, FORBIDDEN, MISPLACED, PARTS_KNOWN, PASSES_FROM_ANY,
+    PASSES_FROM_CLEARED, Row, TABS, UNKNOWN_CELLS, WITHOUT_MEANING,
 };
 use ans_sauce::{Cause, Fault, MAX_FILE, Parts};
 use ans_screen::PlainGrid;
@@ -122,6 +122,16 @@ fn bytes_alone(rt: HostRuntime) {
 }
 
 #[test]
+fn tabs(rt: HostRuntime) {
+    expect_rows(&rt, &TABS);
+}
+
+#[test]
+fn starts_known_in_part(rt: HostRuntime) {
+    expect_rows(&rt, &PARTS_KNOWN);
+}
+
+#[test]
 fn pictures_from_any_start(rt: HostRuntime) {
     expect_rows(&rt, &PASSES_FROM_ANY);
 }
@@ -166,11 +176,11 @@ fn records_and_layouts_are_refused(rt: HostRuntime) {
     for row in &REFUSED {
         let file = file_of(&rt, row.front, row.edits);
         let fault = (row.offset, row.cause);
-        expect_verdict(&rt, file.as_slice(), Start::Any, Err(fault));
+        expect_verdict(&rt, file.as_slice(), Start::any(), Err(fault));
     }
     let fault = Err((127, Cause::NoRecord));
-    expect_verdict(&rt, &[b'S'; 127], Start::Cleared, fault);
-    expect_verdict(&rt, b"", Start::Cleared, Err((0, Cause::NoRecord)));
+    expect_verdict(&rt, &[b'S'; 127], Start::cleared(), fault);
+    expect_verdict(&rt, b"", Start::cleared(), Err((0, Cause::NoRecord)));
 }
 
 /// Asserts the content, the size and the notes of an accepted file.
@@ -186,7 +196,7 @@ fn accepted_files_have_their_parts(rt: HostRuntime) {
     for row in &ACCEPTED {
         let file = file_of(&rt, row.front, row.edits);
         assert!(rt; file.len() <= MAX_FILE);
-        let verdict = check_file(&rt, file.as_slice(), Start::Cleared);
+        let verdict = check_file(&rt, file.as_slice(), Start::cleared());
         match &verdict {
             Verdict::Pass(parts, _) => expect_parts(&rt, parts, row),
             Verdict::Refused(Some(parts), _) => expect_parts(&rt, parts, row),
@@ -207,7 +217,7 @@ fn files_with_odd_ends_are_accepted(rt: HostRuntime) {
     ];
     for (front, width, lines, picture) in rows {
         let file = file_of_size(&rt, front, width, lines);
-        expect_verdict(&rt, file.as_slice(), Start::Cleared, Ok((picture, &[])));
+        expect_verdict(&rt, file.as_slice(), Start::cleared(), Ok((picture, &[])));
     }
 }
 
@@ -219,9 +229,9 @@ fn each_proper_prefix_of_a_file_has_no_record(rt: HostRuntime) {
         expect_verdict(
             &rt,
             &file.as_slice()[..n],
-            Start::Cleared,
+            Start::cleared(),
             Err((n, Cause::NoRecord)),
         );
     }
-    expect_verdict(&rt, file.as_slice(), Start::Cleared, Ok((b"Hi", &[7, 7])));
+    expect_verdict(&rt, file.as_slice(), Start::cleared(), Ok((b"Hi", &[7, 7])));
 }

@@ -1,7 +1,7 @@
 -- Laws of a step: what each line of the table of steps changes and what it leaves. Those of the moves stand in
 -- MoveLaws.
-use Rattle.std.specs.Prelude.{◌≡◌, ◌≢◌, ◌⊎◌, ℕ, ◌+◌, ◌≤◌, ◌<◌, Bool, true, false, List, set, Some}
-use Rattle.std.specs.Prelude.{slice_get, take, replicate}
+use Rattle.std.specs.Prelude.{◌≡◌, ◌≢◌, ◌⊎◌, ℕ, ◌+◌, ◌*◌, ◌≤◌, ◌<◌, Bool, true, false, List, set, Some}
+use Rattle.std.specs.Prelude.{slice_get, take, replicate, ◌-◌, min, if◌then◌else◌}
 use Rattle.ans_model.specs.Sequence.TokenKind.{TokenKind, PrintsByte, Glyph, Bell, LineFeed, Tab, Clear, EraseLine}
 use Rattle.ans_model.specs.Sequence.TokenKind.{Save, Colours, Wrap, Mode, Keys, Ask}
 use Rattle.ans_model.specs.Sequence.Reads.{Reads}
@@ -10,8 +10,9 @@ use Rattle.ans_model.specs.Screen.State.{index}
 use Rattle.ans_model.specs.declared.cell.Cell.{Cell}
 use Rattle.ans_model.specs.declared.cell.Position.{Position}
 use Rattle.ans_model.specs.Screen.Attribute.{attribute_after_all}
-use Rattle.ans_model.specs.Screen.Step.{step, final, filled, next_row_start, blank_cell}
-use Rattle.ans_model.specs.Screen.StartClass.{Class}
+use Rattle.ans_model.specs.Screen.Step.{step, final, filled, next_row_start, blank_cell, tab_blanks}
+use Rattle.ans_model.specs.Bytes.{blank}
+use Rattle.ans_model.specs.declared.start.Start.{Start}
 use Rattle.ans_model.specs.Verdict.TokenFault.{FromEvery, IsClean}
 use Rattle.ans_model.specs.Verdict.Good.{IsGood}
 use Rattle.ans_model.specs.Laws.MoveLaws.{IsLastColumn}
@@ -42,13 +43,12 @@ WrapChangesWrap = (z : Size) (s : State) (on : Bool) → step z s (Wrap on) ≡ 
 -- tokens that change nothing
 abbrev pub IsIdle : TokenKind → Type 0
 IsIdle Bell = Unit {0}
-IsIdle Tab = Unit {0}
 IsIdle Mode = Unit {0}
 IsIdle Keys = Unit {0}
 IsIdle Ask = Unit {0}
 IsIdle _ = ⊥
 
--- Bell, Tab, Mode, Keys and Ask change nothing.
+-- Bell, Mode, Keys and Ask change nothing.
 abbrev pub IdleChangesNothing : Type 0
 IdleChangesNothing = (z : Size) (s : State) (t : TokenKind) → IsIdle t → step z s t ≡ s
 
@@ -119,6 +119,46 @@ abbrev pub GlyphScrolls : Type 0
 GlyphScrolls = (z : Size) (s : State) (byte : ℕ) → IsWellFormed z s → PrintScrolls z s
     → IsPrintedAndScrolled z s byte (step z s (Glyph byte))
 
+-- A Tab is the play of so many printed blanks as take the cursor to the next column that 8 divides, if the row goes on
+-- so far: at least one, and at most eight.
+pub record PrintsBlanks (z : Size) (s : State) (count : ℕ) : Type 0 where
+  pub some : 1 ≤ count
+  pub most : count ≤ 8
+  pub to_stop : (stop : ℕ) × (s.cursor.column + count ≡ 8 * stop)
+  pub played : step z s Tab ≡ final z s (replicate count (Glyph blank))
+
+-- Each Tab is such a play.
+abbrev pub TabPrintsBlanks : Type 0
+TabPrintsBlanks = (z : Size) (s : State) → (count : ℕ) × PrintsBlanks z s count
+
+-- the index behind the last cell that a tab blanks: it goes on in the rows below where wrap is on, and else it stops at
+-- the row's end
+abbrev pub tab_end : Size → State → ℕ
+tab_end z s =
+    if s.wrap then index z s.cursor + tab_blanks s.cursor.column
+    else min (index z s.cursor + tab_blanks s.cursor.column) (next_row_start z s.cursor)
+
+-- a position whose cell a tab blanks
+abbrev pub IsTabbed : Size → State → Position → Type 0
+IsTabbed z s p = (index z s.cursor ≤ index z p) × (index z p < tab_end z s)
+
+-- The cells from the cursor to the tab's end are blank, and each other cell is kept. The cursor stands behind them, or
+-- in the last column where wrap is off and the row has ended.
+pub record IsAfterTab (z : Size) (s t : State) : Type 0 where
+  pub blanked : (p : Position) → IsOnScreen z p → IsTabbed z s p → cell_at z t.screen p ≡ Some (blank_cell s.attribute)
+  pub kept : (p : Position) → IsOnScreen z p → ¬ IsTabbed z s p → cell_at z t.screen p ≡ cell_at z s.screen p
+  pub on_screen : IsOnScreen z t.cursor
+  pub wrapped : s.wrap ≡ true → index z t.cursor ≡ tab_end z s
+  pub stopped : s.wrap ≡ false
+      → t.cursor ≡ at s.cursor.row (min (s.cursor.column + tab_blanks s.cursor.column) (z.width - 1))
+  pub others : OnlyScreenAndCursor s t
+
+-- A Tab changes those cells and the cursor, except where wrap is on and its blanks reach the end of the spare row:
+-- there the screen scrolls, as it does for each printed blank.
+abbrev pub TabBlanksCells : Type 0
+TabBlanksCells = (z : Size) (s : State) → IsWellFormed z s → (s.wrap ≡ true → tab_end z s < cell_count z)
+    → IsAfterTab z s (step z s Tab)
+
 -- A LineFeed above the spare row takes the cursor down one row and changes nothing else.
 abbrev pub LineFeedMovesDown : Type 0
 LineFeedMovesDown = (z : Size) (s : State) → s.cursor.row < z.lines
@@ -147,28 +187,37 @@ abbrev pub screen_in_place : Size → State → TokenKind → List Cell
 screen_in_place z s Clear = replicate (cell_count z) (blank_cell s.attribute)
 screen_in_place z s EraseLine = filled s.screen (index z s.cursor) (next_row_start z s.cursor) (blank_cell s.attribute)
 screen_in_place z s (Glyph byte) = set s.screen (index z s.cursor) (cell byte s.attribute)
+screen_in_place z s Tab = filled s.screen (index z s.cursor) (tab_end z s) (blank_cell s.attribute)
 screen_in_place z s _ = s.screen
 
--- the token scrolls here: a line feed in the spare row, or a byte printed in its last column where wrap is on
+-- the token scrolls here: a line feed in the spare row, or a byte printed in its last column where wrap is on; a tab
+-- scrolls where one of its blanks does
 abbrev pub ScrollsAt : Size → State → TokenKind → Type 0
 ScrollsAt z s LineFeed = s.cursor.row ≡ z.lines
 ScrollsAt z s (Glyph byte) = PrintScrolls z s
+ScrollsAt z s Tab =
+    (n : ℕ) × (n < tab_blanks s.cursor.column) × PrintScrolls z (final z s (replicate n (Glyph blank)))
 ScrollsAt z s _ = ⊥
+
+-- A Tab scrolls the screen where wrap is on and its blanks reach the end of the spare row.
+abbrev pub FullTabScrolls : Type 0
+FullTabScrolls = (z : Size) (s : State) → IsWellFormed z s → s.wrap ≡ true → cell_count z ≤ tab_end z s
+    → ScrollsAt z s Tab
 
 -- the token does not scroll here, and what it writes to the screen it writes in place
 pub record WritesInPlace (z : Size) (s : State) (t : TokenKind) : Type 0 where
   pub never_scrolls : ¬ ScrollsAt z s t
   pub in_place : (step z s t).screen ≡ screen_in_place z s t
 
--- Where tokens are clean none of them scrolls, from any start: not a line feed, and not a print that wraps.
+-- Where tokens are clean none of them scrolls, from any start: not a line feed, not a print that wraps, and not a tab.
 abbrev pub CleanNeverScrolls : Type 0
 CleanNeverScrolls =
-    (z : Size) (class : Class) (tokens : List TokenKind) (k : ℕ) (t : TokenKind) → IsSize z → IsClean z class tokens
+    (z : Size) (class : Start) (tokens : List TokenKind) (k : ℕ) (t : TokenKind) → IsSize z → IsClean z class tokens
     → slice_get tokens k ≡ Some t → FromEvery z class (λ s. WritesInPlace z (final z s (take k tokens)) t)
 
 -- The tokens that good content reads as never scroll, from any start.
 abbrev pub GoodNeverScrolls : Type 0
 GoodNeverScrolls =
-    (z : Size) (class : Class) (content : List ℕ) (tokens : List TokenKind) (k : ℕ) (t : TokenKind)
+    (z : Size) (class : Start) (content : List ℕ) (tokens : List TokenKind) (k : ℕ) (t : TokenKind)
     → IsGood z class content → Reads content tokens
     → slice_get tokens k ≡ Some t → FromEvery z class (λ s. WritesInPlace z (final z s (take k tokens)) t)

@@ -1,22 +1,25 @@
--- The starts of a class, and its low and its high one.
-use Rattle.std.specs.Prelude.{◌≡◌, ◌-◌, Bool, true, false, replicate, IsTrue, if◌then◌else◌}
+-- The starts of a class, and its low and its high one. A class says which parts of a start are known to be as on the
+-- cleared screen.
+use Rattle.std.specs.Prelude.{◌≡◌, ◌-◌, true, false, replicate, IsTrue, if◌then◌else◌}
 use Rattle.ans_model.specs.Screen.State.{Size, State, at, cell, cell_count, IsWellFormed}
 use Rattle.ans_model.specs.Screen.Step.{blank_cell}
 use Rattle.ans_model.specs.declared.start.Start.{Start}
-use Rattle.ans_model.specs.declared.start.Start.TheVariants.{Any, Cleared}
 
--- which parts of a starting state are known to be as on the cleared screen
-pub record Class : Type 0 where
-  pub screen : Bool
-  pub cursor : Bool
-  pub saved : Bool
-  pub attribute : Bool
-  pub wrap : Bool
+-- of any start nothing is known
+abbrev pub none_known : Start
+none_known = record { screen = false; cursor = false; saved = false; colours = false; wrap = false }
 
--- of any start nothing is known, of the cleared one all
-abbrev pub class_of : Start → Class
-class_of Any = record { screen = false; cursor = false; saved = false; attribute = false; wrap = false }
-class_of Cleared = record { screen = true; cursor = true; saved = true; attribute = true; wrap = true }
+-- of the cleared start all is known
+abbrev pub all_known : Start
+all_known = record { screen = true; cursor = true; saved = true; colours = true; wrap = true }
+
+-- each part that is known in the first class is known in the second
+pub record Covers (a b : Start) : Type 0 where
+  pub screen : IsTrue a.screen → IsTrue b.screen
+  pub cursor : IsTrue a.cursor → IsTrue b.cursor
+  pub saved : IsTrue a.saved → IsTrue b.saved
+  pub colours : IsTrue a.colours → IsTrue b.colours
+  pub wrap : IsTrue a.wrap → IsTrue b.wrap
 
 -- blank cells of white on black, both cursors at home, wrap on (profile)
 abbrev pub cleared : Size → State
@@ -29,26 +32,26 @@ cleared z = record {
 }
 
 -- a state of the machine that is as the cleared one in each known part
-pub record IsStart (z : Size) (class : Class) (s : State) : Type 0 where
+pub record IsStart (z : Size) (class : Start) (s : State) : Type 0 where
   pub well_formed : IsWellFormed z s
   pub screen : IsTrue class.screen → s.screen ≡ (cleared z).screen
   pub cursor : IsTrue class.cursor → s.cursor ≡ (cleared z).cursor
   pub saved : IsTrue class.saved → s.saved ≡ (cleared z).saved
-  pub attribute : IsTrue class.attribute → s.attribute ≡ (cleared z).attribute
+  pub attribute : IsTrue class.colours → s.attribute ≡ (cleared z).attribute
   pub wrap : IsTrue class.wrap → s.wrap ≡ (cleared z).wrap
 
 -- the cleared state in each known part, and the other state's value elsewhere
-abbrev pub start_with : Size → Class → State → State
+abbrev pub start_with : Size → Start → State → State
 start_with z class s = record {
   screen = if class.screen then (cleared z).screen else s.screen;
   cursor = if class.cursor then (cleared z).cursor else s.cursor;
   saved = if class.saved then (cleared z).saved else s.saved;
-  attribute = if class.attribute then (cleared z).attribute else s.attribute;
+  attribute = if class.colours then (cleared z).attribute else s.attribute;
   wrap = if class.wrap then (cleared z).wrap else s.wrap;
 }
 
 -- the least value of each part that is not known
-abbrev pub low_start : Size → Class → State
+abbrev pub low_start : Size → Start → State
 low_start z class = start_with z class (record {
   screen = replicate (cell_count z) (cell 0x00 0x00);
   cursor = at 0 0;
@@ -58,7 +61,7 @@ low_start z class = start_with z class (record {
 })
 
 -- the greatest value of each part that is not known
-abbrev pub high_start : Size → Class → State
+abbrev pub high_start : Size → Start → State
 high_start z class = start_with z class (record {
   screen = replicate (cell_count z) (cell 0xFF 0xFF);
   cursor = at z.lines (z.width - 1);

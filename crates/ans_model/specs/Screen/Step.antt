@@ -1,10 +1,11 @@
 -- What one token does to the state (ANSI.SYS), and what a list of tokens does.
-use Rattle.std.specs.Prelude.{ℕ, ◌+◌, ◌-◌, ◌*◌, min, List, ◌++◌, fold, take, drop, set, replicate, if◌then◌else◌}
+use Rattle.std.specs.Prelude.{ℕ, ◌+◌, ◌-◌, ◌*◌, ◌%◌, min, List, ◌++◌, fold, take, drop, set, replicate}
+use Rattle.std.specs.Prelude.{if◌then◌else◌}
 use Rattle.std.specs.Prelude.{nat_lt, ◌==◌}
 use Rattle.ans_model.specs.Bytes.{blank}
 use Rattle.ans_model.specs.Sequence.TokenKind.{TokenKind, Glyph, BackSpace, LineFeed, CarriageReturn, Up, Down}
 use Rattle.ans_model.specs.Sequence.TokenKind.{Forward, Backward, Place, Clear, EraseLine, Save, Restore, Colours}
-use Rattle.ans_model.specs.Sequence.TokenKind.{Wrap}
+use Rattle.ans_model.specs.Sequence.TokenKind.{Wrap, Tab}
 use Rattle.ans_model.specs.Screen.Attribute.{attribute_after_all}
 use Rattle.ans_model.specs.Screen.State.{Size, State, at, cell, cell_count, index}
 use Rattle.ans_model.specs.declared.cell.Cell.{Cell}
@@ -55,6 +56,14 @@ advanced z s =
 abbrev pub printed : Size → State → ℕ → State
 printed z s byte = record s { screen = set s.screen (index z s.cursor) (cell byte s.attribute) }
 
+-- the byte is printed, and the cursor goes on
+abbrev pub put : Size → State → ℕ → State
+put z s byte = advanced z (printed z s byte)
+
+-- how many blanks a tab prints from this column: those up to the next column that 8 divides (profile)
+abbrev pub tab_blanks : ℕ → ℕ
+tab_blanks column = 8 - column % 8
+
 -- What each kind of token does; the last line has those that only move the cursor, or do nothing.
 abbrev pub step : Size → State → TokenKind → State
 step z s Clear = record s { screen = replicate (cell_count z) (blank_cell s.attribute); cursor = at 0 0 }
@@ -65,7 +74,8 @@ step z s Restore = record s { cursor = s.saved }
 step z s (Colours parameters) = record s { attribute = attribute_after_all s.attribute parameters }
 step z s (Wrap on) = record s { wrap = on }
 step z s LineFeed = line_feed z s
-step z s (Glyph byte) = advanced z (printed z s byte)
+step z s (Glyph byte) = put z s byte
+step z s Tab = fold (put z) s (replicate (tab_blanks s.cursor.column) blank)
 step z s t = record s { cursor = destination z t s.cursor }
 
 -- the state after all tokens

@@ -7,7 +7,7 @@ use Rattle.ans_model.specs.declared.fault.Cause.TheVariants.{LinesUnstated, Widt
 use Rattle.ans_model.specs.declared.fault.Cause.TheVariants.{BytesAfterEndMark, BrokenSequence, NumberTooLarge}
 use Rattle.ans_model.specs.declared.fault.Cause.TheVariants.{TooManyParameters, EndInSequence, UnknownSequence}
 use Rattle.ans_model.specs.declared.fault.Cause.TheVariants.{WrongParameters, KeyReassigned, ScreenMode, ReportAsked}
-use Rattle.ans_model.specs.declared.fault.Cause.TheVariants.{TabByte, OutsideScreen, PrintBelow, Scrolls}
+use Rattle.ans_model.specs.declared.fault.Cause.TheVariants.{OutsideScreen, PrintBelow, Scrolls}
 use Rattle.ans_model.specs.declared.fault.Cause.TheVariants.{PrintUnknownPlace, EraseUnknownPlace, MayScroll}
 use Rattle.ans_model.specs.declared.fault.Cause.TheVariants.{UnknownCell}
 use Rattle.ans_model.specs.declared.note.Note.{Note}
@@ -37,7 +37,6 @@ fault_text WrongParameters = codes "F14 wrong parameters"
 fault_text KeyReassigned = codes "F15 key reassigned"
 fault_text ScreenMode = codes "F16 screen mode set"
 fault_text ReportAsked = codes "F17 cursor report asked"
-fault_text TabByte = codes "F18 tab byte"
 fault_text OutsideScreen = codes "F19 place outside the screen"
 fault_text PrintBelow = codes "F20 print below the stated lines"
 fault_text Scrolls = codes "F21 scrolls"

@@ -1,10 +1,9 @@
 -- The text of a report.
 use Rattle.std.specs.Prelude.{ℕ, ◌+◌, ◌*◌, zero, suc, Bool, List, [], ◌∷◌, ◌++◌, map, take, drop, codes, decimal}
-use Rattle.std.specs.Prelude.{flat_map, if◌then◌else◌}
+use Rattle.std.specs.Prelude.{flat_map, if◌then◌else◌, ◌&&◌, ◌||◌}
 use Rattle.ans_model.specs.declared.fault.Fault.{Fault}
 use Rattle.ans_model.specs.declared.note.Note.{Note}
 use Rattle.ans_model.specs.declared.start.Start.{Start}
-use Rattle.ans_model.specs.declared.start.Start.TheVariants.{Any, Cleared}
 use Rattle.ans_model.specs.declared.cell.Cell.{Cell}
 use Rattle.ans_model.specs.Screen.State.{Size, cell}
 use Rattle.ans_model.specs.Verdict.Good.{Picture}
@@ -24,10 +23,22 @@ pub data ReportVerdict : Type 0 where
   Passed : (picture : Picture) (with_cells : Bool) → ReportVerdict
   RefusedFor : (fault : Fault) → ReportVerdict
 
--- the name of a class of starts
+-- a blank and the part's name, where the part is known
+abbrev pub known_part : Bool → List ℕ → List ℕ
+known_part known name = if known then codes " " ++ name else []
+
+-- the name of a class of starts: the parts that are known, in their order, where they are not all or none
 abbrev pub start_name : Start → List ℕ
-start_name Any = codes "any"
-start_name Cleared = codes "cleared"
+start_name s =
+    if s.screen && s.cursor && s.saved && s.colours && s.wrap then codes "cleared"
+    else if s.screen || s.cursor || s.saved || s.colours || s.wrap then
+    codes "known"
+    ++ (known_part s.screen (codes "screen")
+    ++ (known_part s.cursor (codes "cursor")
+    ++ (known_part s.saved (codes "saved")
+    ++ (known_part s.colours (codes "colours")
+    ++ known_part s.wrap (codes "wrap")))))
+    else codes "any"
 
 -- a width and a number of lines
 abbrev pub size_text : Size → List ℕ

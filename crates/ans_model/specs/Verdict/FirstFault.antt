@@ -10,7 +10,7 @@ use Rattle.ans_model.specs.Sequence.Spelling.{Raw, Spells, IsUnfinished, IsPrefi
 use Rattle.ans_model.specs.Sequence.Meaning.{meaning}
 use Rattle.ans_model.specs.Sequence.Reads.{SpellsToken, Reads}
 use Rattle.ans_model.specs.Screen.State.{Size, IsSize}
-use Rattle.ans_model.specs.Screen.StartClass.{Class}
+use Rattle.ans_model.specs.declared.start.Start.{Start}
 use Rattle.ans_model.specs.Verdict.TokenFault.{HasFault, IsClean}
 
 -- the text spells a sequence that is refused for its meaning
@@ -41,13 +41,13 @@ abbrev pub IsRefused : List ℕ → Cause → Type 0
 IsRefused text cause = IsRefusedByMeaning text cause ⊎ IsBroken text cause
 
 -- the text spells a token that has a fault after these tokens
-pub record IsToBlame (z : Size) (class : Class) (played : List TokenKind) (text : List ℕ) (cause : Cause) : Type 0 where
+pub record IsToBlame (z : Size) (class : Start) (played : List TokenKind) (text : List ℕ) (cause : Cause) : Type 0 where
   pub token : TokenKind
   pub spelled : SpellsToken token text
   pub fault : HasFault z class played token cause
 
 -- The fault is that of a text after a front which is read as clean tokens, at the text's first byte.
-pub record IsFirstFault (z : Size) (class : Class) (bytes : List ℕ) (fault : Fault) : Type 0 where
+pub record IsFirstFault (z : Size) (class : Start) (bytes : List ℕ) (fault : Fault) : Type 0 where
   pub size : IsSize z
   pub front : List ℕ
   pub text : List ℕ

@@ -91,7 +91,7 @@ fn a_pass_shows_the_picture(rt: HostRuntime) -> Result<(), Fail> {
         &rt,
         rt.alloc(),
         b"\x1b[?7h\x1b[0m\x1b[2JHi",
-        Start::Any,
+        Start::any(),
         false,
         b"size: 2 x 1\nstart: any\ncontent: 15 bytes\nverdict: pass\npicture:\nHi\n",
     )
@@ -103,7 +103,7 @@ fn a_pass_with_cells_ends_in_their_digits(rt: HostRuntime) -> Result<(), Fail> {
         &rt,
         rt.alloc(),
         b"Hi",
-        Start::Cleared,
+        Start::cleared(),
         true,
         b"size: 2 x 1\n\
         start: cleared\n\
@@ -118,7 +118,7 @@ fn a_pass_with_cells_ends_in_their_digits(rt: HostRuntime) -> Result<(), Fail> {
         &rt,
         rt.alloc(),
         b"\x1b[1;33;44mA\xdb",
-        Start::Cleared,
+        Start::cleared(),
         true,
         "size: 2 x 1\n\
         start: cleared\n\
@@ -138,7 +138,7 @@ fn a_refusal_tells_its_fault(rt: HostRuntime) -> Result<(), Fail> {
         &rt,
         rt.alloc(),
         b"Hi",
-        Start::Any,
+        Start::any(),
         false,
         b"size: 2 x 1\n\
         start: any\n\
@@ -157,7 +157,7 @@ fn a_refusal_without_parts_is_two_lines(rt: HostRuntime) {
     let text: &[u8] = b"verdict: refused\nat 127: F1 no SAUCE record\n";
     let report: Report<'_, PlainGrid> = Report::Refused {
         parts: None,
-        start: Start::Any,
+        start: Start::any(),
         fault,
     };
     let mut whole = room_for(256);

@@ -1,6 +1,6 @@
 use Rattle.std.proofs.Common.{◌≡◌, take}
 use Rattle.ans_model.specs.Screen.State.{sized}
-use Rattle.ans_model.specs.Screen.StartClass.{class_of}
+use Rattle.ans_model.specs.declared.start.Start.{Start}
 use Rattle.ans_answer.specs.TwoPlays.{ArePlayed}
 use Rattle.ans_answer.proofs.answer.plain_answer.Given as goal
 
@@ -8,5 +8,5 @@ use Rattle.ans_answer.proofs.answer.plain_answer.Given as goal
 abbrev pub invariant-loop-byte : goal.invariant-loop-byte
 invariant-loop-byte l = record {
   size : l.plays.size ≡ sized l.width l.lines;
-  played : ArePlayed (class_of l.fn.start) (take l.byte-index l.bytes) l.plays;
+  played : ArePlayed l.fn.start (take l.byte-index l.bytes) l.plays;
 }

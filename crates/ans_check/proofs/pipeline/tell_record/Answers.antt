@@ -1,8 +1,17 @@
-use Rattle.std.proofs.Common.{true, refl}
-use Rattle.ans_model.specs.Text.RecordText.{record_text}
+use Rattle.std.proofs.Common.{true, refl, sym, subst, List, ℕ}
+use Rattle.ans_sauce.specs.declared.parts.Parts.{Parts}
+use Rattle.ans_sauce.specs.Split.{IsSplit}
+use Rattle.ans_report.specs.RecordLines.{parts_text}
+use Rattle.ans_report.proofs.RecordLemmas.{parts_text_is}
+use Rattle.ans_check.specs.CommandText.{ReportsSauce}
 use Rattle.ans_check.proofs.ReportLemmas.{failed_too, sauce_reported}
 use Rattle.ans_check.proofs.CommandLineLemmas.{err_weaker}
 use Rattle.ans_check.proofs.pipeline.tell_record.Goals as goal
+
+-- what the parts show is what the record says
+told : (file : List ℕ) (parts : Parts) (s : IsSplit file parts) → ReportsSauce file true (parts_text parts)
+told file parts s = subst (λ (text : List ℕ). ReportsSauce file true text) (sym (parts_text_is s.apart parts s.shows))
+    (sauce_reported file parts s)
 
 pub returns-in_err-write_record-in-Ok-clause-device : goal.returns-in_err-write_record-in-Ok-clause-device
 returns-in_err-write_record-in-Ok-clause-device g c =
@@ -13,15 +22,15 @@ returns-in_err-write_record-in-Ok-clause-prefix g c =
     let s = c.in-Ok.ensures.ok in
     err_weaker c.from_residual.result _ _ c.from_residual.ensures.1 (λ e is. (
       true,
-      record_text s.apart,
-      sauce_reported c.args.file.now c.in-Ok.parts s,
-      c.in_err-write_record-in-Ok.ensures.of_record s.apart s.shows,
+      parts_text c.in-Ok.parts,
+      told c.args.file.now c.in-Ok.parts s,
+      c.in_err-write_record-in-Ok.ensures.bytes,
     ))
 
 pub returns-in_ok-write_record-in-Ok-clause-ok : goal.returns-in_ok-write_record-in-Ok-clause-ok
 returns-in_ok-write_record-in-Ok-clause-ok g c =
     let s = c.in-Ok.ensures.ok in (
-      record_text s.apart,
-      sauce_reported c.args.file.now c.in-Ok.parts s,
-      c.in_ok-write_record-in-Ok.ensures.of_record s.apart s.shows,
+      parts_text c.in-Ok.parts,
+      told c.args.file.now c.in-Ok.parts s,
+      c.in_ok-write_record-in-Ok.ensures.bytes,
     )

@@ -2,7 +2,6 @@ use Rattle.std.proofs.Common.{List, ℕ, take, drop, ◌∙◌, ap, sym, subst}
 use Rattle.std.proofs.lemmas.Result.{IfOk-weaker}
 use Rattle.std.specs.Slice.Iter.{chunks_rest}
 use Rattle.ans_model.specs.Screen.State.{Size}
-use Rattle.ans_model.specs.Screen.StartClass.{class_of}
 use Rattle.ans_model.specs.Verdict.Good.{Picture, GoodWith}
 use Rattle.ans_model.specs.declared.fault.Fault.{Fault}
 use Rattle.ans_model.specs.declared.start.Start.{Start}
@@ -56,8 +55,8 @@ returns-clause-good g c =
     c.in-None.ensures.steps.1.0 here.fed in
     let stands : Stands old content = subst (λ (v : List ℕ). Stands old v) all here.stands in
     IfOk-weaker c.finish.result _ _ (λ (p : Picture) good.
-    subst (λ (z : Size). GoodWith z (class_of c.args.player.start) content p) here.same.size
-    (subst (λ (s : Start). GoodWith old.size (class_of s) content p) here.same.start good))
+    subst (λ (z : Size). GoodWith z c.args.player.start content p) here.same.size
+    (subst (λ (s : Start). GoodWith old.size s content p) here.same.start good))
     (c.finish.ensures.finished content stands).good
 
 pub returns-clause-refused : goal.returns-clause-refused

@@ -1,7 +1,7 @@
 use Rattle.std.proofs.Common.{refl, ap, ◌∙◌, arith}
 use Rattle.ans_model.specs.Inside.MachineView.{MachineView}
 use Rattle.ans_model.specs.Screen.State.{IsPlayableSize}
-use Rattle.ans_model.specs.Screen.StartClass.{class_of}
+use Rattle.ans_model.specs.declared.start.Start.{Start}
 use Rattle.ans_answer.proofs.Played.{played_none}
 use Rattle.ans_answer.proofs.two_plays.TwoPlays.new.Goals as goal
 
@@ -11,6 +11,6 @@ returns c =
     rw (ap (λ (m : MachineView). m.size) (c.drop.view_is ∙ c.in_ok-low.ensures)) at c.drop.invariant.size in (
       refl,
       rw (c.in_ok-low.ensures, c.in_ok-high.ensures, c.new.ensures)
-          (played_none c.args.size (class_of c.args.start)
+          (played_none c.args.size c.args.start
           (record { some_columns = omega (arith, size.some_columns); some_lines = omega (arith, size.some_lines) })),
     )

@@ -4,6 +4,7 @@ use Rattle.ans_model.specs.Bytes.{IsByte}
 use Rattle.ans_screen.specs.GridEdits.{printed_run}
 use Rattle.ans_play.specs.PlayView.{IsByteHalfCell}
 use Rattle.ans_play.proofs.GlyphRuns.{is_run, room_on_screen, printed_bytes, All-written, run_goes_on}
+use Rattle.ans_play.proofs.GlyphRuns.{longest_run}
 use Rattle.ans_play.proofs.play.Play.print_run.Goals as goal
 
 pub write_run-requires : goal.write_run-requires
@@ -55,3 +56,13 @@ returns-then-count-gt0-clause-printed g c =
     (c.if-not-is_between_tokens.ensures.0 refl)
     run.glyphs c.self.invariant.cells c.glyphs-count.ensures.taken
     (rw c.width.ensures.width at c.write_run.ensures.cells))
+
+pub returns-then-count-gt0-clause-longest : goal.returns-then-count-gt0-clause-longest
+returns-then-count-gt0-clause-longest g c =
+    longest_run c.args.self.now c.args.bytes.now c.columns_before_last-columns.result c.min.result c.glyphs-count.result
+    c.columns_before_last-columns.ensures c.min.ensures c.glyphs-count.ensures.front
+
+pub returns-else-count-gt0-clause-longest : goal.returns-else-count-gt0-clause-longest
+returns-else-count-gt0-clause-longest g c =
+    longest_run c.args.self.now c.args.bytes.now c.columns_before_last-columns.result c.min.result c.glyphs-count.result
+    c.columns_before_last-columns.ensures c.min.ensures c.glyphs-count.ensures.front

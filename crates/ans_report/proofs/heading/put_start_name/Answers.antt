@@ -1,0 +1,13 @@
+use Rattle.std.proofs.Common.{rules, ◌≡◌}
+use Rattle.ans_model.specs.Screen.StartClass.{none_known, all_known}
+use Rattle.ans_report.proofs.PutsLemmas.{Puts-same, Puts-then}
+use Rattle.ans_report.proofs.StartNames.{name_of_parts}
+use Rattle.ans_report.proofs.heading.put_start_name.Goals as goal
+
+pub returns : goal.returns
+returns g c =
+    let some : c.args.start ≡ none_known → ⊥ = search rules in
+    let missing : c.args.start ≡ all_known → ⊥ = search rules in
+    Puts-same (name_of_parts c.args.start some missing) (Puts-then c.put-2.ensures (Puts-then c.put_known_part.ensures
+    (Puts-then c.put_known_part-2.ensures (Puts-then c.put_known_part-3.ensures
+    (Puts-then c.put_known_part-4.ensures c.put_known_part-5.ensures)))))

@@ -1,0 +1,123 @@
+//! The lines of a report before its verdict, class by class.
+use crate::WriteFault;
+use crate::heading::put_heading;
+use crate::outbox::Outbox;
+use crate::tests::{assert_held, assert_stopped, failing_after, room_for};
+use ans_model::start::Start;
+use ans_samples::sample_file;
+use ans_sauce::{Parts, split};
+use std::process::Abort;
+use std::test::Fail;
+
+/// The class in which no part is known.
+const ANY: Start = Start {
+    screen: false,
+    cursor: false,
+    saved: false,
+    colours: false,
+    wrap: false,
+};
+
+/// The class in which each part is known.
+const CLEARED: Start = Start {
+    screen: true,
+    cursor: true,
+    saved: true,
+    colours: true,
+    wrap: true,
+};
+
+/// The class in which the cursor and the colours are known.
+const CURSOR_AND_COLOURS: Start = Start {
+    cursor: true,
+    colours: true,
+    ..ANY
+};
+
+/// A class of starts, and the heading of `Hi` on 2 columns and 1 line.
+static HEADINGS: [(Start, &[u8]); 11] = [
+    (ANY, b"size: 2 x 1\nstart: any\ncontent: 2 bytes\n"),
+    (CLEARED, b"size: 2 x 1\nstart: cleared\ncontent: 2 bytes\n"),
+    (
+        Start {
+            screen: true,
+            ..ANY
+        },
+        b"size: 2 x 1\nstart: known screen\ncontent: 2 bytes\n",
+    ),
+    (
+        Start {
+            cursor: true,
+            ..ANY
+        },
+        b"size: 2 x 1\nstart: known cursor\ncontent: 2 bytes\n",
+    ),
+    (
+        Start { saved: true, ..ANY },
+        b"size: 2 x 1\nstart: known saved\ncontent: 2 bytes\n",
+    ),
+    (
+        Start {
+            colours: true,
+            ..ANY
+        },
+        b"size: 2 x 1\nstart: known colours\ncontent: 2 bytes\n",
+    ),
+    (
+        Start { wrap: true, ..ANY },
+        b"size: 2 x 1\nstart: known wrap\ncontent: 2 bytes\n",
+    ),
+    (
+        CURSOR_AND_COLOURS,
+        b"size: 2 x 1\nstart: known cursor colours\ncontent: 2 bytes\n",
+    ),
+    (
+        Start {
+            wrap: false,
+            ..CLEARED
+        },
+        b"size: 2 x 1\nstart: known screen cursor saved colours\ncontent: 2 bytes\n",
+    ),
+    (
+        Start {
+            screen: false,
+            ..CLEARED
+        },
+        b"size: 2 x 1\nstart: known cursor saved colours wrap\ncontent: 2 bytes\n",
+    ),
+    (
+        Start {
+            saved: false,
+            ..CLEARED
+        },
+        b"size: 2 x 1\nstart: known screen cursor colours wrap\ncontent: 2 bytes\n",
+    ),
+];
+
+/// Asserts the heading that a device gets which takes all, and one that fails at each of the calls.
+fn expect_heading(rt: &impl Abort, parts: &Parts<'_>, start: Start, text: &[u8]) {
+    let mut whole = room_for(128);
+    let mut out = Outbox::new(&mut whole);
+    put_heading(&mut out, parts, start);
+    assert_eq!(rt; out.finish(), Ok(()));
+    assert_held(rt, whole, text);
+    for taken in 0..text.len() {
+        let mut device = failing_after(taken);
+        let mut out = Outbox::new(&mut device);
+        put_heading(&mut out, parts, start);
+        assert_eq!(rt; out.finish(), Err(WriteFault));
+        assert_stopped(rt, device, &text[..taken]);
+    }
+}
+
+#[test]
+fn headings_name_the_start(rt: HostRuntime) -> Result<(), Fail> {
+    let file = sample_file(rt.alloc(), b"Hi\x1a", &[])?;
+    let Ok(parts) = split(&file) else {
+        panic!(rt; "the sample is refused");
+    };
+    for (start, text) in &HEADINGS {
+        expect_heading(&rt, &parts, *start, text);
+    }
+    Ok(())
+}
