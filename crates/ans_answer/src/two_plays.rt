@@ -10,6 +10,7 @@ use ans_model::kind::Kind;
 use ans_model::machine::Machine;
 use ans_model::size::Size;
 use ans_model::start::Start;
+use ans_model::tab::tab_blanks;
 use ans_tokens::Scanner;
 use std::alloc::{AllocError, Global};
 use std::marker::Model;
@@ -173,7 +174,7 @@ impl TwoPlays {
         if !self.is_one_position() {
             return Err(Cause::PrintUnknownPlace);
         }
-        let blanks = 8 - self.low.cursor().column % 8;
+        let blanks = tab_blanks(self.low.cursor().column);
         for _ in 0..blanks {
             if let Some(cause) = self.fault_of_print() {
                 return Err(cause);

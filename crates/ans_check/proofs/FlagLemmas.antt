@@ -9,7 +9,7 @@ use Rattle.clap.specs.Words.{Row, Text, subcommand_of}
 use Rattle.ans_model.specs.declared.start.Start.{Start}
 use Rattle.ans_model.specs.Screen.StartClass.{none_known}
 use Rattle.ans_check.specs.declared.command.Command.{Command}
-use Rattle.ans_check.specs.declared.command.Command.TheVariants.{Check, Sauce, Tokens}
+use Rattle.ans_check.specs.declared.command.Command.TheVariants.{Check, Sauce, Tokens, Needs}
 use Rattle.ans_check.specs.declared.command.Options.{Options}
 use Rattle.ans_check.specs.CommandLine.{AreOptionsOf, AsksFor, KnowsAsHeld, anscheck, command_name}
 use Rattle.ans_check.specs.CommandLine.{file_rule, holds_flag}
@@ -36,9 +36,12 @@ no_flag_met words met e other =
       | inl check ↦ absurd (other (name_met check))
       | inr others ↦ elim others [
         | inl sauce ↦ subst HoldsNoFlag (ap (λ (q : Text × List Row). q.1) sauce) (file_holds_no_flag found.0)
-        | inr last ↦ elim last [
+        | inr later ↦ elim later [
           | inl tokens ↦ subst HoldsNoFlag (ap (λ (q : Text × List Row). q.1) tokens) (file_holds_no_flag found.0)
-          | inr never ↦ absurd never
+          | inr last ↦ elim last [
+            | inl needs ↦ subst HoldsNoFlag (ap (λ (q : Text × List Row). q.1) needs) (file_holds_no_flag found.0)
+            | inr never ↦ absurd never
+          ]
         ]
       ]
     ]
@@ -51,6 +54,9 @@ named_check Sauce e =
     absurd (omega arith)
 named_check Tokens e =
     let bad : ◌≡◌ {A = ℕ} 116 99 = ap (λ t. slice_index t 0) e in
+    absurd (omega arith)
+named_check Needs e =
+    let bad : ◌≡◌ {A = ℕ} 110 99 = ap (λ t. slice_index t 0) e in
     absurd (omega arith)
 
 -- a class by its parts

@@ -7,6 +7,8 @@ use Rattle.ans_model.specs.File.Layout.{FileParts}
 use Rattle.ans_model.specs.File.Refusals.{record_fault}
 use Rattle.ans_model.specs.Text.RecordText.{record_text}
 use Rattle.ans_model.specs.Text.TokensText.{TokensText}
+use Rattle.ans_model.specs.Screen.StartClass.{all_known}
+use Rattle.ans_model.specs.Text.NeedsText.{NeedsHeading, needs_text, needs_refusal_text}
 use Rattle.ans_model.specs.Text.ReportText.{Heading, Passed, RefusedFor, refusal_text, report_text}
 use Rattle.ans_model.specs.Screen.State.{sized}
 use Rattle.ans_model.specs.declared.fault.Fault.{Fault}
@@ -14,7 +16,10 @@ use Rattle.ans_model.specs.declared.start.Start.{Start}
 use Rattle.ans_sauce.specs.declared.parts.Parts.{Parts}
 use Rattle.ans_sauce.specs.Parts.{ShowsParts, content_of, width_of, lines_of}
 use Rattle.ans_sauce.specs.Split.{IsSplit}
-use Rattle.ans_report.specs.Headings.{heading_of}
+use Rattle.ans_report.specs.Headings.{heading_of, needs_heading_of}
+use Rattle.ans_report.specs.NeedsBytes.{needs_bytes, needs_refused_text}
+use Rattle.ans_report.specs.declared.needs_text.NeedsReport.{NeedsReport}
+use Rattle.ans_report.specs.declared.needs_text.NeedsReport.TheVariants as needs_report
 use Rattle.ans_report.specs.ReportBytes.{IsFitting, refused_text, report_bytes}
 use Rattle.ans_report.specs.declared.report.Report.{Report}
 use Rattle.ans_report.specs.declared.report.Report.TheVariants as report
@@ -23,10 +28,15 @@ use Rattle.ans_check.specs.declared.reading.ReadFault.{ReadFault}
 use Rattle.ans_check.specs.declared.reading.ReadFault.TheVariants as fault
 use Rattle.ans_check.specs.declared.errors.RunError.{RunError}
 use Rattle.ans_check.specs.declared.errors.RunError.TheVariants.{TooLong, Memory, Write}
+use Rattle.ans_check.specs.declared.verdict.Needs.{Needs}
+use Rattle.ans_check.specs.declared.verdict.Needs.TheVariants as needs
 use Rattle.ans_check.specs.declared.verdict.Verdict.{Verdict}
 use Rattle.ans_check.specs.declared.verdict.Verdict.TheVariants.{Pass, Refused}
+use Rattle.ans_check.specs.FileNeeds.{NeedsClass, IsNeedsOf, IsLeastClass}
 use Rattle.ans_check.specs.FileVerdict.{Passes, IsRefusedFor, IsVerdictOn, IsPass, IsGoodFile}
 use Rattle.ans_check.specs.CommandText.{heading, ReportsPass, ReportsFault, ReportsRecordFault, ReportsCheck}
+use Rattle.ans_check.specs.CommandText.{needs_heading, ReportsLeast, ReportsNeedsFault, ReportsNeeds}
+use Rattle.ans_check.specs.CommandText.{IsNeedsReportOf, is_least}
 use Rattle.ans_check.specs.CommandText.{ReportsRecord, ReportsContent, ReportsTokens, IsReportOf, is_pass}
 
 -- the heading of a file's parts
@@ -151,3 +161,47 @@ tokens_reported file parts bytes None false text s same t e = absurd (true≢fal
 tokens_reported file parts bytes (Some f) true text s same t e = absurd (true≢false e)
 tokens_reported file parts bytes (Some f) false text s same t e = inl
     (f, content_reported file parts bytes (Some f) text s same t)
+
+-- the heading of a file's needs
+needs_heading_is : (apart : FileParts) (parts : Parts) → ShowsParts apart parts
+    → needs_heading_of parts ≡ needs_heading apart
+needs_heading_is apart parts h = rw (h.content, h.width, h.lines, h.notes)
+
+-- a class is told after the heading of its parts
+least_reported : (file : List ℕ) (apart : FileParts) (parts : Parts) (class : Start) → ShowsParts apart parts
+    → NeedsClass file apart class → ReportsLeast file (needs_text (needs_heading_of parts) class)
+least_reported file apart parts class shows h = record {
+  apart = apart;
+  class = class;
+  needs = h;
+  text_is = ap (λ (v : NeedsHeading). needs_text v class) (needs_heading_is apart parts shows);
+}
+
+-- so is the fault from the cleared start
+needs_fault_reported : (file : List ℕ) (apart : FileParts) (parts : Parts) (f : Fault) → ShowsParts apart parts
+    → IsRefusedFor file all_known apart f → ReportsNeedsFault file (needs_refusal_text (needs_heading_of parts) f)
+needs_fault_reported file apart parts f shows h = record {
+  apart = apart;
+  fault = f;
+  refused = h;
+  text_is = ap (λ (v : NeedsHeading). needs_refusal_text v f) (needs_heading_is apart parts shows);
+}
+
+-- what holds of two values holds of values equal to them
+of_two_equals : {A B : Type 0} (P : A → B → Type 0) {a x : A} {b y : B} → a ≡ x → b ≡ y → P x y → P a b
+of_two_equals P p q h = rw (p, q) h
+
+-- the report that tells what a file needs reports on it
+pub needs_reported : (file : List ℕ) (n : Needs) (r : NeedsReport) → IsNeedsReportOf n r → IsNeedsOf file n
+    → (IsGoodFile file all_known → IsLeastClass n) → ReportsNeeds file (is_least n) (needs_bytes r)
+needs_reported file (needs.Least parts class) (needs_report.Least told found) (p, s) h good =
+    of_two_equals (λ (v : Parts) (c : Start). ReportsLeast file (needs_text (needs_heading_of v) c))
+    p s (least_reported file h.0 parts class h.1 h.2)
+needs_reported file (needs.Refused (Some parts) f) (needs_report.Refused told fault) (p, same) h good =
+    of_two_equals (λ (v : Option Parts) (why : Fault). ReportsNeeds file false (needs_refused_text v why))
+    p same (good, inl (needs_fault_reported file h.0 parts f h.1 h.2))
+needs_reported file (needs.Refused None f) (needs_report.Refused told fault) (p, same) h good =
+    of_two_equals (λ (v : Option Parts) (why : Fault). ReportsNeeds file false (needs_refused_text v why))
+    p same (good, inr (record_reported file f h))
+needs_reported file (needs.Least parts class) (needs_report.Refused told fault) never h good = absurd never
+needs_reported file (needs.Refused parts f) (needs_report.Least told found) never h good = absurd never

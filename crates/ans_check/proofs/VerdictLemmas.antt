@@ -1,7 +1,8 @@
 -- What a split and a play say of a file.
-use Rattle.std.proofs.Common.{◌≡◌, ℕ, Bool, true, false, List, [], ◌∷◌, subst, inl, inr, ◌⊎◌, Some, None, ap₂, ◌∙◌}
-use Rattle.std.proofs.Common.{if◌then◌else◌}
-use Rattle.std.specs.Prelude.{IfSome, IsSome}
+use Rattle.std.proofs.Common.{◌≡◌, ℕ, Bool, true, false, List, [], ◌∷◌, subst, inl, inr, ◌⊎◌, Some, None, ap₂}
+use Rattle.std.proofs.Common.{if◌then◌else◌, not, refl, sym, true≢false}
+use Rattle.std.specs.Prelude.{IfSome, IsSome, Result, Ok, Err, IfOk, IfErr, IsTrue, ◌↔◌}
+use Rattle.std.specs.Result.{is_ok}
 use Rattle.std.specs.List.{AllByRecursion}
 use Rattle.ans_model.specs.File.Layout.{FileParts, content}
 use Rattle.ans_model.specs.File.Refusals.{Refusal, fault_at, first_refusal, file_refusals, record_fault}
@@ -10,57 +11,79 @@ use Rattle.ans_model.specs.Screen.State.{Size, sized}
 use Rattle.ans_model.specs.Verdict.Good.{Picture, GoodWith, IsGood}
 use Rattle.ans_model.specs.Verdict.FirstFault.{IsFirstFault}
 use Rattle.ans_model.specs.Verdict.LastFault.{IsLastFault}
+use Rattle.ans_model.specs.Verdict.Needs.{IsLeast}
 use Rattle.ans_model.specs.declared.fault.Fault.{Fault}
 use Rattle.ans_model.specs.declared.start.Start.{Start}
 use Rattle.ans_model.proofs.OneAnswer.{good_or_first, good_or_last}
 use Rattle.ans_model.proofs.AcceptedFiles.{one_layout, no_fault}
 use Rattle.ans_sauce.specs.declared.parts.Parts.{Parts}
-use Rattle.ans_sauce.specs.Parts.{ShowsParts, content_of, width_of, lines_of}
+use Rattle.ans_sauce.specs.Parts.{ShowsParts, content_of}
 use Rattle.ans_sauce.specs.Split.{IsSplit}
-use Rattle.ans_check.specs.FileVerdict.{Deserves, Passes, IsRefusedFor, IsGoodFile, stated_size}
+use Rattle.ans_check.specs.FileNeeds.{NeedsClass}
+use Rattle.ans_check.specs.FileVerdict.{Deserves, Passes, IsRefusedFor, IsGoodFile, parts_size, stated_size}
 
--- what is so of a play on the parts' size and content is so on the file's
-so_of_file : (file : List ℕ) (start from : Start) (parts : Parts) (z : Size) (bytes : List ℕ) (s : IsSplit file parts)
-    (P : Size → Start → List ℕ → Type 0)
-    → z ≡ sized (width_of parts) (lines_of parts) → from ≡ start → bytes ≡ content_of parts → P z from bytes
-    → P (stated_size s.apart) start (content s.apart.body)
-so_of_file file start from parts z bytes s P size same played h =
-    let here : z ≡ stated_size s.apart = size ∙ ap₂ sized s.shows.width s.shows.lines in
-    let text : bytes ≡ content s.apart.body = played ∙ s.shows.content in
-    subst (λ (v : Size). P v start (content s.apart.body)) here
-    (subst (λ (v : Start). P z v (content s.apart.body)) same (subst (P z from) text h))
+-- what is so of a play is so of equal sizes, starts and contents
+so_of_same : (P : Size → Start → List ℕ → Type 0) (a b : Size) (from start : Start) (played content : List ℕ)
+    → a ≡ b → from ≡ start → played ≡ content → P a from played → P b start content
+so_of_same P a b from start played content size same text h =
+    subst (λ (v : Size). P v start content) size
+    (subst (λ (v : Start). P a v content) same (subst (P a from) text h))
 
--- where the play of the parts' content is good, the file passes
-pub passes : (file : List ℕ) (start from : Start) (parts : Parts) (z : Size) (bytes : List ℕ) (p : Picture)
-    (s : IsSplit file parts)
-    → z ≡ sized (width_of parts) (lines_of parts) → from ≡ start → bytes ≡ content_of parts
-    → GoodWith z from bytes p
+-- what is so of a good end
+pub ok_of_parts : {T : Type 0} {a b : Size} {from start : Start} {played content : List ℕ} (r : Result T Fault)
+    (P : Size → Start → List ℕ → T → Type 0) → a ≡ b → from ≡ start → played ≡ content
+    → IfOk r (P a from played) → IfOk r (P b start content)
+ok_of_parts {T} {a} {b} {from} {start} {played} {content} (Ok v) P size same text h =
+    so_of_same (λ z s bytes. P z s bytes v) a b from start played content size same text h
+ok_of_parts (Err f) P size same text h = tt
+
+-- and of a fault
+pub err_of_parts : {T : Type 0} {a b : Size} {from start : Start} {played content : List ℕ} (r : Result T Fault)
+    (P : Size → Start → List ℕ → Fault → Type 0) → a ≡ b → from ≡ start → played ≡ content
+    → IfErr r (P a from played) → IfErr r (P b start content)
+err_of_parts (Ok v) P size same text h = tt
+err_of_parts {T} {a} {b} {from} {start} {played} {content} (Err f) P size same text h =
+    so_of_same (λ z s bytes. P z s bytes f) a b from start played content size same text h
+
+-- what is so of the parts' size and content is so of the file's
+so_of_file : (file : List ℕ) (parts : Parts) (s : IsSplit file parts) (P : Size → List ℕ → Type 0)
+    → P (parts_size parts) (content_of parts) → P (stated_size s.apart) (content s.apart.body)
+so_of_file file parts s P h =
+    subst (λ (v : Size). P v (content s.apart.body)) (ap₂ sized s.shows.width s.shows.lines)
+    (subst (P (parts_size parts)) s.shows.content h)
+
+-- where the parts' content is good, the file passes
+pub passes : (file : List ℕ) (start : Start) (parts : Parts) (p : Picture) → IsSplit file parts
+    → GoodWith (parts_size parts) start (content_of parts) p
     → (apart : FileParts) × ShowsParts apart parts × Passes file start apart p
-passes file start from parts z bytes p s size same played h = (
+passes file start parts p s h = (
   s.apart,
   s.shows,
-  record {
-    accepts = s.accepts;
-    good = so_of_file file start from parts z bytes s (λ v w x. GoodWith v w x p) size same played h;
-  },
+  record { accepts = s.accepts; good = so_of_file file parts s (λ z bytes. GoodWith z start bytes p) h },
 )
 
 -- where the parts' content deserves a fault, the file is refused for it
-pub refuses : (file : List ℕ) (start from : Start) (parts : Parts) (z : Size) (bytes : List ℕ) (f : Fault)
-    (s : IsSplit file parts)
-    → z ≡ sized (width_of parts) (lines_of parts) → from ≡ start → bytes ≡ content_of parts → Deserves z from bytes f
+pub refuses : (file : List ℕ) (start : Start) (parts : Parts) (f : Fault) → IsSplit file parts
+    → Deserves (parts_size parts) start (content_of parts) f
     → (apart : FileParts) × ShowsParts apart parts × IsRefusedFor file start apart f
-refuses file start from parts z bytes f s size same played h = (
+refuses file start parts f s h = (
   s.apart,
   s.shows,
-  record {
-    accepts = s.accepts;
-    deserved = so_of_file file start from parts z bytes s (λ v w x. Deserves v w x f) size same played h;
-  },
+  record { accepts = s.accepts; deserved = so_of_file file parts s (λ z bytes. Deserves z start bytes f) h },
+)
+
+-- where a class is least for the parts' content, it is so for the file's
+pub needs_class : (file : List ℕ) (parts : Parts) (class : Start) → IsSplit file parts
+    → IsLeast (parts_size parts) (content_of parts) class
+    → (apart : FileParts) × ShowsParts apart parts × NeedsClass file apart class
+needs_class file parts class s h = (
+  s.apart,
+  s.shows,
+  record { accepts = s.accepts; least = so_of_file file parts s (λ z bytes. IsLeast z bytes class) h },
 )
 
 -- a good content deserves no fault
-not_good : (z : Size) (start : Start) (bytes : List ℕ) (f : Fault) → Deserves z start bytes f
+pub not_good : (z : Size) (start : Start) (bytes : List ℕ) (f : Fault) → Deserves z start bytes f
     → IsGood z start bytes → ⊥
 not_good z start bytes f d good = go d.deserved
   where
@@ -104,3 +127,16 @@ certain_first (r ∷ rs) h = here r.applies (certain_first rs h.1)
 pub record_certain : (file : List ℕ) (f : Fault) → record_fault file ≡ Some f → IsCertain f.cause
 record_certain file f e =
     rw e at (certain_first (file_refusals file) (tt, (tt, (tt, (tt, (tt, (tt, (tt, (tt, tt)))))))))
+
+-- a play that ends well tells that the content is good, and one that ends in a fault that it is not
+pub good_or_deserves : (z : Size) (start : Start) (bytes : List ℕ) (r : Result Picture Fault) (good : Bool)
+    → good ≡ is_ok r → IfOk r (GoodWith z start bytes) → IfErr r (Deserves z start bytes)
+    → IsTrue good ↔ IsGood z start bytes
+good_or_deserves z start bytes (Ok picture) good told with refused = (λ _. (picture, with), λ _. told)
+good_or_deserves z start bytes (Err f) good told with refused =
+    (λ ok. absurd (cc), λ shows. absurd (not_good z start bytes f refused shows))
+
+-- a part is not needed exactly where the content is good without it
+pub unneeded : {P : Type 0} (good : Bool) → IsTrue good ↔ P → (not good ≡ false) ↔ P
+unneeded true told = (λ _. told.0 refl, λ p. refl)
+unneeded false told = (λ e. absurd (true≢false e), λ p. absurd (true≢false (sym (told.1 p))))

@@ -12,7 +12,7 @@ use Rattle.ans_model.specs.declared.start.Start.{Start}
 use Rattle.ans_check.specs.declared.command_line.WordsError.{WordsError}
 use Rattle.ans_check.specs.declared.command_line.WordsError.TheVariants as words_error
 use Rattle.ans_check.specs.declared.command.Command.{Command}
-use Rattle.ans_check.specs.declared.command.Command.TheVariants.{Check, Sauce, Tokens}
+use Rattle.ans_check.specs.declared.command.Command.TheVariants.{Check, Sauce, Tokens, Needs}
 use Rattle.ans_check.specs.declared.command.Options.{Options}
 
 -- the words, as texts
@@ -53,6 +53,10 @@ sauce_app = file_app (codes "sauce")
 abbrev pub tokens_app : App
 tokens_app = file_app (codes "tokens")
 
+-- `needs [FILE]`
+abbrev pub needs_app : App
+needs_app = file_app (codes "needs")
+
 -- `anscheck`, which wants a subcommand and has no subcommand `help`
 abbrev pub anscheck_top : App
 anscheck_top = let a = new_app (codes "anscheck") in
@@ -60,13 +64,17 @@ anscheck_top = let a = new_app (codes "anscheck") in
 
 -- the program's command line
 abbrev pub anscheck : App
-anscheck = with_subcommand (with_subcommand (with_subcommand anscheck_top check_app.top) sauce_app.top) tokens_app.top
+anscheck =
+    with_subcommand
+    (with_subcommand (with_subcommand (with_subcommand anscheck_top check_app.top) sauce_app.top) tokens_app.top)
+    needs_app.top
 
 -- the subcommand of each command
 abbrev pub command_name : Command → Text
 command_name Check = codes "check"
 command_name Sauce = codes "sauce"
 command_name Tokens = codes "tokens"
+command_name Needs = codes "needs"
 
 -- no command has this name
 abbrev pub IsNoCommand : Text → Type 0

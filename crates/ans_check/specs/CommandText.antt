@@ -6,6 +6,8 @@ use Rattle.ans_model.specs.File.Refusals.{Accepts, record_fault}
 use Rattle.ans_model.specs.Verdict.Good.{Picture}
 use Rattle.ans_model.specs.Text.RecordText.{record_text}
 use Rattle.ans_model.specs.Text.TokensText.{TokensText}
+use Rattle.ans_model.specs.Screen.StartClass.{all_known}
+use Rattle.ans_model.specs.Text.NeedsText.{NeedsHeading, needs_text, needs_refusal_text}
 use Rattle.ans_model.specs.Text.ReportText.{Heading, Passed, RefusedFor, refusal_text, report_text}
 use Rattle.ans_model.specs.declared.fault.Fault.{Fault}
 use Rattle.ans_model.specs.declared.start.Start.{Start}
@@ -13,10 +15,15 @@ use Rattle.std.specs.Option.{option_copied}
 use Rattle.ans_report.specs.declared.report.Report.{Report}
 use Rattle.ans_report.specs.declared.report.Report.TheVariants as report
 use Rattle.ans_check.specs.declared.command.Command.{Command}
-use Rattle.ans_check.specs.declared.command.Command.TheVariants.{Check, Sauce, Tokens}
+use Rattle.ans_check.specs.declared.command.Command.TheVariants.{Check, Sauce, Tokens, Needs}
 use Rattle.ans_check.specs.declared.command.Options.{Options}
+use Rattle.ans_report.specs.declared.needs_text.NeedsReport.{NeedsReport}
+use Rattle.ans_report.specs.declared.needs_text.NeedsReport.TheVariants as needs_report
+use Rattle.ans_check.specs.declared.verdict.Needs.TheVariants as needs
+use Rattle.ans_check.specs.declared.verdict.Needs as found
 use Rattle.ans_check.specs.declared.verdict.Verdict.{Verdict}
 use Rattle.ans_check.specs.declared.verdict.Verdict.TheVariants.{Pass, Refused}
+use Rattle.ans_check.specs.FileNeeds.{NeedsClass}
 use Rattle.ans_check.specs.FileVerdict.{Passes, IsRefusedFor, IsGoodFile, stated_size}
 
 -- what a report says of a file before its verdict
@@ -76,11 +83,40 @@ abbrev pub ReportsTokens : List ℕ → Bool → List ℕ → Type 0
 ReportsTokens file true text = ReportsContent file None text
 ReportsTokens file false text = ((fault : Fault) × ReportsContent file (Some fault) text) ⊎ ReportsRecordFault file text
 
+-- what is said of a file before what it needs
+abbrev pub needs_heading : FileParts → NeedsHeading
+needs_heading apart = record {
+  size = stated_size apart;
+  content_length = length (content apart.body);
+  notes = notes apart.body apart.record_bytes;
+}
+
+-- the file needs the parts that this class knows, and the text says so
+pub record ReportsLeast (file text : List ℕ) : Type 0 where
+  pub apart : FileParts
+  pub class : Start
+  pub needs : NeedsClass file apart class
+  pub text_is : text ≡ needs_text (needs_heading apart) class
+
+-- the file's content deserves a fault even from the cleared start, and the text tells it
+pub record ReportsNeedsFault (file text : List ℕ) : Type 0 where
+  pub apart : FileParts
+  pub fault : Fault
+  pub refused : IsRefusedFor file all_known apart fault
+  pub text_is : text ≡ needs_refusal_text (needs_heading apart) fault
+
+-- What the file needs is told; or it is not good even from the cleared start, and why is told.
+abbrev pub ReportsNeeds : List ℕ → Bool → List ℕ → Type 0
+ReportsNeeds file true text = ReportsLeast file text
+ReportsNeeds file false text = ¬ IsGoodFile file all_known
+    × (ReportsNeedsFault file text ⊎ ReportsRecordFault file text)
+
 -- whether the file passes and the text are what the command is to write of it
 abbrev pub ReportsBy : Command → Start → Bool → List ℕ → Bool → List ℕ → Type 0
 ReportsBy Check start cells file passed text = ReportsCheck file start cells passed text
 ReportsBy Sauce start cells file passed text = ReportsSauce file passed text
 ReportsBy Tokens start cells file passed text = ReportsTokens file passed text
+ReportsBy Needs start cells file passed text = ReportsNeeds file passed text
 
 -- whether the file passes and the text are what the options ask of it
 abbrev pub Reports : Options → List ℕ → Bool → List ℕ → Type 0
@@ -98,3 +134,16 @@ IsReportOf (Pass parts picture) start cells (report.Pass told told_start told_pi
 IsReportOf (Refused parts fault) start cells (report.Refused told told_start told_fault) =
     (option_copied told ≡ parts) × (told_start ≡ start) × (told_fault ≡ fault)
 IsReportOf _ start cells _ = ⊥
+
+-- whether a class was found
+abbrev pub is_least : found.Needs → Bool
+is_least (needs.Least parts class) = true
+is_least (needs.Refused parts fault) = false
+
+-- the report tells what was found
+abbrev pub IsNeedsReportOf : found.Needs → NeedsReport → Type 0
+IsNeedsReportOf (needs.Least parts class) (needs_report.Least told told_class) =
+    (told.now ≡ parts) × (told_class ≡ class)
+IsNeedsReportOf (needs.Refused parts fault) (needs_report.Refused told told_fault) =
+    (option_copied told ≡ parts) × (told_fault ≡ fault)
+IsNeedsReportOf _ _ = ⊥

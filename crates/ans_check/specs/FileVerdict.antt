@@ -12,13 +12,18 @@ use Rattle.ans_model.specs.Verdict.Certain.{IsCertain}
 use Rattle.ans_model.specs.Verdict.TwoStarts.{IsShownByTwoStarts}
 use Rattle.ans_model.specs.declared.fault.Fault.{Fault}
 use Rattle.ans_model.specs.declared.start.Start.{Start}
-use Rattle.ans_sauce.specs.Parts.{ShowsParts}
+use Rattle.ans_sauce.specs.Parts.{ShowsParts, width_of, lines_of}
+use Rattle.ans_sauce.specs.declared.parts.Parts.{Parts}
 use Rattle.ans_check.specs.declared.verdict.Verdict.{Verdict}
 use Rattle.ans_check.specs.declared.verdict.Verdict.TheVariants.{Pass, Refused}
 
 -- the size that a file's record states
 abbrev pub stated_size : FileParts → Size
 stated_size apart = sized (stated_width apart.record_bytes) (stated_lines apart.record_bytes)
+
+-- the same by a program's parts
+abbrev pub parts_size : Parts → Size
+parts_size parts = sized (width_of parts) (lines_of parts)
 
 -- The fault is the content's first; where no token has one, it is the last. From the cleared start it is certain. Where
 -- it depends on the start, the plays from the low and the high start of the class show it.

@@ -11,6 +11,8 @@ pub enum Command {
     Sauce,
     /// Writes the tokens of its content, or why the file is refused for its record or its layout.
     Tokens,
+    /// Writes which parts of the start its content needs to be known, or why the file is refused.
+    Needs,
 }
 
 /// What the command line asks for.

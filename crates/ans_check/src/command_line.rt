@@ -140,6 +140,11 @@ fn program<'a>(alloc: Global) -> Result<clap::Command<'a>, AllocError>
         "tokens",
         "Print the bytes and the escape sequences of a file's content, one a line",
     )?;
+    let needs = file_command(
+        alloc,
+        "needs",
+        "Print which parts of the start a file's content needs to be known",
+    )?;
     clap::Command::new(alloc, "anscheck")
         .about("Checks ANSI art files that end in a SAUCE record")
         .after_help(STATUSES)
@@ -147,7 +152,8 @@ fn program<'a>(alloc: Global) -> Result<clap::Command<'a>, AllocError>
         .disable_help_subcommand(true)
         .subcommand(check)?
         .subcommand(sauce)?
-        .subcommand(tokens)
+        .subcommand(tokens)?
+        .subcommand(needs)
 }
 
 /// Whether the flag was given.
@@ -166,6 +172,7 @@ fn command_named(name: &str) -> Option<Command>
         "check" => Some(Command::Check),
         "sauce" => Some(Command::Sauce),
         "tokens" => Some(Command::Tokens),
+        "needs" => Some(Command::Needs),
         _ => None,
     }
 }
@@ -240,10 +247,10 @@ fn read_matches(
 }
 
 /// Reads the options and the file from the program's words, its own name first: `anscheck check`
-/// with its flags and `[FILE]`, `anscheck sauce [FILE]` or `anscheck tokens [FILE]`. A part of the
-/// start is known where its flag is given, as `--known-cursor`, or `--cleared`, and cells are asked
-/// for where `--cells` is. With `sauce` and `tokens`, which take no flags, nothing is known and no
-/// cells are asked for.
+/// with its flags and `[FILE]`, `anscheck sauce [FILE]`, `anscheck tokens [FILE]` or
+/// `anscheck needs [FILE]`. A part of the start is known where its flag is given, as
+/// `--known-cursor`, or `--cleared`, and cells are asked for where `--cells` is. With the commands
+/// that take no flags nothing is known and no cells are asked for.
 ///
 /// Fails only where `clap` rejects the words, where they ask for help, and where memory runs out.
 pub fn options(alloc: Global, words: &[&str]) -> Result<(Options, Option<String>), WordsError>

@@ -1,10 +1,11 @@
 //! The checker from bytes to bytes, and what its command line asks for.
 //!
-//! [`check`] finds the verdict on a file, [`run`] reads a file and writes what a command tells of
-//! it, and [`serve`] does so from an input to an output. [`options`] reads the command line, and
-//! [`Ending`] is how the program ends: its exit status and what it says. What a verdict says of a
-//! file stands in `specs/FileVerdict.antt`, what each command writes in `specs/CommandText.antt`, and
-//! the endings in `specs/Ending.antt`.
+//! [`check`] finds the verdict on a file and [`needs`] which parts of the start it needs, [`run`]
+//! reads a file and writes what a command tells of it, and [`serve`] does so from an input to an
+//! output. [`options`] reads the command line, and [`Ending`] is how the program ends: its exit
+//! status and what it says. What a verdict says of a file stands in `specs/FileVerdict.antt`, what
+//! its needs say in `specs/FileNeeds.antt`, what each command writes in `specs/CommandText.antt`,
+//! and the endings in `specs/Ending.antt`.
 #![tactic(auto)]
 
 mod command;
@@ -12,6 +13,7 @@ mod command_line;
 mod errors;
 mod exit_status;
 pub mod laws;
+mod parts_needed;
 mod pipeline;
 mod reading;
 mod streams;
@@ -22,9 +24,10 @@ pub use command::{Command, Options};
 pub use command_line::{WordsError, options};
 pub use errors::RunError;
 pub use exit_status::{Ending, status};
+pub use parts_needed::needs;
 pub use pipeline::run;
 pub use streams::serve;
-pub use verdict::{Verdict, check};
+pub use verdict::{Needs, Verdict, check};
 
 #[cfg(test)]
 mod tests;

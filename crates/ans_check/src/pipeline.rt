@@ -6,19 +6,22 @@ ghost use Rattle.ans_model.specs.Bytes.{longest_file};
 ghost use Rattle.ans_report.specs.Tried.{call_count, has_failed, inner_of};
 ghost use Rattle.ans_report.specs.Writes.{Wrote, WrotePrefix};
 ghost use Rattle.ans_check.specs.CommandText.{Reports, ReportsCheck, ReportsSauce, ReportsTokens, IsReportOf, is_pass};
+ghost use Rattle.ans_check.specs.CommandText.{ReportsNeeds, IsNeedsReportOf, is_least};
 ghost use Rattle.ans_check.specs.Run.{HasRead};
 
 use crate::command::{Command, Options};
 use crate::errors::RunError;
+use crate::parts_needed::needs;
 use crate::reading::read_all;
-use crate::verdict::{Verdict, check};
+use crate::verdict::{Needs, Verdict, check};
 use ans_model::start::Start;
 use ans_report::{
-    Report, Tried, WriteFault, write_record, write_refusal, write_report, write_tokens,
+    NeedsReport, Report, Tried, WriteFault, write_needs, write_record, write_refusal, write_report,
+    write_tokens,
 };
 use ans_sauce::split;
 use ans_screen::{Grid, PlainGrid};
-use std::alloc::Global;
+use std::alloc::{AllocError, Global};
 use std::io::{Read, Write};
 
 /// The report that tells a verdict.
@@ -123,6 +126,52 @@ fn tell_tokens<W: Write>(writer: &mut Tried<W>, file: &[u8]) -> Result<bool, Wri
     }
 }
 
+/// The report that tells what a file needs.
+fn needs_report_of<'a>(found: &'a Needs<'a>) -> NeedsReport<'a>
+    ensures { IsNeedsReportOf found.now result }
+{
+    match found {
+        Needs::Least(parts, class) => NeedsReport::Least {
+            parts,
+            class: *class,
+        },
+        Needs::Refused(parts, fault) => NeedsReport::Refused {
+            parts: parts.as_ref(),
+            fault: *fault,
+        },
+    }
+}
+
+/// Whether a least class was found.
+fn is_least(found: &Needs<'_>) -> bool
+    ensures { result ≡ is_least found.now }
+{
+    matches!(found, Needs::Least(_, _))
+}
+
+/// Writes what a file needs, or why it is refused. Returns whether it is known what it needs.
+fn tell_needs<W: Write>(alloc: Global, writer: &mut Tried<W>, file: &[u8]) -> Result<bool, RunError>
+    requires works { has_failed writer.old ≡ false }
+    requires length { length file.now ≤ longest_file }
+    ensures ok { IfOk result (λ passed. (text : List ℕ)
+        × ReportsNeeds file.now passed text
+        × Wrote W.contents writer.old writer.new text) }
+    ensures prefix { IsErrOf result RunError.Write → (
+        (passed : Bool) × (text : List ℕ)
+        × ReportsNeeds file.now passed text
+        × WrotePrefix W.contents writer.old writer.new text) }
+    ensures unwritten { IfErr result (λ e. e ≢ RunError.Write → writer.new ≡ writer.old) }
+    ensures write { IsErrOf result RunError.Write ↔ IsTrue (has_failed writer.new) }
+    ensures errors { IfErr result (λ e. (e ≡ RunError.Memory) ⊎ (e ≡ RunError.Write)) }
+{
+    let found = match needs::<PlainGrid>(alloc, file) {
+        Ok(found) => found,
+        Err(AllocError) => return Err(RunError::Memory),
+    };
+    write_needs(writer, &needs_report_of(&found))?;
+    Ok(is_least(&found))
+}
+
 /// Runs the chosen command on a file. Returns whether the file passes.
 fn run_command<W: Write>(
     alloc: Global,
@@ -147,19 +196,22 @@ fn run_command<W: Write>(
         Command::Check => report(alloc, writer, file, options.start, options.cells)?,
         Command::Sauce => tell_record(writer, file)?,
         Command::Tokens => tell_tokens(writer, file)?,
+        Command::Needs => tell_needs(alloc, writer, file)?,
     };
     Ok(passed)
 }
 
 /// Reads the whole input, and writes what the options ask of it: the report of a check, the text of
-/// the record (SAUCE 00.5), or the tokens of the content. Where the record or the layout is refused,
-/// F1 to F8, the two lines of the refusal are written instead. `Ok` says whether the file passes: a
-/// check finds its content good, its record is accepted, or all of its content is read as tokens.
+/// the record (SAUCE 00.5), the tokens of the content, or what the content needs. Where the record
+/// or the layout is refused, F1 to F8, the two lines of the refusal are written instead. `Ok` says
+/// whether the file passes: a check finds its content good, its record is accepted, all of its
+/// content is read as tokens, or its content is good from the cleared start, so that it is known
+/// what it needs.
 ///
 /// `Read` comes exactly where the reader failed in the call, `Write` exactly where the writer did,
-/// and `TooLong` as soon as more than 16,777,216 bytes were read. `Memory` comes where memory runs out
-/// for the file or, in a check, for its screen. After `Write` a prefix of the text was written, and after any
-/// other error nothing. It makes at most 16,777,218 reads.
+/// and `TooLong` as soon as more than 16,777,216 bytes were read. `Memory` comes where memory runs
+/// out for the file or, where its content is played, for its screen. After `Write` a prefix of the
+/// text was written, and after any other error nothing. It makes at most 16,777,218 reads.
 pub fn run<R: Read, W: Write>(
     alloc: Global,
     reader: &mut Tried<R>,

@@ -7,6 +7,7 @@ mod command_line;
 mod devices;
 mod endings;
 mod large;
+mod needs;
 mod records;
 mod reports;
 mod token_lists;
@@ -64,6 +65,11 @@ const SAUCE: Options = Options {
 
 const TOKENS: Options = Options {
     command: Command::Tokens,
+    ..ANY
+};
+
+const NEEDS: Options = Options {
+    command: Command::Needs,
     ..ANY
 };
 

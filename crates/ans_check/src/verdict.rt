@@ -1,13 +1,14 @@
 //! What the checker finds of a file.
-ghost use Rattle.std.specs.Prelude.{◌≡◌, ◌≤◌, length, [], None, IsOk, IsSome, IfOk, IfErr};
+ghost use Rattle.std.specs.Prelude.{◌≡◌, ◌↔◌, ◌≤◌, length, [], None, IsOk, IsSome, IsTrue, IfOk, IfErr};
 ghost use Rattle.ans_model.specs.Bytes.{longest_file};
 ghost use Rattle.ans_model.specs.declared.start.Start.{Start};
-ghost use Rattle.ans_model.specs.Verdict.Good.{GoodWith};
+ghost use Rattle.ans_model.specs.Verdict.Good.{GoodWith, IsGood};
 ghost use Rattle.ans_model.specs.Screen.StartClass.{all_known};
 ghost use Rattle.ans_model.specs.File.Refusals.{record_fault};
 ghost use Rattle.ans_play.specs.Stands.{Stands};
+ghost use Rattle.ans_sauce.specs.Parts.{content_of};
 ghost use Rattle.ans_check.specs.FileVerdict.{Deserves, IsVerdictOn, IsPass, IsGoodFile, HasOffsetWithin};
-ghost use Rattle.ans_check.specs.FileVerdict.{HasCertainFault};
+ghost use Rattle.ans_check.specs.FileVerdict.{HasCertainFault, parts_size};
 
 use ans_model::start::Start;
 use ans_play::{Picture, Player};
@@ -27,6 +28,17 @@ pub enum Verdict<'a, G: Grid> {
     Refused(Option<Parts<'a>>, Fault),
 }
 
+/// What a file needs.
+#[derive(Drop)]
+pub enum Needs<'a> {
+    /// The least class of starts: the content passes from exactly the classes that know each part
+    /// which this one knows.
+    Least(Parts<'a>, Start),
+    /// The file is refused even from the cleared start. There are no parts where its record or its
+    /// layout is.
+    Refused(Option<Parts<'a>>, Fault),
+}
+
 /// Plays the content in pieces, on a player to which nothing is fed yet.
 fn play_content<G: Grid>(mut player: Player<G>, content: &[u8]) -> Result<Picture<G>, Fault>
     requires length { length content.now ≤ longest_file }
@@ -40,6 +52,40 @@ fn play_content<G: Grid>(mut player: Player<G>, content: &[u8]) -> Result<Pictur
         player.feed(piece)?;
     }
     player.finish()
+}
+
+/// Plays the parts' content from the starts of a class, up to its first fault.
+///
+/// Fails only if memory runs out.
+pub(crate) fn play<G: Grid>(
+    alloc: Global,
+    parts: &Parts<'_>,
+    start: Start,
+) -> Result<Result<Picture<G>, Fault>, AllocError>
+    requires { length (content_of parts.now) ≤ longest_file }
+    ensures good { IfOk result (λ end. IfOk end
+        (GoodWith (parts_size parts.now) start (content_of parts.now))) }
+    ensures refused { IfOk result (λ end. IfErr end
+        (Deserves (parts_size parts.now) start (content_of parts.now))) }
+{
+    let player = Player::new(alloc, parts.width(), parts.lines(), start)?;
+    Ok(play_content(player, parts.content()))
+}
+
+/// Whether the parts' content is good for a class of starts.
+///
+/// Fails only if memory runs out.
+pub(crate) fn passes_from<G: Grid>(
+    alloc: Global,
+    parts: &Parts<'_>,
+    start: Start,
+) -> Result<bool, AllocError>
+    requires { length (content_of parts.now) ≤ longest_file }
+    ensures { IfOk result (λ good. IsTrue good
+        ↔ IsGood (parts_size parts.now) start (content_of parts.now)) }
+{
+    let end = play::<G>(alloc, parts, start)?;
+    Ok(end.is_ok())
 }
 
 /// Checks a file: the record first, and then the play of its content from the starts of a class.
@@ -62,8 +108,8 @@ pub fn check<G: Grid>(
         Ok(parts) => parts,
         Err(fault) => return Ok(Verdict::Refused(None, fault)),
     };
-    let player = Player::new(alloc, parts.width(), parts.lines(), start)?;
-    match play_content(player, parts.content()) {
+    let end = play(alloc, &parts, start)?;
+    match end {
         Ok(picture) => Ok(Verdict::Pass(parts, picture)),
         Err(fault) => Ok(Verdict::Refused(Some(parts), fault)),
     }

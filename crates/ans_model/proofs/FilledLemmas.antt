@@ -47,9 +47,9 @@ module _ {A : Type 0} where
       ∙ slice_get-replicate (j - i) x (k - i) (omega arith)
 
   -- filling leaves the elements after it
-  pub filled_behind : (xs : List A) (i j : ℕ) (x : A) (k : ℕ) → i ≤ j → j ≤ k → j ≤ length xs
+  pub filled_after : (xs : List A) (i j : ℕ) (x : A) (k : ℕ) → i ≤ j → j ≤ k → j ≤ length xs
       → slice_get (filled xs i j x) k ≡ slice_get xs k
-  filled_behind xs i j x k h le l =
+  filled_after xs i j x k h le l =
       let whole : length (take i xs ++ replicate (j - i) x) ≡ j = length-range xs i j x h l in
       let at_k : k ≡ length (take i xs ++ replicate (j - i) x) + (k - j) = omega (arith, whole) in
       let back : j + (k - j) ≡ k = omega arith in
@@ -62,7 +62,7 @@ module _ {A : Type 0} where
   filled_none xs i x = let none : i - i ≡ 0 = omega arith in
       rw (none, append-nil (take i xs)) (take-append-drop i xs)
 
-  -- filling goes on behind the first element that is set
+  -- filling goes on after the first element that is set
   pub filled_from_set : (xs : List A) (i j : ℕ) (x : A) → i < length xs → i < j
       → filled (set xs i x) (suc i) j x ≡ filled xs i j x
   filled_from_set [] i j x l h = absurd (omega arith)

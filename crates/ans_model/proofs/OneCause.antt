@@ -97,8 +97,10 @@ one_of_two_print_causes : (z : Size) (class : Start) (played : List TokenKind) (
     → ((d ≡ PrintUnknownPlace) × PositionsDiffer z class played) ⊎ ((d ≡ PrintBelow) × SamePosition z class played)
     → c ≡ d
 one_of_two_print_causes z class played c d (inl h) (inl g) = h.0 ∙ sym g.0
-one_of_two_print_causes z class played c d (inl h) (inr g) = absurd (not_same_and_different_position z class played h.1 g.1)
-one_of_two_print_causes z class played c d (inr h) (inl g) = absurd (not_same_and_different_position z class played g.1 h.1)
+one_of_two_print_causes z class played c d (inl h) (inr g) =
+    absurd (not_same_and_different_position z class played h.1 g.1)
+one_of_two_print_causes z class played c d (inr h) (inl g) =
+    absurd (not_same_and_different_position z class played g.1 h.1)
 one_of_two_print_causes z class played c d (inr h) (inr g) = h.0 ∙ sym g.0
 
 one_print_cause : (z : Size) (class : Start) (played : List TokenKind) (c d : Cause) → HasPrintFault z class played c

@@ -15,7 +15,7 @@ use Rattle.ans_model.specs.Laws.StepLaws.{IdleChangesNothing, ClearsScreen, IsEr
 use Rattle.ans_model.specs.Laws.StepLaws.{NextPosition, GlyphPrints, GlyphScrolls, LineFeedMovesDown, IsScrolled}
 use Rattle.ans_model.specs.Laws.StepLaws.{LineFeedScrolls, IsPrinted, IsPrintedAndScrolled}
 use Rattle.ans_model.specs.Laws.MoveLaws.{IsLastColumn}
-use Rattle.ans_model.proofs.FilledLemmas.{filled_before, filled_within, filled_behind}
+use Rattle.ans_model.proofs.FilledLemmas.{filled_before, filled_within, filled_after}
 use Rattle.ans_model.proofs.Slices.{slice_get-append_left, slice_get-append_right, slice_get-set_same}
 use Rattle.ans_model.proofs.Slices.{slice_get-set_other, slice_get-drop, slice_get-replicate}
 use Rattle.ans_model.proofs.PositionLemmas.{same_position, row_le, row_start, row_end_le, index-lt, index-lt_row}
@@ -63,7 +63,7 @@ erased_kept z s p h on outside =
       | inl less ↦ filled_before s.screen (index z s.cursor) (next_row_start z s.cursor) (blank_cell s.attribute)
           (index z p) begins fits less
       | inr more ↦ elim (cases_lt s.cursor.row p.row) [
-        | inl below ↦ filled_behind s.screen (index z s.cursor) (next_row_start z s.cursor) (blank_cell s.attribute)
+        | inl below ↦ filled_after s.screen (index z s.cursor) (next_row_start z s.cursor) (blank_cell s.attribute)
             (index z p) begins (omega (arith, ends, row_le z s.cursor.row p.row below)) fits
         | inr above ↦ elim (cases_lt p.row s.cursor.row) [
           | inl higher ↦ absurd (omega (arith, index-lt_row z p s.cursor on.1 higher))

@@ -1,4 +1,4 @@
--- What a tab does, as the play of so many printed blanks.
+-- What a tab does, as the play of its printed blanks.
 use Rattle.std.proofs.Common.{◌≡◌, inl, inr, ℕ, zero, suc, fold, ◌+◌, ◌-◌, ◌*◌, ◌/◌, ◌%◌, ◌<◌, ◌≤◌, min, Bool, true}
 use Rattle.std.proofs.Common.{false, refl, sym, ap, ◌∙◌, arith, List, [], ◌∷◌, ◌++◌, length, set}
 use Rattle.std.proofs.Common.{replicate, Some, lit<}
@@ -18,13 +18,13 @@ use Rattle.ans_model.specs.Verdict.TokenFault.{then_blanks}
 use Rattle.ans_model.specs.Laws.MoveLaws.{IsLastColumn}
 use Rattle.ans_model.specs.Laws.StepLaws.{OnlyScreenAndCursor, TabPrintsBlanks, TabBlanksCells, IsAfterTab, tab_end}
 use Rattle.ans_model.specs.Laws.StepLaws.{IsTabbed, FullTabScrolls, ScrollsAt, PrintScrolls, screen_in_place}
-use Rattle.ans_model.proofs.FilledLemmas.{filled_none, filled_from_set, filled_before, filled_within, filled_behind}
+use Rattle.ans_model.proofs.FilledLemmas.{filled_none, filled_from_set, filled_before, filled_within, filled_after}
 use Rattle.ans_model.proofs.PositionLemmas.{index-lt, index-lt_stated, row_start, row_end_le}
 use Rattle.ans_model.proofs.StepLemmas.{line_feed_is}
 use Rattle.ans_model.proofs.WellFormed.{fits_after_put}
 
 -- ---- blanks as tokens
--- printing blanks is playing so many Glyphs of them
+-- printing n blanks is playing n Glyphs of them
 pub blanks_are_glyphs : (z : Size) (s : State) (n : ℕ)
     → fold (put z) s (replicate n blank) ≡ final z s (replicate n (Glyph blank))
 blanks_are_glyphs z s zero = refl
@@ -118,7 +118,7 @@ pub record IsFilledTo (z : Size) (s : State) (end : ℕ) (t : State) : Type 0 wh
   pub screen : t.screen ≡ filled s.screen (index z s.cursor) end (blank_cell s.attribute)
   pub others : OnlyScreenAndCursor s t
 
--- what is filled behind a blank is filled from it on
+-- what is filled after a blank is filled from it on
 filled_from_blank : (z : Size) (s p t : State) (end : ℕ) → FitsScreen z s → HasMoved z s p → index z s.cursor < end
     → IsFilledTo z p end t → IsFilledTo z s end t
 filled_from_blank z s p t end h moved less rest = record {
@@ -141,7 +141,7 @@ nothing_filled z s = record {
   others = record { saved = refl; attribute = refl; wrap = refl };
 }
 
--- so many cells are blank, and the cursor stands behind them
+-- n cells are blank, and the cursor stands after them
 pub record HasWrapped (z : Size) (s : State) (n : ℕ) (t : State) : Type 0 where
   pub filled_to : IsFilledTo z s (index z s.cursor + n) t
   pub on_screen : IsOnScreen z t.cursor
@@ -166,7 +166,7 @@ blanks_with_wrap z s (suc n) h on room =
       index_is = rest.index_is ∙ end;
     }
 
--- the cells are blank, at most to the row's end, and the cursor stands behind them or in the last column
+-- the cells are blank, at most to the row's end, and the cursor stands after them or in the last column
 pub record HasStopped (z : Size) (s : State) (n : ℕ) (t : State) : Type 0 where
   pub filled_to : IsFilledTo z s (min (index z s.cursor + n) (next_row_start z s.cursor)) t
   pub cursor : t.cursor ≡ at s.cursor.row (min (s.cursor.column + n) (z.width - 1))
@@ -266,7 +266,7 @@ tab_fills z s h room = elim (cases_Bool s.wrap) [
       (blanks_without_wrap z s (tab_blanks s.cursor.column) h off).filled_to
 ]
 
--- a tab ends at its cursor or behind it, and on the screen
+-- a tab ends at its cursor or after it, and on the screen
 tab_bounds : (z : Size) (s : State) → FitsScreen z s → (s.wrap ≡ true → tab_end z s < cell_count z)
     → (index z s.cursor ≤ tab_end z s) × (tab_end z s ≤ length s.screen)
 tab_bounds z s h room = elim (cases_Bool s.wrap) [
@@ -299,8 +299,8 @@ tab_blanks_cells z s h room = after s.wrap refl
           (tab_bounds z s h.fits room).0 (tab_bounds z s h.fits room).1 before
       | inr not_before ↦ elim (cases_lt (index z p) (tab_end z s)) [
         | inl inside ↦ absurd (outside (not_before, inside))
-        | inr behind ↦ filled_behind s.screen (index z s.cursor) (tab_end z s) (blank_cell s.attribute) (index z p)
-            (tab_bounds z s h.fits room).0 behind (tab_bounds z s h.fits room).1
+        | inr after ↦ filled_after s.screen (index z s.cursor) (tab_end z s) (blank_cell s.attribute) (index z p)
+            (tab_bounds z s h.fits room).0 after (tab_bounds z s h.fits room).1
       ]
     ])
 

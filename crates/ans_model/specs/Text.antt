@@ -3,5 +3,6 @@ pub mod Characters
 pub mod Hexadecimal
 pub mod FaultText
 pub mod ReportText
+pub mod NeedsText
 pub mod RecordText
 pub mod TokensText

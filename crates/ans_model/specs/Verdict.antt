@@ -5,3 +5,4 @@ pub mod FirstFault
 pub mod LastFault
 pub mod Certain
 pub mod TwoStarts
+pub mod Needs

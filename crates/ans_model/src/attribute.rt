@@ -1,7 +1,8 @@
 //! What colour parameters do to an attribute.
 
 ghost use Rattle.std.specs.Prelude.{◌≡◌, Some, None, MatchOption, ◌+◌, ◌<◌, ◌^◌};
-ghost use Rattle.ans_model.specs.Screen.Attribute.{attribute_after, attribute_after_all, rendition, rendition_of};
+ghost use Rattle.ans_model.specs.Screen.Attribute.{attribute_after, attribute_after_all, rendition};
+ghost use Rattle.ans_model.specs.Screen.Attribute.{rendition_of};
 ghost use Rattle.ans_model.specs.Screen.Attribute.{renditions};
 
 /// The bits of an attribute that a parameter keeps, and those that it sets.

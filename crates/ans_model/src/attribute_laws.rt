@@ -1,8 +1,11 @@
 //! What the table of colour parameters does to an attribute's fields.
 
-ghost use Rattle.ans_model.specs.Laws.AttributeLaws.{ResetsAttribute, SetsBright, SetsBlue, SetsBlink};
-ghost use Rattle.ans_model.specs.Laws.AttributeLaws.{SetsBlackOnWhite, SetsBlackOnBlack, SetsForeground};
-ghost use Rattle.ans_model.specs.Laws.AttributeLaws.{SetsBackground, OthersChangeNothing, NoneChangeNothing};
+ghost use Rattle.ans_model.specs.Laws.AttributeLaws.{ResetsAttribute, SetsBright, SetsBlue};
+ghost use Rattle.ans_model.specs.Laws.AttributeLaws.{SetsBlink};
+ghost use Rattle.ans_model.specs.Laws.AttributeLaws.{SetsBlackOnWhite, SetsBlackOnBlack};
+ghost use Rattle.ans_model.specs.Laws.AttributeLaws.{SetsForeground};
+ghost use Rattle.ans_model.specs.Laws.AttributeLaws.{SetsBackground, OthersChangeNothing};
+ghost use Rattle.ans_model.specs.Laws.AttributeLaws.{NoneChangeNothing};
 ghost use Rattle.ans_model.specs.Laws.AttributeLaws.{EachAfterTheOthers};
 
 /// Each line of the table sets some fields and keeps the others. A number without a line changes

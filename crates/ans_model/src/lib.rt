@@ -20,5 +20,6 @@ pub mod size;
 pub mod start;
 pub mod start_laws;
 pub mod step_laws;
+pub mod tab;
 pub mod text_examples;
 pub mod text_laws;

@@ -13,6 +13,7 @@ use crate::cell::{Cell, Position};
 use crate::kind::Kind;
 use crate::size::Size;
 use crate::start::Start;
+use crate::tab::tab_blanks;
 use std::alloc::{AllocError, Global};
 use std::marker::Model;
 
@@ -78,7 +79,8 @@ impl Machine {
 
     /// A byte at the cursor, which then goes on.
     fn print(&mut self, byte: u8)
-        ensures { self.new ≡ machine_view self.old.size (step self.old.size self.old.state (Glyph byte)) }
+        ensures { self.new
+            ≡ machine_view self.old.size (step self.old.size self.old.state (Glyph byte)) }
     {
         let at = self.cursor.row * self.size.width() + self.cursor.column;
         self.screen[at] = Cell {
@@ -97,7 +99,7 @@ impl Machine {
     fn tab(&mut self)
         ensures { self.new ≡ machine_view self.old.size (step self.old.size self.old.state Tab) }
     {
-        let blanks = 8 - self.cursor.column % 8;
+        let blanks = tab_blanks(self.cursor.column);
         for _ in 0..blanks {
             self.print(BLANK);
         }
@@ -105,7 +107,8 @@ impl Machine {
 
     /// The cursor's cell and those right of it become blank.
     fn erase_line(&mut self)
-        ensures { self.new ≡ machine_view self.old.size (step self.old.size self.old.state EraseLine) }
+        ensures { self.new
+            ≡ machine_view self.old.size (step self.old.size self.old.state EraseLine) }
     {
         let at = self.cursor.row * self.size.width() + self.cursor.column;
         let end = (self.cursor.row + 1) * self.size.width();
@@ -173,7 +176,8 @@ impl Machine {
     /// Tokens, one after the other.
     pub fn play(&mut self, kinds: &[Kind])
         ensures { self.new
-            ≡ machine_view self.old.size (final self.old.size self.old.state (map shown_kind kinds.now)) }
+            ≡ machine_view self.old.size
+            (final self.old.size self.old.state (map shown_kind kinds.now)) }
     {
         for kind in kinds {
             self.step(kind);
@@ -197,8 +201,9 @@ impl Machine {
 }
 
 impl Machine {
-    /// The start of a class in which each part that is not known has the value given: `byte` each
-    /// byte and attribute, `corner` both cursors.
+    /// The start of a class in which each part that is not known has the value given: `byte` is
+    /// each byte and attribute, `corner` both cursors, and `wrap` whether wrap is on. It fails only
+    /// if memory runs out.
     fn from_class(
         alloc: Global,
         size: Size,
@@ -234,16 +239,16 @@ impl Machine {
         })
     }
 
-    /// The low start of a class: each part that is not known has its least value. Where each part is
-    /// known, this is the cleared state.
+    /// The low start of a class: each part that is not known has its least value. Where each part
+    /// is known, this is the cleared state. It fails only if memory runs out.
     pub fn low(alloc: Global, size: Size, start: Start) -> Result<Machine, AllocError>
         ensures { IfOk result (λ m. m ≡ machine_view size (low_start size start)) }
     {
         Machine::from_class(alloc, size, start, 0x00, HOME, false)
     }
 
-    /// The high start of a class: each part that is not known has its greatest value. Where each part
-    /// is known, this is the cleared state.
+    /// The high start of a class: each part that is not known has its greatest value. Where each
+    /// part is known, this is the cleared state. It fails only if memory runs out.
     pub fn high(alloc: Global, size: Size, start: Start) -> Result<Machine, AllocError>
         ensures { IfOk result (λ m. m ≡ machine_view size (high_start size start)) }
     {
@@ -254,7 +259,7 @@ impl Machine {
         Machine::from_class(alloc, size, start, 0xFF, last, true)
     }
 
-    /// The cleared state.
+    /// The cleared state. It fails only if memory runs out.
     pub fn cleared(alloc: Global, size: Size) -> Result<Machine, AllocError>
         ensures { IfOk result (λ m. m ≡ machine_view size (cleared size)) }
     {

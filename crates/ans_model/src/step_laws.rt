@@ -1,13 +1,20 @@
 //! Laws of the machine: what each line of the table of steps changes and what it leaves.
 
-ghost use Rattle.ans_model.specs.Laws.MoveLaws.{MovesChangeCursor, UpGoesUp, DownGoesDown, ForwardGoesRight};
-ghost use Rattle.ans_model.specs.Laws.MoveLaws.{BackwardGoesLeft, BackSpaceGoesLeft, ReturnGoesToFirstColumn};
-ghost use Rattle.ans_model.specs.Laws.MoveLaws.{RestoreGoesToSaved, PlacesCursor, PlaceStopsAtEdges, DownUndoesUp};
+ghost use Rattle.ans_model.specs.Laws.MoveLaws.{MovesChangeCursor, UpGoesUp, DownGoesDown};
+ghost use Rattle.ans_model.specs.Laws.MoveLaws.{ForwardGoesRight};
+ghost use Rattle.ans_model.specs.Laws.MoveLaws.{BackwardGoesLeft, BackSpaceGoesLeft};
+ghost use Rattle.ans_model.specs.Laws.MoveLaws.{ReturnGoesToFirstColumn};
+ghost use Rattle.ans_model.specs.Laws.MoveLaws.{RestoreGoesToSaved, PlacesCursor};
+ghost use Rattle.ans_model.specs.Laws.MoveLaws.{PlaceStopsAtEdges, DownUndoesUp};
 ghost use Rattle.ans_model.specs.Laws.MoveLaws.{ForwardUndoesBackward};
-ghost use Rattle.ans_model.specs.Laws.StepLaws.{OnePositionAnIndex, SavesCursor, ColoursChangeAttribute};
-ghost use Rattle.ans_model.specs.Laws.StepLaws.{WrapChangesWrap, IdleChangesNothing, ClearsScreen, ErasesLine};
-ghost use Rattle.ans_model.specs.Laws.StepLaws.{GlyphPrints, GlyphScrolls, LineFeedMovesDown, LineFeedScrolls};
-ghost use Rattle.ans_model.specs.Laws.StepLaws.{TabPrintsBlanks, TabBlanksCells, FullTabScrolls, StepsAreWellFormed};
+ghost use Rattle.ans_model.specs.Laws.StepLaws.{OnePositionAnIndex, SavesCursor};
+ghost use Rattle.ans_model.specs.Laws.StepLaws.{ColoursChangeAttribute};
+ghost use Rattle.ans_model.specs.Laws.StepLaws.{WrapChangesWrap, IdleChangesNothing, ClearsScreen};
+ghost use Rattle.ans_model.specs.Laws.StepLaws.{ErasesLine};
+ghost use Rattle.ans_model.specs.Laws.StepLaws.{GlyphPrints, GlyphScrolls, LineFeedMovesDown};
+ghost use Rattle.ans_model.specs.Laws.StepLaws.{LineFeedScrolls};
+ghost use Rattle.ans_model.specs.Laws.StepLaws.{TabPrintsBlanks, TabBlanksCells, FullTabScrolls};
+ghost use Rattle.ans_model.specs.Laws.StepLaws.{StepsAreWellFormed};
 ghost use Rattle.ans_model.specs.Laws.StepLaws.{CleanNeverScrolls, GoodNeverScrolls};
 
 /// Two positions of the screen have two indices.
@@ -60,8 +67,8 @@ pub fn glyphs_print()
     ensures scrolls { GlyphScrolls }
 {}
 
-/// A Tab is the play of its blanks: they change the cells from the cursor on, and the cursor goes
-/// behind them. Where wrap is on and they reach the end of the spare row, the screen scrolls.
+/// A Tab is the play of its blanks: they change the cells from the cursor on, and the cursor then
+/// stands after them. Where wrap is on and they reach the end of the spare row, the screen scrolls.
 pub fn tabs_print_blanks()
     ensures blanks { TabPrintsBlanks }
     ensures cells { TabBlanksCells }

@@ -2,15 +2,17 @@
 
 ghost use Rattle.std.specs.Prelude.{◌≡◌, ◌++◌, [], ◌∷◌, codes, replicate, true, false, Some, None};
 ghost use Rattle.ans_model.specs.Bytes.{end_mark};
-ghost use Rattle.ans_model.specs.Sequence.TokenKind.{Bell, BackSpace, LineFeed, CarriageReturn, Glyph, Up, Down};
-ghost use Rattle.ans_model.specs.Sequence.TokenKind.{Forward, Backward, Place, Clear, EraseLine, Save, Restore};
+ghost use Rattle.ans_model.specs.Sequence.TokenKind.{Bell, BackSpace, LineFeed, CarriageReturn};
+ghost use Rattle.ans_model.specs.Sequence.TokenKind.{Glyph, Up, Down};
+ghost use Rattle.ans_model.specs.Sequence.TokenKind.{Forward, Backward, Place, Clear, EraseLine};
+ghost use Rattle.ans_model.specs.Sequence.TokenKind.{Save, Restore};
 ghost use Rattle.ans_model.specs.Sequence.TokenKind.{Colours, Wrap, Mode, Keys, Ask, Tab};
 ghost use Rattle.ans_model.specs.declared.fault.Cause.TheVariants.{NoRecord, WrongVersion, WrongKind};
 ghost use Rattle.ans_model.specs.declared.fault.Cause.TheVariants.{CommentsMissing, LinesUnstated, WidthTooLarge};
 ghost use Rattle.ans_model.specs.declared.fault.Cause.TheVariants.{LinesTooLarge, BytesAfterEndMark, BrokenSequence};
 ghost use Rattle.ans_model.specs.declared.fault.Cause.TheVariants.{NumberTooLarge, TooManyParameters, EndInSequence};
 ghost use Rattle.ans_model.specs.declared.fault.Cause.TheVariants.{UnknownSequence, WrongParameters};
-ghost use Rattle.ans_model.specs.declared.fault.Cause.TheVariants.{PrintUnknownPlace, UnknownCell};
+ghost use Rattle.ans_model.specs.declared.fault.Cause.TheVariants.{PrintBelow, PrintUnknownPlace, UnknownCell};
 ghost use Rattle.ans_model.specs.declared.note.Note.TheVariants.{WidthAssumed, NoEndMark, SizeDiffers, OddDate};
 ghost use Rattle.ans_model.specs.declared.note.Note.TheVariants.{FlagBits, FlagPair};
 ghost use Rattle.ans_model.specs.Screen.StartClass.{none_known, all_known};
@@ -24,13 +26,16 @@ ghost use Rattle.ans_model.specs.Sequence.Reads.{SpellsToken};
 ghost use Rattle.ans_model.specs.Verdict.FirstFault.{IsRefused};
 ghost use Rattle.ans_model.specs.Text.Characters.{shown_bytes};
 ghost use Rattle.ans_model.specs.Text.FaultText.{fault_line};
-ghost use Rattle.ans_model.specs.Text.ReportText.{heading_text, report_text, refusal_text, cells_line, Passed};
+ghost use Rattle.ans_model.specs.Text.ReportText.{heading_text, report_text, refusal_text};
+ghost use Rattle.ans_model.specs.Text.ReportText.{cells_line, Passed};
 ghost use Rattle.ans_model.specs.Text.ReportText.{RefusedFor};
+ghost use Rattle.ans_model.specs.Text.NeedsText.{needs_text, needs_refusal_text};
 ghost use Rattle.ans_model.specs.Text.RecordText.{record_text};
 ghost use Rattle.ans_model.specs.Text.TokensText.{TokensText};
 ghost use Rattle.ans_model.specs.Examples.TextExamples.{plain, record_with, fault_with, heading_with, picture_with};
 ghost use Rattle.ans_model.specs.Examples.TextExamples.{hi, sample_record, sample_comment, IsAccepted};
 ghost use Rattle.ans_model.specs.Examples.TextExamples.{IsAcceptedWith, esc, cut_content, short_forms, other_kinds};
+ghost use Rattle.ans_model.specs.Examples.TextExamples.{needs_heading_with};
 
 /// Files that are refused, each for one thing.
 pub fn refused_files()
@@ -319,9 +324,35 @@ pub fn start_lines()
     ensures all_but_wrap { heading_text
         (heading_with (sized 1 1) (record all_known { wrap = false }) 0 [])
         ≡ codes "size: 1 x 1\nstart: known screen cursor saved colours\ncontent: 0 bytes\n" }
+    ensures screen_alone { heading_text
+        (heading_with (sized 1 1) (record none_known { screen = true }) 0 [])
+        ≡ codes "size: 1 x 1\nstart: known screen\ncontent: 0 bytes\n" }
+    ensures saved_alone { heading_text
+        (heading_with (sized 1 1) (record none_known { saved = true }) 0 [])
+        ≡ codes "size: 1 x 1\nstart: known saved\ncontent: 0 bytes\n" }
     ensures wrap_alone { heading_text
         (heading_with (sized 1 1) (record none_known { wrap = true }) 0 [])
         ≡ codes "size: 1 x 1\nstart: known wrap\ncontent: 0 bytes\n" }
+{}
+
+/// The texts of what contents need.
+pub fn needs_texts()
+    ensures two_parts { needs_text (needs_heading_with (sized 80 34) 6427 [])
+        (record none_known { screen = true; cursor = true })
+        ≡ codes "size: 80 x 34\ncontent: 6427 bytes\nneeds: screen cursor\n" }
+    ensures each_part { needs_text (needs_heading_with (sized 2 1) 2 []) all_known
+        ≡ codes "size: 2 x 1\ncontent: 2 bytes\nneeds: screen cursor saved colours wrap\n" }
+    ensures last_part_with_a_note { needs_text
+        (needs_heading_with (sized 80 1) 2 (NoEndMark ∷ []))
+        (record none_known { wrap = true })
+        ≡ codes "size: 80 x 1\ncontent: 2 bytes\n"
+        ++ codes "note: no end mark after the content\nneeds: wrap\n" }
+    ensures no_part { needs_text (needs_heading_with (sized 2 1) 15 []) none_known
+        ≡ codes "size: 2 x 1\ncontent: 15 bytes\nneeds: nothing\n" }
+    ensures refusal { needs_refusal_text (needs_heading_with (sized 2 1) 3 [])
+        (fault_at 2 PrintBelow)
+        ≡ codes "size: 2 x 1\ncontent: 3 bytes\nverdict: refused\n"
+        ++ codes "at 2: F20 print below the stated lines\n" }
 {}
 
 /// The texts of notes, of glyphs and of cells.

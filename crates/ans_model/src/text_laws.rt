@@ -38,7 +38,7 @@ pub fn refused_or_read()
     ensures ended { (raw : Raw) (text : List ℕ) → Spells raw text → IsUnfinished text → ⊥ }
 {}
 
-/// Bytes never have two of these: being good, a first fault, a last fault; and each fault is unique.
+/// Bytes never have two of these: being good, a first fault, a last fault. Each fault is unique.
 pub fn one_answer()
     ensures one_first_fault { (z : Size) (class : Start) (bytes : List ℕ) (f g : Fault)
         → IsFirstFault z class bytes f → IsFirstFault z class bytes g → f ≡ g }

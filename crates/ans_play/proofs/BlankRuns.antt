@@ -1,10 +1,10 @@
 -- A run of blanks from one position of the stated lines: one filling is what they print one by one.
 use Rattle.std.proofs.Common.{◌≡◌, ℕ, zero, suc, ◌+◌, ◌-◌, ◌*◌, ◌/◌, ◌%◌, ◌<◌, ◌≤◌, min, refl, sym, ap, ◌∙◌, arith}
-use Rattle.std.proofs.Common.{inl, inr, List, length, take, drop, set, replicate, Some, None, append_assoc}
+use Rattle.std.proofs.Common.{inl, inr, List, length, set, Some, None}
 use Rattle.std.proofs.Common.{Bool, true, false, add-mul, one-mul}
 use Rattle.std.specs.Prelude.{nat_lt, if◌then◌else◌, ◌≢◌}
 use Rattle.std.proofs.lemmas.Bool.{cases_lt, lt-ltb, le-ltb, eq-eqb, ne_eqb, ltb-true, ltb-false}
-use Rattle.std.proofs.lemmas.List.{length-set, length-replicate}
+use Rattle.std.proofs.lemmas.List.{length-set}
 use Rattle.std.proofs.Math.Seq.{set-set}
 use Rattle.std.proofs.lemmas.Nat.{div-mul-add, mod-mul-add, mul-le}
 use Rattle.ans_model.specs.Bytes.{blank}
@@ -16,7 +16,6 @@ use Rattle.ans_model.proofs.CleanLemmas.{some_blanks}
 use Rattle.ans_model.specs.declared.fault.Cause.{Cause}
 use Rattle.ans_model.specs.declared.fault.Cause.TheVariants.{PrintBelow, PrintUnknownPlace}
 use Rattle.ans_screen.specs.KnownBits.{KnownBits}
-use Rattle.ans_screen.specs.GridEdits.{written}
 use Rattle.ans_screen.specs.declared.cell.HalfCell.{HalfCell}
 use Rattle.ans_play.specs.declared.span.Span.{Span}
 use Rattle.ans_play.specs.declared.wrap.WrapMode.{WrapMode}

@@ -25,7 +25,7 @@ value_bit : (a b m s o : ℕ) → a < 2 → b < 2 → m < 2 → s < 2 → o ≡ 
 value_bit a b m s o p q r t e = omega arith
 
 -- the common bits with a byte are a byte
-byte_and : (a m : ℕ) → m < 2 ^ 8 → bit_and a m < 2 ^ 8
+pub byte_and : (a m : ℕ) → m < 2 ^ 8 → bit_and a m < 2 ^ 8
 byte_and a m h = omega (arith, and_le_r a m)
 
 module _ (a b m s : ℕ) (la : a < 2 ^ 8) (lb : b < 2 ^ 8) (lm : m < 2 ^ 8) (ls : s < 2 ^ 8) where
@@ -36,7 +36,7 @@ module _ (a b m s : ℕ) (la : a < 2 ^ 8) (lb : b < 2 ^ 8) (lm : m < 2 ^ 8) (ls 
       same_from_bits_below 8
       (bit_xor 0xff (bit_xor (bit_or (bit_and a m) s) (bit_or (bit_and b m) s)))
       (bit_or (bit_or (bit_and (bit_xor 0xff (bit_xor a b)) m) (bit_xor 0xff m)) s)
-      (search (rules, xor_of_8, or_of_8, byte_and)) (search (rules, xor_of_8, or_of_8, byte_and))
+      (search (rules, xor_of_8, or_of_8)) (search (rules, xor_of_8, or_of_8))
       (λ i h. simp (bit_at_and, bit_at_or, bit_at_xor)
       (known_bit (bit_at a i) (bit_at b i) (bit_at m i) (bit_at s i) (bit_at 255 i) (bit_at-lt a i) (bit_at-lt b i)
       (bit_at-lt m i) (bit_at-lt s i) (bit_at_ones 8 i h)))
@@ -49,12 +49,13 @@ module _ (a b m s : ℕ) (la : a < 2 ^ 8) (lb : b < 2 ^ 8) (lm : m < 2 ^ 8) (ls 
       same_from_bits_below 8
       (bit_and (bit_or (bit_and a m) s) (bit_xor 0xff (bit_xor (bit_or (bit_and a m) s) (bit_or (bit_and b m) s))))
       (bit_or (bit_and (bit_and a (bit_xor 0xff (bit_xor a b))) m) s)
-      (search (rules, xor_of_8, or_of_8, byte_and)) (search (rules, xor_of_8, or_of_8, byte_and))
+      (search (rules, xor_of_8, or_of_8, byte_and)) (search (rules, or_of_8))
       (λ i h. simp (bit_at_and, bit_at_or, bit_at_xor)
       (value_bit (bit_at a i) (bit_at b i) (bit_at m i) (bit_at s i) (bit_at 255 i) (bit_at-lt a i) (bit_at-lt b i)
       (bit_at-lt m i) (bit_at-lt s i) (bit_at_ones 8 i h)))
 
-same_bits : (k l v w : ℕ) → k ≡ l → v ≡ w → known_bits k v ≡ known_bits l w
+-- known bits of the same mask and value are the same
+pub same_bits : (k l v w : ℕ) → k ≡ l → v ≡ w → known_bits k v ≡ known_bits l w
 same_bits k l v w e f = cc
 
 -- the hull after a rendition, if the parameter has one

@@ -12,9 +12,9 @@ use Rattle.ans_model.specs.declared.start.Start.{Start}
 use Rattle.ans_screen.specs.KnownBits.{Agrees}
 use Rattle.ans_screen.specs.declared.cell.HalfCell.{HalfCell}
 use Rattle.ans_play.specs.HalfState.{DescribesCell, DescribesPosition, DescribesWrap, Describes}
-use Rattle.ans_play.specs.Hull.{hull_attribute, hull_position, hull_screen, hull_wrap, hull}
+use Rattle.ans_play.specs.Hull.{hull_attribute, hull_position, hull_cell, hull_screen, hull_wrap, hull}
 use Rattle.ans_play.proofs.Zips.{AllZip-replicate}
-use Rattle.ans_play.proofs.HullScreens.{hull_screen-replicate}
+use Rattle.ans_play.proofs.PairedScreens.{paired-replicate}
 
 -- what is not known describes each cell of a screen
 uniform_describes : (h : HalfCell) (xs : List Cell) (n : ℕ) → length xs ≡ n → ((c : Cell) → DescribesCell h c) →
@@ -31,10 +31,10 @@ screen_describes : (z : Size) (b : Bool) (xs : List Cell) → length xs ≡ cell
     (hull_screen (if b then (cleared z).screen else replicate (cell_count z) (record { byte = 0; attribute = 0 }))
     (if b then (cleared z).screen else replicate (cell_count z) (record { byte = 255; attribute = 255 })))
     xs
-screen_describes z true xs e h = rw (h refl, hull_screen-replicate (cell_count z) (blank_cell 7) (blank_cell 7))
+screen_describes z true xs e h = rw (h refl, paired-replicate hull_cell (cell_count z) (blank_cell 7) (blank_cell 7))
     (AllZip-replicate DescribesCell (cell_count z) _ (blank_cell 7) (refl, refl))
 screen_describes z false xs e h =
-    rw (hull_screen-replicate (cell_count z) (record { byte = 0; attribute = 0 })
+    rw (paired-replicate hull_cell (cell_count z) (record { byte = 0; attribute = 0 })
     (record { byte = 255; attribute = 255 }))
     (uniform_describes _ xs (cell_count z) e (λ c. (tt, and_zero_r c.attribute)))
 

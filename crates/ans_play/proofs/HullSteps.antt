@@ -16,11 +16,11 @@ use Rattle.ans_screen.specs.declared.cell.HalfCell.{HalfCell}
 use Rattle.ans_play.specs.declared.span.Span.{Span}
 use Rattle.ans_play.specs.declared.wrap.WrapMode.{WrapMode}
 use Rattle.ans_play.specs.HalfState.{half_state, one_position}
-use Rattle.ans_play.specs.Hull.{hull_attribute, hull_byte, hull_position, hull_wrap, hull_screen, hull}
+use Rattle.ans_play.specs.Hull.{hull_attribute, hull_byte, hull_position, hull_wrap, hull_cell, hull_screen, hull}
 use Rattle.ans_play.specs.HalfStep.{after_move, after_last_column, after_print, wrap_of, half_step}
 use Rattle.ans_play.proofs.Allowed.{IsOnePosition, IsAllowed}
 use Rattle.ans_play.proofs.HullAttributes.{hull_after_all}
-use Rattle.ans_play.proofs.HullScreens.{hull_screen-replicate, hull_screen-set, hull_screen-filled}
+use Rattle.ans_play.proofs.PairedScreens.{paired-replicate, paired-set, paired-filled}
 use Rattle.ans_model.proofs.PositionLemmas.{same_position}
 use Rattle.ans_model.proofs.StepLemmas.{line_feed_is}
 use Rattle.ans_play.proofs.Describing.{next_position, advance_is}
@@ -40,8 +40,9 @@ hull_after_move z CarriageReturn p q = same_span _ _ _ _ _ _ _ _ refl (omega ari
 hull_after_move z _ p q = refl
 
 -- ---- a step
-same_half : (x y : List HalfCell) (c d s t : Span) (a b : KnownBits) (v w : WrapMode) → x ≡ y → c ≡ d → s ≡ t → a ≡ b →
-    v ≡ w → half_state x c s a v ≡ half_state y d t b w
+-- half-known states of equal parts are equal
+pub same_half : (x y : List HalfCell) (c d s t : Span) (a b : KnownBits) (v w : WrapMode) → x ≡ y → c ≡ d → s ≡ t →
+    a ≡ b → v ≡ w → half_state x c s a v ≡ half_state y d t b w
 same_half x y c d s t a b v w p q r u e = cc
 
 -- ends that are one position have one position within
@@ -90,7 +91,8 @@ pub record AreComparable (z : Size) (a b : State) : Type 0 where
   pub attribute_a : a.attribute < 256
   pub attribute_b : b.attribute < 256
 
-min_self : (n : ℕ) → min n n ≡ n
+-- the least of a number and itself
+pub min_self : (n : ℕ) → min n n ≡ n
 min_self n = omega arith
 
 hull_byte_itself : (b : ℕ) → hull_byte b b ≡ Some b
@@ -99,12 +101,12 @@ hull_byte_itself b = rw (eq-eqb b b refl)
 pub hull_step : (z : Size) (a b : State) (t : TokenKind) → AreComparable z a b → IsAllowed z (hull a b) t →
     hull (step z a t) (step z b t) ≡ half_step z (hull a b) t
 hull_step z a b Clear c k = same_half _ _ _ _ _ _ _ _ _ _
-    (hull_screen-replicate (cell_count z) (blank_cell a.attribute) (blank_cell b.attribute)) refl refl refl refl
+    (paired-replicate hull_cell (cell_count z) (blank_cell a.attribute) (blank_cell b.attribute)) refl refl refl refl
 hull_step z a b EraseLine c k =
     let here : b.cursor ≡ a.cursor = sym (same_where_one a.cursor b.cursor k) in
     same_half _ _ _ _ _ _ _ _ _ _
     (rw (here, min_self a.cursor.row, min_self a.cursor.column)
-    (hull_screen-filled a.screen b.screen (index z a.cursor) (next_row_start z a.cursor) (blank_cell a.attribute)
+    (paired-filled hull_cell a.screen b.screen (index z a.cursor) (next_row_start z a.cursor) (blank_cell a.attribute)
     (blank_cell b.attribute) c.cells))
     refl refl refl refl
 hull_step z a b Save c k = refl
@@ -128,7 +130,7 @@ hull_step z a b (Glyph byte) c k =
     )
     (same_half _ _ _ _ _ _ _ _ _ _
     (rw (here, min_self a.cursor.row, min_self a.cursor.column)
-    (hull_screen-set a.screen b.screen (index z a.cursor) cell_a cell_b
+    (paired-set hull_cell a.screen b.screen (index z a.cursor) cell_a cell_b
     ∙ ap (λ (o : Option ℕ). set (hull_screen a.screen b.screen) (index z a.cursor)
     (half_cell o (hull_attribute a.attribute b.attribute))) (hull_byte_itself byte)))
     (rw (here, min_self a.cursor.row, min_self a.cursor.column) (hull_next z a.wrap b.wrap a.cursor c.on_a.1))

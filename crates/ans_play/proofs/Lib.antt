@@ -1,9 +1,11 @@
 pub mod Allowed
 pub mod Zips
-pub mod HullScreens
+pub mod PairedScreens
 pub mod HullAttributes
+pub mod MeetAttributes
 pub mod Describing
 pub mod HullSteps
+pub mod MeetSteps
 pub mod HullOfStarts
 pub mod KnownAfter
 pub mod Positions
@@ -11,6 +13,7 @@ pub mod PrintFaults
 pub mod Tabs
 pub mod FaultShown
 pub mod NoFaultShown
+pub mod MeetPlays
 pub mod Clean
 pub mod SpanLemmas
 pub mod Feeding
@@ -23,4 +26,7 @@ pub mod PlaysWell
 pub mod Finishing
 pub mod PictureCells
 pub mod TwoStarts
+pub mod WholeBytes
 pub mod OneOfThree
+pub mod GoodFromBoth
+pub mod LeastClass

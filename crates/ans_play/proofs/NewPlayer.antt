@@ -16,14 +16,15 @@ use Rattle.ans_play.specs.declared.span.Span.{Span}
 use Rattle.ans_play.specs.declared.wrap.WrapMode.{WrapMode}
 use Rattle.ans_play.specs.HalfStart.{start_cell, start_span, start_attribute, start_wrap, half_start}
 use Rattle.ans_play.specs.HalfState.{HalfState, half_state, IsSpanOnScreen}
-use Rattle.ans_play.specs.Hull.{hull, hull_position, hull_screen, hull_attribute, hull_wrap}
+use Rattle.ans_play.specs.Hull.{hull, hull_position, hull_cell, hull_screen, hull_attribute, hull_wrap}
 use Rattle.ans_play.specs.PlayView.{play_view, IsByteHalfCell, IsPlayView}
 use Rattle.ans_play.specs.PlayerView.{PlayerView}
 use Rattle.ans_play.specs.Stands.{IsPlayed, Stands, IsNew}
 use Rattle.ans_play.proofs.KnownAfter.{known_none}
 use Rattle.ans_play.proofs.SpanLemmas.{same_span}
+use Rattle.ans_play.proofs.HullSteps.{same_half}
 use Rattle.ans_play.proofs.Clean.{clean_none}
-use Rattle.ans_play.proofs.HullScreens.{hull_screen-replicate}
+use Rattle.ans_play.proofs.PairedScreens.{paired-replicate}
 
 -- the hull of the extreme starts is known at the start
 played_none : (z : Size) (start : Start) (h : HalfState) → IsSize z →
@@ -47,8 +48,8 @@ played_none z start h size e = rw e (record {
 cell_hull : (n : ℕ) (known : Bool) →
     hull_screen (if known then replicate n (blank_cell 7) else replicate n (cell 0 0))
     (if known then replicate n (blank_cell 7) else replicate n (cell 255 255)) ≡ replicate n (start_cell known)
-cell_hull n true = hull_screen-replicate n (blank_cell 7) (blank_cell 7)
-cell_hull n false = hull_screen-replicate n (cell 0 0) (cell 255 255)
+cell_hull n true = paired-replicate hull_cell n (blank_cell 7) (blank_cell 7)
+cell_hull n false = paired-replicate hull_cell n (cell 0 0) (cell 255 255)
 
 span_hull : (z : Size) (known : Bool) →
     hull_position (if known then at 0 0 else at 0 0) (if known then at 0 0 else at z.lines (z.width - 1))
@@ -66,14 +67,10 @@ wrap_hull : (known : Bool) → hull_wrap (if known then true else false) (if kno
 wrap_hull true = refl
 wrap_hull false = refl
 
-same_parts : (x y : List HalfCell) (c d s t : Span) (a b : KnownBits) (v w : WrapMode) → x ≡ y → c ≡ d → s ≡ t →
-    a ≡ b → v ≡ w → half_state x c s a v ≡ half_state y d t b w
-same_parts x y c d s t a b v w p q r u e = cc
-
 -- what is known at the start is the hull of the extreme starts
-half_start_is_hull : (z : Size) (class : Start) → half_start z class ≡ hull (low_start z class) (high_start z class)
+pub half_start_is_hull : (z : Size) (class : Start) → half_start z class ≡ hull (low_start z class) (high_start z class)
 half_start_is_hull z class =
-    same_parts _ _ _ _ _ _ _ _ _ _
+    same_half _ _ _ _ _ _ _ _ _ _
     (sym (cell_hull (cell_count z) class.screen))
     (sym (span_hull z class.cursor))
     (sym (span_hull z class.saved))
@@ -93,7 +90,7 @@ pub played_at_start : (z : Size) (class : Start) (cells : List HalfCell) (cell :
     IsPlayed z class [] new_scanner (half_state cells cursor saved attribute wrap)
 played_at_start z class cells cell cursor saved attribute wrap size a b c d f e =
     played_none z class _ size
-    (same_parts _ _ _ _ _ _ _ _ _ _
+    (same_half _ _ _ _ _ _ _ _ _ _
     (in_rows z cells cell e ∙ ap (λ (x : HalfCell). replicate (cell_count z) x) a) b c d f
     ∙ half_start_is_hull z class)
 

@@ -1,7 +1,7 @@
 -- Bytes are good, or have a first fault, or have a last fault.
-use Rattle.std.proofs.Common.{◌≡◌, ◌⊎◌, inl, inr, ℕ, zero, suc, List, [], ◌∷◌, ◌++◌, length, take, drop, All, Option}
-use Rattle.std.proofs.Common.{Some, None, refl, sym, ap, ◌∙◌, arith, subst, append_assoc}
-use Rattle.std.specs.Prelude.{slice_get, ◌*◌}
+use Rattle.std.proofs.Common.{◌≡◌, ◌⊎◌, inl, inr, ℕ, zero, suc, List, [], ◌∷◌, ◌++◌, length, take, drop, All}
+use Rattle.std.proofs.Common.{Some, refl, sym, ap, ◌∙◌, subst, append_assoc}
+use Rattle.std.specs.Prelude.{slice_get}
 use Rattle.std.specs.List.{AllByRecursion, AllZip, concat}
 use Rattle.std.proofs.lemmas.Option.{same_Some}
 use Rattle.std.proofs.lemmas.List.{append-nil}
@@ -20,16 +20,12 @@ use Rattle.ans_model.specs.Verdict.Good.{IsGood}
 use Rattle.ans_model.specs.Verdict.FirstFault.{IsFirstFault}
 use Rattle.ans_model.specs.Verdict.LastFault.{IsLastFault}
 use Rattle.ans_model.proofs.Reading.{reads_bytes}
-use Rattle.ans_tokens.specs.ScannerView.{Nothing, scanner_view}
 use Rattle.ans_tokens.proofs.EachByte.{IsOpen, open_ends}
 use Rattle.ans_tokens.proofs.Readable.{IsRefusedFront, IsReadable, readable}
-use Rattle.ans_screen.specs.GridEdits.{first_unknown}
 use Rattle.ans_play.specs.HalfState.{HalfState}
-use Rattle.ans_play.specs.Shown.{picture_of}
-use Rattle.ans_play.specs.Stands.{IsKnownAfter, IsPlayed}
-use Rattle.ans_play.proofs.KnownCells.{found_unknown}
-use Rattle.ans_play.proofs.Finishing.{good_where_known, last_where_unknown, known_if, no_cell}
+use Rattle.ans_play.specs.Stands.{IsKnownAfter}
 use Rattle.ans_play.proofs.TwoStarts.{HasFaultyToken, clean_or_faulty}
+use Rattle.ans_play.proofs.WholeBytes.{good_if_known, known_or_last}
 use Rattle.ans_play.proofs.Zips.{AllZip-take}
 
 -- bytes are good, or have a first or a last fault
@@ -133,40 +129,17 @@ module _ (z : Size) (class : Start) (size : IsSize z) (bytes : List ℕ) where
     ))
 
     -- nothing follows the tokens
-    played : r.left ≡ [] → IsPlayed z class bytes (scanner_view (length bytes) (length bytes) Nothing None) h
-    played e =
+    at_end : r.left ≡ [] → HasAnAnswer z class bytes
+    at_end e =
         let whole : bytes ≡ r.front = r.whole ∙ ap (λ (v : List ℕ). r.front ++ v) e ∙ append-nil r.front in
-        record {
-          size = size;
-          front = bytes;
-          open_part = [];
-          whole = sym (append-nil bytes);
-          tokens = r.tokens;
-          reads = subst (λ (v : List ℕ). Reads v r.tokens) (sym whole) (r.texts, r.reads);
-          clean = clean;
-          known = known;
-          holds = record { keeps = refl; begun_at = omega arith };
-          offset = refl;
-          unrefused = refl;
-        }
-
-    at_end : r.left ≡ [] → (o : Option ℕ) → first_unknown h.screen (z.lines * z.width) ≡ o → HasAnAnswer z class bytes
-    unfolding played
-    at_end e None none =
-        inl (
-          picture_of z h.screen,
-          good_where_known z class bytes _ h (played e) refl
-              (known_if h.screen (z.lines * z.width) none),
-        )
-    at_end e (Some i) some =
-        inr (inr (
-          _,
-          inr (last_where_unknown z class bytes _ h (played e) refl i
-              (found_unknown h.screen (z.lines * z.width) i no_cell some)),
-        ))
+        let reads : Reads bytes r.tokens = subst (λ (v : List ℕ). Reads v r.tokens) (sym whole) (r.texts, r.reads) in
+        elim (known_or_last z class size bytes r.tokens reads clean h known) [
+          | inl all ↦ inl (_, good_if_known z class size bytes r.tokens reads clean h known all)
+          | inr last ↦ inr (inr last)
+        ]
 
     open_behind : (r.left ≡ []) ⊎ IsUnfinished r.left → HasAnAnswer z class bytes
-    open_behind (inl e) = at_end e (first_unknown h.screen (z.lines * z.width)) refl
+    open_behind (inl e) = at_end e
     open_behind (inr unfinished) = unfinished_behind unfinished
 
     all_clean : IsOpen r.left ⊎ IsRefusedFront r.left → HasAnAnswer z class bytes

@@ -1,10 +1,9 @@
 -- A tab is played as its blanks: what is known after them, and the fault of the first that has one.
 use Rattle.std.proofs.Common.{◌≡◌, ℕ, zero, suc, ◌<◌, Bool, true, false, refl, sym, ap, ◌∙◌, arith, inl, inr}
-use Rattle.std.proofs.Common.{List, [], ◌∷◌, ◌++◌, Option, Some, None, subst, fold, replicate, lit<}
+use Rattle.std.proofs.Common.{List, [], ◌∷◌, ◌++◌, Option, Some, None, subst, lit<}
 use Rattle.std.specs.Option.{option_or}
 use Rattle.std.proofs.lemmas.Bool.{cases_eq}
 use Rattle.std.proofs.lemmas.List.{append-nil}
-use Rattle.std.proofs.lemmas.List.Sums.{fold-append}
 use Rattle.ans_model.specs.Bytes.{blank}
 use Rattle.ans_model.specs.Sequence.TokenKind.{TokenKind, Glyph, Tab}
 use Rattle.ans_model.specs.declared.cell.Position.{Position}
@@ -12,7 +11,7 @@ use Rattle.ans_model.specs.declared.fault.Cause.{Cause}
 use Rattle.ans_model.specs.declared.fault.Cause.TheVariants.{PrintUnknownPlace}
 use Rattle.ans_model.specs.declared.start.Start.{Start}
 use Rattle.ans_model.specs.Screen.State.{Size, State}
-use Rattle.ans_model.specs.Screen.Step.{put, step, final, tab_blanks}
+use Rattle.ans_model.specs.Screen.Step.{final, tab_blanks}
 use Rattle.ans_model.specs.Screen.StartClass.{IsStart, low_start, high_start}
 use Rattle.ans_model.specs.Verdict.TokenFault.{HasPrintFault, HasTabFault, then_blanks, TabGoesOn, FromEvery}
 use Rattle.ans_model.proofs.StartLemmas.{low_is_start, high_is_start}
@@ -28,7 +27,7 @@ use Rattle.ans_play.proofs.Positions.{one_position_if, one_position_of_all, posi
 use Rattle.ans_play.proofs.PrintFaults.{IsPrintable, print_has_fault, print_is_allowed, print_has_no_fault}
 
 -- where the first of two options is none, the two are the second
-or_none : (o p : Option Cause) → o ≡ None → option_or o p ≡ p
+pub or_none : (o p : Option Cause) → o ≡ None → option_or o p ≡ p
 or_none o p e = rw e refl
 
 -- the first of n blanks that has a fault
@@ -50,19 +49,20 @@ module _ (z : Size) (class : Start) (w : 0 < z.width) where
       none (subst (λ (ts : List TokenKind). HasPrintFault z class ts c) (append-nil played) f)
 
   -- after one blank that has no fault
-  one_blank_known : (played : List TokenKind) (h : HalfState) → IsKnownAfter z class played h →
+  pub one_blank_known : (played : List TokenKind) (h : HalfState) → IsKnownAfter z class played h →
       half_print_fault z h ≡ None → IsKnownAfter z class (played ++ Glyph blank ∷ []) (half_put z h blank)
   one_blank_known played h st e =
       let ok : IsPrintable z h = print_is_allowed z class played h w st e in
       known_more z class played h (Glyph blank) w (lit< tt) st (ok.one, ok.above)
 
   -- of two blanks and more, the first has no fault where none has
-  first_has_none : (h : HalfState) (n : ℕ) (o : Option Cause) → half_print_fault z h ≡ o →
+  pub first_has_none : (h : HalfState) (n : ℕ) (o : Option Cause) → half_print_fault z h ≡ o →
       option_or o (half_blanks_fault z (half_put z h blank) n) ≡ None → half_print_fault z h ≡ None
   first_has_none h n None shown e = shown
   first_has_none h n (Some c) shown e = absurd (cc)
 
-  others_have_none : (h : HalfState) (n : ℕ) → half_print_fault z h ≡ None →
+  -- nor have the others
+  pub others_have_none : (h : HalfState) (n : ℕ) → half_print_fault z h ≡ None →
       half_blanks_fault z h (suc n) ≡ None → half_blanks_fault z (half_put z h blank) n ≡ None
   others_have_none h n none e =
       sym (or_none (half_print_fault z h) (half_blanks_fault z (half_put z h blank) n) none) ∙ e
@@ -159,7 +159,7 @@ module _ (z : Size) (class : Start) (played : List TokenKind) (h : HalfState) (w
       }
 
   -- where some blanks show no fault, the cursor stands at one position
-  printable : (n : ℕ) → 0 < n → half_blanks_fault z h n ≡ None → IsPrintable z h
+  pub printable : (n : ℕ) → 0 < n → half_blanks_fault z h n ≡ None → IsPrintable z h
   printable zero some e = absurd (let no : ⊥ = omega arith in no)
   printable (suc n) some e =
       print_is_allowed z class played h w st (first_has_none z class w h n (half_print_fault z h) refl e)

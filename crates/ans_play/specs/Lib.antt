@@ -10,3 +10,4 @@ pub mod Plays
 pub mod Stands
 pub mod Shown
 pub mod Between
+pub mod Meet

@@ -5,8 +5,10 @@ ghost use Rattle.ans_model.specs.Bytes.{IsByte};
 ghost use Rattle.ans_model.specs.Sequence.TokenKind.{TokenKind, PrintsByte};
 ghost use Rattle.ans_model.specs.Screen.State.{Size, IsSize, IsStated, cell_at};
 ghost use Rattle.ans_model.specs.Screen.Step.{final};
+ghost use Rattle.ans_model.specs.Screen.StartClass.{all_known, both_known};
 ghost use Rattle.ans_model.specs.declared.start.Start.{Start};
 ghost use Rattle.ans_model.specs.Verdict.Good.{IsGood};
+ghost use Rattle.ans_model.specs.Verdict.Needs.{IsLeast, IsFoundByParts};
 ghost use Rattle.ans_model.specs.Verdict.FirstFault.{IsFirstFault};
 ghost use Rattle.ans_model.specs.Verdict.LastFault.{IsLastFault};
 ghost use Rattle.ans_model.specs.Verdict.TokenFault.{FromEvery, IsClean};
@@ -53,4 +55,22 @@ pub fn faults_stand_within()
         → IsFirstFault z class bytes f → f.offset ≤ length bytes }
     ensures last { (z : Size) (class : Start) (bytes : List ℕ) (f : Fault)
         → IsLastFault z class bytes f → f.offset ≤ length bytes }
+{}
+
+/// What a content can do without in two ways, it can do without in both at once: where it is good
+/// for two classes, it is good for the class that knows only what both know.
+pub fn what_both_do_without()
+    ensures { (z : Size) (a b : Start) (content : List ℕ)
+        → IsGood z a content → IsGood z b content → IsGood z (both_known a b) content }
+{}
+
+/// A content that is good for the cleared start has one least class: it is good for exactly those
+/// classes in which each part is known that is known in this one. The class is found part by part.
+pub fn one_least_class()
+    ensures exists { (z : Size) (content : List ℕ)
+        → IsGood z all_known content → (class : Start) × IsLeast z content class }
+    ensures unique { (z : Size) (content : List ℕ) (a b : Start)
+        → IsLeast z content a → IsLeast z content b → a ≡ b }
+    ensures found { (z : Size) (content : List ℕ) (class : Start)
+        → IsGood z all_known content → IsFoundByParts z content class → IsLeast z content class }
 {}

@@ -18,6 +18,7 @@ use ans_model::fault::{Cause, Fault};
 use ans_model::kind::Kind;
 use ans_model::size::Size;
 use ans_model::start::Start;
+use ans_model::tab::tab_blanks;
 use ans_screen::{Attr, Grid, HalfCell};
 use ans_tokens::Scanner;
 use std::alloc::{AllocError, Global};
@@ -237,7 +238,7 @@ impl<G: Grid> Play<G> {
         if position.row == self.size.lines() {
             return Err(Cause::PrintBelow);
         }
-        let blanks = 8 - position.column % 8;
+        let blanks = tab_blanks(position.column);
         let cursor = self.wrap.after_blanks(position, blanks, self.size)?;
         let from = position.row * self.size.width() + position.column;
         let to = self.wrap.end_of_blanks(position, blanks, self.size);

@@ -4,7 +4,9 @@ use Rattle.std.specs.Prelude.{if◌then◌else◌}
 use Rattle.std.proofs.lemmas.Bool.{false_from_ne_true, true_from_ne_false}
 use Rattle.ans_model.specs.declared.start.Start.{Start}
 use Rattle.ans_model.specs.Screen.StartClass.{none_known, all_known}
-use Rattle.ans_model.specs.Text.ReportText.{known_part, start_name}
+use Rattle.ans_model.specs.Text.NeedsText.{needed_parts}
+use Rattle.ans_model.specs.Text.ReportText.{start_name}
+use Rattle.ans_report.specs.Headings.{known_parts}
 
 -- a class by its parts
 abbrev class : Bool → Bool → Bool → Bool → Bool → Start
@@ -28,13 +30,19 @@ last_of_three all some cleared known any e f = rw (e, f) refl
 
 -- where some parts are known and some are not, the class is named by those that are
 pub name_of_parts : (s : Start) → (s ≡ none_known → ⊥) → (s ≡ all_known → ⊥)
-    → codes "known"
-    ++ (known_part s.screen (codes "screen")
-    ++ (known_part s.cursor (codes "cursor")
-    ++ (known_part s.saved (codes "saved")
-    ++ (known_part s.colours (codes "colours") ++ known_part s.wrap (codes "wrap"))))) ≡ start_name s
+    → codes "known" ++ known_parts s ≡ start_name s
 name_of_parts s some missing =
     last_of_three (s.screen && s.cursor && s.saved && s.colours && s.wrap)
     (s.screen || s.cursor || s.saved || s.colours || s.wrap) (codes "cleared") _ (codes "any")
     (false_from_ne_true _ (λ h. missing (all_are_known s.screen s.cursor s.saved s.colours s.wrap h)))
+    (true_from_ne_false _ (λ h. some (none_is_known s.screen s.cursor s.saved s.colours s.wrap h)))
+
+-- the text of the first case
+first_of_two : (some : Bool) (parts nothing : List ℕ) → some ≡ true → parts ≡ (if some then parts else nothing)
+first_of_two some parts nothing e = rw e refl
+
+-- where some parts are needed, they are named
+pub some_needed : (s : Start) → (s ≡ none_known → ⊥) → known_parts s ≡ needed_parts s
+some_needed s some =
+    first_of_two (s.screen || s.cursor || s.saved || s.colours || s.wrap) (known_parts s) (codes " nothing")
     (true_from_ne_false _ (λ h. some (none_is_known s.screen s.cursor s.saved s.colours s.wrap h)))

@@ -4,5 +4,6 @@ pub mod Puts
 pub mod Headings
 pub mod Rows
 pub mod ReportBytes
+pub mod NeedsBytes
 pub mod RecordLines
 pub mod TokenLines

@@ -1,10 +1,11 @@
 //! The lines of a report before its verdict.
-ghost use Rattle.std.specs.Prelude.{◌≡◌, ℕ, ◌++◌, codes, decimal};
+ghost use Rattle.std.specs.Prelude.{◌≡◌, ℕ, ◌++◌, codes, decimal, length};
 ghost use Rattle.std.specs.List.{flat_map};
 ghost use Rattle.ans_model.specs.Text.FaultText.{line_of, note_text, note_line};
 ghost use Rattle.ans_model.specs.Text.ReportText.{known_part, start_name, heading_text};
 ghost use Rattle.ans_report.specs.Puts.{Puts};
-ghost use Rattle.ans_report.specs.Headings.{heading_of};
+ghost use Rattle.ans_sauce.specs.Parts.{content_of, notes_of};
+ghost use Rattle.ans_report.specs.Headings.{heading_of, known_parts};
 
 use crate::lines::{put_named_line, put_size_line};
 use crate::outbox::Outbox;
@@ -35,6 +36,17 @@ fn put_known_part<W: Write>(out: &mut Outbox<'_, W>, known: bool, name: &[u8])
     }
 }
 
+/// Puts the names of the parts that are known, in their order, each after a blank.
+pub(crate) fn put_known_parts<W: Write>(out: &mut Outbox<'_, W>, start: Start)
+    ensures { Puts W.contents out.old out.new (known_parts start) }
+{
+    put_known_part(out, start.screen, b"screen");
+    put_known_part(out, start.cursor, b"cursor");
+    put_known_part(out, start.saved, b"saved");
+    put_known_part(out, start.colours, b"colours");
+    put_known_part(out, start.wrap, b"wrap");
+}
+
 /// Puts the name of a class of starts: `any`, `cleared`, or `known` and the parts that are known.
 fn put_start_name<W: Write>(out: &mut Outbox<'_, W>, start: Start)
     ensures { Puts W.contents out.old out.new (start_name start) }
@@ -48,11 +60,7 @@ fn put_start_name<W: Write>(out: &mut Outbox<'_, W>, start: Start)
         return;
     }
     out.put(b"known");
-    put_known_part(out, start.screen, b"screen");
-    put_known_part(out, start.cursor, b"cursor");
-    put_known_part(out, start.saved, b"saved");
-    put_known_part(out, start.colours, b"colours");
-    put_known_part(out, start.wrap, b"wrap");
+    put_known_parts(out, start);
 }
 
 /// Puts the line of the class of starts.
@@ -82,12 +90,21 @@ pub(crate) fn put_notes<W: Write>(out: &mut Outbox<'_, W>, notes: &[Note])
     }
 }
 
+/// Puts the lines of the content's length and of the notes.
+pub(crate) fn put_length_and_notes<W: Write>(out: &mut Outbox<'_, W>, parts: &Parts<'_>)
+    ensures { Puts W.contents out.old out.new
+        (line_of (codes "content: " ++ (decimal (length (content_of parts.now)) ++ codes " bytes"))
+        ++ flat_map note_line (notes_of parts.now)) }
+{
+    put_length_line(out, parts.content().len());
+    put_notes(out, parts.notes().as_slice());
+}
+
 /// Puts the lines before the verdict.
 pub(crate) fn put_heading<W: Write>(out: &mut Outbox<'_, W>, parts: &Parts<'_>, start: Start)
     ensures { Puts W.contents out.old out.new (heading_text (heading_of parts.now start)) }
 {
     put_size_line(out, parts);
     put_start_line(out, start);
-    put_length_line(out, parts.content().len());
-    put_notes(out, parts.notes().as_slice());
+    put_length_and_notes(out, parts);
 }

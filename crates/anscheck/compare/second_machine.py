@@ -15,6 +15,10 @@ number that seeds the contents and how many there shall be:
 
 It prints each content whose answers differ, and then how many classes were asked and how often each
 answer came. Its status is 1 where one differs.
+
+With `needs` as a fourth word its answers are compared with those of `needs`: it plays each content
+from the starts of all 32 classes, and a class is needed where the content passes from exactly the
+classes that know each of its parts.
 """
 import collections
 import random
@@ -298,21 +302,50 @@ def class_name(known):
     return " ".join(["known"] + known)
 
 
-def asked(program, content, width, lines, known):
-    """The same answer, as the program prints it."""
+def classes():
+    """Each class by the parts that it knows."""
+    return [[part for i, part in enumerate(PARTS) if which >> i & 1] for which in range(2 ** len(PARTS))]
+
+
+def needs_answer(chance, content, width, lines):
+    """The line of the parts that the content needs, or the fault's line of the cleared start."""
+    answers = [(known, answer(content, starts(chance, width, lines, known))) for known in classes()]
+    if isinstance(answers[-1][1], str):
+        return answers[-1][1]
+    passing = [set(known) for known, given in answers if not isinstance(given, str)]
+    least = set.intersection(*passing)
+    if passing != [set(known) for known in classes() if least <= set(known)]:
+        return f"passes from {passing}"
+    return " ".join(["needs:"] + [part for part in PARTS if part in least]) if least else "needs: nothing"
+
+
+def printed_lines(words, content, width, lines):
+    """What the program prints of the content as a file with a plain record, and its status."""
     record = (
         b"SAUCE00" + b" " * 75 + b"19960101" + struct.pack("<I", len(content))
         + bytes([1, 1]) + struct.pack("<4H", width, lines, 0, 0) + bytes(24)
     )
+    run = subprocess.run(words, input=content + b"\x1a" + record, stdout=subprocess.PIPE)
+    return run.stdout.decode().splitlines(), run.returncode
+
+
+def asked(program, content, width, lines, known):
+    """The same answer, as the program prints it; or its second line, if that names another class."""
     flags = [f"--known-{part}" for part in known]
     if len(known) == len(PARTS) and content[:1] < b"A":
         flags = ["--cleared"]
     words = [program, "check", "--cells"] + flags
-    run = subprocess.run(words, input=content + b"\x1a" + record, stdout=subprocess.PIPE)
-    printed = run.stdout.decode().splitlines()
+    printed, status = printed_lines(words, content, width, lines)
     if printed[1] != "start: " + class_name(known):
         return printed[1]
-    return printed[-lines:] if run.returncode == 0 else printed[-1]
+    return printed[-lines:] if status == 0 else printed[-1]
+
+
+def needs_asked(program, content, width, lines):
+    """What the content needs, as the program prints it. The status tells a refusal."""
+    printed, status = printed_lines([program, "needs"], content, width, lines)
+    told = printed[-1]
+    return told if (status == 0) == told.startswith("needs: ") else f"{told}, status {status}"
 
 
 def a_number(chance):
@@ -353,22 +386,36 @@ def a_content(chance, width, lines, known):
     return content[: chance.randrange(len(content) + 1)] if chance.random() < 0.1 else content
 
 
-def main(program, seed, count):
+def kind_of(expected):
+    """What an answer is counted as: its fault, a pass, or what is needed."""
+    if not isinstance(expected, str):
+        return "pass"
+    return expected.split()[2] if expected.startswith("at ") else expected
+
+
+def main(program, seed, count, what="check"):
     chance = random.Random(int(seed))
-    seen, classes, differing = collections.Counter(), set(), 0
+    seen, met, differing = collections.Counter(), set(), 0
     for _ in range(int(count)):
         width = chance.randrange(1, 5) if chance.random() < 0.7 else chance.randrange(5, 21)
         lines, which = chance.randrange(1, 4), chance.randrange(2 ** len(PARTS))
-        known = [part for i, part in enumerate(PARTS) if which >> i & 1]
-        classes.add(which)
+        known = classes()[which]
         content = a_content(chance, width, lines, known)
-        expected = answer(content, starts(chance, width, lines, known))
-        printed = asked(program, content, width, lines, known)
-        seen[expected.split()[2] if isinstance(expected, str) else "pass"] += 1
+        if what == "needs":
+            expected = needs_answer(chance, content, width, lines)
+            printed = needs_asked(program, content, width, lines)
+            if expected.startswith("needs: "):
+                met.add(expected)
+        else:
+            expected = answer(content, starts(chance, width, lines, known))
+            printed = asked(program, content, width, lines, known)
+            met.add(which)
+        seen[kind_of(expected)] += 1
         if expected != printed:
             differing += 1
             print(f"{width} x {lines} known={known} {content}: {expected}, not {printed}")
-    print(f"{differing} of {count} differ, in {len(classes)} classes;", ", ".join(f"{n} {k}" for k, n in seen.most_common()))
+    counts = ", ".join(f"{n} {kind}" for kind, n in seen.most_common())
+    print(f"{differing} of {count} differ, in {len(met)} classes; {counts}")
     return differing > 0
 
 

@@ -39,6 +39,8 @@ def file_of(content, width=2, lines=1):
 
 
 HI = "data/hi.ans"
+BOX = "data/box.ans"
+HARBOUR = "data/harbour.ans"
 LARGEST_FILE = 16_777_216
 
 HI_PASSES = b"size: 2 x 1\nstart: cleared\ncontent: 2 bytes\nverdict: pass\npicture:\nHi\n"
@@ -51,6 +53,7 @@ HI_RECORD = (
     b"file size: 2\ncomments: 0\n"
 )
 HI_TOKENS = b"0 1 glyph 48\n1 1 glyph 69\n"
+HI_NEEDS = b"size: 2 x 1\ncontent: 2 bytes\nneeds: cursor colours\n"
 NO_RECORD = b"verdict: refused\nat 127: F1 no SAUCE record\n"
 
 STATUSES = b"""
@@ -67,6 +70,7 @@ Commands:
   check   Check that a file shows one picture from every start of the class, and print that picture
   sauce   Print what a file's SAUCE record says
   tokens  Print the bytes and the escape sequences of a file's content, one a line
+  needs   Print which parts of the start a file's content needs to be known
 
 Options:
   -h, --help  Print help
@@ -91,6 +95,16 @@ Options:
 SAUCE_HELP = b"""Print what a file's SAUCE record says
 
 Usage: anscheck sauce [FILE]
+
+Arguments:
+  [FILE]  The file to read; without it standard input is read
+
+Options:
+  -h, --help  Print help
+""" + STATUSES
+NEEDS_HELP = b"""Print which parts of the start a file's content needs to be known
+
+Usage: anscheck needs [FILE]
 
 Arguments:
   [FILE]  The file to read; without it standard input is read
@@ -129,6 +143,16 @@ RUNS = [
     Run("record of a named file", ["sauce", HI], 0, HI_RECORD),
     Run("tokens of standard input", ["tokens"], 0, HI_TOKENS, stdin=HI),
     Run("tokens of a named file", ["tokens", HI], 0, HI_TOKENS),
+    Run("needs of standard input", ["needs"], 0, HI_NEEDS, stdin=HI),
+    Run("needs of a named file", ["needs", HI], 0, HI_NEEDS),
+    Run("needs of a drawing that needs nothing", ["needs", BOX], 0,
+        b"size: 14 x 2\ncontent: 52 bytes\nnote: file size differs from the content\n"
+        b"note: date is not eight digits\nneeds: nothing\n"),
+    Run("needs of a drawing that needs two parts", ["needs", HARBOUR], 0,
+        b"size: 48 x 7\ncontent: 229 bytes\nneeds: screen cursor\n"),
+    Run("needs of a content that needs each part", ["needs"], 0,
+        b"size: 2 x 2\ncontent: 7 bytes\nneeds: screen cursor saved colours wrap\n",
+        stdin=file_of(b"H\x1b[uHia", 2, 2)),
     # Files that pass from the starts of which some parts are known, and not from every start.
     Run("check with a known screen", ["check", "--known-screen"], 0,
         b"size: 1 x 1\nstart: known screen\ncontent: 0 bytes\nverdict: pass\npicture:\n \n",
@@ -163,6 +187,10 @@ RUNS = [
     Run("tokens up to a fault", ["tokens"], 1,
         b"0 7 colours 1;37\n7 1 glyph 48\nat 8: F12 content ends in a sequence\n",
         stdin=file_of(b"\x1b[1;37mH\x1b[3")),
+    Run("needs of refused content", ["needs"], 1,
+        b"size: 2 x 1\ncontent: 3 bytes\nverdict: refused\n"
+        b"at 2: F20 print below the stated lines\n", stdin=file_of(b"Hi!")),
+    Run("needs without a record", ["needs"], 1, NO_RECORD, stdin=b"S" * 127),
     Run("check without a record", ["check"], 1, NO_RECORD, stdin=b"S" * 127),
     Run("record without a record", ["sauce"], 1, NO_RECORD, stdin=b"S" * 127),
     Run("tokens without a record", ["tokens"], 1, NO_RECORD, stdin=b"S" * 127),
@@ -174,6 +202,7 @@ RUNS = [
         stderr=b"anscheck: cannot open the file\n", stdin=HI),
     Run("check of a folder", ["check", "data"], 2,
         stderr=b"anscheck: cannot read the file\n", stdin=HI),
+    Run("needs of a folder", ["needs", "data"], 2, stderr=b"anscheck: cannot read the file\n"),
     Run("record of a folder", ["sauce", "data"], 2, stderr=b"anscheck: cannot read the file\n"),
     Run("check of too long a file", ["check"], 2,
         stderr=b"anscheck: file above 16777216 bytes\n", stdin=bytes(LARGEST_FILE + 1)),
@@ -186,6 +215,8 @@ RUNS = [
         stderr=b"anscheck: cannot write the report\n", output="/dev/full"),
     Run("tokens on a full device", ["tokens", HI], 2,
         stderr=b"anscheck: cannot write the report\n", output="/dev/full"),
+    Run("needs on a full device", ["needs", HI], 2,
+        stderr=b"anscheck: cannot write the report\n", output="/dev/full"),
     Run("help on a full device", ["--help"], 2,
         stderr=b"anscheck: cannot write the report\n", output="/dev/full"),
     Run("pass on a closed output", ["check", "--cleared"], 2,
@@ -194,6 +225,7 @@ RUNS = [
     Run("help", ["--help"], 0, HELP, stdin=HI),
     Run("help of check", ["check", "--help"], 0, CHECK_HELP, stdin=HI),
     Run("help of sauce", ["sauce", "-h"], 0, SAUCE_HELP, stdin=HI),
+    Run("help of needs", ["needs", "--help"], 0, NEEDS_HELP, stdin=HI),
     Run("an unknown flag", ["check", "--bogus"], 2, stdin=HI, stderr=mistake(
         "unexpected argument '--bogus' found\n\n"
         "  tip: to pass '--bogus' as a value, use '-- --bogus'", CHECK_USAGE)),
@@ -207,11 +239,14 @@ RUNS = [
     Run("a known part of another command", ["tokens", "--known-wrap", HI], 2, stderr=mistake(
         "unexpected argument '--known-wrap' found\n\n"
         "  tip: to pass '--known-wrap' as a value, use '-- --known-wrap'", "tokens [FILE]")),
+    Run("a cleared screen for needs", ["needs", "--cleared", HI], 2, stderr=mistake(
+        "unexpected argument '--cleared' found\n\n"
+        "  tip: to pass '--cleared' as a value, use '-- --cleared'", "needs [FILE]")),
     Run("a second file", ["check", HI, HI], 2, stderr=mistake(
         f"unexpected argument '{HI}' found", CHECK_USAGE)),
     Run("no subcommand", [], 2, stdin=HI, stderr=mistake(
         "'anscheck' requires a subcommand but one was not provided\n"
-        "  [subcommands: check, sauce, tokens]", "<COMMAND>")),
+        "  [subcommands: check, sauce, tokens, needs]", "<COMMAND>")),
     Run("an unknown subcommand", ["other", HI], 2, stderr=mistake(
         "unrecognized subcommand 'other'", "<COMMAND>")),
     Run("a word that is not text", ["check", b"\xff"], 2,

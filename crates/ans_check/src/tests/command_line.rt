@@ -1,6 +1,6 @@
 //! The options that words give.
 use super::endings::shown;
-use super::{ALL_KNOWN, ANY, CLEARED, CURSOR_AND_COLOURS, NONE_KNOWN, SAUCE, TOKENS};
+use super::{ALL_KNOWN, ANY, CLEARED, CURSOR_AND_COLOURS, NEEDS, NONE_KNOWN, SAUCE, TOKENS};
 use crate::{Ending, Options, Start, WordsError, options};
 use clap::error::ErrorKind;
 use std::process::Abort;
@@ -13,7 +13,7 @@ const CLEARED_WITH_CELLS: Options = Options {
 };
 
 /// The program's words, the options that they give, and the file.
-static TAKEN: [(&[&str], Options, Option<&str>); 11] = [
+static TAKEN: [(&[&str], Options, Option<&str>); 14] = [
     (&["anscheck", "check"], ANY, None),
     (&["anscheck", "check", "f"], ANY, Some("f")),
     (&["anscheck", "check", "--cleared"], CLEARED, None),
@@ -41,6 +41,13 @@ static TAKEN: [(&[&str], Options, Option<&str>); 11] = [
     (&["anscheck", "sauce", "f"], SAUCE, Some("f")),
     (&["anscheck", "sauce"], SAUCE, None),
     (&["anscheck", "tokens"], TOKENS, None),
+    (&["anscheck", "needs"], NEEDS, None),
+    (&["anscheck", "needs", "f"], NEEDS, Some("f")),
+    (
+        &["anscheck", "needs", "--", "--cleared"],
+        NEEDS,
+        Some("--cleared"),
+    ),
 ];
 
 /// What words give. Where memory was refused they are read once more.
@@ -203,11 +210,12 @@ fn flags_stand_on_both_sides_of_the_file(rt: HostRuntime) {
 }
 
 /// Words that give no options, and of which kind `clap` says they are.
-static REFUSED: [(&[&str], ErrorKind); 16] = [
+static REFUSED: [(&[&str], ErrorKind); 22] = [
     (&["anscheck"], ErrorKind::MissingSubcommand),
     (&["anscheck", "help"], ErrorKind::InvalidSubcommand),
     (&["anscheck", "--help"], ErrorKind::DisplayHelp),
     (&["anscheck", "check", "--help"], ErrorKind::DisplayHelp),
+    (&["anscheck", "needs", "--help"], ErrorKind::DisplayHelp),
     (&["anscheck", "--version"], ErrorKind::UnknownArgument),
     (&["anscheck", "other"], ErrorKind::InvalidSubcommand),
     (
@@ -247,6 +255,20 @@ static REFUSED: [(&[&str], ErrorKind); 16] = [
         &["anscheck", "tokens", "--cells"],
         ErrorKind::UnknownArgument,
     ),
+    (
+        &["anscheck", "needs", "--cells"],
+        ErrorKind::UnknownArgument,
+    ),
+    (
+        &["anscheck", "needs", "--cleared"],
+        ErrorKind::UnknownArgument,
+    ),
+    (
+        &["anscheck", "needs", "--known-wrap"],
+        ErrorKind::UnknownArgument,
+    ),
+    (&["anscheck", "needs", "f", "g"], ErrorKind::UnknownArgument),
+    (&["anscheck", "need"], ErrorKind::InvalidSubcommand),
 ];
 
 #[test]
@@ -266,7 +288,7 @@ fn other_words_give_none(rt: HostRuntime) {
 }
 
 /// Words, and what `clap` says of them, in the layout of Rust's clap 4.
-static TEXTS: [(&[&str], &str); 6] = [
+static TEXTS: [(&[&str], &str); 7] = [
     (
         &["anscheck", "--help"],
         "Checks ANSI art files that end in a SAUCE record\n\
@@ -278,6 +300,7 @@ static TEXTS: [(&[&str], &str); 6] = [
         and print that picture\n\
         \x20 sauce   Print what a file's SAUCE record says\n\
         \x20 tokens  Print the bytes and the escape sequences of a file's content, one a line\n\
+        \x20 needs   Print which parts of the start a file's content needs to be known\n\
         \n\
         Options:\n\
         \x20 -h, --help  Print help\n\
@@ -314,6 +337,23 @@ static TEXTS: [(&[&str], &str); 6] = [
         \x20 2  There is no answer; standard error says why\n",
     ),
     (
+        &["anscheck", "needs", "--help"],
+        "Print which parts of the start a file's content needs to be known\n\
+        \n\
+        Usage: anscheck needs [FILE]\n\
+        \n\
+        Arguments:\n\
+        \x20 [FILE]  The file to read; without it standard input is read\n\
+        \n\
+        Options:\n\
+        \x20 -h, --help  Print help\n\
+        \n\
+        Exit status:\n\
+        \x20 0  The file passes, or this help was asked for\n\
+        \x20 1  The file is refused\n\
+        \x20 2  There is no answer; standard error says why\n",
+    ),
+    (
         &["anscheck", "check", "--bogus"],
         "error: unexpected argument '--bogus' found\n\
         \n\
@@ -334,7 +374,7 @@ static TEXTS: [(&[&str], &str); 6] = [
     (
         &["anscheck"],
         "error: 'anscheck' requires a subcommand but one was not provided\n\
-        \x20 [subcommands: check, sauce, tokens]\n\
+        \x20 [subcommands: check, sauce, tokens, needs]\n\
         \n\
         Usage: anscheck <COMMAND>\n\
         \n\

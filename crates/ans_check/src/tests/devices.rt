@@ -1,5 +1,5 @@
 //! Readers and writers that fail.
-use super::{ANY, CLEARED, HI_REPORT, SAUCE, TOKENS, expect_run, plain_file, run_once};
+use super::{ANY, CLEARED, HI_REPORT, NEEDS, SAUCE, TOKENS, expect_run, plain_file, run_once};
 use crate::{Options, RunError, run};
 use ans_report::Tried;
 use ans_samples::{FailingOnce, Failure, Narrow};
@@ -17,6 +17,8 @@ const HI_RECORD: &[u8] = b"title: \n\
     comments: 0\n";
 
 const HI_TOKENS: &[u8] = b"0 1 glyph 48\n1 1 glyph 69\n";
+
+const HI_NEEDS: &[u8] = b"size: 2 x 1\ncontent: 2 bytes\nneeds: cursor colours\n";
 
 /// Gives one byte a read, and fails at one of the reads alone.
 #[derive(Clone, Copy)]
@@ -40,10 +42,11 @@ impl Read for Dripping<'_> {
 }
 
 /// What is asked of the sample file, and the whole text of the answer.
-static TEXTS: [(Options, &[u8]); 3] = [
+static TEXTS: [(Options, &[u8]); 4] = [
     (CLEARED, HI_REPORT),
     (SAUCE, HI_RECORD),
     (TOKENS, HI_TOKENS),
+    (NEEDS, HI_NEEDS),
 ];
 
 #[test]
@@ -62,7 +65,7 @@ fn a_writer_that_fails_has_a_prefix(rt: HostRuntime) {
 #[test]
 fn a_writer_that_fails_has_a_prefix_of_a_refusal(rt: HostRuntime) {
     let text: &[u8] = b"verdict: refused\nat 127: F1 no SAUCE record\n";
-    for asked in &[ANY, SAUCE, TOKENS] {
+    for asked in &[ANY, SAUCE, TOKENS, NEEDS] {
         for room in 0..text.len() {
             let error = Err(RunError::Write);
             expect_run(&rt, &[b'S'; 127], asked, room, error, &text[..room]);
@@ -73,7 +76,7 @@ fn a_writer_that_fails_has_a_prefix_of_a_refusal(rt: HostRuntime) {
 #[test]
 fn a_reader_that_fails_leaves_nothing_written(rt: HostRuntime) {
     let file = plain_file(&rt, b"Hi", 2, 1);
-    for asked in &[CLEARED, SAUCE, TOKENS] {
+    for asked in &[CLEARED, SAUCE, TOKENS, NEEDS] {
         for fails_at in 1..133u64 {
             let input = Dripping {
                 left: file.as_slice(),

@@ -1,8 +1,10 @@
 -- Laws of the classes of starts.
-use Rattle.std.specs.Prelude.{◌≡◌, ◌↔◌, ℕ, List}
+use Rattle.std.specs.Prelude.{◌≡◌, ◌↔◌, ◌||◌, ℕ, true, false, List, replicate}
 use Rattle.ans_model.specs.declared.start.Start.{Start}
-use Rattle.ans_model.specs.Screen.State.{Size, IsSize, State, IsWellFormed}
-use Rattle.ans_model.specs.Screen.StartClass.{none_known, all_known, Covers, cleared, IsStart, low_start, high_start}
+use Rattle.ans_model.specs.Screen.State.{Size, IsSize, State, IsWellFormed, at, cell, cell_count}
+use Rattle.ans_model.specs.Screen.StartClass.{none_known, all_known, Covers, both_known, cleared, IsStart, low_start}
+use Rattle.ans_model.specs.Screen.StartClass.{high_start, all_but_screen, all_but_cursor, all_but_saved}
+use Rattle.ans_model.specs.Screen.StartClass.{all_but_colours, all_but_wrap}
 use Rattle.ans_model.specs.Verdict.Good.{Picture, GoodWith}
 
 -- Where nothing is known, a start is every state of the machine.
@@ -12,6 +14,47 @@ NoneKnownIsEvery = (z : Size) (s : State) → IsStart z none_known s ↔ IsWellF
 -- Where all is known, it is the one cleared state.
 abbrev pub AllKnownIsOne : Type 0
 AllKnownIsOne = (z : Size) (s : State) → IsSize z → IsStart z all_known s ↔ (s ≡ cleared z)
+
+-- Where the screen alone is known, the starts are the states whose cells are blanks of white on black.
+abbrev pub KnownScreenAlone : Type 0
+KnownScreenAlone = (z : Size) (s : State)
+    → IsStart z (record none_known { screen = true }) s
+    ↔ (IsWellFormed z s × (s.screen ≡ replicate (cell_count z) (cell 0x20 0x07)))
+
+-- Where the cursor alone is known, the starts are the states whose cursor is at home.
+abbrev pub KnownCursorAlone : Type 0
+KnownCursorAlone = (z : Size) (s : State)
+    → IsStart z (record none_known { cursor = true }) s ↔ (IsWellFormed z s × (s.cursor ≡ at 0 0))
+
+-- Where the saved cursor alone is known, the starts are the states whose saved cursor is at home.
+abbrev pub KnownSavedAlone : Type 0
+KnownSavedAlone = (z : Size) (s : State)
+    → IsStart z (record none_known { saved = true }) s ↔ (IsWellFormed z s × (s.saved ≡ at 0 0))
+
+-- Where the colours alone are known, the starts are the states whose attribute is white on black.
+abbrev pub KnownColoursAlone : Type 0
+KnownColoursAlone = (z : Size) (s : State)
+    → IsStart z (record none_known { colours = true }) s ↔ (IsWellFormed z s × (s.attribute ≡ 0x07))
+
+-- Where wrap alone is known, the starts are the states in which it is on.
+abbrev pub KnownWrapAlone : Type 0
+KnownWrapAlone = (z : Size) (s : State)
+    → IsStart z (record none_known { wrap = true }) s ↔ (IsWellFormed z s × (s.wrap ≡ true))
+
+-- the parts that are known in one class or the other
+abbrev pub known_in_either : Start → Start → Start
+known_in_either a b = record {
+  screen = a.screen || b.screen;
+  cursor = a.cursor || b.cursor;
+  saved = a.saved || b.saved;
+  colours = a.colours || b.colours;
+  wrap = a.wrap || b.wrap;
+}
+
+-- Where the known parts of two classes are known together, the starts are those that both classes have.
+abbrev pub KnownPartsTogether : Type 0
+KnownPartsTogether = (z : Size) (a b : Start) (s : State)
+    → IsStart z (known_in_either a b) s ↔ (IsStart z a s × IsStart z b s)
 
 -- A class's low start is one of its starts.
 abbrev pub LowIsStart : Type 0
@@ -30,3 +73,15 @@ abbrev pub CoversGood : Type 0
 CoversGood =
     (z : Size) (a b : Start) (content : List ℕ) (picture : Picture) → Covers a b → GoodWith z a content picture
     → GoodWith z b content picture
+
+-- A class covers that which knows what both know exactly where it covers both.
+abbrev pub BothKnownIsGreatest : Type 0
+BothKnownIsGreatest = (a b c : Start) → Covers c (both_known a b) ↔ (Covers c a × Covers c b)
+
+-- A class covers that of all parts but one exactly where it does not know that part.
+pub record CoversAllBut (class : Start) : Type 0 where
+  pub screen : Covers class all_but_screen ↔ (class.screen ≡ false)
+  pub cursor : Covers class all_but_cursor ↔ (class.cursor ≡ false)
+  pub saved : Covers class all_but_saved ↔ (class.saved ≡ false)
+  pub colours : Covers class all_but_colours ↔ (class.colours ≡ false)
+  pub wrap : Covers class all_but_wrap ↔ (class.wrap ≡ false)

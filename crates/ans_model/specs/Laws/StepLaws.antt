@@ -119,8 +119,8 @@ abbrev pub GlyphScrolls : Type 0
 GlyphScrolls = (z : Size) (s : State) (byte : ℕ) → IsWellFormed z s → PrintScrolls z s
     → IsPrintedAndScrolled z s byte (step z s (Glyph byte))
 
--- A Tab is the play of so many printed blanks as take the cursor to the next column that 8 divides, if the row goes on
--- so far: at least one, and at most eight.
+-- A Tab is the play of `count` printed blanks, at least one and at most eight. They take the cursor to the next column
+-- that 8 divides, if the row goes on that far.
 pub record PrintsBlanks (z : Size) (s : State) (count : ℕ) : Type 0 where
   pub some : 1 ≤ count
   pub most : count ≤ 8
@@ -131,7 +131,7 @@ pub record PrintsBlanks (z : Size) (s : State) (count : ℕ) : Type 0 where
 abbrev pub TabPrintsBlanks : Type 0
 TabPrintsBlanks = (z : Size) (s : State) → (count : ℕ) × PrintsBlanks z s count
 
--- the index behind the last cell that a tab blanks: it goes on in the rows below where wrap is on, and else it stops at
+-- the index after the last cell that a tab blanks: it goes on in the rows below where wrap is on, and else it stops at
 -- the row's end
 abbrev pub tab_end : Size → State → ℕ
 tab_end z s =
@@ -142,7 +142,7 @@ tab_end z s =
 abbrev pub IsTabbed : Size → State → Position → Type 0
 IsTabbed z s p = (index z s.cursor ≤ index z p) × (index z p < tab_end z s)
 
--- The cells from the cursor to the tab's end are blank, and each other cell is kept. The cursor stands behind them, or
+-- The cells from the cursor to the tab's end are blank, and each other cell is kept. The cursor stands after them, or
 -- in the last column where wrap is off and the row has ended.
 pub record IsAfterTab (z : Size) (s t : State) : Type 0 where
   pub blanked : (p : Position) → IsOnScreen z p → IsTabbed z s p → cell_at z t.screen p ≡ Some (blank_cell s.attribute)

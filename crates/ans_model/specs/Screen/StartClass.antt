@@ -1,6 +1,6 @@
 -- The starts of a class, and its low and its high one. A class says which parts of a start are known to be as on the
 -- cleared screen.
-use Rattle.std.specs.Prelude.{◌≡◌, ◌-◌, true, false, replicate, IsTrue, if◌then◌else◌}
+use Rattle.std.specs.Prelude.{◌≡◌, ◌-◌, ◌&&◌, true, false, replicate, IsTrue, if◌then◌else◌}
 use Rattle.ans_model.specs.Screen.State.{Size, State, at, cell, cell_count, IsWellFormed}
 use Rattle.ans_model.specs.Screen.Step.{blank_cell}
 use Rattle.ans_model.specs.declared.start.Start.{Start}
@@ -20,6 +20,32 @@ pub record Covers (a b : Start) : Type 0 where
   pub saved : IsTrue a.saved → IsTrue b.saved
   pub colours : IsTrue a.colours → IsTrue b.colours
   pub wrap : IsTrue a.wrap → IsTrue b.wrap
+
+-- the parts that are known in both classes
+abbrev pub both_known : Start → Start → Start
+both_known a b = record {
+  screen = a.screen && b.screen;
+  cursor = a.cursor && b.cursor;
+  saved = a.saved && b.saved;
+  colours = a.colours && b.colours;
+  wrap = a.wrap && b.wrap;
+}
+
+-- all parts but one are known
+abbrev pub all_but_screen : Start
+all_but_screen = record all_known { screen = false }
+
+abbrev pub all_but_cursor : Start
+all_but_cursor = record all_known { cursor = false }
+
+abbrev pub all_but_saved : Start
+all_but_saved = record all_known { saved = false }
+
+abbrev pub all_but_colours : Start
+all_but_colours = record all_known { colours = false }
+
+abbrev pub all_but_wrap : Start
+all_but_wrap = record all_known { wrap = false }
 
 -- blank cells of white on black, both cursors at home, wrap on (profile)
 abbrev pub cleared : Size → State

@@ -47,7 +47,7 @@ HasPrintFault z class played PrintUnknownPlace = PositionsDiffer z class played
 HasPrintFault z class played PrintBelow = SamePosition z class played × FromEvery z class (IsInSpareRow z played)
 HasPrintFault z class played _ = ⊥
 
--- these tokens, and then so many blanks
+-- these tokens, and then n blanks
 abbrev pub then_blanks : List TokenKind → ℕ → List TokenKind
 then_blanks played n = played ++ replicate n (Glyph blank)
 

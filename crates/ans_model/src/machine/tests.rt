@@ -10,8 +10,8 @@ use arrayvec::ArrayVec;
 use std::alloc::{AllocError, Global};
 use std::test::Fail;
 
-/// The content, and what it shows on a screen of the given columns and lines. Lines are joined by `/`,
-/// and a dot stands for a blank. Cells are compared where some are given.
+/// The content, and what it shows on a screen of the given columns and lines. Lines are joined by
+/// `/`, and a dot stands for a blank. Cells are compared where some are given.
 struct Play {
     start: Start,
     size: (usize, usize),
@@ -502,7 +502,8 @@ const PLAYS: [Play; 60] = [
     Play {
         start: CLEARED,
         size: (9, 1),
-        content: b"\x1b[1;5;33;44m\x1b[2mx\x1b[3mx\x1b[6mx\x1b[38mx\x1b[39mx\x1b[48mx\x1b[49mx\x1b[9;10mx\x1b[255mx",
+        content: b"\x1b[1;5;33;44m\x1b[2mx\x1b[3mx\x1b[6mx\x1b[38mx\x1b[39mx\x1b[48mx\
+            \x1b[49mx\x1b[9;10mx\x1b[255mx",
         picture: b"xxxxxxxxx",
         cells: b"789e789e789e789e789e789e789e789e789e",
     },

@@ -3,7 +3,7 @@ use Rattle.std.proofs.lemmas.Result.{IfOk-weaker}
 use Rattle.clap.specs.Words.{App, Shape, app_of, with_subcommand}
 use Rattle.clap.specs.Simple.{app_of_fields, on_top}
 use Rattle.clap.proofs.SimpleLemmas.{plain_fields}
-use Rattle.ans_check.specs.CommandLine.{anscheck_top, check_app, sauce_app}
+use Rattle.ans_check.specs.CommandLine.{anscheck_top, check_app, sauce_app, tokens_app}
 use Rattle.ans_check.proofs.command_line.program.Goals as goal
 
 abbrev required : App → App
@@ -27,6 +27,10 @@ returns c =
     (with_subcommand anscheck_top check_app.top) sauce_app.top =
     c.in_ok-subcommand-2.ensures.shape (plain_fields c.in_ok-sauce.sauce (ap plain c.in_ok-sauce.ensures)).globals
     ∙ ap₂ with_subcommand one_is (ap top c.in_ok-sauce.ensures) in
-    IfOk-weaker c.subcommand-3.result _ _ (λ r adds.
-    adds.shape (plain_fields c.in_ok-tokens.tokens (ap plain c.in_ok-tokens.ensures)).globals
-    ∙ ap₂ with_subcommand two_is (ap top c.in_ok-tokens.ensures)) c.subcommand-3.ensures
+    let three_is : app_of c.in_ok-subcommand-3.field-0 ≡ with_subcommand
+    (with_subcommand (with_subcommand anscheck_top check_app.top) sauce_app.top) tokens_app.top =
+    c.in_ok-subcommand-3.ensures.shape (plain_fields c.in_ok-tokens.tokens (ap plain c.in_ok-tokens.ensures)).globals
+    ∙ ap₂ with_subcommand two_is (ap top c.in_ok-tokens.ensures) in
+    IfOk-weaker c.subcommand-4.result _ _ (λ r adds.
+    adds.shape (plain_fields c.in_ok-needs.needs (ap plain c.in_ok-needs.ensures)).globals
+    ∙ ap₂ with_subcommand three_is (ap top c.in_ok-needs.ensures)) c.subcommand-4.ensures

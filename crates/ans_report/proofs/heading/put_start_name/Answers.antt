@@ -8,6 +8,4 @@ pub returns : goal.returns
 returns g c =
     let some : c.args.start ≡ none_known → ⊥ = search rules in
     let missing : c.args.start ≡ all_known → ⊥ = search rules in
-    Puts-same (name_of_parts c.args.start some missing) (Puts-then c.put-2.ensures (Puts-then c.put_known_part.ensures
-    (Puts-then c.put_known_part-2.ensures (Puts-then c.put_known_part-3.ensures
-    (Puts-then c.put_known_part-4.ensures c.put_known_part-5.ensures)))))
+    Puts-same (name_of_parts c.args.start some missing) (Puts-then c.put-2.ensures c.put_known_parts.ensures)

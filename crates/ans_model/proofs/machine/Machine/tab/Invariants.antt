@@ -4,7 +4,7 @@ use Rattle.ans_model.specs.Screen.Step.{put}
 use Rattle.ans_model.specs.Inside.MachineView.{machine_view}
 use Rattle.ans_model.proofs.machine.Machine.tab.Given as goal
 
--- so many blanks are printed
+-- `counter` blanks are printed
 abbrev pub invariant-loop : goal.invariant-loop
 invariant-loop l = l.self ≡ machine_view l.fn.self.size
     (fold (put l.fn.self.size) l.fn.self.state (replicate l.counter blank))

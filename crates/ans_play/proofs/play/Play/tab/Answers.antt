@@ -46,7 +46,8 @@ returns g c =
     let one : is_one_position c.self.inside.cursor ≡ true = search rules in
     let ne : c.self.inside.cursor.low.row ≢ c.self.inside.size.lines = search rules in
     let none : fault_of_blanks c.self.inside.size c.self.inside.wrap c.self.inside.cursor.low
-    (tab_blanks c.self.inside.cursor.low.column) ≡ None = c.in_ok-cursor.ensures.ok in
+    (tab_blanks c.self.inside.cursor.low.column) ≡ None =
+    rw c.tab_blanks-blanks.ensures at c.in_ok-cursor.ensures.ok in
     let cells : length (g.G.Grid.cells_of c.self.inside.grid) ≡ cell_count c.self.inside.size =
     c.self.invariant.cells in
     let blank : c.blank-blank.result ≡ half_blank c.self.inside.attribute =
@@ -57,7 +58,8 @@ returns g c =
       run.0,
       ap (λ (h : HalfState). play_view c.self.inside.size c.self.inside.scanner h)
           (same_run _ _ _ _ c.self.inside.saved c.self.inside.attribute c.self.inside.wrap
-          (rw (c.width.ensures.width, c.end_of_blanks-to.ensures, blank) at c.fill.ensures.cells)
-          c.in_ok-cursor.ensures.after
+          (rw (c.width.ensures.width, c.end_of_blanks-to.ensures, c.tab_blanks-blanks.ensures, blank)
+          at c.fill.ensures.cells)
+          (rw c.tab_blanks-blanks.ensures at c.in_ok-cursor.ensures.after)
           ∙ sym run.1),
     )

@@ -1,0 +1,86 @@
+//! Which parts of the start a file's content needs to be known.
+ghost use Rattle.std.specs.Prelude.{◌≤◌, length, IsOk, IsSome, IfOk};
+ghost use Rattle.ans_model.specs.Bytes.{longest_file};
+ghost use Rattle.ans_model.specs.File.Refusals.{record_fault};
+ghost use Rattle.ans_model.specs.Screen.StartClass.{all_known};
+ghost use Rattle.ans_model.specs.Verdict.Needs.{IsFoundByParts};
+ghost use Rattle.ans_sauce.specs.Parts.{content_of};
+ghost use Rattle.ans_check.specs.FileNeeds.{HasFaultWithin, IsNeedsOf, IsLeastClass};
+ghost use Rattle.ans_check.specs.FileVerdict.{IsGoodFile, parts_size};
+
+use crate::verdict::{Needs, passes_from, play};
+use ans_model::start::Start;
+use ans_sauce::{Parts, split};
+use ans_screen::Grid;
+use std::alloc::{AllocError, Global};
+
+/// The classes that know all parts but one.
+const ALL_BUT_SCREEN: Start = Start {
+    screen: false,
+    ..ALL
+};
+
+const ALL_BUT_CURSOR: Start = Start {
+    cursor: false,
+    ..ALL
+};
+
+const ALL_BUT_SAVED: Start = Start {
+    saved: false,
+    ..ALL
+};
+
+const ALL_BUT_COLOURS: Start = Start {
+    colours: false,
+    ..ALL
+};
+
+const ALL_BUT_WRAP: Start = Start { wrap: false, ..ALL };
+
+/// The class that knows each part.
+const ALL: Start = Start {
+    screen: true,
+    cursor: true,
+    saved: true,
+    colours: true,
+    wrap: true,
+};
+
+/// The class of the parts that the content cannot do without, each tried by itself: the content is
+/// played from the class of all other parts.
+fn least_class<G: Grid>(alloc: Global, parts: &Parts<'_>) -> Result<Start, AllocError>
+    requires { length (content_of parts.now) ≤ longest_file }
+    ensures { IfOk result (IsFoundByParts (parts_size parts.now) (content_of parts.now)) }
+{
+    Ok(Start {
+        screen: !passes_from::<G>(alloc, parts, ALL_BUT_SCREEN)?,
+        cursor: !passes_from::<G>(alloc, parts, ALL_BUT_CURSOR)?,
+        saved: !passes_from::<G>(alloc, parts, ALL_BUT_SAVED)?,
+        colours: !passes_from::<G>(alloc, parts, ALL_BUT_COLOURS)?,
+        wrap: !passes_from::<G>(alloc, parts, ALL_BUT_WRAP)?,
+    })
+}
+
+/// Finds what a file needs. Its content is played from the cleared start, and where that passes,
+/// from each class that knows all parts but one: at most six plays, one after the other, each up to
+/// its first fault.
+///
+/// Fails only if memory runs out; a file that is refused for its record or its layout takes none.
+/// An offset counts bytes from the file's start, which is the content's too.
+pub fn needs<G: Grid>(alloc: Global, file: &[u8]) -> Result<Needs<'_>, AllocError>
+    requires { length file.now ≤ longest_file }
+    ensures needs { IfOk result (IsNeedsOf file.now) }
+    ensures exact { IfOk result (λ n. IsGoodFile file.now all_known → IsLeastClass n) }
+    ensures offset { IfOk result (HasFaultWithin (length file.now)) }
+    ensures memory { IsSome (record_fault file.now) → IsOk result }
+{
+    let parts = match split(file) {
+        Ok(parts) => parts,
+        Err(fault) => return Ok(Needs::Refused(None, fault)),
+    };
+    if let Err(fault) = play::<G>(alloc, &parts, ALL)? {
+        return Ok(Needs::Refused(Some(parts), fault));
+    }
+    let class = least_class::<G>(alloc, &parts)?;
+    Ok(Needs::Least(parts, class))
+}

@@ -1,0 +1,104 @@
+//! The text of what a content needs.
+ghost use Rattle.std.specs.Prelude.{◌≡◌, ◌↔◌, false, IsTrue, IsErr};
+ghost use Rattle.std.specs.Option.{option_copied};
+ghost use Rattle.ans_report.specs.Tried.{has_failed, inner_of};
+ghost use Rattle.ans_report.specs.Writes.{WritesText};
+ghost use Rattle.ans_report.specs.Puts.{Puts};
+ghost use Rattle.ans_report.specs.Headings.{needs_heading_of};
+ghost use Rattle.ans_report.specs.NeedsBytes.{needs_bytes, needs_refused_text};
+ghost use Rattle.ans_model.specs.Text.NeedsText.{needed_parts, needs_heading_text, needs_text};
+
+use crate::fault_lines::put_refusal;
+use crate::heading::{put_known_parts, put_length_and_notes};
+use crate::lines::put_size_line;
+use crate::outbox::{Outbox, WriteFault};
+use crate::tried::Tried;
+use ans_model::start::Start;
+use ans_sauce::{Fault, Parts};
+use std::io::Write;
+
+/// What is said of a content's needs.
+#[derive(Drop)]
+pub enum NeedsReport<'a> {
+    /// The content needs the parts that this class knows.
+    Least {
+        parts: &'a Parts<'a>,
+        class: Start,
+    },
+    /// The file is refused even from the cleared start. There are no parts where its record or its
+    /// layout is.
+    Refused {
+        parts: Option<&'a Parts<'a>>,
+        fault: Fault,
+    },
+}
+
+/// Puts the lines before what the content needs: those of a report but for the start's.
+fn put_needs_heading<W: Write>(out: &mut Outbox<'_, W>, parts: &Parts<'_>)
+    ensures { Puts W.contents out.old out.new (needs_heading_text (needs_heading_of parts.now)) }
+{
+    put_size_line(out, parts);
+    put_length_and_notes(out, parts);
+}
+
+/// Puts the parts that a class knows, each after a blank, or that there is none.
+fn put_needed_parts<W: Write>(out: &mut Outbox<'_, W>, class: Start)
+    ensures { Puts W.contents out.old out.new (needed_parts class) }
+{
+    if class == Start::any() {
+        out.put(b" nothing");
+        return;
+    }
+    put_known_parts(out, class);
+}
+
+/// Puts what the content needs.
+fn put_least<W: Write>(out: &mut Outbox<'_, W>, parts: &Parts<'_>, class: Start)
+    ensures { Puts W.contents out.old out.new (needs_text (needs_heading_of parts.now) class) }
+{
+    put_needs_heading(out, parts);
+    out.put(b"needs:");
+    put_needed_parts(out, class);
+    out.put(b"\n");
+}
+
+/// Puts why the file is refused, which is the fault alone where there are no parts.
+fn put_needs_refusal<W: Write>(out: &mut Outbox<'_, W>, parts: Option<&Parts<'_>>, fault: &Fault)
+    ensures { Puts W.contents out.old out.new
+        (needs_refused_text (option_copied parts.entry) fault.now) }
+{
+    match parts {
+        Some(parts) => {
+            put_needs_heading(out, parts);
+            put_refusal(out, fault);
+        }
+        None => put_refusal(out, fault),
+    }
+}
+
+/// Puts what the report says.
+fn put_needs<W: Write>(out: &mut Outbox<'_, W>, r: &NeedsReport<'_>)
+    ensures { Puts W.contents out.old out.new (needs_bytes r.now) }
+{
+    match r {
+        NeedsReport::Least { parts, class } => put_least(out, parts, *class),
+        NeedsReport::Refused { parts, fault } => put_needs_refusal(out, *parts, fault),
+    }
+}
+
+/// Writes what a content needs: the size, the content's length and the notes, and then `needs:` and
+/// the parts of the start that have to be known, or `nothing`; or the fault of a refusal. Without
+/// parts only the fault is written.
+///
+/// `Err` comes exactly where the device failed in the call, and then a prefix of the text was
+/// written.
+pub fn write_needs<W: Write>(w: &mut Tried<W>, r: &NeedsReport<'_>) -> Result<(), WriteFault>
+    requires { has_failed w.old ≡ false }
+    ensures device { IsErr result ↔ IsTrue (has_failed w.new) }
+    ensures bytes { WritesText (W.contents (inner_of w.old)) (W.contents (inner_of w.new))
+        result (needs_bytes r.now) }
+{
+    let mut out = Outbox::new(w);
+    put_needs(&mut out, r);
+    out.finish()
+}
