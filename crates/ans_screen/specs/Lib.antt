@@ -1,3 +1,4 @@
 pub mod KnownBits
 pub mod HalfCells
 pub mod GridEdits
+pub mod CellPlanes

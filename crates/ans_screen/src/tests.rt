@@ -1,6 +1,8 @@
 //! Values from outside, and each call once.
 
-use crate::{Attr, Grid, HalfCell, PlainGrid};
+ghost use Rattle.std.specs.Prelude.{◌<◌, ◌≤◌};
+
+use crate::{Attr, Grid, HalfCell, PlainGrid, PlaneGrid};
 use std::alloc::Global;
 use std::process::Abort;
 use std::test::Fail;
@@ -65,4 +67,63 @@ fn edit_a_row<G: Grid>(rt: &impl Abort, alloc: Global) -> Result<(), Fail> {
 #[test]
 fn edits_a_plain_grid(rt: HostRuntime) -> Result<(), Fail> {
     edit_a_row::<PlainGrid>(&rt, rt.alloc())
+}
+
+#[test]
+fn edits_a_plane_grid(rt: HostRuntime) -> Result<(), Fail> {
+    edit_a_row::<PlaneGrid>(&rt, rt.alloc())
+}
+
+/// 65 cells, known but for one, in both grids, before and after their front is filled.
+fn compare_grids(
+    rt: &impl Abort,
+    alloc: Global,
+    front: usize,
+    place: usize,
+    unknown: &HalfCell,
+) -> Result<(), Fail>
+    requires front { front ≤ 65 }
+    requires place { place < 65 }
+{
+    let mut planes = PlaneGrid::new(alloc, 65, 1, HalfCell::known(b'.', 0x07))?;
+    let mut plain = PlainGrid::new(alloc, 65, 1, HalfCell::known(b'.', 0x07))?;
+    planes.put(place, *unknown);
+    plain.put(place, *unknown);
+    let expected = if place < front { Some(place) } else { None };
+    assert_eq!(rt; plain.first_unknown(front), expected, "{place} of {front}");
+    assert_eq!(rt; planes.first_unknown(front), expected, "{place} of {front}");
+    planes.fill(0, front, HalfCell::known(b'x', 0x1F));
+    plain.fill(0, front, HalfCell::known(b'x', 0x1F));
+    for i in 0..65 {
+        assert_eq!(rt; planes.get(i), plain.get(i), "{i}, {place} of {front}");
+    }
+    Ok(())
+}
+
+/// The same, for each place of a cell of which no part, no glyph or not all bits are known.
+fn compare_at_each_place(rt: &impl Abort, alloc: Global, front: usize) -> Result<(), Fail>
+    requires { front ≤ 65 }
+{
+    let no_glyph = HalfCell {
+        glyph: None,
+        attr: Attr::whole(0x07),
+    };
+    let some_bits = HalfCell {
+        glyph: Some(b'A'),
+        attr: Attr::none().apply(37),
+    };
+    for place in 0..65 {
+        compare_grids(rt, alloc, front, place, &HalfCell::unknown())?;
+        compare_grids(rt, alloc, front, place, &no_glyph)?;
+        compare_grids(rt, alloc, front, place, &some_bits)?;
+    }
+    Ok(())
+}
+
+#[test]
+fn compares_grids_at_the_ends_of_chunks(rt: HostRuntime) -> Result<(), Fail> {
+    for front in [0, 1, 31, 32, 33, 63, 64, 65] {
+        compare_at_each_place(&rt, rt.alloc(), front)?;
+    }
+    Ok(())
 }
