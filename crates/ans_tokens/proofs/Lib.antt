@@ -4,3 +4,6 @@ pub mod OpenLemmas
 pub mod EachByte
 pub mod Readable
 pub mod PartLemmas
+pub mod WholeSequences
+pub mod TakenTokens
+pub mod TextChunks

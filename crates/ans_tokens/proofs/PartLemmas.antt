@@ -26,7 +26,7 @@ or_false false = refl
 one_quoted : (m : Member) → list_any is_quoted (m ∷ []) ≡ is_quoted m
 one_quoted m = or_false (is_quoted m)
 
-quoted_after : (done : List Member) (m : Member)
+pub quoted_after : (done : List Member) (m : Member)
     → list_any is_quoted (done ++ m ∷ []) ≡ (list_any is_quoted done || is_quoted m)
 quoted_after done m =
     list_any-append is_quoted done (m ∷ []) ∙ ap (λ (b : Bool). list_any is_quoted done || b) (one_quoted m)

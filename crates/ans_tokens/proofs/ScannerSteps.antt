@@ -23,7 +23,7 @@ abbrev pub with_current : Part → Current → Part
 with_current p c = record { mark = p.mark; done = p.done; current = c }
 
 -- ---- bytes that begin or go on a member
-digit_is : (b : ℕ) → is_ascii_digit b ≡ true → digit_value b ≡ b - 48
+pub digit_is : (b : ℕ) → is_ascii_digit b ≡ true → digit_value b ≡ b - 48
 digit_is b h = grind (arith, nat_tests)
 
 first_digit : (b : ℕ) → is_ascii_digit b ≡ true → SpellsCurrent (InNumber (b - 48)) (b ∷ [])

@@ -1,5 +1,5 @@
 -- Bytes that are printed as they stand, one token each.
-use Rattle.std.specs.Prelude.{◌≡◌, ℕ, ◌+◌, ◌≤◌, List, [], ◌∷◌, length, take, slice_get, All, Some, None}
+use Rattle.std.specs.Prelude.{◌≡◌, ℕ, ◌+◌, ◌≤◌, Bool, nat_lt, List, [], ◌∷◌, length, take, slice_get, All, Some, None}
 use Rattle.ans_model.specs.Sequence.TokenKind.{Glyph}
 use Rattle.ans_model.specs.Sequence.Reads.{SpellsToken}
 use Rattle.ans_tokens.specs.ScannerView.{ScannerView, Nothing}
@@ -7,6 +7,10 @@ use Rattle.ans_tokens.specs.ScannerView.{ScannerView, Nothing}
 -- the byte alone spells the token that prints it
 abbrev pub IsGlyphByte : ℕ → Type 0
 IsGlyphByte b = SpellsToken (Glyph b) (b ∷ [])
+
+-- a byte below 20h, of which some are no glyphs
+abbrev pub is_low : ℕ → Bool
+is_low byte = nat_lt byte 0x20
 
 -- the first `count` bytes are glyphs, and the next one, where there is one, is not
 pub record IsGlyphFront (bytes : List ℕ) (count : ℕ) : Type 0 where

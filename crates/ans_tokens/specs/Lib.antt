@@ -6,3 +6,4 @@ pub mod KeptMember
 pub mod Glyphs
 pub mod Unfinished
 pub mod ScannerInside
+pub mod WholeToken

@@ -13,6 +13,7 @@ mod meaning;
 mod scanner;
 mod token;
 mod unfinished;
+mod whole;
 
 pub use ans_model::fault::{Cause, Fault};
 pub use ans_model::kind::Kind;

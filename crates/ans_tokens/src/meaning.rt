@@ -113,6 +113,7 @@ fn wrap_or_mode(mark: Mark, numbers: &[u8], quoted: bool, on: bool) -> Result<Ki
 
 /// What a sequence means: its mark, a number for each member, whether a string was among them, and
 /// its letter. Where it is refused, the cause is `UnknownSequence` or `WrongParameters`.
+#[inline(always)]
 #[tactic(auto, using(crate::proofs::PlainSequences::no_string))]
 pub(crate) fn kind_meant(
     mark: Mark,

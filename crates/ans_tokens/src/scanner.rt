@@ -9,11 +9,12 @@ ghost use Rattle.ans_model.specs.Inside.ShownKind.{shown_kind};
 use crate::glyphs::count_glyphs;
 use crate::token::Token;
 use crate::unfinished::{Continuation, Unfinished};
+use crate::whole::whole_token;
 use ans_model::fault::{Cause, Fault};
 use ans_model::kind::Kind;
 use std::marker::Model;
 
-const ESCAPE: u8 = 0x1B;
+pub(crate) const ESCAPE: u8 = 0x1B;
 
 /// What is kept of the bytes since the last token.
 #[derive(Debug, Drop)]
@@ -27,7 +28,7 @@ pub(crate) enum Open {
 }
 
 /// The token that a byte outside sequences is.
-fn kind_of_byte(byte: u8) -> Kind
+pub(crate) fn kind_of_byte(byte: u8) -> Kind
     ensures { shown_kind result ≡ kind_of_byte byte }
 {
     match byte {
@@ -122,6 +123,7 @@ impl Scanner {
     ghost use Rattle.ans_tokens.specs.ScannerView.{new_scanner, StaysUnfinished, EndsToken};
     ghost use Rattle.ans_tokens.specs.ScannerView.{RefusesByte, Ends};
     ghost use Rattle.ans_tokens.specs.Glyphs.{IsGlyphFront, IsBetweenTokens, scanner_after_glyphs};
+    ghost use Rattle.ans_tokens.specs.WholeToken.{TakesToken};
 
     /// A scanner before the first byte.
     pub fn new() -> Scanner
@@ -211,6 +213,25 @@ impl Scanner {
         self.offset += count;
         self.open_offset += count;
         count
+    }
+
+    /// Takes the token that the bytes begin with, where it is a whole one and of a common form: a
+    /// byte outside sequences (ANSI.SYS), or `ESC [`, perhaps a mark `?` or `=`, at most 16 numbers
+    /// of at most 255 with a `;` between each two, and a letter that means something with them.
+    /// None declines: then nothing changes, and the bytes may be taken one by one. It is called
+    /// between two tokens.
+    pub fn token(&mut self, bytes: &[u8]) -> Option<Token>
+        requires between { IsBetweenTokens self.old }
+        requires room { self.old.offset + length bytes.now ≤ longest_file }
+        ensures taken { IfSome result (TakesToken self.old bytes.now self.new) }
+        ensures declined { result ≡ None → self.new ≡ self.old }
+    {
+        let token = whole_token(bytes, self.offset);
+        if let Some(token) = &token {
+            self.offset += token.length;
+            self.open_offset += token.length;
+        }
+        token
     }
 
     /// Whether the content may end here. It returns the fault that was returned before, or F12 at

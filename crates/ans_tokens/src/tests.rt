@@ -1,5 +1,7 @@
 //! Contents byte by byte: the tokens that they hold, and where they are refused.
 
+mod whole_tokens;
+
 use crate::{Cause, Fault, Kind, Scanner, Token};
 use ans_model::limits::MAX_FILE;
 use std::alloc::{AllocError, Global};

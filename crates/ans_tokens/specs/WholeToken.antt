@@ -1,0 +1,52 @@
+-- A token that is taken whole from the bytes that begin with it.
+use Rattle.std.specs.Prelude.{◌≡◌, ℕ, ◌+◌, ◌<◌, ◌≤◌, IsTrue, false, List, length, map, take}
+use Rattle.std.specs.List.{list_all, list_any}
+use Rattle.std.specs.Char.{is_ascii_digit}
+use Rattle.std.specs.Str.Parse.{digits_value}
+use Rattle.ans_model.specs.Bytes.{largest_number}
+use Rattle.ans_model.specs.Sequence.Spelling.{Mark, Raw, Spells}
+use Rattle.ans_model.specs.Sequence.TokenKind.{TokenKind}
+use Rattle.ans_model.specs.Sequence.Meaning.{colour_number, is_quoted}
+use Rattle.ans_model.specs.Sequence.Reads.{SpellsToken}
+use Rattle.ans_model.specs.Inside.ShownKind.{shown_kind}
+use Rattle.ans_tokens.specs.ScannerView.{ScannerView}
+use Rattle.ans_tokens.specs.Token.{kind_of, start_of, length_of}
+use Rattle.ans_tokens.specs.declared.token.Token.{Token}
+
+-- the bytes begin with this many digits of a number within the limit, and another byte; no digits count as 0
+pub record IsNumberFront (bytes : List ℕ) (value count : ℕ) : Type 0 where
+  pub followed : count < length bytes
+  pub digits : IsTrue (list_all is_ascii_digit (take count bytes))
+  pub value_is : digits_value 10 (take count bytes) ≡ value
+  pub in_limit : value ≤ largest_number
+
+-- the first `count` bytes spell a sequence with this mark, a number for each member, no string, and this letter
+pub record IsSequenceFront (bytes : List ℕ) (mark : Mark) (numbers : List ℕ) (letter count : ℕ) : Type 0 where
+  pub raw : Raw
+  pub within : count ≤ length bytes
+  pub spelled : Spells raw (take count bytes)
+  pub mark_is : raw.mark ≡ mark
+  pub numbers_are : map colour_number raw.members ≡ numbers
+  pub no_string : list_any is_quoted raw.members ≡ false
+  pub letter_is : raw.letter ≡ letter
+
+-- the first `count` bytes, at least one, spell the token
+pub record IsTokenFront (bytes : List ℕ) (token : TokenKind) (count : ℕ) : Type 0 where
+  pub nonempty : 0 < count
+  pub within : count ≤ length bytes
+  pub spelled : SpellsToken token (take count bytes)
+
+-- the bytes begin with the token, which stands at this offset
+pub record IsTokenAt (offset : ℕ) (bytes : List ℕ) (token : Token) : Type 0 where
+  pub front : IsTokenFront bytes (shown_kind (kind_of token)) (length_of token)
+  pub starts : start_of token ≡ offset
+
+-- the scanner after a token of this length, where it stood between two tokens
+abbrev pub scanner_after_token : ScannerView → ℕ → ScannerView
+scanner_after_token s count = record s { offset = s.offset + count; open_offset = s.open_offset + count }
+
+-- the bytes begin with the token, which stands where the scanner stood and is taken
+pub record TakesToken (old : ScannerView) (bytes : List ℕ) (new : ScannerView) (token : Token) : Type 0 where
+  pub front : IsTokenFront bytes (shown_kind (kind_of token)) (length_of token)
+  pub starts : start_of token ≡ old.offset
+  pub taken : new ≡ scanner_after_token old (length_of token)

@@ -1,0 +1,136 @@
+//! Sequences of numbers that are read whole from a slice.
+//!
+//! A reader here answers only where the whole sequence stands in the slice, is in its common form
+//! and is not refused. Where it declines, the bytes are left to be taken one by one, so each
+//! refusal and each rarer form is decided in one place.
+
+ghost use Rattle.std.specs.Prelude.{◌≡◌, ◌≢◌, ◌⊎◌, ◌<◌, ◌≤◌, ◌++◌, ◌∷◌, [], length, take, false, IfSome};
+ghost use Rattle.ans_model.specs.Bytes.{most_parameters};
+ghost use Rattle.arrayvec.specs.ArrayVec.{array_vec_len};
+ghost use Rattle.ans_tokens.specs.Mark.{mark_of};
+ghost use Rattle.ans_tokens.specs.ScannerView.{Keeps, Sequence, Fresh};
+ghost use Rattle.ans_tokens.specs.WholeToken.{IsNumberFront, IsSequenceFront, IsTokenAt};
+
+use crate::mark::{Mark, mark_of_byte};
+use crate::meaning::kind_meant;
+use crate::scanner::{ESCAPE, kind_of_byte};
+use crate::token::Token;
+use ans_model::limits::MAX_PARAMETERS;
+use arrayvec::ArrayVec;
+
+/// What stands after the mark of a sequence: a number for each member and the letter.
+#[derive(Debug, Drop)]
+struct Members {
+    numbers: ArrayVec<u8, MAX_PARAMETERS>,
+    letter: u8,
+    /// The index of the byte after the letter.
+    end: usize,
+}
+
+/// The value of the digits that the bytes begin with, and their count: 0 and 0 where there are
+/// none. It declines where the value is above 255, or where no other byte follows.
+fn read_number(bytes: &[u8]) -> Option<(u8, usize)>
+    ensures { IfSome result (λ read. IsNumberFront bytes.now read.0 read.1) }
+{
+    let mut value = 0u8;
+    for (i, byte) in bytes.iter().enumerate() {
+        if !byte.is_ascii_digit() {
+            return Some((value, i));
+        }
+        let next = value as u16 * 10 + (*byte - b'0') as u16;
+        if next > u8::MAX as u16 {
+            return None;
+        }
+        value = next as u8;
+    }
+    None
+}
+
+/// Adds the number of the last member, where the letter comes next. There is no member at all where
+/// nothing stands before the letter.
+fn add_last(numbers: &mut ArrayVec<u8, MAX_PARAMETERS>, value: u8, digits: usize)
+    requires { array_vec_len numbers.old < most_parameters }
+    ensures none { digits ≡ 0 → numbers.old.items ≡ [] → numbers.new.items ≡ [] }
+    ensures one { (0 < digits) ⊎ (numbers.old.items ≢ [])
+        → numbers.new.items ≡ numbers.old.items ++ value ∷ [] }
+{
+    if digits > 0 || !numbers.is_empty() {
+        numbers.push(value);
+    }
+}
+
+/// Reads the members and the letter of a sequence from the index after its mark. It declines
+/// where a byte is neither a digit nor a `;` nor a letter, where a number is above 255, where the
+/// members are more than 16, and where the bytes end before the letter.
+fn read_members(bytes: &[u8], mark: Mark, from: usize) -> Option<Members>
+    requires within { from ≤ length bytes.now }
+    requires begun { Keeps (Sequence (mark_of mark) [] false Fresh) (take from bytes.now) }
+    ensures { IfSome result (λ read.
+        IsSequenceFront bytes.now (mark_of mark) read.numbers.items read.letter read.end) }
+{
+    let mut numbers = ArrayVec::new();
+    let mut at = from;
+    for _ in 0..MAX_PARAMETERS {
+        let (value, digits) = read_number(&bytes[at..])?;
+        let stop = at + digits;
+        let letter = bytes[stop];
+        at = stop + 1;
+        if letter == b';' {
+            numbers.push(value);
+            continue;
+        }
+        if !letter.is_ascii_alphabetic() {
+            return None;
+        }
+        add_last(&mut numbers, value, digits);
+        return Some(Members {
+            numbers,
+            letter,
+            end: at,
+        });
+    }
+    None
+}
+
+/// The token of the sequence that the bytes begin with, which stands at this offset. It declines
+/// where the sequence is not whole, has a string, or is refused.
+fn whole_sequence(bytes: &[u8], start: usize) -> Option<Token>
+    ensures { IfSome result (IsTokenAt start bytes.now) }
+{
+    let [0x1B, b'[', next, ..] = bytes else {
+        return None;
+    };
+    let (mark, from) = match mark_of_byte(*next) {
+        Some(mark) => (mark, 3),
+        None => (Mark::Unmarked, 2),
+    };
+    let Members {
+        numbers,
+        letter,
+        end,
+    } = read_members(bytes, mark, from)?;
+    match kind_meant(mark, numbers, false, letter) {
+        Ok(kind) => Some(Token {
+            kind,
+            start,
+            length: end,
+        }),
+        Err(_) => None,
+    }
+}
+
+/// The token that the bytes begin with, which stands at this offset. It declines where they begin
+/// with ESC and no sequence of the common form.
+pub(crate) fn whole_token(bytes: &[u8], start: usize) -> Option<Token>
+    ensures { IfSome result (IsTokenAt start bytes.now) }
+{
+    let first = *bytes.first()?;
+    if first == ESCAPE {
+        return whole_sequence(bytes, start);
+    }
+    Some(Token {
+        kind: kind_of_byte(first),
+        start,
+        length: 1,
+    })
+}
