@@ -20,7 +20,7 @@ use Rattle.ans_tokens.specs.Token.{kind_of, start_of}
 use Rattle.ans_tokens.specs.declared.token.Token.{Token as Spelled}
 use Rattle.ans_model.proofs.Reading.{reads_bytes}
 use Rattle.ans_play.proofs.Clean.{clean_none, clean_more}
-use Rattle.ans_play.proofs.Feeding.{reads_more, front_with_byte, front_text_rest}
+use Rattle.ans_play.proofs.Feeding.{reads_more, front_with_more, front_text_rest}
 use Rattle.ans_answer.specs.TwoPlays.{TwoPlaysView, two_plays_view, AreAfter, ArePlayed, FindsFault}
 
 -- before the first byte
@@ -45,7 +45,7 @@ module _ (old : TwoPlaysView) (class : Start) (bytes : List ℕ) (byte : ℕ) (p
   played_open new holds offset unrefused = record {
     front = p.front;
     open_part = p.open_part ++ byte ∷ [];
-    whole = front_with_byte p.front p.open_part bytes byte p.whole;
+    whole = front_with_more p.front p.open_part bytes (byte ∷ []) p.whole;
     tokens = p.tokens;
     reads = p.reads;
     after = record { size = p.after.size; clean = p.after.clean; low = p.after.low; high = p.after.high };
@@ -63,7 +63,7 @@ module _ (old : TwoPlaysView) (class : Start) (bytes : List ℕ) (byte : ℕ) (p
   played_token new t spelled none holds offset unrefused = record {
     front = p.front ++ (p.open_part ++ byte ∷ []);
     open_part = [];
-    whole = front_with_byte p.front p.open_part bytes byte p.whole
+    whole = front_with_more p.front p.open_part bytes (byte ∷ []) p.whole
         ∙ sym (append-nil (p.front ++ (p.open_part ++ byte ∷ [])));
     tokens = p.tokens ++ t ∷ [];
     reads = reads_more p.front (p.open_part ++ byte ∷ []) p.tokens t p.reads spelled;
@@ -97,7 +97,7 @@ module _ (old : TwoPlaysView) (class : Start) (bytes : List ℕ) (byte : ℕ) (p
     front = p.front;
     text = p.open_part ++ byte ∷ [];
     rest = rest;
-    whole = front_text_rest p.front p.open_part bytes rest byte p.whole;
+    whole = front_text_rest p.front p.open_part bytes (byte ∷ []) rest p.whole;
     tokens = p.tokens;
     reads = p.reads;
     clean = p.after.clean;

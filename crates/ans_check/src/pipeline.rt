@@ -20,7 +20,7 @@ use ans_report::{
     write_tokens,
 };
 use ans_sauce::split;
-use ans_screen::{Grid, PlainGrid};
+use ans_screen::{Grid, PlaneGrid};
 use std::alloc::{AllocError, Global};
 use std::io::{Read, Write};
 
@@ -71,7 +71,7 @@ fn report<W: Write>(
     ensures write { IsErrOf result RunError.Write ↔ IsTrue (has_failed writer.new) }
     ensures errors { IfErr result (λ e. (e ≡ RunError.Memory) ⊎ (e ≡ RunError.Write)) }
 {
-    let Ok(verdict) = check::<PlainGrid>(alloc, file, start) else {
+    let Ok(verdict) = check::<PlaneGrid>(alloc, file, start) else {
         return Err(RunError::Memory);
     };
     write_report(writer, &report_of(&verdict, start, cells))?;
@@ -164,7 +164,7 @@ fn tell_needs<W: Write>(alloc: Global, writer: &mut Tried<W>, file: &[u8]) -> Re
     ensures write { IsErrOf result RunError.Write ↔ IsTrue (has_failed writer.new) }
     ensures errors { IfErr result (λ e. (e ≡ RunError.Memory) ⊎ (e ≡ RunError.Write)) }
 {
-    let found = match needs::<PlainGrid>(alloc, file) {
+    let found = match needs::<PlaneGrid>(alloc, file) {
         Ok(found) => found,
         Err(AllocError) => return Err(RunError::Memory),
     };

@@ -1,8 +1,8 @@
 -- A byte played after others, and a piece of bytes.
-use Rattle.std.proofs.Common.{◌≡◌, ℕ, suc, ◌+◌, ◌-◌, ◌<◌, ◌≤◌, refl, get_or, drop-cons, sym, ap, ◌∙◌, arith, List, []}
+use Rattle.std.proofs.Common.{◌≡◌, ℕ, ◌+◌, ◌-◌, ◌≤◌, refl, get_or, sym, ap, ◌∙◌, arith, List, []}
 use Rattle.std.proofs.Common.{◌∷◌, ◌++◌, length, length-append, take, drop, append_assoc, Some, None, inl, inr, subst}
-use Rattle.std.proofs.lemmas.List.{append-nil, take_all, take_more, take-append-drop, length-drop}
-use Rattle.std.specs.Prelude.{◌⊎◌, Ok, Err}
+use Rattle.std.proofs.lemmas.List.{append-nil, take_all, take-append-drop, length-drop, length-take-le}
+use Rattle.std.specs.Prelude.{◌⊎◌, Result, Ok, Err, IfErr, OnOk}
 use Rattle.std.proofs.lemmas.Option.{same_Some}
 use Rattle.std.proofs.Math.Seq.{take-add}
 use Rattle.ans_model.specs.Sequence.TokenKind.{TokenKind}
@@ -18,14 +18,17 @@ use Rattle.ans_tokens.proofs.Readable.{reads_as_more}
 use Rattle.ans_tokens.specs.ScannerView.{ScannerView, Holds, IsTokenOf, IsFaultOf}
 use Rattle.ans_tokens.proofs.EachByte.{kept_open, open_ends}
 use Rattle.ans_model.proofs.OneAnswer.{clean_or_first}
-use Rattle.ans_tokens.specs.Token.{kind_of, start_of}
+use Rattle.ans_tokens.specs.Token.{kind_of, length_of}
+use Rattle.ans_tokens.specs.Glyphs.{IsBetweenTokens}
+use Rattle.ans_tokens.specs.WholeToken.{TakesToken, scanner_after_token}
 use Rattle.ans_tokens.specs.declared.token.Token.{Token as Spelled}
 use Rattle.ans_play.specs.HalfState.{HalfState}
 use Rattle.ans_play.specs.HalfStep.{half_step}
 use Rattle.ans_play.specs.HalfFault.{half_fault}
 use Rattle.ans_play.specs.PlayView.{PlayView}
+use Rattle.ans_play.specs.Plays.{PlaysToken}
 use Rattle.ans_play.specs.PlayerView.{PlayerView, play_of}
-use Rattle.ans_play.specs.Stands.{IsPlayed, Stands, SamePlay, IsFed, Feeds, GoesOn, IsDeserved}
+use Rattle.ans_play.specs.Stands.{IsPlayed, Stands, SamePlay, IsFed, Feeds, GoesOn, PlaysFront, IsDeserved}
 use Rattle.ans_play.proofs.FaultShown.{token_has_fault}
 use Rattle.ans_play.proofs.NoFaultShown.{known_next, token_has_no_fault}
 use Rattle.ans_play.proofs.Clean.{clean_more}
@@ -36,10 +39,9 @@ pub reads_more : (bytes text : List ℕ) (tokens : List TokenKind) (t : TokenKin
 reads_more bytes text tokens t (texts, r) spelled =
     (texts ++ text ∷ [], reads_as_more bytes text tokens texts t r spelled)
 
--- a front and an open part, with one more byte
-pub front_with_byte : (front y : List ℕ) (s : List ℕ) (byte : ℕ) → s ≡ front ++ y →
-    s ++ byte ∷ [] ≡ front ++ (y ++ byte ∷ [])
-front_with_byte front y s byte e = ap (λ (xs : List ℕ). xs ++ byte ∷ []) e ∙ append_assoc front y (byte ∷ [])
+-- a front and an open part, with more bytes
+pub front_with_more : (front y s text : List ℕ) → s ≡ front ++ y → s ++ text ≡ front ++ (y ++ text)
+front_with_more front y s text e = ap (λ (xs : List ℕ). xs ++ text) e ∙ append_assoc front y text
 
 -- the byte leaves the open part unfinished
 pub played_open : (z : Size) (class : Start) (s : List ℕ) (old new : ScannerView) (h : HalfState) (byte : ℕ)
@@ -50,7 +52,7 @@ played_open z class s old new h byte p holds offset unrefused = record {
   size = p.size;
   front = p.front;
   open_part = p.open_part ++ byte ∷ [];
-  whole = front_with_byte p.front p.open_part s byte p.whole;
+  whole = front_with_more p.front p.open_part s (byte ∷ []) p.whole;
   tokens = p.tokens;
   reads = p.reads;
   clean = p.clean;
@@ -60,24 +62,24 @@ played_open z class s old new h byte p holds offset unrefused = record {
   unrefused = unrefused;
 }
 
--- the byte ends a token that has no fault
-pub played_token : (z : Size) (class : Start) (s : List ℕ) (old new : ScannerView) (h : HalfState) (byte : ℕ)
+-- with more bytes the open part is a token that has no fault
+pub played_token : (z : Size) (class : Start) (s : List ℕ) (old new : ScannerView) (h : HalfState) (text : List ℕ)
     (t : TokenKind)
     (p : IsPlayed z class s old h) →
-    SpellsToken t (p.open_part ++ byte ∷ []) → half_fault z h t ≡ None → Holds new [] → new.offset ≡ old.offset + 1 →
-    new.fault ≡ None →
-    IsPlayed z class (s ++ byte ∷ []) new (half_step z h t)
-played_token z class s old new h byte t p spelled none holds offset unrefused = record {
+    SpellsToken t (p.open_part ++ text) → half_fault z h t ≡ None → Holds new [] →
+    new.offset ≡ old.offset + length text → new.fault ≡ None →
+    IsPlayed z class (s ++ text) new (half_step z h t)
+played_token z class s old new h text t p spelled none holds offset unrefused = record {
   size = p.size;
-  front = p.front ++ (p.open_part ++ byte ∷ []);
+  front = p.front ++ (p.open_part ++ text);
   open_part = [];
-  whole = front_with_byte p.front p.open_part s byte p.whole ∙ sym (append-nil (p.front ++ (p.open_part ++ byte ∷ [])));
+  whole = front_with_more p.front p.open_part s text p.whole ∙ sym (append-nil (p.front ++ (p.open_part ++ text)));
   tokens = p.tokens ++ t ∷ [];
-  reads = reads_more p.front (p.open_part ++ byte ∷ []) p.tokens t p.reads spelled;
+  reads = reads_more p.front (p.open_part ++ text) p.tokens t p.reads spelled;
   clean = clean_more z class p.tokens t p.clean
       (λ cause. token_has_no_fault z class p.tokens h p.size.some_columns p.known t cause none);
   known = known_next z class p.tokens h p.size.some_columns p.known t
-      (token_prints t (p.open_part ++ byte ∷ []) spelled) none;
+      (token_prints t (p.open_part ++ text) spelled) none;
   holds = holds;
   offset = simp length-append (omega (arith, offset, p.offset));
   unrefused = unrefused;
@@ -92,25 +94,25 @@ open_part_starts z class s scanner h p start e =
     ∙ length-append p.front p.open_part in
     omega (arith, e, p.offset, whole)
 
--- a front, an open part that a byte ends, and a rest
-pub front_text_rest : (front y s rest : List ℕ) (byte : ℕ) → s ≡ front ++ y →
-    s ++ byte ∷ rest ≡ front ++ ((y ++ byte ∷ []) ++ rest)
-front_text_rest front y s rest byte e =
-    ap (λ (xs : List ℕ). xs ++ byte ∷ rest) e ∙ append_assoc front y (byte ∷ rest)
-    ∙ ap (λ (xs : List ℕ). front ++ xs) (sym (append_assoc y (byte ∷ []) rest))
+-- a front, an open part with more bytes, and a rest
+pub front_text_rest : (front y s text rest : List ℕ) → s ≡ front ++ y →
+    s ++ (text ++ rest) ≡ front ++ ((y ++ text) ++ rest)
+front_text_rest front y s text rest e =
+    ap (λ (xs : List ℕ). xs ++ (text ++ rest)) e ∙ append_assoc front y (text ++ rest)
+    ∙ ap (λ (xs : List ℕ). front ++ xs) (sym (append_assoc y text rest))
 
--- what is to blame for the fault is the open part with a byte
-first_fault : (z : Size) (class : Start) (s rest : List ℕ) (scanner : ScannerView) (h : HalfState) (byte : ℕ)
+-- what is to blame for the fault is the open part with more bytes
+first_fault : (z : Size) (class : Start) (s text rest : List ℕ) (scanner : ScannerView) (h : HalfState)
     (fault : Fault) (p : IsPlayed z class s scanner h) →
-    IsToBlame z class p.tokens (p.open_part ++ byte ∷ []) fault.cause
-    ⊎ IsRefused (p.open_part ++ byte ∷ []) fault.cause → fault.offset + length p.open_part ≡ scanner.offset →
-    IsFirstFault z class (s ++ byte ∷ rest) fault
-first_fault z class s rest scanner h byte fault p blame start = record {
+    IsToBlame z class p.tokens (p.open_part ++ text) fault.cause
+    ⊎ IsRefused (p.open_part ++ text) fault.cause → fault.offset + length p.open_part ≡ scanner.offset →
+    IsFirstFault z class (s ++ (text ++ rest)) fault
+first_fault z class s text rest scanner h fault p blame start = record {
   size = p.size;
   front = p.front;
-  text = p.open_part ++ byte ∷ [];
+  text = p.open_part ++ text;
   rest = rest;
-  whole = front_text_rest p.front p.open_part s rest byte p.whole;
+  whole = front_text_rest p.front p.open_part s text rest p.whole;
   tokens = p.tokens;
   reads = p.reads;
   clean = p.clean;
@@ -141,36 +143,24 @@ pub record PlaysTo (old : PlayView) (piece : List ℕ) (i : ℕ) (new : PlayView
   pub within : i ≤ length piece
   pub goes_on : GoesOn old (take i piece) new
 
--- a run at the start of the piece
-pub plays_run_first : (old new : PlayView) (piece : List ℕ) (count : ℕ) → count ≤ length piece →
-    GoesOn old (take count piece) new → PlaysTo old piece count new
-plays_run_first old new piece count within h = record { within = within; goes_on = h }
-
--- one byte more
-pub plays_byte_more : (old mid new : PlayView) (piece : List ℕ) (i : ℕ) → PlaysTo old piece i mid → i < length piece →
-    GoesOn mid (get_or piece i 0 ∷ []) new →
-    PlaysTo old piece (i + 1) new
-plays_byte_more old mid new piece i h within g = record {
-  within = omega arith;
-  goes_on = rw (take_more piece i 0 within) (goes_on_more old mid new (take i piece)
-      (get_or piece i 0 ∷ []) h.goes_on g);
-}
+-- no byte of the piece yet
+pub plays_none : (old : PlayView) (piece : List ℕ) → PlaysTo old piece 0 old
+plays_none old piece = record { within = omega arith; goes_on = goes_on_none old }
 
 -- the slice from an index to the end
 slice_to_end : (piece : List ℕ) (i : ℕ) → take (length piece - i) (drop i piece) ≡ drop i piece
 slice_to_end piece i = take_all (length piece - i) (drop i piece) (omega (arith, length-drop i piece))
 
--- a run more
-pub plays_run_more : (old mid new : PlayView) (piece : List ℕ) (i count : ℕ) → PlaysTo old piece i mid →
-    count ≤ length (take (length piece - i) (drop i piece)) →
-    GoesOn mid (take count (take (length piece - i) (drop i piece))) new → PlaysTo old piece (i + count) new
-plays_run_more old mid new piece i count h within g =
-    let within_rest : count ≤ length (drop i piece) = rw slice_to_end at within in
-    let run : GoesOn mid (take count (drop i piece)) new = rw slice_to_end at g in
+-- some bytes more
+pub plays_more : (old mid new : PlayView) (piece : List ℕ) (i count : ℕ) → PlaysTo old piece i mid →
+    PlaysFront mid (take (length piece - i) (drop i piece)) new count → PlaysTo old piece (i + count) new
+plays_more old mid new piece i count h front =
+    let within : count ≤ length (drop i piece) = rw slice_to_end at front.within in
+    let played : GoesOn mid (take count (drop i piece)) new = rw slice_to_end at front.played in
     record {
-      within = omega (arith, h.within, within_rest, length-drop i piece);
+      within = omega (arith, h.within, within, length-drop i piece);
       goes_on = rw (take-add i count piece) (goes_on_more old mid new (take i piece)
-          (take count (drop i piece)) h.goes_on run);
+          (take count (drop i piece)) h.goes_on played);
     }
 
 -- the whole piece is played
@@ -186,15 +176,12 @@ deserved_after old mid front rest fault h d class s p =
     subst (λ (xs : List ℕ). IsFirstFault old.size class xs fault) (append_assoc s front rest)
     (subst (λ (z : Size). IsFirstFault z class ((s ++ front) ++ rest) fault) h.size (d class (s ++ front) before))
 
--- a byte's fault is the piece's
+-- the fault of the rest is the piece's
 pub piece_deserved : (old mid : PlayView) (piece : List ℕ) (i : ℕ) (fault : Fault) → PlaysTo old piece i mid →
-    i < length piece →
-    ((rest : List ℕ) → IsDeserved mid (get_or piece i 0 ∷ rest) fault) → IsDeserved old piece fault
-piece_deserved old mid piece i fault h within d =
-    let rest : drop i piece ≡ get_or piece i 0 ∷ drop (suc i) piece = drop-cons piece i 0 within in
+    IsDeserved mid (take (length piece - i) (drop i piece)) fault → IsDeserved old piece fault
+piece_deserved old mid piece i fault h d =
     subst (λ (xs : List ℕ). IsDeserved old xs fault) (take-append-drop i piece)
-    (deserved_after old mid (take i piece) (drop i piece) fault h.goes_on
-    (subst (λ (xs : List ℕ). IsDeserved mid xs fault) (sym rest) (d (drop (suc i) piece))))
+    (deserved_after old mid (take i piece) (drop i piece) fault h.goes_on (rw slice_to_end at d))
 
 -- ---- a piece
 -- bytes that are played have no first fault
@@ -285,7 +272,7 @@ pub byte_refused : (old : PlayView) (scanner : ScannerView) (byte : ℕ) (fault 
 byte_refused old scanner byte fault same scans rest class s p =
     let told : IsFaultOf fault old.scanner.offset p.open_part byte =
     (rw same at scans) p.unrefused p.open_part p.holds in
-    first_fault old.size class s rest old.scanner old.state byte fault p (inr told.refused) told.starts
+    first_fault old.size class s (byte ∷ []) rest old.scanner old.state fault p (inr told.refused) told.starts
 
 -- the byte leaves a sequence unfinished
 pub byte_goes_on : (old new : PlayView) (scanner after : ScannerView) (byte : ℕ) → scanner ≡ old.scanner →
@@ -301,30 +288,113 @@ byte_goes_on old new scanner after byte same is scans offset unrefused = rw is (
       played_open old.size class s old.scanner after old.state byte p told.1 (rw same at offset) unrefused;
 })
 
--- the byte ends a token that plays
-pub byte_plays : (old new : PlayView) (scanner after : ScannerView) (byte : ℕ) (token : Spelled) (t : TokenKind) →
-    scanner ≡ old.scanner → t ≡ shown_kind (kind_of token) →
-    new ≡ record old { scanner = after; state = half_step old.size old.state t } → half_fault old.size old.state t
-    ≡ None →
+-- the byte ends a token, which is played
+pub byte_plays : (old before new : PlayView) (scanner after : ScannerView) (byte : ℕ) (token : Spelled)
+    (result : Result (Unit {0}) Fault) →
+    scanner ≡ old.scanner → before ≡ record old { scanner = after } → PlaysToken before new token result →
     (scanner.fault ≡ None → (y : List ℕ) → Holds scanner y → IsTokenOf token scanner.offset y byte × Holds after []) →
-    after.offset ≡ scanner.offset + 1 → after.fault ≡ None → GoesOn old (byte ∷ []) new
-byte_plays old new scanner after byte token t same kind is none scans offset unrefused = rw is (record {
-  size = refl;
-  offset = rw same at offset;
-  played = λ class s p.
-      let told = (rw same at scans) p.unrefused p.open_part p.holds in
-      played_token old.size class s old.scanner after old.state byte t p (rw kind told.0.spelled) none told.1
-      (rw same at offset) unrefused;
-})
+    after.offset ≡ scanner.offset + 1 → after.fault ≡ None → OnOk result (GoesOn old (byte ∷ []) new)
+byte_plays old before new scanner after byte token (Err fault) same is plays scans offset unrefused = tt
+byte_plays old before new scanner after byte token (Ok r) same is plays scans offset unrefused =
+    let made = rw is at plays in
+    rw made.1 (record {
+      size = refl;
+      offset = rw same at offset;
+      played = λ class s p.
+          let told = (rw same at scans) p.unrefused p.open_part p.holds in
+          played_token old.size class s old.scanner after old.state (byte ∷ []) (shown_kind (kind_of token)) p
+          told.0.spelled made.0 told.1 (rw same at offset) unrefused;
+    })
 
--- the byte ends a token that is refused
-pub byte_deserved : (old : PlayView) (scanner after : ScannerView) (byte : ℕ) (token : Spelled) (t : TokenKind)
-    (fault : Fault) → scanner ≡ old.scanner → t ≡ shown_kind (kind_of token) →
-    fault.offset ≡ start_of token → half_fault old.size old.state t ≡ Some fault.cause →
+-- the byte ends a token, which is refused
+pub byte_deserved : (old before new : PlayView) (scanner after : ScannerView) (byte : ℕ) (token : Spelled)
+    (result : Result (Unit {0}) Fault) →
+    scanner ≡ old.scanner → before ≡ record old { scanner = after } → PlaysToken before new token result →
     (scanner.fault ≡ None → (y : List ℕ) → Holds scanner y → IsTokenOf token scanner.offset y byte × Holds after []) →
-    (rest : List ℕ) → IsDeserved old (byte ∷ rest) fault
-byte_deserved old scanner after byte token t fault same kind start some scans rest class s p =
-    let told = (rw same at scans) p.unrefused p.open_part p.holds in
-    let has_fault = token_has_fault old.size class p.tokens old.state p.size.some_columns p.known t fault.cause some in
-    first_fault old.size class s rest old.scanner old.state byte fault p
-    (inl (record { token = t; spelled = rw kind told.0.spelled; fault = has_fault })) (rw start told.0.starts)
+    IfErr result (λ fault. (new.size ≡ old.size) × ((rest : List ℕ) → IsDeserved old (byte ∷ rest) fault))
+byte_deserved old before new scanner after byte token (Ok r) same is plays scans = tt
+byte_deserved old before new scanner after byte token (Err fault) same is plays scans =
+    let shown = rw is at plays in (
+      ap (λ (p : PlayView). p.size) shown.2,
+      λ rest class s p.
+          let told = (rw same at scans) p.unrefused p.open_part p.holds in
+          let has_fault = token_has_fault old.size class p.tokens old.state p.size.some_columns p.known
+          (shown_kind (kind_of token)) fault.cause shown.0 in
+          first_fault old.size class s (byte ∷ []) rest old.scanner old.state fault p
+          (inl (record { token = shown_kind (kind_of token); spelled = told.0.spelled; fault = has_fault }))
+          (rw shown.1 told.0.starts),
+    )
+
+-- ---- what the code of a whole token gives
+-- between two tokens nothing is open
+pub nothing_open : (s : ScannerView) (y : List ℕ) → IsBetweenTokens s → Holds s y → y ≡ []
+nothing_open s y between holds = rw between.nothing at holds.keeps
+
+-- what was between two tokens still is
+pub still_between : (before after : PlayView) → before ≡ after → IsBetweenTokens before.scanner
+    → IsBetweenTokens after.scanner
+still_between before after same between = subst (λ (p : PlayView). IsBetweenTokens p.scanner) same between
+
+-- a whole token is played
+pub token_plays : (old new : PlayView) (after : ScannerView) (bytes : List ℕ) (token : Spelled) →
+    IsBetweenTokens old.scanner → TakesToken old.scanner bytes after token →
+    PlaysToken (record old { scanner = after }) new token (Ok tt) → PlaysFront old bytes new (length_of token)
+token_plays old new after bytes token between takes plays =
+    let text = take (length_of token) bytes in
+    let long : length text ≡ length_of token = length-take-le (length_of token) bytes takes.front.within in
+    let offset : after.offset ≡ old.scanner.offset + length text = rw (takes.taken, long) refl in
+    record {
+      some = takes.front.nonempty;
+      within = takes.front.within;
+      played = rw plays.1 (record {
+        size = refl;
+        offset = offset;
+        played = λ class s p.
+            let empty : p.open_part ≡ [] = nothing_open old.scanner p.open_part between p.holds in
+            let begun : old.scanner.open_offset + length p.open_part ≡ old.scanner.offset = p.holds.begun_at in
+            let none : length p.open_part ≡ 0 = ap length empty in
+            let holds : Holds (scanner_after_token old.scanner (length_of token)) [] = record {
+              keeps = rw between.nothing refl;
+              begun_at = omega (arith, begun, none);
+            } in
+            played_token old.size class s old.scanner after old.state text (shown_kind (kind_of token)) p
+            (rw empty takes.front.spelled) plays.0 (rw takes.taken holds) offset (rw takes.taken between.unrefused);
+      });
+    }
+
+-- a whole token is refused
+pub token_deserved : (old new : PlayView) (after : ScannerView) (bytes : List ℕ) (token : Spelled) (fault : Fault) →
+    IsBetweenTokens old.scanner → TakesToken old.scanner bytes after token →
+    PlaysToken (record old { scanner = after }) new token (Err fault) →
+    (new.size ≡ old.size) × IsDeserved old bytes fault
+token_deserved old new after bytes token fault between takes shown = (
+  ap (λ (p : PlayView). p.size) shown.2,
+  λ class s p.
+      let text = take (length_of token) bytes in
+      let empty : p.open_part ≡ [] = nothing_open old.scanner p.open_part between p.holds in
+      let none : length p.open_part ≡ 0 = ap length empty in
+      let has_fault = token_has_fault old.size class p.tokens old.state p.size.some_columns p.known
+      (shown_kind (kind_of token)) fault.cause shown.0 in
+      subst (λ (xs : List ℕ). IsFirstFault old.size class (s ++ xs) fault)
+      (take-append-drop (length_of token) bytes)
+      (first_fault old.size class s text (drop (length_of token) bytes) old.scanner old.state fault p
+      (inl (record {
+        token = shown_kind (kind_of token);
+        spelled = rw empty takes.front.spelled;
+        fault = has_fault;
+      }))
+      (omega (arith, shown.1, takes.starts, none))),
+)
+
+-- one byte is the front
+pub byte_in_front : (old new : PlayView) (bytes : List ℕ) → 1 ≤ length bytes →
+    GoesOn old (get_or bytes 0 0 ∷ []) new → PlaysFront old bytes new 1
+byte_in_front old new [] some goes_on = elim some [ ]
+byte_in_front old new (b ∷ bytes) some goes_on = record { some = omega arith; within = some; played = goes_on }
+
+-- the fault of the first byte is that of the bytes
+pub front_deserved : (old new : PlayView) (bytes : List ℕ) (fault : Fault) → 1 ≤ length bytes →
+    (new.size ≡ old.size) × ((rest : List ℕ) → IsDeserved old (get_or bytes 0 0 ∷ rest) fault) →
+    (new.size ≡ old.size) × IsDeserved old bytes fault
+front_deserved old new [] fault some _ = elim some [ ]
+front_deserved old new (b ∷ bytes) fault some (same, deserved) = (same, deserved bytes)

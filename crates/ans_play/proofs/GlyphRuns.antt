@@ -30,7 +30,7 @@ use Rattle.ans_play.specs.HalfFault.{half_fault, is_one_position}
 use Rattle.ans_play.specs.Stands.{IsPlayed, GoesOn}
 use Rattle.ans_play.specs.Plays.{AreFree, IsLongestRun}
 use Rattle.ans_play.specs.PlayView.{PlayView, play_view, IsByteHalfCell}
-use Rattle.ans_play.proofs.Feeding.{played_token}
+use Rattle.ans_play.proofs.Feeding.{played_token, nothing_open}
 use Rattle.ans_play.proofs.Positions.{one_position_if}
 
 -- ---- cells
@@ -94,10 +94,6 @@ prints_on : (z : Size) (screen : List HalfCell) (row column : ℕ) (saved : Span
     (one_position row (column + 1)) saved attribute wrap
 prints_on z screen row column saved attribute wrap b within = rw (lt-ltb (column + 1) z.width within)
 
--- between two tokens nothing is open
-nothing_open : (s : ScannerView) (y : List ℕ) → IsBetweenTokens s → Holds s y → y ≡ []
-nothing_open s y between holds = rw between.nothing at holds.keeps
-
 -- one glyph is played
 plays_glyph : (z : Size) (class : Start) (s : List ℕ) (scanner : ScannerView) (screen : List HalfCell) (row column : ℕ)
     (saved : Span) (attribute : KnownBits) (wrap : WrapMode) (b : ℕ) →
@@ -114,7 +110,7 @@ plays_glyph z class s scanner screen row column saved attribute wrap b p between
     let holds : Holds (scanner_after_glyphs scanner 1) [] =
     record { keeps = rw between.nothing refl; begun_at = omega arith } in
     let after : IsPlayed z class (s ++ b ∷ []) (scanner_after_glyphs scanner 1) (half_step z h (Glyph b))
-    = played_token z class s scanner (scanner_after_glyphs scanner 1) h b (Glyph b) p (rw none glyph)
+    = played_token z class s scanner (scanner_after_glyphs scanner 1) h (b ∷ []) (Glyph b) p (rw none glyph)
     (prints_here z screen row column saved attribute wrap b above) holds refl between.unrefused in
     subst (λ (k : HalfState). IsPlayed z class (s ++ b ∷ []) (scanner_after_glyphs scanner 1) k)
     (prints_on z screen row column saved attribute wrap b within) after
@@ -274,7 +270,7 @@ free_once p c d free other = by_fault (half_fault p.size p.state (Glyph 0)) refl
 -- the glyphs that the scanner counts in the free columns are the longest run
 pub longest_run : (p : PlayView) (bytes : List ℕ) (columns m count : ℕ) → AreFree p columns →
     m ≡ min (length bytes) columns → IsGlyphFront (take m bytes) count → IsLongestRun p bytes count
-longest_run p bytes columns m count free least front other other_free between =
+longest_run p bytes columns m count free least front other other_free =
     let same : columns ≡ other = free_once p columns other free other_free in
     rw (← same) (subst (λ (xs : List ℕ). IsGlyphFront xs count) (front_is (cases_lt columns (length bytes))) front)
   where

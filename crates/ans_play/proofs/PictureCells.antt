@@ -1,21 +1,27 @@
 -- Known cells are a picture.
-use Rattle.std.proofs.Common.{◌≡◌, ℕ, ◌*◌, refl, arith, List, Option, Some, None, lit<}
+use Rattle.std.proofs.Common.{◌≡◌, ℕ, ◌+◌, ◌-◌, ◌*◌, ◌<◌, ◌≤◌, refl, sym, ◌∙◌, subst, arith, List, map, take, drop}
+use Rattle.std.proofs.Common.{Option, Some, None, lit<}
 use Rattle.std.specs.Prelude.{IfSome, unwrap_or}
-use Rattle.std.proofs.lemmas.List.{length-map, length-take}
+use Rattle.std.proofs.lemmas.List.{length-map, length-take, drop-take, drop-map, take-map}
+use Rattle.std.proofs.lemmas.Simd.{map-map}
+use Rattle.std.proofs.lemmas.Nat.{mul-le}
 use Rattle.std.proofs.lemmas.List.Elements.{All-map, All-take, All-weaker}
 use Rattle.ans_model.specs.Bytes.{IsByte}
 use Rattle.ans_model.specs.Screen.State.{Size, IsByteCell}
 use Rattle.ans_model.specs.Verdict.Good.{Picture, IsPictureOf}
+use Rattle.ans_screen.specs.HalfCells.{glyph_byte, attribute_byte}
 use Rattle.ans_screen.specs.declared.cell.HalfCell.{HalfCell}
 use Rattle.ans_play.specs.PlayView.{IsByteHalfCell}
 use Rattle.ans_play.specs.Shown.{known_cell, stated_cells, picture_of, IsShown}
+use Rattle.ans_play.specs.Shown.{cells_of_row, bytes_of_row, attributes_of_row}
+use Rattle.ans_play.proofs.GlyphRuns.{take_within}
 
-glyph_byte : (o : Option ℕ) → IfSome o IsByte → IsByte (unwrap_or o 0)
-glyph_byte None h = lit< tt
-glyph_byte (Some b) h = h
+byte_or_0 : (o : Option ℕ) → IfSome o IsByte → IsByte (unwrap_or o 0)
+byte_or_0 None h = lit< tt
+byte_or_0 (Some b) h = h
 
 cell_byte : (c : HalfCell) → IsByteHalfCell c → IsByteCell (known_cell c)
-cell_byte c h = (glyph_byte c.glyph h.0, h.1)
+cell_byte c h = (byte_or_0 c.glyph h.0, h.1)
 
 -- shown cells are a picture of their size
 pub is_picture : (z : Size) (cells : List HalfCell) (picture : Picture) → picture_of z cells ≡ picture →
@@ -27,3 +33,51 @@ is_picture z cells picture e h = rw (← e) (record {
       (All-weaker IsByteHalfCell (λ c. IsByteCell (known_cell c)) cell_byte (stated_cells z cells)
       (All-take IsByteHalfCell (z.lines * z.width) cells h.bytes));
 })
+
+-- a row of the stated cells is that row of all
+stated_row : (z : Size) (cells : List HalfCell) (row : ℕ) → row < z.lines →
+    take z.width (drop (row * z.width) (stated_cells z cells)) ≡ take z.width (drop (row * z.width) cells)
+stated_row z cells row above =
+    let room : (row + 1) * z.width ≤ z.lines * z.width = mul-le (row + 1) z.width z.lines z.width (omega arith)
+    (omega arith) in
+    let rest = z.lines * z.width - row * z.width in
+    let all : z.lines * z.width ≡ row * z.width + rest = omega arith in
+    rw (all, drop-take (row * z.width) rest cells) (take_within z.width rest (drop (row * z.width) cells) (omega arith))
+
+-- the cells of a row
+row_cells : (z : Size) (cells : List HalfCell) (row : ℕ) → row < z.lines →
+    cells_of_row (picture_of z cells) row ≡ map known_cell (take z.width (drop (row * z.width) cells))
+row_cells z cells row above =
+    rw (
+      drop-map known_cell (row * z.width) (stated_cells z cells),
+      take-map known_cell z.width (drop (row * z.width) (stated_cells z cells)),
+      stated_row z cells row above,
+    ) refl
+
+-- the bytes of a row are those that its grid copies
+row_bytes : (z : Size) (cells : List HalfCell) (row : ℕ) → row < z.lines →
+    bytes_of_row (picture_of z cells) row ≡ map glyph_byte (take z.width (drop (row * z.width) cells))
+row_bytes z cells row above =
+    rw (row_cells z cells row above) (map-map _ known_cell (take z.width (drop (row * z.width) cells)))
+
+-- the attributes of a row are those that its grid copies
+row_attributes : (z : Size) (cells : List HalfCell) (row : ℕ) → row < z.lines →
+    attributes_of_row (picture_of z cells) row ≡ map attribute_byte (take z.width (drop (row * z.width) cells))
+row_attributes z cells row above =
+    rw (row_cells z cells row above) (map-map _ known_cell (take z.width (drop (row * z.width) cells)))
+
+-- bytes copied from a row of the grid are those of the picture's row
+pub copied_bytes : (z : Size) (cells : List HalfCell) (row n : ℕ) (shown : Picture) (bytes : List ℕ) →
+    picture_of z cells ≡ shown → row < shown.size.lines → n ≡ shown.size.width →
+    bytes ≡ map glyph_byte (take n (drop (row * z.width) cells)) → bytes ≡ bytes_of_row shown row
+copied_bytes z cells row n shown bytes is above wide copied =
+    subst (λ (p : Picture). row < p.size.lines → n ≡ p.size.width → bytes ≡ bytes_of_row p row) is
+    (λ l e. copied ∙ (rw e (sym (row_bytes z cells row l)))) above wide
+
+-- attributes copied from a row of the grid are those of the picture's row
+pub copied_attributes : (z : Size) (cells : List HalfCell) (row n : ℕ) (shown : Picture) (attributes : List ℕ) →
+    picture_of z cells ≡ shown → row < shown.size.lines → n ≡ shown.size.width →
+    attributes ≡ map attribute_byte (take n (drop (row * z.width) cells)) → attributes ≡ attributes_of_row shown row
+copied_attributes z cells row n shown attributes is above wide copied =
+    subst (λ (p : Picture). row < p.size.lines → n ≡ p.size.width → attributes ≡ attributes_of_row p row) is
+    (λ l e. copied ∙ (rw e (sym (row_attributes z cells row l)))) above wide

@@ -1,8 +1,12 @@
 -- What a play does at one token.
 use Rattle.std.specs.Prelude.{◌≡◌, ℕ, ◌+◌, List, take, Some, None, Result, MatchResult}
-use Rattle.ans_tokens.specs.Glyphs.{IsGlyphFront, IsBetweenTokens}
+use Rattle.ans_tokens.specs.Glyphs.{IsGlyphFront}
 use Rattle.ans_model.specs.Sequence.TokenKind.{TokenKind, Glyph}
 use Rattle.ans_model.specs.declared.fault.Cause.{Cause}
+use Rattle.ans_model.specs.declared.fault.Fault.{Fault}
+use Rattle.ans_model.specs.Inside.ShownKind.{shown_kind}
+use Rattle.ans_tokens.specs.Token.{kind_of, start_of}
+use Rattle.ans_tokens.specs.declared.token.Token.{Token}
 use Rattle.ans_play.specs.HalfStep.{half_step}
 use Rattle.ans_play.specs.HalfFault.{half_fault}
 use Rattle.ans_play.specs.PlayView.{PlayView}
@@ -17,6 +21,15 @@ Plays old new t result = MatchResult result
     (λ _. (half_fault old.size old.state t ≡ None) × (new ≡ after_token old t))
     (λ cause. (half_fault old.size old.state t ≡ Some cause) × (new ≡ old))
 
+-- The token shows no fault and its half step is made, or it shows the fault, which stands at its first byte, and
+-- nothing changes.
+abbrev pub PlaysToken : PlayView → PlayView → Token → Result (Unit {0}) Fault → Type 0
+PlaysToken old new token result =
+    let t = shown_kind (kind_of token) in
+    MatchResult result
+    (λ _. (half_fault old.size old.state t ≡ None) × (new ≡ after_token old t))
+    (λ fault. (half_fault old.size old.state t ≡ Some fault.cause) × (fault.offset ≡ start_of token) × (new ≡ old))
+
 -- This many columns stand between the cursor and its row's last one where a glyph is printed, and none where it is
 -- refused.
 pub record AreFree (p : PlayView) (columns : ℕ) : Type 0 where
@@ -24,7 +37,6 @@ pub record AreFree (p : PlayView) (columns : ℕ) : Type 0 where
       p.state.cursor.low.column + columns + 1 ≡ p.size.width
   pub refused : (byte : ℕ) (cause : Cause) → half_fault p.size p.state (Glyph byte) ≡ Some cause → columns ≡ 0
 
--- Between two tokens a run is as long as may be: all glyphs that stand in front, up to the last column.
+-- A run is as long as may be: all glyphs that stand in front, up to the last column.
 abbrev pub IsLongestRun : PlayView → List ℕ → ℕ → Type 0
-IsLongestRun p bytes count =
-    (columns : ℕ) → AreFree p columns → IsBetweenTokens p.scanner → IsGlyphFront (take columns bytes) count
+IsLongestRun p bytes count = (columns : ℕ) → AreFree p columns → IsGlyphFront (take columns bytes) count

@@ -1,5 +1,5 @@
 -- The picture that known cells show.
-use Rattle.std.specs.Prelude.{ℕ, ◌*◌, ◌≤◌, IsTrue, List, length, All, map, take, Option, unwrap_or}
+use Rattle.std.specs.Prelude.{ℕ, ◌*◌, ◌≤◌, IsTrue, List, length, All, map, take, drop, Option, unwrap_or}
 use Rattle.std.specs.List.{list_all}
 use Rattle.std.specs.Option.{option_map}
 use Rattle.ans_model.specs.Screen.State.{Size, at, cell, cell_at}
@@ -28,6 +28,18 @@ byte_at p row column = option_map (λ (c : Cell). c.byte) (cell_at p.size p.cell
 -- the attribute at a row and a column, counted from 0
 abbrev pub attribute_at : Picture → ℕ → ℕ → Option ℕ
 attribute_at p row column = option_map (λ (c : Cell). c.attribute) (cell_at p.size p.cells (at row column))
+
+-- the cells of a row, counted from 0
+abbrev pub cells_of_row : Picture → ℕ → List Cell
+cells_of_row p row = take p.size.width (drop (row * p.size.width) p.cells)
+
+-- the bytes of a row, counted from 0
+abbrev pub bytes_of_row : Picture → ℕ → List ℕ
+bytes_of_row p row = map (λ c. c.byte) (cells_of_row p row)
+
+-- the attributes of a row, counted from 0
+abbrev pub attributes_of_row : Picture → ℕ → List ℕ
+attributes_of_row p row = map (λ c. c.attribute) (cells_of_row p row)
 
 -- each cell of the stated lines is known, and what is known are bytes
 pub record IsShown (z : Size) (cells : List HalfCell) : Type 0 where

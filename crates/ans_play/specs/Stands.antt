@@ -1,5 +1,6 @@
 -- What a player says of the bytes that it was fed.
-use Rattle.std.specs.Prelude.{◌≡◌, ℕ, ◌+◌, List, [], ◌++◌, length, Some, None, Result, Err, IsOk, IfOk, IfErr, OnOk}
+use Rattle.std.specs.Prelude.{◌≡◌, ℕ, ◌+◌, ◌≤◌, List, [], ◌++◌, length, take, Some, None}
+use Rattle.std.specs.Prelude.{Result, Err, IsOk, IfOk, IfErr, OnOk}
 use Rattle.std.specs.Prelude.{MatchResult}
 use Rattle.ans_model.specs.Sequence.TokenKind.{TokenKind}
 use Rattle.ans_model.specs.Sequence.Reads.{Reads}
@@ -95,6 +96,12 @@ pub record GoesOn (old : PlayView) (bytes : List ℕ) (new : PlayView) : Type 0 
   pub offset : new.scanner.offset ≡ old.scanner.offset + length bytes
   pub played : (class : Start) (s : List ℕ) → IsPlayed old.size class s old.scanner old.state
       → IsPlayed old.size class (s ++ bytes) new.scanner new.state
+
+-- some of the first bytes, and not more than all, are played
+pub record PlaysFront (old : PlayView) (bytes : List ℕ) (new : PlayView) (count : ℕ) : Type 0 where
+  pub some : 1 ≤ count
+  pub within : count ≤ length bytes
+  pub played : GoesOn old (take count bytes) new
 
 -- whatever bytes are played, with these after them they have the fault
 abbrev pub IsDeserved : PlayView → List ℕ → Fault → Type 0

@@ -1,6 +1,6 @@
 //! The picture that the content shows.
 
-ghost use Rattle.std.specs.Prelude.{◌≡◌, ◌<◌, Some};
+ghost use Rattle.std.specs.Prelude.{◌≡◌, ◌<◌, length, Some};
 
 use ans_model::size::Size;
 use ans_screen::{Grid, HalfCell};
@@ -28,6 +28,7 @@ impl<G: Grid> Picture<G> {
     ghost use Rattle.ans_model.specs.Screen.State.{at, cell_at};
     ghost use Rattle.ans_model.specs.Verdict.Good.{IsPictureOf};
     ghost use Rattle.ans_play.specs.Shown.{IsShown, picture_of, known_cell, byte_at, attribute_at};
+    ghost use Rattle.ans_play.specs.Shown.{bytes_of_row, attributes_of_row};
 
     /// The picture of a grid whose cells of the stated lines are all known.
     pub(crate) fn new(size: Size, grid: G) -> Picture<G>
@@ -79,5 +80,24 @@ impl<G: Grid> Picture<G> {
     {
         let attr = self.cell(row, col).attr;
         attr.value
+    }
+
+    /// Copies the bytes of a row, counted from 0, one for each column.
+    pub fn copy_glyphs(&self, row: usize, bytes: &mut [u8])
+        requires row { row < self.now.size.lines }
+        requires width { length bytes.old ≡ self.now.size.width }
+        ensures { bytes.new ≡ bytes_of_row self.now row }
+    {
+        self.grid.copy_glyphs(row * self.size.width(), bytes);
+    }
+
+    /// Copies the attributes of a row, counted from 0, one for each column.
+    pub fn copy_attributes(&self, row: usize, attributes: &mut [u8])
+        requires row { row < self.now.size.lines }
+        requires width { length attributes.old ≡ self.now.size.width }
+        ensures { attributes.new ≡ attributes_of_row self.now row }
+    {
+        self.grid
+            .copy_attributes(row * self.size.width(), attributes);
     }
 }

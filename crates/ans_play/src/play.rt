@@ -20,7 +20,7 @@ use ans_model::size::Size;
 use ans_model::start::Start;
 use ans_model::tab::tab_blanks;
 use ans_screen::{Attr, Grid, HalfCell};
-use ans_tokens::Scanner;
+use ans_tokens::{Scanner, Token};
 use std::alloc::{AllocError, Global};
 use std::marker::Model;
 
@@ -86,8 +86,9 @@ fn known_after_all(attribute: Attr, parameters: &[u8]) -> Attr
 }
 
 impl<G: Grid> Play<G> {
-    ghost use Rattle.ans_play.specs.Plays.{AreFree, IsLongestRun};
-    ghost use Rattle.ans_play.specs.Stands.{IsNewPlay, GoesOn, IsDeserved, EndsPlay};
+    ghost use Rattle.ans_tokens.specs.Glyphs.{IsBetweenTokens};
+    ghost use Rattle.ans_play.specs.Plays.{AreFree, IsLongestRun, PlaysToken};
+    ghost use Rattle.ans_play.specs.Stands.{IsNewPlay, GoesOn, PlaysFront, IsDeserved, EndsPlay};
 
     /// A play of no bytes yet, from the starts of a class. It fails only if memory runs out.
     pub fn new(alloc: Global, size: Size, start: Start) -> Result<Play<G>, AllocError>
@@ -106,24 +107,52 @@ impl<G: Grid> Play<G> {
         })
     }
 
+    /// Plays what the bytes begin with, and returns how many bytes that is: a run of glyphs, a whole
+    /// token, or else one byte.
+    pub fn play_front(&mut self, bytes: &[u8]) -> Result<usize, Fault>
+        requires some { 1 ≤ length bytes.now }
+        requires room { self.old.scanner.offset + length bytes.now ≤ longest_file }
+        ensures played { IfOk result (PlaysFront self.old bytes.now self.new) }
+        ensures stopped { IfErr result (λ fault. (self.new.size ≡ self.old.size)
+            × IsDeserved self.old bytes.now fault) }
+    {
+        if !self.scanner.is_between_tokens() {
+            self.play_byte(bytes[0])?;
+            return Ok(1);
+        }
+        let count = self.print_run(bytes);
+        if count > 0 {
+            return Ok(count);
+        }
+        match self.scanner.token(bytes) {
+            Some(token) => {
+                self.play_token(&token)?;
+                Ok(token.length())
+            }
+            None => {
+                self.play_byte(bytes[0])?;
+                Ok(1)
+            }
+        }
+    }
+
     /// Prints the glyphs that the bytes begin with, as far as they stand in the cursor's row before
-    /// its last column, and returns how many they are: as many as there are. It prints none within a
-    /// sequence, and none where a glyph is refused.
-    pub fn print_run(&mut self, bytes: &[u8]) -> usize
-        requires { self.old.scanner.offset + length bytes.now ≤ longest_file }
+    /// its last column, and returns how many they are: as many as there are. It prints none where a
+    /// glyph is refused. It is called between two tokens.
+    fn print_run(&mut self, bytes: &[u8]) -> usize
+        requires between { IsBetweenTokens self.old.scanner }
+        requires room { self.old.scanner.offset + length bytes.now ≤ longest_file }
         ensures within { result ≤ length bytes.now }
         ensures printed { GoesOn self.old (take result bytes.now) self.new }
         ensures longest { IsLongestRun self.old bytes.now result }
+        ensures none { result ≡ 0 → self.new ≡ self.old }
     {
-        if !self.scanner.is_between_tokens() {
-            return 0;
-        }
         let columns = self.columns_before_last();
         let count = self.scanner.glyphs(&bytes[..bytes.len().min(columns)]);
         if count > 0 {
             let Position { row, column } = self.cursor.low;
             let from = row * self.size.width() + column;
-            self.grid.write_run(from, &bytes[..count], self.attribute);
+            self.grid.write_run(from, bytes, count, self.attribute);
             self.cursor = Span::at(row, column + count);
         }
         count
@@ -142,17 +171,23 @@ impl<G: Grid> Play<G> {
     }
 
     /// Takes a byte, and plays the token that it ends, if it ends one.
-    pub fn play_byte(&mut self, byte: u8) -> Result<(), Fault>
+    #[inline(never)]
+    fn play_byte(&mut self, byte: u8) -> Result<(), Fault>
         requires { self.old.scanner.offset < longest_file }
-        ensures size { self.new.size ≡ self.old.size }
         ensures played { OnOk result (GoesOn self.old (byte ∷ []) self.new) }
-        ensures deserved { IfErr result (λ fault. (rest : List ℕ)
-            → IsDeserved self.old (byte ∷ rest) fault) }
+        ensures stopped { IfErr result (λ fault. (self.new.size ≡ self.old.size)
+            × ((rest : List ℕ) → IsDeserved self.old (byte ∷ rest) fault)) }
     {
-        let token = match self.scanner.byte(byte)? {
-            None => return Ok(()),
-            Some(token) => token,
-        };
+        match self.scanner.byte(byte)? {
+            None => Ok(()),
+            Some(token) => self.play_token(&token),
+        }
+    }
+
+    /// Plays a token. A fault stands at its first byte, and then nothing changes.
+    fn play_token(&mut self, token: &Token) -> Result<(), Fault>
+        ensures { PlaysToken self.old self.new token.now result }
+    {
         let result = match token.kind() {
             Kind::Glyph(byte) => self.print(*byte),
             Kind::LineFeed => self.line_feed(),

@@ -84,16 +84,15 @@ impl<G: Grid> Player<G> {
         if let Some(fault) = self.fault {
             return Err(fault);
         }
-        let mut played = self.play.print_run(piece);
+        let mut played = 0;
         while played < piece.len() {
-            match self.play.play_byte(piece[played]) {
-                Ok(()) => played += 1,
+            match self.play.play_front(&piece[played..]) {
+                Ok(count) => played += count,
                 Err(fault) => {
                     self.fault = Some(fault);
                     return Err(fault);
                 }
             }
-            played += self.play.print_run(&piece[played..]);
         }
         self.fed += piece.len();
         Ok(())

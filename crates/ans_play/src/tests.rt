@@ -1,4 +1,5 @@
-//! Plays of small contents, each fed whole, in two pieces at every cut, and byte by byte.
+//! Plays of small contents over both grids, each fed whole, in two pieces at every cut, and byte by
+//! byte.
 
 use crate::{Picture, Player, Start};
 use ans_model::fault::{Cause, Fault};
@@ -7,7 +8,7 @@ use ans_samples::rows::{
     BROKEN, BYTES, COLOURS, FORBIDDEN, MISPLACED, PARTS_KNOWN, PASSES_FROM_ANY,
     PASSES_FROM_CLEARED, Row, TABS, UNKNOWN_CELLS, WITHOUT_MEANING,
 };
-use ans_screen::{Grid, PlainGrid};
+use ans_screen::{Grid, PlainGrid, PlaneGrid};
 use std::alloc::Global;
 use std::process::Abort;
 use std::test::Fail;
@@ -36,12 +37,33 @@ fn assert_shows<G: Grid>(rt: &impl Abort, picture: &Picture<G>, bytes: &[u8], at
                 assert_eq!(rt; picture.attr(row, col), *attribute);
             }
         }
+        assert_copies(rt, picture, row);
+    }
+}
+
+/// Asserts that the bytes and attributes copied of a row are its cells', read one by one.
+fn assert_copies<G: Grid>(rt: &impl Abort, picture: &Picture<G>, row: usize) {
+    let width = picture.width();
+    assert!(rt; row < picture.lines() && width <= 20);
+    let mut bytes = [0; 20];
+    let mut attributes = [0; 20];
+    picture.copy_glyphs(row, &mut bytes[..width]);
+    picture.copy_attributes(row, &mut attributes[..width]);
+    for col in 0..width {
+        assert_eq!(rt; bytes[col], picture.glyph(row, col));
+        assert_eq!(rt; attributes[col], picture.attr(row, col));
     }
 }
 
 /// Feeds the first bytes of a row's content as one piece and the others in pieces of a size, with an
 /// empty piece after each.
-fn play(rt: &impl Abort, alloc: Global, row: &Row, first: usize, size: usize) -> Result<(), Fail> {
+fn play<G: Grid>(
+    rt: &impl Abort,
+    alloc: Global,
+    row: &Row,
+    first: usize,
+    size: usize,
+) -> Result<(), Fail> {
     let Row {
         start,
         width,
@@ -51,7 +73,7 @@ fn play(rt: &impl Abort, alloc: Global, row: &Row, first: usize, size: usize) ->
     } = *row;
     assert!(rt; 1 <= width && width <= 20 && 1 <= lines && lines <= 10);
     assert!(rt; first <= content.len() && 0 < size);
-    let mut player = Player::<PlainGrid>::new(alloc, width, lines, start)?;
+    let mut player = Player::<G>::new(alloc, width, lines, start)?;
     let mut met = feed(rt, &mut player, &content[..first]);
     for piece in content[first..].chunks(size) {
         let answer = feed(rt, &mut player, piece);
@@ -73,15 +95,17 @@ fn play(rt: &impl Abort, alloc: Global, row: &Row, first: usize, size: usize) ->
     Ok(())
 }
 
-/// Plays each content whole, in two pieces at every cut, and byte by byte.
+/// Plays each content over both grids: whole, in two pieces at every cut, and byte by byte.
 fn play_all(rt: &impl Abort, alloc: Global, rows: &[Row]) -> Result<(), Fail> {
     for row in rows {
         let all = row.content.len();
         assert!(rt; all < 200);
         for cut in 0..all + 1 {
-            play(rt, alloc, row, cut, all + 1)?;
+            play::<PlainGrid>(rt, alloc, row, cut, all + 1)?;
+            play::<PlaneGrid>(rt, alloc, row, cut, all + 1)?;
         }
-        play(rt, alloc, row, 0, 1)?;
+        play::<PlainGrid>(rt, alloc, row, 0, 1)?;
+        play::<PlaneGrid>(rt, alloc, row, 0, 1)?;
     }
     Ok(())
 }

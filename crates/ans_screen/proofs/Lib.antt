@@ -1,6 +1,9 @@
 pub mod KnownAfter
 pub mod Copies
-pub mod Zipped
-pub mod PlaneCells
 pub mod KnownChunks
 pub mod FirstGap
+pub mod Blends
+pub mod Places
+pub mod RowCells
+pub mod RowEdits
+pub mod RowReads

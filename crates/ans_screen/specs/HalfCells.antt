@@ -1,5 +1,5 @@
 -- Half-known cells: cells of which some parts may be unknown.
-use Rattle.std.specs.Prelude.{ℕ, Bool, ◌&&◌, Option, Some, is_some}
+use Rattle.std.specs.Prelude.{ℕ, Bool, ◌&&◌, Option, Some, is_some, unwrap_or}
 use Rattle.ans_screen.specs.KnownBits.{KnownBits, is_whole}
 use Rattle.ans_screen.specs.declared.cell.HalfCell.{HalfCell}
 
@@ -14,3 +14,11 @@ printed_cell attr byte = half_cell (Some byte) attr
 -- the byte and all bits of the attribute are known
 abbrev pub is_known : HalfCell → Bool
 is_known c = is_some c.glyph && is_whole c.attr
+
+-- the byte, or 0 where it is not known
+abbrev pub glyph_byte : HalfCell → ℕ
+glyph_byte c = unwrap_or c.glyph 0
+
+-- the attribute's value, in which each bit that is not known is 0
+abbrev pub attribute_byte : HalfCell → ℕ
+attribute_byte c = c.attr.value

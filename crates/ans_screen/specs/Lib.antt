@@ -2,3 +2,4 @@ pub mod KnownBits
 pub mod HalfCells
 pub mod GridEdits
 pub mod CellPlanes
+pub mod RowCells

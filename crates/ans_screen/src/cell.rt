@@ -12,7 +12,7 @@ pub struct HalfCell {
 impl HalfCell {
     ghost use Rattle.std.specs.Prelude.{◌≡◌, Some, None};
     ghost use Rattle.ans_screen.specs.KnownBits.{known_bits};
-    ghost use Rattle.ans_screen.specs.HalfCells.{half_cell, is_known};
+    ghost use Rattle.ans_screen.specs.HalfCells.{half_cell, is_known, glyph_byte, attribute_byte};
 
     /// A byte and an attribute, both known.
     pub fn known(glyph: u8, attr: u8) -> HalfCell
@@ -39,5 +39,19 @@ impl HalfCell {
         ensures { result ≡ is_known self }
     {
         self.glyph.is_some() && self.attr.is_known()
+    }
+
+    /// The byte, or 0 where it is not known.
+    pub fn glyph_byte(self) -> u8
+        ensures { result ≡ glyph_byte self }
+    {
+        self.glyph.unwrap_or(0)
+    }
+
+    /// The attribute's value, in which each bit that is not known is 0.
+    pub fn attribute_byte(self) -> u8
+        ensures { result ≡ attribute_byte self }
+    {
+        self.attr.value
     }
 }

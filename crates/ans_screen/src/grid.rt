@@ -1,10 +1,12 @@
 //! Grids of half-known cells.
 
-ghost use Rattle.std.specs.Prelude.{◌≡◌, ℕ, ◌+◌, ◌*◌, ◌<◌, ◌≤◌, List, length, set, replicate, slice_get, Some, IfOk};
+ghost use Rattle.std.specs.Prelude.{◌≡◌, ℕ, ◌+◌, ◌*◌, ◌<◌, ◌≤◌, List, length, map, take, drop, set};
+ghost use Rattle.std.specs.Prelude.{replicate, slice_get, Some, IfOk};
 ghost use Rattle.ans_model.specs.Bytes.{most_columns};
 ghost use Rattle.ans_model.specs.Screen.Step.{filled};
 ghost use Rattle.ans_screen.specs.declared.cell.HalfCell.{HalfCell};
 ghost use Rattle.ans_screen.specs.GridEdits.{most_rows, written, printed_run, first_unknown};
+ghost use Rattle.ans_screen.specs.HalfCells.{glyph_byte, attribute_byte};
 
 use crate::attr::Attr;
 use crate::cell::HalfCell;
@@ -54,11 +56,13 @@ pub trait Grid: Sized + Drop {
         ensures width { width_of self.new ≡ width_of self.old }
         ensures rows { rows_of self.new ≡ rows_of self.old };
 
-    /// Writes bytes side by side from cell `from` on, each with this attribute.
-    fn write_run(&mut self, from: usize, bytes: &[u8], attr: Attr)
-        requires { from + length bytes.now ≤ length (cells_of self.old) }
+    /// Writes the first `count` bytes side by side from cell `from` on, each with this attribute.
+    /// The bytes after them are not written.
+    fn write_run(&mut self, from: usize, bytes: &[u8], count: usize, attr: Attr)
+        requires count { count ≤ length bytes.now }
+        requires within { from + count ≤ length (cells_of self.old) }
         ensures cells { cells_of self.new
-            ≡ written (cells_of self.old) from (printed_run attr bytes.now) }
+            ≡ written (cells_of self.old) from (printed_run attr (take count bytes.now)) }
         ensures width { width_of self.new ≡ width_of self.old }
         ensures rows { rows_of self.new ≡ rows_of self.old };
 
@@ -66,6 +70,19 @@ pub trait Grid: Sized + Drop {
     fn first_unknown(&self, to: usize) -> Option<usize>
         requires { to ≤ length (cells_of self.now) }
         ensures { result ≡ first_unknown (cells_of self.now) to };
+
+    /// Copies the glyphs of cells side by side from cell `from` on: 0 for one that is not known.
+    fn copy_glyphs(&self, from: usize, glyphs: &mut [u8])
+        requires { from + length glyphs.old ≤ length (cells_of self.now) }
+        ensures { glyphs.new
+            ≡ map glyph_byte (take (length glyphs.old) (drop from (cells_of self.now))) };
+
+    /// Copies the attributes' values of cells side by side from cell `from` on, with 0 for each bit
+    /// that is not known.
+    fn copy_attributes(&self, from: usize, values: &mut [u8])
+        requires { from + length values.old ≤ length (cells_of self.now) }
+        ensures { values.new
+            ≡ map attribute_byte (take (length values.old) (drop from (cells_of self.now))) };
 
     // a cell for each row and column
     ghost whole: { (g : Self) → length (cells_of g) ≡ width_of g * rows_of g };

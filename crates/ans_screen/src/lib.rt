@@ -3,21 +3,24 @@
 //! An attribute is known by its bits, a glyph whole or not at all. [`Attr::apply`] keeps all that
 //! can be known, and no more. A [`Grid`] is a width, a number of rows and a list of half-known
 //! cells in row order; each call of it is exact. [`PlainGrid`] is a vector of cells, [`PlaneGrid`]
-//! four planes of bytes. The definitions stand in `specs/KnownBits.antt`, `specs/HalfCells.antt`
-//! and `specs/GridEdits.antt`; `specs/CellPlanes.antt` says which cells four planes stand for.
+//! four planes of bytes and a state for each row. The definitions stand in
+//! `specs/KnownBits.antt`, `specs/HalfCells.antt` and `specs/GridEdits.antt`;
+//! `specs/CellPlanes.antt` says which cell four bytes stand for, and `specs/RowCells.antt` which
+//! cells planes and states do.
 #![tactic(auto)]
 
 mod attr;
 mod cell;
 mod grid;
 mod plain;
+mod plane_grid;
 mod planes;
 
 pub use attr::Attr;
 pub use cell::HalfCell;
 pub use grid::Grid;
 pub use plain::PlainGrid;
-pub use planes::PlaneGrid;
+pub use plane_grid::PlaneGrid;
 
 #[cfg(test)]
 mod tests;

@@ -62,13 +62,24 @@ impl Grid for PlainGrid {
         self.items[from..to].fill(cell);
     }
 
-    fn write_run(&mut self, from: usize, bytes: &[u8], attr: Attr) {
-        let to = from + bytes.len();
-        print_cells(&mut self.items[from..to], bytes, attr);
+    fn write_run(&mut self, from: usize, bytes: &[u8], count: usize, attr: Attr) {
+        print_cells(&mut self.items[from..from + count], &bytes[..count], attr);
     }
 
     fn first_unknown(&self, to: usize) -> Option<usize> {
         self.items[..to].iter().position(|cell| !cell.is_known())
+    }
+
+    fn copy_glyphs(&self, from: usize, glyphs: &mut [u8]) {
+        for i in 0..glyphs.len() {
+            glyphs[i] = self.items[from + i].glyph_byte();
+        }
+    }
+
+    fn copy_attributes(&self, from: usize, values: &mut [u8]) {
+        for i in 0..values.len() {
+            values[i] = self.items[from + i].attribute_byte();
+        }
     }
 
     ghost whole = { λ g. g.whole };

@@ -1,43 +1,45 @@
-//! A grid that is four planes of bytes.
+//! Planes of bytes, one a cell.
 
-ghost use Rattle.std.specs.Prelude.{◌≡◌, ◌↔◌, ◌+◌, ◌*◌, ◌≤◌, length, vec_len, IsTrue};
+ghost use Rattle.std.specs.Prelude.{◌≡◌, ◌↔◌, ◌+◌, ◌*◌, ◌≤◌, ◌++◌, length, take, drop, vec_len};
+ghost use Rattle.std.specs.Prelude.{ℕ, ◌<◌, IsTrue, slice_index, unwrap_or, bit_and};
 ghost use Rattle.ans_model.specs.Screen.Step.{filled};
 ghost use Rattle.ans_screen.specs.GridEdits.{written};
-ghost use Rattle.ans_screen.specs.CellPlanes.{glyph_of, cell_of, cells_of_planes, length_cells};
+ghost use Rattle.ans_screen.specs.CellPlanes.{glyph_of, cell_of};
 ghost use Rattle.ans_screen.specs.CellPlanes.{AreKnown, IsFirstGap};
-ghost use Rattle.std.proofs.Common.{sym, ◌∙◌};
 
 use crate::attr::Attr;
 use crate::cell::HalfCell;
-use crate::grid::Grid;
-use std::alloc::{AllocError, Global};
 use std::simd::prelude::*;
-
-/// Cell `i` is byte `i` of each plane. So a fill is four fills of bytes, and 32 cells at a time
-/// are tested for what is known.
-#[derive(Drop)]
-pub struct PlaneGrid {
-    width: usize,
-    rows: usize,
-    glyphs: Vec<u8>,
-    // FFh where the glyph is known, else 00h
-    glyphs_known: Vec<u8>,
-    // the bits of the attribute that are known
-    bits_known: Vec<u8>,
-    values: Vec<u8>,
-    ghost whole_glyphs: { length glyphs.items ≡ width * rows },
-    ghost whole_glyphs_known: { length glyphs_known.items ≡ width * rows },
-    ghost whole_bits_known: { length bits_known.items ≡ width * rows },
-    ghost whole_values: { length values.items ≡ width * rows },
-}
 
 /// A cell's byte in each plane.
 #[derive(Clone, Copy)]
-struct CellBytes {
-    glyph: u8,
-    glyph_known: u8,
-    bits_known: u8,
-    value: u8,
+pub(crate) struct CellBytes {
+    pub(crate) glyph: u8,
+    pub(crate) glyph_known: u8,
+    pub(crate) bits_known: u8,
+    pub(crate) value: u8,
+}
+
+impl CellBytes {
+    /// The bytes of a cell that is wholly known.
+    pub(crate) fn known(glyph: u8, value: u8) -> CellBytes
+        ensures { cell_of result.glyph result.glyph_known result.bits_known result.value
+            ≡ cell_of glyph 0xFF 0xFF value }
+    {
+        CellBytes {
+            glyph,
+            glyph_known: 0xFF,
+            bits_known: 0xFF,
+            value,
+        }
+    }
+
+    /// Whether the glyph and all bits of the attribute are known.
+    pub(crate) fn is_known(&self) -> bool
+        ensures { IsTrue result ↔ ((self.now.glyph_known ≡ 0xFF) × (self.now.bits_known ≡ 0xFF)) }
+    {
+        self.glyph_known == 0xFF && self.bits_known == 0xFF
+    }
 }
 
 /// The bytes that stand for a glyph: itself, and whether it is known.
@@ -51,7 +53,7 @@ fn bytes_of_glyph(glyph: Option<u8>) -> (u8, u8)
 }
 
 /// The bytes that stand for a cell.
-fn bytes_of(cell: HalfCell) -> CellBytes
+pub(crate) fn bytes_of(cell: HalfCell) -> CellBytes
     ensures { cell_of result.glyph result.glyph_known result.bits_known result.value ≡ cell }
 {
     let (glyph, glyph_known) = bytes_of_glyph(cell.glyph);
@@ -65,7 +67,7 @@ fn bytes_of(cell: HalfCell) -> CellBytes
 
 /// The cell that bytes stand for.
 #[inline(always)]
-fn cell_of_bytes(bytes: CellBytes) -> HalfCell
+pub(crate) fn cell_of_bytes(bytes: CellBytes) -> HalfCell
     ensures { result ≡ cell_of bytes.glyph bytes.glyph_known bytes.bits_known bytes.value }
 {
     HalfCell {
@@ -81,24 +83,61 @@ fn cell_of_bytes(bytes: CellBytes) -> HalfCell
     }
 }
 
-/// Makes the bytes from `from` up to and without `to` this one.
-fn fill_plane(plane: &mut Vec<u8>, from: usize, to: usize, byte: u8)
+/// Writes the first `count` of 16 lanes over the front of 16 bytes.
+#[inline(always)]
+fn blend(place: &mut [u8], new: u8x16, count: usize)
+    requires lanes { length new ≡ 16 }
+    requires place { length place.old ≡ 16 }
+    requires count { count ≤ 16 }
+    ensures { place.new ≡ take count new ++ drop count place.old }
+{
+    let old = u8x16::from_slice(place);
+    let lanes = u8x16::from_array([0, 1, 2, 3, 4, 5, 6, 7, 8, 9, 10, 11, 12, 13, 14, 15]);
+    let written = lanes.simd_lt(u8x16::splat(count as u8));
+    written.select(new, old).copy_to_slice(place);
+}
+
+/// Writes the first `count` of 16 lanes side by side from byte `from` on.
+#[inline(always)]
+fn blend_at(bytes: &mut [u8], from: usize, new: u8x16, count: usize)
+    requires lanes { length new ≡ 16 }
+    requires count { count ≤ 16 }
+    requires within { from + 16 ≤ length bytes.old }
+    ensures { bytes.new ≡ written bytes.old from (take count new) }
+{
+    blend(&mut bytes[from..from + 16], new, count);
+}
+
+/// Makes the bytes from `from` up to and without `to` this one. A short fill is a blend, since a
+/// call that fills memory costs more than it.
+#[inline(always)]
+pub(crate) fn fill_plane(plane: &mut Vec<u8>, from: usize, to: usize, byte: u8)
     requires ordered { from ≤ to }
     requires within { to ≤ length plane.old.items }
     ensures items { plane.new.items ≡ filled plane.old.items from to byte }
     ensures len { vec_len plane.new ≡ vec_len plane.old }
 {
-    plane[from..to].fill(byte);
+    if to - from <= 16 && plane.len() - from >= 16 {
+        blend_at(plane, from, u8x16::splat(byte), to - from);
+    } else {
+        plane[from..to].fill(byte);
+    }
 }
 
-/// Writes bytes side by side from byte `from` on.
-fn write_plane(plane: &mut Vec<u8>, from: usize, bytes: &[u8])
-    requires { from + length bytes.now ≤ length plane.old.items }
-    ensures items { plane.new.items ≡ written plane.old.items from bytes.now }
+/// Writes the first `count` bytes side by side from byte `from` on. A short run is a blend, since
+/// a call that copies memory costs more than it.
+#[inline(always)]
+pub(crate) fn write_plane(plane: &mut Vec<u8>, from: usize, bytes: &[u8], count: usize)
+    requires count { count ≤ length bytes.now }
+    requires within { from + count ≤ length plane.old.items }
+    ensures items { plane.new.items ≡ written plane.old.items from (take count bytes.now) }
     ensures len { vec_len plane.new ≡ vec_len plane.old }
 {
-    let to = from + bytes.len();
-    plane[from..to].copy_from_slice(bytes);
+    if count <= 16 && bytes.len() >= 16 && plane.len() - from >= 16 {
+        blend_at(plane, from, u8x16::from_slice(bytes), count);
+    } else {
+        plane[from..from + count].copy_from_slice(&bytes[..count]);
+    }
 }
 
 /// Whether all of 32 cells are known.
@@ -132,7 +171,7 @@ fn known_chunks(glyphs_known: &[u8], bits_known: &[u8], to: usize) -> usize
 }
 
 /// The least `i` below `to` whose cell is not known.
-fn first_gap(glyphs_known: &[u8], bits_known: &[u8], to: usize) -> Option<usize>
+pub(crate) fn first_gap(glyphs_known: &[u8], bits_known: &[u8], to: usize) -> Option<usize>
     requires glyphs_known { to ≤ length glyphs_known.now }
     requires bits_known { to ≤ length bits_known.now }
     ensures { IsFirstGap glyphs_known.now bits_known.now to result }
@@ -145,83 +184,30 @@ fn first_gap(glyphs_known: &[u8], bits_known: &[u8], to: usize) -> Option<usize>
     None
 }
 
-impl Grid for PlaneGrid {
-    ghost width_of = { λ g. g.width };
-
-    ghost rows_of = { λ g. g.rows };
-
-    ghost cells_of = { λ g. cells_of_planes g.glyphs.items g.glyphs_known.items g.bits_known.items
-        g.values.items };
-
-    fn new(alloc: Global, width: usize, rows: usize, cell: HalfCell) -> Result<Self, AllocError> {
-        let bytes = bytes_of(cell);
-        let count = width * rows;
-        let glyphs = vec![in alloc; bytes.glyph; count]?;
-        let glyphs_known = vec![in alloc; bytes.glyph_known; count]?;
-        let bits_known = vec![in alloc; bytes.bits_known; count]?;
-        let values = vec![in alloc; bytes.value; count]?;
-        Ok(PlaneGrid {
-            width,
-            rows,
-            glyphs,
-            glyphs_known,
-            bits_known,
-            values,
-        })
+/// Copies glyphs, with 0 for each that is not known.
+pub(crate) fn copy_known_glyphs(glyphs: &[u8], glyphs_known: &[u8], copied: &mut [u8])
+    requires glyphs { length glyphs.now ≡ length copied.old }
+    requires glyphs_known { length glyphs_known.now ≡ length copied.old }
+    ensures { (k : ℕ) → k < length copied.old → slice_index copied.new k
+        ≡ unwrap_or (glyph_of (slice_index glyphs.now k) (slice_index glyphs_known.now k)) 0 }
+{
+    for i in 0..copied.len() {
+        copied[i] = if glyphs_known[i] == 0xFF {
+            glyphs[i]
+        } else {
+            0
+        };
     }
+}
 
-    fn width(&self) -> usize {
-        self.width
+/// Copies values, with 0 for each bit that is not known.
+pub(crate) fn copy_known_bits(values: &[u8], bits_known: &[u8], copied: &mut [u8])
+    requires values { length values.now ≡ length copied.old }
+    requires bits_known { length bits_known.now ≡ length copied.old }
+    ensures { (k : ℕ) → k < length copied.old → slice_index copied.new k
+        ≡ bit_and (slice_index values.now k) (slice_index bits_known.now k) }
+{
+    for i in 0..copied.len() {
+        copied[i] = values[i] & bits_known[i];
     }
-
-    fn rows(&self) -> usize {
-        self.rows
-    }
-
-    #[tactic(auto, using(crate::specs::CellPlanes::length_cells))]
-    fn get(&self, i: usize) -> HalfCell {
-        cell_of_bytes(CellBytes {
-            glyph: self.glyphs[i],
-            glyph_known: self.glyphs_known[i],
-            bits_known: self.bits_known[i],
-            value: self.values[i],
-        })
-    }
-
-    #[tactic(auto, using(crate::specs::CellPlanes::length_cells))]
-    fn put(&mut self, i: usize, cell: HalfCell) {
-        let bytes = bytes_of(cell);
-        self.glyphs[i] = bytes.glyph;
-        self.glyphs_known[i] = bytes.glyph_known;
-        self.bits_known[i] = bytes.bits_known;
-        self.values[i] = bytes.value;
-    }
-
-    #[tactic(auto, using(crate::specs::CellPlanes::length_cells))]
-    fn fill(&mut self, from: usize, to: usize, cell: HalfCell) {
-        let bytes = bytes_of(cell);
-        fill_plane(&mut self.glyphs, from, to, bytes.glyph);
-        fill_plane(&mut self.glyphs_known, from, to, bytes.glyph_known);
-        fill_plane(&mut self.bits_known, from, to, bytes.bits_known);
-        fill_plane(&mut self.values, from, to, bytes.value);
-    }
-
-    #[tactic(auto, using(crate::specs::CellPlanes::length_cells))]
-    fn write_run(&mut self, from: usize, bytes: &[u8], attr: Attr) {
-        let to = from + bytes.len();
-        write_plane(&mut self.glyphs, from, bytes);
-        fill_plane(&mut self.glyphs_known, from, to, 0xFF);
-        fill_plane(&mut self.bits_known, from, to, attr.known);
-        fill_plane(&mut self.values, from, to, attr.value);
-    }
-
-    #[tactic(auto, using(crate::specs::CellPlanes::length_cells))]
-    fn first_unknown(&self, to: usize) -> Option<usize> {
-        first_gap(&self.glyphs_known, &self.bits_known, to)
-    }
-
-    ghost whole = { λ g. length_cells g.glyphs.items g.glyphs_known.items g.bits_known.items
-        g.values.items (g.whole_glyphs_known ∙ sym g.whole_glyphs)
-        (g.whole_bits_known ∙ sym g.whole_glyphs) (g.whole_values ∙ sym g.whole_glyphs)
-        ∙ g.whole_glyphs };
 }

@@ -1,6 +1,6 @@
 //! Values from outside, and each call once.
 
-ghost use Rattle.std.specs.Prelude.{◌<◌, ◌≤◌};
+ghost use Rattle.std.specs.Prelude.{◌≡◌, ◌+◌, ◌<◌, ◌≤◌, length};
 
 use crate::{Attr, Grid, HalfCell, PlainGrid, PlaneGrid};
 use std::alloc::Global;
@@ -56,7 +56,7 @@ fn edit_a_row<G: Grid>(rt: &impl Abort, alloc: Global) -> Result<(), Fail> {
     assert_eq!(rt; grid.get(30), HalfCell::known(b' ', 0x07));
     assert_eq!(rt; grid.get(31), HalfCell::known(b'x', 0x1F));
     assert_eq!(rt; grid.get(32), HalfCell::known(b'x', 0x1F));
-    grid.write_run(1, b"Hi", Attr::whole(0x4E));
+    grid.write_run(1, b"Hill", 2, Attr::whole(0x4E));
     assert_eq!(rt; grid.get(0), HalfCell::known(b' ', 0x07));
     assert_eq!(rt; grid.get(1), HalfCell::known(b'H', 0x4E));
     assert_eq!(rt; grid.get(2), HalfCell::known(b'i', 0x4E));
@@ -124,6 +124,210 @@ fn compare_at_each_place(rt: &impl Abort, alloc: Global, front: usize) -> Result
 fn compares_grids_at_the_ends_of_chunks(rt: HostRuntime) -> Result<(), Fail> {
     for front in [0, 1, 31, 32, 33, 63, 64, 65] {
         compare_at_each_place(&rt, rt.alloc(), front)?;
+    }
+    Ok(())
+}
+
+/// What is known of a cell.
+#[derive(Debug, Clone, Copy)]
+enum Content {
+    Unknown,
+    NoGlyph,
+    NoBits,
+    SomeBits,
+    Blank,
+    Letter,
+}
+
+fn cell_of(content: Content) -> HalfCell {
+    match content {
+        Content::Unknown => HalfCell::unknown(),
+        Content::NoGlyph => HalfCell {
+            glyph: None,
+            attr: Attr::whole(0x07),
+        },
+        Content::NoBits => HalfCell {
+            glyph: Some(b'A'),
+            attr: Attr::none(),
+        },
+        Content::SomeBits => HalfCell {
+            glyph: Some(b'A'),
+            attr: Attr::none().apply(37),
+        },
+        Content::Blank => HalfCell::known(b' ', 0x07),
+        Content::Letter => HalfCell::known(b'x', 0x1F),
+    }
+}
+
+/// What is done to a grid of 3 rows of 33 cells. A run has the attribute of such a cell.
+#[derive(Debug, Clone, Copy)]
+enum Edit {
+    Clear(Content),
+    Fill(usize, usize, Content),
+    Put(usize, Content),
+    Run(usize, usize, Content),
+}
+
+/// Makes the edit, and says whether it lies within the grid.
+fn apply<G: Grid>(grid: &mut G, edit: &Edit) -> bool
+    requires { length (G.cells_of grid.old) ≡ 99 }
+    ensures { length (G.cells_of grid.new) ≡ 99 }
+{
+    match edit {
+        Edit::Clear(content) => grid.fill(0, 99, cell_of(*content)),
+        Edit::Fill(from, to, content) => {
+            if *from > *to || *to > 99 {
+                return false;
+            }
+            grid.fill(*from, *to, cell_of(*content));
+        }
+        Edit::Put(i, content) => {
+            if *i >= 99 {
+                return false;
+            }
+            grid.put(*i, cell_of(*content));
+        }
+        Edit::Run(from, count, content) => {
+            let bytes = b"the bytes of a run, more than it";
+            if *from > 99 || *count > 32 || *count > 99 - *from {
+                return false;
+            }
+            grid.write_run(*from, bytes, *count, cell_of(*content).attr);
+        }
+    }
+    true
+}
+
+/// The cells from `from` on, copied from both grids.
+fn compare_copies<A: Grid, B: Grid>(rt: &impl Abort, grid: &A, model: &B, from: usize, count: usize)
+    requires grid { length (A.cells_of grid.now) ≡ 99 }
+    requires model { length (B.cells_of model.now) ≡ 99 }
+    requires within { from + count ≤ 99 }
+{
+    let mut copied = [0xEE; 99];
+    let mut expected = [0xEE; 99];
+    grid.copy_glyphs(from, &mut copied[..count]);
+    model.copy_glyphs(from, &mut expected[..count]);
+    assert_eq!(rt; copied, expected, "glyphs from {from}, {count}");
+    grid.copy_attributes(from, &mut copied[..count]);
+    model.copy_attributes(from, &mut expected[..count]);
+    assert_eq!(rt; copied, expected, "attributes from {from}, {count}");
+}
+
+/// All that two grids answer.
+fn compare_answers<A: Grid, B: Grid>(rt: &impl Abort, grid: &A, model: &B)
+    requires grid { length (A.cells_of grid.now) ≡ 99 }
+    requires model { length (B.cells_of model.now) ≡ 99 }
+{
+    for i in 0..99 {
+        assert_eq!(rt; grid.get(i), model.get(i), "cell {i}");
+        assert_eq!(rt; grid.first_unknown(i), model.first_unknown(i), "to {i}");
+    }
+    assert_eq!(rt; grid.first_unknown(99), model.first_unknown(99));
+    for from in 0..99 {
+        compare_copies(rt, grid, model, from, 1);
+        compare_copies(rt, grid, model, from, 99 - from);
+    }
+    for row in 0..3 {
+        compare_copies(rt, grid, model, 33 * row, 33);
+    }
+}
+
+/// The same edits of two grids, which answer the same after each.
+fn edit_both<A: Grid, B: Grid, const N: usize>(
+    rt: &impl Abort,
+    grid: &mut A,
+    model: &mut B,
+    edits: &[Edit; N],
+)
+    requires grid { length (A.cells_of grid.old) ≡ 99 }
+    requires model { length (B.cells_of model.old) ≡ 99 }
+{
+    compare_answers(rt, grid, model);
+    for edit in edits {
+        assert!(rt; apply(grid, edit), "{edit:?}");
+        assert!(rt; apply(model, edit), "{edit:?}");
+        compare_answers(rt, grid, model);
+    }
+}
+
+/// The same, of a grid of planes and a plain one.
+fn compare_edits<const N: usize>(
+    rt: &impl Abort,
+    alloc: Global,
+    start: Content,
+    edits: &[Edit; N],
+) -> Result<(), Fail> {
+    let mut planes = PlaneGrid::new(alloc, 33, 3, cell_of(start))?;
+    let mut plain = PlainGrid::new(alloc, 33, 3, cell_of(start))?;
+    edit_both(rt, &mut planes, &mut plain, edits);
+    Ok(())
+}
+
+#[test]
+fn runs_of_each_length(rt: HostRuntime) -> Result<(), Fail> {
+    for count in [0, 1, 2, 15, 16, 17, 32] {
+        for from in [0, 1, 16, 17, 18, 32, 33, 50, 66, 67] {
+            let edits = [
+                Edit::Run(from, count, Content::Letter),
+                Edit::Run(99 - count, count, Content::SomeBits),
+            ];
+            compare_edits(&rt, rt.alloc(), Content::Blank, &edits)?;
+            compare_edits(&rt, rt.alloc(), Content::Unknown, &edits)?;
+        }
+    }
+    Ok(())
+}
+
+#[test]
+fn fills_of_each_length(rt: HostRuntime) -> Result<(), Fail> {
+    for count in [0, 1, 2, 15, 16, 17, 33, 34, 66] {
+        for from in [0, 1, 16, 17, 32, 33] {
+            let edits = [
+                Edit::Fill(from, from + count, Content::Letter),
+                Edit::Fill(99 - count, 99, Content::Unknown),
+                Edit::Put(98, Content::Letter),
+            ];
+            compare_edits(&rt, rt.alloc(), Content::Blank, &edits)?;
+            compare_edits(&rt, rt.alloc(), Content::Unknown, &edits)?;
+        }
+    }
+    Ok(())
+}
+
+/// Clears, and edits between them, of cells of which nothing, a part or all is known.
+fn clear_and_write(
+    rt: &impl Abort,
+    alloc: Global,
+    half: Content,
+    blank: Content,
+) -> Result<(), Fail> {
+    let edits = [
+        Edit::Clear(blank),
+        Edit::Run(30, 6, Content::Letter),
+        Edit::Put(70, half),
+        Edit::Clear(half),
+        Edit::Run(30, 6, Content::Letter),
+        Edit::Clear(Content::Blank),
+        Edit::Run(40, 6, Content::Letter),
+        Edit::Put(41, half),
+        Edit::Fill(66, 99, Content::Letter),
+        Edit::Fill(70, 71, half),
+        Edit::Run(90, 9, Content::SomeBits),
+        Edit::Clear(blank),
+        Edit::Clear(Content::Unknown),
+        Edit::Fill(20, 80, Content::Letter),
+    ];
+    compare_edits(rt, alloc, Content::Letter, &edits)?;
+    compare_edits(rt, alloc, half, &edits)
+}
+
+#[test]
+fn clears_known_and_unknown(rt: HostRuntime) -> Result<(), Fail> {
+    for half in [Content::NoGlyph, Content::NoBits, Content::SomeBits] {
+        clear_and_write(&rt, rt.alloc(), half, half)?;
+        clear_and_write(&rt, rt.alloc(), half, Content::Unknown)?;
+        clear_and_write(&rt, rt.alloc(), half, Content::Letter)?;
     }
     Ok(())
 }

@@ -1,10 +1,11 @@
-use Rattle.std.proofs.Common.{◌+◌, ◌*◌, take, length, refl, arith, All}
+use Rattle.std.proofs.Common.{◌+◌, ◌*◌, take, length, sym, arith, All}
 use Rattle.std.proofs.lemmas.List.Elements.{All-from_get_or, All-take}
 use Rattle.ans_model.specs.Bytes.{IsByte}
 use Rattle.ans_screen.specs.GridEdits.{printed_run}
 use Rattle.ans_play.specs.PlayView.{IsByteHalfCell}
 use Rattle.ans_play.proofs.GlyphRuns.{is_run, room_on_screen, printed_bytes, All-written, run_goes_on}
 use Rattle.ans_play.proofs.GlyphRuns.{longest_run}
+use Rattle.ans_play.proofs.Feeding.{still_between}
 use Rattle.ans_play.proofs.play.Play.print_run.Goals as goal
 
 pub write_run-requires : goal.write_run-requires
@@ -13,10 +14,13 @@ write_run-requires g c =
     c.glyphs-count.result
     c.self.view_is c.self.invariant.cursor c.columns_before_last-columns.ensures (omega (arith, c.min.ensures))
     c.glyphs-count.ensures.front c.if-count-gt0.true in
-    rw (c.width.ensures.width, run.taken)
-    (room_on_screen c.self.inside.size.width c.self.inside.size.lines c.self.inside.cursor.low.row
-    c.self.inside.cursor.low.column c.glyphs-count.result (length (g.G.Grid.cells_of c.self.inside.grid))
-    run.room.above run.room.columns c.self.invariant.cells)
+    record {
+      count = run.within;
+      within = rw c.width.ensures.width
+          (room_on_screen c.self.inside.size.width c.self.inside.size.lines c.self.inside.cursor.low.row
+          c.self.inside.cursor.low.column c.glyphs-count.result (length (g.G.Grid.cells_of c.self.inside.grid))
+          run.room.above run.room.columns c.self.invariant.cells);
+    }
 
 pub invariant_of-self : goal.invariant_of-self
 invariant_of-self g c =
@@ -53,7 +57,7 @@ returns-then-count-gt0-clause-printed g c =
     (run_goes_on c.self.inside.size c.self.inside.scanner c.glyphs-count.new.self (g.G.Grid.cells_of c.self.inside.grid)
     (g.G.Grid.cells_of c.write_run.new.self) c.self.inside.cursor c.self.inside.saved c.self.inside.attribute
     c.self.inside.wrap c.args.bytes.now c.glyphs-count.result run.within run.room
-    (c.if-not-is_between_tokens.ensures.0 refl)
+    (still_between _ _ (sym c.self.view_is) c.requires.between)
     run.glyphs c.self.invariant.cells c.glyphs-count.ensures.taken
     (rw c.width.ensures.width at c.write_run.ensures.cells))
 

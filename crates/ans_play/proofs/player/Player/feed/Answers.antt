@@ -1,7 +1,7 @@
 use Rattle.std.proofs.Common.{◌≡◌, ◌≤◌, ◌+◌, refl, sym, ap, ◌∙◌, length, None, arith, rules}
 use Rattle.ans_play.specs.PlayerView.{PlayerView, play_of}
 use Rattle.ans_play.specs.Stands.{GoesOn}
-use Rattle.ans_play.proofs.Feeding.{plays_byte_more, plays_run_more, plays_all, piece_deserved, feeds_all, feeds_fault}
+use Rattle.ans_play.proofs.Feeding.{plays_more, plays_all, piece_deserved, feeds_all, feeds_fault}
 use Rattle.ans_play.proofs.Feeding.{feeds_again}
 use Rattle.ans_play.proofs.player.Player.feed.Goals as goal
 
@@ -13,14 +13,9 @@ returns-in-Some-clause-fed g c s st =
 pub loop-played-preserved : goal.loop-played-preserved
 loop-played-preserved g c =
     let here = c.loop-played.invariant in
-    let old = play_of c.args.self.now in
-    let byte = plays_byte_more old c.loop-played.self-inside.play c.play_byte.new.self c.args.piece.now
-    c.loop-played.played here.plays c.loop-played-test.true c.in-Ok.ensures.played in
     record {
-      plays = plays_run_more old c.play_byte.new.self c.print_run-played-in-loop-played.new.self c.args.piece.now
-          (c.loop-played.played + 1)
-          c.print_run-played-in-loop-played.result byte c.print_run-played-in-loop-played.ensures.within
-          c.print_run-played-in-loop-played.ensures.printed;
+      plays = plays_more (play_of c.args.self.now) c.loop-played.self-inside.play c.play_front.new.self
+          c.args.piece.now c.loop-played.played c.in-Ok.count here.plays c.in-Ok.ensures.played;
       start = here.start;
       fed = here.fed;
       fault = here.fault;
@@ -29,7 +24,7 @@ loop-played-preserved g c =
 pub returns-in-Err-clause-same : goal.returns-in-Err-clause-same
 returns-in-Err-clause-same g c =
     record {
-      size = c.in-Err.ensures.size ∙ c.loop-played.invariant.plays.goes_on.size;
+      size = c.in-Err.ensures.stopped.0 ∙ c.loop-played.invariant.plays.goes_on.size;
       start =
           c.loop-played.invariant.start;
     }
@@ -40,8 +35,8 @@ returns-in-Err-clause-fed g c s st =
     let none : c.args.self.now.fault ≡ None = search rules in
     feeds_fault c.args.self.now _ c.args.piece.now s c.in-Err.fault
     (piece_deserved (play_of c.args.self.now) c.loop-played.self-inside.play c.args.piece.now c.loop-played.played
-    c.in-Err.fault here.plays c.loop-played-test.true c.in-Err.ensures.deserved)
-    (record { size = c.in-Err.ensures.size ∙ here.plays.goes_on.size; start = here.start }) none refl st
+    c.in-Err.fault here.plays c.in-Err.ensures.stopped.1)
+    (record { size = c.in-Err.ensures.stopped.0 ∙ here.plays.goes_on.size; start = here.start }) none refl st
 
 pub invariant_of-self-2 : goal.invariant_of-self-2
 invariant_of-self-2 g c =

@@ -1,0 +1,179 @@
+-- The elements of a list after some of them are written, and a list that is made of a function of the index.
+use Rattle.std.proofs.Common.{◌≡◌, ℕ, zero, suc, ◌+◌, ◌-◌, ◌*◌, ◌/◌, ◌≤◌, ◌<◌, List, [], ◌∷◌, ◌++◌, take, drop, set}
+use Rattle.std.proofs.Common.{map}
+use Rattle.std.proofs.Common.{replicate, length, get_or, refl, ap, sym, ◌∙◌, arith, inl, inr, ◌⊎◌, ◌≢◌, append_assoc}
+use Rattle.std.specs.List.{range_with_len}
+use Rattle.std.proofs.lemmas.Bool.{cases_lt}
+use Rattle.std.proofs.lemmas.List.{get_or-take, get_or-drop, get_or_append_left, get_or-append_right, length-append}
+use Rattle.std.proofs.lemmas.List.{length-take-le, length-drop, length-replicate, get_or-replicate, same_lists}
+use Rattle.std.proofs.lemmas.List.{set_split}
+use Rattle.std.proofs.lemmas.List.FromFn.{length-map-range_with_len, get_or-map-range_with_len}
+use Rattle.std.proofs.lemmas.Nat.{div-mul-add, div_below, le-div, row_fits_turned}
+use Rattle.ans_model.specs.Screen.Step.{filled}
+use Rattle.ans_screen.specs.GridEdits.{written}
+
+-- what is filled is written with equal elements
+pub filled_is_written : {A : Type 0} (xs : List A) (from n : ℕ) (x : A)
+    → filled xs from (from + n) x ≡ written xs from (replicate n x)
+filled_is_written xs from n x =
+    let count : from + n - from ≡ n = omega arith in
+    let len : length (replicate n x) ≡ n = length-replicate n x in
+    rw (count, len) (append_assoc (take from xs) (replicate n x) (drop (from + n) xs))
+
+module _ {A : Type 0} where
+  -- ---- a list after a part is written
+  pub length-written : (xs : List A) (from : ℕ) (new : List A) → from + length new ≤ length xs
+      → length (written xs from new) ≡ length xs
+  length-written xs from new room =
+      let front : length (take from xs) ≡ from = length-take-le from xs (omega arith) in
+      let back = length-drop (from + length new) xs in
+      length-append (take from xs) (new ++ drop (from + length new) xs)
+      ∙ omega (arith, length-append new (drop (from + length new) xs))
+
+  pub written_before : (xs : List A) (from : ℕ) (new : List A) (i : ℕ) (d : A) → from ≤ length xs → i < from
+      → get_or (written xs from new) i d ≡ get_or xs i d
+  written_before xs from new i d le lt =
+      let front : length (take from xs) ≡ from = length-take-le from xs le in
+      get_or_append_left (take from xs) (new ++ drop (from + length new) xs) d i (omega arith)
+      ∙ get_or-take from xs i d lt
+
+  pub written_at : (xs : List A) (from : ℕ) (new : List A) (j : ℕ) (d : A) → from ≤ length xs → j < length new
+      → get_or (written xs from new) (from + j) d ≡ get_or new j d
+  written_at xs from new j d le lt =
+      let front : length (take from xs) ≡ from = length-take-le from xs le in
+      let at : from + j - from ≡ j = omega arith in
+      get_or-append_right (take from xs) (new ++ drop (from + length new) xs) from (from + j) d front (omega arith)
+      ∙ (ap (λ (n : ℕ). get_or (new ++ drop (from + length new) xs) n d) at
+      ∙ get_or_append_left new (drop (from + length new) xs) d j lt)
+
+  pub written_behind : (xs : List A) (from : ℕ) (new : List A) (i : ℕ) (d : A) → from ≤ length xs
+      → from + length new ≤ i → get_or (written xs from new) i d ≡ get_or xs i d
+  written_behind xs from new i d le past =
+      let front : length (take from xs) ≡ from = length-take-le from xs le in
+      let at : from + length new + (i - from - length new) ≡ i = omega arith in
+      get_or-append_right (take from xs) (new ++ drop (from + length new) xs) from i d front (omega arith)
+      ∙ (get_or-append_right new (drop (from + length new) xs) (length new) (i - from) d refl (omega arith)
+      ∙ (get_or-drop (from + length new) xs (i - from - length new) d ∙ ap (λ (n : ℕ). get_or xs n d) at))
+
+  -- a list of which a part is new, and the rest as it was
+  pub is_written : (xs ys : List A) (from : ℕ) (new : List A) → length ys ≡ length xs
+      → from + length new ≤ length xs
+      → ((i : ℕ) (d : A) → i < length xs → (i < from) ⊎ (from + length new ≤ i) → get_or ys i d ≡ get_or xs i d)
+      → ((j : ℕ) (d : A) → j < length new → get_or ys (from + j) d ≡ get_or new j d) → ys ≡ written xs from new
+  is_written xs ys from new len room outside inside =
+      same_lists ys (written xs from new) (len ∙ sym (length-written xs from new room)) (λ k d lt.
+      elim (cases_lt k from) [
+        | inl before ↦
+            outside k d (omega arith) (inl before) ∙ sym (written_before xs from new k d (omega arith) before)
+        | inr after ↦ elim (cases_lt k (from + length new)) [
+          | inl within ↦
+              let at : from + (k - from) ≡ k = omega arith in
+              ap (λ (n : ℕ). get_or ys n d) (sym at)
+              ∙ (inside (k - from) d (omega arith)
+              ∙ (sym (written_at xs from new (k - from) d (omega arith) (omega arith))
+              ∙ ap (λ (n : ℕ). get_or (written xs from new) n d) at))
+          | inr past ↦
+              outside k d (omega arith) (inr past) ∙ sym (written_behind xs from new k d (omega arith) past)
+        ]
+      ])
+
+  -- ---- a list that is made of a function of the index
+  pub same_from_index : (f h : ℕ → A) (n : ℕ) → ((i : ℕ) → i < n → f i ≡ h i)
+      → map f (range_with_len 0 n) ≡ map h (range_with_len 0 n)
+  same_from_index f h n same =
+      same_lists (map f (range_with_len 0 n)) (map h (range_with_len 0 n))
+      (length-map-range_with_len f 0 n ∙ sym (length-map-range_with_len h 0 n)) (λ k d lt.
+      let len = length-map-range_with_len f 0 n in
+      let within : k < n = omega arith in
+      get_or-map-range_with_len f 0 n k k d within (omega arith)
+      ∙ (same k within ∙ sym (get_or-map-range_with_len h 0 n k k d within (omega arith))))
+
+  pub get_or-map_within : {B : Type 0} (f : B → A) (xs : List B) (i : ℕ) (b : B) (d : A) → i < length xs
+      → get_or (map f xs) i d ≡ f (get_or xs i b)
+  get_or-map_within f [] i b d lt = absurd (omega arith)
+  get_or-map_within f (x ∷ xs) zero b d lt = refl
+  get_or-map_within f (x ∷ xs) (suc i) b d lt = get_or-map_within f xs i b d (omega arith)
+
+  pub map-replicate : {B : Type 0} (f : B → A) (n : ℕ) (x : B) → map f (replicate n x) ≡ replicate n (f x)
+  map-replicate f zero x = refl
+  map-replicate f (suc n) x = ap (λ (ys : List A). f x ∷ ys) (map-replicate f n x)
+
+-- a fill of one element
+pub filled_one : {A : Type 0} (xs : List A) (i : ℕ) (x : A) → i < length xs → filled xs i (i + 1) x ≡ set xs i x
+filled_one xs i x lt =
+    let next : i + 1 ≡ suc i = omega arith in
+    filled_is_written xs i 1 x
+    ∙ (ap (λ (n : ℕ). take i xs ++ (x ∷ drop n xs)) next ∙ sym (set_split xs i x lt))
+
+-- ---- a plane that is as it was but from `from` up to and without `to`
+pub record Keeps (xs ys : List ℕ) (from to : ℕ) : Type 0 where
+  pub outside : (i : ℕ) → (i < from) ⊎ (to ≤ i) → get_or ys i 0 ≡ get_or xs i 0
+
+pub keeps_all : (xs : List ℕ) (from to : ℕ) → Keeps xs xs from to
+keeps_all xs from to = record { outside = λ i out. refl }
+
+pub keeps_written : (xs ys : List ℕ) (from to : ℕ) (new : List ℕ) → ys ≡ written xs from new → to ≡ from + length new
+    → to ≤ length xs → Keeps xs ys from to
+keeps_written xs ys from to new e end room = record {
+  outside =
+      λ i out. ap (λ (zs : List ℕ). get_or zs i 0) e ∙ elim out [
+        | inl before ↦ written_before xs from new i 0 (omega arith) before
+        | inr past ↦ written_behind xs from new i 0 (omega arith) (omega arith)
+      ];
+}
+
+-- what is filled, as a run of equal elements
+pub filled_run : {A : Type 0} (xs : List A) (from to : ℕ) (x : A) → from ≤ to
+    → filled xs from to x ≡ written xs from (replicate (to - from) x)
+filled_run xs from to x le =
+    let end : from + (to - from) ≡ to = omega arith in
+    ap (λ (n : ℕ). filled xs from n x) (sym end) ∙ filled_is_written xs from (to - from) x
+
+pub keeps_filled : (xs ys : List ℕ) (from to x : ℕ) → ys ≡ filled xs from to x → from ≤ to → to ≤ length xs
+    → Keeps xs ys from to
+keeps_filled xs ys from to x e le room =
+    let len = length-replicate (to - from) x in
+    keeps_written xs ys from to (replicate (to - from) x) (e ∙ filled_run xs from to x le) (omega arith) room
+
+pub filled_within : (xs ys : List ℕ) (from to x i : ℕ) → ys ≡ filled xs from to x → to ≤ length xs → from ≤ i → i < to
+    → get_or ys i 0 ≡ x
+filled_within xs ys from to x i e room le lt =
+    let len = length-replicate (to - from) x in
+    let at : from + (i - from) ≡ i = omega arith in
+    ap (λ (zs : List ℕ). get_or zs i 0) (e ∙ filled_run xs from to x (omega arith))
+    ∙ (ap (λ (n : ℕ). get_or (written xs from (replicate (to - from) x)) n 0) (sym at)
+    ∙ (written_at xs from (replicate (to - from) x) (i - from) 0 (omega arith) (omega arith)
+    ∙ get_or-replicate (to - from) (i - from) x 0 (omega arith)))
+
+-- ---- the row of a place
+pub row_of : (w row i : ℕ) → row * w ≤ i → i < row * w + w → i / w ≡ row
+row_of w row i le lt =
+    let at : row * w + (i - row * w) ≡ i = omega arith in
+    ap (λ (n : ℕ). n / w) (sym at) ∙ div-mul-add row w (i - row * w) (omega arith)
+
+pub other_row : (w row i : ℕ) → 0 < w → (i < row * w) ⊎ (row * w + w ≤ i) → i / w ≢ row
+other_row w row i some out same = elim out [
+  | inl before ↦ let below = div_below i w row some before in omega arith
+  | inr past ↦
+      let above = le-div (row + 1) i w some (omega arith) in
+      omega arith
+]
+
+pub row_end : (w row rows : ℕ) → row < rows → row * w + w ≤ w * rows
+row_end w row rows lt = row_fits_turned row w w rows lt (omega arith)
+
+pub row_below : (w rows i : ℕ) → 0 < w → i < w * rows → i / w < rows
+row_below w rows i some lt = div_below i w rows some (omega arith)
+
+-- the bytes of a plane from `from` up to and without `to`
+pub record IsPart (xs : List ℕ) (from to : ℕ) (part : List ℕ) : Type 0 where
+  pub same : (k : ℕ) → k < to - from → get_or part k 0 ≡ get_or xs (from + k) 0
+
+pub is_part : (xs : List ℕ) (from to : ℕ) (part : List ℕ) → part ≡ take (to - from) (drop from xs)
+    → IsPart xs from to part
+is_part xs from to part e = record {
+  same =
+      λ k lt.
+      ap (λ (ys : List ℕ). get_or ys k 0) e
+      ∙ (get_or-take (to - from) (drop from xs) k 0 lt ∙ get_or-drop from xs k 0);
+}

@@ -1,0 +1,183 @@
+-- Cells read, looked through and copied of planes with a state for each row.
+use Rattle.std.proofs.Common.{◌≡◌, ℕ, ◌+◌, ◌-◌, ◌*◌, ◌/◌, ◌≤◌, ◌<◌, true, false, List, map, length}
+use Rattle.std.proofs.Common.{get_or, refl, ap, sym, ◌∙◌, arith, Option, Some, None}
+use Rattle.std.proofs.Common.{bit_and, take, drop, not}
+use Rattle.std.specs.List.{position, slice_get}
+use Rattle.std.proofs.lemmas.List.{get_or_default, get_or-drop, length-drop}
+use Rattle.std.proofs.lemmas.List.{get_or-take, length-take-le, length-map}
+use Rattle.std.proofs.lemmas.List.{get_or_read, same_lists}
+use Rattle.std.proofs.lemmas.Nat.{and_mask}
+use Rattle.std.proofs.lemmas.Option.{slice_get-get_or}
+use Rattle.ans_screen.specs.HalfCells.{is_known}
+use Rattle.ans_screen.specs.GridEdits.{is_unknown, first_unknown}
+use Rattle.ans_screen.specs.CellPlanes.{cell_of, AreKnown, IsFirstGap}
+use Rattle.ans_screen.specs.RowCells.{row_cell, state_at, cell_at, cells_of_rows, length_rows, AreKnownCells}
+use Rattle.ans_screen.specs.RowCells.{IsFirstUnknown}
+use Rattle.ans_screen.proofs.FirstGap.{known_cell, unknown_cell, known_next, position_none, position_some}
+use Rattle.std.proofs.lemmas.List.Sums.{position_or_len_is}
+use Rattle.ans_screen.specs.declared.cell.HalfCell.{HalfCell}
+use Rattle.ans_screen.specs.declared.plane_grid.RowState.{RowState}
+use Rattle.ans_screen.specs.declared.plane_grid.RowState.TheVariants.{Stale, Known, Mixed}
+use Rattle.ans_screen.proofs.Places.{get_or-map_within, IsPart}
+use Rattle.ans_screen.proofs.Places.{row_of}
+use Rattle.ans_screen.proofs.RowCells.{get_rows, same_cell}
+
+-- the state at a cell of a row, by a width that is the same
+pub state_in_row : (w v i row : ℕ) (states : List RowState) → w ≡ v → i / v ≡ row
+    → state_at w states i ≡ get_or states row Stale
+state_in_row w v i row states e at =
+    ap (λ (n : ℕ). get_or states (i / n) Stale) e ∙ ap (λ (n : ℕ). get_or states n Stale) at
+
+-- a cell in a row of a state
+pub row_state : (w row i : ℕ) (states : List RowState) (s : RowState) → row * w ≤ i → i < row * w + w
+    → get_or states row Stale ≡ s → state_at w states i ≡ s
+row_state w row i states s le lt e = ap (λ (n : ℕ). get_or states n Stale) (row_of w row i le lt) ∙ e
+
+-- what is read of a state
+pub state_read : (states : List RowState) (row : ℕ) (x s : RowState) → row < length states → x ≡ get_or states row x
+    → x ≡ s → get_or states row Stale ≡ s
+state_read states row x s lt read e = sym (get_or_read states row x lt read Stale) ∙ e
+
+-- the cells of a row that are the blank, or known
+pub known_blank : (w row from to : ℕ) (states : List RowState) (blank : HalfCell) (gs ks bs vs : List ℕ)
+    → row * w ≤ from → to ≤ row * w + w → get_or states row Stale ≡ Stale → is_known blank ≡ true
+    → AreKnownCells (cell_at w states blank gs ks bs vs) from to
+known_blank w row from to states blank gs ks bs vs start end s known i le lt =
+    ap (λ t. is_unknown (row_cell t blank (get_or gs i 0) (get_or ks i 0) (get_or bs i 0) (get_or vs i 0)))
+    (row_state w row i states Stale (omega arith) (omega arith) s)
+    ∙ ap not known
+
+pub known_row : (w row from to : ℕ) (states : List RowState) (blank : HalfCell) (gs ks bs vs : List ℕ)
+    → row * w ≤ from → to ≤ row * w + w → get_or states row Stale ≡ Known
+    → AreKnownCells (cell_at w states blank gs ks bs vs) from to
+known_row w row from to states blank gs ks bs vs start end s i le lt =
+    ap (λ t. is_unknown (row_cell t blank (get_or gs i 0) (get_or ks i 0) (get_or bs i 0) (get_or vs i 0)))
+    (row_state w row i states Known (omega arith) (omega arith) s)
+    ∙ known_cell (get_or gs i 0) 0xFF 0xFF (get_or vs i 0) refl refl
+
+pub unknown_blank : (w row from to : ℕ) (states : List RowState) (blank : HalfCell) (gs ks bs vs : List ℕ)
+    → row * w ≤ from → from < to → to ≤ row * w + w → get_or states row Stale ≡ Stale → is_known blank ≡ false
+    → IsFirstUnknown (cell_at w states blank gs ks bs vs) from to (Some from)
+unknown_blank w row from to states blank gs ks bs vs start some end s unknown = (
+  omega arith,
+  some,
+  λ i le lt. absurd (omega arith),
+  ap (λ t. is_unknown (row_cell t blank (get_or gs from 0) (get_or ks from 0) (get_or bs from 0) (get_or vs from 0)))
+      (row_state w row from states Stale start (omega arith) s)
+      ∙ ap not unknown,
+)
+
+-- ---- reading
+pub read_rows : (w rows : ℕ) (states : List RowState) (blank : HalfCell) (gs ks bs vs : List ℕ) (i : ℕ) (x : HalfCell)
+    → i < w * rows → x ≡ cell_at w states blank gs ks bs vs i
+    → slice_get (cells_of_rows w rows states blank gs ks bs vs) i ≡ Some x
+read_rows w rows states blank gs ks bs vs i x lt e =
+    let len = length_rows w rows states blank gs ks bs vs in
+    slice_get-get_or (cells_of_rows w rows states blank gs ks bs vs) i x (omega arith)
+    ∙ ap (λ (y : HalfCell). Some y) (get_rows w rows states blank gs ks bs vs i x lt ∙ sym e)
+
+-- ---- the first unknown cell of mixed cells
+pub gap_none : (w : ℕ) (states : List RowState) (blank : HalfCell) (gs ks bs vs ks' bs' : List ℕ) (from to : ℕ)
+    → ((i : ℕ) → from ≤ i → i < to → state_at w states i ≡ Mixed) → IsPart ks from to ks' → IsPart bs from to bs'
+    → AreKnown ks' bs' (to - from) → AreKnownCells (cell_at w states blank gs ks bs vs) from to
+gap_none w states blank gs ks bs vs ks' bs' from to mixed hk hb known i le lt =
+    let at : from + (i - from) ≡ i = omega arith in
+    let here = known (i - from) (omega arith) in
+    let k = ap (λ (n : ℕ). get_or ks n 0) (sym at) ∙ (sym (hk.same (i - from) (omega arith)) ∙ here.0) in
+    let b = ap (λ (n : ℕ). get_or bs n 0) (sym at) ∙ (sym (hb.same (i - from) (omega arith)) ∙ here.1) in
+    ap (λ s. is_unknown (row_cell s blank (get_or gs i 0) (get_or ks i 0) (get_or bs i 0) (get_or vs i 0)))
+    (mixed i le lt)
+    ∙ known_cell (get_or gs i 0) (get_or ks i 0) (get_or bs i 0) (get_or vs i 0) k b
+
+pub gap_some : (w : ℕ) (states : List RowState) (blank : HalfCell) (gs ks bs vs ks' bs' : List ℕ) (from to i : ℕ)
+    → ((i : ℕ) → from ≤ i → i < to → state_at w states i ≡ Mixed) → IsPart ks from to ks' → IsPart bs from to bs'
+    → IsFirstGap ks' bs' (to - from) (Some i)
+    → IsFirstUnknown (cell_at w states blank gs ks bs vs) from to (Some (from + i))
+gap_some w states blank gs ks bs vs ks' bs' from to i mixed hk hb found =
+    let lt = found.0 in
+    let k = sym (hk.same i lt) in
+    let b = sym (hb.same i lt) in (
+      omega arith,
+      omega arith,
+      gap_none w states blank gs ks bs vs ks' bs' from (from + i)
+          (λ j le below. mixed j le (omega arith))
+          (record { same = λ j below. hk.same j (omega arith) })
+          (record { same = λ j below. hb.same j (omega arith) })
+          (let n : from + i - from ≡ i = omega arith in rw n found.1),
+      ap (λ s. is_unknown (row_cell s blank (get_or gs (from + i) 0) (get_or ks (from + i) 0) (get_or bs (from + i) 0)
+          (get_or vs (from + i) 0))) (mixed (from + i) (omega arith) (omega arith))
+          ∙ unknown_cell (get_or gs (from + i) 0) (get_or ks (from + i) 0) (get_or bs (from + i) 0)
+          (get_or vs (from + i) 0) (λ ek eb. found.2 (known_next ks' bs' i found.1 (hk.same i lt ∙ ek) (hb.same i lt
+          ∙ eb))),
+    )
+
+-- ---- the first of all cells
+pub first_of_rows : (w rows : ℕ) (states : List RowState) (blank : HalfCell) (gs ks bs vs : List ℕ) (to : ℕ)
+    (result : Option ℕ) → to ≤ w * rows → IsFirstUnknown (cell_at w states blank gs ks bs vs) 0 to result
+    → result ≡ first_unknown (cells_of_rows w rows states blank gs ks bs vs) to
+first_of_rows w rows states blank gs ks bs vs to result le first = of_result result first
+  where
+    d : HalfCell
+    d = cell_of 0 0 0 0
+
+    cells : List HalfCell
+    cells = cells_of_rows w rows states blank gs ks bs vs
+
+    front : List HalfCell
+    front = take to cells
+
+    len : length front ≡ to
+    len = length-take-le to cells (omega (arith, length_rows w rows states blank gs ks bs vs))
+
+    at : (i : ℕ) → i < to → get_or front i d ≡ cell_at w states blank gs ks bs vs i
+    at i lt = get_or-take to cells i d lt ∙ get_rows w rows states blank gs ks bs vs i d (omega arith)
+
+    below : (i : ℕ) → i ≤ to → AreKnownCells (cell_at w states blank gs ks bs vs) 0 i → (k : ℕ) → k < i
+        → is_unknown (get_or front k d) ≡ false
+    below i within known k lt = ap is_unknown (at k (omega arith)) ∙ known k (omega arith) lt
+
+    of_result : (r : Option ℕ) → IsFirstUnknown (cell_at w states blank gs ks bs vs) 0 to r
+        → r ≡ position is_unknown front
+    of_result None known =
+        sym (position_none is_unknown front
+        (position_or_len_is is_unknown front to d (omega (arith, len)) (below to (omega arith) known)
+        (λ past. absurd (omega (arith, len))) ∙ sym len))
+    of_result (Some i) found =
+        sym (position_some is_unknown front i
+        (position_or_len_is is_unknown front i d (omega (arith, len, found.1))
+        (below i (omega (arith, found.1)) found.2)
+        (λ within. ap is_unknown (at i found.1) ∙ found.3))
+        (omega (arith, len, found.1)))
+
+-- ---- cells of one row, copied
+pub cell_in_row : (w row i : ℕ) (states : List RowState) (s : RowState) (blank : HalfCell) (gs ks bs vs : List ℕ)
+    → row * w ≤ i → i < row * w + w → get_or states row Stale ≡ s
+    → cell_at w states blank gs ks bs vs i
+    ≡ row_cell s blank (get_or gs i 0) (get_or ks i 0) (get_or bs i 0) (get_or vs i 0)
+cell_in_row w row i states s blank gs ks bs vs le lt e =
+    same_cell _ s blank (get_or gs i 0) (get_or ks i 0) (get_or bs i 0) (get_or vs i 0) _ _ _ _
+    (row_state w row i states s le lt e) refl refl refl refl
+
+-- a byte of which all bits are known
+pub whole_byte : (v : ℕ) → v < 256 → bit_and v 0xFF ≡ v
+whole_byte v lt = and_mask v 8 ∙ omega arith
+
+-- what is copied cell by cell from a part of all cells
+pub copied_is : (f : HalfCell → ℕ) (w rows from : ℕ) (states : List RowState) (blank : HalfCell)
+    (gs ks bs vs old new : List ℕ) → length new ≡ length old → from + length old ≤ w * rows
+    → ((k : ℕ) → k < length old → get_or new k 0 ≡ f (cell_at w states blank gs ks bs vs (from + k)))
+    → new ≡ map f (take (length old) (drop from (cells_of_rows w rows states blank gs ks bs vs)))
+copied_is f w rows from states blank gs ks bs vs old new len room copied =
+    let cells = cells_of_rows w rows states blank gs ks bs vs in
+    let part = take (length old) (drop from cells) in
+    let all = length_rows w rows states blank gs ks bs vs in
+    let rest = length-drop from cells in
+    let long : length part ≡ length old = length-take-le (length old) (drop from cells) (omega arith) in
+    let mapped = length-map part f in
+    same_lists new (map f part) (omega arith) (λ k d lt.
+    let within : k < length old = omega arith in
+    get_or_default new k d 0 lt
+    ∙ (copied k within
+    ∙ (ap f (sym (get_rows w rows states blank gs ks bs vs (from + k) blank (omega arith)))
+    ∙ (ap f (sym (get_or-take (length old) (drop from cells) k blank within ∙ get_or-drop from cells k blank))
+    ∙ sym (get_or-map_within f part k blank d (omega arith))))))

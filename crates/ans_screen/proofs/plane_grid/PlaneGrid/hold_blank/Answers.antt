@@ -1,0 +1,31 @@
+use Rattle.std.proofs.Common.{◌+◌, ◌<◌, ◌≤◌, length, arith, refl}
+use Rattle.ans_screen.specs.declared.plane_grid.RowState.TheVariants.{Mixed}
+use Rattle.ans_screen.proofs.Places.{keeps_filled, filled_within}
+use Rattle.ans_screen.proofs.RowCells.{row_changed, held_blank}
+use Rattle.ans_screen.proofs.plane_grid.PlaneGrid.hold_blank.Goals as goal
+
+pub returns-clause-cells : goal.returns-clause-cells
+returns-clause-cells c =
+    let g = c.args.self.now in
+    let from = c.row_start-from.result in
+    let to = from + g.width in
+    let row_is : c.args.row < length g.states.items = omega arith in
+    let le : from ≤ to = omega arith in
+    let kg : to ≤ length g.glyphs.items = omega arith in
+    let kk : to ≤ length g.glyphs_known.items = omega arith in
+    let kb : to ≤ length g.bits_known.items = omega arith in
+    let kv : to ≤ length g.values.items = omega arith in
+    let bytes = c.bytes_of-blank.result in
+    row_changed g.width g.rows c.args.row from to g.states.items Mixed g.blank g.glyphs.items g.glyphs_known.items
+    g.bits_known.items g.values.items _ _ _ _ (omega arith) row_is c.row_start-from.ensures.start refl
+    (keeps_filled g.glyphs.items _ from to bytes.glyph c.fill_plane.ensures.items le kg)
+    (keeps_filled g.glyphs_known.items _ from to bytes.glyph_known c.fill_plane-2.ensures.items le kk)
+    (keeps_filled g.bits_known.items _ from to bytes.bits_known c.fill_plane-3.ensures.items le kb)
+    (keeps_filled g.values.items _ from to bytes.value c.fill_plane-4.ensures.items le kv)
+    (λ i after before.
+    held_blank _ g.blank _ _ _ _ _ _ _ _ bytes.glyph bytes.glyph_known bytes.bits_known bytes.value c.requires.stale
+    (filled_within g.glyphs.items _ from to bytes.glyph i c.fill_plane.ensures.items kg after before)
+    (filled_within g.glyphs_known.items _ from to bytes.glyph_known i c.fill_plane-2.ensures.items kk after before)
+    (filled_within g.bits_known.items _ from to bytes.bits_known i c.fill_plane-3.ensures.items kb after before)
+    (filled_within g.values.items _ from to bytes.value i c.fill_plane-4.ensures.items kv after before)
+    c.bytes_of-blank.ensures)

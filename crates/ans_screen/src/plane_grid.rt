@@ -1,0 +1,43 @@
+//! A grid of byte planes whose rows are held only once they are written.
+
+ghost use Rattle.std.specs.Prelude.{◌≡◌, ◌*◌, ◌≤◌, length};
+
+mod cells;
+mod copies;
+mod rows;
+
+use crate::cell::HalfCell;
+
+/// What the planes hold of a row.
+#[derive(Clone, Copy)]
+pub(crate) enum RowState {
+    /// Nothing: the row is older than the last fill of the whole grid, and each cell is the blank.
+    Stale,
+    /// Cells that are wholly known: only the planes of glyphs and of values count.
+    Known,
+    /// Any cells: all four planes count.
+    Mixed,
+}
+
+/// Cell `i` is byte `i` of each plane, as far as the state of its row says. So a fill of the whole
+/// grid writes no more than the states, and of a known row half the planes are neither written
+/// nor read.
+#[derive(Drop)]
+pub struct PlaneGrid {
+    width: usize,
+    rows: usize,
+    blank: HalfCell,
+    states: Vec<RowState>,
+    glyphs: Vec<u8>,
+    // FFh where the glyph is known, else 00h
+    glyphs_known: Vec<u8>,
+    // the bits of the attribute that are known
+    bits_known: Vec<u8>,
+    values: Vec<u8>,
+    ghost some_width: { 1 ≤ width },
+    ghost whole_states: { length states.items ≡ rows },
+    ghost whole_glyphs: { length glyphs.items ≡ width * rows },
+    ghost whole_glyphs_known: { length glyphs_known.items ≡ width * rows },
+    ghost whole_bits_known: { length bits_known.items ≡ width * rows },
+    ghost whole_values: { length values.items ≡ width * rows },
+}
