@@ -10,3 +10,7 @@ pub mod ReadSoFar
 pub mod TextGoesOn
 pub mod TextEnds
 pub mod TokensFinished
+pub mod CountsUp
+pub mod GlyphLines
+pub mod ReadTokens
+pub mod RowTexts

@@ -3,6 +3,7 @@ pub mod Writes
 pub mod Puts
 pub mod Headings
 pub mod Rows
+pub mod Tables
 pub mod ReportBytes
 pub mod NeedsBytes
 pub mod RecordLines

@@ -1,11 +1,12 @@
 -- The lines of tokens as the scanner returns them.
-use Rattle.std.specs.Prelude.{◌≡◌, ℕ, false, List, ◌∷◌, ◌++◌, map, codes, decimal, Option}
+use Rattle.std.specs.Prelude.{◌≡◌, ℕ, false, List, [], ◌∷◌, ◌++◌, map, codes, decimal, Option}
 use Rattle.std.specs.List.{join_with_byte}
 use Rattle.ans_model.specs.Bytes.{semicolon}
 use Rattle.ans_model.specs.declared.fault.Fault.{Fault}
 use Rattle.ans_model.specs.Inside.ShownKind.{shown_kind}
 use Rattle.ans_model.specs.Text.FaultText.{line_of}
-use Rattle.ans_model.specs.Text.TokensText.{token_name, TokensText}
+use Rattle.ans_model.specs.Sequence.TokenKind.{Glyph}
+use Rattle.ans_model.specs.Text.TokensText.{token_name, token_lines, TokensText}
 use Rattle.ans_tokens.specs.Token.{kind_of, start_of, length_of}
 use Rattle.ans_tokens.specs.declared.token.Token.{Token}
 use Rattle.ans_report.specs.Puts.{Puts, device_failed}
@@ -24,6 +25,10 @@ abbrev pub token_text : Token → List ℕ
 token_text t =
     line_of (decimal (start_of t)
     ++ (codes " " ++ (decimal (length_of t) ++ (codes " " ++ token_name (shown_kind (kind_of t))))))
+
+-- the lines of glyphs, the first of which begins at start
+abbrev pub glyph_lines : ℕ → List ℕ → List ℕ
+glyph_lines start bytes = token_lines start (map Glyph bytes) (map (λ b. b ∷ []) bytes)
 
 -- The text of the content's tokens was put, and told is the fault that ends it unless the device has failed.
 pub record PutsTokens {W : Type 0} (contents : W → Option (List ℕ)) (old new : Outbox W) (content : List ℕ)

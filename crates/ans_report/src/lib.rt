@@ -8,7 +8,9 @@
 #![tactic(auto)]
 
 mod characters;
+mod counter;
 mod fault_lines;
+mod glyph_lines;
 mod heading;
 mod hexadecimal;
 mod lines;
@@ -17,8 +19,11 @@ mod outbox;
 mod picture_text;
 mod record_text;
 mod report;
+mod row_texts;
+mod tables;
 mod tokens_text;
 mod tried;
+mod utf8;
 
 pub use characters::glyph_text;
 pub use fault_lines::fault_text;

@@ -14,7 +14,7 @@ use std::io::Write;
 pub struct WriteFault;
 
 /// How many bytes are gathered before the device is called.
-const SIZE: usize = 8192;
+const SIZE: usize = 65_536;
 
 /// A device, and text that waits to be written to it. Text is gathered, so that the device is
 /// called for large pieces. Once the device has failed, no more is written.
@@ -72,14 +72,25 @@ impl<'a, W: Write> Outbox<'a, W> {
     }
 
     /// Puts a text: adds it to what waits, and writes where there is no room.
+    #[inline(always)]
     pub(crate) fn put(&mut self, text: &[u8])
         ensures { Puts W.contents self.old self.new text.now }
     {
-        if self.has_failed() || self.waiting.try_extend_from_slice(text).is_ok() {
+        if self.waiting.try_extend_from_slice(text).is_err() {
+            self.put_after_a_flush(text);
+        }
+    }
+
+    /// Puts a text for which there is no room among what waits.
+    #[inline(never)]
+    fn put_after_a_flush(&mut self, text: &[u8])
+        ensures { Puts W.contents self.old self.new text.now }
+    {
+        self.flush();
+        if self.has_failed() {
             return;
         }
-        self.flush();
-        if self.has_failed() || self.waiting.try_extend_from_slice(text).is_ok() {
+        if self.waiting.try_extend_from_slice(text).is_ok() {
             return;
         }
         write_text(self.device, text);

@@ -1,6 +1,7 @@
 //! The text of the content's tokens.
-ghost use Rattle.std.specs.Prelude.{◌≡◌, ◌↔◌, ◌≤◌, ◌++◌, ℕ, List, Option, false, length, decimal, IsTrue};
-ghost use Rattle.std.specs.Prelude.{IsErr, IfOk, IfErr};
+ghost use Rattle.std.specs.Prelude.{◌≡◌, ◌↔◌, ◌+◌, ◌<◌, ◌≤◌, ◌++◌, ℕ, List, Option};
+ghost use Rattle.std.specs.Prelude.{false, length, decimal, IsTrue, IsErr, IfOk, IfErr, IsSome};
+ghost use Rattle.std.specs.Prelude.{IfSome};
 ghost use Rattle.std.specs.List.{flat_map};
 ghost use Rattle.std.specs.Io.KnownBytes.{Appends};
 ghost use Rattle.ans_model.specs.Bytes.{longest_file};
@@ -8,12 +9,15 @@ ghost use Rattle.ans_model.specs.declared.fault.Fault.{Fault};
 ghost use Rattle.ans_model.specs.Sequence.TokenKind.{Place};
 ghost use Rattle.ans_model.specs.Inside.ShownKind.{shown_kind};
 ghost use Rattle.ans_model.specs.Text.TokensText.{TokensText, token_name};
+ghost use Rattle.ans_tokens.specs.Glyphs.{IsGlyphFront, IsBetweenTokens, scanner_after_glyphs};
+ghost use Rattle.ans_tokens.specs.WholeToken.{TakesToken};
 ghost use Rattle.ans_report.specs.Tried.{has_failed, inner_of};
 ghost use Rattle.ans_report.specs.Writes.{AppendsPrefix};
 ghost use Rattle.ans_report.specs.Puts.{Puts};
 ghost use Rattle.ans_report.specs.TokenLines.{PutsTokens, token_text, numbers_text, later_number};
 
 use crate::fault_lines::put_fault_line;
+use crate::glyph_lines::put_glyphs;
 use crate::hexadecimal::hex_byte;
 use crate::outbox::{Outbox, WriteFault};
 use crate::tried::Tried;
@@ -21,12 +25,17 @@ use ans_sauce::Fault;
 use ans_tokens::{Kind, Scanner, Token};
 use std::io::Write;
 
+/// How many bytes are read before it is seen whether the device has failed.
+const PIECE: usize = 4096;
+
 /// Puts a text and a number.
+#[inline(always)]
 fn put_number<W: Write>(out: &mut Outbox<'_, W>, text: &[u8], number: u8)
     ensures { Puts W.contents out.old out.new (text.now ++ decimal number) }
 {
     let mut digits = itoa::Buffer::new();
-    out.put_all(&[text, digits.format(number).as_bytes()]);
+    out.put(text);
+    out.put(digits.format(number).as_bytes());
 }
 
 /// Puts numbers, each after a `;`.
@@ -101,14 +110,40 @@ fn put_token<W: Write>(out: &mut Outbox<'_, W>, token: &Token)
 {
     let mut start = itoa::Buffer::new();
     let mut length = itoa::Buffer::new();
-    out.put_all(&[
-        start.format(token.start()).as_bytes(),
-        b" ",
-        length.format(token.length()).as_bytes(),
-        b" ",
-    ]);
+    out.put(start.format(token.start()).as_bytes());
+    out.put(b" ");
+    out.put(length.format(token.length()).as_bytes());
+    out.put(b" ");
     put_kind(out, token.kind());
     out.put(b"\n");
+}
+
+/// Takes the glyphs before the first byte that is none, where the scanner stands between two
+/// tokens, and returns how many they are.
+fn take_glyphs(scanner: &mut Scanner, bytes: &[u8]) -> usize
+    requires { scanner.old.offset + length bytes.now ≤ longest_file }
+    ensures between { 0 < result → IsBetweenTokens scanner.old }
+    ensures front { 0 < result → IsGlyphFront bytes.now result }
+    ensures taken { scanner.new ≡ scanner_after_glyphs scanner.old result }
+{
+    if scanner.is_between_tokens() {
+        return scanner.glyphs(bytes);
+    }
+    0
+}
+
+/// Takes the token that the bytes begin with, where the scanner stands between two tokens and takes
+/// a whole token of this form. None changes nothing.
+fn take_token(scanner: &mut Scanner, bytes: &[u8]) -> Option<Token>
+    requires { scanner.old.offset + length bytes.now ≤ longest_file }
+    ensures between { IsSome result → IsBetweenTokens scanner.old }
+    ensures taken { IfSome result (TakesToken scanner.old bytes.now scanner.new) }
+    ensures declined { result ≡ None → scanner.new ≡ scanner.old }
+{
+    if scanner.is_between_tokens() {
+        return scanner.token(bytes);
+    }
+    None
 }
 
 /// Puts the lines of the tokens and of the fault that ends their reading, and returns that fault.
@@ -118,15 +153,28 @@ fn put_tokens<W: Write>(out: &mut Outbox<'_, W>, content: &[u8]) -> Option<Fault
     ensures { PutsTokens W.contents out.old out.new content.now result }
 {
     let mut scanner = Scanner::new();
-    for byte in content {
-        match scanner.byte(*byte) {
+    let mut at = 0;
+    while at < content.len() {
+        if out.has_failed() {
+            return None;
+        }
+        let piece = &content[at..content.len().min(at + PIECE)];
+        let count = take_glyphs(&mut scanner, piece);
+        if count > 0 {
+            put_glyphs(out, at, &piece[..count]);
+            at += count;
+            continue;
+        }
+        if let Some(token) = take_token(&mut scanner, piece) {
+            put_token(out, &token);
+            at += token.length();
+            continue;
+        }
+        let byte = content[at];
+        at += 1;
+        match scanner.byte(byte) {
             Ok(None) => continue,
-            Ok(Some(token)) => {
-                if out.has_failed() {
-                    return None;
-                }
-                put_token(out, &token);
-            }
+            Ok(Some(token)) => put_token(out, &token),
             Err(fault) => {
                 put_fault_line(out, &fault);
                 return Some(fault);

@@ -1,7 +1,10 @@
 //! The tokens of contents, as they are written.
+ghost use Rattle.std.specs.Prelude.{◌≤◌};
+
 use crate::tests::{assert_held, assert_stopped, failing_after, room_for};
-use crate::{WriteFault, write_tokens};
+use crate::{Tried, WriteFault, write_tokens};
 use ans_sauce::{Cause, Fault, MAX_FILE};
+use std::io::{self, Write};
 use std::process::Abort;
 use std::test::Fail;
 
@@ -157,5 +160,62 @@ fn a_failed_device_is_not_called_again(rt: HostRuntime) -> Result<(), Fail> {
         Err(WriteFault)
     );
     assert_stopped(&rt, device, b"");
+    Ok(())
+}
+
+/// A writer that takes one byte a call, and holds the last line alone.
+#[derive(Drop)]
+struct LastLine {
+    held: [u8; 32],
+    length: usize,
+    ghost within: { length ≤ 32 },
+}
+
+impl LastLine {
+    fn held(&self) -> &[u8] {
+        &self.held[..self.length]
+    }
+}
+
+impl Write for LastLine {
+    fn write(&mut self, buf: &[u8]) -> io::Result<usize> {
+        let Some(byte) = buf.first() else {
+            return Ok(0);
+        };
+        let ended = self.length > 0 && self.held[self.length - 1] == b'\n';
+        if ended || self.length == self.held.len() {
+            self.length = 0;
+        }
+        self.held[self.length] = *byte;
+        self.length += 1;
+        Ok(1)
+    }
+
+    fn flush(&mut self) -> io::Result<()> {
+        Ok(())
+    }
+}
+
+#[test]
+fn glyphs_are_counted_where_the_offset_grows_a_digit(rt: HostRuntime) -> Result<(), Fail> {
+    let rows: [(usize, &[u8]); 6] = [
+        (10, b"9 1 glyph 61\n"),
+        (11, b"10 1 glyph 61\n"),
+        (101, b"100 1 glyph 61\n"),
+        (1001, b"1000 1 glyph 61\n"),
+        (4097, b"4096 1 glyph 61\n"),
+        (10_001, b"10000 1 glyph 61\n"),
+    ];
+    for (count, line) in rows {
+        let content = vec![in rt.alloc(); b'a'; count]?;
+        assert!(rt; content.len() <= MAX_FILE);
+        let mut device = Tried::new(LastLine {
+            held: [0; 32],
+            length: 0,
+        });
+        assert_eq!(rt; write_tokens(&mut device, content.as_slice()), Ok(None));
+        let device = device.into_inner();
+        assert_eq!(rt; device.held(), line);
+    }
     Ok(())
 }

@@ -172,3 +172,64 @@ fn a_refusal_without_parts_is_two_lines(rt: HostRuntime) {
         assert_stopped(&rt, device, &text[..taken]);
     }
 }
+
+/// A row of the bytes that print and may stand in a content: all but BEL, BS, TAB, LF, CR, SUB and
+/// ESC, by Unicode's table of code page 437 and the IBM glyphs; then its cells.
+const ALL_GLYPHS: &str = "size: 249 x 1\n\
+    start: cleared\n\
+    content: 249 bytes\n\
+    verdict: pass\n\
+    picture:\n\
+    \u{20}☺☻♥♦♣♠♂♀♫☼►◄↕‼¶§▬↨↑↓∟↔▲▼ !\"#$%&'()*+,-./0123456789:;<=>?@ABCDEFGHIJKL\
+    MNOPQRSTUVWXYZ[\\]^_`abcdefghijklmnopqrstuvwxyz{|}~⌂ÇüéâäàåçêëèïîìÄÅÉæÆ\
+    ôöòûùÿÖÜ¢£¥₧ƒáíóúñÑªº¿⌐¬½¼¡«»░▒▓│┤╡╢╖╕╣║╗╝╜╛┐└┴┬├─┼╞╟╚╔╩╦╠═╬╧╨╤╥╙╘╒╓╫╪┘\
+    ┌█▄▌▐▀αßΓπΣσµτΦΘΩδ∞φε∩≡±≥≤⌠⌡÷≈°∙·√ⁿ²■\u{A0}\n\
+    cells:\n\
+    00070107020703070407050706070b070c070e070f07100711071207130714071507160717071807\
+    19071c071d071e071f0720072107220723072407250726072707280729072a072b072c072d072e07\
+    2f0730073107320733073407350736073707380739073a073b073c073d073e073f07400741074207\
+    43074407450746074707480749074a074b074c074d074e074f075007510752075307540755075607\
+    5707580759075a075b075c075d075e075f0760076107620763076407650766076707680769076a07\
+    6b076c076d076e076f0770077107720773077407750776077707780779077a077b077c077d077e07\
+    7f0780078107820783078407850786078707880789078a078b078c078d078e078f07900791079207\
+    93079407950796079707980799079a079b079c079d079e079f07a007a107a207a307a407a507a607\
+    a707a807a907aa07ab07ac07ad07ae07af07b007b107b207b307b407b507b607b707b807b907ba07\
+    bb07bc07bd07be07bf07c007c107c207c307c407c507c607c707c807c907ca07cb07cc07cd07ce07\
+    cf07d007d107d207d307d407d507d607d707d807d907da07db07dc07dd07de07df07e007e107e207\
+    e307e407e507e607e707e807e907ea07eb07ec07ed07ee07ef07f007f107f207f307f407f507f607\
+    f707f807f907fa07fb07fc07fd07fe07ff07\n";
+
+#[test]
+fn a_row_shows_every_glyph(rt: HostRuntime) -> Result<(), Fail> {
+    let mut content = Vec::new(rt.alloc());
+    for byte in 0..=255u8 {
+        if !matches!(byte, 0x07..=0x0A | 0x0D | 0x1A | 0x1B) {
+            content.push(byte)?;
+        }
+    }
+    assert_eq!(rt; content.len(), 249);
+    let mut front = Vec::from_slice(rt.alloc(), content.as_slice())?;
+    front.push(0x1A)?;
+    let file = sample_file(rt.alloc(), front.as_slice(), &[(90, &[249]), (96, &[249])])?;
+    let Ok(parts) = split(&file) else {
+        panic!(rt; "the file is refused");
+    };
+    let mut player = Player::<PlainGrid>::new(
+        rt.alloc(),
+        parts.width(),
+        parts.lines(),
+        Start::cleared(),
+    )?;
+    assert!(rt; player.fed() == 0);
+    let end = match player.feed(content.as_slice()) {
+        Ok(()) => player.finish(),
+        Err(fault) => Err(fault),
+    };
+    let mut whole = room_for(4096);
+    assert_eq!(rt;
+        write_end(&rt, &mut whole, &parts, Start::cleared(), &end, true),
+        Ok(())
+    );
+    assert_held(&rt, whole, ALL_GLYPHS.as_bytes());
+    Ok(())
+}

@@ -1,69 +1,167 @@
-use Rattle.std.proofs.Common.{rules, arith, ◌≡◌, ◌++◌, [], true, take, get_or, refl}
+use Rattle.std.proofs.Common.{rules, arith, ◌≡◌, ◌≤◌, ◌+◌, ◌-◌, ◌++◌, [], true, take, drop, get_or}
+use Rattle.std.proofs.Common.{length, refl, ap, ◌∙◌}
+use Rattle.std.proofs.Common.{ℕ, subst, sym}
 use Rattle.std.specs.Prelude.{None, Some}
 use Rattle.std.specs.List.{AllByRecursion}
-use Rattle.std.proofs.lemmas.List.{take_all}
+use Rattle.std.proofs.lemmas.List.{take_all, length-take, length-drop}
 use Rattle.ans_model.specs.Bytes.{IsByte}
 use Rattle.ans_model.specs.Text.FaultText.{fault_line}
+use Rattle.ans_tokens.specs.ScannerView.{ScannerView}
+use Rattle.ans_tokens.specs.Token.{length_of}
 use Rattle.ans_report.specs.Puts.{device_failed}
-use Rattle.ans_report.specs.TokenLines.{token_text}
+use Rattle.ans_report.specs.TokenLines.{token_text, glyph_lines}
 use Rattle.ans_report.proofs.PutsLemmas.{Puts-nothing, Puts-then}
-use Rattle.ans_report.proofs.ReadSoFar.{ReadSoFar-nothing, ReadSoFar-token}
+use Rattle.ans_report.proofs.ReadSoFar.{ReadSoFar, ReadSoFar-nothing, ReadSoFar-kept, ReadSoFar-token}
+use Rattle.ans_report.proofs.ReadTokens.{ReadSoFar-glyphs, ReadSoFar-none, ReadSoFar-declined, ReadSoFar-whole}
 use Rattle.ans_report.proofs.TextGoesOn.{all_are_bytes, PutsTokens-failed}
 use Rattle.ans_report.proofs.TextEnds.{TokensText-refused, TokensText-unfinished}
 use Rattle.ans_report.proofs.tokens_text.put_tokens.Goals as goal
 
-pub loop-byte-init : goal.loop-byte-init
-loop-byte-init g c =
-    ([], ReadSoFar-nothing c.args.content.now c.new-scanner.result c.new-scanner.ensures, Puts-nothing c.args.out.now)
+pub loop-at-init : goal.loop-at-init
+loop-at-init g c =
+    let read = ReadSoFar-nothing c.args.content.now c.new-scanner.result c.new-scanner.ensures in
+    record {
+      within = omega arith;
+      offset = ap (λ (s : ScannerView). s.offset) c.new-scanner.ensures;
+      so_far = ([], read, Puts-nothing c.args.out.now);
+    }
 
 pub returns-then-has_failed : goal.returns-then-has_failed
 returns-then-has_failed g c =
     let content = c.args.content.now in
-    let (text, read, puts) = c.loop-byte.invariant in
+    let (text, read, puts) = c.loop-at.invariant.so_far in
     let small : AllByRecursion IsByte content = all_are_bytes content (λ k. (c.type_inv.content k).fits) in
-    let failed : device_failed c.loop-byte.out ≡ true = search rules in
-    PutsTokens-failed content c.loop-byte.byte-index c.loop-byte.scanner text None small read failed puts
+    let failed : device_failed c.loop-at.out ≡ true = search rules in
+    PutsTokens-failed content c.loop-at.at c.loop-at.scanner text None small read failed puts
+
+pub loop-at-preserved-then-count-gt0 : goal.loop-at-preserved-then-count-gt0
+loop-at-preserved-then-count-gt0 g c =
+    let content = c.args.content.now in
+    let at = c.loop-at.at in
+    let count = c.take_glyphs-count.result in
+    let h = c.loop-at.invariant in
+    let (text, read, puts) = h.so_far in
+    let front = c.take_glyphs-count.ensures.front c.if-count-gt0.true in
+    let between = c.take_glyphs-count.ensures.between c.if-count-gt0.true in
+    let m = c.min.result - at in
+    let piece = take m (drop at content) in
+    let fits : count ≤ m = omega (arith, front.within, length-take m (drop at content)) in
+    let more : at + count ≤ length content =
+    omega (arith, front.within, length-take m (drop at content), length-drop at content) in
+    let moved : c.take_glyphs-count.new.scanner.offset ≡ c.loop-at.scanner.offset + count =
+    ap (λ (s : ScannerView). s.offset) c.take_glyphs-count.ensures.taken in
+    let next = ReadSoFar-glyphs content piece at m count c.loop-at.scanner c.take_glyphs-count.new.scanner text
+    h.within read between refl fits front c.take_glyphs-count.ensures.taken in
+    record {
+      within = more;
+      offset = omega (arith, moved, h.offset);
+      so_far = (text ++ glyph_lines at (take count piece), next, Puts-then puts c.put_glyphs.ensures);
+    }
+
+pub loop-at-preserved-in-Some : goal.loop-at-preserved-in-Some
+loop-at-preserved-in-Some g c =
+    let content = c.args.content.now in
+    let at = c.loop-at.at in
+    let h = c.loop-at.invariant in
+    let (text, read, puts) = h.so_far in
+    let token = c.in-Some.token in
+    let scanner = c.take_glyphs-count.new.scanner in
+    let m = c.min.result - at in
+    let piece = take m (drop at content) in
+    let now = ReadSoFar-none content at c.take_glyphs-count.result c.loop-at.scanner scanner text read (omega arith)
+    c.take_glyphs-count.ensures.taken in
+    let stands : scanner.offset ≡ c.loop-at.scanner.offset + c.take_glyphs-count.result =
+    ap (λ (s : ScannerView). s.offset) c.take_glyphs-count.ensures.taken in
+    let taken = c.in-Some.ensures.taken in
+    let moved : c.take_token.new.scanner.offset ≡ scanner.offset + length_of token =
+    ap (λ (s : ScannerView). s.offset) taken.taken in
+    let next = ReadSoFar-whole content piece at m scanner c.take_token.new.scanner text token h.within now
+    (c.in-Some.ensures.between refl) refl (omega (arith, length-take m (drop at content)))
+    (omega (arith, stands, h.offset)) taken in
+    let size : c.length-at.result ≡ length_of token = c.length-at.ensures in
+    let P : ℕ → Type 0 = λ n. ReadSoFar content (at + n) c.take_token.new.scanner (text ++ token_text token) in
+    record {
+      within = omega (arith, size, taken.front.within, length-take m (drop at content), length-drop at content);
+      offset = omega (arith, size, moved, stands, h.offset);
+      so_far = (text ++ token_text token, subst P (sym size) next, Puts-then puts c.put_token.ensures);
+    }
 
 pub returns-in-Err : goal.returns-in-Err
 returns-in-Err g c =
     let content = c.args.content.now in
-    let i = c.loop-byte.byte-index in
-    let (text, read, puts) = c.loop-byte.invariant in
+    let i = c.loop-at.at in
+    let (text, read, puts) = c.loop-at.invariant.so_far in
     let fault = c.in-Err.fault in
+    let scanner = c.take_token.new.scanner in
+    let declined = c.take_token.ensures.declined c.in_default.is in
+    let now = ReadSoFar-declined content i c.take_glyphs-count.result c.loop-at.scanner c.take_glyphs-count.new.scanner
+    scanner text read (omega arith) c.take_glyphs-count.ensures.taken declined in
     record {
       fault = Some fault;
       text = text ++ fault_line fault;
       is_text = TokensText-refused content i
-          (get_or content i 0) c.loop-byte.scanner c.byte.new.self text fault c.loop-byte-test.true refl read
-          (c.in-Err.ensures.fault read.unrefused);
+          (get_or content i 0) scanner c.byte.new.self text fault c.loop-at-test.true refl now
+          (c.in-Err.ensures.fault now.unrefused);
       puts = Puts-then puts c.put_fault_line.ensures;
       told_is = λ works. refl;
+    }
+
+pub loop-at-preserved-in-Ok-None : goal.loop-at-preserved-in-Ok-None
+loop-at-preserved-in-Ok-None g c =
+    let content = c.args.content.now in
+    let i = c.loop-at.at in
+    let h = c.loop-at.invariant in
+    let (text, read, puts) = h.so_far in
+    let scanner = c.take_token.new.scanner in
+    let declined = c.take_token.ensures.declined c.in_default.is in
+    let scanned = c.in-Ok-None.ensures in
+    let now = ReadSoFar-declined content i c.take_glyphs-count.result c.loop-at.scanner c.take_glyphs-count.new.scanner
+    scanner text read (omega arith) c.take_glyphs-count.ensures.taken declined in
+    let moved : scanner.offset ≡ c.loop-at.scanner.offset + c.take_glyphs-count.result =
+    ap (λ (s : ScannerView). s.offset) (declined ∙ c.take_glyphs-count.ensures.taken) in
+    let next = ReadSoFar-kept content i (get_or content i 0) scanner c.byte.new.self text c.loop-at-test.true refl now
+    (rw c.in-Ok-None.field-0-is at (scanned.unfinished now.unrefused)) scanned.accepted scanned.taken in
+    record {
+      within = omega arith;
+      offset = omega (arith, moved, scanned.taken, h.offset);
+      so_far = (text, next, puts);
+    }
+
+pub loop-at-preserved : goal.loop-at-preserved
+loop-at-preserved g c =
+    let content = c.args.content.now in
+    let i = c.loop-at.at in
+    let h = c.loop-at.invariant in
+    let (text, read, puts) = h.so_far in
+    let token = c.in-Ok-Some.token in
+    let scanner = c.take_token.new.scanner in
+    let declined = c.take_token.ensures.declined c.in_default.is in
+    let scanned = c.in-Ok-Some.ensures in
+    let now = ReadSoFar-declined content i c.take_glyphs-count.result c.loop-at.scanner c.take_glyphs-count.new.scanner
+    scanner text read (omega arith) c.take_glyphs-count.ensures.taken declined in
+    let moved : scanner.offset ≡ c.loop-at.scanner.offset + c.take_glyphs-count.result =
+    ap (λ (s : ScannerView). s.offset) (declined ∙ c.take_glyphs-count.ensures.taken) in
+    let next = ReadSoFar-token content i
+    (get_or content i 0) scanner c.byte.new.self text token c.loop-at-test.true refl now
+    (rw c.in-Ok-Some.field-0-is at (scanned.token now.unrefused)) scanned.accepted scanned.taken in
+    record {
+      within = omega arith;
+      offset = omega (arith, moved, scanned.taken, h.offset);
+      so_far = (text ++ token_text token, next, Puts-then puts c.put_token-in-Ok-Some.ensures);
     }
 
 pub returns-in-Err-end : goal.returns-in-Err-end
 returns-in-Err-end g c =
     let content = c.args.content.now in
-    let i = c.loop-byte.byte-index in
-    let (text, read, puts) = c.loop-byte.invariant in
+    let i = c.loop-at.at in
+    let (text, read, puts) = c.loop-at.invariant.so_far in
     let fault = c.in-Err-end.unfinished in
     let all : take i content ≡ content = take_all i content (omega arith) in
     record {
       fault = Some fault;
       text = text ++ fault_line fault;
-      is_text = TokensText-unfinished content i c.loop-byte.scanner text fault all read
+      is_text = TokensText-unfinished content i c.loop-at.scanner text fault all read
           (c.in-Err-end.ensures.ends read.unrefused);
       puts = Puts-then puts c.put_fault_line-in-Err-end.ensures;
       told_is = λ works. refl;
     }
-
-pub loop-byte-preserved : goal.loop-byte-preserved
-loop-byte-preserved g c =
-    let content = c.args.content.now in
-    let i = c.loop-byte.byte-index in
-    let (text, read, puts) = c.loop-byte.invariant in
-    let token = c.in-Ok-Some.token in
-    let scanned = c.in-Ok-Some.ensures in
-    let next = ReadSoFar-token content i
-    (get_or content i 0) c.loop-byte.scanner c.byte.new.self text token c.loop-byte-test.true refl read
-    (rw c.in-Ok-Some.field-0-is at (scanned.token read.unrefused)) scanned.accepted scanned.taken in
-    (text ++ token_text token, next, Puts-then puts c.put_token.ensures)

@@ -1,8 +1,14 @@
-use Rattle.std.proofs.Common.{List, ℕ}
+use Rattle.std.proofs.Common.{◌≡◌, ◌≤◌, ◌-◌, List, ℕ, length}
 use Rattle.ans_report.specs.Puts.{Puts}
 use Rattle.ans_report.proofs.ReadSoFar.{ReadSoFar}
 use Rattle.ans_report.proofs.tokens_text.put_tokens.Given as goal
 
-abbrev pub invariant-loop-byte : goal.invariant-loop-byte
-invariant-loop-byte g l =
-    (text : List ℕ) × ReadSoFar l.content l.byte-index l.scanner text × Puts g.W.Write.contents l.fn.out l.out text
+abbrev pub invariant-loop-at : goal.invariant-loop-at
+invariant-loop-at g l = record {
+  within : l.at ≤ length l.content;
+  offset : l.scanner.offset ≡ l.at;
+  so_far : (text : List ℕ) × ReadSoFar l.content l.at l.scanner text × Puts g.W.Write.contents l.fn.out l.out text;
+}
+
+abbrev pub decreases-loop-at : goal.decreases-loop-at
+decreases-loop-at g l = length l.content - l.at

@@ -3,7 +3,7 @@ use Rattle.ans_model.specs.Screen.State.{cell}
 use Rattle.ans_report.specs.Rows.{row_of, cell_text}
 use Rattle.ans_report.proofs.PictureRows.{cell_in_row, line_text_is, whole_row}
 use Rattle.ans_report.proofs.PutsLemmas.{Puts-nothing, Puts-same, Puts-then, Puts-next}
-use Rattle.ans_report.proofs.picture_text.put_row.Goals as goal
+use Rattle.ans_report.proofs.picture_text.put_wide_row.Goals as goal
 
 pub loop-col-init : goal.loop-col-init
 loop-col-init g c = Puts-nothing c.args.out.now

@@ -2,7 +2,7 @@ use Rattle.std.proofs.Common.{take}
 use Rattle.std.specs.List.{flat_map}
 use Rattle.ans_report.specs.Puts.{Puts}
 use Rattle.ans_report.specs.Rows.{row_of, cell_text}
-use Rattle.ans_report.proofs.picture_text.put_row.Given as goal
+use Rattle.ans_report.proofs.picture_text.put_wide_row.Given as goal
 
 abbrev pub invariant-loop-col : goal.invariant-loop-col
 invariant-loop-col g l =

@@ -1,0 +1,44 @@
+//! The lines of glyphs.
+ghost use Rattle.std.specs.Prelude.{◌≡◌, ◌+◌, ◌≤◌, ◌++◌, ◌∷◌, [], length, codes};
+ghost use Rattle.ans_model.specs.Bytes.{longest_file};
+ghost use Rattle.ans_model.specs.Sequence.TokenKind.{Glyph};
+ghost use Rattle.ans_model.specs.Text.Hexadecimal.{hex_byte};
+ghost use Rattle.ans_model.specs.Text.TokensText.{token_line};
+ghost use Rattle.ans_report.specs.Puts.{Puts};
+ghost use Rattle.ans_report.specs.TokenLines.{glyph_lines};
+
+use crate::counter::{Counter, DIGITS};
+use crate::hexadecimal::hex_byte;
+use crate::outbox::Outbox;
+use std::io::Write;
+
+/// The line of a glyph behind the digits of its offset.
+fn glyph_line(digits: &[u8; DIGITS], byte: u8) -> [u8; 20]
+    ensures { result ≡ digits.now ++ (codes " 1 glyph " ++ (hex_byte byte ++ codes "\n")) }
+{
+    let mut line = *b"00000000 1 glyph 00\n";
+    line[..DIGITS].copy_from_slice(digits);
+    line[17..19].copy_from_slice(&hex_byte(byte));
+    line
+}
+
+/// Puts the line of a glyph at an offset.
+fn put_glyph<W: Write>(out: &mut Outbox<'_, W>, offset: &Counter, byte: u8)
+    ensures { Puts W.contents out.old out.new
+        (token_line offset.now.number (Glyph byte) (byte ∷ [])) }
+{
+    let line = glyph_line(&offset.digits, byte);
+    out.put(&line[offset.start..]);
+}
+
+/// Puts the lines of glyphs, the first of which stands at the offset `start`.
+pub(crate) fn put_glyphs<W: Write>(out: &mut Outbox<'_, W>, start: usize, bytes: &[u8])
+    requires { start + length bytes.now ≤ longest_file }
+    ensures { Puts W.contents out.old out.new (glyph_lines start bytes.now) }
+{
+    let mut offset = Counter::new(start);
+    for byte in bytes {
+        put_glyph(out, &offset, *byte);
+        offset.increment();
+    }
+}
