@@ -1,12 +1,14 @@
 #!/usr/bin/env python3
-"""Times the commands of `anscheck` on files of the greatest size, beside a plain copy.
+"""Times the commands of `anscheck` on files of the greatest size, beside a plain copy and a plain player.
 
 Run it in the folder above, after `rt run -- check --cleared data/hi.ans` has built the program:
 
     python3 bench/speed.py out/anscheck
 
-It writes the file to a folder of its own, runs each command five times, and prints the least time of
-each in seconds. Nothing here is a test: no answer depends on a time.
+It writes each file to a folder of its own, runs each command five times, and prints the least time of
+each in seconds. The plain player, `plain_player.rs`, is built with rustc; it knows one screen, proves
+nothing and refuses next to nothing. The files that are made to be slow are checked alone. Nothing here
+is a test: no answer depends on a time.
 """
 import os
 import shutil
@@ -28,14 +30,32 @@ def record(width, lines, size):
     )
 
 
-def contents():
+CLEAR = b"\x1b[0m\x1b[?7h\x1b[2J"
+ROOM = LARGEST_FILE - 128 - 1 - len(CLEAR)
+
+
+def repeated(piece):
+    """Content of the greatest size that clears the screen and then repeats a piece."""
+    return CLEAR + piece * (ROOM // len(piece))
+
+
+def drawings():
     """Content for each kind of work that a check does; every one passes from any start."""
-    clear = b"\x1b[0m\x1b[?7h\x1b[2J"
-    room = LARGEST_FILE - 128 - 1
-    text = b"\x1b[2;1H" + bytes(0x21 + i % 94 for i in range(WIDTH - 1))
-    yield "text", clear + text * ((room - len(clear)) // len(text))
-    colours = b"\x1b[1;33;44mX\x1b[0mY\x1b[1;1H"
-    yield "colours", clear + colours * ((room - len(clear)) // len(colours))
+    yield "text", repeated(b"\x1b[2;1H" + bytes(0x21 + i % 94 for i in range(WIDTH - 1)))
+    yield "colours", repeated(b"\x1b[1;33;44mX\x1b[0mY\x1b[1;1H")
+    yield "moves", repeated(b"\x1b[5;40Habc\x1b[3Cabc\x1b[s\x1b[uabc\rabc\x1b[Kabc")
+
+
+def slow_files():
+    """Content that is made to be slow; every one passes from any start."""
+    yield "erased screens", repeated(b"\x1b[2J")
+    yield "erased lines", repeated(b"\x1b[K")
+    yield "erased screens and a few cells", repeated(b"\x1b[2J\x1b[200Bx\x1b[200Bx")
+    yield "tabs", repeated(b"\t" * 127 + b"\r")
+    yield "returns", repeated(b"\r")
+    yield "many colours", repeated(b"\x1b[1;2;3;4;5;6;7;8;9;10;11;12;13;14;15;16m")
+    yield "long numbers", repeated(b"\x1b[" + b"0" * 1000 + b"1m")
+    yield "wrap and other modes", repeated(b"\x1b[?7l\x1b[?7h")
 
 
 def least(command):
@@ -49,18 +69,39 @@ def least(command):
     return min(times)
 
 
+def saved(room, content):
+    """The path of a file with this content."""
+    path = os.path.join(room, "content.ans")
+    with open(path, "wb") as file:
+        file.write(content + b"\x1a" + record(WIDTH, LINES, len(content)))
+    return path
+
+
+def plain_player(room):
+    """The path of the plain player, or None where there is no rustc."""
+    path = os.path.join(room, "plain_player")
+    source = os.path.join(os.path.dirname(os.path.abspath(__file__)), "plain_player.rs")
+    if shutil.which("rustc") is None:
+        return None
+    subprocess.run(["rustc", "-C", "opt-level=3", "-o", path, source], check=True)
+    return path
+
+
 def main(program):
     with tempfile.TemporaryDirectory() as room:
-        for name, content in contents():
-            path = os.path.join(room, f"{name}.ans")
-            with open(path, "wb") as file:
-                file.write(content + b"\x1a" + record(WIDTH, LINES, len(content)))
-            copy = least(["cp", path, os.path.join(room, "copy")])
+        player = plain_player(room)
+        for name, content in drawings():
+            path = saved(room, content)
             size = os.path.getsize(path)
+            copy = least(["cp", path, os.path.join(room, "copy")])
             print(f"{name}: {size} bytes, copy {copy:.3f} s")
-            for command in "check", "sauce", "tokens":
-                seconds = least([program, command, path])
-                print(f"  {command} {seconds:.3f} s, {size / seconds / 1e6:.0f} MB/s")
+            if player:
+                print(f"  plain player {least([player, path]):.3f} s")
+            for command in (["check"], ["check", "--cleared"], ["needs"], ["sauce"], ["tokens"]):
+                print(f"  {' '.join(command)} {least([program, *command, path]):.3f} s")
+        for name, content in slow_files():
+            path = saved(room, content)
+            print(f"{name}: check {least([program, 'check', path]):.3f} s", flush=True)
 
 
 if __name__ == "__main__":
