@@ -51,11 +51,12 @@ def slow_files():
     yield "erased screens", repeated(b"\x1b[2J")
     yield "erased lines", repeated(b"\x1b[K")
     yield "erased screens and a few cells", repeated(b"\x1b[2J\x1b[200Bx\x1b[200Bx")
+    yield "erased screens and all rows", repeated(b"\x1b[2J" + b"x\n" * 8000)
     yield "tabs", repeated(b"\t" * 127 + b"\r")
     yield "returns", repeated(b"\r")
     yield "many colours", repeated(b"\x1b[1;2;3;4;5;6;7;8;9;10;11;12;13;14;15;16m")
     yield "long numbers", repeated(b"\x1b[" + b"0" * 1000 + b"1m")
-    yield "wrap and other modes", repeated(b"\x1b[?7l\x1b[?7h")
+    yield "wrap", repeated(b"\x1b[?7l\x1b[?7h")
 
 
 def least(command):
