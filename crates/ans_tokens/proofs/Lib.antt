@@ -5,5 +5,4 @@ pub mod EachByte
 pub mod Readable
 pub mod PartLemmas
 pub mod WholeSequences
-pub mod TakenTokens
 pub mod TextChunks

@@ -1,8 +1,7 @@
 -- Numbers, members and sequences that are read whole.
 use Rattle.std.proofs.Common.{◌≡◌, ◌≢◌, ◌⊎◌, inl, inr, ℕ, ◌+◌, ◌-◌, ◌*◌, ◌<◌, ◌≤◌, zero, suc, true, false}
 use Rattle.std.proofs.Common.{List, [], ◌∷◌, ◌++◌, length, map, take, drop, get_or, refl, ap, sym, ◌∙◌, arith}
-use Rattle.std.proofs.Common.{Result, Ok, Err, Some, append_assoc, add-one, length-take, length-drop}
-use Rattle.std.specs.Result.{result_ok}
+use Rattle.std.proofs.Common.{Ok, append_assoc, add-one, length-take, length-drop}
 use Rattle.std.specs.List.{list_all, list_any}
 use Rattle.std.specs.Char.{is_ascii_digit, is_ascii_alphabetic}
 use Rattle.std.specs.Str.Parse.{digits_value}
@@ -12,9 +11,6 @@ use Rattle.std.proofs.lemmas.Int.Digits.{digits_value_more}
 use Rattle.ans_model.specs.Bytes.{escape, bracket, semicolon, largest_number, most_parameters}
 use Rattle.ans_model.specs.Sequence.Spelling.{Mark, Unmarked, Member, mark_bytes, SpellsMember, Number, Raw, Spells}
 use Rattle.ans_model.specs.Sequence.TokenKind.{TokenKind}
-use Rattle.ans_model.specs.Inside.ShownKind.{shown_kind}
-use Rattle.ans_model.specs.declared.fault.Cause.{Cause}
-use Rattle.ans_model.specs.declared.kind.Kind.{Kind}
 use Rattle.ans_model.specs.Sequence.Meaning.{colour_number, is_quoted, meaning}
 use Rattle.ans_model.specs.Inside.OpenPart.{Current, Fresh, InNumber, InString, AfterString, Part, SpellsPart}
 use Rattle.ans_model.specs.Inside.OpenPart.{lacks, member_of, members_of, raw_of}
@@ -22,7 +18,7 @@ use Rattle.ans_model.proofs.AfterPart.{all_append}
 use Rattle.ans_tokens.specs.ScannerView as view
 use Rattle.ans_tokens.specs.ScannerView.{KeepsPart, Keeps, Sequence}
 use Rattle.ans_tokens.specs.Unfinished.{empty_part, with_next}
-use Rattle.ans_tokens.specs.PlainSequence.{Means, plain_sequence}
+use Rattle.ans_tokens.specs.PlainSequence.{plain_sequence}
 use Rattle.ans_tokens.specs.WholeToken.{IsNumberFront, IsSequenceFront, IsTokenFront}
 use Rattle.ans_tokens.proofs.PlainSequences.{same_meaning}
 use Rattle.ans_tokens.proofs.ScannerSteps.{with_current, digit_is, next_member, letter_spells, marked}
@@ -238,10 +234,3 @@ means_token mark numbers bytes letter count token h means =
       within = h.within;
       spelled = inr (record { raw = h.raw; spelled = h.spelled; means = same ∙ means });
     }
-
-pub kind_is_meant : (result : Result Kind Cause) (kind : Kind) (meant : Result TokenKind Cause)
-    → result_ok result ≡ Some kind → Means result meant → meant ≡ Ok (shown_kind kind)
-kind_is_meant (Ok k) kind meant e h =
-    let same : k ≡ kind = cc in
-    h ∙ ap (λ (v : Kind). Ok (shown_kind v)) same
-kind_is_meant (Err cause) kind meant e h = absurd (cc)
