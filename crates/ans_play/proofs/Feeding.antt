@@ -20,7 +20,7 @@ use Rattle.ans_tokens.proofs.EachByte.{kept_open, open_ends}
 use Rattle.ans_model.proofs.OneAnswer.{clean_or_first}
 use Rattle.ans_tokens.specs.Token.{kind_of, length_of}
 use Rattle.ans_tokens.specs.Glyphs.{IsBetweenTokens}
-use Rattle.ans_tokens.specs.WholeToken.{TakesToken, scanner_after_token}
+use Rattle.ans_tokens.specs.WholeToken.{TakesToken, scanner_after}
 use Rattle.ans_tokens.specs.declared.token.Token.{Token as Spelled}
 use Rattle.ans_play.specs.HalfState.{HalfState}
 use Rattle.ans_play.specs.HalfStep.{half_step}
@@ -353,7 +353,7 @@ token_plays old new after bytes token between takes plays =
             let empty : p.open_part ≡ [] = nothing_open old.scanner p.open_part between p.holds in
             let begun : old.scanner.open_offset + length p.open_part ≡ old.scanner.offset = p.holds.begun_at in
             let none : length p.open_part ≡ 0 = ap length empty in
-            let holds : Holds (scanner_after_token old.scanner (length_of token)) [] = record {
+            let holds : Holds (scanner_after old.scanner (length_of token)) [] = record {
               keeps = rw between.nothing refl;
               begun_at = omega (arith, begun, none);
             } in

@@ -17,7 +17,7 @@ use Rattle.ans_model.specs.declared.fault.Cause.TheVariants.{PrintBelow, PrintUn
 use Rattle.ans_model.specs.declared.start.Start.{Start}
 use Rattle.ans_model.specs.declared.fault.Fault.{Fault}
 use Rattle.ans_tokens.specs.ScannerView.{ScannerView, Kept, Holds, scanner_view}
-use Rattle.ans_tokens.specs.Glyphs.{IsGlyphByte, IsGlyphFront, IsBetweenTokens, scanner_after_glyphs}
+use Rattle.ans_tokens.specs.Glyphs.{IsGlyphByte, IsGlyphFront, IsBetweenTokens, scanner_after}
 use Rattle.ans_screen.specs.KnownBits.{KnownBits}
 use Rattle.ans_screen.specs.HalfCells.{printed_cell}
 use Rattle.ans_screen.specs.GridEdits.{written, printed_run}
@@ -72,11 +72,11 @@ same_scanning : (offset start offset' start' : ℕ) (kept : Kept) (refusal : Opt
 same_scanning offset start offset' start' kept refusal p q = cc
 
 -- no token further
-past_none : (s : ScannerView) → scanner_after_glyphs s 0 ≡ s
+past_none : (s : ScannerView) → scanner_after s 0 ≡ s
 past_none s = same_scanning _ _ _ _ _ _ (omega arith) (omega arith)
 
 -- one token further, and then the others
-past_more : (s : ScannerView) (n : ℕ) → scanner_after_glyphs (scanner_after_glyphs s 1) n ≡ scanner_after_glyphs s
+past_more : (s : ScannerView) (n : ℕ) → scanner_after (scanner_after s 1) n ≡ scanner_after s
     (suc n)
 past_more s n = same_scanning _ _ _ _ _ _ (omega arith) (omega arith)
 
@@ -99,7 +99,7 @@ plays_glyph : (z : Size) (class : Start) (s : List ℕ) (scanner : ScannerView) 
     (saved : Span) (attribute : KnownBits) (wrap : WrapMode) (b : ℕ) →
     IsPlayed z class s scanner (half_state screen (one_position row column) saved attribute wrap) →
     IsBetweenTokens scanner → IsGlyphByte b → row < z.lines → column + 1 < z.width →
-    IsPlayed z class (s ++ b ∷ []) (scanner_after_glyphs scanner 1)
+    IsPlayed z class (s ++ b ∷ []) (scanner_after scanner 1)
     (half_state (set screen (index z (at row column)) (printed_cell attribute b))
     (one_position row (column + 1)) saved attribute wrap)
 plays_glyph z class s scanner screen row column saved attribute wrap b p between glyph above within =
@@ -107,12 +107,12 @@ plays_glyph z class s scanner screen row column saved attribute wrap b p between
     let none : p.open_part ≡ [] = nothing_open scanner p.open_part between p.holds in
     let begun : scanner.open_offset + length p.open_part ≡ scanner.offset = p.holds.begun_at in
     let empty : length p.open_part ≡ 0 = ap length none in
-    let holds : Holds (scanner_after_glyphs scanner 1) [] =
+    let holds : Holds (scanner_after scanner 1) [] =
     record { keeps = rw between.nothing refl; begun_at = omega arith } in
-    let after : IsPlayed z class (s ++ b ∷ []) (scanner_after_glyphs scanner 1) (half_step z h (Glyph b))
-    = played_token z class s scanner (scanner_after_glyphs scanner 1) h (b ∷ []) (Glyph b) p (rw none glyph)
+    let after : IsPlayed z class (s ++ b ∷ []) (scanner_after scanner 1) (half_step z h (Glyph b))
+    = played_token z class s scanner (scanner_after scanner 1) h (b ∷ []) (Glyph b) p (rw none glyph)
     (prints_here z screen row column saved attribute wrap b above) holds refl between.unrefused in
-    subst (λ (k : HalfState). IsPlayed z class (s ++ b ∷ []) (scanner_after_glyphs scanner 1) k)
+    subst (λ (k : HalfState). IsPlayed z class (s ++ b ∷ []) (scanner_after scanner 1) k)
     (prints_on z screen row column saved attribute wrap b within) after
 
 -- where a glyph is printed, the cursor stands at one position above the spare row
@@ -137,7 +137,7 @@ plays_run : (z : Size) (class : Start) (run s : List ℕ) (scanner : ScannerView
     IsPlayed z class s scanner (half_state screen (one_position row column) saved attribute wrap) →
     IsBetweenTokens scanner → All IsGlyphByte run → row < z.lines → column + length run < z.width →
     index z (at row column) + length run ≤ length screen →
-    IsPlayed z class (s ++ run) (scanner_after_glyphs scanner (length run))
+    IsPlayed z class (s ++ run) (scanner_after scanner (length run))
     (half_state (written screen (index z (at row column)) (printed_run attribute run))
     (one_position row (column + length run)) saved attribute wrap)
 plays_run z class [] s scanner screen row column saved attribute wrap p between glyphs above within room =
@@ -148,18 +148,18 @@ plays_run z class (b ∷ run) s scanner screen row column saved attribute wrap p
     let first = plays_glyph z class s scanner screen row column saved attribute wrap b p between
     (All-head IsGlyphByte b run glyphs) above (omega arith) in
     let next : index z (at row (column + 1)) ≡ i + 1 = omega arith in
-    let later = plays_run z class run (s ++ b ∷ []) (scanner_after_glyphs scanner 1)
+    let later = plays_run z class run (s ++ b ∷ []) (scanner_after scanner 1)
     (set screen i (printed_cell attribute b)) row
     (column + 1) saved attribute wrap first
     (record { nothing = between.nothing; unrefused = between.unrefused }) (All-tail IsGlyphByte b run glyphs) above
     (omega arith) (rw length-set (omega arith)) in
-    subst (λ (xs : List ℕ). IsPlayed z class xs (scanner_after_glyphs scanner (suc (length run)))
+    subst (λ (xs : List ℕ). IsPlayed z class xs (scanner_after scanner (suc (length run)))
     (printed (b ∷ run) column))
     (append_assoc s (b ∷ []) run)
     (subst (λ (c : ScannerView). IsPlayed z class ((s ++ b ∷ []) ++ run) c (printed (b ∷ run) column))
     (past_more scanner (length run))
     (subst (λ (k : HalfState). IsPlayed z class ((s ++ b ∷ []) ++ run)
-    (scanner_after_glyphs (scanner_after_glyphs scanner 1) (length run)) k)
+    (scanner_after (scanner_after scanner 1) (length run)) k)
     (same_run _ _ _ _ row saved attribute wrap
     (rw next (written_first screen i (printed_cell attribute b) (printed_run attribute run) (omega arith)))
     (omega arith))
@@ -234,7 +234,7 @@ pub run_goes_on : (z : Size) (scanner after : ScannerView) (screen new : List Ha
     (attribute : KnownBits) (wrap : WrapMode)
     (bytes : List ℕ) (count : ℕ) → count ≤ length bytes → HasRoom z cursor count → IsBetweenTokens scanner →
     All IsGlyphByte (take count bytes) → length screen ≡ cell_count z →
-    after ≡ scanner_after_glyphs scanner count
+    after ≡ scanner_after scanner count
     → new ≡ written screen (index z cursor.low) (printed_run attribute (take count bytes)) →
     GoesOn
     (play_view z scanner (half_state screen cursor saved attribute wrap))

@@ -12,9 +12,9 @@ use Rattle.ans_model.specs.Sequence.TokenKind.{Glyph}
 use Rattle.ans_model.specs.Sequence.Reads.{ReadsAs}
 use Rattle.ans_model.specs.Text.TokensText.{token_line, token_lines}
 use Rattle.ans_tokens.specs.ScannerView.{ScannerView, Kept, Holds, scanner_view}
-use Rattle.ans_tokens.specs.Glyphs.{IsGlyphByte, IsGlyphFront, IsBetweenTokens, scanner_after_glyphs}
+use Rattle.ans_tokens.specs.Glyphs.{IsGlyphByte, IsGlyphFront, IsBetweenTokens, scanner_after}
 use Rattle.ans_tokens.specs.Token.{kind_of, length_of}
-use Rattle.ans_tokens.specs.WholeToken.{TakesToken, scanner_after_token}
+use Rattle.ans_tokens.specs.WholeToken.{TakesToken, scanner_after}
 use Rattle.ans_tokens.specs.declared.token.Token.{Token}
 use Rattle.ans_model.specs.Inside.ShownKind.{shown_kind}
 use Rattle.ans_report.specs.TokenLines.{glyph_lines, token_text}
@@ -67,7 +67,7 @@ glyphs_read (b ∷ bytes) h =
 -- after the glyphs at the front of a piece
 pub ReadSoFar-glyphs : (content piece : List ℕ) (i m count : ℕ) (old new : ScannerView) (text : List ℕ)
     → i ≤ length content → ReadSoFar content i old text → IsBetweenTokens old → piece ≡ take m (drop i content)
-    → count ≤ m → IsGlyphFront piece count → new ≡ scanner_after_glyphs old count
+    → count ≤ m → IsGlyphFront piece count → new ≡ scanner_after old count
     → ReadSoFar content (i + count) new (text ++ glyph_lines i (take count piece))
 ReadSoFar-glyphs content piece i m count old new text within h between is fits front after =
     let bytes = take count piece in
@@ -77,12 +77,12 @@ ReadSoFar-glyphs content piece i m count old new text within h between is fits f
     ap (λ (n : ℕ). take n (drop i content)) size ∙ sym (take-take count m (drop i content) fits)
     ∙ ap (take count) (sym is) in
     let begun : old.open_offset ≡ old.offset = omega (arith, h.holds.begun_at, ap length none) in
-    let holds : Holds (scanner_after_glyphs old count) [] =
+    let holds : Holds (scanner_after old count) [] =
     record { keeps = rw between.nothing refl; begun_at = omega arith } in
     let moved : old.offset + count ≡ old.offset + length bytes = omega arith in
-    let read = ReadSoFar-tokens content i old (scanner_after_glyphs old count) text bytes (map Glyph bytes)
+    let read = ReadSoFar-tokens content i old (scanner_after old count) text bytes (map Glyph bytes)
     (map (λ b. b ∷ []) bytes) within h between here (glyphs_read bytes front.glyphs) holds between.unrefused moved in
-    let P : ℕ → Type 0 = λ n. ReadSoFar content (i + n) (scanner_after_glyphs old count)
+    let P : ℕ → Type 0 = λ n. ReadSoFar content (i + n) (scanner_after old count)
     (text ++ glyph_lines i bytes) in
     let Q : ScannerView → Type 0 = λ s. ReadSoFar content (i + count) s (text ++ glyph_lines i bytes) in
     subst Q (sym after) (subst P size read)
@@ -92,19 +92,19 @@ same_scanning : (offset start offset' start' : ℕ) (kept : Kept) (refusal : Opt
 same_scanning offset start offset' start' kept refusal p q = cc
 
 -- after no glyph nothing has changed
-pub after_none : (s : ScannerView) → s ≡ scanner_after_glyphs s 0
+pub after_none : (s : ScannerView) → s ≡ scanner_after s 0
 after_none s = same_scanning _ _ _ _ _ _ (omega arith) (omega arith)
 
 -- no glyph was taken
 pub ReadSoFar-none : (content : List ℕ) (i count : ℕ) (old new : ScannerView) (text : List ℕ)
-    → ReadSoFar content i old text → count ≡ 0 → new ≡ scanner_after_glyphs old count → ReadSoFar content i new text
+    → ReadSoFar content i old text → count ≡ 0 → new ≡ scanner_after old count → ReadSoFar content i new text
 ReadSoFar-none content i count old new text h none after =
     let Q : ScannerView → Type 0 = λ s. ReadSoFar content i s text in
-    subst Q (sym (after ∙ ap (scanner_after_glyphs old) none ∙ sym (after_none old))) h
+    subst Q (sym (after ∙ ap (scanner_after old) none ∙ sym (after_none old))) h
 
 -- nor another token
 pub ReadSoFar-declined : (content : List ℕ) (i count : ℕ) (old between new : ScannerView) (text : List ℕ)
-    → ReadSoFar content i old text → count ≡ 0 → between ≡ scanner_after_glyphs old count → new ≡ between
+    → ReadSoFar content i old text → count ≡ 0 → between ≡ scanner_after old count → new ≡ between
     → ReadSoFar content i new text
 ReadSoFar-declined content i count old between new text h none after declined =
     ReadSoFar-none content i count old new text h none (declined ∙ after)
@@ -128,7 +128,7 @@ ReadSoFar-whole content piece i m old new text t within h between is fits at tak
     ap (λ (n : ℕ). take n (drop i content)) size
     ∙ sym (here_in_piece (drop i content) piece m count is (omega (arith, taken.front.within))) in
     let begun : old.open_offset ≡ old.offset = omega (arith, h.holds.begun_at, ap length none) in
-    let after = scanner_after_token old count in
+    let after = scanner_after old count in
     let holds : Holds after [] = record { keeps = rw between.nothing refl; begun_at = omega arith } in
     let moved : old.offset + count ≡ old.offset + length bytes = omega arith in
     let read = ReadSoFar-tokens content i old after text bytes (k ∷ []) (bytes ∷ []) within h between here

@@ -9,7 +9,7 @@ ghost use Rattle.ans_model.specs.declared.fault.Fault.{Fault};
 ghost use Rattle.ans_model.specs.Sequence.TokenKind.{Place};
 ghost use Rattle.ans_model.specs.Inside.ShownKind.{shown_kind};
 ghost use Rattle.ans_model.specs.Text.TokensText.{TokensText, token_name};
-ghost use Rattle.ans_tokens.specs.Glyphs.{IsGlyphFront, IsBetweenTokens, scanner_after_glyphs};
+ghost use Rattle.ans_tokens.specs.Glyphs.{IsGlyphFront, IsBetweenTokens, scanner_after};
 ghost use Rattle.ans_tokens.specs.WholeToken.{TakesToken};
 ghost use Rattle.ans_report.specs.Tried.{has_failed, inner_of};
 ghost use Rattle.ans_report.specs.Writes.{AppendsPrefix};
@@ -124,7 +124,7 @@ fn take_glyphs(scanner: &mut Scanner, bytes: &[u8]) -> usize
     requires { scanner.old.offset + length bytes.now ≤ longest_file }
     ensures between { 0 < result → IsBetweenTokens scanner.old }
     ensures front { 0 < result → IsGlyphFront bytes.now result }
-    ensures taken { scanner.new ≡ scanner_after_glyphs scanner.old result }
+    ensures taken { scanner.new ≡ scanner_after scanner.old result }
 {
     if scanner.is_between_tokens() {
         return scanner.glyphs(bytes);

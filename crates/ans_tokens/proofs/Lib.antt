@@ -5,4 +5,4 @@ pub mod EachByte
 pub mod Readable
 pub mod PartLemmas
 pub mod WholeSequences
-pub mod TextChunks
+pub mod TextFront

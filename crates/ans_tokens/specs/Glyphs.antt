@@ -23,6 +23,6 @@ pub record IsBetweenTokens (s : ScannerView) : Type 0 where
   pub nothing : s.kept ≡ Nothing
   pub unrefused : s.fault ≡ None
 
--- the scanner after this many glyphs, each a token of one byte
-abbrev pub scanner_after_glyphs : ScannerView → ℕ → ScannerView
-scanner_after_glyphs s count = record s { offset = s.offset + count; open_offset = s.open_offset + count }
+-- the scanner that stood between two tokens, after this many bytes of whole tokens
+abbrev pub scanner_after : ScannerView → ℕ → ScannerView
+scanner_after s count = record s { offset = s.offset + count; open_offset = s.open_offset + count }

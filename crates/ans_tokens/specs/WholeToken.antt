@@ -10,6 +10,7 @@ use Rattle.ans_model.specs.Sequence.Meaning.{colour_number, is_quoted}
 use Rattle.ans_model.specs.Sequence.Reads.{SpellsToken}
 use Rattle.ans_model.specs.Inside.ShownKind.{shown_kind}
 use Rattle.ans_tokens.specs.ScannerView.{ScannerView}
+use Rattle.ans_tokens.specs.Glyphs.{scanner_after}
 use Rattle.ans_tokens.specs.Token.{kind_of, start_of, length_of}
 use Rattle.ans_tokens.specs.declared.token.Token.{Token}
 
@@ -41,12 +42,8 @@ pub record IsTokenAt (offset : ℕ) (bytes : List ℕ) (token : Token) : Type 0 
   pub front : IsTokenFront bytes (shown_kind (kind_of token)) (length_of token)
   pub starts : start_of token ≡ offset
 
--- the scanner after a token of this length, where it stood between two tokens
-abbrev pub scanner_after_token : ScannerView → ℕ → ScannerView
-scanner_after_token s count = record s { offset = s.offset + count; open_offset = s.open_offset + count }
-
 -- the bytes begin with the token, which stands where the scanner stood and is taken
 pub record TakesToken (old : ScannerView) (bytes : List ℕ) (new : ScannerView) (token : Token) : Type 0 where
   pub front : IsTokenFront bytes (shown_kind (kind_of token)) (length_of token)
   pub starts : start_of token ≡ old.offset
-  pub taken : new ≡ scanner_after_token old (length_of token)
+  pub taken : new ≡ scanner_after old (length_of token)

@@ -1,6 +1,6 @@
 //! Bytes that are printed as they stand, one token each.
 
-ghost use Rattle.std.specs.Prelude.{◌≡◌, ◌≤◌, ◌↔◌, IsTrue, All, length, map, take};
+ghost use Rattle.std.specs.Prelude.{◌≡◌, ◌+◌, ◌<◌, ◌≤◌, ◌↔◌, ℕ, IsTrue, false, All, length, map, take, slice_index_or};
 ghost use Rattle.std.specs.Simd.Lanes.{mask_l};
 ghost use Rattle.ans_tokens.specs.Glyphs.{IsGlyphByte, IsGlyphFront, is_low};
 
@@ -22,17 +22,35 @@ fn low_bytes(bytes: u8x16) -> u64
     bytes.simd_lt(u8x16::splat(0x20)).to_bitmask()
 }
 
-/// How many bytes stand in the chunks at the front, each of 16 bytes from 20h on. They are glyphs.
-fn text_chunks(bytes: &[u8]) -> usize
+/// How many of the 16 bytes from `from` on stand before the first one below 20h.
+#[inline(always)]
+fn text_of_chunk(bytes: &[u8], from: usize) -> usize
+    requires { from + 16 ≤ length bytes.now }
+    ensures within { result ≤ 16 }
+    ensures text { (k : ℕ) → from ≤ k → k < from + result
+        → is_low (slice_index_or bytes.now k 0) ≡ false }
+{
+    let low = low_bytes(u8x16::from_slice(&bytes[from..]));
+    if low == 0 {
+        16
+    } else {
+        low.trailing_zeros() as usize
+    }
+}
+
+/// How many bytes stand before the first one below 20h, as far as whole chunks of 16 bytes tell.
+/// They are glyphs.
+fn text_front(bytes: &[u8]) -> usize
     ensures within { result ≤ length bytes.now }
     ensures glyphs { All IsGlyphByte (take result bytes.now) }
 {
     let mut count = 0;
     while bytes.len() - count >= 16 {
-        if low_bytes(u8x16::from_slice(&bytes[count..])) != 0 {
+        let text = text_of_chunk(bytes, count);
+        count += text;
+        if text < 16 {
             break;
         }
-        count += 16;
     }
     count
 }
@@ -41,7 +59,7 @@ fn text_chunks(bytes: &[u8]) -> usize
 pub(crate) fn count_glyphs(bytes: &[u8]) -> usize
     ensures { IsGlyphFront bytes.now result }
 {
-    for i in text_chunks(bytes)..bytes.len() {
+    for i in text_front(bytes)..bytes.len() {
         if !is_glyph(bytes[i]) {
             return i;
         }

@@ -17,8 +17,10 @@ mod whole;
 
 pub use ans_model::fault::{Cause, Fault};
 pub use ans_model::kind::Kind;
+pub use meaning::{distance, is_just, place};
 pub use scanner::Scanner;
 pub use token::Token;
+pub use whole::{Letter, read_sequence};
 
 #[cfg(test)]
 mod tests;

@@ -23,8 +23,9 @@ use ans_model::kind::Kind;
 use ans_model::limits::MAX_PARAMETERS;
 use arrayvec::ArrayVec;
 
-/// The distance of a move: of no number, and of 0, it is 1.
-fn distance(numbers: &[u8]) -> Result<u8, Cause>
+/// The distance of a move: of no number, and of 0, it is 1 (profile). Where there are more numbers
+/// than one, the cause is `WrongParameters`.
+pub fn distance(numbers: &[u8]) -> Result<u8, Cause>
     ensures { MatchResult result
         (λ n. (by : ℕ → TokenKind) → move by (map Number numbers.now) ≡ Ok (by n))
         (λ cause. (by : ℕ → TokenKind) → move by (map Number numbers.now) ≡ Err cause) }
@@ -36,20 +37,23 @@ fn distance(numbers: &[u8]) -> Result<u8, Cause>
     }
 }
 
-/// The row and the column of a place, counted from 1.
-fn place(numbers: &[u8]) -> Result<Kind, Cause>
-    ensures { Means result (place (map Number numbers.now)) }
+/// The row and the column of a place, counted from 1: where one is missing, and of 0, it is 1
+/// (profile). Where there are more numbers than two, the cause is `WrongParameters`.
+pub fn place(numbers: &[u8]) -> Result<(u8, u8), Cause>
+    ensures { MatchResult result
+        (λ at. place (map Number numbers.now) ≡ Ok (Place at.0 at.1))
+        (λ cause. place (map Number numbers.now) ≡ Err cause) }
 {
     match numbers {
-        [] => Ok(Kind::Place(1, 1)),
-        [row] => Ok(Kind::Place((*row).max(1), 1)),
-        [row, column] => Ok(Kind::Place((*row).max(1), (*column).max(1))),
+        [] => Ok((1, 1)),
+        [row] => Ok(((*row).max(1), 1)),
+        [row, column] => Ok(((*row).max(1), (*column).max(1))),
         _ => Err(Cause::WrongParameters),
     }
 }
 
 /// Whether the number stands alone.
-fn is_just(n: u8, numbers: &[u8]) -> bool
+pub fn is_just(n: u8, numbers: &[u8]) -> bool
     ensures { result ≡ is_just n (map Number numbers.now) }
 {
     match numbers {
@@ -129,7 +133,10 @@ pub(crate) fn kind_meant(
         b'B' => Ok(Kind::Down(distance(plain?)?)),
         b'C' => Ok(Kind::Forward(distance(plain?)?)),
         b'D' => Ok(Kind::Backward(distance(plain?)?)),
-        b'H' | b'f' => place(plain?),
+        b'H' | b'f' => {
+            let (row, column) = place(plain?)?;
+            Ok(Kind::Place(row, column))
+        }
         b'J' => only_if(is_just(2, plain?), Kind::Clear),
         b'K' => {
             let plain = plain?;

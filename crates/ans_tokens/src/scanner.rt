@@ -122,7 +122,7 @@ impl Scanner {
     ghost use Rattle.ans_model.specs.Bytes.{longest_file};
     ghost use Rattle.ans_tokens.specs.ScannerView.{new_scanner, StaysUnfinished, EndsToken};
     ghost use Rattle.ans_tokens.specs.ScannerView.{RefusesByte, Ends};
-    ghost use Rattle.ans_tokens.specs.Glyphs.{IsGlyphFront, IsBetweenTokens, scanner_after_glyphs};
+    ghost use Rattle.ans_tokens.specs.Glyphs.{IsGlyphFront, IsBetweenTokens, scanner_after};
     ghost use Rattle.ans_tokens.specs.WholeToken.{TakesToken};
 
     /// A scanner before the first byte.
@@ -207,11 +207,10 @@ impl Scanner {
         requires between { IsBetweenTokens self.old }
         requires room { self.old.offset + length bytes.now ≤ longest_file }
         ensures front { IsGlyphFront bytes.now result }
-        ensures taken { self.new ≡ scanner_after_glyphs self.old result }
+        ensures taken { self.new ≡ scanner_after self.old result }
     {
         let count = count_glyphs(bytes);
-        self.offset += count;
-        self.open_offset += count;
+        self.skip(count);
         count
     }
 
@@ -232,6 +231,16 @@ impl Scanner {
             self.open_offset += token.length;
         }
         token
+    }
+
+    /// Goes on over bytes that the caller has taken as whole tokens. It is called between two tokens.
+    pub fn skip(&mut self, count: usize)
+        requires between { IsBetweenTokens self.old }
+        requires room { self.old.offset + count ≤ longest_file }
+        ensures { self.new ≡ scanner_after self.old count }
+    {
+        self.offset += count;
+        self.open_offset += count;
     }
 
     /// Whether the content may end here. It returns the fault that was returned before, or F12 at

@@ -7,6 +7,7 @@
 ghost use Rattle.std.specs.Prelude.{◌≡◌, ◌≢◌, ◌⊎◌, ◌<◌, ◌≤◌, ◌++◌, ◌∷◌, [], length, take, false, IfSome};
 ghost use Rattle.ans_model.specs.Bytes.{most_parameters};
 ghost use Rattle.arrayvec.specs.ArrayVec.{array_vec_len};
+ghost use Rattle.ans_model.specs.Sequence.Spelling.{Unmarked};
 ghost use Rattle.ans_tokens.specs.Mark.{mark_of};
 ghost use Rattle.ans_tokens.specs.ScannerView.{Keeps, Sequence, Fresh};
 ghost use Rattle.ans_tokens.specs.WholeToken.{IsNumberFront, IsSequenceFront, IsTokenAt};
@@ -18,13 +19,11 @@ use crate::token::Token;
 use ans_model::limits::MAX_PARAMETERS;
 use arrayvec::ArrayVec;
 
-/// What stands after the mark of a sequence: a number for each member and the letter.
-#[derive(Debug, Drop)]
-struct Members {
-    numbers: ArrayVec<u8, MAX_PARAMETERS>,
-    letter: u8,
-    /// The index of the byte after the letter.
-    end: usize,
+/// The letter that ends a sequence, and the index of the byte after it.
+#[derive(Debug, Clone, Copy)]
+pub struct Letter {
+    pub byte: u8,
+    pub end: usize,
 }
 
 /// The value of the digits that the bytes begin with, and their count: 0 and 0 where there are
@@ -59,37 +58,55 @@ fn add_last(numbers: &mut ArrayVec<u8, MAX_PARAMETERS>, value: u8, digits: usize
     }
 }
 
-/// Reads the members and the letter of a sequence from the index after its mark. It declines
-/// where a byte is neither a digit nor a `;` nor a letter, where a number is above 255, where the
-/// members are more than 16, and where the bytes end before the letter.
-fn read_members(bytes: &[u8], mark: Mark, from: usize) -> Option<Members>
+/// Reads the members and the letter of a sequence from the index after its mark, and puts a number
+/// for each member into an empty list. It declines where a byte is neither a digit nor a `;` nor a
+/// letter, where a number is above 255, where the members are more than 16, and where the bytes end
+/// before the letter.
+#[inline(always)]
+fn read_members(
+    bytes: &[u8],
+    mark: Mark,
+    from: usize,
+    numbers: &mut ArrayVec<u8, MAX_PARAMETERS>,
+) -> Option<Letter>
     requires within { from ≤ length bytes.now }
     requires begun { Keeps (Sequence (mark_of mark) [] false Fresh) (take from bytes.now) }
-    ensures { IfSome result (λ read.
-        IsSequenceFront bytes.now (mark_of mark) read.numbers.items read.letter read.end) }
+    requires empty { numbers.old.items ≡ [] }
+    ensures { IfSome result (λ letter.
+        IsSequenceFront bytes.now (mark_of mark) numbers.new.items letter.byte letter.end) }
 {
-    let mut numbers = ArrayVec::new();
     let mut at = from;
     for _ in 0..MAX_PARAMETERS {
         let (value, digits) = read_number(&bytes[at..])?;
         let stop = at + digits;
-        let letter = bytes[stop];
+        let byte = bytes[stop];
         at = stop + 1;
-        if letter == b';' {
+        if byte == b';' {
             numbers.push(value);
             continue;
         }
-        if !letter.is_ascii_alphabetic() {
+        if !byte.is_ascii_alphabetic() {
             return None;
         }
-        add_last(&mut numbers, value, digits);
-        return Some(Members {
-            numbers,
-            letter,
-            end: at,
-        });
+        add_last(numbers, value, digits);
+        return Some(Letter { byte, end: at });
     }
     None
+}
+
+/// Reads the sequence that the bytes begin with, where it is whole and has neither a mark nor a
+/// string: it puts a number for each member into an empty list, 0 for one that is omitted, and
+/// returns the letter. Else it declines, and the list holds any numbers.
+#[inline(always)]
+pub fn read_sequence(bytes: &[u8], numbers: &mut ArrayVec<u8, MAX_PARAMETERS>) -> Option<Letter>
+    requires { numbers.old.items ≡ [] }
+    ensures { IfSome result (λ letter.
+        IsSequenceFront bytes.now Unmarked numbers.new.items letter.byte letter.end) }
+{
+    match bytes {
+        [0x1B, b'[', _, ..] => read_members(bytes, Mark::Unmarked, 2, numbers),
+        _ => None,
+    }
 }
 
 /// The token of the sequence that the bytes begin with, which stands at this offset. It declines
@@ -104,16 +121,13 @@ fn whole_sequence(bytes: &[u8], start: usize) -> Option<Token>
         Some(mark) => (mark, 3),
         None => (Mark::Unmarked, 2),
     };
-    let Members {
-        numbers,
-        letter,
-        end,
-    } = read_members(bytes, mark, from)?;
-    match kind_meant(mark, numbers, false, letter) {
+    let mut numbers = ArrayVec::new();
+    let letter = read_members(bytes, mark, from, &mut numbers)?;
+    match kind_meant(mark, numbers, false, letter.byte) {
         Ok(kind) => Some(Token {
             kind,
             start,
-            length: end,
+            length: letter.end,
         }),
         Err(_) => None,
     }

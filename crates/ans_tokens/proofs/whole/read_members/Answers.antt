@@ -16,7 +16,7 @@ loop-preserved c =
       counted = omega arith;
       kept = λ room. rw c.push.ensures.items
           (member_at (mark_of c.args.mark) c.loop.numbers.items bytes c.in_ok-value.value c.in_ok-value.digits
-          stop read.0 read.1 c.if-letter-eq59.true (omega arith));
+          stop read.0 read.1 c.if-byte-eq59.true (omega arith));
     }
 
 pub returns-in-loop : goal.returns-in-loop

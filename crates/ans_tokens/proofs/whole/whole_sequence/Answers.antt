@@ -18,10 +18,10 @@ read_members-requires-clause-begun c =
 
 pub returns-in-Ok : goal.returns-in-Ok
 returns-in-Ok c =
-    let read = c.in_ok-numbers.field-0 in
+    let letter = c.in_ok-letter.letter in
     let mark = mark_of c.match-mark_of_byte.mark.0 in
     record {
-      front = means_token mark read.numbers.items c.args.bytes.now read.letter read.end (shown_kind c.in-Ok.kind)
-          c.in_ok-numbers.ensures c.in-Ok.ensures;
+      front = means_token mark c.read_members.new.numbers.items c.args.bytes.now letter.byte letter.end
+          (shown_kind c.in-Ok.kind) c.in_ok-letter.ensures c.in-Ok.ensures;
       starts = refl;
     }

@@ -1,0 +1,7 @@
+use Rattle.std.proofs.Common.{arith}
+use Rattle.ans_tokens.proofs.WholeSequences.{begun_unmarked}
+use Rattle.ans_tokens.proofs.whole.read_sequence.Goals as goal
+
+pub read_members-requires-clause-begun : goal.read_members-requires-clause-begun
+read_members-requires-clause-begun c =
+    begun_unmarked c.args.bytes.now c.in-27.len_at_least (omega arith) (omega arith)
