@@ -19,14 +19,14 @@ use Rattle.ans_tokens.specs.ScannerView.{ScannerView, Holds, IsTokenOf, IsFaultO
 use Rattle.ans_tokens.proofs.EachByte.{kept_open, open_ends}
 use Rattle.ans_model.proofs.OneAnswer.{clean_or_first}
 use Rattle.ans_tokens.specs.Token.{kind_of, length_of}
-use Rattle.ans_tokens.specs.Glyphs.{IsBetweenTokens}
-use Rattle.ans_tokens.specs.WholeToken.{TakesToken, scanner_after}
+use Rattle.ans_tokens.specs.Glyphs.{IsBetweenTokens, scanner_after}
+use Rattle.ans_tokens.specs.WholeToken.{IsTokenFront}
 use Rattle.ans_tokens.specs.declared.token.Token.{Token as Spelled}
 use Rattle.ans_play.specs.HalfState.{HalfState}
 use Rattle.ans_play.specs.HalfStep.{half_step}
 use Rattle.ans_play.specs.HalfFault.{half_fault}
 use Rattle.ans_play.specs.PlayView.{PlayView}
-use Rattle.ans_play.specs.Plays.{PlaysToken}
+use Rattle.ans_play.specs.Plays.{PlaysToken, after_token}
 use Rattle.ans_play.specs.PlayerView.{PlayerView, play_of}
 use Rattle.ans_play.specs.Stands.{IsPlayed, Stands, SamePlay, IsFed, Feeds, GoesOn, PlaysFront, IsDeserved}
 use Rattle.ans_play.proofs.FaultShown.{token_has_fault}
@@ -335,56 +335,28 @@ pub still_between : (before after : PlayView) → before ≡ after → IsBetween
     → IsBetweenTokens after.scanner
 still_between before after same between = subst (λ (p : PlayView). IsBetweenTokens p.scanner) same between
 
--- a whole token is played
-pub token_plays : (old new : PlayView) (after : ScannerView) (bytes : List ℕ) (token : Spelled) →
-    IsBetweenTokens old.scanner → TakesToken old.scanner bytes after token →
-    PlaysToken (record old { scanner = after }) new token (Ok tt) → PlaysFront old bytes new (length_of token)
-token_plays old new after bytes token between takes plays =
-    let text = take (length_of token) bytes in
-    let long : length text ≡ length_of token = length-take-le (length_of token) bytes takes.front.within in
-    let offset : after.offset ≡ old.scanner.offset + length text = rw (takes.taken, long) refl in
-    record {
-      some = takes.front.nonempty;
-      within = takes.front.within;
-      played = rw plays.1 (record {
-        size = refl;
-        offset = offset;
-        played = λ class s p.
-            let empty : p.open_part ≡ [] = nothing_open old.scanner p.open_part between p.holds in
-            let begun : old.scanner.open_offset + length p.open_part ≡ old.scanner.offset = p.holds.begun_at in
-            let none : length p.open_part ≡ 0 = ap length empty in
-            let holds : Holds (scanner_after old.scanner (length_of token)) [] = record {
-              keeps = rw between.nothing refl;
-              begun_at = omega (arith, begun, none);
-            } in
-            played_token old.size class s old.scanner after old.state text (shown_kind (kind_of token)) p
-            (rw empty takes.front.spelled) plays.0 (rw takes.taken holds) offset (rw takes.taken between.unrefused);
-      });
-    }
-
--- a whole token is refused
-pub token_deserved : (old new : PlayView) (after : ScannerView) (bytes : List ℕ) (token : Spelled) (fault : Fault) →
-    IsBetweenTokens old.scanner → TakesToken old.scanner bytes after token →
-    PlaysToken (record old { scanner = after }) new token (Err fault) →
-    (new.size ≡ old.size) × IsDeserved old bytes fault
-token_deserved old new after bytes token fault between takes shown = (
-  ap (λ (p : PlayView). p.size) shown.2,
-  λ class s p.
-      let text = take (length_of token) bytes in
-      let empty : p.open_part ≡ [] = nothing_open old.scanner p.open_part between p.holds in
-      let none : length p.open_part ≡ 0 = ap length empty in
-      let has_fault = token_has_fault old.size class p.tokens old.state p.size.some_columns p.known
-      (shown_kind (kind_of token)) fault.cause shown.0 in
-      subst (λ (xs : List ℕ). IsFirstFault old.size class (s ++ xs) fault)
-      (take-append-drop (length_of token) bytes)
-      (first_fault old.size class s text (drop (length_of token) bytes) old.scanner old.state fault p
-      (inl (record {
-        token = shown_kind (kind_of token);
-        spelled = rw empty takes.front.spelled;
-        fault = has_fault;
-      }))
-      (omega (arith, shown.1, takes.starts, none))),
-)
+-- a whole token in front is played
+pub front_goes_on : (old new : PlayView) (bytes : List ℕ) (t : TokenKind) (count : ℕ) → IsBetweenTokens old.scanner →
+    IsTokenFront bytes t count → half_fault old.size old.state t ≡ None →
+    new ≡ record (after_token old t) { scanner = scanner_after old.scanner count } → GoesOn old (take count bytes) new
+front_goes_on old new bytes t count between front clean is =
+    let text = take count bytes in
+    let long : length text ≡ count = length-take-le count bytes front.within in
+    let offset : old.scanner.offset + count ≡ old.scanner.offset + length text = rw long refl in
+    rw is (record {
+      size = refl;
+      offset = offset;
+      played = λ class s p.
+          let empty : p.open_part ≡ [] = nothing_open old.scanner p.open_part between p.holds in
+          let begun : old.scanner.open_offset + length p.open_part ≡ old.scanner.offset = p.holds.begun_at in
+          let none : length p.open_part ≡ 0 = ap length empty in
+          let holds : Holds (scanner_after old.scanner count) [] = record {
+            keeps = rw between.nothing refl;
+            begun_at = omega (arith, begun, none);
+          } in
+          played_token old.size class s old.scanner (scanner_after old.scanner count) old.state text t p
+          (rw empty front.spelled) clean holds offset between.unrefused;
+    })
 
 -- one byte is the front
 pub byte_in_front : (old new : PlayView) (bytes : List ℕ) → 1 ≤ length bytes →

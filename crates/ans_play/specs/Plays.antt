@@ -1,10 +1,13 @@
 -- What a play does at one token.
-use Rattle.std.specs.Prelude.{◌≡◌, ℕ, ◌+◌, List, take, Some, None, Result, MatchResult}
+use Rattle.std.specs.Prelude.{◌≡◌, ℕ, ◌+◌, List, take, Some, None, Result, Ok, Err, MatchResult, false}
 use Rattle.ans_tokens.specs.Glyphs.{IsGlyphFront}
 use Rattle.ans_model.specs.Sequence.TokenKind.{TokenKind, Glyph}
+use Rattle.ans_model.specs.Sequence.Spelling.{Unmarked}
+use Rattle.ans_model.specs.Sequence.Meaning.{meaning}
 use Rattle.ans_model.specs.declared.fault.Cause.{Cause}
 use Rattle.ans_model.specs.declared.fault.Fault.{Fault}
 use Rattle.ans_model.specs.Inside.ShownKind.{shown_kind}
+use Rattle.ans_tokens.specs.PlainSequence.{plain_sequence}
 use Rattle.ans_tokens.specs.Token.{kind_of, start_of}
 use Rattle.ans_tokens.specs.declared.token.Token.{Token}
 use Rattle.ans_play.specs.HalfStep.{half_step}
@@ -29,6 +32,15 @@ PlaysToken old new token result =
     MatchResult result
     (λ _. (half_fault old.size old.state t ≡ None) × (new ≡ after_token old t))
     (λ fault. (half_fault old.size old.state t ≡ Some fault.cause) × (fault.offset ≡ start_of token) × (new ≡ old))
+
+-- the meaning is a token, which shows no fault, and its half step is made
+abbrev pub PlaysMeant : PlayView → PlayView → Result TokenKind Cause → Type 0
+PlaysMeant old new (Ok t) = (half_fault old.size old.state t ≡ None) × (new ≡ after_token old t)
+PlaysMeant old new (Err cause) = ⊥
+
+-- the sequence of these numbers and this letter, without a mark, is played
+abbrev pub PlaysLetter : PlayView → PlayView → ℕ → List ℕ → Type 0
+PlaysLetter old new letter numbers = PlaysMeant old new (meaning (plain_sequence Unmarked numbers false letter))
 
 -- This many columns stand between the cursor and its row's last one where a glyph is printed, and none where it is
 -- refused.

@@ -1,8 +1,9 @@
 //! The play of bytes over one half-known state.
 
-ghost use Rattle.std.specs.Prelude.{◌≡◌, ◌<◌, ◌≤◌, ◌+◌, ℕ, List, [], ◌∷◌, length, take};
-ghost use Rattle.std.specs.Prelude.{IsOk, IfOk, IfErr, OnOk};
-ghost use Rattle.ans_model.specs.Bytes.{longest_file};
+ghost use Rattle.std.specs.Prelude.{◌≡◌, ◌≢◌, ◌<◌, ◌≤◌, ◌+◌, ℕ, List, [], ◌∷◌, length, take, slice_index_or};
+ghost use Rattle.std.specs.Prelude.{IsOk, IfOk, IfErr, OnOk, OnErr};
+ghost use Rattle.ans_model.specs.Bytes.{longest_file, escape};
+ghost use Rattle.ans_model.specs.Sequence.Reads.{kind_of_byte};
 ghost use Rattle.ans_model.specs.Sequence.TokenKind.{Glyph, LineFeed, Tab, Place, EraseLine, Clear};
 ghost use Rattle.ans_model.specs.Sequence.TokenKind.{Save, Restore, Colours, Wrap};
 ghost use Rattle.ans_model.specs.Inside.ShownKind.{shown_kind};
@@ -20,7 +21,8 @@ use ans_model::size::Size;
 use ans_model::start::Start;
 use ans_model::tab::tab_blanks;
 use ans_screen::{Attr, Grid, HalfCell};
-use ans_tokens::{Scanner, Token};
+use ans_tokens::{ESCAPE, Scanner, Token, distance, is_just, place, read_sequence};
+use arrayvec::ArrayVec;
 use std::alloc::{AllocError, Global};
 use std::marker::Model;
 
@@ -107,8 +109,9 @@ impl<G: Grid> Play<G> {
         })
     }
 
-    /// Plays what the bytes begin with, and returns how many bytes that is: a run of glyphs, a whole
-    /// token, or else one byte.
+    /// Plays what the bytes begin with, and returns how many bytes that is: a run of glyphs, a common
+    /// sequence, or else one byte.
+    #[inline(always)]
     pub fn play_front(&mut self, bytes: &[u8]) -> Result<usize, Fault>
         requires some { 1 ≤ length bytes.now }
         requires room { self.old.scanner.offset + length bytes.now ≤ longest_file }
@@ -117,22 +120,87 @@ impl<G: Grid> Play<G> {
             × IsDeserved self.old bytes.now fault) }
     {
         if !self.scanner.is_between_tokens() {
-            self.play_byte(bytes[0])?;
-            return Ok(1);
+            return self.play_first(bytes);
         }
-        let count = self.print_run(bytes);
-        if count > 0 {
-            return Ok(count);
+        match self.play_many(bytes) {
+            0 => self.play_first(bytes),
+            count => Ok(count),
         }
-        match self.scanner.token(bytes) {
-            Some(token) => {
-                self.play_token(&token)?;
-                Ok(token.length())
+    }
+
+    /// Plays the first byte, and returns that it is one byte.
+    fn play_first(&mut self, bytes: &[u8]) -> Result<usize, Fault>
+        requires some { 1 ≤ length bytes.now }
+        requires room { self.old.scanner.offset + length bytes.now ≤ longest_file }
+        ensures played { IfOk result (PlaysFront self.old bytes.now self.new) }
+        ensures stopped { IfErr result (λ fault. (self.new.size ≡ self.old.size)
+            × IsDeserved self.old bytes.now fault) }
+    {
+        self.play_byte(bytes[0])?;
+        Ok(1)
+    }
+
+    /// Plays a run of glyphs, a byte outside sequences or a common sequence, whichever the bytes
+    /// begin with, and returns how many bytes that is, 0 where they begin with none or it is refused.
+    /// It is called between two tokens.
+    #[inline(always)]
+    fn play_many(&mut self, bytes: &[u8]) -> usize
+        requires between { IsBetweenTokens self.old.scanner }
+        requires some { 1 ≤ length bytes.now }
+        requires room { self.old.scanner.offset + length bytes.now ≤ longest_file }
+        ensures within { result ≤ length bytes.now }
+        ensures played { GoesOn self.old (take result bytes.now) self.new }
+        ensures none { result ≡ 0 → self.new ≡ self.old }
+    {
+        if bytes[0] == ESCAPE {
+            return self.play_sequence(bytes);
+        }
+        match self.print_run(bytes) {
+            0 => self.play_single(bytes),
+            count => count,
+        }
+    }
+
+    /// Plays the first byte, which is not ESC, and returns that it is one byte, or 0 where it is
+    /// refused. It is called between two tokens.
+    fn play_single(&mut self, bytes: &[u8]) -> usize
+        requires between { IsBetweenTokens self.old.scanner }
+        requires some { 1 ≤ length bytes.now }
+        requires outside { slice_index_or bytes.now 0 0 ≢ escape }
+        requires room { self.old.scanner.offset + length bytes.now ≤ longest_file }
+        ensures within { result ≤ length bytes.now }
+        ensures played { GoesOn self.old (take result bytes.now) self.new }
+        ensures none { result ≡ 0 → self.new ≡ self.old }
+    {
+        match self.play_kind_of_byte(bytes[0]) {
+            Ok(()) => {
+                self.scanner.skip(1);
+                1
             }
-            None => {
-                self.play_byte(bytes[0])?;
-                Ok(1)
+            Err(_) => 0,
+        }
+    }
+
+    /// Plays the sequence that the bytes begin with, where it moves the cursor, blanks or colours,
+    /// is whole, has neither a mark nor a string, and is not refused. It returns how many bytes that
+    /// is, or 0 where there is no such sequence. It is called between two tokens.
+    fn play_sequence(&mut self, bytes: &[u8]) -> usize
+        requires between { IsBetweenTokens self.old.scanner }
+        requires room { self.old.scanner.offset + length bytes.now ≤ longest_file }
+        ensures within { result ≤ length bytes.now }
+        ensures played { GoesOn self.old (take result bytes.now) self.new }
+        ensures none { result ≡ 0 → self.new ≡ self.old }
+    {
+        let mut numbers = ArrayVec::new();
+        let Some(letter) = read_sequence(bytes, &mut numbers) else {
+            return 0;
+        };
+        match self.play_letter(letter.byte, numbers.as_slice()) {
+            Ok(()) => {
+                self.scanner.skip(letter.end);
+                letter.end
             }
+            Err(_) => 0,
         }
     }
 
@@ -237,7 +305,7 @@ impl<G: Grid> Play<G> {
 // The steps: each token plays, or is refused for the fault that it shows.
 impl<G: Grid> Play<G> {
     ghost use Rattle.ans_play.specs.HalfStep.{half_blank, after_move};
-    ghost use Rattle.ans_play.specs.Plays.{Plays};
+    ghost use Rattle.ans_play.specs.Plays.{Plays, PlaysLetter};
 
     /// Prints a byte at the cursor, which then goes on. It is refused where the cursor is not known
     /// to stand at one position of the stated lines.
@@ -380,6 +448,48 @@ impl<G: Grid> Play<G> {
     {
         self.attribute = known_after_all(self.attribute, parameters);
         Ok(())
+    }
+
+    /// Plays the token that a byte outside sequences is.
+    #[inline(always)]
+    fn play_kind_of_byte(&mut self, byte: u8) -> Result<(), Cause>
+        ensures { Plays self.old self.new (kind_of_byte byte) result }
+    {
+        match byte {
+            0x07 => Ok(()),
+            0x08 => self.move_cursor(&Kind::BackSpace),
+            b'\t' => self.tab(),
+            b'\n' => self.line_feed(),
+            b'\r' => self.move_cursor(&Kind::CarriageReturn),
+            _ => self.print(byte),
+        }
+    }
+
+    /// Plays the sequence of these numbers and this letter, where it moves the cursor, blanks or
+    /// colours. An error says that it is another one, or is refused; then nothing changes.
+    #[inline(always)]
+    #[tactic(auto, using(ans_tokens::proofs::PlainSequences::no_string))]
+    fn play_letter(&mut self, letter: u8, numbers: &[u8]) -> Result<(), Cause>
+        ensures played { OnOk result (PlaysLetter self.old self.new letter numbers.now) }
+        ensures stopped { OnErr result (self.new ≡ self.old) }
+    {
+        match letter {
+            b'A' => self.move_cursor(&Kind::Up(distance(numbers)?)),
+            b'B' => self.move_cursor(&Kind::Down(distance(numbers)?)),
+            b'C' => self.move_cursor(&Kind::Forward(distance(numbers)?)),
+            b'D' => self.move_cursor(&Kind::Backward(distance(numbers)?)),
+            b'H' | b'f' => {
+                let (row, column) = place(numbers)?;
+                self.place(row, column)
+            }
+            b'J' if is_just(2, numbers) => self.clear(),
+            b'K' if numbers.is_empty() || is_just(0, numbers) => self.erase_line(),
+            b's' if numbers.is_empty() => self.save(),
+            b'u' if numbers.is_empty() => self.restore(),
+            b'm' if numbers.is_empty() => self.colour(&[0]),
+            b'm' => self.colour(numbers),
+            _ => Err(Cause::UnknownSequence),
+        }
     }
 
     /// Sets wrap on or off.

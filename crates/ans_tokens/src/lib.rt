@@ -18,7 +18,7 @@ mod whole;
 pub use ans_model::fault::{Cause, Fault};
 pub use ans_model::kind::Kind;
 pub use meaning::{distance, is_just, place};
-pub use scanner::Scanner;
+pub use scanner::{ESCAPE, Scanner};
 pub use token::Token;
 pub use whole::{Letter, read_sequence};
 

@@ -14,7 +14,8 @@ use ans_model::fault::{Cause, Fault};
 use ans_model::kind::Kind;
 use std::marker::Model;
 
-pub(crate) const ESCAPE: u8 = 0x1B;
+/// The byte that begins a sequence.
+pub const ESCAPE: u8 = 0x1B;
 
 /// What is kept of the bytes since the last token.
 #[derive(Debug, Drop)]
