@@ -27,6 +27,8 @@ pub struct PlaneGrid {
     width: usize,
     rows: usize,
     blank: HalfCell,
+    // the row of the last edit, if one is right: a guess at the row of the next
+    last_row: usize,
     states: Vec<RowState>,
     glyphs: Vec<u8>,
     // FFh where the glyph is known, else 00h

@@ -28,6 +28,7 @@ impl Grid for PlaneGrid {
             width,
             rows,
             blank: cell,
+            last_row: 0,
             states,
             glyphs,
             glyphs_known,

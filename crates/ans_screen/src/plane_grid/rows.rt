@@ -23,6 +23,34 @@ impl PlaneGrid {
         row * self.width
     }
 
+    /// Whether a cell stands in a row.
+    #[inline(always)]
+    fn is_in_row(&self, i: usize, row: usize) -> bool
+        ensures { IsTrue result → (row < self.now.rows) × (row * self.now.width ≤ i)
+            × (i < row * self.now.width + self.now.width) }
+    {
+        if row >= self.rows {
+            return false;
+        }
+        let start = self.row_start(row);
+        start <= i && i - start < self.width
+    }
+
+    /// The row of a cell. The row of the last edit is tried first, since a division takes longer.
+    #[inline(always)]
+    fn row_of(&self, i: usize) -> usize
+        requires { i < self.now.width * self.now.rows }
+        ensures row { result < self.now.rows }
+        ensures from { result * self.now.width ≤ i }
+        ensures to { i < result * self.now.width + self.now.width }
+    {
+        if self.is_in_row(i, self.last_row) {
+            self.last_row
+        } else {
+            i / self.width
+        }
+    }
+
     /// The row that cells side by side from `from` on stand in, if it is one.
     #[inline(always)]
     pub(super) fn row_holding(&self, from: usize, count: usize) -> Option<usize>
@@ -33,7 +61,7 @@ impl PlaneGrid {
         if count == 0 {
             return None;
         }
-        let row = from / self.width;
+        let row = self.row_of(from);
         let column = from - self.row_start(row);
         if count <= self.width - column {
             Some(row)
@@ -160,7 +188,10 @@ impl PlaneGrid {
             return false;
         }
         match self.row_holding(from, to - from) {
-            Some(row) => self.open_row(row, known),
+            Some(row) => {
+                self.last_row = row;
+                self.open_row(row, known)
+            }
             None => {
                 self.open_each(from / self.width, (to - 1) / self.width + 1, known);
                 true
