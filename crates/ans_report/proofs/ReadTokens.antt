@@ -14,7 +14,7 @@ use Rattle.ans_model.specs.Text.TokensText.{token_line, token_lines}
 use Rattle.ans_tokens.specs.ScannerView.{ScannerView, Kept, Holds, scanner_view}
 use Rattle.ans_tokens.specs.Glyphs.{IsGlyphByte, IsGlyphFront, IsBetweenTokens, scanner_after}
 use Rattle.ans_tokens.specs.Token.{kind_of, length_of}
-use Rattle.ans_tokens.specs.WholeToken.{TakesToken, scanner_after}
+use Rattle.ans_tokens.specs.WholeToken.{TakesToken}
 use Rattle.ans_tokens.specs.declared.token.Token.{Token}
 use Rattle.ans_model.specs.Inside.ShownKind.{shown_kind}
 use Rattle.ans_report.specs.TokenLines.{glyph_lines, token_text}
