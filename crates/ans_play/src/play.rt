@@ -77,6 +77,7 @@ fn attribute_at_start(known: bool) -> Attr
 }
 
 /// What is known of an attribute after colour parameters, one after the other.
+#[inline(always)]
 fn known_after_all(attribute: Attr, parameters: &[u8]) -> Attr
     ensures { result ≡ known_after_all attribute parameters.now }
 {
@@ -377,6 +378,7 @@ impl<G: Grid> Play<G> {
     }
 
     /// Moves the cursor as a token says that does nothing else. It is never refused.
+    #[inline(always)]
     pub fn move_cursor(&mut self, kind: &Kind) -> Result<(), Cause>
         ensures ok { IsOk result }
         ensures moved { self.new ≡ record self.old {
@@ -443,6 +445,7 @@ impl<G: Grid> Play<G> {
     }
 
     /// Applies colour parameters to the current attribute, one after the other.
+    #[inline(always)]
     pub fn colour(&mut self, parameters: &[u8]) -> Result<(), Cause>
         ensures { Plays self.old self.new (Colours parameters.now) result }
     {

@@ -18,6 +18,7 @@ pub struct Span {
 }
 
 /// Where a token takes a cursor, if that is all that it does. A move stops at the screen's edge.
+#[inline(always)]
 fn destination(position: Position, kind: &Kind, size: Size) -> Position
     requires { IsOnScreen size position }
     ensures { result ≡ destination size (shown_kind kind.now) position }
@@ -97,6 +98,7 @@ impl Span {
     }
 
     /// After a token that only moves the cursor.
+    #[inline(always)]
     pub fn after_move(self, kind: &Kind, size: Size) -> Span
         requires { IsSpanOnScreen size self }
         ensures after_move { result ≡ after_move size (shown_kind kind.now) self }

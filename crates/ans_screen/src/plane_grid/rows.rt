@@ -71,6 +71,7 @@ impl PlaneGrid {
     }
 
     /// Writes a blank that is known to a stale row, which is then known.
+    #[inline(never)]
     fn hold_known_blank(&mut self, row: usize)
         requires row { row < self.old.rows }
         requires stale { slice_index_or self.old.states.items row Stale ≡ Stale }
@@ -89,6 +90,7 @@ impl PlaneGrid {
     }
 
     /// Writes the blank to a stale row, which is then mixed.
+    #[inline(never)]
     fn hold_blank(&mut self, row: usize)
         requires row { row < self.old.rows }
         requires stale { slice_index_or self.old.states.items row Stale ≡ Stale }
@@ -108,6 +110,7 @@ impl PlaneGrid {
     }
 
     /// Writes to a known row that all of it is known. The row is then mixed.
+    #[inline(never)]
     fn hold_known(&mut self, row: usize)
         requires row { row < self.old.rows }
         requires known { slice_index_or self.old.states.items row Stale ≡ Known }
@@ -125,6 +128,7 @@ impl PlaneGrid {
 
     /// Makes a row one to which cells can be written, known ones or any, and says whether all four
     /// planes count there.
+    #[inline(always)]
     fn open_row(&mut self, row: usize, known: bool) -> bool
         requires row { row < self.old.rows }
         ensures cells { cells_of_grid self.new ≡ cells_of_grid self.old }
@@ -159,6 +163,7 @@ impl PlaneGrid {
     }
 
     /// Opens the rows from `first` up to and without `end`.
+    #[inline(never)]
     fn open_each(&mut self, first: usize, end: usize, known: bool)
         requires { end ≤ self.old.rows }
         ensures cells { cells_of_grid self.new ≡ cells_of_grid self.old }
