@@ -2,8 +2,9 @@
 //!
 //! A `Scanner` is given one byte at a time. It returns a token where the bytes since the last one
 //! spell it, nothing where they begin a spelling, and a fault where they begin none. Between two
-//! tokens it also takes a whole run of glyphs. The definitions stand in
-//! `ans_model`'s room `Sequence`: `Spelling`, `Meaning` and `Reads`.
+//! tokens it also takes a run of glyphs or a whole token from a slice, and [`read_sequence`] reads
+//! a sequence's numbers and letter. The definitions stand in `ans_model`'s room `Sequence`:
+//! `Spelling`, `Meaning` and `Reads`.
 #![tactic(auto)]
 
 mod glyphs;

@@ -1,5 +1,6 @@
 //! Contents byte by byte: the tokens that they hold, and where they are refused.
 
+mod sequences;
 mod whole_tokens;
 
 use crate::{Cause, Fault, Kind, Scanner, Token};
