@@ -1,5 +1,10 @@
 //! The rows of `ans_samples` on the plain answer.
 
+mod confirmations;
+mod prefixes;
+mod reading;
+mod slow_machine;
+
 use crate::{Answer, plain_answer};
 use ans_model::cell::Cell;
 use ans_model::fault::{Cause, Fault};
