@@ -1,6 +1,7 @@
 //! The rows of `ans_samples` on the plain answer.
 
 mod confirmations;
+mod long_contents;
 mod prefixes;
 mod reading;
 mod slow_machine;

@@ -2,6 +2,7 @@
 
 use super::reading::{Front, read_front};
 use super::slow_machine::{SlowMachine, step_of};
+use ans_model::cell::Cell;
 use ans_model::fault::{Cause, Fault};
 use ans_model::kind::Kind;
 use ans_play::Picture;
@@ -103,14 +104,17 @@ fn is_clean(plays: &SlowMachine, step: &Kind) -> bool {
     true
 }
 
-/// Plays a token in which no step shows a fault.
-fn play_clean(rt: &impl Abort, plays: &mut SlowMachine, token: &Kind) {
+/// Plays a token up to its first step that shows a fault, and tells whether there is none.
+fn plays_clean(plays: &mut SlowMachine, token: &Kind) -> bool {
     let blank = Kind::Glyph(b' ');
     let step = step_of(token, &blank);
     for _ in 0..plays.steps(token) {
-        assert!(rt; is_clean(plays, step), "{token:?} is not clean");
+        if !is_clean(plays, step) {
+            return false;
+        }
         plays.step(step);
     }
+    true
 }
 
 /// Plays bytes that are whole tokens, none of which shows a fault.
@@ -121,8 +125,11 @@ fn play_all_clean(rt: &impl Abort, plays: &mut SlowMachine, bytes: &[u8]) {
             return;
         }
         match read_front(rest) {
-            Front::Token(kind, after) => {
-                play_clean(rt, plays, &kind);
+            Front::Token(token, after) => {
+                assert!(rt;
+                    plays_clean(plays, &token),
+                    "{token:?} has a fault before {after:?}"
+                );
                 rest = after;
             }
             _ => panic!(rt; "{rest:?} begins with no token"),
@@ -131,24 +138,23 @@ fn play_all_clean(rt: &impl Abort, plays: &mut SlowMachine, bytes: &[u8]) {
     assert!(rt; rest.is_empty());
 }
 
-/// A fault of a token: its first step that shows one shows this one and no other.
+/// A fault of a token: its first step that shows a fault shows this one and no other. That step is
+/// not played.
 fn confirm_token(rt: &impl Abort, plays: &mut SlowMachine, token: &Kind, cause: Cause) {
+    assert!(rt;
+        !plays_clean(plays, token),
+        "{token:?} has no fault, where {cause:?} is answered"
+    );
     let blank = Kind::Glyph(b' ');
     let step = step_of(token, &blank);
-    for _ in 0..plays.steps(token) {
-        if !is_clean(plays, step) {
-            for other in CAUSES {
-                assert_eq!(rt;
-                    shows(plays, step, other),
-                    other == cause,
-                    "{cause:?} {other:?}"
-                );
-            }
-            return;
-        }
-        plays.step(step);
+    for other in CAUSES {
+        let shown = shows(plays, step, other);
+        assert_eq!(rt;
+            shown,
+            other == cause,
+            "{other:?} of {token:?}, where {cause:?} is answered"
+        );
     }
-    panic!(rt; "{cause:?} is not shown");
 }
 
 /// F12: the bytes from the fault on begin a sequence and do not finish it.
@@ -165,12 +171,18 @@ fn confirm_unknown_cell(rt: &impl Abort, plays: &SlowMachine, row: u16, col: u16
     let (low, high) = plays.screens();
     let place = (row - 1).wrapping_mul(plays.width).wrapping_add(col - 1);
     assert!(rt; place < low.len() && place < high.len());
-    assert!(rt; low[place] != high[place]);
-    assert!(rt; low[..place] == high[..place]);
+    assert!(rt;
+        low[place] != high[place],
+        "the cell at {row}, {col} is known"
+    );
+    assert!(rt;
+        low[..place] == high[..place],
+        "a cell before {row}, {col} is unknown"
+    );
 }
 
 /// A pass: in the end the two screens agree in each stated cell, and the picture has that cell.
-pub fn confirm_picture(rt: &impl Abort, plays: &SlowMachine, picture: &Picture<PlaneGrid>) {
+fn confirm_picture(rt: &impl Abort, plays: &SlowMachine, picture: &Picture<PlaneGrid>) {
     let (width, lines) = (picture.width(), picture.lines());
     assert!(rt; width == plays.width && lines == plays.lines);
     let (low, high) = plays.screens();
@@ -178,9 +190,20 @@ pub fn confirm_picture(rt: &impl Abort, plays: &SlowMachine, picture: &Picture<P
         for col in 0..width {
             let place = row.wrapping_mul(width).wrapping_add(col);
             assert!(rt; place < low.len() && place < high.len());
-            assert_eq!(rt; low[place], high[place]);
-            assert_eq!(rt; picture.glyph(row, col), low[place].byte);
-            assert_eq!(rt; picture.attr(row, col), low[place].attribute);
+            let cell = Cell {
+                byte: picture.glyph(row, col),
+                attribute: picture.attr(row, col),
+            };
+            assert_eq!(rt;
+                low[place],
+                cell,
+                "low play, row {row} and column {col} from 0"
+            );
+            assert_eq!(rt;
+                high[place],
+                cell,
+                "high play, row {row} and column {col} from 0"
+            );
         }
     }
 }

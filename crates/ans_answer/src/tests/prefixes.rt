@@ -6,6 +6,7 @@ use super::slow_machine::SlowMachine;
 use crate::{Answer, plain_answer};
 use ans_model::cell::Cell;
 use ans_model::fault::{Cause, Fault};
+use ans_model::limits::{MAX_FILE, MAX_LINES, MAX_WIDTH};
 use ans_model::size::Size;
 use ans_model::start::Start;
 use ans_play::{Picture, Player};
@@ -19,10 +20,10 @@ use std::process::Abort;
 
 /// Where some bytes are played.
 #[derive(Clone, Copy)]
-struct Screen {
-    width: usize,
-    lines: usize,
-    start: Start,
+pub struct Screen {
+    pub width: usize,
+    pub lines: usize,
+    pub start: Start,
 }
 
 /// The player's answer to bytes that are fed at once.
@@ -37,7 +38,8 @@ fn played(
         lines,
         start,
     } = screen;
-    assert!(rt; 1 <= width && width <= 20 && 1 <= lines && lines <= 10 && bytes.len() < 200);
+    assert!(rt; 1 <= width && width <= MAX_WIDTH && 1 <= lines && lines <= MAX_LINES);
+    assert!(rt; bytes.len() <= MAX_FILE);
     let mut player = Player::<PlaneGrid>::new(alloc, width, lines, start)?;
     assert!(rt; player.fed() == 0);
     let fed = player.feed(bytes);
@@ -76,14 +78,21 @@ fn assert_same_answer(rt: &impl Abort, plain: &Answer, answer: &Result<Picture<P
     }
 }
 
-/// Plays bytes in all three ways, and compares them.
-fn confirm(rt: &impl Abort, alloc: Global, screen: Screen, bytes: &[u8]) -> Result<(), AllocError> {
+/// Plays bytes in all three ways, and compares them. It returns the fault that is answered, and
+/// fails only if memory runs out.
+fn confirm(
+    rt: &impl Abort,
+    alloc: Global,
+    screen: Screen,
+    bytes: &[u8],
+) -> Result<Option<Fault>, AllocError> {
     let Screen {
         width,
         lines,
         start,
     } = screen;
-    assert!(rt; 1 <= width && width <= 20 && 1 <= lines && lines <= 10 && bytes.len() < 200);
+    assert!(rt; 1 <= width && width <= MAX_WIDTH && 1 <= lines && lines <= MAX_LINES);
+    assert!(rt; bytes.len() <= MAX_FILE);
     let answer = played(rt, alloc, screen, bytes)?;
     let mut plays = SlowMachine::new(alloc, Size::new(width, lines), start)?;
     match &answer {
@@ -92,23 +101,22 @@ fn confirm(rt: &impl Abort, alloc: Global, screen: Screen, bytes: &[u8]) -> Resu
     }
     let plain = plain_answer(alloc, bytes, width, lines, start)?;
     assert_same_answer(rt, &plain, &answer);
-    Ok(())
+    Ok(answer.err())
 }
 
-/// Confirms each prefix of a row's content, from a class of starts.
-fn confirm_prefixes(rt: &impl Abort, alloc: Global, row: &Row, start: Start) {
-    let screen = Screen {
-        width: row.width,
-        lines: row.lines,
-        start,
-    };
-    let all = row.content.len();
-    assert!(rt; all < 200);
-    for end in 0..all + 1 {
-        let prefix = &row.content[..end];
-        if confirm(rt, alloc, screen, prefix).is_err() {
-            confirm(rt, alloc, screen, prefix).expect(rt, "memory");
-        }
+/// The same, once more where memory was refused.
+pub fn confirm_once(rt: &impl Abort, alloc: Global, screen: Screen, bytes: &[u8]) -> Option<Fault> {
+    match confirm(rt, alloc, screen, bytes) {
+        Ok(fault) => fault,
+        Err(AllocError) => confirm(rt, alloc, screen, bytes).expect(rt, "memory"),
+    }
+}
+
+/// Confirms each prefix of a content.
+pub fn confirm_prefixes(rt: &impl Abort, alloc: Global, screen: Screen, content: &[u8]) {
+    assert!(rt; content.len() <= MAX_FILE);
+    for end in 0..content.len() + 1 {
+        confirm_once(rt, alloc, screen, &content[..end]);
     }
 }
 
@@ -116,8 +124,14 @@ fn confirm_prefixes(rt: &impl Abort, alloc: Global, row: &Row, start: Start) {
 /// the cleared one.
 fn confirm_rows(rt: &impl Abort, alloc: Global, rows: &[Row]) {
     for row in rows {
+        let (width, lines) = (row.width, row.lines);
         for start in [row.start, Start::any(), Start::cleared()] {
-            confirm_prefixes(rt, alloc, row, start);
+            let screen = Screen {
+                width,
+                lines,
+                start,
+            };
+            confirm_prefixes(rt, alloc, screen, row.content);
         }
     }
 }
