@@ -57,3 +57,17 @@ fn two_letters_on_a_wide_line(rt: HostRuntime) {
     assert_eq!(rt; confirm_once(&rt, rt.alloc(), screen, b"Hi"), None);
     confirm_prefixes(&rt, rt.alloc(), screen, b"Hi");
 }
+
+#[test]
+fn the_widest_and_the_longest_screen(rt: HostRuntime) {
+    let content = b"\x1b[0m\x1b[2J";
+    for (width, lines) in [(1024, 1), (1, 8192)] {
+        let screen = Screen {
+            width,
+            lines,
+            start: Start::any(),
+        };
+        assert_eq!(rt; confirm_once(&rt, rt.alloc(), screen, content), None);
+        confirm_prefixes(&rt, rt.alloc(), screen, content);
+    }
+}
