@@ -1,5 +1,6 @@
 //! The slow machine on every row of `ans_samples` and every prefix of its content: the plays from
 //! the low and the high start confirm what the player answers, and the plain answer is the same.
+//! The whole content is also played from each of the 32 classes.
 
 use super::confirmations::{confirm_fault, confirm_good};
 use super::slow_machine::SlowMachine;
@@ -120,19 +121,57 @@ pub fn confirm_prefixes(rt: &impl Abort, alloc: Global, screen: Screen, content:
     }
 }
 
-/// Confirms each prefix of the rows' contents: from the row's own class, from any start and from
-/// the cleared one.
-fn confirm_rows(rt: &impl Abort, alloc: Global, rows: &[Row]) {
-    for row in rows {
-        let (width, lines) = (row.width, row.lines);
-        for start in [row.start, Start::any(), Start::cleared()] {
-            let screen = Screen {
+/// The class of a number below 32: each bit is a part that is known.
+fn class(number: u8) -> Start {
+    Start {
+        screen: number & 1 != 0,
+        cursor: number & 2 != 0,
+        saved: number & 4 != 0,
+        colours: number & 8 != 0,
+        wrap: number & 16 != 0,
+    }
+}
+
+/// Confirms a row's content from each of the 32 classes.
+fn confirm_classes(rt: &impl Abort, alloc: Global, row: &Row) {
+    let (width, lines) = (row.width, row.lines);
+    for number in 0..32 {
+        let start = class(number);
+        confirm_once(
+            rt,
+            alloc,
+            Screen {
                 width,
                 lines,
                 start,
-            };
-            confirm_prefixes(rt, alloc, screen, row.content);
-        }
+            },
+            row.content,
+        );
+    }
+}
+
+/// Confirms each prefix of a row's content: from the row's own class, from any start and from the
+/// cleared one.
+fn confirm_row(rt: &impl Abort, alloc: Global, row: &Row) {
+    let (width, lines) = (row.width, row.lines);
+    for start in [row.start, Start::any(), Start::cleared()] {
+        confirm_prefixes(
+            rt,
+            alloc,
+            Screen {
+                width,
+                lines,
+                start,
+            },
+            row.content,
+        );
+    }
+}
+
+fn confirm_rows(rt: &impl Abort, alloc: Global, rows: &[Row]) {
+    for row in rows {
+        confirm_row(rt, alloc, row);
+        confirm_classes(rt, alloc, row);
     }
 }
 
