@@ -1,6 +1,3 @@
-pub mod RowLemmas
-pub mod CommandLineLemmas
-pub mod FlagLemmas
 pub mod PlayLemmas
 pub mod VerdictLemmas
 pub mod ReportLemmas

@@ -14,9 +14,9 @@ use Rattle.ans_model.specs.declared.start.Start.{Start}
 use Rattle.std.specs.Option.{option_copied}
 use Rattle.ans_report.specs.declared.report.Report.{Report}
 use Rattle.ans_report.specs.declared.report.Report.TheVariants as report
-use Rattle.ans_check.specs.declared.command.Command.{Command}
-use Rattle.ans_check.specs.declared.command.Command.TheVariants.{Check, Sauce, Tokens, Needs}
-use Rattle.ans_check.specs.declared.command.Options.{Options}
+use Rattle.ans_options.specs.declared.command.Command.{Command}
+use Rattle.ans_options.specs.declared.command.Command.TheVariants.{Check, Sauce, Tokens, Needs}
+use Rattle.ans_options.specs.declared.command.Options.{Options}
 use Rattle.ans_report.specs.declared.needs_text.NeedsReport.{NeedsReport}
 use Rattle.ans_report.specs.declared.needs_text.NeedsReport.TheVariants as needs_report
 use Rattle.ans_check.specs.declared.verdict.Needs.TheVariants as needs

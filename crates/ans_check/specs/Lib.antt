@@ -1,5 +1,5 @@
+pub use Rattle.ans_options.specs.CommandLine
 pub mod Run
-pub mod CommandLine
 pub mod Ending
 pub mod FileVerdict
 pub mod FileNeeds

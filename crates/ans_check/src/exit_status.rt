@@ -1,10 +1,12 @@
 //! How the program ends: its exit status, and what it says on standard error.
 
 ghost use Rattle.std.specs.Prelude.{◌≡◌, Ok, Err, IfOk, IfErr, OnOk, OnErr, option_map};
-ghost use Rattle.ans_check.specs.Ending.{ending_message, ending_status};
+ghost use Rattle.ans_check.specs.Ending.{ending_message, ending_of_words, ending_status};
 ghost use Rattle.ans_check.specs.Run.{status_of};
 
 use crate::errors::RunError;
+use ans_options::WordsError;
+use clap::error::ErrorKind;
 
 /// The exit status of what a run returned: 0 where the file passes, 1 where it is refused, and 2
 /// where there is no answer.
@@ -34,6 +36,22 @@ pub enum Ending {
 }
 
 impl Ending {
+    /// How the program ends where its words give no options: with `clap`'s text, on standard output
+    /// where help was asked for and on standard error where the words are rejected; or without it
+    /// where memory ran out.
+    pub fn of_words(error: &WordsError) -> Ending
+        ensures { result ≡ ending_of_words error.now }
+    {
+        let WordsError::Clap(error) = error else {
+            return Ending::UnreadableWords;
+        };
+        match error.kind() {
+            ErrorKind::DisplayHelp | ErrorKind::DisplayVersion => Ending::Help,
+            ErrorKind::OutOfMemory => Ending::UnreadableWords,
+            _ => Ending::Usage,
+        }
+    }
+
     /// How the program ends after an input was served: as the run did.
     pub fn of_served<W>(served: &Result<(bool, W), RunError>) -> Ending
         ensures ok { IfOk served.now (λ r. result ≡ Ending.Run (Ok r.0)) }

@@ -1,18 +1,15 @@
-//! The checker from bytes to bytes, and what its command line asks for.
+//! The checker from bytes to bytes, and how the program ends.
 //!
 //! [`check`] finds the verdict on a file and [`needs`] which parts of the start it needs, [`run`]
 //! reads a file and writes what a command tells of it, and [`serve`] does so from an input to an
-//! output. [`options`] reads the command line, and [`Ending`] is how the program ends: its exit
-//! status and what it says. What a verdict says of a file stands in `specs/FileVerdict.antt`, what
-//! its needs say in `specs/FileNeeds.antt`, what each command writes in `specs/CommandText.antt`,
-//! and the endings in `specs/Ending.antt`.
+//! output. [`Ending`] is how the program ends: its exit status and what it says. What a verdict
+//! says of a file stands in `specs/FileVerdict.antt`, what its needs say in `specs/FileNeeds.antt`,
+//! what each command writes in `specs/CommandText.antt`, and the endings in `specs/Ending.antt`.
+//! The command line is read by `ans_options`, whose public names are passed on.
 #![tactic(auto)]
 
-mod command;
-mod command_line;
 mod errors;
 mod exit_status;
-pub mod laws;
 mod parts_needed;
 mod pipeline;
 mod reading;
@@ -20,8 +17,7 @@ mod streams;
 mod verdict;
 
 pub use ans_model::start::Start;
-pub use command::{Command, Options};
-pub use command_line::{WordsError, options};
+pub use ans_options::{Command, Options, WordsError, laws, options};
 pub use errors::RunError;
 pub use exit_status::{Ending, status};
 pub use parts_needed::needs;

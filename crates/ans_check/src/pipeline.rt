@@ -9,12 +9,12 @@ ghost use Rattle.ans_check.specs.CommandText.{Reports, ReportsCheck, ReportsSauc
 ghost use Rattle.ans_check.specs.CommandText.{ReportsNeeds, IsNeedsReportOf, is_least};
 ghost use Rattle.ans_check.specs.Run.{HasRead};
 
-use crate::command::{Command, Options};
 use crate::errors::RunError;
 use crate::parts_needed::needs;
 use crate::reading::read_all;
 use crate::verdict::{Needs, Verdict, check};
 use ans_model::start::Start;
+use ans_options::{Command, Options};
 use ans_report::{
     NeedsReport, Report, Tried, WriteFault, write_needs, write_record, write_refusal, write_report,
     write_tokens,

@@ -5,9 +5,9 @@ ghost use Rattle.std.specs.Io.KnownBytes.{Appends, Keeps};
 ghost use Rattle.ans_check.specs.CommandText.{Reports};
 ghost use Rattle.ans_check.specs.Run.{HasRead};
 
-use crate::command::Options;
 use crate::errors::RunError;
 use crate::pipeline::run;
+use ans_options::Options;
 use ans_report::Tried;
 use std::alloc::Global;
 use std::io::{BufWriter, Read, Write};

@@ -3,7 +3,6 @@
 ghost use Rattle.std.specs.Prelude.{◌≡◌, false};
 ghost use Rattle.ans_report.specs.Tried.{has_failed};
 
-mod command_line;
 mod devices;
 mod endings;
 mod large;

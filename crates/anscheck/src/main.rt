@@ -69,7 +69,7 @@ fn prepare(rt: &HostRuntime, words: &[&str]) -> Result<(Options, Input), Unready
 fn refuse_words(rt: &(impl Print + Eprint), error: &WordsError) -> Ending
     ensures { (result ≡ ending_of_words error.now) ⊎ (result ≡ Ending.Run (Err RunError.Write)) }
 {
-    let ending = error.ending();
+    let ending = Ending::of_words(error);
     let printed = match (ending, error) {
         (Ending::Help, WordsError::Clap(text)) => rt.print(text),
         (Ending::Usage, WordsError::Clap(text)) => rt.eprint(text),

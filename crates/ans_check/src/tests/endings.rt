@@ -1,13 +1,14 @@
 //! How the program ends.
 use super::{CLEARED, HI_REPORT, plain_file};
-use crate::{Ending, RunError, serve, status};
+use crate::{Ending, RunError, WordsError, options, serve, status};
 use ans_samples::{FailingOnce, Failure};
+use std::alloc::AllocError;
 use std::fmt::Display;
 use std::io::{self, Read, Write};
 use std::process::Abort;
 
 /// How a value is displayed. Where memory was refused it is displayed once more.
-pub(super) fn shown<D: Display>(rt: &(impl Abort + AllocGlobal), value: &D) -> String {
+fn shown<D: Display>(rt: &(impl Abort + AllocGlobal), value: &D) -> String {
     match format!(in rt.alloc(); "{value}") {
         Ok(text) => text,
         Err(_) => format!(in rt.alloc(); "{value}").expect(rt, "no text"),
@@ -58,6 +59,48 @@ fn endings_have_their_statuses_and_texts(rt: HostRuntime) {
     }
     assert_eq!(rt; Ending::UnopenedFile.status(), 2);
     assert!(rt; Ending::UnopenedFile.message() == Some("cannot open the file"));
+}
+
+/// Words that give no options, and how the program ends. Each kind of `clap`'s errors that words can
+/// have is there.
+static REFUSED_WORDS: [(&[&str], Ending); 7] = [
+    (&["anscheck", "--help"], Ending::Help),
+    (&["anscheck", "check", "--help"], Ending::Help),
+    (&["anscheck"], Ending::Usage),
+    (&["anscheck", "other"], Ending::Usage),
+    (&["anscheck", "check", "--bogus"], Ending::Usage),
+    (&["anscheck", "check", "f", "g"], Ending::Usage),
+    (&["anscheck", "check", "--cells", "--cells"], Ending::Usage),
+];
+
+/// How the program ends at words that give no options. Where memory was refused they are read once
+/// more.
+fn ending_at(rt: &(impl Abort + AllocGlobal), words: &[&str]) -> Ending {
+    for _ in 0..2 {
+        match options(rt.alloc(), words) {
+            Ok(_) => panic!(rt; "the words give options"),
+            Err(error) => {
+                let ending = Ending::of_words(&error);
+                if ending != Ending::UnreadableWords {
+                    return ending;
+                }
+            }
+        }
+    }
+    panic!(rt; "memory was refused twice");
+}
+
+#[test]
+fn words_without_options_have_their_endings(rt: HostRuntime) {
+    for (words, ending) in &REFUSED_WORDS {
+        assert_eq!(rt; ending_at(&rt, words), *ending);
+    }
+    let refused = WordsError::Clap(clap::Error::from(AllocError));
+    assert_eq!(rt; Ending::of_words(&refused), Ending::UnreadableWords);
+    assert_eq!(rt;
+        Ending::of_words(&WordsError::Memory),
+        Ending::UnreadableWords
+    );
 }
 
 /// A device with room for so many bytes, which may fail to flush.

@@ -5,7 +5,7 @@ use Rattle.ans_report.specs.RecordLines.{parts_text}
 use Rattle.ans_report.proofs.RecordLemmas.{parts_text_is}
 use Rattle.ans_check.specs.CommandText.{ReportsSauce}
 use Rattle.ans_check.proofs.ReportLemmas.{failed_too, sauce_reported}
-use Rattle.ans_check.proofs.CommandLineLemmas.{err_weaker}
+use Rattle.ans_options.proofs.ErrorLemmas.{err_weaker}
 use Rattle.ans_check.proofs.pipeline.tell_record.Goals as goal
 
 -- what the parts show is what the record says

@@ -2,7 +2,7 @@ use Rattle.std.proofs.Common.{false, not, inr}
 use Rattle.std.specs.Prelude.{is_some}
 use Rattle.ans_model.specs.Text.ReportText.{refusal_text}
 use Rattle.ans_check.proofs.ReportLemmas.{record_reported, some_by_none, tokens_reported}
-use Rattle.ans_check.proofs.CommandLineLemmas.{err_weaker}
+use Rattle.ans_options.proofs.ErrorLemmas.{err_weaker}
 use Rattle.ans_check.proofs.pipeline.tell_tokens.Goals as goal
 
 pub returns-in_err-fault-in-Ok-clause-prefix : goal.returns-in_err-fault-in-Ok-clause-prefix

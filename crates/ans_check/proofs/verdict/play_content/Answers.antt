@@ -7,7 +7,7 @@ use Rattle.ans_model.specs.declared.fault.Fault.{Fault}
 use Rattle.ans_model.specs.declared.start.Start.{Start}
 use Rattle.ans_play.specs.Stands.{Stands}
 use Rattle.ans_check.specs.FileVerdict.{Deserves}
-use Rattle.ans_check.proofs.CommandLineLemmas.{err_weaker}
+use Rattle.ans_options.proofs.ErrorLemmas.{err_weaker}
 use Rattle.ans_check.proofs.PlayLemmas.{Cut, cut, SamePlay-then, fed_fault, last_faults, all_taken}
 use Rattle.ans_check.proofs.verdict.play_content.Goals as goal
 

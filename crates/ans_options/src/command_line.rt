@@ -3,16 +3,13 @@ ghost use Rattle.std.specs.Prelude.{◌≡◌, true, IfOk, option_map, string_by
 ghost use Rattle.std.specs.Prelude.{IsSomeAnd, IsTrue, ◌↔◌, ◌≢◌, false};
 ghost use Rattle.clap.specs.Words.{app_of, first_of, found_of, rows_of, rule_of, subcommand_rows_of, takes};
 ghost use Rattle.ans_model.specs.Screen.StartClass.{none_known};
-ghost use Rattle.ans_check.specs.CommandLine.{AreOptionsOf, AsksFor, IsCommand, IsNoCommand, RanOutOfMemory};
-ghost use Rattle.ans_check.specs.CommandLine.{KnowsAsHeld, holds_flag_or_cleared, flag_rule, with_flags};
-ghost use Rattle.ans_check.specs.CommandLine.{anscheck, check_app, command_name, file_app, holds_flag, texts_of};
-ghost use Rattle.ans_check.specs.Ending.{ending_of_words};
-ghost use Rattle.ans_check.specs.declared.command_line.WordsError.TheVariants.{Clap};
+ghost use Rattle.ans_options.specs.CommandLine.{AreOptionsOf, AsksFor, IsCommand, IsNoCommand, RanOutOfMemory};
+ghost use Rattle.ans_options.specs.CommandLine.{KnowsAsHeld, holds_flag_or_cleared, flag_rule, with_flags};
+ghost use Rattle.ans_options.specs.CommandLine.{anscheck, check_app, command_name, file_app, holds_flag, texts_of};
+ghost use Rattle.ans_options.specs.declared.command_line.WordsError.TheVariants.{Clap};
 
 use crate::command::{Command, Options};
-use crate::exit_status::Ending;
 use ans_model::start::Start;
-use clap::error::ErrorKind;
 use clap::{Arg, ArgAction, ArgMatches};
 use std::alloc::{AllocError, Global};
 
@@ -23,23 +20,6 @@ pub enum WordsError {
     Clap(clap::Error),
     /// Memory ran out for the file's name.
     Memory,
-}
-
-impl WordsError {
-    /// How the program ends: with `clap`'s text, on standard output where help was asked for and on
-    /// standard error where the words are rejected; or without it where memory ran out.
-    pub fn ending(&self) -> Ending
-        ensures { result ≡ ending_of_words self.now }
-    {
-        let WordsError::Clap(error) = self else {
-            return Ending::UnreadableWords;
-        };
-        match error.kind() {
-            ErrorKind::DisplayHelp | ErrorKind::DisplayVersion => Ending::Help,
-            ErrorKind::OutOfMemory => Ending::UnreadableWords,
-            _ => Ending::Usage,
-        }
-    }
 }
 
 impl From<clap::Error> for WordsError {

@@ -24,7 +24,7 @@ use Rattle.clap.specs.declared.builder.action.ArgAction.TheVariants.{Set, Append
 use Rattle.clap.specs.declared.builder.value_parser.Reading.{Reading}
 use Rattle.clap.specs.declared.parser.matches.ValueSource.{ValueSource}
 use Rattle.clap.specs.declared.parser.matches.ValueSource.TheVariants.{DefaultValue, CommandLine}
-use Rattle.ans_check.specs.CommandLine.{holds_flag}
+use Rattle.ans_options.specs.CommandLine.{holds_flag}
 
 -- no row has this id
 abbrev Lacks : Text → List Row → Type 0

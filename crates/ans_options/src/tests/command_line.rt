@@ -1,7 +1,7 @@
 //! The options that words give.
-use super::endings::shown;
-use super::{ALL_KNOWN, ANY, CLEARED, CURSOR_AND_COLOURS, NEEDS, NONE_KNOWN, SAUCE, TOKENS};
-use crate::{Ending, Options, Start, WordsError, options};
+use super::{ALL_KNOWN, ANY, CLEARED, CURSOR_AND_COLOURS, NEEDS, NONE_KNOWN, SAUCE, TOKENS, shown};
+use crate::{Options, WordsError, options};
+use ans_model::start::Start;
 use clap::error::ErrorKind;
 use std::process::Abort;
 
@@ -58,7 +58,8 @@ fn read_words(
     let answer = options(rt.alloc(), words);
     let was_refused = match &answer {
         Ok(_) => false,
-        Err(error) => error.ending() == Ending::UnreadableWords,
+        Err(WordsError::Clap(error)) => error.kind() == ErrorKind::OutOfMemory,
+        Err(WordsError::Memory) => true,
     };
     if was_refused {
         options(rt.alloc(), words)
@@ -279,8 +280,6 @@ fn other_words_give_none(rt: HostRuntime) {
                 assert_eq!(rt; error.kind(), *kind);
                 let is_help = *kind == ErrorKind::DisplayHelp;
                 assert_eq!(rt; error.use_stderr(), !is_help);
-                let ending = if is_help { Ending::Help } else { Ending::Usage };
-                assert_eq!(rt; WordsError::Clap(error).ending(), ending);
             }
             _ => panic!(rt; "no error of clap's"),
         }

@@ -3,8 +3,8 @@ use Rattle.std.proofs.lemmas.Result.{IfOk-weaker}
 use Rattle.clap.specs.Words.{App, Shape, app_of, with_subcommand}
 use Rattle.clap.specs.Simple.{app_of_fields, on_top}
 use Rattle.clap.proofs.SimpleLemmas.{plain_fields}
-use Rattle.ans_check.specs.CommandLine.{anscheck_top, check_app, sauce_app, tokens_app}
-use Rattle.ans_check.proofs.command_line.program.Goals as goal
+use Rattle.ans_options.specs.CommandLine.{anscheck_top, check_app, sauce_app, tokens_app}
+use Rattle.ans_options.proofs.command_line.program.Goals as goal
 
 abbrev required : App → App
 required = on_top (λ s. record s { subcommand_required = true })

@@ -8,13 +8,13 @@ use Rattle.clap.specs.Walk.{Rule, rows_after}
 use Rattle.clap.specs.Words.{Row, Text, subcommand_of}
 use Rattle.ans_model.specs.declared.start.Start.{Start}
 use Rattle.ans_model.specs.Screen.StartClass.{none_known}
-use Rattle.ans_check.specs.declared.command.Command.{Command}
-use Rattle.ans_check.specs.declared.command.Command.TheVariants.{Check, Sauce, Tokens, Needs}
-use Rattle.ans_check.specs.declared.command.Options.{Options}
-use Rattle.ans_check.specs.CommandLine.{AreOptionsOf, AsksFor, KnowsAsHeld, anscheck, command_name}
-use Rattle.ans_check.specs.CommandLine.{file_rule, holds_flag}
-use Rattle.ans_check.proofs.CommandLineLemmas.{name_met, not_true, program_met}
-use Rattle.ans_check.proofs.RowLemmas.{NoneHas, never_held, nor}
+use Rattle.ans_options.specs.declared.command.Command.{Command}
+use Rattle.ans_options.specs.declared.command.Command.TheVariants.{Check, Sauce, Tokens, Needs}
+use Rattle.ans_options.specs.declared.command.Options.{Options}
+use Rattle.ans_options.specs.CommandLine.{AreOptionsOf, AsksFor, KnowsAsHeld, anscheck, command_name}
+use Rattle.ans_options.specs.CommandLine.{file_rule, holds_flag}
+use Rattle.ans_options.proofs.CommandLineLemmas.{name_met, not_true, program_met}
+use Rattle.ans_options.proofs.RowLemmas.{NoneHas, never_held, nor}
 
 -- `[FILE]` and `--help`, built
 abbrev file_rules : List Rule

@@ -9,11 +9,11 @@ use Rattle.clap.specs.Words.{with_rule, with_subcommand}
 use Rattle.clap.specs.declared.builder.ArgAction.TheVariants.{SetTrue}
 use Rattle.clap.specs.declared.error.ErrorKind.TheVariants.{OutOfMemory}
 use Rattle.ans_model.specs.declared.start.Start.{Start}
-use Rattle.ans_check.specs.declared.command_line.WordsError.{WordsError}
-use Rattle.ans_check.specs.declared.command_line.WordsError.TheVariants as words_error
-use Rattle.ans_check.specs.declared.command.Command.{Command}
-use Rattle.ans_check.specs.declared.command.Command.TheVariants.{Check, Sauce, Tokens, Needs}
-use Rattle.ans_check.specs.declared.command.Options.{Options}
+use Rattle.ans_options.specs.declared.command_line.WordsError.{WordsError}
+use Rattle.ans_options.specs.declared.command_line.WordsError.TheVariants as words_error
+use Rattle.ans_options.specs.declared.command.Command.{Command}
+use Rattle.ans_options.specs.declared.command.Command.TheVariants.{Check, Sauce, Tokens, Needs}
+use Rattle.ans_options.specs.declared.command.Options.{Options}
 
 -- the words, as texts
 abbrev pub texts_of : List (Bor Text) → List Text

@@ -1,7 +1,7 @@
 use Rattle.std.proofs.Common.{◌≡◌, map, drop}
 use Rattle.clap.specs.Words.{app_of}
-use Rattle.ans_check.specs.CommandLine.{with_flags}
-use Rattle.ans_check.proofs.command_line.with_flags.Given as goal
+use Rattle.ans_options.specs.CommandLine.{with_flags}
+use Rattle.ans_options.proofs.command_line.with_flags.Given as goal
 
 abbrev pub invariant-loop-name : goal.invariant-loop-name
 invariant-loop-name l =

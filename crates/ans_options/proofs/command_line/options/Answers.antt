@@ -2,10 +2,11 @@ use Rattle.std.proofs.Common.{◌∙◌, ◌≡◌, List, Option, ap, option_map
 use Rattle.std.proofs.lemmas.Result.{IfOk-weaker}
 use Rattle.std.specs.Prelude.{IfOk, IsSomeAnd, string_bytes}
 use Rattle.clap.specs.Words.{App, Row, Text, app_of, is_simple, subcommand_of, subcommand_rows_of, takes}
-use Rattle.ans_check.specs.CommandLine.{anscheck, AsksFor, RanOutOfMemory, texts_of}
-use Rattle.ans_check.proofs.CommandLineLemmas.{command_found, err_weaker, subcommand_met}
-use Rattle.ans_check.proofs.FlagLemmas.{flagless}
-use Rattle.ans_check.proofs.command_line.options.Goals as goal
+use Rattle.ans_options.specs.CommandLine.{anscheck, AsksFor, RanOutOfMemory, texts_of}
+use Rattle.ans_options.proofs.CommandLineLemmas.{command_found, subcommand_met}
+use Rattle.ans_options.proofs.ErrorLemmas.{err_weaker}
+use Rattle.ans_options.proofs.FlagLemmas.{flagless}
+use Rattle.ans_options.proofs.command_line.options.Goals as goal
 
 pub read_matches-requires : goal.read_matches-requires
 read_matches-requires c =

@@ -1,7 +1,7 @@
 use Rattle.std.proofs.Common.{◌∙◌}
 use Rattle.clap.specs.Words.{found_of}
-use Rattle.ans_check.proofs.CommandLineLemmas.{flag_reads}
-use Rattle.ans_check.proofs.command_line.holds.Goals as goal
+use Rattle.ans_options.proofs.CommandLineLemmas.{flag_reads}
+use Rattle.ans_options.proofs.command_line.holds.Goals as goal
 
 pub returns : goal.returns
 returns c =

@@ -2,7 +2,7 @@
 
 ghost use Rattle.std.specs.Prelude.{◌≡◌, true};
 ghost use Rattle.clap.specs.Words.{is_simple};
-ghost use Rattle.ans_check.specs.CommandLine.{anscheck};
+ghost use Rattle.ans_options.specs.CommandLine.{anscheck};
 
 /// The command line is of `clap`'s simple kind: one level of subcommands, flags, one optional FILE
 /// and no rules between arguments. So its matches are a function of the words.

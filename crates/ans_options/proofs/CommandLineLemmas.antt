@@ -1,5 +1,5 @@
 -- What clap's matches give of the program's words.
-use Rattle.std.proofs.Common.{Result, Ok, Err, ◌≡◌, ◌∙◌, Bool, true, false, List, [], ◌∷◌, Option, Some, None, refl}
+use Rattle.std.proofs.Common.{◌≡◌, ◌∙◌, Bool, true, false, List, [], ◌∷◌, Option, Some, None, refl}
 use Rattle.std.proofs.Common.{sym, ap, codes, option_map, unwrap_or}
 use Rattle.std.specs.Prelude.{find, IsSome, IsSomeAnd}
 use Rattle.std.specs.Option.{option_map_or}
@@ -19,15 +19,14 @@ use Rattle.clap.specs.declared.parser.matches.SubCommand.{SubCommand}
 use Rattle.std.proofs.Common.{inl, inr, ◌⊎◌}
 use Rattle.clap.specs.Walk.{answers_to, stop_after}
 use Rattle.clap.specs.Simple.{argument_words, built, entered, label_of, names_of, rows_at}
-use Rattle.ans_check.specs.declared.command.Command.TheVariants.{Check, Sauce, Tokens, Needs}
-use Rattle.std.specs.Prelude.{IsErrAnd, IfErr}
+use Rattle.ans_options.specs.declared.command.Command.TheVariants.{Check, Sauce, Tokens, Needs}
 use Rattle.std.proofs.Common.{subst, ◌&&◌, not}
 use Rattle.clap.specs.declared.builder.command.Command.{Command}
 use Rattle.clap.specs.Words.{app_of, IsParsedFrom}
 use Rattle.clap.proofs.CallerLemmas.{subcommand_required}
 use Rattle.clap.proofs.TakesLemmas.{some_rows}
-use Rattle.ans_check.specs.declared.command.Options.{Options}
-use Rattle.ans_check.specs.CommandLine.{AsksFor, IsCommand, anscheck, holds_flag}
+use Rattle.ans_options.specs.declared.command.Options.{Options}
+use Rattle.ans_options.specs.CommandLine.{AsksFor, IsCommand, anscheck, holds_flag}
 
 pub not_true : (b : Bool) → (b ≡ true → ⊥) → b ≡ false
 not_true true h = absurd (h refl)
@@ -152,8 +151,3 @@ pub asks_for : (sub : Option (Text × List Row)) (name : Text) (rows : List Row)
     → sub ≡ Some (name, rows) → AsksFor (name, rows) o file → IsSomeAnd sub (λ p. AsksFor p o file)
 asks_for sub name rows o file e asks = subst (λ (s : Option (Text × List Row)). IsSomeAnd s (λ p. AsksFor p o file))
     (sym e) asks
-
--- what is known of an error gives what is wanted of it
-pub err_weaker : {T E : Type 0} (r : Result T E) (P Q : E → Type 0) → IsErrAnd r P → ((e : E) → P e → Q e) → IfErr r Q
-err_weaker (Ok v) P Q h f = tt
-err_weaker (Err e) P Q h f = f e h

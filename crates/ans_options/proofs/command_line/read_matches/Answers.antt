@@ -1,9 +1,10 @@
 use Rattle.std.proofs.Common.{rules, subst, List, Option, ◌∙◌}
 use Rattle.std.specs.Prelude.{IsSomeAnd}
 use Rattle.clap.specs.Words.{Row, Text, found_of, rows_of}
-use Rattle.ans_check.specs.CommandLine.{IsCommand}
-use Rattle.ans_check.proofs.CommandLineLemmas.{asks_for, err_weaker, rows_met}
-use Rattle.ans_check.proofs.command_line.read_matches.Goals as goal
+use Rattle.ans_options.specs.CommandLine.{IsCommand}
+use Rattle.ans_options.proofs.CommandLineLemmas.{asks_for, rows_met}
+use Rattle.ans_options.proofs.ErrorLemmas.{err_weaker}
+use Rattle.ans_options.proofs.command_line.read_matches.Goals as goal
 
 pub unreachable-requires-in_default-command_named : goal.unreachable-requires-in_default-command_named
 unreachable-requires-in_default-command_named c =

@@ -1,0 +1,4 @@
+pub mod RowLemmas
+pub mod CommandLineLemmas
+pub mod FlagLemmas
+pub mod ErrorLemmas
