@@ -61,8 +61,8 @@ fn endings_have_their_statuses_and_texts(rt: HostRuntime) {
     assert!(rt; Ending::UnopenedFile.message() == Some("cannot open the file"));
 }
 
-/// Words that give no options, and how the program ends. Each kind of `clap`'s errors that words can
-/// have is there.
+/// Words that give no options, of each kind that the tests of `ans_options` meet, and how the program
+/// ends.
 static REFUSED_WORDS: [(&[&str], Ending); 7] = [
     (&["anscheck", "--help"], Ending::Help),
     (&["anscheck", "check", "--help"], Ending::Help),
