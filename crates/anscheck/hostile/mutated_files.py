@@ -24,7 +24,7 @@ not told by each command; or `tokens` and `check` differ on a sequence.
 
 Each run may have 64 MiB of address space (RLIMIT_AS): what the README states for the largest file and
 the largest screen, 50,343,937 bytes, and 16,764,927 for the program itself and the C library. A run in
-which memory ran out would be seen as a wrong status. Files have at most 1 MiB here, most of them less
+which memory ran out would be seen as a wrong status. Files have at most 128 KiB here, most of them less
 than 1 KiB. Each case that goes wrong is printed, and its file is kept in a folder that is named. The
 last line has the figures; the status is 1 where something went wrong.
 """
@@ -50,7 +50,7 @@ from table import file_of, plain_record
 
 MEMORY = 64 * 1024 * 1024
 SECONDS, CLOCK_SECONDS = 1.0, 30
-LONGEST = 1_048_576
+LONGEST = 131_072
 LONG_TEXT = 1_048_576
 RUNS_OF_A_CASE, CASES_OF_A_BATCH = 4, 250
 TEXTS = {
@@ -153,7 +153,7 @@ def cut_a_slice(chance, old, other):
 
 def double_a_slice(chance, old, other):
     begin, end = a_slice(chance, old)
-    times = chance.choice([2, 2, 3, 17, 300])
+    times = min(chance.choice([2, 2, 3, 17, 300]), 2 + LONGEST // (end - begin + 1))
     return old[:begin] + old[begin:end] * times + old[end:]
 
 

@@ -1,0 +1,186 @@
+#!/usr/bin/env python3
+"""Refuses each call of `anscheck`, and each allocation of the crates' tests, one after the other.
+
+Run it in the folder above, after `rt run -- check --cleared data/hi.ans` has built the program and
+`rt test` the tests of the crates that allocate (each leaves `out/NAME_tests` in its crate):
+
+    python3 hostile/refused_calls.py out/anscheck [NAME..]
+
+`rt try --fail-alloc N` refuses an allocation too, but it builds for each N anew, and the kit of today
+(rattle-kit-13b) knows neither its form `1..` nor `--fail-io` and `--short-io`. So this script builds
+`refuse.c` with cc, which stands before the C library and refuses the call of one number; it counts upwards
+until a run meets no refusal. It needs a program that is linked with the C library dynamically, on Linux.
+
+What has to come of a run of the program in which one call is refused:
+
+- An allocation: status 2, nothing on standard output, `out of memory` or `cannot read the command line`;
+  where the words are rejected anyway, the text that rejects them will do.
+- An open, a read: status 2, nothing on standard output, and the line that says so.
+- A write of standard output: status 2, `cannot write the report`, and a prefix of the text; the whole text
+  is one, since what a buffer holds is offered once more as it is dropped. A write of standard error: the
+  status and the standard output that come without it.
+- A read or a write that moves one byte in place of several: all that comes without it.
+
+Of a test: `error: AllocError` or `error: AllocFailed`, where the test hands its errors on. The tests of
+`ans_check` and `ans_answer` make a call that met the refusal once more, and have to pass. A test process
+that ends with a signal, or passes although its error was to be handed on, is wrong.
+
+It prints the refusals of each kind and each crate, and what came out otherwise. The status is 1 where
+something did, where tests are not built, or where a kind of call was never met.
+"""
+import collections
+import concurrent.futures
+import os
+import subprocess
+import sys
+import tempfile
+
+sys.dont_write_bytecode = True
+HERE = os.path.dirname(os.path.abspath(__file__))
+CRATES = os.path.dirname(os.path.dirname(HERE))
+sys.path.insert(0, os.path.join(os.path.dirname(HERE), "runs"))
+
+from table import file_of
+
+TESTED = ["ans_screen", "ans_play", "ans_answer", "ans_report", "ans_check"]
+MAKES_THE_CALL_AGAIN = {"ans_check", "ans_answer"}
+AT_ONCE, WORKERS, SECONDS = 16, 4, 120
+
+MEMORY = [b"anscheck: out of memory\n", b"anscheck: cannot read the command line\n"]
+NOT_OPENED = b"anscheck: cannot open the file\n"
+NOT_READ = b"anscheck: cannot read the file\n"
+NOT_WRITTEN = b"anscheck: cannot write the report\n"
+KINDS = ["alloc", "open", "read", "write", "short-read", "short-write"]
+
+CLEAR = b"\x1b[?7h\x1b[0m\x1b[2J"
+FILES = {
+    "passed": file_of(CLEAR + b"Hi"),
+    "passed from the cleared screen": file_of(b"\x1b[0;1;5;33;44mHi\x1b[s\tx", 16, 3),
+    "refused": file_of(b"Hi!"),
+    "broken": file_of(b"Hi\x1b[3"),
+    "without a record": b"S" * 127,
+    "with comments": b"Hi\x1aCOMNT" + b"c" * 128 + file_of(b"")[1:105] + b"\x02" + bytes(23),
+    "of three chunks, with a long report": file_of(CLEAR + b"\x1b[1;1Hx\r" * 20_000, 80, 300),
+}
+COMMANDS = [
+    ["check"], ["check", "--cleared"], ["check", "--cleared", "--cells"],
+    ["check", "--known-cursor", "--known-colours"], ["needs"], ["sauce"], ["tokens"],
+]
+OTHER_WORDS = [["--help"], ["check", "--help"], ["check", "--bogus"], []]
+
+Ran = collections.namedtuple("Ran", "status out err refused")
+
+
+def run(words, stdin, library, refuse):
+    """One run. `refused` is the descriptor of the call that was refused, or None where none was."""
+    with tempfile.TemporaryDirectory() as room:
+        mark = os.path.join(room, "refused")
+        env = {"LD_PRELOAD": library, "REFUSE": refuse, "REFUSED": mark}
+        with open(stdin, "rb") as file:
+            done = subprocess.run(words, stdin=file, capture_output=True, env=env, timeout=SECONDS)
+        refused = None
+        if os.path.exists(mark):
+            with open(mark, "rb") as file:
+                refused = int(file.read())
+        return Ran(done.returncode, done.stdout, done.stderr, refused)
+
+
+def each_refusal(pool, words, stdin, library, kind):
+    """The number and the run of each refusal of a kind, up to the first run that meets none."""
+    first = 1
+    while True:
+        numbers = range(first, first + AT_ONCE)
+        for n, ran in zip(numbers, pool.map(lambda n: run(words, stdin, library, f"{kind}:{n}"), numbers)):
+            if ran.refused is None:
+                return
+            yield n, ran
+        first += AT_ONCE
+
+
+def comes_as_it_must(kind, whole, ran):
+    """Whether a run with a refused call is as the text above says, beside the run without one."""
+    silent = ran.status == 2 and ran.out == b""
+    if kind == "alloc":
+        is_rejected = whole.status == 2 and ran[:3] == whole[:3]
+        return is_rejected or silent and ran.err in MEMORY
+    if kind == "open":
+        return silent and ran.err == NOT_OPENED
+    if kind == "read":
+        return silent and ran.err == NOT_READ
+    if kind == "write" and ran.refused == 1:
+        return ran.status == 2 and whole.out.startswith(ran.out) and ran.err == NOT_WRITTEN
+    if kind == "write":
+        return (ran.status, ran.out) == (whole.status, whole.out) and ran.err in (b"", NOT_WRITTEN)
+    return ran[:3] == whole[:3]
+
+
+def runs_of_the_program(room):
+    """What the program is asked, and its standard input: each command on each file, in two ways."""
+    for name, file in FILES.items():
+        path = os.path.join(room, name.replace(" ", "-"))
+        with open(path, "wb") as to:
+            to.write(file)
+        for words in COMMANDS:
+            yield [*words, path], os.devnull
+            yield words, path
+    yield ["check", os.path.join(room, "none")], os.devnull
+    yield from ((words, os.devnull) for words in OTHER_WORDS)
+
+
+def try_program(pool, program, library, room):
+    """How often each kind of call was refused, and how often that came out otherwise."""
+    refusals, wrong, runs = collections.Counter(), 0, 0
+    for words, stdin in runs_of_the_program(room):
+        runs += 1
+        whole = run([program, *words], stdin, library, "none:0")
+        for kind in KINDS:
+            for n, ran in each_refusal(pool, [program, *words], stdin, library, kind):
+                refusals[kind] += 1
+                if not comes_as_it_must(kind, whole, ran):
+                    wrong += 1
+                    print(f"{kind} {n} of {words} < {stdin}: {ran.status} {ran.out[-60:]} {ran.err[:80]}")
+    counts = ", ".join(f"{refusals[kind]} {kind}" for kind in KINDS)
+    print(f"anscheck: {runs} runs with each call refused in turn: {counts}; {wrong} otherwise", flush=True)
+    return wrong + sum(refusals[kind] == 0 for kind in KINDS)
+
+
+def tests_of(executable):
+    listed = subprocess.run([executable, "--list"], capture_output=True, check=True).stdout.decode()
+    return [line.removesuffix(": test") for line in listed.splitlines() if line.endswith(": test")]
+
+
+def passes_or_hands_on(name, ran):
+    if name in MAKES_THE_CALL_AGAIN:
+        return ran.status == 0
+    return ran.status > 0 and ran.err.startswith((b"error: AllocError\n", b"error: AllocFailed"))
+
+
+def try_tests(pool, name, library):
+    """How many allocations of a crate's tests came out otherwise, each refused in turn."""
+    executable = os.path.join(CRATES, name, "out", f"{name}_tests")
+    if not os.path.exists(executable):
+        print(f"{name}: no {executable}; run rt test there")
+        return 1
+    tests, refusals, wrong = tests_of(executable), 0, 0
+    for test in tests:
+        for n, ran in each_refusal(pool, [executable, test], os.devnull, library, "alloc"):
+            refusals += 1
+            if not passes_or_hands_on(name, ran):
+                wrong += 1
+                print(f"{name}, {test}, allocation {n}: status {ran.status} {ran.err[:200]}", flush=True)
+    print(f"{name}: {len(tests)} tests, {refusals} allocations refused in turn; {wrong} otherwise", flush=True)
+    return wrong + (refusals == 0)
+
+
+def main(program, *names):
+    with tempfile.TemporaryDirectory() as room, concurrent.futures.ThreadPoolExecutor(WORKERS) as pool:
+        library = os.path.join(room, "refuse.so")
+        source = os.path.join(HERE, "refuse.c")
+        subprocess.run(["cc", "-shared", "-fPIC", "-O1", "-Wall", "-o", library, source], check=True)
+        wrong = try_program(pool, os.path.abspath(program), library, room)
+        wrong += sum(try_tests(pool, name, library) for name in names or TESTED)
+    return 1 if wrong else 0
+
+
+if __name__ == "__main__":
+    sys.exit(main(*sys.argv[1:]))
