@@ -22,11 +22,12 @@ the class passes and the cleared screen does not, or with another picture; `need
 what the class has to know; `needs` is refused and the cleared check otherwise; a fault of the record is
 not told by each command; or `tokens` and `check` differ on a sequence.
 
-Each run may have 64 MiB of address space (RLIMIT_AS): what the README states for the largest file and
-the largest screen, 50,343,937 bytes, and 16,764,927 for the program itself and the C library. A run in
-which memory ran out would be seen as a wrong status. Files have at most 128 KiB here, most of them less
-than 1 KiB. Each case that goes wrong is printed, and its file is kept in a folder that is named. The
-last line has the figures; the status is 1 where something went wrong.
+Each run may have 96 MiB of address space (RLIMIT_AS): what the README states for the largest file and
+the largest screen, 50,343,937 bytes, and 50,319,359 more, since a worker needs some to start a program
+under its own limit; `bad_inputs.py` gives less. A run in which memory ran out would be seen as a wrong
+status. Files have at most 128 KiB here, most of them less than 1 KiB. Each case that goes wrong is printed,
+and its file is kept in a folder that is named. The last line has the figures; the status is 1 where
+something went wrong.
 """
 import ast
 import collections
@@ -48,7 +49,7 @@ sys.path[:0] = [os.path.join(ABOVE, "runs"), os.path.join(ABOVE, "compare")]
 from second_machine import FAULTS, PARTS, a_content, a_piece
 from table import file_of, plain_record
 
-MEMORY = 64 * 1024 * 1024
+MEMORY = 96 * 1024 * 1024
 SECONDS, CLOCK_SECONDS = 1.0, 30
 LONGEST = 131_072
 LONG_TEXT = 1_048_576
@@ -168,21 +169,28 @@ def add_a_piece(chance, old, other):
     return old[:at] + a_piece(chance, chance.randrange(1, 90), chance.randrange(1, 30)) + old[at:]
 
 
+NUMBER, SEQUENCE = re.compile(rb"\d+"), re.compile(rb"\x1b\[")
+
+
+def one_of(chance, pattern, old):
+    """The first match from some byte on, or of all, or None."""
+    return pattern.search(old, chance.randrange(len(old))) or pattern.search(old)
+
+
 def change_a_number(chance, old, other):
-    numbers = list(re.finditer(rb"\d+", old))
-    if not numbers:
+    found = one_of(chance, NUMBER, old)
+    if not found:
         return add_a_piece(chance, old, other)
     some = [b"", b"0", b"1", b"7", b"80", b"255", b"256", b"65536", b"4294967297", b"0" * 300 + b"9"]
-    found = chance.choice(numbers)
     return old[:found.start()] + chance.choice(some) + old[found.end():]
 
 
 def lengthen_a_sequence(chance, old, other):
-    begins = [found.end() for found in re.finditer(rb"\x1b\[", old)]
-    if not begins:
+    found = one_of(chance, SEQUENCE, old)
+    if not found:
         return add_a_piece(chance, old, other)
     some = [b";", b"1;", b"0", b'"a";', b"'\x1b[';", b'"', b"?", b"="]
-    at = chance.choice(begins)
+    at = found.end()
     return old[:at] + chance.choice(some) * chance.choice([1, 2, 15, 16, 17, 400]) + old[at:]
 
 

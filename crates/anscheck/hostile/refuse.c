@@ -1,9 +1,9 @@
 /* Refuses one call of a program, for `refused_calls.py`. It is loaded before the C library (LD_PRELOAD).
  *
  * REFUSE is the kind of the call, a colon and its number among the calls of its kind, counted from 1. The
- * kinds: `alloc` gives no memory; `open`, `read` and `write` fail; `short-read` and `short-write` move one
- * byte where more were asked for, and count those calls alone. Where the call came, the file that REFUSED
- * names is made, with the number of the call's descriptor in it.
+ * kinds: `alloc` gives no memory; `alloc-from` gives none from that call on; `open`, `read` and `write`
+ * fail; `short-read` and `short-write` move one byte where more were asked for, and count those calls alone.
+ * Where the call came, the file that REFUSED names is made, with the number of the call's descriptor in it.
  */
 #define _GNU_SOURCE
 #include <errno.h>
@@ -25,7 +25,9 @@ static int is_refused(const char *kind, int descriptor)
     size_t length = strlen(kind);
     if (!refuse || !mark || strncmp(refuse, kind, length) || refuse[length] != ':')
         return 0;
-    if (++calls != atol(refuse + length + 1))
+    long number = atol(refuse + length + 1);
+    ++calls;
+    if (calls < number || (calls > number && strcmp(kind, "alloc-from")))
         return 0;
     char digit = (char)('0' + descriptor);
     long made = syscall(SYS_openat, AT_FDCWD, mark, O_WRONLY | O_CREAT, 0600);
@@ -40,14 +42,22 @@ static long failed(int error)
     return -1;
 }
 
+static int is_memory_refused(void)
+{
+    int is_so = is_refused("alloc", 0) || is_refused("alloc-from", 0);
+    if (is_so)
+        errno = ENOMEM;
+    return is_so;
+}
+
 void *malloc(size_t size)
 {
-    return is_refused("alloc", 0) ? (errno = ENOMEM, NULL) : __libc_malloc(size);
+    return is_memory_refused() ? NULL : __libc_malloc(size);
 }
 
 void *realloc(void *old, size_t size)
 {
-    return is_refused("alloc", 0) ? (errno = ENOMEM, NULL) : __libc_realloc(old, size);
+    return is_memory_refused() ? NULL : __libc_realloc(old, size);
 }
 
 int open(const char *path, int flags, ...)

@@ -13,8 +13,11 @@ until a run meets no refusal. It needs a program that is linked with the C libra
 
 What has to come of a run of the program in which one call is refused:
 
-- An allocation: status 2, nothing on standard output, `out of memory` or `cannot read the command line`;
-  where the words are rejected anyway, the text that rejects them will do.
+- An allocation, and all from one on: status 2, nothing on standard output, `out of memory` or `cannot read
+  the command line`. There are two exceptions. Where the words are rejected anyway, the text that rejects them
+  will do. And where one allocation alone is refused, up to two in a run may be made again with all that comes
+  without it: the room that the kit's `collect` asks for beforehand, for the program's words and for what
+  they are read as. With all refused from there on, that run has no answer either.
 - An open, a read: status 2, nothing on standard output, and the line that says so.
 - A write of standard output: status 2, `cannot write the report`, and a prefix of the text; the whole text
   is one, since what a buffer holds is offered once more as it is dropped. A write of standard error: the
@@ -50,7 +53,8 @@ MEMORY = [b"anscheck: out of memory\n", b"anscheck: cannot read the command line
 NOT_OPENED = b"anscheck: cannot open the file\n"
 NOT_READ = b"anscheck: cannot read the file\n"
 NOT_WRITTEN = b"anscheck: cannot write the report\n"
-KINDS = ["alloc", "open", "read", "write", "short-read", "short-write"]
+MADE_AGAIN = 2
+KINDS = ["alloc", "alloc-from", "open", "read", "write", "short-read", "short-write"]
 
 CLEAR = b"\x1b[?7h\x1b[0m\x1b[2J"
 FILES = {
@@ -100,7 +104,7 @@ def each_refusal(pool, words, stdin, library, kind):
 def comes_as_it_must(kind, whole, ran):
     """Whether a run with a refused call is as the text above says, beside the run without one."""
     silent = ran.status == 2 and ran.out == b""
-    if kind == "alloc":
+    if kind in ("alloc", "alloc-from"):
         is_rejected = whole.status == 2 and ran[:3] == whole[:3]
         return is_rejected or silent and ran.err in MEMORY
     if kind == "open":
@@ -127,20 +131,32 @@ def runs_of_the_program(room):
     yield from ((words, os.devnull) for words in OTHER_WORDS)
 
 
+def try_run(pool, words, stdin, library, refusals):
+    """How many refusals of one run came out otherwise. Each is counted."""
+    whole, wrong, made_again = run(words, stdin, library, "none:0"), 0, 0
+    for kind in KINDS:
+        for n, ran in each_refusal(pool, words, stdin, library, kind):
+            refusals[kind] += 1
+            if comes_as_it_must(kind, whole, ran):
+                continue
+            if kind == "alloc" and ran[:3] == whole[:3] and made_again < MADE_AGAIN:
+                made_again += 1
+                continue
+            wrong += 1
+            print(f"{kind} {n} of {words[1:]} < {stdin}: {ran.status} {ran.out[-60:]} {ran.err[:80]}")
+    refusals["made again"] += made_again
+    return wrong
+
+
 def try_program(pool, program, library, room):
-    """How often each kind of call was refused, and how often that came out otherwise."""
+    """How many refused calls of the program came out otherwise; a kind that was never met is one more."""
     refusals, wrong, runs = collections.Counter(), 0, 0
     for words, stdin in runs_of_the_program(room):
         runs += 1
-        whole = run([program, *words], stdin, library, "none:0")
-        for kind in KINDS:
-            for n, ran in each_refusal(pool, [program, *words], stdin, library, kind):
-                refusals[kind] += 1
-                if not comes_as_it_must(kind, whole, ran):
-                    wrong += 1
-                    print(f"{kind} {n} of {words} < {stdin}: {ran.status} {ran.out[-60:]} {ran.err[:80]}")
+        wrong += try_run(pool, [program, *words], stdin, library, refusals)
     counts = ", ".join(f"{refusals[kind]} {kind}" for kind in KINDS)
-    print(f"anscheck: {runs} runs with each call refused in turn: {counts}; {wrong} otherwise", flush=True)
+    print(f"anscheck: {runs} runs with each call refused in turn: {counts}; {wrong} otherwise, "
+          f"{refusals['made again']} made again", flush=True)
     return wrong + sum(refusals[kind] == 0 for kind in KINDS)
 
 

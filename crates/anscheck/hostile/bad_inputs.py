@@ -1,0 +1,377 @@
+#!/usr/bin/env python3
+"""Gives a built `anscheck` the longest files, slow files, bad streams and little memory.
+
+Run it in the folder above, after `rt run -- check --cleared data/hi.ans` has built the program:
+
+    python3 hostile/bad_inputs.py out/anscheck
+
+Each row states what is to come: the status, the whole text on standard output and on standard error. They
+are written down from the README and the definitions, and never from what the program printed. The pictures
+of the slow files are worked out here. What `runs/table.py` has already stands there: a folder as FILE,
+`/dev/full` and a closed output for small files, and the longest file without a record.
+
+A check of a slow file has a limit of 1 second, and `needs` of 6, since it plays up to six times. What counts
+is the time of a processor; the time by the clock is printed beside it. A run is stopped after 60 seconds.
+
+The memory rows limit the address space (RLIMIT_AS) to what the README states, and 8 MiB for the program's
+code, the C library, the stacks and the buffers. A row whose limit is too low is answered with status 2 and
+`out of memory`. The last row tries each limit from 8 MiB up to that in steps of 1 MiB: each gives the
+whole answer or no byte of it.
+
+It prints each row and whether it came out so. The status is 1 where one did not, or took too long.
+"""
+import collections
+import contextlib
+import os
+import resource
+import subprocess
+import sys
+import tempfile
+import threading
+import time
+
+sys.dont_write_bytecode = True
+ABOVE = os.path.dirname(os.path.dirname(os.path.abspath(__file__)))
+sys.path[:0] = [os.path.join(ABOVE, "runs"), os.path.join(ABOVE, "bench")]
+
+from speed import CLEAR, LARGEST_FILE, LINES, WIDTH, repeated, slow_files
+from table import HI_PASSES, file_of, plain_record
+
+MIB = 1_048_576
+LARGEST_SCREEN = 33_566_721
+ALLOWANCE = 8 * MIB
+CHECK_SECONDS, NEEDS_SECONDS, CLOCK_SECONDS = 1.0, 6.0, 60
+
+NOT_READ = b"anscheck: cannot read the file\n"
+NOT_WRITTEN = b"anscheck: cannot write the report\n"
+TOO_LONG = b"anscheck: file above 16777216 bytes\n"
+NO_MEMORY = b"anscheck: out of memory\n"
+
+# What comes of a run: its status, its texts, and its seconds of a processor and by the clock.
+Came = collections.namedtuple("Came", "status out err seconds clock")
+# What is to come.
+Wanted = collections.namedtuple("Wanted", "status out err")
+
+
+# Running.
+
+def limited(memory, closed):
+    """What a child does before it becomes the program."""
+    def prepare():
+        for descriptor in closed:
+            os.close(descriptor)
+        if memory:
+            resource.setrlimit(resource.RLIMIT_AS, (memory, memory))
+    return prepare
+
+
+def came_of(words, stdin=subprocess.DEVNULL, stdout=None, memory=0, closed=()):
+    """One run. Standard output is kept in a file, so that nobody has to read it meanwhile."""
+    with tempfile.TemporaryFile() as out, tempfile.TemporaryFile() as err:
+        begun, before = time.monotonic(), resource.getrusage(resource.RUSAGE_CHILDREN)
+        status = subprocess.run(
+            words, stdin=stdin, stdout=out if stdout is None else stdout, stderr=err,
+            preexec_fn=limited(memory, closed), timeout=CLOCK_SECONDS,
+        ).returncode
+        clock, after = time.monotonic() - begun, resource.getrusage(resource.RUSAGE_CHILDREN)
+        seconds = after.ru_utime + after.ru_stime - before.ru_utime - before.ru_stime
+        out.seek(0), err.seek(0)
+        return Came(status, out.read(), err.read(), seconds, clock)
+
+
+def report(width, lines, start, length, rows, notes=b""):
+    """The report of a pass with this picture."""
+    head = b"size: %d x %d\nstart: %s\ncontent: %d bytes\n" % (width, lines, start, length)
+    return head + notes + b"verdict: pass\npicture:\n" + b"".join(row + b"\n" for row in rows)
+
+
+def refusal(width, lines, start, length, fault):
+    """The report of a refusal of the content."""
+    head = b"size: %d x %d\nstart: %s\ncontent: %d bytes\n" % (width, lines, start, length)
+    return head + b"verdict: refused\n" + fault + b"\n"
+
+
+def passes(text):
+    return Wanted(0, text, b"")
+
+
+def refuses(text):
+    return Wanted(1, text, b"")
+
+
+def stops(text):
+    return Wanted(2, b"", text)
+
+
+class Tally:
+    """Prints rows, and counts those that came out otherwise or took too long."""
+
+    def __init__(self):
+        self.rows = self.wrong = self.slow = 0
+
+    def row(self, name, came, wanted, limit=CHECK_SECONDS):
+        self.rows += 1
+        is_wrong, is_slow = came[:3] != tuple(wanted), came.seconds > limit
+        self.wrong += is_wrong
+        self.slow += is_slow
+        words = f"{name}: status {came.status}, {came.seconds:.3f} s of at most {limit:.0f} s"
+        print(f"{words}, by the clock {came.clock:.3f} s{', TOO SLOW' if is_slow else ''}", flush=True)
+        if is_wrong:
+            print(f"  WRONG: wanted {shortened(wanted)}\n  got {shortened(came[:3])}", flush=True)
+
+
+def shortened(texts):
+    return [text if isinstance(text, int) else text[:120] + b" .. " + text[-120:] for text in texts]
+
+
+# The longest and the slow files.
+
+def blank_rows(width=WIDTH, lines=LINES):
+    return [b" " * width] * lines
+
+
+def rows_with(places, width=WIDTH, lines=LINES):
+    """Rows of blanks with an `x` at each place."""
+    rows = [bytearray(b" " * width) for _ in range(lines)]
+    for row, column in places:
+        rows[row][column] = ord("x")
+    return [bytes(row) for row in rows]
+
+
+def stairs(count):
+    """Where `x`, line feed, `x`, line feed and so on print from the top left on, with wrap on."""
+    row = column = 0
+    for _ in range(count):
+        yield row, column
+        if column == WIDTH - 1:
+            row, column = row + 2, 0
+        else:
+            row, column = row + 1, column + 1
+
+
+def slow_pictures():
+    """The rows that the slow files of the benchmark show, where these are not blank."""
+    return {
+        "erased screens and a few cells": rows_with([(200, 0), (400, 1)]),
+        "erased screens and all rows": rows_with(stairs(8000)),
+    }
+
+
+def playing_files():
+    """Each slow file that passes from any start: its name, content, size and rows."""
+    pictures = slow_pictures()
+    for name, content in slow_files():
+        yield name, content, (WIDTH, LINES), pictures.get(name, blank_rows())
+    content = repeated(b"\x1b[0m\x1b[2J\x1b[1m\x1b[2J")
+    yield "erased screens in two colours", content, (WIDTH, LINES), blank_rows()
+    content = repeated(b"\x1b[1;1H" + b"x" * LINES)
+    yield "one column", content, (1, LINES), [b"x"] * LINES
+    content = CLEAR + b"\r" * (LARGEST_FILE - 129 - len(CLEAR))
+    yield "the longest file", content, (WIDTH, LINES), blank_rows()
+
+
+def refused_files():
+    """Each long file whose content is refused from any start and from the cleared screen: its name, its
+    content and the two faults."""
+    room = LARGEST_FILE - 129
+    in_string = b"at %d: F12 content ends in a sequence" % len(CLEAR)
+    yield "an unfinished string", CLEAR + b"\x1b[\"" + b"\x1b" * (room - len(CLEAR) - 3), in_string, in_string
+    content = CLEAR + b"\x1b['" + b"\x1b[\"a\"p" * 2_000_000
+    yield "an unfinished string of strings", content, in_string, in_string
+    yield "8,000,000 line feeds", b"\n" * 8_000_000, b"at 0: F24 may scroll", b"at 8192: F21 scrolls"
+
+
+def saved(room, name, file):
+    path = os.path.join(room, name.replace(" ", "-"))
+    with open(path, "wb") as to:
+        to.write(file)
+    return path
+
+
+def try_playing_files(tally, program, room):
+    for name, content, (width, lines), rows in playing_files():
+        path = saved(room, "slow", file_of(content, width, lines))
+        for words, start in ((["check"], b"any"), (["check", "--cleared"], b"cleared")):
+            wanted = passes(report(width, lines, start, len(content), rows))
+            tally.row(f"{name}, {' '.join(words)}", came_of([program, *words, path]), wanted)
+        wanted = passes(b"size: %d x %d\ncontent: %d bytes\nneeds: nothing\n" % (width, lines, len(content)))
+        tally.row(f"{name}, needs", came_of([program, "needs", path]), wanted, NEEDS_SECONDS)
+
+
+def try_refused_files(tally, program, room):
+    for name, content, any_fault, cleared_fault in refused_files():
+        path = saved(room, "slow", file_of(content, WIDTH, LINES))
+        asked = ([], b"any", any_fault), (["--cleared"], b"cleared", cleared_fault)
+        for flags, start, fault in asked:
+            wanted = refuses(refusal(WIDTH, LINES, start, len(content), fault))
+            tally.row(" ".join([f"{name}, check", *flags]), came_of([program, "check", *flags, path]), wanted)
+
+
+def marks_and_comments():
+    """A file of the greatest length: end marks alone, 255 comments, and a record that counts them."""
+    record = bytearray(plain_record(2, 1, 0))
+    record[104] = 255
+    comments = b"COMNT" + b"hello".ljust(64) * 255
+    return b"\x1a" * (LARGEST_FILE - len(comments) - 128) + comments + bytes(record)
+
+
+def try_marks_and_comments(tally, program, room):
+    path, name = saved(room, "slow", marks_and_comments()), "255 comments over end marks"
+    fault = b"at 0: F25 cell stays unknown (row 1, column 1)"
+    tally.row(f"{name}, check", came_of([program, "check", path]), refuses(refusal(2, 1, b"any", 0, fault)))
+    wanted = passes(report(2, 1, b"cleared", 0, [b"  "]))
+    tally.row(f"{name}, check --cleared", came_of([program, "check", "--cleared", path]), wanted)
+    fields = (b"title: \nauthor: \ngroup: \ndate: 19960101\nsize: 2 x 1\nflags: 00\nfont: \n"
+              b"file size: 0\ncomments: 255\n")
+    tally.row(f"{name}, sauce", came_of([program, "sauce", path]), passes(fields + b"comment: hello\n" * 255))
+    tally.row(f"{name}, tokens", came_of([program, "tokens", path]), passes(b""))
+
+
+def try_lengths(tally, program, room):
+    """One byte too many, by name, on standard input and through a pipe; and a device without an end."""
+    file = marks_and_comments()
+    path = saved(room, "long", b"\x1a" + file)
+    tally.row("16,777,217 bytes", came_of([program, "check", path]), stops(TOO_LONG))
+    with open(path, "rb") as stdin:
+        tally.row("16,777,217 bytes on standard input", came_of([program, "sauce"], stdin), stops(TOO_LONG))
+    tally.row("16,777,217 bytes through a pipe", fed([program, "needs"], b"\x1a" + file), stops(TOO_LONG))
+    wanted = passes(report(2, 1, b"cleared", 0, [b"  "]))
+    tally.row("16,777,216 bytes through a pipe", fed([program, "check", "--cleared"], file), wanted)
+    tally.row("a device without an end", came_of([program, "tokens", "/dev/zero"]), stops(TOO_LONG))
+
+
+# Streams.
+
+def fed(words, file):
+    """A run whose standard input is a pipe. The program may close it before its end."""
+    end, begin = os.pipe()
+
+    def feed():
+        with contextlib.suppress(BrokenPipeError), open(begin, "wb", buffering=0) as to:
+            to.write(file)
+
+    feeder = threading.Thread(target=feed)
+    feeder.start()
+    with open(end, "rb") as stdin:
+        came = came_of(words, stdin)
+    feeder.join()
+    return came
+
+
+def try_closed_output(tally, program, room):
+    """`| head -c 10`: the reader takes ten bytes and goes. The report is longer than a pipe holds."""
+    path = saved(room, "wide", file_of(CLEAR, WIDTH, LINES))
+    for words in (["check"], ["check", "--cells"]):
+        head = subprocess.Popen(["head", "-c", "10"], stdin=subprocess.PIPE, stdout=subprocess.PIPE)
+        came = came_of([program, *words, path], stdout=head.stdin)
+        head.stdin.close()
+        came = came._replace(out=head.stdout.read())
+        head.wait()
+        tally.row(f"{' '.join(words)} | head -c 10", came, Wanted(2, b"size: 1024", NOT_WRITTEN))
+    with open("/dev/full", "wb") as full:
+        came = came_of([program, "check", "--cells", path], stdout=full)
+    tally.row("check --cells of the largest screen > /dev/full", came, stops(NOT_WRITTEN))
+
+
+def try_closed_streams(tally, program, room):
+    """Streams that are closed: a file that is opened then takes their number."""
+    path = saved(room, "hi", file_of(b"Hi"))
+    check = [program, "check", "--cleared"]
+    tally.row("check <&-", came_of(check, closed=[0]), stops(NOT_READ))
+    tally.row("check FILE <&-", came_of([*check, path], closed=[0]), passes(HI_PASSES))
+    tally.row("check FILE >&-", came_of([*check, path], closed=[1]), stops(NOT_WRITTEN))
+    tally.row("check FILE <&- >&-", came_of([*check, path], closed=[0, 1]), stops(NOT_WRITTEN))
+    tally.row("check FILE 2>&-", came_of([*check, path], closed=[2]), passes(HI_PASSES))
+    tally.row("check FILE >&- 2>&-", came_of([*check, path], closed=[1, 2]), stops(b""))
+    with open(path, "rb") as file:
+        tally.row("FILE after all that", Came(0, file.read(), b"", 0, 0), passes(file_of(b"Hi")))
+
+
+def try_odd_files(tally, program, room):
+    """A folder, a pipe and a terminal's null as FILE, and pipes as standard input."""
+    check = [program, "check", "--cleared"]
+    tally.row("a folder", came_of([*check, room]), stops(NOT_READ))
+    folder = os.open(room, os.O_RDONLY)
+    tally.row("a folder on standard input", came_of(check, folder), stops(NOT_READ))
+    os.close(folder)
+    tally.row("a pipe on standard input", fed(check, file_of(b"Hi")), passes(HI_PASSES))
+    nothing = refuses(b"verdict: refused\nat 0: F1 no SAUCE record\n")
+    tally.row("an empty pipe on standard input", fed(check, b""), nothing)
+    tally.row("/dev/null", came_of([*check, "/dev/null"]), nothing)
+    pipe = os.path.join(room, "pipe")
+    os.mkfifo(pipe)
+    feeder = threading.Thread(target=lambda: saved(room, "pipe", file_of(b"Hi")))
+    feeder.start()
+    tally.row("a pipe as FILE", came_of([*check, pipe]), passes(HI_PASSES))
+    feeder.join()
+
+
+def try_growing_file(tally, program, room):
+    """A file to which bytes are added all the while. What was read is one front of it."""
+    path, stopped = saved(room, "growing", b"S" * 4 * MIB), threading.Event()
+
+    def grow():
+        with open(path, "ab", buffering=0) as to:
+            while not stopped.is_set() and to.tell() < 2 * LARGEST_FILE:
+                to.write(b"S" * 512)
+
+    grower = threading.Thread(target=grow)
+    grower.start()
+    least = os.path.getsize(path)
+    came = came_of([program, "check", path])
+    stopped.set()
+    grower.join()
+    most = os.path.getsize(path)
+    found = came.out.removeprefix(b"verdict: refused\nat ").removesuffix(b": F1 no SAUCE record\n")
+    length = int(found) if found.isdigit() else -1
+    wanted = refuses(b"verdict: refused\nat %d: F1 no SAUCE record\n" % length)
+    if not least <= length <= most:
+        wanted = stops(TOO_LONG)
+    tally.row(f"a file that grows, {least} to {most} bytes, as {length}", came, wanted)
+
+
+# Memory.
+
+def try_memory(tally, program, room):
+    """The largest screen under the stated memory, under too little, and under each limit between."""
+    content = CLEAR + b"\r" * (LARGEST_FILE - 129 - len(CLEAR))
+    path = saved(room, "largest", file_of(content, WIDTH, LINES))
+    stated = LARGEST_FILE + LARGEST_SCREEN + ALLOWANCE
+    wanted = passes(report(WIDTH, LINES, b"any", len(content), blank_rows()))
+    tally.row(f"check in {stated} bytes", came_of([program, "check", path], memory=stated), wanted)
+    needed = passes(b"size: 1024 x 8192\ncontent: %d bytes\nneeds: nothing\n" % len(content))
+    tally.row(f"needs in {stated} bytes", came_of([program, "needs", path], memory=stated), needed, NEEDS_SECONDS)
+    small = LARGEST_FILE + ALLOWANCE
+    fields = b"file size: %d\n" % len(content)
+    came = came_of([program, "sauce", path], memory=small)
+    came = came._replace(out=came.out[-len(fields) - 12:])
+    tally.row(f"the end of sauce in {small} bytes", came, passes(fields + b"comments: 0\n"))
+    tally.row(f"check in {small} bytes", came_of([program, "check", path], memory=small), stops(NO_MEMORY))
+    tally.row(f"needs in {small} bytes", came_of([program, "needs", path], memory=small), stops(NO_MEMORY))
+    try_limits(tally, program, path, stated, wanted)
+
+
+def try_limits(tally, program, path, stated, wanted):
+    """Each limit gives the whole answer or none."""
+    answered = 0
+    for limit in range(ALLOWANCE, stated + MIB, MIB):
+        came = came_of([program, "check", path], memory=limit)
+        answered += came.status == 0
+        if came[:3] not in (tuple(wanted), tuple(stops(NO_MEMORY))):
+            tally.row(f"check in {limit} bytes", came, stops(NO_MEMORY))
+    tally.rows += 1
+    print(f"limits from {ALLOWANCE} bytes on in steps of {MIB}: {answered} answers, and else `out of memory`")
+
+
+def main(program):
+    program, tally = os.path.abspath(program), Tally()
+    with tempfile.TemporaryDirectory() as room:
+        for part in (try_playing_files, try_refused_files, try_marks_and_comments, try_lengths, try_closed_output,
+                     try_closed_streams, try_odd_files, try_growing_file, try_memory):
+            part(tally, program, room)
+    print(f"{tally.rows} rows: {tally.wrong} came out otherwise, {tally.slow} took too long")
+    return 1 if tally.wrong or tally.slow else 0
+
+
+if __name__ == "__main__":
+    sys.exit(main(sys.argv[1]))
