@@ -24,6 +24,7 @@ import collections
 import contextlib
 import os
 import resource
+import signal
 import subprocess
 import sys
 import tempfile
@@ -69,20 +70,24 @@ def came_of(words, stdin=subprocess.DEVNULL, stdout=None, memory=0, closed=()):
     """One run. Standard output is kept in a file, so that nobody has to read it meanwhile."""
     with tempfile.TemporaryFile() as out, tempfile.TemporaryFile() as err:
         begun, before = time.monotonic(), resource.getrusage(resource.RUSAGE_CHILDREN)
-        status = subprocess.run(
-            words, stdin=stdin, stdout=out if stdout is None else stdout, stderr=err,
-            preexec_fn=limited(memory, closed), timeout=CLOCK_SECONDS,
-        ).returncode
+        try:
+            status = subprocess.run(
+                words, stdin=stdin, stdout=out if stdout is None else stdout, stderr=err,
+                preexec_fn=limited(memory, closed), timeout=CLOCK_SECONDS,
+            ).returncode
+        except subprocess.TimeoutExpired:
+            status = -signal.SIGKILL
         clock, after = time.monotonic() - begun, resource.getrusage(resource.RUSAGE_CHILDREN)
         seconds = after.ru_utime + after.ru_stime - before.ru_utime - before.ru_stime
-        out.seek(0), err.seek(0)
+        out.seek(0)
+        err.seek(0)
         return Came(status, out.read(), err.read(), seconds, clock)
 
 
-def report(width, lines, start, length, rows, notes=b""):
+def report(width, lines, start, length, rows):
     """The report of a pass with this picture."""
     head = b"size: %d x %d\nstart: %s\ncontent: %d bytes\n" % (width, lines, start, length)
-    return head + notes + b"verdict: pass\npicture:\n" + b"".join(row + b"\n" for row in rows)
+    return head + b"verdict: pass\npicture:\n" + b"".join(row + b"\n" for row in rows)
 
 
 def refusal(width, lines, start, length, fault):
@@ -288,7 +293,7 @@ def try_closed_streams(tally, program, room):
 
 
 def try_odd_files(tally, program, room):
-    """A folder, a pipe and a terminal's null as FILE, and pipes as standard input."""
+    """A folder, a pipe and `/dev/null` as FILE, and a folder and pipes as standard input."""
     check = [program, "check", "--cleared"]
     tally.row("a folder", came_of([*check, room]), stops(NOT_READ))
     folder = os.open(room, os.O_RDONLY)
@@ -324,8 +329,8 @@ def try_growing_file(tally, program, room):
     most = os.path.getsize(path)
     found = came.out.removeprefix(b"verdict: refused\nat ").removesuffix(b": F1 no SAUCE record\n")
     length = int(found) if found.isdigit() else -1
-    wanted = refuses(b"verdict: refused\nat %d: F1 no SAUCE record\n" % length)
-    if not least <= length <= most:
+    wanted = refuses(b"verdict: refused\nat %d: F1 no SAUCE record\n" % min(max(length, least), most))
+    if length < 0 and most > LARGEST_FILE:
         wanted = stops(TOO_LONG)
     tally.row(f"a file that grows, {least} to {most} bytes, as {length}", came, wanted)
 
