@@ -1,11 +1,14 @@
 //! Files of many chunks, and screens as wide and as long as they may be.
 use super::endings::{Output, serve_once};
 use super::verdicts::check_file;
-use super::{CLEARED, file_of, file_of_size, run_once};
-use crate::{RunError, Start, Verdict};
+use super::{
+    ANY, CLEARED, NEEDS, SAUCE, TOKENS, expect_run, file_of, file_of_size, plain_file, run_once,
+};
+use crate::{Options, RunError, Start, Verdict, run};
+use ans_report::Tried;
 use ans_samples::Narrow;
 use ans_sauce::{Cause, Fault, MAX_FILE};
-use std::io::{self, Read};
+use std::io::{self, Read, Write};
 use std::process::Abort;
 
 /// Gives some bytes, then a line of 1024 bytes again and again, and then the last bytes.
@@ -261,4 +264,121 @@ fn long_sequences_are_read(rt: HostRuntime) {
         Verdict::Refused(_, found) => assert_eq!(rt; found, fault),
         Verdict::Pass(_, _) => panic!(rt; "a refusal was expected"),
     }
+}
+
+/// What stands before the picture in the report of the largest screen.
+const LARGEST_HEADING: &[u8] =
+    b"size: 1024 x 8192\nstart: any\ncontent: 8 bytes\nverdict: pass\npicture:\n";
+
+/// The bytes of the largest picture, one for each blank, and of its cells, four for each.
+const LARGEST_PICTURE: usize = 8192 * 1025;
+
+const LARGEST_CELLS: usize = 8192 * 4097;
+
+/// The byte at a place of the report of the largest screen, blank and with its cells.
+fn byte_of_largest_report(at: usize) -> u8 {
+    if at < LARGEST_HEADING.len() {
+        return LARGEST_HEADING[at];
+    }
+    let at = at - LARGEST_HEADING.len();
+    if at < LARGEST_PICTURE {
+        return if at % 1025 == 1024 { b'\n' } else { b' ' };
+    }
+    let at = at - LARGEST_PICTURE;
+    let title = b"cells:\n";
+    if at < title.len() {
+        return title[at];
+    }
+    let column = (at - title.len()) % 4097;
+    if column == 4096 {
+        b'\n'
+    } else {
+        b"2007"[column % 4]
+    }
+}
+
+/// Counts the bytes that it takes, and those that the report of the largest screen does not have there.
+#[derive(Clone, Copy)]
+struct LargestReport {
+    taken: usize,
+    others: usize,
+}
+
+impl Write for LargestReport {
+    fn write(&mut self, buf: &[u8]) -> io::Result<usize> {
+        for byte in buf {
+            if *byte != byte_of_largest_report(self.taken) {
+                self.others = self.others.saturating_add(1);
+            }
+            self.taken = self.taken.saturating_add(1);
+        }
+        Ok(buf.len())
+    }
+
+    fn flush(&mut self) -> io::Result<()> {
+        Ok(())
+    }
+}
+
+/// What became of a report of the largest screen. Nothing is written where memory was refused.
+fn report_largest(rt: &(impl Abort + AllocGlobal), file: &[u8], asked: &Options) -> LargestReport {
+    for _ in 0..2 {
+        let mut reader = Tried::new(file);
+        let mut writer = Tried::new(LargestReport {
+            taken: 0,
+            others: 0,
+        });
+        let answer = run(rt.alloc(), &mut reader, &mut writer, asked);
+        if answer != Err(RunError::Memory) {
+            assert!(rt; answer == Ok(true));
+            return writer.into_inner();
+        }
+        assert_eq!(rt; writer.calls(), 0);
+    }
+    panic!(rt; "memory was refused twice");
+}
+
+#[test]
+fn each_cell_of_the_largest_screen_is_reported(rt: HostRuntime) {
+    let file = plain_file(&rt, b"\x1b[0m\x1b[2J", 1024, 8192);
+    let asked = Options { cells: true, ..ANY };
+    let written = report_largest(&rt, file.as_slice(), &asked);
+    assert_eq!(rt; written.others, 0);
+    let length = LARGEST_HEADING.len() + LARGEST_PICTURE + 7 + LARGEST_CELLS;
+    assert_eq!(rt; written.taken, length);
+}
+
+#[test]
+fn an_empty_content_needs_the_largest_screen(rt: HostRuntime) {
+    let file = plain_file(&rt, b"", 1024, 8192);
+    let text: &[u8] = b"size: 1024 x 8192\ncontent: 0 bytes\nneeds: screen\n";
+    expect_run(&rt, file.as_slice(), &NEEDS, 256, Ok(true), text);
+}
+
+/// What the commands but `check` tell of a string of 100,000 bytes that does not end.
+#[test]
+fn a_long_string_without_an_end_is_told(rt: HostRuntime) {
+    let mut front = [0x1b; 100_004];
+    front[1] = b'[';
+    front[2] = b'"';
+    front[100_003] = 0x1a;
+    let edits: [(usize, &[u8]); 1] = [(90, b"\xa3\x86\x01\x00")];
+    let file = file_of(&rt, &front, &edits);
+    let refused: &[u8] = b"size: 2 x 1\n\
+        content: 100003 bytes\n\
+        verdict: refused\n\
+        at 0: F12 content ends in a sequence\n";
+    expect_run(&rt, file.as_slice(), &NEEDS, 256, Ok(false), refused);
+    let told: &[u8] = b"at 0: F12 content ends in a sequence\n";
+    expect_run(&rt, file.as_slice(), &TOKENS, 256, Ok(false), told);
+    let record: &[u8] = b"title: \n\
+        author: \n\
+        group: \n\
+        date: 19960101\n\
+        size: 2 x 1\n\
+        flags: 00\n\
+        font: \n\
+        file size: 100003\n\
+        comments: 0\n";
+    expect_run(&rt, file.as_slice(), &SAUCE, 256, Ok(true), record);
 }
