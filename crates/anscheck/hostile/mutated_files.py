@@ -10,8 +10,9 @@ records on which the crates are tested, and some made here) after one to six cha
 slices cut, doubled or taken from another seed, numbers and lengths of sequences, the numbers and the
 length of the record, and its layout. Case N of a seed is the same file and the same runs each time.
 Three cases of five run two commands, each on the file by its name and on standard input; in one case of
-fifty, where the file has at most 4096 bytes, standard input is a pipe that gives one byte a read. The other cases compare commands: a check from a class of starts, one from the cleared screen,
-`needs`, and `sauce` or `tokens`.
+fifty, where the file has at most 4096 bytes, standard input is a pipe that gives one byte a read. The
+other cases compare commands: a check from a class of starts, one from the cleared screen, `needs`, and
+`sauce` or `tokens`.
 
 A run goes wrong where its status is not 0 or 1 (a readable file always has an answer, so 2 is wrong
 too), where a signal ends it, where it says anything on standard error, where it takes more than one
