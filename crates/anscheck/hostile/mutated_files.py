@@ -288,11 +288,9 @@ def text_of(path):
 class Room:
     """A folder for one worker, in which the program is run on one file after another."""
 
-    def __init__(self, program):
-        memory = "/dev/shm" if os.path.isdir("/dev/shm") else None
-        self.folder = tempfile.TemporaryDirectory(prefix="anscheck-", dir=memory)
-        self.program = program
-        self.file, self.out, self.err = (os.path.join(self.folder.name, n) for n in ("file", "out", "err"))
+    def __init__(self, program, folder):
+        self.program, own = program, tempfile.mkdtemp(dir=folder)
+        self.file, self.out, self.err = (os.path.join(own, name) for name in ("file", "out", "err"))
         self.child = 0
         signal.signal(signal.SIGALRM, lambda *_: os.kill(self.child, signal.SIGKILL))
 
@@ -477,10 +475,10 @@ def play_batch(batch):
     return seen, slowest, found
 
 
-def begin(program):
+def begin(program, folder):
     """What each worker has: its room and the seeds."""
     global THE_ROOM, THE_SEEDS
-    THE_ROOM, THE_SEEDS = Room(program), seeds()
+    THE_ROOM, THE_SEEDS = Room(program, folder), seeds()
 
 
 def report(found, folder):
@@ -493,22 +491,33 @@ def report(found, folder):
     print(f"case {number}: {what}\n  {path}", flush=True)
 
 
+def play_all(pool, seed, batches, kept):
+    """Plays so many batches, and tells how far it is: counts of answers, the longest time, how many went wrong."""
+    seen, slowest, wrong, begun = collections.Counter(), 0.0, 0, time.monotonic()
+    told = begun
+    work = ((seed, i * CASES_OF_A_BATCH) for i in range(batches))
+    for done, (counts, longest, found) in enumerate(pool.imap(play_batch, work), 1):
+        seen += counts
+        slowest, wrong = max(slowest, longest), wrong + len(found)
+        for each in found:
+            report(each, kept)
+        if time.monotonic() - told > 30:
+            told = time.monotonic()
+            so_far = done * RUNS_OF_A_CASE * CASES_OF_A_BATCH
+            print(f"{so_far} runs, {so_far / (told - begun):.0f} a second, {wrong} wrong", flush=True)
+    return seen, slowest, wrong
+
+
 def main(program, seed="1", runs="10000", workers="4"):
     batches = -(-int(runs) // (RUNS_OF_A_CASE * CASES_OF_A_BATCH))
-    seen, slowest, wrong = collections.Counter(), 0.0, 0
-    begun = told = time.monotonic()
-    folder = os.path.join(tempfile.gettempdir(), f"anscheck-found-{os.getpid()}")
-    with multiprocessing.get_context("fork").Pool(int(workers), begin, [os.path.abspath(program)]) as pool:
-        work = ((seed, i * CASES_OF_A_BATCH) for i in range(batches))
-        for done, (counts, longest, found) in enumerate(pool.imap(play_batch, work), 1):
-            seen += counts
-            slowest, wrong = max(slowest, longest), wrong + len(found)
-            for each in found:
-                report(each, folder)
-            if time.monotonic() - told > 30:
-                told = time.monotonic()
-                so_far = done * RUNS_OF_A_CASE * CASES_OF_A_BATCH
-                print(f"{so_far} runs, {so_far / (told - begun):.0f} a second, {wrong} wrong", flush=True)
+    memory = "/dev/shm" if os.path.isdir("/dev/shm") else None
+    kept = os.path.join(tempfile.gettempdir(), f"anscheck-found-{os.getpid()}")
+    with tempfile.TemporaryDirectory(prefix="anscheck-", dir=memory) as folder:
+        given = [os.path.abspath(program), folder]
+        with multiprocessing.get_context("fork").Pool(int(workers), begin, given) as pool:
+            seen, slowest, wrong = play_all(pool, seed, batches, kept)
+            pool.close()
+            pool.join()
     cases = batches * CASES_OF_A_BATCH
     counts = ", ".join(f"{seen[kind]} {kind}" for kind in sorted(seen, key=seen.get, reverse=True))
     print(f"{cases * RUNS_OF_A_CASE} runs on {cases} files, seed {seed}: {wrong} went wrong; "
