@@ -18,7 +18,7 @@ use Rattle.ans_tokens.proofs.Readable.{reads_as_more}
 use Rattle.ans_tokens.specs.ScannerView.{ScannerView, Holds, IsTokenOf, IsFaultOf}
 use Rattle.ans_tokens.proofs.EachByte.{kept_open, open_ends}
 use Rattle.ans_model.proofs.OneAnswer.{clean_or_first}
-use Rattle.ans_tokens.specs.Token.{kind_of, length_of}
+use Rattle.ans_tokens.specs.Token.{kind_of}
 use Rattle.ans_tokens.specs.Glyphs.{IsBetweenTokens, scanner_after}
 use Rattle.ans_tokens.specs.WholeToken.{IsTokenFront}
 use Rattle.ans_tokens.specs.declared.token.Token.{Token as Spelled}

@@ -56,7 +56,10 @@ const NOT_READ: [&[u8]; 13] = [
 fn others_are_not_read(rt: HostRuntime) {
     for bytes in NOT_READ {
         let mut found = ArrayVec::new();
-        assert!(rt; read_sequence(bytes, &mut found).is_none(), "{bytes:?} is read");
+        assert!(rt;
+            read_sequence(bytes, &mut found).is_none(),
+            "{bytes:?} is read"
+        );
     }
 }
 

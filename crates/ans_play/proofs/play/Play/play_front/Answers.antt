@@ -1,2 +1,0 @@
-use Rattle.std.proofs.Common.{arith}
-use Rattle.ans_play.proofs.play.Play.play_front.Goals as goal

@@ -1,4 +1,4 @@
-use Rattle.std.proofs.Common.{◌≡◌, ap, sym, ◌∙◌, rules, arith}
+use Rattle.std.proofs.Common.{◌≡◌, ap, sym, ◌∙◌, arith}
 use Rattle.ans_tokens.specs.ScannerView.{ScannerView}
 use Rattle.ans_play.specs.PlayView.{PlayView}
 use Rattle.ans_play.proofs.Letters.{letter_goes_over}
