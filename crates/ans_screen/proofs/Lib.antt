@@ -5,5 +5,6 @@ pub mod FirstGap
 pub mod Blends
 pub mod Places
 pub mod RowCells
+pub mod Widened
 pub mod RowEdits
 pub mod RowReads

@@ -1,14 +1,14 @@
 -- The elements of a list after some of them are written, and a list that is made of a function of the index.
 use Rattle.std.proofs.Common.{◌≡◌, ℕ, zero, suc, ◌+◌, ◌-◌, ◌*◌, ◌/◌, ◌≤◌, ◌<◌, List, [], ◌∷◌, ◌++◌, take, drop, set}
-use Rattle.std.proofs.Common.{map}
-use Rattle.std.proofs.Common.{replicate, length, get_or, refl, ap, sym, ◌∙◌, arith, inl, inr, ◌⊎◌, ◌≢◌, append_assoc}
+use Rattle.std.proofs.Common.{map, ◌%◌}
+use Rattle.std.proofs.Common.{replicate, length, get_or, refl, ap, sym, ◌∙◌, arith, inl, inr, ◌⊎◌, append_assoc}
 use Rattle.std.specs.List.{range_with_len}
 use Rattle.std.proofs.lemmas.Bool.{cases_lt}
 use Rattle.std.proofs.lemmas.List.{get_or-take, get_or-drop, get_or_append_left, get_or-append_right, length-append}
 use Rattle.std.proofs.lemmas.List.{length-take-le, length-drop, length-replicate, get_or-replicate, same_lists}
 use Rattle.std.proofs.lemmas.List.{set_split}
 use Rattle.std.proofs.lemmas.List.FromFn.{length-map-range_with_len, get_or-map-range_with_len}
-use Rattle.std.proofs.lemmas.Nat.{div-mul-add, div_below, le-div, row_fits_turned}
+use Rattle.std.proofs.lemmas.Nat.{div-mul-add, div-add-mod', mod_below, div_below, row_fits_turned}
 use Rattle.ans_model.specs.Screen.Step.{filled}
 use Rattle.ans_screen.specs.GridEdits.{written}
 
@@ -151,13 +151,13 @@ row_of w row i le lt =
     let at : row * w + (i - row * w) ≡ i = omega arith in
     ap (λ (n : ℕ). n / w) (sym at) ∙ div-mul-add row w (i - row * w) (omega arith)
 
-pub other_row : (w row i : ℕ) → 0 < w → (i < row * w) ⊎ (row * w + w ≤ i) → i / w ≢ row
-other_row w row i some out same = elim out [
-  | inl before ↦ let below = div_below i w row some before in omega arith
-  | inr past ↦
-      let above = le-div (row + 1) i w some (omega arith) in
-      omega arith
-]
+-- and the places of a row
+pub places_of : (w row i : ℕ) → 0 < w → i / w ≡ row → (row * w ≤ i) × (i < row * w + w)
+places_of w row i some at =
+    let parts = div-add-mod' i w in
+    let below : i % w < w = mod_below i w some in
+    let start : i / w * w ≡ row * w = ap (λ (r : ℕ). r * w) at in
+    (omega (arith, parts, start), omega (arith, parts, start, below))
 
 pub row_end : (w row rows : ℕ) → row < rows → row * w + w ≤ w * rows
 row_end w row rows lt = row_fits_turned row w w rows lt (omega arith)

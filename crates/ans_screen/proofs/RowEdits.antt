@@ -7,22 +7,23 @@ use Rattle.std.proofs.lemmas.List.{length-replicate, get_or-replicate, length-ma
 use Rattle.std.proofs.lemmas.List.{same_lists, drop_all, append-nil}
 use Rattle.ans_screen.specs.GridEdits.{written}
 use Rattle.ans_screen.specs.CellPlanes.{cell_of}
-use Rattle.ans_screen.specs.RowCells.{row_cell, state_at, cell_at, cells_of_rows, length_rows, Takes}
-use Rattle.ans_screen.specs.RowCells.{AreOpen, AreKnownRows}
+use Rattle.ans_screen.specs.RowCells.{row_cell, state_in, state_at, cell_at, cells_of_rows, length_rows, nowhere, Takes}
+use Rattle.ans_screen.specs.RowCells.{AreOpen, AreKnownStates}
 use Rattle.ans_model.specs.Screen.Step.{filled}
 use Rattle.ans_screen.specs.declared.cell.HalfCell.{HalfCell}
+use Rattle.ans_screen.specs.declared.plane_grid.Extent.{Extent}
 use Rattle.ans_screen.specs.declared.plane_grid.RowState.{RowState}
 use Rattle.ans_screen.specs.declared.plane_grid.RowState.TheVariants.{Stale, Known, Mixed}
 use Rattle.ans_screen.proofs.Places.{keeps_all, keeps_written, keeps_filled, filled_within, filled_run, written_at}
 use Rattle.ans_screen.proofs.Places.{map-replicate, get_or-map_within, Keeps, is_written}
 use Rattle.ans_screen.proofs.Places.{row_below}
-use Rattle.ans_screen.proofs.RowCells.{get_rows, same_cell}
+use Rattle.ans_screen.proofs.RowCells.{get_rows, same_cell, stale_in}
 
 -- ---- cells side by side are written
-pub run_changed : (w rows from to : ℕ) (states : List RowState) (blank : HalfCell)
+pub run_changed : (w rows from to : ℕ) (states : ℕ → RowState) (blank : HalfCell)
     (gs ks bs vs gs' ks' bs' vs' : List ℕ) (new : List HalfCell) → to ≡ from + length new → to ≤ w * rows
     → Keeps gs gs' from to → Keeps ks ks' from to → Keeps bs bs' from to → Keeps vs vs' from to
-    → ((j : ℕ) (d : HalfCell) → j < length new → cell_at w states blank gs' ks' bs' vs' (from + j) ≡ get_or new j d)
+    → ((j : ℕ) (d : HalfCell) → j < length new → cell_at states blank gs' ks' bs' vs' (from + j) ≡ get_or new j d)
     → cells_of_rows w rows states blank gs' ks' bs' vs' ≡ written (cells_of_rows w rows states blank gs ks bs vs)
     from new
 run_changed w rows from to states blank gs ks bs vs gs' ks' bs' vs' new end room hg hk hb hv inside =
@@ -55,10 +56,10 @@ pub record AreLevel (gs ks bs vs : List ℕ) (n : ℕ) : Type 0 where
   pub values : length vs ≡ n
 
 -- a run is written to all four planes
-pub run_mixed : (w rows from to : ℕ) (known : Bool) (states : List RowState) (blank : HalfCell)
+pub run_mixed : (w rows from to : ℕ) (known : Bool) (states : ℕ → RowState) (blank : HalfCell)
     (gs ks bs vs gs' ks' bs' vs' run : List ℕ) (k b v : ℕ) → AreLevel gs ks bs vs (w * rows) → to ≡ from + length run
     → to ≤ w * rows → gs' ≡ written gs from run → ks' ≡ filled ks from to k → bs' ≡ filled bs from to b
-    → vs' ≡ filled vs from to v → AreOpen w states known from to → (known ≡ true → (k ≡ 0xFF) × (b ≡ 0xFF))
+    → vs' ≡ filled vs from to v → AreOpen states known from to → (known ≡ true → (k ≡ 0xFF) × (b ≡ 0xFF))
     → cells_of_rows w rows states blank gs' ks' bs' vs'
     ≡ written (cells_of_rows w rows states blank gs ks bs vs) from (map (λ (g : ℕ). cell_of g k b v) run)
 run_mixed w rows from to known states blank gs ks bs vs gs' ks' bs' vs' run k b v h end room eg ek eb ev takes full =
@@ -78,15 +79,15 @@ run_mixed w rows from to known states blank gs ks bs vs gs' ks' bs' vs' run k b 
     (filled_within ks ks' from to k (from + j) ek rk (omega arith) within)
     (filled_within bs bs' from to b (from + j) eb rb (omega arith) within)
     (filled_within vs vs' from to v (from + j) ev rv (omega arith) within)
-    ∙ (written_mixed known (state_at w states (from + j)) blank (get_or run j 0) k b v
+    ∙ (written_mixed known (states (from + j)) blank (get_or run j 0) k b v
     (takes (from + j) (omega arith) within) full
     ∙ sym (get_or-map_within (λ (g : ℕ). cell_of g k b v) run j 0 d (omega arith))))
 
 -- a run of known cells is written to two planes of known rows
-pub run_known : (w rows from to : ℕ) (known : Bool) (states : List RowState) (blank : HalfCell)
+pub run_known : (w rows from to : ℕ) (known : Bool) (states : ℕ → RowState) (blank : HalfCell)
     (gs ks bs vs gs' vs' run : List ℕ) (k b v : ℕ) → AreLevel gs ks bs vs (w * rows) → to ≡ from + length run
     → to ≤ w * rows → gs' ≡ written gs from run → vs' ≡ filled vs from to v
-    → AreOpen w states known from to → AreKnownRows w states from to → (known ≡ true → (k ≡ 0xFF) × (b ≡ 0xFF))
+    → AreOpen states known from to → AreKnownStates states from to → (known ≡ true → (k ≡ 0xFF) × (b ≡ 0xFF))
     → cells_of_rows w rows states blank gs' ks bs vs'
     ≡ written (cells_of_rows w rows states blank gs ks bs vs) from (map (λ (g : ℕ). cell_of g k b v) run)
 run_known w rows from to known states blank gs ks bs vs gs' vs' run k b v h end room eg ev takes knowns full =
@@ -118,10 +119,10 @@ equal_cells cells from to g k b v c le e =
     ∙ (sym (filled_run cells from to (cell_of g k b v) le) ∙ ap (λ (x : HalfCell). filled cells from to x) e)
 
 -- a fill of all four planes
-pub fill_mixed : (w rows from to : ℕ) (known : Bool) (states : List RowState) (blank : HalfCell)
+pub fill_mixed : (w rows from to : ℕ) (known : Bool) (states : ℕ → RowState) (blank : HalfCell)
     (gs ks bs vs gs' ks' bs' vs' : List ℕ) (g k b v : ℕ) (c : HalfCell) → AreLevel gs ks bs vs (w * rows) → from ≤ to
     → to ≤ w * rows → gs' ≡ filled gs from to g → ks' ≡ filled ks from to k → bs' ≡ filled bs from to b
-    → vs' ≡ filled vs from to v → AreOpen w states known from to → (known ≡ true → (k ≡ 0xFF) × (b ≡ 0xFF))
+    → vs' ≡ filled vs from to v → AreOpen states known from to → (known ≡ true → (k ≡ 0xFF) × (b ≡ 0xFF))
     → cell_of g k b v ≡ c
     → cells_of_rows w rows states blank gs' ks' bs' vs'
     ≡ filled (cells_of_rows w rows states blank gs ks bs vs) from to c
@@ -132,10 +133,10 @@ fill_mixed w rows from to known states blank gs ks bs vs gs' ks' bs' vs' g k b v
     ∙ equal_cells (cells_of_rows w rows states blank gs ks bs vs) from to g k b v c le e
 
 -- a fill of two planes of known rows
-pub fill_known : (w rows from to : ℕ) (known : Bool) (states : List RowState) (blank : HalfCell)
+pub fill_known : (w rows from to : ℕ) (known : Bool) (states : ℕ → RowState) (blank : HalfCell)
     (gs ks bs vs gs' vs' : List ℕ) (g k b v : ℕ) (c : HalfCell) → AreLevel gs ks bs vs (w * rows) → from ≤ to
     → to ≤ w * rows → gs' ≡ filled gs from to g → vs' ≡ filled vs from to v
-    → AreOpen w states known from to → AreKnownRows w states from to → (known ≡ true → (k ≡ 0xFF) × (b ≡ 0xFF))
+    → AreOpen states known from to → AreKnownStates states from to → (known ≡ true → (k ≡ 0xFF) × (b ≡ 0xFF))
     → cell_of g k b v ≡ c
     → cells_of_rows w rows states blank gs' ks bs vs'
     ≡ filled (cells_of_rows w rows states blank gs ks bs vs) from to c
@@ -146,21 +147,23 @@ fill_known w rows from to known states blank gs ks bs vs gs' vs' g k b v c h le 
     ∙ equal_cells (cells_of_rows w rows states blank gs ks bs vs) from to g k b v c le e
 
 -- ---- all rows are stale
-pub all_stale : (w rows : ℕ) (states : List RowState) (blank : HalfCell) (gs ks bs vs : List ℕ) → 0 < w
-    → states ≡ replicate rows Stale
-    → cells_of_rows w rows states blank gs ks bs vs ≡ replicate (w * rows) blank
-all_stale w rows states blank gs ks bs vs some e =
-    let len = length_rows w rows states blank gs ks bs vs in
+pub all_stale : (w rows : ℕ) (states : List RowState) (extents : List Extent) (blank : HalfCell)
+    (gs ks bs vs : List ℕ) → 0 < w → states ≡ replicate rows Stale
+    → cells_of_rows w rows (state_at w states extents) blank gs ks bs vs ≡ replicate (w * rows) blank
+all_stale w rows states extents blank gs ks bs vs some e =
+    let st = state_at w states extents in
+    let len = length_rows w rows st blank gs ks bs vs in
     let long = length-replicate (w * rows) blank in
-    same_lists (cells_of_rows w rows states blank gs ks bs vs) (replicate (w * rows) blank) (omega arith) (λ i d lt.
+    same_lists (cells_of_rows w rows st blank gs ks bs vs) (replicate (w * rows) blank) (omega arith) (λ i d lt.
     let within : i < w * rows = omega arith in
-    get_rows w rows states blank gs ks bs vs i d within
-    ∙ (ap (λ ss. row_cell (get_or ss (i / w) Stale) blank (get_or gs i 0) (get_or ks i 0) (get_or bs i 0) (get_or vs
-    i 0))
-    e
-    ∙ (ap (λ s. row_cell s blank (get_or gs i 0) (get_or ks i 0) (get_or bs i 0) (get_or vs i 0))
-    (get_or-replicate rows (i / w) Stale Stale (row_below w rows i some within))
-    ∙ sym (get_or-replicate (w * rows) i blank d within))))
+    let stale : get_or states (i / w) Stale ≡ Stale =
+    ap (λ ss. get_or ss (i / w) Stale) e
+    ∙ get_or-replicate rows (i / w) Stale Stale (row_below w rows i some within) in
+    let here : st i ≡ Stale =
+    ap (λ t. state_in t (get_or extents (i / w) nowhere) i) stale ∙ stale_in (get_or extents (i / w) nowhere) i in
+    get_rows w rows st blank gs ks bs vs i d within
+    ∙ (ap (λ t. row_cell t blank (get_or gs i 0) (get_or ks i 0) (get_or bs i 0) (get_or vs i 0)) here
+    ∙ sym (get_or-replicate (w * rows) i blank d within)))
 
 -- a fill of the whole of a list
 pub filled_whole : {A : Type 0} (xs : List A) (n : ℕ) (x : A) → length xs ≡ n → filled xs 0 n x ≡ replicate n x

@@ -1,75 +1,62 @@
 -- Cells read, looked through and copied of planes with a state for each row.
-use Rattle.std.proofs.Common.{◌≡◌, ℕ, ◌+◌, ◌-◌, ◌*◌, ◌/◌, ◌≤◌, ◌<◌, true, false, List, map, length}
+use Rattle.std.proofs.Common.{◌≡◌, ℕ, ◌+◌, ◌-◌, ◌*◌, ◌≤◌, ◌<◌, true, false, List, map, length}
 use Rattle.std.proofs.Common.{get_or, refl, ap, sym, ◌∙◌, arith, Option, Some, None}
-use Rattle.std.proofs.Common.{bit_and, take, drop, not}
+use Rattle.std.proofs.Common.{bit_and, take, drop, not, IsTrue, ◌++◌, replicate, inl, inr}
 use Rattle.std.specs.List.{position, slice_get}
 use Rattle.std.proofs.lemmas.List.{get_or_default, get_or-drop, length-drop}
 use Rattle.std.proofs.lemmas.List.{get_or-take, length-take-le, length-map}
 use Rattle.std.proofs.lemmas.List.{get_or_read, same_lists}
+use Rattle.std.proofs.lemmas.Bool.{cases_lt}
+use Rattle.std.proofs.lemmas.List.{length-replicate, get_or-replicate}
 use Rattle.std.proofs.lemmas.Nat.{and_mask}
+use Rattle.std.proofs.Math.Seq.{drop-drop}
+use borrow.Rule.Slice.PartMut.{put_mid}
+use Rattle.ans_screen.specs.GridEdits.{written}
 use Rattle.std.proofs.lemmas.Option.{slice_get-get_or}
 use Rattle.ans_screen.specs.HalfCells.{is_known}
 use Rattle.ans_screen.specs.GridEdits.{is_unknown, first_unknown}
 use Rattle.ans_screen.specs.CellPlanes.{cell_of, AreKnown, IsFirstGap}
-use Rattle.ans_screen.specs.RowCells.{row_cell, state_at, cell_at, cells_of_rows, length_rows, AreKnownCells}
+use Rattle.ans_screen.specs.RowCells.{row_cell, cell_at, cells_of_rows, length_rows, AreKnownCells}
 use Rattle.ans_screen.specs.RowCells.{IsFirstUnknown}
 use Rattle.ans_screen.proofs.FirstGap.{known_cell, unknown_cell, known_next, position_none, position_some}
 use Rattle.std.proofs.lemmas.List.Sums.{position_or_len_is}
 use Rattle.ans_screen.specs.declared.cell.HalfCell.{HalfCell}
 use Rattle.ans_screen.specs.declared.plane_grid.RowState.{RowState}
 use Rattle.ans_screen.specs.declared.plane_grid.RowState.TheVariants.{Stale, Known, Mixed}
-use Rattle.ans_screen.proofs.Places.{get_or-map_within, IsPart}
-use Rattle.ans_screen.proofs.Places.{row_of}
-use Rattle.ans_screen.proofs.RowCells.{get_rows, same_cell}
-
--- the state at a cell of a row, by a width that is the same
-pub state_in_row : (w v i row : ℕ) (states : List RowState) → w ≡ v → i / v ≡ row
-    → state_at w states i ≡ get_or states row Stale
-state_in_row w v i row states e at =
-    ap (λ (n : ℕ). get_or states (i / n) Stale) e ∙ ap (λ (n : ℕ). get_or states n Stale) at
-
--- a cell in a row of a state
-pub row_state : (w row i : ℕ) (states : List RowState) (s : RowState) → row * w ≤ i → i < row * w + w
-    → get_or states row Stale ≡ s → state_at w states i ≡ s
-row_state w row i states s le lt e = ap (λ (n : ℕ). get_or states n Stale) (row_of w row i le lt) ∙ e
+use Rattle.ans_screen.proofs.Places.{get_or-map_within, IsPart, written_before, written_at, written_behind}
+use Rattle.ans_screen.proofs.RowCells.{get_rows}
 
 -- what is read of a state
 pub state_read : (states : List RowState) (row : ℕ) (x s : RowState) → row < length states → x ≡ get_or states row x
     → x ≡ s → get_or states row Stale ≡ s
 state_read states row x s lt read e = sym (get_or_read states row x lt read Stale) ∙ e
 
--- the cells of a row that are the blank, or known
-pub known_blank : (w row from to : ℕ) (states : List RowState) (blank : HalfCell) (gs ks bs vs : List ℕ)
-    → row * w ≤ from → to ≤ row * w + w → get_or states row Stale ≡ Stale → is_known blank ≡ true
-    → AreKnownCells (cell_at w states blank gs ks bs vs) from to
-known_blank w row from to states blank gs ks bs vs start end s known i le lt =
+-- stale cells of which the blank is known, known cells, and stale cells of which the blank is not known
+pub known_where_stale : (states : ℕ → RowState) (blank : HalfCell) (gs ks bs vs : List ℕ) (from to : ℕ)
+    → ((i : ℕ) → from ≤ i → i < to → states i ≡ Stale) → is_known blank ≡ true
+    → AreKnownCells (cell_at states blank gs ks bs vs) from to
+known_where_stale states blank gs ks bs vs from to stale known i le lt =
     ap (λ t. is_unknown (row_cell t blank (get_or gs i 0) (get_or ks i 0) (get_or bs i 0) (get_or vs i 0)))
-    (row_state w row i states Stale (omega arith) (omega arith) s)
+    (stale i le lt)
     ∙ ap not known
 
-pub known_row : (w row from to : ℕ) (states : List RowState) (blank : HalfCell) (gs ks bs vs : List ℕ)
-    → row * w ≤ from → to ≤ row * w + w → get_or states row Stale ≡ Known
-    → AreKnownCells (cell_at w states blank gs ks bs vs) from to
-known_row w row from to states blank gs ks bs vs start end s i le lt =
+pub known_where_known : (states : ℕ → RowState) (blank : HalfCell) (gs ks bs vs : List ℕ) (from to : ℕ)
+    → ((i : ℕ) → from ≤ i → i < to → states i ≡ Known)
+    → AreKnownCells (cell_at states blank gs ks bs vs) from to
+known_where_known states blank gs ks bs vs from to known i le lt =
     ap (λ t. is_unknown (row_cell t blank (get_or gs i 0) (get_or ks i 0) (get_or bs i 0) (get_or vs i 0)))
-    (row_state w row i states Known (omega arith) (omega arith) s)
+    (known i le lt)
     ∙ known_cell (get_or gs i 0) 0xFF 0xFF (get_or vs i 0) refl refl
 
-pub unknown_blank : (w row from to : ℕ) (states : List RowState) (blank : HalfCell) (gs ks bs vs : List ℕ)
-    → row * w ≤ from → from < to → to ≤ row * w + w → get_or states row Stale ≡ Stale → is_known blank ≡ false
-    → IsFirstUnknown (cell_at w states blank gs ks bs vs) from to (Some from)
-unknown_blank w row from to states blank gs ks bs vs start some end s unknown = (
-  omega arith,
-  some,
-  λ i le lt. absurd (omega arith),
-  ap (λ t. is_unknown (row_cell t blank (get_or gs from 0) (get_or ks from 0) (get_or bs from 0) (get_or vs from 0)))
-      (row_state w row from states Stale start (omega arith) s)
-      ∙ ap not unknown,
-)
+pub unknown_where_stale : (states : ℕ → RowState) (blank : HalfCell) (gs ks bs vs : List ℕ) (i : ℕ)
+    → states i ≡ Stale → is_known blank ≡ false → IsTrue (is_unknown (cell_at states blank gs ks bs vs i))
+unknown_where_stale states blank gs ks bs vs i stale unknown =
+    ap (λ t. is_unknown (row_cell t blank (get_or gs i 0) (get_or ks i 0) (get_or bs i 0) (get_or vs i 0))) stale
+    ∙ ap not unknown
 
 -- ---- reading
-pub read_rows : (w rows : ℕ) (states : List RowState) (blank : HalfCell) (gs ks bs vs : List ℕ) (i : ℕ) (x : HalfCell)
-    → i < w * rows → x ≡ cell_at w states blank gs ks bs vs i
+pub read_rows : (w rows : ℕ) (states : ℕ → RowState) (blank : HalfCell) (gs ks bs vs : List ℕ) (i : ℕ) (x : HalfCell)
+    → i < w * rows → x ≡ cell_at states blank gs ks bs vs i
     → slice_get (cells_of_rows w rows states blank gs ks bs vs) i ≡ Some x
 read_rows w rows states blank gs ks bs vs i x lt e =
     let len = length_rows w rows states blank gs ks bs vs in
@@ -77,10 +64,10 @@ read_rows w rows states blank gs ks bs vs i x lt e =
     ∙ ap (λ (y : HalfCell). Some y) (get_rows w rows states blank gs ks bs vs i x lt ∙ sym e)
 
 -- ---- the first unknown cell of mixed cells
-pub gap_none : (w : ℕ) (states : List RowState) (blank : HalfCell) (gs ks bs vs ks' bs' : List ℕ) (from to : ℕ)
-    → ((i : ℕ) → from ≤ i → i < to → state_at w states i ≡ Mixed) → IsPart ks from to ks' → IsPart bs from to bs'
-    → AreKnown ks' bs' (to - from) → AreKnownCells (cell_at w states blank gs ks bs vs) from to
-gap_none w states blank gs ks bs vs ks' bs' from to mixed hk hb known i le lt =
+pub gap_none : (states : ℕ → RowState) (blank : HalfCell) (gs ks bs vs ks' bs' : List ℕ) (from to : ℕ)
+    → ((i : ℕ) → from ≤ i → i < to → states i ≡ Mixed) → IsPart ks from to ks' → IsPart bs from to bs'
+    → AreKnown ks' bs' (to - from) → AreKnownCells (cell_at states blank gs ks bs vs) from to
+gap_none states blank gs ks bs vs ks' bs' from to mixed hk hb known i le lt =
     let at : from + (i - from) ≡ i = omega arith in
     let here = known (i - from) (omega arith) in
     let k = ap (λ (n : ℕ). get_or ks n 0) (sym at) ∙ (sym (hk.same (i - from) (omega arith)) ∙ here.0) in
@@ -89,17 +76,17 @@ gap_none w states blank gs ks bs vs ks' bs' from to mixed hk hb known i le lt =
     (mixed i le lt)
     ∙ known_cell (get_or gs i 0) (get_or ks i 0) (get_or bs i 0) (get_or vs i 0) k b
 
-pub gap_some : (w : ℕ) (states : List RowState) (blank : HalfCell) (gs ks bs vs ks' bs' : List ℕ) (from to i : ℕ)
-    → ((i : ℕ) → from ≤ i → i < to → state_at w states i ≡ Mixed) → IsPart ks from to ks' → IsPart bs from to bs'
+pub gap_some : (states : ℕ → RowState) (blank : HalfCell) (gs ks bs vs ks' bs' : List ℕ) (from to i : ℕ)
+    → ((i : ℕ) → from ≤ i → i < to → states i ≡ Mixed) → IsPart ks from to ks' → IsPart bs from to bs'
     → IsFirstGap ks' bs' (to - from) (Some i)
-    → IsFirstUnknown (cell_at w states blank gs ks bs vs) from to (Some (from + i))
-gap_some w states blank gs ks bs vs ks' bs' from to i mixed hk hb found =
+    → IsFirstUnknown (cell_at states blank gs ks bs vs) from to (Some (from + i))
+gap_some states blank gs ks bs vs ks' bs' from to i mixed hk hb found =
     let lt = found.0 in
     let k = sym (hk.same i lt) in
     let b = sym (hb.same i lt) in (
       omega arith,
       omega arith,
-      gap_none w states blank gs ks bs vs ks' bs' from (from + i)
+      gap_none states blank gs ks bs vs ks' bs' from (from + i)
           (λ j le below. mixed j le (omega arith))
           (record { same = λ j below. hk.same j (omega arith) })
           (record { same = λ j below. hb.same j (omega arith) })
@@ -112,8 +99,8 @@ gap_some w states blank gs ks bs vs ks' bs' from to i mixed hk hb found =
     )
 
 -- ---- the first of all cells
-pub first_of_rows : (w rows : ℕ) (states : List RowState) (blank : HalfCell) (gs ks bs vs : List ℕ) (to : ℕ)
-    (result : Option ℕ) → to ≤ w * rows → IsFirstUnknown (cell_at w states blank gs ks bs vs) 0 to result
+pub first_of_rows : (w rows : ℕ) (states : ℕ → RowState) (blank : HalfCell) (gs ks bs vs : List ℕ) (to : ℕ)
+    (result : Option ℕ) → to ≤ w * rows → IsFirstUnknown (cell_at states blank gs ks bs vs) 0 to result
     → result ≡ first_unknown (cells_of_rows w rows states blank gs ks bs vs) to
 first_of_rows w rows states blank gs ks bs vs to result le first = of_result result first
   where
@@ -129,14 +116,14 @@ first_of_rows w rows states blank gs ks bs vs to result le first = of_result res
     len : length front ≡ to
     len = length-take-le to cells (omega (arith, length_rows w rows states blank gs ks bs vs))
 
-    at : (i : ℕ) → i < to → get_or front i d ≡ cell_at w states blank gs ks bs vs i
+    at : (i : ℕ) → i < to → get_or front i d ≡ cell_at states blank gs ks bs vs i
     at i lt = get_or-take to cells i d lt ∙ get_rows w rows states blank gs ks bs vs i d (omega arith)
 
-    below : (i : ℕ) → i ≤ to → AreKnownCells (cell_at w states blank gs ks bs vs) 0 i → (k : ℕ) → k < i
+    below : (i : ℕ) → i ≤ to → AreKnownCells (cell_at states blank gs ks bs vs) 0 i → (k : ℕ) → k < i
         → is_unknown (get_or front k d) ≡ false
     below i within known k lt = ap is_unknown (at k (omega arith)) ∙ known k (omega arith) lt
 
-    of_result : (r : Option ℕ) → IsFirstUnknown (cell_at w states blank gs ks bs vs) 0 to r
+    of_result : (r : Option ℕ) → IsFirstUnknown (cell_at states blank gs ks bs vs) 0 to r
         → r ≡ position is_unknown front
     of_result None known =
         sym (position_none is_unknown front
@@ -150,22 +137,61 @@ first_of_rows w rows states blank gs ks bs vs to result le first = of_result res
         (omega (arith, len, found.1)))
 
 -- ---- cells of one row, copied
-pub cell_in_row : (w row i : ℕ) (states : List RowState) (s : RowState) (blank : HalfCell) (gs ks bs vs : List ℕ)
-    → row * w ≤ i → i < row * w + w → get_or states row Stale ≡ s
-    → cell_at w states blank gs ks bs vs i
+pub cell_in_state : (states : ℕ → RowState) (s : RowState) (blank : HalfCell) (gs ks bs vs : List ℕ) (i : ℕ)
+    → states i ≡ s
+    → cell_at states blank gs ks bs vs i
     ≡ row_cell s blank (get_or gs i 0) (get_or ks i 0) (get_or bs i 0) (get_or vs i 0)
-cell_in_row w row i states s blank gs ks bs vs le lt e =
-    same_cell _ s blank (get_or gs i 0) (get_or ks i 0) (get_or bs i 0) (get_or vs i 0) _ _ _ _
-    (row_state w row i states s le lt e) refl refl refl refl
+cell_in_state states s blank gs ks bs vs i e =
+    ap (λ t. row_cell t blank (get_or gs i 0) (get_or ks i 0) (get_or bs i 0) (get_or vs i 0)) e
 
 -- a byte of which all bits are known
 pub whole_byte : (v : ℕ) → v < 256 → bit_and v 0xFF ≡ v
 whole_byte v lt = and_mask v 8 ∙ omega arith
 
+-- a part of a list that is written
+put_is_written : (a k : ℕ) (xs ys : List ℕ) → k ≡ length ys → put_mid a k xs ys ≡ written xs a ys
+put_is_written a k xs ys e =
+    ap (λ (zs : List ℕ). take a xs ++ (ys ++ zs)) (drop-drop k a xs ∙ ap (λ (n : ℕ). drop (a + n) xs) e)
+
+-- cells of one row, of which those from `first` up to and without `end` are held, and the others are the blank
+pub copied_row : (f : HalfCell → ℕ) (cell : ℕ → HalfCell) (blank from first end : ℕ) (old copied held : List ℕ)
+    → from ≤ first → first ≤ end → end ≤ from + length old → copied ≡ replicate (length old) blank
+    → length held ≡ end - first
+    → ((i : ℕ) → from ≤ i → i < first → f (cell i) ≡ blank)
+    → ((i : ℕ) → end ≤ i → i < from + length old → f (cell i) ≡ blank)
+    → ((k : ℕ) → k < end - first → get_or held k 0 ≡ f (cell (first + k)))
+    → (k : ℕ) → k < length old
+    → get_or (put_mid (first - from) (end - from - (first - from)) copied held) k 0 ≡ f (cell (from + k))
+copied_row f cell blank from first end old copied held le ordered room is len before after inside k lt =
+    ap (λ (xs : List ℕ). get_or xs k 0)
+    (put_is_written (first - from) (end - from - (first - from)) copied held (omega (arith, len, le, ordered)))
+    ∙ elim (cases_lt k (first - from)) [
+      | inl early ↦
+          written_before copied (first - from) held k 0 (omega (arith, long)) early
+          ∙ (all_blank k lt ∙ sym (before (from + k) (omega arith) (omega arith)))
+      | inr later ↦ elim (cases_lt k (end - from)) [
+        | inl here ↦
+            let at : first - from + (k - (first - from)) ≡ k = omega arith in
+            let cell_at : first + (k - (first - from)) ≡ from + k = omega arith in
+            ap (λ (n : ℕ). get_or (written copied (first - from) held) n 0) (sym at)
+            ∙ (written_at copied (first - from) held (k - (first - from)) 0 (omega (arith, long)) (omega (arith, len))
+            ∙ (inside (k - (first - from)) (omega arith) ∙ ap (λ (n : ℕ). f (cell n)) cell_at))
+        | inr past ↦
+            written_behind copied (first - from) held k 0 (omega (arith, long)) (omega (arith, len))
+            ∙ (all_blank k lt ∙ sym (after (from + k) (omega arith) (omega arith)))
+      ]
+    ]
+  where
+    long : length copied ≡ length old
+    long = ap length is ∙ length-replicate (length old) blank
+
+    all_blank : (n : ℕ) → n < length old → get_or copied n 0 ≡ blank
+    all_blank n l = ap (λ (xs : List ℕ). get_or xs n 0) is ∙ get_or-replicate (length old) n blank 0 l
+
 -- what is copied cell by cell from a part of all cells
-pub copied_is : (f : HalfCell → ℕ) (w rows from : ℕ) (states : List RowState) (blank : HalfCell)
+pub copied_is : (f : HalfCell → ℕ) (w rows from : ℕ) (states : ℕ → RowState) (blank : HalfCell)
     (gs ks bs vs old new : List ℕ) → length new ≡ length old → from + length old ≤ w * rows
-    → ((k : ℕ) → k < length old → get_or new k 0 ≡ f (cell_at w states blank gs ks bs vs (from + k)))
+    → ((k : ℕ) → k < length old → get_or new k 0 ≡ f (cell_at states blank gs ks bs vs (from + k)))
     → new ≡ map f (take (length old) (drop from (cells_of_rows w rows states blank gs ks bs vs)))
 copied_is f w rows from states blank gs ks bs vs old new len room copied =
     let cells = cells_of_rows w rows states blank gs ks bs vs in

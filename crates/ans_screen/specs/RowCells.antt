@@ -1,12 +1,13 @@
--- Half-known cells in four byte planes and a state for each row.
+-- Half-known cells in four byte planes, with a state for each row and the extent of what is held of it.
 use Rattle.std.specs.Prelude.{◌≡◌, ℕ, ◌*◌, ◌/◌, ◌<◌, ◌≤◌, Bool, false, IsTrue, List, length, map, slice_index}
-use Rattle.std.specs.Prelude.{slice_index_or, Option, MatchOption}
+use Rattle.std.specs.Prelude.{slice_index_or, nat_lt, if◌then◌else◌, Option, MatchOption, ◌⊎◌}
 use Rattle.std.specs.List.{range_with_len}
 use Rattle.std.proofs.lemmas.List.FromFn.{length-map-range_with_len}
 use Rattle.ans_screen.specs.GridEdits.{is_unknown}
 use Rattle.ans_screen.specs.CellPlanes.{cell_of}
 use Rattle.ans_screen.specs.declared.cell.HalfCell.{HalfCell}
 use Rattle.ans_screen.specs.declared.plane_grid.PlaneGrid.{PlaneGrid}
+use Rattle.ans_screen.specs.declared.plane_grid.Extent.{Extent}
 use Rattle.ans_screen.specs.declared.plane_grid.RowState.{RowState}
 use Rattle.ans_screen.specs.declared.plane_grid.RowState.TheVariants.{Stale, Known, Mixed}
 
@@ -17,46 +18,62 @@ row_cell Stale blank glyph glyph_known bits_known value = blank
 row_cell Known blank glyph glyph_known bits_known value = cell_of glyph 0xFF 0xFF value
 row_cell Mixed blank glyph glyph_known bits_known value = cell_of glyph glyph_known bits_known value
 
--- the state of the row of cell i
-abbrev pub state_at : ℕ → List RowState → ℕ → RowState
-state_at width states i = slice_index_or states (i / width) Stale
+-- no cells
+abbrev pub nowhere : Extent
+nowhere = record { first = 0; end = 0 }
 
--- cell i
-abbrev pub cell_at : ℕ → List RowState → HalfCell → List ℕ → List ℕ → List ℕ → List ℕ → ℕ → HalfCell
-cell_at width states blank glyphs glyphs_known bits_known values i =
-    row_cell (state_at width states i) blank (slice_index glyphs i) (slice_index glyphs_known i)
-    (slice_index bits_known i) (slice_index values i)
+-- the state of cell i, where this is its row's and these are the row's cells that are held: outside them it is stale
+abbrev pub state_in : RowState → Extent → ℕ → RowState
+state_in state held i =
+    if nat_lt i held.first then Stale
+    else if nat_lt i held.end then state
+    else Stale
+
+-- the state of cell i, by its row
+abbrev pub state_at : ℕ → List RowState → List Extent → ℕ → RowState
+state_at width states extents i =
+    state_in (slice_index_or states (i / width) Stale) (slice_index_or extents (i / width) nowhere) i
+
+-- cell i, by the cells' states
+abbrev pub cell_at : (ℕ → RowState) → HalfCell → List ℕ → List ℕ → List ℕ → List ℕ → ℕ → HalfCell
+cell_at states blank glyphs glyphs_known bits_known values i =
+    row_cell (states i) blank (slice_index glyphs i) (slice_index glyphs_known i) (slice_index bits_known i)
+    (slice_index values i)
 
 -- all cells
-abbrev pub cells_of_rows : ℕ → ℕ → List RowState → HalfCell → List ℕ → List ℕ → List ℕ → List ℕ → List HalfCell
+abbrev pub cells_of_rows : ℕ → ℕ → (ℕ → RowState) → HalfCell → List ℕ → List ℕ → List ℕ → List ℕ → List HalfCell
 cells_of_rows width rows states blank glyphs glyphs_known bits_known values =
-    map (cell_at width states blank glyphs glyphs_known bits_known values) (range_with_len 0 (width * rows))
+    map (cell_at states blank glyphs glyphs_known bits_known values) (range_with_len 0 (width * rows))
 
 -- a cell for each row and column
-pub length_rows : (w rows : ℕ) (states : List RowState) (blank : HalfCell) (gs ks bs vs : List ℕ)
+pub length_rows : (w rows : ℕ) (states : ℕ → RowState) (blank : HalfCell) (gs ks bs vs : List ℕ)
     → length (cells_of_rows w rows states blank gs ks bs vs) ≡ w * rows
 length_rows w rows states blank gs ks bs vs =
-    length-map-range_with_len (cell_at w states blank gs ks bs vs) 0 (w * rows)
+    length-map-range_with_len (cell_at states blank gs ks bs vs) 0 (w * rows)
+
+-- the states of a grid's cells
+abbrev pub states_of : PlaneGrid → ℕ → RowState
+states_of g = state_at g.width g.states.items g.extents.items
 
 -- all cells of a grid
 abbrev pub cells_of_grid : PlaneGrid → List HalfCell
 cells_of_grid g =
-    cells_of_rows g.width g.rows g.states.items g.blank g.glyphs.items g.glyphs_known.items g.bits_known.items
+    cells_of_rows g.width g.rows (states_of g) g.blank g.glyphs.items g.glyphs_known.items g.bits_known.items
     g.values.items
 
--- cells can be written to the planes of such a row: known ones, or any
+-- a cell can be written to the planes in such a state: a known one, or any
 abbrev pub Takes : Bool → RowState → Type 0
 Takes known Stale = ⊥
 Takes known Known = IsTrue known
 Takes known Mixed = Unit {0}
 
--- so they can to the rows of the cells from `from` up to and without `to`
-abbrev pub AreOpen : ℕ → List RowState → Bool → ℕ → ℕ → Type 0
-AreOpen width states known from to = (i : ℕ) → from ≤ i → i < to → Takes known (state_at width states i)
+-- so they can at the cells from `from` up to and without `to`
+abbrev pub AreOpen : (ℕ → RowState) → Bool → ℕ → ℕ → Type 0
+AreOpen states known from to = (i : ℕ) → from ≤ i → i < to → Takes known (states i)
 
--- the rows of those cells are known
-abbrev pub AreKnownRows : ℕ → List RowState → ℕ → ℕ → Type 0
-AreKnownRows width states from to = (i : ℕ) → from ≤ i → i < to → state_at width states i ≡ Known
+-- the states of those cells are known
+abbrev pub AreKnownStates : (ℕ → RowState) → ℕ → ℕ → Type 0
+AreKnownStates states from to = (i : ℕ) → from ≤ i → i < to → states i ≡ Known
 
 -- of the cells from `from` up to and without `to` each is known
 abbrev pub AreKnownCells : (ℕ → HalfCell) → ℕ → ℕ → Type 0
@@ -67,3 +84,22 @@ abbrev pub IsFirstUnknown : (ℕ → HalfCell) → ℕ → ℕ → Option ℕ �
 IsFirstUnknown cell from to result =
     MatchOption result (AreKnownCells cell from to)
     (λ i. (from ≤ i) × (i < to) × AreKnownCells cell from i × IsTrue (is_unknown (cell i)))
+
+-- the four bytes of cell i are the same in both grids
+pub record SameBytes (old new : PlaneGrid) (i : ℕ) : Type 0 where
+  pub glyph : slice_index new.glyphs.items i ≡ slice_index old.glyphs.items i
+  pub glyph_known : slice_index new.glyphs_known.items i ≡ slice_index old.glyphs_known.items i
+  pub bits_known : slice_index new.bits_known.items i ≡ slice_index old.bits_known.items i
+  pub value : slice_index new.values.items i ≡ slice_index old.values.items i
+
+-- the cell that the bytes of cell i stand for in this state
+abbrev pub byte_cell : RowState → PlaneGrid → ℕ → HalfCell
+byte_cell state g i =
+    row_cell state g.blank (slice_index g.glyphs.items i) (slice_index g.glyphs_known.items i)
+    (slice_index g.bits_known.items i) (slice_index g.values.items i)
+
+-- from `from` up to and without `to` the bytes of each cell stand for the blank in this state, and the others are as
+-- they were
+pub record HasBlanks (state : RowState) (old new : PlaneGrid) (from to : ℕ) : Type 0 where
+  pub inside : (i : ℕ) → from ≤ i → i < to → byte_cell state new i ≡ new.blank
+  pub outside : (i : ℕ) → (i < from) ⊎ (to ≤ i) → SameBytes old new i

@@ -19,9 +19,18 @@ pub(crate) enum RowState {
     Mixed,
 }
 
-/// Cell `i` is byte `i` of each plane, as far as the state of its row says. So a fill of the whole
-/// grid writes no more than the states, and of a known row half the planes are neither written
-/// nor read.
+/// The cells of a row that the planes hold, from the first up to and without the end, by their
+/// indexes in the grid. Each other cell of the row is the blank.
+#[derive(Clone, Copy)]
+pub(crate) struct Extent {
+    pub(crate) first: usize,
+    pub(crate) end: usize,
+}
+
+/// Cell `i` is byte `i` of each plane, as far as the state of its row and what is held of it say.
+/// So a fill of the whole grid writes no more than the states, a write to a row writes no more of
+/// it than what lies between the cells that are held, and of a known row half the planes are
+/// neither written nor read.
 #[derive(Drop)]
 pub struct PlaneGrid {
     width: usize,
@@ -30,6 +39,7 @@ pub struct PlaneGrid {
     // the row of the last edit, if one is right: a guess at the row of the next
     last_row: usize,
     states: Vec<RowState>,
+    extents: Vec<Extent>,
     glyphs: Vec<u8>,
     // FFh where the glyph is known, else 00h
     glyphs_known: Vec<u8>,
@@ -38,6 +48,7 @@ pub struct PlaneGrid {
     values: Vec<u8>,
     ghost some_width: { 1 ≤ width },
     ghost whole_states: { length states.items ≡ rows },
+    ghost whole_extents: { length extents.items ≡ rows },
     ghost whole_glyphs: { length glyphs.items ≡ width * rows },
     ghost whole_glyphs_known: { length glyphs_known.items ≡ width * rows },
     ghost whole_bits_known: { length bits_known.items ≡ width * rows },

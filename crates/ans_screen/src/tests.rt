@@ -331,3 +331,38 @@ fn clears_known_and_unknown(rt: HostRuntime) -> Result<(), Fail> {
     }
     Ok(())
 }
+
+/// Edits of parts of the second row, which begins at cell 33, after clears.
+fn write_parts(rt: &impl Abort, alloc: Global, blank: Content, half: Content) -> Result<(), Fail> {
+    let edits = [
+        Edit::Clear(blank),
+        Edit::Run(45, 3, Content::Letter),
+        Edit::Put(36, Content::Letter),
+        Edit::Run(60, 2, half),
+        Edit::Fill(50, 53, Content::Letter),
+        Edit::Clear(blank),
+        Edit::Put(65, half),
+        Edit::Put(33, Content::Letter),
+        Edit::Clear(half),
+        Edit::Put(40, Content::Letter),
+        Edit::Put(40, half),
+        Edit::Put(42, Content::Letter),
+        Edit::Put(38, Content::Letter),
+        Edit::Clear(blank),
+        Edit::Put(49, Content::Letter),
+        Edit::Fill(44, 55, Content::Letter),
+        Edit::Fill(60, 70, half),
+    ];
+    compare_edits(rt, alloc, blank, &edits)
+}
+
+#[test]
+fn parts_of_rows_are_held(rt: HostRuntime) -> Result<(), Fail> {
+    for half in [Content::NoGlyph, Content::NoBits, Content::SomeBits] {
+        write_parts(&rt, rt.alloc(), Content::Blank, half)?;
+        write_parts(&rt, rt.alloc(), Content::Letter, half)?;
+        write_parts(&rt, rt.alloc(), Content::Unknown, half)?;
+        write_parts(&rt, rt.alloc(), half, half)?;
+    }
+    Ok(())
+}

@@ -1,9 +1,9 @@
 //! A grid of planes read and written by its cells.
 
 ghost use Rattle.std.specs.Prelude.{◌≡◌, ◌*◌, length};
-ghost use Rattle.ans_screen.specs.RowCells.{cells_of_grid, length_rows};
+ghost use Rattle.ans_screen.specs.RowCells.{cells_of_grid, length_rows, states_of};
 
-use super::{PlaneGrid, RowState};
+use super::{Extent, PlaneGrid, RowState};
 use crate::attr::Attr;
 use crate::cell::HalfCell;
 use crate::grid::Grid;
@@ -20,6 +20,7 @@ impl Grid for PlaneGrid {
     fn new(alloc: Global, width: usize, rows: usize, cell: HalfCell) -> Result<Self, AllocError> {
         let count = width * rows;
         let states = vec![in alloc; RowState::Stale; rows]?;
+        let extents = vec![in alloc; Extent { first: 0, end: 0 }; rows]?;
         let glyphs = vec![in alloc; 0x00; count]?;
         let glyphs_known = vec![in alloc; 0x00; count]?;
         let bits_known = vec![in alloc; 0x00; count]?;
@@ -30,6 +31,7 @@ impl Grid for PlaneGrid {
             blank: cell,
             last_row: 0,
             states,
+            extents,
             glyphs,
             glyphs_known,
             bits_known,
@@ -47,7 +49,12 @@ impl Grid for PlaneGrid {
 
     #[tactic(auto, using(crate::specs::RowCells::length_rows, crate::proofs::Places::row_below))]
     fn get(&self, i: usize) -> HalfCell {
-        match self.states[i / self.width] {
+        let row = i / self.width;
+        let Extent { first, end } = self.extents[row];
+        if i < first || i >= end {
+            return self.blank;
+        }
+        match self.states[row] {
             RowState::Stale => self.blank,
             RowState::Known => cell_of_bytes(CellBytes::known(self.glyphs[i], self.values[i])),
             RowState::Mixed => cell_of_bytes(CellBytes {
@@ -76,7 +83,7 @@ impl Grid for PlaneGrid {
     #[tactic(auto, using(crate::specs::RowCells::length_rows))]
     fn write_run(&mut self, from: usize, bytes: &[u8], count: usize, attr: Attr) {
         let to = from + count;
-        let all_planes = self.open_rows(from, to, attr.is_known());
+        let all_planes = self.open_cells(from, to, attr.is_known());
         write_plane(&mut self.glyphs, from, bytes, count);
         fill_plane(&mut self.values, from, to, attr.value);
         if all_planes {
@@ -124,6 +131,6 @@ impl Grid for PlaneGrid {
         }
     }
 
-    ghost whole = { λ g. length_rows g.width g.rows g.states.items g.blank g.glyphs.items
+    ghost whole = { λ g. length_rows g.width g.rows (states_of g) g.blank g.glyphs.items
         g.glyphs_known.items g.bits_known.items g.values.items };
 }

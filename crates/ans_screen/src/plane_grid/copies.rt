@@ -1,8 +1,9 @@
 //! Glyphs and attributes copied from the rows of a grid of planes.
 
-ghost use Rattle.std.specs.Prelude.{◌≡◌, ◌+◌, ◌*◌, ◌<◌, ◌≤◌, ℕ, length, slice_index};
+ghost use Rattle.std.specs.Prelude.{◌≡◌, ◌+◌, ◌*◌, ◌<◌, ◌≤◌, ℕ, length, slice_index, slice_index_or};
 ghost use Rattle.ans_screen.specs.HalfCells.{glyph_byte, attribute_byte};
-ghost use Rattle.ans_screen.specs.RowCells.{cell_at};
+ghost use Rattle.ans_screen.specs.RowCells.{cell_at, states_of};
+ghost use Rattle.ans_screen.specs.declared.plane_grid.RowState.TheVariants.{Stale};
 
 use super::{PlaneGrid, RowState};
 use crate::planes::{copy_known_bits, copy_known_glyphs};
@@ -14,7 +15,24 @@ impl PlaneGrid {
         requires from { row * self.now.width ≤ from }
         requires to { from + length glyphs.old ≤ row * self.now.width + self.now.width }
         ensures { (k : ℕ) → k < length glyphs.old → slice_index glyphs.new k
-            ≡ glyph_byte (cell_at self.now.width self.now.states.items self.now.blank
+            ≡ glyph_byte (cell_at (states_of self.now) self.now.blank
+            self.now.glyphs.items self.now.glyphs_known.items self.now.bits_known.items
+            self.now.values.items (from + k)) }
+    {
+        let (first, end) = self.held_part(row, from, from + glyphs.len());
+        glyphs.fill(self.blank.glyph_byte());
+        self.copy_held_glyphs(row, first, &mut glyphs[first - from..end - from]);
+    }
+
+    /// Copies the glyphs of cells side by side from cell `from` on, which are in the state of their
+    /// row.
+    fn copy_held_glyphs(&self, row: usize, from: usize, glyphs: &mut [u8])
+        requires row { row < self.now.rows }
+        requires to { from + length glyphs.old ≤ self.now.width * self.now.rows }
+        requires held { (i : ℕ) → from ≤ i → i < from + length glyphs.old
+            → states_of self.now i ≡ slice_index_or self.now.states.items row Stale }
+        ensures { (k : ℕ) → k < length glyphs.old → slice_index glyphs.new k
+            ≡ glyph_byte (cell_at (states_of self.now) self.now.blank
             self.now.glyphs.items self.now.glyphs_known.items self.now.bits_known.items
             self.now.values.items (from + k)) }
     {
@@ -36,7 +54,24 @@ impl PlaneGrid {
         requires from { row * self.now.width ≤ from }
         requires to { from + length values.old ≤ row * self.now.width + self.now.width }
         ensures { (k : ℕ) → k < length values.old → slice_index values.new k
-            ≡ attribute_byte (cell_at self.now.width self.now.states.items self.now.blank
+            ≡ attribute_byte (cell_at (states_of self.now) self.now.blank
+            self.now.glyphs.items self.now.glyphs_known.items self.now.bits_known.items
+            self.now.values.items (from + k)) }
+    {
+        let (first, end) = self.held_part(row, from, from + values.len());
+        values.fill(self.blank.attribute_byte());
+        self.copy_held_attributes(row, first, &mut values[first - from..end - from]);
+    }
+
+    /// Copies the attributes' values of cells side by side from cell `from` on, which are in the state of their
+    /// row.
+    fn copy_held_attributes(&self, row: usize, from: usize, values: &mut [u8])
+        requires row { row < self.now.rows }
+        requires to { from + length values.old ≤ self.now.width * self.now.rows }
+        requires held { (i : ℕ) → from ≤ i → i < from + length values.old
+            → states_of self.now i ≡ slice_index_or self.now.states.items row Stale }
+        ensures { (k : ℕ) → k < length values.old → slice_index values.new k
+            ≡ attribute_byte (cell_at (states_of self.now) self.now.blank
             self.now.glyphs.items self.now.glyphs_known.items self.now.bits_known.items
             self.now.values.items (from + k)) }
     {

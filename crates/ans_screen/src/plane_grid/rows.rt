@@ -1,14 +1,14 @@
 //! The rows of a grid of planes, and what the planes hold of them.
 
-ghost use Rattle.std.specs.Prelude.{◌≡◌, ◌+◌, ◌*◌, ◌<◌, ◌≤◌, ℕ, set, slice_index_or, false, IsTrue};
+ghost use Rattle.std.specs.Prelude.{◌≡◌, ◌≢◌, ◌+◌, ◌*◌, ◌/◌, ◌<◌, ◌≤◌, ℕ, Bool, set, slice_index_or, true, false, IsTrue};
 ghost use Rattle.std.specs.Prelude.{IfSome};
 ghost use Rattle.ans_model.specs.Screen.Step.{filled};
 ghost use Rattle.ans_screen.specs.HalfCells.{is_known};
-ghost use Rattle.ans_screen.specs.RowCells.{cells_of_grid, cell_at, Takes, AreOpen, AreKnownRows};
-ghost use Rattle.ans_screen.specs.RowCells.{IsFirstUnknown};
+ghost use Rattle.ans_screen.specs.RowCells.{cells_of_grid, cell_at, states_of, Takes, AreOpen};
+ghost use Rattle.ans_screen.specs.RowCells.{AreKnownStates, IsFirstUnknown, HasBlanks};
 ghost use Rattle.ans_screen.specs.declared.plane_grid.RowState.TheVariants.{Stale, Known, Mixed};
 
-use super::{PlaneGrid, RowState};
+use super::{Extent, PlaneGrid, RowState};
 use crate::cell::HalfCell;
 use crate::planes::{bytes_of, fill_plane, first_gap};
 
@@ -70,96 +70,178 @@ impl PlaneGrid {
         }
     }
 
-    /// Writes a blank that is known to a stale row, which is then known.
-    #[inline(never)]
-    fn hold_known_blank(&mut self, row: usize)
-        requires row { row < self.old.rows }
-        requires stale { slice_index_or self.old.states.items row Stale ≡ Stale }
-        requires known { IsTrue (is_known self.old.blank) }
-        ensures cells { cells_of_grid self.new ≡ cells_of_grid self.old }
-        ensures states { self.new.states.items ≡ set self.old.states.items row Known }
+    /// The cells from `from` up to and without `to` of a row that are held: from the first of the
+    /// answer up to and without the second. There are none where the two are equal.
+    #[inline(always)]
+    pub(super) fn held_part(&self, row: usize, from: usize, to: usize) -> (usize, usize)
+        requires row { row < self.now.rows }
+        requires ordered { from ≤ to }
+        requires start { row * self.now.width ≤ from }
+        requires end { to ≤ row * self.now.width + self.now.width }
+        ensures from { from ≤ result.0 }
+        ensures ordered { result.0 ≤ result.1 }
+        ensures to { result.1 ≤ to }
+        ensures held { (i : ℕ) → result.0 ≤ i → i < result.1
+            → states_of self.now i ≡ slice_index_or self.now.states.items row Stale }
+        ensures before { (i : ℕ) → from ≤ i → i < result.0 → states_of self.now i ≡ Stale }
+        ensures after { (i : ℕ) → result.1 ≤ i → i < to → states_of self.now i ≡ Stale }
+    {
+        let Extent { first, end } = self.extents[row];
+        let first = first.max(from).min(to);
+        (first, end.max(first).min(to))
+    }
+
+    /// Writes the blank to the cells from `from` up to and without `to`, if there are any, in the
+    /// planes that count in this state.
+    fn write_blank(&mut self, from: usize, to: usize, state: RowState)
+        requires within { to ≤ self.old.width * self.old.rows }
+        requires held { state ≢ Stale }
+        requires known { state ≡ Known → IsTrue (is_known self.old.blank) }
+        ensures blanks { HasBlanks state self.old self.new from to }
+        ensures states { self.new.states ≡ self.old.states }
+        ensures extents { self.new.extents ≡ self.old.extents }
+        ensures blank { self.new.blank ≡ self.old.blank }
         ensures width { self.new.width ≡ self.old.width }
         ensures rows { self.new.rows ≡ self.old.rows }
     {
+        if to <= from {
+            return;
+        }
         let blank = bytes_of(self.blank);
-        let from = self.row_start(row);
-        let to = from + self.width;
         fill_plane(&mut self.glyphs, from, to, blank.glyph);
         fill_plane(&mut self.values, from, to, blank.value);
-        self.states[row] = RowState::Known;
+        if let RowState::Mixed = state {
+            fill_plane(&mut self.glyphs_known, from, to, blank.glyph_known);
+            fill_plane(&mut self.bits_known, from, to, blank.bits_known);
+        }
     }
 
-    /// Writes the blank to a stale row, which is then mixed.
-    #[inline(never)]
-    fn hold_blank(&mut self, row: usize)
+    /// Gives a stale row another state, with no cell held yet.
+    fn begin(&mut self, row: usize, at: usize, state: RowState)
         requires row { row < self.old.rows }
         requires stale { slice_index_or self.old.states.items row Stale ≡ Stale }
         ensures cells { cells_of_grid self.new ≡ cells_of_grid self.old }
-        ensures states { self.new.states.items ≡ set self.old.states.items row Mixed }
+        ensures states { self.new.states.items ≡ set self.old.states.items row state }
+        ensures kept { (i : ℕ) → states_of self.old i ≢ Stale
+            → states_of self.new i ≡ states_of self.old i }
+        ensures blank { self.new.blank ≡ self.old.blank }
         ensures width { self.new.width ≡ self.old.width }
         ensures rows { self.new.rows ≡ self.old.rows }
     {
-        let blank = bytes_of(self.blank);
-        let from = self.row_start(row);
-        let to = from + self.width;
-        fill_plane(&mut self.glyphs, from, to, blank.glyph);
-        fill_plane(&mut self.glyphs_known, from, to, blank.glyph_known);
-        fill_plane(&mut self.bits_known, from, to, blank.bits_known);
-        fill_plane(&mut self.values, from, to, blank.value);
-        self.states[row] = RowState::Mixed;
+        self.states[row] = state;
+        self.extents[row] = Extent { first: at, end: at };
     }
 
-    /// Writes to a known row that all of it is known. The row is then mixed.
+    /// Writes to a known row that what is held of it is known. The row is then mixed.
     #[inline(never)]
-    fn hold_known(&mut self, row: usize)
+    fn mix(&mut self, row: usize)
         requires row { row < self.old.rows }
         requires known { slice_index_or self.old.states.items row Stale ≡ Known }
         ensures cells { cells_of_grid self.new ≡ cells_of_grid self.old }
         ensures states { self.new.states.items ≡ set self.old.states.items row Mixed }
+        ensures kept { (known : Bool) (i : ℕ) → Takes known (states_of self.old i)
+            → Takes known (states_of self.new i) }
+        ensures blank { self.new.blank ≡ self.old.blank }
         ensures width { self.new.width ≡ self.old.width }
         ensures rows { self.new.rows ≡ self.old.rows }
     {
-        let from = self.row_start(row);
-        let to = from + self.width;
-        fill_plane(&mut self.glyphs_known, from, to, 0xFF);
-        fill_plane(&mut self.bits_known, from, to, 0xFF);
+        let start = self.row_start(row);
+        let (first, end) = self.held_part(row, start, start + self.width);
+        fill_plane(&mut self.glyphs_known, first, end, 0xFF);
+        fill_plane(&mut self.bits_known, first, end, 0xFF);
         self.states[row] = RowState::Mixed;
     }
 
-    /// Makes a row one to which cells can be written, known ones or any, and says whether all four
-    /// planes count there.
-    #[inline(always)]
-    fn open_row(&mut self, row: usize, known: bool) -> bool
+    /// Has the planes hold the cells from `from` up to and without `to` of a row too, and those
+    /// between them and the ones that they hold.
+    #[inline(never)]
+    fn widen(&mut self, row: usize, from: usize, to: usize)
         requires row { row < self.old.rows }
+        requires ordered { from ≤ to }
+        requires start { row * self.old.width ≤ from }
+        requires end { to ≤ row * self.old.width + self.old.width }
+        requires held { slice_index_or self.old.states.items row Stale ≢ Stale }
+        requires known { slice_index_or self.old.states.items row Stale ≡ Known
+            → IsTrue (is_known self.old.blank) }
         ensures cells { cells_of_grid self.new ≡ cells_of_grid self.old }
-        ensures takes { Takes known (slice_index_or self.new.states.items row Stale) }
-        ensures kept { (r : ℕ) → Takes known (slice_index_or self.old.states.items r Stale)
-            → Takes known (slice_index_or self.new.states.items r Stale) }
-        ensures planes { result ≡ false
-            → slice_index_or self.new.states.items row Stale ≡ Known }
+        ensures states { self.new.states ≡ self.old.states }
+        ensures held { (i : ℕ) → from ≤ i → i < to
+            → states_of self.new i ≡ slice_index_or self.old.states.items row Stale }
+        ensures kept { (i : ℕ) → states_of self.old i ≢ Stale
+            → states_of self.new i ≡ states_of self.old i }
         ensures width { self.new.width ≡ self.old.width }
         ensures rows { self.new.rows ≡ self.old.rows }
     {
+        let start = self.row_start(row);
+        let (first, end) = self.held_part(row, start, start + self.width);
+        let state = self.states[row];
+        self.write_blank(from, first, state);
+        self.write_blank(end, to, state);
+        self.extents[row] = Extent {
+            first: first.min(from),
+            end: end.max(to),
+        };
+    }
+
+    /// Makes the state of a row one in which the planes can hold more of its cells, known ones or any.
+    #[inline(always)]
+    fn settle(&mut self, row: usize, at: usize, known: bool)
+        requires row { row < self.old.rows }
+        ensures cells { cells_of_grid self.new ≡ cells_of_grid self.old }
+        ensures held { slice_index_or self.new.states.items row Stale ≢ Stale }
+        ensures known { slice_index_or self.new.states.items row Stale ≡ Known
+            → (known ≡ true) × IsTrue (is_known self.new.blank) }
+        ensures kept { (i : ℕ) → Takes known (states_of self.old i)
+            → Takes known (states_of self.new i) }
+        ensures width { self.new.width ≡ self.old.width }
+        ensures rows { self.new.rows ≡ self.old.rows }
+    {
+        let two_planes = known && self.blank.is_known();
         match self.states[row] {
-            RowState::Stale => {
-                if known && self.blank.is_known() {
-                    self.hold_known_blank(row);
-                    false
-                } else {
-                    self.hold_blank(row);
-                    true
-                }
-            }
-            RowState::Known => {
-                if known {
-                    false
-                } else {
-                    self.hold_known(row);
-                    true
-                }
-            }
-            RowState::Mixed => true,
+            RowState::Stale if two_planes => self.begin(row, at, RowState::Known),
+            RowState::Stale => self.begin(row, at, RowState::Mixed),
+            RowState::Known if !two_planes => self.mix(row),
+            RowState::Known | RowState::Mixed => {}
         }
+    }
+
+    /// Whether the planes hold the cells from `from` up to and without `to` of a row.
+    #[inline(always)]
+    fn holds(&self, row: usize, from: usize, to: usize) -> bool
+        requires row { row < self.now.rows }
+        requires start { row * self.now.width ≤ from }
+        requires end { to ≤ row * self.now.width + self.now.width }
+        ensures { IsTrue result → (i : ℕ) → from ≤ i → i < to
+            → states_of self.now i ≡ slice_index_or self.now.states.items row Stale }
+    {
+        let Extent { first, end } = self.extents[row];
+        if from < first || end < to {
+            return false;
+        }
+        true
+    }
+
+    /// Makes cells of a row ones that can be written, known ones or any, and says whether all four
+    /// planes count there.
+    #[inline(always)]
+    fn open_part(&mut self, row: usize, from: usize, to: usize, known: bool) -> bool
+        requires row { row < self.old.rows }
+        requires ordered { from ≤ to }
+        requires start { row * self.old.width ≤ from }
+        requires end { to ≤ row * self.old.width + self.old.width }
+        ensures cells { cells_of_grid self.new ≡ cells_of_grid self.old }
+        ensures takes { AreOpen (states_of self.new) known from to }
+        ensures kept { (i : ℕ) → Takes known (states_of self.old i)
+            → Takes known (states_of self.new i) }
+        ensures planes { result ≡ false → AreKnownStates (states_of self.new) from to }
+        ensures width { self.new.width ≡ self.old.width }
+        ensures rows { self.new.rows ≡ self.old.rows }
+    {
+        self.settle(row, from, known);
+        if !self.holds(row, from, to) {
+            self.widen(row, from, to);
+        }
+        matches!(self.states[row], RowState::Mixed)
     }
 
     /// Opens the rows from `first` up to and without `end`.
@@ -167,25 +249,26 @@ impl PlaneGrid {
     fn open_each(&mut self, first: usize, end: usize, known: bool)
         requires { end ≤ self.old.rows }
         ensures cells { cells_of_grid self.new ≡ cells_of_grid self.old }
-        ensures takes { (r : ℕ) → first ≤ r → r < end
-            → Takes known (slice_index_or self.new.states.items r Stale) }
+        ensures takes { (i : ℕ) → first ≤ i / self.new.width → i / self.new.width < end
+            → Takes known (states_of self.new i) }
         ensures width { self.new.width ≡ self.old.width }
         ensures rows { self.new.rows ≡ self.old.rows }
     {
         for row in first..end {
-            self.open_row(row, known);
+            let start = self.row_start(row);
+            self.open_part(row, start, start + self.width, known);
         }
     }
 
-    /// Opens the rows of the cells from `from` up to and without `to`, and says whether all four
-    /// planes count there.
+    /// Opens the cells from `from` up to and without `to`, and says whether all four planes count
+    /// there.
     #[inline(always)]
-    pub(super) fn open_rows(&mut self, from: usize, to: usize, known: bool) -> bool
+    pub(super) fn open_cells(&mut self, from: usize, to: usize, known: bool) -> bool
         requires ordered { from ≤ to }
         requires within { to ≤ self.old.width * self.old.rows }
         ensures cells { cells_of_grid self.new ≡ cells_of_grid self.old }
-        ensures takes { AreOpen self.new.width self.new.states.items known from to }
-        ensures planes { result ≡ false → AreKnownRows self.new.width self.new.states.items from to }
+        ensures takes { AreOpen (states_of self.new) known from to }
+        ensures planes { result ≡ false → AreKnownStates (states_of self.new) from to }
         ensures width { self.new.width ≡ self.old.width }
         ensures rows { self.new.rows ≡ self.old.rows }
     {
@@ -195,7 +278,7 @@ impl PlaneGrid {
         match self.row_holding(from, to - from) {
             Some(row) => {
                 self.last_row = row;
-                self.open_row(row, known)
+                self.open_part(row, from, to, known)
             }
             None => {
                 self.open_each(from / self.width, (to - 1) / self.width + 1, known);
@@ -214,7 +297,7 @@ impl PlaneGrid {
         ensures rows { self.new.rows ≡ self.old.rows }
     {
         let bytes = bytes_of(cell);
-        let all_planes = self.open_rows(from, to, bytes.is_known());
+        let all_planes = self.open_cells(from, to, bytes.is_known());
         fill_plane(&mut self.glyphs, from, to, bytes.glyph);
         fill_plane(&mut self.values, from, to, bytes.value);
         if all_planes {
@@ -241,19 +324,38 @@ impl PlaneGrid {
         requires from { row * self.now.width ≤ from }
         requires ordered { from < to }
         requires to { to ≤ row * self.now.width + self.now.width }
-        ensures { IsFirstUnknown (cell_at self.now.width self.now.states.items self.now.blank
+        ensures { IsFirstUnknown (cell_at (states_of self.now) self.now.blank
+            self.now.glyphs.items self.now.glyphs_known.items self.now.bits_known.items
+            self.now.values.items) from to result }
+    {
+        let (first, end) = self.held_part(row, from, to);
+        if from < first && !self.blank.is_known() {
+            return Some(from);
+        }
+        if let Some(i) = self.first_unknown_held(row, first, end) {
+            return Some(i);
+        }
+        if end < to && !self.blank.is_known() {
+            return Some(end);
+        }
+        None
+    }
+
+    /// The first cell that is not known of those from `from` up to and without `to`, which are in
+    /// the state of their row.
+    fn first_unknown_held(&self, row: usize, from: usize, to: usize) -> Option<usize>
+        requires row { row < self.now.rows }
+        requires ordered { from ≤ to }
+        requires to { to ≤ self.now.width * self.now.rows }
+        requires held { (i : ℕ) → from ≤ i → i < to
+            → states_of self.now i ≡ slice_index_or self.now.states.items row Stale }
+        ensures { IsFirstUnknown (cell_at (states_of self.now) self.now.blank
             self.now.glyphs.items self.now.glyphs_known.items self.now.bits_known.items
             self.now.values.items) from to result }
     {
         match self.states[row] {
-            RowState::Stale => {
-                if self.blank.is_known() {
-                    None
-                } else {
-                    Some(from)
-                }
-            }
-            RowState::Known => None,
+            RowState::Stale if from < to && !self.blank.is_known() => Some(from),
+            RowState::Stale | RowState::Known => None,
             RowState::Mixed => {
                 let gap = first_gap(
                     &self.glyphs_known[from..to],

@@ -1,23 +1,57 @@
 use Rattle.std.proofs.Common.{◌*◌, ◌/◌, ◌<◌, length, arith, refl, sym, ◌∙◌}
-use Rattle.std.proofs.Common.{get_or}
+use Rattle.std.proofs.Common.{get_or, ◌≡◌, ◌≤◌, ◌⊎◌, inl, inr, ap}
 use Rattle.std.proofs.lemmas.List.{get_or_read}
 use Rattle.ans_screen.specs.declared.plane_grid.RowState.TheVariants.{Stale, Known, Mixed}
-use Rattle.ans_screen.specs.RowCells.{length_rows}
+use Rattle.ans_screen.specs.RowCells.{length_rows, states_of, nowhere}
+use Rattle.ans_screen.specs.declared.plane_grid.Extent.{Extent}
 use Rattle.ans_screen.proofs.Places.{row_below}
 use Rattle.ans_screen.proofs.RowReads.{state_read, read_rows}
-use Rattle.ans_screen.proofs.RowCells.{same_cell}
+use Rattle.ans_screen.proofs.RowCells.{same_cell, in_held, off_held}
 use Rattle.ans_screen.proofs.plane_grid.cells.PlaneGridGrid.get.Goals as goal
+use Rattle.ans_screen.proofs.plane_grid.cells.PlaneGridGrid.get.Goals.{then-i-first-via-then-i-first}
+use Rattle.ans_screen.proofs.plane_grid.cells.PlaneGridGrid.get.Goals.{then-i-first-via-else-i-first+then-i-end}
+
+pub returns-then-i-first : goal.returns-then-i-first
+returns-then-i-first c =
+    let g = c.args.self.now in
+    let len = length_rows g.width g.rows (states_of g) g.blank g.glyphs.items g.glyphs_known.items
+    g.bits_known.items g.values.items in
+    let within : c.args.i < g.width * g.rows = omega arith in
+    let row : c.args.i / g.width < length g.extents.items =
+    omega (arith, row_below g.width g.rows c.args.i g.some_width within) in
+    let held : c.index.result.now ≡ get_or g.extents.items (c.args.i / g.width) nowhere =
+    get_or_read g.extents.items (c.args.i / g.width) _ row c.index.ensures nowhere in
+    let first = ap (λ (e : Extent). e.first) held in
+    let end = ap (λ (e : Extent). e.end) held in
+    let out : (c.args.i < (get_or g.extents.items (c.args.i / g.width) nowhere).first)
+    ⊎ ((get_or g.extents.items (c.args.i / g.width) nowhere).end ≤ c.args.i) =
+    elim c.then-i-first.branch [
+      | then-i-first-via-then-i-first w ↦ inl (omega (arith, w.if-i-first.true, first))
+      | then-i-first-via-else-i-first+then-i-end w ↦ inr (omega (arith, w.if-i-end.true, end))
+    ] in
+    let state = off_held (get_or g.states.items (c.args.i / g.width) Stale)
+    (get_or g.extents.items (c.args.i / g.width) nowhere) c.args.i out in
+    read_rows g.width g.rows (states_of g) g.blank g.glyphs.items g.glyphs_known.items g.bits_known.items
+    g.values.items c.args.i _ within
+    (sym (same_cell _ Stale g.blank (get_or g.glyphs.items c.args.i 0) (get_or g.glyphs_known.items c.args.i 0)
+    (get_or g.bits_known.items c.args.i 0) (get_or g.values.items c.args.i 0) _ _ _ _ state refl refl refl refl))
 
 pub returns-in-Stale : goal.returns-in-Stale
 returns-in-Stale c =
     let g = c.args.self.now in
-    let len = length_rows g.width g.rows g.states.items g.blank g.glyphs.items g.glyphs_known.items
+    let len = length_rows g.width g.rows (states_of g) g.blank g.glyphs.items g.glyphs_known.items
     g.bits_known.items g.values.items in
     let within : c.args.i < g.width * g.rows = omega arith in
     let row : c.args.i / g.width < length g.states.items =
     omega (arith, row_below g.width g.rows c.args.i g.some_width within) in
-    let state = state_read g.states.items (c.args.i / g.width) _ Stale row c.index.ensures c.in-Stale.is in
-    read_rows g.width g.rows g.states.items g.blank g.glyphs.items g.glyphs_known.items g.bits_known.items
+    let held : c.index.result.now ≡ get_or g.extents.items (c.args.i / g.width) nowhere =
+    get_or_read g.extents.items (c.args.i / g.width) _ (omega (arith, row)) c.index.ensures nowhere in
+    let state =
+    in_held (get_or g.states.items (c.args.i / g.width) Stale) (get_or g.extents.items (c.args.i / g.width) nowhere)
+    c.args.i (omega (arith, c.if-i-first.false, ap (λ (e : Extent). e.first) held))
+    (omega (arith, c.if-i-end.false, ap (λ (e : Extent). e.end) held))
+    ∙ state_read g.states.items (c.args.i / g.width) _ Stale row c.index-2.ensures c.in-Stale.is in
+    read_rows g.width g.rows (states_of g) g.blank g.glyphs.items g.glyphs_known.items g.bits_known.items
     g.values.items c.args.i _ within
     (sym (same_cell _ Stale g.blank (get_or g.glyphs.items c.args.i 0) (get_or g.glyphs_known.items c.args.i 0)
     (get_or g.bits_known.items c.args.i 0) (get_or g.values.items c.args.i 0) _ _ _ _ state refl refl refl refl))
@@ -25,13 +59,19 @@ returns-in-Stale c =
 pub returns-in-Known : goal.returns-in-Known
 returns-in-Known c =
     let g = c.args.self.now in
-    let len = length_rows g.width g.rows g.states.items g.blank g.glyphs.items g.glyphs_known.items
+    let len = length_rows g.width g.rows (states_of g) g.blank g.glyphs.items g.glyphs_known.items
     g.bits_known.items g.values.items in
     let within : c.args.i < g.width * g.rows = omega arith in
     let row : c.args.i / g.width < length g.states.items =
     omega (arith, row_below g.width g.rows c.args.i g.some_width within) in
-    let state = state_read g.states.items (c.args.i / g.width) _ Known row c.index.ensures c.in-Known.is in
-    read_rows g.width g.rows g.states.items g.blank g.glyphs.items g.glyphs_known.items g.bits_known.items
+    let held : c.index.result.now ≡ get_or g.extents.items (c.args.i / g.width) nowhere =
+    get_or_read g.extents.items (c.args.i / g.width) _ (omega (arith, row)) c.index.ensures nowhere in
+    let state =
+    in_held (get_or g.states.items (c.args.i / g.width) Stale) (get_or g.extents.items (c.args.i / g.width) nowhere)
+    c.args.i (omega (arith, c.if-i-first.false, ap (λ (e : Extent). e.first) held))
+    (omega (arith, c.if-i-end.false, ap (λ (e : Extent). e.end) held))
+    ∙ state_read g.states.items (c.args.i / g.width) _ Known row c.index-2.ensures c.in-Known.is in
+    read_rows g.width g.rows (states_of g) g.blank g.glyphs.items g.glyphs_known.items g.bits_known.items
     g.values.items c.args.i _ within
     (c.cell_of_bytes.ensures
     ∙ (c.known.ensures
@@ -44,13 +84,19 @@ returns-in-Known c =
 pub returns-in-Mixed : goal.returns-in-Mixed
 returns-in-Mixed c =
     let g = c.args.self.now in
-    let len = length_rows g.width g.rows g.states.items g.blank g.glyphs.items g.glyphs_known.items
+    let len = length_rows g.width g.rows (states_of g) g.blank g.glyphs.items g.glyphs_known.items
     g.bits_known.items g.values.items in
     let within : c.args.i < g.width * g.rows = omega arith in
     let row : c.args.i / g.width < length g.states.items =
     omega (arith, row_below g.width g.rows c.args.i g.some_width within) in
-    let state = state_read g.states.items (c.args.i / g.width) _ Mixed row c.index.ensures c.in-Mixed.is in
-    read_rows g.width g.rows g.states.items g.blank g.glyphs.items g.glyphs_known.items g.bits_known.items
+    let held : c.index.result.now ≡ get_or g.extents.items (c.args.i / g.width) nowhere =
+    get_or_read g.extents.items (c.args.i / g.width) _ (omega (arith, row)) c.index.ensures nowhere in
+    let state =
+    in_held (get_or g.states.items (c.args.i / g.width) Stale) (get_or g.extents.items (c.args.i / g.width) nowhere)
+    c.args.i (omega (arith, c.if-i-first.false, ap (λ (e : Extent). e.first) held))
+    (omega (arith, c.if-i-end.false, ap (λ (e : Extent). e.end) held))
+    ∙ state_read g.states.items (c.args.i / g.width) _ Mixed row c.index-2.ensures c.in-Mixed.is in
+    read_rows g.width g.rows (states_of g) g.blank g.glyphs.items g.glyphs_known.items g.bits_known.items
     g.values.items c.args.i _ within
     (c.cell_of_bytes-in-Mixed.ensures
     ∙ sym (same_cell _ Mixed g.blank c.index-in-Mixed.result.now c.index-in-Mixed-2.result.now

@@ -1,0 +1,70 @@
+-- More of a row is held, in two grids of planes.
+use Rattle.std.proofs.Common.{◌≡◌, inl, inr, ℕ, ◌+◌, ◌*◌, ◌≤◌, ◌<◌, length, get_or, ap, sym}
+use Rattle.std.proofs.Common.{◌∙◌, arith}
+use Rattle.ans_screen.specs.RowCells.{row_cell, state_at, HasBlanks, SameBytes}
+use Rattle.ans_screen.specs.declared.cell.HalfCell.{HalfCell}
+use Rattle.ans_screen.specs.declared.plane_grid.PlaneGrid.{PlaneGrid}
+use Rattle.ans_screen.specs.declared.plane_grid.RowState.{RowState}
+use Rattle.ans_screen.specs.declared.plane_grid.RowState.TheVariants.{Stale}
+use Rattle.ans_screen.proofs.Places.{row_of, places_of}
+use Rattle.ans_screen.proofs.RowCells.{IsWidened, same_cell}
+
+-- what is known of the row before: these cells of it are held, and no others
+pub record HoldsFrom (g : PlaneGrid) (row first end : ℕ) : Type 0 where
+  pub ordered : first ≤ end
+  pub start : row * g.width ≤ first
+  pub stop : end ≤ row * g.width + g.width
+  pub held : (i : ℕ) → first ≤ i → i < end
+      → state_at g.width g.states.items g.extents.items i ≡ get_or g.states.items row Stale
+  pub before : (i : ℕ) → row * g.width ≤ i → i < first → state_at g.width g.states.items g.extents.items i ≡ Stale
+  pub after : (i : ℕ) → end ≤ i → i < row * g.width + g.width
+      → state_at g.width g.states.items g.extents.items i ≡ Stale
+
+-- the same bytes after two steps
+two_steps : (g mid new : PlaneGrid) (i : ℕ) → SameBytes g mid i → SameBytes mid new i → SameBytes g new i
+two_steps g mid new i a b = record {
+  glyph = b.glyph ∙ a.glyph;
+  glyph_known = b.glyph_known ∙ a.glyph_known;
+  bits_known = b.bits_known ∙ a.bits_known;
+  value = b.value ∙ a.value;
+}
+
+-- the blank is written before and behind what is held
+pub is_widened : (g mid new : PlaneGrid) (row first end from to : ℕ) (s : RowState)
+    → s ≡ get_or g.states.items row Stale → row < length g.states.items → row < length g.extents.items
+    → HoldsFrom g row first end → row * g.width ≤ from → to ≤ row * g.width + g.width
+    → HasBlanks s g mid from first → HasBlanks s mid new end to → mid.blank ≡ g.blank → new.blank ≡ g.blank
+    → IsWidened g.width row first end from to g.states.items g.extents.items g.blank g.glyphs.items
+    g.glyphs_known.items g.bits_known.items g.values.items new.glyphs.items new.glyphs_known.items
+    new.bits_known.items new.values.items
+is_widened g mid new row first end from to s is ls le h start stop b d mid_blank new_blank = record {
+  state_there = ls;
+  extent_there = le;
+  inside = h.held;
+  outside = λ i at out.
+      let place = places_of g.width row i g.some_width at in elim out [
+        | inl before ↦ h.before i (omega (arith, place.0)) before
+        | inr past ↦ h.after i past (omega (arith, place.1))
+      ];
+  in_row = λ i after before.
+      row_of g.width row i (omega (arith, h.start)) (omega (arith, h.stop));
+  blanks = λ i gap. elim gap [
+    | inl front ↦
+        let later = d.outside i (inl (omega (arith, front.1, h.ordered))) in
+        same_cell (get_or g.states.items row Stale) s g.blank (get_or mid.glyphs.items i 0)
+        (get_or mid.glyphs_known.items i 0) (get_or mid.bits_known.items i 0) (get_or mid.values.items i 0) _ _ _ _
+        (sym is) later.glyph later.glyph_known later.bits_known later.value
+        ∙ (ap (λ (x : HalfCell). row_cell s x (get_or mid.glyphs.items i 0) (get_or mid.glyphs_known.items i 0)
+        (get_or mid.bits_known.items i 0) (get_or mid.values.items i 0)) (sym mid_blank)
+        ∙ (b.inside i front.0 front.1 ∙ mid_blank))
+    | inr back ↦
+        ap (λ t. row_cell t g.blank (get_or new.glyphs.items i 0) (get_or new.glyphs_known.items i 0)
+        (get_or new.bits_known.items i 0) (get_or new.values.items i 0)) (sym is)
+        ∙ (ap (λ (x : HalfCell). row_cell s x (get_or new.glyphs.items i 0) (get_or new.glyphs_known.items i 0)
+        (get_or new.bits_known.items i 0) (get_or new.values.items i 0)) (sym new_blank)
+        ∙ (d.inside i back.0 back.1 ∙ new_blank))
+  ];
+  same = λ i l r.
+      let both = two_steps g mid new i (b.outside i l) (d.outside i r) in
+      (both.glyph, both.glyph_known, both.bits_known, both.value);
+}
