@@ -39,7 +39,7 @@ from speed import CLEAR, LARGEST_FILE, LINES, WIDTH, repeated, slow_files
 from table import HI_PASSES, file_of, plain_record
 
 MIB = 1_048_576
-LARGEST_SCREEN = 33_566_721
+LARGEST_SCREEN = 33_697_809
 ALLOWANCE = 8 * MIB
 CHECK_SECONDS, NEEDS_SECONDS, CLOCK_SECONDS = 1.0, 6.0, 60
 
