@@ -12,6 +12,10 @@ use super::{Extent, PlaneGrid, RowState};
 use crate::cell::HalfCell;
 use crate::planes::{bytes_of, fill_plane, first_gap};
 
+/// How many more cells of a row are held than are written, since what is written next mostly stands
+/// behind them.
+const AHEAD: usize = 64;
+
 impl PlaneGrid {
     /// The first cell of a row.
     #[inline(always)]
@@ -239,7 +243,8 @@ impl PlaneGrid {
     {
         self.settle(row, from, known);
         if !self.holds(row, from, to) {
-            self.widen(row, from, to);
+            let row_end = self.row_start(row) + self.width;
+            self.widen(row, from, to.saturating_add(AHEAD).min(row_end));
         }
         matches!(self.states[row], RowState::Mixed)
     }
