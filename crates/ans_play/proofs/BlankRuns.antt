@@ -95,15 +95,15 @@ module _ (z : Size) (saved : Span) (attribute : KnownBits) where
   same_filled screen row column n end end2 wrap cursor cursor2 e c f = rw (← e, ← c) f
 
   -- one blank, and then the others
-  one_more : (screen : List HalfCell) (row column row2 column2 n end : ℕ) (wrap : WrapMode) (cursor : Span) →
+  one_more : (screen : List HalfCell) (row column next_row next_column n end : ℕ) (wrap : WrapMode) (cursor : Span) →
       row < z.lines → index z (at row column) < length screen →
-      index z (at row2 column2) ≡ index z (at row column) + 1 →
+      index z (at next_row next_column) ≡ index z (at row column) + 1 →
       index z (at row column) + 1 ≤ end →
       half_put z (here screen row column saved attribute wrap) blank
-      ≡ here (set screen (index z (at row column)) (half_blank attribute)) row2 column2 saved attribute wrap →
-      Filled (set screen (index z (at row column)) (half_blank attribute)) row2 column2 wrap n end cursor →
+      ≡ here (set screen (index z (at row column)) (half_blank attribute)) next_row next_column saved attribute wrap →
+      Filled (set screen (index z (at row column)) (half_blank attribute)) next_row next_column wrap n end cursor →
       Filled screen row column wrap (suc n) end cursor
-  one_more screen row column row2 column2 n end wrap cursor above within next le put f =
+  one_more screen row column next_row next_column n end wrap cursor above within next le put f =
       let i : ℕ = index z (at row column) in
       let b : HalfCell = half_blank attribute in (
         others (here screen row column saved attribute wrap) n (none_shown screen row column wrap above)

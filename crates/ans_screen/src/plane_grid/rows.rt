@@ -1,7 +1,7 @@
 //! The rows of a grid of planes, and what the planes hold of them.
 
-ghost use Rattle.std.specs.Prelude.{◌≡◌, ◌≢◌, ◌+◌, ◌*◌, ◌/◌, ◌<◌, ◌≤◌, ℕ, Bool, set, slice_index_or, true, false, IsTrue};
-ghost use Rattle.std.specs.Prelude.{IfSome};
+ghost use Rattle.std.specs.Prelude.{◌≡◌, ◌≢◌, ◌+◌, ◌*◌, ◌/◌, ◌<◌, ◌≤◌, ℕ, Bool, set, slice_index_or};
+ghost use Rattle.std.specs.Prelude.{true, false, IsTrue, IfSome};
 ghost use Rattle.ans_model.specs.Screen.Step.{filled};
 ghost use Rattle.ans_screen.specs.HalfCells.{is_known};
 ghost use Rattle.ans_screen.specs.RowCells.{cells_of_grid, cell_at, states_of, Takes, AreOpen};
