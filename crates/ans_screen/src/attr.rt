@@ -46,6 +46,7 @@ impl Attr {
 
     /// What is known after a colour parameter: all that is the same for every attribute that has
     /// the known bits, and no more.
+    #[inline(always)]
     pub fn apply(self, parameter: u8) -> Attr
         ensures bits { result ≡ known_after self parameter }
         ensures sound { AgreesAfter self parameter result }

@@ -36,8 +36,9 @@ pub struct PlaneGrid {
     width: usize,
     rows: usize,
     blank: HalfCell,
-    // the row of the last edit, if one is right: a guess at the row of the next
-    last_row: usize,
+    // how many rows a cell is, in units of 2⁻⁴⁰ and rounded up: a product with it tells a cell's
+    // row where a division would take longer
+    rows_of_a_cell: usize,
     states: Vec<RowState>,
     extents: Vec<Extent>,
     glyphs: Vec<u8>,

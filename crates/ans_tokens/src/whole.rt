@@ -28,7 +28,7 @@ pub struct Letter {
 
 /// The value of the digits that the bytes begin with, and their count: 0 and 0 where there are
 /// none. It declines where the value is above 255, or where no other byte follows.
-fn read_number(bytes: &[u8]) -> Option<(u8, usize)>
+fn read_digits(bytes: &[u8]) -> Option<(u8, usize)>
     ensures { IfSome result (λ read. IsNumberFront bytes.now read.0 read.1) }
 {
     let mut value = 0u8;
@@ -43,6 +43,27 @@ fn read_number(bytes: &[u8]) -> Option<(u8, usize)>
         value = next as u8;
     }
     None
+}
+
+/// The same as of `read_digits`. Most numbers have one digit or two, so these are read without a
+/// loop.
+#[inline(always)]
+fn read_number(bytes: &[u8]) -> Option<(u8, usize)>
+    ensures { IfSome result (λ read. IsNumberFront bytes.now read.0 read.1) }
+{
+    let [first, second, third, ..] = bytes else {
+        return read_digits(bytes);
+    };
+    if !first.is_ascii_digit() {
+        return Some((0, 0));
+    }
+    if !second.is_ascii_digit() {
+        return Some((*first - b'0', 1));
+    }
+    if !third.is_ascii_digit() {
+        return Some(((*first - b'0') * 10 + (*second - b'0'), 2));
+    }
+    read_digits(bytes)
 }
 
 /// Adds the number of the last member, where the letter comes next. There is no member at all where

@@ -29,7 +29,7 @@ impl Grid for PlaneGrid {
             width,
             rows,
             blank: cell,
-            last_row: 0,
+            rows_of_a_cell: (1 << 40) / width + 1,
             states,
             extents,
             glyphs,

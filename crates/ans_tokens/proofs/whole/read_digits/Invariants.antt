@@ -3,7 +3,7 @@ use Rattle.std.specs.List.{list_all}
 use Rattle.std.specs.Char.{is_ascii_digit}
 use Rattle.std.specs.Str.Parse.{digits_value}
 use Rattle.ans_model.specs.Bytes.{largest_number}
-use Rattle.ans_tokens.proofs.whole.read_number.Given as goal
+use Rattle.ans_tokens.proofs.whole.read_digits.Given as goal
 
 -- the bytes so far are digits with this value
 abbrev pub invariant-loop-i : goal.invariant-loop-i

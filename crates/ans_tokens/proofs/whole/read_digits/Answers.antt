@@ -1,7 +1,7 @@
 use Rattle.std.proofs.Common.{◌≡◌, true, sym, ◌∙◌, arith, get_or}
 use Rattle.std.specs.Char.{is_ascii_digit}
 use Rattle.ans_tokens.proofs.WholeSequences.{one_more_digit}
-use Rattle.ans_tokens.proofs.whole.read_number.Goals as goal
+use Rattle.ans_tokens.proofs.whole.read_digits.Goals as goal
 
 pub loop-i-preserved : goal.loop-i-preserved
 loop-i-preserved c =
