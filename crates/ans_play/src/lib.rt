@@ -4,13 +4,14 @@
 //! the [`Picture`] that every play shows, or tells which cell stays unknown. What a player says of
 //! its bytes is `Stands` of `specs/Stands.antt`: what is known of its state is exactly what is so
 //! from every start. The player keeps the fault and counts the bytes fed; inside it a play reads the
-//! bytes and makes the steps. Glyphs inside a row are played as runs, every other byte by itself.
+//! bytes and makes the steps. Glyphs inside a row are played as runs, common sequences whole, and
+//! every other byte by itself.
 #![tactic(auto)]
 
 pub mod laws;
-pub mod picture;
+mod picture;
 mod play;
-pub mod player;
+mod player;
 mod span;
 mod wrap;
 

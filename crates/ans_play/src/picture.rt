@@ -64,21 +64,21 @@ impl<G: Grid> Picture<G> {
     }
 
     /// The byte at a row and a column, counted from 0.
-    pub fn glyph(&self, row: usize, col: usize) -> u8
+    pub fn glyph(&self, row: usize, column: usize) -> u8
         requires row { row < self.now.size.lines }
-        requires col { col < self.now.size.width }
-        ensures { byte_at self.now row col ≡ Some result }
+        requires column { column < self.now.size.width }
+        ensures { byte_at self.now row column ≡ Some result }
     {
-        self.cell(row, col).glyph.unwrap_or(0)
+        self.cell(row, column).glyph.unwrap_or(0)
     }
 
     /// The attribute at a row and a column, counted from 0.
-    pub fn attr(&self, row: usize, col: usize) -> u8
+    pub fn attr(&self, row: usize, column: usize) -> u8
         requires row { row < self.now.size.lines }
-        requires col { col < self.now.size.width }
-        ensures { attribute_at self.now row col ≡ Some result }
+        requires column { column < self.now.size.width }
+        ensures { attribute_at self.now row column ≡ Some result }
     {
-        let attr = self.cell(row, col).attr;
+        let attr = self.cell(row, column).attr;
         attr.value
     }
 

@@ -39,11 +39,13 @@ pub struct FailingOnce<D> {
 }
 
 impl<D> FailingOnce<D> {
-    ghost use Rattle.ans_samples.specs.FailingOnce.{device_of, calls_of};
+    ghost use Rattle.ans_samples.specs.FailingOnce.{device_of, calls_of, failing_call_of, failure_of};
 
     /// A device before its first call. The call of this number, counted from 1, will fail.
     pub fn new(device: D, failing_call: u64, failure: Failure) -> FailingOnce<D>
         ensures device { device_of result ≡ device }
+        ensures failing_call { failing_call_of result ≡ failing_call }
+        ensures failure { failure_of result ≡ failure }
         ensures calls { calls_of result ≡ 0 }
     {
         FailingOnce {

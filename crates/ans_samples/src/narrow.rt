@@ -1,6 +1,6 @@
 //! A device that takes little at a time.
 
-ghost use Rattle.std.specs.Prelude.{◌≡◌, ◌≤◌, [], length};
+ghost use Rattle.std.specs.Prelude.{◌≡◌, ◌≤◌, [], length, min};
 ghost use Rattle.ans_samples.specs.declared.narrow.TheConstants.{SIZE};
 
 use std::io::{self, Write};
@@ -18,11 +18,12 @@ pub struct Narrow {
 }
 
 impl Narrow {
-    ghost use Rattle.ans_samples.specs.Held.{held_of};
+    ghost use Rattle.ans_samples.specs.Held.{held_of, room_of};
 
     /// An empty writer with room for this many bytes, at most 4096.
     pub fn new(room: usize) -> Narrow
-        ensures { held_of result ≡ [] }
+        ensures empty { held_of result ≡ [] }
+        ensures room { room_of result ≡ min room SIZE }
     {
         Narrow {
             held: [0; SIZE],

@@ -93,7 +93,8 @@ impl Open {
     }
 }
 
-/// Reads the content byte by byte, and glyphs also many at a time.
+/// Reads the content byte by byte, and between two tokens also glyphs many at a time and whole
+/// tokens.
 ///
 /// It keeps its offset and what is needed of the bytes since the last token, and never the bytes
 /// themselves: its size is a small constant.

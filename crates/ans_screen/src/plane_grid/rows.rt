@@ -12,9 +12,9 @@ use super::{Extent, PlaneGrid, RowState};
 use crate::cell::HalfCell;
 use crate::planes::{bytes_of, fill_plane, first_gap};
 
-/// How many more cells of a row are held than are written, since what is written next mostly stands
-/// behind them.
-const AHEAD: usize = 64;
+/// How many cells of a row are held at the least behind those that are written, since what is
+/// written next mostly stands there. With one cell written, one blend fills them.
+const AHEAD: usize = 15;
 
 impl PlaneGrid {
     /// The first cell of a row.
@@ -226,6 +226,20 @@ impl PlaneGrid {
         true
     }
 
+    /// Where the cells of a row end that are to be held, if those up to and without `to` are: as many
+    /// more as the row holds, so that a row that is written from the left is widened a few times.
+    fn stop_ahead(&self, row: usize, to: usize) -> usize
+        requires row { row < self.now.rows }
+        requires end { to ≤ row * self.now.width + self.now.width }
+        ensures from { to ≤ result }
+        ensures within { result ≤ row * self.now.width + self.now.width }
+    {
+        let Extent { first, end } = self.extents[row];
+        let more = end.saturating_sub(first).max(AHEAD);
+        to.saturating_add(more)
+            .min(self.row_start(row) + self.width)
+    }
+
     /// Makes cells of a row ones that can be written, known ones or any, and says whether all four
     /// planes count there.
     #[inline(always)]
@@ -244,8 +258,8 @@ impl PlaneGrid {
     {
         self.settle(row, from, known);
         if !self.holds(row, from, to) {
-            let row_end = self.row_start(row) + self.width;
-            self.widen(row, from, to.saturating_add(AHEAD).min(row_end));
+            let stop = self.stop_ahead(row, to);
+            self.widen(row, from, stop);
         }
         matches!(self.states[row], RowState::Mixed)
     }
