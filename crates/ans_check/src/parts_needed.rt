@@ -61,9 +61,9 @@ fn least_class<G: Grid>(alloc: Global, parts: &Parts<'_>) -> Result<Start, Alloc
     })
 }
 
-/// Finds what a file needs. Its content is played from the cleared start, and where that passes,
-/// from each class that knows all parts but one: at most six plays, one after the other, each up to
-/// its first fault.
+/// Finds what a file of at most 16,777,216 bytes needs. Its content is played from the cleared start,
+/// and where that passes, from each class that knows all parts but one: at most six plays, one after
+/// the other, each up to its first fault.
 ///
 /// Fails only if memory runs out; a file that is refused for its record or its layout takes none.
 /// An offset counts bytes from the file's start, which is the content's too.

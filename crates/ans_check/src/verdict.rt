@@ -88,7 +88,8 @@ pub(crate) fn passes_from<G: Grid>(
     Ok(end.is_ok())
 }
 
-/// Checks a file: the record first, and then the play of its content from the starts of a class.
+/// Checks a file of at most 16,777,216 bytes: the record first, and then the play of its content from
+/// the starts of a class.
 ///
 /// Fails only if memory runs out; a file that is refused for its record or its layout takes none.
 /// An offset counts bytes from the file's start, which is the content's too.

@@ -37,8 +37,8 @@ impl<G: Grid> Player<G> {
     ghost use Rattle.ans_model.specs.declared.fault.Fault.{Fault};
     ghost use Rattle.ans_play.specs.Stands.{IsNew, IsFed, IsStopped, Repeats, SamePlay, Stands, Feeds, Finishes};
 
-    /// A player of a width and a number of lines, from the starts of a class, to which nothing is
-    /// fed yet. It fails only if memory runs out.
+    /// A player of a width, 1 to 1024 columns, and a number of lines, 1 to 8192, from the starts of a
+    /// class, to which nothing is fed yet. It fails only if memory runs out.
     pub fn new(
         alloc: Global,
         width: usize,
@@ -70,7 +70,8 @@ impl<G: Grid> Player<G> {
 
     /// Plays a piece after the bytes fed so far. `Ok` says that all these bytes have no first fault.
     /// An error is their first fault, at its offset from the first byte fed. The rest of the piece is
-    /// then not looked at, and every later call returns that fault.
+    /// then not looked at, and every later call returns that fault. All pieces together have at most
+    /// 16,777,216 bytes.
     pub fn feed(&mut self, piece: &[u8]) -> Result<(), Fault>
         requires { self.old.fed + length piece.now ≤ longest_file }
         ensures same { SamePlay self.old self.new }

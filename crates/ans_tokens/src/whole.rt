@@ -45,8 +45,7 @@ fn read_digits(bytes: &[u8]) -> Option<(u8, usize)>
     None
 }
 
-/// The same as of `read_digits`. Most numbers have one digit or two, so these are read without a
-/// loop.
+/// Reads as `read_digits` does. Most numbers have one digit or two, and these need no loop.
 #[inline(always)]
 fn read_number(bytes: &[u8]) -> Option<(u8, usize)>
     ensures { IfSome result (λ read. IsNumberFront bytes.now read.0 read.1) }
