@@ -8,12 +8,13 @@ use Rattle.std.proofs.lemmas.List.{get_or-take, length-take-le, length-map}
 use Rattle.std.proofs.lemmas.List.{get_or_read, same_lists}
 use Rattle.std.proofs.lemmas.Bool.{cases_lt}
 use Rattle.std.proofs.lemmas.List.{length-replicate, get_or-replicate}
+use Rattle.std.specs.Int.Bits.{and_zero_r}
 use Rattle.std.proofs.lemmas.Nat.{and_mask}
 use Rattle.std.proofs.Math.Seq.{drop-drop}
 use borrow.Rule.Slice.PartMut.{put_mid}
 use Rattle.ans_screen.specs.GridEdits.{written}
 use Rattle.std.proofs.lemmas.Option.{slice_get-get_or}
-use Rattle.ans_screen.specs.HalfCells.{is_known}
+use Rattle.ans_screen.specs.HalfCells.{is_known, attribute_byte}
 use Rattle.ans_screen.specs.GridEdits.{is_unknown, first_unknown}
 use Rattle.ans_screen.specs.CellPlanes.{cell_of, AreKnown, IsFirstGap}
 use Rattle.ans_screen.specs.RowCells.{row_cell, cell_at, cells_of_rows, length_rows, AreKnownCells}
@@ -143,6 +144,14 @@ pub cell_in_state : (states : ℕ → RowState) (s : RowState) (blank : HalfCell
     ≡ row_cell s blank (get_or gs i 0) (get_or ks i 0) (get_or bs i 0) (get_or vs i 0)
 cell_in_state states s blank gs ks bs vs i e =
     ap (λ t. row_cell t blank (get_or gs i 0) (get_or ks i 0) (get_or bs i 0) (get_or vs i 0)) e
+
+-- a mixed cell in a plane of no known bits
+pub no_bits : (states : ℕ → RowState) (blank : HalfCell) (gs ks bs vs : List ℕ) (i n : ℕ) → states i ≡ Mixed
+    → bs ≡ replicate n 0 → i < n → attribute_byte (cell_at states blank gs ks bs vs i) ≡ 0
+no_bits states blank gs ks bs vs i n mixed e lt =
+    let none : get_or bs i 0 ≡ 0 = ap (λ (xs : List ℕ). get_or xs i 0) e ∙ get_or-replicate n i 0 0 lt in
+    ap attribute_byte (cell_in_state states Mixed blank gs ks bs vs i mixed)
+    ∙ (ap (λ (b : ℕ). bit_and (get_or vs i 0) b) none ∙ and_zero_r (get_or vs i 0))
 
 -- a byte of which all bits are known
 pub whole_byte : (v : ℕ) → v < 256 → bit_and v 0xFF ≡ v

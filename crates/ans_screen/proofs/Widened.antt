@@ -35,8 +35,8 @@ pub is_widened : (g mid new : PlaneGrid) (row first end from to : ℕ) (s : RowS
     → HoldsFrom g row first end → row * g.width ≤ from → to ≤ row * g.width + g.width
     → HasBlanks s g mid from first → HasBlanks s mid new end to → mid.blank ≡ g.blank → new.blank ≡ g.blank
     → IsWidened g.width row first end from to g.states.items g.extents.items g.blank g.glyphs.items
-    g.glyphs_known.items g.bits_known.items g.values.items new.glyphs.items new.glyphs_known.items
-    new.bits_known.items new.values.items
+    g.glyphs_known g.bits_known g.values.items new.glyphs.items new.glyphs_known
+    new.bits_known new.values.items
 is_widened g mid new row first end from to s is ls le h start stop b d mid_blank new_blank = record {
   state_there = ls;
   extent_there = le;
@@ -52,16 +52,16 @@ is_widened g mid new row first end from to s is ls le h start stop b d mid_blank
     | inl front ↦
         let later = d.outside i (inl (omega (arith, front.1, h.ordered))) in
         same_cell (get_or g.states.items row Stale) s g.blank (get_or mid.glyphs.items i 0)
-        (get_or mid.glyphs_known.items i 0) (get_or mid.bits_known.items i 0) (get_or mid.values.items i 0) _ _ _ _
+        (get_or mid.glyphs_known i 0) (get_or mid.bits_known i 0) (get_or mid.values.items i 0) _ _ _ _
         (sym is) later.glyph later.glyph_known later.bits_known later.value
-        ∙ (ap (λ (x : HalfCell). row_cell s x (get_or mid.glyphs.items i 0) (get_or mid.glyphs_known.items i 0)
-        (get_or mid.bits_known.items i 0) (get_or mid.values.items i 0)) (sym mid_blank)
+        ∙ (ap (λ (x : HalfCell). row_cell s x (get_or mid.glyphs.items i 0) (get_or mid.glyphs_known i 0)
+        (get_or mid.bits_known i 0) (get_or mid.values.items i 0)) (sym mid_blank)
         ∙ (b.inside i front.0 front.1 ∙ mid_blank))
     | inr back ↦
-        ap (λ t. row_cell t g.blank (get_or new.glyphs.items i 0) (get_or new.glyphs_known.items i 0)
-        (get_or new.bits_known.items i 0) (get_or new.values.items i 0)) (sym is)
-        ∙ (ap (λ (x : HalfCell). row_cell s x (get_or new.glyphs.items i 0) (get_or new.glyphs_known.items i 0)
-        (get_or new.bits_known.items i 0) (get_or new.values.items i 0)) (sym new_blank)
+        ap (λ t. row_cell t g.blank (get_or new.glyphs.items i 0) (get_or new.glyphs_known i 0)
+        (get_or new.bits_known i 0) (get_or new.values.items i 0)) (sym is)
+        ∙ (ap (λ (x : HalfCell). row_cell s x (get_or new.glyphs.items i 0) (get_or new.glyphs_known i 0)
+        (get_or new.bits_known i 0) (get_or new.values.items i 0)) (sym new_blank)
         ∙ (d.inside i back.0 back.1 ∙ new_blank))
   ];
   same = λ i l r.

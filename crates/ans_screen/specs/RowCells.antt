@@ -58,7 +58,7 @@ states_of g = state_at g.width g.states.items g.extents.items
 -- all cells of a grid
 abbrev pub cells_of_grid : PlaneGrid → List HalfCell
 cells_of_grid g =
-    cells_of_rows g.width g.rows (states_of g) g.blank g.glyphs.items g.glyphs_known.items g.bits_known.items
+    cells_of_rows g.width g.rows (states_of g) g.blank g.glyphs.items g.glyphs_known g.bits_known
     g.values.items
 
 -- a cell can be written to the planes in such a state: a known one, or any
@@ -88,15 +88,15 @@ IsFirstUnknown cell from to result =
 -- the four bytes of cell i are the same in both grids
 pub record SameBytes (old new : PlaneGrid) (i : ℕ) : Type 0 where
   pub glyph : slice_index new.glyphs.items i ≡ slice_index old.glyphs.items i
-  pub glyph_known : slice_index new.glyphs_known.items i ≡ slice_index old.glyphs_known.items i
-  pub bits_known : slice_index new.bits_known.items i ≡ slice_index old.bits_known.items i
+  pub glyph_known : slice_index new.glyphs_known i ≡ slice_index old.glyphs_known i
+  pub bits_known : slice_index new.bits_known i ≡ slice_index old.bits_known i
   pub value : slice_index new.values.items i ≡ slice_index old.values.items i
 
 -- the cell that the bytes of cell i stand for in this state
 abbrev pub byte_cell : RowState → PlaneGrid → ℕ → HalfCell
 byte_cell state g i =
-    row_cell state g.blank (slice_index g.glyphs.items i) (slice_index g.glyphs_known.items i)
-    (slice_index g.bits_known.items i) (slice_index g.values.items i)
+    row_cell state g.blank (slice_index g.glyphs.items i) (slice_index g.glyphs_known i)
+    (slice_index g.bits_known i) (slice_index g.values.items i)
 
 -- from `from` up to and without `to` the bytes of each cell stand for the blank in this state, and the others are as
 -- they were

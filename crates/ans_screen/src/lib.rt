@@ -12,6 +12,7 @@
 mod attr;
 mod cell;
 mod grid;
+mod lazy_plane;
 mod plain;
 mod plane_grid;
 mod planes;

@@ -7,6 +7,7 @@ mod copies;
 mod rows;
 
 use crate::cell::HalfCell;
+use crate::lazy_plane::LazyPlane;
 
 /// What the planes hold of a row.
 #[derive(Clone, Copy)]
@@ -30,7 +31,7 @@ pub(crate) struct Extent {
 /// Cell `i` is byte `i` of each plane, as far as the state of its row and what is held of it say.
 /// So a fill of the whole grid writes no more than the states, a write to a row writes no more of
 /// it than what lies between the cells that are held, and of a known row half the planes are
-/// neither written nor read.
+/// neither written nor read. The memory of that half is not touched before a row is mixed.
 #[derive(Drop)]
 pub struct PlaneGrid {
     width: usize,
@@ -43,15 +44,15 @@ pub struct PlaneGrid {
     extents: Vec<Extent>,
     glyphs: Vec<u8>,
     // FFh where the glyph is known, else 00h
-    glyphs_known: Vec<u8>,
+    glyphs_known: LazyPlane,
     // the bits of the attribute that are known
-    bits_known: Vec<u8>,
+    bits_known: LazyPlane,
     values: Vec<u8>,
     ghost some_width: { 1 ≤ width },
     ghost whole_states: { length states.items ≡ rows },
     ghost whole_extents: { length extents.items ≡ rows },
     ghost whole_glyphs: { length glyphs.items ≡ width * rows },
-    ghost whole_glyphs_known: { length glyphs_known.items ≡ width * rows },
-    ghost whole_bits_known: { length bits_known.items ≡ width * rows },
+    ghost whole_glyphs_known: { length glyphs_known ≡ width * rows },
+    ghost whole_bits_known: { length bits_known ≡ width * rows },
     ghost whole_values: { length values.items ≡ width * rows },
 }

@@ -7,6 +7,7 @@ use super::{Extent, PlaneGrid, RowState};
 use crate::attr::Attr;
 use crate::cell::HalfCell;
 use crate::grid::Grid;
+use crate::lazy_plane::LazyPlane;
 use crate::planes::{CellBytes, cell_of_bytes, fill_plane, write_plane};
 use std::alloc::{AllocError, Global};
 
@@ -22,8 +23,8 @@ impl Grid for PlaneGrid {
         let states = vec![in alloc; RowState::Stale; rows]?;
         let extents = vec![in alloc; Extent { first: 0, end: 0 }; rows]?;
         let glyphs = vec![in alloc; 0x00; count]?;
-        let glyphs_known = vec![in alloc; 0x00; count]?;
-        let bits_known = vec![in alloc; 0x00; count]?;
+        let glyphs_known = LazyPlane::new(alloc, count)?;
+        let bits_known = LazyPlane::new(alloc, count)?;
         let values = vec![in alloc; 0x00; count]?;
         Ok(PlaneGrid {
             width,
@@ -59,8 +60,8 @@ impl Grid for PlaneGrid {
             RowState::Known => cell_of_bytes(CellBytes::known(self.glyphs[i], self.values[i])),
             RowState::Mixed => cell_of_bytes(CellBytes {
                 glyph: self.glyphs[i],
-                glyph_known: self.glyphs_known[i],
-                bits_known: self.bits_known[i],
+                glyph_known: self.glyphs_known.byte(i),
+                bits_known: self.bits_known.byte(i),
                 value: self.values[i],
             }),
         }
@@ -87,8 +88,8 @@ impl Grid for PlaneGrid {
         write_plane(&mut self.glyphs, from, bytes, count);
         fill_plane(&mut self.values, from, to, attr.value);
         if all_planes {
-            fill_plane(&mut self.glyphs_known, from, to, 0xFF);
-            fill_plane(&mut self.bits_known, from, to, attr.known);
+            self.glyphs_known.fill(from, to, 0xFF);
+            self.bits_known.fill(from, to, attr.known);
         }
     }
 
@@ -132,5 +133,5 @@ impl Grid for PlaneGrid {
     }
 
     ghost whole = { λ g. length_rows g.width g.rows (states_of g) g.blank g.glyphs.items
-        g.glyphs_known.items g.bits_known.items g.values.items };
+        g.glyphs_known g.bits_known g.values.items };
 }

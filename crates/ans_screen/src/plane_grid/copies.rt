@@ -16,7 +16,7 @@ impl PlaneGrid {
         requires to { from + length glyphs.old ≤ row * self.now.width + self.now.width }
         ensures { (k : ℕ) → k < length glyphs.old → slice_index glyphs.new k
             ≡ glyph_byte (cell_at (states_of self.now) self.now.blank
-            self.now.glyphs.items self.now.glyphs_known.items self.now.bits_known.items
+            self.now.glyphs.items self.now.glyphs_known self.now.bits_known
             self.now.values.items (from + k)) }
     {
         let (first, end) = self.held_part(row, from, from + glyphs.len());
@@ -33,18 +33,17 @@ impl PlaneGrid {
             → states_of self.now i ≡ slice_index_or self.now.states.items row Stale }
         ensures { (k : ℕ) → k < length glyphs.old → slice_index glyphs.new k
             ≡ glyph_byte (cell_at (states_of self.now) self.now.blank
-            self.now.glyphs.items self.now.glyphs_known.items self.now.bits_known.items
+            self.now.glyphs.items self.now.glyphs_known self.now.bits_known
             self.now.values.items (from + k)) }
     {
         let to = from + glyphs.len();
         match self.states[row] {
             RowState::Stale => glyphs.fill(self.blank.glyph_byte()),
             RowState::Known => glyphs.copy_from_slice(&self.glyphs[from..to]),
-            RowState::Mixed => copy_known_glyphs(
-                &self.glyphs[from..to],
-                &self.glyphs_known[from..to],
-                glyphs,
-            ),
+            RowState::Mixed => match self.glyphs_known.part(from, to) {
+                Some(known) => copy_known_glyphs(&self.glyphs[from..to], known, glyphs),
+                None => glyphs.fill(0),
+            },
         }
     }
 
@@ -55,7 +54,7 @@ impl PlaneGrid {
         requires to { from + length values.old ≤ row * self.now.width + self.now.width }
         ensures { (k : ℕ) → k < length values.old → slice_index values.new k
             ≡ attribute_byte (cell_at (states_of self.now) self.now.blank
-            self.now.glyphs.items self.now.glyphs_known.items self.now.bits_known.items
+            self.now.glyphs.items self.now.glyphs_known self.now.bits_known
             self.now.values.items (from + k)) }
     {
         let (first, end) = self.held_part(row, from, from + values.len());
@@ -63,8 +62,8 @@ impl PlaneGrid {
         self.copy_held_attributes(row, first, &mut values[first - from..end - from]);
     }
 
-    /// Copies the attributes' values of cells side by side from cell `from` on, which are in the state of their
-    /// row.
+    /// Copies the attributes' values of cells side by side from cell `from` on, which are in the
+    /// state of their row.
     fn copy_held_attributes(&self, row: usize, from: usize, values: &mut [u8])
         requires row { row < self.now.rows }
         requires to { from + length values.old ≤ self.now.width * self.now.rows }
@@ -72,16 +71,17 @@ impl PlaneGrid {
             → states_of self.now i ≡ slice_index_or self.now.states.items row Stale }
         ensures { (k : ℕ) → k < length values.old → slice_index values.new k
             ≡ attribute_byte (cell_at (states_of self.now) self.now.blank
-            self.now.glyphs.items self.now.glyphs_known.items self.now.bits_known.items
+            self.now.glyphs.items self.now.glyphs_known self.now.bits_known
             self.now.values.items (from + k)) }
     {
         let to = from + values.len();
         match self.states[row] {
             RowState::Stale => values.fill(self.blank.attribute_byte()),
             RowState::Known => values.copy_from_slice(&self.values[from..to]),
-            RowState::Mixed => {
-                copy_known_bits(&self.values[from..to], &self.bits_known[from..to], values)
-            }
+            RowState::Mixed => match self.bits_known.part(from, to) {
+                Some(known) => copy_known_bits(&self.values[from..to], known, values),
+                None => values.fill(0),
+            },
         }
     }
 }

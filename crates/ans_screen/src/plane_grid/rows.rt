@@ -10,7 +10,8 @@ ghost use Rattle.ans_screen.specs.declared.plane_grid.RowState.TheVariants.{Stal
 
 use super::{Extent, PlaneGrid, RowState};
 use crate::cell::HalfCell;
-use crate::planes::{bytes_of, fill_plane, first_gap};
+use crate::lazy_plane::first_gap_from;
+use crate::planes::{bytes_of, fill_plane};
 
 /// How many cells of a row are held at the least behind those that are written, since what is
 /// written next mostly stands there. With one cell written, one blend fills them.
@@ -116,8 +117,8 @@ impl PlaneGrid {
         fill_plane(&mut self.glyphs, from, to, blank.glyph);
         fill_plane(&mut self.values, from, to, blank.value);
         if let RowState::Mixed = state {
-            fill_plane(&mut self.glyphs_known, from, to, blank.glyph_known);
-            fill_plane(&mut self.bits_known, from, to, blank.bits_known);
+            self.glyphs_known.fill(from, to, blank.glyph_known);
+            self.bits_known.fill(from, to, blank.bits_known);
         }
     }
 
@@ -152,8 +153,8 @@ impl PlaneGrid {
     {
         let start = self.row_start(row);
         let (first, end) = self.held_part(row, start, start + self.width);
-        fill_plane(&mut self.glyphs_known, first, end, 0xFF);
-        fill_plane(&mut self.bits_known, first, end, 0xFF);
+        self.glyphs_known.fill(first, end, 0xFF);
+        self.bits_known.fill(first, end, 0xFF);
         self.states[row] = RowState::Mixed;
     }
 
@@ -318,8 +319,8 @@ impl PlaneGrid {
         fill_plane(&mut self.glyphs, from, to, bytes.glyph);
         fill_plane(&mut self.values, from, to, bytes.value);
         if all_planes {
-            fill_plane(&mut self.glyphs_known, from, to, bytes.glyph_known);
-            fill_plane(&mut self.bits_known, from, to, bytes.bits_known);
+            self.glyphs_known.fill(from, to, bytes.glyph_known);
+            self.bits_known.fill(from, to, bytes.bits_known);
         }
     }
 
@@ -342,7 +343,7 @@ impl PlaneGrid {
         requires ordered { from < to }
         requires to { to ≤ row * self.now.width + self.now.width }
         ensures { IsFirstUnknown (cell_at (states_of self.now) self.now.blank
-            self.now.glyphs.items self.now.glyphs_known.items self.now.bits_known.items
+            self.now.glyphs.items self.now.glyphs_known self.now.bits_known
             self.now.values.items) from to result }
     {
         let (first, end) = self.held_part(row, from, to);
@@ -367,19 +368,14 @@ impl PlaneGrid {
         requires held { (i : ℕ) → from ≤ i → i < to
             → states_of self.now i ≡ slice_index_or self.now.states.items row Stale }
         ensures { IsFirstUnknown (cell_at (states_of self.now) self.now.blank
-            self.now.glyphs.items self.now.glyphs_known.items self.now.bits_known.items
+            self.now.glyphs.items self.now.glyphs_known self.now.bits_known
             self.now.values.items) from to result }
     {
         match self.states[row] {
             RowState::Stale if from < to && !self.blank.is_known() => Some(from),
             RowState::Stale | RowState::Known => None,
             RowState::Mixed => {
-                let gap = first_gap(
-                    &self.glyphs_known[from..to],
-                    &self.bits_known[from..to],
-                    to - from,
-                );
-                match gap {
+                match first_gap_from(&self.glyphs_known, &self.bits_known, from, to) {
                     Some(i) => Some(from + i),
                     None => None,
                 }

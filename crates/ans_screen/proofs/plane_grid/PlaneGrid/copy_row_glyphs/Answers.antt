@@ -12,12 +12,13 @@ returns c =
     let held = c.held_part-first.ensures in
     let filled : c.fill.new.self ≡ replicate (length c.args.glyphs.now) c.glyph_byte.result = search rules in
     let cell : ℕ → HalfCell =
-    cell_at (states_of g) g.blank g.glyphs.items g.glyphs_known.items g.bits_known.items g.values.items in
+    cell_at (states_of g) g.blank g.glyphs.items g.glyphs_known g.bits_known g.values.items in
     let stale : (i : ℕ) → states_of g i ≡ Stale → glyph_byte (cell i) ≡ c.glyph_byte.result = λ i e.
-    ap glyph_byte (cell_in_state (states_of g) Stale g.blank g.glyphs.items g.glyphs_known.items g.bits_known.items
+    ap glyph_byte (cell_in_state (states_of g) Stale g.blank g.glyphs.items g.glyphs_known g.bits_known
     g.values.items i e) ∙ sym c.glyph_byte.ensures in
     copied_row glyph_byte cell c.glyph_byte.result c.args.from c.held_part-first.result.0
-    c.held_part-first.result.1 c.args.glyphs.now c.fill.new.self c.copy_held_glyphs.new.glyphs held.from held.ordered held.to filled
+    c.held_part-first.result.1 c.args.glyphs.now c.fill.new.self c.copy_held_glyphs.new.glyphs
+    held.from held.ordered held.to filled
     (omega (arith, c.copy_held_glyphs.auto.glyphs))
     (λ i le lt. stale i (held.before i le lt)) (λ i le lt. stale i (held.after i le lt))
     (λ k lt. c.copy_held_glyphs.ensures k (omega (arith, lt)))

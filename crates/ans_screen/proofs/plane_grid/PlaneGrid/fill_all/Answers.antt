@@ -9,7 +9,7 @@ returns-clause-cells c =
     let g = c.args.self.now in
     let states : c.fill.new.self.items ≡ replicate g.rows Stale = search rules in
     all_stale g.width g.rows c.fill.new.self.items g.extents.items c.args.cell g.glyphs.items
-    g.glyphs_known.items g.bits_known.items g.values.items g.some_width states
+    g.glyphs_known g.bits_known g.values.items g.some_width states
     ∙ sym (filled_whole (cells_of_grid g) (g.width * g.rows) c.args.cell
-    (length_rows g.width g.rows (states_of g) g.blank g.glyphs.items g.glyphs_known.items g.bits_known.items
+    (length_rows g.width g.rows (states_of g) g.blank g.glyphs.items g.glyphs_known g.bits_known
     g.values.items))

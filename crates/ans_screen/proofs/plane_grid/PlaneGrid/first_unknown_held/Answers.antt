@@ -1,4 +1,4 @@
-use Rattle.std.proofs.Common.{ℕ, ◌-◌, ◌<◌, length, take, drop, List, arith, ap, ◌∙◌}
+use Rattle.std.proofs.Common.{◌<◌, length, arith, refl, ◌∙◌}
 use Rattle.ans_screen.specs.RowCells.{states_of}
 use Rattle.ans_screen.specs.declared.plane_grid.RowState.TheVariants.{Mixed}
 use Rattle.ans_screen.proofs.Places.{is_part}
@@ -10,13 +10,10 @@ returns-in-Some c =
     let g = c.args.self.now in
     let row : c.args.row < length g.states.items = omega arith in
     let state = state_read g.states.items c.args.row _ Mixed row c.index.ensures c.in-Mixed.is in
-    gap_some (states_of g) g.blank g.glyphs.items g.glyphs_known.items g.bits_known.items g.values.items _ _
+    gap_some (states_of g) g.blank g.glyphs.items g.glyphs_known g.bits_known g.values.items _ _
     c.args.from c.args.to c.in-Some.i
     (λ i le lt. c.requires.held i le lt ∙ state)
-    (is_part g.glyphs_known.items c.args.from c.args.to _
-    (ap (λ (xs : List ℕ). take (c.args.to - c.args.from) (drop c.args.from xs)) c.deref.ensures.value))
-    (is_part g.bits_known.items c.args.from c.args.to _
-    (ap (λ (xs : List ℕ). take (c.args.to - c.args.from) (drop c.args.from xs)) c.deref-in-Mixed.ensures.value))
+    (is_part g.glyphs_known c.args.from c.args.to _ refl) (is_part g.bits_known c.args.from c.args.to _ refl)
     c.in-Some.ensures
 
 pub returns-in-None : goal.returns-in-None
@@ -24,11 +21,8 @@ returns-in-None c =
     let g = c.args.self.now in
     let row : c.args.row < length g.states.items = omega arith in
     let state = state_read g.states.items c.args.row _ Mixed row c.index.ensures c.in-Mixed.is in
-    gap_none (states_of g) g.blank g.glyphs.items g.glyphs_known.items g.bits_known.items g.values.items _ _
+    gap_none (states_of g) g.blank g.glyphs.items g.glyphs_known g.bits_known g.values.items _ _
     c.args.from c.args.to
     (λ i le lt. c.requires.held i le lt ∙ state)
-    (is_part g.glyphs_known.items c.args.from c.args.to _
-    (ap (λ (xs : List ℕ). take (c.args.to - c.args.from) (drop c.args.from xs)) c.deref.ensures.value))
-    (is_part g.bits_known.items c.args.from c.args.to _
-    (ap (λ (xs : List ℕ). take (c.args.to - c.args.from) (drop c.args.from xs)) c.deref-in-Mixed.ensures.value))
+    (is_part g.glyphs_known c.args.from c.args.to _ refl) (is_part g.bits_known c.args.from c.args.to _ refl)
     c.in-None.ensures

@@ -11,10 +11,10 @@ returns-clause-cells c =
     let held = c.held_part-first.ensures in
     let lt : c.args.row < length g.states.items = omega arith in
     let le : first ≤ end = held.ordered in
-    let kk : end ≤ length g.glyphs_known.items = omega (arith, held.to) in
-    let kb : end ≤ length g.bits_known.items = omega (arith, held.to) in
+    let kk : end ≤ length g.glyphs_known = omega (arith, held.to) in
+    let kb : end ≤ length g.bits_known = omega (arith, held.to) in
     mixed_rows g.width g.rows c.args.row first end g.states.items g.extents.items g.blank g.glyphs.items
-    g.glyphs_known.items g.bits_known.items g.values.items _ _ lt c.requires.known
+    g.glyphs_known g.bits_known g.values.items _ _ lt c.requires.known
     (λ i after before. (
       row_of g.width c.args.row i (omega (arith, held.from)) (omega (arith, held.to)),
       held.held i after before ∙ c.requires.known,
@@ -24,9 +24,9 @@ returns-clause-cells c =
       | inl before ↦ held.before i (omega (arith, place.0)) before
       | inr past ↦ held.after i past (omega (arith, place.1))
     ])
-    (keeps_filled g.glyphs_known.items _ first end 0xFF c.fill_plane.ensures.items le kk)
-    (keeps_filled g.bits_known.items _ first end 0xFF c.fill_plane-2.ensures.items le kb)
+    (keeps_filled g.glyphs_known _ first end 0xFF c.fill.ensures.bytes le kk)
+    (keeps_filled g.bits_known _ first end 0xFF c.fill-2.ensures.bytes le kb)
     (λ i after before. (
-      filled_within g.glyphs_known.items _ first end 0xFF i c.fill_plane.ensures.items kk after before,
-      filled_within g.bits_known.items _ first end 0xFF i c.fill_plane-2.ensures.items kb after before,
+      filled_within g.glyphs_known _ first end 0xFF i c.fill.ensures.bytes kk after before,
+      filled_within g.bits_known _ first end 0xFF i c.fill-2.ensures.bytes kb after before,
     ))

@@ -32,8 +32,8 @@ returns-clause-cells c =
     state (omega arith) (omega arith) holds c.requires.start c.requires.end c.write_blank.ensures.blanks
     c.write_blank-2.ensures.blanks c.write_blank.ensures.blank b in
     rw (w, n, b, s, x, c.min.ensures, c.max.ensures) (widened_rows g.width g.rows c.args.row first end
-    c.args.from c.args.to g.states.items g.extents.items g.blank g.glyphs.items g.glyphs_known.items g.bits_known.items g.values.items new.glyphs.items
-    new.glyphs_known.items new.bits_known.items new.values.items held.ordered h)
+    c.args.from c.args.to g.states.items g.extents.items g.blank g.glyphs.items g.glyphs_known g.bits_known g.values.items new.glyphs.items
+    new.glyphs_known new.bits_known new.values.items held.ordered h)
 
 pub returns-clause-held : goal.returns-clause-held
 returns-clause-held c = λ i le lt.
@@ -62,8 +62,8 @@ returns-clause-held c = λ i le lt.
     state (omega arith) (omega arith) holds c.requires.start c.requires.end c.write_blank.ensures.blanks
     c.write_blank-2.ensures.blanks c.write_blank.ensures.blank b in
     rw (w, s, x, c.min.ensures, c.max.ensures) (widened_inside g.width g.rows c.args.row first end
-    c.args.from c.args.to g.states.items g.extents.items g.blank g.glyphs.items g.glyphs_known.items g.bits_known.items g.values.items new.glyphs.items
-    new.glyphs_known.items new.bits_known.items new.values.items held.ordered h i (omega arith) (omega arith))
+    c.args.from c.args.to g.states.items g.extents.items g.blank g.glyphs.items g.glyphs_known g.bits_known g.values.items new.glyphs.items
+    new.glyphs_known new.bits_known new.values.items held.ordered h i (omega arith) (omega arith))
 
 pub returns-clause-kept : goal.returns-clause-kept
 returns-clause-kept c = λ i other.
@@ -92,5 +92,5 @@ returns-clause-kept c = λ i other.
     state (omega arith) (omega arith) holds c.requires.start c.requires.end c.write_blank.ensures.blanks
     c.write_blank-2.ensures.blanks c.write_blank.ensures.blank b in
     rw (w, s, x, c.min.ensures, c.max.ensures) (widened_keeps g.width g.rows c.args.row first end
-    c.args.from c.args.to g.states.items g.extents.items g.blank g.glyphs.items g.glyphs_known.items g.bits_known.items g.values.items new.glyphs.items
-    new.glyphs_known.items new.bits_known.items new.values.items held.ordered h i other)
+    c.args.from c.args.to g.states.items g.extents.items g.blank g.glyphs.items g.glyphs_known g.bits_known g.values.items new.glyphs.items
+    new.glyphs_known new.bits_known new.values.items held.ordered h i other)

@@ -9,8 +9,8 @@ use Rattle.ans_screen.proofs.plane_grid.cells.PlaneGridGrid.copy_glyphs.Goals as
 pub loop-i-preserved : goal.loop-i-preserved
 loop-i-preserved c =
     let g = c.args.self.now in
-    let len = length_rows g.width g.rows (states_of g) g.blank g.glyphs.items g.glyphs_known.items
-    g.bits_known.items g.values.items in
+    let len = length_rows g.width g.rows (states_of g) g.blank g.glyphs.items g.glyphs_known
+    g.bits_known g.values.items in
     rw c.loop-i.invariant
     (copied_from glyph_byte (cells_of_grid g) c.args.glyphs.now c.args.from c.loop-i.i c.get.result c.glyph_byte.result
     (sym (get_or_from_slice_get (cells_of_grid g) _ _ _ c.get.ensures)) c.glyph_byte.ensures (omega arith) (omega
@@ -19,8 +19,8 @@ loop-i-preserved c =
 pub returns-in-Some : goal.returns-in-Some
 returns-in-Some c =
     let g = c.args.self.now in
-    let len = length_rows g.width g.rows (states_of g) g.blank g.glyphs.items g.glyphs_known.items
-    g.bits_known.items g.values.items in
-    copied_is glyph_byte g.width g.rows c.args.from (states_of g) g.blank g.glyphs.items g.glyphs_known.items
-    g.bits_known.items g.values.items
+    let len = length_rows g.width g.rows (states_of g) g.blank g.glyphs.items g.glyphs_known
+    g.bits_known g.values.items in
+    copied_is glyph_byte g.width g.rows c.args.from (states_of g) g.blank g.glyphs.items g.glyphs_known
+    g.bits_known g.values.items
     c.args.glyphs.now _ c.copy_row_glyphs.auto.glyphs (omega arith) c.copy_row_glyphs.ensures

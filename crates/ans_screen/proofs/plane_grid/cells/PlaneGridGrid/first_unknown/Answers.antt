@@ -8,21 +8,21 @@ use Rattle.ans_screen.proofs.plane_grid.cells.PlaneGridGrid.first_unknown.Goals 
 pub returns-then-from-to : goal.returns-then-from-to
 returns-then-from-to c =
     let g = c.args.self.now in
-    let len = length_rows g.width g.rows (states_of g) g.blank g.glyphs.items g.glyphs_known.items g.bits_known.items
+    let len = length_rows g.width g.rows (states_of g) g.blank g.glyphs.items g.glyphs_known g.bits_known
     g.values.items in
     let within : c.args.to ≤ g.width * g.rows = omega arith in
-    first_of_rows g.width g.rows (states_of g) g.blank g.glyphs.items g.glyphs_known.items g.bits_known.items
+    first_of_rows g.width g.rows (states_of g) g.blank g.glyphs.items g.glyphs_known g.bits_known
     g.values.items c.args.to None
     within (λ i start lt. c.loop-row.invariant i (omega arith) lt)
 
 pub returns-in-Some : goal.returns-in-Some
 returns-in-Some c =
     let g = c.args.self.now in
-    let len = length_rows g.width g.rows (states_of g) g.blank g.glyphs.items g.glyphs_known.items g.bits_known.items
+    let len = length_rows g.width g.rows (states_of g) g.blank g.glyphs.items g.glyphs_known g.bits_known
     g.values.items in
     let within : c.args.to ≤ g.width * g.rows = omega arith in
     let found = c.in-Some.ensures in
-    first_of_rows g.width g.rows (states_of g) g.blank g.glyphs.items g.glyphs_known.items g.bits_known.items
+    first_of_rows g.width g.rows (states_of g) g.blank g.glyphs.items g.glyphs_known g.bits_known
     g.values.items c.args.to
     (Some c.in-Some.i) within (
       omega arith,
@@ -37,11 +37,11 @@ returns-in-Some c =
 pub returns : goal.returns
 returns c =
     let g = c.args.self.now in
-    let len = length_rows g.width g.rows (states_of g) g.blank g.glyphs.items g.glyphs_known.items g.bits_known.items
+    let len = length_rows g.width g.rows (states_of g) g.blank g.glyphs.items g.glyphs_known g.bits_known
     g.values.items in
     let within : c.args.to ≤ g.width * g.rows = omega arith in
     let all : c.loop-row.row ≡ g.rows = omega arith in
     let cells : c.loop-row.row * g.width ≡ g.rows * g.width = ap (λ (n : ℕ). n * g.width) all in
-    first_of_rows g.width g.rows (states_of g) g.blank g.glyphs.items g.glyphs_known.items g.bits_known.items
+    first_of_rows g.width g.rows (states_of g) g.blank g.glyphs.items g.glyphs_known g.bits_known
     g.values.items c.args.to None
     within (λ i start lt. c.loop-row.invariant i (omega arith) lt)

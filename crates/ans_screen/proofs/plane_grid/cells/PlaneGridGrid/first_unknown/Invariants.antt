@@ -8,5 +8,5 @@ abbrev pub invariant-loop-row : goal.invariant-loop-row
 invariant-loop-row l =
     let g = l.self in
     (i : ℕ) → i < l.row * g.width → i < l.to
-    → is_unknown (cell_at (states_of g) g.blank g.glyphs.items g.glyphs_known.items g.bits_known.items
+    → is_unknown (cell_at (states_of g) g.blank g.glyphs.items g.glyphs_known g.bits_known
     g.values.items i) ≡ false

@@ -14,8 +14,8 @@ use Rattle.ans_screen.proofs.plane_grid.cells.PlaneGridGrid.get.Goals.{then-i-fi
 pub returns-then-i-first : goal.returns-then-i-first
 returns-then-i-first c =
     let g = c.args.self.now in
-    let len = length_rows g.width g.rows (states_of g) g.blank g.glyphs.items g.glyphs_known.items
-    g.bits_known.items g.values.items in
+    let len = length_rows g.width g.rows (states_of g) g.blank g.glyphs.items g.glyphs_known
+    g.bits_known g.values.items in
     let within : c.args.i < g.width * g.rows = omega arith in
     let row : c.args.i / g.width < length g.extents.items =
     omega (arith, row_below g.width g.rows c.args.i g.some_width within) in
@@ -31,16 +31,16 @@ returns-then-i-first c =
     ] in
     let state = off_held (get_or g.states.items (c.args.i / g.width) Stale)
     (get_or g.extents.items (c.args.i / g.width) nowhere) c.args.i out in
-    read_rows g.width g.rows (states_of g) g.blank g.glyphs.items g.glyphs_known.items g.bits_known.items
+    read_rows g.width g.rows (states_of g) g.blank g.glyphs.items g.glyphs_known g.bits_known
     g.values.items c.args.i _ within
-    (sym (same_cell _ Stale g.blank (get_or g.glyphs.items c.args.i 0) (get_or g.glyphs_known.items c.args.i 0)
-    (get_or g.bits_known.items c.args.i 0) (get_or g.values.items c.args.i 0) _ _ _ _ state refl refl refl refl))
+    (sym (same_cell _ Stale g.blank (get_or g.glyphs.items c.args.i 0) (get_or g.glyphs_known c.args.i 0)
+    (get_or g.bits_known c.args.i 0) (get_or g.values.items c.args.i 0) _ _ _ _ state refl refl refl refl))
 
 pub returns-in-Stale : goal.returns-in-Stale
 returns-in-Stale c =
     let g = c.args.self.now in
-    let len = length_rows g.width g.rows (states_of g) g.blank g.glyphs.items g.glyphs_known.items
-    g.bits_known.items g.values.items in
+    let len = length_rows g.width g.rows (states_of g) g.blank g.glyphs.items g.glyphs_known
+    g.bits_known g.values.items in
     let within : c.args.i < g.width * g.rows = omega arith in
     let row : c.args.i / g.width < length g.states.items =
     omega (arith, row_below g.width g.rows c.args.i g.some_width within) in
@@ -51,16 +51,16 @@ returns-in-Stale c =
     c.args.i (omega (arith, c.if-i-first.false, ap (λ (e : Extent). e.first) held))
     (omega (arith, c.if-i-end.false, ap (λ (e : Extent). e.end) held))
     ∙ state_read g.states.items (c.args.i / g.width) _ Stale row c.index-2.ensures c.in-Stale.is in
-    read_rows g.width g.rows (states_of g) g.blank g.glyphs.items g.glyphs_known.items g.bits_known.items
+    read_rows g.width g.rows (states_of g) g.blank g.glyphs.items g.glyphs_known g.bits_known
     g.values.items c.args.i _ within
-    (sym (same_cell _ Stale g.blank (get_or g.glyphs.items c.args.i 0) (get_or g.glyphs_known.items c.args.i 0)
-    (get_or g.bits_known.items c.args.i 0) (get_or g.values.items c.args.i 0) _ _ _ _ state refl refl refl refl))
+    (sym (same_cell _ Stale g.blank (get_or g.glyphs.items c.args.i 0) (get_or g.glyphs_known c.args.i 0)
+    (get_or g.bits_known c.args.i 0) (get_or g.values.items c.args.i 0) _ _ _ _ state refl refl refl refl))
 
 pub returns-in-Known : goal.returns-in-Known
 returns-in-Known c =
     let g = c.args.self.now in
-    let len = length_rows g.width g.rows (states_of g) g.blank g.glyphs.items g.glyphs_known.items
-    g.bits_known.items g.values.items in
+    let len = length_rows g.width g.rows (states_of g) g.blank g.glyphs.items g.glyphs_known
+    g.bits_known g.values.items in
     let within : c.args.i < g.width * g.rows = omega arith in
     let row : c.args.i / g.width < length g.states.items =
     omega (arith, row_below g.width g.rows c.args.i g.some_width within) in
@@ -71,12 +71,12 @@ returns-in-Known c =
     c.args.i (omega (arith, c.if-i-first.false, ap (λ (e : Extent). e.first) held))
     (omega (arith, c.if-i-end.false, ap (λ (e : Extent). e.end) held))
     ∙ state_read g.states.items (c.args.i / g.width) _ Known row c.index-2.ensures c.in-Known.is in
-    read_rows g.width g.rows (states_of g) g.blank g.glyphs.items g.glyphs_known.items g.bits_known.items
+    read_rows g.width g.rows (states_of g) g.blank g.glyphs.items g.glyphs_known g.bits_known
     g.values.items c.args.i _ within
     (c.cell_of_bytes.ensures
     ∙ (c.known.ensures
-    ∙ sym (same_cell _ Known g.blank c.index-in-Known.result.now (get_or g.glyphs_known.items c.args.i 0) (get_or
-    g.bits_known.items c.args.i 0)
+    ∙ sym (same_cell _ Known g.blank c.index-in-Known.result.now (get_or g.glyphs_known c.args.i 0) (get_or
+    g.bits_known c.args.i 0)
     c.index-in-Known-2.result.now _ _ _ _ state (sym (get_or_read g.glyphs.items c.args.i _ (omega arith)
     c.index-in-Known.ensures 0)) refl refl
     (sym (get_or_read g.values.items c.args.i _ (omega arith) c.index-in-Known-2.ensures 0)))))
@@ -84,8 +84,8 @@ returns-in-Known c =
 pub returns-in-Mixed : goal.returns-in-Mixed
 returns-in-Mixed c =
     let g = c.args.self.now in
-    let len = length_rows g.width g.rows (states_of g) g.blank g.glyphs.items g.glyphs_known.items
-    g.bits_known.items g.values.items in
+    let len = length_rows g.width g.rows (states_of g) g.blank g.glyphs.items g.glyphs_known
+    g.bits_known g.values.items in
     let within : c.args.i < g.width * g.rows = omega arith in
     let row : c.args.i / g.width < length g.states.items =
     omega (arith, row_below g.width g.rows c.args.i g.some_width within) in
@@ -96,12 +96,12 @@ returns-in-Mixed c =
     c.args.i (omega (arith, c.if-i-first.false, ap (λ (e : Extent). e.first) held))
     (omega (arith, c.if-i-end.false, ap (λ (e : Extent). e.end) held))
     ∙ state_read g.states.items (c.args.i / g.width) _ Mixed row c.index-2.ensures c.in-Mixed.is in
-    read_rows g.width g.rows (states_of g) g.blank g.glyphs.items g.glyphs_known.items g.bits_known.items
+    read_rows g.width g.rows (states_of g) g.blank g.glyphs.items g.glyphs_known g.bits_known
     g.values.items c.args.i _ within
     (c.cell_of_bytes-in-Mixed.ensures
-    ∙ sym (same_cell _ Mixed g.blank c.index-in-Mixed.result.now c.index-in-Mixed-2.result.now
-    c.index-in-Mixed-3.result.now c.index-in-Mixed-4.result.now _ _ _ _ state (sym (get_or_read g.glyphs.items
+    ∙ sym (same_cell _ Mixed g.blank c.index-in-Mixed.result.now c.byte.result c.byte-in-Mixed.result
+    c.index-in-Mixed-2.result.now _ _ _ _ state (sym (get_or_read g.glyphs.items
     c.args.i _ (omega arith) c.index-in-Mixed.ensures 0))
-    (sym (get_or_read g.glyphs_known.items c.args.i _ (omega arith) c.index-in-Mixed-2.ensures 0))
-    (sym (get_or_read g.bits_known.items c.args.i _ (omega arith) c.index-in-Mixed-3.ensures 0))
-    (sym (get_or_read g.values.items c.args.i _ (omega arith) c.index-in-Mixed-4.ensures 0))))
+    (sym c.byte.ensures)
+    (sym c.byte-in-Mixed.ensures)
+    (sym (get_or_read g.values.items c.args.i _ (omega arith) c.index-in-Mixed-2.ensures 0))))

@@ -13,7 +13,7 @@ returns-then-all_planes-clause-cells c =
     let g = c.open_cells-all_planes.new.self in
     let before = c.args.self.now in
     let len = length_rows before.width before.rows (states_of before) before.blank before.glyphs.items
-    before.glyphs_known.items before.bits_known.items before.values.items in
+    before.glyphs_known before.bits_known before.values.items in
     let run = take c.args.count c.args.bytes.now in
     let long : length run ≡ c.args.count = length-take-le c.args.count c.args.bytes.now c.requires.count in
     let to = c.args.from + c.args.count in
@@ -21,7 +21,7 @@ returns-then-all_planes-clause-cells c =
     let n : g.rows ≡ before.rows = c.open_cells-all_planes.ensures.rows in
     let within : to ≤ before.width * before.rows = omega arith in
     let room : to ≤ g.width * g.rows = rw (w, n) within in
-    let level : AreLevel g.glyphs.items g.glyphs_known.items g.bits_known.items g.values.items (g.width * g.rows) =
+    let level : AreLevel g.glyphs.items g.glyphs_known g.bits_known g.values.items (g.width * g.rows) =
     record {
       glyphs = g.whole_glyphs;
       glyphs_known = g.whole_glyphs_known;
@@ -33,10 +33,10 @@ returns-then-all_planes-clause-cells c =
     let full : (c.is_known.result ≡ true) → (◌≡◌ {A = ℕ} 0xFF 0xFF) × (c.attr.inside.known ≡ 0xFF) =
     λ t. (refl, ap (λ (a : KnownBits). a.known) attr ∙ eqb-true c.args.attr.known 0xFF (sym c.is_known.ensures ∙ t)) in
     run_mixed g.width g.rows c.args.from to c.is_known.result (states_of g) g.blank
-    g.glyphs.items g.glyphs_known.items g.bits_known.items g.values.items _ _ _ _ run 0xFF c.attr.inside.known
+    g.glyphs.items g.glyphs_known g.bits_known g.values.items _ _ _ _ run 0xFF c.attr.inside.known
     c.attr.inside.value
-    level (omega arith) room c.write_plane.ensures.items c.fill_plane-then-all_planes.ensures.items
-    c.fill_plane-then-all_planes-2.ensures.items c.fill_plane.ensures.items c.open_cells-all_planes.ensures.takes full
+    level (omega arith) room c.write_plane.ensures.items c.fill.ensures.bytes
+    c.fill-then-all_planes.ensures.bytes c.fill_plane.ensures.items c.open_cells-all_planes.ensures.takes full
     ∙ (ap (λ (a : KnownBits). written (cells_of_grid g) c.args.from (printed_run a run)) attr
     ∙ ap (λ (cells : List HalfCell). written cells c.args.from (printed_run c.args.attr run))
     c.open_cells-all_planes.ensures.cells)
@@ -46,7 +46,7 @@ returns-else-all_planes-clause-cells c =
     let g = c.open_cells-all_planes.new.self in
     let before = c.args.self.now in
     let len = length_rows before.width before.rows (states_of before) before.blank before.glyphs.items
-    before.glyphs_known.items before.bits_known.items before.values.items in
+    before.glyphs_known before.bits_known before.values.items in
     let run = take c.args.count c.args.bytes.now in
     let long : length run ≡ c.args.count = length-take-le c.args.count c.args.bytes.now c.requires.count in
     let to = c.args.from + c.args.count in
@@ -54,7 +54,7 @@ returns-else-all_planes-clause-cells c =
     let n : g.rows ≡ before.rows = c.open_cells-all_planes.ensures.rows in
     let within : to ≤ before.width * before.rows = omega arith in
     let room : to ≤ g.width * g.rows = rw (w, n) within in
-    let level : AreLevel g.glyphs.items g.glyphs_known.items g.bits_known.items g.values.items (g.width * g.rows) =
+    let level : AreLevel g.glyphs.items g.glyphs_known g.bits_known g.values.items (g.width * g.rows) =
     record {
       glyphs = g.whole_glyphs;
       glyphs_known = g.whole_glyphs_known;
@@ -66,7 +66,7 @@ returns-else-all_planes-clause-cells c =
     let full : (c.is_known.result ≡ true) → (◌≡◌ {A = ℕ} 0xFF 0xFF) × (c.attr.inside.known ≡ 0xFF) =
     λ t. (refl, ap (λ (a : KnownBits). a.known) attr ∙ eqb-true c.args.attr.known 0xFF (sym c.is_known.ensures ∙ t)) in
     run_known g.width g.rows c.args.from to c.is_known.result (states_of g) g.blank
-    g.glyphs.items g.glyphs_known.items g.bits_known.items g.values.items _ _ run 0xFF c.attr.inside.known
+    g.glyphs.items g.glyphs_known g.bits_known g.values.items _ _ run 0xFF c.attr.inside.known
     c.attr.inside.value
     level (omega arith) room c.write_plane.ensures.items c.fill_plane.ensures.items
     c.open_cells-all_planes.ensures.takes (c.open_cells-all_planes.ensures.planes c.if-all_planes.false) full
