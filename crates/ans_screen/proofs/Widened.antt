@@ -29,6 +29,16 @@ two_steps g mid new i a b = record {
   value = b.value ∙ a.value;
 }
 
+-- more of a row is held, and the grid is otherwise as it was
+pub record Widening (g new : PlaneGrid) (row first end from to : ℕ) : Type 0 where
+  pub width : new.width ≡ g.width
+  pub rows : new.rows ≡ g.rows
+  pub blank : new.blank ≡ g.blank
+  pub states : new.states ≡ g.states
+  pub extents : new.extents ≡ g.extents
+  pub planes : IsWidened g.width row first end from to g.states.items g.extents.items g.blank g.glyphs.items
+      g.glyphs_known g.bits_known g.values.items new.glyphs.items new.glyphs_known new.bits_known new.values.items
+
 -- the blank is written before and behind what is held
 pub is_widened : (g mid new : PlaneGrid) (row first end from to : ℕ) (s : RowState)
     → s ≡ get_or g.states.items row Stale → row < length g.states.items → row < length g.extents.items
