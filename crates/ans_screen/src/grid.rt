@@ -30,9 +30,11 @@ pub trait Grid: Sized + Drop {
         ensures rows { IfOk result (λ g. rows_of g ≡ rows) }
         ensures cells { IfOk result (λ g. cells_of g ≡ replicate (width * rows) cell) };
 
+    /// The number of columns.
     fn width(&self) -> usize
         ensures { result ≡ width_of self.now };
 
+    /// The number of rows.
     fn rows(&self) -> usize
         ensures { result ≡ rows_of self.now };
 
