@@ -1,5 +1,6 @@
-// A plain player in Rust, without proofs: it plays a file on one cleared screen and prints the picture. It knows no other
-// start and refuses nothing but a scroll and letters that it does not know. `speed.py` times it beside the program.
+// A plain player in Rust, without proofs: it plays a file on one cleared screen and prints the
+// picture. It knows no other start and refuses nothing but a scroll and letters that it does not
+// know. `speed.py` times it beside the program.
 use std::io::Write;
 const FG: [u8; 8] = [0, 4, 2, 6, 1, 5, 3, 7];
 fn main() {
@@ -70,7 +71,9 @@ fn main() {
             }
         }
     }
-    let glyphs: Vec<char> = (0..=255u8).map(|b| if (0x20..0x7f).contains(&b) { b as char } else { '\u{2588}' }).collect();
+    let glyphs: Vec<char> = (0..=255u8)
+        .map(|b| if (0x20..0x7f).contains(&b) { b as char } else { '\u{2588}' })
+        .collect();
     let mut out = String::with_capacity(l * w * 2);
     for y in 0..l {
         for x in 0..w { out.push(glyphs[screen[y * w + x].0 as usize]) }
