@@ -373,6 +373,18 @@ module _ (z : Size) (saved : Span) (attribute : KnownBits) where
       over false e found = absurd (cc)
 
 -- ---- a tab
+-- where the first of some blanks is refused, they are
+first_of_some : (z : Size) (h : HalfState) (n : ℕ) (cause : Cause) → 0 < n → half_print_fault z h ≡ Some cause →
+    half_blanks_fault z h n ≡ Some cause
+first_of_some z h zero cause some shown = absurd (let no : ⊥ = omega arith in no)
+first_of_some z h (suc n) cause some shown = rw shown refl
+
+-- where a blank is refused, a tab is
+pub tab_refused_as_print : (z : Size) (h : HalfState) (cause : Cause) → half_print_fault z h ≡ Some cause →
+    half_fault z h Tab ≡ Some cause
+tab_refused_as_print z h cause shown =
+    first_of_some z h (tab_blanks h.cursor.low.column) cause (some_blanks h.cursor.low.column) shown
+
 pub same_run : (xs ys : List HalfCell) (c d saved : Span) (attribute : KnownBits) (wrap : WrapMode) → xs ≡ ys → c ≡ d →
     half_state xs c saved attribute wrap ≡ half_state ys d saved attribute wrap
 same_run xs ys c d saved attribute wrap e f = cc

@@ -195,7 +195,7 @@ has_room p columns count on free some within = by_fault (half_fault p.size p.sta
         record { one = one.0; above = one.1; columns = omega arith }
 
 -- the run ends on the screen
-pub room_on_screen : (width lines row column count cells : ℕ) → row < lines → column + count < width →
+room_on_screen : (width lines row column count cells : ℕ) → row < lines → column + count < width →
     cells ≡ (lines + 1) * width → row * width + column + count ≤ cells
 room_on_screen width lines row column count cells above within e =
     let rows : (row + 1) * width ≤ (lines + 1) * width = mul-le-mul_right width (omega arith) in

@@ -37,6 +37,8 @@ pub(crate) struct Play<G: Grid> {
     saved: Span,
     attribute: Attr,
     wrap: WrapMode,
+    ghost grid_width: { G.width_of grid ≡ size.width },
+    ghost grid_rows: { G.rows_of grid ≡ size.lines + 1 },
 }
 
 impl<G: Grid> Model for Play<G> {
@@ -153,12 +155,14 @@ impl<G: Grid> Play<G> {
         ensures played { GoesOn self.old (take result bytes.now) self.new }
         ensures none { result ≡ 0 → self.new ≡ self.old }
     {
-        if bytes[0] == ESCAPE {
-            return self.play_sequence(bytes);
-        }
-        match self.print_run(bytes) {
-            0 => self.play_single(bytes),
-            count => count,
+        match bytes[0] {
+            ESCAPE => self.play_sequence(bytes),
+            // no glyph, so no run
+            0x07 | 0x08 | b'\t' | b'\n' | b'\r' => self.play_single(bytes),
+            _ => match self.print_run(bytes) {
+                0 => self.play_single(bytes),
+                count => count,
+            },
         }
     }
 
@@ -220,8 +224,8 @@ impl<G: Grid> Play<G> {
         let count = self.scanner.glyphs(&bytes[..bytes.len().min(columns)]);
         if count > 0 {
             let Position { row, column } = self.cursor.low;
-            let from = row * self.size.width() + column;
-            self.grid.write_run(from, bytes, count, self.attribute);
+            self.grid
+                .write_run(row, column, bytes, count, self.attribute);
             self.cursor = Span::at(row, column + count);
         }
         count

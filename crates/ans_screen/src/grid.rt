@@ -58,13 +58,14 @@ pub trait Grid: Sized + Drop {
         ensures width { width_of self.new ≡ width_of self.old }
         ensures rows { rows_of self.new ≡ rows_of self.old };
 
-    /// Writes the first `count` bytes side by side from cell `from` on, each with this attribute.
-    /// The bytes after them are not written.
-    fn write_run(&mut self, from: usize, bytes: &[u8], count: usize, attr: Attr)
+    /// Writes the first `count` bytes side by side in a row from a column on, each with this
+    /// attribute. The bytes after them are not written. The row and the column are counted from 0.
+    fn write_run(&mut self, row: usize, column: usize, bytes: &[u8], count: usize, attr: Attr)
         requires count { count ≤ length bytes.now }
-        requires within { from + count ≤ length (cells_of self.old) }
-        ensures cells { cells_of self.new
-            ≡ written (cells_of self.old) from (printed_run attr (take count bytes.now)) }
+        requires row { row < rows_of self.old }
+        requires column { column + count ≤ width_of self.old }
+        ensures cells { cells_of self.new ≡ written (cells_of self.old)
+            (row * width_of self.old + column) (printed_run attr (take count bytes.now)) }
         ensures width { width_of self.new ≡ width_of self.old }
         ensures rows { rows_of self.new ≡ rows_of self.old };
 

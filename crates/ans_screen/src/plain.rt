@@ -62,7 +62,8 @@ impl Grid for PlainGrid {
         self.items[from..to].fill(cell);
     }
 
-    fn write_run(&mut self, from: usize, bytes: &[u8], count: usize, attr: Attr) {
+    fn write_run(&mut self, row: usize, column: usize, bytes: &[u8], count: usize, attr: Attr) {
+        let from = row * self.width + column;
         print_cells(&mut self.items[from..from + count], &bytes[..count], attr);
     }
 

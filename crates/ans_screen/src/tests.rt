@@ -56,7 +56,7 @@ fn edit_a_row<G: Grid>(rt: &impl Abort, alloc: Global) -> Result<(), Fail> {
     assert_eq!(rt; grid.get(30), HalfCell::known(b' ', 0x07));
     assert_eq!(rt; grid.get(31), HalfCell::known(b'x', 0x1F));
     assert_eq!(rt; grid.get(32), HalfCell::known(b'x', 0x1F));
-    grid.write_run(1, b"Hill", 2, Attr::whole(0x4E));
+    grid.write_run(0, 1, b"Hill", 2, Attr::whole(0x4E));
     assert_eq!(rt; grid.get(0), HalfCell::known(b' ', 0x07));
     assert_eq!(rt; grid.get(1), HalfCell::known(b'H', 0x4E));
     assert_eq!(rt; grid.get(2), HalfCell::known(b'i', 0x4E));
@@ -159,19 +159,22 @@ fn cell_of(content: Content) -> HalfCell {
     }
 }
 
-/// What is done to a grid of 3 rows of 33 cells. A run has the attribute of such a cell.
+/// What is done to a grid of 3 rows of 33 cells. A run stands in a row from a column on, has a
+/// count of bytes, and the attribute of such a cell.
 #[derive(Debug, Clone, Copy)]
 enum Edit {
     Clear(Content),
     Fill(usize, usize, Content),
     Put(usize, Content),
-    Run(usize, usize, Content),
+    Run(usize, usize, usize, Content),
 }
 
 /// Makes the edit, and says whether it lies within the grid.
 fn apply<G: Grid>(grid: &mut G, edit: &Edit) -> bool
-    requires { length (G.cells_of grid.old) ≡ 99 }
-    ensures { length (G.cells_of grid.new) ≡ 99 }
+    requires width { G.width_of grid.old ≡ 33 }
+    requires rows { G.rows_of grid.old ≡ 3 }
+    ensures width { G.width_of grid.new ≡ 33 }
+    ensures rows { G.rows_of grid.new ≡ 3 }
 {
     match edit {
         Edit::Clear(content) => grid.fill(0, 99, cell_of(*content)),
@@ -187,12 +190,12 @@ fn apply<G: Grid>(grid: &mut G, edit: &Edit) -> bool
             }
             grid.put(*i, cell_of(*content));
         }
-        Edit::Run(from, count, content) => {
+        Edit::Run(row, column, count, content) => {
             let bytes = b"the bytes of a run, more than it";
-            if *from > 99 || *count > 32 || *count > 99 - *from {
+            if *row >= 3 || *column > 33 || *count > 32 || *count > 33 - *column {
                 return false;
             }
-            grid.write_run(*from, bytes, *count, cell_of(*content).attr);
+            grid.write_run(*row, *column, bytes, *count, cell_of(*content).attr);
         }
     }
     true
@@ -240,8 +243,10 @@ fn edit_both<A: Grid, B: Grid, const N: usize>(
     model: &mut B,
     edits: &[Edit; N],
 )
-    requires grid { length (A.cells_of grid.old) ≡ 99 }
-    requires model { length (B.cells_of model.old) ≡ 99 }
+    requires grid_width { A.width_of grid.old ≡ 33 }
+    requires grid_rows { A.rows_of grid.old ≡ 3 }
+    requires model_width { B.width_of model.old ≡ 33 }
+    requires model_rows { B.rows_of model.old ≡ 3 }
 {
     compare_answers(rt, grid, model);
     for edit in edits {
@@ -267,10 +272,13 @@ fn compare_edits<const N: usize>(
 #[test]
 fn runs_of_each_length(rt: HostRuntime) -> Result<(), Fail> {
     for count in [0, 1, 2, 15, 16, 17, 32] {
-        for from in [0, 1, 16, 17, 18, 32, 33, 50, 66, 67] {
+        for column in [0, 1, 16, 17, 18, 32, 33] {
+            let fitting = count.min(33 - column);
             let edits = [
-                Edit::Run(from, count, Content::Letter),
-                Edit::Run(99 - count, count, Content::SomeBits),
+                Edit::Run(0, column, fitting, Content::Letter),
+                Edit::Run(1, column, fitting, Content::SomeBits),
+                Edit::Run(2, 33 - count, count, Content::SomeBits),
+                Edit::Run(2, column, fitting, Content::Letter),
             ];
             compare_edits(&rt, rt.alloc(), Content::Blank, &edits)?;
             compare_edits(&rt, rt.alloc(), Content::Unknown, &edits)?;
@@ -304,16 +312,16 @@ fn clear_and_write(
 ) -> Result<(), Fail> {
     let edits = [
         Edit::Clear(blank),
-        Edit::Run(30, 6, Content::Letter),
+        Edit::Run(0, 27, 6, Content::Letter),
         Edit::Put(70, half),
         Edit::Clear(half),
-        Edit::Run(30, 6, Content::Letter),
+        Edit::Run(0, 27, 6, Content::Letter),
         Edit::Clear(Content::Blank),
-        Edit::Run(40, 6, Content::Letter),
+        Edit::Run(1, 7, 6, Content::Letter),
         Edit::Put(41, half),
         Edit::Fill(66, 99, Content::Letter),
         Edit::Fill(70, 71, half),
-        Edit::Run(90, 9, Content::SomeBits),
+        Edit::Run(2, 24, 9, Content::SomeBits),
         Edit::Clear(blank),
         Edit::Clear(Content::Unknown),
         Edit::Fill(20, 80, Content::Letter),
@@ -336,9 +344,9 @@ fn clears_known_and_unknown(rt: HostRuntime) -> Result<(), Fail> {
 fn write_parts(rt: &impl Abort, alloc: Global, blank: Content, half: Content) -> Result<(), Fail> {
     let edits = [
         Edit::Clear(blank),
-        Edit::Run(45, 3, Content::Letter),
+        Edit::Run(1, 12, 3, Content::Letter),
         Edit::Put(36, Content::Letter),
-        Edit::Run(60, 2, half),
+        Edit::Run(1, 27, 2, half),
         Edit::Fill(50, 53, Content::Letter),
         Edit::Clear(blank),
         Edit::Put(65, half),

@@ -82,9 +82,10 @@ impl Grid for PlaneGrid {
     }
 
     #[tactic(auto, using(crate::specs::RowCells::length_rows))]
-    fn write_run(&mut self, from: usize, bytes: &[u8], count: usize, attr: Attr) {
+    fn write_run(&mut self, row: usize, column: usize, bytes: &[u8], count: usize, attr: Attr) {
+        let from = self.row_start(row) + column;
         let to = from + count;
-        let all_planes = self.open_cells(from, to, attr.is_known());
+        let all_planes = self.open_part(row, from, to, attr.is_known());
         write_plane(&mut self.glyphs, from, bytes, count);
         fill_plane(&mut self.values, from, to, attr.value);
         if all_planes {

@@ -244,7 +244,7 @@ impl PlaneGrid {
     /// Makes cells of a row ones that can be written, known ones or any, and says whether all four
     /// planes count there.
     #[inline(always)]
-    fn open_part(&mut self, row: usize, from: usize, to: usize, known: bool) -> bool
+    pub(super) fn open_part(&mut self, row: usize, from: usize, to: usize, known: bool) -> bool
         requires row { row < self.old.rows }
         requires ordered { from ≤ to }
         requires start { row * self.old.width ≤ from }

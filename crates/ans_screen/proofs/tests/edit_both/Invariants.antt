@@ -1,6 +1,8 @@
-use Rattle.std.proofs.Common.{◌≡◌, length}
+use Rattle.std.proofs.Common.{◌≡◌}
 use Rattle.ans_screen.proofs.tests.edit_both.Given as goal
 
--- both grids have all their cells
+-- both grids have 3 rows of 33 cells
 abbrev pub invariant-loop-edit : goal.invariant-loop-edit
-invariant-loop-edit g l = (length (g.A.Grid.cells_of l.grid) ≡ 99) × (length (g.B.Grid.cells_of l.model) ≡ 99)
+invariant-loop-edit g l =
+    (g.A.Grid.width_of l.grid ≡ 33) × (g.A.Grid.rows_of l.grid ≡ 3)
+    × (g.B.Grid.width_of l.model ≡ 33) × (g.B.Grid.rows_of l.model ≡ 3)

@@ -3,8 +3,8 @@ use Rattle.ans_model.specs.Screen.State.{IsSize}
 use Rattle.ans_play.proofs.NewPlayer.{played_at_start, fits_at_start}
 use Rattle.ans_play.proofs.play.Play.new.Goals as goal
 
-pub invariant_of-result : goal.invariant_of-result
-invariant_of-result g c =
+pub invariant_of-result-2 : goal.invariant_of-result-2
+invariant_of-result-2 g c =
     fits_at_start c.args.size c.args.start c.new-2.result (g.G.Grid.cells_of c.in_ok-grid.grid)
     c.cell_at_start-cell.result c.of_start.result c.of_start-2.result c.attribute_at_start.result c.of_start-3.result
     c.cell_at_start-cell.ensures c.of_start.ensures.on_screen c.of_start-2.ensures.on_screen

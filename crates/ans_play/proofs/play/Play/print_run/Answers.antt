@@ -3,7 +3,7 @@ use Rattle.std.proofs.lemmas.List.Elements.{All-from_get_or, All-take}
 use Rattle.ans_model.specs.Bytes.{IsByte}
 use Rattle.ans_screen.specs.GridEdits.{printed_run}
 use Rattle.ans_play.specs.PlayView.{IsByteHalfCell}
-use Rattle.ans_play.proofs.GlyphRuns.{is_run, room_on_screen, printed_bytes, All-written, run_goes_on}
+use Rattle.ans_play.proofs.GlyphRuns.{is_run, printed_bytes, All-written, run_goes_on}
 use Rattle.ans_play.proofs.GlyphRuns.{longest_run}
 use Rattle.ans_play.proofs.Feeding.{still_between}
 use Rattle.ans_play.proofs.play.Play.print_run.Goals as goal
@@ -16,10 +16,8 @@ write_run-requires g c =
     c.glyphs-count.ensures.front c.if-count-gt0.true in
     record {
       count = run.within;
-      within = rw c.width.ensures.width
-          (room_on_screen c.self.inside.size.width c.self.inside.size.lines c.self.inside.cursor.low.row
-          c.self.inside.cursor.low.column c.glyphs-count.result (length (g.G.Grid.cells_of c.self.inside.grid))
-          run.room.above run.room.columns c.self.invariant.cells);
+      row = omega (arith, c.self.inside.grid_rows, run.room.above);
+      column = omega (arith, c.self.inside.grid_width, run.room.columns);
     }
 
 pub invariant_of-self : goal.invariant_of-self
@@ -35,7 +33,7 @@ invariant_of-self g c =
       cells = cc (g.met.G.Grid.whole c.write_run.new.self, g.met.G.Grid.whole c.self.inside.grid);
       bytes = rw c.write_run.ensures.cells
           (All-written IsByteHalfCell (g.G.Grid.cells_of c.self.inside.grid)
-          (c.self.inside.cursor.low.row * c.width.result + c.self.inside.cursor.low.column)
+          (c.self.inside.cursor.low.row * g.G.Grid.width_of c.self.inside.grid + c.self.inside.cursor.low.column)
           (printed_run c.self.inside.attribute bytes) c.self.invariant.bytes
           (printed_bytes c.self.inside.attribute bytes c.self.invariant.attribute are_bytes));
       attribute = c.self.invariant.attribute;
@@ -59,7 +57,7 @@ returns-then-count-gt0-clause-printed g c =
     c.self.inside.wrap c.args.bytes.now c.glyphs-count.result run.within run.room
     (still_between _ _ (sym c.self.view_is) c.requires.between)
     run.glyphs c.self.invariant.cells c.glyphs-count.ensures.taken
-    (rw c.width.ensures.width at c.write_run.ensures.cells))
+    (rw c.self.inside.grid_width at c.write_run.ensures.cells))
 
 pub returns-then-count-gt0-clause-longest : goal.returns-then-count-gt0-clause-longest
 returns-then-count-gt0-clause-longest g c =

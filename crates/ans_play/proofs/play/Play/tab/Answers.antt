@@ -5,12 +5,25 @@ use Rattle.ans_model.specs.Screen.State.{cell_count}
 use Rattle.ans_model.specs.Screen.Step.{tab_blanks}
 use Rattle.ans_play.specs.HalfState.{HalfState}
 use Rattle.ans_play.specs.HalfStep.{half_blank}
-use Rattle.ans_play.specs.HalfFault.{is_one_position}
+use Rattle.ans_model.specs.declared.fault.Cause.TheVariants.{PrintBelow, PrintUnknownPlace}
+use Rattle.ans_play.specs.HalfFault.{is_one_position, half_print_fault}
 use Rattle.ans_play.specs.HalfBlanks.{fault_of_blanks}
 use Rattle.ans_play.specs.PlayView.{PlayView, play_view, IsByteHalfCell}
-use Rattle.ans_play.proofs.BlankRuns.{tab_is_refused, tab_is_played, same_run}
+use Rattle.ans_play.proofs.BlankRuns.{tab_is_refused, tab_is_played, tab_refused_as_print, same_run}
 use Rattle.ans_play.proofs.ByteCells.{All-filled}
 use Rattle.ans_play.proofs.play.Play.tab.Goals as goal
+
+pub returns-then-not-is_one_position : goal.returns-then-not-is_one_position
+returns-then-not-is_one_position g c =
+    let h = c.args.self.now in
+    let shown : half_print_fault h.size h.state ≡ Some PrintUnknownPlace = search rules in
+    (tab_refused_as_print h.size h.state PrintUnknownPlace shown, refl)
+
+pub returns-then-position-lines : goal.returns-then-position-lines
+returns-then-position-lines g c =
+    let h = c.args.self.now in
+    let shown : half_print_fault h.size h.state ≡ Some PrintBelow = search rules in
+    (tab_refused_as_print h.size h.state PrintBelow shown, refl)
 
 pub returns-in_err-cursor : goal.returns-in_err-cursor
 returns-in_err-cursor g c =
