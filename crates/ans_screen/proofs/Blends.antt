@@ -97,9 +97,15 @@ blended_plane xs new from count ln le room =
     ∙ ap (λ (ys : List ℕ). take count new ++ ys) (behind xs from count le room)))
 
 -- equal lanes are a short fill
+pub short_run : (xs : List ℕ) (from count byte : ℕ) → count ≤ 16
+    → written xs from (take count (replicate 16 byte)) ≡ filled xs from (from + count) byte
+short_run xs from count byte short =
+    ap (λ (ys : List ℕ). written xs from ys) (take-replicate count 16 byte short)
+    ∙ sym (filled_is_written xs from count byte)
+
+-- and from one place up to another
 pub short_fill : (xs : List ℕ) (from to byte : ℕ) → from ≤ to → to - from ≤ 16
     → written xs from (take (to - from) (replicate 16 byte)) ≡ filled xs from to byte
 short_fill xs from to byte le short =
     let end : from + (to - from) ≡ to = omega arith in
-    ap (λ (ys : List ℕ). written xs from ys) (take-replicate (to - from) 16 byte short)
-    ∙ (sym (filled_is_written xs from (to - from) byte) ∙ ap (λ (n : ℕ). filled xs from n byte) end)
+    short_run xs from (to - from) byte short ∙ ap (λ (n : ℕ). filled xs from n byte) end

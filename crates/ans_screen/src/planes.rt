@@ -124,19 +124,33 @@ pub(crate) fn fill_plane(plane: &mut Vec<u8>, from: usize, to: usize, byte: u8)
     }
 }
 
-/// Writes the first `count` bytes side by side from byte `from` on. A short run is a blend, since
-/// a call that copies memory costs more than it.
+/// Writes the first `count` bytes side by side from byte `from` of one plane on, and a value to each
+/// of the same places of another. A short run is two blends, since a call that copies memory costs
+/// more than they do.
 #[inline(always)]
-pub(crate) fn write_plane(plane: &mut Vec<u8>, from: usize, bytes: &[u8], count: usize)
+pub(crate) fn write_planes(
+    glyphs: &mut Vec<u8>,
+    values: &mut Vec<u8>,
+    from: usize,
+    bytes: &[u8],
+    count: usize,
+    value: u8,
+)
     requires count { count ≤ length bytes.now }
-    requires within { from + count ≤ length plane.old.items }
-    ensures items { plane.new.items ≡ written plane.old.items from (take count bytes.now) }
-    ensures len { vec_len plane.new ≡ vec_len plane.old }
+    requires within { from + count ≤ length glyphs.old.items }
+    requires level { length values.old.items ≡ length glyphs.old.items }
+    ensures glyphs { glyphs.new.items ≡ written glyphs.old.items from (take count bytes.now) }
+    ensures glyphs_len { vec_len glyphs.new ≡ vec_len glyphs.old }
+    ensures values { values.new.items ≡ filled values.old.items from (from + count) value }
+    ensures values_len { vec_len values.new ≡ vec_len values.old }
 {
-    if count <= 16 && bytes.len() >= 16 && plane.len() - from >= 16 {
-        blend_at(plane, from, u8x16::from_slice(bytes), count);
+    // in one branch, so that the two blends have one mask
+    if count <= 16 && bytes.len() >= 16 && glyphs.len() - from >= 16 {
+        blend_at(glyphs, from, u8x16::from_slice(bytes), count);
+        blend_at(values, from, u8x16::splat(value), count);
     } else {
-        plane[from..from + count].copy_from_slice(&bytes[..count]);
+        glyphs[from..from + count].copy_from_slice(&bytes[..count]);
+        values[from..from + count].fill(value);
     }
 }
 

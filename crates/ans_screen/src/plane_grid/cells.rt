@@ -8,7 +8,7 @@ use crate::attr::Attr;
 use crate::cell::HalfCell;
 use crate::grid::Grid;
 use crate::lazy_plane::LazyPlane;
-use crate::planes::{CellBytes, cell_of_bytes, fill_plane, write_plane};
+use crate::planes::{CellBytes, cell_of_bytes, write_planes};
 use std::alloc::{AllocError, Global};
 
 impl Grid for PlaneGrid {
@@ -86,8 +86,14 @@ impl Grid for PlaneGrid {
         let from = self.row_start(row) + column;
         let to = from + count;
         let all_planes = self.open_part(row, from, to, attr.is_known());
-        write_plane(&mut self.glyphs, from, bytes, count);
-        fill_plane(&mut self.values, from, to, attr.value);
+        write_planes(
+            &mut self.glyphs,
+            &mut self.values,
+            from,
+            bytes,
+            count,
+            attr.value,
+        );
         if all_planes {
             self.glyphs_known.fill(from, to, 0xFF);
             self.bits_known.fill(from, to, attr.known);

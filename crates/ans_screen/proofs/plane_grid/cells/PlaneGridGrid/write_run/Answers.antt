@@ -36,8 +36,8 @@ returns-then-all_planes-clause-cells c =
     rw c.row_start.ensures.start at (run_mixed g.width g.rows from to c.is_known.result (states_of g) g.blank
     g.glyphs.items g.glyphs_known g.bits_known g.values.items _ _ _ _ run 0xFF c.attr.inside.known
     c.attr.inside.value
-    level (omega arith) room c.write_plane.ensures.items c.fill.ensures.bytes
-    c.fill-then-all_planes.ensures.bytes c.fill_plane.ensures.items c.open_part-all_planes.ensures.takes full
+    level (omega arith) room c.write_planes.ensures.glyphs c.fill.ensures.bytes
+    c.fill-then-all_planes.ensures.bytes c.write_planes.ensures.values c.open_part-all_planes.ensures.takes full
     ∙ (ap (λ (a : KnownBits). written (cells_of_grid g) from (printed_run a run)) attr
     ∙ ap (λ (cells : List HalfCell). written cells from (printed_run c.args.attr run))
     c.open_part-all_planes.ensures.cells))
@@ -70,7 +70,7 @@ returns-else-all_planes-clause-cells c =
     rw c.row_start.ensures.start at (run_known g.width g.rows from to c.is_known.result (states_of g) g.blank
     g.glyphs.items g.glyphs_known g.bits_known g.values.items _ _ run 0xFF c.attr.inside.known
     c.attr.inside.value
-    level (omega arith) room c.write_plane.ensures.items c.fill_plane.ensures.items
+    level (omega arith) room c.write_planes.ensures.glyphs c.write_planes.ensures.values
     c.open_part-all_planes.ensures.takes (c.open_part-all_planes.ensures.planes c.if-all_planes.false) full
     ∙ (ap (λ (a : KnownBits). written (cells_of_grid g) from (printed_run a run)) attr
     ∙ ap (λ (cells : List HalfCell). written cells from (printed_run c.args.attr run))
