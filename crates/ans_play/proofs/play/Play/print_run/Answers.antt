@@ -1,4 +1,4 @@
-use Rattle.std.proofs.Common.{◌+◌, ◌*◌, take, length, sym, arith, All}
+use Rattle.std.proofs.Common.{◌+◌, ◌*◌, take, sym, arith, All}
 use Rattle.std.proofs.lemmas.List.Elements.{All-from_get_or, All-take}
 use Rattle.ans_model.specs.Bytes.{IsByte}
 use Rattle.ans_screen.specs.GridEdits.{printed_run}
