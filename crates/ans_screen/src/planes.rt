@@ -124,9 +124,9 @@ pub(crate) fn fill_plane(plane: &mut Vec<u8>, from: usize, to: usize, byte: u8)
     }
 }
 
-/// Writes the first `count` bytes side by side from byte `from` of one plane on, and a value to each
-/// of the same places of another. A short run is two blends, since a call that copies memory costs
-/// more than they do.
+/// Writes the first `count` bytes side by side to the glyphs from byte `from` on, and a value to the
+/// same places of the values. A short run is two blends, since a call that copies memory costs more
+/// than they do.
 #[inline(always)]
 pub(crate) fn write_planes(
     glyphs: &mut Vec<u8>,
