@@ -186,9 +186,9 @@ impl<G: Grid> Play<G> {
         }
     }
 
-    /// Plays the sequence that the bytes begin with, where it moves the cursor, blanks or colours,
-    /// is whole, has neither a mark nor a string, and is not refused. It returns how many bytes that
-    /// is, or 0 where there is no such sequence. It is called between two tokens.
+    /// Plays the sequence that the bytes begin with, where it moves or keeps the cursor, blanks or
+    /// colours, is whole, has neither a mark nor a string, and is not refused. It returns how many
+    /// bytes that is, or 0 where there is no such sequence. It is called between two tokens.
     fn play_sequence(&mut self, bytes: &[u8]) -> usize
         requires between { IsBetweenTokens self.old.scanner }
         requires room { self.old.scanner.offset + length bytes.now ≤ longest_file }
@@ -472,8 +472,8 @@ impl<G: Grid> Play<G> {
         }
     }
 
-    /// Plays the sequence of these numbers and this letter, where it moves the cursor, blanks or
-    /// colours. An error says that it is another one, or is refused; then nothing changes.
+    /// Plays the sequence of these numbers and this letter, where it moves or keeps the cursor, blanks
+    /// or colours. An error says that it is another one, or is refused; then nothing changes.
     #[inline(always)]
     #[tactic(auto, using(ans_tokens::proofs::PlainSequences::no_string))]
     fn play_letter(&mut self, letter: u8, numbers: &[u8]) -> Result<(), Cause>

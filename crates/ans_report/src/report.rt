@@ -80,7 +80,7 @@ fn put_report<W: Write, G: Grid>(out: &mut Outbox<'_, W>, r: &Report<'_, G>)
 /// of a pass or the fault of a refusal. The start is `any`, `cleared`, or `known` and the parts that
 /// are known. With `cells` a pass ends in a line `cells:` and one line for each row, which has four
 /// lower-case hexadecimal digits a cell: two for its byte, then two for its attribute. Without parts
-/// only the fault is written.
+/// only the fault is written. The picture of a pass has the width and the lines that its parts state.
 ///
 /// `Err` comes exactly where the device failed in the call, and then a prefix of the text was
 /// written.

@@ -21,7 +21,7 @@ pub(crate) enum RowState {
 }
 
 /// The cells of a row that the planes hold, from the first up to and without the end, by their
-/// indexes in the grid. Each other cell of the row is the blank.
+/// indexes in the grid. Each other cell of the row is the blank. Of a stale row it says nothing.
 #[derive(Clone, Copy)]
 pub(crate) struct Extent {
     pub(crate) first: usize,
@@ -31,13 +31,14 @@ pub(crate) struct Extent {
 /// Cell `i` is byte `i` of each plane, as far as the state of its row and what is held of it say.
 /// So a fill of the whole grid writes no more than the states, a write to a row writes no more of
 /// it than what lies between the cells that are held, and of a known row half the planes are
-/// neither written nor read. The memory of that half is not touched before a row is mixed.
+/// neither written nor read. The memory of that half is not touched before a row is mixed or a fill
+/// goes over several rows.
 #[derive(Drop)]
 pub struct PlaneGrid {
     width: usize,
     rows: usize,
     blank: HalfCell,
-    // how many rows a cell is, in units of 2⁻⁴⁰ and rounded up: a product with it tells a cell's
+    // how many rows a cell is, in units of 2⁻⁴⁰, rounded down and one more: a product with it tells a cell's
     // row where a division would take longer
     rows_of_a_cell: usize,
     states: Vec<RowState>,

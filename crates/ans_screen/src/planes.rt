@@ -144,7 +144,7 @@ pub(crate) fn write_planes(
     ensures values { values.new.items ≡ filled values.old.items from (from + count) value }
     ensures values_len { vec_len values.new ≡ vec_len values.old }
 {
-    // in one branch, so that the two blends have one mask
+    // in one branch, so that the compiler can make one mask for both
     if count <= 16 && bytes.len() >= 16 && glyphs.len() - from >= 16 {
         blend_at(glyphs, from, u8x16::from_slice(bytes), count);
         blend_at(values, from, u8x16::splat(value), count);

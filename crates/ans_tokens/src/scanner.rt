@@ -148,7 +148,8 @@ impl Scanner {
 
     /// Takes the next byte. It returns a token where the bytes since the last one spell it, None
     /// where they begin a spelling, and a fault at the first of them where they begin none: F9, F10,
-    /// F11, F13 or F14. After a fault each later call returns the same one.
+    /// F11, F13 or F14. After a fault each later call returns the same one, and changes
+    /// nothing.
     pub fn byte(&mut self, byte: u8) -> Result<Option<Token>, Fault>
         requires { self.old.offset < longest_file }
         ensures unfinished { self.old.fault ≡ None
@@ -163,6 +164,7 @@ impl Scanner {
         ensures stays { OnErr result (self.new.offset ≡ self.old.offset) }
         ensures within { IfErr result (λ fault. fault.offset ≤ self.old.offset) }
         ensures repeats { IfSome self.old.fault (λ fault. IsErrOf result fault) }
+        ensures unchanged { IfSome self.old.fault (λ _. self.new ≡ self.old) }
     {
         if let Some(fault) = self.fault {
             return Err(fault);

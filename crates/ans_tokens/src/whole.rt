@@ -1,8 +1,8 @@
 //! Sequences of numbers that are read whole from a slice.
 //!
-//! A reader here answers only where the whole sequence stands in the slice, is in its common form
-//! and is not refused. Where it declines, the bytes are left to be taken one by one, so each
-//! refusal and each rarer form is decided in one place.
+//! A reader here answers only where the whole sequence stands in the slice and is in its common
+//! form. Where it declines, the bytes are left to be taken one by one, so each rarer form is decided
+//! in one place.
 
 ghost use Rattle.std.specs.Prelude.{◌≡◌, ◌≢◌, ◌⊎◌, ◌<◌, ◌≤◌, ◌++◌, ◌∷◌, [], length, take, false, IfSome};
 ghost use Rattle.ans_model.specs.Bytes.{most_parameters};

@@ -4,7 +4,7 @@
 It shares no code with the program and none with the definitions: it reads the content whole, and plays
 it from whole starts of the class, the lowest, the highest and six random ones, or from the cleared one
 alone where each part is known. So it can tell a slip in the definitions. It follows the rules as this
-project states them, its own choices among them, and comes from the same hands: a rule that both misread
+project states them, its own choices among them, and is no source of its own: a rule that both misread
 it cannot tell. Its screens are small, most of at most four columns, some of up to twenty, and of at most
 three lines; its contents are short, and its records plain. The class of starts is one of all 32.
 

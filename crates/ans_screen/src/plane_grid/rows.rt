@@ -228,7 +228,8 @@ impl PlaneGrid {
     }
 
     /// Where the cells of a row end that are to be held, if those up to and without `to` are: as many
-    /// more as the row holds, so that a row that is written from the left is widened a few times.
+    /// more as the row holds, and 15 at the least, as far as the row goes. So a row that is written from
+    /// the left is widened a few times.
     fn stop_ahead(&self, row: usize, to: usize) -> usize
         requires row { row < self.now.rows }
         requires end { to ≤ row * self.now.width + self.now.width }
