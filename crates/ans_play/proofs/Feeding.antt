@@ -148,7 +148,7 @@ pub plays_none : (old : PlayView) (piece : List ℕ) → PlaysTo old piece 0 old
 plays_none old piece = record { within = omega arith; goes_on = goes_on_none old }
 
 -- the slice from an index to the end
-slice_to_end : (piece : List ℕ) (i : ℕ) → take (length piece - i) (drop i piece) ≡ drop i piece
+pub slice_to_end : (piece : List ℕ) (i : ℕ) → take (length piece - i) (drop i piece) ≡ drop i piece
 slice_to_end piece i = take_all (length piece - i) (drop i piece) (omega (arith, length-drop i piece))
 
 -- some bytes more
@@ -329,11 +329,6 @@ byte_deserved old before new scanner after byte token (Err fault) same is plays 
 -- between two tokens nothing is open
 pub nothing_open : (s : ScannerView) (y : List ℕ) → IsBetweenTokens s → Holds s y → y ≡ []
 nothing_open s y between holds = rw between.nothing at holds.keeps
-
--- what was between two tokens still is
-pub still_between : (before after : PlayView) → before ≡ after → IsBetweenTokens before.scanner
-    → IsBetweenTokens after.scanner
-still_between before after same between = subst (λ (p : PlayView). IsBetweenTokens p.scanner) same between
 
 -- a whole token in front is played
 pub front_goes_on : (old new : PlayView) (bytes : List ℕ) (t : TokenKind) (count : ℕ) → IsBetweenTokens old.scanner →

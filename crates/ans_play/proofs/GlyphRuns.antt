@@ -27,7 +27,7 @@ use Rattle.ans_play.specs.declared.wrap.WrapMode.{WrapMode}
 use Rattle.ans_play.specs.HalfState.{HalfState, half_state, span, one_position, IsSpanOnScreen}
 use Rattle.ans_play.specs.HalfStep.{half_step}
 use Rattle.ans_play.specs.HalfFault.{half_fault, is_one_position}
-use Rattle.ans_play.specs.Stands.{IsPlayed, GoesOn}
+use Rattle.ans_play.specs.Stands.{IsPlayed, PlaysWholeTokens}
 use Rattle.ans_play.specs.Plays.{AreFree, IsLongestRun}
 use Rattle.ans_play.specs.PlayView.{PlayView, play_view, IsByteHalfCell}
 use Rattle.ans_play.proofs.Feeding.{played_token, nothing_open}
@@ -75,10 +75,10 @@ same_scanning offset start offset' start' kept refusal p q = cc
 past_none : (s : ScannerView) → scanner_after s 0 ≡ s
 past_none s = same_scanning _ _ _ _ _ _ (omega arith) (omega arith)
 
--- one token further, and then the others
-past_more : (s : ScannerView) (n : ℕ) → scanner_after (scanner_after s 1) n ≡ scanner_after s
-    (suc n)
-past_more s n = same_scanning _ _ _ _ _ _ (omega arith) (omega arith)
+-- some tokens further, and then others
+pub past_more : (s : ScannerView) (m n count : ℕ) → m + n ≡ count →
+    scanner_after (scanner_after s m) n ≡ scanner_after s count
+past_more s m n count e = same_scanning _ _ _ _ _ _ (omega (arith, e)) (omega (arith, e))
 
 -- ---- one glyph
 prints_here : (z : Size) (screen : List HalfCell) (row column : ℕ) (saved : Span) (attribute : KnownBits)
@@ -157,7 +157,7 @@ plays_run z class (b ∷ run) s scanner screen row column saved attribute wrap p
     (printed (b ∷ run) column))
     (append_assoc s (b ∷ []) run)
     (subst (λ (c : ScannerView). IsPlayed z class ((s ++ b ∷ []) ++ run) c (printed (b ∷ run) column))
-    (past_more scanner (length run))
+    (past_more scanner 1 (length run) (suc (length run)) (omega arith))
     (subst (λ (k : HalfState). IsPlayed z class ((s ++ b ∷ []) ++ run)
     (scanner_after (scanner_after scanner 1) (length run)) k)
     (same_run _ _ _ _ row saved attribute wrap
@@ -230,33 +230,35 @@ is_run p old bytes columns m count same on free below glyphs some =
     }
 
 -- a run is played
-pub run_goes_on : (z : Size) (scanner after : ScannerView) (screen new : List HalfCell) (cursor saved : Span)
+pub run_is_played : (z : Size) (scanner : ScannerView) (screen new : List HalfCell) (cursor saved : Span)
     (attribute : KnownBits) (wrap : WrapMode)
-    (bytes : List ℕ) (count : ℕ) → count ≤ length bytes → HasRoom z cursor count → IsBetweenTokens scanner →
+    (bytes : List ℕ) (count : ℕ) → count ≤ length bytes → HasRoom z cursor count →
     All IsGlyphByte (take count bytes) → length screen ≡ cell_count z →
-    after ≡ scanner_after scanner count
-    → new ≡ written screen (index z cursor.low) (printed_run attribute (take count bytes)) →
-    GoesOn
+    new ≡ written screen (index z cursor.low) (printed_run attribute (take count bytes)) →
+    PlaysWholeTokens
     (play_view z scanner (half_state screen cursor saved attribute wrap))
     (take count bytes)
-    (play_view z after (half_state new (one_position cursor.low.row (cursor.low.column + count)) saved attribute wrap))
-run_goes_on z scanner after screen new cursor saved attribute wrap bytes count within room between glyphs cells is_after
-    is_new =
+    (play_view z scanner
+    (half_state new (one_position cursor.low.row (cursor.low.column + count)) saved attribute wrap))
+run_is_played z scanner screen new cursor saved attribute wrap bytes count within room glyphs cells is_new =
     let n : length (take count bytes) ≡ count = length-take-le count bytes within in
+    let fits : index z cursor.low + length (take count bytes) ≤ length screen =
+    rw n (room_on_screen z.width z.lines cursor.low.row cursor.low.column count
+    (length screen) room.above room.columns cells) in
+    let columns : cursor.low.column + length (take count bytes) < z.width = rw n room.columns in
     record {
-      size = refl;
-      offset = rw is_after (omega (arith, n));
-      played = λ class s p.
-          let before : IsPlayed z class s scanner
-          (half_state screen (one_position cursor.low.row cursor.low.column) saved attribute wrap)
-          = subst (λ (c : Span). IsPlayed z class s scanner (half_state screen c saved attribute wrap)) room.one p in
-          let fits : index z cursor.low + length (take count bytes) ≤ length screen =
-          rw n (room_on_screen z.width z.lines cursor.low.row cursor.low.column count
-          (length screen) room.above room.columns cells) in
-          let columns : cursor.low.column + length (take count bytes) < z.width = rw n room.columns in
-          let on = plays_run z class (take count bytes) s scanner screen cursor.low.row cursor.low.column saved
-          attribute wrap before between glyphs room.above columns fits in
-          rw (is_after, is_new) (rw n at on);
+      scanner = refl;
+      played = λ s between. record {
+        size = refl;
+        offset = refl;
+        played = λ class text p.
+            let before : IsPlayed z class text s
+            (half_state screen (one_position cursor.low.row cursor.low.column) saved attribute wrap)
+            = subst (λ (c : Span). IsPlayed z class text s (half_state screen c saved attribute wrap)) room.one p in
+            let on = plays_run z class (take count bytes) text s screen cursor.low.row cursor.low.column saved
+            attribute wrap before between glyphs room.above columns fits in
+            rw (n, is_new) (rw n at on);
+      };
     }
 
 -- the free columns are one number

@@ -18,6 +18,7 @@ pub mod Clean
 pub mod SpanLemmas
 pub mod Feeding
 pub mod GlyphRuns
+pub mod WholeTokens
 pub mod Letters
 pub mod BlankRuns
 pub mod ByteCells

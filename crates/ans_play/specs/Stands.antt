@@ -13,6 +13,7 @@ use Rattle.ans_model.specs.Verdict.LastFault.{IsLastFault}
 use Rattle.ans_model.specs.Verdict.Good.{Picture, GoodWith, IsGood}
 use Rattle.ans_model.specs.declared.start.Start.{Start}
 use Rattle.ans_model.specs.declared.fault.Fault.{Fault}
+use Rattle.ans_tokens.specs.Glyphs.{IsBetweenTokens, scanner_after}
 use Rattle.ans_tokens.specs.ScannerView.{ScannerView, Holds}
 use Rattle.ans_play.specs.HalfState.{HalfState, Describes}
 use Rattle.ans_play.specs.Hull.{hull}
@@ -96,6 +97,13 @@ pub record GoesOn (old : PlayView) (bytes : List ℕ) (new : PlayView) : Type 0 
   pub offset : new.scanner.offset ≡ old.scanner.offset + length bytes
   pub played : (class : Start) (s : List ℕ) → IsPlayed old.size class s old.scanner old.state
       → IsPlayed old.size class (s ++ bytes) new.scanner new.state
+
+-- The bytes are whole tokens, and are played before the scanner is taken over them: wherever it stands between two
+-- tokens, the play has gone on over them once the scanner has.
+pub record PlaysWholeTokens (old : PlayView) (bytes : List ℕ) (new : PlayView) : Type 0 where
+  pub scanner : new.scanner ≡ old.scanner
+  pub played : (s : ScannerView) → IsBetweenTokens s
+      → GoesOn (record old { scanner = s }) bytes (record new { scanner = scanner_after s (length bytes) })
 
 -- some of the first bytes, and not more than all, are played
 pub record PlaysFront (old : PlayView) (bytes : List ℕ) (new : PlayView) (count : ℕ) : Type 0 where

@@ -21,7 +21,7 @@ use ans_model::size::Size;
 use ans_model::start::Start;
 use ans_model::tab::tab_blanks;
 use ans_screen::{Attr, Grid, HalfCell};
-use ans_tokens::{ESCAPE, Scanner, Token, distance, is_just, place, read_sequence};
+use ans_tokens::{ESCAPE, Scanner, Token, count_glyphs, distance, is_just, place, read_sequence};
 use arrayvec::ArrayVec;
 use std::alloc::{AllocError, Global};
 use std::marker::Model;
@@ -93,7 +93,8 @@ fn known_after_all(attribute: Attr, parameters: &[u8]) -> Attr
 impl<G: Grid> Play<G> {
     ghost use Rattle.ans_tokens.specs.Glyphs.{IsBetweenTokens};
     ghost use Rattle.ans_play.specs.Plays.{AreFree, IsLongestRun, PlaysToken};
-    ghost use Rattle.ans_play.specs.Stands.{IsNewPlay, GoesOn, PlaysFront, IsDeserved, EndsPlay};
+    ghost use Rattle.ans_play.specs.Stands.{IsNewPlay, GoesOn, PlaysWholeTokens, PlaysFront};
+    ghost use Rattle.ans_play.specs.Stands.{IsDeserved, EndsPlay};
 
     /// A play of no bytes yet, from the starts of a class. It fails only if memory runs out.
     pub fn new(alloc: Global, size: Size, start: Start) -> Result<Play<G>, AllocError>
@@ -112,8 +113,8 @@ impl<G: Grid> Play<G> {
         })
     }
 
-    /// Plays what the bytes begin with, and returns how many bytes that is: a run of glyphs, a common
-    /// sequence, or else one byte.
+    /// Plays what the bytes begin with, and returns how many bytes that is: all tokens of the common
+    /// forms, or else one byte.
     #[inline(always)]
     pub fn play_front(&mut self, bytes: &[u8]) -> Result<usize, Fault>
         requires some { 1 ≤ length bytes.now }
@@ -143,16 +144,36 @@ impl<G: Grid> Play<G> {
         Ok(1)
     }
 
-    /// Plays a run of glyphs, a byte outside sequences or a common sequence, whichever the bytes
-    /// begin with, and returns how many bytes that is, 0 where they begin with none or it is refused.
-    /// It is called between two tokens.
+    /// Plays the runs of glyphs, the bytes outside sequences and the common sequences that the bytes
+    /// begin with, and returns how many bytes they are. It stops before what is refused or in a rarer
+    /// form. It is called between two tokens.
     #[inline(always)]
     fn play_many(&mut self, bytes: &[u8]) -> usize
         requires between { IsBetweenTokens self.old.scanner }
-        requires some { 1 ≤ length bytes.now }
         requires room { self.old.scanner.offset + length bytes.now ≤ longest_file }
         ensures within { result ≤ length bytes.now }
         ensures played { GoesOn self.old (take result bytes.now) self.new }
+        ensures none { result ≡ 0 → self.new ≡ self.old }
+    {
+        let mut count = 0;
+        while count < bytes.len() {
+            match self.play_next(&bytes[count..]) {
+                0 => break,
+                next => count += next,
+            }
+        }
+        self.scanner.skip(count);
+        count
+    }
+
+    /// Plays a run of glyphs, a byte outside sequences or a common sequence, whichever the bytes
+    /// begin with, and returns how many bytes that is, 0 where they begin with none or it is refused.
+    /// The scanner stays, so that it is taken over many tokens at once.
+    #[inline(always)]
+    fn play_next(&mut self, bytes: &[u8]) -> usize
+        requires some { 1 ≤ length bytes.now }
+        ensures within { result ≤ length bytes.now }
+        ensures played { PlaysWholeTokens self.old (take result bytes.now) self.new }
         ensures none { result ≡ 0 → self.new ≡ self.old }
     {
         match bytes[0] {
@@ -167,33 +188,26 @@ impl<G: Grid> Play<G> {
     }
 
     /// Plays the first byte, which is not ESC, and returns that it is one byte, or 0 where it is
-    /// refused. It is called between two tokens.
+    /// refused. The scanner stays.
     fn play_single(&mut self, bytes: &[u8]) -> usize
-        requires between { IsBetweenTokens self.old.scanner }
         requires some { 1 ≤ length bytes.now }
         requires outside { slice_index_or bytes.now 0 0 ≢ escape }
-        requires room { self.old.scanner.offset + length bytes.now ≤ longest_file }
         ensures within { result ≤ length bytes.now }
-        ensures played { GoesOn self.old (take result bytes.now) self.new }
+        ensures played { PlaysWholeTokens self.old (take result bytes.now) self.new }
         ensures none { result ≡ 0 → self.new ≡ self.old }
     {
         match self.play_kind_of_byte(bytes[0]) {
-            Ok(()) => {
-                self.scanner.skip(1);
-                1
-            }
+            Ok(()) => 1,
             Err(_) => 0,
         }
     }
 
     /// Plays the sequence that the bytes begin with, where it moves or keeps the cursor, blanks or
     /// colours, is whole, has neither a mark nor a string, and is not refused. It returns how many
-    /// bytes that is, or 0 where there is no such sequence. It is called between two tokens.
+    /// bytes that is, or 0 where there is no such sequence. The scanner stays.
     fn play_sequence(&mut self, bytes: &[u8]) -> usize
-        requires between { IsBetweenTokens self.old.scanner }
-        requires room { self.old.scanner.offset + length bytes.now ≤ longest_file }
         ensures within { result ≤ length bytes.now }
-        ensures played { GoesOn self.old (take result bytes.now) self.new }
+        ensures played { PlaysWholeTokens self.old (take result bytes.now) self.new }
         ensures none { result ≡ 0 → self.new ≡ self.old }
     {
         let mut numbers = ArrayVec::new();
@@ -201,27 +215,22 @@ impl<G: Grid> Play<G> {
             return 0;
         };
         match self.play_letter(letter.byte, numbers.as_slice()) {
-            Ok(()) => {
-                self.scanner.skip(letter.end);
-                letter.end
-            }
+            Ok(()) => letter.end,
             Err(_) => 0,
         }
     }
 
     /// Prints the glyphs that the bytes begin with, as far as they stand in the cursor's row before
     /// its last column, and returns how many they are: as many as there are. It prints none where a
-    /// glyph is refused. It is called between two tokens.
+    /// glyph is refused. The scanner stays.
     fn print_run(&mut self, bytes: &[u8]) -> usize
-        requires between { IsBetweenTokens self.old.scanner }
-        requires room { self.old.scanner.offset + length bytes.now ≤ longest_file }
         ensures within { result ≤ length bytes.now }
-        ensures printed { GoesOn self.old (take result bytes.now) self.new }
+        ensures printed { PlaysWholeTokens self.old (take result bytes.now) self.new }
         ensures longest { IsLongestRun self.old bytes.now result }
         ensures none { result ≡ 0 → self.new ≡ self.old }
     {
         let columns = self.columns_before_last();
-        let count = self.scanner.glyphs(&bytes[..bytes.len().min(columns)]);
+        let count = count_glyphs(&bytes[..bytes.len().min(columns)]);
         if count > 0 {
             let Position { row, column } = self.cursor.low;
             self.grid

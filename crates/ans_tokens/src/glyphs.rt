@@ -55,8 +55,9 @@ fn text_front(bytes: &[u8]) -> usize
     count
 }
 
-/// How many glyphs stand before the first byte that is none.
-pub(crate) fn count_glyphs(bytes: &[u8]) -> usize
+/// How many glyphs stand before the first byte that is none. All bytes but BEL, BS, TAB, LF, CR and
+/// ESC are glyphs (ANSI.SYS).
+pub fn count_glyphs(bytes: &[u8]) -> usize
     ensures { IsGlyphFront bytes.now result }
 {
     for i in text_front(bytes)..bytes.len() {

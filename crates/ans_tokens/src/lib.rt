@@ -18,6 +18,7 @@ mod whole;
 
 pub use ans_model::fault::{Cause, Fault};
 pub use ans_model::kind::Kind;
+pub use glyphs::count_glyphs;
 pub use meaning::{distance, is_just, place};
 pub use scanner::{ESCAPE, Scanner};
 pub use token::Token;

@@ -3,7 +3,7 @@
 mod sequences;
 mod whole_tokens;
 
-use crate::{Cause, Fault, Kind, Scanner, Token};
+use crate::{Cause, Fault, Kind, Scanner, Token, count_glyphs};
 use ans_model::limits::MAX_FILE;
 use std::alloc::{AllocError, Global};
 use std::process::Abort;
@@ -229,6 +229,7 @@ fn glyphs_are_taken_together(rt: HostRuntime) {
     let mut scanner = Scanner::new();
     for (bytes, count) in rows {
         assert!(rt; scanner.is_between_tokens() && scanner.offset() <= 4);
+        assert_eq!(rt; count_glyphs(bytes), count, "in {bytes:?}");
         assert_eq!(rt; scanner.glyphs(bytes), count, "in {bytes:?}");
         assert_eq!(rt; scanner.offset(), 4);
     }

@@ -1,19 +1,18 @@
-use Rattle.std.proofs.Common.{◌+◌, ◌*◌, take, sym, arith, All}
+use Rattle.std.proofs.Common.{◌+◌, ◌*◌, take, arith, All}
 use Rattle.std.proofs.lemmas.List.Elements.{All-from_get_or, All-take}
 use Rattle.ans_model.specs.Bytes.{IsByte}
 use Rattle.ans_screen.specs.GridEdits.{printed_run}
 use Rattle.ans_play.specs.PlayView.{IsByteHalfCell}
-use Rattle.ans_play.proofs.GlyphRuns.{is_run, printed_bytes, All-written, run_goes_on}
+use Rattle.ans_play.proofs.GlyphRuns.{is_run, printed_bytes, All-written, run_is_played}
 use Rattle.ans_play.proofs.GlyphRuns.{longest_run}
-use Rattle.ans_play.proofs.Feeding.{still_between}
 use Rattle.ans_play.proofs.play.Play.print_run.Goals as goal
 
 pub write_run-requires : goal.write_run-requires
 write_run-requires g c =
     let run = is_run _ c.args.self.now c.args.bytes.now c.columns_before_last-columns.result c.min.result
-    c.glyphs-count.result
+    c.count_glyphs-count.result
     c.self.view_is c.self.invariant.cursor c.columns_before_last-columns.ensures (omega (arith, c.min.ensures))
-    c.glyphs-count.ensures.front c.if-count-gt0.true in
+    c.count_glyphs-count.ensures c.if-count-gt0.true in
     record {
       count = run.within;
       row = omega (arith, c.self.inside.grid_rows, run.room.above);
@@ -23,11 +22,11 @@ write_run-requires g c =
 pub invariant_of-self : goal.invariant_of-self
 invariant_of-self g c =
     let run = is_run _ c.args.self.now c.args.bytes.now c.columns_before_last-columns.result c.min.result
-    c.glyphs-count.result
+    c.count_glyphs-count.result
     c.self.view_is c.self.invariant.cursor c.columns_before_last-columns.ensures (omega (arith, c.min.ensures))
-    c.glyphs-count.ensures.front c.if-count-gt0.true in
-    let bytes = take c.glyphs-count.result c.args.bytes.now in
-    let are_bytes : All IsByte bytes = All-take IsByte c.glyphs-count.result c.args.bytes.now
+    c.count_glyphs-count.ensures c.if-count-gt0.true in
+    let bytes = take c.count_glyphs-count.result c.args.bytes.now in
+    let are_bytes : All IsByte bytes = All-take IsByte c.count_glyphs-count.result c.args.bytes.now
     (All-from_get_or IsByte c.args.bytes.now 0 (λ i l. omega (arith, c.type_inv.bytes i))) in
     record {
       cells = cc (g.met.G.Grid.whole c.write_run.new.self, g.met.G.Grid.whole c.self.inside.grid);
@@ -48,23 +47,22 @@ invariant_of-self g c =
 pub returns-then-count-gt0-clause-printed : goal.returns-then-count-gt0-clause-printed
 returns-then-count-gt0-clause-printed g c =
     let run = is_run _ c.args.self.now c.args.bytes.now c.columns_before_last-columns.result c.min.result
-    c.glyphs-count.result
+    c.count_glyphs-count.result
     c.self.view_is c.self.invariant.cursor c.columns_before_last-columns.ensures (omega (arith, c.min.ensures))
-    c.glyphs-count.ensures.front c.if-count-gt0.true in
+    c.count_glyphs-count.ensures c.if-count-gt0.true in
     rw (← c.self.view_is, c.at-self-inside.ensures)
-    (run_goes_on c.self.inside.size c.self.inside.scanner c.glyphs-count.new.self (g.G.Grid.cells_of c.self.inside.grid)
+    (run_is_played c.self.inside.size c.self.inside.scanner (g.G.Grid.cells_of c.self.inside.grid)
     (g.G.Grid.cells_of c.write_run.new.self) c.self.inside.cursor c.self.inside.saved c.self.inside.attribute
-    c.self.inside.wrap c.args.bytes.now c.glyphs-count.result run.within run.room
-    (still_between _ _ (sym c.self.view_is) c.requires.between)
-    run.glyphs c.self.invariant.cells c.glyphs-count.ensures.taken
+    c.self.inside.wrap c.args.bytes.now c.count_glyphs-count.result run.within run.room
+    run.glyphs c.self.invariant.cells
     (rw c.self.inside.grid_width at c.write_run.ensures.cells))
 
 pub returns-then-count-gt0-clause-longest : goal.returns-then-count-gt0-clause-longest
 returns-then-count-gt0-clause-longest g c =
-    longest_run c.args.self.now c.args.bytes.now c.columns_before_last-columns.result c.min.result c.glyphs-count.result
-    c.columns_before_last-columns.ensures c.min.ensures c.glyphs-count.ensures.front
+    longest_run c.args.self.now c.args.bytes.now c.columns_before_last-columns.result c.min.result c.count_glyphs-count.result
+    c.columns_before_last-columns.ensures c.min.ensures c.count_glyphs-count.ensures
 
 pub returns-else-count-gt0-clause-longest : goal.returns-else-count-gt0-clause-longest
 returns-else-count-gt0-clause-longest g c =
-    longest_run c.args.self.now c.args.bytes.now c.columns_before_last-columns.result c.min.result c.glyphs-count.result
-    c.columns_before_last-columns.ensures c.min.ensures c.glyphs-count.ensures.front
+    longest_run c.args.self.now c.args.bytes.now c.columns_before_last-columns.result c.min.result c.count_glyphs-count.result
+    c.columns_before_last-columns.ensures c.min.ensures c.count_glyphs-count.ensures
