@@ -7,7 +7,7 @@ Run it anywhere, with the names of crates or with none for all:
 
 The gate tries the edits in each crate's `must-fail/`. Those here are as well made, and mostly in private
 functions. They are kept apart because each takes some 30 seconds of a processor, and the gate is to end
-within an hour. They are tried on a copy of the repository, whose crates are built first where they were not.
+within an hour on four cores. They are tried on a copy of the repository, in which the crates below are built.
 """
 import os
 import shutil
