@@ -27,7 +27,7 @@ pub enum Answer {
 /// The one answer to some bytes on a screen of this width, 1 to 1024 columns, and these lines, 1 to
 /// 8192, from the starts of a class. Offsets are counted in bytes from the first of them.
 ///
-/// Fails only if memory runs out.
+/// Fails where memory runs out.
 pub fn plain_answer(
     alloc: Global,
     bytes: &[u8],

@@ -60,7 +60,7 @@ impl TwoPlays {
     ghost use Rattle.ans_answer.specs.Answers.{IsAnswer};
     ghost use Rattle.ans_answer.specs.TwoPlays.{ArePlayed, FindsFault, IsOneStep, after_both};
 
-    /// The two plays before the first byte. It fails only if memory runs out.
+    /// The two plays before the first byte. It fails where memory runs out.
     pub fn new(alloc: Global, size: Size, start: Start) -> Result<TwoPlays, AllocError>
         ensures { IfOk result (λ p. (p.size ≡ size) × ArePlayed start [] p) }
     {
@@ -225,7 +225,7 @@ impl TwoPlays {
         }
     }
 
-    /// The answer to the bytes, which end here. It fails only if memory runs out.
+    /// The answer to the bytes, which end here. It fails where memory runs out.
     pub fn finish(self, alloc: Global) -> Result<Answer, AllocError>
         ensures { IfOk result (λ answer. (class : Start) (bytes : List ℕ) → ArePlayed class bytes self
             → IsAnswer self.size class bytes answer) }

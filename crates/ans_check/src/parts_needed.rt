@@ -65,7 +65,7 @@ fn least_class<G: Grid>(alloc: Global, parts: &Parts<'_>) -> Result<Start, Alloc
 /// and where that passes, from each class that knows all parts but one: at most six plays, one after
 /// the other, each up to its first fault.
 ///
-/// Fails only if memory runs out; a file that is refused for its record or its layout takes none.
+/// Fails where memory runs out; a file that is refused for its record or its layout takes none.
 /// An offset counts bytes from the file's start, which is the content's too.
 pub fn needs<G: Grid>(alloc: Global, file: &[u8]) -> Result<Needs<'_>, AllocError>
     requires { length file.now ≤ longest_file }

@@ -56,7 +56,7 @@ fn play_content<G: Grid>(mut player: Player<G>, content: &[u8]) -> Result<Pictur
 
 /// Plays the parts' content from the starts of a class, up to its first fault.
 ///
-/// Fails only if memory runs out.
+/// Fails where memory runs out.
 pub(crate) fn play<G: Grid>(
     alloc: Global,
     parts: &Parts<'_>,
@@ -74,7 +74,7 @@ pub(crate) fn play<G: Grid>(
 
 /// Whether the parts' content is good for a class of starts.
 ///
-/// Fails only if memory runs out.
+/// Fails where memory runs out.
 pub(crate) fn passes_from<G: Grid>(
     alloc: Global,
     parts: &Parts<'_>,
@@ -91,7 +91,7 @@ pub(crate) fn passes_from<G: Grid>(
 /// Checks a file of at most 16,777,216 bytes: the record first, and then the play of its content from
 /// the starts of a class.
 ///
-/// Fails only if memory runs out; a file that is refused for its record or its layout takes none.
+/// Fails where memory runs out; a file that is refused for its record or its layout takes none.
 /// An offset counts bytes from the file's start, which is the content's too.
 pub fn check<G: Grid>(
     alloc: Global,

@@ -202,8 +202,7 @@ impl Machine {
 
 impl Machine {
     /// The start of a class in which each part that is not known has the value given: `byte` is
-    /// each byte and attribute, `corner` both cursors, and `wrap` whether wrap is on. It fails only
-    /// if memory runs out.
+    /// each byte and attribute, `corner` both cursors, and `wrap` whether wrap is on. X runs out.
     fn from_class(
         alloc: Global,
         size: Size,
@@ -240,7 +239,7 @@ impl Machine {
     }
 
     /// The low start of a class: each part that is not known has its least value. Where each part
-    /// is known, this is the cleared state. It fails only if memory runs out.
+    /// is known, this is the cleared state. It fails where memory runs out.
     pub fn low(alloc: Global, size: Size, start: Start) -> Result<Machine, AllocError>
         ensures { IfOk result (λ m. m ≡ machine_view size (low_start size start)) }
     {
@@ -248,7 +247,7 @@ impl Machine {
     }
 
     /// The high start of a class: each part that is not known has its greatest value. Where each
-    /// part is known, this is the cleared state. It fails only if memory runs out.
+    /// part is known, this is the cleared state. It fails where memory runs out.
     pub fn high(alloc: Global, size: Size, start: Start) -> Result<Machine, AllocError>
         ensures { IfOk result (λ m. m ≡ machine_view size (high_start size start)) }
     {
@@ -259,7 +258,7 @@ impl Machine {
         Machine::from_class(alloc, size, start, 0xFF, last, true)
     }
 
-    /// The cleared state. It fails only if memory runs out.
+    /// The cleared state. It fails where memory runs out.
     pub fn cleared(alloc: Global, size: Size) -> Result<Machine, AllocError>
         ensures { IfOk result (λ m. m ≡ machine_view size (cleared size)) }
     {

@@ -232,7 +232,7 @@ fn read_matches(
 /// `--known-cursor`, or `--cleared`, and cells are asked for where `--cells` is. With the commands
 /// that take no flags nothing is known and no cells are asked for.
 ///
-/// Fails only where `clap` rejects the words, where they ask for help, and where memory runs out.
+/// Fails where `clap` rejects the words, where they ask for help, and where memory runs out.
 pub fn options(alloc: Global, words: &[&str]) -> Result<(Options, Option<String>), WordsError>
     ensures ok { IfOk result (λ r.
         AreOptionsOf (texts_of words.now) r.0 (option_map string_bytes r.1)) }

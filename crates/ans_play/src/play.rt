@@ -96,7 +96,7 @@ impl<G: Grid> Play<G> {
     ghost use Rattle.ans_play.specs.Stands.{IsNewPlay, GoesOn, PlaysWholeTokens, PlaysFront};
     ghost use Rattle.ans_play.specs.Stands.{IsDeserved, EndsPlay};
 
-    /// A play of no bytes yet, from the starts of a class. It fails only if memory runs out.
+    /// A play of no bytes yet, from the starts of a class. It fails where memory runs out.
     pub fn new(alloc: Global, size: Size, start: Start) -> Result<Play<G>, AllocError>
         ensures { IfOk result (λ p. IsNewPlay p size start) }
     {

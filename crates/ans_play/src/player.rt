@@ -38,7 +38,7 @@ impl<G: Grid> Player<G> {
     ghost use Rattle.ans_play.specs.Stands.{IsNew, IsFed, IsStopped, Repeats, SamePlay, Stands, Feeds, Finishes};
 
     /// A player of a width, 1 to 1024 columns, and a number of lines, 1 to 8192, from the starts of a
-    /// class, to which nothing is fed yet. It fails only if memory runs out.
+    /// class, to which nothing is fed yet. It fails where memory runs out.
     pub fn new(
         alloc: Global,
         width: usize,

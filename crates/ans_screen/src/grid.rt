@@ -20,7 +20,7 @@ pub trait Grid: Sized + Drop {
 
     ghost cells_of: { Self → List HalfCell };
 
-    /// A grid of `width * rows` equal cells, of 1 to 1024 columns and 1 to 8193 rows. It fails only if
+    /// A grid of `width * rows` equal cells, of 1 to 1024 columns and 1 to 8193 rows. It fails where
     /// memory runs out.
     fn new(alloc: Global, width: usize, rows: usize, cell: HalfCell) -> Result<Self, AllocError>
         requires some_width { 1 ≤ width }

@@ -80,7 +80,7 @@ fn assert_same_answer(rt: &impl Abort, plain: &Answer, answer: &Result<Picture<P
 }
 
 /// Plays bytes in all three ways, and compares them. It returns the fault that is answered, and
-/// fails only if memory runs out.
+/// fails where memory runs out.
 fn confirm(
     rt: &impl Abort,
     alloc: Global,

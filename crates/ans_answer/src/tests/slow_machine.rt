@@ -18,7 +18,7 @@ pub struct SlowMachine {
 }
 
 impl SlowMachine {
-    /// The two starts of a class. It fails only if memory runs out.
+    /// The two starts of a class. It fails where memory runs out.
     pub fn new(alloc: Global, size: Size, start: Start) -> Result<SlowMachine, AllocError> {
         Ok(SlowMachine {
             width: size.width(),
