@@ -8,3 +8,4 @@ pub mod ReportBytes
 pub mod NeedsBytes
 pub mod RecordLines
 pub mod TokenLines
+pub mod Message

@@ -5,6 +5,9 @@
 //! a prefix of it, and `Err` comes exactly where the device failed in the call. The texts are
 //! defined in `ans_model`; `specs/Writes.antt` says what appending means. Within the crate texts
 //! are put in an outbox, and `specs/Puts.antt` says what that means.
+//!
+//! The same contract holds of the line that says on standard error why there is no answer
+//! (`write_message`, `specs/Message.antt`).
 #![tactic(auto)]
 
 mod characters;
@@ -14,6 +17,7 @@ mod glyph_lines;
 mod heading;
 mod hexadecimal;
 mod lines;
+mod message;
 mod needs_text;
 mod outbox;
 mod picture_text;
@@ -28,6 +32,7 @@ mod utf8;
 pub use characters::glyph_text;
 pub use fault_lines::fault_text;
 pub use heading::note_text;
+pub use message::write_message;
 pub use needs_text::{NeedsReport, write_needs};
 pub use outbox::WriteFault;
 pub use record_text::write_record;

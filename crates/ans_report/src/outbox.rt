@@ -1,8 +1,6 @@
 //! Texts on their way to a device.
-ghost use Rattle.std.specs.Prelude.{◌≡◌, ◌↔◌, ◌++◌, [], false, IsTrue, IsErr, OnOk};
+ghost use Rattle.std.specs.Prelude.{◌≡◌, ◌↔◌, [], false, IsTrue, IsErr, OnOk};
 ghost use Rattle.std.specs.List.{flat_map};
-ghost use Rattle.ans_report.specs.Tried.{has_failed, inner_of};
-ghost use Rattle.ans_report.specs.Writes.{AppendsUnless};
 ghost use Rattle.ans_report.specs.Puts.{Puts, device_failed};
 
 use crate::tried::Tried;
@@ -22,21 +20,6 @@ const SIZE: usize = 65_536;
 pub(crate) struct Outbox<'a, W> {
     pub(crate) device: &'a mut Tried<W>,
     pub(crate) waiting: ArrayVec<u8, SIZE>,
-}
-
-/// Writes a text: all of it, or a prefix if the device fails.
-fn write_text<W: Write>(w: &mut Tried<W>, text: &[u8])
-    requires { has_failed w.old ≡ false }
-    ensures { AppendsUnless (has_failed w.new)
-        (W.contents (inner_of w.old)) (W.contents (inner_of w.new)) text.now }
-{
-    let mut written = 0;
-    while written < text.len() {
-        let Ok(taken) = w.write_some(&text[written..]) else {
-            return;
-        };
-        written += taken;
-    }
 }
 
 impl<'a, W: Write> Outbox<'a, W> {
@@ -67,7 +50,7 @@ impl<'a, W: Write> Outbox<'a, W> {
         if self.has_failed() {
             return;
         }
-        write_text(self.device, self.waiting.as_slice());
+        let _ = self.device.write_all(self.waiting.as_slice());
         self.waiting.clear();
     }
 
@@ -93,7 +76,7 @@ impl<'a, W: Write> Outbox<'a, W> {
         if self.waiting.try_extend_from_slice(text).is_ok() {
             return;
         }
-        write_text(self.device, text);
+        let _ = self.device.write_all(text);
     }
 
     /// Puts one text after the other.

@@ -5,6 +5,7 @@ ghost use Rattle.ans_report.specs.Tried.{has_failed};
 
 mod devices;
 mod headings;
+mod messages;
 mod needs;
 mod records;
 mod tokens;

@@ -2,8 +2,9 @@
 ghost use Rattle.std.specs.Prelude.{◌≡◌, ◌+◌, ◌-◌, ◌^◌, ◌<◌, ◌≤◌, ◌↔◌, false, min, length, IsTrue};
 ghost use Rattle.std.specs.Prelude.{IsErr, IfOk, MatchResult};
 ghost use Rattle.std.specs.Io.{ReadsAtMost};
-ghost use Rattle.std.specs.Io.KnownBytes.{ReadConsumes, WriteAppends};
+ghost use Rattle.std.specs.Io.KnownBytes.{Keeps, ReadConsumes, WriteAppends};
 ghost use Rattle.ans_report.specs.Tried.{has_failed, call_count, inner_of};
+ghost use Rattle.ans_report.specs.Writes.{AppendsUnless};
 
 use std::io::{Read, Write};
 
@@ -113,5 +114,41 @@ impl<W: Write> Tried<W> {
                 Err(DeviceFault)
             }
         }
+    }
+
+    /// Makes one write after the other until all the bytes are taken. Where there are none, it makes no call.
+    ///
+    /// `Err` comes exactly where a write failed or took no byte, and then `failed()` is true, and a
+    /// prefix of the bytes was taken. After such a write no other is made.
+    pub fn write_all(&mut self, bytes: &[u8]) -> Result<(), DeviceFault>
+        requires works { has_failed self.old ≡ false }
+        ensures device { IsErr result ↔ IsTrue (has_failed self.new) }
+        ensures no_fewer_calls { call_count self.old ≤ call_count self.new }
+        ensures a_call_a_byte { call_count self.new ≤ call_count self.old + length bytes.now }
+        ensures bytes { AppendsUnless (has_failed self.new)
+            (W.contents (inner_of self.old)) (W.contents (inner_of self.new)) bytes.now }
+    {
+        let mut written = 0;
+        while written < bytes.len() {
+            written += self.write_some(&bytes[written..])?;
+        }
+        Ok(())
+    }
+
+    /// Makes one flush. The bytes that the device holds stay as they are.
+    ///
+    /// `Err` comes exactly where the flush failed, and then `failed()` is true.
+    pub fn flush(&mut self) -> Result<(), DeviceFault>
+        requires works { has_failed self.old ≡ false }
+        ensures device { IsErr result ↔ IsTrue (has_failed self.new) }
+        ensures calls { call_count self.new ≡ min (call_count self.old + 1) u64.MAX }
+        ensures bytes { Keeps (W.contents (inner_of self.old)) (W.contents (inner_of self.new)) }
+    {
+        self.calls = self.calls.saturating_add(1);
+        if self.inner.flush().is_err() {
+            self.failed = true;
+            return Err(DeviceFault);
+        }
+        Ok(())
     }
 }

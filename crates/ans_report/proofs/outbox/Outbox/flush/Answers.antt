@@ -9,5 +9,5 @@ returns-clause-puts g c =
     let works : device_failed c.args.self.now ≡ false = search rules in
     let empty : c.clear.new.self.items ≡ [] = search rules in
     let slice : c.as_slice.result.now ≡ waiting = search rules in
-    Puts-written c.args.self.now _ waiting [] refl works (rw slice at c.write_text.ensures)
+    Puts-written c.args.self.now _ waiting [] refl works (rw slice at c.write_all.ensures.bytes)
     (sym (append-nil waiting)) empty

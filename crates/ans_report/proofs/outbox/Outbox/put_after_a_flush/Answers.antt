@@ -23,5 +23,5 @@ returns g c =
     let none : flushed.waiting.items ≡ [] = c.flush.ensures.empty works in
     let empty : c.try_extend_from_slice.new.self.items ≡ [] = search rules in
     Puts-then c.flush.ensures.puts
-    (Puts-written flushed _ text text refl works c.write_text.ensures
+    (Puts-written flushed _ text text refl works c.write_all.ensures.bytes
     (ap (λ (v : List ℕ). v ++ text) (sym none)) empty)

@@ -1,0 +1,10 @@
+use Rattle.std.proofs.Common.{rules}
+use Rattle.ans_report.proofs.PutsLemmas.{WritesText-finished}
+use Rattle.ans_report.proofs.message.write_message.Goals as goal
+
+pub returns-clause-bytes : goal.returns-clause-bytes
+returns-clause-bytes g c =
+    let written = WritesText-finished c.args.writer.now c.finish.result c.new-out.ensures.unchanged
+    c.new-out.ensures.empty c.put_named_line.ensures
+    c.finish.ensures.puts c.finish.ensures.device c.finish.ensures.empty in
+    search (rules, written)
