@@ -1,4 +1,5 @@
 pub mod PlayLemmas
 pub mod VerdictLemmas
 pub mod ReportLemmas
-pub mod FlushLemmas
+pub mod ServedLemmas
+pub mod AnswerLemmas

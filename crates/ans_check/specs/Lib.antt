@@ -4,3 +4,6 @@ pub mod Ending
 pub mod FileVerdict
 pub mod FileNeeds
 pub mod CommandText
+pub mod Served
+pub mod Answer
+pub mod SystemInput

@@ -1,6 +1,6 @@
 //! How the program ends: its exit status, and what it says on standard error.
 
-ghost use Rattle.std.specs.Prelude.{◌≡◌, Ok, Err, IfOk, IfErr, OnOk, OnErr, option_map};
+ghost use Rattle.std.specs.Prelude.{◌≡◌, option_map};
 ghost use Rattle.ans_check.specs.Ending.{ending_message, ending_of_words, ending_status};
 ghost use Rattle.ans_check.specs.Run.{status_of};
 
@@ -49,28 +49,6 @@ impl Ending {
             ErrorKind::DisplayHelp | ErrorKind::DisplayVersion => Ending::Help,
             ErrorKind::OutOfMemory => Ending::UnreadableWords,
             _ => Ending::Usage,
-        }
-    }
-
-    /// How the program ends after an input was served: as the run did.
-    pub fn of_served<W>(served: &Result<(bool, W), RunError>) -> Ending
-        ensures ok { IfOk served.now (λ r. result ≡ Ending.Run (Ok r.0)) }
-        ensures err { IfErr served.now (λ e. result ≡ Ending.Run (Err e)) }
-    {
-        match served {
-            Ok((passed, _)) => Ending::Run(Ok(*passed)),
-            Err(error) => Ending::Run(Err(*error)),
-        }
-    }
-
-    /// How the program ends after it has printed the text of this ending, or could not.
-    pub fn after_printing<E: Drop>(self, printed: Result<(), E>) -> Ending
-        ensures ok { OnOk printed (result ≡ self) }
-        ensures err { OnErr printed (result ≡ Ending.Run (Err RunError.Write)) }
-    {
-        match printed {
-            Ok(()) => self,
-            Err(_) => Ending::Run(Err(RunError::Write)),
         }
     }
 

@@ -7,7 +7,7 @@ ghost use Rattle.ans_report.specs.Tried.{call_count, has_failed, inner_of};
 ghost use Rattle.ans_report.specs.Writes.{Wrote, WrotePrefix};
 ghost use Rattle.ans_check.specs.CommandText.{Reports, ReportsCheck, ReportsSauce, ReportsTokens, IsReportOf, is_pass};
 ghost use Rattle.ans_check.specs.CommandText.{ReportsNeeds, IsNeedsReportOf, is_least};
-ghost use Rattle.ans_check.specs.Run.{HasRead};
+ghost use Rattle.ans_check.specs.Served.{Serves};
 
 use crate::errors::RunError;
 use crate::parts_needed::needs;
@@ -220,26 +220,7 @@ pub fn run<R: Read, W: Write>(
 ) -> Result<bool, RunError>
     requires reads { has_failed reader.old ≡ false }
     requires writes { has_failed writer.old ≡ false }
-
-    // One file was read, is judged and is reported on.
-    ensures ok { IfOk result (λ passed. (file : List ℕ) × (text : List ℕ)
-        × HasRead (R.remaining (inner_of reader.old)) (R.remaining (inner_of reader.new)) file
-        × Reports options.now file passed text
-        × Wrote W.contents writer.old writer.new text) }
-    ensures prefix { IsErrOf result RunError.Write → (
-        (file : List ℕ) × (passed : Bool) × (text : List ℕ)
-        × HasRead (R.remaining (inner_of reader.old)) (R.remaining (inner_of reader.new)) file
-        × Reports options.now file passed text
-        × WrotePrefix W.contents writer.old writer.new text) }
-    ensures unwritten { IfErr result (λ e. e ≢ RunError.Write → writer.new ≡ writer.old) }
-
-    // When each error comes.
-    ensures read { IsErrOf result RunError.Read ↔ IsTrue (has_failed reader.new) }
-    ensures write { IsErrOf result RunError.Write ↔ IsTrue (has_failed writer.new) }
-    ensures too_long { IfSome (R.remaining (inner_of reader.old)) (λ xs.
-        IfSome (R.remaining (inner_of reader.new)) (λ ys.
-        IsErrOf result RunError.TooLong ↔ (longest_file + length ys < length xs))) }
-    ensures calls { call_count reader.new ≤ call_count reader.old + (longest_file + 2) }
+    ensures { Serves R.remaining W.contents options.now reader.old reader.new writer.old writer.new result }
 {
     let file = read_all(alloc, reader)?;
     run_command(alloc, writer, file.as_slice(), options)

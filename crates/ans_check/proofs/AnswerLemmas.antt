@@ -1,0 +1,38 @@
+-- What is said of an ending.
+use Rattle.std.proofs.Common.{◌≡◌, ℕ, Bool, true, false, List, Option, Some, None, Ok, Err, refl, subst, sym, true≢false}
+use Rattle.std.specs.Prelude.{◌↔◌, Result, IsErr, IsTrue, MatchOption}
+use Rattle.ans_report.specs.Message.{message_line}
+use Rattle.ans_report.specs.Tried.{has_failed, inner_of}
+use Rattle.ans_report.specs.Writes.{AppendsUnless, WritesText}
+use Rattle.ans_report.specs.declared.tried.Tried.{Tried}
+use Rattle.ans_check.specs.Answer.{Says, Tells}
+use Rattle.ans_check.specs.Ending.{ending_message}
+use Rattle.ans_check.specs.declared.exit_status.Ending.{Ending}
+use Rattle.ans_check.specs.declared.exit_status.Ending.TheVariants.{Run, Help, Usage, UnreadableWords, UnopenedFile}
+
+-- what was written by its result is what was written by whether the device has failed
+pub written_unless : {T E : Type 0} (old new : Option (List ℕ)) (r : Result T E) (failed : Bool) (text : List ℕ)
+    → IsErr r ↔ IsTrue failed → WritesText old new r text → AppendsUnless failed old new text
+written_unless old new (Ok v) false text device h = h
+written_unless old new (Ok v) true text device h = absurd (true≢false (sym (device.1 refl)))
+written_unless old new (Err e) false text device h = absurd (true≢false (sym (device.0 refl)))
+written_unless old new (Err e) true text device h = h
+
+-- what holds of a text holds in the option that has it
+in_some : (P : List ℕ → Type 0) (A : Type 0) (o : Option (List ℕ)) (text : List ℕ) → o ≡ Some text → P text
+    → MatchOption o A P
+in_some P A None text e h = absurd (cc)
+in_some P A (Some t) text e h = let same : text ≡ t = cc in subst P same h
+
+-- where the ending has a message, and its line is told, this is what it says
+pub says_message : {E : Type 0} (contents : E → Option (List ℕ)) (errors after : Tried E) (ending : Ending)
+    (text : List ℕ) → ending_message ending ≡ Some text → Tells contents errors after (message_line text)
+    → Says contents errors after ending
+says_message contents errors after Usage text e h = absurd (cc)
+says_message contents errors after Help text e h = absurd (cc)
+says_message contents errors after (Run answer) text e h =
+    in_some (λ t. Tells contents errors after (message_line t)) (after ≡ errors) (ending_message (Run answer)) text e h
+says_message contents errors after UnreadableWords text e h =
+    in_some (λ t. Tells contents errors after (message_line t)) (after ≡ errors) (ending_message UnreadableWords) text e h
+says_message contents errors after UnopenedFile text e h =
+    in_some (λ t. Tells contents errors after (message_line t)) (after ≡ errors) (ending_message UnopenedFile) text e h

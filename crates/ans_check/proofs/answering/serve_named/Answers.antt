@@ -1,0 +1,19 @@
+use Rattle.std.proofs.Common.{refl, sym, subst, inl}
+use Rattle.std.specs.Prelude.{option_map, string_bytes}
+use Rattle.ans_check.specs.Answer.{IsNamed}
+use Rattle.ans_check.proofs.answering.serve_named.Goals as goal
+
+pub returns-clause-ends : goal.returns-clause-ends
+returns-clause-ends g c = inl (record {
+  options = c.args.options.now;
+  file = option_map string_bytes c.args.name.now;
+  asked = c.requires.asked;
+  reader = c.new-reader.result;
+  reader_after = c.serve.new.reader;
+  input = subst (IsNamed (g.I.Inputs.is_file c.args.inputs.now) (g.I.Inputs.is_standard c.args.inputs.now)
+      (option_map string_bytes c.args.name.now)) (sym c.new-reader.ensures.inner) c.in-Some.ensures.some;
+  unread = c.new-reader.ensures.calls;
+  answer = c.serve.result;
+  serves = c.serve.ensures;
+  ends = refl;
+})

@@ -1,0 +1,92 @@
+-- How the program answers its words.
+use Rattle.std.specs.Prelude.{◌≡◌, ◌⊎◌, ℕ, Bool, true, List, Option, Some, None, Result, Err}
+use Rattle.std.specs.Prelude.{MatchOption}
+use Rattle.clap.specs.Words.{Text, takes}
+use Rattle.ans_options.specs.CommandLine.{anscheck, AreOptionsOf, RanOutOfMemory}
+use Rattle.ans_options.specs.declared.command.Options.{Options}
+use Rattle.ans_options.specs.declared.command_line.WordsError.{WordsError}
+use Rattle.ans_report.specs.Message.{message_line}
+use Rattle.ans_report.specs.Tried.{call_count, has_failed, inner_of}
+use Rattle.ans_report.specs.Writes.{AppendsUnless, Wrote, WrotePrefix}
+use Rattle.ans_report.specs.declared.tried.Tried.{Tried}
+use Rattle.ans_check.specs.Ending.{ending_message, ending_of_words}
+use Rattle.ans_check.specs.Served.{Serves}
+use Rattle.ans_check.specs.declared.errors.RunError.{RunError}
+use Rattle.ans_check.specs.declared.errors.RunError.TheVariants as error
+use Rattle.ans_check.specs.declared.exit_status.Ending.{Ending}
+use Rattle.ans_check.specs.declared.exit_status.Ending.TheVariants.{Run, Help, Usage, UnreadableWords, UnopenedFile}
+
+-- the reader is the input that the words name: the file of this name, or standard input where they name none
+abbrev pub IsNamed : {R : Type 0} → (Text → R → Type 0) → (R → Type 0) → Option Text → R → Type 0
+IsNamed is_file is_standard (Some name) reader = is_file name reader
+IsNamed is_file is_standard None reader = is_standard reader
+
+-- The words give options, and the program ends as a run with them on the input that they name.
+pub record EndsAsServed {R W : Type 0} (remaining : R → Option (List ℕ)) (contents : W → Option (List ℕ))
+    (is_file : Text → R → Type 0) (is_standard : R → Type 0) (words : List Text) (output output_after : Tried W)
+    (ending : Ending) : Type 0 where
+  pub options : Options
+  pub file : Option Text
+  pub asked : AreOptionsOf words options file
+  pub reader : Tried R
+  pub reader_after : Tried R
+  pub input : IsNamed is_file is_standard file (inner_of reader)
+  pub unread : call_count reader ≡ 0
+  pub answer : Result Bool RunError
+  pub serves : Serves remaining contents options reader reader_after output output_after answer
+  pub ends : ending ≡ Run answer
+
+-- The words give options, and the file that they name cannot be opened.
+pub record EndsUnopened {W : Type 0} (is_missing : Text → Type 0) (words : List Text) (output output_after : Tried W)
+    (ending : Ending) : Type 0 where
+  pub options : Options
+  pub file : Text
+  pub asked : AreOptionsOf words options (Some file)
+  pub missing : is_missing file
+  pub unwritten : output_after ≡ output
+  pub ends : ending ≡ UnopenedFile
+
+-- the error is one that these words can have: words that clap takes are refused for want of memory alone
+abbrev pub IsRefusalOf : List Text → WordsError → Type 0
+IsRefusalOf words refusal = takes anscheck words ≡ true → RanOutOfMemory refusal
+
+-- Help was asked for. Its text is on the output; or the output failed, and has a prefix of it; or there was no memory for
+-- the text.
+abbrev pub EndsHelp : {W : Type 0} → (W → Option (List ℕ)) → Tried W → Tried W → Ending → Type 0
+EndsHelp contents output output_after ending =
+    ((ending ≡ Help) × ((text : List ℕ) × Wrote contents output output_after text))
+    ⊎ ((ending ≡ Run (Err error.Write)) × ((text : List ℕ) × WrotePrefix contents output output_after text))
+    ⊎ ((ending ≡ UnreadableWords) × (output_after ≡ output))
+
+-- the ending where the words' error alone would lead to this one
+abbrev pub EndsAfter : {W : Type 0} → (W → Option (List ℕ)) → Ending → Tried W → Tried W → Ending → Type 0
+EndsAfter contents Help output output_after ending = EndsHelp contents output output_after ending
+EndsAfter contents Usage output output_after ending =
+    ((ending ≡ Usage) ⊎ (ending ≡ UnreadableWords)) × (output_after ≡ output)
+EndsAfter contents told output output_after ending = (ending ≡ told) × (output_after ≡ output)
+
+-- The words give no options, and the program ends as their error says.
+pub record EndsRefused {W : Type 0} (contents : W → Option (List ℕ)) (words : List Text) (output output_after : Tried W)
+    (ending : Ending) : Type 0 where
+  pub refusal : WordsError
+  pub refused : IsRefusalOf words refusal
+  pub ends : EndsAfter contents (ending_of_words refusal) output output_after ending
+
+-- The three ways in which the words are answered.
+abbrev pub EndsSo : {R W : Type 0} → (R → Option (List ℕ)) → (W → Option (List ℕ)) → (Text → R → Type 0) → (R → Type 0)
+    → (Text → Type 0) → List Text → Tried W → Tried W → Ending → Type 0
+EndsSo remaining contents is_file is_standard is_missing words output output_after ending =
+    EndsAsServed remaining contents is_file is_standard words output output_after ending
+    ⊎ EndsUnopened is_missing words output output_after ending
+    ⊎ EndsRefused contents words output output_after ending
+
+-- between two moments the errors took the text, or a prefix of it where they failed
+abbrev pub Tells : {E : Type 0} → (E → Option (List ℕ)) → Tried E → Tried E → List ℕ → Type 0
+Tells contents errors errors_after text =
+    AppendsUnless (has_failed errors_after) (contents (inner_of errors)) (contents (inner_of errors_after)) text
+
+-- What the errors took: the line of the ending's message; clap's text, where the words are rejected; else nothing.
+abbrev pub Says : {E : Type 0} → (E → Option (List ℕ)) → Tried E → Tried E → Ending → Type 0
+Says contents errors errors_after Usage = (text : List ℕ) × Tells contents errors errors_after text
+Says contents errors errors_after ending = MatchOption (ending_message ending) (errors_after ≡ errors)
+    (λ text. Tells contents errors errors_after (message_line text))

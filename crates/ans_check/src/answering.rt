@@ -1,0 +1,164 @@
+//! From the program's words to its ending.
+
+ghost use Rattle.std.specs.Prelude.{◌≡◌, ◌≢◌, ◌⊎◌, ◌↔◌, Err, None, false, IsTrue, IfSome, IsSomeAnd, option_map, string_bytes};
+ghost use Rattle.ans_options.specs.CommandLine.{AreOptionsOf, texts_of};
+ghost use Rattle.ans_report.specs.Tried.{has_failed};
+ghost use Rattle.ans_check.specs.Answer.{EndsAfter, EndsHelp, EndsSo, IsNamed, Says};
+ghost use Rattle.ans_check.specs.Ending.{ending_of_words};
+
+use crate::errors::RunError;
+use crate::exit_status::Ending;
+use crate::inputs::Inputs;
+use crate::streams::serve;
+use ans_options::{Options, WordsError, options};
+use ans_report::{Tried, write_message};
+use std::alloc::Global;
+use std::io::Write;
+
+/// Says why there is no answer, if there is none: `anscheck: ` and the ending's message. What is
+/// wrong with rejected words is `clap`'s to say.
+pub(crate) fn say<E: Write>(errors: &mut Tried<E>, ending: Ending)
+    requires works { has_failed errors.old ≡ false }
+    requires told { ending ≢ Ending.Usage }
+    ensures { Says E.contents errors.old errors.new ending }
+{
+    if let Some(text) = ending.message() {
+        let _ = write_message(errors, text);
+    }
+}
+
+/// The input that the words name, or standard input where they name none. None where the file cannot
+/// be opened.
+fn input_named<I: Inputs>(inputs: &I, name: &Option<String>) -> Option<I::Reader>
+    ensures some { IfSome result (IsNamed (I.is_file inputs.now) (I.is_standard inputs.now)
+        (option_map string_bytes name.now)) }
+    ensures none { result ≡ None
+        → IsSomeAnd (option_map string_bytes name.now) (I.is_missing inputs.now) }
+{
+    match name {
+        Some(name) => match inputs.file(name.as_str()) {
+            Ok(reader) => Some(reader),
+            Err(_) => None,
+        },
+        None => Some(inputs.standard()),
+    }
+}
+
+/// Prints a help text. Where the output fails, there is no answer.
+fn print_help<W: Write>(output: &mut Tried<W>, text: &str) -> Ending
+    requires { has_failed output.old ≡ false }
+    ensures ends { EndsHelp W.contents output.old output.new result }
+    ensures write { result ≡ Ending.Run (Err RunError.Write) ↔ IsTrue (has_failed output.new) }
+{
+    if output.write_all(text.as_bytes()).is_err() {
+        return Ending::Run(Err(RunError::Write));
+    }
+    if output.flush().is_err() {
+        return Ending::Run(Err(RunError::Write));
+    }
+    Ending::Help
+}
+
+/// Prints `clap`'s text where the words have one: help on the output, and what is wrong with the
+/// words on the errors.
+fn refuse_words<W: Write, E: Write>(
+    alloc: Global,
+    refusal: &WordsError,
+    output: &mut Tried<W>,
+    errors: &mut Tried<E>,
+) -> Ending
+    requires prints { has_failed output.old ≡ false }
+    requires tells { has_failed errors.old ≡ false }
+    ensures ends { EndsAfter W.contents (ending_of_words refusal.now) output.old output.new result }
+    ensures told { result ≡ Ending.Usage → Says E.contents errors.old errors.new result }
+    ensures untold { result ≢ Ending.Usage → errors.new ≡ errors.old }
+    ensures write { result ≡ Ending.Run (Err RunError.Write) ↔ IsTrue (has_failed output.new) }
+{
+    let ending = Ending::of_words(refusal);
+    let (WordsError::Clap(error), Ending::Help | Ending::Usage) = (refusal, ending) else {
+        return ending;
+    };
+    let Ok(text) = format!(in alloc; "{error}") else {
+        return Ending::UnreadableWords;
+    };
+    if ending == Ending::Help {
+        return print_help(output, text.as_str());
+    }
+    let _ = errors.write_all(text.as_bytes());
+    ending
+}
+
+/// Serves the options on the input that the words name.
+fn serve_named<I: Inputs, W: Write>(
+    alloc: Global,
+    words: &[&str],
+    inputs: &I,
+    options: &Options,
+    name: &Option<String>,
+    output: &mut Tried<W>,
+) -> Ending
+    requires prints { has_failed output.old ≡ false }
+    requires asked { AreOptionsOf (texts_of words.now) options.now (option_map string_bytes name.now) }
+    ensures ends { EndsSo I.Reader.remaining W.contents (I.is_file inputs.now) (I.is_standard inputs.now)
+        (I.is_missing inputs.now) (texts_of words.now) output.old output.new result }
+    ensures ran { result ≢ Ending.Usage }
+    ensures write { result ≡ Ending.Run (Err RunError.Write) ↔ IsTrue (has_failed output.new) }
+{
+    let Some(input) = input_named(inputs, name) else {
+        return Ending::UnopenedFile;
+    };
+    let mut reader = Tried::new(input);
+    Ending::Run(serve(alloc, &mut reader, output, options))
+}
+
+/// Answers the words, and leaves the ending's message to the caller.
+fn end_of_words<I: Inputs, W: Write, E: Write>(
+    alloc: Global,
+    words: &[&str],
+    inputs: &I,
+    output: &mut Tried<W>,
+    errors: &mut Tried<E>,
+) -> Ending
+    requires prints { has_failed output.old ≡ false }
+    requires tells { has_failed errors.old ≡ false }
+    ensures ends { EndsSo I.Reader.remaining W.contents (I.is_file inputs.now) (I.is_standard inputs.now)
+        (I.is_missing inputs.now) (texts_of words.now) output.old output.new result }
+    ensures told { result ≡ Ending.Usage → Says E.contents errors.old errors.new result }
+    ensures untold { result ≢ Ending.Usage → errors.new ≡ errors.old }
+    ensures write { result ≡ Ending.Run (Err RunError.Write) ↔ IsTrue (has_failed output.new) }
+{
+    match options(alloc, words) {
+        Ok((options, name)) => serve_named(alloc, words, inputs, &options, &name, output),
+        Err(refusal) => refuse_words(alloc, &refusal, output, errors),
+    }
+}
+
+/// Answers the program's words, its own name first: reads the input that they name, which is
+/// standard input where they name none, and writes what they ask for to `output`. On `errors` it
+/// says why there is no answer: `anscheck: ` and the ending's message, or `clap`'s text where the
+/// words are rejected. Where help is asked for, its text goes to `output`.
+///
+/// The ending is that of the run; `UnopenedFile` where the named file cannot be opened; and where
+/// the words give no options, what their error says, or `UnreadableWords` where there is no memory
+/// for its text. `Run(Err(Write))` comes exactly where `output` fails. What fails on `errors` changes
+/// no ending.
+pub fn answer<I: Inputs, W: Write, E: Write>(
+    alloc: Global,
+    words: &[&str],
+    inputs: &I,
+    output: &mut Tried<W>,
+    errors: &mut Tried<E>,
+) -> Ending
+    requires prints { has_failed output.old ≡ false }
+    requires tells { has_failed errors.old ≡ false }
+    ensures ends { EndsSo I.Reader.remaining W.contents (I.is_file inputs.now) (I.is_standard inputs.now)
+        (I.is_missing inputs.now) (texts_of words.now) output.old output.new result }
+    ensures says { Says E.contents errors.old errors.new result }
+    ensures write { result ≡ Ending.Run (Err RunError.Write) ↔ IsTrue (has_failed output.new) }
+{
+    let ending = end_of_words(alloc, words, inputs, output, errors);
+    if ending != Ending::Usage {
+        say(errors, ending);
+    }
+    ending
+}

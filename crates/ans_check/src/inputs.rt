@@ -1,0 +1,30 @@
+//! The inputs that the words can name.
+
+ghost use Rattle.std.specs.Prelude.{IfOk, IfErr};
+ghost use Rattle.clap.specs.Words.{Text};
+
+use std::io::{self, Read};
+
+/// Where a program's files and its standard input come from: the system, or memory in tests.
+pub trait Inputs {
+    /// What an input is read by.
+    type Reader: Read + Drop;
+
+    /// The reader is of the file of this name.
+    ghost is_file: { Self → Text → Self.Reader → Type 0 };
+
+    /// The reader is of standard input.
+    ghost is_standard: { Self → Self.Reader → Type 0 };
+
+    /// The file of this name cannot be opened.
+    ghost is_missing: { Self → Text → Type 0 };
+
+    /// Opens the file of this name.
+    fn file(&self, name: &str) -> io::Result<Self::Reader>
+        ensures opened { IfOk result (is_file self.now name.now) }
+        ensures missing { IfErr result (λ _. is_missing self.now name.now) };
+
+    /// Standard input.
+    fn standard(&self) -> Self::Reader
+        ensures { is_standard self.now result };
+}

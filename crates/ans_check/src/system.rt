@@ -1,0 +1,107 @@
+//! The program on the system that runs it.
+
+ghost use Rattle.std.specs.Prelude.{◌≡◌, true, false, ⊤};
+ghost use Rattle.ans_report.specs.Tried.{has_failed};
+ghost use Rattle.ans_check.specs.Answer.{Says};
+ghost use Rattle.ans_check.specs.Ending.{ending_status};
+ghost use Rattle.ans_check.specs.declared.exit_status.Ending.{Ending};
+
+use crate::answering::{answer, say};
+use crate::exit_status::Ending;
+use crate::inputs::Inputs;
+use ans_report::Tried;
+use std::env;
+use std::fs::File;
+use std::io::{self, Read, Stdin, Write};
+
+/// An input of the system.
+#[derive(Drop)]
+enum Input {
+    /// A file that was opened by its name.
+    Named(File),
+    /// Standard input.
+    Standard(Stdin),
+}
+
+impl Read for Input {
+    fn read(&mut self, buf: &mut [u8]) -> io::Result<usize> {
+        match self {
+            Input::Named(file) => file.read(buf),
+            Input::Standard(stdin) => stdin.read(buf),
+        }
+    }
+}
+
+/// The inputs of the system.
+#[derive(Clone, Copy)]
+struct System<'a> {
+    rt: &'a HostRuntime,
+}
+
+impl Inputs for System<'_> {
+    type Reader = Input;
+
+    ghost use Rattle.ans_check.specs.SystemInput.{is_named};
+
+    ghost is_file = { λ _ _ input. is_named input ≡ true };
+
+    ghost is_standard = { λ _ input. is_named input ≡ false };
+
+    ghost is_missing = { λ _ _. ⊤ };
+
+    fn file(&self, name: &str) -> io::Result<Input> {
+        Ok(Input::Named(File::open(self.rt, name)?))
+    }
+
+    fn standard(&self) -> Input {
+        Input::Standard(self.rt.stdin())
+    }
+}
+
+/// The program's words, its own name first. None where one is not text, and where memory runs out.
+fn words_of(rt: &HostRuntime) -> Option<Vec<String>> {
+    match env::args(rt) {
+        Ok(arguments) => arguments.collect::<Vec<String>>(rt.alloc()).ok(),
+        Err(_) => None,
+    }
+}
+
+/// Answers the program's words on the system's inputs.
+fn answer_texts<W: Write, E: Write>(
+    rt: &HostRuntime,
+    texts: &[String],
+    output: &mut Tried<W>,
+    errors: &mut Tried<E>,
+) -> Ending
+    requires prints { has_failed output.old ≡ false }
+    requires tells { has_failed errors.old ≡ false }
+    ensures says { Says E.contents errors.old errors.new result }
+{
+    let Ok(words) = texts
+        .iter()
+        .map(|t| t.as_str())
+        .collect::<Vec<&str>>(rt.alloc())
+    else {
+        say(errors, Ending::UnreadableWords);
+        return Ending::UnreadableWords;
+    };
+    answer(rt.alloc(), words.as_slice(), &System { rt }, output, errors)
+}
+
+/// The program: answers its words, as [`answer`] does, on the system's files and standard streams.
+/// It returns the exit status: 0 for a pass and for help, 1 for a refusal, and 2 where there is no
+/// answer; standard error then says why.
+pub fn program(rt: &HostRuntime) -> u8
+    ensures { (ending : Ending) × (result ≡ ending_status ending) }
+{
+    let mut output = Tried::new(rt.stdout());
+    let mut errors = Tried::new(rt.stderr());
+    let ending = match words_of(rt) {
+        Some(texts) => answer_texts(rt, texts.as_slice(), &mut output, &mut errors),
+        None => {
+            say(&mut errors, Ending::UnreadableWords);
+            Ending::UnreadableWords
+        }
+    };
+    ending.status()
+}
