@@ -93,6 +93,12 @@ abbrev pub EndsToken : ScannerView → ScannerView → ℕ → Token → Type 0
 EndsToken old new byte token = (open_part : List ℕ) → Holds old open_part →
     IsTokenOf token old.offset open_part byte × Holds new []
 
+-- the token starts where the last one ended, and ends at the new offset, where nothing is open
+pub record StartsAfterLast (old new : ScannerView) (token : Token) : Type 0 where
+  pub starts : start_of token ≡ old.open_offset
+  pub long : start_of token + length_of token ≡ new.offset
+  pub nothing_open : new.open_offset ≡ new.offset
+
 -- the reading refuses the open part and the byte
 abbrev pub RefusesByte : ScannerView → ℕ → Fault → Type 0
 RefusesByte old byte fault = (open_part : List ℕ) → Holds old open_part → IsFaultOf fault old.offset open_part byte

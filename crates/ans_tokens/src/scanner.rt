@@ -1,6 +1,7 @@
 //! The scanner: bytes in, tokens out.
 
 ghost use Rattle.std.specs.Prelude.{◌≡◌, ◌++◌, ◌∷◌, ◌↔◌, [], ℕ, List, IsTrue, MatchBool, MatchResult, MatchOption};
+ghost use Rattle.std.specs.Prelude.{IfNone};
 ghost use Rattle.ans_model.specs.Sequence.Reads.{SpellsToken, kind_of_byte};
 ghost use Rattle.ans_model.specs.Sequence.Spelling.{IsUnfinished};
 ghost use Rattle.ans_model.specs.Verdict.FirstFault.{IsRefused};
@@ -43,7 +44,7 @@ pub(crate) fn kind_of_byte(byte: u8) -> Kind
 }
 
 impl Open {
-    ghost use Rattle.ans_tokens.specs.ScannerInside.{HoldsOpen};
+    ghost use Rattle.ans_tokens.specs.ScannerInside.{HoldsOpen, IsBegun};
 
     /// Whether there are no bytes since the last token.
     fn is_nothing(&self) -> bool
@@ -60,11 +61,13 @@ impl Open {
     /// Takes the next byte. It returns a token where the bytes spell it, None where they begin a
     /// spelling, and a cause where they begin none.
     fn take(&mut self, byte: u8) -> Result<Option<Kind>, Cause>
-        ensures { (open_part : List ℕ) → HoldsOpen self.old open_part
+        ensures spelled { (open_part : List ℕ) → HoldsOpen self.old open_part
             → let text = open_part ++ byte ∷ [] in MatchResult result
             (λ kind. MatchOption kind (IsUnfinished text × HoldsOpen self.new text)
             (λ k. SpellsToken (shown_kind k) text))
             (λ cause. IsRefused text cause) }
+        ensures begun { MatchResult result (λ kind. IfNone kind (IsBegun self.new))
+            (λ _. IsBegun self.new) }
     {
         match self {
             Open::Nothing => {
@@ -120,10 +123,10 @@ impl Model for Scanner {
 
 impl Scanner {
     ghost use Rattle.std.specs.Prelude.{◌≡◌, ◌+◌, ◌<◌, ◌≤◌, length, None, Some};
-    ghost use Rattle.std.specs.Prelude.{OnOk, OnErr, IfOk, IfErr, IfNone, IfSome, IsErrOf};
+    ghost use Rattle.std.specs.Prelude.{OnOk, OnErr, IfOk, IfErr, IfSome, IsErrOf};
     ghost use Rattle.ans_model.specs.Bytes.{longest_file};
-    ghost use Rattle.ans_tokens.specs.ScannerView.{new_scanner, StaysUnfinished, EndsToken};
-    ghost use Rattle.ans_tokens.specs.ScannerView.{RefusesByte, Ends};
+    ghost use Rattle.ans_tokens.specs.ScannerView.{new_scanner, Holds, StaysUnfinished, EndsToken};
+    ghost use Rattle.ans_tokens.specs.ScannerView.{StartsAfterLast, RefusesByte, Ends};
     ghost use Rattle.ans_tokens.specs.Glyphs.{IsGlyphFront, IsBetweenTokens, scanner_after};
     ghost use Rattle.ans_tokens.specs.WholeToken.{TakesToken};
 
@@ -158,6 +161,7 @@ impl Scanner {
             → IfOk result (λ token. IfSome token (EndsToken self.old self.new byte)) }
         ensures fault { self.old.fault ≡ None → IfErr result (RefusesByte self.old byte) }
 
+        ensures starts { IfOk result (λ token. IfSome token (StartsAfterLast self.old self.new)) }
         ensures taken { OnOk result (self.new.offset ≡ self.old.offset + 1) }
         ensures accepted { OnOk result (self.new.fault ≡ None) }
         ensures refused { IfErr result (λ fault. self.new.fault ≡ Some fault) }
@@ -197,9 +201,10 @@ impl Scanner {
     }
 
     /// Whether it stands between two tokens: at the start or after a whole token, and without a
-    /// fault.
+    /// fault. Then it holds no byte since the last token.
     pub fn is_between_tokens(&self) -> bool
-        ensures { IsTrue result ↔ IsBetweenTokens self.now }
+        ensures between { IsTrue result ↔ IsBetweenTokens self.now }
+        ensures holds { IsTrue result → Holds self.now [] }
     {
         matches!(self.open_part, Open::Nothing) && self.fault.is_none()
     }
