@@ -6,3 +6,4 @@ pub mod Readable
 pub mod PartLemmas
 pub mod WholeSequences
 pub mod TextFront
+pub mod Declines

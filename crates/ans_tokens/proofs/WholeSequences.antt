@@ -151,7 +151,7 @@ numbers_of_all [] (InString q text) h = refl
 numbers_of_all [] (AfterString q text) h = refl
 numbers_of_all (m ∷ done) c h = map-append colour_number (m ∷ done) (member_of c ∷ [])
 
-nothing_done : (done : List Member) → map colour_number done ≡ [] → done ≡ []
+pub nothing_done : (done : List Member) → map colour_number done ≡ [] → done ≡ []
 nothing_done [] e = refl
 nothing_done (m ∷ done) e = cc
 

@@ -1,16 +1,18 @@
 //! Sequences of numbers that are read whole from a slice.
 //!
-//! A reader here answers only where the whole sequence stands in the slice and is in its common
+//! A reader here answers exactly where the whole sequence stands in the slice and is in its common
 //! form. Where it declines, the bytes are left to be taken one by one, so each rarer form is decided
 //! in one place.
 
-ghost use Rattle.std.specs.Prelude.{◌≡◌, ◌≢◌, ◌⊎◌, ◌<◌, ◌≤◌, ◌++◌, ◌∷◌, [], length, take, false, IfSome};
-ghost use Rattle.ans_model.specs.Bytes.{most_parameters};
+ghost use Rattle.std.specs.Prelude.{◌≡◌, ◌≢◌, ◌⊎◌, ◌<◌, ◌≤◌, ◌++◌, ◌∷◌, [], length, take, false};
+ghost use Rattle.std.specs.Prelude.{IfSome, IfNone, slice_index_or};
+ghost use Rattle.ans_model.specs.Bytes.{most_parameters, escape};
 ghost use Rattle.arrayvec.specs.ArrayVec.{array_vec_len};
 ghost use Rattle.ans_model.specs.Sequence.Spelling.{Unmarked};
 ghost use Rattle.ans_tokens.specs.Mark.{mark_of};
 ghost use Rattle.ans_tokens.specs.ScannerView.{Keeps, Sequence, Fresh};
 ghost use Rattle.ans_tokens.specs.WholeToken.{IsNumberFront, IsSequenceFront, IsTokenAt};
+ghost use Rattle.ans_tokens.specs.WholeToken.{HasNoNumber, HasNoSequence, HasNoCommonToken};
 
 use crate::mark::{Mark, mark_of_byte};
 use crate::meaning::kind_meant;
@@ -29,7 +31,8 @@ pub struct Letter {
 /// The value of the digits that the bytes begin with, and their count: 0 and 0 where there are
 /// none. It declines where the value is above 255, or where no other byte follows.
 fn read_digits(bytes: &[u8]) -> Option<(u8, usize)>
-    ensures { IfSome result (λ read. IsNumberFront bytes.now read.0 read.1) }
+    ensures read { IfSome result (λ read. IsNumberFront bytes.now read.0 read.1) }
+    ensures declined { IfNone result (HasNoNumber bytes.now) }
 {
     let mut value = 0u8;
     for (i, byte) in bytes.iter().enumerate() {
@@ -48,7 +51,8 @@ fn read_digits(bytes: &[u8]) -> Option<(u8, usize)>
 /// Reads as `read_digits` does. Most numbers have one digit or two, and these need no loop.
 #[inline(always)]
 fn read_number(bytes: &[u8]) -> Option<(u8, usize)>
-    ensures { IfSome result (λ read. IsNumberFront bytes.now read.0 read.1) }
+    ensures read { IfSome result (λ read. IsNumberFront bytes.now read.0 read.1) }
+    ensures declined { IfNone result (HasNoNumber bytes.now) }
 {
     let [first, second, third, ..] = bytes else {
         return read_digits(bytes);
@@ -79,9 +83,9 @@ fn add_last(numbers: &mut ArrayVec<u8, MAX_PARAMETERS>, value: u8, digits: usize
 }
 
 /// Reads the members and the letter of a sequence from the index after its mark, and puts a number
-/// for each member into an empty list. It declines where a byte is neither a digit nor a `;` nor a
-/// letter, where a number is above 255, where the members are more than 16, and where the bytes end
-/// before the letter.
+/// for each member into an empty list. It declines only where a byte is neither a digit nor a `;`
+/// nor a letter, where a number is above 255, where the members are more than 16, and where the bytes
+/// end before the letter: then no sequence with this mark and without a string stands here.
 #[inline(always)]
 fn read_members(
     bytes: &[u8],
@@ -92,8 +96,9 @@ fn read_members(
     requires within { from ≤ length bytes.now }
     requires begun { Keeps (Sequence (mark_of mark) [] false Fresh) (take from bytes.now) }
     requires empty { numbers.old.items ≡ [] }
-    ensures { IfSome result (λ letter.
+    ensures read { IfSome result (λ letter.
         IsSequenceFront bytes.now (mark_of mark) numbers.new.items letter.byte letter.end) }
+    ensures declined { IfNone result (HasNoSequence bytes.now (mark_of mark)) }
 {
     let mut at = from;
     for _ in 0..MAX_PARAMETERS {
@@ -116,12 +121,14 @@ fn read_members(
 
 /// Reads the sequence that the bytes begin with, where it is whole and has neither a mark nor a
 /// string: it puts a number for each member into an empty list, 0 for one that is omitted, and
-/// returns the letter. Else it declines, and the list holds any numbers.
+/// returns the letter. It declines only where the bytes begin with no such sequence, and then the
+/// list holds any numbers.
 #[inline(always)]
 pub fn read_sequence(bytes: &[u8], numbers: &mut ArrayVec<u8, MAX_PARAMETERS>) -> Option<Letter>
     requires { numbers.old.items ≡ [] }
-    ensures { IfSome result (λ letter.
+    ensures read { IfSome result (λ letter.
         IsSequenceFront bytes.now Unmarked numbers.new.items letter.byte letter.end) }
+    ensures declined { IfNone result (HasNoSequence bytes.now Unmarked) }
 {
     match bytes {
         [0x1B, b'[', _, ..] => read_members(bytes, Mark::Unmarked, 2, numbers),
@@ -129,10 +136,12 @@ pub fn read_sequence(bytes: &[u8], numbers: &mut ArrayVec<u8, MAX_PARAMETERS>) -
     }
 }
 
-/// The token of the sequence that the bytes begin with, which stands at this offset. It declines
-/// where the sequence is not whole, has a string, or is refused.
+/// The token of the sequence that the bytes begin with, which stands at this offset. The first byte
+/// is ESC. It declines only where the sequence is not whole, has a string, or is refused.
 fn whole_sequence(bytes: &[u8], start: usize) -> Option<Token>
-    ensures { IfSome result (IsTokenAt start bytes.now) }
+    requires { slice_index_or bytes.now 0 0 ≡ escape }
+    ensures taken { IfSome result (IsTokenAt start bytes.now) }
+    ensures declined { IfNone result (HasNoCommonToken bytes.now) }
 {
     let [0x1B, b'[', next, ..] = bytes else {
         return None;
@@ -153,10 +162,11 @@ fn whole_sequence(bytes: &[u8], start: usize) -> Option<Token>
     }
 }
 
-/// The token that the bytes begin with, which stands at this offset. It declines where they begin
-/// with ESC and no sequence of the common form.
+/// The token that the bytes begin with, which stands at this offset. It declines only where there is
+/// no byte, or they begin with ESC and no sequence of the common form.
 pub(crate) fn whole_token(bytes: &[u8], start: usize) -> Option<Token>
-    ensures { IfSome result (IsTokenAt start bytes.now) }
+    ensures taken { IfSome result (IsTokenAt start bytes.now) }
+    ensures declined { IfNone result (HasNoCommonToken bytes.now) }
 {
     let first = *bytes.first()?;
     if first == ESCAPE {
