@@ -7,3 +7,4 @@ pub mod PartLemmas
 pub mod WholeSequences
 pub mod TextFront
 pub mod Declines
+pub mod Scanning

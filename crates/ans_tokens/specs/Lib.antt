@@ -7,3 +7,4 @@ pub mod Glyphs
 pub mod Unfinished
 pub mod ScannerInside
 pub mod WholeToken
+pub mod Scanning

@@ -1,0 +1,194 @@
+-- What a scanner has read that takes bytes one by one.
+use Rattle.std.proofs.Common.{◌≡◌, inl, inr, ℕ, ◌+◌, ◌-◌, List, [], ◌∷◌, ◌++◌, length, take, drop, refl, ap, sym}
+use Rattle.std.proofs.Common.{◌∙◌, ap₂, subst, arith, Ok, Err, append_assoc, length-append}
+use Rattle.std.specs.List.{AllZip, concat}
+use Rattle.std.proofs.Math.Seq.{take-append_seam, drop-append_seam}
+use Rattle.std.proofs.lemmas.List.{append-nil, map-append}
+use Rattle.ans_model.specs.declared.fault.Fault.{Fault}
+use Rattle.ans_model.specs.Sequence.TokenKind.{TokenKind}
+use Rattle.ans_model.specs.Sequence.Reads.{SpellsToken, Reads, ReadsAs}
+use Rattle.ans_model.specs.Inside.ShownKind.{shown_kind}
+use Rattle.ans_model.proofs.Reading.{token_nonempty, one_token_in_front, unfinished_not_read, refused_not_read}
+use Rattle.ans_tokens.specs.ScannerView.{ScannerView, Holds, EndsToken, RefusesByte, Ends}
+use Rattle.ans_tokens.specs.Scanning.{TakesBytes, kinds_of, text_of, texts_of}
+use Rattle.ans_tokens.specs.Token.{kind_of, start_of, length_of}
+use Rattle.ans_tokens.specs.declared.token.Token.{Token}
+use Rattle.ans_tokens.proofs.EachByte.{kept_open, open_ends}
+use Rattle.ans_tokens.proofs.Readable.{reads_as_more}
+
+-- ---- what was taken
+-- the bytes are the texts of the tokens, and then the open part
+pub record IsScanned (offset : ℕ) (bytes : List ℕ) (s : ScannerView) (tokens : List Token) : Type 0 where
+  pub front : List ℕ
+  pub open_part : List ℕ
+  pub whole : bytes ≡ front ++ open_part
+  pub reads : ReadsAs front (kinds_of tokens) (texts_of offset bytes tokens)
+  pub holds : Holds s open_part
+
+-- the same with the bytes that are still to come
+record ScansOn (offset : ℕ) (bytes rest : List ℕ) (s : ScannerView) (tokens : List Token) : Type 0 where
+  front : List ℕ
+  open_part : List ℕ
+  whole : bytes ≡ front ++ (open_part ++ rest)
+  reads : ReadsAs front (kinds_of tokens) (texts_of offset bytes tokens)
+  holds : Holds s open_part
+  at : s.offset ≡ offset + (length front + length open_part)
+
+one_more : (front y rest : List ℕ) (b : ℕ) → front ++ (y ++ b ∷ rest) ≡ front ++ ((y ++ b ∷ []) ++ rest)
+one_more front y rest b = ap (λ (v : List ℕ). front ++ v) (sym (append_assoc y (b ∷ []) rest))
+
+-- the bytes of the token are the open part and the byte that ends it
+text_is : (offset start long : ℕ) (bytes front text rest : List ℕ) → bytes ≡ front ++ (text ++ rest)
+    → start ≡ offset + length front → long ≡ length text → take long (drop (start - offset) bytes) ≡ text
+text_is offset start long bytes front text rest whole at size =
+    let begun : start - offset ≡ length front = omega (arith, at) in
+    rw (begun, size, whole, drop-append_seam front (text ++ rest)) (take-append_seam text rest)
+
+after_token : (offset : ℕ) (bytes rest : List ℕ) (old new : ScannerView) (tokens : List Token) (b : ℕ) (t : Token)
+    → ScansOn offset bytes (b ∷ rest) old tokens → EndsToken old new b t → new.offset ≡ old.offset + 1
+    → ScansOn offset bytes rest new (tokens ++ t ∷ [])
+after_token offset bytes rest old new tokens b t h ends at =
+    let (is_token, holds) = ends h.open_part h.holds in
+    let text = h.open_part ++ b ∷ [] in
+    let kind = shown_kind (kind_of t) in
+    let whole : bytes ≡ h.front ++ (text ++ rest) = h.whole ∙ one_more h.front h.open_part rest b in
+    let size : length text ≡ length h.open_part + 1 = length-append h.open_part (b ∷ []) in
+    let same : text_of offset bytes t ≡ text =
+    text_is offset (start_of t) (length_of t) bytes h.front text rest whole (omega (arith, is_token.starts, h.at))
+    (is_token.long ∙ sym size) in
+    let read = reads_as_more h.front text (kinds_of tokens) (texts_of offset bytes tokens) kind h.reads
+    is_token.spelled in
+    record {
+      front = h.front ++ text;
+      open_part = [];
+      whole = whole ∙ sym (append_assoc h.front text rest);
+      reads = rw (
+        map-append (λ t. shown_kind (kind_of t)) tokens (t ∷ []),
+        map-append (text_of offset bytes) tokens (t ∷ []),
+        same,
+      ) read;
+      holds = holds;
+      at = omega (arith, at, h.at, size, length-append h.front text);
+    }
+
+scans_on : (rest : List ℕ) (offset : ℕ) (bytes : List ℕ) (old new : ScannerView) (tokens later : List Token)
+    → ScansOn offset bytes rest old tokens → TakesBytes old rest later new
+    → IsScanned offset bytes new (tokens ++ later)
+scans_on [] offset bytes old new tokens later h (none, same) = rw (none, same, append-nil) (record {
+  front = h.front;
+  open_part = h.open_part;
+  whole = h.whole ∙ ap (λ (v : List ℕ). h.front ++ v) (append-nil h.open_part);
+  reads = h.reads;
+  holds = h.holds;
+})
+scans_on (b ∷ rest) offset bytes old new tokens later h (next, more, step, steps) = elim step.gives [
+  | inl (stays, same) ↦
+      let (unfinished, holds) = stays h.open_part h.holds in
+      let on : ScansOn offset bytes rest next tokens = record {
+        front = h.front;
+        open_part = h.open_part ++ b ∷ [];
+        whole = h.whole ∙ one_more h.front h.open_part rest b;
+        reads = h.reads;
+        holds = holds;
+        at = omega (arith, step.offset, h.at, length-append h.open_part (b ∷ []));
+      } in
+      rw same (scans_on rest offset bytes next new tokens more on steps)
+  | inr (t, ends, is) ↦
+      let on = after_token offset bytes rest old next tokens b t h ends step.offset in
+      subst (IsScanned offset bytes new)
+      (append_assoc tokens (t ∷ []) more ∙ ap (λ (v : List Token). tokens ++ v) (sym is))
+      (scans_on rest offset bytes next new (tokens ++ t ∷ []) more on steps)
+]
+
+-- after the bytes, which were taken from an empty open part
+pub scanned : (old new : ScannerView) (bytes : List ℕ) (tokens : List Token) → Holds old []
+    → TakesBytes old bytes tokens new → IsScanned old.offset bytes new tokens
+scanned old new bytes tokens empty takes = scans_on bytes old.offset bytes old new [] tokens (record {
+  front = [];
+  open_part = [];
+  whole = refl;
+  reads = record { each = tt; whole = refl };
+  holds = empty;
+  at = omega arith;
+}) takes
+
+-- ---- at the end
+pub scanned_read : (offset : ℕ) (bytes : List ℕ) (s : ScannerView) (tokens : List Token)
+    → IsScanned offset bytes s tokens → Ends s (Ok tt)
+    → ReadsAs bytes (kinds_of tokens) (texts_of offset bytes tokens)
+scanned_read offset bytes s tokens h ends =
+    let none : h.open_part ≡ [] = ends h.open_part h.holds in
+    let all : h.front ≡ bytes =
+    sym (append-nil h.front) ∙ ap (λ (v : List ℕ). h.front ++ v) (sym none) ∙ sym h.whole in
+    subst (λ (v : List ℕ). ReadsAs v (kinds_of tokens) (texts_of offset bytes tokens)) all h.reads
+
+-- ---- what has a reading
+-- of bytes that are read, what stands after tokens is read too
+rest_read : (ts us : List TokenKind) (xs zs : List (List ℕ)) (y : List ℕ) → AllZip SpellsToken ts xs
+    → AllZip SpellsToken us zs → concat xs ++ y ≡ concat zs
+    → (vs : List TokenKind) × (us ≡ ts ++ vs) × Reads y vs
+rest_read [] us [] zs y h g e = (us, refl, (zs, record { each = g; whole = e }))
+rest_read [] us (a ∷ xs) zs y h g e = absurd h
+rest_read (t ∷ ts) us [] zs y h g e = absurd h
+rest_read (t ∷ ts) [] (a ∷ xs) [] y h g e =
+    absurd (token_nonempty t a (concat xs ++ y) h.0 (sym (append_assoc a (concat xs) y) ∙ e))
+rest_read (t ∷ ts) [] (a ∷ xs) (b ∷ zs) y h g e = absurd g
+rest_read (t ∷ ts) (u ∷ us) (a ∷ xs) [] y h g e = absurd g
+rest_read (t ∷ ts) (u ∷ us) (a ∷ xs) (b ∷ zs) y h g e =
+    let s = one_token_in_front t u a b (concat xs ++ y) (concat zs) h.0 g.0
+    (sym (append_assoc a (concat xs) y) ∙ e) in
+    let r = rest_read ts us xs zs y h.1 g.1 s.2 in
+    (r.0, ap₂ (λ (v : TokenKind) (w : List TokenKind). v ∷ w) (sym s.0) r.1, r.2)
+
+-- after what was taken
+record IsReadOn (ts us : List TokenKind) (y : List ℕ) : Type 0 where
+  rest : List TokenKind
+  more : us ≡ ts ++ rest
+  reads : Reads y rest
+
+read_on : (offset : ℕ) (bytes rest : List ℕ) (s : ScannerView) (tokens : List Token) (us : List TokenKind)
+    (h : IsScanned offset bytes s tokens) → Reads (bytes ++ rest) us
+    → IsReadOn (kinds_of tokens) us (h.open_part ++ rest)
+read_on offset bytes rest s tokens us h (zs, g) =
+    let texts = texts_of offset bytes tokens in
+    let whole : concat texts ++ (h.open_part ++ rest) ≡ concat zs =
+    ap (λ (v : List ℕ). v ++ (h.open_part ++ rest)) (sym h.reads.whole)
+    ∙ sym (append_assoc h.front h.open_part rest) ∙ ap (λ (v : List ℕ). v ++ rest) (sym h.whole) ∙ g.whole in
+    let r = rest_read (kinds_of tokens) us texts zs (h.open_part ++ rest) h.reads.each g.each whole in
+    record { rest = r.0; more = r.1; reads = r.2 }
+
+none_left : (rest : List TokenKind) → Reads [] rest → rest ≡ []
+none_left [] h = refl
+none_left (t ∷ rest) ([], h) = absurd h.each
+none_left (t ∷ rest) (x ∷ xs, h) = absurd (token_nonempty t x (concat xs) h.each.0 (sym h.whole))
+
+-- the tokens are those of the one reading
+pub scanned_only : (offset : ℕ) (bytes : List ℕ) (s : ScannerView) (tokens : List Token) (us : List TokenKind)
+    → IsScanned offset bytes s tokens → Reads bytes us → kinds_of tokens ≡ us
+scanned_only offset bytes s tokens us h reads =
+    let r = read_on offset bytes [] s tokens us h (rw append-nil reads) in
+    let left : Reads h.open_part r.rest = rw append-nil at r.reads in
+    elim (open_ends h.open_part (kept_open s.kept h.open_part h.holds.keeps)) [
+      | inl none ↦
+          let end : r.rest ≡ [] = none_left r.rest (subst (λ (v : List ℕ). Reads v r.rest) none left) in
+          sym (r.more ∙ ap (λ (v : List TokenKind). kinds_of tokens ++ v) end ∙ append-nil (kinds_of tokens))
+      | inr unfinished ↦ absurd (unfinished_not_read h.open_part r.rest unfinished left)
+    ]
+
+-- bytes that are read do not end in a sequence
+pub scanned_ends : (offset : ℕ) (bytes : List ℕ) (s : ScannerView) (tokens : List Token) (us : List TokenKind)
+    (fault : Fault) → IsScanned offset bytes s tokens → Reads bytes us → ¬ Ends s (Err fault)
+scanned_ends offset bytes s tokens us fault h reads ends =
+    let r = read_on offset bytes [] s tokens us h (rw append-nil reads) in
+    let left : Reads h.open_part r.rest = rw append-nil at r.reads in
+    unfinished_not_read h.open_part r.rest (ends h.open_part h.holds).0 left
+
+-- no byte of bytes that are read is refused
+pub scanned_refused : (offset : ℕ) (bytes rest : List ℕ) (b : ℕ) (s : ScannerView) (tokens : List Token)
+    (us : List TokenKind) (fault : Fault) → IsScanned offset bytes s tokens → RefusesByte s b fault
+    → ¬ Reads (bytes ++ b ∷ rest) us
+scanned_refused offset bytes rest b s tokens us fault h refuses reads =
+    let r = read_on offset bytes (b ∷ rest) s tokens us h reads in
+    let left : Reads ((h.open_part ++ b ∷ []) ++ rest) r.rest =
+    rw (append_assoc h.open_part (b ∷ []) rest) r.reads in
+    refused_not_read (h.open_part ++ b ∷ []) rest fault.cause r.rest (refuses h.open_part h.holds).refused left
