@@ -1,5 +1,5 @@
 //! How a file is laid out, and which files are refused.
-ghost use Rattle.std.specs.Prelude.{◌≡◌, ◌-◌, not, length, take, drop, is_some, IfOk, IfErr, IfSome, Some, None};
+ghost use Rattle.std.specs.Prelude.{◌≡◌, ◌-◌, ◌≤◌, not, length, take, drop, is_some, IfOk, IfErr, IfSome, Some, None};
 ghost use Rattle.std.specs.List.{position};
 ghost use Rattle.ans_model.specs.File.Layout.{content, after_content, is_end_mark};
 ghost use Rattle.ans_model.specs.File.Record.{comment_count};
@@ -110,7 +110,8 @@ fn first_other_byte(rest: &[u8]) -> Option<usize>
 ///
 /// Returns `Ok` exactly where some body, comments and record lay the file out and nothing in it
 /// is refused, with the parts that they determine. Otherwise returns the first of the refusals
-/// F1 to F8 that applies, in this order; its offset, in bytes from the file's start, is at most the file's length:
+/// F1 to F8 that applies, in this order; its offset, in bytes from the file's start, is at most the
+/// file's length:
 ///
 /// | cause | when | offset |
 /// |---|---|---|
@@ -125,6 +126,7 @@ fn first_other_byte(rest: &[u8]) -> Option<usize>
 pub fn split(file: &[u8]) -> Result<Parts<'_>, Fault>
     ensures ok { IfOk result (IsSplit file.now) }
     ensures err { IfErr result (λ fault. record_fault file.now ≡ Some fault) }
+    ensures within { IfErr result (λ fault. fault.offset ≤ length file.now) }
 {
     let Some((front, sauce)) = cut_record(file) else {
         return Err(fault(file.len(), Cause::NoRecord));

@@ -1,7 +1,8 @@
-use Rattle.std.proofs.Common.{◌≡◌, rules, refl, ap, sym, ◌∙◌, Some}
+use Rattle.std.proofs.Common.{◌≡◌, ◌≤◌, length, rules, refl, ap, sym, ◌∙◌, Some}
 use Rattle.ans_model.specs.declared.fault.Fault.{Fault}
 use Rattle.ans_model.specs.File.Layout.{file_parts}
 use Rattle.ans_model.specs.File.Refusals.{record_fault}
+use Rattle.ans_model.proofs.FirstRefusal.{refusal_within_file}
 use Rattle.ans_sauce.proofs.Splitting.{HasRecord, HasEnd, refused_by_record, refused_at_end, accepts}
 use Rattle.ans_sauce.proofs.layout.split.Goals as goal
 
@@ -17,6 +18,20 @@ returns-in_err-body-clause-err c =
     let refused : record_fault c.args.file.now ≡ Some c.in_err-body.field-0.0 =
     refused_by_record _ _ _ _ record_there c.in_err-body.ensures.err in
     search (rules, refused)
+
+pub returns-in_err-body-clause-within : goal.returns-in_err-body-clause-within
+returns-in_err-body-clause-within c =
+    let record_there : HasRecord c.args.file.now c.in-Some.front.now c.in-Some.sauce.bytes.now =
+    record {
+      found = c.in-Some.ensures.found;
+      front_is = c.in-Some.ensures.front;
+      record_is =
+          c.in-Some.ensures.sauce;
+    } in
+    let within : c.in_err-body.field-0.0.offset ≤ length c.args.file.now =
+    refusal_within_file c.args.file.now c.in_err-body.field-0.0
+    (refused_by_record _ _ _ _ record_there c.in_err-body.ensures.err) in
+    search (rules, within)
 
 pub returns-in-Some-first_other_byte-clause-err : goal.returns-in-Some-first_other_byte-clause-err
 returns-in-Some-first_other_byte-clause-err c =
