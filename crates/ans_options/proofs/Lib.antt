@@ -2,3 +2,4 @@ pub mod RowLemmas
 pub mod CommandLineLemmas
 pub mod FlagLemmas
 pub mod ErrorLemmas
+pub mod HelpLemmas

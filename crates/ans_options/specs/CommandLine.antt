@@ -5,9 +5,9 @@ use Rattle.std.specs.Borrow.{Bor}
 use Rattle.std.specs.Option.{option_map_or}
 use Rattle.std.specs.Str.{bytes_eq}
 use Rattle.clap.specs.Words.{App, Row, Rule, Text, first_of, kind_of, one_of, new_app, new_rule, subcommand_of}
-use Rattle.clap.specs.Words.{with_rule, with_subcommand}
+use Rattle.clap.specs.Words.{HasKind, IsAmong, Kinds, with_rule, with_subcommand}
 use Rattle.clap.specs.declared.builder.ArgAction.TheVariants.{SetTrue}
-use Rattle.clap.specs.declared.error.ErrorKind.TheVariants.{OutOfMemory}
+use Rattle.clap.specs.declared.error.ErrorKind.TheVariants.{DisplayHelp, OutOfMemory}
 use Rattle.ans_model.specs.declared.start.Start.{Start}
 use Rattle.ans_options.specs.declared.command_line.WordsError.{WordsError}
 use Rattle.ans_options.specs.declared.command_line.WordsError.TheVariants as words_error
@@ -116,3 +116,12 @@ AreOptionsOf words o file = IsSomeAnd (subcommand_of anscheck words) (λ sub. As
 abbrev pub RanOutOfMemory : WordsError → Type 0
 RanOutOfMemory (words_error.Clap e) = kind_of e ≡ OutOfMemory
 RanOutOfMemory words_error.Memory = ⊤
+
+-- memory ran out, or the error of clap has one of these kinds
+abbrev pub HasKindAmong : Kinds → WordsError → Type 0
+HasKindAmong kinds (words_error.Clap e) = HasKind kinds e
+HasKindAmong kinds words_error.Memory = ⊤
+
+-- help is the only one of the kinds, or is none of them
+abbrev pub IsHelpAloneOrNotAtAll : Kinds → Type 0
+IsHelpAloneOrNotAtAll kinds = IsAmong DisplayHelp kinds → kinds ≡ DisplayHelp ∷ []

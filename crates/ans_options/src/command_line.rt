@@ -1,10 +1,11 @@
 //! The command line, and the options that its words give.
 ghost use Rattle.std.specs.Prelude.{◌≡◌, true, IfOk, option_map, string_bytes, codes, map, IfSome, IfNone, IfErr};
-ghost use Rattle.std.specs.Prelude.{IsSomeAnd, IsTrue, ◌↔◌, ◌≢◌, false};
+ghost use Rattle.std.specs.Prelude.{IsSomeAnd, IsTrue, ◌↔◌, ◌≢◌, false, []};
 ghost use Rattle.clap.specs.Words.{app_of, first_of, found_of, rows_of, rule_of, subcommand_rows_of, takes};
+ghost use Rattle.clap.specs.Words.{fault_of};
 ghost use Rattle.ans_model.specs.Screen.StartClass.{none_known};
 ghost use Rattle.ans_options.specs.CommandLine.{AreOptionsOf, AsksFor, IsCommand, IsNoCommand, RanOutOfMemory};
-ghost use Rattle.ans_options.specs.CommandLine.{KnowsAsHeld, holds_flag_or_cleared, flag_rule, with_flags};
+ghost use Rattle.ans_options.specs.CommandLine.{HasKindAmong, KnowsAsHeld, holds_flag_or_cleared, flag_rule, with_flags};
 ghost use Rattle.ans_options.specs.CommandLine.{anscheck, check_app, command_name, file_app, holds_flag, texts_of};
 ghost use Rattle.ans_options.specs.declared.command_line.WordsError.TheVariants.{Clap};
 
@@ -232,7 +233,9 @@ fn read_matches(
 /// `--known-cursor`, or `--cleared`, and cells are asked for where `--cells` is. With the commands
 /// that take no flags nothing is known and no cells are asked for.
 ///
-/// Fails where `clap` rejects the words, where they ask for help, and where memory runs out.
+/// Fails where `clap` rejects the words, where they ask for help, and where memory runs out. But for
+/// want of memory the words alone decide: options come exactly where they have no fault, and else the
+/// error has the kind of their first fault. To ask for help counts as a fault.
 pub fn options(alloc: Global, words: &[&str]) -> Result<(Options, Option<String>), WordsError>
     ensures ok { IfOk result (λ r.
         AreOptionsOf (texts_of words.now) r.0 (option_map string_bytes r.1)) }
@@ -240,6 +243,10 @@ pub fn options(alloc: Global, words: &[&str]) -> Result<(Options, Option<String>
         → (r.0.start ≡ none_known) × (r.0.cells ≡ false)) }
     ensures refuses { IfErr result (λ e.
         takes anscheck (texts_of words.now) ≡ true → RanOutOfMemory e) }
+    ensures accepted { IfOk result (λ r. fault_of anscheck (texts_of words.now) ≡ []) }
+    ensures faultless { IfErr result (λ e.
+        fault_of anscheck (texts_of words.now) ≡ [] → RanOutOfMemory e) }
+    ensures kinds { IfErr result (HasKindAmong (fault_of anscheck (texts_of words.now))) }
 {
     let program = match program(alloc) {
         Ok(program) => program,

@@ -1,10 +1,11 @@
-use Rattle.std.proofs.Common.{◌∙◌, ◌≡◌, List, Option, ap, option_map, subst, sym}
+use Rattle.std.proofs.Common.{◌∙◌, ◌≡◌, [], List, Option, ap, option_map, subst, sym}
 use Rattle.std.proofs.lemmas.Result.{IfOk-weaker}
 use Rattle.std.specs.Prelude.{IfOk, IsSomeAnd, string_bytes}
-use Rattle.clap.specs.Words.{App, Row, Text, app_of, is_simple, subcommand_of, subcommand_rows_of, takes}
-use Rattle.ans_options.specs.CommandLine.{anscheck, AsksFor, RanOutOfMemory, texts_of}
+use Rattle.clap.specs.Words.{App, Row, Text, app_of, fault_of, is_simple, is_simple_and_free, subcommand_of}
+use Rattle.clap.specs.Words.{subcommand_rows_of, takes}
+use Rattle.ans_options.specs.CommandLine.{anscheck, AsksFor, HasKindAmong, RanOutOfMemory, texts_of}
 use Rattle.ans_options.proofs.CommandLineLemmas.{command_found, subcommand_met}
-use Rattle.ans_options.proofs.ErrorLemmas.{err_weaker}
+use Rattle.ans_options.proofs.ErrorLemmas.{err_gives, err_weaker, kinds_of_same, ok_with, only_memory}
 use Rattle.ans_options.proofs.FlagLemmas.{flagless}
 use Rattle.ans_options.proofs.command_line.options.Goals as goal
 
@@ -41,3 +42,35 @@ returns-in_err-matches-clause-refuses c =
     err_weaker c.from_residual.result _ _ c.from_residual.ensures.1
     (λ e is taken. subst RanOutOfMemory (sym is)
     (c.in_err-matches.ensures.passes (ap (λ (a : App). takes a words) app_is ∙ taken)))
+
+pub returns-clause-accepted : goal.returns-clause-accepted
+returns-clause-accepted c =
+    let app_is : app_of c.in-Ok.program ≡ anscheck = c.in-Ok.ensures in
+    let words = texts_of c.args.words.now in
+    let none : fault_of anscheck words ≡ [] =
+    sym (ap (λ (a : App). fault_of a words) app_is) ∙ c.in_ok-matches.ensures.kinds (ap is_simple_and_free app_is) in
+    ok_with c.read_matches.result _ none
+
+pub returns-clause-kinds : goal.returns-clause-kinds
+returns-clause-kinds c =
+    err_gives c.read_matches.result _ _ c.read_matches.ensures.memory
+    (λ e is. subst (HasKindAmong (fault_of anscheck (texts_of c.args.words.now))) (sym is) tt)
+
+pub returns-in_err-matches-clause-kinds : goal.returns-in_err-matches-clause-kinds
+returns-in_err-matches-clause-kinds c =
+    let app_is : app_of c.in-Ok.program ≡ anscheck = c.in-Ok.ensures in
+    let words = texts_of c.args.words.now in
+    let has = kinds_of_same (app_of c.in-Ok.program) anscheck words c.in_err-matches.field-0.0 app_is
+    (c.in_err-matches.ensures.kinds (ap is_simple_and_free app_is)) in
+    err_weaker c.from_residual.result _ _ c.from_residual.ensures.1
+    (λ e is. subst (HasKindAmong (fault_of anscheck words)) (sym is) has)
+
+pub returns-in_err-matches-clause-faultless : goal.returns-in_err-matches-clause-faultless
+returns-in_err-matches-clause-faultless c =
+    let app_is : app_of c.in-Ok.program ≡ anscheck = c.in-Ok.ensures in
+    let words = texts_of c.args.words.now in
+    let has = kinds_of_same (app_of c.in-Ok.program) anscheck words c.in_err-matches.field-0.0 app_is
+    (c.in_err-matches.ensures.kinds (ap is_simple_and_free app_is)) in
+    err_weaker c.from_residual.result _ _ c.from_residual.ensures.1
+    (λ e is none. subst RanOutOfMemory (sym is)
+    (only_memory (fault_of anscheck words) c.in_err-matches.field-0.0 has none))
