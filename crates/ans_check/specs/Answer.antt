@@ -1,8 +1,8 @@
 -- How the program answers its words.
-use Rattle.std.specs.Prelude.{◌≡◌, ◌⊎◌, ℕ, Bool, true, List, Option, Some, None, Result, Err}
+use Rattle.std.specs.Prelude.{◌≡◌, ◌⊎◌, ℕ, Bool, List, [], Option, Some, None, Result, Err}
 use Rattle.std.specs.Prelude.{MatchOption}
-use Rattle.clap.specs.Words.{Text, takes}
-use Rattle.ans_options.specs.CommandLine.{anscheck, AreOptionsOf, RanOutOfMemory}
+use Rattle.clap.specs.Words.{Text, fault_of}
+use Rattle.ans_options.specs.CommandLine.{anscheck, AreOptionsOf, HasKindAmong, RanOutOfMemory}
 use Rattle.ans_options.specs.declared.command.Options.{Options}
 use Rattle.ans_options.specs.declared.command_line.WordsError.{WordsError}
 use Rattle.ans_report.specs.Message.{message_line}
@@ -28,6 +28,7 @@ pub record EndsAsServed {R W : Type 0} (remaining : R → Option (List ℕ)) (co
   pub options : Options
   pub file : Option Text
   pub asked : AreOptionsOf words options file
+  pub faultless : fault_of anscheck words ≡ []
   pub reader : Tried R
   pub reader_after : Tried R
   pub input : IsNamed is_file is_standard file (inner_of reader)
@@ -42,13 +43,15 @@ pub record EndsUnopened {W : Type 0} (is_missing : Text → Type 0) (words : Lis
   pub options : Options
   pub file : Text
   pub asked : AreOptionsOf words options (Some file)
+  pub faultless : fault_of anscheck words ≡ []
   pub missing : is_missing file
   pub unwritten : output_after ≡ output
   pub ends : ending ≡ UnopenedFile
 
--- the error is one that these words can have: words that clap takes are refused for want of memory alone
-abbrev pub IsRefusalOf : List Text → WordsError → Type 0
-IsRefusalOf words refusal = takes anscheck words ≡ true → RanOutOfMemory refusal
+-- The error is one that these words can have. Where they have no fault, it is want of memory.
+pub record IsRefusalOf (words : List Text) (refusal : WordsError) : Type 0 where
+  pub kind : HasKindAmong (fault_of anscheck words) refusal
+  pub memory : fault_of anscheck words ≡ [] → RanOutOfMemory refusal
 
 -- Help was asked for. Its text is on the output; or the output failed, and has a prefix of it; or there was no memory for
 -- the text.

@@ -3,6 +3,7 @@
 ghost use Rattle.std.specs.Prelude.{◌≡◌, false};
 ghost use Rattle.ans_report.specs.Tried.{has_failed};
 
+mod answers;
 mod devices;
 mod endings;
 mod large;

@@ -1,6 +1,7 @@
 //! How the program ends.
-use super::{CLEARED, HI_REPORT, plain_file};
+use super::{CLEARED, plain_file};
 use crate::{Ending, RunError, WordsError, options, serve, status};
+use ans_report::Tried;
 use ans_samples::{FailingOnce, Failure};
 use std::alloc::AllocError;
 use std::fmt::Display;
@@ -103,11 +104,21 @@ fn words_without_options_have_their_endings(rt: HostRuntime) {
     );
 }
 
-/// A device with room for so many bytes, which may fail to flush.
+/// A device with room for so many bytes, which may fail to hand on what it took.
 #[derive(Clone, Copy)]
 pub(super) struct Output {
-    pub(super) room: usize,
-    pub(super) flushes: bool,
+    room: usize,
+    flushes: bool,
+}
+
+impl Output {
+    /// A device with this much room.
+    pub(super) fn with_room(room: usize) -> Output {
+        Output {
+            room,
+            flushes: true,
+        }
+    }
 }
 
 impl Write for Output {
@@ -126,77 +137,72 @@ impl Write for Output {
     }
 }
 
-/// What serving an input into a device returns: whether it passes, and how much room is left.
+/// What serving an input into a device returns, and how much room is left.
 pub(super) fn serve_once<R: Read + Copy + Drop>(
     rt: &(impl Abort + AllocGlobal),
     input: R,
     output: Output,
-) -> Result<(bool, usize), RunError> {
-    let answer = match serve(rt.alloc(), input, output, &CLEARED) {
-        Err(RunError::Memory) => serve(rt.alloc(), input, output, &CLEARED),
-        answer => answer,
-    };
-    match answer {
-        Ok((passed, left)) => Ok((passed, left.room)),
-        Err(error) => Err(error),
+) -> (Result<bool, RunError>, usize) {
+    for _ in 0..2 {
+        let mut reader = Tried::new(input);
+        let mut writer = Tried::new(output);
+        let answer = serve(rt.alloc(), &mut reader, &mut writer, &CLEARED);
+        if answer != Err(RunError::Memory) {
+            return (answer, writer.inner().room);
+        }
     }
+    panic!(rt; "memory was refused twice");
 }
 
-/// The room, whether the device flushes, and what is returned for a report of 70 bytes.
-static OUTPUTS: [(usize, bool, Result<(bool, usize), RunError>); 6] = [
-    (100, true, Ok((true, 30))),
-    (70, true, Ok((true, 0))),
-    (69, true, Err(RunError::Write)),
-    (1, true, Err(RunError::Write)),
-    (0, true, Err(RunError::Write)),
-    (100, false, Err(RunError::Write)),
+/// The room, whether the device flushes, and what is returned for a report of 70 bytes, with the room
+/// that is left.
+static OUTPUTS: [(usize, bool, Result<bool, RunError>, usize); 6] = [
+    (100, true, Ok(true), 30),
+    (70, true, Ok(true), 0),
+    (69, true, Err(RunError::Write), 0),
+    (1, true, Err(RunError::Write), 0),
+    (0, true, Err(RunError::Write), 0),
+    (100, false, Err(RunError::Write), 30),
 ];
 
 #[test]
 fn a_report_is_flushed(rt: HostRuntime) {
     let file = plain_file(&rt, b"Hi", 2, 1);
-    for (room, flushes, expected) in &OUTPUTS {
+    for (room, flushes, expected, left) in &OUTPUTS {
         let output = Output {
             room: *room,
             flushes: *flushes,
         };
-        assert!(rt; serve_once(&rt, file.as_slice(), output) == *expected);
+        let (answer, room_left) = serve_once(&rt, file.as_slice(), output);
+        assert!(rt; answer == *expected);
+        assert_eq!(rt; room_left, *left);
     }
-    let output = Output {
-        room: 100,
-        flushes: true,
-    };
-    assert!(rt; serve_once(&rt, [b'S'; 127].as_slice(), output) == Ok((false, 56)));
+}
+
+#[test]
+fn a_refusal_is_flushed(rt: HostRuntime) {
+    let output = Output::with_room(100);
+    let (answer, left) = serve_once(&rt, [b'S'; 127].as_slice(), output);
+    assert!(rt; answer == Ok(false));
+    assert_eq!(rt; left, 56);
     let output = Output {
         flushes: false,
         ..output
     };
-    assert!(rt; serve_once(&rt, [b'S'; 127].as_slice(), output) == Err(RunError::Write));
+    let (answer, _) = serve_once(&rt, [b'S'; 127].as_slice(), output);
+    assert!(rt; answer == Err(RunError::Write));
 }
 
 #[test]
 fn errors_of_a_run_are_served(rt: HostRuntime) {
-    let output = Output {
-        room: 100,
-        flushes: true,
-    };
+    let output = Output::with_room(100);
     let file = plain_file(&rt, b"Hi", 2, 1);
     let input = FailingOnce::new(file.as_slice(), 2, Failure::Error);
-    assert!(rt; serve_once(&rt, input, output) == Err(RunError::Read));
-    // Its report is longer than the buffer, so the run itself meets the full output.
+    let (answer, left) = serve_once(&rt, input, output);
+    assert!(rt; answer == Err(RunError::Read));
+    assert_eq!(rt; left, 100);
     let file = plain_file(&rt, b"", 80, 200);
-    assert!(rt; serve_once(&rt, file.as_slice(), output) == Err(RunError::Write));
-}
-
-#[test]
-fn an_output_takes_the_text(rt: HostRuntime) {
-    let file = plain_file(&rt, b"Hi", 2, 1);
-    let answer = match serve(rt.alloc(), file.as_slice(), Vec::new(rt.alloc()), &CLEARED) {
-        // The output grows too, and a growth refused there is told as a write.
-        Err(_) => serve(rt.alloc(), file.as_slice(), Vec::new(rt.alloc()), &CLEARED),
-        answer => answer,
-    };
-    let (passed, text) = answer.expect(&rt, "no answer");
-    assert!(rt; passed);
-    assert_eq!(rt; text.as_slice(), HI_REPORT);
+    let (answer, left) = serve_once(&rt, file.as_slice(), output);
+    assert!(rt; answer == Err(RunError::Write));
+    assert_eq!(rt; left, 0);
 }

@@ -1,4 +1,8 @@
 //! Files of many chunks, and screens as wide and as long as they may be.
+
+ghost use Rattle.std.specs.Prelude.{◌≤◌, length};
+ghost use Rattle.ans_model.specs.Bytes.{longest_file};
+
 use super::endings::{Output, serve_once};
 use super::verdicts::check_file;
 use super::{
@@ -8,6 +12,7 @@ use crate::{Options, RunError, Start, Verdict, run};
 use ans_report::Tried;
 use ans_samples::Narrow;
 use ans_sauce::{Cause, Fault, MAX_FILE};
+use ans_screen::{Grid, PlainGrid, PlaneGrid};
 use std::io::{self, Read, Write};
 use std::process::Abort;
 
@@ -113,11 +118,8 @@ fn a_longer_file_is_not_served(rt: HostRuntime) {
         left: MAX_FILE,
         last: b"y",
     };
-    let output = Output {
-        room: 100,
-        flushes: true,
-    };
-    assert!(rt; serve_once(&rt, input, output) == Err(RunError::TooLong));
+    let (answer, _) = serve_once(&rt, input, Output::with_room(100));
+    assert!(rt; answer == Err(RunError::TooLong));
 }
 
 /// The glyph of a cell, where those that are not listed are blank.
@@ -133,18 +135,19 @@ fn glyph_at(glyphs: &[(usize, usize, u8)], row: usize, column: usize) -> u8 {
 /// Some rows of a long screen: the first two, one in the middle and the last.
 const SOME_ROWS: [usize; 4] = [0, 1, 4096, 8191];
 
-/// Asserts that a file passes, and that its picture has these glyphs on blanks of attribute 07h in
-/// the rows looked at.
-fn expect_glyphs(
+/// Asserts that a file passes over one kind of grid, and that its picture has these glyphs on blanks of
+/// attribute 07h in the rows looked at.
+fn expect_glyphs_on<G: Grid>(
     rt: &(impl Abort + AllocGlobal),
     file: &[u8],
     start: Start,
     size: (usize, usize),
     rows: &[usize],
     glyphs: &[(usize, usize, u8)],
-) {
-    assert!(rt; file.len() <= MAX_FILE);
-    match check_file(rt, file, start) {
+)
+    requires { length file.now ≤ longest_file }
+{
+    match check_file::<G>(rt, file, start) {
         Verdict::Pass(_, picture) => {
             assert_eq!(rt; (picture.width(), picture.lines()), size);
             for row in rows {
@@ -158,6 +161,20 @@ fn expect_glyphs(
         }
         Verdict::Refused(_, _) => panic!(rt; "a pass was expected"),
     }
+}
+
+/// Asserts the same over both kinds of grid.
+fn expect_glyphs(
+    rt: &(impl Abort + AllocGlobal),
+    file: &[u8],
+    start: Start,
+    size: (usize, usize),
+    rows: &[usize],
+    glyphs: &[(usize, usize, u8)],
+) {
+    assert!(rt; file.len() <= MAX_FILE);
+    expect_glyphs_on::<PlainGrid>(rt, file, start, size, rows, glyphs);
+    expect_glyphs_on::<PlaneGrid>(rt, file, start, size, rows, glyphs);
 }
 
 #[test]
@@ -222,14 +239,12 @@ fn the_largest_screen_is_cleared_from_any_start(rt: HostRuntime) {
     );
 }
 
-/// The 4096 bytes that are fed at once end within the sequence.
-#[test]
-fn a_sequence_crosses_two_pieces(rt: HostRuntime) {
-    let mut content = [b'a'; 4100];
-    content[4095..].copy_from_slice(b"\x1b[1mb");
-    let file = file_of_size(&rt, &content, 80, 52);
-    assert!(rt; file.len() <= MAX_FILE);
-    match check_file(&rt, file.as_slice(), Start::cleared()) {
+/// Asserts that a file passes over one kind of grid, with `a` up to a place of the last line of 80
+/// columns and 52 lines, and a bright `b` there.
+fn expect_bright_end<G: Grid>(rt: &(impl Abort + AllocGlobal), file: &[u8])
+    requires { length file.now ≤ longest_file }
+{
+    match check_file::<G>(rt, file, Start::cleared()) {
         Verdict::Pass(_, picture) => {
             assert!(rt; picture.width() == 80 && picture.lines() == 52);
             assert_eq!(rt; picture.glyph(51, 14), b'a');
@@ -241,6 +256,32 @@ fn a_sequence_crosses_two_pieces(rt: HostRuntime) {
             }
         }
         Verdict::Refused(_, _) => panic!(rt; "a pass was expected"),
+    }
+}
+
+/// The 4096 bytes that are fed at once end within the sequence.
+#[test]
+fn a_sequence_crosses_two_pieces(rt: HostRuntime) {
+    let mut content = [b'a'; 4100];
+    content[4095..].copy_from_slice(b"\x1b[1mb");
+    let file = file_of_size(&rt, &content, 80, 52);
+    assert!(rt; file.len() <= MAX_FILE);
+    expect_bright_end::<PlainGrid>(&rt, file.as_slice());
+    expect_bright_end::<PlaneGrid>(&rt, file.as_slice());
+}
+
+/// Asserts that a file is refused over one kind of grid since its content ends in a sequence that
+/// begins with it.
+fn expect_open_sequence<G: Grid>(rt: &(impl Abort + AllocGlobal), file: &[u8])
+    requires { length file.now ≤ longest_file }
+{
+    let fault = Fault {
+        offset: 0,
+        cause: Cause::EndInSequence,
+    };
+    match check_file::<G>(rt, file, Start::cleared()) {
+        Verdict::Refused(_, found) => assert_eq!(rt; found, fault),
+        Verdict::Pass(_, _) => panic!(rt; "a refusal was expected"),
     }
 }
 
@@ -256,14 +297,8 @@ fn long_sequences_are_read(rt: HostRuntime) {
     content[2] = b'"';
     let file = file_of_size(&rt, &content, 2, 1);
     assert!(rt; file.len() <= MAX_FILE);
-    let fault = Fault {
-        offset: 0,
-        cause: Cause::EndInSequence,
-    };
-    match check_file(&rt, file.as_slice(), Start::cleared()) {
-        Verdict::Refused(_, found) => assert_eq!(rt; found, fault),
-        Verdict::Pass(_, _) => panic!(rt; "a refusal was expected"),
-    }
+    expect_open_sequence::<PlainGrid>(&rt, file.as_slice());
+    expect_open_sequence::<PlaneGrid>(&rt, file.as_slice());
 }
 
 /// What stands before the picture in the report of the largest screen.

@@ -6,7 +6,7 @@ ghost use Rattle.ans_model.specs.Bytes.{longest_file};
 use super::{NEEDS, expect_run, file_of, file_of_size, plain_file};
 use crate::{Needs, Start, needs};
 use ans_sauce::{Cause, Fault, MAX_FILE};
-use ans_screen::PlainGrid;
+use ans_screen::{Grid, PlainGrid, PlaneGrid};
 use std::alloc::AllocError;
 use std::process::Abort;
 
@@ -88,21 +88,21 @@ fn class_named(names: &str) -> Start {
 }
 
 /// What a file needs. A search that ran out of memory is made again.
-fn needs_of<'a>(rt: &(impl Abort + AllocGlobal), file: &'a [u8]) -> Needs<'a>
+pub(super) fn needs_of<'a, G: Grid>(rt: &(impl Abort + AllocGlobal), file: &'a [u8]) -> Needs<'a>
     requires { length file.now ≤ longest_file }
 {
-    match needs::<PlainGrid>(rt.alloc(), file) {
+    match needs::<G>(rt.alloc(), file) {
         Ok(found) => found,
-        Err(AllocError) => needs::<PlainGrid>(rt.alloc(), file).expect(rt, "memory"),
+        Err(AllocError) => needs::<G>(rt.alloc(), file).expect(rt, "memory"),
     }
 }
 
-/// Asserts what the contents need.
-fn expect_needs(rt: &(impl Abort + AllocGlobal), rows: &[Row]) {
+/// Asserts what the contents need, found over one kind of grid.
+fn expect_needs_on<G: Grid>(rt: &(impl Abort + AllocGlobal), rows: &[Row]) {
     for (content, width, lines, names) in rows {
         let file = plain_file(rt, content, *width, *lines);
         assert!(rt; file.len() <= MAX_FILE);
-        match needs_of(rt, file.as_slice()) {
+        match needs_of::<G>(rt, file.as_slice()) {
             Needs::Least(parts, class) => {
                 assert!(rt; class == class_named(names), "{names} at {content:?}");
                 assert_eq!(rt; parts.width(), *width as usize);
@@ -111,6 +111,12 @@ fn expect_needs(rt: &(impl Abort + AllocGlobal), rows: &[Row]) {
             Needs::Refused(_, _) => panic!(rt; "refused: {content:?}"),
         }
     }
+}
+
+/// Asserts what the contents need.
+fn expect_needs(rt: &(impl Abort + AllocGlobal), rows: &[Row]) {
+    expect_needs_on::<PlainGrid>(rt, rows);
+    expect_needs_on::<PlaneGrid>(rt, rows);
 }
 
 #[test]
@@ -123,6 +129,24 @@ fn parts_are_needed_for_other_reasons(rt: HostRuntime) {
     expect_needs(&rt, &OTHERS);
 }
 
+/// Asserts the fault of a content for which nothing is enough, found over one kind of grid.
+fn expect_needs_fault<G: Grid>(
+    rt: &(impl Abort + AllocGlobal),
+    content: &[u8],
+    offset: usize,
+    cause: Cause,
+) {
+    let file = plain_file(rt, content, 2, 1);
+    assert!(rt; file.len() <= MAX_FILE);
+    match &needs_of::<G>(rt, file.as_slice()) {
+        Needs::Refused(Some(parts), fault) => {
+            assert_eq!(rt; *fault, Fault { offset, cause });
+            assert_eq!(rt; parts.content(), content);
+        }
+        _ => panic!(rt; "a fault of the content was expected"),
+    }
+}
+
 #[test]
 fn content_that_fails_from_the_cleared_start_is_refused(rt: HostRuntime) {
     let rows: [(&[u8], usize, Cause); 5] = [
@@ -133,32 +157,35 @@ fn content_that_fails_from_the_cleared_start_is_refused(rt: HostRuntime) {
         (b"\x1b[2J\x1b[0m\x1b[9;9H", 8, Cause::OutsideScreen),
     ];
     for (content, offset, cause) in rows {
-        let file = plain_file(&rt, content, 2, 1);
-        assert!(rt; file.len() <= MAX_FILE);
-        match &needs_of(&rt, file.as_slice()) {
-            Needs::Refused(Some(parts), fault) => {
-                assert_eq!(rt; *fault, Fault { offset, cause });
-                assert_eq!(rt; parts.content(), content);
-            }
-            _ => panic!(rt; "a fault of the content was expected"),
-        }
+        expect_needs_fault::<PlainGrid>(&rt, content, offset, cause);
+        expect_needs_fault::<PlaneGrid>(&rt, content, offset, cause);
+    }
+}
+
+/// Asserts the fault of a file whose record or layout is refused, found over one kind of grid.
+fn expect_record_fault<G: Grid>(
+    rt: &(impl Abort + AllocGlobal),
+    file: &[u8],
+    offset: usize,
+    cause: Cause,
+) {
+    assert!(rt; file.len() <= MAX_FILE);
+    match &needs_of::<G>(rt, file) {
+        Needs::Refused(None, fault) => assert_eq!(rt; *fault, Fault { offset, cause }),
+        _ => panic!(rt; "a fault of the record was expected"),
     }
 }
 
 #[test]
 fn a_refused_record_has_no_parts(rt: HostRuntime) {
     let after_the_end = file_of_size(&rt, b"Hi\x1a!", 2, 1);
-    assert!(rt; after_the_end.len() <= MAX_FILE);
     let rows: [(&[u8], usize, Cause); 2] = [
         (&[b'S'; 127], 127, Cause::NoRecord),
         (after_the_end.as_slice(), 3, Cause::BytesAfterEndMark),
     ];
     for (file, offset, cause) in rows {
-        assert!(rt; file.len() <= MAX_FILE);
-        match &needs_of(&rt, file) {
-            Needs::Refused(None, fault) => assert_eq!(rt; *fault, Fault { offset, cause }),
-            _ => panic!(rt; "a fault of the record was expected"),
-        }
+        expect_record_fault::<PlainGrid>(&rt, file, offset, cause);
+        expect_record_fault::<PlaneGrid>(&rt, file, offset, cause);
     }
 }
 

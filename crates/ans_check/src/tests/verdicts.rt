@@ -3,8 +3,9 @@
 ghost use Rattle.std.specs.Prelude.{◌≤◌, length};
 ghost use Rattle.ans_model.specs.Bytes.{longest_file};
 
+use super::needs::needs_of;
 use super::{file_of, file_of_size};
-use crate::{Start, Verdict, check};
+use crate::{Needs, Start, Verdict, check};
 use ans_play::Picture;
 use ans_samples::records::{ACCEPTED, AcceptedFile, REFUSED};
 use ans_samples::rows::Expected::{Refused, Shows};
@@ -13,7 +14,7 @@ use ans_samples::rows::{
     PASSES_FROM_CLEARED, Row, TABS, UNKNOWN_CELLS, WITHOUT_MEANING,
 };
 use ans_sauce::{Cause, Fault, MAX_FILE, Parts};
-use ans_screen::PlainGrid;
+use ans_screen::{Grid, PlainGrid, PlaneGrid};
 use std::alloc::AllocError;
 use std::process::Abort;
 
@@ -33,7 +34,7 @@ fn is_of_the_record(cause: Cause) -> bool {
 }
 
 /// Asserts the picture's bytes in row order, and their attributes where these are compared.
-fn assert_shows(rt: &impl Abort, picture: &Picture<PlainGrid>, bytes: &[u8], attributes: &[u8]) {
+fn assert_shows<G: Grid>(rt: &impl Abort, picture: &Picture<G>, bytes: &[u8], attributes: &[u8]) {
     let width = picture.width();
     let lines = picture.lines();
     assert!(rt; width <= 100 && lines <= 100);
@@ -55,11 +56,11 @@ fn assert_shows(rt: &impl Abort, picture: &Picture<PlainGrid>, bytes: &[u8], att
 }
 
 /// What a check answers. One that ran out of memory is made again.
-pub(super) fn check_file<'a>(
+pub(super) fn check_file<'a, G: Grid>(
     rt: &(impl Abort + AllocGlobal),
     file: &'a [u8],
     start: Start,
-) -> Verdict<'a, PlainGrid>
+) -> Verdict<'a, G>
     requires { length file.now ≤ longest_file }
 {
     match check(rt.alloc(), file, start) {
@@ -68,15 +69,16 @@ pub(super) fn check_file<'a>(
     }
 }
 
-/// Asserts what a check answers: the picture's bytes and attributes, or a fault.
-fn expect_verdict(
+/// Asserts what a check over one kind of grid answers: the picture's bytes and attributes, or a fault.
+fn expect_verdict_on<G: Grid>(
     rt: &(impl Abort + AllocGlobal),
     file: &[u8],
     start: Start,
     expected: Result<(&[u8], &[u8]), (usize, Cause)>,
-) {
-    assert!(rt; file.len() <= MAX_FILE);
-    match check_file(rt, file, start) {
+)
+    requires { length file.now ≤ longest_file }
+{
+    match check_file::<G>(rt, file, start) {
         Verdict::Pass(parts, picture) => {
             assert_eq!(rt; picture.width(), parts.width());
             assert_eq!(rt; picture.lines(), parts.lines());
@@ -88,6 +90,34 @@ fn expect_verdict(
             assert_eq!(rt; fault, Fault { offset, cause });
             assert_eq!(rt; parts.is_none(), is_of_the_record(cause));
         }
+    }
+}
+
+/// Asserts what a check answers, over both kinds of grid.
+fn expect_verdict(
+    rt: &(impl Abort + AllocGlobal),
+    file: &[u8],
+    start: Start,
+    expected: Result<(&[u8], &[u8]), (usize, Cause)>,
+) {
+    assert!(rt; file.len() <= MAX_FILE);
+    expect_verdict_on::<PlainGrid>(rt, file, start, expected);
+    expect_verdict_on::<PlaneGrid>(rt, file, start, expected);
+}
+
+/// Asserts that what the file needs, found over both kinds of grid, tells from which starts it passes:
+/// from this one exactly where it passes.
+fn expect_needs_agree(rt: &(impl Abort + AllocGlobal), file: &[u8], start: Start, passes: bool) {
+    assert!(rt; file.len() <= MAX_FILE);
+    for found in [
+        needs_of::<PlainGrid>(rt, file),
+        needs_of::<PlaneGrid>(rt, file),
+    ] {
+        let agrees = match &found {
+            Needs::Least(_, class) => class.covers(start) == passes,
+            Needs::Refused(_, _) => !passes,
+        };
+        assert!(rt; agrees, "needs of {file:?}");
     }
 }
 
@@ -104,7 +134,8 @@ fn file_of_content(rt: &(impl Abort + AllocGlobal), row: &Row) -> Vec<u8> {
     )
 }
 
-/// Asserts that a check finds of each content, as a file, what is expected of it.
+/// Asserts that a check finds of each content, as a file, what is expected of it, and that what it
+/// needs agrees.
 fn expect_rows(rt: &(impl Abort + AllocGlobal), rows: &[Row]) {
     for row in rows {
         let file = file_of_content(rt, row);
@@ -113,6 +144,7 @@ fn expect_rows(rt: &(impl Abort + AllocGlobal), rows: &[Row]) {
             Refused(offset, cause) => Err((offset, cause)),
         };
         expect_verdict(rt, file.as_slice(), row.start, expected);
+        expect_needs_agree(rt, file.as_slice(), row.start, expected.is_ok());
     }
 }
 
@@ -196,7 +228,7 @@ fn accepted_files_have_their_parts(rt: HostRuntime) {
     for row in &ACCEPTED {
         let file = file_of(&rt, row.front, row.edits);
         assert!(rt; file.len() <= MAX_FILE);
-        let verdict = check_file(&rt, file.as_slice(), Start::cleared());
+        let verdict = check_file::<PlaneGrid>(&rt, file.as_slice(), Start::cleared());
         match &verdict {
             Verdict::Pass(parts, _) => expect_parts(&rt, parts, row),
             Verdict::Refused(Some(parts), _) => expect_parts(&rt, parts, row),
