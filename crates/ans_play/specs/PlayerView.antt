@@ -1,5 +1,6 @@
 -- A player, as contracts see it.
-use Rattle.std.specs.Prelude.{◌≡◌, ℕ, Option, None}
+use Rattle.std.specs.Prelude.{◌≡◌, ℕ, ◌≤◌, Option, None, IfSome}
+use Rattle.ans_model.specs.Bytes.{longest_file}
 use Rattle.ans_model.specs.Screen.State.{Size}
 use Rattle.ans_model.specs.declared.start.Start.{Start}
 use Rattle.ans_model.specs.declared.fault.Fault.{Fault}
@@ -32,6 +33,9 @@ player_view start fed fault play = record {
 abbrev pub play_of : PlayerView → PlayView
 play_of p = play_view p.size p.scanner p.state
 
--- without a fault the scanner has taken the bytes that were fed
+-- without a fault the scanner has taken the bytes that were fed; these, and the offset of a fault, are within the limit
+-- of a file
 pub record IsPlayerView (p : PlayerView) : Type 0 where
   pub scanned : p.fault ≡ None → p.scanner.offset ≡ p.fed
+  pub in_limit : p.fed ≤ longest_file
+  pub fault_in_limit : IfSome p.fault (λ fault. fault.offset ≤ longest_file)

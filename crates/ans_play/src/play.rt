@@ -122,6 +122,8 @@ impl<G: Grid> Play<G> {
         ensures played { IfOk result (PlaysFront self.old bytes.now self.new) }
         ensures stopped { IfErr result (λ fault. (self.new.size ≡ self.old.size)
             × IsDeserved self.old bytes.now fault) }
+        ensures within { IfErr result
+            (λ fault. fault.offset ≤ self.old.scanner.offset + length bytes.now) }
     {
         if !self.scanner.is_between_tokens() {
             return self.play_first(bytes);
@@ -139,6 +141,8 @@ impl<G: Grid> Play<G> {
         ensures played { IfOk result (PlaysFront self.old bytes.now self.new) }
         ensures stopped { IfErr result (λ fault. (self.new.size ≡ self.old.size)
             × IsDeserved self.old bytes.now fault) }
+        ensures within { IfErr result
+            (λ fault. fault.offset ≤ self.old.scanner.offset + length bytes.now) }
     {
         self.play_byte(bytes[0])?;
         Ok(1)
@@ -259,6 +263,7 @@ impl<G: Grid> Play<G> {
         ensures played { OnOk result (GoesOn self.old (byte ∷ []) self.new) }
         ensures stopped { IfErr result (λ fault. (self.new.size ≡ self.old.size)
             × ((rest : List ℕ) → IsDeserved self.old (byte ∷ rest) fault)) }
+        ensures within { IfErr result (λ fault. fault.offset ≤ self.old.scanner.offset + 1) }
     {
         match self.scanner.byte(byte)? {
             None => Ok(()),
@@ -299,7 +304,8 @@ impl<G: Grid> Play<G> {
     /// sequence, at its offset; else F25, the first cell of the stated lines that stays unknown, its
     /// row and column counted from 1, at the number of bytes.
     pub fn finish(self) -> Result<Picture<G>, Fault>
-        ensures { EndsPlay self result }
+        ensures ends { EndsPlay self result }
+        ensures within { IfErr result (λ fault. fault.offset ≤ self.scanner.offset) }
     {
         self.scanner.end()?;
         let width = self.size.width();

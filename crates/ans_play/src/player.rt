@@ -1,7 +1,7 @@
 //! The play of the content, which is fed in pieces.
 
 ghost use Rattle.std.specs.Prelude.{◌≡◌, ◌+◌, ◌≤◌, ℕ, List, [], length};
-ghost use Rattle.std.specs.Prelude.{Some, IfOk, IfErr, OnOk};
+ghost use Rattle.std.specs.Prelude.{Some, None, IfOk, IfErr, OnOk};
 ghost use Rattle.ans_model.specs.Bytes.{most_columns, most_lines, longest_file};
 ghost use Rattle.ans_model.specs.Screen.State.{sized};
 
@@ -61,17 +61,18 @@ impl<G: Grid> Player<G> {
         })
     }
 
-    /// The number of bytes of all pieces that were fed without a fault.
+    /// The number of bytes of all pieces that were fed without a fault. It is at most 16,777,216.
     pub fn fed(&self) -> usize
-        ensures { result ≡ self.now.fed }
+        ensures fed { result ≡ self.now.fed }
+        ensures in_limit { result ≤ longest_file }
     {
         self.fed
     }
 
     /// Plays a piece after the bytes fed so far. `Ok` says that all these bytes have no first fault.
-    /// An error is their first fault, at its offset from the first byte fed. The rest of the piece is
-    /// then not looked at, and every later call returns that fault. All pieces together have at most
-    /// 16,777,216 bytes.
+    /// An error is their first fault, at its offset from the first byte fed, which is at most the
+    /// number of the bytes. The rest of the piece is then not looked at, and every later call returns
+    /// that fault. All pieces together have at most 16,777,216 bytes.
     pub fn feed(&mut self, piece: &[u8]) -> Result<(), Fault>
         requires { self.old.fed + length piece.now ≤ longest_file }
         ensures same { SamePlay self.old self.new }
@@ -81,6 +82,10 @@ impl<G: Grid> Player<G> {
             → Repeats self.old self.new result f }
         ensures fed { (s : List ℕ) → Stands self.old s
             → Feeds self.old s piece.now self.new result }
+
+        ensures within { self.old.fault ≡ None
+            → IfErr result (λ fault. fault.offset ≤ self.old.fed + length piece.now) }
+        ensures in_limit { IfErr result (λ fault. fault.offset ≤ longest_file) }
     {
         if let Some(fault) = self.fault {
             return Err(fault);
@@ -105,6 +110,9 @@ impl<G: Grid> Player<G> {
     pub fn finish(self) -> Result<Picture<G>, Fault>
         ensures repeats { (f : Fault) → self.fault ≡ Some f → result ≡ Err f }
         ensures finished { (s : List ℕ) → Stands self s → Finishes self s result }
+
+        ensures within { self.fault ≡ None → IfErr result (λ fault. fault.offset ≤ self.fed) }
+        ensures in_limit { IfErr result (λ fault. fault.offset ≤ longest_file) }
     {
         if let Some(fault) = self.fault {
             return Err(fault);

@@ -19,8 +19,8 @@ new-requires g c = record {
   bytes = c.self.invariant.bytes;
 }
 
-pub returns-in-None : goal.returns-in-None
-returns-in-None g c class s p =
+pub returns-in-None-clause-ends : goal.returns-in-None-clause-ends
+returns-in-None-clause-ends g c class s p =
     let same : c.self.inside.scanner ≡ c.args.self.scanner = ap (λ (v : PlayView). v.scanner) c.self.view_is in
     let closed : c.args.self.scanner.fault ≡ None → (y : List ℕ) → Holds c.args.self.scanner y → y ≡ [] =
     rw same at c.in_ok-end.ensures.ends in
@@ -29,8 +29,8 @@ returns-in-None g c class s p =
     (sym c.first_unknown.ensures ∙ c.in-None.is)) in
     ends_good c.args.self class s p closed c.new.result found (rw (← c.self.view_is) c.new.ensures)
 
-pub returns-in-Some : goal.returns-in-Some
-returns-in-Some g c class s p =
+pub returns-in-Some-clause-ends : goal.returns-in-Some-clause-ends
+returns-in-Some-clause-ends g c class s p =
     let same : c.self.inside.scanner ≡ c.args.self.scanner = ap (λ (v : PlayView). v.scanner) c.self.view_is in
     let closed : c.args.self.scanner.fault ≡ None → (y : List ℕ) → Holds c.args.self.scanner y → y ≡ [] =
     rw same at c.in_ok-end.ensures.ends in

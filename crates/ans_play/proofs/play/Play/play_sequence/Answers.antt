@@ -4,4 +4,5 @@ use Rattle.ans_play.proofs.play.Play.play_sequence.Goals as goal
 pub returns-in-Ok-clause-played : goal.returns-in-Ok-clause-played
 returns-in-Ok-clause-played g c =
     letter_goes_over c.args.self.now c.play_letter.new.self c.args.bytes.now c.read_sequence.new.numbers.items
-    c.in-Some.letter.byte c.in-Some.letter.end c.in-Some.ensures (rw c.as_slice.ensures.value at c.in-Ok.ensures.played)
+    c.in-Some.letter.byte c.in-Some.letter.end c.in-Some.ensures.read
+    (rw c.as_slice.ensures.value at c.in-Ok.ensures.played)

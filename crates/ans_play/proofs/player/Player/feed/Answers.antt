@@ -42,6 +42,7 @@ pub invariant_of-self-2 : goal.invariant_of-self-2
 invariant_of-self-2 g c =
     let here = c.loop-played.invariant in
     let none : c.self.inside.fault ≡ None = search rules in
+    let fed_none : c.args.self.now.fault ≡ None = search rules in
     let end : length c.args.piece.now ≤ c.loop-played.played = omega arith in
     let whole : GoesOn (play_of c.args.self.now) c.args.piece.now c.loop-played.self-inside.play
     = plays_all (play_of c.args.self.now) c.loop-played.self-inside.play c.args.piece.now c.loop-played.played
@@ -55,6 +56,8 @@ invariant_of-self-2 g c =
         ap (λ (p : PlayerView). p.scanner.offset) c.self.view_is,
         ap (λ (p : PlayerView). p.fed) c.self.view_is,
       );
+      in_limit = omega (arith, here.fed, c.requires);
+      fault_in_limit = rw (here.fault ∙ fed_none) tt;
     }
 
 pub returns-clause-same : goal.returns-clause-same

@@ -14,4 +14,4 @@ pub returns-clause-finished : goal.returns-clause-finished
 returns-clause-finished g c s st =
     let none : c.args.self.fault ≡ None = search rules in
     finishes_played c.args.self s c.finish.result st none
-    (subst (λ (v : PlayView). EndsPlay v c.finish.result) (ap play_of c.self.view_is) c.finish.ensures)
+    (subst (λ (v : PlayView). EndsPlay v c.finish.result) (ap play_of c.self.view_is) c.finish.ensures.ends)
