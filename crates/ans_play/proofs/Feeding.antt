@@ -185,7 +185,7 @@ piece_deserved old mid piece i fault h d =
 
 -- ---- a piece
 -- bytes that are played have no first fault
-played_has_no_first_fault : (z : Size) (class : Start) (bytes : List ℕ) (scanner : ScannerView) (h : HalfState)
+pub played_has_no_first_fault : (z : Size) (class : Start) (bytes : List ℕ) (scanner : ScannerView) (h : HalfState)
     (f : Fault) → IsPlayed z class bytes scanner h
     → ¬ IsFirstFault z class bytes f
 played_has_no_first_fault z class bytes scanner h f p =

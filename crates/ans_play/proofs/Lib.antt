@@ -32,3 +32,4 @@ pub mod WholeBytes
 pub mod OneOfThree
 pub mod GoodFromBoth
 pub mod LeastClass
+pub mod OneEnd

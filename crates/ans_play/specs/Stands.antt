@@ -91,6 +91,11 @@ pub record Finishes (p : PlayerView) (s : List ℕ) (result : Result Picture Fau
   pub last : p.fault ≡ None → IfErr result (IsLastFault p.size p.start s)
   pub exact : IsGood p.size p.start s → IsOk result
 
+-- what `finish` answers after the bytes s: an earlier fault again, and else how they end
+pub record EndsAs (p : PlayerView) (s : List ℕ) (result : Result Picture Fault) : Type 0 where
+  pub repeats : (f : Fault) → p.fault ≡ Some f → result ≡ Err f
+  pub finished : Finishes p s result
+
 -- Whatever bytes are played, they are played with these after them.
 pub record GoesOn (old : PlayView) (bytes : List ℕ) (new : PlayView) : Type 0 where
   pub size : new.size ≡ old.size

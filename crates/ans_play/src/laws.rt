@@ -1,13 +1,13 @@
 //! Laws of what a play finds: each is the contract of a function without a body.
 
-ghost use Rattle.std.specs.Prelude.{◌≡◌, ◌⊎◌, ◌≤◌, ℕ, List, All, length};
+ghost use Rattle.std.specs.Prelude.{◌≡◌, ◌⊎◌, ◌≤◌, ◌++◌, ℕ, List, All, Result, length};
 ghost use Rattle.ans_model.specs.Bytes.{IsByte};
 ghost use Rattle.ans_model.specs.Sequence.TokenKind.{TokenKind, PrintsByte};
 ghost use Rattle.ans_model.specs.Screen.State.{Size, IsSize, IsStated, cell_at};
 ghost use Rattle.ans_model.specs.Screen.Step.{final};
 ghost use Rattle.ans_model.specs.Screen.StartClass.{all_known, both_known};
 ghost use Rattle.ans_model.specs.declared.start.Start.{Start};
-ghost use Rattle.ans_model.specs.Verdict.Good.{IsGood};
+ghost use Rattle.ans_model.specs.Verdict.Good.{Picture, GoodWith, IsGood};
 ghost use Rattle.ans_model.specs.Verdict.Needs.{IsLeast, IsFoundByParts};
 ghost use Rattle.ans_model.specs.Verdict.FirstFault.{IsFirstFault};
 ghost use Rattle.ans_model.specs.Verdict.LastFault.{IsLastFault};
@@ -17,6 +17,8 @@ ghost use Rattle.ans_model.specs.Verdict.TwoStarts.{IsShownByTwoStarts, low_fina
 ghost use Rattle.ans_model.specs.declared.cell.Position.{Position};
 ghost use Rattle.ans_model.specs.declared.fault.Fault.{Fault};
 ghost use Rattle.ans_play.specs.Between.{IsBetween};
+ghost use Rattle.ans_play.specs.PlayerView.{PlayerView};
+ghost use Rattle.ans_play.specs.Stands.{Stands, SamePlay, Feeds, EndsAs};
 
 /// Bytes are good, or have a first fault, or have a last one. By `ans_model::text_laws::one_answer`
 /// two of these never hold together, and each fault is the only one of its kind.
@@ -73,4 +75,26 @@ pub fn one_least_class()
         → IsLeast z content a → IsLeast z content b → a ≡ b }
     ensures found { (z : Size) (content : List ℕ) (class : Start)
         → IsGood z all_known content → IsFoundByParts z content class → IsLeast z content class }
+{}
+
+/// Good content shows one picture: the same byte and attribute at each place, for whichever classes
+/// it is good.
+pub fn one_picture()
+    ensures { (z : Size) (class other : Start) (content : List ℕ) (picture another : Picture)
+        → GoodWith z class content picture → GoodWith z other content another
+        → picture ≡ another }
+{}
+
+/// Two players of one size and class, over any grids, that are fed the same bytes in any cuts end
+/// alike: with the same fault, or with pictures that are equal at each place. Their feeds answer
+/// alike wherever the same bytes have been fed.
+pub fn players_end_alike()
+    ensures finish { (one other : PlayerView) (s : List ℕ) (end end_of_other : Result Picture Fault)
+        → SamePlay one other → Stands one s → Stands other s
+        → EndsAs one s end → EndsAs other s end_of_other → end ≡ end_of_other }
+    ensures feed { (one one_after other other_after : PlayerView) (s piece t part : List ℕ)
+        (answer answer_of_other : Result (Unit {0}) Fault)
+        → SamePlay one other → s ++ piece ≡ t ++ part
+        → Feeds one s piece one_after answer → Feeds other t part other_after answer_of_other
+        → answer ≡ answer_of_other }
 {}
