@@ -2,12 +2,19 @@
 ghost use Rattle.std.specs.Prelude.{◌≡◌, ◌↔◌, false, IsTrue, IsErr};
 ghost use Rattle.ans_report.specs.Tried.{has_failed, inner_of};
 ghost use Rattle.ans_report.specs.Writes.{WritesText};
+ghost use Rattle.ans_report.specs.Puts.{Puts};
 ghost use Rattle.ans_report.specs.Message.{message_line};
 
-use crate::lines::put_named_line;
 use crate::outbox::{Outbox, WriteFault};
 use crate::tried::Tried;
 use std::io::Write;
+
+/// Puts the line that says why there is no answer.
+fn put_message<W: Write>(out: &mut Outbox<'_, W>, text: &str)
+    ensures { Puts W.contents out.old out.new (message_line text.now) }
+{
+    out.put_all(&[b"anscheck: ", text.as_bytes(), b"\n"]);
+}
 
 /// Writes the line that says on standard error why there is no answer: `anscheck: `, the text, and a
 /// line feed.
@@ -21,6 +28,6 @@ pub fn write_message<W: Write>(writer: &mut Tried<W>, text: &str) -> Result<(), 
         result (message_line text.now) }
 {
     let mut out = Outbox::new(writer);
-    put_named_line(&mut out, b"anscheck", text.as_bytes());
+    put_message(&mut out, text);
     out.finish()
 }

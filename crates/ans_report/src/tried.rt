@@ -130,7 +130,8 @@ impl<W: Write> Tried<W> {
     {
         let mut written = 0;
         while written < bytes.len() {
-            written += self.write_some(&bytes[written..])?;
+            let taken = self.write_some(&bytes[written..])?;
+            written += taken;
         }
         Ok(())
     }

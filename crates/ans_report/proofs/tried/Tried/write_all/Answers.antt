@@ -8,6 +8,6 @@ loop-written-preserved g c = record {
   within = search rules;
   no_fewer_calls = search rules;
   a_call_a_byte = search rules;
-  so_far = writes_more _ _ _ _ c.loop-written.written c.in_ok-written.field-0 c.loop-written.invariant.so_far
-      c.in_ok-written.ensures.bytes;
+  so_far = writes_more _ _ _ _ c.loop-written.written c.in_ok-taken.taken c.loop-written.invariant.so_far
+      c.in_ok-taken.ensures.bytes;
 }
