@@ -1,14 +1,13 @@
-//! The rows of `ans_samples` on the plain answer.
+//! The rows of `ans_samples` on the plain answer. A call that met a refused allocation is made once
+//! more, and its answer is then insisted on; so each allocation can be refused in turn.
 
-mod confirmations;
 mod long_contents;
-mod prefixes;
-mod reading;
-mod slow_machine;
 
 use crate::{Answer, plain_answer};
 use ans_model::cell::Cell;
 use ans_model::fault::{Cause, Fault};
+use ans_model::limits::{MAX_FILE, MAX_LINES, MAX_WIDTH};
+use ans_model::start::Start;
 use ans_samples::rows::Expected::{Refused, Shows};
 use ans_samples::rows::{
     BROKEN, BYTES, COLOURS, FORBIDDEN, MISPLACED, PARTS_KNOWN, PASSES_FROM_ANY,
@@ -16,6 +15,23 @@ use ans_samples::rows::{
 };
 use std::alloc::{AllocError, Global};
 use std::process::Abort;
+
+/// The plain answer. A call that ran out of memory is made again.
+fn answer_to(
+    rt: &impl Abort,
+    alloc: Global,
+    bytes: &[u8],
+    width: usize,
+    lines: usize,
+    start: Start,
+) -> Answer {
+    assert!(rt; 1 <= width && width <= MAX_WIDTH && 1 <= lines && lines <= MAX_LINES);
+    assert!(rt; bytes.len() <= MAX_FILE);
+    match plain_answer(alloc, bytes, width, lines, start) {
+        Ok(answer) => answer,
+        Err(AllocError) => plain_answer(alloc, bytes, width, lines, start).expect(rt, "memory"),
+    }
+}
 
 /// Asserts the cells' bytes, and their attributes where these are compared.
 fn assert_cells(rt: &impl Abort, cells: &[Cell], bytes: &[u8], attributes: &[u8]) {
@@ -43,12 +59,8 @@ fn expect_answer(rt: &impl Abort, alloc: Global, row: &Row) {
         content,
         expected,
     } = *row;
-    assert!(rt; 1 <= width && width <= 20 && 1 <= lines && lines <= 10 && content.len() < 200);
-    let answer = match plain_answer(alloc, content, width, lines, start) {
-        Ok(answer) => answer,
-        Err(AllocError) => plain_answer(alloc, content, width, lines, start).expect(rt, "memory"),
-    };
-    match (answer, expected) {
+    assert!(rt; width <= 20 && lines <= 10);
+    match (answer_to(rt, alloc, content, width, lines, start), expected) {
         (Answer::Good(cells), Shows(bytes, attributes)) => {
             assert_eq!(rt; cells.len(), width * lines);
             assert_cells(rt, cells.as_slice(), bytes, attributes);

@@ -1,0 +1,109 @@
+//! Contents that are too long for `ans_samples`, and wide and long screens.
+
+use super::prefixes::{judge_classes, judge_prefixes};
+use super::verdicts::Screen;
+use ans_model::start::Start;
+use std::alloc::{AllocError, Global};
+use std::process::Abort;
+use std::test::Fail;
+
+/// From the cleared start.
+fn cleared(width: usize, lines: usize) -> Screen {
+    Screen {
+        width,
+        lines,
+        start: Start::cleared(),
+    }
+}
+
+/// Judges prefixes of 4095 letters, a sequence across the end of the 4096th byte, and a letter more:
+/// those from the shortest of these lengths to the longest.
+fn judge_letters(
+    rt: &impl Abort,
+    alloc: Global,
+    shortest: usize,
+    longest: usize,
+) -> Result<(), AllocError> {
+    let mut content = [b'a'; 4100];
+    content[4095..].copy_from_slice(b"\x1b[1mb");
+    judge_prefixes(rt, alloc, cleared(80, 52), &content, (shortest, longest))
+}
+
+#[test]
+fn up_to_1024_letters(rt: HostRuntime) -> Result<(), Fail> {
+    judge_letters(&rt, rt.alloc(), 0, 1024)?;
+    Ok(())
+}
+
+#[test]
+fn up_to_2048_letters(rt: HostRuntime) -> Result<(), Fail> {
+    judge_letters(&rt, rt.alloc(), 1025, 2048)?;
+    Ok(())
+}
+
+#[test]
+fn up_to_3072_letters(rt: HostRuntime) -> Result<(), Fail> {
+    judge_letters(&rt, rt.alloc(), 2049, 3072)?;
+    Ok(())
+}
+
+#[test]
+fn a_sequence_after_many_letters(rt: HostRuntime) -> Result<(), Fail> {
+    judge_letters(&rt, rt.alloc(), 3073, 4100)?;
+    Ok(())
+}
+
+#[test]
+fn a_number_of_many_digits(rt: HostRuntime) -> Result<(), Fail> {
+    let mut content = [b'0'; 1004];
+    content[..2].copy_from_slice(b"\x1b[");
+    content[1002..].copy_from_slice(b"5C");
+    judge_prefixes(&rt, rt.alloc(), cleared(2, 1), &content, (0, 1004))?;
+    Ok(())
+}
+
+#[test]
+fn a_string_that_does_not_end(rt: HostRuntime) -> Result<(), Fail> {
+    let mut content = [0x1B; 100_003];
+    content[1..3].copy_from_slice(b"[\"");
+    let screen = cleared(2, 1);
+    judge_prefixes(&rt, rt.alloc(), screen, &content, (0, 100))?;
+    judge_prefixes(&rt, rt.alloc(), screen, &content, (99_903, 100_003))?;
+    Ok(())
+}
+
+#[test]
+fn two_letters_on_a_wide_line(rt: HostRuntime) -> Result<(), Fail> {
+    judge_classes(&rt, rt.alloc(), 80, 1, b"Hi")?;
+    Ok(())
+}
+
+#[test]
+fn the_widest_screen(rt: HostRuntime) -> Result<(), Fail> {
+    judge_classes(&rt, rt.alloc(), 1024, 1, b"\x1b[0m\x1b[2J")?;
+    Ok(())
+}
+
+#[test]
+fn the_longest_screen(rt: HostRuntime) -> Result<(), Fail> {
+    judge_classes(&rt, rt.alloc(), 1, 8192, b"\x1b[0m\x1b[2J")?;
+    Ok(())
+}
+
+/// From any start the screen is erased, and then a letter is printed in its last stated cell.
+#[test]
+fn the_largest_screen(rt: HostRuntime) -> Result<(), Fail> {
+    let mut content = b"\x1b[0m\x1b[2J".to_vec(rt.alloc())?;
+    for _ in 0..33 {
+        content.extend_from_slice(b"\x1b[255B\x1b[255C")?;
+    }
+    content.extend_from_slice(b"\x1b[Az")?;
+    let screen = Screen {
+        width: 1024,
+        lines: 8192,
+        start: Start::any(),
+    };
+    let whole = (content.len(), content.len());
+    judge_prefixes(&rt, rt.alloc(), screen, &content, whole)?;
+    Ok(())
+}

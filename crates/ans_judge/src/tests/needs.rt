@@ -1,0 +1,157 @@
+//! What contents need, compared with the classes of starts from which the slow machine finds them
+//! good.
+
+use super::slow_machine::SlowMachine;
+use super::{CLASSES, class, file_of};
+use ans_check::{Needs, needs};
+use ans_model::fault::Fault;
+use ans_model::limits::MAX_FILE;
+use ans_model::start::Start;
+use ans_samples::rows::{
+    BROKEN, BYTES, COLOURS, FORBIDDEN, MISPLACED, PARTS_KNOWN, PASSES_FROM_ANY,
+    PASSES_FROM_CLEARED, Row, TABS, UNKNOWN_CELLS, WITHOUT_MEANING,
+};
+use ans_screen::{Grid, PlainGrid, PlaneGrid};
+use std::alloc::{AllocError, Global};
+use std::process::Abort;
+use std::test::Fail;
+
+/// Whether a class knows each part that another one knows.
+fn knows_all_of(class: Start, other: Start) -> bool {
+    (class.screen || !other.screen)
+        && (class.cursor || !other.cursor)
+        && (class.saved || !other.saved)
+        && (class.colours || !other.colours)
+        && (class.wrap || !other.wrap)
+}
+
+/// The fault that the slow machine finds of bytes, if it finds one.
+fn fault_from(
+    rt: &impl Abort,
+    alloc: Global,
+    row: &Row,
+    bytes: &[u8],
+    start: Start,
+) -> Result<Option<Fault>, AllocError> {
+    let mut plays = SlowMachine::new(rt, alloc, row.width, row.lines, start)?;
+    plays.play_up_to(rt, bytes);
+    Ok(plays.finding(rt, bytes.len()).err())
+}
+
+/// What the slow machine finds from each class, by its number.
+type Findings = [Option<Fault>; CLASSES as usize];
+
+fn faults_from_all(
+    rt: &impl Abort,
+    alloc: Global,
+    row: &Row,
+    bytes: &[u8],
+) -> Result<Findings, AllocError> {
+    let mut faults = [None; CLASSES as usize];
+    for number in 0..CLASSES {
+        faults[number as usize] = fault_from(rt, alloc, row, bytes, class(number))?;
+    }
+    Ok(faults)
+}
+
+/// Judges what a file of these bytes needs. A class that is told is one from which the bytes are
+/// good, and so they are from exactly the classes that know all that it knows. A fault that is told is
+/// that of the cleared start, and the bytes are good from no class.
+fn judge_needs<G: Grid>(
+    rt: &impl Abort,
+    alloc: Global,
+    row: &Row,
+    bytes: &[u8],
+    faults: &Findings,
+) -> Result<(), AllocError> {
+    let file = file_of(rt, alloc, bytes, row.width, row.lines)?;
+    assert!(rt; file.len() <= MAX_FILE);
+    let found = needs::<G>(alloc, &file)?;
+    for number in 0..CLASSES {
+        let start = class(number);
+        let fault = faults[number as usize];
+        match &found {
+            Needs::Least(_, least) => assert_eq!(rt;
+                fault.is_none(),
+                knows_all_of(start, *least),
+                "{least:?} is needed by {bytes:?}, and {fault:?} found from {start:?}"
+            ),
+            Needs::Refused(_, cause) => {
+                assert!(rt; fault.is_some(), "good from {start:?}: {bytes:?}");
+                assert!(rt;
+                    number < CLASSES - 1 || fault == Some(*cause),
+                    "{fault:?} of {bytes:?}"
+                );
+            }
+        }
+    }
+    Ok(())
+}
+
+/// Judges what each prefix of the contents needs, on both grids.
+fn judge_rows(rt: &impl Abort, alloc: Global, rows: &[Row]) -> Result<(), Fail> {
+    for row in rows {
+        for length in 0..row.content.len() + 1 {
+            let bytes = &row.content[..length];
+            let faults = faults_from_all(rt, alloc, row, bytes)?;
+            judge_needs::<PlainGrid>(rt, alloc, row, bytes, &faults)?;
+            judge_needs::<PlaneGrid>(rt, alloc, row, bytes, &faults)?;
+        }
+    }
+    Ok(())
+}
+
+#[test]
+fn bytes_alone(rt: HostRuntime) -> Result<(), Fail> {
+    judge_rows(&rt, rt.alloc(), &BYTES)
+}
+
+#[test]
+fn tabs(rt: HostRuntime) -> Result<(), Fail> {
+    judge_rows(&rt, rt.alloc(), &TABS)
+}
+
+#[test]
+fn starts_of_known_parts(rt: HostRuntime) -> Result<(), Fail> {
+    judge_rows(&rt, rt.alloc(), &PARTS_KNOWN)
+}
+
+#[test]
+fn pictures_from_any_start(rt: HostRuntime) -> Result<(), Fail> {
+    judge_rows(&rt, rt.alloc(), &PASSES_FROM_ANY)
+}
+
+#[test]
+fn pictures_from_the_cleared_start(rt: HostRuntime) -> Result<(), Fail> {
+    judge_rows(&rt, rt.alloc(), &PASSES_FROM_CLEARED)
+}
+
+#[test]
+fn pictures_in_colours(rt: HostRuntime) -> Result<(), Fail> {
+    judge_rows(&rt, rt.alloc(), &COLOURS)
+}
+
+#[test]
+fn broken_sequences(rt: HostRuntime) -> Result<(), Fail> {
+    judge_rows(&rt, rt.alloc(), &BROKEN)
+}
+
+#[test]
+fn sequences_without_a_meaning(rt: HostRuntime) -> Result<(), Fail> {
+    judge_rows(&rt, rt.alloc(), &WITHOUT_MEANING)
+}
+
+#[test]
+fn sequences_that_are_not_allowed(rt: HostRuntime) -> Result<(), Fail> {
+    judge_rows(&rt, rt.alloc(), &FORBIDDEN)
+}
+
+#[test]
+fn cells_that_stay_unknown(rt: HostRuntime) -> Result<(), Fail> {
+    judge_rows(&rt, rt.alloc(), &UNKNOWN_CELLS)
+}
+
+#[test]
+fn misplaced_tokens(rt: HostRuntime) -> Result<(), Fail> {
+    judge_rows(&rt, rt.alloc(), &MISPLACED)
+}

@@ -1,0 +1,162 @@
+//! What the checker finds of bytes, compared with what the slow machine finds.
+
+use super::file_of;
+use super::slow_machine::SlowMachine;
+use ans_answer::{Answer, plain_answer};
+use ans_check::{Verdict, check};
+use ans_model::cell::Cell;
+use ans_model::fault::{Cause, Fault};
+use ans_model::limits::{MAX_FILE, MAX_LINES, MAX_WIDTH};
+use ans_model::start::Start;
+use ans_play::{Picture, Player};
+use ans_screen::{Grid, PlainGrid, PlaneGrid};
+use std::alloc::{AllocError, Global};
+use std::process::Abort;
+
+/// Where bytes are played.
+#[derive(Debug, Clone, Copy)]
+pub struct Screen {
+    pub width: usize,
+    pub lines: usize,
+    pub start: Start,
+}
+
+/// What the slow machine finds of bytes: the cells with which both screens begin, or a fault.
+type Finding<'a> = Result<&'a [Cell], Fault>;
+
+/// Asserts that a picture has this size and these cells.
+fn assert_shows<G: Grid>(rt: &impl Abort, screen: Screen, picture: &Picture<G>, cells: &[Cell]) {
+    let (width, lines) = (picture.width(), picture.lines());
+    assert!(rt; width == screen.width && lines == screen.lines);
+    for row in 0..lines {
+        for col in 0..width {
+            let cell = Cell {
+                byte: picture.glyph(row, col),
+                attribute: picture.attr(row, col),
+            };
+            let place = row.wrapping_mul(width).wrapping_add(col);
+            assert_eq!(rt;
+                Some(&cell),
+                cells.get(place),
+                "row {row} and column {col} from 0"
+            );
+        }
+    }
+}
+
+/// Asserts that a play ends as the slow machine finds.
+fn assert_end<G: Grid>(
+    rt: &impl Abort,
+    screen: Screen,
+    end: &Result<Picture<G>, Fault>,
+    finding: Finding<'_>,
+) {
+    match (end, finding) {
+        (Ok(picture), Ok(cells)) => assert_shows(rt, screen, picture, cells),
+        (Err(fault), Err(found)) => assert_eq!(rt; *fault, found, "on {screen:?}"),
+        (Ok(_), Err(found)) => panic!(rt; "a picture, and not {found:?}, on {screen:?}"),
+        (Err(fault), Ok(_)) => panic!(rt; "{fault:?}, and not a picture, on {screen:?}"),
+    }
+}
+
+/// Judges a check of a file of these bytes.
+fn judge_check<G: Grid>(
+    rt: &impl Abort,
+    alloc: Global,
+    screen: Screen,
+    bytes: &[u8],
+    finding: Finding<'_>,
+) -> Result<(), AllocError> {
+    let file = file_of(rt, alloc, bytes, screen.width, screen.lines)?;
+    assert!(rt; file.len() <= MAX_FILE);
+    let (parts, end) = match check::<G>(alloc, &file, screen.start)? {
+        Verdict::Pass(parts, picture) => (Some(parts), Ok(picture)),
+        Verdict::Refused(parts, fault) => (parts, Err(fault)),
+    };
+    let parts = parts.expect(rt, "the record is accepted");
+    assert_eq!(rt; parts.content(), bytes);
+    assert_eq!(rt; parts.width(), screen.width);
+    assert_eq!(rt; parts.lines(), screen.lines);
+    assert_end(rt, screen, &end, finding);
+    Ok(())
+}
+
+/// The end of a player to which the bytes are fed at once.
+fn end_of_player(
+    rt: &impl Abort,
+    alloc: Global,
+    screen: Screen,
+    bytes: &[u8],
+) -> Result<Result<Picture<PlaneGrid>, Fault>, AllocError> {
+    let Screen {
+        width,
+        lines,
+        start,
+    } = screen;
+    assert!(rt; 1 <= width && width <= MAX_WIDTH && 1 <= lines && lines <= MAX_LINES);
+    assert!(rt; bytes.len() <= MAX_FILE);
+    let mut player = Player::<PlaneGrid>::new(alloc, width, lines, start)?;
+    assert!(rt; player.fed() == 0);
+    let fed = player.feed(bytes);
+    let end = player.finish();
+    if let Err(fault) = fed {
+        assert_eq!(rt; end.err(), Some(fault));
+        return Ok(Err(fault));
+    }
+    Ok(end)
+}
+
+/// Whether the cause is one of the content's end.
+fn is_of_the_end(cause: Cause) -> bool {
+    matches!(cause, Cause::EndInSequence | Cause::UnknownCell { .. })
+}
+
+/// Judges the plain answer to these bytes.
+fn judge_plain_answer(
+    rt: &impl Abort,
+    alloc: Global,
+    screen: Screen,
+    bytes: &[u8],
+    finding: Finding<'_>,
+) -> Result<(), AllocError> {
+    let Screen {
+        width,
+        lines,
+        start,
+    } = screen;
+    assert!(rt; 1 <= width && width <= MAX_WIDTH && 1 <= lines && lines <= MAX_LINES);
+    assert!(rt; bytes.len() <= MAX_FILE);
+    match (plain_answer(alloc, bytes, width, lines, start)?, finding) {
+        (Answer::Good(cells), Ok(found)) => {
+            assert_eq!(rt; cells.len(), width * lines);
+            assert_eq!(rt; Some(cells.as_slice()), found.get(..width * lines));
+        }
+        (Answer::First(fault), Err(found)) => {
+            assert_eq!(rt; fault, found);
+            assert!(rt; !is_of_the_end(found.cause));
+        }
+        (Answer::Last(fault), Err(found)) => {
+            assert_eq!(rt; fault, found);
+            assert!(rt; is_of_the_end(found.cause));
+        }
+        _ => panic!(rt; "a picture where a fault is found, or the reverse, on {screen:?}"),
+    }
+    Ok(())
+}
+
+/// Judges all that is found of the bytes which the slow machine has played: by a check on both
+/// grids, by a player and by the plain answer. It fails where memory runs out.
+pub fn judge(
+    rt: &impl Abort,
+    alloc: Global,
+    screen: Screen,
+    bytes: &[u8],
+    plays: &SlowMachine,
+) -> Result<(), AllocError> {
+    let finding = plays.finding(rt, bytes.len());
+    judge_check::<PlainGrid>(rt, alloc, screen, bytes, finding)?;
+    judge_check::<PlaneGrid>(rt, alloc, screen, bytes, finding)?;
+    let end = end_of_player(rt, alloc, screen, bytes)?;
+    assert_end(rt, screen, &end, finding);
+    judge_plain_answer(rt, alloc, screen, bytes, finding)
+}
