@@ -17,7 +17,8 @@ fn cleared(width: usize, lines: usize) -> Screen {
 }
 
 /// Judges prefixes of 4095 letters, a sequence across the end of the 4096th byte, and a letter more:
-/// those from the shortest of these lengths to the longest.
+/// those from the shortest of these lengths to the longest, from the cleared start and where only the
+/// screen is not known.
 fn judge_letters(
     rt: &impl Abort,
     alloc: Global,
@@ -26,7 +27,11 @@ fn judge_letters(
 ) -> Result<(), AllocError> {
     let mut content = [b'a'; 4100];
     content[4095..].copy_from_slice(b"\x1b[1mb");
-    judge_prefixes(rt, alloc, cleared(80, 52), &content, (shortest, longest))
+    let screen = cleared(80, 52);
+    judge_prefixes(rt, alloc, screen, &content, (shortest, longest))?;
+    let mut unknown = screen;
+    unknown.start.screen = false;
+    judge_prefixes(rt, alloc, unknown, &content, (shortest, longest))
 }
 
 #[test]

@@ -38,7 +38,7 @@ fn fault_from(
     Ok(plays.finding(rt, bytes.len()).err())
 }
 
-/// What the slow machine finds from each class, by its number.
+/// The faults that the slow machine finds of some bytes, one from each class by its number.
 type Findings = [Option<Fault>; CLASSES as usize];
 
 fn faults_from_all(
@@ -88,15 +88,20 @@ fn judge_needs<G: Grid>(
     Ok(())
 }
 
-/// Judges what each prefix of the contents needs, on both grids.
+/// Judges what each prefix of a content needs, on both grids.
+fn judge_row(rt: &impl Abort, alloc: Global, row: &Row) -> Result<(), AllocError> {
+    for length in 0..row.content.len() + 1 {
+        let bytes = &row.content[..length];
+        let faults = faults_from_all(rt, alloc, row, bytes)?;
+        judge_needs::<PlainGrid>(rt, alloc, row, bytes, &faults)?;
+        judge_needs::<PlaneGrid>(rt, alloc, row, bytes, &faults)?;
+    }
+    Ok(())
+}
+
 fn judge_rows(rt: &impl Abort, alloc: Global, rows: &[Row]) -> Result<(), Fail> {
     for row in rows {
-        for length in 0..row.content.len() + 1 {
-            let bytes = &row.content[..length];
-            let faults = faults_from_all(rt, alloc, row, bytes)?;
-            judge_needs::<PlainGrid>(rt, alloc, row, bytes, &faults)?;
-            judge_needs::<PlaneGrid>(rt, alloc, row, bytes, &faults)?;
-        }
+        judge_row(rt, alloc, row)?;
     }
     Ok(())
 }

@@ -24,23 +24,29 @@ pub struct Screen {
 /// What the slow machine finds of bytes: the cells with which both screens begin, or a fault.
 type Finding<'a> = Result<&'a [Cell], Fault>;
 
+/// Asserts that a row of a picture, counted from 0, has the cells of that row.
+fn assert_row<G: Grid>(rt: &impl Abort, picture: &Picture<G>, row: usize, cells: &[Cell]) {
+    assert!(rt; row < picture.lines());
+    for col in 0..picture.width() {
+        let cell = Cell {
+            byte: picture.glyph(row, col),
+            attribute: picture.attr(row, col),
+        };
+        let place = row.wrapping_mul(picture.width()).wrapping_add(col);
+        assert_eq!(rt;
+            Some(&cell),
+            cells.get(place),
+            "row {row} and column {col} from 0"
+        );
+    }
+}
+
 /// Asserts that a picture has this size and these cells.
 fn assert_shows<G: Grid>(rt: &impl Abort, screen: Screen, picture: &Picture<G>, cells: &[Cell]) {
-    let (width, lines) = (picture.width(), picture.lines());
-    assert!(rt; width == screen.width && lines == screen.lines);
-    for row in 0..lines {
-        for col in 0..width {
-            let cell = Cell {
-                byte: picture.glyph(row, col),
-                attribute: picture.attr(row, col),
-            };
-            let place = row.wrapping_mul(width).wrapping_add(col);
-            assert_eq!(rt;
-                Some(&cell),
-                cells.get(place),
-                "row {row} and column {col} from 0"
-            );
-        }
+    assert_eq!(rt; picture.width(), screen.width);
+    assert_eq!(rt; picture.lines(), screen.lines);
+    for row in 0..screen.lines {
+        assert_row(rt, picture, row, cells);
     }
 }
 
