@@ -1,5 +1,6 @@
 -- Where help may be the fault of the program's words, it is the only kind there.
-use Rattle.std.proofs.Common.{◌≡◌, ◌⊎◌, inl, inr, ℕ, zero, suc, ◌+◌, Bool, true, false, not, ◌&&◌, ◌||◌, ◌==◌, refl, sym}
+use Rattle.std.proofs.Common.{◌≡◌, ◌⊎◌, inl, inr, ℕ, zero, suc, ◌+◌, Bool, true, false, not, ◌&&◌, ◌||◌, ◌==◌, refl}
+use Rattle.std.proofs.Common.{sym}
 use Rattle.std.proofs.Common.{ap, List, [], ◌∷◌, length, drop, Option, Some, None, codes}
 use Rattle.std.specs.Prelude.{if◌then◌else◌, find, is_some, slice_get, encode_utf8, min, nat_lt}
 use Rattle.std.specs.List.{list_any}
@@ -65,7 +66,8 @@ of_range least most n =
 
 of_value : (ignore_case : Bool) (parser : ValueParser) (text : Text)
     → IsHelpAloneOrNotAtAll (value_kinds ignore_case parser text)
-of_value ignore_case parser text = either (accepts ignore_case parser text) _ _ none_at_all (one_kind (refused_kind parser))
+of_value ignore_case parser text =
+    either (accepts ignore_case parser text) _ _ none_at_all (one_kind (refused_kind parser))
 
 of_values : (ignore_case : Bool) (parser : ValueParser) (texts : List Text)
     → IsHelpAloneOrNotAtAll (values_kinds ignore_case parser texts)
@@ -117,8 +119,9 @@ of_use again a values rows =
 
 module _ (c : List Rule) (again : Bool) where
   of_settle : (h : Held) → IsHelpAloneOrNotAtAll (settle_fault c again h)
-  of_settle h = of_some _ h.pending [] (λ p. of_some _ (arg_by_id c p.0) [] (λ a. of_use again a p.1 h.rows) none_at_all)
-      none_at_all
+  of_settle h =
+      of_some _ h.pending []
+      (λ p. of_some _ (arg_by_id c p.0) [] (λ a. of_use again a p.1 h.rows) none_at_all) none_at_all
 
   of_react : (a : Rule) (values : List Text) (h : Held) → IsHelpAloneOrNotAtAll (react_fault c again a values h)
   of_react a values h = first_or _ _ (of_settle h) (of_use again a values (settled c h).rows)

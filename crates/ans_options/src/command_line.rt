@@ -5,7 +5,8 @@ ghost use Rattle.clap.specs.Words.{app_of, first_of, found_of, rows_of, rule_of,
 ghost use Rattle.clap.specs.Words.{fault_of};
 ghost use Rattle.ans_model.specs.Screen.StartClass.{none_known};
 ghost use Rattle.ans_options.specs.CommandLine.{AreOptionsOf, AsksFor, IsCommand, IsNoCommand, RanOutOfMemory};
-ghost use Rattle.ans_options.specs.CommandLine.{HasKindAmong, KnowsAsHeld, holds_flag_or_cleared, flag_rule, with_flags};
+ghost use Rattle.ans_options.specs.CommandLine.{HasKindAmong, KnowsAsHeld, holds_flag_or_cleared, flag_rule};
+ghost use Rattle.ans_options.specs.CommandLine.{with_flags};
 ghost use Rattle.ans_options.specs.CommandLine.{anscheck, check_app, command_name, file_app, holds_flag, texts_of};
 ghost use Rattle.ans_options.specs.declared.command_line.WordsError.TheVariants.{Clap};
 

@@ -1,0 +1,7 @@
+pub mod Covering
+pub mod OnePicture
+pub mod NeedsAndChecks
+pub mod OneReport
+pub mod CleanPieces
+pub mod CleanReports
+pub mod CleanBytes

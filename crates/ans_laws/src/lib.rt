@@ -1,0 +1,11 @@
+//! Laws of what the checker says, above its layers: each is the contract of a function without a
+//! body. No program stands on this crate.
+//!
+//! [`class_laws`] say which classes of starts cover which. [`text_laws`] say that the texts are
+//! clean: of the control characters only line feeds are in them. [`report_laws`] say that a file and
+//! its options have one report, and that what `needs` finds is what each check finds.
+#![tactic(auto)]
+
+pub mod class_laws;
+pub mod report_laws;
+pub mod text_laws;
