@@ -1,6 +1,6 @@
 //! Laws of the texts that are written: no byte of a file comes out as a control character.
 
-ghost use Rattle.std.specs.Prelude.{◌≡◌, ◌≢◌, ℕ, Bool, List, All, Option, Some};
+ghost use Rattle.std.specs.Prelude.{◌≡◌, ℕ, Bool, List, All, Some};
 ghost use Rattle.ans_model.specs.Bytes.{IsByte};
 ghost use Rattle.ans_model.specs.Text.Characters.{glyph_text, shown_bytes};
 ghost use Rattle.ans_check.specs.CommandText.{Reports};
@@ -16,8 +16,8 @@ pub fn bytes_are_shown_clean()
     ensures texts { (bytes : List ℕ) → All IsByte bytes → IsCleanText (shown_bytes bytes) }
 {}
 
-/// What is written of a file is clean, whatever is asked of it, and so is what is said on standard
-/// error where there is no answer.
+/// What is written of a file is clean, whatever is asked of it, and so is the line on standard error
+/// that says why there is no answer. Of what clap says of the words this tells nothing.
 pub fn texts_are_clean()
     ensures reports { (options : Options) (file text : List ℕ) (passed : Bool)
         → All IsByte file → Reports options file passed text → IsCleanText text }
