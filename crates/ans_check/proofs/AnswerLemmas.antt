@@ -2,7 +2,6 @@
 use Rattle.std.proofs.Common.{◌≡◌, ℕ, Bool, true, false, List, Option, Some, None, Ok, Err, refl, subst, sym, true≢false}
 use Rattle.std.specs.Prelude.{◌↔◌, Result, IsErr, IsTrue, MatchOption}
 use Rattle.ans_report.specs.Message.{message_line}
-use Rattle.ans_report.specs.Tried.{has_failed, inner_of}
 use Rattle.ans_report.specs.Writes.{AppendsUnless, WritesText}
 use Rattle.ans_report.specs.declared.tried.Tried.{Tried}
 use Rattle.ans_check.specs.Answer.{Says, Tells}

@@ -1,6 +1,6 @@
 -- A run whose writer then hands on what it holds back.
 use Rattle.std.proofs.Common.{◌≡◌, ◌∙◌, ℕ, Bool, true, false, List, Option, Some, None, arith, refl, sym, subst, true≢false}
-use Rattle.std.specs.Prelude.{◌+◌, ◌<◌, ◌≤◌, ◌↔◌, length, take, Result, Ok, Err, IfSome, IsErrOf, IsTrue}
+use Rattle.std.specs.Prelude.{◌+◌, ◌<◌, ◌↔◌, length, Ok, Err, IfSome, IsErrOf, IsTrue}
 use Rattle.std.specs.Io.KnownBytes.{Appends, Keeps}
 use Rattle.std.proofs.lemmas.List.{take_all}
 use Rattle.ans_model.specs.Bytes.{longest_file}

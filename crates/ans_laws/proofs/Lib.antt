@@ -1,5 +1,4 @@
 pub mod Covering
-pub mod OnePicture
 pub mod NeedsAndChecks
 pub mod OneReport
 pub mod CleanPieces

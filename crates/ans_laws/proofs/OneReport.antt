@@ -28,7 +28,7 @@ use Rattle.ans_check.specs.FileNeeds.{NeedsClass}
 use Rattle.ans_check.specs.FileVerdict.{Deserves, IsGoodFile, IsRefusedFor, stated_size}
 use Rattle.ans_laws.proofs.Covering.{covers_all_known, covers_itself, covers_both_ways}
 use Rattle.ans_laws.proofs.NeedsAndChecks.{good_where_covered}
-use Rattle.ans_laws.proofs.OnePicture.{one_picture}
+use Rattle.ans_play.proofs.OneEnd.{one_picture}
 
 -- two answers, and their texts, are one
 abbrev pub IsOne : Bool → Bool → List ℕ → List ℕ → Type 0
@@ -88,7 +88,7 @@ one_pass file start cells text other h g =
     let moved : GoodWith (stated_size g.apart) start (content g.apart.body) h.picture =
     subst (λ (v : FileParts). GoodWith (stated_size v) start (content v.body) h.picture) apart h.passes.good in
     let picture : h.picture ≡ g.picture =
-    one_picture (stated_size g.apart) start (content g.apart.body) h.picture g.picture moved g.passes.good in
+    one_picture (stated_size g.apart) start start (content g.apart.body) h.picture g.picture moved g.passes.good in
     h.text_is
     ∙ ap₂ (λ (v : FileParts) (p : Picture). report_text (heading v start) (Passed p cells)) apart picture
     ∙ sym g.text_is
