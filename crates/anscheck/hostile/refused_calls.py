@@ -6,8 +6,8 @@ Run it in the folder above, after `rt run -- check --cleared data/hi.ans` has bu
 
     python3 hostile/refused_calls.py out/anscheck [NAME..]
 
-`rt try --fail-alloc N` refuses an allocation too, but it builds for each N anew, and the kit of today
-(rattle-kit-13b) knows neither its form `1..` nor `--fail-io` and `--short-io`. So this script builds
+`rt try --fail-alloc N` refuses an allocation too, but it builds for each N anew, and the kit's `rt try`
+takes one number alone there, and refuses no read or write of a program that is built. So this script builds
 `refuse.c` with cc, which stands before the C library and refuses the call of one number; it counts upwards
 until a run meets no refusal. It needs a program that is linked with the C library dynamically, on Linux.
 

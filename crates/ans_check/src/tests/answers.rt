@@ -205,10 +205,13 @@ fn a_message_that_is_cut_off_changes_no_ending(rt: HostRuntime) {
         assert!(rt; answered.ending == Ending::UnopenedFile);
         assert_eq!(rt; answered.errors.held(), &said[..room]);
     }
+}
+
+#[test]
+fn errors_that_take_nothing_change_no_ending(rt: HostRuntime) {
     let mut output = Tried::new(Narrow::new(0));
     let mut errors = Tried::new(FailingOnce::new(Narrow::new(100), 1, Failure::Nothing));
-    for _ in 0..1 {
-        let ending = answer(rt.alloc(), ANSWERS[4].0, &NOTHING, &mut output, &mut errors);
-        assert!(rt; ending == Ending::UnopenedFile || ending == Ending::UnreadableWords);
-    }
+    let ending = answer(rt.alloc(), ANSWERS[4].0, &NOTHING, &mut output, &mut errors);
+    assert!(rt; ending == Ending::UnopenedFile || ending == Ending::UnreadableWords);
+    assert!(rt; errors.failed());
 }
