@@ -1,0 +1,18 @@
+# Completion for bash: source this file, or install it as
+# /usr/share/bash-completion/completions/anscheck.
+_anscheck() {
+    local word=${COMP_WORDS[COMP_CWORD]} command=${COMP_WORDS[1]}
+    COMPREPLY=()
+    if [ "$COMP_CWORD" -eq 1 ]; then
+        mapfile -t COMPREPLY < <(compgen -W "needs check sauce tokens --help" -- "$word")
+    elif [ "${word#-}" != "$word" ]; then
+        local flags="--help"
+        if [ "$command" = check ]; then
+            flags="--cleared --cells --known-screen --known-cursor --known-saved --known-colours --known-wrap --help"
+        fi
+        mapfile -t COMPREPLY < <(compgen -W "$flags" -- "$word")
+    else
+        mapfile -t COMPREPLY < <(compgen -f -- "$word")
+    fi
+}
+complete -o filenames -F _anscheck anscheck
