@@ -149,7 +149,7 @@ RUNS = [
         b"size: 14 x 2\ncontent: 52 bytes\nnote: file size differs from the content\n"
         b"note: date is not eight digits\nneeds: nothing\n"),
     Run("needs of a drawing that needs two parts", ["needs", HARBOUR], 0,
-        b"size: 48 x 7\ncontent: 229 bytes\nneeds: screen cursor\n"),
+        b"size: 64 x 18\ncontent: 2605 bytes\nneeds: screen cursor\n"),
     Run("needs of a content that needs each part", ["needs"], 0,
         b"size: 2 x 2\ncontent: 7 bytes\nneeds: screen cursor saved colours wrap\n",
         stdin=file_of(b"H\x1b[uHia", 2, 2)),
