@@ -1,5 +1,6 @@
 //! What the slow machine finds, and what the checker has to find too.
 
+mod fault_page;
 mod long_contents;
 mod needs;
 mod prefixes;
