@@ -1,0 +1,245 @@
+#!/usr/bin/env python3
+"""Tries what README.md and the pages of docs/ show, on the built program.
+
+Run it in the folder above, after `rt run -- check --cleared data/hi.ans` has built the program:
+
+    python3 runs/try_pages.py out/anscheck
+
+- Each example of docs/FAULTS.md, a block of the language `ans`, is made into a file, and the program
+  has to print of it what the block says. The record is made here, from SAUCE 00.5.
+- The page has one heading for each fault and each note of ans_model, and none more; it opens with
+  the text that the examples below it print; and its table of contents leads to it.
+- The examples of the page are those that the tests of ans_judge try, and the tests try none more.
+- Each command of a block of no language, on a line that begins with `$ `, has to print the lines
+  that follow it. It is run by bash in this folder, with the program on the PATH. Blocks that are not
+  to be run have the language `text`.
+
+It prints each difference, and ends with status 1 where there is one. It is outside the gate.
+"""
+import ast
+import os
+import pathlib
+import re
+import subprocess
+import sys
+import tempfile
+
+HERE = pathlib.Path(__file__).resolve().parent.parent
+TOP = HERE.parent.parent
+PAGE = TOP / "docs" / "FAULTS.md"
+MODEL = TOP / "crates" / "ans_model" / "src"
+TESTS = TOP / "crates" / "ans_judge" / "src" / "tests" / "fault_page.rt"
+DRAWINGS = "/usr/share/doc/ansilove/examples"
+
+BLOCK = re.compile(r"^```(\w*)\n(.*?)^```$", re.DOTALL | re.MULTILINE)
+NAMED = {"ESC": b"\x1b", "CR": b"\r", "LF": b"\n", "TAB": b"\t"}
+
+
+# Files, as the page writes them.
+
+
+def record_of(fields, content_length):
+    """The 128 bytes of a record: SAUCE 00.5, Character/ANSi, without texts, comments and a font."""
+
+    def number(name, size, otherwise=0):
+        return int(fields.get(name, otherwise)).to_bytes(size, "little")
+
+    return b"".join((
+        b"SAUCE", fields.get("version", "00").encode(), b" " * (35 + 20 + 20),
+        fields.get("date", "19960101").ljust(8).encode(),
+        number("file size", 4, content_length), number("data type", 1, 1), number("file type", 1, 1),
+        number("width", 2), number("lines", 2), bytes(4), number("comments", 1),
+        bytes.fromhex(fields.get("flags", "00")), bytes(22),
+    ))
+
+
+def bytes_of(text, record):
+    """The bytes of a content or a file, as the page writes them."""
+    names = {**NAMED, "RECORD": record}
+    parts = re.split(r"(ESC|CR|LF|TAB|RECORD|<[0-9A-F]{2}>)", text)
+    return b"".join(
+        names[part] if part in names
+        else bytes.fromhex(part[1:3]) if re.fullmatch("<[0-9A-F]{2}>", part)
+        else part.encode("ascii")
+        for part in parts
+    )
+
+
+def file_of(values):
+    """The file of an example."""
+    fields = dict(field.rsplit(" ", 1) for field in values.get("record", "").split(", ") if field)
+    if "content" in values:
+        content = bytes_of(values["content"], b"")
+        return content + b"\x1a" + record_of(fields, len(content))
+    content = bytes_of(values["file"].split("RECORD")[0], b"").split(b"\x1a")[0]
+    return bytes_of(values["file"], record_of(fields, len(content)))
+
+
+class Example:
+    """A block of the language `ans`: its file, the command, and what is to be printed."""
+
+    def __init__(self, heading, block):
+        head, self.text = block.split("---\n", 1)
+        lines = (re.fullmatch(r"(\w+):(?: (.*))?", line).groups(default="") for line in head.splitlines())
+        values = dict(lines)
+        self.heading, self.command, self.file = heading, values["command"], file_of(values)
+        self.shown = values.get("content", values.get("file"))
+
+    def key(self):
+        return self.heading, self.command, self.file, self.text
+
+
+# What is compared.
+
+
+def printed(command, program, **kwargs):
+    """What a command prints on a terminal: both streams, in their order."""
+    path = f"{pathlib.Path(program).parent}{os.pathsep}{os.environ['PATH']}"
+    done = subprocess.run(
+        command, cwd=HERE, env={**os.environ, "PATH": path}, stdout=subprocess.PIPE,
+        stderr=subprocess.STDOUT, timeout=120, check=False, **kwargs,
+    )
+    return done.stdout.decode("utf-8", "replace")
+
+
+class Tried:
+    """How many things were tried, and how many differ."""
+
+    def __init__(self):
+        self.count = self.differing = 0
+
+    def compare(self, what, wanted, got):
+        self.count += 1
+        if wanted != got:
+            self.differing += 1
+            print(f"{what}\n  wanted {wanted!r}\n  got    {got!r}")
+
+
+def sections(text):
+    """The sections of the page below its headings of the second level: heading, text."""
+    parts = re.split(r"^## (.*)$", text, flags=re.MULTILINE)
+    return list(zip(parts[1::2], parts[2::2]))
+
+
+def examples_of(text):
+    """The examples of the page, in their order."""
+    return [
+        Example(heading.split()[0], block)
+        for heading, body in sections(text)
+        for language, block in BLOCK.findall(body) if language == "ans"
+    ]
+
+
+def try_example(tried, program, example):
+    with tempfile.NamedTemporaryFile(suffix=".ans") as file:
+        file.write(example.file)
+        file.flush()
+        got = printed([program, *example.command.split(), file.name], program)
+    tried.compare(f"docs/FAULTS.md, {example.heading}, {example.shown!r}", example.text, got)
+
+
+def names_in(path, letter):
+    """The numbers of the faults or the notes that a file of ans_model names, in their order."""
+    return re.findall(rf"^ *///? ({letter}\d+):", path.read_text(), re.MULTILINE)
+
+
+def anchor(heading):
+    """What a link to a heading ends in."""
+    return re.sub(r"[^\w -]", "", heading.lower()).replace(" ", "-")
+
+
+def try_headings(tried, text):
+    headings = [heading for heading, _ in sections(text)]
+    wanted = names_in(MODEL / "fault.rt", "F") + names_in(MODEL / "note.rt", "N")
+    tried.compare("docs/FAULTS.md, headings", wanted, [heading.split()[0] for heading in headings])
+    links = set(re.findall(r"\]\(#([\w-]+)\)", text))
+    tried.compare("docs/FAULTS.md, links", {anchor(heading) for heading in headings}, links)
+    for heading, body in sections(text):
+        said = heading if heading.startswith("F") else "note: " + heading.split(" ", 1)[1]
+        shown = any(said in block for language, block in BLOCK.findall(body) if language == "ans")
+        tried.compare(f"docs/FAULTS.md, an example that prints {said!r}", True, shown)
+
+
+# The table of the tests.
+
+LITERAL = r'(b"(?:[^"\\]|\\.)*")'
+ASKED = r'"([FN]\d+)" (check|needs) (cleared|any) '
+CONTENT_ROW = re.compile(ASKED + rf"(\d+) x (\d+), {LITERAL}\s*=> \w+\s*{LITERAL};", re.DOTALL)
+FILE_ROW = re.compile(
+    ASKED + rf"{LITERAL},\s*\[((?:\d+ => {LITERAL}(?:, )?)*)\], {LITERAL}\s*=> \w+\s*{LITERAL};", re.DOTALL
+)
+SHORT_ROW = re.compile(rf'"(F1)",\s*{LITERAL},\s*asked!\((check) (cleared), refused, {LITERAL}\)')
+
+
+def literal(text):
+    """The bytes of a literal of Rust; a line that ends in a backslash goes on at the next one's text."""
+    return ast.literal_eval(re.sub(r"\\\n\s*", "", text))
+
+
+def tested():
+    """The examples that the tests try, as the keys of those of the page."""
+    def key(heading, command, start, file, text):
+        words = f"{command} --cleared" if start == "cleared" else command
+        return heading, words, file, literal(text).decode()
+
+    text = TESTS.read_text()
+    for heading, command, start, width, lines, content, report in CONTENT_ROW.findall(text):
+        content = literal(content)
+        record = record_of({"width": width, "lines": lines}, len(content))
+        yield key(heading, command, start, content + b"\x1a" + record, report)
+    for heading, command, start, front, edits, _, after, report in FILE_ROW.findall(text):
+        record = bytearray(record_of({"width": 2, "lines": 1}, 2))
+        for at, changed in re.findall(rf"(\d+) => {LITERAL}", edits):
+            changed = literal(changed)
+            record[int(at):int(at) + len(changed)] = changed
+        yield key(heading, command, start, literal(front) + record + literal(after), report)
+    for heading, file, command, start, report in SHORT_ROW.findall(text):
+        yield key(heading, command, start, literal(file), report)
+
+
+def try_tests(tried, examples):
+    shown, rows = {example.key() for example in examples}, set(tested())
+    tried.compare("examples of the page that no test tries", set(), shown - rows)
+    tried.compare("examples of the tests that the page does not show", set(), rows - shown)
+
+
+# The commands of all pages.
+
+
+def commands_of(block):
+    """The commands of a block, each with the lines that follow it. A line `> ` goes on with a command."""
+    for part in re.split(r"^\$ ", block, flags=re.MULTILINE)[1:]:
+        lines = part.splitlines(keepends=True)
+        count = 1
+        while count < len(lines) and lines[count].startswith("> "):
+            count += 1
+        yield lines[0] + "".join(line[2:] for line in lines[1:count]), "".join(lines[count:])
+
+
+def try_commands(tried, program):
+    for page in [TOP / "README.md", *sorted((TOP / "docs").glob("*.md"))]:
+        for language, block in BLOCK.findall(page.read_text()):
+            for command, wanted in commands_of(block) if language == "" else ():
+                if DRAWINGS in command and not os.path.isdir(DRAWINGS):
+                    print(f"skipped, since {DRAWINGS} is missing: {command.strip()}")
+                    continue
+                got = printed(["bash", "-c", command], program, stdin=subprocess.DEVNULL)
+                tried.compare(f"{page.relative_to(TOP)}, $ {command.strip()}", wanted, got)
+
+
+def main(program):
+    program = os.path.abspath(program)
+    tried = Tried()
+    text = PAGE.read_text()
+    examples = examples_of(text)
+    for example in examples:
+        try_example(tried, program, example)
+    try_headings(tried, text)
+    try_tests(tried, examples)
+    try_commands(tried, program)
+    print(f"{tried.count} examples, {tried.differing} differ")
+    return 1 if tried.differing else 0
+
+
+if __name__ == "__main__":
+    sys.exit(main(sys.argv[1]))
