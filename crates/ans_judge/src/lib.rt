@@ -9,6 +9,8 @@
 //!
 //! It judges every prefix of each content of `ans_samples`, from all 32 classes of starts, and
 //! contents and screens that are too large for these.
+//!
+//! Beside the judge stand the examples of `docs/FAULTS.md`, with what `ans_check::run` writes of each.
 #![tactic(auto)]
 
 #[cfg(test)]

@@ -32,7 +32,7 @@ TESTS = TOP / "crates" / "ans_judge" / "src" / "tests" / "fault_page.rt"
 DRAWINGS = "/usr/share/doc/ansilove/examples"
 
 BLOCK = re.compile(r"^```(\w*)\n(.*?)^```$", re.DOTALL | re.MULTILINE)
-NAMED = {"ESC": b"\x1b", "CR": b"\r", "LF": b"\n", "TAB": b"\t"}
+NAMED = {"ESC": b"\x1b", "<CR>": b"\r", "<LF>": b"\n", "<TAB>": b"\t"}
 
 
 # Files, as the page writes them.
@@ -55,8 +55,8 @@ def record_of(fields, content_length):
 
 def bytes_of(text, record):
     """The bytes of a content or a file, as the page writes them."""
-    names = {**NAMED, "RECORD": record}
-    parts = re.split(r"(ESC|CR|LF|TAB|RECORD|<[0-9A-F]{2}>)", text)
+    names = {**NAMED, "<RECORD>": record}
+    parts = re.split(r"(ESC|<[0-9A-Z]+>)", text)
     return b"".join(
         names[part] if part in names
         else bytes.fromhex(part[1:3]) if re.fullmatch("<[0-9A-F]{2}>", part)
@@ -71,7 +71,7 @@ def file_of(values):
     if "content" in values:
         content = bytes_of(values["content"], b"")
         return content + b"\x1a" + record_of(fields, len(content))
-    content = bytes_of(values["file"].split("RECORD")[0], b"").split(b"\x1a")[0]
+    content = bytes_of(values["file"].split("<RECORD>")[0], b"").split(b"\x1a")[0]
     return bytes_of(values["file"], record_of(fields, len(content)))
 
 
