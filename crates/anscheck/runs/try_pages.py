@@ -10,6 +10,7 @@ Run it in the folder above, after `rt run -- check --cleared data/hi.ans` has bu
 - The page has one heading for each fault and each note of ans_model, and none more; it opens with
   the text that the examples below it print; and its table of contents leads to it.
 - The examples of the page are those that the tests of ans_judge try, and the tests try none more.
+- The program sets each of the 256 colour numbers as the table of docs/PROFILE.md says.
 - Each command of a block of no language, on a line that begins with `$ `, has to print the lines
   that follow it. It is run by bash in this folder, with the program on the PATH. Blocks that are not
   to be run have the language `text`.
@@ -27,6 +28,7 @@ import tempfile
 HERE = pathlib.Path(__file__).resolve().parent.parent
 TOP = HERE.parent.parent
 PAGE = TOP / "docs" / "FAULTS.md"
+PROFILE = TOP / "docs" / "PROFILE.md"
 MODEL = TOP / "crates" / "ans_model" / "src"
 TESTS = TOP / "crates" / "ans_judge" / "src" / "tests" / "fault_page.rt"
 DRAWINGS = "/usr/share/doc/ansilove/examples"
@@ -203,6 +205,33 @@ def try_tests(tried, examples):
     tried.compare("examples of the tests that the page does not show", set(), rows - shown)
 
 
+# The colours.
+
+# Old attributes, each with the sequence that sets it: between them each bit is set once and clear once.
+OLD = {0x9E: b"\x1b[0;1;5;33;44m", 0x61: b"\x1b[0;34;43m"}
+
+
+def renditions(text):
+    """What the table of colours says of each number: the bits kept, and those set."""
+    rows = re.findall(r"^\| (\d+) \| ([0-9A-F]{2})h \| ([0-9A-F]{2})h \|", text, re.MULTILINE)
+    return {int(number): (int(keeps, 16), int(sets, 16)) for number, keeps, sets in rows}
+
+
+def try_colours(tried, program):
+    table = renditions(PROFILE.read_text())
+    for old, begin in OLD.items():
+        content = b"".join(begin + b"\x1b[%dmx" % number for number in range(256))
+        record = record_of({"width": 256, "lines": 1}, len(content))
+        with tempfile.NamedTemporaryFile(suffix=".ans") as file:
+            file.write(content + b"\x1a" + record)
+            file.flush()
+            cells = printed([program, "check", "--cleared", "--cells", file.name], program).split("\n")[-2]
+        for number in range(256):
+            keeps, sets = table.get(number, (0xFF, 0))
+            wanted = f"78{old & keeps | sets:02x}"
+            tried.compare(f"docs/PROFILE.md, {number} on {old:02x}", wanted, cells[4 * number:4 * number + 4])
+
+
 # The commands of all pages.
 
 
@@ -236,6 +265,7 @@ def main(program):
         try_example(tried, program, example)
     try_headings(tried, text)
     try_tests(tried, examples)
+    try_colours(tried, program)
     try_commands(tried, program)
     print(f"{tried.count} examples, {tried.differing} differ")
     return 1 if tried.differing else 0
