@@ -202,7 +202,8 @@ impl Machine {
 
 impl Machine {
     /// The start of a class in which each part that is not known has the value given: `byte` is
-    /// each byte and attribute, `corner` both cursors, and `wrap` whether wrap is on. X runs out.
+    /// each byte and attribute, `corner` both cursors, and `wrap` whether wrap is on. It fails where
+    /// memory runs out.
     fn from_class(
         alloc: Global,
         size: Size,
