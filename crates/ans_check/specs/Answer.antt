@@ -53,12 +53,16 @@ pub record IsRefusalOf (words : List Text) (refusal : WordsError) : Type 0 where
   pub kind : HasKindAmong (fault_of anscheck words) refusal
   pub memory : fault_of anscheck words ≡ [] → RanOutOfMemory refusal
 
--- Help was asked for. Its text is on the output; or the output failed, and has a prefix of it; or there was no memory for
--- the text.
+-- The text of help is on the output; or the output failed, and has a prefix of it.
+abbrev pub PrintsHelp : {W : Type 0} → (W → Option (List ℕ)) → Tried W → Tried W → List ℕ → Ending → Type 0
+PrintsHelp contents output output_after text ending =
+    ((ending ≡ Help) × Wrote contents output output_after text)
+    ⊎ ((ending ≡ Run (Err error.Write)) × WrotePrefix contents output output_after text)
+
+-- Help was asked for, and is printed; or there was no memory for its text. Which text it is, is clap's.
 abbrev pub EndsHelp : {W : Type 0} → (W → Option (List ℕ)) → Tried W → Tried W → Ending → Type 0
 EndsHelp contents output output_after ending =
-    ((ending ≡ Help) × ((text : List ℕ) × Wrote contents output output_after text))
-    ⊎ ((ending ≡ Run (Err error.Write)) × ((text : List ℕ) × WrotePrefix contents output output_after text))
+    ((text : List ℕ) × PrintsHelp contents output output_after text ending)
     ⊎ ((ending ≡ UnreadableWords) × (output_after ≡ output))
 
 -- the ending where the words' error alone would lead to this one
@@ -76,8 +80,9 @@ pub record EndsRefused {W : Type 0} (contents : W → Option (List ℕ)) (words 
   pub ends : EndsAfter contents (ending_of_words refusal) output output_after ending
 
 -- The three ways in which the words are answered.
-abbrev pub EndsSo : {R W : Type 0} → (R → Option (List ℕ)) → (W → Option (List ℕ)) → (Text → R → Type 0) → (R → Type 0)
-    → (Text → Type 0) → List Text → Tried W → Tried W → Ending → Type 0
+abbrev pub EndsSo : {R W : Type 0} → (R → Option (List ℕ)) → (W → Option (List ℕ))
+    → (Text → R → Type 0) → (R → Type 0) → (Text → Type 0)
+    → List Text → Tried W → Tried W → Ending → Type 0
 EndsSo remaining contents is_file is_standard is_missing words output output_after ending =
     EndsAsServed remaining contents is_file is_standard words output output_after ending
     ⊎ EndsUnopened is_missing words output output_after ending

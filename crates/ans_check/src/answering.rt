@@ -5,7 +5,7 @@ ghost use Rattle.std.specs.Prelude.{option_map, string_bytes};
 ghost use Rattle.clap.specs.Words.{fault_of};
 ghost use Rattle.ans_options.specs.CommandLine.{AreOptionsOf, anscheck, texts_of};
 ghost use Rattle.ans_report.specs.Tried.{has_failed};
-ghost use Rattle.ans_check.specs.Answer.{EndsAfter, EndsHelp, EndsSo, IsNamed, Says};
+ghost use Rattle.ans_check.specs.Answer.{EndsAfter, EndsSo, IsNamed, PrintsHelp, Says, Tells};
 ghost use Rattle.ans_check.specs.Ending.{ending_of_words};
 
 use crate::errors::RunError;
@@ -31,11 +31,11 @@ pub(crate) fn say<E: Write>(errors: &mut Tried<E>, ending: Ending)
 
 /// The input that the words name, or standard input where they name none. None where the file cannot
 /// be opened.
-fn input_named<I: Inputs>(inputs: &I, name: &Option<String>) -> Option<I::Reader>
-    ensures some { IfSome result (IsNamed (I.is_file inputs.now) (I.is_standard inputs.now)
+fn input_named<I: Inputs>(inputs: I, name: &Option<String>) -> Option<I::Reader>
+    ensures some { IfSome result (IsNamed (I.is_file inputs) (I.is_standard inputs)
         (option_map string_bytes name.now)) }
     ensures none { result ≡ None
-        → IsSomeAnd (option_map string_bytes name.now) (I.is_missing inputs.now) }
+        → IsSomeAnd (option_map string_bytes name.now) (I.is_missing inputs) }
 {
     match name {
         Some(name) => match inputs.file(name.as_str()) {
@@ -49,7 +49,7 @@ fn input_named<I: Inputs>(inputs: &I, name: &Option<String>) -> Option<I::Reader
 /// Prints a help text. Where the output fails, there is no answer.
 fn print_help<W: Write>(output: &mut Tried<W>, text: &str) -> Ending
     requires { has_failed output.old ≡ false }
-    ensures ends { EndsHelp W.contents output.old output.new result }
+    ensures ends { PrintsHelp W.contents output.old output.new text.now result }
     ensures write { result ≡ Ending.Run (Err RunError.Write) ↔ IsTrue (has_failed output.new) }
 {
     if output.write_all(text.as_bytes()).is_err() {
@@ -59,6 +59,14 @@ fn print_help<W: Write>(output: &mut Tried<W>, text: &str) -> Ending
         return Ending::Run(Err(RunError::Write));
     }
     Ending::Help
+}
+
+/// Says what is wrong with rejected words.
+fn tell_usage<E: Write>(errors: &mut Tried<E>, text: &str)
+    requires { has_failed errors.old ≡ false }
+    ensures { Tells E.contents errors.old errors.new text.now }
+{
+    let _ = errors.write_all(text.as_bytes());
 }
 
 /// Prints `clap`'s text where the words have one: help on the output, and what is wrong with the
@@ -86,7 +94,7 @@ fn refuse_words<W: Write, E: Write>(
     if ending == Ending::Help {
         return print_help(output, text.as_str());
     }
-    let _ = errors.write_all(text.as_bytes());
+    tell_usage(errors, text.as_str());
     ending
 }
 
@@ -94,7 +102,7 @@ fn refuse_words<W: Write, E: Write>(
 fn serve_named<I: Inputs, W: Write>(
     alloc: Global,
     words: &[&str],
-    inputs: &I,
+    inputs: I,
     options: &Options,
     name: &Option<String>,
     output: &mut Tried<W>,
@@ -102,8 +110,8 @@ fn serve_named<I: Inputs, W: Write>(
     requires prints { has_failed output.old ≡ false }
     requires asked { AreOptionsOf (texts_of words.now) options.now (option_map string_bytes name.now) }
     requires faultless { fault_of anscheck (texts_of words.now) ≡ [] }
-    ensures ends { EndsSo I.Reader.remaining W.contents (I.is_file inputs.now) (I.is_standard inputs.now)
-        (I.is_missing inputs.now) (texts_of words.now) output.old output.new result }
+    ensures ends { EndsSo I.Reader.remaining W.contents (I.is_file inputs) (I.is_standard inputs)
+        (I.is_missing inputs) (texts_of words.now) output.old output.new result }
     ensures ran { result ≢ Ending.Usage }
     ensures write { result ≡ Ending.Run (Err RunError.Write) ↔ IsTrue (has_failed output.new) }
 {
@@ -118,14 +126,14 @@ fn serve_named<I: Inputs, W: Write>(
 fn end_of_words<I: Inputs, W: Write, E: Write>(
     alloc: Global,
     words: &[&str],
-    inputs: &I,
+    inputs: I,
     output: &mut Tried<W>,
     errors: &mut Tried<E>,
 ) -> Ending
     requires prints { has_failed output.old ≡ false }
     requires tells { has_failed errors.old ≡ false }
-    ensures ends { EndsSo I.Reader.remaining W.contents (I.is_file inputs.now) (I.is_standard inputs.now)
-        (I.is_missing inputs.now) (texts_of words.now) output.old output.new result }
+    ensures ends { EndsSo I.Reader.remaining W.contents (I.is_file inputs) (I.is_standard inputs)
+        (I.is_missing inputs) (texts_of words.now) output.old output.new result }
     ensures told { result ≡ Ending.Usage → Says E.contents errors.old errors.new result }
     ensures untold { result ≢ Ending.Usage → errors.new ≡ errors.old }
     ensures write { result ≡ Ending.Run (Err RunError.Write) ↔ IsTrue (has_failed output.new) }
@@ -139,7 +147,8 @@ fn end_of_words<I: Inputs, W: Write, E: Write>(
 /// Answers the program's words, its own name first: reads the input that they name, which is
 /// standard input where they name none, and writes what they ask for to `output`. On `errors` it
 /// says why there is no answer: `anscheck: ` and the ending's message, or `clap`'s text where the
-/// words are rejected. Where help is asked for, its text goes to `output`.
+/// words are rejected. Where help is asked for, its text goes to `output`. Which text `clap` gives is
+/// promised nowhere and only tested; so is it that `output` is flushed after its text.
 ///
 /// The ending is that of the run; `UnopenedFile` where the named file cannot be opened; and where
 /// the words give no options, what their error says, or `UnreadableWords` where there is no memory
@@ -148,14 +157,14 @@ fn end_of_words<I: Inputs, W: Write, E: Write>(
 pub fn answer<I: Inputs, W: Write, E: Write>(
     alloc: Global,
     words: &[&str],
-    inputs: &I,
+    inputs: I,
     output: &mut Tried<W>,
     errors: &mut Tried<E>,
 ) -> Ending
     requires prints { has_failed output.old ≡ false }
     requires tells { has_failed errors.old ≡ false }
-    ensures ends { EndsSo I.Reader.remaining W.contents (I.is_file inputs.now) (I.is_standard inputs.now)
-        (I.is_missing inputs.now) (texts_of words.now) output.old output.new result }
+    ensures ends { EndsSo I.Reader.remaining W.contents (I.is_file inputs) (I.is_standard inputs)
+        (I.is_missing inputs) (texts_of words.now) output.old output.new result }
     ensures says { Says E.contents errors.old errors.new result }
     ensures write { result ≡ Ending.Run (Err RunError.Write) ↔ IsTrue (has_failed output.new) }
 {

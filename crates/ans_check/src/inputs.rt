@@ -5,8 +5,9 @@ ghost use Rattle.clap.specs.Words.{Text};
 
 use std::io::{self, Read};
 
-/// Where a program's files and its standard input come from: the system, or memory in tests.
-pub trait Inputs {
+/// Where a program's files and its standard input come from: the system, or memory in tests. One
+/// input can be taken, once.
+pub trait Inputs: Drop {
     /// What an input is read by.
     type Reader: Read + Drop;
 
@@ -20,11 +21,11 @@ pub trait Inputs {
     ghost is_missing: { Self → Text → Type 0 };
 
     /// Opens the file of this name.
-    fn file(&self, name: &str) -> io::Result<Self::Reader>
-        ensures opened { IfOk result (is_file self.now name.now) }
-        ensures missing { IfErr result (λ _. is_missing self.now name.now) };
+    fn file(self, name: &str) -> io::Result<Self::Reader>
+        ensures opened { IfOk result (is_file self name.now) }
+        ensures missing { IfErr result (λ _. is_missing self name.now) };
 
     /// Standard input.
-    fn standard(&self) -> Self::Reader
-        ensures { is_standard self.now result };
+    fn standard(self) -> Self::Reader
+        ensures { is_standard self result };
 }

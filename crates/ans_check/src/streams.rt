@@ -13,7 +13,8 @@ use std::io::{Read, Write};
 
 /// Runs on an input as [`run`] does, and once the text is written has the writer hand on what it
 /// holds back of it. What is promised of a run is promised of this too; `Write` also comes where
-/// the writer cannot hand the text on.
+/// the writer cannot hand the text on. That it is asked to is only tested, since a writer's contract
+/// does not say what a flush is for.
 pub fn serve<R: Read, W: Write>(
     alloc: Global,
     reader: &mut Tried<R>,

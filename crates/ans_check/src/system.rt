@@ -1,15 +1,17 @@
 //! The program on the system that runs it.
 
-ghost use Rattle.std.specs.Prelude.{◌≡◌, true, false, ⊤};
+ghost use Rattle.std.specs.Prelude.{◌≡◌, true, false, ⊤, map, string_bytes, IfOk, vec_items};
+ghost use Rattle.ans_options.specs.CommandLine.{texts_of};
 ghost use Rattle.ans_report.specs.Tried.{has_failed};
-ghost use Rattle.ans_check.specs.Answer.{Says};
 ghost use Rattle.ans_check.specs.Ending.{ending_status};
+ghost use Rattle.ans_check.specs.SystemInput.{AnswersOnSystem};
 ghost use Rattle.ans_check.specs.declared.exit_status.Ending.{Ending};
 
 use crate::answering::{answer, say};
 use crate::exit_status::Ending;
 use crate::inputs::Inputs;
 use ans_report::Tried;
+use std::alloc::{AllocError, Global};
 use std::env;
 use std::fs::File;
 use std::io::{self, Read, Stdin, Write};
@@ -49,11 +51,11 @@ impl Inputs for System<'_> {
 
     ghost is_missing = { λ _ _. ⊤ };
 
-    fn file(&self, name: &str) -> io::Result<Input> {
+    fn file(self, name: &str) -> io::Result<Input> {
         Ok(Input::Named(File::open(self.rt, name)?))
     }
 
-    fn standard(&self) -> Input {
+    fn standard(self) -> Input {
         Input::Standard(self.rt.stdin())
     }
 }
@@ -66,26 +68,36 @@ fn words_of(rt: &HostRuntime) -> Option<Vec<String>> {
     }
 }
 
-/// Answers the program's words on the system's inputs.
+/// A view of each text.
+fn views<'a>(alloc: Global, texts: &'a [String]) -> Result<Vec<&'a str>, AllocError>
+    ensures { IfOk result (λ words. texts_of (vec_items words) ≡ map string_bytes texts.now) }
+{
+    let mut words = Vec::new(alloc);
+    for text in texts {
+        words.push(text.as_str())?;
+    }
+    Ok(words)
+}
+
+/// Answers the program's words on the system's inputs, and returns the exit status. Without memory to
+/// list the words, they cannot be read.
 fn answer_texts<W: Write, E: Write>(
     rt: &HostRuntime,
     texts: &[String],
     output: &mut Tried<W>,
     errors: &mut Tried<E>,
-) -> Ending
+) -> u8
     requires prints { has_failed output.old ≡ false }
     requires tells { has_failed errors.old ≡ false }
-    ensures says { Says E.contents errors.old errors.new result }
+    ensures { AnswersOnSystem W.contents E.contents (map string_bytes texts.now) output.old output.new
+        errors.old errors.new result }
 {
-    let Ok(words) = texts
-        .iter()
-        .map(|t| t.as_str())
-        .collect::<Vec<&str>>(rt.alloc())
-    else {
+    let Ok(words) = views(rt.alloc(), texts) else {
         say(errors, Ending::UnreadableWords);
-        return Ending::UnreadableWords;
+        return Ending::UnreadableWords.status();
     };
-    answer(rt.alloc(), words.as_slice(), &System { rt }, output, errors)
+    let inputs = System { rt };
+    answer(rt.alloc(), words.as_slice(), inputs, output, errors).status()
 }
 
 /// The program: answers its words, as [`answer`] does, on the system's files and standard streams.
@@ -96,12 +108,11 @@ pub fn program(rt: &HostRuntime) -> u8
 {
     let mut output = Tried::new(rt.stdout());
     let mut errors = Tried::new(rt.stderr());
-    let ending = match words_of(rt) {
+    match words_of(rt) {
         Some(texts) => answer_texts(rt, texts.as_slice(), &mut output, &mut errors),
         None => {
             say(&mut errors, Ending::UnreadableWords);
-            Ending::UnreadableWords
+            Ending::UnreadableWords.status()
         }
-    };
-    ending.status()
+    }
 }

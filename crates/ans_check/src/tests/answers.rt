@@ -26,7 +26,7 @@ impl<'a> Inputs for Folder<'a> {
 
     ghost is_missing = { λ _ _. ⊤ };
 
-    fn file(&self, name: &str) -> io::Result<&'a [u8]> {
+    fn file(self, name: &str) -> io::Result<&'a [u8]> {
         if name == self.name {
             Ok(self.file)
         } else {
@@ -34,7 +34,7 @@ impl<'a> Inputs for Folder<'a> {
         }
     }
 
-    fn standard(&self) -> &'a [u8] {
+    fn standard(self) -> &'a [u8] {
         self.standard
     }
 }
@@ -58,7 +58,7 @@ fn answer_once(
     for _ in 0..2 {
         let mut output = Tried::new(Narrow::new(rooms.0));
         let mut errors = Tried::new(Narrow::new(rooms.1));
-        let ending = answer(rt.alloc(), words, &folder, &mut output, &mut errors);
+        let ending = answer(rt.alloc(), words, folder, &mut output, &mut errors);
         if ending != Ending::Run(Err(RunError::Memory)) && ending != Ending::UnreadableWords {
             return Answered {
                 ending,

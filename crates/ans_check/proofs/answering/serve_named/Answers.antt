@@ -11,7 +11,7 @@ returns-clause-ends g c = inl (record {
   faultless = c.requires.faultless;
   reader = c.new-reader.result;
   reader_after = c.serve.new.reader;
-  input = subst (IsNamed (g.I.Inputs.is_file c.args.inputs.now) (g.I.Inputs.is_standard c.args.inputs.now)
+  input = subst (IsNamed (g.I.Inputs.is_file c.args.inputs) (g.I.Inputs.is_standard c.args.inputs)
       (option_map string_bytes c.args.name.now)) (sym c.new-reader.ensures.inner) c.in-Some.ensures.some;
   unread = c.new-reader.ensures.calls;
   answer = c.serve.result;
