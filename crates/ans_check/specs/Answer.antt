@@ -1,6 +1,7 @@
 -- How the program answers its words.
-use Rattle.std.specs.Prelude.{◌≡◌, ◌⊎◌, ℕ, Bool, List, [], Option, Some, None, Result, Err}
-use Rattle.std.specs.Prelude.{MatchOption}
+use Rattle.std.specs.Prelude.{◌≡◌, ◌⊎◌, ℕ, Bool, false, List, [], Option, Some, None, Result, Err, codes}
+use Rattle.std.specs.Prelude.{MatchBool, MatchOption}
+use Rattle.std.specs.Str.{bytes_eq}
 use Rattle.clap.specs.Words.{Text, fault_of}
 use Rattle.ans_options.specs.CommandLine.{anscheck, AreOptionsOf, HasKindAmong, RanOutOfMemory}
 use Rattle.ans_options.specs.declared.command.Options.{Options}
@@ -16,9 +17,14 @@ use Rattle.ans_check.specs.declared.errors.RunError.TheVariants as error
 use Rattle.ans_check.specs.declared.exit_status.Ending.{Ending}
 use Rattle.ans_check.specs.declared.exit_status.Ending.TheVariants.{Run, Help, Usage, UnreadableWords, UnopenedFile}
 
--- the reader is the input that the words name: the file of this name, or standard input where they name none
+-- `-` names standard input
+abbrev pub names_standard : Text → Bool
+names_standard name = bytes_eq name (codes "-")
+
+-- the reader is the input that the words name: the file of this name, or standard input where it is `-` or none is given
 abbrev pub IsNamed : {R : Type 0} → (Text → R → Type 0) → (R → Type 0) → Option Text → R → Type 0
-IsNamed is_file is_standard (Some name) reader = is_file name reader
+IsNamed is_file is_standard (Some name) reader =
+    MatchBool (names_standard name) (is_standard reader) (is_file name reader)
 IsNamed is_file is_standard None reader = is_standard reader
 
 -- The words give options, and the program ends as a run with them on the input that they name.
@@ -44,6 +50,7 @@ pub record EndsUnopened {W : Type 0} (is_missing : Text → Type 0) (words : Lis
   pub file : Text
   pub asked : AreOptionsOf words options (Some file)
   pub faultless : fault_of anscheck words ≡ []
+  pub named : names_standard file ≡ false
   pub missing : is_missing file
   pub unwritten : output_after ≡ output
   pub ends : ending ≡ UnopenedFile

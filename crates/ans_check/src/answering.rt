@@ -5,7 +5,7 @@ ghost use Rattle.std.specs.Prelude.{option_map, string_bytes};
 ghost use Rattle.clap.specs.Words.{fault_of};
 ghost use Rattle.ans_options.specs.CommandLine.{AreOptionsOf, anscheck, texts_of};
 ghost use Rattle.ans_report.specs.Tried.{has_failed};
-ghost use Rattle.ans_check.specs.Answer.{EndsAfter, EndsSo, IsNamed, PrintsHelp, Says, Tells};
+ghost use Rattle.ans_check.specs.Answer.{EndsAfter, EndsSo, IsNamed, PrintsHelp, Says, Tells, names_standard};
 ghost use Rattle.ans_check.specs.Ending.{ending_of_words};
 
 use crate::errors::RunError;
@@ -29,20 +29,17 @@ pub(crate) fn say<E: Write>(errors: &mut Tried<E>, ending: Ending)
     }
 }
 
-/// The input that the words name, or standard input where they name none. None where the file cannot
-/// be opened.
+/// The input that the words name: standard input where they name none, or `-`. None where the file
+/// cannot be opened.
 fn input_named<I: Inputs>(inputs: I, name: &Option<String>) -> Option<I::Reader>
     ensures some { IfSome result (IsNamed (I.is_file inputs) (I.is_standard inputs)
         (option_map string_bytes name.now)) }
-    ensures none { result ≡ None
-        → IsSomeAnd (option_map string_bytes name.now) (I.is_missing inputs) }
+    ensures none { result ≡ None → IsSomeAnd (option_map string_bytes name.now)
+        (λ file. (names_standard file ≡ false) × I.is_missing inputs file) }
 {
     match name {
-        Some(name) => match inputs.file(name.as_str()) {
-            Ok(reader) => Some(reader),
-            Err(_) => None,
-        },
-        None => Some(inputs.standard()),
+        Some(name) if name.as_str() != "-" => inputs.file(name.as_str()).ok(),
+        _ => Some(inputs.standard()),
     }
 }
 
@@ -52,10 +49,7 @@ fn print_help<W: Write>(output: &mut Tried<W>, text: &str) -> Ending
     ensures ends { PrintsHelp W.contents output.old output.new text.now result }
     ensures write { result ≡ Ending.Run (Err RunError.Write) ↔ IsTrue (has_failed output.new) }
 {
-    if output.write_all(text.as_bytes()).is_err() {
-        return Ending::Run(Err(RunError::Write));
-    }
-    if output.flush().is_err() {
+    if output.write_all(text.as_bytes()).is_err() || output.flush().is_err() {
         return Ending::Run(Err(RunError::Write));
     }
     Ending::Help
@@ -145,7 +139,7 @@ fn end_of_words<I: Inputs, W: Write, E: Write>(
 }
 
 /// Answers the program's words, its own name first: reads the input that they name, which is
-/// standard input where they name none, and writes what they ask for to `output`. On `errors` it
+/// standard input where they name none or `-`, and writes what they ask for to `output`. On `errors` it
 /// says why there is no answer: `anscheck: ` and the ending's message, or `clap`'s text where the
 /// words are rejected. Where help is asked for, its text goes to `output`. Which text `clap` gives is
 /// promised nowhere and only tested; so is it that `output` is flushed after its text.

@@ -75,7 +75,7 @@ const REFUSAL: &[u8] = b"verdict: refused\nat 3: F1 no SAUCE record\n";
 
 /// Words, the status, and what is printed on each stream, where `hi.ans` is a good file from the
 /// cleared start and standard input has three bytes.
-static ANSWERS: [(&[&str], u8, &[u8], &[u8]); 5] = [
+static ANSWERS: [(&[&str], u8, &[u8], &[u8]); 8] = [
     (
         &["anscheck", "check", "--cleared", "hi.ans"],
         0,
@@ -92,6 +92,14 @@ static ANSWERS: [(&[&str], u8, &[u8], &[u8]); 5] = [
     ),
     (
         &["anscheck", "tokens", "ho.ans"],
+        2,
+        b"",
+        b"anscheck: cannot open the file\n",
+    ),
+    (&["anscheck", "check", "--cleared", "-"], 1, REFUSAL, b""),
+    (&["anscheck", "sauce", "--", "-"], 1, REFUSAL, b""),
+    (
+        &["anscheck", "sauce", "./-"],
         2,
         b"",
         b"anscheck: cannot open the file\n",
@@ -211,7 +219,7 @@ fn a_message_that_is_cut_off_changes_no_ending(rt: HostRuntime) {
 fn errors_that_take_nothing_change_no_ending(rt: HostRuntime) {
     let mut output = Tried::new(Narrow::new(0));
     let mut errors = Tried::new(FailingOnce::new(Narrow::new(100), 1, Failure::Nothing));
-    let ending = answer(rt.alloc(), ANSWERS[4].0, &NOTHING, &mut output, &mut errors);
+    let ending = answer(rt.alloc(), ANSWERS[4].0, NOTHING, &mut output, &mut errors);
     assert!(rt; ending == Ending::UnopenedFile || ending == Ending::UnreadableWords);
     assert!(rt; errors.failed());
 }

@@ -6,10 +6,12 @@ use Rattle.ans_check.specs.declared.exit_status.Ending.TheVariants.{UnreadableWo
 use Rattle.ans_check.proofs.system.answer_texts.Goals as goal
 
 pub returns-in_default : goal.returns-in_default
-returns-in_default g c =
-    (UnreadableWords,
-    inr (inr (record { refusal = words_error.Memory; refused = record { kind = tt; memory = λ _. tt }; ends = (refl, refl) })),
-    c.say.ensures, c.status.ensures)
+returns-in_default g c = (
+  UnreadableWords,
+  inr (inr (record { refusal = words_error.Memory; refused = record { kind = tt; memory = λ _. tt }; ends = (refl, refl) })),
+  c.say.ensures,
+  c.status.ensures,
+)
 
 pub returns : goal.returns
 returns g c = subst (λ words. AnswersOnSystem g.W.Write.contents g.E.Write.contents words c.args.output.now
