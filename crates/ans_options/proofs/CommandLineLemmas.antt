@@ -116,13 +116,13 @@ pub command_found : (words : List Text) (sub : Option (Text × List Row)) → su
 command_found words None e some = cc
 command_found words (Some p) e some =
     elim ((program_met words p e).1) [
-      | inl check ↦ (Check, name_met check)
+      | inl needs ↦ (Needs, name_met needs)
       | inr others ↦ elim others [
-        | inl sauce ↦ (Sauce, name_met sauce)
+        | inl check ↦ (Check, name_met check)
         | inr later ↦ elim later [
-          | inl tokens ↦ (Tokens, name_met tokens)
+          | inl sauce ↦ (Sauce, name_met sauce)
           | inr last ↦ elim last [
-            | inl needs ↦ (Needs, name_met needs)
+            | inl tokens ↦ (Tokens, name_met tokens)
             | inr never ↦ absurd never
           ]
         ]

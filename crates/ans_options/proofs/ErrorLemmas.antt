@@ -15,6 +15,11 @@ pub err_gives : {T E : Type 0} (r : Result T E) (P Q : E → Type 0) → IfErr r
 err_gives (Ok v) P Q h f = tt
 err_gives (Err e) P Q h f = f e h
 
+-- an error is no `Ok`
+pub err_nothing : {T E : Type 0} (r : Result T E) (P : E → Type 0) (Q : T → Type 0) → IsErrAnd r P → IfOk r Q
+err_nothing (Ok v) P Q h = absurd h
+err_nothing (Err e) P Q h = tt
+
 -- what holds anyway holds of an `Ok`
 pub ok_with : {T E : Type 0} (r : Result T E) (P : Type 0) → P → IfOk r (λ v. P)
 ok_with (Ok v) P h = h

@@ -11,7 +11,7 @@ use Rattle.ans_model.specs.Screen.StartClass.{none_known}
 use Rattle.ans_options.specs.declared.command.Command.{Command}
 use Rattle.ans_options.specs.declared.command.Command.TheVariants.{Check, Sauce, Tokens, Needs}
 use Rattle.ans_options.specs.declared.command.Options.{Options}
-use Rattle.ans_options.specs.CommandLine.{AreOptionsOf, AsksFor, KnowsAsHeld, anscheck, command_name}
+use Rattle.ans_options.specs.CommandLine.{AsksFor, KnowsAsHeld, anscheck, command_name}
 use Rattle.ans_options.specs.CommandLine.{file_rule, holds_flag}
 use Rattle.ans_options.proofs.CommandLineLemmas.{name_met, not_true, program_met}
 use Rattle.ans_options.proofs.RowLemmas.{NoneHas, never_held, nor}
@@ -33,13 +33,13 @@ no_flag_met : (words : List Text) (met : Text × List Row) → subcommand_of ans
 no_flag_met words met e other =
     let found = program_met words met e in
     elim (found.1) [
-      | inl check ↦ absurd (other (name_met check))
+      | inl needs ↦ subst HoldsNoFlag (ap (λ (q : Text × List Row). q.1) needs) (file_holds_no_flag found.0)
       | inr others ↦ elim others [
-        | inl sauce ↦ subst HoldsNoFlag (ap (λ (q : Text × List Row). q.1) sauce) (file_holds_no_flag found.0)
+        | inl check ↦ absurd (other (name_met check))
         | inr later ↦ elim later [
-          | inl tokens ↦ subst HoldsNoFlag (ap (λ (q : Text × List Row). q.1) tokens) (file_holds_no_flag found.0)
+          | inl sauce ↦ subst HoldsNoFlag (ap (λ (q : Text × List Row). q.1) sauce) (file_holds_no_flag found.0)
           | inr last ↦ elim last [
-            | inl needs ↦ subst HoldsNoFlag (ap (λ (q : Text × List Row). q.1) needs) (file_holds_no_flag found.0)
+            | inl tokens ↦ subst HoldsNoFlag (ap (λ (q : Text × List Row). q.1) tokens) (file_holds_no_flag found.0)
             | inr never ↦ absurd never
           ]
         ]
@@ -80,7 +80,8 @@ none_held s rows knows none =
     (knows.wrap ∙ nor _ _ (none (codes "known-wrap") refl) cleared)
 
 -- what is asked for without flags
-pub flagless : (words : List Text) (o : Options) (file : Option Text) → AreOptionsOf words o file
+pub flagless : (words : List Text) (o : Options) (file : Option Text)
+    → IsSomeAnd (subcommand_of anscheck words) (λ p. AsksFor p o file)
     → o.command ≢ Check → (o.start ≡ none_known) × (o.cells ≡ false)
 flagless words o file asked other = go (subcommand_of anscheck words) refl asked
   where

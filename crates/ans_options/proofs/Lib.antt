@@ -3,3 +3,5 @@ pub mod CommandLineLemmas
 pub mod FlagLemmas
 pub mod ErrorLemmas
 pub mod HelpLemmas
+pub mod MeaningLemmas
+pub mod HelpWords

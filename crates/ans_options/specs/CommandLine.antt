@@ -1,13 +1,16 @@
 -- The command line, and the options that its words give.
 use Rattle.std.specs.Prelude.{map, fold, ◌≡◌, ◌≢◌, ◌↔◌, ◌||◌, Bool, true, false, List, [], ◌∷◌, Option, Some, codes}
-use Rattle.std.specs.Prelude.{IsSomeAnd, IsTrue, ⊤}
+use Rattle.std.specs.Prelude.{IfErr, IfOk, IsSomeAnd, IsTrue, Result, String, if◌then◌else◌, option_map, string_bytes, ⊤}
+use Rattle.std.specs.Global.{Global}
+use Rattle.std.specs.List.{list_any}
 use Rattle.std.specs.Borrow.{Bor}
 use Rattle.std.specs.Option.{option_map_or}
 use Rattle.std.specs.Str.{bytes_eq}
 use Rattle.clap.specs.Words.{App, Row, Rule, Text, first_of, kind_of, one_of, new_app, new_rule, subcommand_of}
-use Rattle.clap.specs.Words.{HasKind, IsAmong, Kinds, with_rule, with_subcommand}
+use Rattle.clap.specs.Words.{HasKind, IsAmong, Kinds, fault_of, takes, with_rule, with_subcommand}
 use Rattle.clap.specs.declared.builder.ArgAction.TheVariants.{SetTrue}
-use Rattle.clap.specs.declared.error.ErrorKind.TheVariants.{DisplayHelp, OutOfMemory}
+use Rattle.clap.specs.declared.error.ErrorKind.TheVariants.{DisplayHelp, DisplayVersion, OutOfMemory}
+use Rattle.clap.specs.declared.error.ErrorKind.{ErrorKind}
 use Rattle.ans_model.specs.declared.start.Start.{Start}
 use Rattle.ans_options.specs.declared.command_line.WordsError.{WordsError}
 use Rattle.ans_options.specs.declared.command_line.WordsError.TheVariants as words_error
@@ -57,17 +60,17 @@ tokens_app = file_app (codes "tokens")
 abbrev pub needs_app : App
 needs_app = file_app (codes "needs")
 
--- `anscheck`, which wants a subcommand and has no subcommand `help`
+-- `anscheck`, which has a version, wants a subcommand, and has no subcommand `help`
 abbrev pub anscheck_top : App
 anscheck_top = let a = new_app (codes "anscheck") in
-    record a { top = record a.top { subcommand_required = true; disable_help_subcommand = true } }
+    record a { top = record a.top { has_version = true; subcommand_required = true; disable_help_subcommand = true } }
 
 -- the program's command line
 abbrev pub anscheck : App
 anscheck =
     with_subcommand
-    (with_subcommand (with_subcommand (with_subcommand anscheck_top check_app.top) sauce_app.top) tokens_app.top)
-    needs_app.top
+    (with_subcommand (with_subcommand (with_subcommand anscheck_top needs_app.top) check_app.top) sauce_app.top)
+    tokens_app.top
 
 -- the subcommand of each command
 abbrev pub command_name : Command → Text
@@ -79,6 +82,33 @@ command_name Needs = codes "needs"
 -- no command has this name
 abbrev pub IsNoCommand : Text → Type 0
 IsNoCommand name = (c : Command) → name ≢ command_name c
+
+-- the names of the commands, in the order of the help
+abbrev pub command_names : List Text
+command_names = codes "needs" ∷ codes "check" ∷ codes "sauce" ∷ codes "tokens" ∷ []
+
+-- one of the commands has this name
+abbrev pub is_command_name : Text → Bool
+is_command_name name = list_any (bytes_eq name) command_names
+
+-- `help COMMAND` stands for `COMMAND --help`. More words are a mistake: behind `--` the command takes its own name for the
+-- FILE, and clap rejects the word after that.
+abbrev pub help_on_command : Text → List Text → List Text
+help_on_command name [] = name ∷ codes "--help" ∷ []
+help_on_command name (word ∷ more) = name ∷ codes "--" ∷ name ∷ word ∷ []
+
+-- What stands for `help`, by the words after it: none, or a command. Anything else is a mistake: behind `--` it is no
+-- subcommand, and clap rejects it.
+abbrev pub help_on : List Text → List Text
+help_on [] = codes "--help" ∷ []
+help_on (name ∷ more) = if is_command_name name then help_on_command name more else codes "--" ∷ name ∷ []
+
+-- The words that clap is to read: those that `help` stands for where it is the first after the program's name, and else
+-- all as they are.
+abbrev pub words_meant : List Text → List Text
+words_meant (program ∷ word ∷ more) =
+    program ∷ (if bytes_eq word (codes "help") then help_on more else word ∷ more)
+words_meant words = words
 
 -- the matches hold the flag
 abbrev pub holds_flag : Text → List Row → Bool
@@ -108,9 +138,13 @@ AsksFor sub o file = (sub.0 ≡ command_name o.command)
     × (IsTrue o.cells ↔ IsTrue (holds_flag (codes "cells") sub.1))
     × (file ≡ first_of (codes "file") sub.1)
 
--- clap finds a subcommand in the words, which asks for this
+-- clap finds a subcommand in what the words mean, which asks for this
 abbrev pub AreOptionsOf : List Text → Options → Option Text → Type 0
-AreOptionsOf words o file = IsSomeAnd (subcommand_of anscheck words) (λ sub. AsksFor sub o file)
+AreOptionsOf words o file = IsSomeAnd (subcommand_of anscheck (words_meant words)) (λ sub. AsksFor sub o file)
+
+-- the kinds that the first fault of what the words mean may have; to ask for help or for the version counts as a fault
+abbrev pub faults_of : List Text → Kinds
+faults_of words = fault_of anscheck (words_meant words)
 
 -- memory ran out
 abbrev pub RanOutOfMemory : WordsError → Type 0
@@ -122,6 +156,20 @@ abbrev pub HasKindAmong : Kinds → WordsError → Type 0
 HasKindAmong kinds (words_error.Clap e) = HasKind kinds e
 HasKindAmong kinds words_error.Memory = ⊤
 
--- help is the only one of the kinds, or is none of them
-abbrev pub IsHelpAloneOrNotAtAll : Kinds → Type 0
-IsHelpAloneOrNotAtAll kinds = IsAmong DisplayHelp kinds → kinds ≡ DisplayHelp ∷ []
+-- What clap's answer to these words comes to. There are options where the words have no fault, and a subcommand asks for
+-- them. Else the error has a kind of the words' first fault; where clap takes the words, it is want of memory.
+pub record Answers (words : List Text) (answer : Result (Options × Option (String Global)) WordsError) : Type 0 where
+  pub asked : IfOk answer (λ r.
+      IsSomeAnd (subcommand_of anscheck words) (λ sub. AsksFor sub r.0 (option_map string_bytes r.1)))
+  pub accepted : IfOk answer (λ r. fault_of anscheck words ≡ [])
+  pub kinds : IfErr answer (HasKindAmong (fault_of anscheck words))
+  pub taken : IfErr answer (λ e. takes anscheck words ≡ true → RanOutOfMemory e)
+
+-- the kind is the only one, or is none of them
+abbrev pub IsAloneOrNotAtAll : ErrorKind → Kinds → Type 0
+IsAloneOrNotAtAll kind kinds = IsAmong kind kinds → kinds ≡ kind ∷ []
+
+-- a request, for help or for the version, is the only one of the kinds, or is none of them
+pub record IsRequestAloneOrNotAtAll (kinds : Kinds) : Type 0 where
+  pub help : IsAloneOrNotAtAll DisplayHelp kinds
+  pub version : IsAloneOrNotAtAll DisplayVersion kinds

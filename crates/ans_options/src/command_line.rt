@@ -1,12 +1,11 @@
 //! The command line, and the options that its words give.
 ghost use Rattle.std.specs.Prelude.{◌≡◌, true, IfOk, option_map, string_bytes, codes, map, IfSome, IfNone, IfErr};
-ghost use Rattle.std.specs.Prelude.{IsSomeAnd, IsTrue, ◌↔◌, ◌≢◌, false, []};
+ghost use Rattle.std.specs.Prelude.{IsSomeAnd, IsTrue, ◌↔◌, ◌≢◌, false, [], ◌∷◌};
 ghost use Rattle.clap.specs.Words.{app_of, first_of, found_of, rows_of, rule_of, subcommand_rows_of, takes};
-ghost use Rattle.clap.specs.Words.{fault_of};
 ghost use Rattle.ans_model.specs.Screen.StartClass.{none_known};
 ghost use Rattle.ans_options.specs.CommandLine.{AreOptionsOf, AsksFor, IsCommand, IsNoCommand, RanOutOfMemory};
 ghost use Rattle.ans_options.specs.CommandLine.{HasKindAmong, KnowsAsHeld, holds_flag_or_cleared, flag_rule};
-ghost use Rattle.ans_options.specs.CommandLine.{with_flags};
+ghost use Rattle.ans_options.specs.CommandLine.{Answers, faults_of, help_on, with_flags, words_meant};
 ghost use Rattle.ans_options.specs.CommandLine.{anscheck, check_app, command_name, file_app, holds_flag, texts_of};
 ghost use Rattle.ans_options.specs.declared.command_line.WordsError.TheVariants.{Clap};
 
@@ -32,28 +31,58 @@ impl From<clap::Error> for WordsError {
     }
 }
 
-/// The last lines of each help text.
-const STATUSES: &str = "\
+/// What `--version` prints after the program's name: its version, and the kit that proved it.
+const VERSION: &str = "0.1.0 (rattle-kit-13f)";
+
+/// A text, and behind it the exit statuses.
+macro_rules! with_exit_statuses {
+    ($text:literal) => {
+        concat!(
+            $text,
+            "\
 Exit status:
-  0  The file passes, or this help was asked for
+  0  The file passes, or help or the version was asked for
   1  The file is refused
-  2  There is no answer; standard error says why";
+  2  There is no answer; standard error says why"
+        )
+    };
+}
+
+/// The last lines of a command's help.
+const COMMAND_END: &str = with_exit_statuses!("");
+
+/// The last lines of the program's help.
+const PROGRAM_END: &str = with_exit_statuses!(
+    "\
+Examples:
+  anscheck needs drawing.ans
+  anscheck check --cleared drawing.ans
+  anscheck help check
+
+"
+);
 
 /// The flags of `check`, each with its help.
 const CHECK_FLAGS: [(&str, &str); 7] = [
     (
         "known-screen",
-        "Know the screen to be blank, white on black",
+        "Assume the screen to be blank, white on black",
     ),
-    ("known-cursor", "Know the cursor to be at the top left"),
-    ("known-saved", "Know the saved cursor to be at the top left"),
-    ("known-colours", "Know the colours to be white on black"),
-    ("known-wrap", "Know wrap to be on"),
-    ("cleared", "Know all five: play from a cleared screen alone"),
     (
-        "cells",
-        "Print each cell of the picture too: its byte and its attribute, in hexadecimal",
+        "known-cursor",
+        "Assume the cursor to be at the top left",
     ),
+    (
+        "known-saved",
+        "Assume the saved cursor to be at the top left",
+    ),
+    (
+        "known-colours",
+        "Assume the colours to be white on black",
+    ),
+    ("known-wrap", "Assume wrap to be on"),
+    ("cleared", "Assume all five: a screen that was just cleared"),
+    ("cells", "Print each cell too: its byte and its attribute, in hex"),
 ];
 
 /// `NAME [FILE]`.
@@ -66,10 +95,10 @@ fn file_command<'a>(
 {
     let file = Arg::new(alloc, "file")
         .value_name("FILE")
-        .help("The file to read; without it standard input is read");
+        .help("The file to read; - or none is standard input");
     clap::Command::new(alloc, name)
         .about(about)
-        .after_help(STATUSES)
+        .after_help(COMMAND_END)
         .arg(file)
 }
 
@@ -106,7 +135,7 @@ fn check_command<'a>(alloc: Global) -> Result<clap::Command<'a>, AllocError>
     let command = file_command(
         alloc,
         "check",
-        "Check that a file shows one picture from every start of the class, and print that picture",
+        "Check that a file shows one picture from every start, and print it",
     )?;
     with_flags(alloc, command, &CHECK_FLAGS)
 }
@@ -115,27 +144,28 @@ fn check_command<'a>(alloc: Global) -> Result<clap::Command<'a>, AllocError>
 fn program<'a>(alloc: Global) -> Result<clap::Command<'a>, AllocError>
     ensures { IfOk result (λ c. app_of c ≡ anscheck) }
 {
+    let needs = file_command(
+        alloc,
+        "needs",
+        "Print what a drawing relies on: screen, cursor, saved, colours, wrap",
+    )?;
     let check = check_command(alloc)?;
     let sauce = file_command(alloc, "sauce", "Print what a file's SAUCE record says")?;
     let tokens = file_command(
         alloc,
         "tokens",
-        "Print the bytes and the escape sequences of a file's content, one a line",
-    )?;
-    let needs = file_command(
-        alloc,
-        "needs",
-        "Print which parts of the start a file's content needs to be known",
+        "Print the bytes and the escape sequences of a file, one a line",
     )?;
     clap::Command::new(alloc, "anscheck")
+        .version(VERSION)
         .about("Checks ANSI art files that end in a SAUCE record")
-        .after_help(STATUSES)
+        .after_help(PROGRAM_END)
         .subcommand_required(true)
         .disable_help_subcommand(true)
+        .subcommand(needs)?
         .subcommand(check)?
         .subcommand(sauce)?
-        .subcommand(tokens)?
-        .subcommand(needs)
+        .subcommand(tokens)
 }
 
 /// Whether the flag was given.
@@ -151,10 +181,10 @@ fn command_named(name: &str) -> Option<Command>
     ensures none { IfNone result (IsNoCommand name.now) }
 {
     match name {
+        "needs" => Some(Command::Needs),
         "check" => Some(Command::Check),
         "sauce" => Some(Command::Sauce),
         "tokens" => Some(Command::Tokens),
-        "needs" => Some(Command::Needs),
         _ => None,
     }
 }
@@ -228,6 +258,48 @@ fn read_matches(
     Ok((options_of(command, found), file))
 }
 
+/// Has clap read the words, and gives the options and the file that they ask for.
+fn read_words(alloc: Global, words: &[&str]) -> Result<(Options, Option<String>), WordsError>
+    ensures { Answers (texts_of words.now) result }
+{
+    let program = match program(alloc) {
+        Ok(program) => program,
+        Err(error) => return Err(WordsError::Clap(clap::Error::from(error))),
+    };
+    let matches = program.try_get_matches_from(words)?;
+    read_matches(alloc, &matches)
+}
+
+/// Has clap read what stands for `help`, before these words.
+fn read_help(
+    alloc: Global,
+    program: &str,
+    topic: &[&str],
+) -> Result<(Options, Option<String>), WordsError>
+    ensures { Answers (program.now ∷ help_on (texts_of topic.now)) result }
+{
+    match *topic {
+        [] => read_words(alloc, &[program, "--help"]),
+        [name, ..] if command_named(name).is_none() => read_words(alloc, &[program, "--", name]),
+        [command] => read_words(alloc, &[program, command, "--help"]),
+        [command, word, ..] => read_words(alloc, &[program, command, "--", command, word]),
+    }
+}
+
+/// Has clap read what the words mean.
+fn read_meant(alloc: Global, words: &[&str]) -> Result<(Options, Option<String>), WordsError>
+    ensures { Answers (words_meant (texts_of words.now)) result }
+{
+    let [program, first, topic @ ..] = words else {
+        return read_words(alloc, words);
+    };
+    if *first == "help" {
+        read_help(alloc, program, topic)
+    } else {
+        read_words(alloc, words)
+    }
+}
+
 /// Reads the options and the file from the program's words, its own name first: `anscheck check`
 /// with its flags and `[FILE]`, `anscheck sauce [FILE]`, `anscheck tokens [FILE]` or
 /// `anscheck needs [FILE]`. A part of the start is known where its flag is given, as
@@ -243,16 +315,11 @@ pub fn options(alloc: Global, words: &[&str]) -> Result<(Options, Option<String>
     ensures flagless { IfOk result (λ r. r.0.command ≢ Command.Check
         → (r.0.start ≡ none_known) × (r.0.cells ≡ false)) }
     ensures refuses { IfErr result (λ e.
-        takes anscheck (texts_of words.now) ≡ true → RanOutOfMemory e) }
-    ensures accepted { IfOk result (λ r. fault_of anscheck (texts_of words.now) ≡ []) }
+        takes anscheck (words_meant (texts_of words.now)) ≡ true → RanOutOfMemory e) }
+    ensures accepted { IfOk result (λ r. faults_of (texts_of words.now) ≡ []) }
     ensures faultless { IfErr result (λ e.
-        fault_of anscheck (texts_of words.now) ≡ [] → RanOutOfMemory e) }
-    ensures kinds { IfErr result (HasKindAmong (fault_of anscheck (texts_of words.now))) }
+        faults_of (texts_of words.now) ≡ [] → RanOutOfMemory e) }
+    ensures kinds { IfErr result (HasKindAmong (faults_of (texts_of words.now))) }
 {
-    let program = match program(alloc) {
-        Ok(program) => program,
-        Err(error) => return Err(WordsError::Clap(clap::Error::from(error))),
-    };
-    let matches = program.try_get_matches_from(words)?;
-    read_matches(alloc, &matches)
+    read_meant(alloc, words)
 }

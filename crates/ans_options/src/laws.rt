@@ -1,8 +1,12 @@
 //! Laws of the command line: each is the contract of a function without a body.
 
-ghost use Rattle.std.specs.Prelude.{◌≡◌, true, List};
+ghost use Rattle.std.specs.Prelude.{◌≡◌, true, List, [], ◌∷◌, codes};
 ghost use Rattle.clap.specs.Words.{Text, fault_of, is_simple, is_simple_and_free};
-ghost use Rattle.ans_options.specs.CommandLine.{IsHelpAloneOrNotAtAll, anscheck};
+ghost use Rattle.clap.specs.declared.error.ErrorKind.TheVariants.{DisplayHelp, DisplayVersion};
+ghost use Rattle.clap.specs.declared.error.ErrorKind.TheVariants.{InvalidSubcommand, UnknownArgument};
+ghost use Rattle.ans_options.specs.declared.command.Command.{Command};
+ghost use Rattle.ans_options.specs.CommandLine.{IsNoCommand, IsRequestAloneOrNotAtAll, anscheck, command_name};
+ghost use Rattle.ans_options.specs.CommandLine.{faults_of};
 
 /// The command line is of `clap`'s simple kind: one level of subcommands, flags, one optional FILE
 /// and no rules between arguments. So its matches are a function of the words, and so are the kinds
@@ -12,8 +16,28 @@ pub fn command_line_is_simple()
     ensures free { is_simple_and_free anscheck ≡ true }
 {}
 
-/// Where the first fault of the words may be that help is asked for, it is that and nothing else. So
-/// the words tell whether help is shown.
-pub fn help_stands_alone()
-    ensures { (words : List Text) → IsHelpAloneOrNotAtAll (fault_of anscheck words) }
+/// Where the first fault of the words may be that help is asked for, it is that and nothing else; and
+/// so with the version. So the words tell whether help or the version is shown, or a mistake.
+pub fn requests_stand_alone()
+    ensures { (words : List Text) → IsRequestAloneOrNotAtAll (fault_of anscheck words) }
+{}
+
+/// `--version` and `-V` ask for the version, whatever follows.
+pub fn version_is_asked_for()
+    ensures long { (program : Text) → (more : List Text)
+        → faults_of (program ∷ codes "--version" ∷ more) ≡ DisplayVersion ∷ [] }
+    ensures short { (program : Text) → (more : List Text)
+        → faults_of (program ∷ codes "-V" ∷ more) ≡ DisplayVersion ∷ [] }
+{}
+
+/// `help` asks for help where it stands alone, or where a command's name alone follows it. All else
+/// that follows it is a mistake.
+pub fn help_takes_one_command()
+    ensures alone { (program : Text) → faults_of (program ∷ codes "help" ∷ []) ≡ DisplayHelp ∷ [] }
+    ensures command { (program : Text) → (c : Command)
+        → faults_of (program ∷ codes "help" ∷ command_name c ∷ []) ≡ DisplayHelp ∷ [] }
+    ensures other { (program name : Text) → (more : List Text) → IsNoCommand name
+        → faults_of (program ∷ codes "help" ∷ name ∷ more) ≡ UnknownArgument ∷ InvalidSubcommand ∷ [] }
+    ensures more { (program word : Text) → (more : List Text) → (c : Command)
+        → faults_of (program ∷ codes "help" ∷ command_name c ∷ word ∷ more) ≡ UnknownArgument ∷ [] }
 {}

@@ -3,8 +3,11 @@ use Rattle.std.proofs.lemmas.Result.{IfOk-weaker}
 use Rattle.clap.specs.Words.{App, Shape, app_of, with_subcommand}
 use Rattle.clap.specs.Simple.{app_of_fields, on_top}
 use Rattle.clap.proofs.SimpleLemmas.{plain_fields}
-use Rattle.ans_options.specs.CommandLine.{anscheck_top, check_app, sauce_app, tokens_app}
+use Rattle.ans_options.specs.CommandLine.{anscheck_top, check_app, needs_app, sauce_app}
 use Rattle.ans_options.proofs.command_line.program.Goals as goal
+
+abbrev versioned : App → App
+versioned = on_top (λ s. record s { has_version = true })
 
 abbrev required : App → App
 required = on_top (λ s. record s { subcommand_required = true })
@@ -16,21 +19,22 @@ pub returns : goal.returns
 returns c =
     let top : App → Shape = λ a. a.top in
     let plain : App → _ = λ a. a.top.is_plain in
+    let named_is = ap app_of_fields c.version.ensures ∙ ap versioned c.new.ensures.app in
     let none_is : app_of c.disable_help_subcommand.result ≡ anscheck_top =
     ap app_of_fields c.disable_help_subcommand.ensures
     ∙ ap unhelped (ap app_of_fields c.subcommand_required.ensures
-    ∙ ap required (ap app_of_fields c.after_help.ensures ∙ ap app_of_fields c.about.ensures ∙ c.new.ensures.app)) in
-    let one_is : app_of c.in_ok-subcommand.field-0 ≡ with_subcommand anscheck_top check_app.top =
-    c.in_ok-subcommand.ensures.shape (plain_fields c.in_ok-check.check (ap plain c.in_ok-check.ensures)).globals
-    ∙ ap₂ with_subcommand none_is (ap top c.in_ok-check.ensures) in
+    ∙ ap required (ap app_of_fields c.after_help.ensures ∙ ap app_of_fields c.about.ensures ∙ named_is)) in
+    let one_is : app_of c.in_ok-subcommand.field-0 ≡ with_subcommand anscheck_top needs_app.top =
+    c.in_ok-subcommand.ensures.shape (plain_fields c.in_ok-needs.needs (ap plain c.in_ok-needs.ensures)).globals
+    ∙ ap₂ with_subcommand none_is (ap top c.in_ok-needs.ensures) in
     let two_is : app_of c.in_ok-subcommand-2.field-0 ≡ with_subcommand
-    (with_subcommand anscheck_top check_app.top) sauce_app.top =
-    c.in_ok-subcommand-2.ensures.shape (plain_fields c.in_ok-sauce.sauce (ap plain c.in_ok-sauce.ensures)).globals
-    ∙ ap₂ with_subcommand one_is (ap top c.in_ok-sauce.ensures) in
+    (with_subcommand anscheck_top needs_app.top) check_app.top =
+    c.in_ok-subcommand-2.ensures.shape (plain_fields c.in_ok-check.check (ap plain c.in_ok-check.ensures)).globals
+    ∙ ap₂ with_subcommand one_is (ap top c.in_ok-check.ensures) in
     let three_is : app_of c.in_ok-subcommand-3.field-0 ≡ with_subcommand
-    (with_subcommand (with_subcommand anscheck_top check_app.top) sauce_app.top) tokens_app.top =
-    c.in_ok-subcommand-3.ensures.shape (plain_fields c.in_ok-tokens.tokens (ap plain c.in_ok-tokens.ensures)).globals
-    ∙ ap₂ with_subcommand two_is (ap top c.in_ok-tokens.ensures) in
+    (with_subcommand (with_subcommand anscheck_top needs_app.top) check_app.top) sauce_app.top =
+    c.in_ok-subcommand-3.ensures.shape (plain_fields c.in_ok-sauce.sauce (ap plain c.in_ok-sauce.ensures)).globals
+    ∙ ap₂ with_subcommand two_is (ap top c.in_ok-sauce.ensures) in
     IfOk-weaker c.subcommand-4.result _ _ (λ r adds.
-    adds.shape (plain_fields c.in_ok-needs.needs (ap plain c.in_ok-needs.ensures)).globals
-    ∙ ap₂ with_subcommand three_is (ap top c.in_ok-needs.ensures)) c.subcommand-4.ensures
+    adds.shape (plain_fields c.in_ok-tokens.tokens (ap plain c.in_ok-tokens.ensures)).globals
+    ∙ ap₂ with_subcommand three_is (ap top c.in_ok-tokens.ensures)) c.subcommand-4.ensures

@@ -1,0 +1,48 @@
+-- The first fault of words that ask for help or for the version.
+use Rattle.std.proofs.Common.{◌≡◌, List, [], ◌∷◌, codes, refl}
+use Rattle.clap.specs.Words.{Text}
+use Rattle.clap.specs.Faults.{defaults_fault, flags_fault, walk_fault}
+use Rattle.clap.specs.Walk.{bundle_met, walked}
+use Rattle.std.specs.Char.{encode_utf8}
+use Rattle.std.specs.Str.{chars}
+use Rattle.clap.specs.declared.error.ErrorKind.TheVariants.{DisplayHelp, DisplayVersion}
+use Rattle.clap.specs.declared.error.ErrorKind.TheVariants.{InvalidSubcommand, UnknownArgument}
+use Rattle.ans_options.specs.declared.command.Command.{Command}
+use Rattle.ans_options.specs.declared.command.Command.TheVariants.{Check, Sauce, Tokens, Needs}
+use Rattle.ans_options.specs.CommandLine.{IsNoCommand, command_name, faults_of}
+use Rattle.ans_options.proofs.MeaningLemmas.{no_command_name}
+
+pub long_version : (program : Text) (more : List Text)
+    → faults_of (program ∷ codes "--version" ∷ more) ≡ DisplayVersion ∷ []
+unfolding walked walk_fault
+long_version program more = refl
+
+pub short_version : (program : Text) (more : List Text)
+    → faults_of (program ∷ codes "-V" ∷ more) ≡ DisplayVersion ∷ []
+unfolding walked walk_fault bundle_met flags_fault chars encode_utf8
+short_version program more = refl
+
+pub help_alone : (program : Text) → faults_of (program ∷ codes "help" ∷ []) ≡ DisplayHelp ∷ []
+unfolding walked walk_fault
+help_alone program = refl
+
+pub help_of_command : (program : Text) (c : Command)
+    → faults_of (program ∷ codes "help" ∷ command_name c ∷ []) ≡ DisplayHelp ∷ []
+unfolding walked walk_fault
+help_of_command program Needs = refl
+help_of_command program Check = refl
+help_of_command program Sauce = refl
+help_of_command program Tokens = refl
+
+pub help_of_other : (program name : Text) (more : List Text) → IsNoCommand name
+    → faults_of (program ∷ codes "help" ∷ name ∷ more) ≡ UnknownArgument ∷ InvalidSubcommand ∷ []
+unfolding walked walk_fault
+help_of_other program name more other = rw (no_command_name name other) refl
+
+pub help_of_more : (program word : Text) (more : List Text) (c : Command)
+    → faults_of (program ∷ codes "help" ∷ command_name c ∷ word ∷ more) ≡ UnknownArgument ∷ []
+unfolding walked walk_fault
+help_of_more program word more Needs = refl
+help_of_more program word more Check = refl
+help_of_more program word more Sauce = refl
+help_of_more program word more Tokens = refl

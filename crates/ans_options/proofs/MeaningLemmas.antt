@@ -1,0 +1,37 @@
+-- What the words mean, by their form.
+use Rattle.std.proofs.Common.{◌≡◌, ◌≤◌, ◌<◌, Bool, true, false, List, [], ◌∷◌, length, Option, Some, None}
+use Rattle.std.proofs.Common.{arith, codes, refl, slice_index_or}
+use Rattle.std.specs.Prelude.{IfNone, is_some}
+use Rattle.std.specs.Borrow.{Bor}
+use Rattle.std.specs.Str.{bytes_eq}
+use Rattle.std.proofs.lemmas.Slice.Eq.{bytes_eq-Decides}
+use Rattle.clap.specs.Words.{Text}
+use Rattle.ans_options.specs.declared.command.Command.{Command}
+use Rattle.ans_options.specs.declared.command.Command.TheVariants.{Check, Sauce, Tokens, Needs}
+use Rattle.ans_options.specs.CommandLine.{IsNoCommand, command_name, help_on, is_command_name, texts_of, words_meant}
+use Rattle.ans_options.proofs.CommandLineLemmas.{not_true}
+
+unequal : (name other : Text) → (name ≡ other → ⊥) → bytes_eq name other ≡ false
+unequal name other h = not_true _ (λ same. h ((bytes_eq-Decides name other).0 same))
+
+-- a name that no command has is not among theirs
+pub no_command_name : (name : Text) → IsNoCommand name → is_command_name name ≡ false
+no_command_name name h =
+    rw (
+      unequal name (codes "needs") (h Needs), unequal name (codes "check") (h Check),
+      unequal name (codes "sauce") (h Sauce), unequal name (codes "tokens") (h Tokens),
+    ) refl
+
+-- `help` on what is no command
+pub help_on_none : (topic : List (Bor Text)) (none : Bor Text) (found : Option Command) → 1 ≤ length topic
+    → is_some found ≡ false → IfNone found (IsNoCommand (slice_index_or topic 0 none).now)
+    → help_on (texts_of topic) ≡ codes "--" ∷ (slice_index_or topic 0 none).now ∷ []
+help_on_none [] none found some empty other = absurd (omega arith)
+help_on_none (name ∷ more) none None some empty other = rw (no_command_name name.now other) refl
+help_on_none (name ∷ more) none (Some c) some empty other = absurd (cc)
+
+-- words that end with the program's name are as they are
+pub few_meant : (words : List (Bor Text)) → length words < 2 → words_meant (texts_of words) ≡ texts_of words
+few_meant [] few = refl
+few_meant (program ∷ []) few = refl
+few_meant (program ∷ word ∷ more) few = absurd (omega arith)
