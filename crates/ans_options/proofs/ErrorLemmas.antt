@@ -15,11 +15,6 @@ pub err_gives : {T E : Type 0} (r : Result T E) (P Q : E → Type 0) → IfErr r
 err_gives (Ok v) P Q h f = tt
 err_gives (Err e) P Q h f = f e h
 
--- an error is no `Ok`
-pub err_nothing : {T E : Type 0} (r : Result T E) (P : E → Type 0) (Q : T → Type 0) → IsErrAnd r P → IfOk r Q
-err_nothing (Ok v) P Q h = absurd h
-err_nothing (Err e) P Q h = tt
-
 -- what holds anyway holds of an `Ok`
 pub ok_with : {T E : Type 0} (r : Result T E) (P : Type 0) → P → IfOk r (λ v. P)
 ok_with (Ok v) P h = h
@@ -30,8 +25,3 @@ pub only_memory : (kinds : Kinds) (e : Error) → HasKind kinds e → kinds ≡ 
 only_memory kinds e (inl memory) none = memory
 only_memory [] e (inr among) none = absurd among
 only_memory (k ∷ ks) e (inr among) none = cc
-
--- equal command lines have the same faults
-pub kinds_of_same : (a b : App) (words : List Text) (e : Error) → a ≡ b → HasKind (fault_of a words) e
-    → HasKind (fault_of b words) e
-kinds_of_same a b words e same h = subst (λ (v : App). HasKind (fault_of v words) e) same h

@@ -11,7 +11,7 @@ use Rattle.ans_model.specs.Screen.StartClass.{none_known}
 use Rattle.ans_options.specs.declared.command.Command.{Command}
 use Rattle.ans_options.specs.declared.command.Command.TheVariants.{Check, Sauce, Tokens, Needs}
 use Rattle.ans_options.specs.declared.command.Options.{Options}
-use Rattle.ans_options.specs.CommandLine.{AsksFor, KnowsAsHeld, anscheck, command_name}
+use Rattle.ans_options.specs.CommandLine.{AreOptionsOf, AsksFor, KnowsAsHeld, anscheck, command_name, words_meant}
 use Rattle.ans_options.specs.CommandLine.{file_rule, holds_flag}
 use Rattle.ans_options.proofs.CommandLineLemmas.{name_met, not_true, program_met}
 use Rattle.ans_options.proofs.RowLemmas.{NoneHas, never_held, nor}
@@ -80,17 +80,16 @@ none_held s rows knows none =
     (knows.wrap ∙ nor _ _ (none (codes "known-wrap") refl) cleared)
 
 -- what is asked for without flags
-pub flagless : (words : List Text) (o : Options) (file : Option Text)
-    → IsSomeAnd (subcommand_of anscheck words) (λ p. AsksFor p o file)
+pub flagless : (words : List Text) (o : Options) (file : Option Text) → AreOptionsOf words o file
     → o.command ≢ Check → (o.start ≡ none_known) × (o.cells ≡ false)
-flagless words o file asked other = go (subcommand_of anscheck words) refl asked
+flagless words o file asked other = go (subcommand_of anscheck (words_meant words)) refl asked
   where
-    go : (sub : Option (Text × List Row)) → subcommand_of anscheck words ≡ sub
+    go : (sub : Option (Text × List Row)) → subcommand_of anscheck (words_meant words) ≡ sub
         → IsSomeAnd sub (λ p. AsksFor p o file) → (o.start ≡ none_known) × (o.cells ≡ false)
     go None e asks = absurd asks
     go (Some met) e asks =
         let none : HoldsNoFlag met.1 =
-        no_flag_met words met e (λ check. other (named_check o.command (sym asks.0 ∙ check))) in (
+        no_flag_met (words_meant words) met e (λ check. other (named_check o.command (sym asks.0 ∙ check))) in (
           none_held o.start met.1 asks.1 none,
           not_true o.cells (λ on. true≢false (sym (asks.2.0 on) ∙ none (codes "cells") refl)),
         )

@@ -18,8 +18,10 @@ unequal name other h = not_true _ (λ same. h ((bytes_eq-Decides name other).0 s
 pub no_command_name : (name : Text) → IsNoCommand name → is_command_name name ≡ false
 no_command_name name h =
     rw (
-      unequal name (codes "needs") (h Needs), unequal name (codes "check") (h Check),
-      unequal name (codes "sauce") (h Sauce), unequal name (codes "tokens") (h Tokens),
+      unequal name (codes "needs") (h Needs),
+      unequal name (codes "check") (h Check),
+      unequal name (codes "sauce") (h Sauce),
+      unequal name (codes "tokens") (h Tokens),
     ) refl
 
 -- `help` on what is no command
@@ -35,3 +37,10 @@ pub few_meant : (words : List (Bor Text)) → length words < 2 → words_meant (
 few_meant [] few = refl
 few_meant (program ∷ []) few = refl
 few_meant (program ∷ word ∷ more) few = absurd (omega arith)
+
+-- and so are those whose next word is not `help`
+pub others_meant : (words : List (Bor Text)) (none : Bor Text) → 2 ≤ length words
+    → bytes_eq (slice_index_or words 1 none).now (codes "help") ≡ false → words_meant (texts_of words) ≡ texts_of words
+others_meant [] none many other = absurd (omega arith)
+others_meant (program ∷ []) none many other = absurd (omega arith)
+others_meant (program ∷ word ∷ more) none many other = rw other refl

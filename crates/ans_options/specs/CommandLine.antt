@@ -1,13 +1,12 @@
 -- The command line, and the options that its words give.
 use Rattle.std.specs.Prelude.{map, fold, ◌≡◌, ◌≢◌, ◌↔◌, ◌||◌, Bool, true, false, List, [], ◌∷◌, Option, Some, codes}
-use Rattle.std.specs.Prelude.{IfErr, IfOk, IsSomeAnd, IsTrue, Result, String, if◌then◌else◌, option_map, string_bytes, ⊤}
-use Rattle.std.specs.Global.{Global}
+use Rattle.std.specs.Prelude.{IsSomeAnd, IsTrue, if◌then◌else◌, ⊤}
 use Rattle.std.specs.List.{list_any}
 use Rattle.std.specs.Borrow.{Bor}
 use Rattle.std.specs.Option.{option_map_or}
 use Rattle.std.specs.Str.{bytes_eq}
 use Rattle.clap.specs.Words.{App, Row, Rule, Text, first_of, kind_of, one_of, new_app, new_rule, subcommand_of}
-use Rattle.clap.specs.Words.{HasKind, IsAmong, Kinds, fault_of, takes, with_rule, with_subcommand}
+use Rattle.clap.specs.Words.{HasKind, IsAmong, Kinds, fault_of, with_rule, with_subcommand}
 use Rattle.clap.specs.declared.builder.ArgAction.TheVariants.{SetTrue}
 use Rattle.clap.specs.declared.error.ErrorKind.TheVariants.{DisplayHelp, DisplayVersion, OutOfMemory}
 use Rattle.clap.specs.declared.error.ErrorKind.{ErrorKind}
@@ -155,15 +154,6 @@ RanOutOfMemory words_error.Memory = ⊤
 abbrev pub HasKindAmong : Kinds → WordsError → Type 0
 HasKindAmong kinds (words_error.Clap e) = HasKind kinds e
 HasKindAmong kinds words_error.Memory = ⊤
-
--- What clap's answer to these words comes to. There are options where the words have no fault, and a subcommand asks for
--- them. Else the error has a kind of the words' first fault; where clap takes the words, it is want of memory.
-pub record Answers (words : List Text) (answer : Result (Options × Option (String Global)) WordsError) : Type 0 where
-  pub asked : IfOk answer (λ r.
-      IsSomeAnd (subcommand_of anscheck words) (λ sub. AsksFor sub r.0 (option_map string_bytes r.1)))
-  pub accepted : IfOk answer (λ r. fault_of anscheck words ≡ [])
-  pub kinds : IfErr answer (HasKindAmong (fault_of anscheck words))
-  pub taken : IfErr answer (λ e. takes anscheck words ≡ true → RanOutOfMemory e)
 
 -- the kind is the only one, or is none of them
 abbrev pub IsAloneOrNotAtAll : ErrorKind → Kinds → Type 0

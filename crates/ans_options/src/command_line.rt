@@ -5,7 +5,7 @@ ghost use Rattle.clap.specs.Words.{app_of, first_of, found_of, rows_of, rule_of,
 ghost use Rattle.ans_model.specs.Screen.StartClass.{none_known};
 ghost use Rattle.ans_options.specs.CommandLine.{AreOptionsOf, AsksFor, IsCommand, IsNoCommand, RanOutOfMemory};
 ghost use Rattle.ans_options.specs.CommandLine.{HasKindAmong, KnowsAsHeld, holds_flag_or_cleared, flag_rule};
-ghost use Rattle.ans_options.specs.CommandLine.{Answers, faults_of, help_on, with_flags, words_meant};
+ghost use Rattle.ans_options.specs.CommandLine.{faults_of, help_on, with_flags, words_meant};
 ghost use Rattle.ans_options.specs.CommandLine.{anscheck, check_app, command_name, file_app, holds_flag, texts_of};
 ghost use Rattle.ans_options.specs.declared.command_line.WordsError.TheVariants.{Clap};
 
@@ -17,9 +17,10 @@ use std::alloc::{AllocError, Global};
 /// Why the words give no options.
 #[derive(Debug, Drop)]
 pub enum WordsError {
-    /// `clap` rejects them, or they ask for help, or memory ran out while they were read.
+    /// `clap` rejects them, or they ask for help or the version, or memory ran out while they were
+    /// read.
     Clap(clap::Error),
-    /// Memory ran out for the file's name.
+    /// Memory ran out for the words or for the file's name.
     Memory,
 }
 
@@ -68,21 +69,18 @@ const CHECK_FLAGS: [(&str, &str); 7] = [
         "known-screen",
         "Assume the screen to be blank, white on black",
     ),
-    (
-        "known-cursor",
-        "Assume the cursor to be at the top left",
-    ),
+    ("known-cursor", "Assume the cursor to be at the top left"),
     (
         "known-saved",
         "Assume the saved cursor to be at the top left",
     ),
-    (
-        "known-colours",
-        "Assume the colours to be white on black",
-    ),
+    ("known-colours", "Assume the colours to be white on black"),
     ("known-wrap", "Assume wrap to be on"),
     ("cleared", "Assume all five: a screen that was just cleared"),
-    ("cells", "Print each cell too: its byte and its attribute, in hex"),
+    (
+        "cells",
+        "Print each cell too: its byte and its attribute, in hex",
+    ),
 ];
 
 /// `NAME [FILE]`.
@@ -258,57 +256,46 @@ fn read_matches(
     Ok((options_of(command, found), file))
 }
 
-/// Has clap read the words, and gives the options and the file that they ask for.
-fn read_words(alloc: Global, words: &[&str]) -> Result<(Options, Option<String>), WordsError>
-    ensures { Answers (texts_of words.now) result }
-{
-    let program = match program(alloc) {
-        Ok(program) => program,
-        Err(error) => return Err(WordsError::Clap(clap::Error::from(error))),
-    };
-    let matches = program.try_get_matches_from(words)?;
-    read_matches(alloc, &matches)
-}
-
-/// Has clap read what stands for `help`, before these words.
-fn read_help(
+/// What stands for `help`, by the words after it.
+fn words_for_help<'a>(
     alloc: Global,
-    program: &str,
-    topic: &[&str],
-) -> Result<(Options, Option<String>), WordsError>
-    ensures { Answers (program.now ∷ help_on (texts_of topic.now)) result }
+    program: &'a str,
+    topic: &[&'a str],
+) -> Result<Vec<&'a str>, AllocError>
+    ensures { IfOk result (λ v. texts_of v.items ≡ program.now ∷ help_on (texts_of topic.now)) }
 {
     match *topic {
-        [] => read_words(alloc, &[program, "--help"]),
-        [name, ..] if command_named(name).is_none() => read_words(alloc, &[program, "--", name]),
-        [command] => read_words(alloc, &[program, command, "--help"]),
-        [command, word, ..] => read_words(alloc, &[program, command, "--", command, word]),
+        [] => Vec::from_slice(alloc, &[program, "--help"]),
+        [name, ..] if command_named(name).is_none() => {
+            Vec::from_slice(alloc, &[program, "--", name])
+        }
+        [command] => Vec::from_slice(alloc, &[program, command, "--help"]),
+        [command, word, ..] => Vec::from_slice(alloc, &[program, command, "--", command, word]),
     }
 }
 
-/// Has clap read what the words mean.
-fn read_meant(alloc: Global, words: &[&str]) -> Result<(Options, Option<String>), WordsError>
-    ensures { Answers (words_meant (texts_of words.now)) result }
+/// The words that `clap` is to read.
+fn words_meant<'a>(alloc: Global, words: &[&'a str]) -> Result<Vec<&'a str>, AllocError>
+    ensures { IfOk result (λ v. texts_of v.items ≡ words_meant (texts_of words.now)) }
 {
-    let [program, first, topic @ ..] = words else {
-        return read_words(alloc, words);
+    let [program, "help", topic @ ..] = words else {
+        return Vec::from_slice(alloc, words);
     };
-    if *first == "help" {
-        read_help(alloc, program, topic)
-    } else {
-        read_words(alloc, words)
-    }
+    words_for_help(alloc, program, topic)
 }
 
-/// Reads the options and the file from the program's words, its own name first: `anscheck check`
-/// with its flags and `[FILE]`, `anscheck sauce [FILE]`, `anscheck tokens [FILE]` or
-/// `anscheck needs [FILE]`. A part of the start is known where its flag is given, as
+/// Reads the options and the file from the program's words, its own name first:
+/// `anscheck needs [FILE]`, `anscheck check` with its flags and `[FILE]`, `anscheck sauce [FILE]` or
+/// `anscheck tokens [FILE]`. A part of the start is known where its flag is given, as
 /// `--known-cursor`, or `--cleared`, and cells are asked for where `--cells` is. With the commands
-/// that take no flags nothing is known and no cells are asked for.
+/// that take no flags nothing is known and no cells are asked for. The file's name comes as it is
+/// given, `-` too.
 ///
-/// Fails where `clap` rejects the words, where they ask for help, and where memory runs out. But for
-/// want of memory the words alone decide: options come exactly where they have no fault, and else the
-/// error has the kind of their first fault. To ask for help counts as a fault.
+/// Fails where `clap` rejects the words, where they ask for help or for the version, and where memory
+/// runs out. Help is asked for by `--help`, `-h`, `help` and `help COMMAND`, the version by
+/// `--version` and `-V`; the error then has the text that was asked for. But for want of memory the
+/// words alone decide: options come exactly where they have no fault, and else the error has one of
+/// the kinds that their first fault may have. To ask for help or for the version counts as a fault.
 pub fn options(alloc: Global, words: &[&str]) -> Result<(Options, Option<String>), WordsError>
     ensures ok { IfOk result (λ r.
         AreOptionsOf (texts_of words.now) r.0 (option_map string_bytes r.1)) }
@@ -321,5 +308,13 @@ pub fn options(alloc: Global, words: &[&str]) -> Result<(Options, Option<String>
         faults_of (texts_of words.now) ≡ [] → RanOutOfMemory e) }
     ensures kinds { IfErr result (HasKindAmong (faults_of (texts_of words.now))) }
 {
-    read_meant(alloc, words)
+    let Ok(meant) = words_meant(alloc, words) else {
+        return Err(WordsError::Memory);
+    };
+    let program = match program(alloc) {
+        Ok(program) => program,
+        Err(error) => return Err(WordsError::Clap(clap::Error::from(error))),
+    };
+    let matches = program.try_get_matches_from(meant.as_slice())?;
+    read_matches(alloc, &matches)
 }
