@@ -1,7 +1,7 @@
 -- What a result that is an error is known to hold.
-use Rattle.std.proofs.Common.{◌≡◌, List, [], ◌∷◌, Result, Ok, Err, inl, inr, subst}
+use Rattle.std.proofs.Common.{◌≡◌, [], ◌∷◌, Result, Ok, Err, inl, inr}
 use Rattle.std.specs.Prelude.{IsErrAnd, IfErr, IfOk}
-use Rattle.clap.specs.Words.{App, HasKind, Kinds, Text, fault_of, kind_of}
+use Rattle.clap.specs.Words.{HasKind, Kinds, kind_of}
 use Rattle.clap.specs.declared.error.Error.{Error}
 use Rattle.clap.specs.declared.error.ErrorKind.TheVariants.{OutOfMemory}
 

@@ -1,7 +1,7 @@
 -- The first fault of words that ask for help or for the version.
 use Rattle.std.proofs.Common.{◌≡◌, List, [], ◌∷◌, codes, refl}
 use Rattle.clap.specs.Words.{Text}
-use Rattle.clap.specs.Faults.{defaults_fault, flags_fault, walk_fault}
+use Rattle.clap.specs.Faults.{flags_fault, walk_fault}
 use Rattle.clap.specs.Walk.{bundle_met, walked}
 use Rattle.std.specs.Char.{encode_utf8}
 use Rattle.std.specs.Str.{chars}

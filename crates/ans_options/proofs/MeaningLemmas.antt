@@ -1,5 +1,5 @@
 -- What the words mean, by their form.
-use Rattle.std.proofs.Common.{◌≡◌, ◌≤◌, ◌<◌, Bool, true, false, List, [], ◌∷◌, length, Option, Some, None}
+use Rattle.std.proofs.Common.{◌≡◌, ◌≤◌, ◌<◌, false, List, [], ◌∷◌, length, Option, Some, None}
 use Rattle.std.proofs.Common.{arith, codes, refl, slice_index_or}
 use Rattle.std.specs.Prelude.{IfNone, is_some}
 use Rattle.std.specs.Borrow.{Bor}
@@ -8,7 +8,7 @@ use Rattle.std.proofs.lemmas.Slice.Eq.{bytes_eq-Decides}
 use Rattle.clap.specs.Words.{Text}
 use Rattle.ans_options.specs.declared.command.Command.{Command}
 use Rattle.ans_options.specs.declared.command.Command.TheVariants.{Check, Sauce, Tokens, Needs}
-use Rattle.ans_options.specs.CommandLine.{IsNoCommand, command_name, help_on, is_command_name, texts_of, words_meant}
+use Rattle.ans_options.specs.CommandLine.{IsNoCommand, help_on, is_command_name, texts_of, words_meant}
 use Rattle.ans_options.proofs.CommandLineLemmas.{not_true}
 
 unequal : (name other : Text) → (name ≡ other → ⊥) → bytes_eq name other ≡ false
