@@ -90,20 +90,20 @@ command_names = codes "needs" ∷ codes "check" ∷ codes "sauce" ∷ codes "tok
 abbrev pub is_command_name : Text → Bool
 is_command_name name = list_any (bytes_eq name) command_names
 
--- `help COMMAND` stands for `COMMAND --help`. More words are a mistake: behind `--` the command takes its own name for the
--- FILE, and clap rejects the word after that.
+-- What stands for `help COMMAND`: `COMMAND --help`. A word after it is a mistake. To have clap name it, the command gets
+-- its own name as the FILE, behind `--`, and then the word, which is one too many.
 abbrev pub help_on_command : Text → List Text → List Text
 help_on_command name [] = name ∷ codes "--help" ∷ []
 help_on_command name (word ∷ more) = name ∷ codes "--" ∷ name ∷ word ∷ []
 
--- What stands for `help`, by the words after it: none, or a command. Anything else is a mistake: behind `--` it is no
--- subcommand, and clap rejects it.
+-- What stands for `help` with these words after it: `--help` where there are none. A first word that is no command is a
+-- mistake. To have clap name it, it stands behind `--`, where the program takes no word.
 abbrev pub help_on : List Text → List Text
 help_on [] = codes "--help" ∷ []
 help_on (name ∷ more) = if is_command_name name then help_on_command name more else codes "--" ∷ name ∷ []
 
--- The words that clap is to read: those that `help` stands for where it is the first after the program's name, and else
--- all as they are.
+-- What the words mean, as words for clap: where `help` comes first after the program's name, what stands for it, and else
+-- the words themselves.
 abbrev pub words_meant : List Text → List Text
 words_meant (program ∷ word ∷ more) =
     program ∷ (if bytes_eq word (codes "help") then help_on more else word ∷ more)

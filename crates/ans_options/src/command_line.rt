@@ -133,7 +133,7 @@ fn check_command<'a>(alloc: Global) -> Result<clap::Command<'a>, AllocError>
     let command = file_command(
         alloc,
         "check",
-        "Check that a file shows one picture from every start, and print it",
+        "Check that a file always shows the same picture, and print it",
     )?;
     with_flags(alloc, command, &CHECK_FLAGS)
 }

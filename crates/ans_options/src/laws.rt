@@ -16,8 +16,9 @@ pub fn command_line_is_simple()
     ensures free { is_simple_and_free anscheck ≡ true }
 {}
 
-/// Where the first fault of the words may be that help is asked for, it is that and nothing else; and
-/// so with the version. So the words tell whether help or the version is shown, or a mistake.
+/// Where the first fault of words that `clap` reads may be that help is asked for, it is that and
+/// nothing else; and so with the version. `faults_of` is the fault of such words. So the program's
+/// words tell whether help or the version is shown, or a mistake.
 pub fn requests_stand_alone()
     ensures { (words : List Text) → IsRequestAloneOrNotAtAll (fault_of anscheck words) }
 {}

@@ -10,7 +10,7 @@ const PROGRAM_HELP: &str = "Checks ANSI art files that end in a SAUCE record\n\
     \n\
     Commands:\n\
     \x20 needs   Print what a drawing relies on: screen, cursor, saved, colours, wrap\n\
-    \x20 check   Check that a file shows one picture from every start, and print it\n\
+    \x20 check   Check that a file always shows the same picture, and print it\n\
     \x20 sauce   Print what a file's SAUCE record says\n\
     \x20 tokens  Print the bytes and the escape sequences of a file, one a line\n\
     \n\
@@ -45,7 +45,7 @@ const NEEDS_HELP: &str = "Print what a drawing relies on: screen, cursor, saved,
     \x20 2  There is no answer; standard error says why\n";
 
 /// The help of `check`.
-const CHECK_HELP: &str = "Check that a file shows one picture from every start, and print it\n\
+const CHECK_HELP: &str = "Check that a file always shows the same picture, and print it\n\
     \n\
     Usage: anscheck check [OPTIONS] [FILE]\n\
     \n\
