@@ -44,7 +44,8 @@ alone asked k (inr never) = absurd never
 one_kind : (k : ErrorKind) → IsRequestAloneOrNotAtAll (k ∷ [])
 one_kind k = record { help = alone kind.DisplayHelp k; version = alone kind.DisplayVersion k }
 
-first_or : (a b : Kinds) → IsRequestAloneOrNotAtAll a → IsRequestAloneOrNotAtAll b → IsRequestAloneOrNotAtAll (or_else a b)
+first_or : (a b : Kinds) → IsRequestAloneOrNotAtAll a → IsRequestAloneOrNotAtAll b
+    → IsRequestAloneOrNotAtAll (or_else a b)
 first_or [] b h g = g
 first_or (k ∷ a) b h g = h
 
@@ -157,7 +158,8 @@ module _ (c : List Rule) (again : Bool) where
       of_short (arg_by_short c x) rest h (later rest 0) (g rest 0)
   of_bundle_step (Some x) flags (suc skip) h later g = g (drop (length (encode_utf8 x)) flags) skip h
 
-  of_flags : (k : ℕ) (flags : Text) (skip : ℕ) (h : Held) → IsRequestAloneOrNotAtAll (flags_fault c again k flags skip h)
+  of_flags : (k : ℕ) (flags : Text) (skip : ℕ) (h : Held)
+      → IsRequestAloneOrNotAtAll (flags_fault c again k flags skip h)
   unfolding flags_fault
   of_flags zero flags skip h = none_at_all
   of_flags (suc k) flags skip h =

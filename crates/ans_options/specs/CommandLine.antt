@@ -90,8 +90,8 @@ command_names = codes "needs" ∷ codes "check" ∷ codes "sauce" ∷ codes "tok
 abbrev pub is_command_name : Text → Bool
 is_command_name name = list_any (bytes_eq name) command_names
 
--- What stands for `help COMMAND`: `COMMAND --help`. A word after it is a mistake. To have clap name it, the command gets
--- its own name as the FILE, behind `--`, and then the word, which is one too many.
+-- What stands for `help COMMAND`: `COMMAND --help`. A word after it is a mistake. To have clap name it, the command
+-- gets its own name as the FILE, behind `--`, and then the word, which is one too many.
 abbrev pub help_on_command : Text → List Text → List Text
 help_on_command name [] = name ∷ codes "--help" ∷ []
 help_on_command name (word ∷ more) = name ∷ codes "--" ∷ name ∷ word ∷ []
@@ -102,8 +102,8 @@ abbrev pub help_on : List Text → List Text
 help_on [] = codes "--help" ∷ []
 help_on (name ∷ more) = if is_command_name name then help_on_command name more else codes "--" ∷ name ∷ []
 
--- What the words mean, as words for clap: where `help` comes first after the program's name, what stands for it, and else
--- the words themselves.
+-- What the words mean, as words for clap: where `help` comes first after the program's name, what stands for it, and
+-- else the words themselves.
 abbrev pub words_meant : List Text → List Text
 words_meant (program ∷ word ∷ more) =
     program ∷ (if bytes_eq word (codes "help") then help_on more else word ∷ more)
