@@ -2,10 +2,13 @@
 //!
 //! A `Scanner` is given one byte at a time. It returns a token where the bytes since the last one
 //! spell it, nothing where they begin a spelling, and a fault where they begin none. Between two
-//! tokens it also takes a run of glyphs or a whole token from a slice. For a caller that plays as
-//! it reads, [`count_glyphs`] counts a run and [`read_sequence`] reads a sequence's numbers and
-//! letter; [`Scanner::skip`] then goes on over both. The definitions stand in `ans_model`'s room
-//! `Sequence`: `Spelling`, `Meaning` and `Reads`.
+//! tokens it also takes a run of glyphs or a whole token from a slice.
+//!
+//! Other functions are for a caller that plays as it reads and makes no token. [`count_glyphs`]
+//! counts a run. [`read_sequence`] reads a sequence's numbers and letter, and [`distance`],
+//! [`place`] and [`is_just`] read in the numbers what the letter takes. [`Scanner::skip`] then goes
+//! on over the bytes. The definitions stand in `ans_model`'s room `Sequence`: `Spelling`, `Meaning`
+//! and `Reads`.
 #![tactic(auto)]
 
 mod glyphs;

@@ -125,6 +125,7 @@ impl Scanner {
     ghost use Rattle.std.specs.Prelude.{◌≡◌, ◌+◌, ◌<◌, ◌≤◌, length, None, Some};
     ghost use Rattle.std.specs.Prelude.{OnOk, OnErr, IfOk, IfErr, IfSome, IsErrOf};
     ghost use Rattle.ans_model.specs.Bytes.{longest_file};
+    ghost use Rattle.ans_model.specs.File.Refusals.{fault_at};
     ghost use Rattle.ans_tokens.specs.ScannerView.{new_scanner, Holds, StaysUnfinished, EndsToken};
     ghost use Rattle.ans_tokens.specs.ScannerView.{StartsAfterLast, RefusesByte, Ends};
     ghost use Rattle.ans_tokens.specs.Glyphs.{IsGlyphFront, IsBetweenTokens, scanner_after};
@@ -147,6 +148,16 @@ impl Scanner {
         ensures { result ≡ self.now.offset }
     {
         self.offset
+    }
+
+    /// A fault that stands at the first byte since the last token.
+    fn fault_of_open_part(&self, cause: Cause) -> Fault
+        ensures { result ≡ fault_at self.now.open_offset cause }
+    {
+        Fault {
+            offset: self.open_offset,
+            cause,
+        }
     }
 
     /// Takes the next byte. It returns a token where the bytes since the last one spell it, None
@@ -180,20 +191,13 @@ impl Scanner {
             }
             Ok(Some(kind)) => {
                 self.offset += 1;
-                let token = Token {
-                    kind,
-                    start: self.open_offset,
-                    length: self.offset - self.open_offset,
-                };
+                let token = Token::new(kind, self.open_offset, self.offset - self.open_offset);
                 self.open_part = Open::Nothing;
                 self.open_offset = self.offset;
                 Ok(Some(token))
             }
             Err(cause) => {
-                let fault = Fault {
-                    offset: self.open_offset,
-                    cause,
-                };
+                let fault = self.fault_of_open_part(cause);
                 self.fault = Some(fault);
                 Err(fault)
             }
@@ -210,8 +214,8 @@ impl Scanner {
     }
 
     /// Takes the glyphs before the first byte that is none, each as a token of one byte, and
-    /// returns how many they are. It is called between two tokens. All bytes but BEL, BS, TAB, LF,
-    /// CR and ESC are glyphs (ANSI.SYS).
+    /// returns how many they are; [`count_glyphs`] says which bytes are glyphs. It is called between
+    /// two tokens.
     pub fn glyphs(&mut self, bytes: &[u8]) -> usize
         requires between { IsBetweenTokens self.old }
         requires room { self.old.offset + length bytes.now ≤ longest_file }
@@ -266,9 +270,6 @@ impl Scanner {
         if self.open_part.is_nothing() {
             return Ok(());
         }
-        Err(Fault {
-            offset: self.open_offset,
-            cause: Cause::EndInSequence,
-        })
+        Err(self.fault_of_open_part(Cause::EndInSequence))
     }
 }

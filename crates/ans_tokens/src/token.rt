@@ -14,6 +14,18 @@ pub struct Token {
 }
 
 impl Token {
+    pub(crate) fn new(kind: Kind, start: usize, length: usize) -> Token
+        ensures kind { kind_of result ≡ kind }
+        ensures start { start_of result ≡ start }
+        ensures length { length_of result ≡ length }
+    {
+        Token {
+            kind,
+            start,
+            length,
+        }
+    }
+
     /// What the token is.
     pub fn kind(&self) -> &Kind
         ensures { result.now ≡ kind_of self.now }

@@ -153,11 +153,7 @@ fn whole_sequence(bytes: &[u8], start: usize) -> Option<Token>
     let mut numbers = ArrayVec::new();
     let letter = read_members(bytes, mark, from, &mut numbers)?;
     match kind_meant(mark, numbers, false, letter.byte) {
-        Ok(kind) => Some(Token {
-            kind,
-            start,
-            length: letter.end,
-        }),
+        Ok(kind) => Some(Token::new(kind, start, letter.end)),
         Err(_) => None,
     }
 }
@@ -172,9 +168,5 @@ pub(crate) fn whole_token(bytes: &[u8], start: usize) -> Option<Token>
     if first == ESCAPE {
         return whole_sequence(bytes, start);
     }
-    Some(Token {
-        kind: kind_of_byte(first),
-        start,
-        length: 1,
-    })
+    Some(Token::new(kind_of_byte(first), start, 1))
 }

@@ -1,4 +1,4 @@
-use Rattle.std.proofs.Common.{◌≡◌, refl, arith, get_or}
+use Rattle.std.proofs.Common.{◌≡◌, arith, get_or}
 use Rattle.ans_model.specs.Bytes.{escape, bracket}
 use Rattle.ans_model.specs.Inside.ShownKind.{shown_kind}
 use Rattle.ans_tokens.specs.Mark.{mark_of}
@@ -22,9 +22,10 @@ returns-in-Ok-clause-taken c =
     let letter = c.in_ok-letter.letter in
     let mark = mark_of c.match-mark_of_byte.mark.0 in
     record {
-      front = means_token mark c.read_members.new.numbers.items c.args.bytes.now letter.byte letter.end
-          (shown_kind c.in-Ok.kind) c.in_ok-letter.ensures.read c.in-Ok.ensures;
-      starts = refl;
+      front = rw (c.new.ensures.kind, c.new.ensures.length)
+          (means_token mark c.read_members.new.numbers.items c.args.bytes.now letter.byte letter.end
+          (shown_kind c.in-Ok.kind) c.in_ok-letter.ensures.read c.in-Ok.ensures);
+      starts = c.new.ensures.start;
     }
 
 pub returns-in_err-letter-clause-declined : goal.returns-in_err-letter-clause-declined
