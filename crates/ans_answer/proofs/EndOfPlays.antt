@@ -1,11 +1,10 @@
 -- The end of the bytes: where the two screens agree the bytes are good, and else a cell stays unknown.
-use Rattle.std.proofs.Common.{◌≡◌, inl, inr, ℕ, ◌+◌, ◌*◌, ◌/◌, ◌%◌, ◌<◌, refl, sym, ap, ◌∙◌, arith, List, []}
-use Rattle.std.proofs.Common.{◌++◌, length, length-append, take, subst}
+use Rattle.std.proofs.Common.{◌≡◌, inr, ℕ, ◌+◌, ◌*◌, ◌/◌, ◌%◌, ◌<◌, refl, sym, ap, ◌∙◌, arith, List, []}
+use Rattle.std.proofs.Common.{◌++◌, take, subst}
 use Rattle.std.specs.Prelude.{slice_get}
 use Rattle.std.proofs.lemmas.List.{length-take, append-nil}
 use Rattle.std.proofs.lemmas.List.Elements.{All-take}
 use Rattle.ans_model.specs.Sequence.Reads.{Reads}
-use Rattle.ans_model.specs.Sequence.Spelling.{IsUnfinished}
 use Rattle.ans_model.specs.Screen.State.{Size, State, index, IsStated, IsByteCell, IsWellFormed}
 use Rattle.ans_model.specs.Screen.StartClass.{low_start, high_start}
 use Rattle.ans_model.specs.declared.start.Start.{Start}
@@ -14,8 +13,7 @@ use Rattle.ans_model.specs.Verdict.LastFault.{SameCell, IsFirstUnknown, IsLastFa
 use Rattle.ans_model.specs.File.Refusals.{fault_at}
 use Rattle.ans_model.specs.declared.cell.Cell.{Cell}
 use Rattle.ans_model.specs.declared.cell.Position.{Position}
-use Rattle.ans_model.specs.declared.fault.Fault.{Fault}
-use Rattle.ans_model.specs.declared.fault.Cause.TheVariants.{EndInSequence, UnknownCell}
+use Rattle.ans_model.specs.declared.fault.Cause.TheVariants.{UnknownCell}
 use Rattle.ans_model.proofs.PositionLemmas.{index-lt_stated}
 use Rattle.ans_model.proofs.Reading.{reads_bytes}
 use Rattle.ans_model.proofs.Slices.{slice_get-take}
@@ -32,25 +30,6 @@ abbrev pub stated_count : Size → ℕ
 stated_count z = z.lines * z.width
 
 module _ (v : TwoPlaysView) (class : Start) (bytes : List ℕ) (p : ArePlayed class bytes v) where
-  -- the bytes end within a sequence
-  pub ends_in_sequence : (fault : Fault) → IsUnfinished p.open_part → fault.cause ≡ EndInSequence →
-      fault.offset + length p.open_part ≡ v.scanner.offset → IsLastFault v.size class bytes fault
-  ends_in_sequence fault unfinished cause start =
-      let whole : length bytes ≡ length p.front + length p.open_part = ap length p.whole
-      ∙ length-append p.front p.open_part in
-      let offset : fault.offset ≡ length p.front = omega (arith, start, p.offset, whole) in
-      inl (record {
-        size = p.after.size;
-        front = p.front;
-        text = p.open_part;
-        whole = p.whole;
-        tokens = p.tokens;
-        reads = p.reads;
-        clean = p.after.clean;
-        unfinished = unfinished;
-        fault_is = λ i. record { offset = offset i; cause = cause i };
-      })
-
   module _ (closed : p.open_part ≡ []) where
     -- all bytes are read
     read_whole : Reads bytes p.tokens

@@ -1,19 +1,18 @@
 -- A tab in both plays: its blanks, one after the other.
-use Rattle.std.proofs.Common.{◌≡◌, ◌≢◌, inl, inr, ℕ, zero, suc, ◌+◌, ◌<◌, refl, sym, ap, ◌∙◌, arith, List, ◌++◌, All}
+use Rattle.std.proofs.Common.{◌≡◌, ◌≢◌, inl, inr, ℕ, zero, suc, ◌+◌, ◌<◌, refl, sym, ap, ◌∙◌, arith, List, All}
 use Rattle.std.proofs.Common.{fold, replicate, Some, None, subst}
 use Rattle.std.proofs.lemmas.Bool.{cases_lt}
 use Rattle.std.proofs.lemmas.List.{append-nil}
-use Rattle.std.proofs.lemmas.List.Sums.{fold-append}
 use Rattle.ans_model.specs.Bytes.{blank}
 use Rattle.ans_model.specs.Sequence.TokenKind.{TokenKind, PrintsByte, Glyph, Tab}
 use Rattle.ans_model.specs.Screen.State.{Size, State}
-use Rattle.ans_model.specs.Screen.Step.{put, step, final, tab_blanks}
-use Rattle.ans_model.specs.Screen.StartClass.{IsStart, low_start, high_start}
+use Rattle.ans_model.specs.Screen.Step.{put, final, tab_blanks}
+use Rattle.ans_model.specs.Screen.StartClass.{low_start, high_start}
 use Rattle.ans_model.specs.declared.start.Start.{Start}
 use Rattle.ans_model.specs.declared.cell.Position.{Position}
 use Rattle.ans_model.specs.declared.fault.Cause.{Cause}
 use Rattle.ans_model.specs.declared.fault.Cause.TheVariants.{PrintUnknownPlace}
-use Rattle.ans_model.specs.Verdict.TokenFault.{HasPrintFault, HasTabFault, then_blanks, TabGoesOn, FromEvery, HasFault}
+use Rattle.ans_model.specs.Verdict.TokenFault.{HasPrintFault, then_blanks, TabGoesOn, FromEvery, HasFault}
 use Rattle.ans_model.proofs.CleanLemmas.{some_blanks}
 use Rattle.ans_model.proofs.StartLemmas.{low_is_start}
 use Rattle.ans_play.proofs.Clean.{clean_blanks, blanks_print}
@@ -33,13 +32,6 @@ pub record IsInTab (old new : TwoPlaysView) (n : ℕ) : Type 0 where
   pub is : new ≡ blanks_in_both old n
   pub none : (class : Start) (tokens : List TokenKind) → All PrintsByte tokens → AreAfter class tokens old →
       (m : ℕ) (c : Cause) → m < n → ¬ HasPrintFault old.size class (then_blanks tokens m) c
-
--- before the first
-pub in_tab_at_first : (old : TwoPlaysView) → IsInTab old old 0
-in_tab_at_first old = record {
-  is = refl;
-  none = λ class tokens prints after m c lt f. absurd (let no : ⊥ = omega arith in no);
-}
 
 -- one blank more is one more in the end
 one_blank_last : (z : Size) (s : State) (n : ℕ) →
@@ -133,26 +125,6 @@ in_tab_fault old new n cause tab same lt found class tokens prints after =
       fault = found_some old class tokens prints after n cause (tab.none class tokens prints after)
           (rw tab.is at found);
     })
-
--- no blank has one
-pub in_tab_none : (old new : TwoPlaysView) → IsInTab old new (tab_blanks old.low.cursor.column) →
-    FindsFault old Tab None
-in_tab_none old new tab class tokens prints after cause (inl f) = f
-in_tab_none old new tab class tokens prints after cause (inr f) =
-    let low : State = low_start old.size class in
-    let start : IsStart old.size class low = low_is_start old.size class after.size.some_columns in
-    let column : (final old.size low tokens).cursor.column ≡ old.low.cursor.column =
-    ap (λ (t : State). t.cursor.column) (sym after.low) in
-    tab.none class tokens prints after f.blanks_before cause (rw column at (f.goes_on low start)) f.fault
-
--- and then the tab is made in both plays
-pub in_tab_all : (old new : TwoPlaysView) → IsInTab old new (tab_blanks old.low.cursor.column) →
-    old.low.cursor ≡ old.high.cursor → new ≡ after_both old Tab
-in_tab_all old new tab same =
-    tab.is ∙ ap (λ (p : Position). record old {
-      low = fold (put old.size) old.low (replicate (tab_blanks old.low.cursor.column) blank);
-      high = fold (put old.size) old.high (replicate (tab_blanks p.column) blank);
-    }) same
 
 -- at two positions the first blank has a fault
 pub finds_unknown_tab : (p : TwoPlaysView) → p.low.cursor ≢ p.high.cursor → FindsFault p Tab (Some PrintUnknownPlace)

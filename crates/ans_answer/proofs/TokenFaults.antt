@@ -1,14 +1,11 @@
 -- The fault of the next token, by where the two plays stand.
-use Rattle.std.proofs.Common.{◌≡◌, ◌≢◌, ◌⊎◌, inl, inr, ℕ, ◌+◌, ◌<◌, ◌≤◌, sym, ap, ◌∙◌, arith, List, All, Some, None}
-use Rattle.ans_model.specs.Sequence.TokenKind.{TokenKind, PrintsByte, Glyph, LineFeed, EraseLine, Place}
-use Rattle.ans_model.specs.Sequence.TokenKind.{Tab, Mode, Keys, Ask}
-use Rattle.ans_model.specs.Screen.State.{Size}
+use Rattle.std.proofs.Common.{◌≡◌, ◌≢◌, inl, inr, ℕ, sym, ap, ◌∙◌, List, All, Some, None}
+use Rattle.ans_model.specs.Sequence.TokenKind.{TokenKind, PrintsByte, Glyph, LineFeed, EraseLine}
 use Rattle.ans_model.specs.Screen.StartClass.{low_start}
 use Rattle.ans_model.specs.declared.start.Start.{Start}
-use Rattle.ans_model.specs.Verdict.TokenFault.{HasStaticFault, HasFaultAfter, HasFault}
+use Rattle.ans_model.specs.Verdict.TokenFault.{HasFaultAfter}
 use Rattle.ans_model.specs.declared.fault.Cause.{Cause}
-use Rattle.ans_model.specs.declared.fault.Cause.TheVariants.{KeyReassigned, ScreenMode, ReportAsked}
-use Rattle.ans_model.specs.declared.fault.Cause.TheVariants.{OutsideScreen, PrintBelow, Scrolls, PrintUnknownPlace}
+use Rattle.ans_model.specs.declared.fault.Cause.TheVariants.{PrintBelow, Scrolls, PrintUnknownPlace}
 use Rattle.ans_model.specs.declared.fault.Cause.TheVariants.{EraseUnknownPlace, MayScroll}
 use Rattle.ans_model.specs.declared.cell.Position.{Position}
 use Rattle.ans_model.proofs.StartLemmas.{low_is_start}
@@ -99,58 +96,3 @@ pub finds_none_scrolls : (p : TwoPlaysView) → p.low.cursor.row ≢ p.size.line
 finds_none_scrolls p low high class tokens prints after cause (inl f) = f
 finds_none_scrolls p low high class tokens prints after cause (inr f) =
     feed_has_none p low high class tokens prints after cause f
-
--- ---- a place
-pub finds_place_outside : (p : TwoPlaysView) (row column : ℕ) → (p.size.lines + 1 < row) ⊎ (p.size.width < column) →
-    FindsFault p (Place row column) (Some OutsideScreen)
-finds_place_outside p row column outside class tokens prints after = inl outside
-
-place_has_none : (z : Size) (row column : ℕ) → row ≤ z.lines + 1 → column ≤ z.width → (cause : Cause) →
-    ¬ HasStaticFault z (Place row column) cause
-place_has_none z row column r c OutsideScreen (inl f) = omega arith
-place_has_none z row column r c OutsideScreen (inr f) = omega arith
-place_has_none z row column r c _ f = f
-
-pub finds_place_on_screen : (p : TwoPlaysView) (row column : ℕ) → row ≤ p.size.lines + 1 → column ≤ p.size.width →
-    FindsFault p (Place row column) None
-finds_place_on_screen p row column r c class tokens prints after cause (inl f) =
-    place_has_none p.size row column r c cause f
-finds_place_on_screen p row column r c class tokens prints after cause (inr f) = f
-
--- ---- tokens that are always refused, and the others
-pub finds_keys : (p : TwoPlaysView) → FindsFault p Keys (Some KeyReassigned)
-finds_keys p class tokens prints after = inl tt
-
-pub finds_mode : (p : TwoPlaysView) → FindsFault p Mode (Some ScreenMode)
-finds_mode p class tokens prints after = inl tt
-
-pub finds_ask : (p : TwoPlaysView) → FindsFault p Ask (Some ReportAsked)
-finds_ask p class tokens prints after = inl tt
-
--- tokens that are never refused
-abbrev pub IsNeverRefused : TokenKind → Type 0
-IsNeverRefused Keys = ⊥
-IsNeverRefused Mode = ⊥
-IsNeverRefused Ask = ⊥
-IsNeverRefused Tab = ⊥
-IsNeverRefused (Place row column) = ⊥
-IsNeverRefused (Glyph byte) = ⊥
-IsNeverRefused EraseLine = ⊥
-IsNeverRefused LineFeed = ⊥
-IsNeverRefused _ = Unit {0}
-
-never_refused : (z : Size) (class : Start) (tokens : List TokenKind) (t : TokenKind) → IsNeverRefused t →
-    (cause : Cause) → ¬ HasFault z class tokens t cause
-never_refused z class tokens Keys n cause f = absurd n
-never_refused z class tokens Mode n cause f = absurd n
-never_refused z class tokens Ask n cause f = absurd n
-never_refused z class tokens Tab n cause f = absurd n
-never_refused z class tokens (Place row column) n cause f = absurd n
-never_refused z class tokens (Glyph byte) n cause f = absurd n
-never_refused z class tokens EraseLine n cause f = absurd n
-never_refused z class tokens LineFeed n cause f = absurd n
-never_refused z class tokens _ n cause (inl f) = f
-never_refused z class tokens _ n cause (inr f) = f
-
-pub finds_none : (p : TwoPlaysView) (t : TokenKind) → IsNeverRefused t → FindsFault p t None
-finds_none p t n class tokens prints after cause = never_refused p.size class tokens t n cause

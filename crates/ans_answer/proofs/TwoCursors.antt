@@ -1,5 +1,5 @@
 -- What the two cursors tell of the cursors of all plays.
-use Rattle.std.proofs.Common.{◌≡◌, ◌≢◌, ◌<◌, sym, ap, ◌∙◌, arith, List, [], ◌∷◌, All, ℕ}
+use Rattle.std.proofs.Common.{◌≡◌, ◌≢◌, ◌<◌, sym, ap, ◌∙◌, arith, List, [], ◌∷◌, All}
 use Rattle.std.proofs.lemmas.List.Elements.{All-head, All-tail}
 use Rattle.ans_model.specs.Sequence.TokenKind.{TokenKind, PrintsByte}
 use Rattle.ans_model.specs.Screen.State.{Size, State, IsWellFormed}

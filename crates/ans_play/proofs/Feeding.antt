@@ -121,9 +121,6 @@ first_fault z class s text rest scanner h fault p blame start = record {
 }
 
 -- ---- one byte after the other
-pub goes_on_none : (p : PlayView) → GoesOn p [] p
-goes_on_none p = record { size = refl; offset = omega arith; played = λ class s h. rw append-nil h }
-
 -- bytes after bytes
 pub goes_on_more : (old mid new : PlayView) (front bytes : List ℕ) → GoesOn old front mid → GoesOn mid bytes new →
     GoesOn old (front ++ bytes) new
@@ -142,10 +139,6 @@ goes_on_more old mid new front bytes h g = record {
 pub record PlaysTo (old : PlayView) (piece : List ℕ) (i : ℕ) (new : PlayView) : Type 0 where
   pub within : i ≤ length piece
   pub goes_on : GoesOn old (take i piece) new
-
--- no byte of the piece yet
-pub plays_none : (old : PlayView) (piece : List ℕ) → PlaysTo old piece 0 old
-plays_none old piece = record { within = omega arith; goes_on = goes_on_none old }
 
 -- the slice from an index to the end
 pub slice_to_end : (piece : List ℕ) (i : ℕ) → take (length piece - i) (drop i piece) ≡ drop i piece

@@ -17,13 +17,12 @@ use Rattle.ans_model.specs.Screen.StartClass.{IsStart, low_start, high_start}
 use Rattle.ans_model.specs.declared.start.Start.{Start}
 use Rattle.ans_model.specs.Verdict.Good.{Picture, Shows, GoodWith}
 use Rattle.ans_model.specs.File.Refusals.{fault_at}
-use Rattle.ans_model.specs.Verdict.LastFault.{SameCell, CellsDiffer, IsBefore, IsFirstUnknown, EndsInSequence}
+use Rattle.ans_model.specs.Verdict.LastFault.{SameCell, CellsDiffer, IsBefore, IsFirstUnknown}
 use Rattle.ans_model.specs.Verdict.LastFault.{LeavesUnknown}
 use Rattle.ans_model.specs.Verdict.LastFault.{IsLastFault}
-use Rattle.ans_model.specs.Sequence.Spelling.{IsUnfinished}
 use Rattle.ans_model.specs.declared.fault.Fault.{Fault}
 use Rattle.ans_tokens.specs.ScannerView.{ScannerView, Holds}
-use Rattle.ans_model.specs.declared.fault.Cause.TheVariants.{EndInSequence, UnknownCell}
+use Rattle.ans_model.specs.declared.fault.Cause.TheVariants.{UnknownCell}
 use Rattle.ans_model.proofs.StartLemmas.{low_is_start, high_is_start}
 use Rattle.ans_model.proofs.OneAnswer.{good_or_first, good_or_last}
 use Rattle.ans_model.proofs.Slices.{slice_get-take}
@@ -149,25 +148,6 @@ module _ (z : Size) (class : Start) (bytes : List ℕ) (scanner : ScannerView) (
   read_whole e = subst (λ (xs : List ℕ). Reads xs p.tokens)
       (sym (append-nil p.front) ∙ ap (λ (y : List ℕ). p.front ++ y) (sym e) ∙ sym p.whole) p.reads
 
-  -- within a sequence
-  pub in_sequence : (fault : Fault) → IsUnfinished p.open_part → fault.cause ≡ EndInSequence →
-      fault.offset + length p.open_part ≡ scanner.offset → EndsInSequence z class bytes fault
-  in_sequence fault unfinished cause start = record {
-    size = p.size;
-    front = p.front;
-    text = p.open_part;
-    whole = p.whole;
-    tokens = p.tokens;
-    reads = p.reads;
-    clean = p.clean;
-    unfinished = unfinished;
-    fault_is =
-        let size : length bytes ≡ length p.front + length p.open_part = ap length p.whole
-        ∙ length-append p.front p.open_part in
-        let offset : fault.offset ≡ length p.front = omega (arith, start, p.offset, size) in
-        λ i. record { offset = offset i; cause = cause i };
-  }
-
   -- bytes whose cells are known are good
   pub good_where_known : p.open_part ≡ [] → list_all is_known (stated_cells z h.screen) ≡ true →
       GoodWith z class bytes (picture_of z h.screen)
@@ -202,14 +182,6 @@ pub known_if : (cells : List HalfCell) (n : ℕ) → first_unknown cells n ≡ N
 known_if cells n e = none_unknown (take n cells) no_cell e
 
 module _ (v : PlayView) (class : Start) (s : List ℕ) (p : IsPlayed v.size class s v.scanner v.state) where
-  -- the bytes end within a sequence
-  pub ends_open : (fault : Fault) → (v.scanner.fault ≡ None → (y : List ℕ) → Holds v.scanner y → IsUnfinished y
-      × (fault.cause ≡ EndInSequence) × (fault.offset + length y ≡ v.scanner.offset)) →
-      IsLastFault v.size class s fault
-  ends_open fault ends =
-      let at = ends p.unrefused p.open_part p.holds in
-      inl (in_sequence v.size class s v.scanner v.state p fault at.0 at.1 at.2)
-
   module _ (closed : v.scanner.fault ≡ None → (y : List ℕ) → Holds v.scanner y → y ≡ []) where
     nothing_open : p.open_part ≡ []
     nothing_open = closed p.unrefused p.open_part p.holds

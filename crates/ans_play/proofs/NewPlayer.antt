@@ -1,6 +1,6 @@
 -- A new play has played no bytes.
 use Rattle.std.proofs.Common.{◌≡◌, ℕ, ◌-◌, ◌*◌, ◌+◌, refl, sym, ap, ◌∙◌, arith, List, [], replicate, length, mul_comm}
-use Rattle.std.proofs.Common.{lit<, Some, None, Bool, true, false}
+use Rattle.std.proofs.Common.{lit<, Bool, true, false}
 use Rattle.std.specs.Prelude.{if◌then◌else◌}
 use Rattle.ans_model.specs.Bytes.{IsByte}
 use Rattle.std.proofs.lemmas.List.{length-replicate}
@@ -18,8 +18,7 @@ use Rattle.ans_play.specs.HalfStart.{start_cell, start_span, start_attribute, st
 use Rattle.ans_play.specs.HalfState.{HalfState, half_state, IsSpanOnScreen}
 use Rattle.ans_play.specs.Hull.{hull, hull_position, hull_cell, hull_screen, hull_attribute, hull_wrap}
 use Rattle.ans_play.specs.PlayView.{play_view, IsByteHalfCell, IsPlayView}
-use Rattle.ans_play.specs.PlayerView.{PlayerView}
-use Rattle.ans_play.specs.Stands.{IsPlayed, Stands, IsNew}
+use Rattle.ans_play.specs.Stands.{IsPlayed}
 use Rattle.ans_play.proofs.KnownAfter.{known_none}
 use Rattle.ans_play.proofs.SpanLemmas.{same_span}
 use Rattle.ans_play.proofs.HullSteps.{same_half}
@@ -114,13 +113,4 @@ fits_at_start z class scanner cells cell cursor saved attribute wrap a on_cursor
   attribute = rw d (attribute_is_byte class.colours);
   cursor = on_cursor;
   saved = on_saved;
-}
-
--- a player that is fed nothing stands at no bytes
-pub stands_new : (p : PlayerView) (z : Size) (start : Start) → IsNew p z start →
-    IsPlayed z start [] p.scanner p.state → Stands p []
-stands_new p z start new played = record {
-  fed = λ n. new.fed;
-  played = λ n. rw (new.size, new.start) played;
-  faulted = λ f some. absurd (let no : Some f ≡ None = sym some ∙ new.fault in cc);
 }

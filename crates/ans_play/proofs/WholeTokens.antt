@@ -37,7 +37,8 @@ more_tokens old mid new front bytes h g = record {
       let over : scanner_after (scanner_after s (length front)) (length bytes)
       ≡ scanner_after s (length (front ++ bytes)) =
       past_more s (length front) (length bytes) (length (front ++ bytes)) (sym (length-append front bytes)) in
-      subst (λ (c : ScannerView). GoesOn (record old { scanner = s }) (front ++ bytes) (record new { scanner = c })) over
+      subst (λ (c : ScannerView). GoesOn (record old { scanner = s }) (front ++ bytes) (record new { scanner = c }))
+      over
       (goes_on_more (record old { scanner = s }) (record mid { scanner = scanner_after s (length front) })
       (record new { scanner = scanner_after (scanner_after s (length front)) (length bytes) }) front bytes
       (h.played s between) (g.played (scanner_after s (length front)) later));

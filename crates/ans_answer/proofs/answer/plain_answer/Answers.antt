@@ -1,7 +1,6 @@
 use Rattle.std.proofs.Common.{◌≡◌, suc, ◌∷◌, ◌++◌, ap, sym, ◌∙◌, List, ℕ, take, drop, get_or, drop-cons, subst}
 use Rattle.std.proofs.lemmas.List.{take_more, take-append-drop}
 use Rattle.ans_model.specs.Screen.State.{Size}
-use Rattle.ans_model.specs.declared.start.Start.{Start}
 use Rattle.ans_model.specs.Verdict.FirstFault.{IsFirstFault}
 use Rattle.ans_answer.proofs.answer.plain_answer.Goals as goal
 

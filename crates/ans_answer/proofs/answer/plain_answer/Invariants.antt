@@ -1,6 +1,5 @@
 use Rattle.std.proofs.Common.{◌≡◌, take}
 use Rattle.ans_model.specs.Screen.State.{sized}
-use Rattle.ans_model.specs.declared.start.Start.{Start}
 use Rattle.ans_answer.specs.TwoPlays.{ArePlayed}
 use Rattle.ans_answer.proofs.answer.plain_answer.Given as goal
 

@@ -1,7 +1,6 @@
 use Rattle.std.proofs.Common.{refl, ap, ◌∙◌, arith}
 use Rattle.ans_model.specs.Inside.MachineView.{MachineView}
 use Rattle.ans_model.specs.Screen.State.{IsPlayableSize}
-use Rattle.ans_model.specs.declared.start.Start.{Start}
 use Rattle.ans_answer.proofs.Played.{played_none}
 use Rattle.ans_answer.proofs.two_plays.TwoPlays.new.Goals as goal
 

@@ -1,11 +1,7 @@
 use Rattle.std.proofs.Common.{◌≡◌, ap, ◌∙◌, rules, subst, Some, None}
 use Rattle.std.specs.Prelude.{Err}
 use Rattle.ans_model.specs.Inside.ShownKind.{shown_kind}
-use Rattle.ans_model.specs.Inside.MachineView.{MachineView}
-use Rattle.ans_model.specs.Screen.State.{Size, State}
-use Rattle.ans_model.specs.Screen.Step.{step}
 use Rattle.ans_model.specs.Sequence.TokenKind.{TokenKind}
-use Rattle.ans_tokens.specs.ScannerView.{ScannerView}
 use Rattle.ans_answer.specs.TwoPlays.{TwoPlaysView, FindsFault, after_both}
 use Rattle.ans_answer.proofs.Played.{byte_refused, byte_goes_on, byte_plays, byte_deserved}
 use Rattle.ans_answer.proofs.two_plays.TwoPlays.play_byte.Goals as goal

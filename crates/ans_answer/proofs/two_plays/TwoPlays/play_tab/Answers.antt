@@ -1,4 +1,4 @@
-use Rattle.std.proofs.Common.{◌≡◌, ◌≢◌, ◌<◌, ◌+◌, rules, subst, sym, Some, None}
+use Rattle.std.proofs.Common.{◌≡◌, ◌≢◌, ◌<◌, ◌+◌, rules, subst, sym}
 use Rattle.ans_model.specs.Bytes.{blank}
 use Rattle.ans_model.specs.Screen.Step.{tab_blanks}
 use Rattle.ans_answer.specs.TwoPlays.{TwoPlaysView}

@@ -59,10 +59,10 @@ returns-then-count-gt0-clause-printed g c =
 
 pub returns-then-count-gt0-clause-longest : goal.returns-then-count-gt0-clause-longest
 returns-then-count-gt0-clause-longest g c =
-    longest_run c.args.self.now c.args.bytes.now c.columns_before_last-columns.result c.min.result c.count_glyphs-count.result
-    c.columns_before_last-columns.ensures c.min.ensures c.count_glyphs-count.ensures
+    longest_run c.args.self.now c.args.bytes.now c.columns_before_last-columns.result c.min.result
+    c.count_glyphs-count.result c.columns_before_last-columns.ensures c.min.ensures c.count_glyphs-count.ensures
 
 pub returns-else-count-gt0-clause-longest : goal.returns-else-count-gt0-clause-longest
 returns-else-count-gt0-clause-longest g c =
-    longest_run c.args.self.now c.args.bytes.now c.columns_before_last-columns.result c.min.result c.count_glyphs-count.result
-    c.columns_before_last-columns.ensures c.min.ensures c.count_glyphs-count.ensures
+    longest_run c.args.self.now c.args.bytes.now c.columns_before_last-columns.result c.min.result
+    c.count_glyphs-count.result c.columns_before_last-columns.ensures c.min.ensures c.count_glyphs-count.ensures
