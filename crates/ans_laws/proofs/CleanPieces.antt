@@ -15,7 +15,7 @@ use Rattle.ans_model.specs.Bytes.{IsByte, semicolon}
 use Rattle.ans_model.specs.Text.Characters.{glyph_text, shown_bytes}
 use Rattle.ans_model.specs.Text.FaultText.{line_of}
 use Rattle.ans_model.specs.Text.Hexadecimal.{hex_byte, hex_digit}
-use Rattle.ans_laws.specs.CleanTexts.{IsControl, IsCleanCharacter, IsCleanText}
+use Rattle.ans_laws.specs.CleanTexts.{IsControl, IsCleanCharacter, IsCleanText, HasNoControls}
 
 -- two truths are true together
 pub both_true : (a b : Bool) → a ≡ true → b ≡ true → (a && b) ≡ true
@@ -193,12 +193,24 @@ glyphs_are_characters (b ∷ bytes) h =
     both_true (scalar (glyph_text b)) (all_scalars (map glyph_text bytes)) (shown_by b (all_head IsByte b bytes h)).is
     (glyphs_are_characters bytes (all_tail IsByte b bytes h))
 
-pub clean_shown : (bytes : List ℕ) → All IsByte bytes → IsCleanText (shown_bytes bytes)
-clean_shown bytes h = record {
+pub shown_has_no_controls : (bytes : List ℕ) → All IsByte bytes → HasNoControls (shown_bytes bytes)
+shown_has_no_controls bytes h = record {
   characters = map glyph_text bytes;
   are_characters = glyphs_are_characters bytes h;
   spelled = refl;
-  clean = All-map IsCleanCharacter glyph_text bytes
-      (All-weaker IsByte (λ b. IsCleanCharacter (glyph_text b))
-      (λ b byte control. absurd ((shown_by b byte).no_control control)) bytes h);
+  none = All-map (λ c. ¬ IsControl c) glyph_text bytes
+      (All-weaker IsByte (λ b. ¬ IsControl (glyph_text b)) glyph_no_control bytes h);
 }
+
+-- a text without control characters is clean
+without_controls_clean : (text : List ℕ) → HasNoControls text → IsCleanText text
+without_controls_clean text h = record {
+  characters = h.characters;
+  are_characters = h.are_characters;
+  spelled = h.spelled;
+  clean = All-weaker (λ c. ¬ IsControl c) IsCleanCharacter (λ c none control. absurd (none control)) h.characters
+      h.none;
+}
+
+pub clean_shown : (bytes : List ℕ) → All IsByte bytes → IsCleanText (shown_bytes bytes)
+clean_shown bytes h = without_controls_clean (shown_bytes bytes) (shown_has_no_controls bytes h)

@@ -1,5 +1,5 @@
--- Texts that are shown as they stand: a terminal finds no control character in them but line feeds.
-use Rattle.std.specs.Prelude.{◌≡◌, ◌⊎◌, ℕ, ◌<◌, ◌≤◌, true, List, All, encode_utf8_all}
+-- Texts that are shown as they stand: a terminal that reads UTF-8 finds no control character in them but line feeds.
+use Rattle.std.specs.Prelude.{◌≡◌, ◌⊎◌, ℕ, ◌<◌, ◌≤◌, true, List, [], ◌∷◌, ◌++◌, All, encode_utf8_all}
 use Rattle.std.specs.Str.{all_scalars}
 
 -- Unicode's control characters: C0, DEL and C1
@@ -17,6 +17,25 @@ pub record IsCleanText (text : List ℕ) : Type 0 where
   pub spelled : encode_utf8_all characters ≡ text
   pub clean : All IsCleanCharacter characters
 
--- the byte is none that a terminal takes for a command, or is a line feed
+-- The text is UTF-8, and none of its characters is a control character, not even a line feed.
+pub record HasNoControls (text : List ℕ) : Type 0 where
+  pub characters : List ℕ
+  pub are_characters : all_scalars characters ≡ true
+  pub spelled : encode_utf8_all characters ≡ text
+  pub none : All (λ c. ¬ IsControl c) characters
+
+-- a byte of C0, or DEL
+abbrev pub IsControlByte : ℕ → Type 0
+IsControlByte b = (b < 0x20) ⊎ (b ≡ 0x7F)
+
+-- The byte is neither of C0 nor DEL, or is a line feed. A terminal that reads UTF-8 takes no other byte for a command,
+-- since UTF-8 spells C1 in two bytes. One that reads each byte by itself, in eight bits, takes 80h to 9Fh for C1 too,
+-- where 9Bh is CSI; these bytes do stand in a clean text, as parts of its characters.
 abbrev pub IsCleanByte : ℕ → Type 0
-IsCleanByte b = ((b < 0x20) ⊎ (b ≡ 0x7F)) → b ≡ 0x0A
+IsCleanByte b = IsControlByte b → b ≡ 0x0A
+
+-- The text is one line: of its bytes before the line feed that ends it none is of C0 or DEL.
+pub record IsOneLine (text : List ℕ) : Type 0 where
+  pub line : List ℕ
+  pub whole : text ≡ line ++ 0x0A ∷ []
+  pub none : All (λ b. ¬ IsControlByte b) line

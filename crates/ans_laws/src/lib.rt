@@ -2,8 +2,9 @@
 //! body. No program stands on this crate.
 //!
 //! [`class_laws`] say which classes of starts cover which. [`text_laws`] say that the texts are
-//! clean: of the control characters only line feeds are in them. [`report_laws`] say that a file and
-//! its options have one report, and that what `needs` finds is what each check finds.
+//! clean: of the control characters only line feeds are in them, and no byte of a file is shown by
+//! one. [`report_laws`] say that a file and its options have one report, and that what `needs` finds
+//! is what each check finds.
 #![tactic(auto)]
 
 pub mod class_laws;
