@@ -26,14 +26,9 @@ use Rattle.ans_play.specs.HalfFault.{half_print_fault, half_blanks_fault, half_f
 use Rattle.ans_play.specs.HalfBlanks.{fault_of_blanks, end_of_blanks, after_blanks}
 use Rattle.ans_play.proofs.Positions.{one_position_if}
 use Rattle.ans_model.proofs.FilledLemmas.{filled_none, filled_from_set}
+use Rattle.ans_screen.proofs.Places.{filled_one}
 
 -- ---- cells
--- one cell of a filling
-filled_one : {A : Type 0} (xs : List A) (i : ℕ) (c : A) → i < length xs → filled xs i (i + 1) c ≡ set xs i c
-filled_one xs i c lt =
-    let next : suc i ≡ i + 1 = omega arith in
-    sym (filled_from_set xs i (i + 1) c lt (omega arith)) ∙ rw next (filled_none (set xs i c) (i + 1) c)
-
 -- the others, where the first is set
 filled_from : {A : Type 0} (xs : List A) (i end : ℕ) (c : A) → i < length xs → i + 1 ≤ end →
     filled (set xs i c) (i + 1) end c ≡ filled xs i end c

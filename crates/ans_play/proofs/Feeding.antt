@@ -1,23 +1,23 @@
 -- A byte played after others, and a piece of bytes.
 use Rattle.std.proofs.Common.{◌≡◌, ℕ, ◌+◌, ◌-◌, ◌≤◌, refl, get_or, sym, ap, ◌∙◌, arith, List, []}
-use Rattle.std.proofs.Common.{◌∷◌, ◌++◌, length, length-append, take, drop, append_assoc, Some, None, inl, inr, subst}
-use Rattle.std.proofs.lemmas.List.{append-nil, take_all, take-append-drop, length-drop, length-take-le}
-use Rattle.std.specs.Prelude.{◌⊎◌, Result, Ok, Err, IfErr, OnOk}
+use Rattle.std.proofs.Common.{◌∷◌, ◌++◌, length, length-append, take, drop, append_assoc, Some, None, subst}
+use Rattle.std.proofs.lemmas.List.{take_rest, append-nil, take_all, take-append-drop, length-drop, length-take-le}
+use Rattle.std.specs.Prelude.{Result, Ok, Err, IfErr, OnOk}
 use Rattle.std.proofs.lemmas.Option.{same_Some}
 use Rattle.std.proofs.Math.Seq.{take-add}
-use Rattle.ans_model.specs.Sequence.TokenKind.{TokenKind}
-use Rattle.ans_model.specs.Sequence.Reads.{SpellsToken, Reads}
+use Rattle.ans_model.specs.Sequence.TokenKind.{TokenKind, PrintsByte}
+use Rattle.ans_model.specs.Sequence.Reads.{SpellsToken}
 use Rattle.ans_model.specs.Screen.State.{Size}
 use Rattle.ans_model.specs.declared.start.Start.{Start}
-use Rattle.ans_model.specs.Verdict.FirstFault.{IsToBlame, IsRefused, IsFirstFault}
+use Rattle.ans_model.specs.Verdict.FirstFault.{IsFirstFault}
 use Rattle.ans_model.specs.declared.fault.Fault.{Fault}
 use Rattle.ans_model.proofs.Reading.{token_prints}
-use Rattle.ans_model.specs.Sequence.Spelling.{IsUnfinished}
 use Rattle.ans_model.specs.Inside.ShownKind.{shown_kind}
-use Rattle.ans_tokens.proofs.Readable.{reads_as_more}
-use Rattle.ans_tokens.specs.ScannerView.{ScannerView, Holds, IsTokenOf, IsFaultOf}
-use Rattle.ans_tokens.proofs.EachByte.{kept_open, open_ends}
-use Rattle.ans_model.proofs.OneAnswer.{clean_or_first}
+use Rattle.ans_tokens.specs.ScannerView.{ScannerView, StaysUnfinished, EndsToken, RefusesByte}
+use Rattle.ans_tokens.specs.ReadSoFar.{ReadSoFar}
+use Rattle.ans_tokens.proofs.Readable.{reads_as_one}
+use Rattle.ans_tokens.proofs.ReadSoFar.{read_whole, read_unfinished, read_token, refused_byte, faulty_token}
+use Rattle.ans_tokens.proofs.ReadSoFar.{no_first_fault}
 use Rattle.ans_tokens.specs.Token.{kind_of}
 use Rattle.ans_tokens.specs.Glyphs.{IsBetweenTokens, scanner_after}
 use Rattle.ans_tokens.specs.WholeToken.{IsTokenFront}
@@ -33,94 +33,33 @@ use Rattle.ans_play.proofs.FaultShown.{token_has_fault}
 use Rattle.ans_play.proofs.NoFaultShown.{known_next, token_has_no_fault}
 use Rattle.ans_play.proofs.Clean.{clean_more}
 
--- ---- one byte
-pub reads_more : (bytes text : List ℕ) (tokens : List TokenKind) (t : TokenKind) → Reads bytes tokens
-    → SpellsToken t text → Reads (bytes ++ text) (tokens ++ t ∷ [])
-reads_more bytes text tokens t (texts, r) spelled =
-    (texts ++ text ∷ [], reads_as_more bytes text tokens texts t r spelled)
-
--- a front and an open part, with more bytes
-pub front_with_more : (front y s text : List ℕ) → s ≡ front ++ y → s ++ text ≡ front ++ (y ++ text)
-front_with_more front y s text e = ap (λ (xs : List ℕ). xs ++ text) e ∙ append_assoc front y text
-
--- the byte leaves the open part unfinished
-pub played_open : (z : Size) (class : Start) (s : List ℕ) (old new : ScannerView) (h : HalfState) (byte : ℕ)
-    (p : IsPlayed z class s old h) →
-    Holds new (p.open_part ++ byte ∷ []) → new.offset ≡ old.offset + 1 → new.fault ≡ None →
-    IsPlayed z class (s ++ byte ∷ []) new h
-played_open z class s old new h byte p holds offset unrefused = record {
+-- ---- one token more
+-- a token that shows no fault is played
+played_token : (z : Size) (class : Start) (s text : List ℕ) (old new : ScannerView) (h : HalfState) (t : TokenKind)
+    (p : IsPlayed z class s old h) (so_far : ReadSoFar (s ++ text) new) → so_far.tokens ≡ p.so_far.tokens ++ t ∷ [] →
+    PrintsByte t → half_fault z h t ≡ None → IsPlayed z class (s ++ text) new (half_step z h t)
+played_token z class s text old new h t p so_far more prints none = record {
   size = p.size;
-  front = p.front;
-  open_part = p.open_part ++ byte ∷ [];
-  whole = front_with_more p.front p.open_part s (byte ∷ []) p.whole;
-  tokens = p.tokens;
-  reads = p.reads;
-  clean = p.clean;
-  known = p.known;
-  holds = holds;
-  offset = simp length-append (omega (arith, offset, p.offset));
-  unrefused = unrefused;
+  so_far = so_far;
+  clean = rw more (clean_more z class p.so_far.tokens t p.clean
+      (λ cause. token_has_no_fault z class p.so_far.tokens h p.size.some_columns p.known t cause none));
+  known = rw more (known_next z class p.so_far.tokens h p.size.some_columns p.known t prints none);
 }
 
--- with more bytes the open part is a token that has no fault
-pub played_token : (z : Size) (class : Start) (s : List ℕ) (old new : ScannerView) (h : HalfState) (text : List ℕ)
-    (t : TokenKind)
-    (p : IsPlayed z class s old h) →
-    SpellsToken t (p.open_part ++ text) → half_fault z h t ≡ None → Holds new [] →
-    new.offset ≡ old.offset + length text → new.fault ≡ None →
-    IsPlayed z class (s ++ text) new (half_step z h t)
-played_token z class s old new h text t p spelled none holds offset unrefused = record {
-  size = p.size;
-  front = p.front ++ (p.open_part ++ text);
-  open_part = [];
-  whole = front_with_more p.front p.open_part s text p.whole ∙ sym (append-nil (p.front ++ (p.open_part ++ text)));
-  tokens = p.tokens ++ t ∷ [];
-  reads = reads_more p.front (p.open_part ++ text) p.tokens t p.reads spelled;
-  clean = clean_more z class p.tokens t p.clean
-      (λ cause. token_has_no_fault z class p.tokens h p.size.some_columns p.known t cause none);
-  known = known_next z class p.tokens h p.size.some_columns p.known t
-      (token_prints t (p.open_part ++ text) spelled) none;
-  holds = holds;
-  offset = simp length-append (omega (arith, offset, p.offset));
-  unrefused = unrefused;
-}
-
--- where the open part began, if the offset is known
-open_part_starts : (z : Size) (class : Start) (s : List ℕ) (scanner : ScannerView) (h : HalfState)
-    (p : IsPlayed z class s scanner h) (start : ℕ) →
-    start + length p.open_part ≡ scanner.offset → start ≡ length p.front
-open_part_starts z class s scanner h p start e =
-    let whole : length s ≡ length p.front + length p.open_part = ap length p.whole
-    ∙ length-append p.front p.open_part in
-    omega (arith, e, p.offset, whole)
-
--- a front, an open part with more bytes, and a rest
-pub front_text_rest : (front y s text rest : List ℕ) → s ≡ front ++ y →
-    s ++ (text ++ rest) ≡ front ++ ((y ++ text) ++ rest)
-front_text_rest front y s text rest e =
-    ap (λ (xs : List ℕ). xs ++ (text ++ rest)) e ∙ append_assoc front y (text ++ rest)
-    ∙ ap (λ (xs : List ℕ). front ++ xs) (sym (append_assoc y text rest))
-
--- what is to blame for the fault is the open part with more bytes
-first_fault : (z : Size) (class : Start) (s text rest : List ℕ) (scanner : ScannerView) (h : HalfState)
-    (fault : Fault) (p : IsPlayed z class s scanner h) →
-    IsToBlame z class p.tokens (p.open_part ++ text) fault.cause
-    ⊎ IsRefused (p.open_part ++ text) fault.cause → fault.offset + length p.open_part ≡ scanner.offset →
-    IsFirstFault z class (s ++ (text ++ rest)) fault
-first_fault z class s text rest scanner h fault p blame start = record {
-  size = p.size;
-  front = p.front;
-  text = p.open_part ++ text;
-  rest = rest;
-  whole = front_text_rest p.front p.open_part s text rest p.whole;
-  tokens = p.tokens;
-  reads = p.reads;
-  clean = p.clean;
-  offset = open_part_starts z class s scanner h p fault.offset start;
-  faulty = blame;
-}
+-- a whole token between two is played
+pub whole_token_played : (z : Size) (class : Start) (s text : List ℕ) (scanner : ScannerView) (h : HalfState)
+    (t : TokenKind) → IsPlayed z class s scanner h → IsBetweenTokens scanner → SpellsToken t text →
+    half_fault z h t ≡ None → IsPlayed z class (s ++ text) (scanner_after scanner (length text)) (half_step z h t)
+whole_token_played z class s text scanner h t p between spelled none =
+    played_token z class s text scanner (scanner_after scanner (length text)) h t p
+    (read_whole s scanner p.so_far text (t ∷ []) (text ∷ []) between (reads_as_one t text spelled)) refl
+    (token_prints t text spelled) none
 
 -- ---- one byte after the other
+-- no byte
+pub goes_on_nothing : (p : PlayView) → GoesOn p [] p
+goes_on_nothing p = record { size = refl; offset = omega arith; played = λ class s h. rw append-nil h }
+
 -- bytes after bytes
 pub goes_on_more : (old mid new : PlayView) (front bytes : List ℕ) → GoesOn old front mid → GoesOn mid bytes new →
     GoesOn old (front ++ bytes) new
@@ -140,16 +79,16 @@ pub record PlaysTo (old : PlayView) (piece : List ℕ) (i : ℕ) (new : PlayView
   pub within : i ≤ length piece
   pub goes_on : GoesOn old (take i piece) new
 
--- the slice from an index to the end
-pub slice_to_end : (piece : List ℕ) (i : ℕ) → take (length piece - i) (drop i piece) ≡ drop i piece
-slice_to_end piece i = take_all (length piece - i) (drop i piece) (omega (arith, length-drop i piece))
+-- no byte of the piece yet
+pub plays_to_start : (old : PlayView) (piece : List ℕ) → PlaysTo old piece 0 old
+plays_to_start old piece = record { within = omega arith; goes_on = goes_on_nothing old }
 
 -- some bytes more
 pub plays_more : (old mid new : PlayView) (piece : List ℕ) (i count : ℕ) → PlaysTo old piece i mid →
     PlaysFront mid (take (length piece - i) (drop i piece)) new count → PlaysTo old piece (i + count) new
 plays_more old mid new piece i count h front =
-    let within : count ≤ length (drop i piece) = rw slice_to_end at front.within in
-    let played : GoesOn mid (take count (drop i piece)) new = rw slice_to_end at front.played in
+    let within : count ≤ length (drop i piece) = rw take_rest at front.within in
+    let played : GoesOn mid (take count (drop i piece)) new = rw take_rest at front.played in
     record {
       within = omega (arith, h.within, within, length-drop i piece);
       goes_on = rw (take-add i count piece) (goes_on_more old mid new (take i piece)
@@ -174,16 +113,14 @@ pub piece_deserved : (old mid : PlayView) (piece : List ℕ) (i : ℕ) (fault : 
     IsDeserved mid (take (length piece - i) (drop i piece)) fault → IsDeserved old piece fault
 piece_deserved old mid piece i fault h d =
     subst (λ (xs : List ℕ). IsDeserved old xs fault) (take-append-drop i piece)
-    (deserved_after old mid (take i piece) (drop i piece) fault h.goes_on (rw slice_to_end at d))
+    (deserved_after old mid (take i piece) (drop i piece) fault h.goes_on (rw take_rest at d))
 
 -- ---- a piece
 -- bytes that are played have no first fault
 pub played_has_no_first_fault : (z : Size) (class : Start) (bytes : List ℕ) (scanner : ScannerView) (h : HalfState)
-    (f : Fault) → IsPlayed z class bytes scanner h
-    → ¬ IsFirstFault z class bytes f
+    (f : Fault) → IsPlayed z class bytes scanner h → ¬ IsFirstFault z class bytes f
 played_has_no_first_fault z class bytes scanner h f p =
-    clean_or_first z class bytes p.front p.open_part p.tokens f p.whole p.reads p.clean
-    (open_ends p.open_part (kept_open scanner.kept p.open_part p.holds.keeps))
+    no_first_fault bytes scanner p.so_far z class p.size p.clean f
 
 -- a first fault stays the first with more bytes after it
 pub first_longer : (z : Size) (class : Start) (bytes more : List ℕ) (f : Fault) → IsFirstFault z class bytes f →
@@ -259,92 +196,79 @@ first_within z class bytes fault h =
     omega (arith, h.offset, ap length h.whole, length-append h.front (h.text ++ h.rest))
 
 -- ---- what the code of one byte gives
-pub byte_refused : (old : PlayView) (scanner : ScannerView) (byte : ℕ) (fault : Fault) → scanner ≡ old.scanner →
-    (scanner.fault ≡ None → (y : List ℕ) → Holds scanner y → IsFaultOf fault scanner.offset y byte) →
-    (rest : List ℕ) → IsDeserved old (byte ∷ rest) fault
-byte_refused old scanner byte fault same scans rest class s p =
-    let told : IsFaultOf fault old.scanner.offset p.open_part byte =
-    (rw same at scans) p.unrefused p.open_part p.holds in
-    first_fault old.size class s (byte ∷ []) rest old.scanner old.state fault p (inr told.refused) told.starts
+module _ (old : PlayView) (scanner : ScannerView) (byte : ℕ) (same : scanner ≡ old.scanner) where
+  -- the byte is refused
+  pub byte_refused : (fault : Fault) → (scanner.fault ≡ None → RefusesByte scanner byte fault) →
+      (rest : List ℕ) → IsDeserved old (byte ∷ rest) fault
+  byte_refused fault scans rest class s p =
+      refused_byte s old.scanner p.so_far old.size class p.size p.clean byte rest fault
+      ((rw same at scans) p.so_far.unrefused)
 
--- the byte leaves a sequence unfinished
-pub byte_goes_on : (old new : PlayView) (scanner after : ScannerView) (byte : ℕ) → scanner ≡ old.scanner →
-    new ≡ record old { scanner = after } →
-    (scanner.fault ≡ None → (y : List ℕ) → Holds scanner y → IsUnfinished (y ++ byte ∷ [])
-    × Holds after (y ++ byte ∷ [])) →
-    after.offset ≡ scanner.offset + 1 → after.fault ≡ None → GoesOn old (byte ∷ []) new
-byte_goes_on old new scanner after byte same is scans offset unrefused = rw is (record {
-  size = refl;
-  offset = rw same at offset;
-  played = λ class s p.
-      let told = (rw same at scans) p.unrefused p.open_part p.holds in
-      played_open old.size class s old.scanner after old.state byte p told.1 (rw same at offset) unrefused;
-})
+  -- the byte leaves a sequence unfinished
+  pub byte_goes_on : (new : PlayView) (after : ScannerView) → new ≡ record old { scanner = after } →
+      (scanner.fault ≡ None → StaysUnfinished scanner after byte) → after.offset ≡ scanner.offset + 1 →
+      after.fault ≡ None → GoesOn old (byte ∷ []) new
+  byte_goes_on new after is scans offset unrefused = rw is (record {
+    size = refl;
+    offset = rw same at offset;
+    played = λ class s p. record {
+      size = p.size;
+      so_far = read_unfinished s old.scanner p.so_far byte after ((rw same at scans) p.so_far.unrefused)
+          (rw same at offset) unrefused;
+      clean = p.clean;
+      known = p.known;
+    };
+  })
 
--- the byte ends a token, which is played
-pub byte_plays : (old before new : PlayView) (scanner after : ScannerView) (byte : ℕ) (token : Spelled)
-    (result : Result (Unit {0}) Fault) →
-    scanner ≡ old.scanner → before ≡ record old { scanner = after } → PlaysToken before new token result →
-    (scanner.fault ≡ None → (y : List ℕ) → Holds scanner y → IsTokenOf token scanner.offset y byte × Holds after []) →
-    after.offset ≡ scanner.offset + 1 → after.fault ≡ None → OnOk result (GoesOn old (byte ∷ []) new)
-byte_plays old before new scanner after byte token (Err fault) same is plays scans offset unrefused = tt
-byte_plays old before new scanner after byte token (Ok r) same is plays scans offset unrefused =
-    let made = rw is at plays in
-    rw made.1 (record {
-      size = refl;
-      offset = rw same at offset;
-      played = λ class s p.
-          let told = (rw same at scans) p.unrefused p.open_part p.holds in
-          played_token old.size class s old.scanner after old.state (byte ∷ []) (shown_kind (kind_of token)) p
-          told.0.spelled made.0 told.1 (rw same at offset) unrefused;
-    })
+  module _ (before new : PlayView) (after : ScannerView) (token : Spelled)
+      (is : before ≡ record old { scanner = after }) (ends : scanner.fault ≡ None → EndsToken scanner after byte token) where
+    -- the byte ends a token, which is played
+    pub byte_plays : (result : Result (Unit {0}) Fault) → PlaysToken before new token result →
+        after.offset ≡ scanner.offset + 1 → after.fault ≡ None → OnOk result (GoesOn old (byte ∷ []) new)
+    byte_plays (Err fault) plays offset unrefused = tt
+    byte_plays (Ok r) plays offset unrefused =
+        let made = rw is at plays in
+        rw made.1 (record {
+          size = refl;
+          offset = rw same at offset;
+          played = λ class s p.
+              let told = (rw same at ends) p.so_far.unrefused in
+              let spelled = (told p.so_far.open_part p.so_far.holds).0.spelled in
+              played_token old.size class s (byte ∷ []) old.scanner after old.state (shown_kind (kind_of token)) p
+              (read_token s old.scanner p.so_far byte after token told (rw same at offset) unrefused)
+              (refl {a = p.so_far.tokens ++ shown_kind (kind_of token) ∷ []})
+              (token_prints (shown_kind (kind_of token)) (p.so_far.open_part ++ byte ∷ []) spelled) made.0;
+        })
 
--- the byte ends a token, which is refused
-pub byte_deserved : (old before new : PlayView) (scanner after : ScannerView) (byte : ℕ) (token : Spelled)
-    (result : Result (Unit {0}) Fault) →
-    scanner ≡ old.scanner → before ≡ record old { scanner = after } → PlaysToken before new token result →
-    (scanner.fault ≡ None → (y : List ℕ) → Holds scanner y → IsTokenOf token scanner.offset y byte × Holds after []) →
-    IfErr result (λ fault. (new.size ≡ old.size) × ((rest : List ℕ) → IsDeserved old (byte ∷ rest) fault))
-byte_deserved old before new scanner after byte token (Ok r) same is plays scans = tt
-byte_deserved old before new scanner after byte token (Err fault) same is plays scans =
-    let shown = rw is at plays in (
-      ap (λ (p : PlayView). p.size) shown.2,
-      λ rest class s p.
-          let told = (rw same at scans) p.unrefused p.open_part p.holds in
-          let has_fault = token_has_fault old.size class p.tokens old.state p.size.some_columns p.known
-          (shown_kind (kind_of token)) fault.cause shown.0 in
-          first_fault old.size class s (byte ∷ []) rest old.scanner old.state fault p
-          (inl (record { token = shown_kind (kind_of token); spelled = told.0.spelled; fault = has_fault }))
-          (rw shown.1 told.0.starts),
-    )
+    -- the byte ends a token, which is refused
+    pub byte_deserved : (result : Result (Unit {0}) Fault) → PlaysToken before new token result →
+        IfErr result (λ fault. (new.size ≡ old.size) × ((rest : List ℕ) → IsDeserved old (byte ∷ rest) fault))
+    byte_deserved (Ok r) plays = tt
+    byte_deserved (Err fault) plays =
+        let shown = rw is at plays in (
+          ap (λ (p : PlayView). p.size) shown.2,
+          λ rest class s p.
+              faulty_token s old.scanner p.so_far old.size class p.size p.clean byte rest after token fault
+              ((rw same at ends) p.so_far.unrefused)
+              (token_has_fault old.size class p.so_far.tokens old.state p.size.some_columns p.known
+              (shown_kind (kind_of token)) fault.cause shown.0)
+              shown.1,
+        )
 
 -- ---- what the code of a whole token gives
--- between two tokens nothing is open
-pub nothing_open : (s : ScannerView) (y : List ℕ) → IsBetweenTokens s → Holds s y → y ≡ []
-nothing_open s y between holds = rw between.nothing at holds.keeps
-
 -- a whole token in front is played
 pub front_goes_on : (old new : PlayView) (bytes : List ℕ) (t : TokenKind) (count : ℕ) → IsBetweenTokens old.scanner →
     IsTokenFront bytes t count → half_fault old.size old.state t ≡ None →
     new ≡ record (after_token old t) { scanner = scanner_after old.scanner count } → GoesOn old (take count bytes) new
 front_goes_on old new bytes t count between front clean is =
-    let text = take count bytes in
-    let long : length text ≡ count = length-take-le count bytes front.within in
-    let offset : old.scanner.offset + count ≡ old.scanner.offset + length text = rw long refl in
-    rw is (record {
+    let text : List ℕ = take count bytes in
+    let P : ℕ → Type 0 = λ n. GoesOn old text (record (after_token old t) { scanner = scanner_after old.scanner n }) in
+    rw is (subst P (length-take-le count bytes front.within) (record {
       size = refl;
-      offset = offset;
-      played = λ class s p.
-          let empty : p.open_part ≡ [] = nothing_open old.scanner p.open_part between p.holds in
-          let begun : old.scanner.open_offset + length p.open_part ≡ old.scanner.offset = p.holds.begun_at in
-          let none : length p.open_part ≡ 0 = ap length empty in
-          let holds : Holds (scanner_after old.scanner count) [] = record {
-            keeps = rw between.nothing refl;
-            begun_at = omega (arith, begun, none);
-          } in
-          played_token old.size class s old.scanner (scanner_after old.scanner count) old.state text t p
-          (rw empty front.spelled) clean holds offset between.unrefused;
-    })
+      offset = refl;
+      played = λ class s p. whole_token_played old.size class s text old.scanner old.state t p between front.spelled
+          clean;
+    }))
 
 -- one byte is the front
 pub byte_in_front : (old new : PlayView) (bytes : List ℕ) → 1 ≤ length bytes →

@@ -1,15 +1,15 @@
 -- The end of a play: the picture that it shows, or the first cell that stays unknown.
-use Rattle.std.proofs.Common.{◌≡◌, ℕ, ◌+◌, ◌*◌, ◌/◌, ◌%◌, ◌<◌, ◌≤◌, true, false, refl, sym, ap, ◌∙◌, arith, List, []}
-use Rattle.std.proofs.Common.{◌++◌, length, length-append, map, take, Some, None, subst, inl, inr}
+use Rattle.std.proofs.Common.{◌≡◌, ℕ, ◌+◌, ◌*◌, ◌/◌, ◌%◌, ◌<◌, ◌≤◌, true, false, refl, sym, ap, ◌∙◌, arith, List}
+use Rattle.std.proofs.Common.{length, length-append, map, take, Some, None, subst, inl, inr}
 use Rattle.std.specs.Prelude.{slice_get, Result, Ok, Err}
 use Rattle.std.specs.List.{list_all}
-use Rattle.std.proofs.lemmas.List.{length-take, append-nil}
+use Rattle.std.proofs.lemmas.List.{length-take}
 use Rattle.std.proofs.lemmas.List.Elements.{All-take}
 use Rattle.std.proofs.lemmas.Nat.{mul-le}
 use Rattle.std.proofs.Math.Nat.{div-lt_iff_lt-mul}
 use Rattle.ans_model.specs.Sequence.TokenKind.{TokenKind}
 use Rattle.ans_model.specs.Sequence.Reads.{Reads}
-use Rattle.ans_model.specs.Screen.State.{Size, State, at, index, cell_count, IsStated, IsByteCell, IsWellFormed}
+use Rattle.ans_model.specs.Screen.State.{Size, IsSize, State, at, index, cell_count, IsStated, IsByteCell, IsWellFormed}
 use Rattle.ans_model.specs.declared.cell.Cell.{Cell}
 use Rattle.ans_model.specs.declared.cell.Position.{Position}
 use Rattle.ans_model.specs.Screen.Step.{final}
@@ -21,10 +21,13 @@ use Rattle.ans_model.specs.Verdict.LastFault.{SameCell, CellsDiffer, IsBefore, I
 use Rattle.ans_model.specs.Verdict.LastFault.{LeavesUnknown}
 use Rattle.ans_model.specs.Verdict.LastFault.{IsLastFault}
 use Rattle.ans_model.specs.declared.fault.Fault.{Fault}
-use Rattle.ans_tokens.specs.ScannerView.{ScannerView, Holds}
 use Rattle.ans_model.specs.declared.fault.Cause.TheVariants.{UnknownCell}
+use Rattle.ans_tokens.specs.ScannerView.{Ends}
+use Rattle.ans_tokens.proofs.ReadSoFar.{all_read}
+use Rattle.ans_model.specs.Verdict.TokenFault.{IsClean}
 use Rattle.ans_model.proofs.StartLemmas.{low_is_start, high_is_start}
 use Rattle.ans_model.proofs.OneAnswer.{good_or_first, good_or_last}
+use Rattle.ans_model.proofs.PositionLemmas.{index-lt_stated}
 use Rattle.ans_model.proofs.Slices.{slice_get-take}
 use Rattle.ans_screen.specs.KnownBits.{known_bits}
 use Rattle.ans_screen.specs.HalfCells.{half_cell, is_known}
@@ -41,13 +44,6 @@ use Rattle.ans_play.proofs.KnownCells.{none_unknown}
 use Rattle.ans_play.proofs.PlaysWell.{plays_well}
 
 -- ---- positions in row order
--- a position of the stated lines stands among their cells
-pub index_lt : (z : Size) (p : Position) → IsStated z p → index z p < z.lines * z.width
-index_lt z p h =
-    let below : (p.row + 1) * z.width ≤ z.lines * z.width =
-    mul-le (p.row + 1) z.width z.lines z.width (omega (arith, h.0)) (omega arith) in
-    omega (arith, h.1)
-
 -- an earlier position stands before
 pub index_before : (z : Size) (p q : Position) → IsStated z q → IsBefore q p → index z q < index z p
 index_before z p q h (inl above) =
@@ -136,40 +132,35 @@ module _ (z : Size) (class : Start) (tokens : List TokenKind) (h : HalfState) (w
               (All-take IsByteCell (z.lines * z.width) (final z low tokens).screen well.bytes);
         };
         shown = λ s p start_s stated.
-            sym (slice_get-take (z.lines * z.width) (final z s tokens).screen (index z p) (index_lt z p stated))
+            sym (slice_get-take (z.lines * z.width) (final z s tokens).screen (index z p) (index-lt_stated z p stated))
             ∙ ap (λ (xs : List Cell). slice_get xs (index z p)) (shown_from k s start_s);
       }
 
 -- ---- of bytes
-module _ (z : Size) (class : Start) (bytes : List ℕ) (scanner : ScannerView) (h : HalfState)
-    (p : IsPlayed z class bytes scanner h) where
-  -- at the end of the tokens
-  read_whole : p.open_part ≡ [] → Reads bytes p.tokens
-  read_whole e = subst (λ (xs : List ℕ). Reads xs p.tokens)
-      (sym (append-nil p.front) ∙ ap (λ (y : List ℕ). p.front ++ y) (sym e) ∙ sym p.whole) p.reads
-
+module _ (z : Size) (class : Start) (bytes : List ℕ) (tokens : List TokenKind) (h : HalfState) (size : IsSize z)
+    (reads : Reads bytes tokens) (clean : IsClean z class tokens) (known : IsKnownAfter z class tokens h) where
   -- bytes whose cells are known are good
-  pub good_where_known : p.open_part ≡ [] → list_all is_known (stated_cells z h.screen) ≡ true →
+  pub good_where_known : list_all is_known (stated_cells z h.screen) ≡ true →
       GoodWith z class bytes (picture_of z h.screen)
-  good_where_known e k = record {
-    size = p.size;
-    tokens = p.tokens;
-    reads = read_whole e;
-    plays = plays_well z class p.tokens p.clean;
-    shows = known_picture_shows z class p.tokens h p.size.some_columns p.known k;
+  good_where_known e = record {
+    size = size;
+    tokens = tokens;
+    reads = reads;
+    plays = plays_well z class tokens clean;
+    shows = known_picture_shows z class tokens h size.some_columns known e;
   }
 
   -- a first cell that is not known is the last fault
-  pub last_where_unknown : p.open_part ≡ [] → (i : ℕ) → FirstUnknown h.screen (z.lines * z.width) i →
+  pub last_where_unknown : (i : ℕ) → FirstUnknown h.screen (z.lines * z.width) i →
       LeavesUnknown z class bytes (fault_at (length bytes) (UnknownCell (i / z.width + 1) (i % z.width + 1)))
   unfolding position_of
-  last_where_unknown e i u = record {
-    size = p.size;
-    tokens = p.tokens;
-    reads = read_whole e;
-    clean = p.clean;
+  last_where_unknown i u = record {
+    size = size;
+    tokens = tokens;
+    reads = reads;
+    clean = clean;
     position = position_of z i;
-    first = first_unknown_is z class p.tokens h p.size.some_columns p.known i u;
+    first = first_unknown_is z class tokens h size.some_columns known i u;
     fault_is = refl;
   }
 
@@ -181,25 +172,25 @@ no_cell = half_cell None (known_bits 0 0)
 pub known_if : (cells : List HalfCell) (n : ℕ) → first_unknown cells n ≡ None → list_all is_known (take n cells) ≡ true
 known_if cells n e = none_unknown (take n cells) no_cell e
 
-module _ (v : PlayView) (class : Start) (s : List ℕ) (p : IsPlayed v.size class s v.scanner v.state) where
-  module _ (closed : v.scanner.fault ≡ None → (y : List ℕ) → Holds v.scanner y → y ≡ []) where
-    nothing_open : p.open_part ≡ []
-    nothing_open = closed p.unrefused p.open_part p.holds
+module _ (v : PlayView) (class : Start) (s : List ℕ) (p : IsPlayed v.size class s v.scanner v.state)
+    (closed : v.scanner.fault ≡ None → Ends v.scanner (Ok tt)) where
+  all_is_read : Reads s p.so_far.tokens
+  all_is_read = all_read s v.scanner p.so_far (closed p.so_far.unrefused p.so_far.open_part p.so_far.holds)
 
-    pub ends_good : (picture : Picture) → first_unknown v.state.screen (v.size.lines * v.size.width) ≡ None →
-        picture ≡ picture_of v.size v.state.screen →
-        GoodWith v.size class s picture
-    ends_good picture e is =
-        rw is (good_where_known v.size class s v.scanner v.state p nothing_open
-        (known_if v.state.screen (v.size.lines * v.size.width) e))
+  pub ends_good : (picture : Picture) → first_unknown v.state.screen (v.size.lines * v.size.width) ≡ None →
+      picture ≡ picture_of v.size v.state.screen →
+      GoodWith v.size class s picture
+  ends_good picture e is =
+      rw is (good_where_known v.size class s p.so_far.tokens v.state p.size all_is_read p.clean p.known
+      (known_if v.state.screen (v.size.lines * v.size.width) e))
 
-    pub ends_unknown : (i offset width : ℕ) → first_unknown v.state.screen (v.size.lines * v.size.width) ≡ Some i →
-        v.scanner.offset ≡ offset → v.size.width ≡ width →
-        IsLastFault v.size class s (fault_at offset (UnknownCell (i / width + 1) (i % width + 1)))
-    ends_unknown i offset width e f w =
-        rw (← f, ← w, p.offset)
-        (inr (last_where_unknown v.size class s v.scanner v.state p nothing_open i
-        (found_unknown v.state.screen (v.size.lines * v.size.width) i no_cell e)))
+  pub ends_unknown : (i offset width : ℕ) → first_unknown v.state.screen (v.size.lines * v.size.width) ≡ Some i →
+      v.scanner.offset ≡ offset → v.size.width ≡ width →
+      IsLastFault v.size class s (fault_at offset (UnknownCell (i / width + 1) (i % width + 1)))
+  ends_unknown i offset width e f w =
+      rw (← f, ← w, p.so_far.offset)
+      (inr (last_where_unknown v.size class s p.so_far.tokens v.state p.size all_is_read p.clean p.known i
+      (found_unknown v.state.screen (v.size.lines * v.size.width) i no_cell e)))
 
 -- ---- of a player
 -- a play that ends so finishes the player

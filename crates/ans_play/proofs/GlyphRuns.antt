@@ -1,8 +1,8 @@
 -- Glyphs in a row before its last column: one run is what they print one by one.
-use Rattle.std.proofs.Common.{◌≡◌, ℕ, zero, suc, ◌+◌, ◌*◌, ◌<◌, ◌≤◌, refl, sym, ap, ◌∙◌, arith, List, [], ◌∷◌, ◌++◌}
+use Rattle.std.proofs.Common.{◌≡◌, ℕ, suc, ◌+◌, ◌*◌, ◌<◌, ◌≤◌, refl, sym, ap, ◌∙◌, arith, List, [], ◌∷◌, ◌++◌}
 use Rattle.std.proofs.Common.{min, inl, inr, ◌⊎◌, length, take, drop, set, All, Option, Some, None, subst, append_assoc}
 use Rattle.std.proofs.lemmas.List.{append-nil, take-append-drop, length-set, drop-set-lt, take_more_set, length-take}
-use Rattle.std.proofs.lemmas.List.{length-take-le, take_all}
+use Rattle.std.proofs.lemmas.List.{length-take-le, take_all, take-take}
 use Rattle.std.proofs.Math.Nat.{mul-le-mul_right}
 use Rattle.std.proofs.lemmas.List.Elements.{All-head, All-tail, All-append, All-take, All-drop, All-map}
 use Rattle.std.specs.Prelude.{Bool, true, false, ◌≢◌, ◌==◌, if◌then◌else◌}
@@ -15,8 +15,7 @@ use Rattle.ans_model.specs.declared.cell.Position.{Position}
 use Rattle.ans_model.specs.declared.fault.Cause.{Cause}
 use Rattle.ans_model.specs.declared.fault.Cause.TheVariants.{PrintBelow, PrintUnknownPlace}
 use Rattle.ans_model.specs.declared.start.Start.{Start}
-use Rattle.ans_model.specs.declared.fault.Fault.{Fault}
-use Rattle.ans_tokens.specs.ScannerView.{ScannerView, Kept, Holds, scanner_view}
+use Rattle.ans_tokens.specs.ScannerView.{ScannerView}
 use Rattle.ans_tokens.specs.Glyphs.{IsGlyphByte, IsGlyphFront, IsBetweenTokens, scanner_after}
 use Rattle.ans_screen.specs.KnownBits.{KnownBits}
 use Rattle.ans_screen.specs.HalfCells.{printed_cell}
@@ -30,7 +29,8 @@ use Rattle.ans_play.specs.HalfFault.{half_fault, is_one_position}
 use Rattle.ans_play.specs.Stands.{IsPlayed, PlaysWholeTokens}
 use Rattle.ans_play.specs.Plays.{AreFree, IsLongestRun}
 use Rattle.ans_play.specs.PlayView.{PlayView, play_view, IsByteHalfCell}
-use Rattle.ans_play.proofs.Feeding.{played_token, nothing_open}
+use Rattle.ans_tokens.proofs.ReadSoFar.{scanner_after-none, scanner_after-more}
+use Rattle.ans_play.proofs.Feeding.{whole_token_played}
 use Rattle.ans_play.proofs.Positions.{one_position_if}
 
 -- ---- cells
@@ -59,27 +59,6 @@ pub printed_bytes : (attribute : KnownBits) (bytes : List ℕ) → IsByte attrib
     All IsByteHalfCell (printed_run attribute bytes)
 printed_bytes attribute bytes byte h = All-map IsByteHalfCell (printed_cell attribute) bytes (λ k d l. (h k d l, byte))
 
--- a front of a front
-pub take_within : {A : Type 0} (n m : ℕ) (xs : List A) → n ≤ m → take n (take m xs) ≡ take n xs
-take_within zero m xs l = refl
-take_within (suc n) zero xs l = absurd (let no : ⊥ = omega arith in no)
-take_within (suc n) (suc m) [] l = refl
-take_within (suc n) (suc m) (x ∷ xs) l = ap (λ ys. x ∷ ys) (take_within n m xs (omega arith))
-
--- ---- the scanner
-same_scanning : (offset start offset' start' : ℕ) (kept : Kept) (refusal : Option Fault) → offset ≡ offset' →
-    start ≡ start' → scanner_view offset start kept refusal ≡ scanner_view offset' start' kept refusal
-same_scanning offset start offset' start' kept refusal p q = cc
-
--- no token further
-past_none : (s : ScannerView) → scanner_after s 0 ≡ s
-past_none s = same_scanning _ _ _ _ _ _ (omega arith) (omega arith)
-
--- some tokens further, and then others
-pub past_more : (s : ScannerView) (m n count : ℕ) → m + n ≡ count →
-    scanner_after (scanner_after s m) n ≡ scanner_after s count
-past_more s m n count e = same_scanning _ _ _ _ _ _ (omega (arith, e)) (omega (arith, e))
-
 -- ---- one glyph
 prints_here : (z : Size) (screen : List HalfCell) (row column : ℕ) (saved : Span) (attribute : KnownBits)
     (wrap : WrapMode) (b : ℕ) → row < z.lines →
@@ -104,16 +83,10 @@ plays_glyph : (z : Size) (class : Start) (s : List ℕ) (scanner : ScannerView) 
     (one_position row (column + 1)) saved attribute wrap)
 plays_glyph z class s scanner screen row column saved attribute wrap b p between glyph above within =
     let h : HalfState = half_state screen (one_position row column) saved attribute wrap in
-    let none : p.open_part ≡ [] = nothing_open scanner p.open_part between p.holds in
-    let begun : scanner.open_offset + length p.open_part ≡ scanner.offset = p.holds.begun_at in
-    let empty : length p.open_part ≡ 0 = ap length none in
-    let holds : Holds (scanner_after scanner 1) [] =
-    record { keeps = rw between.nothing refl; begun_at = omega arith } in
-    let after : IsPlayed z class (s ++ b ∷ []) (scanner_after scanner 1) (half_step z h (Glyph b))
-    = played_token z class s scanner (scanner_after scanner 1) h (b ∷ []) (Glyph b) p (rw none glyph)
-    (prints_here z screen row column saved attribute wrap b above) holds refl between.unrefused in
     subst (λ (k : HalfState). IsPlayed z class (s ++ b ∷ []) (scanner_after scanner 1) k)
-    (prints_on z screen row column saved attribute wrap b within) after
+    (prints_on z screen row column saved attribute wrap b within)
+    (whole_token_played z class s (b ∷ []) scanner h (Glyph b) p between glyph
+    (prints_here z screen row column saved attribute wrap b above))
 
 -- where a glyph is printed, the cursor stands at one position above the spare row
 prints_at_one_position : (z : Size) (h : HalfState) (b : ℕ) → IsSpanOnScreen z h.cursor → half_fault z h (Glyph b)
@@ -142,7 +115,7 @@ plays_run : (z : Size) (class : Start) (run s : List ℕ) (scanner : ScannerView
     (one_position row (column + length run)) saved attribute wrap)
 plays_run z class [] s scanner screen row column saved attribute wrap p between glyphs above within room =
     let same : column + 0 ≡ column = omega arith in
-    rw (append-nil s, past_none scanner, written_none screen (index z (at row column)), same) p
+    rw (append-nil s, scanner_after-none scanner, written_none screen (index z (at row column)), same) p
 plays_run z class (b ∷ run) s scanner screen row column saved attribute wrap p between glyphs above within room =
     let i : ℕ = index z (at row column) in
     let first = plays_glyph z class s scanner screen row column saved attribute wrap b p between
@@ -157,7 +130,7 @@ plays_run z class (b ∷ run) s scanner screen row column saved attribute wrap p
     (printed (b ∷ run) column))
     (append_assoc s (b ∷ []) run)
     (subst (λ (c : ScannerView). IsPlayed z class ((s ++ b ∷ []) ++ run) c (printed (b ∷ run) column))
-    (past_more scanner 1 (length run) (suc (length run)) (omega arith))
+    (scanner_after-more scanner 1 (length run) (suc (length run)) (omega arith))
     (subst (λ (k : HalfState). IsPlayed z class ((s ++ b ∷ []) ++ run)
     (scanner_after (scanner_after scanner 1) (length run)) k)
     (same_run _ _ _ _ row saved attribute wrap
@@ -206,7 +179,7 @@ front_of_front : (bytes : List ℕ) (m count : ℕ) → IsGlyphFront (take m byt
     (count ≤ m) × (count ≤ length bytes) × All IsGlyphByte (take count bytes)
 front_of_front bytes m count f =
     let within : count ≤ m = omega (arith, f.within, length-take m bytes) in
-    (within, omega (arith, f.within, length-take m bytes), rw take_within at f.glyphs)
+    (within, omega (arith, f.within, length-take m bytes), rw take-take at f.glyphs)
 
 -- the first count bytes are glyphs, and have room in the cursor's row
 pub record IsRun (p : PlayView) (bytes : List ℕ) (count : ℕ) : Type 0 where

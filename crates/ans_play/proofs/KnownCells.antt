@@ -1,16 +1,16 @@
 -- Known and unknown cells of a half-known screen.
 use Rattle.std.proofs.Common.{◌≡◌, ◌≢◌, ℕ, zero, suc, ◌<◌, ◌≤◌, ◌%◌, Bool, true, false, refl, sym, ap, ◌∙◌, arith, List}
 use Rattle.std.proofs.Common.{[], ◌∷◌, length, map, take, get_or, All, Option, Some, None, subst}
-use Rattle.std.specs.Prelude.{◌&&◌, not, ◌==◌, slice_get, is_some, unwrap_or, IfSome, if◌then◌else◌, bit_and, nat_lt}
+use Rattle.std.specs.Prelude.{◌==◌, slice_get, is_some, unwrap_or, IfSome, if◌then◌else◌, bit_and, nat_lt}
 use Rattle.std.specs.List.{AllZip, list_all, position, position_or_len}
 use Rattle.std.specs.Int.Bits.{xor_self}
-use Rattle.std.proofs.lemmas.Bool.{eq-eqb, eqb-true, ltb-false}
+use Rattle.std.proofs.lemmas.Bool.{eq-eqb, eqb-true, ltb-false, and_parts, not-true, not-false, true≢false}
 use Rattle.std.proofs.lemmas.Nat.{and_mask}
 use Rattle.std.proofs.lemmas.List.{length-take}
 use Rattle.std.proofs.lemmas.List.Elements.{All-head, All-tail}
 use Rattle.std.proofs.lemmas.List.Quantifiers.{position-Some}
 use Rattle.std.proofs.lemmas.List.Sums.{fails_before_first}
-use Rattle.std.proofs.lemmas.Option.{slice_get-get_or}
+use Rattle.std.proofs.lemmas.Option.{slice_get-get_or, same_Some}
 use Rattle.ans_model.specs.Screen.State.{cell, IsByteCell}
 use Rattle.ans_model.specs.declared.cell.Cell.{Cell}
 use Rattle.ans_model.proofs.Slices.{slice_get-take}
@@ -34,16 +34,11 @@ known_attribute k v a e d l = let m : bit_and a 255 ≡ a % 256 = and_mask a 8 i
 same_cell : (b c a d : ℕ) → b ≡ c → a ≡ d → cell b a ≡ cell c d
 same_cell b c a d e f = cc
 
-and_true : (a b : Bool) → (a && b) ≡ true → (a ≡ true) × (b ≡ true)
-and_true true true e = (refl, refl)
-and_true true false e = absurd (cc)
-and_true false b e = absurd (cc)
-
 -- a known cell describes one cell
 known_is : (h : HalfCell) (c : Cell) → is_known h ≡ true → DescribesCell h c → IsByteCell c → c ≡ known_cell h
 known_is h c k d byte =
     let parts : (is_some h.glyph ≡ true) × ((h.attr.known == 255) ≡ true) =
-    and_true (is_some h.glyph) (h.attr.known == 255) k in
+    and_parts (is_some h.glyph) (h.attr.known == 255) k in
     same_cell c.byte (unwrap_or h.glyph 0) c.attribute h.attr.value
     (known_byte h.glyph c.byte parts.0 d.0)
     (known_attribute h.attr.known h.attr.value c.attribute (eqb-true h.attr.known 255 parts.1) d.1 byte.1)
@@ -53,19 +48,13 @@ hull_known : (a : Cell) → is_known (hull_cell a a) ≡ true
 hull_known a = rw (eq-eqb a.byte a.byte refl, xor_self a.attribute) refl
 
 -- ---- a screen
-same_some_cell : (a b : Cell) → Some a ≡ Some b → a ≡ b
-same_some_cell a b e = cc
-
-some_same : (a b : HalfCell) → Some a ≡ Some b → a ≡ b
-some_same a b e = cc
-
 -- a known cell is that of each screen that is described
 pub known_at : (hs : List HalfCell) (xs : List Cell) (i : ℕ) (h : HalfCell) → AllZip DescribesCell hs xs →
     All IsByteCell xs → slice_get hs i ≡ Some h → is_known h ≡ true → slice_get xs i ≡ Some (known_cell h)
 known_at [] xs i h d b e k = absurd (cc)
 known_at (g ∷ hs) [] i h d b e k = absurd d
 known_at (g ∷ hs) (x ∷ xs) zero h d b e k =
-    let same : g ≡ h = some_same g h e in
+    let same : g ≡ h = same_Some g h e in
     ap (λ (c : Cell). Some c) (known_is h x k (subst (λ (y : HalfCell). DescribesCell y x) same d.0)
     (All-head IsByteCell x xs b))
 known_at (g ∷ hs) (x ∷ xs) (suc i) h d b e k = known_at hs xs i h d.1 (All-tail IsByteCell x xs b) e k
@@ -76,12 +65,9 @@ pub unknown_at : (xs ys : List Cell) (i : ℕ) (h : HalfCell) → slice_get (hul
 unknown_at [] ys i h e k same = cc
 unknown_at (x ∷ xs) [] i h e k same = cc
 unknown_at (x ∷ xs) (y ∷ ys) zero h e k same =
-    let equal : y ≡ x = same_some_cell y x (sym same) in
-    let it : h ≡ hull_cell x x = sym (some_same (hull_cell x y) h e) ∙ ap (λ (c : Cell). hull_cell x c) equal in
-    true_not_false (is_known h) (ap (λ (g : HalfCell). is_known g) it ∙ hull_known x) k
-  where
-    true_not_false : (b : Bool) → b ≡ true → b ≡ false → ⊥
-    true_not_false b p q = cc
+    let equal : y ≡ x = same_Some y x (sym same) in
+    let it : h ≡ hull_cell x x = sym (same_Some (hull_cell x y) h e) ∙ ap (λ (c : Cell). hull_cell x c) equal in
+    true≢false (sym (ap (λ (g : HalfCell). is_known g) it ∙ hull_known x) ∙ k)
 unknown_at (x ∷ xs) (y ∷ ys) (suc i) h e k same = unknown_at xs ys i h e k same
 
 -- where two screens agree, their hull is known
@@ -96,7 +82,7 @@ known_where_same (x ∷ xs) [] (suc i) within same = absurd (none_within xs i (o
     none_within (c ∷ cells) zero l e = cc
     none_within (c ∷ cells) (suc j) l e = none_within cells j (omega arith) e
 known_where_same (x ∷ xs) (y ∷ ys) zero within same =
-    let equal : y ≡ x = same_some_cell y x (sym same) in
+    let equal : y ≡ x = same_Some y x (sym same) in
     (hull_cell x y, refl, ap (λ (c : Cell). is_known (hull_cell x c)) equal ∙ hull_known x)
 known_where_same (x ∷ xs) (y ∷ ys) (suc i) within same = known_where_same xs ys i (omega arith) same
 
@@ -106,20 +92,12 @@ all_known [] [] d b k = refl
 all_known [] (x ∷ xs) d b k = absurd d
 all_known (h ∷ hs) [] d b k = absurd d
 all_known (h ∷ hs) (x ∷ xs) d b k =
-    let parts : (is_known h ≡ true) × (list_all is_known hs ≡ true) = and_true (is_known h) (list_all is_known hs) k in
+    let parts : (is_known h ≡ true) × (list_all is_known hs ≡ true) = and_parts (is_known h) (list_all is_known hs) k in
     let first : x ≡ known_cell h = known_is h x parts.0 d.0 (All-head IsByteCell x xs b) in
     let rest : xs ≡ map known_cell hs = all_known hs xs d.1 (All-tail IsByteCell x xs b) parts.1 in
     ap (λ (c : Cell). c ∷ xs) first ∙ ap (λ (cs : List Cell). known_cell h ∷ cs) rest
 
 -- ---- what a search finds
-not_true : (b : Bool) → not b ≡ true → b ≡ false
-not_true true e = absurd (cc)
-not_true false e = refl
-
-not_false : (b : Bool) → not b ≡ false → b ≡ true
-not_false true e = refl
-not_false false e = absurd (cc)
-
 -- the first of the first n cells that is not known
 pub record FirstUnknown (hs : List HalfCell) (n index : ℕ) : Type 0 where
   pub within : index < n
@@ -140,13 +118,13 @@ found_unknown hs n index d e =
       within = l;
       cell = get_or (take n hs) index d;
       here = sym (slice_get-take n hs index l) ∙ slice_get-get_or (take n hs) index d p.0;
-      unknown = not_true (is_known (get_or (take n hs) index d)) p.1;
+      unknown = not-true (is_known (get_or (take n hs) index d)) p.1;
       earlier = λ j k.
           let m : j < n = omega arith in
           let k' : j < length (take n hs) = omega (arith, p.0) in (
             get_or (take n hs) j d,
             sym (slice_get-take n hs j m) ∙ slice_get-get_or (take n hs) j d k',
-            not_false (is_known (get_or (take n hs) j d)) (p.2 j k),
+            not-false (is_known (get_or (take n hs) j d)) (p.2 j k),
           );
     }
 
@@ -166,4 +144,4 @@ none_unknown hs d e =
     let past : length hs ≤ position_or_len is_unknown hs =
     ltb-false (position_or_len is_unknown hs) (length hs)
     (none_if (nat_lt (position_or_len is_unknown hs) (length hs)) (position_or_len is_unknown hs) e) in
-    all_by_index hs d (λ j l. not_false (is_known (get_or hs j d)) (fails_before_first is_unknown hs j d (omega arith)))
+    all_by_index hs d (λ j l. not-false (is_known (get_or hs j d)) (fails_before_first is_unknown hs j d (omega arith)))

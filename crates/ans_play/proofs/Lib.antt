@@ -21,7 +21,6 @@ pub mod GlyphRuns
 pub mod WholeTokens
 pub mod Letters
 pub mod BlankRuns
-pub mod ByteCells
 pub mod NewPlayer
 pub mod KnownCells
 pub mod PlaysWell

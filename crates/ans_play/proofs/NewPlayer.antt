@@ -19,6 +19,7 @@ use Rattle.ans_play.specs.HalfState.{HalfState, half_state, IsSpanOnScreen}
 use Rattle.ans_play.specs.Hull.{hull, hull_position, hull_cell, hull_screen, hull_attribute, hull_wrap}
 use Rattle.ans_play.specs.PlayView.{play_view, IsByteHalfCell, IsPlayView}
 use Rattle.ans_play.specs.Stands.{IsPlayed}
+use Rattle.ans_tokens.proofs.ReadSoFar.{nothing_read}
 use Rattle.ans_play.proofs.KnownAfter.{known_none}
 use Rattle.ans_play.proofs.SpanLemmas.{same_span}
 use Rattle.ans_play.proofs.HullSteps.{same_half}
@@ -31,16 +32,9 @@ played_none : (z : Size) (start : Start) (h : HalfState) → IsSize z →
     IsPlayed z start [] new_scanner h
 played_none z start h size e = rw e (record {
   size = size;
-  front = [];
-  open_part = [];
-  whole = refl;
-  tokens = [];
-  reads = ([], record { each = tt; whole = refl });
+  so_far = nothing_read;
   clean = clean_none z start;
   known = known_none z start;
-  holds = record { keeps = refl; begun_at = refl };
-  offset = refl;
-  unrefused = refl;
 })
 
 -- ---- part by part

@@ -2,7 +2,7 @@
 use Rattle.std.proofs.Common.{◌≡◌, ℕ, ◌+◌, ◌-◌, ◌*◌, ◌<◌, ◌≤◌, refl, sym, ◌∙◌, subst, arith, List, map, take, drop}
 use Rattle.std.proofs.Common.{Option, Some, None, lit<}
 use Rattle.std.specs.Prelude.{IfSome, unwrap_or}
-use Rattle.std.proofs.lemmas.List.{length-map, length-take, drop-take, drop-map, take-map}
+use Rattle.std.proofs.lemmas.List.{take-take, length-map, length-take, drop-take, drop-map, take-map}
 use Rattle.std.proofs.lemmas.Simd.{map-map}
 use Rattle.std.proofs.lemmas.Nat.{mul-le}
 use Rattle.std.proofs.lemmas.List.Elements.{All-map, All-take, All-weaker}
@@ -14,7 +14,6 @@ use Rattle.ans_screen.specs.declared.cell.HalfCell.{HalfCell}
 use Rattle.ans_play.specs.PlayView.{IsByteHalfCell}
 use Rattle.ans_play.specs.Shown.{known_cell, stated_cells, picture_of, IsShown}
 use Rattle.ans_play.specs.Shown.{cells_of_row, bytes_of_row, attributes_of_row}
-use Rattle.ans_play.proofs.GlyphRuns.{take_within}
 
 byte_or_0 : (o : Option ℕ) → IfSome o IsByte → IsByte (unwrap_or o 0)
 byte_or_0 None h = lit< tt
@@ -42,7 +41,7 @@ stated_row z cells row above =
     (omega arith) in
     let rest = z.lines * z.width - row * z.width in
     let all : z.lines * z.width ≡ row * z.width + rest = omega arith in
-    rw (all, drop-take (row * z.width) rest cells) (take_within z.width rest (drop (row * z.width) cells) (omega arith))
+    rw (all, drop-take (row * z.width) rest cells) (take-take z.width rest (drop (row * z.width) cells) (omega arith))
 
 -- the cells of a row
 row_cells : (z : Size) (cells : List HalfCell) (row : ℕ) → row < z.lines →

@@ -28,6 +28,7 @@ use Rattle.ans_model.specs.Sequence.Reads.{SpellsToken}
 use Rattle.ans_model.proofs.StartLemmas.{low_is_start, high_is_start}
 use Rattle.ans_model.proofs.OneCause.{static_is_certain}
 use Rattle.ans_model.proofs.OneAnswer.{refused_certain}
+use Rattle.ans_model.proofs.PositionLemmas.{index-lt_stated}
 use Rattle.ans_model.proofs.Reading.{reads_bytes}
 use Rattle.ans_screen.specs.HalfCells.{is_known}
 use Rattle.ans_screen.specs.declared.cell.HalfCell.{HalfCell}
@@ -46,7 +47,7 @@ use Rattle.ans_play.proofs.KnownAfter.{known_none}
 use Rattle.ans_play.proofs.Positions.{positions_agree, one_position_then, all_in_spare_row, none_in_spare_row}
 use Rattle.ans_play.proofs.FaultShown.{token_has_fault}
 use Rattle.ans_play.proofs.NoFaultShown.{known_next, token_has_no_fault}
-use Rattle.ans_play.proofs.Finishing.{same_where_known, index_lt, no_cell}
+use Rattle.ans_play.proofs.Finishing.{same_where_known, no_cell}
 
 -- ---- what is known after tokens, up to the first that has a fault
 -- the first n tokens are clean, and this is known after them
@@ -151,7 +152,7 @@ module _ (z : Size) (class : Start) (w : 0 < z.width) (tokens : List TokenKind) 
       let known = known_after_clean z class w tokens prints clean in
       let fits = (known.1.well_formed (low_start z class) (low_is_start z class w)).fits in
       let within : index z p < length (low_final z class tokens).screen =
-      omega (arith, index_lt z p stated, fits.cells) in
+      omega (arith, index-lt_stated z p stated, fits.cells) in
       let cell = known_where_same (low_final z class tokens).screen (high_final z class tokens).screen
       (index z p) within same in
       same_where_known z class tokens known.0 w known.1 p (index z p) cell.0 refl
@@ -242,7 +243,8 @@ module _ (z : Size) (class : Start) (tokens : List TokenKind) (w : 0 < z.width) 
   cells_differ : (p : Position) → IsStated z p → CellsDiffer z class tokens p →
       cell_at z (low_final z class tokens).screen p ≢ cell_at z (high_final z class tokens).screen p
   cells_differ p stated d =
-      let here = slice_get-get_or h.screen (index z p) no_cell (omega (arith, index_lt z p stated, cell_count_is)) in
+      let here = slice_get-get_or h.screen (index z p) no_cell
+      (omega (arith, index-lt_stated z p stated, cell_count_is)) in
       this_cell_differs p (get_or h.screen (index z p) no_cell)
       (is_known (get_or h.screen (index z p) no_cell)) here refl d
 

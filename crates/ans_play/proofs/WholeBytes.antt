@@ -1,8 +1,7 @@
 -- Bytes that are read as tokens to their end: they are good where the tokens are clean and each stated cell is known.
-use Rattle.std.proofs.Common.{◌≡◌, ◌⊎◌, inl, inr, ℕ, ◌*◌, true, List, [], length, Option, Some, None, refl, sym, arith}
+use Rattle.std.proofs.Common.{◌≡◌, ◌⊎◌, inl, inr, ℕ, ◌*◌, true, List, Option, Some, None, refl}
 use Rattle.std.proofs.Common.{subst}
 use Rattle.std.specs.List.{list_all}
-use Rattle.std.proofs.lemmas.List.{append-nil}
 use Rattle.ans_model.specs.Sequence.TokenKind.{TokenKind}
 use Rattle.ans_model.specs.Sequence.Reads.{Reads}
 use Rattle.ans_model.specs.Screen.State.{Size, IsSize}
@@ -13,12 +12,11 @@ use Rattle.ans_model.specs.Verdict.Good.{GoodWith, IsGood}
 use Rattle.ans_model.specs.Verdict.LastFault.{IsLastFault}
 use Rattle.ans_model.proofs.OneAnswer.{well_is_clean, good_or_last}
 use Rattle.ans_model.proofs.Reading.{one_reading, reads_bytes}
-use Rattle.ans_tokens.specs.ScannerView.{Nothing, scanner_view}
 use Rattle.ans_screen.specs.HalfCells.{is_known}
 use Rattle.ans_screen.specs.GridEdits.{first_unknown}
 use Rattle.ans_play.specs.HalfState.{HalfState}
 use Rattle.ans_play.specs.Shown.{stated_cells, picture_of}
-use Rattle.ans_play.specs.Stands.{IsKnownAfter, IsPlayed}
+use Rattle.ans_play.specs.Stands.{IsKnownAfter}
 use Rattle.ans_play.proofs.Finishing.{good_where_known, last_where_unknown, known_if, no_cell}
 use Rattle.ans_play.proofs.KnownCells.{found_unknown}
 use Rattle.ans_play.proofs.TwoStarts.{clean_or_faulty}
@@ -30,35 +28,17 @@ IsAllKnown z h = list_all is_known (stated_cells z h.screen) ≡ true
 module _ (z : Size) (class : Start) (size : IsSize z) (bytes : List ℕ) (tokens : List TokenKind)
     (reads : Reads bytes tokens) where
   module _ (clean : IsClean z class tokens) (h : HalfState) (known : IsKnownAfter z class tokens h) where
-    -- a scanner has read them all
-    played_whole : IsPlayed z class bytes (scanner_view (length bytes) (length bytes) Nothing None) h
-    played_whole = record {
-      size = size;
-      front = bytes;
-      open_part = [];
-      whole = sym (append-nil bytes);
-      tokens = tokens;
-      reads = reads;
-      clean = clean;
-      known = known;
-      holds = record { keeps = refl; begun_at = omega arith };
-      offset = refl;
-      unrefused = refl;
-    }
-
     -- where all is known the bytes are good
     pub good_if_known : IsAllKnown z h → GoodWith z class bytes (picture_of z h.screen)
-    unfolding played_whole
-    good_if_known all = good_where_known z class bytes _ h played_whole refl all
+    good_if_known all = good_where_known z class bytes tokens h size reads clean known all
 
     found_or_last : (o : Option ℕ) → first_unknown h.screen (z.lines * z.width) ≡ o →
         IsAllKnown z h ⊎ ((f : Fault) × IsLastFault z class bytes f)
-    unfolding played_whole
     found_or_last None none = inl (known_if h.screen (z.lines * z.width) none)
     found_or_last (Some i) some =
         inr (
           _,
-          inr (last_where_unknown z class bytes _ h played_whole refl i
+          inr (last_where_unknown z class bytes tokens h size reads clean known i
               (found_unknown h.screen (z.lines * z.width) i no_cell some)),
         )
 

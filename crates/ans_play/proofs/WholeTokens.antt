@@ -1,7 +1,7 @@
 -- Whole tokens, which are played before the scanner is taken over them.
-use Rattle.std.proofs.Common.{◌≡◌, ℕ, ◌+◌, ◌-◌, ◌≤◌, refl, sym, ◌∙◌, List, ◌++◌, length, length-append}
+use Rattle.std.proofs.Common.{◌≡◌, ℕ, ◌+◌, ◌-◌, ◌≤◌, refl, sym, ◌∙◌, List, [], ◌++◌, length, length-append}
 use Rattle.std.proofs.Common.{take, drop, None, subst}
-use Rattle.std.proofs.lemmas.List.{length-take-le}
+use Rattle.std.proofs.lemmas.List.{length-take-le, take_rest}
 use Rattle.std.proofs.Math.Seq.{take-add}
 use Rattle.ans_model.specs.Sequence.TokenKind.{TokenKind}
 use Rattle.ans_tokens.specs.ScannerView.{ScannerView}
@@ -11,8 +11,18 @@ use Rattle.ans_play.specs.HalfFault.{half_fault}
 use Rattle.ans_play.specs.PlayView.{PlayView}
 use Rattle.ans_play.specs.Plays.{after_token}
 use Rattle.ans_play.specs.Stands.{GoesOn, PlaysWholeTokens}
-use Rattle.ans_play.proofs.Feeding.{front_goes_on, goes_on_more, slice_to_end}
-use Rattle.ans_play.proofs.GlyphRuns.{past_more}
+use Rattle.ans_play.proofs.Feeding.{front_goes_on, goes_on_nothing, goes_on_more}
+use Rattle.ans_tokens.proofs.ReadSoFar.{scanner_after-none, scanner_after-more}
+
+-- no tokens
+pub plays_no_tokens : (p : PlayView) → PlaysWholeTokens p [] p
+plays_no_tokens p = record {
+  scanner = refl;
+  played = λ s between.
+      subst (λ (c : ScannerView). GoesOn (record p { scanner = s }) [] (record p { scanner = c }))
+      (sym (scanner_after-none s))
+      (goes_on_nothing (record p { scanner = s }));
+}
 
 -- a whole token in front is played
 pub token_is_played : (old new : PlayView) (bytes : List ℕ) (t : TokenKind) (count : ℕ) → IsTokenFront bytes t count →
@@ -36,7 +46,7 @@ more_tokens old mid new front bytes h g = record {
       record { nothing = between.nothing; unrefused = between.unrefused } in
       let over : scanner_after (scanner_after s (length front)) (length bytes)
       ≡ scanner_after s (length (front ++ bytes)) =
-      past_more s (length front) (length bytes) (length (front ++ bytes)) (sym (length-append front bytes)) in
+      scanner_after-more s (length front) (length bytes) (length (front ++ bytes)) (sym (length-append front bytes)) in
       subst (λ (c : ScannerView). GoesOn (record old { scanner = s }) (front ++ bytes) (record new { scanner = c }))
       over
       (goes_on_more (record old { scanner = s }) (record mid { scanner = scanner_after s (length front) })
@@ -50,7 +60,7 @@ pub plays_further : (old mid new : PlayView) (bytes : List ℕ) (i count : ℕ) 
     PlaysWholeTokens old (take (i + count) bytes) new
 plays_further old mid new bytes i count h g =
     rw (take-add i count bytes)
-    (more_tokens old mid new (take i bytes) (take count (drop i bytes)) h (rw slice_to_end at g))
+    (more_tokens old mid new (take i bytes) (take count (drop i bytes)) h (rw take_rest at g))
 
 -- the scanner is taken over the tokens
 pub taken_over : (old mid new : PlayView) (bytes : List ℕ) (count : ℕ) → count ≤ length bytes →

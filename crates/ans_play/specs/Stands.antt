@@ -3,7 +3,6 @@ use Rattle.std.specs.Prelude.{◌≡◌, ℕ, ◌+◌, ◌≤◌, List, [], ◌+
 use Rattle.std.specs.Prelude.{Result, Err, IsOk, IfOk, IfErr, OnOk}
 use Rattle.std.specs.Prelude.{MatchResult}
 use Rattle.ans_model.specs.Sequence.TokenKind.{TokenKind}
-use Rattle.ans_model.specs.Sequence.Reads.{Reads}
 use Rattle.ans_model.specs.Screen.State.{Size, IsSize, IsWellFormed}
 use Rattle.ans_model.specs.Screen.Step.{final}
 use Rattle.ans_model.specs.Screen.StartClass.{low_start, high_start}
@@ -14,7 +13,8 @@ use Rattle.ans_model.specs.Verdict.Good.{Picture, GoodWith, IsGood}
 use Rattle.ans_model.specs.declared.start.Start.{Start}
 use Rattle.ans_model.specs.declared.fault.Fault.{Fault}
 use Rattle.ans_tokens.specs.Glyphs.{IsBetweenTokens, scanner_after}
-use Rattle.ans_tokens.specs.ScannerView.{ScannerView, Holds}
+use Rattle.ans_tokens.specs.ScannerView.{ScannerView}
+use Rattle.ans_tokens.specs.ReadSoFar.{ReadSoFar}
 use Rattle.ans_play.specs.HalfState.{HalfState, Describes}
 use Rattle.ans_play.specs.Hull.{hull}
 use Rattle.ans_play.specs.PlayView.{PlayView}
@@ -27,20 +27,12 @@ pub record IsKnownAfter (z : Size) (class : Start) (tokens : List TokenKind) (h 
   pub is_hull : h ≡ hull (final z (low_start z class) tokens) (final z (high_start z class) tokens)
   pub well_formed : FromEvery z class (λ s. IsWellFormed z (final z s tokens))
 
--- The bytes are a front that is read as clean tokens, and then an open part that the scanner holds; the half-known
--- state is what is known after the tokens.
+-- The tokens read so far are clean, and the half-known state is what is known after them.
 pub record IsPlayed (z : Size) (class : Start) (bytes : List ℕ) (scanner : ScannerView) (h : HalfState) : Type 0 where
   pub size : IsSize z
-  pub front : List ℕ
-  pub open_part : List ℕ
-  pub whole : bytes ≡ front ++ open_part
-  pub tokens : List TokenKind
-  pub reads : Reads front tokens
-  pub clean : IsClean z class tokens
-  pub known : IsKnownAfter z class tokens h
-  pub holds : Holds scanner open_part
-  pub offset : scanner.offset ≡ length bytes
-  pub unrefused : scanner.fault ≡ None
+  pub so_far : ReadSoFar bytes scanner
+  pub clean : IsClean z class so_far.tokens
+  pub known : IsKnownAfter z class so_far.tokens h
 
 -- A player without a fault stands where the bytes fed have brought it. One with a fault has their first.
 pub record Stands (p : PlayerView) (bytes : List ℕ) : Type 0 where

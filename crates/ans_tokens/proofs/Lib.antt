@@ -3,6 +3,7 @@ pub mod ScannerSteps
 pub mod OpenLemmas
 pub mod EachByte
 pub mod Readable
+pub mod ReadSoFar
 pub mod PartLemmas
 pub mod WholeSequences
 pub mod TextFront

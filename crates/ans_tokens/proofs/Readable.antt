@@ -1,6 +1,6 @@
 -- Each list of bytes is read as tokens, up to its end, an open sequence, or the first text that the reading refuses.
 use Rattle.std.proofs.Common.{◌≡◌, ◌⊎◌, inl, inr, ℕ, List, [], ◌∷◌, ◌++◌, refl, sym, ap, ◌∙◌, append_assoc, subst}
-use Rattle.std.specs.List.{AllByRecursion, AllZip, concat}
+use Rattle.std.specs.List.{AllByRecursion, AllZip}
 use Rattle.std.proofs.lemmas.List.{append-nil}
 use Rattle.std.proofs.lemmas.List.Folds.{concat-append}
 use Rattle.ans_model.specs.Bytes.{IsByte}
@@ -35,15 +35,24 @@ spells_more [] us (x ∷ xs) ys h k = absurd h
 spells_more (t ∷ ts) us [] ys h k = absurd h
 spells_more (t ∷ ts) us (x ∷ xs) ys h k = (h.0, spells_more ts us xs ys h.1 k)
 
+-- tokens after tokens
+pub reads_as_append : (a b : List ℕ) (ts us : List TokenKind) (xs ys : List (List ℕ)) → ReadsAs a ts xs
+    → ReadsAs b us ys → ReadsAs (a ++ b) (ts ++ us) (xs ++ ys)
+reads_as_append a b ts us xs ys h k = record {
+  each = spells_more ts us xs ys h.each k.each;
+  whole = rw (h.whole, k.whole) (sym (concat-append xs ys));
+}
+
+-- one token
+pub reads_as_one : (t : TokenKind) (text : List ℕ) → SpellsToken t text → ReadsAs text (t ∷ []) (text ∷ [])
+reads_as_one t text spelled = record { each = (spelled, tt); whole = sym (append-nil text) }
+
 -- one more token is read
 pub reads_as_more : (bytes text : List ℕ) (tokens : List TokenKind) (texts : List (List ℕ)) (t : TokenKind)
     → ReadsAs bytes tokens texts → SpellsToken t text
     → ReadsAs (bytes ++ text) (tokens ++ t ∷ []) (texts ++ text ∷ [])
-reads_as_more bytes text tokens texts t r spelled = record {
-  each = spells_more tokens (t ∷ []) texts (text ∷ []) r.each (spelled, tt);
-  whole = ap (λ (xs : List ℕ). xs ++ text) r.whole
-      ∙ sym (concat-append texts (text ∷ []) ∙ ap (λ (xs : List ℕ). concat texts ++ xs) (append-nil text));
-}
+reads_as_more bytes text tokens texts t h spelled =
+    reads_as_append bytes text tokens (t ∷ []) texts (text ∷ []) h (reads_as_one t text spelled)
 
 -- after tokens and an open part
 read_on : (rest front y : List ℕ) (tokens : List TokenKind) (texts : List (List ℕ)) → AllByRecursion IsByte rest

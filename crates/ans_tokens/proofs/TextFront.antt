@@ -1,12 +1,12 @@
 -- Bytes from 20h on, which are glyphs.
 use Rattle.std.proofs.Common.{◌≡◌, ℕ, ◌+◌, ◌<◌, ◌≤◌, List, length, take, All, inl, inr, ◌⊎◌, refl, sym, subst, arith}
-use Rattle.std.proofs.Common.{get_or, false, true, not, Bool, map, ap, ◌∙◌, ◌-◌, w64}
+use Rattle.std.proofs.Common.{get_or, false, true, not, map, ap, ◌∙◌, ◌-◌, w64}
 use Rattle.std.specs.Int.{trailing_zeros}
 use Rattle.std.specs.List.{prefix_len}
 use Rattle.std.specs.Simd.Lanes.{mask_l, chunk}
 use Rattle.std.proofs.lemmas.Simd.{length-chunk, get_or-chunk, trailing_mask_l}
 use Rattle.std.proofs.lemmas.List.Sums.{prefix_len-le-length, prefix_len_passes}
-use Rattle.std.proofs.lemmas.Bool.{cases_lt}
+use Rattle.std.proofs.lemmas.Bool.{cases_lt, not-true}
 use Rattle.std.proofs.lemmas.Bool.Decides.{nat_tests}
 use Rattle.std.proofs.lemmas.List.{get_or-take, length-take-le}
 use Rattle.std.proofs.lemmas.List.Elements.{All-from_get_or}
@@ -45,10 +45,6 @@ glyphs_more bytes count n room are_bytes before none =
         (before k 0 (omega (arith, first, length-take-le count bytes (omega arith))))
     at k l (inr rest) = not_low (get_or bytes k 0) (are_bytes k (omega arith)) (none k rest l)
 
-not_true : (b : Bool) → not b ≡ true → b ≡ false
-not_true false e = refl
-not_true true e = cc
-
 -- before the lowest bit of the mask of 16 bytes none is low
 pub none_before_lowest : (bytes : List ℕ) (count mask : ℕ) → count + 16 ≤ length bytes
     → mask ≡ mask_l (map is_low (chunk count 16 bytes)) → 0 < mask → (trailing_zeros w64 mask ≤ 16)
@@ -67,6 +63,6 @@ none_before_lowest bytes count mask room is some = rw is (
           let lane : get_or lanes (k - count) 0 ≡ get_or bytes k 0 =
           get_or-chunk count 16 bytes (k - count) 0 (omega (arith, j, within))
           ∙ ap (λ (i : ℕ). get_or bytes i 0) place in
-          not_true (is_low (get_or bytes k 0)) (subst (λ (b : ℕ). not (is_low b) ≡ true) lane
+          not-true (is_low (get_or bytes k 0)) (subst (λ (b : ℕ). not (is_low b) ≡ true) lane
           (prefix_len_passes is_text lanes (k - count) 0 j)),
     ))

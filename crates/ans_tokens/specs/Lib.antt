@@ -2,6 +2,7 @@ pub mod Token
 pub mod Mark
 pub mod PlainSequence
 pub mod ScannerView
+pub mod ReadSoFar
 pub mod KeptMember
 pub mod Glyphs
 pub mod Unfinished

@@ -1,7 +1,7 @@
 use Rattle.std.proofs.Common.{◌+◌, ◌*◌, lit<}
 use Rattle.ans_model.specs.Bytes.{IsByte}
 use Rattle.ans_play.specs.PlayView.{IsByteHalfCell}
-use Rattle.ans_play.proofs.ByteCells.{All-filled}
+use Rattle.ans_model.proofs.FilledLemmas.{All-filled}
 use Rattle.ans_play.proofs.play.Play.erase_line.Goals as goal
 
 pub invariant_of-self : goal.invariant_of-self
@@ -10,10 +10,11 @@ invariant_of-self g c =
     let blank : IsByteHalfCell c.blank-blank.result = rw c.blank-blank.ensures (lit< tt, attribute) in
     record {
       cells = cc (g.met.G.Grid.whole c.fill.new.self, g.met.G.Grid.whole c.self.inside.grid);
-      bytes = All-filled IsByteHalfCell (g.G.Grid.cells_of c.fill.new.self) (g.G.Grid.cells_of c.self.inside.grid)
+      bytes = rw c.fill.ensures.cells
+          (All-filled IsByteHalfCell (g.G.Grid.cells_of c.self.inside.grid)
           (c.self.inside.cursor.low.row * c.width.result + c.self.inside.cursor.low.column)
           (c.self.inside.cursor.low.row * c.width.result + c.width-2.result)
-          c.blank-blank.result c.fill.ensures.cells blank c.self.invariant.bytes;
+          c.blank-blank.result blank c.self.invariant.bytes);
       attribute = c.self.invariant.attribute;
       cursor = c.self.invariant.cursor;
       saved = c.self.invariant.saved;

@@ -1,6 +1,7 @@
 use Rattle.std.proofs.Common.{◌≡◌, take, refl, ◌∙◌, arith}
 use Rattle.ans_play.specs.Stands.{PlaysWholeTokens}
 use Rattle.ans_play.proofs.WholeTokens.{plays_further, taken_over}
+use Rattle.ans_play.proofs.WholeTokens.{plays_no_tokens}
 use Rattle.ans_play.proofs.play.Play.play_many.Goals.{else-loop-count-test, then-loop-count-test+in-0}
 use Rattle.ans_play.proofs.play.Play.play_many.Goals as goal
 
@@ -25,3 +26,7 @@ returns-clause-played g c =
     rw (c.self.view_is, same) here.played in
     rw c.skip.ensures (taken_over c.args.self.now _ _ c.args.bytes.now c.loop-count.count here.within
     c.requires.between played refl)
+
+pub loop-count-init : goal.loop-count-init
+loop-count-init g c =
+    record { within = omega arith; played = plays_no_tokens c.args.self.now; none = λ zero. refl }

@@ -1,10 +1,11 @@
-use Rattle.std.proofs.Common.{◌+◌, ◌*◌, take, arith, All}
+use Rattle.std.proofs.Common.{◌≡◌, ◌+◌, ◌*◌, take, arith, All}
 use Rattle.std.proofs.lemmas.List.Elements.{All-from_get_or, All-take}
 use Rattle.ans_model.specs.Bytes.{IsByte}
 use Rattle.ans_screen.specs.GridEdits.{printed_run}
 use Rattle.ans_play.specs.PlayView.{IsByteHalfCell}
 use Rattle.ans_play.proofs.GlyphRuns.{is_run, printed_bytes, All-written, run_is_played}
 use Rattle.ans_play.proofs.GlyphRuns.{longest_run}
+use Rattle.ans_play.proofs.WholeTokens.{plays_no_tokens}
 use Rattle.ans_play.proofs.play.Play.print_run.Goals as goal
 
 pub write_run-requires : goal.write_run-requires
@@ -66,3 +67,8 @@ pub returns-else-count-gt0-clause-longest : goal.returns-else-count-gt0-clause-l
 returns-else-count-gt0-clause-longest g c =
     longest_run c.args.self.now c.args.bytes.now c.columns_before_last-columns.result c.min.result
     c.count_glyphs-count.result c.columns_before_last-columns.ensures c.min.ensures c.count_glyphs-count.ensures
+
+pub returns-else-count-gt0-clause-printed : goal.returns-else-count-gt0-clause-printed
+returns-else-count-gt0-clause-printed g c =
+    let none : c.count_glyphs-count.result ≡ 0 = omega arith in
+    rw none (plays_no_tokens c.args.self.now)

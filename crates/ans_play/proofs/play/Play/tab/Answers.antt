@@ -10,7 +10,7 @@ use Rattle.ans_play.specs.HalfFault.{is_one_position, half_print_fault}
 use Rattle.ans_play.specs.HalfBlanks.{fault_of_blanks}
 use Rattle.ans_play.specs.PlayView.{PlayView, play_view, IsByteHalfCell}
 use Rattle.ans_play.proofs.BlankRuns.{tab_is_refused, tab_is_played, tab_refused_as_print, same_run}
-use Rattle.ans_play.proofs.ByteCells.{All-filled}
+use Rattle.ans_model.proofs.FilledLemmas.{All-filled}
 use Rattle.ans_play.proofs.play.Play.tab.Goals as goal
 
 pub returns-then-not-is_one_position : goal.returns-then-not-is_one_position
@@ -45,10 +45,10 @@ invariant_of-self g c =
     let blank : IsByteHalfCell c.blank-blank.result = rw c.blank-blank.ensures (lit< tt, attribute) in
     record {
       cells = cc (g.met.G.Grid.whole c.fill.new.self, g.met.G.Grid.whole c.self.inside.grid);
-      bytes = All-filled IsByteHalfCell (g.G.Grid.cells_of c.fill.new.self) (g.G.Grid.cells_of c.self.inside.grid)
+      bytes = rw c.fill.ensures.cells
+          (All-filled IsByteHalfCell (g.G.Grid.cells_of c.self.inside.grid)
           (c.self.inside.cursor.low.row * c.width.result + c.self.inside.cursor.low.column)
-          c.end_of_blanks-to.result
-          c.blank-blank.result c.fill.ensures.cells blank c.self.invariant.bytes;
+          c.end_of_blanks-to.result c.blank-blank.result blank c.self.invariant.bytes);
       attribute = c.self.invariant.attribute;
       cursor = c.in_ok-cursor.ensures.on_screen;
       saved = c.self.invariant.saved;

@@ -3,6 +3,7 @@ use Rattle.ans_play.specs.PlayerView.{PlayerView, play_of}
 use Rattle.ans_play.specs.Stands.{GoesOn}
 use Rattle.ans_play.proofs.Feeding.{plays_more, plays_all, piece_deserved, feeds_all, feeds_fault}
 use Rattle.ans_play.proofs.Feeding.{feeds_again}
+use Rattle.ans_play.proofs.Feeding.{plays_to_start}
 use Rattle.ans_play.proofs.player.Player.feed.Goals as goal
 
 pub returns-in-Some-clause-fed : goal.returns-in-Some-clause-fed
@@ -87,3 +88,11 @@ returns-clause-fed g c s st =
     end)
     (record { size = here.plays.goes_on.size; start = here.start })
     (record { no_fault = none; none = here.fault ∙ none; fed = ap (λ n. n + length c.args.piece.now) here.fed }) st
+
+pub loop-played-init : goal.loop-played-init
+loop-played-init g c = record {
+  plays = rw (← c.self.view_is) (plays_to_start c.self.inside.play c.args.piece.now);
+  start = ap (λ (p : PlayerView). p.start) c.self.view_is;
+  fed = ap (λ (p : PlayerView). p.fed) c.self.view_is;
+  fault = ap (λ (p : PlayerView). p.fault) c.self.view_is;
+}
