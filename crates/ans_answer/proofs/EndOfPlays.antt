@@ -1,9 +1,10 @@
 -- The end of the bytes: where the two screens agree the bytes are good, and else a cell stays unknown.
-use Rattle.std.proofs.Common.{◌≡◌, inr, ℕ, ◌+◌, ◌*◌, ◌/◌, ◌%◌, ◌<◌, refl, sym, ap, ◌∙◌, arith, List, []}
-use Rattle.std.proofs.Common.{◌++◌, take, subst}
+use Rattle.std.proofs.Common.{All, ◌≡◌, inr, ℕ, ◌+◌, ◌*◌, ◌/◌, ◌%◌, ◌<◌, refl, sym, ap, ◌∙◌, arith, List, []}
+use Rattle.std.proofs.Common.{take, subst}
 use Rattle.std.specs.Prelude.{slice_get}
-use Rattle.std.proofs.lemmas.List.{length-take, append-nil}
+use Rattle.std.proofs.lemmas.List.{length-take}
 use Rattle.std.proofs.lemmas.List.Elements.{All-take}
+use Rattle.ans_model.specs.Sequence.TokenKind.{PrintsByte}
 use Rattle.ans_model.specs.Sequence.Reads.{Reads}
 use Rattle.ans_model.specs.Screen.State.{Size, State, index, IsStated, IsByteCell, IsWellFormed}
 use Rattle.ans_model.specs.Screen.StartClass.{low_start, high_start}
@@ -18,6 +19,7 @@ use Rattle.ans_model.proofs.PositionLemmas.{index-lt_stated}
 use Rattle.ans_model.proofs.Reading.{reads_bytes}
 use Rattle.ans_model.proofs.Slices.{slice_get-take}
 use Rattle.ans_model.proofs.StartLemmas.{low_is_start, high_is_start}
+use Rattle.ans_tokens.proofs.ReadSoFar.{all_read}
 use Rattle.ans_play.proofs.PlaysWell.{plays_well}
 use Rattle.ans_play.proofs.TwoStarts.{same_where_agreed}
 use Rattle.ans_play.proofs.Finishing.{index_before, position_of, position_index, position_stated}
@@ -30,29 +32,30 @@ abbrev pub stated_count : Size → ℕ
 stated_count z = z.lines * z.width
 
 module _ (v : TwoPlaysView) (class : Start) (bytes : List ℕ) (p : ArePlayed class bytes v) where
-  module _ (closed : p.open_part ≡ []) where
-    -- all bytes are read
-    read_whole : Reads bytes p.tokens
-    read_whole = subst (λ (xs : List ℕ). Reads xs p.tokens)
-        (sym (append-nil p.front) ∙ ap (λ (y : List ℕ). p.front ++ y) (sym closed) ∙ sym p.whole) p.reads
+  tokens_print : All PrintsByte p.so_far.tokens
+  tokens_print = reads_bytes p.so_far.front p.so_far.tokens p.so_far.reads
+
+  module _ (closed : p.so_far.open_part ≡ []) where
+    all_is_read : Reads bytes p.so_far.tokens
+    all_is_read = all_read bytes v.scanner p.so_far closed
 
     -- where the two screens agree in a stated cell, all do
     same_cell : (q : Position) → IsStated v.size q →
         slice_get v.low.screen (index v.size q) ≡ slice_get v.high.screen (index v.size q) →
-        SameCell v.size class p.tokens q
+        SameCell v.size class p.so_far.tokens q
     same_cell q stated same =
-        same_where_agreed v.size class p.after.size.some_columns p.tokens (reads_bytes p.front p.tokens p.reads)
+        same_where_agreed v.size class p.after.size.some_columns p.so_far.tokens tokens_print
         p.after.clean q stated
         (ap (λ (s : State). slice_get s.screen (index v.size q)) (sym p.after.low) ∙ same
         ∙ ap (λ (s : State). slice_get s.screen (index v.size q)) p.after.high)
 
     well : IsWellFormed v.size v.low
     well = subst (λ (s : State). IsWellFormed v.size s) (sym p.after.low)
-        (low_well v class p.tokens (reads_bytes p.front p.tokens p.reads) p.after)
+        (low_well v class p.so_far.tokens tokens_print p.after)
 
     -- screens that agree in the stated lines show one picture
     shows : take (stated_count v.size) v.low.screen ≡ take (stated_count v.size) v.high.screen →
-        Shows v.size class p.tokens (picture v.size (take (stated_count v.size) v.low.screen))
+        Shows v.size class p.so_far.tokens (picture v.size (take (stated_count v.size) v.low.screen))
     shows same = record {
       is_picture = record {
         size = refl;
@@ -78,16 +81,16 @@ module _ (v : TwoPlaysView) (class : Start) (bytes : List ℕ) (p : ArePlayed cl
         GoodWith v.size class bytes (picture v.size cells)
     good_where_same cells is same = rw is (record {
       size = p.after.size;
-      tokens = p.tokens;
-      reads = read_whole;
-      plays = plays_well v.size class p.tokens p.after.clean;
+      tokens = p.so_far.tokens;
+      reads = all_is_read;
+      plays = plays_well v.size class p.so_far.tokens p.after.clean;
       shows = shows same;
     })
 
     -- the first difference is the first cell that stays unknown
     first_unknown : (i : ℕ) → IsFirstDifferenceOf (take (stated_count v.size) v.low.screen)
         (take (stated_count v.size) v.high.screen) i → i < stated_count v.size →
-        IsFirstUnknown v.size class p.tokens (position_of v.size i)
+        IsFirstUnknown v.size class p.so_far.tokens (position_of v.size i)
     first_unknown i d within = record {
       stated = position_stated v.size i p.after.size.some_columns within;
       differs = (
@@ -119,10 +122,10 @@ module _ (v : TwoPlaysView) (class : Start) (bytes : List ℕ) (p : ArePlayed cl
     last_where_different i offset width d f w =
         let within : i < stated_count v.size =
         omega (arith, d.within, length-take (stated_count v.size) v.low.screen) in
-        rw (← f, ← w, p.offset) (inr (record {
+        rw (← f, ← w, p.so_far.offset) (inr (record {
           size = p.after.size;
-          tokens = p.tokens;
-          reads = read_whole;
+          tokens = p.so_far.tokens;
+          reads = all_is_read;
           clean = p.after.clean;
           position = position_of v.size i;
           first = first_unknown i d within;

@@ -1,7 +1,6 @@
 -- Two plays, as contracts see them.
-use Rattle.std.specs.Prelude.{◌≡◌, ◌≢◌, ℕ, ◌<◌, List, ◌++◌, length, slice_get, All, Option, None, MatchOption}
+use Rattle.std.specs.Prelude.{◌≡◌, ◌≢◌, ℕ, ◌<◌, List, length, slice_get, All, Option, MatchOption}
 use Rattle.ans_model.specs.Sequence.TokenKind.{TokenKind, PrintsByte, Tab}
-use Rattle.ans_model.specs.Sequence.Reads.{Reads}
 use Rattle.ans_model.specs.Screen.State.{Size, IsSize, State}
 use Rattle.ans_model.specs.Screen.Step.{step}
 use Rattle.ans_model.specs.declared.start.Start.{Start}
@@ -9,7 +8,8 @@ use Rattle.ans_model.specs.Verdict.TokenFault.{HasFault, IsClean}
 use Rattle.ans_model.specs.Verdict.TwoStarts.{low_final, high_final}
 use Rattle.ans_model.specs.declared.cell.Cell.{Cell}
 use Rattle.ans_model.specs.declared.fault.Cause.{Cause}
-use Rattle.ans_tokens.specs.ScannerView.{ScannerView, Holds}
+use Rattle.ans_tokens.specs.ScannerView.{ScannerView}
+use Rattle.ans_tokens.specs.ReadSoFar.{ReadSoFar}
 
 -- the stated size, the states of the two plays, and the scanner
 pub record TwoPlaysView : Type 0 where
@@ -29,18 +29,10 @@ pub record AreAfter (class : Start) (tokens : List TokenKind) (p : TwoPlaysView)
   pub low : p.low ≡ low_final p.size class tokens
   pub high : p.high ≡ high_final p.size class tokens
 
--- The bytes are a front that is read as tokens, after which the two plays are, and then an open part that the
--- scanner holds.
+-- The two plays are after the tokens that the scanner has read so far.
 pub record ArePlayed (class : Start) (bytes : List ℕ) (p : TwoPlaysView) : Type 0 where
-  pub front : List ℕ
-  pub open_part : List ℕ
-  pub whole : bytes ≡ front ++ open_part
-  pub tokens : List TokenKind
-  pub reads : Reads front tokens
-  pub after : AreAfter class tokens p
-  pub holds : Holds p.scanner open_part
-  pub offset : p.scanner.offset ≡ length bytes
-  pub unrefused : p.scanner.fault ≡ None
+  pub so_far : ReadSoFar bytes p.scanner
+  pub after : AreAfter class so_far.tokens p
 
 -- a token is made in both plays
 abbrev pub after_both : TwoPlaysView → TokenKind → TwoPlaysView

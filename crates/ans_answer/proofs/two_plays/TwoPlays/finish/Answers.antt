@@ -17,7 +17,7 @@ returns-in-None c class bytes p =
     ≡ take (stated_count c.self.inside.size) c.self.inside.low.state.screen =
     rw (c.lines.ensures.lines, c.width-width.ensures.width, c.cells.ensures.cells) at
     c.in_ok-to_vec-in-None.ensures.items_if_clones_equal (search rules) in
-    good_where_same c.args.self class bytes p (closed p.unrefused p.open_part p.holds)
+    good_where_same c.args.self class bytes p (closed p.so_far.unrefused p.so_far.open_part p.so_far.holds)
     c.in_ok-to_vec-in-None.field-0.items (rw (← c.self.view_is) copied) (rw (← c.self.view_is) stated)
 
 pub returns : goal.returns
@@ -25,7 +25,7 @@ returns c class bytes p =
     let scanner : c.self.inside.scanner ≡ c.args.self.scanner = ap (λ (v : TwoPlaysView). v.scanner) c.self.view_is in
     let closed : c.args.self.scanner.fault ≡ None → (y : List ℕ) → Holds c.args.self.scanner y → y ≡ [] =
     rw scanner at c.in_default.ensures.ends in
-    last_where_different c.args.self class bytes p (closed p.unrefused p.open_part p.holds)
+    last_where_different c.args.self class bytes p (closed p.so_far.unrefused p.so_far.open_part p.so_far.holds)
     c.in-Some.i c.offset.result c.width-width.result
     (rw (← c.self.view_is) (rw (
       c.lines.ensures.lines,
