@@ -2,8 +2,8 @@
 use Rattle.std.specs.Prelude.{◌≡◌, ◌⊎◌, ℕ, Bool, false, List, [], Option, Some, None, Result, Err, codes}
 use Rattle.std.specs.Prelude.{MatchBool, MatchOption}
 use Rattle.std.specs.Str.{bytes_eq}
-use Rattle.clap.specs.Words.{Text, fault_of}
-use Rattle.ans_options.specs.CommandLine.{anscheck, AreOptionsOf, HasKindAmong, RanOutOfMemory}
+use Rattle.clap.specs.Words.{Text}
+use Rattle.ans_options.specs.CommandLine.{AreOptionsOf, HasKindAmong, RanOutOfMemory, faults_of}
 use Rattle.ans_options.specs.declared.command.Options.{Options}
 use Rattle.ans_options.specs.declared.command_line.WordsError.{WordsError}
 use Rattle.ans_report.specs.Message.{message_line}
@@ -34,7 +34,7 @@ pub record EndsAsServed {R W : Type 0} (remaining : R → Option (List ℕ)) (co
   pub options : Options
   pub file : Option Text
   pub asked : AreOptionsOf words options file
-  pub faultless : fault_of anscheck words ≡ []
+  pub faultless : faults_of words ≡ []
   pub reader : Tried R
   pub reader_after : Tried R
   pub input : IsNamed is_file is_standard file (inner_of reader)
@@ -49,7 +49,7 @@ pub record EndsUnopened {W : Type 0} (is_missing : Text → Type 0) (words : Lis
   pub options : Options
   pub file : Text
   pub asked : AreOptionsOf words options (Some file)
-  pub faultless : fault_of anscheck words ≡ []
+  pub faultless : faults_of words ≡ []
   pub named : names_standard file ≡ false
   pub missing : is_missing file
   pub unwritten : output_after ≡ output
@@ -57,8 +57,8 @@ pub record EndsUnopened {W : Type 0} (is_missing : Text → Type 0) (words : Lis
 
 -- The error is one that these words can have. Where they have no fault, it is want of memory.
 pub record IsRefusalOf (words : List Text) (refusal : WordsError) : Type 0 where
-  pub kind : HasKindAmong (fault_of anscheck words) refusal
-  pub memory : fault_of anscheck words ≡ [] → RanOutOfMemory refusal
+  pub kind : HasKindAmong (faults_of words) refusal
+  pub memory : faults_of words ≡ [] → RanOutOfMemory refusal
 
 -- The text of help is on the output; or the output failed, and has a prefix of it.
 abbrev pub PrintsHelp : {W : Type 0} → (W → Option (List ℕ)) → Tried W → Tried W → List ℕ → Ending → Type 0

@@ -2,8 +2,7 @@
 
 ghost use Rattle.std.specs.Prelude.{◌≡◌, ◌≢◌, ◌↔◌, [], Err, None, false, IsTrue, IfSome, IsSomeAnd};
 ghost use Rattle.std.specs.Prelude.{option_map, string_bytes};
-ghost use Rattle.clap.specs.Words.{fault_of};
-ghost use Rattle.ans_options.specs.CommandLine.{AreOptionsOf, anscheck, texts_of};
+ghost use Rattle.ans_options.specs.CommandLine.{AreOptionsOf, faults_of, texts_of};
 ghost use Rattle.ans_report.specs.Tried.{has_failed};
 ghost use Rattle.ans_check.specs.Answer.{EndsAfter, EndsSo, IsNamed, PrintsHelp, Says, Tells, names_standard};
 ghost use Rattle.ans_check.specs.Ending.{ending_of_words};
@@ -103,7 +102,7 @@ fn serve_named<I: Inputs, W: Write>(
 ) -> Ending
     requires prints { has_failed output.old ≡ false }
     requires asked { AreOptionsOf (texts_of words.now) options.now (option_map string_bytes name.now) }
-    requires faultless { fault_of anscheck (texts_of words.now) ≡ [] }
+    requires faultless { faults_of (texts_of words.now) ≡ [] }
     ensures ends { EndsSo I.Reader.remaining W.contents (I.is_file inputs) (I.is_standard inputs)
         (I.is_missing inputs) (texts_of words.now) output.old output.new result }
     ensures ran { result ≢ Ending.Usage }
