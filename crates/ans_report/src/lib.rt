@@ -28,6 +28,7 @@ mod tables;
 mod tokens_text;
 mod tried;
 mod utf8;
+mod whole_writes;
 
 pub use characters::glyph_text;
 pub use fault_lines::fault_text;

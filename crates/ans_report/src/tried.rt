@@ -1,10 +1,9 @@
-//! A reader or writer with what became of its calls.
+//! A reader or writer that counts its calls and remembers whether one failed.
 ghost use Rattle.std.specs.Prelude.{◌≡◌, ◌+◌, ◌-◌, ◌^◌, ◌<◌, ◌≤◌, ◌↔◌, false, min, length, IsTrue};
 ghost use Rattle.std.specs.Prelude.{IsErr, IfOk, MatchResult};
 ghost use Rattle.std.specs.Io.{ReadsAtMost};
 ghost use Rattle.std.specs.Io.KnownBytes.{Keeps, ReadConsumes, WriteAppends};
 ghost use Rattle.ans_report.specs.Tried.{has_failed, call_count, inner_of};
-ghost use Rattle.ans_report.specs.Writes.{AppendsUnless};
 
 use std::io::{Read, Write};
 
@@ -116,29 +115,10 @@ impl<W: Write> Tried<W> {
         }
     }
 
-    /// Makes one write after the other until all the bytes are taken. Where there are none, it makes no call.
-    ///
-    /// `Err` comes exactly where a write failed or took no byte, and then `failed()` is true, and a
-    /// prefix of the bytes was taken. After such a write no other is made.
-    pub fn write_all(&mut self, bytes: &[u8]) -> Result<(), DeviceFault>
-        requires works { has_failed self.old ≡ false }
-        ensures device { IsErr result ↔ IsTrue (has_failed self.new) }
-        ensures no_fewer_calls { call_count self.old ≤ call_count self.new }
-        ensures a_call_a_byte { call_count self.new ≤ call_count self.old + length bytes.now }
-        ensures bytes { AppendsUnless (has_failed self.new)
-            (W.contents (inner_of self.old)) (W.contents (inner_of self.new)) bytes.now }
-    {
-        let mut written = 0;
-        while written < bytes.len() {
-            let taken = self.write_some(&bytes[written..])?;
-            written += taken;
-        }
-        Ok(())
-    }
-
     /// Makes one flush. The bytes that the device holds stay as they are.
     ///
-    /// `Err` comes exactly where the flush failed, and then `failed()` is true.
+    /// `Err` comes exactly where the flush failed, and then `failed()` is true. Only tests show that
+    /// the device is asked: what a flush is for, the contract of `Write` does not say.
     pub fn flush(&mut self) -> Result<(), DeviceFault>
         requires works { has_failed self.old ≡ false }
         ensures device { IsErr result ↔ IsTrue (has_failed self.new) }
