@@ -25,7 +25,7 @@ impl<G: Grid> Model for Picture<G> {
 }
 
 impl<G: Grid> Picture<G> {
-    ghost use Rattle.ans_model.specs.Screen.State.{at, cell_at};
+    ghost use Rattle.ans_model.specs.Screen.State.{at, cell_at, IsPlayableSize};
     ghost use Rattle.ans_model.specs.Verdict.Good.{IsPictureOf};
     ghost use Rattle.ans_play.specs.Shown.{IsShown, picture_of, known_cell, byte_at, attribute_at};
     ghost use Rattle.ans_play.specs.Shown.{bytes_of_row, attributes_of_row};
@@ -41,6 +41,7 @@ impl<G: Grid> Picture<G> {
     /// The number of columns.
     pub fn width(&self) -> usize
         ensures width { result ≡ self.now.size.width }
+        ensures limits { IsPlayableSize self.now.size }
         ensures whole { IsPictureOf self.now.size self.now }
     {
         self.size.width()
