@@ -1,5 +1,6 @@
 pub mod WritesLemmas
 pub mod PutsLemmas
+pub mod LineTexts
 pub mod HexadecimalDigits
 pub mod PictureRows
 pub mod RecordLemmas

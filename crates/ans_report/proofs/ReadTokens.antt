@@ -1,17 +1,16 @@
 -- What a scanner has read of the content, as it takes whole tokens.
 use Rattle.std.proofs.Common.{◌≡◌, ℕ, ◌+◌, ◌≤◌, List, [], ◌∷◌, ◌++◌, length, take, drop, map, refl, ap, sym, subst, ◌∙◌}
 use Rattle.std.proofs.Common.{arith, append-nil, length-append}
-use Rattle.std.specs.Prelude.{Option, None, All}
+use Rattle.std.specs.Prelude.{None, All}
 use Rattle.std.specs.List.{concat}
 use Rattle.std.proofs.Math.Seq.{take-add}
 use Rattle.std.proofs.lemmas.List.{length-take-le, take-take}
 use Rattle.std.proofs.lemmas.List.Elements.{All-head, All-tail}
-use Rattle.ans_model.specs.declared.fault.Fault.{Fault}
 use Rattle.ans_model.specs.Sequence.TokenKind as token
 use Rattle.ans_model.specs.Sequence.TokenKind.{Glyph}
 use Rattle.ans_model.specs.Sequence.Reads.{ReadsAs}
 use Rattle.ans_model.specs.Text.TokensText.{token_line, token_lines}
-use Rattle.ans_tokens.specs.ScannerView.{ScannerView, Kept, Holds, scanner_view}
+use Rattle.ans_tokens.specs.ScannerView.{ScannerView, Holds}
 use Rattle.ans_tokens.specs.Glyphs.{IsGlyphByte, IsGlyphFront, IsBetweenTokens, scanner_after}
 use Rattle.ans_tokens.specs.Token.{kind_of, length_of}
 use Rattle.ans_tokens.specs.WholeToken.{TakesToken}
@@ -87,27 +86,10 @@ ReadSoFar-glyphs content piece i m count old new text within h between is fits f
     let Q : ScannerView → Type 0 = λ s. ReadSoFar content (i + count) s (text ++ glyph_lines i bytes) in
     subst Q (sym after) (subst P size read)
 
-same_scanning : (offset start offset' start' : ℕ) (kept : Kept) (refusal : Option Fault) → offset ≡ offset'
-    → start ≡ start' → scanner_view offset start kept refusal ≡ scanner_view offset' start' kept refusal
-same_scanning offset start offset' start' kept refusal p q = cc
-
--- after no glyph nothing has changed
-pub after_none : (s : ScannerView) → s ≡ scanner_after s 0
-after_none s = same_scanning _ _ _ _ _ _ (omega arith) (omega arith)
-
--- no glyph was taken
-pub ReadSoFar-none : (content : List ℕ) (i count : ℕ) (old new : ScannerView) (text : List ℕ)
-    → ReadSoFar content i old text → count ≡ 0 → new ≡ scanner_after old count → ReadSoFar content i new text
-ReadSoFar-none content i count old new text h none after =
-    let Q : ScannerView → Type 0 = λ s. ReadSoFar content i s text in
-    subst Q (sym (after ∙ ap (scanner_after old) none ∙ sym (after_none old))) h
-
--- nor another token
-pub ReadSoFar-declined : (content : List ℕ) (i count : ℕ) (old between new : ScannerView) (text : List ℕ)
-    → ReadSoFar content i old text → count ≡ 0 → between ≡ scanner_after old count → new ≡ between
-    → ReadSoFar content i new text
-ReadSoFar-declined content i count old between new text h none after declined =
-    ReadSoFar-none content i count old new text h none (declined ∙ after)
+-- a scanner that has not changed
+pub ReadSoFar-same : (content : List ℕ) (i : ℕ) (old new : ScannerView) (text : List ℕ) → new ≡ old
+    → ReadSoFar content i old text → ReadSoFar content i new text
+ReadSoFar-same content i old new text same h = rw same h
 
 -- a front of a piece of what is left
 here_in_piece : (rest piece : List ℕ) (m n : ℕ) → piece ≡ take m rest → n ≤ m → take n piece ≡ take n rest

@@ -1,18 +1,18 @@
 -- The texts of rows, as they grow.
 use Rattle.std.proofs.Common.{◌≡◌, ℕ, zero, suc, ◌+◌, ◌*◌, ◌<◌, ◌≤◌, List, [], ◌∷◌, ◌++◌}
-use Rattle.std.proofs.Common.{length, take, get_or, set, map}
+use Rattle.std.proofs.Common.{length, take, get_or, map}
 use Rattle.std.proofs.Common.{refl, ap, ap₂, sym, ◌∙◌, arith, append_assoc, append-nil, length-append}
 use Rattle.std.specs.List.{flat_map}
 use Rattle.std.specs.Simd.Lanes.{zip2}
 use Rattle.std.proofs.Math.Seq.{take-add}
 use Rattle.std.proofs.lemmas.Grind.{flat_map-append}
-use Rattle.std.proofs.lemmas.List.{take_more, take_more_set, take_at, drop_at, take-append-le, length-take-le}
+use Rattle.std.proofs.lemmas.List.{take_more, take_at, drop_at, take-append-le, length-take-le}
 use borrow.Rule.Slice.PartMut.{put_mid, post_of}
 use Rattle.ans_model.specs.declared.cell.Cell.{Cell}
 use Rattle.ans_model.specs.Screen.State.{cell}
 use Rattle.ans_model.specs.Text.Characters.{shown_bytes}
 use Rattle.ans_model.specs.Text.Hexadecimal.{hex_byte}
-use Rattle.ans_model.specs.Text.ReportText.{cell_digits, cells_line}
+use Rattle.ans_model.specs.Text.ReportText.{cell_digits}
 use Rattle.ans_report.specs.Rows.{byte_text}
 use Rattle.ans_report.proofs.PictureRows.{shown_bytes_is}
 
@@ -95,14 +95,12 @@ cells_zipped : (cells : List Cell)
 cells_zipped [] = refl
 cells_zipped (c ∷ cells) = ap (λ (cs : List Cell). c ∷ cs) (cells_zipped cells)
 
--- the line of a row's cells
-pub digits_line : (text bytes attributes : List ℕ) (cells : List Cell) (w : ℕ)
+-- the digits of a row's cells
+pub digits_of_row : (text bytes attributes : List ℕ) (cells : List Cell) (w : ℕ)
     → take (4 * length bytes) text ≡ flat_map cell_digits (zip2 cell bytes attributes)
     → bytes ≡ map (λ (c : Cell). c.byte) cells → attributes ≡ map (λ (c : Cell). c.attribute) cells
-    → length bytes ≡ w → 4 * w < length text → take (4 * w + 1) (set text (4 * w) 10) ≡ cells_line cells
-digits_line text bytes attributes cells w digits is_bytes is_attributes size room =
-    take_more_set text (4 * w) 10 room
-    ∙ ap (λ (n : ℕ). take (4 * n) text ++ 10 ∷ []) (sym size)
-    ∙ ap (λ (v : List ℕ). v ++ 10 ∷ []) digits
-    ∙ ap₂ (λ (x y : List ℕ). flat_map cell_digits (zip2 cell x y) ++ 10 ∷ []) is_bytes is_attributes
-    ∙ ap (λ (cs : List Cell). flat_map cell_digits cs ++ 10 ∷ []) (cells_zipped cells)
+    → length bytes ≡ w → take (4 * w) text ≡ flat_map cell_digits cells
+digits_of_row text bytes attributes cells w digits is_bytes is_attributes size =
+    ap (λ (n : ℕ). take (4 * n) text) (sym size) ∙ digits
+    ∙ ap₂ (λ (x y : List ℕ). flat_map cell_digits (zip2 cell x y)) is_bytes is_attributes
+    ∙ ap (flat_map cell_digits) (cells_zipped cells)

@@ -3,7 +3,7 @@ use Rattle.std.specs.Prelude.{ℕ, ◌*◌, List, take, drop, encode_utf8}
 use Rattle.ans_model.specs.declared.cell.Cell.{Cell}
 use Rattle.ans_model.specs.Text.Characters.{glyph_text}
 use Rattle.ans_model.specs.Verdict.Good.{Picture}
-use Rattle.ans_model.specs.Text.ReportText.{picture_line, cells_line, cell_digits}
+use Rattle.ans_model.specs.Text.ReportText.{picture_line, cells_line}
 use Rattle.ans_report.specs.declared.picture_text.Shown.{Shown}
 use Rattle.ans_report.specs.declared.picture_text.Shown.TheVariants.{Characters, Digits}
 
@@ -14,11 +14,6 @@ row_of picture row = take picture.size.width (drop (row * picture.size.width) pi
 -- a byte's character in UTF-8
 abbrev pub byte_text : ℕ → List ℕ
 byte_text b = encode_utf8 (glyph_text b)
-
--- a cell's character, or its digits
-abbrev pub cell_text : Shown → Cell → List ℕ
-cell_text Characters c = byte_text c.byte
-cell_text Digits c = cell_digits c
 
 -- the line of a row
 abbrev pub line_text : Shown → List Cell → List ℕ

@@ -47,28 +47,21 @@ fn put_position<W: Write>(out: &mut Outbox<'_, W>, cause: &Cause)
     let Cause::UnknownCell { row, col } = *cause else {
         return;
     };
-    let mut rows = itoa::Buffer::new();
-    let mut columns = itoa::Buffer::new();
-    out.put_all(&[
-        b" (row ",
-        rows.format(row).as_bytes(),
-        b", column ",
-        columns.format(col).as_bytes(),
-        b")",
-    ]);
+    out.put(b" (row ");
+    out.put_decimal(u64::from(row));
+    out.put(b", column ");
+    out.put_decimal(u64::from(col));
+    out.put(b")");
 }
 
 /// Puts the line of a fault.
 pub(crate) fn put_fault_line<W: Write>(out: &mut Outbox<'_, W>, fault: &Fault)
     ensures { Puts W.contents out.old out.new (fault_line fault.now) }
 {
-    let mut offset = itoa::Buffer::new();
-    out.put_all(&[
-        b"at ",
-        offset.format(fault.offset).as_bytes(),
-        b": ",
-        fault_text(fault).as_bytes(),
-    ]);
+    out.put(b"at ");
+    out.put_decimal(fault.offset as u64);
+    out.put(b": ");
+    out.put(fault_text(fault).as_bytes());
     put_position(out, &fault.cause);
     out.put(b"\n");
 }

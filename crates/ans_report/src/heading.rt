@@ -32,7 +32,8 @@ fn put_known_part<W: Write>(out: &mut Outbox<'_, W>, known: bool, name: &[u8])
     ensures { Puts W.contents out.old out.new (known_part known name.now) }
 {
     if known {
-        out.put_all(&[b" ", name]);
+        out.put(b" ");
+        out.put(name);
     }
 }
 
@@ -77,8 +78,9 @@ fn put_length_line<W: Write>(out: &mut Outbox<'_, W>, length: usize)
     ensures { Puts W.contents out.old out.new
         (line_of (codes "content: " ++ (decimal length ++ codes " bytes"))) }
 {
-    let mut digits = itoa::Buffer::new();
-    out.put_all(&[b"content: ", digits.format(length).as_bytes(), b" bytes\n"]);
+    out.put(b"content: ");
+    out.put_decimal(length as u64);
+    out.put(b" bytes\n");
 }
 
 /// Puts the notes' lines.

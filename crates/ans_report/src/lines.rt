@@ -14,15 +14,20 @@ use std::io::Write;
 pub(crate) fn put_named_line<W: Write>(out: &mut Outbox<'_, W>, name: &[u8], text: &[u8])
     ensures { Puts W.contents out.old out.new (named_line name.now text.now) }
 {
-    out.put_all(&[name, b": ", text, b"\n"]);
+    out.put(name);
+    out.put(b": ");
+    out.put(text);
+    out.put(b"\n");
 }
 
 /// Puts the line of a name and a number.
-pub(crate) fn put_number_line<W: Write>(out: &mut Outbox<'_, W>, name: &[u8], number: u32)
+pub(crate) fn put_number_line<W: Write>(out: &mut Outbox<'_, W>, name: &[u8], number: u64)
     ensures { Puts W.contents out.old out.new (named_line name.now (decimal number)) }
 {
-    let mut digits = itoa::Buffer::new();
-    put_named_line(out, name, digits.format(number).as_bytes());
+    out.put(name);
+    out.put(b": ");
+    out.put_decimal(number);
+    out.put(b"\n");
 }
 
 /// Puts the line of the stated size.
@@ -30,13 +35,9 @@ pub(crate) fn put_size_line<W: Write>(out: &mut Outbox<'_, W>, parts: &Parts<'_>
     ensures { Puts W.contents out.old out.new
         (named_line (codes "size") (size_text (sized (width_of parts.now) (lines_of parts.now)))) }
 {
-    let mut width = itoa::Buffer::new();
-    let mut lines = itoa::Buffer::new();
-    out.put_all(&[
-        b"size: ",
-        width.format(parts.width()).as_bytes(),
-        b" x ",
-        lines.format(parts.lines()).as_bytes(),
-        b"\n",
-    ]);
+    out.put(b"size: ");
+    out.put_decimal(parts.width() as u64);
+    out.put(b" x ");
+    out.put_decimal(parts.lines() as u64);
+    out.put(b"\n");
 }

@@ -5,6 +5,7 @@ ghost use Rattle.ans_report.specs.Writes.{WritesText};
 ghost use Rattle.ans_report.specs.Puts.{Puts};
 ghost use Rattle.ans_report.specs.Message.{message_line};
 
+use crate::lines::put_named_line;
 use crate::outbox::{Outbox, WriteFault};
 use crate::tried::Tried;
 use std::io::Write;
@@ -13,7 +14,7 @@ use std::io::Write;
 fn put_message<W: Write>(out: &mut Outbox<'_, W>, text: &str)
     ensures { Puts W.contents out.old out.new (message_line text.now) }
 {
-    out.put_all(&[b"anscheck: ", text.as_bytes(), b"\n"]);
+    put_named_line(out, b"anscheck", text.as_bytes());
 }
 
 /// Writes the line that says on standard error why there is no answer: `anscheck: `, the text, and a

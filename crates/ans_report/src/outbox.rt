@@ -1,6 +1,5 @@
 //! Texts on their way to a device.
-ghost use Rattle.std.specs.Prelude.{◌≡◌, ◌↔◌, [], false, IsTrue, IsErr, OnOk};
-ghost use Rattle.std.specs.List.{flat_map};
+ghost use Rattle.std.specs.Prelude.{◌≡◌, ◌↔◌, [], false, decimal, IsTrue, IsErr, OnOk};
 ghost use Rattle.ans_report.specs.Puts.{Puts, device_failed};
 
 use crate::tried::Tried;
@@ -79,13 +78,12 @@ impl<'a, W: Write> Outbox<'a, W> {
         let _ = self.device.write_all(text);
     }
 
-    /// Puts one text after the other.
-    pub(crate) fn put_all(&mut self, texts: &[&[u8]])
-        ensures { Puts W.contents self.old self.new (flat_map (λ t. t.now) texts.now) }
+    /// Puts a number in decimal digits.
+    pub(crate) fn put_decimal(&mut self, number: u64)
+        ensures { Puts W.contents self.old self.new (decimal number) }
     {
-        for text in texts {
-            self.put(text);
-        }
+        let mut digits = itoa::Buffer::new();
+        self.put(digits.format(number).as_bytes());
     }
 
     /// Writes what waits, and returns `Err` exactly where the device has failed.

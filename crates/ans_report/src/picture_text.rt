@@ -1,21 +1,18 @@
 //! The lines of a picture and of its cells.
-ghost use Rattle.std.specs.Prelude.{◌≡◌, ◌<◌, ◌≤◌, [], if◌then◌else◌};
+ghost use Rattle.std.specs.Prelude.{◌≡◌, ◌<◌, [], if◌then◌else◌};
 ghost use Rattle.std.specs.List.{flat_map};
-ghost use Rattle.ans_model.specs.Bytes.{most_columns};
-ghost use Rattle.ans_model.specs.Screen.State.{cell};
 ghost use Rattle.ans_model.specs.Verdict.Good.{IsPictureOf};
 ghost use Rattle.ans_model.specs.Text.ReportText.{Passed, rows_of, cells_text, report_text};
 ghost use Rattle.ans_model.specs.Text.ReportText.{picture_line, cells_line};
 ghost use Rattle.ans_report.specs.Puts.{Puts};
 ghost use Rattle.ans_report.specs.Headings.{heading_of};
-ghost use Rattle.ans_report.specs.Rows.{row_of, cell_text, line_text};
+ghost use Rattle.ans_report.specs.Rows.{row_of, line_text};
 
-use crate::characters::put_character;
 use crate::heading::put_heading;
-use crate::hexadecimal::cell_digits;
 use crate::outbox::Outbox;
 use crate::row_texts::{write_characters, write_digits};
 use crate::tables::Tables;
+use ans_model::limits::MAX_WIDTH;
 use ans_model::start::Start;
 use ans_play::Picture;
 use ans_sauce::Parts;
@@ -29,37 +26,8 @@ pub(crate) enum Shown {
     Digits,
 }
 
-/// The most columns of a row that is put as one text, and as many as a record may state.
-const MOST_COLUMNS: usize = 1024;
-
-/// How many bytes a line has at most: four for each column, and a line feed.
-const LINE: usize = 4 * MOST_COLUMNS + 1;
-
-/// Puts a cell.
-fn put_cell<W: Write>(out: &mut Outbox<'_, W>, byte: u8, attribute: u8, shown: Shown)
-    ensures { Puts W.contents out.old out.new (cell_text shown (cell byte attribute)) }
-{
-    match shown {
-        Shown::Characters => put_character(out, byte),
-        Shown::Digits => out.put(&cell_digits(byte, attribute)),
-    }
-}
-
-/// Puts the line of a row, counted from 0, cell by cell.
-fn put_wide_row<W: Write, G: Grid>(
-    out: &mut Outbox<'_, W>,
-    picture: &Picture<G>,
-    row: usize,
-    shown: Shown,
-)
-    requires { row < picture.now.size.lines }
-    ensures { Puts W.contents out.old out.new (line_text shown (row_of picture.now row)) }
-{
-    for col in 0..picture.width() {
-        put_cell(out, picture.glyph(row, col), picture.attr(row, col), shown);
-    }
-    out.put(b"\n");
-}
+/// How many bytes a row has at most: four for each column.
+const ROW: usize = 4 * MAX_WIDTH;
 
 /// Puts the line of the characters of a row, counted from 0.
 fn put_character_row<W: Write, G: Grid>(
@@ -68,17 +36,16 @@ fn put_character_row<W: Write, G: Grid>(
     row: usize,
     tables: &Tables,
 )
-    requires row { row < picture.now.size.lines }
-    requires columns { picture.now.size.width ≤ most_columns }
+    requires { row < picture.now.size.lines }
     ensures { Puts W.contents out.old out.new (picture_line (row_of picture.now row)) }
 {
-    let width = picture.width();
-    let mut bytes = [0; MOST_COLUMNS];
-    picture.copy_glyphs(row, &mut bytes[..width]);
-    let mut line = [0; LINE];
-    let end = write_characters(&tables.characters, &bytes[..width], &mut line);
-    line[end] = b'\n';
-    out.put(&line[..end + 1]);
+    let mut bytes = [0; MAX_WIDTH];
+    let bytes = &mut bytes[..picture.width()];
+    picture.copy_glyphs(row, bytes);
+    let mut text = [0; ROW];
+    let end = write_characters(&tables.characters, bytes, &mut text);
+    out.put(&text[..end]);
+    out.put(b"\n");
 }
 
 /// Puts the line of the digits of a row's cells; the row is counted from 0.
@@ -88,24 +55,20 @@ fn put_digit_row<W: Write, G: Grid>(
     row: usize,
     tables: &Tables,
 )
-    requires row { row < picture.now.size.lines }
-    requires columns { picture.now.size.width ≤ most_columns }
+    requires { row < picture.now.size.lines }
     ensures { Puts W.contents out.old out.new (cells_line (row_of picture.now row)) }
 {
     let width = picture.width();
-    let mut bytes = [0; MOST_COLUMNS];
-    picture.copy_glyphs(row, &mut bytes[..width]);
-    let mut attributes = [0; MOST_COLUMNS];
-    picture.copy_attributes(row, &mut attributes[..width]);
-    let mut line = [0; LINE];
-    write_digits(
-        &tables.digits,
-        &bytes[..width],
-        &attributes[..width],
-        &mut line,
-    );
-    line[4 * width] = b'\n';
-    out.put(&line[..4 * width + 1]);
+    let mut bytes = [0; MAX_WIDTH];
+    let bytes = &mut bytes[..width];
+    picture.copy_glyphs(row, bytes);
+    let mut attributes = [0; MAX_WIDTH];
+    let attributes = &mut attributes[..width];
+    picture.copy_attributes(row, attributes);
+    let mut text = [0; ROW];
+    write_digits(&tables.digits, bytes, attributes, &mut text);
+    out.put(&text[..4 * width]);
+    out.put(b"\n");
 }
 
 /// Puts the line of a row, counted from 0.
@@ -119,10 +82,6 @@ fn put_row<W: Write, G: Grid>(
     requires { row < picture.now.size.lines }
     ensures { Puts W.contents out.old out.new (line_text shown (row_of picture.now row)) }
 {
-    if picture.width() > MOST_COLUMNS {
-        put_wide_row(out, picture, row, shown);
-        return;
-    }
     match shown {
         Shown::Characters => put_character_row(out, picture, row, tables),
         Shown::Digits => put_digit_row(out, picture, row, tables),

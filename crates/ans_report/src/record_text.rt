@@ -22,7 +22,8 @@ use std::io::Write;
 fn put_field<W: Write>(out: &mut Outbox<'_, W>, name: &[u8], text: &[u8])
     ensures { Puts W.contents out.old out.new (named_line name.now (shown_bytes text.now)) }
 {
-    out.put_all(&[name, b": "]);
+    out.put(name);
+    out.put(b": ");
     put_characters(out, text);
     out.put(b"\n");
 }
@@ -52,8 +53,8 @@ fn put_record<W: Write>(out: &mut Outbox<'_, W>, parts: &Parts<'_>)
     put_size_line(out, parts);
     put_named_line(out, b"flags", &hex_byte(sauce.flags()));
     put_field(out, b"font", sauce.font());
-    put_number_line(out, b"file size", sauce.file_size());
-    put_number_line(out, b"comments", u32::from(sauce.comment_count()));
+    put_number_line(out, b"file size", u64::from(sauce.file_size()));
+    put_number_line(out, b"comments", u64::from(sauce.comment_count()));
     put_comments(out, parts);
     put_notes(out, parts.notes().as_slice());
 }

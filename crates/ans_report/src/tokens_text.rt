@@ -1,20 +1,17 @@
 //! The text of the content's tokens.
-ghost use Rattle.std.specs.Prelude.{◌≡◌, ◌↔◌, ◌+◌, ◌<◌, ◌≤◌, ◌++◌, ℕ, List, Option};
-ghost use Rattle.std.specs.Prelude.{false, length, decimal, IsTrue, IsErr, IfOk, IfErr, IsSome};
-ghost use Rattle.std.specs.Prelude.{IfSome};
+ghost use Rattle.std.specs.Prelude.{◌≡◌, ◌↔◌, ◌+◌, ◌≤◌, ◌++◌, ℕ, List, Option};
+ghost use Rattle.std.specs.Prelude.{false, length, IsTrue, IsErr, IfOk, IfErr};
 ghost use Rattle.std.specs.List.{flat_map};
 ghost use Rattle.std.specs.Io.KnownBytes.{Appends};
 ghost use Rattle.ans_model.specs.Bytes.{longest_file};
 ghost use Rattle.ans_model.specs.declared.fault.Fault.{Fault};
-ghost use Rattle.ans_model.specs.Sequence.TokenKind.{Place};
 ghost use Rattle.ans_model.specs.Inside.ShownKind.{shown_kind};
 ghost use Rattle.ans_model.specs.Text.TokensText.{TokensText, token_name};
-ghost use Rattle.ans_tokens.specs.Glyphs.{IsGlyphFront, IsBetweenTokens, scanner_after};
-ghost use Rattle.ans_tokens.specs.WholeToken.{TakesToken};
 ghost use Rattle.ans_report.specs.Tried.{has_failed, inner_of};
 ghost use Rattle.ans_report.specs.Writes.{AppendsPrefix};
 ghost use Rattle.ans_report.specs.Puts.{Puts};
-ghost use Rattle.ans_report.specs.TokenLines.{PutsTokens, token_text, numbers_text, later_number};
+ghost use Rattle.ans_report.specs.TokenLines.{PutsTokens, TakesFront, token_text, numbers_text, numbers_of};
+ghost use Rattle.ans_report.specs.TokenLines.{later_number};
 
 use crate::fault_lines::put_fault_line;
 use crate::glyph_lines::put_glyphs;
@@ -28,22 +25,13 @@ use std::io::Write;
 /// How many bytes are read before it is seen whether the device has failed.
 const PIECE: usize = 4096;
 
-/// Puts a text and a number.
-#[inline(always)]
-fn put_number<W: Write>(out: &mut Outbox<'_, W>, text: &[u8], number: u8)
-    ensures { Puts W.contents out.old out.new (text.now ++ decimal number) }
-{
-    let mut digits = itoa::Buffer::new();
-    out.put(text);
-    out.put(digits.format(number).as_bytes());
-}
-
 /// Puts numbers, each after a `;`.
 fn put_later_numbers<W: Write>(out: &mut Outbox<'_, W>, numbers: &[u8])
     ensures { Puts W.contents out.old out.new (flat_map later_number numbers.now) }
 {
     for number in numbers {
-        put_number(out, b";", *number);
+        out.put(b";");
+        out.put_decimal(u64::from(*number));
     }
 }
 
@@ -54,53 +42,55 @@ fn put_numbers<W: Write>(out: &mut Outbox<'_, W>, numbers: &[u8])
     let [first, later @ ..] = numbers else {
         return;
     };
-    put_number(out, b"", *first);
+    out.put_decimal(u64::from(*first));
     put_later_numbers(out, later);
 }
 
-/// Puts the name of a `Place`.
-fn put_place<W: Write>(out: &mut Outbox<'_, W>, row: u8, column: u8)
-    ensures { Puts W.contents out.old out.new (token_name (Place row column)) }
-{
-    let mut rows = itoa::Buffer::new();
-    let mut columns = itoa::Buffer::new();
-    out.put_all(&[
-        b"place ",
-        rows.format(row).as_bytes(),
-        b";",
-        columns.format(column).as_bytes(),
-    ]);
-}
-
-/// Puts the name of a kind and its numbers.
-fn put_kind<W: Write>(out: &mut Outbox<'_, W>, kind: &Kind)
-    ensures { Puts W.contents out.old out.new (token_name (shown_kind kind.now)) }
+/// The word of a kind's name, and the blank after it where numbers follow.
+fn kind_word(kind: &Kind) -> &'static [u8]
+    ensures { result.now ++ numbers_of (shown_kind kind.now) ≡ token_name (shown_kind kind.now) }
 {
     match kind {
-        Kind::Glyph(byte) => out.put_all(&[b"glyph ", &hex_byte(*byte)]),
-        Kind::Bell => out.put(b"bell"),
-        Kind::BackSpace => out.put(b"backspace"),
-        Kind::LineFeed => out.put(b"linefeed"),
-        Kind::CarriageReturn => out.put(b"return"),
-        Kind::Tab => out.put(b"tab"),
-        Kind::Up(n) => put_number(out, b"up ", *n),
-        Kind::Down(n) => put_number(out, b"down ", *n),
-        Kind::Forward(n) => put_number(out, b"forward ", *n),
-        Kind::Backward(n) => put_number(out, b"backward ", *n),
-        Kind::Place(row, column) => put_place(out, *row, *column),
-        Kind::Clear => out.put(b"clear"),
-        Kind::EraseLine => out.put(b"erase"),
-        Kind::Save => out.put(b"save"),
-        Kind::Restore => out.put(b"restore"),
-        Kind::Colours(parameters) => {
-            out.put(b"colours ");
-            put_numbers(out, parameters.as_slice());
+        Kind::Glyph(_) => b"glyph ",
+        Kind::Bell => b"bell",
+        Kind::BackSpace => b"backspace",
+        Kind::LineFeed => b"linefeed",
+        Kind::CarriageReturn => b"return",
+        Kind::Tab => b"tab",
+        Kind::Up(_) => b"up ",
+        Kind::Down(_) => b"down ",
+        Kind::Forward(_) => b"forward ",
+        Kind::Backward(_) => b"backward ",
+        Kind::Place(_, _) => b"place ",
+        Kind::Clear => b"clear",
+        Kind::EraseLine => b"erase",
+        Kind::Save => b"save",
+        Kind::Restore => b"restore",
+        Kind::Colours(_) => b"colours ",
+        Kind::Wrap(true) => b"wrap on",
+        Kind::Wrap(false) => b"wrap off",
+        Kind::Mode => b"mode",
+        Kind::Keys => b"keys",
+        Kind::Ask => b"ask",
+    }
+}
+
+/// Puts the numbers of a kind, where it has some.
+fn put_numbers_of<W: Write>(out: &mut Outbox<'_, W>, kind: &Kind)
+    ensures { Puts W.contents out.old out.new (numbers_of (shown_kind kind.now)) }
+{
+    match kind {
+        Kind::Glyph(byte) => out.put(&hex_byte(*byte)),
+        Kind::Up(n) | Kind::Down(n) | Kind::Forward(n) | Kind::Backward(n) => {
+            out.put_decimal(u64::from(*n));
         }
-        Kind::Wrap(true) => out.put(b"wrap on"),
-        Kind::Wrap(false) => out.put(b"wrap off"),
-        Kind::Mode => out.put(b"mode"),
-        Kind::Keys => out.put(b"keys"),
-        Kind::Ask => out.put(b"ask"),
+        Kind::Place(row, column) => {
+            out.put_decimal(u64::from(*row));
+            out.put(b";");
+            out.put_decimal(u64::from(*column));
+        }
+        Kind::Colours(parameters) => put_numbers(out, parameters.as_slice()),
+        _ => {}
     }
 }
 
@@ -108,42 +98,42 @@ fn put_kind<W: Write>(out: &mut Outbox<'_, W>, kind: &Kind)
 fn put_token<W: Write>(out: &mut Outbox<'_, W>, token: &Token)
     ensures { Puts W.contents out.old out.new (token_text token.now) }
 {
-    let mut start = itoa::Buffer::new();
-    let mut length = itoa::Buffer::new();
-    out.put(start.format(token.start()).as_bytes());
+    let kind = token.kind();
+    out.put_decimal(token.start() as u64);
     out.put(b" ");
-    out.put(length.format(token.length()).as_bytes());
+    out.put_decimal(token.length() as u64);
     out.put(b" ");
-    put_kind(out, token.kind());
+    out.put(kind_word(kind));
+    put_numbers_of(out, kind);
     out.put(b"\n");
 }
 
-/// Takes the glyphs before the first byte that is none, where the scanner stands between two
-/// tokens, and returns how many they are.
-fn take_glyphs(scanner: &mut Scanner, bytes: &[u8]) -> usize
-    requires { scanner.old.offset + length bytes.now ≤ longest_file }
-    ensures between { 0 < result → IsBetweenTokens scanner.old }
-    ensures front { 0 < result → IsGlyphFront bytes.now result }
-    ensures taken { scanner.new ≡ scanner_after scanner.old result }
-{
-    if scanner.is_between_tokens() {
-        return scanner.glyphs(bytes);
-    }
-    0
+/// What a scanner takes at once.
+enum Front {
+    /// This many glyphs, at least one.
+    Glyphs(usize),
+    /// A whole token of a common form.
+    Whole(Token),
+    /// Nothing: the next byte is to be taken alone.
+    Nothing,
 }
 
-/// Takes the token that the bytes begin with, where the scanner stands between two tokens and takes
-/// a whole token of this form. None changes nothing.
-fn take_token(scanner: &mut Scanner, bytes: &[u8]) -> Option<Token>
+/// Takes the glyphs or the token that the bytes begin with, where the scanner stands between two tokens.
+fn take_front(scanner: &mut Scanner, bytes: &[u8]) -> Front
     requires { scanner.old.offset + length bytes.now ≤ longest_file }
-    ensures between { IsSome result → IsBetweenTokens scanner.old }
-    ensures taken { IfSome result (TakesToken scanner.old bytes.now scanner.new) }
-    ensures declined { result ≡ None → scanner.new ≡ scanner.old }
+    ensures { TakesFront scanner.old bytes.now scanner.new result }
 {
-    if scanner.is_between_tokens() {
-        return scanner.token(bytes);
+    if !scanner.is_between_tokens() {
+        return Front::Nothing;
     }
-    None
+    let count = scanner.glyphs(bytes);
+    if count > 0 {
+        return Front::Glyphs(count);
+    }
+    match scanner.token(bytes) {
+        Some(token) => Front::Whole(token),
+        None => Front::Nothing,
+    }
 }
 
 /// Puts the lines of the tokens and of the fault that ends their reading, and returns that fault.
@@ -159,26 +149,26 @@ fn put_tokens<W: Write>(out: &mut Outbox<'_, W>, content: &[u8]) -> Option<Fault
             return None;
         }
         let piece = &content[at..content.len().min(at + PIECE)];
-        let count = take_glyphs(&mut scanner, piece);
-        if count > 0 {
-            put_glyphs(out, at, &piece[..count]);
-            at += count;
-            continue;
-        }
-        if let Some(token) = take_token(&mut scanner, piece) {
-            put_token(out, &token);
-            at += token.length();
-            continue;
-        }
-        let byte = content[at];
-        at += 1;
-        match scanner.byte(byte) {
-            Ok(None) => continue,
-            Ok(Some(token)) => put_token(out, &token),
-            Err(fault) => {
-                put_fault_line(out, &fault);
-                return Some(fault);
+        match take_front(&mut scanner, piece) {
+            Front::Glyphs(count) => {
+                put_glyphs(out, at, &piece[..count]);
+                at += count;
             }
+            Front::Whole(token) => {
+                put_token(out, &token);
+                at += token.length();
+            }
+            Front::Nothing => match scanner.byte(content[at]) {
+                Ok(None) => at += 1,
+                Ok(Some(token)) => {
+                    put_token(out, &token);
+                    at += 1;
+                }
+                Err(fault) => {
+                    put_fault_line(out, &fault);
+                    return Some(fault);
+                }
+            },
         }
     }
     match scanner.end() {

@@ -23,9 +23,10 @@ returns g c =
     c.hex_byte.ensures ∙ ap hex_byte (c.flags.ensures ∙ ap flags sauce) in
     let font : c.font.result.now ≡ trimmed (font_field r) =
     c.font.ensures ∙ ap (λ (b : List ℕ). trimmed (font_field b)) sauce in
-    let size : c.file_size.result ≡ file_size r = c.file_size.ensures ∙ ap file_size sauce in
-    let wide : c.from.result ≡ c.comment_count.result = search rules in
-    let count : c.from.result ≡ comment_count r = wide ∙ c.comment_count.ensures ∙ ap comment_count sauce in
+    let wide_size : c.from.result ≡ c.file_size.result = search rules in
+    let size : c.from.result ≡ file_size r = wide_size ∙ c.file_size.ensures ∙ ap file_size sauce in
+    let wide_count : c.from-2.result ≡ c.comment_count.result = search rules in
+    let count : c.from-2.result ≡ comment_count r = wide_count ∙ c.comment_count.ensures ∙ ap comment_count sauce in
     let notes : c.as_slice.result.now ≡ notes_of c.args.parts.now = search rules in
     Puts-then (rw title at c.put_field.ensures) (Puts-then (rw author at c.put_field-2.ensures)
     (Puts-then (rw group at c.put_field-3.ensures) (Puts-then (rw date at c.put_field-4.ensures)

@@ -1,5 +1,5 @@
 use Rattle.std.proofs.Common.{◌≡◌, ℕ, ◌≤◌, ◌-◌, take, List, [], ◌∷◌, ◌++◌, length, get_or, drop, decimal, ap, sym}
-use Rattle.std.proofs.Common.{arith, append-nil}
+use Rattle.std.proofs.Common.{rules, arith, append-nil}
 use Rattle.std.specs.List.{flat_map}
 use Rattle.std.proofs.lemmas.List.{take_rest}
 use Rattle.ans_model.specs.Bytes.{semicolon}
@@ -20,6 +20,7 @@ numbers_text_is (n ∷ ns) some = numbers_text-cons n ns
 pub returns : goal.returns
 returns g c =
     let numbers = c.args.numbers.now in
+    let first : c.from.result ≡ get_or numbers 0 0 = search rules in
     let later : take (length numbers - 1) (drop 1 numbers) ≡ drop 1 numbers = take_rest numbers 1 in
     Puts-same (sym (numbers_text_is numbers c.in-len1-up.len_at_least))
-    (Puts-then c.put_number.ensures (rw later at c.put_later_numbers.ensures))
+    (Puts-then (rw first at c.put_decimal.ensures) (rw later at c.put_later_numbers.ensures))
