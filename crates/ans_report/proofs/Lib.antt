@@ -1,7 +1,4 @@
-pub mod WritesLemmas
-pub mod PutsLemmas
 pub mod LineTexts
-pub mod HexadecimalDigits
 pub mod PictureRows
 pub mod RecordLemmas
 pub mod StartNames
@@ -11,7 +8,5 @@ pub mod ReadSoFar
 pub mod TextGoesOn
 pub mod TextEnds
 pub mod TokensFinished
-pub mod CountsUp
 pub mod GlyphLines
 pub mod ReadTokens
-pub mod RowTexts

@@ -1,18 +1,11 @@
 -- The lines of a picture.
-use Rattle.std.proofs.Common.{◌≡◌, ℕ, zero, suc, ◌*◌, ◌<◌, ◌≤◌, List, [], ◌∷◌, ◌++◌, length, take, drop}
+use Rattle.std.proofs.Common.{◌≡◌, ℕ, zero, suc, ◌*◌, ◌<◌, ◌≤◌, List, [], length, take, drop}
 use Rattle.std.proofs.Common.{get_or, refl, sym, ap, ◌∙◌, arith, zero-mul}
-use Rattle.std.specs.List.{flat_map}
 use Rattle.std.proofs.lemmas.List.{take_all, drop-drop}
 use Rattle.ans_model.specs.declared.cell.Cell.{Cell}
 use Rattle.ans_model.specs.Verdict.Good.{Picture}
-use Rattle.ans_model.specs.Text.Characters.{shown_bytes}
 use Rattle.ans_model.specs.Text.ReportText.{rows, rows_of}
-use Rattle.ans_report.specs.Rows.{row_of, byte_text}
-
--- bytes are shown by their characters, one after another
-pub shown_bytes_is : (bytes : List ℕ) → shown_bytes bytes ≡ flat_map byte_text bytes
-shown_bytes_is [] = refl
-shown_bytes_is (b ∷ bytes) = ap (λ (rest : List ℕ). byte_text b ++ rest) (shown_bytes_is bytes)
+use Rattle.ans_report.specs.Rows.{row_of}
 
 length-rows : (w l : ℕ) (cells : List Cell) → length (rows w l cells) ≡ l
 length-rows w zero cells = refl

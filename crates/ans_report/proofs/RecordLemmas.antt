@@ -9,9 +9,9 @@ use Rattle.ans_model.specs.Text.RecordText.{named_line, comment_lines, record_li
 use Rattle.ans_sauce.specs.declared.parts.Parts.{Parts}
 use Rattle.ans_sauce.specs.Parts.{ShowsParts, comments_of, notes_of}
 use Rattle.ans_report.specs.RecordLines.{parts_text}
-use Rattle.ans_report.specs.Puts.{Puts, device_failed}
-use Rattle.ans_report.specs.declared.outbox.Outbox.{Outbox}
-use Rattle.ans_report.proofs.PutsLemmas.{Puts-same, Puts-then, Puts-longer}
+use Rattle.ans_write.specs.Puts.{Puts, device_failed}
+use Rattle.ans_write.specs.declared.outbox.Outbox.{Outbox}
+use Rattle.ans_write.proofs.PutsLemmas.{Puts-same, Puts-then, Puts-longer}
 use Rattle.ans_model.specs.File.Layout.{FileParts}
 
 -- the line of the i-th comment

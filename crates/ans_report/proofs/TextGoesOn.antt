@@ -12,10 +12,10 @@ use Rattle.ans_model.specs.Text.TokensText.{token_lines, Leaves, fault_end, Toke
 use Rattle.ans_tokens.specs.ScannerView.{ScannerView}
 use Rattle.ans_tokens.proofs.EachByte.{IsOpen, open_ends}
 use Rattle.ans_tokens.proofs.Readable.{IsRefusedFront, readable}
-use Rattle.ans_report.specs.Puts.{Puts, device_failed}
+use Rattle.ans_write.specs.Puts.{Puts, device_failed}
 use Rattle.ans_report.specs.TokenLines.{PutsTokens}
-use Rattle.ans_report.specs.declared.outbox.Outbox.{Outbox}
-use Rattle.ans_report.proofs.PutsLemmas.{Puts-same, Puts-longer}
+use Rattle.ans_write.specs.declared.outbox.Outbox.{Outbox}
+use Rattle.ans_write.proofs.PutsLemmas.{Puts-same, Puts-longer}
 use Rattle.ans_report.proofs.TokenReadings.{token_lines-append, ReadsAs-append}
 use Rattle.ans_report.proofs.ReadSoFar.{ReadSoFar}
 

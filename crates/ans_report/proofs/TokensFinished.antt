@@ -4,13 +4,13 @@ use Rattle.std.specs.Prelude.{Option, Result, Ok, Err, IfErr}
 use Rattle.std.specs.Io.KnownBytes.{Appends}
 use Rattle.ans_model.specs.declared.fault.Fault.{Fault}
 use Rattle.ans_model.specs.Text.TokensText.{TokensText}
-use Rattle.ans_report.specs.Tried.{inner_of}
-use Rattle.ans_report.specs.declared.tried.Tried.{Tried}
-use Rattle.ans_report.specs.Puts.{Puts, device_failed}
-use Rattle.ans_report.specs.Writes.{AppendsPrefix}
+use Rattle.ans_write.specs.Tried.{inner_of}
+use Rattle.ans_write.specs.declared.tried.Tried.{Tried}
+use Rattle.ans_write.specs.Puts.{Puts, device_failed}
+use Rattle.ans_write.specs.Writes.{AppendsPrefix}
 use Rattle.ans_report.specs.TokenLines.{PutsTokens}
-use Rattle.ans_report.specs.declared.outbox.Outbox.{Outbox}
-use Rattle.ans_report.proofs.PutsLemmas.{Puts-same, Puts-then, works_before, Appends-put, AppendsPrefix-put}
+use Rattle.ans_write.specs.declared.outbox.Outbox.{Outbox}
+use Rattle.ans_write.proofs.PutsLemmas.{Puts-same, Puts-then, works_before, Appends-put, AppendsPrefix-put}
 
 -- at a device that works, with the fault that was told
 pub tokens_written : {W : Type 0} {contents : W → Option (List ℕ)} {a b c : Outbox W} (w : Tried W)

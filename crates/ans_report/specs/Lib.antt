@@ -1,9 +1,5 @@
-pub mod Tried
-pub mod Writes
-pub mod Puts
 pub mod Headings
 pub mod Rows
-pub mod Tables
 pub mod ReportBytes
 pub mod NeedsBytes
 pub mod RecordLines

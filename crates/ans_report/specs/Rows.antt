@@ -1,7 +1,6 @@
 -- The rows of a picture, and how they are shown.
-use Rattle.std.specs.Prelude.{ℕ, ◌*◌, List, take, drop, encode_utf8}
+use Rattle.std.specs.Prelude.{ℕ, ◌*◌, List, take, drop}
 use Rattle.ans_model.specs.declared.cell.Cell.{Cell}
-use Rattle.ans_model.specs.Text.Characters.{glyph_text}
 use Rattle.ans_model.specs.Verdict.Good.{Picture}
 use Rattle.ans_model.specs.Text.ReportText.{picture_line, cells_line}
 use Rattle.ans_report.specs.declared.picture_text.Shown.{Shown}
@@ -10,10 +9,6 @@ use Rattle.ans_report.specs.declared.picture_text.Shown.TheVariants.{Characters,
 -- a row of the picture, counted from 0
 abbrev pub row_of : Picture → ℕ → List Cell
 row_of picture row = take picture.size.width (drop (row * picture.size.width) picture.cells)
-
--- a byte's character in UTF-8
-abbrev pub byte_text : ℕ → List ℕ
-byte_text b = encode_utf8 (glyph_text b)
 
 -- the line of a row
 abbrev pub line_text : Shown → List Cell → List ℕ

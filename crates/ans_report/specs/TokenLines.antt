@@ -13,10 +13,10 @@ use Rattle.ans_tokens.specs.declared.token.Token.{Token}
 use Rattle.ans_tokens.specs.ScannerView.{ScannerView}
 use Rattle.ans_tokens.specs.Glyphs.{IsGlyphFront, IsBetweenTokens, scanner_after}
 use Rattle.ans_tokens.specs.WholeToken.{TakesToken}
-use Rattle.ans_report.specs.Puts.{Puts, device_failed}
+use Rattle.ans_write.specs.Puts.{Puts, device_failed}
 use Rattle.ans_report.specs.declared.tokens_text.Front.{Front}
 use Rattle.ans_report.specs.declared.tokens_text.Front.TheVariants.{Glyphs, Whole, Nothing}
-use Rattle.ans_report.specs.declared.outbox.Outbox.{Outbox}
+use Rattle.ans_write.specs.declared.outbox.Outbox.{Outbox}
 
 -- numbers with a `;` between each two
 abbrev pub numbers_text : List ℕ → List ℕ

@@ -2,10 +2,10 @@
 ghost use Rattle.std.specs.Prelude.{◌≡◌};
 ghost use Rattle.ans_model.specs.Text.FaultText.{fault_text, position_text, fault_line};
 ghost use Rattle.ans_model.specs.Text.ReportText.{refusal_text};
-ghost use Rattle.ans_report.specs.Puts.{Puts};
+ghost use Rattle.ans_write.specs.Puts.{Puts};
 
-use crate::outbox::Outbox;
 use ans_sauce::{Cause, Fault};
+use ans_write::Outbox;
 use std::io::Write;
 
 /// The text of a fault, without its offset and position.

@@ -4,20 +4,18 @@ ghost use Rattle.ans_model.specs.Bytes.{longest_file};
 ghost use Rattle.ans_model.specs.Sequence.TokenKind.{Glyph};
 ghost use Rattle.ans_model.specs.Text.Hexadecimal.{hex_byte};
 ghost use Rattle.ans_model.specs.Text.TokensText.{token_line};
-ghost use Rattle.ans_report.specs.Puts.{Puts};
+ghost use Rattle.ans_write.specs.Puts.{Puts};
 ghost use Rattle.ans_report.specs.TokenLines.{glyph_lines};
 
-use crate::counter::{Counter, DIGITS};
-use crate::hexadecimal::hex_byte;
-use crate::outbox::Outbox;
+use ans_write::{Counter, Outbox, hex_byte};
 use std::io::Write;
 
 /// The line of a glyph behind the digits of its offset.
-fn glyph_line(digits: &[u8; DIGITS], byte: u8) -> [u8; 20]
+fn glyph_line(digits: &[u8; 8], byte: u8) -> [u8; 20]
     ensures { result ≡ digits.now ++ (codes " 1 glyph " ++ (hex_byte byte ++ codes "\n")) }
 {
     let mut line = *b"00000000 1 glyph 00\n";
-    line[..DIGITS].copy_from_slice(digits);
+    line[..8].copy_from_slice(digits);
     line[17..19].copy_from_slice(&hex_byte(byte));
     line
 }

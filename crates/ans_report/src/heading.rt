@@ -3,14 +3,14 @@ ghost use Rattle.std.specs.Prelude.{◌≡◌, ℕ, ◌++◌, codes, decimal, le
 ghost use Rattle.std.specs.List.{flat_map};
 ghost use Rattle.ans_model.specs.Text.FaultText.{line_of, note_text, note_line};
 ghost use Rattle.ans_model.specs.Text.ReportText.{known_part, start_name, heading_text};
-ghost use Rattle.ans_report.specs.Puts.{Puts};
+ghost use Rattle.ans_write.specs.Puts.{Puts};
 ghost use Rattle.ans_sauce.specs.Parts.{content_of, notes_of};
 ghost use Rattle.ans_report.specs.Headings.{heading_of, known_parts};
 
 use crate::lines::{put_named_line, put_size_line};
-use crate::outbox::Outbox;
 use ans_model::start::Start;
 use ans_sauce::{Note, Parts};
+use ans_write::Outbox;
 use std::io::Write;
 
 /// The text of a note.

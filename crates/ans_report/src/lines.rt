@@ -4,10 +4,10 @@ ghost use Rattle.ans_model.specs.Screen.State.{sized};
 ghost use Rattle.ans_model.specs.Text.ReportText.{size_text};
 ghost use Rattle.ans_model.specs.Text.RecordText.{named_line};
 ghost use Rattle.ans_sauce.specs.Parts.{width_of, lines_of};
-ghost use Rattle.ans_report.specs.Puts.{Puts};
+ghost use Rattle.ans_write.specs.Puts.{Puts};
 
-use crate::outbox::Outbox;
 use ans_sauce::Parts;
+use ans_write::Outbox;
 use std::io::Write;
 
 /// Puts the line of a name and a text.

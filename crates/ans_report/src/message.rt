@@ -1,13 +1,12 @@
 //! What is said where there is no answer.
 ghost use Rattle.std.specs.Prelude.{◌≡◌, ◌↔◌, false, IsTrue, IsErr};
-ghost use Rattle.ans_report.specs.Tried.{has_failed, inner_of};
-ghost use Rattle.ans_report.specs.Writes.{WritesText};
-ghost use Rattle.ans_report.specs.Puts.{Puts};
+ghost use Rattle.ans_write.specs.Tried.{has_failed, inner_of};
+ghost use Rattle.ans_write.specs.Writes.{WritesText};
+ghost use Rattle.ans_write.specs.Puts.{Puts};
 ghost use Rattle.ans_report.specs.Message.{message_line};
 
 use crate::lines::put_named_line;
-use crate::outbox::{Outbox, WriteFault};
-use crate::tried::Tried;
+use ans_write::{Outbox, Tried, WriteFault};
 use std::io::Write;
 
 /// Puts the line that says why there is no answer.

@@ -1,9 +1,9 @@
 //! The text of what a content needs.
 ghost use Rattle.std.specs.Prelude.{◌≡◌, ◌↔◌, false, IsTrue, IsErr};
 ghost use Rattle.std.specs.Option.{option_copied};
-ghost use Rattle.ans_report.specs.Tried.{has_failed, inner_of};
-ghost use Rattle.ans_report.specs.Writes.{WritesText};
-ghost use Rattle.ans_report.specs.Puts.{Puts};
+ghost use Rattle.ans_write.specs.Tried.{has_failed, inner_of};
+ghost use Rattle.ans_write.specs.Writes.{WritesText};
+ghost use Rattle.ans_write.specs.Puts.{Puts};
 ghost use Rattle.ans_report.specs.Headings.{needs_heading_of};
 ghost use Rattle.ans_report.specs.NeedsBytes.{needs_bytes, needs_refused_text};
 ghost use Rattle.ans_model.specs.Text.NeedsText.{needed_parts, needs_heading_text, needs_text};
@@ -11,10 +11,9 @@ ghost use Rattle.ans_model.specs.Text.NeedsText.{needed_parts, needs_heading_tex
 use crate::fault_lines::put_refusal;
 use crate::heading::{put_known_parts, put_length_and_notes};
 use crate::lines::put_size_line;
-use crate::outbox::{Outbox, WriteFault};
-use crate::tried::Tried;
 use ans_model::start::Start;
 use ans_sauce::{Fault, Parts};
+use ans_write::{Outbox, Tried, WriteFault};
 use std::io::Write;
 
 /// What is said of a content's needs.

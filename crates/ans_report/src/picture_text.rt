@@ -4,19 +4,17 @@ ghost use Rattle.std.specs.List.{flat_map};
 ghost use Rattle.ans_model.specs.Verdict.Good.{IsPictureOf};
 ghost use Rattle.ans_model.specs.Text.ReportText.{Passed, rows_of, cells_text, report_text};
 ghost use Rattle.ans_model.specs.Text.ReportText.{picture_line, cells_line};
-ghost use Rattle.ans_report.specs.Puts.{Puts};
+ghost use Rattle.ans_write.specs.Puts.{Puts};
 ghost use Rattle.ans_report.specs.Headings.{heading_of};
 ghost use Rattle.ans_report.specs.Rows.{row_of, line_text};
 
 use crate::heading::put_heading;
-use crate::outbox::Outbox;
-use crate::row_texts::{write_characters, write_digits};
-use crate::tables::Tables;
 use ans_model::limits::MAX_WIDTH;
 use ans_model::start::Start;
 use ans_play::Picture;
 use ans_sauce::Parts;
 use ans_screen::Grid;
+use ans_write::{Outbox, Tables};
 use std::io::Write;
 
 /// How the cells of a picture are shown: each by its character, or by four digits.
@@ -43,7 +41,7 @@ fn put_character_row<W: Write, G: Grid>(
     let bytes = &mut bytes[..picture.width()];
     picture.copy_glyphs(row, bytes);
     let mut text = [0; ROW];
-    let end = write_characters(&tables.characters, bytes, &mut text);
+    let end = tables.write_characters(bytes, &mut text);
     out.put(&text[..end]);
     out.put(b"\n");
 }
@@ -66,7 +64,7 @@ fn put_digit_row<W: Write, G: Grid>(
     let attributes = &mut attributes[..width];
     picture.copy_attributes(row, attributes);
     let mut text = [0; ROW];
-    write_digits(&tables.digits, bytes, attributes, &mut text);
+    tables.write_digits(bytes, attributes, &mut text);
     out.put(&text[..4 * width]);
     out.put(b"\n");
 }

@@ -4,18 +4,15 @@ ghost use Rattle.ans_model.specs.File.Record.{comment_count};
 ghost use Rattle.ans_model.specs.Text.Characters.{shown_bytes};
 ghost use Rattle.ans_model.specs.Text.RecordText.{named_line, comment_lines};
 ghost use Rattle.ans_sauce.specs.Parts.{comments_of, record_of};
-ghost use Rattle.ans_report.specs.Tried.{has_failed, inner_of};
-ghost use Rattle.ans_report.specs.Writes.{WritesText};
-ghost use Rattle.ans_report.specs.Puts.{Puts};
+ghost use Rattle.ans_write.specs.Tried.{has_failed, inner_of};
+ghost use Rattle.ans_write.specs.Writes.{WritesText};
+ghost use Rattle.ans_write.specs.Puts.{Puts};
 ghost use Rattle.ans_report.specs.RecordLines.{parts_text};
 
-use crate::characters::put_characters;
 use crate::heading::put_notes;
-use crate::hexadecimal::hex_byte;
 use crate::lines::{put_named_line, put_number_line, put_size_line};
-use crate::outbox::{Outbox, WriteFault};
-use crate::tried::Tried;
 use ans_sauce::Parts;
+use ans_write::{Outbox, Tried, WriteFault, hex_byte, put_characters};
 use std::io::Write;
 
 /// Puts the line of a name and a text, which is shown by its characters.

@@ -1,21 +1,20 @@
 //! The report on a file.
 ghost use Rattle.std.specs.Prelude.{◌≡◌, ◌↔◌, false, IsTrue, IsErr, OnOk};
 ghost use Rattle.std.specs.Option.{option_copied};
-ghost use Rattle.ans_report.specs.Tried.{has_failed, inner_of};
-ghost use Rattle.ans_report.specs.Writes.{WritesText};
-ghost use Rattle.ans_report.specs.Puts.{Puts};
+ghost use Rattle.ans_write.specs.Tried.{has_failed, inner_of};
+ghost use Rattle.ans_write.specs.Writes.{WritesText};
+ghost use Rattle.ans_write.specs.Puts.{Puts};
 ghost use Rattle.ans_report.specs.ReportBytes.{IsFitting, TellsCells, refused_text, report_bytes};
 ghost use Rattle.ans_model.specs.Text.ReportText.{refusal_text};
 
 use crate::fault_lines::put_refusal;
 use crate::heading::put_heading;
-use crate::outbox::{Outbox, WriteFault};
 use crate::picture_text::put_pass;
-use crate::tried::Tried;
 use ans_model::start::Start;
 use ans_play::Picture;
 use ans_sauce::{Fault, Parts};
 use ans_screen::Grid;
+use ans_write::{Outbox, Tried, WriteFault};
 use std::io::Write;
 
 /// What a report says of a file.

@@ -1,9 +1,8 @@
 //! The tables of texts by example, and each writer on a device that takes one byte a call, also one
 //! of which a call fails.
 ghost use Rattle.std.specs.Prelude.{◌≡◌, false};
-ghost use Rattle.ans_report.specs.Tried.{has_failed};
+ghost use Rattle.ans_write.specs.Tried.{has_failed};
 
-mod devices;
 mod headings;
 mod messages;
 mod needs;
@@ -11,7 +10,7 @@ mod records;
 mod tokens;
 mod written_reports;
 
-use crate::{Tried, fault_text, glyph_text, note_text};
+use crate::{Tried, fault_text, note_text};
 use ans_samples::{FailingOnce, Failure, Narrow};
 use ans_sauce::{Cause, Fault, Note};
 use std::process::Abort;
@@ -49,27 +48,6 @@ fn assert_stopped(rt: &impl Abort, device: Tried<FailingOnce<Narrow>>, taken: &[
     assert_eq!(rt; inner.device().held(), taken);
     assert_eq!(rt; inner.calls(), (taken.len() as u64).saturating_add(1));
     assert_eq!(rt; calls, inner.calls());
-}
-
-#[test]
-fn bytes_have_characters(rt: HostRuntime) {
-    let rows = [
-        (0x00, ' '),
-        (0x01, '\u{263A}'),
-        (0x1F, '\u{25BC}'),
-        (0x20, ' '),
-        (0x7E, '~'),
-        (0x7F, '\u{2302}'),
-        (0x80, '\u{00C7}'),
-        (0x9E, '\u{20A7}'),
-        (0xB0, '\u{2591}'),
-        (0xDB, '\u{2588}'),
-        (0xE1, '\u{00DF}'),
-        (0xFF, '\u{00A0}'),
-    ];
-    for (byte, glyph) in rows {
-        assert_eq!(rt; glyph_text(byte), glyph);
-    }
 }
 
 #[test]

@@ -7,19 +7,17 @@ ghost use Rattle.ans_model.specs.Bytes.{longest_file};
 ghost use Rattle.ans_model.specs.declared.fault.Fault.{Fault};
 ghost use Rattle.ans_model.specs.Inside.ShownKind.{shown_kind};
 ghost use Rattle.ans_model.specs.Text.TokensText.{TokensText, token_name};
-ghost use Rattle.ans_report.specs.Tried.{has_failed, inner_of};
-ghost use Rattle.ans_report.specs.Writes.{AppendsPrefix};
-ghost use Rattle.ans_report.specs.Puts.{Puts};
+ghost use Rattle.ans_write.specs.Tried.{has_failed, inner_of};
+ghost use Rattle.ans_write.specs.Writes.{AppendsPrefix};
+ghost use Rattle.ans_write.specs.Puts.{Puts};
 ghost use Rattle.ans_report.specs.TokenLines.{PutsTokens, TakesFront, token_text, numbers_text, numbers_of};
 ghost use Rattle.ans_report.specs.TokenLines.{later_number};
 
 use crate::fault_lines::put_fault_line;
 use crate::glyph_lines::put_glyphs;
-use crate::hexadecimal::hex_byte;
-use crate::outbox::{Outbox, WriteFault};
-use crate::tried::Tried;
 use ans_sauce::Fault;
 use ans_tokens::{Kind, Scanner, Token};
+use ans_write::{Outbox, Tried, WriteFault, hex_byte};
 use std::io::Write;
 
 /// How many bytes are read before it is seen whether the device has failed.

@@ -1,11 +1,11 @@
 //! The lines of a report before its verdict, class by class.
 use crate::WriteFault;
 use crate::heading::put_heading;
-use crate::outbox::Outbox;
 use crate::tests::{assert_held, assert_stopped, failing_after, room_for};
 use ans_model::start::Start;
 use ans_samples::sample_file;
 use ans_sauce::{Parts, split};
+use ans_write::Outbox;
 use std::process::Abort;
 use std::test::Fail;
 

@@ -1,6 +1,6 @@
 use Rattle.std.proofs.Common.{rules, ◌≡◌, sym, ap}
 use Rattle.ans_model.specs.Text.FaultText.{position_text}
-use Rattle.ans_report.proofs.PutsLemmas.{Puts-same, Puts-then}
+use Rattle.ans_write.proofs.PutsLemmas.{Puts-same, Puts-then}
 use Rattle.ans_report.proofs.fault_lines.put_position.Goals as goal
 
 pub returns : goal.returns

@@ -1,4 +1,4 @@
-use Rattle.ans_report.proofs.PutsLemmas.{Puts-then}
+use Rattle.ans_write.proofs.PutsLemmas.{Puts-then}
 use Rattle.ans_report.proofs.fault_lines.put_refusal.Goals as goal
 
 pub returns : goal.returns

@@ -1,7 +1,7 @@
 use Rattle.std.proofs.Common.{rules, arith, ◌≡◌, ◌-◌, ◌≤◌, length, take, drop, ap, ◌∙◌}
 use Rattle.std.proofs.lemmas.List.{take_all, length-drop}
 use Rattle.ans_report.proofs.GlyphLines.{glyph_line_is}
-use Rattle.ans_report.proofs.PutsLemmas.{Puts-same}
+use Rattle.ans_write.proofs.PutsLemmas.{Puts-same}
 use Rattle.ans_report.proofs.glyph_lines.put_glyph.Goals as goal
 
 pub returns : goal.returns

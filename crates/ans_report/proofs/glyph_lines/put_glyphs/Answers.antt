@@ -2,7 +2,7 @@ use Rattle.std.proofs.Common.{arith, ℕ, get_or, sym, ap, ◌∷◌, []}
 use Rattle.ans_model.specs.Sequence.TokenKind.{Glyph}
 use Rattle.ans_model.specs.Text.TokensText.{token_line}
 use Rattle.ans_report.proofs.GlyphLines.{glyph_lines-more}
-use Rattle.ans_report.proofs.PutsLemmas.{Puts-same, Puts-then}
+use Rattle.ans_write.proofs.PutsLemmas.{Puts-same, Puts-then}
 use Rattle.ans_report.proofs.glyph_lines.put_glyphs.Goals as goal
 
 pub loop-byte-preserved : goal.loop-byte-preserved

@@ -1,5 +1,5 @@
 use Rattle.std.proofs.Common.{◌≡◌, ◌+◌, take}
-use Rattle.ans_report.specs.Puts.{Puts}
+use Rattle.ans_write.specs.Puts.{Puts}
 use Rattle.ans_report.specs.TokenLines.{glyph_lines}
 use Rattle.ans_report.proofs.glyph_lines.put_glyphs.Given as goal
 

@@ -1,4 +1,4 @@
-use Rattle.ans_report.proofs.PutsLemmas.{Puts-then}
+use Rattle.ans_write.proofs.PutsLemmas.{Puts-then}
 use Rattle.ans_report.proofs.heading.put_known_part.Goals as goal
 
 pub returns-then-known : goal.returns-then-known

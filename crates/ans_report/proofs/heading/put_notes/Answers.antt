@@ -1,6 +1,6 @@
 use Rattle.std.proofs.Common.{rules, ◌≡◌}
 use Rattle.ans_model.specs.Text.FaultText.{note_line}
-use Rattle.ans_report.proofs.PutsLemmas.{Puts-next}
+use Rattle.ans_write.proofs.PutsLemmas.{Puts-next}
 use Rattle.ans_report.proofs.heading.put_notes.Goals as goal
 
 pub loop-note-preserved : goal.loop-note-preserved

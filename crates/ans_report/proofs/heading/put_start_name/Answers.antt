@@ -1,6 +1,6 @@
 use Rattle.std.proofs.Common.{rules, ◌≡◌}
 use Rattle.ans_model.specs.Screen.StartClass.{none_known, all_known}
-use Rattle.ans_report.proofs.PutsLemmas.{Puts-same, Puts-then}
+use Rattle.ans_write.proofs.PutsLemmas.{Puts-same, Puts-then}
 use Rattle.ans_report.proofs.StartNames.{name_of_parts}
 use Rattle.ans_report.proofs.heading.put_start_name.Goals as goal
 

@@ -1,5 +1,5 @@
 use Rattle.ans_report.proofs.LineTexts.{named_line_is}
-use Rattle.ans_report.proofs.PutsLemmas.{Puts-same, Puts-then}
+use Rattle.ans_write.proofs.PutsLemmas.{Puts-same, Puts-then}
 use Rattle.ans_report.proofs.lines.put_named_line.Goals as goal
 
 pub returns : goal.returns

@@ -1,6 +1,6 @@
 use Rattle.std.proofs.Common.{decimal}
 use Rattle.ans_report.proofs.LineTexts.{named_line_is}
-use Rattle.ans_report.proofs.PutsLemmas.{Puts-same, Puts-then}
+use Rattle.ans_write.proofs.PutsLemmas.{Puts-same, Puts-then}
 use Rattle.ans_report.proofs.lines.put_number_line.Goals as goal
 
 pub returns : goal.returns

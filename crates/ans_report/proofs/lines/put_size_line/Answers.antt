@@ -1,7 +1,7 @@
 use Rattle.std.proofs.Common.{decimal}
 use Rattle.ans_sauce.specs.Parts.{width_of, lines_of}
 use Rattle.ans_report.proofs.LineTexts.{size_line_is}
-use Rattle.ans_report.proofs.PutsLemmas.{Puts-same, Puts-then}
+use Rattle.ans_write.proofs.PutsLemmas.{Puts-same, Puts-then}
 use Rattle.ans_report.proofs.lines.put_size_line.Goals as goal
 
 pub returns : goal.returns

@@ -3,7 +3,7 @@ use Rattle.std.specs.Option.{option_copied}
 use Rattle.ans_model.specs.Text.NeedsText.{needs_refusal_text}
 use Rattle.ans_report.specs.Headings.{needs_heading_of}
 use Rattle.ans_report.specs.NeedsBytes.{needs_refused_text}
-use Rattle.ans_report.proofs.PutsLemmas.{Puts-same, Puts-then}
+use Rattle.ans_write.proofs.PutsLemmas.{Puts-same, Puts-then}
 use Rattle.ans_report.proofs.needs_text.put_needs_refusal.Goals as goal
 
 pub returns-in-Some : goal.returns-in-Some

@@ -1,4 +1,4 @@
-use Rattle.ans_report.proofs.PutsLemmas.{Puts-then}
+use Rattle.ans_write.proofs.PutsLemmas.{Puts-then}
 use Rattle.ans_report.proofs.picture_text.put_cells.Goals as goal
 
 pub returns : goal.returns

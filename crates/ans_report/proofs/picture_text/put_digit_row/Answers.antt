@@ -1,7 +1,7 @@
 use Rattle.std.proofs.Common.{rules, ◌≡◌, length}
 use Rattle.ans_report.specs.Rows.{row_of}
-use Rattle.ans_report.proofs.PutsLemmas.{Puts-same, Puts-then}
-use Rattle.ans_report.proofs.RowTexts.{digits_of_row}
+use Rattle.ans_write.proofs.PutsLemmas.{Puts-same, Puts-then}
+use Rattle.ans_write.proofs.RowTexts.{digits_of_row}
 use Rattle.ans_report.proofs.picture_text.put_digit_row.Goals as goal
 
 pub returns : goal.returns

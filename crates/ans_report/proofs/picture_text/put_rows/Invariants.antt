@@ -1,7 +1,7 @@
 use Rattle.std.proofs.Common.{take}
 use Rattle.std.specs.List.{flat_map}
 use Rattle.ans_model.specs.Text.ReportText.{rows_of}
-use Rattle.ans_report.specs.Puts.{Puts}
+use Rattle.ans_write.specs.Puts.{Puts}
 use Rattle.ans_report.specs.Rows.{line_text}
 use Rattle.ans_report.proofs.picture_text.put_rows.Given as goal
 

@@ -2,7 +2,7 @@ use Rattle.std.proofs.Common.{rules, arith, ◌≡◌, ◌≤◌, true, ap}
 use Rattle.ans_model.specs.File.Record.{comment, comment_count}
 use Rattle.ans_sauce.specs.RecordBytes.{bytes_of}
 use Rattle.ans_sauce.specs.Parts.{comments_of, record_of}
-use Rattle.ans_report.specs.Puts.{device_failed}
+use Rattle.ans_write.specs.Puts.{device_failed}
 use Rattle.ans_report.proofs.RecordLemmas.{comment_put, comments_put}
 use Rattle.ans_report.proofs.record_text.put_comments.Goals as goal
 

@@ -1,6 +1,6 @@
 use Rattle.ans_model.specs.Text.RecordText.{comment_lines}
 use Rattle.ans_sauce.specs.Parts.{comments_of}
-use Rattle.ans_report.specs.Puts.{Puts}
+use Rattle.ans_write.specs.Puts.{Puts}
 use Rattle.ans_report.proofs.record_text.put_comments.Given as goal
 
 abbrev pub invariant-loop-i : goal.invariant-loop-i

@@ -1,6 +1,6 @@
 use Rattle.ans_model.specs.Text.Characters.{shown_bytes}
 use Rattle.ans_report.proofs.LineTexts.{named_line_is}
-use Rattle.ans_report.proofs.PutsLemmas.{Puts-same, Puts-then}
+use Rattle.ans_write.proofs.PutsLemmas.{Puts-same, Puts-then}
 use Rattle.ans_report.proofs.record_text.put_field.Goals as goal
 
 pub returns : goal.returns

@@ -4,7 +4,7 @@ use Rattle.ans_model.specs.File.Record.{comment_count, flags, trimmed}
 use Rattle.ans_model.specs.Text.Hexadecimal.{hex_byte}
 use Rattle.ans_sauce.specs.RecordBytes.{bytes_of}
 use Rattle.ans_sauce.specs.Parts.{record_of, notes_of}
-use Rattle.ans_report.proofs.PutsLemmas.{Puts-then}
+use Rattle.ans_write.proofs.PutsLemmas.{Puts-then}
 use Rattle.ans_report.proofs.record_text.put_record.Goals as goal
 
 pub returns : goal.returns

@@ -3,7 +3,7 @@ use Rattle.std.specs.Option.{option_copied}
 use Rattle.ans_model.specs.Text.ReportText.{RefusedFor, report_text}
 use Rattle.ans_report.specs.Headings.{heading_of}
 use Rattle.ans_report.specs.ReportBytes.{refused_text}
-use Rattle.ans_report.proofs.PutsLemmas.{Puts-same, Puts-then}
+use Rattle.ans_write.proofs.PutsLemmas.{Puts-same, Puts-then}
 use Rattle.ans_report.proofs.report.put_refused.Goals as goal
 
 pub returns-in-Some : goal.returns-in-Some

@@ -1,5 +1,5 @@
 use Rattle.std.proofs.Common.{rules}
-use Rattle.ans_report.proofs.PutsLemmas.{WritesText-finished}
+use Rattle.ans_write.proofs.PutsLemmas.{WritesText-finished}
 use Rattle.ans_report.proofs.report.write_report.Goals as goal
 
 pub returns-clause-bytes : goal.returns-clause-bytes

@@ -1,6 +1,6 @@
 use Rattle.std.proofs.Common.{rules, ◌≡◌, get_or}
 use Rattle.ans_report.specs.TokenLines.{later_number}
-use Rattle.ans_report.proofs.PutsLemmas.{Puts-then, Puts-next}
+use Rattle.ans_write.proofs.PutsLemmas.{Puts-then, Puts-next}
 use Rattle.ans_report.proofs.tokens_text.put_later_numbers.Goals as goal
 
 pub loop-number-preserved : goal.loop-number-preserved

@@ -1,6 +1,6 @@
 use Rattle.std.proofs.Common.{take}
 use Rattle.std.specs.List.{flat_map}
-use Rattle.ans_report.specs.Puts.{Puts}
+use Rattle.ans_write.specs.Puts.{Puts}
 use Rattle.ans_report.specs.TokenLines.{later_number}
 use Rattle.ans_report.proofs.tokens_text.put_later_numbers.Given as goal
 

@@ -1,7 +1,7 @@
 use Rattle.std.proofs.Common.{rules, ◌≡◌, sym, ap}
 use Rattle.ans_model.specs.Inside.ShownKind.{shown_kind}
 use Rattle.ans_report.specs.TokenLines.{numbers_of}
-use Rattle.ans_report.proofs.PutsLemmas.{Puts-same, Puts-then}
+use Rattle.ans_write.proofs.PutsLemmas.{Puts-same, Puts-then}
 use Rattle.ans_report.proofs.tokens_text.put_numbers_of.Goals as goal
 
 pub returns-in-Place : goal.returns-in-Place

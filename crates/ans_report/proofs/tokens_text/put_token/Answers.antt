@@ -3,7 +3,7 @@ use Rattle.ans_model.specs.Inside.ShownKind.{shown_kind}
 use Rattle.ans_model.specs.Text.FaultText.{line_of}
 use Rattle.ans_tokens.specs.Token.{kind_of, start_of, length_of}
 use Rattle.ans_report.specs.TokenLines.{numbers_of}
-use Rattle.ans_report.proofs.PutsLemmas.{Puts-same, Puts-then}
+use Rattle.ans_write.proofs.PutsLemmas.{Puts-same, Puts-then}
 use Rattle.ans_report.proofs.tokens_text.put_token.Goals as goal
 
 -- what stands before the name, the name's word, its numbers and the line feed

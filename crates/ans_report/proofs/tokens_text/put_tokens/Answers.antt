@@ -8,9 +8,9 @@ use Rattle.ans_model.specs.Bytes.{IsByte}
 use Rattle.ans_model.specs.Text.FaultText.{fault_line}
 use Rattle.ans_tokens.specs.ScannerView.{ScannerView}
 use Rattle.ans_tokens.specs.Token.{length_of}
-use Rattle.ans_report.specs.Puts.{device_failed}
+use Rattle.ans_write.specs.Puts.{device_failed}
 use Rattle.ans_report.specs.TokenLines.{token_text, glyph_lines}
-use Rattle.ans_report.proofs.PutsLemmas.{Puts-nothing, Puts-then}
+use Rattle.ans_write.proofs.PutsLemmas.{Puts-nothing, Puts-then}
 use Rattle.ans_report.proofs.ReadSoFar.{ReadSoFar, ReadSoFar-nothing, ReadSoFar-kept, ReadSoFar-token}
 use Rattle.ans_report.proofs.ReadTokens.{ReadSoFar-glyphs, ReadSoFar-same, ReadSoFar-whole}
 use Rattle.ans_report.proofs.TextGoesOn.{all_are_bytes, PutsTokens-failed}

@@ -1,5 +1,5 @@
 use Rattle.std.proofs.Common.{◌≡◌, ◌≤◌, ◌-◌, List, ℕ, length}
-use Rattle.ans_report.specs.Puts.{Puts}
+use Rattle.ans_write.specs.Puts.{Puts}
 use Rattle.ans_report.proofs.ReadSoFar.{ReadSoFar}
 use Rattle.ans_report.proofs.tokens_text.put_tokens.Given as goal
 

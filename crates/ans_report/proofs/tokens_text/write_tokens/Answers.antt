@@ -1,5 +1,5 @@
 use Rattle.std.proofs.Common.{rules, ◌≡◌, [], false}
-use Rattle.ans_report.specs.Puts.{device_failed}
+use Rattle.ans_write.specs.Puts.{device_failed}
 use Rattle.ans_report.proofs.TokensFinished.{tokens_written, tokens_begun, IfErr-always}
 use Rattle.ans_report.proofs.tokens_text.write_tokens.Goals as goal
 

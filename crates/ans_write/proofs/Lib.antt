@@ -1,0 +1,5 @@
+pub mod WritesLemmas
+pub mod PutsLemmas
+pub mod HexadecimalDigits
+pub mod RowTexts
+pub mod CountsUp

@@ -1,0 +1,4 @@
+pub mod Tried
+pub mod Writes
+pub mod Puts
+pub mod Tables

@@ -1,0 +1,32 @@
+//! Writing to devices that may fail.
+//!
+//! A device is a [`Tried`] reader or writer, which counts its calls and remembers whether one failed;
+//! one that has failed is not called again. Texts are put in an [`Outbox`], which calls its device
+//! for large pieces. Others rely on one contract: what was put is taken by the device in its order,
+//! and at a failure a prefix of it (`specs/Puts.antt`; `specs/Writes.antt` says what a device holds
+//! after a writing).
+//!
+//! Beside them stands how bytes are written: by characters ([`glyph_text`], [`put_characters`]), by
+//! hexadecimal digits ([`hex_byte`]), by [`Tables`] of both where a text is long, and by a
+//! [`Counter`] where decimal numbers follow one another. The characters and digits are defined in
+//! `ans_model`.
+#![tactic(auto)]
+
+mod characters;
+mod counter;
+mod hexadecimal;
+mod outbox;
+mod tables;
+mod tried;
+mod utf8;
+mod whole_writes;
+
+pub use characters::{glyph_text, put_characters};
+pub use counter::Counter;
+pub use hexadecimal::hex_byte;
+pub use outbox::{Outbox, WriteFault};
+pub use tables::Tables;
+pub use tried::{DeviceFault, Tried};
+
+#[cfg(test)]
+mod tests;
