@@ -2,8 +2,8 @@
 use Rattle.std.proofs.Common.{◌≡◌, ℕ, Bool, true, false, List, Option, Some, None, Ok, Err, refl, subst, sym, true≢false}
 use Rattle.std.specs.Prelude.{◌↔◌, Result, IsErr, IsTrue, MatchOption}
 use Rattle.ans_report.specs.Message.{message_line}
-use Rattle.ans_report.specs.Writes.{AppendsUnless, WritesText}
-use Rattle.ans_report.specs.declared.tried.Tried.{Tried}
+use Rattle.ans_write.specs.Writes.{AppendsUnless, WritesText}
+use Rattle.ans_write.specs.declared.tried.Tried.{Tried}
 use Rattle.ans_check.specs.Answer.{Says, Tells}
 use Rattle.ans_check.specs.Ending.{ending_message}
 use Rattle.ans_check.specs.declared.exit_status.Ending.{Ending}

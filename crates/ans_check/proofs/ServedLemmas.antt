@@ -5,8 +5,8 @@ use Rattle.std.specs.Io.KnownBytes.{Appends, Keeps}
 use Rattle.std.proofs.lemmas.List.{take_all}
 use Rattle.ans_model.specs.Bytes.{longest_file}
 use Rattle.ans_options.specs.declared.command.Options.{Options}
-use Rattle.ans_report.specs.Tried.{has_failed, inner_of}
-use Rattle.ans_report.specs.declared.tried.Tried.{Tried}
+use Rattle.ans_write.specs.Tried.{has_failed, inner_of}
+use Rattle.ans_write.specs.declared.tried.Tried.{Tried}
 use Rattle.ans_check.specs.Served.{Serves}
 use Rattle.ans_check.specs.declared.errors.RunError.{RunError}
 use Rattle.ans_check.specs.declared.errors.RunError.TheVariants as error

@@ -7,9 +7,9 @@ use Rattle.ans_options.specs.CommandLine.{AreOptionsOf, HasKindAmong, RanOutOfMe
 use Rattle.ans_options.specs.declared.command.Options.{Options}
 use Rattle.ans_options.specs.declared.command_line.WordsError.{WordsError}
 use Rattle.ans_report.specs.Message.{message_line}
-use Rattle.ans_report.specs.Tried.{call_count, has_failed, inner_of}
-use Rattle.ans_report.specs.Writes.{AppendsUnless, Wrote, WrotePrefix}
-use Rattle.ans_report.specs.declared.tried.Tried.{Tried}
+use Rattle.ans_write.specs.Tried.{call_count, has_failed, inner_of}
+use Rattle.ans_write.specs.Writes.{AppendsUnless, Wrote, WrotePrefix}
+use Rattle.ans_write.specs.declared.tried.Tried.{Tried}
 use Rattle.ans_check.specs.Ending.{ending_message, ending_of_words}
 use Rattle.ans_check.specs.Served.{Serves}
 use Rattle.ans_check.specs.declared.errors.RunError.{RunError}

@@ -3,9 +3,9 @@ use Rattle.std.specs.Prelude.{◌≡◌, ◌≢◌, ◌↔◌, ℕ, ◌+◌, ◌
 use Rattle.std.specs.Prelude.{IfOk, IfErr, IfSome, IsErrOf}
 use Rattle.ans_model.specs.Bytes.{longest_file}
 use Rattle.ans_options.specs.declared.command.Options.{Options}
-use Rattle.ans_report.specs.Tried.{call_count, has_failed, inner_of}
-use Rattle.ans_report.specs.Writes.{Wrote, WrotePrefix}
-use Rattle.ans_report.specs.declared.tried.Tried.{Tried}
+use Rattle.ans_write.specs.Tried.{call_count, has_failed, inner_of}
+use Rattle.ans_write.specs.Writes.{Wrote, WrotePrefix}
+use Rattle.ans_write.specs.declared.tried.Tried.{Tried}
 use Rattle.ans_check.specs.CommandText.{Reports}
 use Rattle.ans_check.specs.Run.{HasRead}
 use Rattle.ans_check.specs.declared.errors.RunError.{RunError}

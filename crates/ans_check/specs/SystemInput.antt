@@ -1,7 +1,7 @@
 -- What the program reads on a system, and how it answers its words there.
 use Rattle.std.specs.Prelude.{◌≡◌, ℕ, Bool, true, false, List, Option, None, ⊤}
 use Rattle.clap.specs.Words.{Text}
-use Rattle.ans_report.specs.declared.tried.Tried.{Tried}
+use Rattle.ans_write.specs.declared.tried.Tried.{Tried}
 use Rattle.ans_check.specs.Answer.{EndsSo, Says}
 use Rattle.ans_check.specs.Ending.{ending_status}
 use Rattle.ans_check.specs.declared.exit_status.Ending.{Ending}

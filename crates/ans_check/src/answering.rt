@@ -3,7 +3,7 @@
 ghost use Rattle.std.specs.Prelude.{◌≡◌, ◌≢◌, ◌↔◌, [], Err, None, false, IsTrue, IfSome, IsSomeAnd};
 ghost use Rattle.std.specs.Prelude.{option_map, string_bytes};
 ghost use Rattle.ans_options.specs.CommandLine.{AreOptionsOf, faults_of, texts_of};
-ghost use Rattle.ans_report.specs.Tried.{has_failed};
+ghost use Rattle.ans_write.specs.Tried.{has_failed};
 ghost use Rattle.ans_check.specs.Answer.{EndsAfter, EndsSo, IsNamed, PrintsHelp, Says, Tells, names_standard};
 ghost use Rattle.ans_check.specs.Ending.{ending_of_words};
 

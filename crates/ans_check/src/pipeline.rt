@@ -3,8 +3,8 @@ ghost use Rattle.std.specs.Prelude.{◌≡◌, ◌≢◌, ◌⊎◌, ◌+◌, �
 ghost use Rattle.std.specs.Prelude.{OnErr};
 ghost use Rattle.std.specs.Prelude.{IsErr, IfErr, IfSome, IsErrOf};
 ghost use Rattle.ans_model.specs.Bytes.{longest_file};
-ghost use Rattle.ans_report.specs.Tried.{call_count, has_failed, inner_of};
-ghost use Rattle.ans_report.specs.Writes.{Wrote, WrotePrefix};
+ghost use Rattle.ans_write.specs.Tried.{call_count, has_failed, inner_of};
+ghost use Rattle.ans_write.specs.Writes.{Wrote, WrotePrefix};
 ghost use Rattle.ans_check.specs.CommandText.{Reports, ReportsCheck, ReportsSauce, ReportsTokens, IsReportOf, is_pass};
 ghost use Rattle.ans_check.specs.CommandText.{ReportsNeeds, IsNeedsReportOf, is_least};
 ghost use Rattle.ans_check.specs.Served.{Serves};

@@ -1,6 +1,6 @@
 //! The whole input.
 ghost use Rattle.std.specs.Prelude.{◌≡◌, ◌+◌, ◌<◌, ◌≤◌, ◌↔◌, false, length, IsTrue, IfOk, IfSome, IsErrOf};
-ghost use Rattle.ans_report.specs.Tried.{has_failed, call_count, inner_of};
+ghost use Rattle.ans_write.specs.Tried.{has_failed, call_count, inner_of};
 ghost use Rattle.ans_model.specs.Bytes.{longest_file};
 ghost use Rattle.ans_check.specs.Run.{HasRead};
 

@@ -1,7 +1,7 @@
 //! From an input to an output that may hold text back.
 
 ghost use Rattle.std.specs.Prelude.{◌≡◌, false};
-ghost use Rattle.ans_report.specs.Tried.{has_failed};
+ghost use Rattle.ans_write.specs.Tried.{has_failed};
 ghost use Rattle.ans_check.specs.Served.{Serves};
 
 use crate::errors::RunError;

@@ -2,7 +2,7 @@
 
 ghost use Rattle.std.specs.Prelude.{◌≡◌, true, false, ⊤, map, string_bytes, IfOk, vec_items};
 ghost use Rattle.ans_options.specs.CommandLine.{texts_of};
-ghost use Rattle.ans_report.specs.Tried.{has_failed};
+ghost use Rattle.ans_write.specs.Tried.{has_failed};
 ghost use Rattle.ans_check.specs.Ending.{ending_status};
 ghost use Rattle.ans_check.specs.SystemInput.{AnswersOnSystem};
 ghost use Rattle.ans_check.specs.declared.exit_status.Ending.{Ending};

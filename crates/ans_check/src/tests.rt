@@ -1,7 +1,7 @@
 //! Files, readers and writers from end to end. A call that met a refused allocation is made once
 //! more, and its answer is then insisted on; so each allocation can be refused in turn.
 ghost use Rattle.std.specs.Prelude.{◌≡◌, false};
-ghost use Rattle.ans_report.specs.Tried.{has_failed};
+ghost use Rattle.ans_write.specs.Tried.{has_failed};
 
 mod answers;
 mod devices;

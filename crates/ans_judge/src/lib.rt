@@ -5,7 +5,8 @@
 //! finds of them is what the checker has to find of the file made of them: `ans_check::check` on
 //! both grids and `ans_check::needs`, and of the bytes alone `ans_answer::plain_answer` and
 //! `ans_play::Player`. It shares the step of one state, `ans_model::machine::Machine`, with the plain
-//! answer, and nothing with the scanner and the player.
+//! answer, and with the scanner and the player only the plain words of `ans_model`: kinds, causes and
+//! limits.
 //!
 //! It judges every prefix of each content of `ans_samples`, from all 32 classes of starts, and
 //! contents and screens that are too large for these.

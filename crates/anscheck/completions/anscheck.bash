@@ -2,9 +2,12 @@
 # /usr/share/bash-completion/completions/anscheck.
 _anscheck() {
     local word=${COMP_WORDS[COMP_CWORD]} command=${COMP_WORDS[1]}
+    local commands="needs check sauce tokens"
     COMPREPLY=()
     if [ "$COMP_CWORD" -eq 1 ]; then
-        mapfile -t COMPREPLY < <(compgen -W "needs check sauce tokens --help" -- "$word")
+        mapfile -t COMPREPLY < <(compgen -W "$commands help --help --version" -- "$word")
+    elif [ "$command" = help ]; then
+        mapfile -t COMPREPLY < <(compgen -W "$commands" -- "$word")
     elif [ "${word#-}" != "$word" ]; then
         local flags="--help"
         if [ "$command" = check ]; then

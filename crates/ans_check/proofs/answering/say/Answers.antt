@@ -1,5 +1,5 @@
 use Rattle.ans_report.specs.Message.{message_line}
-use Rattle.ans_report.specs.Tried.{has_failed}
+use Rattle.ans_write.specs.Tried.{has_failed}
 use Rattle.std.proofs.Common.{sym}
 use Rattle.ans_check.proofs.AnswerLemmas.{says_message, written_unless}
 use Rattle.ans_check.proofs.answering.say.Goals as goal

@@ -1,6 +1,6 @@
 use Rattle.std.proofs.Common.{◌≡◌, ◌+◌, ◌-◌, ◌≤◌, false, vec_len}
 use Rattle.std.specs.Io.KnownBytes.{Consumes}
-use Rattle.ans_report.specs.Tried.{has_failed, call_count, inner_of}
+use Rattle.ans_write.specs.Tried.{has_failed, call_count, inner_of}
 use Rattle.ans_check.proofs.reading.read_all.Given as goal
 
 abbrev pub invariant-loop-n : goal.invariant-loop-n
