@@ -23,11 +23,6 @@ use Rattle.ans_report.specs.declared.needs_text.NeedsReport.TheVariants as needs
 use Rattle.ans_report.specs.ReportBytes.{IsFitting, refused_text, report_bytes}
 use Rattle.ans_report.specs.declared.report.Report.{Report}
 use Rattle.ans_report.specs.declared.report.Report.TheVariants as report
-use Rattle.ans_model.specs.Bytes.{longest_file}
-use Rattle.ans_check.specs.declared.reading.ReadFault.{ReadFault}
-use Rattle.ans_check.specs.declared.reading.ReadFault.TheVariants as fault
-use Rattle.ans_check.specs.declared.errors.RunError.{RunError}
-use Rattle.ans_check.specs.declared.errors.RunError.TheVariants.{TooLong, Memory, Write}
 use Rattle.ans_check.specs.declared.verdict.Needs.{Needs}
 use Rattle.ans_check.specs.declared.verdict.Needs.TheVariants as needs
 use Rattle.ans_check.specs.declared.verdict.Verdict.{Verdict}
@@ -70,27 +65,6 @@ pub record_reported : (file : List ℕ) (f : Fault) → record_fault file ≡ So
     → ReportsRecordFault file (refusal_text f)
 record_reported file f e = record { fault = f; fault_is = e; text_is = refl }
 
--- an error of the memory or the writer is none of the length
-not_too_long : (r : Result Bool RunError) → IfErr r (λ e. (e ≡ Memory) ⊎ (e ≡ Write)) → IsErrOf r TooLong → ⊥
-not_too_long (Ok v) h bad = cc
-not_too_long (Err e) (inl memory) bad = cc
-not_too_long (Err e) (inr write) bad = cc
-
-abbrev read_of : {V : Type 0} → V → Result V ReadFault
-read_of v = Ok v
-
--- where all was read, no later error tells of too many bytes
-pub read_whole : {V : Type 0} (a b : Option (List ℕ)) (v : V) (r : Result Bool RunError)
-    → IfErr r (λ e. (e ≡ Memory) ⊎ (e ≡ Write))
-    → IfSome a (λ xs. IfSome b (λ ys. IsErrOf (read_of v) fault.TooLong ↔ (longest_file + length ys < length xs)))
-    → IfSome a (λ xs. IfSome b (λ ys. IsErrOf r TooLong ↔ (longest_file + length ys < length xs)))
-read_whole None b v r h k = tt
-read_whole (Some xs) None v r h k = tt
-read_whole (Some xs) (Some ys) v r h k = (λ bad. absurd (not_too_long r h bad), λ long. absurd (never (k.1 long)))
-  where
-    never : IsErrOf (read_of v) fault.TooLong → ⊥
-    never e = cc
-
 -- what holds of some values holds of values equal to them
 of_equals : {A B C : Type 0} (P : A → B → C → Type 0) {a x : A} {b y : B} {c z : C} → a ≡ x → b ≡ y → c ≡ z → P x y z
     → P a b c
@@ -126,11 +100,6 @@ fitting file start cells (Pass parts picture) (report.Pass told from shown asked
 fitting file start cells (Refused parts f) (report.Refused told from fault) same h = tt
 fitting file start cells (Pass parts picture) (report.Refused told from fault) never h = absurd never
 fitting file start cells (Refused parts f) (report.Pass told from shown asked) never h = absurd never
-
--- an error comes exactly where the device has failed, at an error of which that is known
-pub failed_too : {A E : Type 0} (r : Result A E) (P : E → Type 0) (B : Type 0) → IsErrAnd r P → B → IsErr r ↔ B
-failed_too (Ok v) P B h b = absurd h
-failed_too (Err e) P B h b = (λ _. b, λ _. refl)
 
 -- the text of an accepted record
 pub sauce_reported : (file : List ℕ) (parts : Parts) (s : IsSplit file parts) → ReportsRecord file (record_text s.apart)

@@ -4,6 +4,7 @@ pub mod Ending
 pub mod FileVerdict
 pub mod FileNeeds
 pub mod CommandText
+pub mod Reported
 pub mod Served
 pub mod Answer
 pub mod SystemInput

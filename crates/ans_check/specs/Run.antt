@@ -4,8 +4,6 @@ use Rattle.std.specs.Io.KnownBytes.{Consumes, IsAtEnd}
 use Rattle.ans_model.specs.Bytes.{longest_file}
 use Rattle.ans_check.specs.declared.errors.RunError.{RunError}
 use Rattle.ans_check.specs.declared.errors.RunError.TheVariants as error
-use Rattle.ans_check.specs.declared.reading.ReadFault.{ReadFault}
-use Rattle.ans_check.specs.declared.reading.ReadFault.TheVariants as fault
 
 -- the text of each error
 abbrev pub run_error_text : RunError → List ℕ
@@ -13,12 +11,6 @@ run_error_text error.Read = codes "cannot read the file"
 run_error_text error.TooLong = codes "file above 16777216 bytes"
 run_error_text error.Memory = codes "out of memory"
 run_error_text error.Write = codes "cannot write the report"
-
--- the error of a run for each way that reading fails
-abbrev pub run_error_of : ReadFault → RunError
-run_error_of fault.Device = error.Read
-run_error_of fault.TooLong = error.TooLong
-run_error_of fault.Memory = error.Memory
 
 -- the exit status of what a run returned
 abbrev pub status_of : Result Bool RunError → ℕ

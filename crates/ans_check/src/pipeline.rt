@@ -1,12 +1,10 @@
 //! Bytes to bytes.
-ghost use Rattle.std.specs.Prelude.{◌≡◌, ◌≢◌, ◌⊎◌, ◌+◌, ◌<◌, ◌≤◌, ◌↔◌, ℕ, List, Bool, false, length, IsTrue, IfOk};
-ghost use Rattle.std.specs.Prelude.{OnErr};
-ghost use Rattle.std.specs.Prelude.{IsErr, IfErr, IfSome, IsErrOf};
+ghost use Rattle.std.specs.Prelude.{◌≡◌, ◌≤◌, Ok, Err, false, length, MatchResult};
 ghost use Rattle.ans_model.specs.Bytes.{longest_file};
-ghost use Rattle.ans_write.specs.Tried.{call_count, has_failed, inner_of};
-ghost use Rattle.ans_write.specs.Writes.{Wrote, WrotePrefix};
-ghost use Rattle.ans_check.specs.CommandText.{Reports, ReportsCheck, ReportsSauce, ReportsTokens, IsReportOf, is_pass};
-ghost use Rattle.ans_check.specs.CommandText.{ReportsNeeds, IsNeedsReportOf, is_least};
+ghost use Rattle.ans_write.specs.Tried.{has_failed};
+ghost use Rattle.ans_check.specs.CommandText.{Reports, ReportsCheck, ReportsNeeds, ReportsSauce, ReportsTokens};
+ghost use Rattle.ans_check.specs.CommandText.{IsNeedsReportOf, IsReportOf, is_least, is_pass};
+ghost use Rattle.ans_check.specs.Reported.{IsReported};
 ghost use Rattle.ans_check.specs.Served.{Serves};
 
 use crate::errors::RunError;
@@ -21,7 +19,7 @@ use ans_report::{
 };
 use ans_sauce::split;
 use ans_screen::{Grid, PlaneGrid};
-use std::alloc::{AllocError, Global};
+use std::alloc::Global;
 use std::io::{Read, Write};
 
 /// The report that tells a verdict.
@@ -50,6 +48,16 @@ fn is_pass<G: Grid>(verdict: &Verdict<'_, G>) -> bool
     matches!(verdict, Verdict::Pass(_, _))
 }
 
+/// What a writing comes to, where the file passes or does not.
+fn told(written: Result<(), WriteFault>, passed: bool) -> Result<bool, RunError>
+    ensures { MatchResult written (λ _. result ≡ Ok passed) (λ _. result ≡ Err RunError.Write) }
+{
+    match written {
+        Ok(()) => Ok(passed),
+        Err(WriteFault) => Err(RunError::Write),
+    }
+}
+
 /// Checks a file and writes its report. Returns whether the file passes.
 fn report<W: Write>(
     alloc: Global,
@@ -60,69 +68,39 @@ fn report<W: Write>(
 ) -> Result<bool, RunError>
     requires works { has_failed writer.old ≡ false }
     requires length { length file.now ≤ longest_file }
-    ensures ok { IfOk result (λ passed. (text : List ℕ)
-        × ReportsCheck file.now start cells passed text
-        × Wrote W.contents writer.old writer.new text) }
-    ensures prefix { IsErrOf result RunError.Write → (
-        (passed : Bool) × (text : List ℕ)
-        × ReportsCheck file.now start cells passed text
-        × WrotePrefix W.contents writer.old writer.new text) }
-    ensures unwritten { IfErr result (λ e. e ≢ RunError.Write → writer.new ≡ writer.old) }
-    ensures write { IsErrOf result RunError.Write ↔ IsTrue (has_failed writer.new) }
-    ensures errors { IfErr result (λ e. (e ≡ RunError.Memory) ⊎ (e ≡ RunError.Write)) }
+    ensures { IsReported W.contents (ReportsCheck file.now start cells) writer.old writer.new result }
 {
     let Ok(verdict) = check::<PlaneGrid>(alloc, file, start) else {
         return Err(RunError::Memory);
     };
-    write_report(writer, &report_of(&verdict, start, cells))?;
-    Ok(is_pass(&verdict))
+    let written = write_report(writer, &report_of(&verdict, start, cells));
+    told(written, is_pass(&verdict))
 }
 
 /// Writes what a file's record says, or why the file is refused. Returns whether it is accepted.
-fn tell_record<W: Write>(writer: &mut Tried<W>, file: &[u8]) -> Result<bool, WriteFault>
+fn tell_record<W: Write>(writer: &mut Tried<W>, file: &[u8]) -> Result<bool, RunError>
     requires { has_failed writer.old ≡ false }
-    ensures device { IsErr result ↔ IsTrue (has_failed writer.new) }
-    ensures ok { IfOk result (λ accepted. (text : List ℕ)
-        × ReportsSauce file.now accepted text
-        × Wrote W.contents writer.old writer.new text) }
-    ensures prefix { OnErr result ((accepted : Bool) × (text : List ℕ)
-        × ReportsSauce file.now accepted text
-        × WrotePrefix W.contents writer.old writer.new text) }
+    ensures { IsReported W.contents (ReportsSauce file.now) writer.old writer.new result }
 {
     match split(file) {
-        Ok(parts) => {
-            write_record(writer, &parts)?;
-            Ok(true)
-        }
-        Err(fault) => {
-            write_refusal(writer, &fault)?;
-            Ok(false)
-        }
+        Ok(parts) => told(write_record(writer, &parts), true),
+        Err(refusal) => told(write_refusal(writer, &refusal), false),
     }
 }
 
 /// Writes the tokens of a file's content, or why the file is refused. Returns whether it is accepted
 /// and all of its content is read.
-fn tell_tokens<W: Write>(writer: &mut Tried<W>, file: &[u8]) -> Result<bool, WriteFault>
+fn tell_tokens<W: Write>(writer: &mut Tried<W>, file: &[u8]) -> Result<bool, RunError>
     requires works { has_failed writer.old ≡ false }
     requires length { length file.now ≤ longest_file }
-    ensures device { IsErr result ↔ IsTrue (has_failed writer.new) }
-    ensures ok { IfOk result (λ passed. (text : List ℕ)
-        × ReportsTokens file.now passed text
-        × Wrote W.contents writer.old writer.new text) }
-    ensures prefix { OnErr result ((passed : Bool) × (text : List ℕ)
-        × ReportsTokens file.now passed text
-        × WrotePrefix W.contents writer.old writer.new text) }
+    ensures { IsReported W.contents (ReportsTokens file.now) writer.old writer.new result }
 {
     match split(file) {
-        Ok(parts) => {
-            let fault = write_tokens(writer, parts.content())?;
-            Ok(fault.is_none())
-        }
-        Err(refusal) => {
-            write_refusal(writer, &refusal)?;
-            Ok(false)
-        }
+        Ok(parts) => match write_tokens(writer, parts.content()) {
+            Ok(fault) => Ok(fault.is_none()),
+            Err(WriteFault) => Err(RunError::Write),
+        },
+        Err(refusal) => told(write_refusal(writer, &refusal), false),
     }
 }
 
@@ -153,23 +131,13 @@ fn is_least(found: &Needs<'_>) -> bool
 fn tell_needs<W: Write>(alloc: Global, writer: &mut Tried<W>, file: &[u8]) -> Result<bool, RunError>
     requires works { has_failed writer.old ≡ false }
     requires length { length file.now ≤ longest_file }
-    ensures ok { IfOk result (λ passed. (text : List ℕ)
-        × ReportsNeeds file.now passed text
-        × Wrote W.contents writer.old writer.new text) }
-    ensures prefix { IsErrOf result RunError.Write → (
-        (passed : Bool) × (text : List ℕ)
-        × ReportsNeeds file.now passed text
-        × WrotePrefix W.contents writer.old writer.new text) }
-    ensures unwritten { IfErr result (λ e. e ≢ RunError.Write → writer.new ≡ writer.old) }
-    ensures write { IsErrOf result RunError.Write ↔ IsTrue (has_failed writer.new) }
-    ensures errors { IfErr result (λ e. (e ≡ RunError.Memory) ⊎ (e ≡ RunError.Write)) }
+    ensures { IsReported W.contents (ReportsNeeds file.now) writer.old writer.new result }
 {
-    let found = match needs::<PlaneGrid>(alloc, file) {
-        Ok(found) => found,
-        Err(AllocError) => return Err(RunError::Memory),
+    let Ok(found) = needs::<PlaneGrid>(alloc, file) else {
+        return Err(RunError::Memory);
     };
-    write_needs(writer, &needs_report_of(&found))?;
-    Ok(is_least(&found))
+    let written = write_needs(writer, &needs_report_of(&found));
+    told(written, is_least(&found))
 }
 
 /// Runs the chosen command on a file. Returns whether the file passes.
@@ -181,24 +149,14 @@ fn run_command<W: Write>(
 ) -> Result<bool, RunError>
     requires works { has_failed writer.old ≡ false }
     requires length { length file.now ≤ longest_file }
-    ensures ok { IfOk result (λ passed. (text : List ℕ)
-        × Reports options.now file.now passed text
-        × Wrote W.contents writer.old writer.new text) }
-    ensures prefix { IsErrOf result RunError.Write → (
-        (passed : Bool) × (text : List ℕ)
-        × Reports options.now file.now passed text
-        × WrotePrefix W.contents writer.old writer.new text) }
-    ensures unwritten { IfErr result (λ e. e ≢ RunError.Write → writer.new ≡ writer.old) }
-    ensures write { IsErrOf result RunError.Write ↔ IsTrue (has_failed writer.new) }
-    ensures errors { IfErr result (λ e. (e ≡ RunError.Memory) ⊎ (e ≡ RunError.Write)) }
+    ensures { IsReported W.contents (Reports options.now file.now) writer.old writer.new result }
 {
-    let passed = match options.command {
-        Command::Check => report(alloc, writer, file, options.start, options.cells)?,
-        Command::Sauce => tell_record(writer, file)?,
-        Command::Tokens => tell_tokens(writer, file)?,
-        Command::Needs => tell_needs(alloc, writer, file)?,
-    };
-    Ok(passed)
+    match options.command {
+        Command::Check => report(alloc, writer, file, options.start, options.cells),
+        Command::Sauce => tell_record(writer, file),
+        Command::Tokens => tell_tokens(writer, file),
+        Command::Needs => tell_needs(alloc, writer, file),
+    }
 }
 
 /// Reads the whole input, and writes what the options ask of it: the report of a check, the text of

@@ -1,9 +1,10 @@
 //! The whole input.
-ghost use Rattle.std.specs.Prelude.{◌≡◌, ◌+◌, ◌<◌, ◌≤◌, ◌↔◌, false, length, IsTrue, IfOk, IfSome, IsErrOf};
+ghost use Rattle.std.specs.Prelude.{◌≡◌, ◌≢◌, ◌+◌, ◌<◌, ◌≤◌, ◌↔◌, false, length, IsTrue, IfOk, IfErr, IfSome, IsErrOf};
 ghost use Rattle.ans_write.specs.Tried.{has_failed, call_count, inner_of};
 ghost use Rattle.ans_model.specs.Bytes.{longest_file};
 ghost use Rattle.ans_check.specs.Run.{HasRead};
 
+use crate::errors::RunError;
 use ans_report::{DeviceFault, Tried};
 use ans_sauce::MAX_FILE;
 use std::alloc::Global;
@@ -12,26 +13,16 @@ use std::io::Read;
 /// How many bytes are asked for at once.
 const CHUNK: usize = 65_536;
 
-/// Why no input was given.
-#[derive(Debug, Clone, Copy, PartialEq, Eq)]
-pub(crate) enum ReadFault {
-    /// The reader failed.
-    Device,
-    /// There are more bytes than a file may have.
-    TooLong,
-    /// There was no memory for more bytes.
-    Memory,
-}
-
 /// Reads to the end.
-pub(crate) fn read_all<R: Read>(alloc: Global, r: &mut Tried<R>) -> Result<Vec<u8>, ReadFault>
+pub(crate) fn read_all<R: Read>(alloc: Global, r: &mut Tried<R>) -> Result<Vec<u8>, RunError>
     requires { has_failed r.old ≡ false }
     ensures whole { IfOk result (λ v.
         HasRead (R.remaining (inner_of r.old)) (R.remaining (inner_of r.new)) v.items) }
-    ensures device { IsErrOf result ReadFault.Device ↔ IsTrue (has_failed r.new) }
+    ensures device { IsErrOf result RunError.Read ↔ IsTrue (has_failed r.new) }
     ensures too_long { IfSome (R.remaining (inner_of r.old)) (λ xs.
         IfSome (R.remaining (inner_of r.new)) (λ ys.
-        IsErrOf result ReadFault.TooLong ↔ (longest_file + length ys < length xs))) }
+        IsErrOf result RunError.TooLong ↔ (longest_file + length ys < length xs))) }
+    ensures unwritten { IfErr result (λ e. e ≢ RunError.Write) }
     ensures calls { call_count r.new ≤ call_count r.old + (longest_file + 2) }
 {
     let mut chunk = [0u8; CHUNK];
@@ -39,16 +30,16 @@ pub(crate) fn read_all<R: Read>(alloc: Global, r: &mut Tried<R>) -> Result<Vec<u
     loop {
         let n = match r.read_some(&mut chunk) {
             Ok(n) => n,
-            Err(DeviceFault) => return Err(ReadFault::Device),
+            Err(DeviceFault) => return Err(RunError::Read),
         };
         if n == 0 {
             return Ok(all);
         }
         if n > MAX_FILE - all.len() {
-            return Err(ReadFault::TooLong);
+            return Err(RunError::TooLong);
         }
         if all.extend_from_slice(&chunk[..n]).is_err() {
-            return Err(ReadFault::Memory);
+            return Err(RunError::Memory);
         }
     }
 }

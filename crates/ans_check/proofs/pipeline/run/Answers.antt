@@ -1,5 +1,5 @@
 use Rattle.std.proofs.Common.{rules}
-use Rattle.ans_check.proofs.ReportLemmas.{read_whole}
+use Rattle.ans_check.proofs.ReportedLemmas.{read_whole}
 use Rattle.ans_check.proofs.pipeline.run.Goals as goal
 
 pub returns : goal.returns
