@@ -29,7 +29,7 @@ ghost use Rattle.ans_model.specs.Text.FaultText.{fault_line};
 ghost use Rattle.ans_model.specs.Text.ReportText.{heading_text, report_text, refusal_text};
 ghost use Rattle.ans_model.specs.Text.ReportText.{cells_line, Passed};
 ghost use Rattle.ans_model.specs.Text.ReportText.{RefusedFor};
-ghost use Rattle.ans_model.specs.Text.NeedsText.{needs_text, needs_refusal_text};
+ghost use Rattle.ans_model.specs.Text.NeedsText.{needs_text};
 ghost use Rattle.ans_model.specs.Text.RecordText.{record_text};
 ghost use Rattle.ans_model.specs.Text.TokensText.{TokensText};
 ghost use Rattle.ans_model.specs.Examples.TextExamples.{plain, record_with, fault_with, heading_with, picture_with};
@@ -349,8 +349,8 @@ pub fn needs_texts()
         ++ codes "note: no end mark after the content\nneeds: wrap\n" }
     ensures no_part { needs_text (needs_heading_with (sized 2 1) 15 []) none_known
         ≡ codes "size: 2 x 1\ncontent: 15 bytes\nneeds: nothing\n" }
-    ensures refusal { needs_refusal_text (needs_heading_with (sized 2 1) 3 [])
-        (fault_at 2 PrintBelow)
+    ensures refusal { report_text (needs_heading_with (sized 2 1) 3 [])
+        (RefusedFor (fault_at 2 PrintBelow))
         ≡ codes "size: 2 x 1\ncontent: 3 bytes\nverdict: refused\n"
         ++ codes "at 2: F20 print below the stated lines\n" }
 {}

@@ -1,5 +1,5 @@
 -- Files and contents of the examples.
-use Rattle.std.specs.Prelude.{◌≡◌, ℕ, List, [], ◌∷◌, ◌++◌, codes, replicate, Option, None}
+use Rattle.std.specs.Prelude.{◌≡◌, ℕ, List, [], ◌∷◌, ◌++◌, codes, replicate, Option, Some, None}
 use Rattle.std.specs.Int.{to_le_bytes, w16, w32}
 use Rattle.ans_model.specs.Bytes.{escape, blank, end_mark}
 use Rattle.ans_model.specs.declared.fault.Fault.{Fault}
@@ -9,7 +9,6 @@ use Rattle.ans_model.specs.declared.cell.Cell.{Cell}
 use Rattle.ans_model.specs.Screen.State.{Size}
 use Rattle.ans_model.specs.Verdict.Good.{Picture}
 use Rattle.ans_model.specs.Text.ReportText.{Heading}
-use Rattle.ans_model.specs.Text.NeedsText.{NeedsHeading}
 use Rattle.ans_model.specs.File.Layout.{comment_block}
 use Rattle.ans_model.specs.File.Refusals.{record_fault}
 use Rattle.ans_model.specs.File.NoteConditions.{notes}
@@ -87,12 +86,12 @@ IsAccepted body f expected = IsAcceptedWith body [] f expected
 -- ---- reports
 abbrev pub heading_with : Size → Start → ℕ → List Note → Heading
 heading_with size start content_length expected =
-    record { size = size; start = start; content_length = content_length; notes = expected }
+    record { size = size; start = Some start; content_length = content_length; notes = expected }
 
--- the same of a text of what a content needs
-abbrev pub needs_heading_with : Size → ℕ → List Note → NeedsHeading
+-- the same of a text of what a content needs, which names no start
+abbrev pub needs_heading_with : Size → ℕ → List Note → Heading
 needs_heading_with size content_length expected =
-    record { size = size; content_length = content_length; notes = expected }
+    record { size = size; start = None; content_length = content_length; notes = expected }
 
 -- a picture of this size and these cells
 abbrev pub picture_with : Size → List Cell → Picture

@@ -1,6 +1,6 @@
 -- The text of a report.
 use Rattle.std.specs.Prelude.{ℕ, ◌+◌, ◌*◌, zero, suc, Bool, List, [], ◌∷◌, ◌++◌, map, take, drop, codes, decimal}
-use Rattle.std.specs.Prelude.{flat_map, if◌then◌else◌, ◌&&◌, ◌||◌}
+use Rattle.std.specs.Prelude.{flat_map, if◌then◌else◌, ◌&&◌, ◌||◌, Option, Some, None}
 use Rattle.ans_model.specs.declared.fault.Fault.{Fault}
 use Rattle.ans_model.specs.declared.note.Note.{Note}
 use Rattle.ans_model.specs.declared.start.Start.{Start}
@@ -11,10 +11,10 @@ use Rattle.ans_model.specs.Text.Characters.{shown_bytes}
 use Rattle.ans_model.specs.Text.Hexadecimal.{hex_byte, hex_value}
 use Rattle.ans_model.specs.Text.FaultText.{line_of, fault_line, note_line}
 
--- what a report says before its verdict; the length is in bytes
+-- What a report says before its verdict, or before what a content needs. The length is in bytes; needs name no start.
 pub record Heading : Type 0 where
   pub size : Size
-  pub start : Start
+  pub start : Option Start
   pub content_length : ℕ
   pub notes : List Note
 
@@ -27,28 +27,37 @@ pub data ReportVerdict : Type 0 where
 abbrev pub known_part : Bool → List ℕ → List ℕ
 known_part known name = if known then codes " " ++ name else []
 
--- the name of a class of starts: the parts that are known, in their order, where they are not all or none
+-- the parts that are known, in their order, each after a blank
+abbrev pub known_parts : Start → List ℕ
+known_parts s =
+    known_part s.screen (codes "screen")
+    ++ (known_part s.cursor (codes "cursor")
+    ++ (known_part s.saved (codes "saved")
+    ++ (known_part s.colours (codes "colours")
+    ++ known_part s.wrap (codes "wrap"))))
+
+-- the name of a class of starts: the parts that are known, where they are not all or none
 abbrev pub start_name : Start → List ℕ
 start_name s =
     if s.screen && s.cursor && s.saved && s.colours && s.wrap then codes "cleared"
     else if s.screen || s.cursor || s.saved || s.colours || s.wrap then
-    codes "known"
-    ++ (known_part s.screen (codes "screen")
-    ++ (known_part s.cursor (codes "cursor")
-    ++ (known_part s.saved (codes "saved")
-    ++ (known_part s.colours (codes "colours")
-    ++ known_part s.wrap (codes "wrap")))))
+    codes "known" ++ known_parts s
     else codes "any"
+
+-- the line of the class of starts, where it is named
+abbrev pub start_line : Option Start → List ℕ
+start_line None = []
+start_line (Some s) = line_of (codes "start: " ++ start_name s)
 
 -- a width and a number of lines
 abbrev pub size_text : Size → List ℕ
 size_text z = decimal z.width ++ (codes " x " ++ decimal z.lines)
 
--- the lines before the verdict
+-- the lines before the verdict, or before what is needed
 abbrev pub heading_text : Heading → List ℕ
 heading_text h =
     line_of (codes "size: " ++ size_text h.size)
-    ++ (line_of (codes "start: " ++ start_name h.start)
+    ++ (start_line h.start
     ++ (line_of (codes "content: " ++ (decimal h.content_length ++ codes " bytes"))
     ++ flat_map note_line h.notes))
 
