@@ -1,5 +1,5 @@
 -- A report that tells the cells.
-use Rattle.std.proofs.Common.{◌≡◌, ◌++◌, List, ℕ, true, false, codes, append_assoc}
+use Rattle.std.proofs.Common.{◌≡◌, ◌++◌, List, ℕ, true, false, Some, codes, append_assoc}
 use Rattle.std.specs.List.{flat_map}
 use Rattle.ans_model.specs.Verdict.Good.{Picture, IsPictureOf}
 use Rattle.ans_model.specs.Text.ReportText.{Heading, Passed, heading_text, report_text, rows_of, picture_line}
@@ -29,6 +29,6 @@ HasWhole (Pass parts start picture cells) = IsPictureOf picture.now.size picture
 HasWhole (Refused parts start fault) = Unit {0}
 
 pub tells_cells : {G : Type 0} (r : Report G) → HasWhole r → TellsCells r
-tells_cells (Pass parts start picture true) whole = ends_in_cells (heading_of parts.now start) picture.now whole
+tells_cells (Pass parts start picture true) whole = ends_in_cells (heading_of parts.now (Some start)) picture.now whole
 tells_cells (Pass parts start picture false) whole = tt
 tells_cells (Refused parts start fault) whole = tt

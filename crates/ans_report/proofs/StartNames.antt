@@ -5,8 +5,7 @@ use Rattle.std.proofs.lemmas.Bool.{false_from_ne_true, true_from_ne_false}
 use Rattle.ans_model.specs.declared.start.Start.{Start}
 use Rattle.ans_model.specs.Screen.StartClass.{none_known, all_known}
 use Rattle.ans_model.specs.Text.NeedsText.{needed_parts}
-use Rattle.ans_model.specs.Text.ReportText.{start_name}
-use Rattle.ans_report.specs.Headings.{known_parts}
+use Rattle.ans_model.specs.Text.ReportText.{known_parts, start_name}
 
 -- a class by its parts
 abbrev class : Bool → Bool → Bool → Bool → Bool → Start

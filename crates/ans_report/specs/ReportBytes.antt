@@ -19,14 +19,15 @@ IsFitting (Pass parts start picture cells) = picture.now.size ≡ sized (width_o
 IsFitting (Refused parts start fault) = Unit {0}
 
 -- the text of a refusal; without parts it is that of the fault alone
-abbrev pub refused_text : Option Parts → Start → Fault → List ℕ
+abbrev pub refused_text : Option Parts → Option Start → Fault → List ℕ
 refused_text None start fault = refusal_text fault
 refused_text (Some parts) start fault = report_text (heading_of parts start) (RefusedFor fault)
 
 -- the report's text
 abbrev pub report_bytes : {G : Type 0} → Report G → List ℕ
-report_bytes (Pass parts start picture cells) = report_text (heading_of parts.now start) (Passed picture.now cells)
-report_bytes (Refused parts start fault) = refused_text (option_copied parts) start fault
+report_bytes (Pass parts start picture cells) =
+    report_text (heading_of parts.now (Some start)) (Passed picture.now cells)
+report_bytes (Refused parts start fault) = refused_text (option_copied parts) (Some start) fault
 
 -- the text ends in the line `cells:` and in digits from which the picture's cells are read back
 pub record EndsInCells (picture : Picture) (text : List ℕ) : Type 0 where
@@ -38,5 +39,5 @@ pub record EndsInCells (picture : Picture) (text : List ℕ) : Type 0 where
 -- the report of a pass with its cells tells them
 abbrev pub TellsCells : {G : Type 0} → Report G → Type 0
 TellsCells (Pass parts start picture true) =
-    EndsInCells picture.now (report_text (heading_of parts.now start) (Passed picture.now true))
+    EndsInCells picture.now (report_text (heading_of parts.now (Some start)) (Passed picture.now true))
 TellsCells _ = Unit {0}

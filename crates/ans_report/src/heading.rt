@@ -1,11 +1,11 @@
-//! The lines of a report before its verdict.
+//! The lines of a report before its verdict, or before what a content needs.
 ghost use Rattle.std.specs.Prelude.{◌≡◌, ℕ, ◌++◌, codes, decimal, length};
 ghost use Rattle.std.specs.List.{flat_map};
 ghost use Rattle.ans_model.specs.Text.FaultText.{line_of, note_text, note_line};
-ghost use Rattle.ans_model.specs.Text.ReportText.{known_part, start_name, heading_text};
+ghost use Rattle.ans_model.specs.Text.ReportText.{known_part, known_parts, start_name, start_line, heading_text};
 ghost use Rattle.ans_write.specs.Puts.{Puts};
 ghost use Rattle.ans_sauce.specs.Parts.{content_of, notes_of};
-ghost use Rattle.ans_report.specs.Headings.{heading_of, known_parts};
+ghost use Rattle.ans_report.specs.Headings.{heading_of};
 
 use crate::lines::{put_named_line, put_size_line};
 use ans_model::start::Start;
@@ -64,10 +64,13 @@ fn put_start_name<W: Write>(out: &mut Outbox<'_, W>, start: Start)
     put_known_parts(out, start);
 }
 
-/// Puts the line of the class of starts.
-fn put_start_line<W: Write>(out: &mut Outbox<'_, W>, start: Start)
-    ensures { Puts W.contents out.old out.new (line_of (codes "start: " ++ start_name start)) }
+/// Puts the line of the class of starts, where one is named.
+fn put_start_line<W: Write>(out: &mut Outbox<'_, W>, start: Option<Start>)
+    ensures { Puts W.contents out.old out.new (start_line start) }
 {
+    let Some(start) = start else {
+        return;
+    };
     out.put(b"start: ");
     put_start_name(out, start);
     out.put(b"\n");
@@ -92,21 +95,16 @@ pub(crate) fn put_notes<W: Write>(out: &mut Outbox<'_, W>, notes: &[Note])
     }
 }
 
-/// Puts the lines of the content's length and of the notes.
-pub(crate) fn put_length_and_notes<W: Write>(out: &mut Outbox<'_, W>, parts: &Parts<'_>)
-    ensures { Puts W.contents out.old out.new
-        (line_of (codes "content: " ++ (decimal (length (content_of parts.now)) ++ codes " bytes"))
-        ++ flat_map note_line (notes_of parts.now)) }
-{
-    put_length_line(out, parts.content().len());
-    put_notes(out, parts.notes().as_slice());
-}
-
-/// Puts the lines before the verdict.
-pub(crate) fn put_heading<W: Write>(out: &mut Outbox<'_, W>, parts: &Parts<'_>, start: Start)
+/// Puts the lines before the verdict, or before what is needed.
+pub(crate) fn put_heading<W: Write>(
+    out: &mut Outbox<'_, W>,
+    parts: &Parts<'_>,
+    start: Option<Start>,
+)
     ensures { Puts W.contents out.old out.new (heading_text (heading_of parts.now start)) }
 {
     put_size_line(out, parts);
     put_start_line(out, start);
-    put_length_and_notes(out, parts);
+    put_length_line(out, parts.content().len());
+    put_notes(out, parts.notes().as_slice());
 }

@@ -1,16 +1,14 @@
 //! The text of what a content needs.
-ghost use Rattle.std.specs.Prelude.{◌≡◌, ◌↔◌, false, IsTrue, IsErr};
-ghost use Rattle.std.specs.Option.{option_copied};
+ghost use Rattle.std.specs.Prelude.{◌≡◌, ◌↔◌, false, IsTrue, IsErr, None};
 ghost use Rattle.ans_write.specs.Tried.{has_failed, inner_of};
 ghost use Rattle.ans_write.specs.Writes.{WritesText};
 ghost use Rattle.ans_write.specs.Puts.{Puts};
-ghost use Rattle.ans_report.specs.Headings.{needs_heading_of};
-ghost use Rattle.ans_report.specs.NeedsBytes.{needs_bytes, needs_refused_text};
-ghost use Rattle.ans_model.specs.Text.NeedsText.{needed_parts, needs_heading_text, needs_text};
+ghost use Rattle.ans_report.specs.Headings.{heading_of};
+ghost use Rattle.ans_report.specs.NeedsBytes.{needs_bytes};
+ghost use Rattle.ans_model.specs.Text.NeedsText.{needed_parts, needs_text};
 
-use crate::fault_lines::put_refusal;
-use crate::heading::{put_known_parts, put_length_and_notes};
-use crate::lines::put_size_line;
+use crate::heading::{put_heading, put_known_parts};
+use crate::report::put_refused;
 use ans_model::start::Start;
 use ans_sauce::{Fault, Parts};
 use ans_write::{Outbox, Tried, WriteFault};
@@ -32,14 +30,6 @@ pub enum NeedsReport<'a> {
     },
 }
 
-/// Puts the lines before what the content needs: those of a report but for the start's.
-fn put_needs_heading<W: Write>(out: &mut Outbox<'_, W>, parts: &Parts<'_>)
-    ensures { Puts W.contents out.old out.new (needs_heading_text (needs_heading_of parts.now)) }
-{
-    put_size_line(out, parts);
-    put_length_and_notes(out, parts);
-}
-
 /// Puts the parts that a class knows, each after a blank, or that there is none.
 fn put_needed_parts<W: Write>(out: &mut Outbox<'_, W>, class: Start)
     ensures { Puts W.contents out.old out.new (needed_parts class) }
@@ -51,37 +41,21 @@ fn put_needed_parts<W: Write>(out: &mut Outbox<'_, W>, class: Start)
     put_known_parts(out, class);
 }
 
-/// Puts what the content needs.
 fn put_least<W: Write>(out: &mut Outbox<'_, W>, parts: &Parts<'_>, class: Start)
-    ensures { Puts W.contents out.old out.new (needs_text (needs_heading_of parts.now) class) }
+    ensures { Puts W.contents out.old out.new (needs_text (heading_of parts.now None) class) }
 {
-    put_needs_heading(out, parts);
+    put_heading(out, parts, None);
     out.put(b"needs:");
     put_needed_parts(out, class);
     out.put(b"\n");
 }
 
-/// Puts why the file is refused, which is the fault alone where there are no parts.
-fn put_needs_refusal<W: Write>(out: &mut Outbox<'_, W>, parts: Option<&Parts<'_>>, fault: &Fault)
-    ensures { Puts W.contents out.old out.new
-        (needs_refused_text (option_copied parts.entry) fault.now) }
-{
-    match parts {
-        Some(parts) => {
-            put_needs_heading(out, parts);
-            put_refusal(out, fault);
-        }
-        None => put_refusal(out, fault),
-    }
-}
-
-/// Puts what the report says.
 fn put_needs<W: Write>(out: &mut Outbox<'_, W>, r: &NeedsReport<'_>)
     ensures { Puts W.contents out.old out.new (needs_bytes r.now) }
 {
     match r {
         NeedsReport::Least { parts, class } => put_least(out, parts, *class),
-        NeedsReport::Refused { parts, fault } => put_needs_refusal(out, *parts, fault),
+        NeedsReport::Refused { parts, fault } => put_refused(out, *parts, None, fault),
     }
 }
 

@@ -1,5 +1,5 @@
 //! The lines of a picture and of its cells.
-ghost use Rattle.std.specs.Prelude.{◌≡◌, ◌<◌, [], if◌then◌else◌};
+ghost use Rattle.std.specs.Prelude.{◌≡◌, ◌<◌, [], if◌then◌else◌, Some};
 ghost use Rattle.std.specs.List.{flat_map};
 ghost use Rattle.ans_model.specs.Verdict.Good.{IsPictureOf};
 ghost use Rattle.ans_model.specs.Text.ReportText.{Passed, rows_of, cells_text, report_text};
@@ -121,10 +121,10 @@ pub(crate) fn put_pass<W: Write, G: Grid>(
     cells: bool,
 )
     ensures text { Puts W.contents out.old out.new
-        (report_text (heading_of parts.now start) (Passed picture.now cells)) }
+        (report_text (heading_of parts.now (Some start)) (Passed picture.now cells)) }
     ensures whole { IsPictureOf picture.now.size picture.now }
 {
-    put_heading(out, parts, start);
+    put_heading(out, parts, Some(start));
     out.put(b"verdict: pass\npicture:\n");
     put_rows(out, picture, Shown::Characters);
     put_cells(out, picture, cells);

@@ -36,11 +36,11 @@ pub enum Report<'a, G: Grid> {
     },
 }
 
-/// Puts the report of a refusal, which is the fault alone where there are no parts.
-fn put_refused<W: Write>(
+/// Puts why a file is refused, which is the fault alone where there are no parts.
+pub(crate) fn put_refused<W: Write>(
     out: &mut Outbox<'_, W>,
     parts: Option<&Parts<'_>>,
-    start: Start,
+    start: Option<Start>,
     fault: &Fault,
 )
     ensures { Puts W.contents out.old out.new
@@ -71,7 +71,7 @@ fn put_report<W: Write, G: Grid>(out: &mut Outbox<'_, W>, r: &Report<'_, G>)
             parts,
             start,
             fault,
-        } => put_refused(out, *parts, *start, fault),
+        } => put_refused(out, *parts, Some(*start), fault),
     }
 }
 

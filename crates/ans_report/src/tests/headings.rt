@@ -98,13 +98,13 @@ static HEADINGS: [(Start, &[u8]); 11] = [
 fn expect_heading(rt: &impl Abort, parts: &Parts<'_>, start: Start, text: &[u8]) {
     let mut whole = room_for(128);
     let mut out = Outbox::new(&mut whole);
-    put_heading(&mut out, parts, start);
+    put_heading(&mut out, parts, Some(start));
     assert_eq!(rt; out.finish(), Ok(()));
     assert_held(rt, whole, text);
     for taken in 0..text.len() {
         let mut device = failing_after(taken);
         let mut out = Outbox::new(&mut device);
-        put_heading(&mut out, parts, start);
+        put_heading(&mut out, parts, Some(start));
         assert_eq!(rt; out.finish(), Err(WriteFault));
         assert_stopped(rt, device, &text[..taken]);
     }

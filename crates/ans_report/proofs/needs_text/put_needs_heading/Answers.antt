@@ -1,5 +1,0 @@
-use Rattle.ans_write.proofs.PutsLemmas.{Puts-then}
-use Rattle.ans_report.proofs.needs_text.put_needs_heading.Goals as goal
-
-pub returns : goal.returns
-returns g c = Puts-then c.put_size_line.ensures c.put_length_and_notes.ensures
