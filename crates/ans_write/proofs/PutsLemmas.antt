@@ -1,10 +1,10 @@
 -- Steps of putting a text.
-use Rattle.std.proofs.Common.{◌≡◌, ◌↔◌, ℕ, ◌+◌, ◌<◌, Bool, true, false, true≢false, List, [], ◌∷◌, ◌++◌, length, take}
+use Rattle.std.proofs.Common.{◌≡◌, ◌↔◌, ℕ, ◌+◌, ◌<◌, ◌≤◌, Bool, true, false, true≢false, List, [], ◌∷◌, ◌++◌, length, take}
 use Rattle.std.proofs.Common.{drop, get_or, Ok, Err, IsErr, IsTrue, refl, sym, ap, subst, ◌∙◌, arith, append_assoc}
 use Rattle.std.proofs.Common.{append-nil, length-append, take-append-drop}
 use Rattle.std.specs.Prelude.{Option, Result, OnOk}
 use Rattle.std.specs.List.{flat_map}
-use Rattle.std.proofs.lemmas.List.{take_more}
+use Rattle.std.proofs.lemmas.List.{take_all, take_more}
 use Rattle.std.proofs.lemmas.Grind.{flat_map-append}
 use Rattle.std.proofs.Math.Seq.{take-append_seam}
 use Rattle.std.specs.Io.KnownBytes.{Appends}
@@ -134,6 +134,11 @@ Puts-next f xs i d lt before more =
     ap (flat_map f) (take_more xs i d lt) ∙ flat_map-append f (take i xs) (get_or xs i d ∷ [])
     ∙ ap (λ ys. flat_map f (take i xs) ++ ys) (append-nil (f (get_or xs i d))) in
     Puts-same (sym taken) (Puts-then before more)
+
+-- all texts of a list were put
+pub Puts-every : {W A : Type 0} {contents : W → Option (List ℕ)} {a b : Outbox W} (f : A → List ℕ) (xs : List A) (i : ℕ)
+    → length xs ≤ i → Puts contents a b (flat_map f (take i xs)) → Puts contents a b (flat_map f xs)
+Puts-every f xs i le p = Puts-same (ap (flat_map f) (take_all i xs le)) p
 
 -- once the device has failed, all texts of a list may be said to have been put
 pub Puts-all : {W A : Type 0} {contents : W → Option (List ℕ)} {a b : Outbox W} (f : A → List ℕ) (xs : List A) (i : ℕ)

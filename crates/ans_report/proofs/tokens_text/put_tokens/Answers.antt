@@ -14,7 +14,7 @@ use Rattle.ans_write.proofs.PutsLemmas.{Puts-nothing, Puts-then}
 use Rattle.ans_report.proofs.ReadSoFar.{ReadSoFar, ReadSoFar-nothing, ReadSoFar-kept, ReadSoFar-token}
 use Rattle.ans_report.proofs.ReadTokens.{ReadSoFar-glyphs, ReadSoFar-same, ReadSoFar-whole}
 use Rattle.ans_report.proofs.TextGoesOn.{all_are_bytes, PutsTokens-failed}
-use Rattle.ans_report.proofs.TextEnds.{TokensText-refused, TokensText-unfinished}
+use Rattle.ans_report.proofs.TextEnds.{TokensText-refused, TokensText-whole, TokensText-unfinished}
 use Rattle.ans_report.proofs.tokens_text.put_tokens.Goals as goal
 
 pub loop-at-init : goal.loop-at-init
@@ -129,6 +129,21 @@ loop-at-preserved g c =
       within = omega arith;
       offset = omega (arith, ap (λ (s : ScannerView). s.offset) c.in-Nothing.ensures, scanned.taken, h.offset);
       so_far = (text ++ token_text token, next, Puts-then puts c.put_token-in-Ok-Some.ensures);
+    }
+
+pub returns-in-Ok : goal.returns-in-Ok
+returns-in-Ok g c =
+    let content = c.args.content.now in
+    let at = c.loop-at.at in
+    let (text, read, puts) = c.loop-at.invariant.so_far in
+    let all : take at content ≡ content = take_all at content (omega arith) in
+    record {
+      fault = None;
+      text = text;
+      is_text = TokensText-whole content at c.loop-at.scanner text all read
+          (rw c.in-Ok.is at (c.end.ensures.ends read.unrefused));
+      puts = puts;
+      told_is = λ works. refl;
     }
 
 pub returns-in-Err-end : goal.returns-in-Err-end

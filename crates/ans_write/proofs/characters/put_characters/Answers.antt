@@ -1,8 +1,7 @@
-use Rattle.std.proofs.Common.{arith, ◌≡◌, take, sym}
-use Rattle.std.proofs.lemmas.List.{take_all}
+use Rattle.std.proofs.Common.{arith, sym}
 use Rattle.ans_write.specs.Tables.{byte_text}
 use Rattle.ans_write.proofs.RowTexts.{shown_bytes_is}
-use Rattle.ans_write.proofs.PutsLemmas.{Puts-same, Puts-next}
+use Rattle.ans_write.proofs.PutsLemmas.{Puts-same, Puts-next, Puts-every}
 use Rattle.ans_write.proofs.characters.put_characters.Goals as goal
 
 pub loop-byte-preserved : goal.loop-byte-preserved
@@ -13,5 +12,5 @@ loop-byte-preserved g c =
 pub returns : goal.returns
 returns g c =
     let bytes = c.args.bytes.now in
-    let whole : take c.loop-byte.byte-index bytes ≡ bytes = take_all c.loop-byte.byte-index bytes (omega arith) in
-    Puts-same (sym (shown_bytes_is bytes)) (rw whole at c.loop-byte.invariant)
+    Puts-same (sym (shown_bytes_is bytes))
+    (Puts-every byte_text bytes c.loop-byte.byte-index (omega arith) c.loop-byte.invariant)
