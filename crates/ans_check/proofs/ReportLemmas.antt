@@ -8,7 +8,7 @@ use Rattle.ans_model.specs.File.Refusals.{record_fault}
 use Rattle.ans_model.specs.Text.RecordText.{record_text}
 use Rattle.ans_model.specs.Text.TokensText.{TokensText}
 use Rattle.ans_model.specs.Screen.StartClass.{all_known}
-use Rattle.ans_model.specs.Text.NeedsText.{NeedsHeading, needs_text, needs_refusal_text}
+use Rattle.ans_model.specs.Text.NeedsText.{needs_text}
 use Rattle.ans_model.specs.Text.ReportText.{Heading, Passed, RefusedFor, refusal_text, report_text}
 use Rattle.ans_model.specs.Screen.State.{sized}
 use Rattle.ans_model.specs.declared.fault.Fault.{Fault}
@@ -16,8 +16,8 @@ use Rattle.ans_model.specs.declared.start.Start.{Start}
 use Rattle.ans_sauce.specs.declared.parts.Parts.{Parts}
 use Rattle.ans_sauce.specs.Parts.{ShowsParts, content_of, width_of, lines_of}
 use Rattle.ans_sauce.specs.Split.{IsSplit}
-use Rattle.ans_report.specs.Headings.{heading_of, needs_heading_of}
-use Rattle.ans_report.specs.NeedsBytes.{needs_bytes, needs_refused_text}
+use Rattle.ans_report.specs.Headings.{heading_of}
+use Rattle.ans_report.specs.NeedsBytes.{needs_bytes}
 use Rattle.ans_report.specs.declared.needs_text.NeedsReport.{NeedsReport}
 use Rattle.ans_report.specs.declared.needs_text.NeedsReport.TheVariants as needs_report
 use Rattle.ans_report.specs.ReportBytes.{IsFitting, refused_text, report_bytes}
@@ -30,35 +30,35 @@ use Rattle.ans_check.specs.declared.verdict.Verdict.TheVariants.{Pass, Refused}
 use Rattle.ans_check.specs.FileNeeds.{NeedsClass, IsNeedsOf, IsLeastClass}
 use Rattle.ans_check.specs.FileVerdict.{Passes, IsRefusedFor, IsVerdictOn, IsPass, IsGoodFile}
 use Rattle.ans_check.specs.CommandText.{heading, ReportsPass, ReportsFault, ReportsRecordFault, ReportsCheck}
-use Rattle.ans_check.specs.CommandText.{needs_heading, ReportsLeast, ReportsNeedsFault, ReportsNeeds}
+use Rattle.ans_check.specs.CommandText.{ReportsLeast, ReportsNeedsFault, ReportsNeeds}
 use Rattle.ans_check.specs.CommandText.{IsNeedsReportOf, is_least}
 use Rattle.ans_check.specs.CommandText.{ReportsRecord, ReportsContent, ReportsTokens, IsReportOf, is_pass}
 
 -- the heading of a file's parts
-heading_is : (apart : FileParts) (parts : Parts) (start : Start) → ShowsParts apart parts
+heading_is : (apart : FileParts) (parts : Parts) (start : Option Start) → ShowsParts apart parts
     → heading_of parts start ≡ heading apart start
 heading_is apart parts start h = rw (h.content, h.width, h.lines, h.notes)
 
 -- a pass is reported by the heading of its parts, its picture and its cells
 pass_reported : (file : List ℕ) (start : Start) (cells : Bool) (apart : FileParts) (parts : Parts) (picture : Picture)
     → ShowsParts apart parts → Passes file start apart picture
-    → ReportsPass file start cells (report_text (heading_of parts start) (Passed picture cells))
+    → ReportsPass file start cells (report_text (heading_of parts (Some start)) (Passed picture cells))
 pass_reported file start cells apart parts picture shows h = record {
   apart = apart;
   picture = picture;
   passes = h;
-  text_is = ap (λ (v : Heading). report_text v (Passed picture cells)) (heading_is apart parts start shows);
+  text_is = ap (λ (v : Heading). report_text v (Passed picture cells)) (heading_is apart parts (Some start) shows);
 }
 
 -- a refusal is reported by the heading of its parts and its fault
 fault_reported : (file : List ℕ) (start : Start) (apart : FileParts) (parts : Parts) (f : Fault)
     → ShowsParts apart parts → IsRefusedFor file start apart f
-    → ReportsFault file start (report_text (heading_of parts start) (RefusedFor f))
+    → ReportsFault file start (report_text (heading_of parts (Some start)) (RefusedFor f))
 fault_reported file start apart parts f shows h = record {
   apart = apart;
   fault = f;
   refused = h;
-  text_is = ap (λ (v : Heading). report_text v (RefusedFor f)) (heading_is apart parts start shows);
+  text_is = ap (λ (v : Heading). report_text v (RefusedFor f)) (heading_is apart parts (Some start) shows);
 }
 
 pub record_reported : (file : List ℕ) (f : Fault) → record_fault file ≡ Some f
@@ -77,15 +77,15 @@ pub verdict_reported : {G : Type 0} (file : List ℕ) (start : Start) (cells : B
     → ReportsCheck file start cells (is_pass v) (report_bytes r)
 verdict_reported file start cells (Pass parts picture) (report.Pass told from shown asked) (p, s, i, c) h good =
     of_equals (λ (v : Parts) (at : Start) (see : Picture × Bool). ReportsPass file start cells
-    (report_text (heading_of v at) (Passed see.0 see.1)))
+    (report_text (heading_of v (Some at)) (Passed see.0 see.1)))
     p s (ap₂ (λ (a : Picture) (b : Bool). (a, b)) i c) (pass_reported file start cells h.0 parts picture h.1 h.2)
 verdict_reported file start cells (Refused (Some parts) f) (report.Refused told from fault) (p, s, same) h good =
     of_equals (λ (v : Option Parts) (at : Start) (why : Fault). ReportsCheck file start cells false
-    (refused_text v at why))
+    (refused_text v (Some at) why))
     p s same (good, inl (fault_reported file start h.0 parts f h.1 h.2))
 verdict_reported file start cells (Refused None f) (report.Refused told from fault) (p, s, same) h good =
     of_equals (λ (v : Option Parts) (at : Start) (why : Fault). ReportsCheck file start cells false
-    (refused_text v at why))
+    (refused_text v (Some at) why))
     p s same (good, inr (record_reported file f h))
 verdict_reported file start cells (Pass parts picture) (report.Refused told from fault) never h good = absurd never
 verdict_reported file start cells (Refused parts f) (report.Pass told from shown asked) never h good = absurd never
@@ -131,29 +131,25 @@ tokens_reported file parts bytes (Some f) true text s same t e = absurd (true≢
 tokens_reported file parts bytes (Some f) false text s same t e = inl
     (f, content_reported file parts bytes (Some f) text s same t)
 
--- the heading of a file's needs
-needs_heading_is : (apart : FileParts) (parts : Parts) → ShowsParts apart parts
-    → needs_heading_of parts ≡ needs_heading apart
-needs_heading_is apart parts h = rw (h.content, h.width, h.lines, h.notes)
-
 -- a class is told after the heading of its parts
 least_reported : (file : List ℕ) (apart : FileParts) (parts : Parts) (class : Start) → ShowsParts apart parts
-    → NeedsClass file apart class → ReportsLeast file (needs_text (needs_heading_of parts) class)
+    → NeedsClass file apart class → ReportsLeast file (needs_text (heading_of parts None) class)
 least_reported file apart parts class shows h = record {
   apart = apart;
   class = class;
   needs = h;
-  text_is = ap (λ (v : NeedsHeading). needs_text v class) (needs_heading_is apart parts shows);
+  text_is = ap (λ (v : Heading). needs_text v class) (heading_is apart parts None shows);
 }
 
 -- so is the fault from the cleared start
 needs_fault_reported : (file : List ℕ) (apart : FileParts) (parts : Parts) (f : Fault) → ShowsParts apart parts
-    → IsRefusedFor file all_known apart f → ReportsNeedsFault file (needs_refusal_text (needs_heading_of parts) f)
+    → IsRefusedFor file all_known apart f
+    → ReportsNeedsFault file (report_text (heading_of parts None) (RefusedFor f))
 needs_fault_reported file apart parts f shows h = record {
   apart = apart;
   fault = f;
   refused = h;
-  text_is = ap (λ (v : NeedsHeading). needs_refusal_text v f) (needs_heading_is apart parts shows);
+  text_is = ap (λ (v : Heading). report_text v (RefusedFor f)) (heading_is apart parts None shows);
 }
 
 -- what holds of two values holds of values equal to them
@@ -164,13 +160,13 @@ of_two_equals P p q h = rw (p, q) h
 pub needs_reported : (file : List ℕ) (n : Needs) (r : NeedsReport) → IsNeedsReportOf n r → IsNeedsOf file n
     → (IsGoodFile file all_known → IsLeastClass n) → ReportsNeeds file (is_least n) (needs_bytes r)
 needs_reported file (needs.Least parts class) (needs_report.Least told found) (p, s) h good =
-    of_two_equals (λ (v : Parts) (c : Start). ReportsLeast file (needs_text (needs_heading_of v) c))
+    of_two_equals (λ (v : Parts) (c : Start). ReportsLeast file (needs_text (heading_of v None) c))
     p s (least_reported file h.0 parts class h.1 h.2)
 needs_reported file (needs.Refused (Some parts) f) (needs_report.Refused told fault) (p, same) h good =
-    of_two_equals (λ (v : Option Parts) (why : Fault). ReportsNeeds file false (needs_refused_text v why))
+    of_two_equals (λ (v : Option Parts) (why : Fault). ReportsNeeds file false (refused_text v None why))
     p same (good, inl (needs_fault_reported file h.0 parts f h.1 h.2))
 needs_reported file (needs.Refused None f) (needs_report.Refused told fault) (p, same) h good =
-    of_two_equals (λ (v : Option Parts) (why : Fault). ReportsNeeds file false (needs_refused_text v why))
+    of_two_equals (λ (v : Option Parts) (why : Fault). ReportsNeeds file false (refused_text v None why))
     p same (good, inr (record_reported file f h))
 needs_reported file (needs.Least parts class) (needs_report.Refused told fault) never h good = absurd never
 needs_reported file (needs.Refused parts f) (needs_report.Least told found) never h good = absurd never

@@ -7,7 +7,7 @@ use Rattle.ans_model.specs.Verdict.Good.{Picture}
 use Rattle.ans_model.specs.Text.RecordText.{record_text}
 use Rattle.ans_model.specs.Text.TokensText.{TokensText}
 use Rattle.ans_model.specs.Screen.StartClass.{all_known}
-use Rattle.ans_model.specs.Text.NeedsText.{NeedsHeading, needs_text, needs_refusal_text}
+use Rattle.ans_model.specs.Text.NeedsText.{needs_text}
 use Rattle.ans_model.specs.Text.ReportText.{Heading, Passed, RefusedFor, refusal_text, report_text}
 use Rattle.ans_model.specs.declared.fault.Fault.{Fault}
 use Rattle.ans_model.specs.declared.start.Start.{Start}
@@ -26,8 +26,8 @@ use Rattle.ans_check.specs.declared.verdict.Verdict.TheVariants.{Pass, Refused}
 use Rattle.ans_check.specs.FileNeeds.{NeedsClass}
 use Rattle.ans_check.specs.FileVerdict.{Passes, IsRefusedFor, IsGoodFile, stated_size}
 
--- what a report says of a file before its verdict
-abbrev pub heading : FileParts → Start → Heading
+-- what is said of a file before its verdict or its needs, and the class of starts where one is named
+abbrev pub heading : FileParts → Option Start → Heading
 heading apart start = record {
   size = stated_size apart;
   start = start;
@@ -40,14 +40,14 @@ pub record ReportsPass (file : List ℕ) (start : Start) (cells : Bool) (text : 
   pub apart : FileParts
   pub picture : Picture
   pub passes : Passes file start apart picture
-  pub text_is : text ≡ report_text (heading apart start) (Passed picture cells)
+  pub text_is : text ≡ report_text (heading apart (Some start)) (Passed picture cells)
 
 -- the file's content deserves a fault, and the text reports it
 pub record ReportsFault (file : List ℕ) (start : Start) (text : List ℕ) : Type 0 where
   pub apart : FileParts
   pub fault : Fault
   pub refused : IsRefusedFor file start apart fault
-  pub text_is : text ≡ report_text (heading apart start) (RefusedFor fault)
+  pub text_is : text ≡ report_text (heading apart (Some start)) (RefusedFor fault)
 
 -- the file's record or its layout has a fault, and the text reports it
 pub record ReportsRecordFault (file text : List ℕ) : Type 0 where
@@ -83,27 +83,19 @@ abbrev pub ReportsTokens : List ℕ → Bool → List ℕ → Type 0
 ReportsTokens file true text = ReportsContent file None text
 ReportsTokens file false text = ((fault : Fault) × ReportsContent file (Some fault) text) ⊎ ReportsRecordFault file text
 
--- what is said of a file before what it needs
-abbrev pub needs_heading : FileParts → NeedsHeading
-needs_heading apart = record {
-  size = stated_size apart;
-  content_length = length (content apart.body);
-  notes = notes apart.body apart.record_bytes;
-}
-
 -- the file needs the parts that this class knows, and the text says so
 pub record ReportsLeast (file text : List ℕ) : Type 0 where
   pub apart : FileParts
   pub class : Start
   pub needs : NeedsClass file apart class
-  pub text_is : text ≡ needs_text (needs_heading apart) class
+  pub text_is : text ≡ needs_text (heading apart None) class
 
 -- the file's content deserves a fault even from the cleared start, and the text tells it
 pub record ReportsNeedsFault (file text : List ℕ) : Type 0 where
   pub apart : FileParts
   pub fault : Fault
   pub refused : IsRefusedFor file all_known apart fault
-  pub text_is : text ≡ needs_refusal_text (needs_heading apart) fault
+  pub text_is : text ≡ report_text (heading apart None) (RefusedFor fault)
 
 -- What the file needs is told; or it is not good even from the cleared start, and why is told.
 abbrev pub ReportsNeeds : List ℕ → Bool → List ℕ → Type 0
