@@ -35,9 +35,10 @@ use Rattle.ans_model.specs.Sequence.TokenKind.{Restore, Colours, Wrap, Mode, Key
 use Rattle.ans_model.specs.Text.Characters.{shown_bytes}
 use Rattle.ans_model.specs.Text.FaultText.{line_of, fault_text, position_text, fault_line, note_line}
 use Rattle.ans_model.specs.Text.Hexadecimal.{hex_byte}
-use Rattle.ans_model.specs.Text.NeedsText.{NeedsHeading, needs_heading_text, needed_parts}
+use Rattle.ans_model.specs.Text.NeedsText.{needed_parts}
 use Rattle.ans_model.specs.Text.RecordText.{named_line, field_line, comment_lines, record_text}
-use Rattle.ans_model.specs.Text.ReportText.{Heading, Passed, RefusedFor, known_part, start_name, size_text}
+use Rattle.ans_model.specs.Text.ReportText.{Heading, Passed, RefusedFor, known_part, known_parts, start_name}
+use Rattle.ans_model.specs.Text.ReportText.{size_text, start_line}
 use Rattle.ans_model.specs.Text.ReportText.{heading_text, rows, rows_of, picture_line, cell_digits, cells_line}
 use Rattle.ans_model.specs.Text.ReportText.{picture_text, cells_text, refusal_text, verdict_text, report_text}
 use Rattle.ans_model.specs.Text.TokensText.{token_name, token_line, token_lines, fault_end, TokensText}
@@ -49,7 +50,6 @@ use Rattle.ans_options.specs.declared.command.Options.{Options}
 use Rattle.ans_report.specs.Message.{message_line}
 use Rattle.ans_check.specs.CommandText.{Reports, ReportsBy, ReportsCheck, ReportsNeeds}
 use Rattle.ans_check.specs.CommandText.{ReportsRecordFault, ReportsSauce, ReportsTokens, heading}
-use Rattle.ans_check.specs.CommandText.{needs_heading}
 use Rattle.ans_check.specs.Ending.{ending_message}
 use Rattle.ans_check.specs.declared.errors.RunError.{RunError}
 use Rattle.ans_check.specs.declared.errors.RunError.TheVariants as error
@@ -153,16 +153,7 @@ size_clean z =
     clean_append (decimal z.width) (codes " x " ++ decimal z.lines) (clean_decimal z.width)
     (clean_append (codes " x ") (decimal z.lines) (plain_text (codes " x ") refl) (clean_decimal z.lines))
 
--- the parts that are known, each after a blank
-abbrev parts_of : Start → List ℕ
-parts_of s =
-    known_part s.screen (codes "screen")
-    ++ (known_part s.cursor (codes "cursor")
-    ++ (known_part s.saved (codes "saved")
-    ++ (known_part s.colours (codes "colours")
-    ++ known_part s.wrap (codes "wrap"))))
-
-parts_clean : (s : Start) → IsCleanText (parts_of s)
+parts_clean : (s : Start) → IsCleanText (known_parts s)
 parts_clean s =
     let colours = known_part s.colours (codes "colours") in
     let saved = known_part s.saved (codes "saved") in
@@ -180,17 +171,17 @@ parts_clean s =
 
 start_name_clean : (s : Start) → IsCleanText (start_name s)
 start_name_clean s =
-    let named = codes "known" ++ parts_of s in
+    let named = codes "known" ++ known_parts s in
     let some = if s.screen || s.cursor || s.saved || s.colours || s.wrap then named else codes "any" in
     clean_if (s.screen && s.cursor && s.saved && s.colours && s.wrap) (codes "cleared") some
     (plain_text (codes "cleared") refl)
-    (clean_if (s.screen || s.cursor || s.saved || s.colours || s.wrap) (codes "known" ++ parts_of s) (codes "any")
-    (clean_append (codes "known") (parts_of s) (plain_text (codes "known") refl) (parts_clean s))
+    (clean_if (s.screen || s.cursor || s.saved || s.colours || s.wrap) (codes "known" ++ known_parts s) (codes "any")
+    (clean_append (codes "known") (known_parts s) (plain_text (codes "known") refl) (parts_clean s))
     (plain_text (codes "any") refl))
 
 needed_parts_clean : (s : Start) → IsCleanText (needed_parts s)
 needed_parts_clean s =
-    clean_if (s.screen || s.cursor || s.saved || s.colours || s.wrap) (parts_of s) (codes " nothing") (parts_clean s)
+    clean_if (s.screen || s.cursor || s.saved || s.colours || s.wrap) (known_parts s) (codes " nothing") (parts_clean s)
     (plain_text (codes " nothing") refl)
 
 size_line_clean : (z : Size) → IsCleanText (line_of (codes "size: " ++ size_text z))
@@ -208,23 +199,19 @@ length_and_notes_clean n noted =
     (clean_append (decimal n) (codes " bytes") (clean_decimal n) (plain_text (codes " bytes") refl))))
     (clean_flat_map note_line noted note_line_clean)
 
+start_line_clean : (start : Option Start) → IsCleanText (start_line start)
+start_line_clean None = clean_nil
+start_line_clean (Some s) =
+    clean_line (codes "start: " ++ start_name s)
+    (clean_append (codes "start: ") (start_name s) (plain_text (codes "start: ") refl) (start_name_clean s))
+
 heading_clean : (h : Heading) → IsCleanText (heading_text h)
 heading_clean h =
-    let start = line_of (codes "start: " ++ start_name h.start) in
     let length_line = line_of (codes "content: " ++ (decimal h.content_length ++ codes " bytes")) in
     let after = length_line ++ flat_map note_line h.notes in
-    clean_append (line_of (codes "size: " ++ size_text h.size)) (start ++ after) (size_line_clean h.size)
-    (clean_append start after
-    (clean_line (codes "start: " ++ start_name h.start)
-    (clean_append (codes "start: ") (start_name h.start) (plain_text (codes "start: ") refl)
-    (start_name_clean h.start)))
+    clean_append (line_of (codes "size: " ++ size_text h.size)) (start_line h.start ++ after) (size_line_clean h.size)
+    (clean_append (start_line h.start) after (start_line_clean h.start)
     (length_and_notes_clean h.content_length h.notes))
-
-needs_heading_clean : (h : NeedsHeading) → IsCleanText (needs_heading_text h)
-needs_heading_clean h =
-    clean_append (line_of (codes "size: " ++ size_text h.size))
-    (line_of (codes "content: " ++ (decimal h.content_length ++ codes " bytes")) ++ flat_map note_line h.notes)
-    (size_line_clean h.size) (length_and_notes_clean h.content_length h.notes)
 
 -- ---- pictures
 
@@ -489,9 +476,9 @@ check_clean : (file : List ℕ) (start : Start) (cells passed : Bool) (text : Li
     → ReportsCheck file start cells passed text → IsCleanText text
 check_clean file start cells true text h =
     subst IsCleanText (sym h.text_is)
-    (pass_clean (heading h.apart start) h.picture cells h.passes.good.shows.is_picture.bytes)
+    (pass_clean (heading h.apart (Some start)) h.picture cells h.passes.good.shows.is_picture.bytes)
 check_clean file start cells false text (not_good, inl h) =
-    subst IsCleanText (sym h.text_is) (refused_clean (heading h.apart start) h.fault)
+    subst IsCleanText (sym h.text_is) (refused_clean (heading h.apart (Some start)) h.fault)
 check_clean file start cells false text (not_good, inr h) = record_fault_clean file text h
 
 sauce_clean : (file : List ℕ) (passed : Bool) (text : List ℕ) → All IsByte file → ReportsSauce file passed text
@@ -510,15 +497,12 @@ needs_clean : (file : List ℕ) (passed : Bool) (text : List ℕ) → ReportsNee
 needs_clean file true text h =
     let said = codes "needs:" ++ needed_parts h.class in
     subst IsCleanText (sym h.text_is)
-    (clean_append (needs_heading_text (needs_heading h.apart)) (line_of said)
-    (needs_heading_clean (needs_heading h.apart))
+    (clean_append (heading_text (heading h.apart None)) (line_of said) (heading_clean (heading h.apart None))
     (clean_line said
     (clean_append (codes "needs:") (needed_parts h.class) (plain_text (codes "needs:") refl)
     (needed_parts_clean h.class))))
 needs_clean file false text (not_good, inl h) =
-    subst IsCleanText (sym h.text_is)
-    (clean_append (needs_heading_text (needs_heading h.apart)) (refusal_text h.fault)
-    (needs_heading_clean (needs_heading h.apart)) (refusal_clean h.fault))
+    subst IsCleanText (sym h.text_is) (refused_clean (heading h.apart None) h.fault)
 needs_clean file false text (not_good, inr h) = record_fault_clean file text h
 
 clean_by : (command : Command) (start : Start) (cells : Bool) (file text : List ℕ) (passed : Bool) → All IsByte file

@@ -8,7 +8,7 @@ use Rattle.ans_model.specs.File.Layout.{FileParts, content}
 use Rattle.ans_model.specs.File.Refusals.{Accepts, record_fault}
 use Rattle.ans_model.specs.Screen.State.{Size}
 use Rattle.ans_model.specs.Screen.StartClass.{all_known}
-use Rattle.ans_model.specs.Text.NeedsText.{needs_text, needs_refusal_text}
+use Rattle.ans_model.specs.Text.NeedsText.{needs_text}
 use Rattle.ans_model.specs.Text.RecordText.{record_text}
 use Rattle.ans_model.specs.Text.ReportText.{Passed, RefusedFor, refusal_text, report_text}
 use Rattle.ans_model.specs.Text.TokensText.{TokensText}
@@ -23,7 +23,7 @@ use Rattle.ans_options.specs.declared.command.Command.{Command}
 use Rattle.ans_options.specs.declared.command.Options.{Options}
 use Rattle.ans_check.specs.CommandText.{Reports, ReportsBy, ReportsCheck, ReportsContent, ReportsFault, ReportsLeast}
 use Rattle.ans_check.specs.CommandText.{ReportsNeeds, ReportsNeedsFault, ReportsPass}
-use Rattle.ans_check.specs.CommandText.{ReportsRecordFault, ReportsSauce, ReportsTokens, heading, needs_heading}
+use Rattle.ans_check.specs.CommandText.{ReportsRecordFault, ReportsSauce, ReportsTokens, heading}
 use Rattle.ans_check.specs.FileNeeds.{NeedsClass}
 use Rattle.ans_check.specs.FileVerdict.{Deserves, IsGoodFile, IsRefusedFor, stated_size}
 use Rattle.ans_laws.proofs.Covering.{covers_all_known, covers_itself, covers_both_ways}
@@ -90,7 +90,7 @@ one_pass file start cells text other h g =
     let picture : h.picture ≡ g.picture =
     one_picture (stated_size g.apart) start start (content g.apart.body) h.picture g.picture moved g.passes.good in
     h.text_is
-    ∙ ap₂ (λ (v : FileParts) (p : Picture). report_text (heading v start) (Passed p cells)) apart picture
+    ∙ ap₂ (λ (v : FileParts) (p : Picture). report_text (heading v (Some start)) (Passed p cells)) apart picture
     ∙ sym g.text_is
 
 one_fault : (file : List ℕ) (start : Start) (text other : List ℕ)
@@ -98,7 +98,7 @@ one_fault : (file : List ℕ) (start : Start) (text other : List ℕ)
     → ReportsFault file start other ⊎ ReportsRecordFault file other → text ≡ other
 one_fault file start text other (inl h) (inl g) =
     h.text_is
-    ∙ ap₂ (λ (v : FileParts) (f : Fault). report_text (heading v start) (RefusedFor f))
+    ∙ ap₂ (λ (v : FileParts) (f : Fault). report_text (heading v (Some start)) (RefusedFor f))
     (same_apart file h.apart g.apart h.refused.accepts g.refused.accepts)
     (one_refusal file start h.apart g.apart h.fault g.fault h.refused g.refused)
     ∙ sym g.text_is
@@ -181,7 +181,7 @@ one_class file a b x y h g =
 one_least : (file text other : List ℕ) → ReportsLeast file text → ReportsLeast file other → text ≡ other
 one_least file text other h g =
     h.text_is
-    ∙ ap₂ (λ (v : FileParts) (c : Start). needs_text (needs_heading v) c)
+    ∙ ap₂ (λ (v : FileParts) (c : Start). needs_text (heading v None) c)
     (same_apart file h.apart g.apart h.needs.accepts g.needs.accepts)
     (one_class file h.apart g.apart h.class g.class h.needs g.needs)
     ∙ sym g.text_is
@@ -190,7 +190,7 @@ one_needs_fault : (file text other : List ℕ) → ReportsNeedsFault file text �
     → ReportsNeedsFault file other ⊎ ReportsRecordFault file other → text ≡ other
 one_needs_fault file text other (inl h) (inl g) =
     h.text_is
-    ∙ ap₂ (λ (v : FileParts) (f : Fault). needs_refusal_text (needs_heading v) f)
+    ∙ ap₂ (λ (v : FileParts) (f : Fault). report_text (heading v None) (RefusedFor f))
     (same_apart file h.apart g.apart h.refused.accepts g.refused.accepts)
     (one_refusal file all_known h.apart g.apart h.fault g.fault h.refused g.refused)
     ∙ sym g.text_is
