@@ -5,7 +5,7 @@ use Rattle.std.proofs.lemmas.List.{take_all, drop-drop}
 use Rattle.ans_model.specs.declared.cell.Cell.{Cell}
 use Rattle.ans_model.specs.Verdict.Good.{Picture}
 use Rattle.ans_model.specs.Text.ReportText.{rows, rows_of}
-use Rattle.ans_report.specs.Rows.{row_of}
+use Rattle.ans_play.specs.Shown.{cells_of_row}
 
 length-rows : (w l : ℕ) (cells : List Cell) → length (rows w l cells) ≡ l
 length-rows w zero cells = refl
@@ -19,7 +19,7 @@ rows_at w (suc l) (suc i) cells lt =
     ∙ ap (λ (n : ℕ). take w (drop n cells)) (omega arith)
 
 -- each of the rows is that row of the picture
-pub row_at : (p : Picture) (i : ℕ) → i < p.size.lines → get_or (rows_of p) i [] ≡ row_of p i
+pub row_at : (p : Picture) (i : ℕ) → i < p.size.lines → get_or (rows_of p) i [] ≡ cells_of_row p i
 row_at p i lt = rows_at p.size.width p.size.lines i p.cells lt
 
 pub within_rows : (p : Picture) (i : ℕ) → i < p.size.lines → i < length (rows_of p)

@@ -40,7 +40,6 @@ pub fn fault_text(fault: &Fault) -> &'static str
     }
 }
 
-/// Puts the position of an unknown cell, and nothing for any other cause.
 fn put_position<W: Write>(out: &mut Outbox<'_, W>, cause: &Cause)
     ensures { Puts W.contents out.old out.new (position_text cause.now) }
 {
@@ -54,7 +53,6 @@ fn put_position<W: Write>(out: &mut Outbox<'_, W>, cause: &Cause)
     out.put(b")");
 }
 
-/// Puts the line of a fault.
 pub(crate) fn put_fault_line<W: Write>(out: &mut Outbox<'_, W>, fault: &Fault)
     ensures { Puts W.contents out.old out.new (fault_line fault.now) }
 {
@@ -66,7 +64,6 @@ pub(crate) fn put_fault_line<W: Write>(out: &mut Outbox<'_, W>, fault: &Fault)
     out.put(b"\n");
 }
 
-/// Puts the two lines of a refusal.
 pub(crate) fn put_refusal<W: Write>(out: &mut Outbox<'_, W>, fault: &Fault)
     ensures { Puts W.contents out.old out.new (refusal_text fault.now) }
 {

@@ -10,7 +10,7 @@ ghost use Rattle.ans_report.specs.TokenLines.{glyph_lines};
 use ans_write::{Counter, Outbox, hex_byte};
 use std::io::Write;
 
-/// The line of a glyph behind the digits of its offset.
+/// A glyph's line, which begins with these digits of its offset.
 fn glyph_line(digits: &[u8; 8], byte: u8) -> [u8; 20]
     ensures { result ≡ digits.now ++ (codes " 1 glyph " ++ (hex_byte byte ++ codes "\n")) }
 {
@@ -20,7 +20,6 @@ fn glyph_line(digits: &[u8; 8], byte: u8) -> [u8; 20]
     line
 }
 
-/// Puts the line of a glyph at an offset.
 fn put_glyph<W: Write>(out: &mut Outbox<'_, W>, offset: &Counter, byte: u8)
     ensures { Puts W.contents out.old out.new
         (token_line offset.now.number (Glyph byte) (byte ∷ [])) }
@@ -29,7 +28,6 @@ fn put_glyph<W: Write>(out: &mut Outbox<'_, W>, offset: &Counter, byte: u8)
     out.put(&line[offset.start..]);
 }
 
-/// Puts the lines of glyphs, the first of which stands at the offset `start`.
 pub(crate) fn put_glyphs<W: Write>(out: &mut Outbox<'_, W>, start: usize, bytes: &[u8])
     requires { start + length bytes.now ≤ longest_file }
     ensures { Puts W.contents out.old out.new (glyph_lines start bytes.now) }

@@ -27,7 +27,6 @@ pub fn note_text(note: &Note) -> &'static str
     }
 }
 
-/// Puts a blank and the name of a part of the start, where the part is known; else nothing.
 fn put_known_part<W: Write>(out: &mut Outbox<'_, W>, known: bool, name: &[u8])
     ensures { Puts W.contents out.old out.new (known_part known name.now) }
 {
@@ -37,7 +36,6 @@ fn put_known_part<W: Write>(out: &mut Outbox<'_, W>, known: bool, name: &[u8])
     }
 }
 
-/// Puts the names of the parts that are known, in their order, each after a blank.
 pub(crate) fn put_known_parts<W: Write>(out: &mut Outbox<'_, W>, start: Start)
     ensures { Puts W.contents out.old out.new (known_parts start) }
 {
@@ -64,7 +62,6 @@ fn put_start_name<W: Write>(out: &mut Outbox<'_, W>, start: Start)
     put_known_parts(out, start);
 }
 
-/// Puts the line of the class of starts, where one is named.
 fn put_start_line<W: Write>(out: &mut Outbox<'_, W>, start: Option<Start>)
     ensures { Puts W.contents out.old out.new (start_line start) }
 {
@@ -76,7 +73,6 @@ fn put_start_line<W: Write>(out: &mut Outbox<'_, W>, start: Option<Start>)
     out.put(b"\n");
 }
 
-/// Puts the line of the content's length.
 fn put_length_line<W: Write>(out: &mut Outbox<'_, W>, length: usize)
     ensures { Puts W.contents out.old out.new
         (line_of (codes "content: " ++ (decimal length ++ codes " bytes"))) }
@@ -86,7 +82,6 @@ fn put_length_line<W: Write>(out: &mut Outbox<'_, W>, length: usize)
     out.put(b" bytes\n");
 }
 
-/// Puts the notes' lines.
 pub(crate) fn put_notes<W: Write>(out: &mut Outbox<'_, W>, notes: &[Note])
     ensures { Puts W.contents out.old out.new (flat_map note_line notes.now) }
 {

@@ -10,7 +10,6 @@ use ans_sauce::Parts;
 use ans_write::Outbox;
 use std::io::Write;
 
-/// Puts the line of a name and a text.
 pub(crate) fn put_named_line<W: Write>(out: &mut Outbox<'_, W>, name: &[u8], text: &[u8])
     ensures { Puts W.contents out.old out.new (named_line name.now text.now) }
 {
@@ -20,7 +19,6 @@ pub(crate) fn put_named_line<W: Write>(out: &mut Outbox<'_, W>, name: &[u8], tex
     out.put(b"\n");
 }
 
-/// Puts the line of a name and a number.
 pub(crate) fn put_number_line<W: Write>(out: &mut Outbox<'_, W>, name: &[u8], number: u64)
     ensures { Puts W.contents out.old out.new (named_line name.now (decimal number)) }
 {
@@ -30,7 +28,6 @@ pub(crate) fn put_number_line<W: Write>(out: &mut Outbox<'_, W>, name: &[u8], nu
     out.put(b"\n");
 }
 
-/// Puts the line of the stated size.
 pub(crate) fn put_size_line<W: Write>(out: &mut Outbox<'_, W>, parts: &Parts<'_>)
     ensures { Puts W.contents out.old out.new
         (named_line (codes "size") (size_text (sized (width_of parts.now) (lines_of parts.now)))) }

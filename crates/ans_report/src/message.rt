@@ -9,7 +9,6 @@ use crate::lines::put_named_line;
 use ans_write::{Outbox, Tried, WriteFault};
 use std::io::Write;
 
-/// Puts the line that says why there is no answer.
 fn put_message<W: Write>(out: &mut Outbox<'_, W>, text: &str)
     ensures { Puts W.contents out.old out.new (message_line text.now) }
 {

@@ -14,7 +14,7 @@ use ans_sauce::{Fault, Parts};
 use ans_write::{Outbox, Tried, WriteFault};
 use std::io::Write;
 
-/// What is said of a content's needs.
+/// What a content needs, or why it is refused.
 #[derive(Drop)]
 pub enum NeedsReport<'a> {
     /// The content needs the parts that this class knows.
@@ -22,15 +22,14 @@ pub enum NeedsReport<'a> {
         parts: &'a Parts<'a>,
         class: Start,
     },
-    /// The file is refused even from the cleared start. There are no parts where its record or its
-    /// layout is.
+    /// The file is refused even from the cleared start: for its content, or, with no parts, for its
+    /// record or its layout.
     Refused {
         parts: Option<&'a Parts<'a>>,
         fault: Fault,
     },
 }
 
-/// Puts the parts that a class knows, each after a blank, or that there is none.
 fn put_needed_parts<W: Write>(out: &mut Outbox<'_, W>, class: Start)
     ensures { Puts W.contents out.old out.new (needed_parts class) }
 {

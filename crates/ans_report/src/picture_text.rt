@@ -6,7 +6,8 @@ ghost use Rattle.ans_model.specs.Text.ReportText.{Passed, rows_of, cells_text, r
 ghost use Rattle.ans_model.specs.Text.ReportText.{picture_line, cells_line};
 ghost use Rattle.ans_write.specs.Puts.{Puts};
 ghost use Rattle.ans_report.specs.Headings.{heading_of};
-ghost use Rattle.ans_report.specs.Rows.{row_of, line_text};
+ghost use Rattle.ans_play.specs.Shown.{cells_of_row};
+ghost use Rattle.ans_report.specs.Rows.{line_text};
 
 use crate::heading::put_heading;
 use ans_model::limits::MAX_WIDTH;
@@ -27,7 +28,6 @@ pub(crate) enum Shown {
 /// How many bytes a row has at most: four for each column.
 const ROW: usize = 4 * MAX_WIDTH;
 
-/// Puts the line of the characters of a row, counted from 0.
 fn put_character_row<W: Write, G: Grid>(
     out: &mut Outbox<'_, W>,
     picture: &Picture<G>,
@@ -35,7 +35,7 @@ fn put_character_row<W: Write, G: Grid>(
     tables: &Tables,
 )
     requires { row < picture.now.size.lines }
-    ensures { Puts W.contents out.old out.new (picture_line (row_of picture.now row)) }
+    ensures { Puts W.contents out.old out.new (picture_line (cells_of_row picture.now row)) }
 {
     let mut bytes = [0; MAX_WIDTH];
     let bytes = &mut bytes[..picture.width()];
@@ -46,7 +46,6 @@ fn put_character_row<W: Write, G: Grid>(
     out.put(b"\n");
 }
 
-/// Puts the line of the digits of a row's cells; the row is counted from 0.
 fn put_digit_row<W: Write, G: Grid>(
     out: &mut Outbox<'_, W>,
     picture: &Picture<G>,
@@ -54,7 +53,7 @@ fn put_digit_row<W: Write, G: Grid>(
     tables: &Tables,
 )
     requires { row < picture.now.size.lines }
-    ensures { Puts W.contents out.old out.new (cells_line (row_of picture.now row)) }
+    ensures { Puts W.contents out.old out.new (cells_line (cells_of_row picture.now row)) }
 {
     let width = picture.width();
     let mut bytes = [0; MAX_WIDTH];
@@ -69,7 +68,6 @@ fn put_digit_row<W: Write, G: Grid>(
     out.put(b"\n");
 }
 
-/// Puts the line of a row, counted from 0.
 fn put_row<W: Write, G: Grid>(
     out: &mut Outbox<'_, W>,
     picture: &Picture<G>,
@@ -78,7 +76,7 @@ fn put_row<W: Write, G: Grid>(
     tables: &Tables,
 )
     requires { row < picture.now.size.lines }
-    ensures { Puts W.contents out.old out.new (line_text shown (row_of picture.now row)) }
+    ensures { Puts W.contents out.old out.new (line_text shown (cells_of_row picture.now row)) }
 {
     match shown {
         Shown::Characters => put_character_row(out, picture, row, tables),
@@ -86,7 +84,6 @@ fn put_row<W: Write, G: Grid>(
     }
 }
 
-/// Puts the lines of the rows.
 fn put_rows<W: Write, G: Grid>(out: &mut Outbox<'_, W>, picture: &Picture<G>, shown: Shown)
     ensures text { Puts W.contents out.old out.new
         (flat_map (line_text shown) (rows_of picture.now)) }
@@ -101,7 +98,6 @@ fn put_rows<W: Write, G: Grid>(out: &mut Outbox<'_, W>, picture: &Picture<G>, sh
     }
 }
 
-/// Puts the lines of the cells, where they are wanted.
 fn put_cells<W: Write, G: Grid>(out: &mut Outbox<'_, W>, picture: &Picture<G>, cells: bool)
     ensures { Puts W.contents out.old out.new (if cells then cells_text picture.now else []) }
 {
@@ -112,7 +108,6 @@ fn put_cells<W: Write, G: Grid>(out: &mut Outbox<'_, W>, picture: &Picture<G>, c
     put_rows(out, picture, Shown::Digits);
 }
 
-/// Puts the report of a pass.
 pub(crate) fn put_pass<W: Write, G: Grid>(
     out: &mut Outbox<'_, W>,
     parts: &Parts<'_>,

@@ -15,7 +15,6 @@ use ans_sauce::Parts;
 use ans_write::{Outbox, Tried, WriteFault, hex_byte, put_characters};
 use std::io::Write;
 
-/// Puts the line of a name and a text, which is shown by its characters.
 fn put_field<W: Write>(out: &mut Outbox<'_, W>, name: &[u8], text: &[u8])
     ensures { Puts W.contents out.old out.new (named_line name.now (shown_bytes text.now)) }
 {
@@ -25,7 +24,6 @@ fn put_field<W: Write>(out: &mut Outbox<'_, W>, name: &[u8], text: &[u8])
     out.put(b"\n");
 }
 
-/// Puts the lines of the comments.
 fn put_comments<W: Write>(out: &mut Outbox<'_, W>, parts: &Parts<'_>)
     ensures { Puts W.contents out.old out.new
         (comment_lines 0 (comment_count (record_of parts.now)) (comments_of parts.now)) }
@@ -38,7 +36,6 @@ fn put_comments<W: Write>(out: &mut Outbox<'_, W>, parts: &Parts<'_>)
     }
 }
 
-/// Puts the text of the record.
 fn put_record<W: Write>(out: &mut Outbox<'_, W>, parts: &Parts<'_>)
     ensures { Puts W.contents out.old out.new (parts_text parts.now) }
 {

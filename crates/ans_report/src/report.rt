@@ -20,15 +20,15 @@ use std::io::Write;
 /// What a report says of a file.
 #[derive(Drop)]
 pub enum Report<'a, G: Grid> {
-    /// The content plays well from every start of the class, and shows the picture. `cells` says
-    /// whether each cell is told too: its byte and its attribute.
+    /// The content plays well from every start of the class, and shows the picture. `cells` asks for
+    /// the byte and the attribute of each cell too.
     Pass {
         parts: &'a Parts<'a>,
         start: Start,
         picture: &'a Picture<G>,
         cells: bool,
     },
-    /// The file is refused. There are no parts where its record or its layout is.
+    /// The file is refused: for its content, or, with no parts, for its record or its layout.
     Refused {
         parts: Option<&'a Parts<'a>>,
         start: Start,
@@ -55,7 +55,6 @@ pub(crate) fn put_refused<W: Write>(
     }
 }
 
-/// Puts the report.
 fn put_report<W: Write, G: Grid>(out: &mut Outbox<'_, W>, r: &Report<'_, G>)
     ensures text { Puts W.contents out.old out.new (report_bytes r.now) }
     ensures cells_back { TellsCells r.now }

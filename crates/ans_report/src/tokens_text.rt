@@ -20,10 +20,9 @@ use ans_tokens::{Kind, Scanner, Token};
 use ans_write::{Outbox, Tried, WriteFault, hex_byte};
 use std::io::Write;
 
-/// How many bytes are read before it is seen whether the device has failed.
+/// How many bytes are read at most between two looks at whether the device has failed.
 const PIECE: usize = 4096;
 
-/// Puts numbers, each after a `;`.
 fn put_later_numbers<W: Write>(out: &mut Outbox<'_, W>, numbers: &[u8])
     ensures { Puts W.contents out.old out.new (flat_map later_number numbers.now) }
 {
@@ -33,7 +32,6 @@ fn put_later_numbers<W: Write>(out: &mut Outbox<'_, W>, numbers: &[u8])
     }
 }
 
-/// Puts numbers with a `;` between each two.
 fn put_numbers<W: Write>(out: &mut Outbox<'_, W>, numbers: &[u8])
     ensures { Puts W.contents out.old out.new (numbers_text numbers.now) }
 {
@@ -73,7 +71,6 @@ fn kind_word(kind: &Kind) -> &'static [u8]
     }
 }
 
-/// Puts the numbers of a kind, where it has some.
 fn put_numbers_of<W: Write>(out: &mut Outbox<'_, W>, kind: &Kind)
     ensures { Puts W.contents out.old out.new (numbers_of (shown_kind kind.now)) }
 {
@@ -92,7 +89,6 @@ fn put_numbers_of<W: Write>(out: &mut Outbox<'_, W>, kind: &Kind)
     }
 }
 
-/// Puts the line of a token.
 fn put_token<W: Write>(out: &mut Outbox<'_, W>, token: &Token)
     ensures { Puts W.contents out.old out.new (token_text token.now) }
 {
@@ -135,7 +131,7 @@ fn take_front(scanner: &mut Scanner, bytes: &[u8]) -> Front
 }
 
 /// Puts the lines of the tokens and of the fault that ends their reading, and returns that fault.
-/// Once the device has failed, it stops, and what it returns says nothing.
+/// Once the device has failed, it stops, and its answer means nothing.
 fn put_tokens<W: Write>(out: &mut Outbox<'_, W>, content: &[u8]) -> Option<Fault>
     requires { length content.now ≤ longest_file }
     ensures { PutsTokens W.contents out.old out.new content.now result }
