@@ -30,9 +30,9 @@ not_longer x y d front rest e =
     omega (arith, ap length none, length-append front (d ∷ rest))
 
 -- a digit below nine goes one up, and the nines after it become zeros
-pub carried : (k n d : ℕ) (front : List ℕ) → n + 1 < 2 ^ 64 → d ≢ 57 → decimal n ≡ front ++ (d ∷ replicate k 57)
+nines_carry : (k n d : ℕ) (front : List ℕ) → n + 1 < 2 ^ 64 → d ≢ 57 → decimal n ≡ front ++ (d ∷ replicate k 57)
     → decimal (n + 1) ≡ front ++ ((d + 1) ∷ replicate k 48)
-carried zero n d front small below e = by_size (cases_lt n 10)
+nines_carry zero n d front small below e = by_size (cases_lt n 10)
   where
     by_size : (n < 10) ⊎ (10 ≤ n) → decimal (n + 1) ≡ front ++ ((d + 1) ∷ [])
     by_size (inl one) =
@@ -50,7 +50,7 @@ carried zero n d front small below e = by_size (cases_lt n 10)
         let next : 48 + (n % 10 + 1) ≡ d + 1 = omega arith in
         decimal_parts (n + 1) (n / 10) (n % 10 + 1) (omega arith) (omega arith) (omega arith) small
         ∙ ap (λ (x : ℕ). decimal (n / 10) ++ x ∷ []) next ∙ ap (λ (xs : List ℕ). xs ++ (d + 1) ∷ []) same
-carried (suc k) n d front small below e = by_size (λ s f. carried k (n / 10) d front s below f) (cases_lt n 10)
+nines_carry (suc k) n d front small below e = by_size (λ s f. nines_carry k (n / 10) d front s below f) (cases_lt n 10)
   where
     by_size : (n / 10 + 1 < 2 ^ 64 → decimal (n / 10) ≡ front ++ (d ∷ replicate k 57)
         → decimal (n / 10 + 1) ≡ front ++ ((d + 1) ∷ replicate k 48)) → (n < 10) ⊎ (10 ≤ n)
@@ -70,9 +70,9 @@ carried (suc k) n d front small below e = by_size (λ s f. carried k (n / 10) d 
         ∙ ap (λ (xs : List ℕ). xs ++ 48 ∷ []) later ∙ sym (nines_more front (d + 1) k 48)
 
 -- nines alone become a one and zeros
-pub carried_over : (k n : ℕ) → n + 1 < 2 ^ 64 → decimal n ≡ replicate (suc k) 57
+nines_carry_over : (k n : ℕ) → n + 1 < 2 ^ 64 → decimal n ≡ replicate (suc k) 57
     → decimal (n + 1) ≡ 49 ∷ replicate (suc k) 48
-carried_over zero n small e = by_size (cases_lt n 10)
+nines_carry_over zero n small e = by_size (cases_lt n 10)
   where
     by_size : (n < 10) ⊎ (10 ≤ n) → decimal (n + 1) ≡ 49 ∷ 48 ∷ []
     by_size (inl one) =
@@ -85,7 +85,7 @@ carried_over zero n small e = by_size (cases_lt n 10)
         let (none, digit) = same_from_push (decimal (n / 10)) [] (48 + n % 10) 57 (sym parts ∙ e) in
         let some : 0 < length (decimal (n / 10)) = decimal_nonempty (n / 10) (omega arith) in
         absurd (omega (arith, ap length none))
-carried_over (suc k) n small e = by_size (carried_over k (n / 10)) (cases_lt n 10)
+nines_carry_over (suc k) n small e = by_size (nines_carry_over k (n / 10)) (cases_lt n 10)
   where
     more_nines : (y : ℕ) → replicate (suc (suc k)) y ≡ replicate (suc k) y ++ y ∷ []
     more_nines y = ap (λ (m : ℕ). replicate m y) (sym (add-one (suc k))) ∙ sym (replicate_more (suc k) y)
@@ -110,6 +110,7 @@ pub record Carries (old now : List ℕ) (place k : ℕ) : Type 0 where
   pub zeros : now ≡ take place old ++ replicate k 48
   pub nines : drop place old ≡ replicate k 57
 
+-- before the first digit is looked at
 pub Carries-none : (old : List ℕ) (place : ℕ) → length old ≡ place → Carries old old place 0
 Carries-none old place e = record {
   whole = omega arith;
@@ -188,7 +189,7 @@ counted_up old now start p k n h within below shown small =
     ∙ ap (λ (xs : List ℕ). drop start (set xs p (d + 1))) now_is
     ∙ ap (drop start) (set_at (take p old) d (replicate k 48) (d + 1) p front)
     ∙ split ((d + 1) ∷ replicate k 48)
-    ∙ sym (carried k n d (drop start (take p old)) small (λ nine. below (same ∙ nine)) whole)
+    ∙ sym (nines_carry k n d (drop start (take p old)) small (λ nine. below (same ∙ nine)) whole)
 
 -- a digit more stands before the nines, which are all
 pub counted_over : (old now : List ℕ) (start k n : ℕ) → Carries old now start k → drop start old ≡ decimal n
@@ -198,13 +199,14 @@ counted_over old now start zero n h shown small =
     absurd (omega (arith, ap length (sym shown ∙ h.nines)))
 counted_over old now start (suc k) n h shown small =
     let more : decimal (n + 1) ≡ 49 ∷ replicate (suc k) 48 =
-    carried_over k n (omega arith) (sym shown ∙ h.nines) in
+    nines_carry_over k n (omega arith) (sym shown ∙ h.nines) in
     let eight : length (decimal (n + 1)) ≤ 8 = length-decimal-le 8 (n + 1) (omega arith) (omega arith) (omega arith) in
     (more, omega (arith, ap length more, length-replicate {A = ℕ} (suc k) 48))
 
-pub grown : (old now : List ℕ) (p k n : ℕ) → Carries old now (p + 1) k → decimal (n + 1) ≡ 49 ∷ replicate k 48
+-- a one in the array before them: the digits of the next number
+pub one_before_zeros : (old now : List ℕ) (p k n : ℕ) → Carries old now (p + 1) k → decimal (n + 1) ≡ 49 ∷ replicate k 48
     → drop p (set now p 49) ≡ decimal (n + 1)
-grown old now p k n h next =
+one_before_zeros old now p k n h next =
     let (now_is, same, rest) = digit_at old now p k h in
     let front : length (take p old) ≡ p = length-take-le p old (omega (arith, h.whole)) in
     ap (λ (xs : List ℕ). drop p (set xs p 49)) now_is
