@@ -221,7 +221,8 @@ module _ (old : PlayView) (scanner : ScannerView) (byte : ℕ) (same : scanner �
   })
 
   module _ (before new : PlayView) (after : ScannerView) (token : Spelled)
-      (is : before ≡ record old { scanner = after }) (ends : scanner.fault ≡ None → EndsToken scanner after byte token) where
+      (is : before ≡ record old { scanner = after })
+      (ends : scanner.fault ≡ None → EndsToken scanner after byte token) where
     -- the byte ends a token, which is played
     pub byte_plays : (result : Result (Unit {0}) Fault) → PlaysToken before new token result →
         after.offset ≡ scanner.offset + 1 → after.fault ≡ None → OnOk result (GoesOn old (byte ∷ []) new)

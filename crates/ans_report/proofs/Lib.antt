@@ -3,10 +3,8 @@ pub mod PictureRows
 pub mod RecordLemmas
 pub mod StartNames
 pub mod CellsTold
-pub mod TokenReadings
-pub mod ReadSoFar
+pub mod TextSoFar
 pub mod TextGoesOn
 pub mod TextEnds
 pub mod TokensFinished
 pub mod GlyphLines
-pub mod ReadTokens

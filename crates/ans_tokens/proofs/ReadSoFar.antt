@@ -1,6 +1,6 @@
 -- What is read so far: with more bytes, at a fault, and at the end.
 use Rattle.std.proofs.Common.{◌≡◌, ◌⊎◌, inl, inr, ℕ, ◌+◌, List, [], ◌∷◌, ◌++◌, length, refl, sym, ap, ◌∙◌, arith, subst}
-use Rattle.std.proofs.Common.{Option, None, Err, append_assoc, length-append}
+use Rattle.std.proofs.Common.{Option, None, append_assoc, length-append}
 use Rattle.std.proofs.lemmas.List.{append-nil}
 use Rattle.ans_model.specs.Sequence.TokenKind.{TokenKind}
 use Rattle.ans_model.specs.Sequence.Reads.{Reads, ReadsAs}
@@ -10,9 +10,8 @@ use Rattle.ans_model.specs.declared.fault.Fault.{Fault}
 use Rattle.ans_model.specs.Inside.ShownKind.{shown_kind}
 use Rattle.ans_model.specs.Verdict.TokenFault.{HasFault, IsClean}
 use Rattle.ans_model.specs.Verdict.FirstFault.{IsToBlame, IsRefused, IsFirstFault}
-use Rattle.ans_model.specs.Verdict.LastFault.{EndsInSequence}
 use Rattle.ans_model.proofs.OneAnswer.{clean_or_first}
-use Rattle.ans_tokens.specs.ScannerView.{ScannerView, Holds, StaysUnfinished, EndsToken, RefusesByte, Ends, new_scanner}
+use Rattle.ans_tokens.specs.ScannerView.{ScannerView, Holds, StaysUnfinished, EndsToken, RefusesByte, new_scanner}
 use Rattle.ans_tokens.specs.ScannerView.{Kept, scanner_view}
 use Rattle.ans_tokens.specs.Glyphs.{IsBetweenTokens, scanner_after}
 use Rattle.ans_tokens.specs.ReadSoFar.{ReadSoFar}
@@ -51,7 +50,7 @@ nothing_read = record {
 pub front_with_more : (front y s text : List ℕ) → s ≡ front ++ y → s ++ text ≡ front ++ (y ++ text)
 front_with_more front y s text e = ap (λ (xs : List ℕ). xs ++ text) e ∙ append_assoc front y text
 
-front_text_rest : (front y s text rest : List ℕ) → s ≡ front ++ y
+pub front_text_rest : (front y s text rest : List ℕ) → s ≡ front ++ y
     → s ++ (text ++ rest) ≡ front ++ ((y ++ text) ++ rest)
 front_text_rest front y s text rest e =
     front_with_more front y s (text ++ rest) e ∙ ap (λ (xs : List ℕ). front ++ xs) (sym (append_assoc y text rest))
@@ -182,20 +181,3 @@ module _ (bytes : List ℕ) (old : ScannerView) (h : ReadSoFar bytes old) where
     no_first_fault f =
         clean_or_first z class bytes h.front h.open_part h.tokens f h.whole h.reads clean
         (open_ends h.open_part (kept_open old.kept h.open_part h.holds.keeps))
-
-    -- the bytes end in a sequence
-    pub ends_in_sequence : (fault : Fault) → Ends old (Err fault) → EndsInSequence z class bytes fault
-    ends_in_sequence fault ends =
-        let told = ends h.open_part h.holds in
-        let offset : fault.offset ≡ length h.front = open_part_starts fault.offset told.2 in
-        record {
-          size = size;
-          front = h.front;
-          text = h.open_part;
-          whole = h.whole;
-          tokens = h.tokens;
-          reads = h.reads;
-          clean = clean;
-          unfinished = told.0;
-          fault_is = λ i. record { offset = offset i; cause = told.1 i };
-        }
