@@ -34,7 +34,8 @@ same_two old class tokens scanner a = record { size = a.size; clean = a.clean; l
 
 -- after a token without a fault, which both plays make
 after_more : (old : TwoPlaysView) (class : Start) (tokens : List TokenKind) (t : TokenKind) →
-    AreAfter class tokens old → ((cause : Cause) → ¬ HasFault old.size class tokens t cause) → AreAfter class (tokens ++ t ∷ []) (after_both old t)
+    AreAfter class tokens old → ((cause : Cause) → ¬ HasFault old.size class tokens t cause) →
+    AreAfter class (tokens ++ t ∷ []) (after_both old t)
 after_more old class tokens t after none = record {
   size = after.size;
   clean = clean_more old.size class tokens t after.clean none;
