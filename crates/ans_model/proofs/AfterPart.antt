@@ -9,7 +9,8 @@ use Rattle.std.specs.List.{AllZip, AllByRecursion, join_with_byte, list_all}
 use Rattle.std.specs.Char.{is_ascii_digit, is_ascii_alphabetic}
 use Rattle.std.specs.Str.Parse.{digits_value}
 use Rattle.ans_model.specs.Bytes.{escape, bracket, semicolon, largest_number, most_parameters}
-use Rattle.ans_model.specs.Sequence.Spelling.{Unmarked, Member, Omitted, Number, Quoted, Raw, is_quote, mark_bytes}
+use Rattle.ans_model.specs.Sequence.Spelling.{is_mark_byte, Member, Omitted, Number, Quoted, Raw, is_quote, mark_bytes}
+use Rattle.ans_model.specs.declared.mark.Mark.TheVariants.{Unmarked}
 use Rattle.ans_model.specs.Sequence.Spelling.{SpellsMember, Loose, Spells, IsInLimit, IsUnfinished, IsPrefixOfLoose}
 use Rattle.ans_model.specs.Sequence.Spelling.{IsPrefixOfSpelling}
 use Rattle.ans_model.specs.Inside.OpenPart.{Current, Fresh, InNumber, InString, AfterString, SpellsCurrent}
@@ -19,7 +20,7 @@ use Rattle.ans_model.proofs.Spelling.{head_of, tail_of, one_run_before_stop, sto
 use Rattle.ans_model.proofs.Spelling.{quote_no_digit}
 use Rattle.ans_model.proofs.Spelling.{letter_no_semicolon, begins, first_or, first_byte, no_common_first_byte}
 use Rattle.ans_model.proofs.Spelling.{one_quoted_text}
-use Rattle.ans_model.proofs.Spelling.{one_member_in_front, letter_stops, semicolon_stops, Rest, Tail, is_mark_byte}
+use Rattle.ans_model.proofs.Spelling.{one_member_in_front, letter_stops, semicolon_stops, Rest, Tail}
 use Rattle.ans_model.proofs.Spelling.{digit_no_mark, quote_no_mark, begins_no_mark, tail_first, one_mark_in_front}
 use Rattle.ans_model.proofs.Spelling.{in_front}
 

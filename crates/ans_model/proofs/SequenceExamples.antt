@@ -4,7 +4,8 @@ use Rattle.ans_model.specs.Sequence.TokenKind.{Glyph, Bell, BackSpace, LineFeed,
 use Rattle.ans_model.specs.Sequence.TokenKind.{Forward, Backward, Place, Clear, EraseLine, Save, Restore, Colours}
 use Rattle.ans_model.specs.Sequence.TokenKind.{Wrap, Mode, Keys, Ask}
 use Rattle.ans_model.specs.declared.fault.Cause.TheVariants.{UnknownSequence, WrongParameters}
-use Rattle.ans_model.specs.Sequence.Spelling.{Unmarked, Equals, Question, Omitted, Number, Quoted}
+use Rattle.ans_model.specs.Sequence.Spelling.{Omitted, Number, Quoted}
+use Rattle.ans_model.specs.declared.mark.Mark.TheVariants.{Unmarked, Equals, Question}
 use Rattle.ans_model.specs.Examples.TextExamples.{esc}
 use Rattle.ans_model.specs.Sequence.Reads.{SpellsToken}
 use Rattle.ans_model.specs.Verdict.FirstFault.{IsRefused}

@@ -1,6 +1,6 @@
 -- No spelling begins another, and none is of two sequences.
 use Rattle.std.proofs.lemmas.Bool.{and_parts}
-use Rattle.std.proofs.Common.{◌≡◌, ◌≢◌, ℕ, Bool, true, false, not, ◌||◌, ◌==◌, List, [], ◌∷◌, ◌++◌, refl, ap}
+use Rattle.std.proofs.Common.{◌≡◌, ◌≢◌, ℕ, Bool, true, false, not, ◌==◌, List, [], ◌∷◌, ◌++◌, refl, ap}
 use Rattle.std.proofs.Common.{ap₂, sym, ◌∙◌, subst, arith, append_assoc}
 use Rattle.std.proofs.lemmas.Bool.Decides.{nat_tests}
 use Rattle.std.proofs.lemmas.List.{append_cancel_right}
@@ -9,7 +9,9 @@ use Rattle.std.specs.Char.{is_ascii_digit, is_ascii_alphabetic}
 use Rattle.std.specs.Str.Parse.{digits_value}
 use Rattle.ans_model.specs.Bytes.{escape, bracket, semicolon}
 use Rattle.ans_model.specs.Inside.OpenPart.{is_stop}
-use Rattle.ans_model.specs.Sequence.Spelling.{Mark, Unmarked, Equals, Question, Member, Omitted, Number, Quoted, Raw}
+use Rattle.ans_model.specs.Sequence.Spelling.{is_mark_byte, Member, Omitted, Number, Quoted, Raw}
+use Rattle.ans_model.specs.declared.mark.Mark.{Mark}
+use Rattle.ans_model.specs.declared.mark.Mark.TheVariants.{Unmarked, Equals, Question}
 use Rattle.ans_model.specs.Sequence.Spelling.{mark_bytes, is_quote, SpellsMember, Loose}
 use Rattle.ans_model.specs.Laws.SequenceLaws.{OneSpellingInFront}
 
@@ -229,9 +231,6 @@ one_tail_in_front [] [] l k x y bytes hl hk h g = (refl, head_of (sym h ∙ g), 
 one_tail_in_front [] (n ∷ ns) l k x y bytes hl hk h g = absurd (letter_alone n ns k l y x hk hl g.0 (rw h at g.1))
 one_tail_in_front (m ∷ ms) [] l k x y bytes hl hk h g = absurd (letter_alone m ms l k x y hl hk h.0 (rw g at h.1))
 one_tail_in_front (m ∷ ms) (n ∷ ns) l k x y bytes hl hk h g = one_list_of_members m n ms ns l k x y bytes hl hk h.1 g.1
-
-abbrev pub is_mark_byte : ℕ → Bool
-is_mark_byte c = c == 0x3D || c == 0x3F
 
 stop_no_mark : (c : ℕ) → is_stop c ≡ true → is_mark_byte c ≡ false
 stop_no_mark c h = grind (arith, nat_tests)

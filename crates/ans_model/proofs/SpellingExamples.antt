@@ -8,7 +8,9 @@ use Rattle.ans_model.specs.declared.fault.Cause.{Cause}
 use Rattle.ans_model.specs.declared.fault.Cause.TheVariants.{BrokenSequence, NumberTooLarge, TooManyParameters}
 use Rattle.ans_model.specs.declared.fault.Cause.TheVariants.{EndInSequence}
 use Rattle.ans_model.specs.Sequence.TokenKind.{TokenKind}
-use Rattle.ans_model.specs.Sequence.Spelling.{Mark, Unmarked, Equals, Member, Omitted, Number, Raw, Spells}
+use Rattle.ans_model.specs.Sequence.Spelling.{Member, Omitted, Number, Raw, Spells}
+use Rattle.ans_model.specs.declared.mark.Mark.{Mark}
+use Rattle.ans_model.specs.declared.mark.Mark.TheVariants.{Unmarked, Equals}
 use Rattle.ans_model.specs.Sequence.Spelling.{IsUnfinished, SpellsMember, IsInLimit, mark_bytes, IsPrefixOfLoose}
 use Rattle.ans_model.specs.Sequence.Meaning.{meaning}
 use Rattle.ans_model.specs.Sequence.Reads.{SpellsToken, kind_of_byte}

@@ -14,6 +14,7 @@ pub mod file_laws;
 pub mod kind;
 pub mod limits;
 pub mod machine;
+pub mod mark;
 pub mod note;
 pub mod report_laws;
 pub mod size;

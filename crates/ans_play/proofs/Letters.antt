@@ -4,7 +4,7 @@ use Rattle.std.specs.Prelude.{Result, Ok, Err, OnOk}
 use Rattle.ans_model.specs.Sequence.TokenKind.{TokenKind, Colours}
 use Rattle.ans_model.specs.Bytes.{IsByte, escape}
 use Rattle.ans_model.specs.Sequence.Reads.{kind_of_byte}
-use Rattle.ans_model.specs.Sequence.Spelling.{Unmarked}
+use Rattle.ans_model.specs.declared.mark.Mark.TheVariants.{Unmarked}
 use Rattle.ans_model.specs.Sequence.Meaning.{meaning}
 use Rattle.ans_model.specs.declared.fault.Cause.{Cause}
 use Rattle.ans_tokens.proofs.PlainSequences.{no_string, colours_of_some}

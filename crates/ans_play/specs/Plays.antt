@@ -2,7 +2,7 @@
 use Rattle.std.specs.Prelude.{◌≡◌, ℕ, ◌+◌, List, take, Some, None, Result, Ok, Err, MatchResult, false}
 use Rattle.ans_tokens.specs.Glyphs.{IsGlyphFront}
 use Rattle.ans_model.specs.Sequence.TokenKind.{TokenKind, Glyph}
-use Rattle.ans_model.specs.Sequence.Spelling.{Unmarked}
+use Rattle.ans_model.specs.declared.mark.Mark.TheVariants.{Unmarked}
 use Rattle.ans_model.specs.Sequence.Meaning.{meaning}
 use Rattle.ans_model.specs.declared.fault.Cause.{Cause}
 use Rattle.ans_model.specs.declared.fault.Fault.{Fault}

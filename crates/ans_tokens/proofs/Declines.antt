@@ -12,13 +12,15 @@ use Rattle.std.proofs.lemmas.List.{get_or-drop, get_or-take, length-take-le, tak
 use Rattle.std.proofs.lemmas.Str.Parse.{digits_value-take-le}
 use Rattle.std.proofs.lemmas.List.Folds.{list_all_at}
 use Rattle.ans_model.specs.Bytes.{escape, bracket, semicolon, largest_number, most_parameters}
-use Rattle.ans_model.specs.Sequence.Spelling.{Mark, Unmarked, Equals, Question, Member, Omitted, Number, Quoted}
+use Rattle.ans_model.specs.Sequence.Spelling.{is_mark_byte, Member, Omitted, Number, Quoted}
+use Rattle.ans_model.specs.declared.mark.Mark.{Mark}
+use Rattle.ans_model.specs.declared.mark.Mark.TheVariants.{Unmarked, Equals, Question}
 use Rattle.ans_model.specs.Sequence.Spelling.{mark_bytes, SpellsMember, IsInLimit}
 use Rattle.ans_model.specs.Sequence.Meaning.{colour_number, is_quoted, meaning}
 use Rattle.ans_model.specs.Sequence.TokenKind.{TokenKind}
 use Rattle.ans_model.specs.declared.fault.Cause.{Cause}
 use Rattle.ans_model.proofs.Spelling.{tail_of, one_run_before_stop, stop_no_digit, letter_stops, semicolon_stops}
-use Rattle.ans_model.proofs.Spelling.{letter_no_semicolon, Rest, Tail, InFront, in_front, in_front_law, is_mark_byte}
+use Rattle.ans_model.proofs.Spelling.{letter_no_semicolon, Rest, Tail, InFront, in_front, in_front_law}
 use Rattle.ans_model.proofs.Spelling.{first_or, tail_first, one_mark_in_front}
 use Rattle.ans_tokens.specs.ScannerView as view
 use Rattle.ans_tokens.specs.ScannerView.{Keeps, Sequence}

@@ -7,7 +7,9 @@ use Rattle.ans_model.specs.Bytes.{IsByte, escape, bracket, semicolon, largest_nu
 use Rattle.ans_model.specs.Sequence.TokenKind.{TokenKind}
 use Rattle.ans_model.specs.declared.fault.Cause.{Cause}
 use Rattle.ans_model.specs.declared.fault.Cause.TheVariants.{BrokenSequence, NumberTooLarge, TooManyParameters}
-use Rattle.ans_model.specs.Sequence.Spelling.{Mark, Unmarked, Equals, Question, Member, Raw, Spells, is_quote}
+use Rattle.ans_model.specs.Sequence.Spelling.{Member, Raw, Spells, is_quote}
+use Rattle.ans_model.specs.declared.mark.Mark.{Mark}
+use Rattle.ans_model.specs.declared.mark.Mark.TheVariants.{Unmarked, Equals, Question}
 use Rattle.ans_model.specs.Sequence.Spelling.{IsPrefixOfLoose, IsPrefixOfSpelling, IsUnfinished}
 use Rattle.ans_model.specs.Sequence.Meaning.{meaning}
 use Rattle.ans_model.specs.Sequence.Reads.{IsByteOf, SpellsToken, kind_of_byte}

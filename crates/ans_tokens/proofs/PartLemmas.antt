@@ -13,7 +13,6 @@ use Rattle.ans_model.specs.declared.kind.Kind.{Kind}
 use Rattle.ans_model.specs.Sequence.TokenKind.{TokenKind}
 use Rattle.ans_tokens.specs.declared.unfinished.Unfinished.{Unfinished}
 use Rattle.ans_tokens.specs.ScannerView.{KeptMember, KeepsCurrent, KeepsPart}
-use Rattle.ans_tokens.specs.Mark.{mark_of}
 use Rattle.ans_tokens.specs.PlainSequence.{Means, plain_sequence}
 use Rattle.ans_tokens.specs.Unfinished.{IsStateOf, IsWhole}
 use Rattle.ans_tokens.proofs.ScannerSteps.{with_current}
@@ -45,7 +44,7 @@ pub part_meaning : (held : Unfinished) (part : Part) (letter : ℕ) (numbers : L
     → IsStateOf held part → IsWhole part
     → map colour_number (members_of part.done part.current) ≡ numbers
     → (held.quoted || is_quoted (member_of part.current)) ≡ quoted
-    → meaning (raw_of part letter) ≡ meaning (plain_sequence (mark_of held.mark) numbers quoted letter)
+    → meaning (raw_of part letter) ≡ meaning (plain_sequence held.mark numbers quoted letter)
 part_meaning held part letter numbers quoted state whole n q =
     let strings : list_any is_quoted (members_of part.done part.current) ≡ quoted =
     quoted_all part.done part.current
@@ -62,7 +61,7 @@ means_same meant other (Err cause) e h = e ∙ h
 -- what is kept of a part with this of its current member
 pub keeps_current : (held : Unfinished) (part : Part) (kept : KeptMember) (c : Current) → IsStateOf held part
     → KeepsCurrent kept c
-    → KeepsPart (mark_of held.mark) held.done.items held.quoted kept (with_current part c)
+    → KeepsPart held.mark held.done.items held.quoted kept (with_current part c)
 keeps_current held part kept c state keeps = record {
   mark_is = state.mark_is;
   numbers_are = state.numbers_are;

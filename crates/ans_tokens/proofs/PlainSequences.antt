@@ -6,7 +6,8 @@ use Rattle.std.proofs.lemmas.Bool.{eqb-true}
 use Rattle.ans_model.specs.Sequence.TokenKind.{TokenKind, Colours}
 use Rattle.ans_model.specs.declared.fault.Cause.{Cause}
 use Rattle.ans_model.specs.declared.fault.Cause.TheVariants.{UnknownSequence, WrongParameters}
-use Rattle.ans_model.specs.Sequence.Spelling.{Mark, Member, Omitted, Number, Quoted, Raw}
+use Rattle.ans_model.specs.Sequence.Spelling.{Member, Omitted, Number, Quoted, Raw}
+use Rattle.ans_model.specs.declared.mark.Mark.{Mark}
 use Rattle.ans_model.specs.Sequence.Meaning.{Entry, is_marked, is_quoted, distance, colour_number, colours, table}
 use Rattle.ans_model.specs.Sequence.Meaning.{is_one_of}
 use Rattle.ans_model.specs.Sequence.Meaning.{look_up, has_a_meaning, meaning}

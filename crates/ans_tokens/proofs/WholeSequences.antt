@@ -9,7 +9,9 @@ use Rattle.std.proofs.Math.Seq.{take-suc, take-add}
 use Rattle.std.proofs.lemmas.List.{append-nil, length-map, map-append, take_rest}
 use Rattle.std.proofs.lemmas.Int.Digits.{digits_value_more}
 use Rattle.ans_model.specs.Bytes.{escape, bracket, semicolon, largest_number, most_parameters}
-use Rattle.ans_model.specs.Sequence.Spelling.{Mark, Unmarked, Member, mark_bytes, SpellsMember, Number, Raw, Spells}
+use Rattle.ans_model.specs.Sequence.Spelling.{Member, mark_bytes, SpellsMember, Number, Raw, Spells}
+use Rattle.ans_model.specs.declared.mark.Mark.{Mark}
+use Rattle.ans_model.specs.declared.mark.Mark.TheVariants.{Unmarked}
 use Rattle.ans_model.specs.Sequence.TokenKind.{TokenKind}
 use Rattle.ans_model.specs.Sequence.Meaning.{colour_number, is_quoted, meaning}
 use Rattle.ans_model.specs.Inside.OpenPart.{Current, Fresh, InNumber, InString, AfterString, Part, SpellsPart}

@@ -1,5 +1,4 @@
 pub mod Token
-pub mod Mark
 pub mod PlainSequence
 pub mod ScannerView
 pub mod ReadSoFar

@@ -3,7 +3,9 @@
 use Rattle.std.specs.Prelude.{◌≡◌, ℕ, Bool, true, false, not, ◌&&◌, IsTrue, List, [], ◌∷◌, map, codes}
 use Rattle.std.specs.Prelude.{Result, Ok, Err, MatchResult}
 use Rattle.ans_model.specs.Bytes.{double_quote}
-use Rattle.ans_model.specs.Sequence.Spelling.{Mark, Unmarked, Member, Number, Quoted, Raw}
+use Rattle.ans_model.specs.Sequence.Spelling.{Member, Number, Quoted, Raw}
+use Rattle.ans_model.specs.declared.mark.Mark.{Mark}
+use Rattle.ans_model.specs.declared.mark.Mark.TheVariants.{Unmarked}
 use Rattle.ans_model.specs.Sequence.TokenKind.{TokenKind}
 use Rattle.ans_model.specs.Sequence.Meaning.{has_a_meaning, is_one_of}
 use Rattle.ans_model.specs.Inside.ShownKind.{shown_kind}

@@ -1,6 +1,5 @@
 -- What a scanner's fields show.
 use Rattle.std.specs.Prelude.{◌≡◌, ◌≢◌, ℕ, ◌≤◌, List, IfSome}
-use Rattle.ans_tokens.specs.Mark.{mark_of}
 use Rattle.ans_tokens.specs.KeptMember.{kept_member}
 use Rattle.ans_tokens.specs.ScannerView.{Kept, Nothing, Escape, Sequence, Keeps, ScannerView, scanner_view}
 use Rattle.ans_tokens.specs.declared.scanner.Open.{Open}
@@ -12,7 +11,7 @@ abbrev pub kept_of : Open → Kept
 kept_of open_part.Nothing = Nothing
 kept_of open_part.Escape = Escape
 kept_of (open_part.Sequence held) =
-    Sequence (mark_of held.mark) held.done.items held.quoted (kept_member held.current)
+    Sequence held.mark held.done.items held.quoted (kept_member held.current)
 
 -- this is the state of the open part
 abbrev pub HoldsOpen : Open → List ℕ → Type 0

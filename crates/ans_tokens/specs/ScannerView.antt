@@ -4,7 +4,8 @@ use Rattle.std.specs.List.{list_any}
 use Rattle.ans_model.specs.declared.fault.Fault.{Fault}
 use Rattle.ans_model.specs.declared.fault.Cause.TheVariants.{EndInSequence}
 use Rattle.ans_model.specs.Bytes.{escape}
-use Rattle.ans_model.specs.Sequence.Spelling.{Mark, IsUnfinished}
+use Rattle.ans_model.specs.Sequence.Spelling.{IsUnfinished}
+use Rattle.ans_model.specs.declared.mark.Mark.{Mark}
 use Rattle.ans_model.specs.Sequence.Meaning.{colour_number, is_quoted}
 use Rattle.ans_model.specs.Sequence.Reads.{SpellsToken}
 use Rattle.ans_model.specs.Verdict.FirstFault.{IsRefused}

@@ -1,9 +1,10 @@
 -- What the state of an unfinished sequence says of its bytes, and what becomes of them with the next.
 use Rattle.std.specs.Prelude.{◌≡◌, ◌≢◌, ℕ, false, List, [], ◌∷◌, ◌++◌}
-use Rattle.ans_model.specs.Sequence.Spelling.{Mark, Unmarked, Omitted, mark_bytes, Spells, IsPrefixOfSpelling}
+use Rattle.ans_model.specs.Sequence.Spelling.{Omitted, is_mark_byte, mark_bytes, Spells, IsPrefixOfSpelling}
+use Rattle.ans_model.specs.declared.mark.Mark.{Mark}
+use Rattle.ans_model.specs.declared.mark.Mark.TheVariants.{Unmarked}
 use Rattle.ans_model.specs.Inside.OpenPart.{Part, Fresh, SpellsPart, lacks, member_of, members_of, raw_of}
 use Rattle.ans_model.specs.Verdict.FirstFault.{IsWhy}
-use Rattle.ans_tokens.specs.Mark.{mark_of, is_mark_byte}
 use Rattle.ans_tokens.specs.ScannerView.{KeepsPart}
 use Rattle.ans_tokens.specs.KeptMember.{kept_member}
 use Rattle.ans_tokens.specs.declared.unfinished.Continuation.{Continuation}
@@ -12,7 +13,7 @@ use Rattle.ans_tokens.specs.declared.unfinished.Unfinished.{Unfinished}
 
 -- this is the state of the part
 abbrev pub IsStateOf : Unfinished → Part → Type 0
-IsStateOf held part = KeepsPart (mark_of held.mark) held.done.items held.quoted (kept_member held.current) part
+IsStateOf held part = KeepsPart held.mark held.done.items held.quoted (kept_member held.current) part
 
 -- directly after `[`
 abbrev pub empty_part : Part

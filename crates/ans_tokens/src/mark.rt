@@ -1,21 +1,14 @@
 //! What may stand directly after `[`.
 
 ghost use Rattle.std.specs.Prelude.{◌≡◌, ◌∷◌, [], false, MatchOption};
-ghost use Rattle.ans_model.specs.Sequence.Spelling.{mark_bytes};
 ghost use Rattle.ans_model.specs.Sequence.Meaning.{is_marked};
-ghost use Rattle.ans_tokens.specs.Mark.{mark_of, is_mark_byte};
+ghost use Rattle.ans_model.specs.Sequence.Spelling.{is_mark_byte, mark_bytes};
 
-/// The mark of a sequence: none, `=` or `?`.
-#[derive(Debug, Clone, Copy, PartialEq, Eq)]
-pub(crate) enum Mark {
-    Unmarked,
-    Equals,
-    Question,
-}
+use ans_model::mark::Mark;
 
 /// Whether there is a mark.
 pub(crate) fn has_mark(mark: Mark) -> bool
-    ensures { result ≡ is_marked (mark_of mark) }
+    ensures { result ≡ is_marked mark }
 {
     match mark {
         Mark::Unmarked => false,
@@ -26,7 +19,7 @@ pub(crate) fn has_mark(mark: Mark) -> bool
 /// The mark that a byte is.
 pub(crate) fn mark_of_byte(byte: u8) -> Option<Mark>
     ensures { MatchOption result (is_mark_byte byte ≡ false)
-        (λ mark. mark_bytes (mark_of mark) ≡ byte ∷ []) }
+        (λ mark. mark_bytes mark ≡ byte ∷ []) }
 {
     match byte {
         b'=' => Some(Mark::Equals),

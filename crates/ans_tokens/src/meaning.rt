@@ -14,13 +14,13 @@ ghost use Rattle.ans_model.specs.Sequence.Meaning.{
   wrap_or_mode,
 };
 ghost use Rattle.ans_model.specs.Inside.ShownKind.{shown_kind};
-ghost use Rattle.ans_tokens.specs.Mark.{mark_of};
 ghost use Rattle.ans_tokens.specs.PlainSequence.{Means, TakesNumbersAlone, plain_sequence};
 
-use crate::mark::{Mark, has_mark};
+use crate::mark::has_mark;
 use ans_model::fault::Cause;
 use ans_model::kind::Kind;
 use ans_model::limits::MAX_PARAMETERS;
+use ans_model::mark::Mark;
 use arrayvec::ArrayVec;
 
 /// The distance of a move: of no number, and of 0, it is 1 (profile). Where there are more numbers
@@ -86,9 +86,9 @@ fn only_if(taken: bool, kind: Kind) -> Result<Kind, Cause>
 /// The numbers of a sequence whose letter stands with neither a mark nor a string.
 fn plain_numbers(mark: Mark, numbers: &[u8], quoted: bool) -> Result<&[u8], Cause>
     ensures plain { IfOk result (λ alone. (alone.now ≡ numbers.now)
-        × (is_marked (mark_of mark) ≡ false) × (quoted ≡ false)) }
+        × (is_marked mark ≡ false) × (quoted ≡ false)) }
     ensures refused { IfErr result (λ cause. (letter : ℕ) → TakesNumbersAlone letter
-        → meaning (plain_sequence (mark_of mark) numbers.now quoted letter) ≡ Err cause) }
+        → meaning (plain_sequence mark numbers.now quoted letter) ≡ Err cause) }
 {
     if has_mark(mark) {
         return Err(Cause::UnknownSequence);
@@ -102,7 +102,7 @@ fn plain_numbers(mark: Mark, numbers: &[u8], quoted: bool) -> Result<&[u8], Caus
 /// What `h` and `l` mean: a marked 7 alone is wrap, and all else is a screen mode.
 fn wrap_or_mode(mark: Mark, numbers: &[u8], quoted: bool, on: bool) -> Result<Kind, Cause>
     ensures meant { IfOk result (λ kind. (quoted ≡ false)
-        × (wrap_or_mode (plain_sequence (mark_of mark) numbers.now false 0) on ≡ shown_kind kind)) }
+        × (wrap_or_mode (plain_sequence mark numbers.now false 0) on ≡ shown_kind kind)) }
     ensures refused { IfErr result (λ cause. (quoted ≡ true) × (cause ≡ Cause.WrongParameters)) }
 {
     if quoted {
@@ -125,7 +125,7 @@ pub(crate) fn kind_meant(
     quoted: bool,
     letter: u8,
 ) -> Result<Kind, Cause>
-    ensures { Means result (meaning (plain_sequence (mark_of mark) numbers.items quoted letter)) }
+    ensures { Means result (meaning (plain_sequence mark numbers.items quoted letter)) }
 {
     let plain = plain_numbers(mark, &numbers, quoted);
     match letter {

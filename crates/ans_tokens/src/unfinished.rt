@@ -4,11 +4,12 @@ ghost use Rattle.std.specs.Prelude.{◌<◌};
 ghost use Rattle.ans_model.specs.Bytes.{most_parameters};
 ghost use Rattle.arrayvec.specs.ArrayVec.{array_vec_len};
 
-use crate::mark::{Mark, has_mark, mark_of_byte};
+use crate::mark::{has_mark, mark_of_byte};
 use crate::meaning::kind_meant;
 use ans_model::fault::Cause;
 use ans_model::kind::Kind;
 use ans_model::limits::MAX_PARAMETERS;
+use ans_model::mark::Mark;
 use arrayvec::ArrayVec;
 use std::mem;
 
@@ -89,7 +90,6 @@ impl Unfinished {
     ghost use Rattle.ans_model.specs.Inside.OpenPart.{Part, Fresh, SpellsPart, is_stop, lacks, members_of, raw_of};
     ghost use Rattle.ans_model.specs.Sequence.Spelling.{IsPrefixOfLoose};
     ghost use Rattle.ans_model.specs.Sequence.Meaning.{meaning, colour_number};
-    ghost use Rattle.ans_tokens.specs.Mark.{mark_of};
     ghost use Rattle.ans_tokens.specs.PlainSequence.{Means};
     ghost use Rattle.ans_tokens.specs.Unfinished.{IsStateOf, Outcome, IsMarkAt, IsNoMarkAt, IsWhole, empty_part};
     ghost use Rattle.ans_tokens.specs.Unfinished.{with_next};
@@ -158,7 +158,7 @@ impl Unfinished {
     /// The mark that the byte is, where a mark may stand.
     fn mark_at(&self, byte: u8) -> Option<Mark>
         ensures { (part : Part) → IsStateOf self.now part
-            → MatchOption result (IsNoMarkAt part byte) (λ mark. IsMarkAt part (mark_of mark) byte) }
+            → MatchOption result (IsNoMarkAt part byte) (λ mark. IsMarkAt part mark byte) }
     {
         if self.done.is_empty() && !has_mark(self.mark) {
             mark_of_byte(byte)

@@ -8,17 +8,17 @@ ghost use Rattle.std.specs.Prelude.{◌≡◌, ◌≢◌, ◌⊎◌, ◌<◌, �
 ghost use Rattle.std.specs.Prelude.{IfSome, IfNone, slice_index_or};
 ghost use Rattle.ans_model.specs.Bytes.{most_parameters, escape};
 ghost use Rattle.arrayvec.specs.ArrayVec.{array_vec_len};
-ghost use Rattle.ans_model.specs.Sequence.Spelling.{Unmarked};
-ghost use Rattle.ans_tokens.specs.Mark.{mark_of};
+ghost use Rattle.ans_model.specs.declared.mark.Mark.TheVariants.{Unmarked};
 ghost use Rattle.ans_tokens.specs.ScannerView.{Keeps, Sequence, Fresh};
 ghost use Rattle.ans_tokens.specs.WholeToken.{IsNumberFront, IsSequenceFront, IsTokenAt};
 ghost use Rattle.ans_tokens.specs.WholeToken.{HasNoNumber, HasNoSequence, HasNoCommonToken};
 
-use crate::mark::{Mark, mark_of_byte};
+use crate::mark::mark_of_byte;
 use crate::meaning::kind_meant;
 use crate::scanner::{ESCAPE, kind_of_byte};
 use crate::token::Token;
 use ans_model::limits::MAX_PARAMETERS;
+use ans_model::mark::Mark;
 use arrayvec::ArrayVec;
 
 /// The letter that ends a sequence, and the index of the byte after it.
@@ -94,11 +94,11 @@ fn read_members(
     numbers: &mut ArrayVec<u8, MAX_PARAMETERS>,
 ) -> Option<Letter>
     requires within { from ≤ length bytes.now }
-    requires begun { Keeps (Sequence (mark_of mark) [] false Fresh) (take from bytes.now) }
+    requires begun { Keeps (Sequence mark [] false Fresh) (take from bytes.now) }
     requires empty { numbers.old.items ≡ [] }
     ensures read { IfSome result (λ letter.
-        IsSequenceFront bytes.now (mark_of mark) numbers.new.items letter.byte letter.end) }
-    ensures declined { IfNone result (HasNoSequence bytes.now (mark_of mark)) }
+        IsSequenceFront bytes.now mark numbers.new.items letter.byte letter.end) }
+    ensures declined { IfNone result (HasNoSequence bytes.now mark) }
 {
     let mut at = from;
     for _ in 0..MAX_PARAMETERS {

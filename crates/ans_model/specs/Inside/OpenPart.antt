@@ -3,7 +3,8 @@ use Rattle.std.specs.Prelude.{◌≡◌, ℕ, ◌≤◌, ◌<◌, Bool, true, no
 use Rattle.std.specs.List.{AllByRecursion, list_all}
 use Rattle.std.specs.Char.{is_ascii_digit, is_ascii_alphabetic}
 use Rattle.ans_model.specs.Bytes.{escape, bracket, semicolon, largest_number, most_parameters}
-use Rattle.ans_model.specs.Sequence.Spelling.{Mark, mark_bytes, Member, Omitted, Number, Quoted, is_quote}
+use Rattle.ans_model.specs.Sequence.Spelling.{mark_bytes, Member, Omitted, Number, Quoted, is_quote}
+use Rattle.ans_model.specs.declared.mark.Mark.{Mark}
 use Rattle.ans_model.specs.Sequence.Spelling.{SpellsMember, IsInLimit, Raw}
 
 -- the member that is being read: none yet, digits, a string that is not closed, a closed one

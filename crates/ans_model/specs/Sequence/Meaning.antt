@@ -3,7 +3,9 @@
 use Rattle.std.specs.Prelude.{ℕ, Bool, true, false, not, ◌||◌, ◌&&◌, ◌==◌, List, [], ◌∷◌, map, codes, Result, Ok, Err}
 use Rattle.std.specs.Prelude.{if◌then◌else◌}
 use Rattle.std.specs.List.{list_any}
-use Rattle.ans_model.specs.Sequence.Spelling.{Mark, Unmarked, Member, Number, Quoted, Raw}
+use Rattle.ans_model.specs.Sequence.Spelling.{Member, Number, Quoted, Raw}
+use Rattle.ans_model.specs.declared.mark.Mark.{Mark}
+use Rattle.ans_model.specs.declared.mark.Mark.TheVariants.{Unmarked}
 use Rattle.ans_model.specs.Sequence.TokenKind.{TokenKind, Up, Down, Forward, Backward, Place, Clear, EraseLine, Save}
 use Rattle.ans_model.specs.Sequence.TokenKind.{Restore, Colours, Wrap, Mode, Keys, Ask}
 use Rattle.ans_model.specs.declared.fault.Cause.{Cause}

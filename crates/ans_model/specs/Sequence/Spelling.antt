@@ -5,12 +5,8 @@ use Rattle.std.specs.Char.{is_ascii_digit, is_ascii_alphabetic}
 use Rattle.std.specs.Str.Parse.{digits_value}
 use Rattle.ans_model.specs.Bytes.{escape, bracket, semicolon, double_quote, single_quote, largest_number}
 use Rattle.ans_model.specs.Bytes.{most_parameters}
-
--- what may stand directly after `[`: nothing, `=` or `?`
-pub data Mark : Type 0 where
-  Unmarked : Mark
-  Equals : Mark
-  Question : Mark
+use Rattle.ans_model.specs.declared.mark.Mark.{Mark}
+use Rattle.ans_model.specs.declared.mark.Mark.TheVariants.{Unmarked, Equals, Question}
 
 -- a parameter between semicolons: nothing, a number, or a string with its quote
 pub data Member : Type 0 where
@@ -29,6 +25,10 @@ abbrev pub mark_bytes : Mark → List ℕ
 mark_bytes Unmarked = []
 mark_bytes Equals = 0x3D ∷ []
 mark_bytes Question = 0x3F ∷ []
+
+-- `=` or `?`
+abbrev pub is_mark_byte : ℕ → Bool
+is_mark_byte b = b == 0x3D || b == 0x3F
 
 -- `"` or `'`
 abbrev pub is_quote : ℕ → Bool

@@ -1,7 +1,6 @@
 use Rattle.std.proofs.Common.{◌≡◌, ◌<◌, ◌≤◌, false, take, drop, length}
 use Rattle.ans_model.specs.Bytes.{most_parameters}
 use Rattle.arrayvec.specs.ArrayVec.{array_vec_len}
-use Rattle.ans_tokens.specs.Mark.{mark_of}
 use Rattle.ans_tokens.specs.ScannerView.{Keeps, Sequence, Fresh}
 use Rattle.ans_tokens.proofs.Declines.{LeavesMembers}
 use Rattle.ans_tokens.proofs.whole.read_members.Given as goal
@@ -13,6 +12,6 @@ invariant-loop l = record {
   within : l.at ≤ length l.bytes;
   counted : array_vec_len l.numbers ≡ l.counter;
   kept : l.counter < most_parameters
-      → Keeps (Sequence (mark_of l.fn.mark) l.numbers.items false Fresh) (take l.at l.bytes);
+      → Keeps (Sequence l.fn.mark l.numbers.items false Fresh) (take l.at l.bytes);
   left : LeavesMembers 0 (drop l.fn.from l.bytes) → LeavesMembers l.counter (drop l.at l.bytes);
 }

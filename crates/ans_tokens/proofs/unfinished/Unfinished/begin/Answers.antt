@@ -5,7 +5,6 @@ use Rattle.ans_model.specs.Sequence.Spelling.{is_quote}
 use Rattle.ans_model.specs.Sequence.Meaning.{colour_number, is_quoted}
 use Rattle.ans_model.specs.Inside.OpenPart.{Current, Fresh, InNumber, InString, may_follow}
 use Rattle.ans_model.proofs.AfterPart.{refuses_byte}
-use Rattle.ans_tokens.specs.Mark.{mark_of}
 use Rattle.ans_tokens.specs.ScannerView.{KeepsCurrent}
 use Rattle.ans_tokens.specs.KeptMember.{kept_member}
 use Rattle.ans_tokens.proofs.ScannerSteps.{with_current, fresh_digit, fresh_quote, quote_is, quote_not, marked}
@@ -35,7 +34,7 @@ pub returns-in-Some : goal.returns-in-Some
 returns-in-Some c part y state spelled =
     let at = c.in-Some.ensures part state in
     let fresh : part.current ≡ Fresh = c.requires part state in (
-      record { mark = mark_of c.in-Some.mark; done = []; current = Fresh },
+      record { mark = c.in-Some.mark; done = []; current = Fresh },
       record {
         mark_is = refl;
         numbers_are = ap (map colour_number) (sym at.1) ∙ state.numbers_are;
@@ -43,7 +42,7 @@ returns-in-Some c part y state spelled =
         current_is =
             subst (λ (v : Current). KeepsCurrent (kept_member c.args.self.now.current) v) fresh state.current_is;
       },
-      marked part y (mark_of c.in-Some.mark) c.args.byte spelled at.0 at.1 fresh at.2,
+      marked part y c.in-Some.mark c.args.byte spelled at.0 at.1 fresh at.2,
     )
 
 pub returns : goal.returns
