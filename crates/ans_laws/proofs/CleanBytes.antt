@@ -4,13 +4,13 @@ use Rattle.std.proofs.Common.{List, [], ◌∷◌, ◌++◌}
 use Rattle.std.specs.Prelude.{cond, codes, encode_utf8, encode_utf8_all}
 use Rattle.std.proofs.Math.Utf8.{encode, next}
 use Rattle.std.proofs.Math.Dec.{ltb}
-use Rattle.std.proofs.lemmas.List.Elements.{All-nil, All-cons, All-append, All-weaker}
+use Rattle.std.proofs.lemmas.List.Elements.{All-head, All-tail, All-nil, All-cons, All-append, All-weaker}
 use Rattle.ans_model.specs.Bytes.{IsByte}
 use Rattle.ans_model.specs.Text.Characters.{shown_bytes}
 use Rattle.ans_model.specs.Text.RecordText.{named_line}
 use Rattle.ans_laws.specs.CleanTexts.{IsCleanByte, IsCleanCharacter, IsCleanText, HasNoControls}
 use Rattle.ans_laws.specs.CleanTexts.{IsControl, IsControlByte, IsOneLine}
-use Rattle.ans_laws.proofs.CleanPieces.{all_head, all_tail, shown_has_no_controls}
+use Rattle.ans_laws.proofs.CleanPieces.{shown_has_no_controls}
 
 -- ---- what is so of each byte from 80h on, and of each character
 module _ (P : ℕ → Type 0) (high : (b : ℕ) → 0x80 ≤ b → P b) where
@@ -43,8 +43,8 @@ module _ (P : ℕ → Type 0) (high : (b : ℕ) → 0x80 ≤ b → P b) where
   all_of_characters : (cs : List ℕ) → All P cs → All P (encode_utf8_all cs)
   all_of_characters [] h = All-nil P
   all_of_characters (c ∷ cs) h =
-      All-append P (encode_utf8 c) (encode_utf8_all cs) (all_of_character c (all_head P c cs h))
-      (all_of_characters cs (all_tail P c cs h))
+      All-append P (encode_utf8 c) (encode_utf8_all cs) (all_of_character c (All-head P c cs h))
+      (all_of_characters cs (All-tail P c cs h))
 
 -- ---- control bytes
 high_is_no_control : (b : ℕ) → 0x80 ≤ b → ¬ IsControlByte b

@@ -9,7 +9,7 @@ use Rattle.std.proofs.Math.Nat.{mod-lt}
 use Rattle.std.proofs.Math.Utf8.{scalar, low_scalar}
 use Rattle.std.proofs.lemmas.Bool.{and_parts, cases_eq}
 use Rattle.std.proofs.lemmas.Bool.Decides.{nat_tests}
-use Rattle.std.proofs.lemmas.List.Elements.{All-nil, All-cons, All-append, All-weaker, All-map}
+use Rattle.std.proofs.lemmas.List.Elements.{All-head, All-tail, All-nil, All-cons, All-append, All-weaker, All-map}
 use Rattle.std.proofs.lemmas.Str.{encode_ascii, encodes-append}
 use Rattle.ans_model.specs.Bytes.{IsByte, semicolon}
 use Rattle.ans_model.specs.Text.Characters.{glyph_text, shown_bytes}
@@ -179,19 +179,11 @@ shown_by b byte =
 pub glyph_no_control : (b : ℕ) → IsByte b → ¬ IsControl (glyph_text b)
 glyph_no_control b byte = (shown_by b byte).no_control
 
--- ---- lists of which all are so
-
-pub all_head : {X : Type 0} (P : X → Type 0) (x : X) (xs : List X) → All P (x ∷ xs) → P x
-all_head P x xs h = h 0 x (omega arith)
-
-pub all_tail : {X : Type 0} (P : X → Type 0) (x : X) (xs : List X) → All P (x ∷ xs) → All P xs
-all_tail P x xs h k d within = h (suc k) d (omega (arith, within))
-
 glyphs_are_characters : (bytes : List ℕ) → All IsByte bytes → all_scalars (map glyph_text bytes) ≡ true
 glyphs_are_characters [] h = refl
 glyphs_are_characters (b ∷ bytes) h =
-    both_true (scalar (glyph_text b)) (all_scalars (map glyph_text bytes)) (shown_by b (all_head IsByte b bytes h)).is
-    (glyphs_are_characters bytes (all_tail IsByte b bytes h))
+    both_true (scalar (glyph_text b)) (all_scalars (map glyph_text bytes)) (shown_by b (All-head IsByte b bytes h)).is
+    (glyphs_are_characters bytes (All-tail IsByte b bytes h))
 
 pub shown_has_no_controls : (bytes : List ℕ) → All IsByte bytes → HasNoControls (shown_bytes bytes)
 shown_has_no_controls bytes h = record {

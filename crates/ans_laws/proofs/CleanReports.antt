@@ -5,7 +5,7 @@ use Rattle.std.proofs.Common.{unwrap_or}
 use Rattle.std.specs.Prelude.{◌==◌, ◌&&◌, ◌||◌, if◌then◌else◌, decimal, flat_map}
 use Rattle.std.proofs.lemmas.Bool.Decides.{nat_tests}
 use Rattle.std.proofs.lemmas.List.{length-take}
-use Rattle.std.proofs.lemmas.List.Elements.{All-nil, All-cons, All-map, All-weaker, All-take, All-drop}
+use Rattle.std.proofs.lemmas.List.Elements.{All-head, All-tail, All-nil, All-cons, All-map, All-weaker, All-take, All-drop}
 use Rattle.ans_model.specs.declared.cell.Cell.{Cell}
 use Rattle.ans_model.specs.declared.fault.Fault.{Fault}
 use Rattle.ans_model.specs.declared.fault.Cause.{Cause}
@@ -59,7 +59,7 @@ use Rattle.ans_check.specs.Run.{run_error_text}
 use Rattle.std.specs.Prelude.{Ok, Err}
 use Rattle.ans_laws.specs.CleanTexts.{IsCleanText}
 use Rattle.ans_laws.proofs.CleanPieces.{clean_nil, clean_append, clean_if, clean_flat_map, plain_text, clean_line}
-use Rattle.ans_laws.proofs.CleanPieces.{clean_decimal, clean_hex_byte, clean_numbers, clean_shown, all_head, all_tail}
+use Rattle.ans_laws.proofs.CleanPieces.{clean_decimal, clean_hex_byte, clean_numbers, clean_shown}
 
 -- ---- faults and notes
 
@@ -225,11 +225,11 @@ picture_line_clean row h =
 digits_clean : (row : List Cell) → All IsByteCell row → IsCleanText (flat_map cell_digits row)
 digits_clean [] h = clean_nil
 digits_clean (c ∷ row) h =
-    let both = all_head IsByteCell c row h in
+    let both = All-head IsByteCell c row h in
     clean_append (cell_digits c) (flat_map cell_digits row)
     (clean_append (hex_byte c.byte) (hex_byte c.attribute) (clean_hex_byte c.byte both.0)
     (clean_hex_byte c.attribute both.1))
-    (digits_clean row (all_tail IsByteCell c row h))
+    (digits_clean row (All-tail IsByteCell c row h))
 
 cells_line_clean : (row : List Cell) → All IsByteCell row → IsCleanText (cells_line row)
 cells_line_clean row h = clean_line (flat_map cell_digits row) (digits_clean row h)
@@ -276,11 +276,11 @@ refused_clean heading fault =
 all_left : {X : Type 0} (P : X → Type 0) (xs ys : List X) → All P (xs ++ ys) → All P xs
 all_left P [] ys h = All-nil P
 all_left P (x ∷ xs) ys h =
-    All-cons P x xs (all_head P x (xs ++ ys) h) (all_left P xs ys (all_tail P x (xs ++ ys) h))
+    All-cons P x xs (All-head P x (xs ++ ys) h) (all_left P xs ys (All-tail P x (xs ++ ys) h))
 
 all_right : {X : Type 0} (P : X → Type 0) (xs ys : List X) → All P (xs ++ ys) → All P ys
 all_right P [] ys h = h
-all_right P (x ∷ xs) ys h = all_right P xs ys (all_tail P x (xs ++ ys) h)
+all_right P (x ∷ xs) ys h = all_right P xs ys (All-tail P x (xs ++ ys) h)
 
 none_of : (xs : List ℕ) → length xs ≡ 0 → All IsByte xs
 none_of [] e = All-nil IsByte
@@ -352,7 +352,7 @@ comment_lines_clean i (suc n) bytes h =
 -- a number of one byte is a byte
 one_byte : (bytes : List ℕ) → length bytes ≤ 1 → All IsByte bytes → IsByte (number bytes)
 one_byte [] l h = omega arith
-one_byte (b ∷ []) l h = omega (arith, all_head IsByte b [] h)
+one_byte (b ∷ []) l h = omega (arith, All-head IsByte b [] h)
 one_byte (a ∷ b ∷ bytes) l h = absurd (omega (arith, l))
 
 flags_are_a_byte : (bytes : List ℕ) → All IsByte bytes → IsByte (flags bytes)
@@ -453,8 +453,8 @@ token_lines_clean start [] texts h = clean_nil
 token_lines_clean start (t ∷ tokens) [] h = clean_nil
 token_lines_clean start (t ∷ tokens) (text ∷ texts) h =
     clean_append (token_line start t text) (token_lines (start + length text) tokens texts)
-    (token_line_clean start t text (all_head PrintsByte t tokens h))
-    (token_lines_clean (start + length text) tokens texts (all_tail PrintsByte t tokens h))
+    (token_line_clean start t text (All-head PrintsByte t tokens h))
+    (token_lines_clean (start + length text) tokens texts (All-tail PrintsByte t tokens h))
 
 fault_end_clean : (fault : Option Fault) → IsCleanText (fault_end fault)
 fault_end_clean None = clean_nil

@@ -2,6 +2,7 @@
 use Rattle.std.proofs.Common.{◌≡◌, ◌⊎◌, inl, inr, ℕ, Bool, true, false, List, ◌∙◌, ap, ap₂, refl, sym, subst, Option}
 use Rattle.std.proofs.Common.{Some, None}
 use Rattle.std.proofs.Common.{unwrap_or}
+use Rattle.std.proofs.lemmas.Option.{same_Some}
 use Rattle.ans_model.specs.declared.fault.Fault.{Fault}
 use Rattle.ans_model.specs.declared.start.Start.{Start}
 use Rattle.ans_model.specs.File.Layout.{FileParts, content}
@@ -44,9 +45,6 @@ same_text say a b text other is other_is same = is ∙ ap say same ∙ sym other
 same_apart : (file : List ℕ) (a b : FileParts) → Accepts file a → Accepts file b → a ≡ b
 same_apart file a b h g = one_layout file a b h.laid g.laid
 
-some_same : {X : Type 0} (x y : X) → Some x ≡ Some y → x ≡ y
-some_same x y e = ap (λ o. unwrap_or o x) e
-
 -- an accepted file has no fault of its record
 not_both : (file : List ℕ) (apart : FileParts) (text : List ℕ) → Accepts file apart → ReportsRecordFault file text → ⊥
 not_both file apart text accepts report =
@@ -58,7 +56,7 @@ one_record_fault : (file text other : List ℕ) → ReportsRecordFault file text
     → text ≡ other
 one_record_fault file text other h g =
     same_text refusal_text h.fault g.fault text other h.text_is g.text_is
-    (some_same h.fault g.fault (sym h.fault_is ∙ g.fault_is))
+    (same_Some h.fault g.fault (sym h.fault_is ∙ g.fault_is))
 
 -- ---- faults of contents
 
