@@ -58,7 +58,7 @@ NO_RECORD = b"verdict: refused\nat 127: F1 no SAUCE record\n"
 
 STATUSES = b"""
 Exit status:
-  0  The file passes, or this help was asked for
+  0  The file passes, or help or the version was asked for
   1  The file is refused
   2  There is no answer; standard error says why
 """
@@ -67,51 +67,52 @@ HELP = b"""Checks ANSI art files that end in a SAUCE record
 Usage: anscheck <COMMAND>
 
 Commands:
-  check   Check that a file shows one picture from every start of the class, and print that picture
+  needs   Print what a drawing relies on: screen, cursor, saved, colours, wrap
+  check   Check that a file always shows the same picture, and print it
   sauce   Print what a file's SAUCE record says
-  tokens  Print the bytes and the escape sequences of a file's content, one a line
-  needs   Print which parts of the start a file's content needs to be known
+  tokens  Print the bytes and the escape sequences of a file, one a line
 
 Options:
-  -h, --help  Print help
+  -h, --help     Print help
+  -V, --version  Print version
+
+Examples:
+  anscheck needs drawing.ans
+  anscheck check --cleared drawing.ans
+  anscheck help check
 """ + STATUSES
-CHECK_HELP = b"""Check that a file shows one picture from every start of the class, and print that picture
+CHECK_HELP = b"""Check that a file always shows the same picture, and print it
 
 Usage: anscheck check [OPTIONS] [FILE]
 
 Arguments:
-  [FILE]  The file to read; without it standard input is read
+  [FILE]  The file to read; - or none is standard input
 
 Options:
-      --known-screen   Know the screen to be blank, white on black
-      --known-cursor   Know the cursor to be at the top left
-      --known-saved    Know the saved cursor to be at the top left
-      --known-colours  Know the colours to be white on black
-      --known-wrap     Know wrap to be on
-      --cleared        Know all five: play from a cleared screen alone
-      --cells          Print each cell of the picture too: its byte and its attribute, in hexadecimal
+      --known-screen   Assume the screen to be blank, white on black
+      --known-cursor   Assume the cursor to be at the top left
+      --known-saved    Assume the saved cursor to be at the top left
+      --known-colours  Assume the colours to be white on black
+      --known-wrap     Assume wrap to be on
+      --cleared        Assume all five: a screen that was just cleared
+      --cells          Print each cell too: its byte and its attribute, in hex
   -h, --help           Print help
 """ + STATUSES
-SAUCE_HELP = b"""Print what a file's SAUCE record says
 
-Usage: anscheck sauce [FILE]
 
-Arguments:
-  [FILE]  The file to read; without it standard input is read
+def file_help(about, command):
+    """The help of a command that takes no flags."""
+    return (
+        f"{about}\n\nUsage: anscheck {command} [FILE]\n\nArguments:\n"
+        "  [FILE]  The file to read; - or none is standard input\n\n"
+        "Options:\n  -h, --help  Print help\n"
+    ).encode() + STATUSES
 
-Options:
-  -h, --help  Print help
-""" + STATUSES
-NEEDS_HELP = b"""Print which parts of the start a file's content needs to be known
 
-Usage: anscheck needs [FILE]
-
-Arguments:
-  [FILE]  The file to read; without it standard input is read
-
-Options:
-  -h, --help  Print help
-""" + STATUSES
+SAUCE_HELP = file_help("Print what a file's SAUCE record says", "sauce")
+NEEDS_HELP = file_help("Print what a drawing relies on: screen, cursor, saved, colours, wrap", "needs")
+TOKENS_HELP = file_help("Print the bytes and the escape sequences of a file, one a line", "tokens")
+VERSION = b"anscheck 0.1.0 (rattle-kit-13f)\n"
 
 
 def mistake(what, usage):
@@ -222,7 +223,21 @@ RUNS = [
     Run("pass on a closed output", ["check", "--cleared"], 2,
         stderr=b"anscheck: cannot write the report\n", stdin=HI, output=CLOSED),
     # Words that ask for help, and words that are rejected. Nothing is read.
+    Run("check of a dash", ["check", "--cleared", "-"], 0, HI_PASSES, stdin=HI),
+    Run("check of a dash behind two", ["check", "--cleared", "--", "-"], 0, HI_PASSES, stdin=HI),
+    Run("check of a file whose name is a dash", ["check", "--cleared", "./-"], 2, stdin=HI,
+        stderr=b"anscheck: cannot open the file\n"),
     Run("help", ["--help"], 0, HELP, stdin=HI),
+    Run("help by its name", ["help"], 0, HELP, stdin=HI),
+    Run("help of check by its name", ["help", "check"], 0, CHECK_HELP, stdin=HI),
+    Run("help of tokens by its name", ["help", "tokens"], 0, TOKENS_HELP, stdin=HI),
+    Run("help of no command", ["help", "chek"], 2, stdin=HI, stderr=mistake(
+        "unrecognized subcommand 'chek'\n\n"
+        "  tip: a similar subcommand exists: 'check'", "<COMMAND>")),
+    Run("help of two commands", ["help", "check", "sauce"], 2, stdin=HI, stderr=mistake(
+        "unexpected argument 'sauce' found", CHECK_USAGE)),
+    Run("the version", ["--version"], 0, VERSION, stdin=HI),
+    Run("the version by a letter", ["-V"], 0, VERSION, stdin=HI),
     Run("help of check", ["check", "--help"], 0, CHECK_HELP, stdin=HI),
     Run("help of sauce", ["sauce", "-h"], 0, SAUCE_HELP, stdin=HI),
     Run("help of needs", ["needs", "--help"], 0, NEEDS_HELP, stdin=HI),
@@ -246,7 +261,7 @@ RUNS = [
         f"unexpected argument '{HI}' found", CHECK_USAGE)),
     Run("no subcommand", [], 2, stdin=HI, stderr=mistake(
         "'anscheck' requires a subcommand but one was not provided\n"
-        "  [subcommands: check, sauce, tokens, needs]", "<COMMAND>")),
+        "  [subcommands: needs, check, sauce, tokens]", "<COMMAND>")),
     Run("an unknown subcommand", ["other", HI], 2, stderr=mistake(
         "unrecognized subcommand 'other'", "<COMMAND>")),
     Run("a word that is not text", ["check", b"\xff"], 2,
