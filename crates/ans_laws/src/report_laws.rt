@@ -1,34 +1,64 @@
-//! Laws of what is answered of a file.
+//! Laws of the texts that are written: each is the contract of a function without a body.
 
-ghost use Rattle.std.specs.Prelude.{◌≡◌, ◌↔◌, ℕ, Bool, true, false, List, IsTrue};
+ghost use Rattle.std.specs.Prelude.{◌≡◌, ◌⊎◌, ◌<◌, ℕ, List, Option, flat_map};
+ghost use Rattle.ans_model.specs.declared.fault.Fault.{Fault};
+ghost use Rattle.ans_model.specs.declared.fault.Cause.{Cause};
+ghost use Rattle.ans_model.specs.declared.note.Note.{Note};
+ghost use Rattle.ans_model.specs.Bytes.{IsByte, blank};
 ghost use Rattle.ans_model.specs.File.Layout.{FileParts};
-ghost use Rattle.ans_model.specs.Screen.StartClass.{Covers};
-ghost use Rattle.ans_model.specs.declared.start.Start.{Start};
-ghost use Rattle.ans_check.specs.CommandText.{Reports, ReportsCheck, ReportsNeeds};
-ghost use Rattle.ans_check.specs.FileNeeds.{NeedsClass};
-ghost use Rattle.ans_check.specs.FileVerdict.{IsGoodFile};
-ghost use Rattle.ans_options.specs.declared.command.Options.{Options};
+ghost use Rattle.ans_model.specs.Screen.State.{Size};
+ghost use Rattle.ans_model.specs.Verdict.Good.{Picture, IsPictureOf};
+ghost use Rattle.ans_model.specs.Text.Characters.{glyph_text};
+ghost use Rattle.ans_model.specs.Text.FaultText.{fault_text, fault_line, note_line};
+ghost use Rattle.ans_model.specs.Text.ReportText.{Heading, ReportVerdict, cells_line, rows_of};
+ghost use Rattle.ans_model.specs.Text.ReportText.{picture_back};
+ghost use Rattle.ans_model.specs.Text.ReportText.{report_text};
+ghost use Rattle.ans_model.specs.Text.ReportText.{refusal_text};
+ghost use Rattle.ans_model.specs.Text.RecordText.{record_text};
+ghost use Rattle.ans_model.specs.Text.TokensText.{TokensText};
+ghost use Rattle.ans_laws.specs.LineLaws.{FitsTypes, IsUnknownCell, EndsInLineFeed};
+ghost use Rattle.ans_laws.specs.LineLaws.{IsEmptyOrEndsInLineFeed};
 
-/// Where the parts that a file needs are found, it is good for exactly those classes that know each
-/// of them, and a check passes from exactly those. Where a file is refused instead, it is good for no
-/// class, and no check passes.
-pub fn needs_agree_with_checks()
-    ensures good { (file : List ℕ) (apart : FileParts) (class start : Start)
-        → NeedsClass file apart class → IsGoodFile file start ↔ Covers class start }
-    ensures passes { (file text : List ℕ) (apart : FileParts) (class start : Start)
-        (cells passed : Bool)
-        → NeedsClass file apart class → ReportsCheck file start cells passed text
-        → IsTrue passed ↔ Covers class start }
-    ensures never_good { (file text : List ℕ) (start : Start)
-        → ReportsNeeds file false text → ¬ IsGoodFile file start }
-    ensures never_passes { (file text other : List ℕ) (start : Start) (cells passed : Bool)
-        → ReportsNeeds file false other → ReportsCheck file start cells passed text
-        → passed ≡ false }
+/// The cells of a picture are read back from their digits.
+pub fn cells_read_back()
+    ensures { (z : Size) (picture : Picture) → IsPictureOf z picture
+        → picture_back z.width z.lines (flat_map cells_line (rows_of picture)) ≡ picture.cells }
 {}
 
-/// A file and its options have one answer and one text.
-pub fn one_report()
-    ensures { (options : Options) (file text other : List ℕ) (passed again : Bool)
-        → Reports options file passed text → Reports options file again other
-        → (passed ≡ again) × (text ≡ other) }
+/// Each byte has a character of its own, but for zero, which is shown as a blank.
+pub fn own_characters()
+    ensures own { (b c : ℕ) → IsByte b → IsByte c → 0 < b → 0 < c
+        → glyph_text b ≡ glyph_text c → b ≡ c }
+    ensures zero { glyph_text 0x00 ≡ glyph_text blank }
+{}
+
+/// A fault's line determines the fault, and a note's line the note. The text of a cause determines
+/// the cause, but for an unknown cell's position.
+pub fn own_lines()
+    ensures fault { (f g : Fault) → FitsTypes f → FitsTypes g
+        → fault_line f ≡ fault_line g → f ≡ g }
+    ensures cause { (c d : Cause) → fault_text c ≡ fault_text d
+        → (c ≡ d) ⊎ (IsUnknownCell c × IsUnknownCell d) }
+    ensures note { (m n : Note) → note_line m ≡ note_line n → m ≡ n }
+{}
+
+/// What is written ends in a line feed; the text of no tokens is empty.
+pub fn whole_lines()
+    ensures report { (heading : Heading) (verdict : ReportVerdict)
+        → EndsInLineFeed (report_text heading verdict) }
+    ensures refusal { (fault : Fault) → EndsInLineFeed (refusal_text fault) }
+    ensures record_lines { (parts : FileParts) → EndsInLineFeed (record_text parts) }
+    ensures fault_lines { (fault : Fault) → EndsInLineFeed (fault_line fault) }
+    ensures note_lines { (note : Note) → EndsInLineFeed (note_line note) }
+    ensures tokens { (content text : List ℕ) (fault : Option Fault)
+        → TokensText content fault text → IsEmptyOrEndsInLineFeed text }
+{}
+
+/// Content has at most one text of its tokens, and at most one end of their reading: a fault, or
+/// none.
+pub fn one_text_of_tokens()
+    ensures text { (content text other : List ℕ) (f g : Option Fault)
+        → TokensText content f text → TokensText content g other → text ≡ other }
+    ensures fault { (content text other : List ℕ) (f g : Option Fault)
+        → TokensText content f text → TokensText content g other → f ≡ g }
 {}

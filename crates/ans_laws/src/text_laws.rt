@@ -1,44 +1,61 @@
-//! Laws of the texts that are written: no byte of a file comes out as a control character.
+//! Laws of sequences and of reading them: each is the contract of a function without a body.
 
-ghost use Rattle.std.specs.Prelude.{◌≡◌, ℕ, Bool, List, All, Some};
-ghost use Rattle.ans_model.specs.Bytes.{IsByte};
-ghost use Rattle.ans_model.specs.Text.Characters.{glyph_text, shown_bytes};
-ghost use Rattle.ans_model.specs.Text.RecordText.{named_line};
-ghost use Rattle.ans_check.specs.CommandText.{Reports};
-ghost use Rattle.ans_check.specs.Ending.{ending_message};
-ghost use Rattle.ans_check.specs.declared.exit_status.Ending.{Ending};
-ghost use Rattle.ans_options.specs.declared.command.Options.{Options};
-ghost use Rattle.ans_report.specs.Message.{message_line};
-ghost use Rattle.ans_laws.specs.CleanTexts.{IsCleanByte, IsCleanText, HasNoControls};
-ghost use Rattle.ans_laws.specs.CleanTexts.{IsControl, IsControlByte, IsOneLine};
+ghost use Rattle.std.specs.Prelude.{◌≡◌, ◌++◌, ℕ, List, All};
+ghost use Rattle.ans_model.specs.Sequence.TokenKind.{TokenKind, PrintsByte};
+ghost use Rattle.ans_model.specs.Sequence.Spelling.{Raw, Spells, IsUnfinished};
+ghost use Rattle.ans_laws.specs.SequenceLaws.{OneSpellingInFront};
+ghost use Rattle.ans_model.specs.Sequence.Reads.{Reads};
+ghost use Rattle.ans_model.specs.declared.fault.Cause.{Cause};
+ghost use Rattle.ans_model.specs.declared.fault.Fault.{Fault};
+ghost use Rattle.ans_model.specs.Verdict.Certain.{IsCertain};
+ghost use Rattle.ans_model.specs.Screen.State.{Size};
+ghost use Rattle.ans_model.specs.Screen.StartClass.{all_known};
+ghost use Rattle.ans_model.specs.declared.start.Start.{Start};
+ghost use Rattle.ans_model.specs.Verdict.FirstFault.{IsRefused, IsFirstFault};
+ghost use Rattle.ans_model.specs.Verdict.LastFault.{IsLastFault};
+ghost use Rattle.ans_model.specs.Verdict.Good.{IsGood};
 
-/// No byte is shown by a control character, not even a line feed. So the text by which bytes are
-/// shown has none, whatever they are: the bytes of a record's field, of a comment, or of a picture's
-/// row.
-pub fn bytes_are_shown_clean()
-    ensures characters { (b : ℕ) → IsByte b → ¬ IsControl (glyph_text b) }
-    ensures texts { (bytes : List ℕ) → All IsByte bytes → HasNoControls (shown_bytes bytes) }
+/// No spelling is a proper prefix of another, and no bytes spell two sequences.
+pub fn one_spelling()
+    ensures { OneSpellingInFront }
 {}
 
-/// The line of a record's field or comment is one line, whatever bytes the field has: its line feed
-/// is the report's own.
-pub fn fields_are_shown_in_one_line()
-    ensures { (name bytes : List ℕ) → All (λ b. ¬ IsControlByte b) name → All IsByte bytes
-        → IsOneLine (named_line name (shown_bytes bytes)) }
+/// Bytes are read as one list of tokens at most, and what is printed is a byte.
+pub fn one_reading()
+    ensures one { (bytes : List ℕ) (tokens others : List TokenKind)
+        → Reads bytes tokens → Reads bytes others → tokens ≡ others }
+    ensures prints_bytes { (bytes : List ℕ) (tokens : List TokenKind)
+        → Reads bytes tokens → All PrintsByte tokens }
 {}
 
-/// What is written of a file is clean, whatever is asked of it, and so is the line on standard error
-/// that says why there is no answer. Of what clap says of the words this tells nothing.
-pub fn texts_are_clean()
-    ensures reports { (options : Options) (file text : List ℕ) (passed : Bool)
-        → All IsByte file → Reports options file passed text → IsCleanText text }
-    ensures messages { (ending : Ending) (text : List ℕ)
-        → ending_message ending ≡ Some text → IsCleanText (message_line text) }
+/// Bytes that begin with a refused text have no reading. Unfinished bytes have none either, and
+/// nothing that is spelled is unfinished.
+pub fn refused_or_read()
+    ensures refused { (text rest : List ℕ) (cause : Cause) (tokens : List TokenKind)
+        → IsRefused text cause → Reads (text ++ rest) tokens → ⊥ }
+    ensures unfinished { (text : List ℕ) (tokens : List TokenKind)
+        → IsUnfinished text → Reads text tokens → ⊥ }
+    ensures ended { (raw : Raw) (text : List ℕ) → Spells raw text → IsUnfinished text → ⊥ }
 {}
 
-/// Of the bytes of a clean text that stand below 20h each is a line feed, and none is 7Fh. A text
-/// without control characters has neither.
-pub fn clean_texts_have_clean_bytes()
-    ensures clean { (text : List ℕ) → IsCleanText text → All IsCleanByte text }
-    ensures no_controls { (text : List ℕ) → HasNoControls text → All (λ b. ¬ IsControlByte b) text }
+/// Bytes never have two of these: being good, a first fault, a last fault. Each fault is unique.
+pub fn one_answer()
+    ensures one_first_fault { (z : Size) (class : Start) (bytes : List ℕ) (f g : Fault)
+        → IsFirstFault z class bytes f → IsFirstFault z class bytes g → f ≡ g }
+    ensures one_last_fault { (z : Size) (class : Start) (bytes : List ℕ) (f g : Fault)
+        → IsLastFault z class bytes f → IsLastFault z class bytes g → f ≡ g }
+    ensures not_first_and_last { (z : Size) (class : Start) (bytes : List ℕ) (f g : Fault)
+        → IsFirstFault z class bytes f → IsLastFault z class bytes g → ⊥ }
+    ensures not_good_and_first { (z : Size) (class : Start) (bytes : List ℕ) (f : Fault)
+        → IsGood z class bytes → IsFirstFault z class bytes f → ⊥ }
+    ensures not_good_and_last { (z : Size) (class : Start) (bytes : List ℕ) (f : Fault)
+        → IsGood z class bytes → IsLastFault z class bytes f → ⊥ }
+{}
+
+/// From the cleared start nothing is unknown: each fault is one of F1 to F21.
+pub fn certain_from_cleared()
+    ensures first { (z : Size) (bytes : List ℕ) (f : Fault)
+        → IsFirstFault z all_known bytes f → IsCertain f.cause }
+    ensures last { (z : Size) (bytes : List ℕ) (f : Fault)
+        → IsLastFault z all_known bytes f → IsCertain f.cause }
 {}

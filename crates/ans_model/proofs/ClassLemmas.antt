@@ -1,174 +1,20 @@
--- The classes of starts, and which of them cover others.
-use Rattle.std.proofs.Common.{◌≡◌, ◌||◌, refl, sym, subst, List, Bool, true, false, ℕ, take}
-use Rattle.std.specs.Prelude.{◌&&◌, IsTrue}
-use Rattle.std.proofs.lemmas.Bool.{and_parts}
-use Rattle.ans_model.specs.declared.cell.Cell.{Cell}
-use Rattle.ans_model.specs.declared.cell.Position.{Position}
+-- Which classes of starts cover which, and what is kept where one covers another.
+use Rattle.std.proofs.Common.{◌≡◌, ◌↔◌, refl, sym, List, Bool, true, false, ℕ, take}
+use Rattle.std.specs.Prelude.{IsTrue}
 use Rattle.ans_model.specs.Screen.State.{Size, State}
 use Rattle.ans_model.specs.Sequence.TokenKind.{TokenKind}
 use Rattle.ans_model.specs.Verdict.TokenFault.{then_blanks}
-use Rattle.ans_model.specs.Verdict.Good.{PrintsWell, PlaysWell}
-use Rattle.ans_model.specs.Screen.StartClass.{all_known, Covers, IsStart}
+use Rattle.ans_model.specs.Verdict.Good.{Picture, GoodWith, PrintsWell, PlaysWell}
+use Rattle.ans_model.specs.Screen.StartClass.{Covers, IsStart, all_but_screen, all_but_cursor, all_but_saved}
+use Rattle.ans_model.specs.Screen.StartClass.{all_but_colours, all_but_wrap}
 use Rattle.ans_model.specs.declared.start.Start.{Start}
-use Rattle.ans_model.specs.Laws.StartLaws.{NoneKnownIsEvery, AllKnownIsOne, LowIsStart, HighIsStart}
-use Rattle.ans_model.specs.Laws.StartLaws.{CoversStarts, CoversGood, BothKnownIsGreatest, CoversAllBut}
-use Rattle.ans_model.specs.Laws.StartLaws.{KnownScreenAlone, KnownCursorAlone, KnownSavedAlone, KnownColoursAlone}
-use Rattle.ans_model.specs.Laws.StartLaws.{KnownWrapAlone, KnownPartsTogether}
-use Rattle.ans_model.proofs.StartLemmas.{low_is_start, high_is_start}
 
-pub none_known_is_every : NoneKnownIsEvery
-none_known_is_every z s = (
-  λ start. start.well_formed,
-  λ well. record {
-    well_formed = well;
-    screen = λ known. absurd (cc known);
-    cursor = λ known. absurd (cc known);
-    saved = λ known. absurd (cc known);
-    attribute = λ known. absurd (cc known);
-    wrap = λ known. absurd (cc known);
-  },
-)
+-- a class covers itself
+pub covers_itself : (a : Start) → Covers a a
+covers_itself a = record { screen = λ k. k; cursor = λ k. k; saved = λ k. k; colours = λ k. k; wrap = λ k. k }
 
-state_of : List Cell → Position → Position → ℕ → Bool → State
-state_of screen cursor saved attribute wrap =
-    record { screen = screen; cursor = cursor; saved = saved; attribute = attribute; wrap = wrap }
-
--- states of equal parts are equal
-same_state : (x y : List Cell) (c d s t : Position) (a b : ℕ) (v w : Bool) → x ≡ y → c ≡ d → s ≡ t → a ≡ b → v ≡ w
-    → state_of x c s a v ≡ state_of y d t b w
-same_state x y c d s t a b v w p q r u e = cc
-
-pub all_known_is_one : AllKnownIsOne
-unfolding state_of
-all_known_is_one z s size = (
-  λ start. same_state _ _ _ _ _ _ _ _ _ _ (start.screen refl) (start.cursor refl) (start.saved refl)
-      (start.attribute refl) (start.wrap refl),
-  λ e. subst (λ (t : State). IsStart z all_known t) (sym e)
-      (low_is_start z all_known size.some_columns),
-)
-
--- the screen alone known: its cells are blanks of white on black
-pub known_screen_alone : KnownScreenAlone
-known_screen_alone z s = (
-  λ start. (start.well_formed, start.screen refl),
-  λ h. record {
-    well_formed = h.0;
-    screen = λ known. h.1;
-    cursor = λ known. absurd (cc known);
-    saved = λ known. absurd (cc known);
-    attribute = λ known. absurd (cc known);
-    wrap = λ known. absurd (cc known);
-  },
-)
-
--- the cursor alone known: it is at home
-pub known_cursor_alone : KnownCursorAlone
-known_cursor_alone z s = (
-  λ start. (start.well_formed, start.cursor refl),
-  λ h. record {
-    well_formed = h.0;
-    screen = λ known. absurd (cc known);
-    cursor = λ known. h.1;
-    saved = λ known. absurd (cc known);
-    attribute = λ known. absurd (cc known);
-    wrap = λ known. absurd (cc known);
-  },
-)
-
--- the saved cursor alone known: it is at home
-pub known_saved_alone : KnownSavedAlone
-known_saved_alone z s = (
-  λ start. (start.well_formed, start.saved refl),
-  λ h. record {
-    well_formed = h.0;
-    screen = λ known. absurd (cc known);
-    cursor = λ known. absurd (cc known);
-    saved = λ known. h.1;
-    attribute = λ known. absurd (cc known);
-    wrap = λ known. absurd (cc known);
-  },
-)
-
--- the colours alone known: they are white on black
-pub known_colours_alone : KnownColoursAlone
-known_colours_alone z s = (
-  λ start. (start.well_formed, start.attribute refl),
-  λ h. record {
-    well_formed = h.0;
-    screen = λ known. absurd (cc known);
-    cursor = λ known. absurd (cc known);
-    saved = λ known. absurd (cc known);
-    attribute = λ known. h.1;
-    wrap = λ known. absurd (cc known);
-  },
-)
-
--- wrap alone known: it is on
-pub known_wrap_alone : KnownWrapAlone
-known_wrap_alone z s = (
-  λ start. (start.well_formed, start.wrap refl),
-  λ h. record {
-    well_formed = h.0;
-    screen = λ known. absurd (cc known);
-    cursor = λ known. absurd (cc known);
-    saved = λ known. absurd (cc known);
-    attribute = λ known. absurd (cc known);
-    wrap = λ known. h.1;
-  },
-)
-
--- what is known in one of two classes is known in either
-known_left : (a b : Bool) → IsTrue a → IsTrue (a || b)
-known_left true b e = refl
-known_left false b e = absurd (cc e)
-
-known_right : (a b : Bool) → IsTrue b → IsTrue (a || b)
-known_right true b e = refl
-known_right false b e = e
-
--- what follows from either of two parts follows from both together
-from_either : {P : Type 0} (a b : Bool) → (IsTrue a → P) → (IsTrue b → P) → IsTrue (a || b) → P
-from_either true b p q e = p refl
-from_either false b p q e = q e
-
--- the known parts of two classes together: the starts are those of both
-pub known_parts_together : KnownPartsTogether
-known_parts_together z a b s = (
-  λ start. (
-    record {
-      well_formed = start.well_formed;
-      screen = λ known. start.screen (known_left a.screen b.screen known);
-      cursor = λ known. start.cursor (known_left a.cursor b.cursor known);
-      saved = λ known. start.saved (known_left a.saved b.saved known);
-      attribute = λ known. start.attribute (known_left a.colours b.colours known);
-      wrap = λ known. start.wrap (known_left a.wrap b.wrap known);
-    },
-    record {
-      well_formed = start.well_formed;
-      screen = λ known. start.screen (known_right a.screen b.screen known);
-      cursor = λ known. start.cursor (known_right a.cursor b.cursor known);
-      saved = λ known. start.saved (known_right a.saved b.saved known);
-      attribute = λ known. start.attribute (known_right a.colours b.colours known);
-      wrap = λ known. start.wrap (known_right a.wrap b.wrap known);
-    },
-  ),
-  λ both. record {
-    well_formed = both.0.well_formed;
-    screen = from_either a.screen b.screen both.0.screen both.1.screen;
-    cursor = from_either a.cursor b.cursor both.0.cursor both.1.cursor;
-    saved = from_either a.saved b.saved both.0.saved both.1.saved;
-    attribute = from_either a.colours b.colours both.0.attribute both.1.attribute;
-    wrap = from_either a.wrap b.wrap both.0.wrap both.1.wrap;
-  },
-)
-
-pub low_start_is_start : LowIsStart
-low_start_is_start z class size = low_is_start z class size.some_columns
-
-pub high_start_is_start : HighIsStart
-high_start_is_start z class size = high_is_start z class size.some_columns
-
-pub covers_starts : CoversStarts
+-- the starts of a class are starts of each class that covers it
+pub covers_starts : (z : Size) (a b : Start) (s : State) → Covers a b → IsStart z b s → IsStart z a s
 covers_starts z a b s covers start = record {
   well_formed = start.well_formed;
   screen = λ known. start.screen (covers.screen known);
@@ -201,7 +47,9 @@ module _ (z : Size) (a b : Start) (covers : Covers a b) where
         well.erases_at_one_position k e s t (more s start_s) (more t start_t);
   }
 
-pub covers_good : CoversGood
+-- what is good for a class is good for each class that it covers, and shows the same picture
+pub covers_good : (z : Size) (a b : Start) (content : List ℕ) (picture : Picture) → Covers a b
+    → GoodWith z a content picture → GoodWith z b content picture
 covers_good z a b content picture covers good = record {
   size = good.size;
   tokens = good.tokens;
@@ -213,94 +61,68 @@ covers_good z a b content picture covers good = record {
   };
 }
 
--- a truth that implies two implies both at once
-and_then : (p a b : Bool) → (IsTrue p → IsTrue a) → (IsTrue p → IsTrue b) → IsTrue p → IsTrue (a && b)
-and_then p a b first second known = rw (first known, second known) refl
-
--- a class covers the class of what both know exactly where it covers both
-pub both_known_is_greatest : BothKnownIsGreatest
-both_known_is_greatest a b c = (
-  λ covers. (
-    record {
-      screen = λ k. (and_parts a.screen b.screen (covers.screen k)).0;
-      cursor = λ k. (and_parts a.cursor b.cursor (covers.cursor k)).0;
-      saved = λ k. (and_parts a.saved b.saved (covers.saved k)).0;
-      colours = λ k. (and_parts a.colours b.colours (covers.colours k)).0;
-      wrap = λ k. (and_parts a.wrap b.wrap (covers.wrap k)).0;
-    },
-    record {
-      screen = λ k. (and_parts a.screen b.screen (covers.screen k)).1;
-      cursor = λ k. (and_parts a.cursor b.cursor (covers.cursor k)).1;
-      saved = λ k. (and_parts a.saved b.saved (covers.saved k)).1;
-      colours = λ k. (and_parts a.colours b.colours (covers.colours k)).1;
-      wrap = λ k. (and_parts a.wrap b.wrap (covers.wrap k)).1;
-    },
-  ),
-  λ (first, second). record {
-    screen = and_then c.screen a.screen b.screen first.screen second.screen;
-    cursor = and_then c.cursor a.cursor b.cursor first.cursor second.cursor;
-    saved = and_then c.saved a.saved b.saved first.saved second.saved;
-    colours = and_then c.colours a.colours b.colours first.colours second.colours;
-    wrap = and_then c.wrap a.wrap b.wrap first.wrap second.wrap;
-  },
-)
-
 -- a truth that is known nowhere is false
 known_nowhere : (p : Bool) → (IsTrue p → IsTrue false) → p ≡ false
 known_nowhere true never = absurd (let no : true ≡ false = sym (never refl) in cc)
 known_nowhere false never = refl
 
 -- a class covers that of all parts but one exactly where it does not know that part
-pub covers_all_but : (class : Start) → CoversAllBut class
-covers_all_but class = record {
-  screen = (
-    λ covers. known_nowhere class.screen covers.screen,
-    λ e. record {
-      screen = λ k. absurd (cc);
-      cursor = λ k. refl;
-      saved = λ k. refl;
-      colours = λ k. refl;
-      wrap = λ k. refl;
-    },
-  );
-  cursor = (
-    λ covers. known_nowhere class.cursor covers.cursor,
-    λ e. record {
-      screen = λ k. refl;
-      cursor = λ k. absurd (cc);
-      saved = λ k. refl;
-      colours = λ k. refl;
-      wrap = λ k. refl;
-    },
-  );
-  saved = (
-    λ covers. known_nowhere class.saved covers.saved,
-    λ e. record {
-      screen = λ k. refl;
-      cursor = λ k. refl;
-      saved = λ k. absurd (cc);
-      colours = λ k. refl;
-      wrap = λ k. refl;
-    },
-  );
-  colours = (
-    λ covers. known_nowhere class.colours covers.colours,
-    λ e. record {
-      screen = λ k. refl;
-      cursor = λ k. refl;
-      saved = λ k. refl;
-      colours = λ k. absurd (cc);
-      wrap = λ k. refl;
-    },
-  );
-  wrap = (
-    λ covers. known_nowhere class.wrap covers.wrap,
-    λ e. record {
-      screen = λ k. refl;
-      cursor = λ k. refl;
-      saved = λ k. refl;
-      colours = λ k. refl;
-      wrap = λ k. absurd (cc);
-    },
-  );
-}
+pub covers_all_but_screen : (class : Start) → Covers class all_but_screen ↔ (class.screen ≡ false)
+covers_all_but_screen class = (
+  λ covers. known_nowhere class.screen covers.screen,
+  λ e. record {
+    screen = λ k. absurd (cc);
+    cursor = λ k. refl;
+    saved = λ k. refl;
+    colours = λ k. refl;
+    wrap = λ k. refl;
+  },
+)
+
+pub covers_all_but_cursor : (class : Start) → Covers class all_but_cursor ↔ (class.cursor ≡ false)
+covers_all_but_cursor class = (
+  λ covers. known_nowhere class.cursor covers.cursor,
+  λ e. record {
+    screen = λ k. refl;
+    cursor = λ k. absurd (cc);
+    saved = λ k. refl;
+    colours = λ k. refl;
+    wrap = λ k. refl;
+  },
+)
+
+pub covers_all_but_saved : (class : Start) → Covers class all_but_saved ↔ (class.saved ≡ false)
+covers_all_but_saved class = (
+  λ covers. known_nowhere class.saved covers.saved,
+  λ e. record {
+    screen = λ k. refl;
+    cursor = λ k. refl;
+    saved = λ k. absurd (cc);
+    colours = λ k. refl;
+    wrap = λ k. refl;
+  },
+)
+
+pub covers_all_but_colours : (class : Start) → Covers class all_but_colours ↔ (class.colours ≡ false)
+covers_all_but_colours class = (
+  λ covers. known_nowhere class.colours covers.colours,
+  λ e. record {
+    screen = λ k. refl;
+    cursor = λ k. refl;
+    saved = λ k. refl;
+    colours = λ k. absurd (cc);
+    wrap = λ k. refl;
+  },
+)
+
+pub covers_all_but_wrap : (class : Start) → Covers class all_but_wrap ↔ (class.wrap ≡ false)
+covers_all_but_wrap class = (
+  λ covers. known_nowhere class.wrap covers.wrap,
+  λ e. record {
+    screen = λ k. refl;
+    cursor = λ k. refl;
+    saved = λ k. refl;
+    colours = λ k. refl;
+    wrap = λ k. absurd (cc);
+  },
+)

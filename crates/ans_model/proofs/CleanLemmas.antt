@@ -1,28 +1,21 @@
--- Where tokens are clean, none prints or scrolls in the spare row.
-use Rattle.std.proofs.Common.{◌≡◌, ◌≢◌, inl, inr, ℕ, zero, suc, ◌+◌, ◌%◌, ◌<◌, Bool, true, false, refl, ap, ◌∙◌}
-use Rattle.std.proofs.Common.{arith, List, take, replicate, Some, subst, lit<}
+-- Where tokens are clean, none prints or scrolls in the spare row, and each prints at one position.
+use Rattle.std.proofs.Common.{◌≡◌, inl, inr, ℕ, zero, suc, ◌%◌, ◌<◌, ap, ◌∙◌}
+use Rattle.std.proofs.Common.{arith, List, take, Some, subst, lit<}
 use Rattle.std.proofs.lemmas.List.{append-nil}
-use Rattle.std.proofs.lemmas.List.Sums.{fold-append}
 use Rattle.std.proofs.Math.Nat.{mod-lt}
-use Rattle.std.specs.Prelude.{if◌then◌else◌, nat_lt, slice_get}
-use Rattle.std.proofs.lemmas.Bool.{cases_eq, cases_lt, ne_eqb}
+use Rattle.std.specs.Prelude.{slice_get}
+use Rattle.std.proofs.lemmas.Bool.{cases_eq, cases_lt}
 use Rattle.ans_model.specs.Sequence.TokenKind.{TokenKind, Glyph, LineFeed, Tab}
-use Rattle.ans_model.specs.Bytes.{blank}
-use Rattle.ans_model.specs.Screen.State.{Size, State, FitsScreen, at}
+use Rattle.ans_model.specs.Screen.State.{Size}
 use Rattle.ans_model.specs.declared.cell.Position.{Position}
 use Rattle.ans_model.specs.declared.fault.Cause.{Cause}
 use Rattle.ans_model.specs.declared.fault.Cause.TheVariants.{PrintBelow, Scrolls, PrintUnknownPlace, MayScroll}
-use Rattle.ans_model.specs.Screen.Step.{final, line_feed, advanced, printed, step, tab_blanks}
+use Rattle.ans_model.specs.Screen.Step.{final, tab_blanks}
 use Rattle.ans_model.specs.declared.start.Start.{Start}
 use Rattle.ans_model.specs.Verdict.TokenFault.{FromEvery, SamePosition, PositionsDiffer, IsInSpareRow, HasFault}
 use Rattle.ans_model.specs.Verdict.TokenFault.{IsClean, HasPrintFault, HasTabFault, FromSome, then_blanks, TabGoesOn}
 use Rattle.ans_model.specs.Verdict.Good.{PrintsWell}
-use Rattle.ans_model.specs.Laws.StepLaws.{CleanNeverScrolls, GoodNeverScrolls, ScrollsAt}
 use Rattle.ans_model.proofs.PositionLemmas.{position_eq}
-use Rattle.ans_model.proofs.WellFormed.{fits_after_tokens}
-use Rattle.ans_model.proofs.TabLemmas.{tab_in_place}
-use Rattle.ans_model.proofs.Reading.{one_reading}
-use Rattle.ans_model.proofs.OneAnswer.{well_is_clean}
 
 -- ---- printed bytes
 -- where a printed byte has no fault, it is printed well
@@ -123,49 +116,3 @@ module _ (z : Size) (class : Start) (tokens : List TokenKind) (clean : IsClean z
   tabs_well k n e goes_on =
       printed_well z class (then_blanks (take k tokens) n)
       (no_fault_in_tab z class (take k tokens) (λ c f. clean k c (Tab, e, inr f)) n goes_on)
-
--- above the spare row a line feed leaves the screen
-feed_keeps : (z : Size) (s : State) → s.cursor.row ≢ z.lines → (line_feed z s).screen ≡ s.screen
-feed_keeps z s n = rw (ne_eqb s.cursor.row z.lines n) refl
-
--- and so does what follows a printed byte
-advance_keeps : (z : Size) (s : State) → s.cursor.row ≢ z.lines → (advanced z s).screen ≡ s.screen
-advance_keeps z s n = go (nat_lt (s.cursor.column + 1) z.width) s.wrap
-  where
-    go : (b w : Bool)
-        → (if b then record s { cursor = at s.cursor.row (s.cursor.column + 1) } else if w then line_feed z
-        (record s { cursor = at s.cursor.row 0 }) else s).screen ≡ s.screen
-    go true w = refl
-    go false true = feed_keeps z (record s { cursor = at s.cursor.row 0 }) n
-    go false false = refl
-
--- clean tokens write in place, from every start
-pub clean_never_scrolls : CleanNeverScrolls
-clean_never_scrolls z class tokens k LineFeed size clean e s start =
-    let now : State = final z s (take k tokens) in
-    let above : now.cursor.row ≢ z.lines = no_feed_below z class tokens clean k e s start in
-    record { never_scrolls = above; in_place = feed_keeps z now above }
-clean_never_scrolls z class tokens k (Glyph byte) size clean e s start =
-    let now : State = final z s (take k tokens) in
-    let above : now.cursor.row ≢ z.lines = (prints_well z class tokens clean k byte e).never_below s start in
-    record {
-      never_scrolls = λ scrolls. above scrolls.0;
-      in_place = advance_keeps z (printed z now byte) above;
-    }
-clean_never_scrolls z class tokens k Tab size clean e s start =
-    let now : State = final z s (take k tokens) in
-    let never : ¬ ScrollsAt z now Tab = λ (n, goes_on, scrolls).
-    let well : PrintsWell z class (then_blanks (take k tokens) n) =
-    tabs_well z class tokens clean k n e (s, start, goes_on) in
-    well.never_below s start (rw (fold-append (step z) s (take k tokens) (replicate n (Glyph blank))) scrolls.0) in
-    let fits : FitsScreen z now =
-    fits_after_tokens z s (take k tokens) size.some_columns start.well_formed.fits in
-    record { never_scrolls = never; in_place = tab_in_place z now fits never }
-clean_never_scrolls z class tokens k _ size clean e s start = record { never_scrolls = λ h. h; in_place = refl }
-
--- the tokens of good content are clean
-pub good_never_scrolls : GoodNeverScrolls
-good_never_scrolls z class content tokens k t (picture, good) reads e =
-    let same : good.tokens ≡ tokens = one_reading content good.tokens tokens good.reads reads in
-    let clean : IsClean z class good.tokens = well_is_clean z class good.tokens good.size.some_columns good.plays in
-    clean_never_scrolls z class tokens k t good.size (rw same at clean) e

@@ -4,8 +4,6 @@ pub mod AttributeBytes
 pub mod PositionLemmas
 pub mod WellFormed
 pub mod StartLemmas
-pub mod AttributeFieldsLemmas
-pub mod MoveLemmas
 pub mod StepLemmas
 pub mod TabLemmas
 pub mod CleanLemmas
@@ -15,14 +13,7 @@ pub mod Reading
 pub mod Refusing
 pub mod OneCause
 pub mod OneAnswer
-pub mod OneTokensText
 pub mod AcceptedFiles
 pub mod FirstRefusal
-pub mod NoteOrder
 pub mod CellsBack
-pub mod OwnCharacters
-pub mod OwnLines
-pub mod WholeLines
 pub mod AfterPart
-pub mod SpellingExamples
-pub mod SequenceExamples

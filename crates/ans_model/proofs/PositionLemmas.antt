@@ -1,12 +1,11 @@
 -- Places and their indices in row order.
 use Rattle.std.proofs.Common.{◌≡◌, ◌≢◌, ◌⊎◌, inl, inr, ℕ, ◌+◌, ◌*◌, ◌<◌, ◌≤◌, ap, ◌∙◌, arith, add-mul}
 use Rattle.std.proofs.Common.{one-mul}
-use Rattle.std.proofs.lemmas.Bool.{cases_eq, cases_lt}
+use Rattle.std.proofs.lemmas.Bool.{cases_eq}
 use Rattle.std.proofs.lemmas.Nat.{mul-le}
 use Rattle.ans_model.specs.declared.cell.Position.{Position}
 use Rattle.ans_model.specs.Screen.State.{Size, at, IsOnScreen, IsStated, cell_count, index}
 use Rattle.ans_model.specs.Screen.Step.{next_row_start}
-use Rattle.ans_model.specs.Laws.StepLaws.{OnePositionAnIndex}
 
 pub same_position : (p q : Position) → p.row ≡ q.row → p.column ≡ q.column → p ≡ q
 same_position p q r c = ap (λ (x : ℕ). at x p.column) r ∙ ap (λ (x : ℕ). at q.row x) c
@@ -50,15 +49,3 @@ index-lt z p h = omega (arith, row_le z p.row (z.lines + 1) (omega (arith, h.0))
 -- a position of the stated lines has a cell of the picture
 pub index-lt_stated : (z : Size) (p : Position) → IsStated z p → index z p < z.lines * z.width
 index-lt_stated z p h = omega (arith, row_le z p.row z.lines h.0, h.1)
-
-pub one_position_an_index : OnePositionAnIndex
-one_position_an_index z p q on_p on_q e = elim (cases_lt p.row q.row) [
-  | inl less ↦ absurd (omega (arith, index-lt_row z p q on_p.1 less))
-  | inr more ↦ elim (cases_lt q.row p.row) [
-    | inl less ↦ absurd (omega (arith, index-lt_row z q p on_q.1 less))
-    | inr other ↦
-        let row : p.row ≡ q.row = omega arith in
-        let start : p.row * z.width ≡ q.row * z.width = ap (λ (n : ℕ). n * z.width) row in
-        same_position p q row (omega (arith, start))
-  ]
-]

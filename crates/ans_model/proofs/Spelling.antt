@@ -13,7 +13,6 @@ use Rattle.ans_model.specs.Sequence.Spelling.{is_mark_byte, Member, Omitted, Num
 use Rattle.ans_model.specs.declared.mark.Mark.{Mark}
 use Rattle.ans_model.specs.declared.mark.Mark.TheVariants.{Unmarked, Equals, Question}
 use Rattle.ans_model.specs.Sequence.Spelling.{mark_bytes, is_quote, SpellsMember, Loose}
-use Rattle.ans_model.specs.Laws.SequenceLaws.{OneSpellingInFront}
 
 pub head_of : {A : Type 0} {a b : A} {x y : List A} → a ∷ x ≡ b ∷ y → a ≡ b
 head_of e = cc
@@ -315,7 +314,9 @@ in_front_law r s x y bytes h g =
     (rw (← m.1) at g.tail_is) in
     (raw_path r s m.0 t.0 t.1, t.2)
 
-pub one_spelling_in_front : OneSpellingInFront
+-- two spellings at the front of one list of bytes are one spelling of one sequence
+pub one_spelling_in_front : (r s : Raw) (a b x y : List ℕ) → Loose r a → Loose s b → a ++ x ≡ b ++ y
+    → (r ≡ s) × (a ≡ b) × (x ≡ y)
 one_spelling_in_front r s a b x y h g e =
     let t = in_front_law r s x y (a ++ x) (in_front r a x h) (rw (← e) at (in_front s b y g)) in
     let same : x ≡ y = t.1 in

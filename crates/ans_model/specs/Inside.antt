@@ -1,6 +1,4 @@
--- What contracts inside the repository cite and no promise to a user does: an unfinished sequence, and the plain
--- machine.
+-- What contracts inside the repository cite and no promise to a user does: the token of a kind, and an unfinished
+-- sequence.
 pub mod ShownKind
 pub mod OpenPart
-pub mod MachineView
-pub mod ShownMachine

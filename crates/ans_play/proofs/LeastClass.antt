@@ -8,15 +8,12 @@ use Rattle.ans_model.specs.Screen.StartClass.{all_but_saved, all_but_colours, al
 use Rattle.ans_model.specs.Verdict.Good.{IsGood}
 use Rattle.ans_model.specs.Verdict.Needs.{IsLeast, IsFoundByParts}
 use Rattle.ans_model.specs.declared.start.Start.{Start}
-use Rattle.ans_model.proofs.ClassLemmas.{covers_good, covers_all_but}
+use Rattle.ans_model.proofs.ClassLemmas.{covers_itself, covers_good, covers_all_but_screen, covers_all_but_cursor}
+use Rattle.ans_model.proofs.ClassLemmas.{covers_all_but_saved, covers_all_but_colours, covers_all_but_wrap}
 use Rattle.ans_play.proofs.GoodFromBoth.{good_from_both}
 use Rattle.ans_play.proofs.WholeBytes.{good_or_not}
 
 -- ---- classes
--- a class covers itself
-covers_itself : (a : Start) → Covers a a
-covers_itself a = record { screen = λ k. k; cursor = λ k. k; saved = λ k. k; colours = λ k. k; wrap = λ k. k }
-
 -- truths that say the same are the same
 same_truth : (p q : Bool) → (IsTrue p → IsTrue q) → (IsTrue q → IsTrue p) → p ≡ q
 same_truth true q there back = let e : q ≡ true = there refl in cc
@@ -96,15 +93,15 @@ module _ (z : Size) (content : List ℕ) (class : Start) (all : IsGood z all_kno
   least_by_parts c = (
     λ good. record {
       screen = needed_part z content all_but_screen class.screen c.screen found.screen
-          (λ e. covered_is_good z content c all_but_screen ((covers_all_but c).screen.1 e) good);
+          (λ e. covered_is_good z content c all_but_screen ((covers_all_but_screen c).1 e) good);
       cursor = needed_part z content all_but_cursor class.cursor c.cursor found.cursor
-          (λ e. covered_is_good z content c all_but_cursor ((covers_all_but c).cursor.1 e) good);
+          (λ e. covered_is_good z content c all_but_cursor ((covers_all_but_cursor c).1 e) good);
       saved = needed_part z content all_but_saved class.saved c.saved found.saved
-          (λ e. covered_is_good z content c all_but_saved ((covers_all_but c).saved.1 e) good);
+          (λ e. covered_is_good z content c all_but_saved ((covers_all_but_saved c).1 e) good);
       colours = needed_part z content all_but_colours class.colours c.colours found.colours
-          (λ e. covered_is_good z content c all_but_colours ((covers_all_but c).colours.1 e) good);
+          (λ e. covered_is_good z content c all_but_colours ((covers_all_but_colours c).1 e) good);
       wrap = needed_part z content all_but_wrap class.wrap c.wrap found.wrap
-          (λ e. covered_is_good z content c all_but_wrap ((covers_all_but c).wrap.1 e) good);
+          (λ e. covered_is_good z content c all_but_wrap ((covers_all_but_wrap c).1 e) good);
     },
     λ covers. covered_is_good z content class c covers found_is_good,
   )

@@ -2,7 +2,7 @@
 
 use super::file_of;
 use super::slow_machine::SlowMachine;
-use ans_answer::{Answer, plain_answer};
+use ans_laws::{Answer, plain_answer};
 use ans_check::{Verdict, check};
 use ans_model::cell::Cell;
 use ans_model::fault::{Cause, Fault};

@@ -1,0 +1,546 @@
+-- What is written of a file is clean.
+use Rattle.std.proofs.Common.{◌≡◌, inl, inr, ℕ, zero, suc, ◌+◌, ◌*◌, ◌≤◌, Bool, true, false, refl, sym, ap, subst}
+use Rattle.std.proofs.Common.{arith, List, [], ◌∷◌, ◌++◌, length, map, take, drop, codes, Option, Some, None, All}
+use Rattle.std.proofs.Common.{unwrap_or}
+use Rattle.std.specs.Prelude.{◌==◌, ◌&&◌, ◌||◌, if◌then◌else◌, decimal, flat_map}
+use Rattle.std.proofs.lemmas.Bool.Decides.{nat_tests}
+use Rattle.std.proofs.lemmas.List.{length-take}
+use Rattle.std.proofs.lemmas.List.Elements.{All-head, All-tail, All-nil, All-cons, All-map, All-weaker, All-take}
+use Rattle.std.proofs.lemmas.List.Elements.{All-drop}
+use Rattle.ans_model.specs.declared.cell.Cell.{Cell}
+use Rattle.ans_model.specs.declared.fault.Fault.{Fault}
+use Rattle.ans_model.specs.declared.fault.Cause.{Cause}
+use Rattle.ans_model.specs.declared.fault.Cause.TheVariants.{NoRecord, WrongVersion, WrongKind, CommentsMissing}
+use Rattle.ans_model.specs.declared.fault.Cause.TheVariants.{LinesUnstated, WidthTooLarge, LinesTooLarge}
+use Rattle.ans_model.specs.declared.fault.Cause.TheVariants.{BytesAfterEndMark, BrokenSequence, NumberTooLarge}
+use Rattle.ans_model.specs.declared.fault.Cause.TheVariants.{TooManyParameters, EndInSequence, UnknownSequence}
+use Rattle.ans_model.specs.declared.fault.Cause.TheVariants.{WrongParameters, KeyReassigned, ScreenMode, ReportAsked}
+use Rattle.ans_model.specs.declared.fault.Cause.TheVariants.{OutsideScreen, PrintBelow, Scrolls}
+use Rattle.ans_model.specs.declared.fault.Cause.TheVariants.{PrintUnknownPlace, EraseUnknownPlace, MayScroll}
+use Rattle.ans_model.specs.declared.fault.Cause.TheVariants.{UnknownCell}
+use Rattle.ans_model.specs.declared.note.Note.{Note}
+use Rattle.ans_model.specs.declared.note.Note.TheVariants.{WidthAssumed, NoEndMark, SizeDiffers, OddDate, FlagBits}
+use Rattle.ans_model.specs.declared.note.Note.TheVariants.{FlagPair}
+use Rattle.ans_model.specs.declared.start.Start.{Start}
+use Rattle.ans_model.specs.Bytes.{IsByte}
+use Rattle.ans_model.specs.File.Layout.{FileParts, comment_block, content}
+use Rattle.ans_model.specs.File.NoteConditions.{notes}
+use Rattle.ans_model.specs.File.Record.{number, field, title_field, author_field, group_field, date_field, file_size}
+use Rattle.ans_model.specs.File.Record.{comment_count, flags, font_field, stated_width, stated_lines}
+use Rattle.ans_model.specs.File.Record.{trimmed, comment}
+use Rattle.ans_model.specs.File.Refusals.{Accepts}
+use Rattle.ans_model.specs.Screen.State.{Size, IsByteCell, sized}
+use Rattle.ans_model.specs.Sequence.TokenKind.{TokenKind, PrintsByte, Glyph, Bell, BackSpace, LineFeed, CarriageReturn}
+use Rattle.ans_model.specs.Sequence.TokenKind.{Tab, Up, Down, Forward, Backward, Place, Clear, EraseLine, Save}
+use Rattle.ans_model.specs.Sequence.TokenKind.{Restore, Colours, Wrap, Mode, Keys, Ask}
+use Rattle.ans_model.specs.Text.Characters.{shown_bytes}
+use Rattle.ans_model.specs.Text.FaultText.{line_of, fault_text, position_text, fault_line, note_line}
+use Rattle.ans_model.specs.Text.Hexadecimal.{hex_byte}
+use Rattle.ans_model.specs.Text.NeedsText.{needed_parts}
+use Rattle.ans_model.specs.Text.RecordText.{named_line, field_line, comment_lines, record_text}
+use Rattle.ans_model.specs.Text.ReportText.{Heading, Passed, RefusedFor, known_part, known_parts, start_name}
+use Rattle.ans_model.specs.Text.ReportText.{size_text, start_line}
+use Rattle.ans_model.specs.Text.ReportText.{heading_text, rows, rows_of, picture_line, cell_digits, cells_line}
+use Rattle.ans_model.specs.Text.ReportText.{picture_text, cells_text, refusal_text, verdict_text, report_text}
+use Rattle.ans_model.specs.Text.TokensText.{token_name, token_line, token_lines, fault_end, TokensText}
+use Rattle.ans_model.specs.Verdict.Good.{Picture}
+use Rattle.ans_model.proofs.Reading.{reads_bytes}
+use Rattle.ans_options.specs.declared.command.Command.{Command}
+use Rattle.ans_options.specs.declared.command.Command.TheVariants.{Check, Sauce, Tokens, Needs}
+use Rattle.ans_options.specs.declared.command.Options.{Options}
+use Rattle.ans_report.specs.Message.{message_line}
+use Rattle.ans_check.specs.CommandText.{Reports, ReportsBy, ReportsCheck, ReportsNeeds}
+use Rattle.ans_check.specs.CommandText.{ReportsRecordFault, ReportsSauce, ReportsTokens, heading}
+use Rattle.ans_check.specs.Ending.{ending_message}
+use Rattle.ans_check.specs.declared.errors.RunError.{RunError}
+use Rattle.ans_check.specs.declared.errors.RunError.TheVariants as error
+use Rattle.ans_check.specs.declared.exit_status.Ending.{Ending}
+use Rattle.ans_check.specs.declared.exit_status.Ending.TheVariants.{Run, Help, Usage, UnreadableWords, UnopenedFile}
+use Rattle.ans_check.specs.Run.{run_error_text}
+use Rattle.std.specs.Prelude.{Ok, Err}
+use Rattle.ans_judge.specs.CleanTexts.{IsCleanText}
+use Rattle.ans_judge.proofs.CleanPieces.{clean_nil, clean_append, clean_if, clean_flat_map, plain_text, clean_line}
+use Rattle.ans_judge.proofs.CleanPieces.{clean_decimal, clean_hex_byte, clean_numbers, clean_shown}
+
+-- ---- faults and notes
+
+fault_text_clean : (cause : Cause) → IsCleanText (fault_text cause)
+fault_text_clean NoRecord = plain_text (fault_text NoRecord) refl
+fault_text_clean WrongVersion = plain_text (fault_text WrongVersion) refl
+fault_text_clean WrongKind = plain_text (fault_text WrongKind) refl
+fault_text_clean CommentsMissing = plain_text (fault_text CommentsMissing) refl
+fault_text_clean LinesUnstated = plain_text (fault_text LinesUnstated) refl
+fault_text_clean WidthTooLarge = plain_text (fault_text WidthTooLarge) refl
+fault_text_clean LinesTooLarge = plain_text (fault_text LinesTooLarge) refl
+fault_text_clean BytesAfterEndMark = plain_text (fault_text BytesAfterEndMark) refl
+fault_text_clean BrokenSequence = plain_text (fault_text BrokenSequence) refl
+fault_text_clean NumberTooLarge = plain_text (fault_text NumberTooLarge) refl
+fault_text_clean TooManyParameters = plain_text (fault_text TooManyParameters) refl
+fault_text_clean EndInSequence = plain_text (fault_text EndInSequence) refl
+fault_text_clean UnknownSequence = plain_text (fault_text UnknownSequence) refl
+fault_text_clean WrongParameters = plain_text (fault_text WrongParameters) refl
+fault_text_clean KeyReassigned = plain_text (fault_text KeyReassigned) refl
+fault_text_clean ScreenMode = plain_text (fault_text ScreenMode) refl
+fault_text_clean ReportAsked = plain_text (fault_text ReportAsked) refl
+fault_text_clean OutsideScreen = plain_text (fault_text OutsideScreen) refl
+fault_text_clean PrintBelow = plain_text (fault_text PrintBelow) refl
+fault_text_clean Scrolls = plain_text (fault_text Scrolls) refl
+fault_text_clean PrintUnknownPlace = plain_text (fault_text PrintUnknownPlace) refl
+fault_text_clean EraseUnknownPlace = plain_text (fault_text EraseUnknownPlace) refl
+fault_text_clean MayScroll = plain_text (fault_text MayScroll) refl
+fault_text_clean (UnknownCell row col) = plain_text (codes "F25 cell stays unknown") refl
+
+unknown_cell_clean : (row col : ℕ) → IsCleanText (position_text (UnknownCell row col))
+unknown_cell_clean row col =
+    clean_append (codes " (row ") (decimal row ++ (codes ", column " ++ (decimal col ++ codes ")")))
+    (plain_text (codes " (row ") refl)
+    (clean_append (decimal row) (codes ", column " ++ (decimal col ++ codes ")")) (clean_decimal row)
+    (clean_append (codes ", column ") (decimal col ++ codes ")") (plain_text (codes ", column ") refl)
+    (clean_append (decimal col) (codes ")") (clean_decimal col) (plain_text (codes ")") refl))))
+
+position_clean : (cause : Cause) → IsCleanText (position_text cause)
+position_clean NoRecord = clean_nil
+position_clean WrongVersion = clean_nil
+position_clean WrongKind = clean_nil
+position_clean CommentsMissing = clean_nil
+position_clean LinesUnstated = clean_nil
+position_clean WidthTooLarge = clean_nil
+position_clean LinesTooLarge = clean_nil
+position_clean BytesAfterEndMark = clean_nil
+position_clean BrokenSequence = clean_nil
+position_clean NumberTooLarge = clean_nil
+position_clean TooManyParameters = clean_nil
+position_clean EndInSequence = clean_nil
+position_clean UnknownSequence = clean_nil
+position_clean WrongParameters = clean_nil
+position_clean KeyReassigned = clean_nil
+position_clean ScreenMode = clean_nil
+position_clean ReportAsked = clean_nil
+position_clean OutsideScreen = clean_nil
+position_clean PrintBelow = clean_nil
+position_clean Scrolls = clean_nil
+position_clean PrintUnknownPlace = clean_nil
+position_clean EraseUnknownPlace = clean_nil
+position_clean MayScroll = clean_nil
+position_clean (UnknownCell row col) = unknown_cell_clean row col
+
+fault_line_clean : (fault : Fault) → IsCleanText (fault_line fault)
+fault_line_clean fault =
+    let told = fault_text fault.cause ++ position_text fault.cause in
+    clean_line (codes "at " ++ (decimal fault.offset ++ (codes ": " ++ told)))
+    (clean_append (codes "at ") (decimal fault.offset ++ (codes ": " ++ told)) (plain_text (codes "at ") refl)
+    (clean_append (decimal fault.offset) (codes ": " ++ told) (clean_decimal fault.offset)
+    (clean_append (codes ": ") told (plain_text (codes ": ") refl)
+    (clean_append (fault_text fault.cause) (position_text fault.cause) (fault_text_clean fault.cause)
+    (position_clean fault.cause)))))
+
+note_line_clean : (note : Note) → IsCleanText (note_line note)
+note_line_clean WidthAssumed = plain_text (note_line WidthAssumed) refl
+note_line_clean NoEndMark = plain_text (note_line NoEndMark) refl
+note_line_clean SizeDiffers = plain_text (note_line SizeDiffers) refl
+note_line_clean OddDate = plain_text (note_line OddDate) refl
+note_line_clean FlagBits = plain_text (note_line FlagBits) refl
+note_line_clean FlagPair = plain_text (note_line FlagPair) refl
+
+refusal_clean : (fault : Fault) → IsCleanText (refusal_text fault)
+refusal_clean fault =
+    clean_append (line_of (codes "verdict: refused")) (fault_line fault)
+    (plain_text (line_of (codes "verdict: refused")) refl) (fault_line_clean fault)
+
+-- ---- headings
+
+size_clean : (z : Size) → IsCleanText (size_text z)
+size_clean z =
+    clean_append (decimal z.width) (codes " x " ++ decimal z.lines) (clean_decimal z.width)
+    (clean_append (codes " x ") (decimal z.lines) (plain_text (codes " x ") refl) (clean_decimal z.lines))
+
+parts_clean : (s : Start) → IsCleanText (known_parts s)
+parts_clean s =
+    let colours = known_part s.colours (codes "colours") in
+    let saved = known_part s.saved (codes "saved") in
+    let cursor = known_part s.cursor (codes "cursor") in
+    let wrap = known_part s.wrap (codes "wrap") in
+    clean_append (known_part s.screen (codes "screen")) (cursor ++ (saved ++ (colours ++ wrap)))
+    (clean_if s.screen (codes " screen") [] (plain_text (codes " screen") refl) clean_nil)
+    (clean_append cursor (saved ++ (colours ++ wrap))
+    (clean_if s.cursor (codes " cursor") [] (plain_text (codes " cursor") refl) clean_nil)
+    (clean_append saved (colours ++ wrap)
+    (clean_if s.saved (codes " saved") [] (plain_text (codes " saved") refl) clean_nil)
+    (clean_append colours wrap
+    (clean_if s.colours (codes " colours") [] (plain_text (codes " colours") refl) clean_nil)
+    (clean_if s.wrap (codes " wrap") [] (plain_text (codes " wrap") refl) clean_nil))))
+
+start_name_clean : (s : Start) → IsCleanText (start_name s)
+start_name_clean s =
+    let named = codes "known" ++ known_parts s in
+    let some = if s.screen || s.cursor || s.saved || s.colours || s.wrap then named else codes "any" in
+    clean_if (s.screen && s.cursor && s.saved && s.colours && s.wrap) (codes "cleared") some
+    (plain_text (codes "cleared") refl)
+    (clean_if (s.screen || s.cursor || s.saved || s.colours || s.wrap) (codes "known" ++ known_parts s) (codes "any")
+    (clean_append (codes "known") (known_parts s) (plain_text (codes "known") refl) (parts_clean s))
+    (plain_text (codes "any") refl))
+
+needed_parts_clean : (s : Start) → IsCleanText (needed_parts s)
+needed_parts_clean s =
+    clean_if (s.screen || s.cursor || s.saved || s.colours || s.wrap) (known_parts s) (codes " nothing") (parts_clean s)
+    (plain_text (codes " nothing") refl)
+
+size_line_clean : (z : Size) → IsCleanText (line_of (codes "size: " ++ size_text z))
+size_line_clean z =
+    clean_line (codes "size: " ++ size_text z)
+    (clean_append (codes "size: ") (size_text z) (plain_text (codes "size: ") refl) (size_clean z))
+
+-- the lines of the content's length and of the notes
+length_and_notes_clean : (n : ℕ) (noted : List Note)
+    → IsCleanText (line_of (codes "content: " ++ (decimal n ++ codes " bytes")) ++ flat_map note_line noted)
+length_and_notes_clean n noted =
+    clean_append (line_of (codes "content: " ++ (decimal n ++ codes " bytes"))) (flat_map note_line noted)
+    (clean_line (codes "content: " ++ (decimal n ++ codes " bytes"))
+    (clean_append (codes "content: ") (decimal n ++ codes " bytes") (plain_text (codes "content: ") refl)
+    (clean_append (decimal n) (codes " bytes") (clean_decimal n) (plain_text (codes " bytes") refl))))
+    (clean_flat_map note_line noted note_line_clean)
+
+start_line_clean : (start : Option Start) → IsCleanText (start_line start)
+start_line_clean None = clean_nil
+start_line_clean (Some s) =
+    clean_line (codes "start: " ++ start_name s)
+    (clean_append (codes "start: ") (start_name s) (plain_text (codes "start: ") refl) (start_name_clean s))
+
+heading_clean : (h : Heading) → IsCleanText (heading_text h)
+heading_clean h =
+    let length_line = line_of (codes "content: " ++ (decimal h.content_length ++ codes " bytes")) in
+    let after = length_line ++ flat_map note_line h.notes in
+    clean_append (line_of (codes "size: " ++ size_text h.size)) (start_line h.start ++ after) (size_line_clean h.size)
+    (clean_append (start_line h.start) after (start_line_clean h.start)
+    (length_and_notes_clean h.content_length h.notes))
+
+-- ---- pictures
+
+picture_line_clean : (row : List Cell) → All IsByteCell row → IsCleanText (picture_line row)
+picture_line_clean row h =
+    let byte : Cell → ℕ = λ c. c.byte in
+    clean_line (shown_bytes (map (λ c. c.byte) row))
+    (clean_shown (map (λ c. c.byte) row)
+    (All-map IsByte (λ (c : Cell). c.byte) row (All-weaker IsByteCell (λ c. IsByte c.byte) (λ c both. both.0) row h)))
+
+digits_clean : (row : List Cell) → All IsByteCell row → IsCleanText (flat_map cell_digits row)
+digits_clean [] h = clean_nil
+digits_clean (c ∷ row) h =
+    let both = All-head IsByteCell c row h in
+    clean_append (cell_digits c) (flat_map cell_digits row)
+    (clean_append (hex_byte c.byte) (hex_byte c.attribute) (clean_hex_byte c.byte both.0)
+    (clean_hex_byte c.attribute both.1))
+    (digits_clean row (All-tail IsByteCell c row h))
+
+cells_line_clean : (row : List Cell) → All IsByteCell row → IsCleanText (cells_line row)
+cells_line_clean row h = clean_line (flat_map cell_digits row) (digits_clean row h)
+
+-- lines of rows are clean where the line of each row of byte cells is
+rows_clean : (line : List Cell → List ℕ) → ((row : List Cell) → All IsByteCell row → IsCleanText (line row))
+    → (width lines : ℕ) (cells : List Cell) → All IsByteCell cells
+    → IsCleanText (flat_map line (rows width lines cells))
+rows_clean line each width zero cells h = clean_nil
+rows_clean line each width (suc lines) cells h =
+    clean_append (line (take width cells)) (flat_map line (rows width lines (drop width cells)))
+    (each (take width cells) (All-take IsByteCell width cells h))
+    (rows_clean line each width lines (drop width cells) (All-drop IsByteCell width cells h))
+
+picture_clean : (picture : Picture) → All IsByteCell picture.cells → IsCleanText (picture_text picture)
+picture_clean picture h =
+    clean_append (line_of (codes "picture:")) (flat_map picture_line (rows_of picture))
+    (plain_text (line_of (codes "picture:")) refl)
+    (rows_clean picture_line picture_line_clean picture.size.width picture.size.lines picture.cells h)
+
+cells_clean : (picture : Picture) → All IsByteCell picture.cells → IsCleanText (cells_text picture)
+cells_clean picture h =
+    clean_append (line_of (codes "cells:")) (flat_map cells_line (rows_of picture))
+    (plain_text (line_of (codes "cells:")) refl)
+    (rows_clean cells_line cells_line_clean picture.size.width picture.size.lines picture.cells h)
+
+pass_clean : (heading : Heading) (picture : Picture) (with_cells : Bool) → All IsByteCell picture.cells
+    → IsCleanText (report_text heading (Passed picture with_cells))
+pass_clean heading picture with_cells h =
+    let cells = if with_cells then cells_text picture else [] in
+    clean_append (heading_text heading) (verdict_text (Passed picture with_cells)) (heading_clean heading)
+    (clean_append (line_of (codes "verdict: pass")) (picture_text picture ++ cells)
+    (plain_text (line_of (codes "verdict: pass")) refl)
+    (clean_append (picture_text picture) cells (picture_clean picture h)
+    (clean_if with_cells (cells_text picture) [] (cells_clean picture h) clean_nil)))
+
+refused_clean : (heading : Heading) (fault : Fault) → IsCleanText (report_text heading (RefusedFor fault))
+refused_clean heading fault =
+    clean_append (heading_text heading) (refusal_text fault) (heading_clean heading) (refusal_clean fault)
+
+-- ---- bytes of a file
+
+-- of two lists of which all are so, all of each are
+all_left : {X : Type 0} (P : X → Type 0) (xs ys : List X) → All P (xs ++ ys) → All P xs
+all_left P [] ys h = All-nil P
+all_left P (x ∷ xs) ys h =
+    All-cons P x xs (All-head P x (xs ++ ys) h) (all_left P xs ys (All-tail P x (xs ++ ys) h))
+
+all_right : {X : Type 0} (P : X → Type 0) (xs ys : List X) → All P (xs ++ ys) → All P ys
+all_right P [] ys h = h
+all_right P (x ∷ xs) ys h = all_right P xs ys (All-tail P x (xs ++ ys) h)
+
+none_of : (xs : List ℕ) → length xs ≡ 0 → All IsByte xs
+none_of [] e = All-nil IsByte
+none_of (x ∷ xs) e = absurd (omega (arith, e))
+
+-- the comments are bytes where their block is
+comments_are_bytes : (count : ℕ) (comment_bytes : List ℕ) → length comment_bytes ≡ 64 * count
+    → All IsByte (comment_block count comment_bytes) → All IsByte comment_bytes
+comments_are_bytes count comment_bytes long h = by_test (count == 0) refl h
+  where
+    zero_of : (count == 0) ≡ true → count ≡ 0
+    zero_of e = grind (arith, nat_tests)
+
+    by_test : (none : Bool) → (count == 0) ≡ none → All IsByte (if none then [] else codes "COMNT" ++ comment_bytes)
+        → All IsByte comment_bytes
+    by_test true e g = none_of comment_bytes (omega (arith, long, zero_of e))
+    by_test false e g = all_right IsByte (codes "COMNT") comment_bytes g
+
+-- the parts of a file of bytes are bytes
+record OfBytes (apart : FileParts) : Type 0 where
+  comments : All IsByte apart.comment_bytes
+  sauce : All IsByte apart.record_bytes
+
+parts_are_bytes : (file : List ℕ) (apart : FileParts) → Accepts file apart → All IsByte file → OfBytes apart
+parts_are_bytes file apart accepts h =
+    let count = comment_count apart.record_bytes in
+    let block = comment_block count apart.comment_bytes in
+    let all : All IsByte (apart.body ++ (block ++ apart.record_bytes)) =
+    subst (λ (v : List ℕ). All IsByte v) accepts.laid.whole h in
+    let rest = all_right IsByte apart.body (block ++ apart.record_bytes) all in
+    record {
+      comments = comments_are_bytes count apart.comment_bytes accepts.laid.comments
+          (all_left IsByte block apart.record_bytes rest);
+      sauce = all_right IsByte block apart.record_bytes rest;
+    }
+
+-- ---- records
+
+field_is_bytes : (offset size : ℕ) (bytes : List ℕ) → All IsByte bytes → All IsByte (field offset size bytes)
+field_is_bytes offset size bytes h =
+    All-take IsByte size (drop offset bytes) (All-drop IsByte offset bytes h)
+
+trimmed_is_bytes : (text : List ℕ) → All IsByte text → All IsByte (trimmed text)
+trimmed_is_bytes text h = All-take IsByte _ text h
+
+named_clean : (name text : List ℕ) → IsCleanText name → IsCleanText text → IsCleanText (named_line name text)
+named_clean name text h g =
+    clean_line (name ++ (codes ": " ++ text))
+    (clean_append name (codes ": " ++ text) h (clean_append (codes ": ") text (plain_text (codes ": ") refl) g))
+
+field_clean : (name bytes : List ℕ) → IsCleanText name → All IsByte bytes → IsCleanText (field_line name bytes)
+field_clean name bytes h g =
+    named_clean name (shown_bytes (trimmed bytes)) h (clean_shown (trimmed bytes) (trimmed_is_bytes bytes g))
+
+comment_clean : (i : ℕ) (bytes : List ℕ) → All IsByte bytes
+    → IsCleanText (named_line (codes "comment") (shown_bytes (comment bytes i)))
+comment_clean i bytes h =
+    let line = take 64 (drop (64 * i) bytes) in
+    named_clean (codes "comment") (shown_bytes (comment bytes i)) (plain_text (codes "comment") refl)
+    (clean_shown (trimmed line) (trimmed_is_bytes line (All-take IsByte 64 (drop (64 * i) bytes)
+    (All-drop IsByte (64 * i) bytes h))))
+
+comment_lines_clean : (i n : ℕ) (bytes : List ℕ) → All IsByte bytes → IsCleanText (comment_lines i n bytes)
+comment_lines_clean i zero bytes h = clean_nil
+comment_lines_clean i (suc n) bytes h =
+    clean_append (named_line (codes "comment") (shown_bytes (comment bytes i))) (comment_lines (i + 1) n bytes)
+    (comment_clean i bytes h) (comment_lines_clean (i + 1) n bytes h)
+
+-- a number of one byte is a byte
+one_byte : (bytes : List ℕ) → length bytes ≤ 1 → All IsByte bytes → IsByte (number bytes)
+one_byte [] l h = omega arith
+one_byte (b ∷ []) l h = omega (arith, All-head IsByte b [] h)
+one_byte (a ∷ b ∷ bytes) l h = absurd (omega (arith, l))
+
+flags_are_a_byte : (bytes : List ℕ) → All IsByte bytes → IsByte (flags bytes)
+flags_are_a_byte bytes h =
+    one_byte (field 105 1 bytes) (omega (arith, length-take 1 (drop 105 bytes))) (field_is_bytes 105 1 bytes h)
+
+record_clean : (apart : FileParts) → OfBytes apart → IsCleanText (record_text apart)
+record_clean apart h =
+    let sauce = apart.record_bytes in
+    let noted = flat_map note_line (notes apart.body sauce) in
+    let comments = comment_lines 0 (comment_count sauce) apart.comment_bytes ++ noted in
+    let count = named_line (codes "comments") (decimal (comment_count sauce)) ++ comments in
+    let size = named_line (codes "file size") (decimal (file_size sauce)) ++ count in
+    let font = field_line (codes "font") (font_field sauce) ++ size in
+    let flagged = named_line (codes "flags") (hex_byte (flags sauce)) ++ font in
+    let stated = sized (stated_width sauce) (stated_lines sauce) in
+    let screen = named_line (codes "size") (size_text stated) ++ flagged in
+    let date = field_line (codes "date") (date_field sauce) ++ screen in
+    let group = field_line (codes "group") (group_field sauce) ++ date in
+    let author = field_line (codes "author") (author_field sauce) ++ group in
+    clean_append (field_line (codes "title") (title_field sauce)) author
+    (field_clean (codes "title") (title_field sauce) (plain_text (codes "title") refl)
+    (field_is_bytes 7 35 sauce h.sauce))
+    (clean_append (field_line (codes "author") (author_field sauce)) group
+    (field_clean (codes "author") (author_field sauce) (plain_text (codes "author") refl)
+    (field_is_bytes 42 20 sauce h.sauce))
+    (clean_append (field_line (codes "group") (group_field sauce)) date
+    (field_clean (codes "group") (group_field sauce) (plain_text (codes "group") refl)
+    (field_is_bytes 62 20 sauce h.sauce))
+    (clean_append (field_line (codes "date") (date_field sauce)) screen
+    (field_clean (codes "date") (date_field sauce) (plain_text (codes "date") refl)
+    (field_is_bytes 82 8 sauce h.sauce))
+    (clean_append (named_line (codes "size") (size_text stated)) flagged
+    (named_clean (codes "size") (size_text stated) (plain_text (codes "size") refl) (size_clean stated))
+    (clean_append (named_line (codes "flags") (hex_byte (flags sauce))) font
+    (named_clean (codes "flags") (hex_byte (flags sauce)) (plain_text (codes "flags") refl)
+    (clean_hex_byte (flags sauce) (flags_are_a_byte sauce h.sauce)))
+    (clean_append (field_line (codes "font") (font_field sauce)) size
+    (field_clean (codes "font") (font_field sauce) (plain_text (codes "font") refl)
+    (field_is_bytes 106 22 sauce h.sauce))
+    (clean_append (named_line (codes "file size") (decimal (file_size sauce))) count
+    (named_clean (codes "file size") (decimal (file_size sauce)) (plain_text (codes "file size") refl)
+    (clean_decimal (file_size sauce)))
+    (clean_append (named_line (codes "comments") (decimal (comment_count sauce))) comments
+    (named_clean (codes "comments") (decimal (comment_count sauce)) (plain_text (codes "comments") refl)
+    (clean_decimal (comment_count sauce)))
+    (clean_append (comment_lines 0 (comment_count sauce) apart.comment_bytes) noted
+    (comment_lines_clean 0 (comment_count sauce) apart.comment_bytes h.comments)
+    (clean_flat_map note_line (notes apart.body sauce) note_line_clean))))))))))
+
+-- ---- tokens
+
+number_clean : (name : List ℕ) (n : ℕ) → IsCleanText name → IsCleanText (name ++ decimal n)
+number_clean name n h = clean_append name (decimal n) h (clean_decimal n)
+
+token_name_clean : (token : TokenKind) → PrintsByte token → IsCleanText (token_name token)
+token_name_clean (Glyph b) byte =
+    clean_append (codes "glyph ") (hex_byte b) (plain_text (codes "glyph ") refl) (clean_hex_byte b byte)
+token_name_clean Bell h = plain_text (codes "bell") refl
+token_name_clean BackSpace h = plain_text (codes "backspace") refl
+token_name_clean LineFeed h = plain_text (codes "linefeed") refl
+token_name_clean CarriageReturn h = plain_text (codes "return") refl
+token_name_clean Tab h = plain_text (codes "tab") refl
+token_name_clean (Up n) h = number_clean (codes "up ") n (plain_text (codes "up ") refl)
+token_name_clean (Down n) h = number_clean (codes "down ") n (plain_text (codes "down ") refl)
+token_name_clean (Forward n) h = number_clean (codes "forward ") n (plain_text (codes "forward ") refl)
+token_name_clean (Backward n) h = number_clean (codes "backward ") n (plain_text (codes "backward ") refl)
+token_name_clean (Place row column) h =
+    clean_append (codes "place ") (decimal row ++ (codes ";" ++ decimal column)) (plain_text (codes "place ") refl)
+    (clean_append (decimal row) (codes ";" ++ decimal column) (clean_decimal row)
+    (number_clean (codes ";") column (plain_text (codes ";") refl)))
+token_name_clean Clear h = plain_text (codes "clear") refl
+token_name_clean EraseLine h = plain_text (codes "erase") refl
+token_name_clean Save h = plain_text (codes "save") refl
+token_name_clean Restore h = plain_text (codes "restore") refl
+token_name_clean (Colours parameters) h =
+    clean_append (codes "colours ") _ (plain_text (codes "colours ") refl) (clean_numbers parameters)
+token_name_clean (Wrap true) h = plain_text (codes "wrap on") refl
+token_name_clean (Wrap false) h = plain_text (codes "wrap off") refl
+token_name_clean Mode h = plain_text (codes "mode") refl
+token_name_clean Keys h = plain_text (codes "keys") refl
+token_name_clean Ask h = plain_text (codes "ask") refl
+
+token_line_clean : (start : ℕ) (token : TokenKind) (text : List ℕ) → PrintsByte token
+    → IsCleanText (token_line start token text)
+token_line_clean start token text h =
+    let told = codes " " ++ token_name token in
+    let counted = codes " " ++ (decimal (length text) ++ told) in
+    clean_line (decimal start ++ counted)
+    (clean_append (decimal start) counted (clean_decimal start)
+    (clean_append (codes " ") (decimal (length text) ++ told) (plain_text (codes " ") refl)
+    (clean_append (decimal (length text)) told (clean_decimal (length text))
+    (clean_append (codes " ") (token_name token) (plain_text (codes " ") refl) (token_name_clean token h)))))
+
+token_lines_clean : (start : ℕ) (tokens : List TokenKind) (texts : List (List ℕ)) → All PrintsByte tokens
+    → IsCleanText (token_lines start tokens texts)
+token_lines_clean start [] texts h = clean_nil
+token_lines_clean start (t ∷ tokens) [] h = clean_nil
+token_lines_clean start (t ∷ tokens) (text ∷ texts) h =
+    clean_append (token_line start t text) (token_lines (start + length text) tokens texts)
+    (token_line_clean start t text (All-head PrintsByte t tokens h))
+    (token_lines_clean (start + length text) tokens texts (All-tail PrintsByte t tokens h))
+
+fault_end_clean : (fault : Option Fault) → IsCleanText (fault_end fault)
+fault_end_clean None = clean_nil
+fault_end_clean (Some fault) = fault_line_clean fault
+
+tokens_clean : (bytes : List ℕ) (fault : Option Fault) (text : List ℕ) → TokensText bytes fault text → IsCleanText text
+tokens_clean bytes fault text h =
+    subst IsCleanText (sym h.text_is)
+    (clean_append (token_lines 0 h.tokens h.texts) (fault_end fault)
+    (token_lines_clean 0 h.tokens h.texts (reads_bytes h.front h.tokens (h.texts, h.reads)))
+    (fault_end_clean fault))
+
+-- ---- each command
+
+record_fault_clean : (file text : List ℕ) → ReportsRecordFault file text → IsCleanText text
+record_fault_clean file text h = subst IsCleanText (sym h.text_is) (refusal_clean h.fault)
+
+check_clean : (file : List ℕ) (start : Start) (cells passed : Bool) (text : List ℕ)
+    → ReportsCheck file start cells passed text → IsCleanText text
+check_clean file start cells true text h =
+    subst IsCleanText (sym h.text_is)
+    (pass_clean (heading h.apart (Some start)) h.picture cells h.passes.good.shows.is_picture.bytes)
+check_clean file start cells false text (not_good, inl h) =
+    subst IsCleanText (sym h.text_is) (refused_clean (heading h.apart (Some start)) h.fault)
+check_clean file start cells false text (not_good, inr h) = record_fault_clean file text h
+
+sauce_clean : (file : List ℕ) (passed : Bool) (text : List ℕ) → All IsByte file → ReportsSauce file passed text
+    → IsCleanText text
+sauce_clean file true text bytes h =
+    subst IsCleanText (sym h.text_is) (record_clean h.apart (parts_are_bytes file h.apart h.accepts bytes))
+sauce_clean file false text bytes h = record_fault_clean file text h
+
+tokens_report_clean : (file : List ℕ) (passed : Bool) (text : List ℕ) → ReportsTokens file passed text
+    → IsCleanText text
+tokens_report_clean file true text h = tokens_clean (content h.apart.body) None text h.text_is
+tokens_report_clean file false text (inl (fault, h)) = tokens_clean (content h.apart.body) (Some fault) text h.text_is
+tokens_report_clean file false text (inr h) = record_fault_clean file text h
+
+needs_clean : (file : List ℕ) (passed : Bool) (text : List ℕ) → ReportsNeeds file passed text → IsCleanText text
+needs_clean file true text h =
+    let said = codes "needs:" ++ needed_parts h.class in
+    subst IsCleanText (sym h.text_is)
+    (clean_append (heading_text (heading h.apart None)) (line_of said) (heading_clean (heading h.apart None))
+    (clean_line said
+    (clean_append (codes "needs:") (needed_parts h.class) (plain_text (codes "needs:") refl)
+    (needed_parts_clean h.class))))
+needs_clean file false text (not_good, inl h) =
+    subst IsCleanText (sym h.text_is) (refused_clean (heading h.apart None) h.fault)
+needs_clean file false text (not_good, inr h) = record_fault_clean file text h
+
+clean_by : (command : Command) (start : Start) (cells : Bool) (file text : List ℕ) (passed : Bool) → All IsByte file
+    → ReportsBy command start cells file passed text → IsCleanText text
+clean_by Check start cells file text passed bytes h = check_clean file start cells passed text h
+clean_by Sauce start cells file text passed bytes h = sauce_clean file passed text bytes h
+clean_by Tokens start cells file text passed bytes h = tokens_report_clean file passed text h
+clean_by Needs start cells file text passed bytes h = needs_clean file passed text h
+
+pub reports_clean : (options : Options) (file text : List ℕ) (passed : Bool) → All IsByte file
+    → Reports options file passed text → IsCleanText text
+reports_clean options file text passed bytes h =
+    clean_by options.command options.start options.cells file text passed bytes h
+
+-- ---- what is said where there is no answer
+
+error_text_clean : (e : RunError) → IsCleanText (run_error_text e)
+error_text_clean error.Read = plain_text (codes "cannot read the file") refl
+error_text_clean error.TooLong = plain_text (codes "file above 16777216 bytes") refl
+error_text_clean error.Memory = plain_text (codes "out of memory") refl
+error_text_clean error.Write = plain_text (codes "cannot write the report") refl
+
+-- a text that is given is clean where it is that of another
+given_clean : (given text : List ℕ) → IsCleanText given → Some given ≡ Some text → IsCleanText text
+given_clean given text h e = subst IsCleanText (ap (λ o. unwrap_or o given) e) h
+
+message_clean : (ending : Ending) (text : List ℕ) → ending_message ending ≡ Some text → IsCleanText text
+message_clean (Run (Ok passed)) text e = absurd (cc)
+message_clean (Run (Err error)) text e = given_clean (run_error_text error) text (error_text_clean error) e
+message_clean Help text e = absurd (cc)
+message_clean Usage text e = absurd (cc)
+message_clean UnreadableWords text e =
+    given_clean (codes "cannot read the command line") text (plain_text (codes "cannot read the command line") refl) e
+message_clean UnopenedFile text e =
+    given_clean (codes "cannot open the file") text (plain_text (codes "cannot open the file") refl) e
+
+pub messages_clean : (ending : Ending) (text : List ℕ) → ending_message ending ≡ Some text
+    → IsCleanText (message_line text)
+messages_clean ending text e =
+    named_clean (codes "anscheck") text (plain_text (codes "anscheck") refl) (message_clean ending text e)

@@ -1,0 +1,145 @@
+-- What a parameter does to each field, shown for each byte.
+use Rattle.std.proofs.Common.{◌≡◌, inl, inr, ℕ, zero, suc, ◌+◌, ◌<◌, Bool, true, false, refl, sym, ap, ◌∙◌, subst}
+use Rattle.std.proofs.Common.{List, [], ◌∷◌, Option, None, arith}
+use Rattle.std.specs.Prelude.{◌&&◌, ◌==◌}
+use Rattle.std.specs.List.{list_all}
+use Rattle.std.proofs.lemmas.Bool.{eqb-true, cases_eq, and_parts, ne_eqb}
+use Rattle.std.proofs.lemmas.List.Sums.{fold-append}
+use Rattle.ans_model.specs.Screen.Attribute.{Rendition, renditions, rendition_of, attribute_by, attribute_after}
+use Rattle.ans_laws.specs.AttributeLaws.{foreground, bright, background, blink, colour, HasFields}
+use Rattle.ans_laws.specs.AttributeLaws.{ResetsAttribute, SetsBright, SetsBlue, SetsBlink, SetsBlackOnWhite}
+use Rattle.ans_laws.specs.AttributeLaws.{SetsBlackOnBlack, SetsForeground, SetsBackground}
+use Rattle.ans_laws.specs.AttributeLaws.{is_colour_parameter, OthersChangeNothing, NoneChangeNothing}
+use Rattle.ans_laws.specs.AttributeLaws.{EachAfterTheOthers}
+
+-- the test holds of each number below n
+abbrev all_below : ℕ → (ℕ → Bool) → Bool
+all_below zero p = true
+all_below (suc n) p = p n && all_below n p
+
+-- a test that holds below n holds at each number below n
+holds_at_each : (n : ℕ) (p : ℕ → Bool) → all_below n p ≡ true → (k : ℕ) → k < n → p k ≡ true
+holds_at_each zero p h k lt = absurd (omega arith)
+holds_at_each (suc n) p h k lt = elim (cases_eq k n) [
+  | inl e ↦ subst (λ (i : ℕ). p i ≡ true) (sym e) (and_parts (p n) (all_below n p) h).0
+  | inr ne ↦ holds_at_each n p (and_parts (p n) (all_below n p) h).1 k (omega arith)
+]
+
+-- an attribute has these fields, as a test
+abbrev has_fields : ℕ → ℕ → ℕ → ℕ → ℕ → Bool
+has_fields new f b g l = foreground new == f && (bright new == b && (background new == g && blink new == l))
+
+-- an attribute that passes the test has the fields
+fields_of_test : (new f b g l : ℕ) → has_fields new f b g l ≡ true → HasFields new f b g l
+fields_of_test new f b g l h =
+    let one = and_parts (foreground new == f) (bright new == b && (background new == g && blink new == l)) h in
+    let two = and_parts (bright new == b) (background new == g && blink new == l) one.1 in
+    let three = and_parts (background new == g) (blink new == l) two.1 in
+    record {
+      foreground_is = eqb-true (foreground new) f one.0;
+      bright_is = eqb-true (bright new) b two.0;
+      background_is = eqb-true (background new) g three.0;
+      blink_is = eqb-true (blink new) l three.1;
+    }
+
+-- each of the tests below is run on all attributes
+reset_all : all_below 256 (λ a. has_fields (attribute_after a 0) 7 0 0 0) ≡ true
+reset_all = refl
+
+bright_all : all_below 256 (λ a. has_fields (attribute_after a 1) (foreground a) 1 (background a) (blink a)) ≡ true
+bright_all = refl
+
+blue_all : all_below 256 (λ a. has_fields (attribute_after a 4) 1 (bright a) (background a) (blink a)) ≡ true
+blue_all = refl
+
+black_on_white_all : all_below 256 (λ a. has_fields (attribute_after a 7) 0 (bright a) 7 (blink a)) ≡ true
+black_on_white_all = refl
+
+black_on_black_all : all_below 256 (λ a. has_fields (attribute_after a 8) 0 (bright a) 0 (blink a)) ≡ true
+black_on_black_all = refl
+
+blink_all : all_below 256 (λ a. has_fields (attribute_after a 5) (foreground a) (bright a) (background a) 1) ≡ true
+blink_all = refl
+
+foreground_all : all_below 8
+    (λ i. all_below 256 (λ a. has_fields (attribute_after a (30 + i)) (colour i) (bright a) (background a)
+    (blink a))) ≡ true
+foreground_all = refl
+
+background_all : all_below 8
+    (λ i. all_below 256 (λ a. has_fields (attribute_after a (40 + i)) (foreground a) (bright a) (colour i)
+    (blink a))) ≡ true
+background_all = refl
+
+pub resets : ResetsAttribute
+resets a h = fields_of_test (attribute_after a 0) 7 0 0 0
+    (holds_at_each 256 (λ a. has_fields (attribute_after a 0) 7 0 0 0) reset_all a h)
+
+pub sets_bright : SetsBright
+sets_bright a h = fields_of_test (attribute_after a 1) (foreground a) 1 (background a) (blink a)
+    (holds_at_each 256 (λ a. has_fields (attribute_after a 1) (foreground a) 1 (background a) (blink a)) bright_all a h)
+
+pub sets_blink : SetsBlink
+sets_blink a h = fields_of_test (attribute_after a 5) (foreground a) (bright a) (background a) 1
+    (holds_at_each 256 (λ a. has_fields (attribute_after a 5) (foreground a) (bright a) (background a) 1) blink_all a h)
+
+pub sets_blue : SetsBlue
+sets_blue a h = fields_of_test (attribute_after a 4) 1 (bright a) (background a) (blink a)
+    (holds_at_each 256 (λ a. has_fields (attribute_after a 4) 1 (bright a) (background a) (blink a)) blue_all a h)
+
+pub sets_black_on_white : SetsBlackOnWhite
+sets_black_on_white a h = fields_of_test (attribute_after a 7) 0 (bright a) 7 (blink a)
+    (holds_at_each 256 (λ a. has_fields (attribute_after a 7) 0 (bright a) 7 (blink a)) black_on_white_all a h)
+
+pub sets_black_on_black : SetsBlackOnBlack
+sets_black_on_black a h = fields_of_test (attribute_after a 8) 0 (bright a) 0 (blink a)
+    (holds_at_each 256 (λ a. has_fields (attribute_after a 8) 0 (bright a) 0 (blink a)) black_on_black_all a h)
+
+pub sets_foreground : SetsForeground
+sets_foreground a i h lt =
+    let of_colour =
+    holds_at_each 8
+    (λ i. all_below 256 (λ a. has_fields (attribute_after a (30 + i)) (colour i) (bright a) (background a)
+    (blink a))) foreground_all i lt in
+    fields_of_test (attribute_after a (30 + i)) (colour i) (bright a) (background a) (blink a)
+    (holds_at_each 256 (λ a. has_fields (attribute_after a (30 + i)) (colour i) (bright a) (background a) (blink a))
+    of_colour a h)
+
+pub sets_background : SetsBackground
+sets_background a i h lt =
+    let of_colour =
+    holds_at_each 8
+    (λ i. all_below 256 (λ a. has_fields (attribute_after a (40 + i)) (foreground a) (bright a) (colour i)
+    (blink a))) background_all i lt in
+    fields_of_test (attribute_after a (40 + i)) (foreground a) (bright a) (colour i) (blink a)
+    (holds_at_each 256 (λ a. has_fields (attribute_after a (40 + i)) (foreground a) (bright a) (colour i) (blink a))
+    of_colour a h)
+
+-- the law names the parameter of this line
+abbrev is_named : Rendition → Bool
+is_named r = is_colour_parameter r.parameter
+
+-- each line of the table has a name
+lines_are_named : list_all is_named renditions ≡ true
+lines_are_named = refl
+
+-- a number without a name is in no line
+in_no_line : (rs : List Rendition) (p : ℕ) → list_all is_named rs ≡ true → is_colour_parameter p ≡ false
+    → rendition_of rs p ≡ None
+in_no_line [] p named h = refl
+in_no_line (r ∷ rs) p named h =
+    let t : (is_named r ≡ true) × (list_all is_named rs ≡ true) = and_parts (is_named r) (list_all is_named rs) named in
+    elim (cases_eq p r.parameter) [
+      | inl e ↦ let both : true ≡ false = sym t.0 ∙ ap is_colour_parameter (sym e) ∙ h in absurd (cc)
+      | inr ne ↦ rw (ne_eqb p r.parameter ne) (in_no_line rs p t.1 h)
+    ]
+
+pub others_change_nothing : OthersChangeNothing
+others_change_nothing a p h = ap (λ (o : Option Rendition). attribute_by o a)
+    (in_no_line renditions p lines_are_named h)
+
+pub none_change_nothing : NoneChangeNothing
+none_change_nothing a = refl
+
+pub each_after_the_others : EachAfterTheOthers
+each_after_the_others a p others = fold-append attribute_after a others (p ∷ [])

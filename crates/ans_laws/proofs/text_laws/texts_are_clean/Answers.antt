@@ -1,8 +1,0 @@
-use Rattle.ans_laws.proofs.CleanReports.{messages_clean, reports_clean}
-use Rattle.ans_laws.proofs.text_laws.texts_are_clean.Goals as goal
-
-pub returns-clause-reports : goal.returns-clause-reports
-returns-clause-reports c = reports_clean
-
-pub returns-clause-messages : goal.returns-clause-messages
-returns-clause-messages c = messages_clean

@@ -1,0 +1,97 @@
+//! Laws of the machine: what each line of the table of steps changes and what it leaves.
+
+ghost use Rattle.ans_laws.specs.MoveLaws.{MovesChangeCursor, UpGoesUp, DownGoesDown};
+ghost use Rattle.ans_laws.specs.MoveLaws.{ForwardGoesRight};
+ghost use Rattle.ans_laws.specs.MoveLaws.{BackwardGoesLeft, BackSpaceGoesLeft};
+ghost use Rattle.ans_laws.specs.MoveLaws.{ReturnGoesToFirstColumn};
+ghost use Rattle.ans_laws.specs.MoveLaws.{RestoreGoesToSaved, PlacesCursor};
+ghost use Rattle.ans_laws.specs.MoveLaws.{PlaceStopsAtEdges, DownUndoesUp};
+ghost use Rattle.ans_laws.specs.MoveLaws.{ForwardUndoesBackward};
+ghost use Rattle.ans_laws.specs.StepLaws.{OnePositionAnIndex, SavesCursor};
+ghost use Rattle.ans_laws.specs.StepLaws.{ColoursChangeAttribute};
+ghost use Rattle.ans_laws.specs.StepLaws.{WrapChangesWrap, IdleChangesNothing, ClearsScreen};
+ghost use Rattle.ans_laws.specs.StepLaws.{ErasesLine};
+ghost use Rattle.ans_laws.specs.StepLaws.{GlyphPrints, GlyphScrolls, LineFeedMovesDown};
+ghost use Rattle.ans_laws.specs.StepLaws.{LineFeedScrolls};
+ghost use Rattle.ans_laws.specs.StepLaws.{TabPrintsBlanks, TabBlanksCells, FullTabScrolls};
+ghost use Rattle.ans_laws.specs.StepLaws.{StepsAreWellFormed};
+ghost use Rattle.ans_laws.specs.StepLaws.{CleanNeverScrolls, GoodNeverScrolls};
+
+/// Two positions of the screen have two indices.
+pub fn positions_have_indices()
+    ensures { OnePositionAnIndex }
+{}
+
+/// Moves change the cursor alone.
+pub fn moves_change_the_cursor()
+    ensures { MovesChangeCursor }
+{}
+
+/// Where each move takes the cursor, inside the screen and at its edges.
+pub fn moves_go_where_they_say()
+    ensures up { UpGoesUp }
+    ensures down { DownGoesDown }
+    ensures forward { ForwardGoesRight }
+    ensures backward { BackwardGoesLeft }
+    ensures back_space { BackSpaceGoesLeft }
+    ensures carriage_return { ReturnGoesToFirstColumn }
+    ensures restore { RestoreGoesToSaved }
+    ensures place { PlacesCursor }
+    ensures place_edges { PlaceStopsAtEdges }
+{}
+
+/// Down undoes Up, and Forward undoes Backward, where no edge is met.
+pub fn moves_are_undone()
+    ensures up { DownUndoesUp }
+    ensures backward { ForwardUndoesBackward }
+{}
+
+/// Save, Colours and Wrap change one part each, and the idle tokens none.
+pub fn settings_change_one_part()
+    ensures saved { SavesCursor }
+    ensures attribute { ColoursChangeAttribute }
+    ensures wrap { WrapChangesWrap }
+    ensures idle { IdleChangesNothing }
+{}
+
+/// Clear blanks each cell; EraseLine those of the cursor's row from the cursor on.
+pub fn erasures_blank_cells()
+    ensures clear { ClearsScreen }
+    ensures line { ErasesLine }
+{}
+
+/// A Glyph changes the cursor's cell, and the cursor goes on. Where it wraps in the spare row, the
+/// screen scrolls.
+pub fn glyphs_print()
+    ensures printed { GlyphPrints }
+    ensures scrolls { GlyphScrolls }
+{}
+
+/// A Tab is the play of its blanks: they change the cells from the cursor on, and the cursor then
+/// stands after them. Where wrap is on and they reach the end of the spare row, the screen scrolls.
+pub fn tabs_print_blanks()
+    ensures blanks { TabPrintsBlanks }
+    ensures cells { TabBlanksCells }
+    ensures scrolls { FullTabScrolls }
+{}
+
+/// A LineFeed goes down a row, and in the spare row it scrolls the screen.
+pub fn line_feeds_go_down()
+    ensures down { LineFeedMovesDown }
+    ensures scrolls { LineFeedScrolls }
+{}
+
+/// After a step the state is still one of the machine.
+pub fn steps_are_well_formed()
+    ensures { StepsAreWellFormed }
+{}
+
+/// Clean tokens scroll from no start: no line feed, no print that wraps, and no tab.
+pub fn clean_tokens_never_scroll()
+    ensures { CleanNeverScrolls }
+{}
+
+/// The tokens of good content scroll from no start.
+pub fn good_content_never_scrolls()
+    ensures { GoodNeverScrolls }
+{}

@@ -1,8 +1,0 @@
-use Rattle.ans_model.proofs.FirstRefusal.{answers_first_that_applies, refusal_within_file}
-use Rattle.ans_model.proofs.file_laws.first_refusal_answers.Goals as goal
-
-pub returns-clause-first : goal.returns-clause-first
-returns-clause-first c = answers_first_that_applies
-
-pub returns-clause-within : goal.returns-clause-within
-returns-clause-within c = refusal_within_file

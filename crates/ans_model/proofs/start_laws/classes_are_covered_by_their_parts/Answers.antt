@@ -1,5 +1,0 @@
-use Rattle.ans_model.proofs.ClassLemmas.{both_known_is_greatest, covers_all_but}
-use Rattle.ans_model.proofs.start_laws.classes_are_covered_by_their_parts.Goals as goal
-
-pub returns : goal.returns
-returns c = record { both = both_known_is_greatest; all_but_one = covers_all_but }

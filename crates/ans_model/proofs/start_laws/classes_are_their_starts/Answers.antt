@@ -1,5 +1,0 @@
-use Rattle.ans_model.proofs.ClassLemmas.{none_known_is_every, all_known_is_one}
-use Rattle.ans_model.proofs.start_laws.classes_are_their_starts.Goals as goal
-
-pub returns : goal.returns
-returns c = record { any = none_known_is_every; cleared = all_known_is_one }

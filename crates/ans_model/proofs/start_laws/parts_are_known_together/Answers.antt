@@ -1,5 +1,0 @@
-use Rattle.ans_model.proofs.ClassLemmas.{known_parts_together}
-use Rattle.ans_model.proofs.start_laws.parts_are_known_together.Goals as goal
-
-pub returns : goal.returns
-returns c = known_parts_together

@@ -1,5 +1,0 @@
-use Rattle.ans_model.proofs.CleanLemmas.{clean_never_scrolls}
-use Rattle.ans_model.proofs.step_laws.clean_tokens_never_scroll.Goals as goal
-
-pub returns : goal.returns
-returns c = clean_never_scrolls

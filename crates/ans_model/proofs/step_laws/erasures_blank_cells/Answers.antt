@@ -1,5 +1,0 @@
-use Rattle.ans_model.proofs.StepLemmas.{clears_screen, erases_line}
-use Rattle.ans_model.proofs.step_laws.erasures_blank_cells.Goals as goal
-
-pub returns : goal.returns
-returns c = record { clear = clears_screen; line = erases_line }

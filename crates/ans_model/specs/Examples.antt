@@ -1,2 +1,0 @@
--- Files and contents by example.
-pub mod TextExamples
