@@ -162,20 +162,6 @@ joined_rest m (n ∷ ms) t (u ∷ us) letter x h = (
   append_assoc t (semicolon ∷ join_with_byte semicolon (u ∷ us)) (letter ∷ x),
 )
 
--- the other way: what such bytes begin with are the texts of the members, joined
-pub rest_joined : (m : Member) (ms : List Member) (letter : ℕ) (x bytes : List ℕ) → Rest m ms letter x bytes
-    → (t : List ℕ) × (ts : List (List ℕ)) × AllZip SpellsMember (m ∷ ms) (t ∷ ts)
-    × (bytes ≡ join_with_byte semicolon (t ∷ ts) ++ letter ∷ x)
-rest_joined m [] letter x bytes h = (h.0, [], (h.1, tt), h.2)
-rest_joined m (n ∷ ms) letter x bytes h =
-    let ih = rest_joined n ms letter x h.1 h.3 in (
-      h.0,
-      ih.0 ∷ ih.1,
-      (h.2, ih.2),
-      h.4 ∙ ap (λ (v : List ℕ). h.0 ++ semicolon ∷ v) ih.3 ∙ sym
-          (append_assoc h.0 (semicolon ∷ join_with_byte semicolon (ih.0 ∷ ih.1)) (letter ∷ x)),
-    )
-
 -- members, the letter and what follows are determined by the bytes
 pub one_list_of_members : (m n : Member) (ms ns : List Member) (l k : ℕ) (x y bytes : List ℕ)
     → is_ascii_alphabetic l ≡ true

@@ -84,23 +84,6 @@ module _ (w row : ℕ) (states : List RowState) (extents : List Extent) where
       → state_at w states extents i ≡ state_in (get_or states row Stale) (get_or extents row nowhere) i
   state_here i e = ap (λ (r : ℕ). state_in (get_or states r Stale) (get_or extents r nowhere) i) e
 
-  -- at a cell of another row, where the row is held otherwise
-  pub state_elsewhere : (s : RowState) (held : Extent) (i : ℕ) → i / w ≢ row
-      → state_at w (set states row s) (set extents row held) i ≡ state_at w states extents i
-  state_elsewhere s held i other =
-      ap (λ t. state_in t (get_or (set extents row held) (i / w) nowhere) i)
-      (get_or-set_other states row (i / w) s Stale other)
-      ∙ ap (λ e. state_in (get_or states (i / w) Stale) e i)
-      (get_or-set_other extents row (i / w) held nowhere other)
-
-  -- at a cell of the row, where it is held otherwise
-  pub state_otherwise : (s : RowState) (held : Extent) (i : ℕ) → row < length states → row < length extents
-      → i / w ≡ row → state_at w (set states row s) (set extents row held) i ≡ state_in s held i
-  state_otherwise s held i ls le e =
-      ap (λ (r : ℕ). state_in (get_or (set states row s) r Stale) (get_or (set extents row held) r nowhere) i) e
-      ∙ (ap (λ t. state_in t (get_or (set extents row held) row nowhere) i) (get_or-set_same states row s Stale ls)
-      ∙ ap (λ h. state_in s h i) (get_or-set_same extents row held nowhere le))
-
 -- ---- the same cells in other states
 pub same_rows : (w rows : ℕ) (states states' : ℕ → RowState) (blank : HalfCell) (gs ks bs vs gs' ks' bs' vs' : List ℕ)
     → ((i : ℕ) → i < w * rows → cell_at states' blank gs' ks' bs' vs' i ≡ cell_at states blank gs ks bs vs i)

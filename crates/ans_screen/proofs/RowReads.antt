@@ -32,29 +32,6 @@ pub state_read : (states : List RowState) (row : ℕ) (x s : RowState) → row <
     → x ≡ s → get_or states row Stale ≡ s
 state_read states row x s lt read e = sym (get_or_read states row x lt read Stale) ∙ e
 
--- stale cells of which the blank is known, known cells, and stale cells of which the blank is not known
-pub known_where_stale : (states : ℕ → RowState) (blank : HalfCell) (gs ks bs vs : List ℕ) (from to : ℕ)
-    → ((i : ℕ) → from ≤ i → i < to → states i ≡ Stale) → is_known blank ≡ true
-    → AreKnownCells (cell_at states blank gs ks bs vs) from to
-known_where_stale states blank gs ks bs vs from to stale known i le lt =
-    ap (λ t. is_unknown (row_cell t blank (get_or gs i 0) (get_or ks i 0) (get_or bs i 0) (get_or vs i 0)))
-    (stale i le lt)
-    ∙ ap not known
-
-pub known_where_known : (states : ℕ → RowState) (blank : HalfCell) (gs ks bs vs : List ℕ) (from to : ℕ)
-    → ((i : ℕ) → from ≤ i → i < to → states i ≡ Known)
-    → AreKnownCells (cell_at states blank gs ks bs vs) from to
-known_where_known states blank gs ks bs vs from to known i le lt =
-    ap (λ t. is_unknown (row_cell t blank (get_or gs i 0) (get_or ks i 0) (get_or bs i 0) (get_or vs i 0)))
-    (known i le lt)
-    ∙ known_cell (get_or gs i 0) 0xFF 0xFF (get_or vs i 0) refl refl
-
-pub unknown_where_stale : (states : ℕ → RowState) (blank : HalfCell) (gs ks bs vs : List ℕ) (i : ℕ)
-    → states i ≡ Stale → is_known blank ≡ false → IsTrue (is_unknown (cell_at states blank gs ks bs vs i))
-unknown_where_stale states blank gs ks bs vs i stale unknown =
-    ap (λ t. is_unknown (row_cell t blank (get_or gs i 0) (get_or ks i 0) (get_or bs i 0) (get_or vs i 0))) stale
-    ∙ ap not unknown
-
 -- ---- reading
 pub read_rows : (w rows : ℕ) (states : ℕ → RowState) (blank : HalfCell) (gs ks bs vs : List ℕ) (i : ℕ) (x : HalfCell)
     → i < w * rows → x ≡ cell_at states blank gs ks bs vs i
@@ -152,10 +129,6 @@ no_bits states blank gs ks bs vs i n mixed e lt =
     let none : get_or bs i 0 ≡ 0 = ap (λ (xs : List ℕ). get_or xs i 0) e ∙ get_or-replicate n i 0 0 lt in
     ap attribute_byte (cell_in_state states Mixed blank gs ks bs vs i mixed)
     ∙ (ap (λ (b : ℕ). bit_and (get_or vs i 0) b) none ∙ and_zero_r (get_or vs i 0))
-
--- a byte of which all bits are known
-pub whole_byte : (v : ℕ) → v < 256 → bit_and v 0xFF ≡ v
-whole_byte v lt = and_mask v 8 ∙ omega arith
 
 -- a part of a list that is written
 put_is_written : (a k : ℕ) (xs ys : List ℕ) → k ≡ length ys → put_mid a k xs ys ≡ written xs a ys
