@@ -25,7 +25,7 @@ mod system;
 mod verdict;
 
 pub use ans_model::start::Start;
-pub use ans_options::{Command, Options, WordsError, laws, options};
+pub use ans_options::{Command, Options, WordsError, options};
 pub use answering::answer;
 pub use errors::RunError;
 pub use exit_status::{Ending, status};

@@ -1,7 +1,7 @@
 -- Cells read, looked through and copied of planes with a state for each row.
-use Rattle.std.proofs.Common.{◌≡◌, ℕ, ◌+◌, ◌-◌, ◌*◌, ◌≤◌, ◌<◌, true, false, List, map, length}
-use Rattle.std.proofs.Common.{get_or, refl, ap, sym, ◌∙◌, arith, Option, Some, None}
-use Rattle.std.proofs.Common.{bit_and, take, drop, not, IsTrue, ◌++◌, replicate, inl, inr}
+use Rattle.std.proofs.Common.{◌≡◌, ℕ, ◌+◌, ◌-◌, ◌*◌, ◌≤◌, ◌<◌, false, List, map, length}
+use Rattle.std.proofs.Common.{get_or, ap, sym, ◌∙◌, arith, Option, Some, None}
+use Rattle.std.proofs.Common.{bit_and, take, drop, ◌++◌, replicate, inl, inr}
 use Rattle.std.specs.List.{position, slice_get}
 use Rattle.std.proofs.lemmas.List.{get_or_default, get_or-drop, length-drop}
 use Rattle.std.proofs.lemmas.List.{get_or-take, length-take-le, length-map}
@@ -9,12 +9,11 @@ use Rattle.std.proofs.lemmas.List.{get_or_read, same_lists}
 use Rattle.std.proofs.lemmas.Bool.{cases_lt}
 use Rattle.std.proofs.lemmas.List.{length-replicate, get_or-replicate}
 use Rattle.std.specs.Int.Bits.{and_zero_r}
-use Rattle.std.proofs.lemmas.Nat.{and_mask}
 use Rattle.std.proofs.Math.Seq.{drop-drop}
 use borrow.Rule.Slice.PartMut.{put_mid}
 use Rattle.ans_screen.specs.GridEdits.{written}
 use Rattle.std.proofs.lemmas.Option.{slice_get-get_or}
-use Rattle.ans_screen.specs.HalfCells.{is_known, attribute_byte}
+use Rattle.ans_screen.specs.HalfCells.{attribute_byte}
 use Rattle.ans_screen.specs.GridEdits.{is_unknown, first_unknown}
 use Rattle.ans_screen.specs.CellPlanes.{cell_of, AreKnown, IsFirstGap}
 use Rattle.ans_screen.specs.RowCells.{row_cell, cell_at, cells_of_rows, length_rows, AreKnownCells}
@@ -23,7 +22,7 @@ use Rattle.ans_screen.proofs.FirstGap.{known_cell, unknown_cell, known_next, pos
 use Rattle.std.proofs.lemmas.List.Sums.{position_or_len_is}
 use Rattle.ans_screen.specs.declared.cell.HalfCell.{HalfCell}
 use Rattle.ans_screen.specs.declared.plane_grid.RowState.{RowState}
-use Rattle.ans_screen.specs.declared.plane_grid.RowState.TheVariants.{Stale, Known, Mixed}
+use Rattle.ans_screen.specs.declared.plane_grid.RowState.TheVariants.{Stale, Mixed}
 use Rattle.ans_screen.proofs.Places.{get_or-map_within, IsPart, written_before, written_at, written_behind}
 use Rattle.ans_screen.proofs.RowCells.{get_rows}
 
