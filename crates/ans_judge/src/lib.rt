@@ -22,7 +22,6 @@
 
 pub mod class_laws;
 pub mod report_laws;
-pub mod text_laws;
-
 #[cfg(test)]
 mod tests;
+pub mod text_laws;

@@ -48,7 +48,7 @@ impl Start {
 
     /// Whether each part that is known in this class is known in the other. Then each start of the
     /// other class is one of this class, and what is good for this class is good for the other with
-    /// the same picture, as `start_laws::covered_classes_keep_what_is_good` says.
+    /// the same picture, as `ans_laws::start_laws` says.
     pub fn covers(self, other: Start) -> bool
         ensures { IsTrue result ↔ Covers self other }
     {

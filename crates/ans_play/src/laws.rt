@@ -20,7 +20,7 @@ ghost use Rattle.ans_play.specs.Between.{IsBetween};
 ghost use Rattle.ans_play.specs.PlayerView.{PlayerView};
 ghost use Rattle.ans_play.specs.Stands.{Stands, SamePlay, Feeds, EndsAs};
 
-/// Bytes are good, or have a first fault, or have a last one. By `ans_model::text_laws::one_answer`
+/// Bytes are good, or have a first fault, or have a last one. By `ans_laws::text_laws::one_answer`
 /// two of these never hold together, and each fault is the only one of its kind.
 pub fn some_answer()
     ensures { (z : Size) (class : Start) (bytes : List ℕ) → IsSize z → All IsByte bytes

@@ -7,14 +7,10 @@ use ans_check::{Needs, needs};
 use ans_model::fault::Fault;
 use ans_model::limits::MAX_FILE;
 use ans_model::start::Start;
-use ans_samples::rows::{
-    BROKEN, BYTES, COLOURS, FORBIDDEN, MISPLACED, PARTS_KNOWN, PASSES_FROM_ANY,
-    PASSES_FROM_CLEARED, Row, TABS, UNKNOWN_CELLS, WITHOUT_MEANING,
-};
+use ans_samples::rows::Row;
 use ans_screen::{Grid, PlainGrid, PlaneGrid};
 use std::alloc::{AllocError, Global};
 use std::process::Abort;
-use std::test::Fail;
 
 /// Whether a class knows each part that another one knows.
 fn knows_all_of(class: Start, other: Start) -> bool {
@@ -89,7 +85,11 @@ fn judge_needs<G: Grid>(
 }
 
 /// Judges what each prefix of a content needs, on both grids.
-fn judge_row(rt: &impl Abort, alloc: Global, row: &Row) -> Result<(), AllocError> {
+pub fn judge_needs_of_prefixes(
+    rt: &impl Abort,
+    alloc: Global,
+    row: &Row,
+) -> Result<(), AllocError> {
     for length in 0..row.content.len() + 1 {
         let bytes = &row.content[..length];
         let faults = faults_from_all(rt, alloc, row, bytes)?;
@@ -97,66 +97,4 @@ fn judge_row(rt: &impl Abort, alloc: Global, row: &Row) -> Result<(), AllocError
         judge_needs::<PlaneGrid>(rt, alloc, row, bytes, &faults)?;
     }
     Ok(())
-}
-
-fn judge_rows(rt: &impl Abort, alloc: Global, rows: &[Row]) -> Result<(), Fail> {
-    for row in rows {
-        judge_row(rt, alloc, row)?;
-    }
-    Ok(())
-}
-
-#[test]
-fn bytes_alone(rt: HostRuntime) -> Result<(), Fail> {
-    judge_rows(&rt, rt.alloc(), &BYTES)
-}
-
-#[test]
-fn tabs(rt: HostRuntime) -> Result<(), Fail> {
-    judge_rows(&rt, rt.alloc(), &TABS)
-}
-
-#[test]
-fn starts_of_known_parts(rt: HostRuntime) -> Result<(), Fail> {
-    judge_rows(&rt, rt.alloc(), &PARTS_KNOWN)
-}
-
-#[test]
-fn pictures_from_any_start(rt: HostRuntime) -> Result<(), Fail> {
-    judge_rows(&rt, rt.alloc(), &PASSES_FROM_ANY)
-}
-
-#[test]
-fn pictures_from_the_cleared_start(rt: HostRuntime) -> Result<(), Fail> {
-    judge_rows(&rt, rt.alloc(), &PASSES_FROM_CLEARED)
-}
-
-#[test]
-fn pictures_in_colours(rt: HostRuntime) -> Result<(), Fail> {
-    judge_rows(&rt, rt.alloc(), &COLOURS)
-}
-
-#[test]
-fn broken_sequences(rt: HostRuntime) -> Result<(), Fail> {
-    judge_rows(&rt, rt.alloc(), &BROKEN)
-}
-
-#[test]
-fn sequences_without_a_meaning(rt: HostRuntime) -> Result<(), Fail> {
-    judge_rows(&rt, rt.alloc(), &WITHOUT_MEANING)
-}
-
-#[test]
-fn sequences_that_are_not_allowed(rt: HostRuntime) -> Result<(), Fail> {
-    judge_rows(&rt, rt.alloc(), &FORBIDDEN)
-}
-
-#[test]
-fn cells_that_stay_unknown(rt: HostRuntime) -> Result<(), Fail> {
-    judge_rows(&rt, rt.alloc(), &UNKNOWN_CELLS)
-}
-
-#[test]
-fn misplaced_tokens(rt: HostRuntime) -> Result<(), Fail> {
-    judge_rows(&rt, rt.alloc(), &MISPLACED)
 }

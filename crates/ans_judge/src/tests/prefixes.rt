@@ -1,5 +1,7 @@
-//! Every prefix of each content of `ans_samples`, from each of the 32 classes of starts.
+//! Every prefix of each content of `ans_samples`: what is found of it from each of the 32 classes of
+//! starts, and what it needs.
 
+use super::needs::judge_needs_of_prefixes;
 use super::slow_machine::SlowMachine;
 use super::verdicts::{Screen, judge};
 use super::{CLASSES, class};
@@ -53,6 +55,7 @@ pub fn judge_classes(
 fn judge_rows(rt: &impl Abort, alloc: Global, rows: &[Row]) -> Result<(), Fail> {
     for row in rows {
         judge_classes(rt, alloc, row.width, row.lines, row.content)?;
+        judge_needs_of_prefixes(rt, alloc, row)?;
     }
     Ok(())
 }

@@ -3,11 +3,11 @@
 
 use super::reading::{Front, read_front};
 use super::step_faults::fault_of_step;
+use ans_laws::machine::Machine;
 use ans_model::cell::{Cell, Position};
 use ans_model::fault::{Cause, Fault};
 use ans_model::kind::Kind;
 use ans_model::limits::{MAX_LINES, MAX_WIDTH};
-use ans_laws::machine::Machine;
 use ans_model::size::Size;
 use ans_model::start::Start;
 use std::alloc::{AllocError, Global};

@@ -2,8 +2,8 @@
 
 use super::file_of;
 use super::slow_machine::SlowMachine;
-use ans_laws::{Answer, plain_answer};
 use ans_check::{Verdict, check};
+use ans_laws::{Answer, plain_answer};
 use ans_model::cell::Cell;
 use ans_model::fault::{Cause, Fault};
 use ans_model::limits::{MAX_FILE, MAX_LINES, MAX_WIDTH};

@@ -1,0 +1,122 @@
+#!/usr/bin/env python3
+"""Tries the edits that stand in this folder: each makes a mistake in a definition of `ans_model`, most of them in what
+follows that definition too, and the laws have to refuse it.
+
+Run it anywhere, with the names of edits or with none for all:
+
+    python3 crates/anscheck/definitions/try_all.py [EDIT..]
+
+An edit is written as those in `must-fail/`, but its files are named from the folder `crates` on. It is tried on a copy
+of `ans_model` and of `ans_laws` without the plain answer, which stands on crates whose own proofs would refuse the
+mistake before any law is reached. For each edit the script prints which of the two crates refuses it, and why. It ends
+with 0 where each edit is refused. It takes a minute or two for each.
+"""
+import os
+import re
+import shutil
+import subprocess
+import sys
+import tempfile
+
+EDITS = os.path.dirname(os.path.abspath(__file__))
+CRATES = os.path.abspath(f"{EDITS}/../..")
+TRIED = ["ans_model", "ans_laws"]
+DEPENDENCIES = "ans_model: arrayvec\nans_laws: ans_model arrayvec\n"
+# what of ans_laws belongs to the plain answer
+ANSWER = {
+    "src/lib.rt": r"(mod|pub use) (answer|two_plays)\b.*|#\[cfg\(test\)\]|mod tests;",
+    "specs/Lib.antt": r"pub mod (Answers|TwoPlays)",
+    "proofs/Lib.antt": r"pub mod (TwoCursors|TabPlays|TokenFaults|Played|EndOfPlays)",
+}
+ANSWER_FILES = ["src/answer.rt", "src/two_plays.rt", "src/tests.rt", "src/tests", "specs/Answers.antt",
+                "specs/TwoPlays.antt", "proofs/answer", "proofs/two_plays"] + [
+    f"proofs/{name}.antt" for name in ["TwoCursors", "TabPlays", "TokenFaults", "Played", "EndOfPlays"]]
+
+
+def without_answer(laws):
+    """Takes the plain answer out of a copy of ans_laws."""
+    for path, lines in ANSWER.items():
+        with open(f"{laws}/{path}", encoding="utf-8") as it:
+            kept = [line for line in it if not re.fullmatch(lines, line.rstrip("\n"))]
+        with open(f"{laws}/{path}", "w", encoding="utf-8") as it:
+            it.writelines(kept)
+    for path in ANSWER_FILES:
+        at = f"{laws}/{path}"
+        shutil.rmtree(at) if os.path.isdir(at) else os.remove(at)
+
+
+def copy_crates(room):
+    """Makes a repository of the two crates, with what is built of them."""
+    os.makedirs(room)
+    with open(f"{room}/crates.txt", "w", encoding="utf-8") as it:
+        it.write(DEPENDENCIES)
+    shutil.copy2(f"{CRATES}/../HANDLES", room)
+    for name in TRIED:
+        shutil.copytree(f"{CRATES}/{name}", f"{room}/crates/{name}", ignore=shutil.ignore_patterns("must-fail"))
+    without_answer(f"{room}/crates/ans_laws")
+
+
+def check(room, name):
+    """Returns whether a crate is proved, and what the check says."""
+    ran = subprocess.run(["rt", "check"], cwd=f"{room}/crates/{name}", stdout=subprocess.PIPE,
+                         stderr=subprocess.STDOUT, text=True, errors="replace")
+    proved = re.search(r"^logic=(proved|not-proved)\b", ran.stdout, re.M)
+    if not proved:
+        sys.exit(f"{name} could not be checked:\n{ran.stdout[-2000:]}")
+    return proved[1] == "proved", ran.stdout
+
+
+def apply(edit, room):
+    """Makes the changes of an edit."""
+    path = old = None
+    with open(edit, encoding="utf-8") as it:
+        lines = it.read().splitlines()
+    for line in lines:
+        key, _, text = line.partition(": ")
+        if key == "file":
+            path = f"{room}/crates/{text}"
+        elif key == "old":
+            old = text
+        elif key == "new" or line == "new:":
+            with open(path, encoding="utf-8") as it:
+                whole = it.read()
+            if whole.count(old) != 1:
+                sys.exit(f"{edit}: this stands {whole.count(old)} times in {path}: {old}")
+            with open(path, "w", encoding="utf-8") as it:
+                it.write(whole.replace(old, text))
+
+
+def refusal(edit, proved, at):
+    """Returns the crate that refuses an edit, with its first complaint, or None."""
+    shutil.copytree(proved, at, symlinks=True)
+    apply(edit, at)
+    for name in TRIED:
+        well, said = check(at, name)
+        if not well:
+            first = re.search(r"^\S+:\d+:\d+: error: .*", said, re.M)
+            return f"{name}: {first[0][:120] if first else ''}"
+    return None
+
+
+def main(names):
+    edits = sorted(name for name in os.listdir(EDITS) if name.endswith(".edit"))
+    unknown = [name for name in names if f"{name}.edit" not in edits]
+    if unknown:
+        sys.exit(f"no edit here is named {unknown[0]}")
+    missed = 0
+    with tempfile.TemporaryDirectory(prefix="anscheck-definitions-") as room:
+        proved = f"{room}/proved"
+        copy_crates(proved)
+        for name in TRIED:
+            if not check(proved, name)[0]:
+                sys.exit(f"{name} is not proved as it stands")
+        for edit in [f"{name}.edit" for name in names] or edits:
+            by = refusal(f"{EDITS}/{edit}", proved, f"{room}/tried")
+            shutil.rmtree(f"{room}/tried")
+            missed += by is None
+            print(f"{edit}: {'refused by ' + by if by else 'NOT REFUSED'}", flush=True)
+    return 1 if missed else 0
+
+
+if __name__ == "__main__":
+    sys.exit(main(sys.argv[1:]))
