@@ -6,7 +6,7 @@ use itoa::write_digits;
 /// How many digits a counter has room for: as many as the length of the longest content has.
 pub const DIGITS: usize = 8;
 
-/// A number of at most eight digits, which stand at the end of an array.
+/// A number and its decimal digits, at most eight, which stand at the end of `digits` from `start` on.
 #[derive(Drop)]
 pub struct Counter {
     pub number: usize,
@@ -17,7 +17,7 @@ pub struct Counter {
 }
 
 impl Counter {
-    /// A counter that stands at this number.
+    /// A counter at this number.
     pub fn new(number: usize) -> Counter
         requires { number < 100000000 }
         ensures { result.number ≡ number }

@@ -53,7 +53,7 @@ impl<'a, W: Write> Outbox<'a, W> {
         self.waiting.clear();
     }
 
-    /// Puts a text: adds it to what waits, which is written before where there is no room.
+    /// Puts a text behind what waits. Where there is no room for it, what waits is written first.
     #[inline(always)]
     pub fn put(&mut self, text: &[u8])
         ensures { Puts W.contents self.old self.new text.now }
