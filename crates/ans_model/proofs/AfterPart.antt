@@ -56,21 +56,21 @@ rest_next n (m ∷ ms) l x v hl h = record {
 }
 
 -- what follows members that are done: the others
-peel : (done : List Member) (m : Member) (ms : List Member) (l : ℕ) (x front v : List ℕ)
+rest_after_done : (done : List Member) (m : Member) (ms : List Member) (l : ℕ) (x front v : List ℕ)
     → is_ascii_alphabetic l ≡ true → SpellsDone done front → Rest m ms l x (front ++ v)
     → (n : Member) × (ns : List Member) × (m ∷ ms ≡ done ++ n ∷ ns) × Rest n ns l x v
-peel [] m ms l x front v hl hd h = (m, ms, refl, rw hd at h)
-peel (d ∷ done) m [] l x front v hl hd h =
+rest_after_done [] m ms l x front v hl hd h = (m, ms, refl, rw hd at h)
+rest_after_done (d ∷ done) m [] l x front v hl hd h =
     let e : hd.0 ++ semicolon ∷ (hd.1 ++ v) ≡ h.0 ++ l ∷ x = sym (append_assoc hd.0 (semicolon ∷ hd.1) v)
     ∙ ap (λ (u : List ℕ). u ++ v) (sym hd.4) ∙ h.2 in
     let t = one_member_in_front d m hd.0 h.0 semicolon l (hd.1 ++ v) x hd.2 h.1 semicolon_stops (letter_stops l hl) e in
     absurd (letter_no_semicolon l hl (sym t.2))
-peel (d ∷ done) m (m' ∷ ms) l x front v hl hd h =
+rest_after_done (d ∷ done) m (m' ∷ ms) l x front v hl hd h =
     let e : hd.0 ++ semicolon ∷ (hd.1 ++ v) ≡ h.0 ++ semicolon ∷ h.1 =
     sym (append_assoc hd.0 (semicolon ∷ hd.1) v) ∙ ap (λ (u : List ℕ). u ++ v) (sym hd.4) ∙ h.4 in
     let t = one_member_in_front d m hd.0 h.0 semicolon semicolon
     (hd.1 ++ v) h.1 hd.2 h.2 semicolon_stops semicolon_stops e in
-    let ih = peel done m' ms l x hd.1 v hl hd.3 (rw (← t.3) at h.3) in
+    let ih = rest_after_done done m' ms l x hd.1 v hl hd.3 (rw (← t.3) at h.3) in
     (ih.0, ih.1, ap₂ (λ (u : Member) (w : List Member). u ∷ w) (sym t.0) ih.2, ih.3)
 
 -- a letter alone does not begin with a member that is done
@@ -90,8 +90,8 @@ pub tail_parts : (done ms : List Member) (l : ℕ) (x front v : List ℕ) → is
     ⊎ ((n : Member) × (ns : List Member) × (ms ≡ done ++ n ∷ ns) × Rest n ns l x v)
 tail_parts [] [] l x front v hl hd h = inl (refl, refl, rw hd at h)
 tail_parts (d ∷ done) [] l x front v hl hd h = absurd (done_no_letter d done l x front v hl hd h)
-tail_parts [] (m ∷ ms) l x front v hl hd h = inr (peel [] m ms l x front v hl hd h.1)
-tail_parts (d ∷ done) (m ∷ ms) l x front v hl hd h = inr (peel (d ∷ done) m ms l x front v hl hd h.1)
+tail_parts [] (m ∷ ms) l x front v hl hd h = inr (rest_after_done [] m ms l x front v hl hd h.1)
+tail_parts (d ∷ done) (m ∷ ms) l x front v hl hd h = inr (rest_after_done (d ∷ done) m ms l x front v hl hd h.1)
 
 -- in both cases a member and what stands after it come next
 pub tail_next : (done ms : List Member) (l : ℕ) (x front v : List ℕ) → is_ascii_alphabetic l ≡ true
@@ -163,12 +163,12 @@ current_next (InString q words) last b z n h g = refl
 current_next (AfterString q words) last b z n h g = string_next q words last b z n h g
 
 -- what there is of a member, with the bytes that it lacks, spells it
-pub completed : (current : Current) (last : List ℕ) → SpellsCurrent current last
+pub spelled_with_lacking : (current : Current) (last : List ℕ) → SpellsCurrent current last
     → SpellsMember (member_of current) (last ++ lacks current)
-completed Fresh last h = rw h
-completed (InNumber n) last h = rw append-nil h
-completed (InString q text) last h = (h.0, h.1, ap (λ (v : List ℕ). v ++ q ∷ []) h.2)
-completed (AfterString q text) last h = rw append-nil h
+spelled_with_lacking Fresh last h = rw h
+spelled_with_lacking (InNumber n) last h = rw append-nil h
+spelled_with_lacking (InString q text) last h = (h.0, h.1, ap (λ (v : List ℕ). v ++ q ∷ []) h.2)
+spelled_with_lacking (AfterString q text) last h = rw append-nil h
 
 -- members that are done, and one more, joined
 done_texts : (done : List Member) (m : Member) (front last : List ℕ) → SpellsDone done front → SpellsMember m last
@@ -199,22 +199,23 @@ member_texts : (done : List Member) (current : Current) (front last : List ℕ) 
     × (members_of done current ≢ Omitted ∷ []) × (front ++ (last ++ lacks current) ≡ join_with_byte semicolon ts)
 member_texts [] Fresh front last hd h = ([], tt, (λ e. cc), rw (hd, h))
 member_texts [] (InNumber n) front last hd h =
-    let t = done_texts [] (Number n) front (last ++ []) hd (completed (InNumber n) last h) in
+    let t = done_texts [] (Number n) front (last ++ []) hd (spelled_with_lacking (InNumber n) last h) in
     (t.0 ∷ t.1, t.2, (λ e. cc), t.3)
 member_texts [] (InString q text) front last hd h =
-    let t = done_texts [] (Quoted q text) front (last ++ q ∷ []) hd (completed (InString q text) last h) in
+    let t = done_texts [] (Quoted q text) front (last ++ q ∷ []) hd (spelled_with_lacking (InString q text) last h) in
     (t.0 ∷ t.1, t.2, (λ e. cc), t.3)
 member_texts [] (AfterString q text) front last hd h =
-    let t = done_texts [] (Quoted q text) front (last ++ []) hd (completed (AfterString q text) last h) in
+    let t = done_texts [] (Quoted q text) front (last ++ []) hd (spelled_with_lacking (AfterString q text) last h) in
     (t.0 ∷ t.1, t.2, (λ e. cc), t.3)
 member_texts (d ∷ done) current front last hd h =
-    let t = done_texts (d ∷ done) (member_of current) front (last ++ lacks current) hd (completed current last h) in
+    let t = done_texts (d ∷ done) (member_of current) front (last ++ lacks current) hd
+    (spelled_with_lacking current last h) in
     (t.0 ∷ t.1, t.2, not_omitted d done (member_of current), t.3)
 
 -- A letter after what is lacking completes a part.
-pub finish : (p : Part) (y : List ℕ) (l : ℕ) → LoosePart p y → is_ascii_alphabetic l ≡ true
+pub letter_completes : (p : Part) (y : List ℕ) (l : ℕ) → LoosePart p y → is_ascii_alphabetic l ≡ true
     → Loose (raw_of p l) (y ++ (lacks p.current ++ l ∷ []))
-finish p y l h hl =
+letter_completes p y l h hl =
     let t = member_texts p.done p.current h.front h.last h.done h.current in
     record {
       texts = t.0;
@@ -261,10 +262,10 @@ few_members [] (AfterString q text) h = omega arith
 few_members (d ∷ done) current h = rw (length-append (d ∷ done) (member_of current ∷ [])) (omega arith)
 
 -- a letter completes a part within the limits
-pub finish_in_limit : (p : Part) (y : List ℕ) (l : ℕ) → SpellsPart p y → is_ascii_alphabetic l ≡ true
+pub letter_completes_in_limit : (p : Part) (y : List ℕ) (l : ℕ) → SpellsPart p y → is_ascii_alphabetic l ≡ true
     → Spells (raw_of p l) (y ++ (lacks p.current ++ l ∷ []))
-finish_in_limit p y l h hl = record {
-  loose = finish p y l h.loose hl;
+letter_completes_in_limit p y l h hl = record {
+  loose = letter_completes p y l h.loose hl;
   numbers = limit_members p.done p.current h.numbers h.last_number;
   count = few_members p.done p.current h.room;
 }
@@ -281,14 +282,18 @@ pub part_unfinished : (p : Part) (y : List ℕ) → SpellsPart p y → IsUnfinis
 part_unfinished p y h = record {
   raw = raw_of p 0x6D;
   rest = lacks p.current ++ 0x6D ∷ [];
-  spelled = finish_in_limit p y 0x6D h refl;
+  spelled = letter_completes_in_limit p y 0x6D h refl;
   begun = rw h.loose.whole (omega arith);
   more = rest_nonempty p.current;
 }
 
 -- each part begins a loose spelling
 pub part_loose : (p : Part) (y : List ℕ) → LoosePart p y → IsPrefixOfLoose y
-part_loose p y h = record { raw = raw_of p 0x6D; rest = lacks p.current ++ 0x6D ∷ []; spelled = finish p y 0x6D h refl }
+part_loose p y h = record {
+  raw = raw_of p 0x6D;
+  rest = lacks p.current ++ 0x6D ∷ [];
+  spelled = letter_completes p y 0x6D h refl;
+}
 
 -- Only directly after `[` may a mark come.
 abbrev pub IsUnmarkedThere : Part → ℕ → Type 0

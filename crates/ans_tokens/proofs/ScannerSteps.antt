@@ -15,7 +15,8 @@ use Rattle.ans_model.specs.Sequence.Spelling.{IsPrefixOfSpelling}
 use Rattle.ans_model.specs.Inside.OpenPart.{Current, Fresh, InNumber, InString, AfterString, SpellsCurrent}
 use Rattle.ans_model.specs.Inside.OpenPart.{IsCurrentInLimit}
 use Rattle.ans_model.specs.Inside.OpenPart.{Part, LoosePart, SpellsPart, member_of, lacks, raw_of, is_stop}
-use Rattle.ans_model.proofs.AfterPart.{all_append, done_more, limit_append, limit_member, finish_in_limit, completed}
+use Rattle.ans_model.proofs.AfterPart.{all_append, done_more, limit_append, limit_member, letter_completes_in_limit}
+use Rattle.ans_model.proofs.AfterPart.{spelled_with_lacking}
 use Rattle.ans_model.proofs.AfterPart.{refuses_number, refuses_count, part_loose}
 use Rattle.ans_tokens.specs.Unfinished.{with_next}
 
@@ -104,7 +105,7 @@ too_large p y k b h c d large =
 -- ---- after a whole member
 whole_member : (p : Part) (y : List ℕ) (h : LoosePart p y) → lacks p.current ≡ []
     → SpellsMember (member_of p.current) h.last
-whole_member p y h l = rw (l, append-nil) at (completed p.current h.last h.current)
+whole_member p y h l = rw (l, append-nil) at (spelled_with_lacking p.current h.last h.current)
 
 next_member_loose : (p : Part) (y : List ℕ) (h : LoosePart p y) → lacks p.current ≡ []
     → LoosePart (with_next p) (y ++ semicolon ∷ [])
@@ -141,7 +142,7 @@ too_many p y h l full =
 
 pub letter_spells : (p : Part) (y : List ℕ) (l : ℕ) → SpellsPart p y → lacks p.current ≡ []
     → is_ascii_alphabetic l ≡ true → Spells (raw_of p l) (y ++ l ∷ [])
-letter_spells p y l h e a = rw e at (finish_in_limit p y l h a)
+letter_spells p y l h e a = rw e at (letter_completes_in_limit p y l h a)
 
 -- ---- the mark, directly after `[`
 only_bracket : (p : Part) (y : List ℕ) → LoosePart p y → p.mark ≡ Unmarked → p.done ≡ [] → p.current ≡ Fresh
