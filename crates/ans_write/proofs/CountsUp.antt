@@ -204,7 +204,8 @@ counted_over old now start (suc k) n h shown small =
     (more, omega (arith, ap length more, length-replicate {A = ℕ} (suc k) 48))
 
 -- a one in the array before them: the digits of the next number
-pub one_before_zeros : (old now : List ℕ) (p k n : ℕ) → Carries old now (p + 1) k → decimal (n + 1) ≡ 49 ∷ replicate k 48
+pub one_before_zeros : (old now : List ℕ) (p k n : ℕ) → Carries old now (p + 1) k
+    → decimal (n + 1) ≡ 49 ∷ replicate k 48
     → drop p (set now p 49) ≡ decimal (n + 1)
 one_before_zeros old now p k n h next =
     let (now_is, same, rest) = digit_at old now p k h in

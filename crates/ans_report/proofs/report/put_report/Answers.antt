@@ -8,7 +8,8 @@ use Rattle.ans_report.proofs.report.put_report.Goals as goal
 pub returns-in-Pass-clause-text : goal.returns-in-Pass-clause-text
 returns-in-Pass-clause-text g c =
     let text : report_bytes c.args.r.now
-    ≡ report_text (heading_of c.in-Pass.parts.now (Some c.in-Pass.start)) (Passed c.in-Pass.picture.now c.in-Pass.cells) =
+    ≡ report_text (heading_of c.in-Pass.parts.now (Some c.in-Pass.start))
+    (Passed c.in-Pass.picture.now c.in-Pass.cells) =
     ap report_bytes c.in-Pass.is in
     rw text c.put_pass.ensures.text
 

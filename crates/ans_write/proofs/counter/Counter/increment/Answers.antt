@@ -1,6 +1,7 @@
 use Rattle.std.proofs.Common.{arith, rules, ◌≡◌, ◌≢◌, ℕ, ◌+◌, ◌-◌, ◌≤◌, ◌<◌, get_or, subst, ◌∙◌, List}
 use Rattle.std.proofs.lemmas.List.{length-set}
-use Rattle.ans_write.proofs.CountsUp.{Carries, Carries-none, Carries-more, digit_most, counted_up, counted_over, one_before_zeros}
+use Rattle.ans_write.proofs.CountsUp.{Carries, Carries-none, Carries-more, digit_most, counted_up, counted_over}
+use Rattle.ans_write.proofs.CountsUp.{one_before_zeros}
 use Rattle.ans_write.proofs.counter.Counter.increment.Goals.{then-loop-place-test+else-digits-place-eq57}
 use Rattle.ans_write.proofs.counter.Counter.increment.Goals.{else-loop-place-test}
 use Rattle.ans_write.proofs.counter.Counter.increment.Goals as goal
@@ -72,7 +73,8 @@ invariant_of-self c =
     let some : 0 < place = omega (arith, over.1) in
     record {
       within = omega arith;
-      shown = one_before_zeros s.digits c.loop-place.digits (place - 1) (8 - place) s.number (after_digit some h.carries) next;
+      shown = one_before_zeros s.digits c.loop-place.digits (place - 1) (8 - place) s.number
+          (after_digit some h.carries) next;
     }
 
 pub invariant_of-self-2 : goal.invariant_of-self-2
