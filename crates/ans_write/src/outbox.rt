@@ -79,6 +79,7 @@ impl<'a, W: Write> Outbox<'a, W> {
     }
 
     /// Puts a number in decimal digits.
+    #[inline(always)]
     pub fn put_decimal(&mut self, number: u64)
         ensures { Puts W.contents self.old self.new (decimal number) }
     {
