@@ -1,5 +1,6 @@
 -- What is said of an ending.
-use Rattle.std.proofs.Common.{◌≡◌, ℕ, Bool, true, false, List, Option, Some, None, Ok, Err, refl, subst, sym, true≢false}
+use Rattle.std.proofs.Common.{◌≡◌, ℕ, Bool, true, false, List, Option, Some, None, Ok, Err}
+use Rattle.std.proofs.Common.{refl, subst, sym, true≢false}
 use Rattle.std.specs.Prelude.{◌↔◌, Result, IsErr, IsTrue, MatchOption}
 use Rattle.ans_report.specs.Message.{message_line}
 use Rattle.ans_write.specs.Writes.{AppendsUnless, WritesText}
@@ -32,6 +33,7 @@ says_message contents errors after Help text e h = absurd (cc)
 says_message contents errors after (Run answer) text e h =
     in_some (λ t. Tells contents errors after (message_line t)) (after ≡ errors) (ending_message (Run answer)) text e h
 says_message contents errors after UnreadableWords text e h =
-    in_some (λ t. Tells contents errors after (message_line t)) (after ≡ errors) (ending_message UnreadableWords) text e h
+    in_some (λ t. Tells contents errors after (message_line t)) (after ≡ errors) (ending_message UnreadableWords)
+    text e h
 says_message contents errors after UnopenedFile text e h =
     in_some (λ t. Tells contents errors after (message_line t)) (after ≡ errors) (ending_message UnopenedFile) text e h

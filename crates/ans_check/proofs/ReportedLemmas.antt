@@ -1,6 +1,6 @@
 -- What a command has done, by what its writing came to.
-use Rattle.std.proofs.Common.{◌≡◌, ◌⊎◌, ◌↔◌, ◌+◌, ◌<◌, ℕ, Bool, true, false, List, length, Option, Some, None, Result, Ok, Err}
-use Rattle.std.proofs.Common.{inl, inr, refl, sym, subst, ◌∙◌, true≢false}
+use Rattle.std.proofs.Common.{◌≡◌, ◌⊎◌, ◌↔◌, ◌+◌, ◌<◌, ℕ, Bool, true, false, List, length, Option, Some, None, Result}
+use Rattle.std.proofs.Common.{Ok, Err, inl, inr, refl, sym, subst, ◌∙◌, true≢false}
 use Rattle.std.specs.Prelude.{IfErr, IfOk, IfSome, IsErr, IsErrOf, IsTrue, MatchResult}
 use Rattle.ans_model.specs.Bytes.{longest_file}
 use Rattle.ans_write.specs.Tried.{has_failed, inner_of}
@@ -62,7 +62,8 @@ unreported contents reports writer works = record {
 }
 
 -- an error of the memory or the writer is none of the length
-not_too_long : (r : Result Bool RunError) → IfErr r (λ e. (e ≡ error.Memory) ⊎ (e ≡ error.Write)) → IsErrOf r error.TooLong → ⊥
+not_too_long : (r : Result Bool RunError) → IfErr r (λ e. (e ≡ error.Memory) ⊎ (e ≡ error.Write))
+    → IsErrOf r error.TooLong → ⊥
 not_too_long (Ok v) h bad = cc
 not_too_long (Err e) (inl memory) bad = cc
 not_too_long (Err e) (inr write) bad = cc

@@ -1,5 +1,6 @@
 -- A run whose writer then hands on what it holds back.
-use Rattle.std.proofs.Common.{◌≡◌, ◌∙◌, ℕ, Bool, true, false, List, Option, Some, None, arith, refl, sym, subst, true≢false}
+use Rattle.std.proofs.Common.{◌≡◌, ◌∙◌, ℕ, Bool, true, false, List, Option, Some, None, arith}
+use Rattle.std.proofs.Common.{refl, sym, subst, true≢false}
 use Rattle.std.specs.Prelude.{◌+◌, ◌<◌, ◌↔◌, length, Ok, Err, IfSome, IsErrOf, IsTrue}
 use Rattle.std.specs.Io.KnownBytes.{Appends, Keeps}
 use Rattle.std.proofs.lemmas.List.{take_all}
@@ -79,8 +80,8 @@ unflushed remaining contents options reader reader_after writer between after pa
       omega arith,
       subst (λ (v : List ℕ). Appends (contents (inner_of writer)) (contents (inner_of after)) v)
           (sym (take_all (length h.ok.1) h.ok.1 (omega arith)))
-          (appended_and_kept (contents (inner_of writer)) (contents (inner_of between)) (contents (inner_of after)) h.ok.1
-          h.ok.4 keeps),
+          (appended_and_kept (contents (inner_of writer)) (contents (inner_of between)) (contents (inner_of after))
+          h.ok.1 h.ok.4 keeps),
     ),
   );
   unwritten = λ e. absurd (e refl);

@@ -21,7 +21,7 @@ use Rattle.ans_check.specs.declared.exit_status.Ending.TheVariants.{Run, Help, U
 abbrev pub names_standard : Text → Bool
 names_standard name = bytes_eq name (codes "-")
 
--- the reader is the input that the words name: the file of this name, or standard input where it is `-` or none is given
+-- the reader is the input that the words name: the file of this name, or standard input where it is `-` or missing
 abbrev pub IsNamed : {R : Type 0} → (Text → R → Type 0) → (R → Type 0) → Option Text → R → Type 0
 IsNamed is_file is_standard (Some name) reader =
     MatchBool (names_standard name) (is_standard reader) (is_file name reader)

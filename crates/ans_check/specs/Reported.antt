@@ -6,8 +6,8 @@ use Rattle.ans_write.specs.declared.tried.Tried.{Tried}
 use Rattle.ans_check.specs.declared.errors.RunError.{RunError}
 use Rattle.ans_check.specs.declared.errors.RunError.TheVariants as error
 
--- A command was given a writer that works. `reports` says of whether the file passes and of a text that they are what the
--- command is to write of it.
+-- A command was given a writer that works. `reports` says, of whether the file passes and of a text, that they are what
+-- the command is to write.
 pub record IsReported {W : Type 0} (contents : W → Option (List ℕ)) (reports : Bool → List ℕ → Type 0)
     (writer writer_after : Tried W) (result : Result Bool RunError) : Type 0 where
   -- at `Ok` such a text was written

@@ -16,9 +16,10 @@ returns-in_default g c = unreported _ _ c.args.writer.now c.requires.works
 pub returns : goal.returns
 returns g c =
     let text = report_bytes c.report_of.result in
-    reported g.W.Write.contents _ c.args.writer.now c.write_report-written.new.w c.write_report-written.result c.told.result
-        c.is_pass.result text
-        (subst (λ passed. ReportsCheck c.args.file.now c.args.start c.args.cells passed text) (sym c.is_pass.ensures)
-        (verdict_reported c.args.file.now c.args.start c.args.cells c.in-Ok.verdict c.report_of.result
-        c.report_of.ensures c.in-Ok.ensures.verdict c.in-Ok.ensures.exact))
-        c.write_report-written.ensures.device c.write_report-written.ensures.bytes c.told.ensures
+    reported g.W.Write.contents _ c.args.writer.now c.write_report-written.new.w c.write_report-written.result
+    c.told.result
+    c.is_pass.result text
+    (subst (λ passed. ReportsCheck c.args.file.now c.args.start c.args.cells passed text) (sym c.is_pass.ensures)
+    (verdict_reported c.args.file.now c.args.start c.args.cells c.in-Ok.verdict c.report_of.result
+    c.report_of.ensures c.in-Ok.ensures.verdict c.in-Ok.ensures.exact))
+    c.write_report-written.ensures.device c.write_report-written.ensures.bytes c.told.ensures

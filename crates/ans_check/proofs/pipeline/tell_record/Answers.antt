@@ -11,13 +11,14 @@ pub returns-in-Ok : goal.returns-in-Ok
 returns-in-Ok g c =
     let s = c.in-Ok.ensures.ok in
     reported g.W.Write.contents _ c.args.writer.now c.write_record.new.w c.write_record.result c.told.result true
-        (parts_text c.in-Ok.parts)
-        (subst (ReportsSauce c.args.file.now true) (sym (parts_text_is s.apart c.in-Ok.parts s.shows))
-        (sauce_reported c.args.file.now c.in-Ok.parts s))
-        c.write_record.ensures.device c.write_record.ensures.bytes c.told.ensures
+    (parts_text c.in-Ok.parts)
+    (subst (ReportsSauce c.args.file.now true) (sym (parts_text_is s.apart c.in-Ok.parts s.shows))
+    (sauce_reported c.args.file.now c.in-Ok.parts s))
+    c.write_record.ensures.device c.write_record.ensures.bytes c.told.ensures
 
 pub returns-in-Err : goal.returns-in-Err
 returns-in-Err g c =
-    reported g.W.Write.contents _ c.args.writer.now c.write_refusal.new.w c.write_refusal.result c.told-in-Err.result false
-        (refusal_text c.in-Err.refusal) (record_reported c.args.file.now c.in-Err.refusal c.in-Err.ensures.err)
-        c.write_refusal.ensures.device c.write_refusal.ensures.bytes c.told-in-Err.ensures
+    reported g.W.Write.contents _ c.args.writer.now c.write_refusal.new.w c.write_refusal.result
+    c.told-in-Err.result false
+    (refusal_text c.in-Err.refusal) (record_reported c.args.file.now c.in-Err.refusal c.in-Err.ensures.err)
+    c.write_refusal.ensures.device c.write_refusal.ensures.bytes c.told-in-Err.ensures

@@ -3,4 +3,5 @@ use Rattle.ans_options.specs.CommandLine.{texts_of}
 use Rattle.ans_check.proofs.system.views.Given as goal
 
 abbrev pub invariant-loop-text : goal.invariant-loop-text
-invariant-loop-text l = texts_of l.words.items ++ map string_bytes (drop l.text-index l.texts) ≡ map string_bytes l.texts
+invariant-loop-text l =
+    texts_of l.words.items ++ map string_bytes (drop l.text-index l.texts) ≡ map string_bytes l.texts
