@@ -57,13 +57,13 @@ def copy_crates(room):
 
 
 def check(room, name):
-    """Returns whether a crate is proved, and what the check says."""
+    """Returns whether a crate is proved, and what the check says. It says this of the crates below first."""
     ran = subprocess.run(["rt", "check"], cwd=f"{room}/crates/{name}", stdout=subprocess.PIPE,
                          stderr=subprocess.STDOUT, text=True, errors="replace")
-    proved = re.search(r"^logic=(proved|not-proved)\b", ran.stdout, re.M)
+    proved = re.findall(r"^logic=(proved|not-proved)\b", ran.stdout, re.M)
     if not proved:
         sys.exit(f"{name} could not be checked:\n{ran.stdout[-2000:]}")
-    return proved[1] == "proved", ran.stdout
+    return proved[-1] == "proved", ran.stdout
 
 
 def apply(edit, room):
@@ -93,7 +93,7 @@ def refusal(edit, proved, at):
     for name in TRIED:
         well, said = check(at, name)
         if not well:
-            first = re.search(r"^\S+:\d+:\d+: error: .*", said, re.M)
+            first = re.search(r"\S+:\d+:\d+: error: .*", said)
             return f"{name}: {first[0][:120] if first else ''}"
     return None
 
