@@ -17,33 +17,27 @@ use std::alloc::{AllocError, Global};
 /// The classes that know all parts but one.
 const ALL_BUT_SCREEN: Start = Start {
     screen: false,
-    ..ALL
+    ..Start::CLEARED
 };
 
 const ALL_BUT_CURSOR: Start = Start {
     cursor: false,
-    ..ALL
+    ..Start::CLEARED
 };
 
 const ALL_BUT_SAVED: Start = Start {
     saved: false,
-    ..ALL
+    ..Start::CLEARED
 };
 
 const ALL_BUT_COLOURS: Start = Start {
     colours: false,
-    ..ALL
+    ..Start::CLEARED
 };
 
-const ALL_BUT_WRAP: Start = Start { wrap: false, ..ALL };
-
-/// The class that knows each part.
-const ALL: Start = Start {
-    screen: true,
-    cursor: true,
-    saved: true,
-    colours: true,
-    wrap: true,
+const ALL_BUT_WRAP: Start = Start {
+    wrap: false,
+    ..Start::CLEARED
 };
 
 /// The class of the parts that the content cannot do without, each tried by itself: the content is
@@ -78,7 +72,7 @@ pub fn needs<G: Grid>(alloc: Global, file: &[u8]) -> Result<Needs<'_>, AllocErro
         Ok(parts) => parts,
         Err(fault) => return Ok(Needs::Refused(None, fault)),
     };
-    if let Err(fault) = play::<G>(alloc, &parts, ALL)? {
+    if let Err(fault) = play::<G>(alloc, &parts, Start::CLEARED)? {
         return Ok(Needs::Refused(Some(parts), fault));
     }
     let class = least_class::<G>(alloc, &parts)?;

@@ -21,29 +21,35 @@ pub struct Start {
 
 impl Start {
     /// The class of every state: no part is known.
+    pub const ANY: Start = Start {
+        screen: false,
+        cursor: false,
+        saved: false,
+        colours: false,
+        wrap: false,
+    };
+
+    /// The class of the cleared screen alone: each part is known.
+    pub const CLEARED: Start = Start {
+        screen: true,
+        cursor: true,
+        saved: true,
+        colours: true,
+        wrap: true,
+    };
+
+    /// `Start::ANY`.
     pub fn any() -> Start
         ensures { result ≡ none_known }
     {
-        Start {
-            screen: false,
-            cursor: false,
-            saved: false,
-            colours: false,
-            wrap: false,
-        }
+        Start::ANY
     }
 
-    /// The class of the cleared screen alone: each part is known.
+    /// `Start::CLEARED`.
     pub fn cleared() -> Start
         ensures { result ≡ all_known }
     {
-        Start {
-            screen: true,
-            cursor: true,
-            saved: true,
-            colours: true,
-            wrap: true,
-        }
+        Start::CLEARED
     }
 
     /// Whether each part that is known in this class is known in the other. Then each start of the

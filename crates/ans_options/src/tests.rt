@@ -10,41 +10,16 @@ use clap::error::ErrorKind;
 use std::fmt::Display;
 use std::process::Abort;
 
-/// The class in which no part is known.
-const NONE_KNOWN: Start = Start {
-    screen: false,
-    cursor: false,
-    saved: false,
-    colours: false,
-    wrap: false,
-};
-
-/// The class in which each part is known.
-const ALL_KNOWN: Start = Start {
-    screen: true,
-    cursor: true,
-    saved: true,
-    colours: true,
-    wrap: true,
-};
-
-/// The class in which the cursor and the colours are known.
-const CURSOR_AND_COLOURS: Start = Start {
-    cursor: true,
-    colours: true,
-    ..NONE_KNOWN
-};
-
 /// A check from any start.
 const ANY: Options = Options {
     command: Command::Check,
-    start: NONE_KNOWN,
+    start: Start::ANY,
     cells: false,
 };
 
 /// A check from the cleared screen.
 const CLEARED: Options = Options {
-    start: ALL_KNOWN,
+    start: Start::CLEARED,
     ..ANY
 };
 

@@ -42,33 +42,15 @@ macro_rules! expected {
     };
 }
 
-/// The class in which no part is known.
-const ANY: Start = Start {
-    screen: false,
-    cursor: false,
-    saved: false,
-    colours: false,
-    wrap: false,
-};
-
-/// The class in which each part is known.
-const CLEARED: Start = Start {
-    screen: true,
-    cursor: true,
-    saved: true,
-    colours: true,
-    wrap: true,
-};
-
 macro_rules! start {
     (any) => {
-        ANY
+        Start::ANY
     };
     (cleared) => {
-        CLEARED
+        Start::CLEARED
     };
     (known $($part:ident)+) => {
-        Start { $($part: true,)+ ..ANY }
+        Start { $($part: true,)+ ..Start::ANY }
     };
 }
 

@@ -1,5 +1,5 @@
 //! Reports of checks, byte for byte.
-use super::{ANY, CLEARED, CURSOR_AND_COLOURS, NONE_KNOWN, expect_run, file_of_size, plain_file};
+use super::{ANY, CLEARED, expect_run, file_of_size, plain_file};
 use crate::{Options, Start};
 
 /// A check from the cleared screen that tells the cells.
@@ -101,7 +101,11 @@ static REPORTS: [(&[u8], u16, u16, Options, bool, &[u8]); 11] = [
         2,
         1,
         Options {
-            start: CURSOR_AND_COLOURS,
+            start: Start {
+                cursor: true,
+                colours: true,
+                ..Start::ANY
+            },
             ..ANY
         },
         true,
@@ -119,7 +123,7 @@ static REPORTS: [(&[u8], u16, u16, Options, bool, &[u8]); 11] = [
         Options {
             start: Start {
                 cursor: true,
-                ..NONE_KNOWN
+                ..Start::ANY
             },
             ..ANY
         },

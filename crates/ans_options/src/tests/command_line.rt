@@ -1,7 +1,5 @@
 //! The options that words give.
-use super::{
-    ALL_KNOWN, ANY, CLEARED, CURSOR_AND_COLOURS, NEEDS, NONE_KNOWN, SAUCE, TOKENS, read_words,
-};
+use super::{ANY, CLEARED, NEEDS, SAUCE, TOKENS, read_words};
 use crate::Options;
 use ans_model::start::Start;
 use std::process::Abort;
@@ -85,56 +83,64 @@ fn words_give_options(rt: HostRuntime) {
 
 /// The program's words, and the class of starts that they ask for.
 static STARTS: [(&[&str], Start); 14] = [
-    (&["anscheck", "check"], NONE_KNOWN),
+    (&["anscheck", "check"], Start::ANY),
     (
         &["anscheck", "check", "--known-screen"],
         Start {
             screen: true,
-            ..NONE_KNOWN
+            ..Start::ANY
         },
     ),
     (
         &["anscheck", "check", "--known-cursor"],
         Start {
             cursor: true,
-            ..NONE_KNOWN
+            ..Start::ANY
         },
     ),
     (
         &["anscheck", "check", "--known-saved"],
         Start {
             saved: true,
-            ..NONE_KNOWN
+            ..Start::ANY
         },
     ),
     (
         &["anscheck", "check", "--known-colours"],
         Start {
             colours: true,
-            ..NONE_KNOWN
+            ..Start::ANY
         },
     ),
     (
         &["anscheck", "check", "--known-wrap"],
         Start {
             wrap: true,
-            ..NONE_KNOWN
+            ..Start::ANY
         },
     ),
     (
         &["anscheck", "check", "--known-cursor", "--known-colours"],
-        CURSOR_AND_COLOURS,
+        Start {
+            cursor: true,
+            colours: true,
+            ..Start::ANY
+        },
     ),
     (
         &["anscheck", "check", "--known-colours", "--known-cursor"],
-        CURSOR_AND_COLOURS,
+        Start {
+            cursor: true,
+            colours: true,
+            ..Start::ANY
+        },
     ),
     (
         &["anscheck", "check", "--known-wrap", "--known-screen"],
         Start {
             screen: true,
             wrap: true,
-            ..NONE_KNOWN
+            ..Start::ANY
         },
     ),
     (
@@ -148,7 +154,7 @@ static STARTS: [(&[&str], Start); 14] = [
         ],
         Start {
             wrap: false,
-            ..ALL_KNOWN
+            ..Start::CLEARED
         },
     ),
     (
@@ -161,16 +167,16 @@ static STARTS: [(&[&str], Start); 14] = [
             "--known-colours",
             "--known-wrap",
         ],
-        ALL_KNOWN,
+        Start::CLEARED,
     ),
-    (&["anscheck", "check", "--cleared"], ALL_KNOWN),
+    (&["anscheck", "check", "--cleared"], Start::CLEARED),
     (
         &["anscheck", "check", "--cleared", "--known-saved"],
-        ALL_KNOWN,
+        Start::CLEARED,
     ),
     (
         &["anscheck", "check", "--known-wrap", "--cleared"],
-        ALL_KNOWN,
+        Start::CLEARED,
     ),
 ];
 
@@ -188,7 +194,11 @@ fn flags_say_what_is_known(rt: HostRuntime) {
 #[test]
 fn flags_stand_on_both_sides_of_the_file(rt: HostRuntime) {
     let expected = Options {
-        start: CURSOR_AND_COLOURS,
+        start: Start {
+            cursor: true,
+            colours: true,
+            ..Start::ANY
+        },
         ..ANY_WITH_CELLS
     };
     let words = [

@@ -9,86 +9,74 @@ use ans_write::Outbox;
 use std::process::Abort;
 use std::test::Fail;
 
-/// The class in which no part is known.
-const ANY: Start = Start {
-    screen: false,
-    cursor: false,
-    saved: false,
-    colours: false,
-    wrap: false,
-};
-
-/// The class in which each part is known.
-const CLEARED: Start = Start {
-    screen: true,
-    cursor: true,
-    saved: true,
-    colours: true,
-    wrap: true,
-};
-
-/// The class in which the cursor and the colours are known.
-const CURSOR_AND_COLOURS: Start = Start {
-    cursor: true,
-    colours: true,
-    ..ANY
-};
-
 /// A class of starts, and the heading of `Hi` on 2 columns and 1 line.
 static HEADINGS: [(Start, &[u8]); 11] = [
-    (ANY, b"size: 2 x 1\nstart: any\ncontent: 2 bytes\n"),
-    (CLEARED, b"size: 2 x 1\nstart: cleared\ncontent: 2 bytes\n"),
+    (Start::ANY, b"size: 2 x 1\nstart: any\ncontent: 2 bytes\n"),
+    (
+        Start::CLEARED,
+        b"size: 2 x 1\nstart: cleared\ncontent: 2 bytes\n",
+    ),
     (
         Start {
             screen: true,
-            ..ANY
+            ..Start::ANY
         },
         b"size: 2 x 1\nstart: known screen\ncontent: 2 bytes\n",
     ),
     (
         Start {
             cursor: true,
-            ..ANY
+            ..Start::ANY
         },
         b"size: 2 x 1\nstart: known cursor\ncontent: 2 bytes\n",
     ),
     (
-        Start { saved: true, ..ANY },
+        Start {
+            saved: true,
+            ..Start::ANY
+        },
         b"size: 2 x 1\nstart: known saved\ncontent: 2 bytes\n",
     ),
     (
         Start {
             colours: true,
-            ..ANY
+            ..Start::ANY
         },
         b"size: 2 x 1\nstart: known colours\ncontent: 2 bytes\n",
     ),
     (
-        Start { wrap: true, ..ANY },
+        Start {
+            wrap: true,
+            ..Start::ANY
+        },
         b"size: 2 x 1\nstart: known wrap\ncontent: 2 bytes\n",
     ),
     (
-        CURSOR_AND_COLOURS,
+        Start {
+            cursor: true,
+            colours: true,
+            ..Start::ANY
+        },
         b"size: 2 x 1\nstart: known cursor colours\ncontent: 2 bytes\n",
     ),
     (
         Start {
             wrap: false,
-            ..CLEARED
+            ..Start::CLEARED
         },
         b"size: 2 x 1\nstart: known screen cursor saved colours\ncontent: 2 bytes\n",
     ),
     (
         Start {
             screen: false,
-            ..CLEARED
+            ..Start::CLEARED
         },
         b"size: 2 x 1\nstart: known cursor saved colours wrap\ncontent: 2 bytes\n",
     ),
     (
         Start {
             saved: false,
-            ..CLEARED
+            ..Start::CLEARED
         },
         b"size: 2 x 1\nstart: known screen cursor colours wrap\ncontent: 2 bytes\n",
     ),

@@ -7,60 +7,42 @@ use ans_sauce::{Cause, Fault, split};
 use std::process::Abort;
 use std::test::Fail;
 
-/// No part is needed.
-const NOTHING: Start = Start {
-    screen: false,
-    cursor: false,
-    saved: false,
-    colours: false,
-    wrap: false,
-};
-
-/// Each part is needed.
-const EACH_PART: Start = Start {
-    screen: true,
-    cursor: true,
-    saved: true,
-    colours: true,
-    wrap: true,
-};
-
 /// What a content needs, and the last line of its text.
 static NEEDED: [(Start, &[u8]); 10] = [
-    (NOTHING, b"needs: nothing\n"),
-    (EACH_PART, b"needs: screen cursor saved colours wrap\n"),
+    (Start::ANY, b"needs: nothing\n"),
+    (Start::CLEARED, b"needs: screen cursor saved colours wrap\n"),
     (
         Start {
             screen: true,
-            ..NOTHING
+            ..Start::ANY
         },
         b"needs: screen\n",
     ),
     (
         Start {
             cursor: true,
-            ..NOTHING
+            ..Start::ANY
         },
         b"needs: cursor\n",
     ),
     (
         Start {
             saved: true,
-            ..NOTHING
+            ..Start::ANY
         },
         b"needs: saved\n",
     ),
     (
         Start {
             colours: true,
-            ..NOTHING
+            ..Start::ANY
         },
         b"needs: colours\n",
     ),
     (
         Start {
             wrap: true,
-            ..NOTHING
+            ..Start::ANY
         },
         b"needs: wrap\n",
     ),
@@ -68,21 +50,21 @@ static NEEDED: [(Start, &[u8]); 10] = [
         Start {
             screen: true,
             cursor: true,
-            ..NOTHING
+            ..Start::ANY
         },
         b"needs: screen cursor\n",
     ),
     (
         Start {
             wrap: false,
-            ..EACH_PART
+            ..Start::CLEARED
         },
         b"needs: screen cursor saved colours\n",
     ),
     (
         Start {
             screen: false,
-            ..EACH_PART
+            ..Start::CLEARED
         },
         b"needs: cursor saved colours wrap\n",
     ),
@@ -128,7 +110,7 @@ fn notes_stand_before_the_needs(rt: HostRuntime) -> Result<(), Fail> {
     };
     let report = NeedsReport::Least {
         parts: &parts,
-        class: NOTHING,
+        class: Start::ANY,
     };
     let text: &[u8] = b"size: 80 x 1\n\
         content: 3 bytes\n\
