@@ -1,8 +1,9 @@
 -- Playing the content in pieces.
 use Rattle.std.proofs.Common.{◌≡◌, ℕ, ◌+◌, ◌≤◌, List, ◌++◌, length, take, drop, sym, ap, subst, ◌∙◌, arith}
-use Rattle.std.proofs.Common.{append_assoc, length-append, take-append-drop, inl, inr}
-use Rattle.std.specs.Prelude.{Result, Ok, Err, IfErr}
+use Rattle.std.proofs.Common.{append_assoc, length-append, take-append-drop, inl, inr, refl}
+use Rattle.std.specs.Prelude.{Result, IfErr}
 use Rattle.std.proofs.lemmas.List.{length-take-le, take_all}
+use Rattle.std.proofs.lemmas.Result.{IfErr-weaker}
 use Rattle.std.proofs.Math.Seq.{drop-append_seam, take-append_seam}
 use Rattle.ans_model.specs.Screen.State.{Size}
 use Rattle.ans_model.specs.Verdict.FirstFault.{IsFirstFault}
@@ -11,11 +12,12 @@ use Rattle.ans_model.specs.declared.fault.Fault.{Fault}
 use Rattle.ans_model.specs.declared.start.Start.{Start}
 use Rattle.ans_play.specs.PlayerView.{PlayerView}
 use Rattle.ans_model.proofs.OneAnswer.{first_is_certain, last_is_certain}
-use Rattle.ans_play.specs.Stands.{SamePlay}
+use Rattle.ans_play.specs.Stands.{SamePlay, Stands}
 use Rattle.ans_play.proofs.Feeding.{first_longer, first_within}
 use Rattle.ans_play.proofs.Finishing.{last_within}
 use Rattle.ans_play.proofs.TwoStarts.{first_shown, last_shown}
 use Rattle.ans_check.specs.FileVerdict.{Deserves}
+use Rattle.ans_check.proofs.VerdictLemmas.{err_of_parts, so_of_same}
 
 -- a piece comes off what is left of the content
 pub record Cut (content piece rest : List ℕ) (n : ℕ) : Type 0 where
@@ -70,28 +72,22 @@ pub fed_fault : (a b : PlayerView) (content piece rest : List ℕ) (n : ℕ) (f 
     → Cut content piece rest n
     → IsFirstFault b.size b.start (take n content ++ piece) f → Deserves a.size a.start content f
 fed_fault a b content piece rest n f same c first =
-    let front = take n content ++ piece in
-    let here : IsFirstFault a.size a.start front f =
-    subst (λ (z : Size). IsFirstFault z a.start front f) same.size
-    (subst (λ (s : Start). IsFirstFault b.size s front f) same.start first) in
-    first_deserved a.size a.start content f
-    (subst (λ (v : List ℕ). IsFirstFault a.size a.start v f) (sym c.whole)
-    (first_longer a.size a.start front rest f here))
+    so_of_same (λ z s bytes. Deserves z s bytes f) b.size a.size b.start a.start content content same.size same.start refl
+    (first_deserved b.size b.start content f (subst (λ (v : List ℕ). IsFirstFault b.size b.start v f) (sym c.whole)
+    (first_longer b.size b.start (take n content ++ piece) rest f first)))
 
 -- the fault in the end is the content's
 pub last_faults : {T : Type 0} (r : Result T Fault) (a b : PlayerView) (content : List ℕ) → SamePlay a b
     → IfErr r (IsLastFault b.size b.start content) → IfErr r (Deserves a.size a.start content)
-last_faults (Ok v) a b content same last = tt
-last_faults (Err f) a b content same last =
-    last_deserved a.size a.start content f
-    (subst (λ (z : Size). IsLastFault z a.start content f) same.size
-    (subst (λ (s : Start). IsLastFault b.size s content f) same.start last))
+last_faults r a b content same last =
+    err_of_parts r Deserves same.size same.start refl
+    (IfErr-weaker r _ _ (last_deserved b.size b.start content) last)
 
--- once nothing is left, all is taken
-pub all_taken : (content rest : List ℕ) (n : ℕ) → rest ≡ drop n content → length rest ≡ 0 → n ≤ length content
-    → take n content ≡ content
-all_taken content rest n e none le =
+-- once nothing is left, a player that stands behind what it was fed stands behind the content
+pub stands_whole : (player : PlayerView) (content rest : List ℕ) (n : ℕ) → rest ≡ drop n content → length rest ≡ 0
+    → n ≤ length content → Stands player (take n content) → Stands player content
+stands_whole player content rest n e none le stands =
     let left : length (drop n content) ≡ 0 = ap length (sym e) ∙ none in
     let split : length content ≡ length (take n content) + length (drop n content) =
     ap length (sym (take-append-drop n content)) ∙ length-append (take n content) (drop n content) in
-    take_all n content (omega (arith, split, left, length-take-le n content le))
+    subst (Stands player) (take_all n content (omega (arith, split, left, length-take-le n content le))) stands

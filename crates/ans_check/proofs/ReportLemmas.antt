@@ -27,12 +27,11 @@ use Rattle.ans_check.specs.declared.verdict.Needs.{Needs}
 use Rattle.ans_check.specs.declared.verdict.Needs.TheVariants as needs
 use Rattle.ans_check.specs.declared.verdict.Verdict.{Verdict}
 use Rattle.ans_check.specs.declared.verdict.Verdict.TheVariants.{Pass, Refused}
-use Rattle.ans_check.specs.FileNeeds.{NeedsClass, IsNeedsOf, IsLeastClass}
-use Rattle.ans_check.specs.FileVerdict.{Passes, IsRefusedFor, IsVerdictOn, IsPass, IsGoodFile}
+use Rattle.ans_check.specs.FileNeeds.{NeedsClass, IsNeedsOf, needs_fault}
+use Rattle.ans_check.specs.FileVerdict.{Passes, IsRefusedFor, IsVerdictOn, IsGoodFile, fault_of}
 use Rattle.ans_check.specs.CommandText.{heading, ReportsPass, ReportsFault, ReportsRecordFault, ReportsCheck}
-use Rattle.ans_check.specs.CommandText.{ReportsLeast, ReportsNeedsFault, ReportsNeeds}
-use Rattle.ans_check.specs.CommandText.{IsNeedsReportOf, is_least}
-use Rattle.ans_check.specs.CommandText.{ReportsRecord, ReportsContent, ReportsTokens, IsReportOf, is_pass}
+use Rattle.ans_check.specs.CommandText.{ReportsLeast, ReportsNeeds, ReportsRecord, ReportsContent, ReportsTokens}
+use Rattle.ans_check.specs.CommandText.{IsNeedsReportOf, IsReportOf}
 
 -- the heading of a file's parts
 heading_is : (apart : FileParts) (parts : Parts) (start : Option Start) → ShowsParts apart parts
@@ -51,19 +50,26 @@ pass_reported file start cells apart parts picture shows h = record {
 }
 
 -- a refusal is reported by the heading of its parts and its fault
-fault_reported : (file : List ℕ) (start : Start) (apart : FileParts) (parts : Parts) (f : Fault)
+fault_reported : (file : List ℕ) (start : Start) (named : Option Start) (apart : FileParts) (parts : Parts) (f : Fault)
     → ShowsParts apart parts → IsRefusedFor file start apart f
-    → ReportsFault file start (report_text (heading_of parts (Some start)) (RefusedFor f))
-fault_reported file start apart parts f shows h = record {
+    → ReportsFault file start named (report_text (heading_of parts named) (RefusedFor f))
+fault_reported file start named apart parts f shows h = record {
   apart = apart;
   fault = f;
   refused = h;
-  text_is = ap (λ (v : Heading). report_text v (RefusedFor f)) (heading_is apart parts (Some start) shows);
+  text_is = ap (λ (v : Heading). report_text v (RefusedFor f)) (heading_is apart parts named shows);
 }
 
 pub record_reported : (file : List ℕ) (f : Fault) → record_fault file ≡ Some f
     → ReportsRecordFault file (refusal_text f)
 record_reported file f e = record { fault = f; fault_is = e; text_is = refl }
+
+-- where a good file would have no fault, and there is one, the file is not good
+never_good : (file : List ℕ) (start : Start) (f : Fault) → (IsGoodFile file start → Some f ≡ None)
+    → ¬ IsGoodFile file start
+never_good file start f good is_good =
+    let same : Some f ≡ None = good is_good in
+    cc
 
 -- what holds of some values holds of values equal to them
 of_equals : {A B C : Type 0} (P : A → B → C → Type 0) {a x : A} {b y : B} {c z : C} → a ≡ x → b ≡ y → c ≡ z → P x y z
@@ -73,8 +79,8 @@ of_equals P p q r h = rw (p, q, r) h
 -- the report that tells a verdict which is true of a file reports on it
 pub verdict_reported : {G : Type 0} (file : List ℕ) (start : Start) (cells : Bool) (v : Verdict G) (r : Report G)
     → IsReportOf v start cells r
-    → IsVerdictOn file start v → (IsGoodFile file start → IsPass v)
-    → ReportsCheck file start cells (is_pass v) (report_bytes r)
+    → IsVerdictOn file start v → (IsGoodFile file start → fault_of v ≡ None)
+    → ReportsCheck file start cells (not (is_some (fault_of v))) (report_bytes r)
 verdict_reported file start cells (Pass parts picture) (report.Pass told from shown asked) (p, s, i, c) h good =
     of_equals (λ (v : Parts) (at : Start) (see : Picture × Bool). ReportsPass file start cells
     (report_text (heading_of v (Some at)) (Passed see.0 see.1)))
@@ -82,11 +88,11 @@ verdict_reported file start cells (Pass parts picture) (report.Pass told from sh
 verdict_reported file start cells (Refused (Some parts) f) (report.Refused told from fault) (p, s, same) h good =
     of_equals (λ (v : Option Parts) (at : Start) (why : Fault). ReportsCheck file start cells false
     (refused_text v (Some at) why))
-    p s same (good, inl (fault_reported file start h.0 parts f h.1 h.2))
+    p s same (never_good file start f good, inl (fault_reported file start (Some start) h.0 parts f h.1 h.2))
 verdict_reported file start cells (Refused None f) (report.Refused told from fault) (p, s, same) h good =
     of_equals (λ (v : Option Parts) (at : Start) (why : Fault). ReportsCheck file start cells false
     (refused_text v (Some at) why))
-    p s same (good, inr (record_reported file f h))
+    p s same (never_good file start f good, inr (record_reported file f h))
 verdict_reported file start cells (Pass parts picture) (report.Refused told from fault) never h good = absurd never
 verdict_reported file start cells (Refused parts f) (report.Pass told from shown asked) never h good = absurd never
 
@@ -141,32 +147,22 @@ least_reported file apart parts class shows h = record {
   text_is = ap (λ (v : Heading). needs_text v class) (heading_is apart parts None shows);
 }
 
--- so is the fault from the cleared start
-needs_fault_reported : (file : List ℕ) (apart : FileParts) (parts : Parts) (f : Fault) → ShowsParts apart parts
-    → IsRefusedFor file all_known apart f
-    → ReportsNeedsFault file (report_text (heading_of parts None) (RefusedFor f))
-needs_fault_reported file apart parts f shows h = record {
-  apart = apart;
-  fault = f;
-  refused = h;
-  text_is = ap (λ (v : Heading). report_text v (RefusedFor f)) (heading_is apart parts None shows);
-}
-
 -- what holds of two values holds of values equal to them
 of_two_equals : {A B : Type 0} (P : A → B → Type 0) {a x : A} {b y : B} → a ≡ x → b ≡ y → P x y → P a b
 of_two_equals P p q h = rw (p, q) h
 
 -- the report that tells what a file needs reports on it
 pub needs_reported : (file : List ℕ) (n : Needs) (r : NeedsReport) → IsNeedsReportOf n r → IsNeedsOf file n
-    → (IsGoodFile file all_known → IsLeastClass n) → ReportsNeeds file (is_least n) (needs_bytes r)
+    → (IsGoodFile file all_known → needs_fault n ≡ None)
+    → ReportsNeeds file (not (is_some (needs_fault n))) (needs_bytes r)
 needs_reported file (needs.Least parts class) (needs_report.Least told found) (p, s) h good =
     of_two_equals (λ (v : Parts) (c : Start). ReportsLeast file (needs_text (heading_of v None) c))
     p s (least_reported file h.0 parts class h.1 h.2)
 needs_reported file (needs.Refused (Some parts) f) (needs_report.Refused told fault) (p, same) h good =
     of_two_equals (λ (v : Option Parts) (why : Fault). ReportsNeeds file false (refused_text v None why))
-    p same (good, inl (needs_fault_reported file h.0 parts f h.1 h.2))
+    p same (never_good file all_known f good, inl (fault_reported file all_known None h.0 parts f h.1 h.2))
 needs_reported file (needs.Refused None f) (needs_report.Refused told fault) (p, same) h good =
     of_two_equals (λ (v : Option Parts) (why : Fault). ReportsNeeds file false (refused_text v None why))
-    p same (good, inr (record_reported file f h))
+    p same (never_good file all_known f good, inr (record_reported file f h))
 needs_reported file (needs.Least parts class) (needs_report.Refused told fault) never h good = absurd never
 needs_reported file (needs.Refused parts f) (needs_report.Least told found) never h good = absurd never

@@ -50,6 +50,13 @@ module _ {W : Type 0} (contents : W → Option (List ℕ)) (reports : Bool → L
   reported (Err e) result passed text told device wrote is =
       subst (IsReported contents reports old new) (sym is) (reported_in_part passed text told wrote (device.0 refl))
 
+-- its only error is the writer's
+pub only_write : {E : Type 0} (written : Result Unit E) (result : Result Bool RunError) (passed : Bool)
+    → MatchResult written (λ _. result ≡ Ok passed) (λ _. result ≡ Err error.Write)
+    → IfErr result (λ e. e ≡ error.Write)
+only_write (Ok v) result passed is = rw is tt
+only_write (Err e) result passed is = rw is refl
+
 -- without memory nothing is written
 pub unreported : {W : Type 0} (contents : W → Option (List ℕ)) (reports : Bool → List ℕ → Type 0) (writer : Tried W)
     → has_failed writer ≡ false → IsReported contents reports writer writer (Err error.Memory)

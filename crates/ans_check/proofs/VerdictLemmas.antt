@@ -23,7 +23,7 @@ use Rattle.ans_check.specs.FileNeeds.{NeedsClass}
 use Rattle.ans_check.specs.FileVerdict.{Deserves, Passes, IsRefusedFor, IsGoodFile, parts_size, stated_size}
 
 -- what is so of a play is so of equal sizes, starts and contents
-so_of_same : (P : Size → Start → List ℕ → Type 0) (a b : Size) (from start : Start) (played content : List ℕ)
+pub so_of_same : (P : Size → Start → List ℕ → Type 0) (a b : Size) (from start : Start) (played content : List ℕ)
     → a ≡ b → from ≡ start → played ≡ content → P a from played → P b start content
 so_of_same P a b from start played content size same text h =
     subst (λ (v : Size). P v start content) size

@@ -42,12 +42,12 @@ pub record ReportsPass (file : List ℕ) (start : Start) (cells : Bool) (text : 
   pub passes : Passes file start apart picture
   pub text_is : text ≡ report_text (heading apart (Some start)) (Passed picture cells)
 
--- the file's content deserves a fault, and the text reports it
-pub record ReportsFault (file : List ℕ) (start : Start) (text : List ℕ) : Type 0 where
+-- the file's content deserves a fault from a class of starts, and the text reports it, with this class or without
+pub record ReportsFault (file : List ℕ) (start : Start) (named : Option Start) (text : List ℕ) : Type 0 where
   pub apart : FileParts
   pub fault : Fault
   pub refused : IsRefusedFor file start apart fault
-  pub text_is : text ≡ report_text (heading apart (Some start)) (RefusedFor fault)
+  pub text_is : text ≡ report_text (heading apart named) (RefusedFor fault)
 
 -- the file's record or its layout has a fault, and the text reports it
 pub record ReportsRecordFault (file text : List ℕ) : Type 0 where
@@ -55,11 +55,15 @@ pub record ReportsRecordFault (file text : List ℕ) : Type 0 where
   pub fault_is : record_fault file ≡ Some fault
   pub text_is : text ≡ refusal_text fault
 
--- Whether the file passes and the text are what a check finds of it; a good file is not refused.
+-- the file is not good, and the text reports why
+abbrev pub ReportsRefusal : List ℕ → Start → Option Start → List ℕ → Type 0
+ReportsRefusal file start named text = ¬ IsGoodFile file start
+    × (ReportsFault file start named text ⊎ ReportsRecordFault file text)
+
+-- whether the file passes and the text are what a check finds of it
 abbrev pub ReportsCheck : List ℕ → Start → Bool → Bool → List ℕ → Type 0
 ReportsCheck file start cells true text = ReportsPass file start cells text
-ReportsCheck file start cells false text = ¬ IsGoodFile file start
-    × (ReportsFault file start text ⊎ ReportsRecordFault file text)
+ReportsCheck file start cells false text = ReportsRefusal file start (Some start) text
 
 -- the file is accepted so, and the text is its record's
 pub record ReportsRecord (file text : List ℕ) : Type 0 where
@@ -90,18 +94,10 @@ pub record ReportsLeast (file text : List ℕ) : Type 0 where
   pub needs : NeedsClass file apart class
   pub text_is : text ≡ needs_text (heading apart None) class
 
--- the file's content deserves a fault even from the cleared start, and the text tells it
-pub record ReportsNeedsFault (file text : List ℕ) : Type 0 where
-  pub apart : FileParts
-  pub fault : Fault
-  pub refused : IsRefusedFor file all_known apart fault
-  pub text_is : text ≡ report_text (heading apart None) (RefusedFor fault)
-
 -- What the file needs is told; or it is not good even from the cleared start, and why is told.
 abbrev pub ReportsNeeds : List ℕ → Bool → List ℕ → Type 0
 ReportsNeeds file true text = ReportsLeast file text
-ReportsNeeds file false text = ¬ IsGoodFile file all_known
-    × (ReportsNeedsFault file text ⊎ ReportsRecordFault file text)
+ReportsNeeds file false text = ReportsRefusal file all_known None text
 
 -- whether the file passes and the text are what the command is to write of it
 abbrev pub ReportsBy : Command → Start → Bool → List ℕ → Bool → List ℕ → Type 0
@@ -114,11 +110,6 @@ ReportsBy Needs start cells file passed text = ReportsNeeds file passed text
 abbrev pub Reports : Options → List ℕ → Bool → List ℕ → Type 0
 Reports options file passed text = ReportsBy options.command options.start options.cells file passed text
 
--- whether the verdict is a pass
-abbrev pub is_pass : {G : Type 0} → Verdict G → Bool
-is_pass (Pass parts picture) = true
-is_pass (Refused parts fault) = false
-
 -- the report tells the verdict, from this start, with the cells of a pass or without
 abbrev pub IsReportOf : {G : Type 0} → Verdict G → Start → Bool → Report G → Type 0
 IsReportOf (Pass parts picture) start cells (report.Pass told told_start told_picture told_cells) =
@@ -126,11 +117,6 @@ IsReportOf (Pass parts picture) start cells (report.Pass told told_start told_pi
 IsReportOf (Refused parts fault) start cells (report.Refused told told_start told_fault) =
     (option_copied told ≡ parts) × (told_start ≡ start) × (told_fault ≡ fault)
 IsReportOf _ start cells _ = ⊥
-
--- whether a class was found
-abbrev pub is_least : found.Needs → Bool
-is_least (needs.Least parts class) = true
-is_least (needs.Refused parts fault) = false
 
 -- the report tells what was found
 abbrev pub IsNeedsReportOf : found.Needs → NeedsReport → Type 0

@@ -1,9 +1,10 @@
 -- What a file needs.
-use Rattle.std.specs.Prelude.{◌≡◌, ℕ, ◌≤◌, List, Some, None}
+use Rattle.std.specs.Prelude.{◌≡◌, ℕ, List, Option, Some, None}
 use Rattle.ans_model.specs.File.Layout.{FileParts, content}
 use Rattle.ans_model.specs.File.Refusals.{Accepts, record_fault}
 use Rattle.ans_model.specs.Screen.StartClass.{all_known}
 use Rattle.ans_model.specs.Verdict.Needs.{IsLeast}
+use Rattle.ans_model.specs.declared.fault.Fault.{Fault}
 use Rattle.ans_model.specs.declared.start.Start.{Start}
 use Rattle.ans_sauce.specs.Parts.{ShowsParts}
 use Rattle.ans_check.specs.declared.verdict.Needs.{Needs}
@@ -22,12 +23,7 @@ IsNeedsOf file (Refused (Some parts) fault) =
     (apart : FileParts) × ShowsParts apart parts × IsRefusedFor file all_known apart fault
 IsNeedsOf file (Refused None fault) = record_fault file ≡ Some fault
 
--- the answer is a class
-abbrev pub IsLeastClass : Needs → Type 0
-IsLeastClass (Least parts class) = Unit {0}
-IsLeastClass (Refused parts fault) = ⊥
-
--- the fault's offset, if there is a fault, is one in the file or at its end
-abbrev pub HasFaultWithin : ℕ → Needs → Type 0
-HasFaultWithin n (Least parts class) = Unit {0}
-HasFaultWithin n (Refused parts fault) = fault.offset ≤ n
+-- the fault for which no class is found
+abbrev pub needs_fault : Needs → Option Fault
+needs_fault (Least parts class) = None
+needs_fault (Refused parts fault) = Some fault

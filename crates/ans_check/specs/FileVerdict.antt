@@ -1,5 +1,5 @@
 -- What a verdict says of a file.
-use Rattle.std.specs.Prelude.{◌≡◌, ◌⊎◌, ℕ, ◌≤◌, List, length, Some, None}
+use Rattle.std.specs.Prelude.{◌≡◌, ◌⊎◌, ℕ, ◌≤◌, List, length, Option, Some, None}
 use Rattle.ans_model.specs.File.Record.{stated_width, stated_lines}
 use Rattle.ans_model.specs.File.Layout.{FileParts, content}
 use Rattle.ans_model.specs.File.Refusals.{Accepts, record_fault}
@@ -51,21 +51,11 @@ IsVerdictOn file start (Refused (Some parts) fault) =
     (apart : FileParts) × ShowsParts apart parts × IsRefusedFor file start apart fault
 IsVerdictOn file start (Refused None fault) = record_fault file ≡ Some fault
 
--- the verdict is a pass
-abbrev pub IsPass : {G : Type 0} → Verdict G → Type 0
-IsPass (Pass parts picture) = Unit {0}
-IsPass (Refused parts fault) = ⊥
+-- the fault for which a verdict refuses; a pass has none
+abbrev pub fault_of : {G : Type 0} → Verdict G → Option Fault
+fault_of (Pass parts picture) = None
+fault_of (Refused parts fault) = Some fault
 
 -- the file is accepted, and its content is good
 abbrev pub IsGoodFile : List ℕ → Start → Type 0
 IsGoodFile file start = (apart : FileParts) × (picture : Picture) × Passes file start apart picture
-
--- the fault's offset, if there is a fault, is one in the file or at its end
-abbrev pub HasOffsetWithin : {G : Type 0} → ℕ → Verdict G → Type 0
-HasOffsetWithin n (Pass parts picture) = Unit {0}
-HasOffsetWithin n (Refused parts fault) = fault.offset ≤ n
-
--- the fault, if there is one, is certain
-abbrev pub HasCertainFault : {G : Type 0} → Verdict G → Type 0
-HasCertainFault (Pass parts picture) = Unit {0}
-HasCertainFault (Refused parts fault) = IsCertain fault.cause

@@ -1,11 +1,11 @@
 //! Which parts of the start a file's content needs to be known.
-ghost use Rattle.std.specs.Prelude.{◌≤◌, length, IsOk, IsSome, IfOk};
+ghost use Rattle.std.specs.Prelude.{◌≡◌, ◌≤◌, length, None, IsOk, IsSome, IfOk, IfSome};
 ghost use Rattle.ans_model.specs.Bytes.{longest_file};
 ghost use Rattle.ans_model.specs.File.Refusals.{record_fault};
 ghost use Rattle.ans_model.specs.Screen.StartClass.{all_known};
 ghost use Rattle.ans_model.specs.Verdict.Needs.{IsFoundByParts};
 ghost use Rattle.ans_sauce.specs.Parts.{content_of};
-ghost use Rattle.ans_check.specs.FileNeeds.{HasFaultWithin, IsNeedsOf, IsLeastClass};
+ghost use Rattle.ans_check.specs.FileNeeds.{IsNeedsOf, needs_fault};
 ghost use Rattle.ans_check.specs.FileVerdict.{IsGoodFile, parts_size};
 
 use crate::verdict::{Needs, passes_from, play};
@@ -64,8 +64,8 @@ fn least_class<G: Grid>(alloc: Global, parts: &Parts<'_>) -> Result<Start, Alloc
 pub fn needs<G: Grid>(alloc: Global, file: &[u8]) -> Result<Needs<'_>, AllocError>
     requires { length file.now ≤ longest_file }
     ensures needs { IfOk result (IsNeedsOf file.now) }
-    ensures exact { IfOk result (λ n. IsGoodFile file.now all_known → IsLeastClass n) }
-    ensures offset { IfOk result (HasFaultWithin (length file.now)) }
+    ensures exact { IfOk result (λ n. IsGoodFile file.now all_known → needs_fault n ≡ None) }
+    ensures offset { IfOk result (λ n. IfSome (needs_fault n) (λ f. f.offset ≤ length file.now)) }
     ensures memory { IsSome (record_fault file.now) → IsOk result }
 {
     let parts = match split(file) {

@@ -1,9 +1,12 @@
 //! Bytes to bytes.
-ghost use Rattle.std.specs.Prelude.{◌≡◌, ◌≤◌, Ok, Err, false, length, MatchResult};
+ghost use Rattle.std.specs.Prelude.{◌≡◌, ◌≤◌, Ok, Err, IfErr, IsSome, false, length, MatchResult, is_some, not};
+ghost use Rattle.ans_model.specs.File.Refusals.{record_fault};
 ghost use Rattle.ans_model.specs.Bytes.{longest_file};
 ghost use Rattle.ans_write.specs.Tried.{has_failed};
 ghost use Rattle.ans_check.specs.CommandText.{Reports, ReportsCheck, ReportsNeeds, ReportsSauce, ReportsTokens};
-ghost use Rattle.ans_check.specs.CommandText.{IsNeedsReportOf, IsReportOf, is_least, is_pass};
+ghost use Rattle.ans_check.specs.CommandText.{IsNeedsReportOf, IsReportOf};
+ghost use Rattle.ans_check.specs.FileNeeds.{needs_fault};
+ghost use Rattle.ans_check.specs.FileVerdict.{fault_of};
 ghost use Rattle.ans_check.specs.Reported.{IsReported};
 ghost use Rattle.ans_check.specs.Served.{Serves};
 
@@ -43,7 +46,7 @@ fn report_of<'a, G: Grid>(verdict: &'a Verdict<'a, G>, start: Start, cells: bool
 
 /// Whether a verdict is a pass.
 fn is_pass<G: Grid>(verdict: &Verdict<'_, G>) -> bool
-    ensures { result ≡ is_pass verdict.now }
+    ensures { result ≡ not (is_some (fault_of verdict.now)) }
 {
     matches!(verdict, Verdict::Pass(_, _))
 }
@@ -68,7 +71,8 @@ fn report<W: Write>(
 ) -> Result<bool, RunError>
     requires works { has_failed writer.old ≡ false }
     requires length { length file.now ≤ longest_file }
-    ensures { IsReported W.contents (ReportsCheck file.now start cells) writer.old writer.new result }
+    ensures reported { IsReported W.contents (ReportsCheck file.now start cells) writer.old writer.new result }
+    ensures memory { IsSome (record_fault file.now) → IfErr result (λ e. e ≡ RunError.Write) }
 {
     let Ok(verdict) = check::<PlaneGrid>(alloc, file, start) else {
         return Err(RunError::Memory);
@@ -80,7 +84,8 @@ fn report<W: Write>(
 /// Writes what a file's record says, or why the file is refused. Returns whether it is accepted.
 fn tell_record<W: Write>(writer: &mut Tried<W>, file: &[u8]) -> Result<bool, RunError>
     requires { has_failed writer.old ≡ false }
-    ensures { IsReported W.contents (ReportsSauce file.now) writer.old writer.new result }
+    ensures reported { IsReported W.contents (ReportsSauce file.now) writer.old writer.new result }
+    ensures memory { IfErr result (λ e. e ≡ RunError.Write) }
 {
     match split(file) {
         Ok(parts) => told(write_record(writer, &parts), true),
@@ -93,7 +98,8 @@ fn tell_record<W: Write>(writer: &mut Tried<W>, file: &[u8]) -> Result<bool, Run
 fn tell_tokens<W: Write>(writer: &mut Tried<W>, file: &[u8]) -> Result<bool, RunError>
     requires works { has_failed writer.old ≡ false }
     requires length { length file.now ≤ longest_file }
-    ensures { IsReported W.contents (ReportsTokens file.now) writer.old writer.new result }
+    ensures reported { IsReported W.contents (ReportsTokens file.now) writer.old writer.new result }
+    ensures memory { IfErr result (λ e. e ≡ RunError.Write) }
 {
     match split(file) {
         Ok(parts) => match write_tokens(writer, parts.content()) {
@@ -122,7 +128,7 @@ fn needs_report_of<'a>(found: &'a Needs<'a>) -> NeedsReport<'a>
 
 /// Whether a least class was found.
 fn is_least(found: &Needs<'_>) -> bool
-    ensures { result ≡ is_least found.now }
+    ensures { result ≡ not (is_some (needs_fault found.now)) }
 {
     matches!(found, Needs::Least(_, _))
 }
@@ -131,7 +137,8 @@ fn is_least(found: &Needs<'_>) -> bool
 fn tell_needs<W: Write>(alloc: Global, writer: &mut Tried<W>, file: &[u8]) -> Result<bool, RunError>
     requires works { has_failed writer.old ≡ false }
     requires length { length file.now ≤ longest_file }
-    ensures { IsReported W.contents (ReportsNeeds file.now) writer.old writer.new result }
+    ensures reported { IsReported W.contents (ReportsNeeds file.now) writer.old writer.new result }
+    ensures memory { IsSome (record_fault file.now) → IfErr result (λ e. e ≡ RunError.Write) }
 {
     let Ok(found) = needs::<PlaneGrid>(alloc, file) else {
         return Err(RunError::Memory);

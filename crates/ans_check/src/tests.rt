@@ -52,6 +52,17 @@ const NEEDS: Options = Options {
 const HI_REPORT: &[u8] =
     b"size: 2 x 1\nstart: cleared\ncontent: 2 bytes\nverdict: pass\npicture:\nHi\n";
 
+/// The text of the record of `Hi`.
+const HI_RECORD: &[u8] = b"title: \n\
+    author: \n\
+    group: \n\
+    date: 19960101\n\
+    size: 2 x 1\n\
+    flags: 00\n\
+    font: \n\
+    file size: 2\n\
+    comments: 0\n";
+
 /// What stands before the record, and the plain record with these bytes changed.
 fn file_of(rt: &(impl Abort + AllocGlobal), front: &[u8], edits: &[(usize, &[u8])]) -> Vec<u8> {
     match sample_file(rt.alloc(), front, edits) {

@@ -1,14 +1,15 @@
 //! What the checker finds of a file.
 ghost use Rattle.std.specs.Prelude.{◌≡◌, ◌↔◌, ◌≤◌, length, [], None, IsOk, IsSome, IsTrue, IfOk, IfErr};
+ghost use Rattle.std.specs.Prelude.{IfSome};
 ghost use Rattle.ans_model.specs.Bytes.{longest_file};
 ghost use Rattle.ans_model.specs.declared.start.Start.{Start};
 ghost use Rattle.ans_model.specs.Verdict.Good.{GoodWith, IsGood};
 ghost use Rattle.ans_model.specs.Screen.StartClass.{all_known};
+ghost use Rattle.ans_model.specs.Verdict.Certain.{IsCertain};
 ghost use Rattle.ans_model.specs.File.Refusals.{record_fault};
 ghost use Rattle.ans_play.specs.Stands.{Stands};
 ghost use Rattle.ans_sauce.specs.Parts.{content_of};
-ghost use Rattle.ans_check.specs.FileVerdict.{Deserves, IsVerdictOn, IsPass, IsGoodFile, HasOffsetWithin};
-ghost use Rattle.ans_check.specs.FileVerdict.{HasCertainFault, parts_size};
+ghost use Rattle.ans_check.specs.FileVerdict.{Deserves, IsVerdictOn, IsGoodFile, fault_of, parts_size};
 
 use ans_model::start::Start;
 use ans_play::{Picture, Player};
@@ -100,9 +101,9 @@ pub fn check<G: Grid>(
 ) -> Result<Verdict<'_, G>, AllocError>
     requires { length file.now ≤ longest_file }
     ensures verdict { IfOk result (IsVerdictOn file.now start) }
-    ensures exact { IfOk result (λ v. IsGoodFile file.now start → IsPass v) }
-    ensures certain { start ≡ all_known → IfOk result HasCertainFault }
-    ensures offset { IfOk result (HasOffsetWithin (length file.now)) }
+    ensures exact { IfOk result (λ v. IsGoodFile file.now start → fault_of v ≡ None) }
+    ensures certain { start ≡ all_known → IfOk result (λ v. IfSome (fault_of v) (λ f. IsCertain f.cause)) }
+    ensures offset { IfOk result (λ v. IfSome (fault_of v) (λ f. f.offset ≤ length file.now)) }
     ensures memory { IsSome (record_fault file.now) → IsOk result }
 {
     let parts = match split(file) {

@@ -10,17 +10,9 @@ use Rattle.std.proofs.lemmas.List.Elements.{All-drop}
 use Rattle.ans_model.specs.declared.cell.Cell.{Cell}
 use Rattle.ans_model.specs.declared.fault.Fault.{Fault}
 use Rattle.ans_model.specs.declared.fault.Cause.{Cause}
-use Rattle.ans_model.specs.declared.fault.Cause.TheVariants.{NoRecord, WrongVersion, WrongKind, CommentsMissing}
-use Rattle.ans_model.specs.declared.fault.Cause.TheVariants.{LinesUnstated, WidthTooLarge, LinesTooLarge}
-use Rattle.ans_model.specs.declared.fault.Cause.TheVariants.{BytesAfterEndMark, BrokenSequence, NumberTooLarge}
-use Rattle.ans_model.specs.declared.fault.Cause.TheVariants.{TooManyParameters, EndInSequence, UnknownSequence}
-use Rattle.ans_model.specs.declared.fault.Cause.TheVariants.{WrongParameters, KeyReassigned, ScreenMode, ReportAsked}
-use Rattle.ans_model.specs.declared.fault.Cause.TheVariants.{OutsideScreen, PrintBelow, Scrolls}
-use Rattle.ans_model.specs.declared.fault.Cause.TheVariants.{PrintUnknownPlace, EraseUnknownPlace, MayScroll}
 use Rattle.ans_model.specs.declared.fault.Cause.TheVariants.{UnknownCell}
 use Rattle.ans_model.specs.declared.note.Note.{Note}
-use Rattle.ans_model.specs.declared.note.Note.TheVariants.{WidthAssumed, NoEndMark, SizeDiffers, OddDate, FlagBits}
-use Rattle.ans_model.specs.declared.note.Note.TheVariants.{FlagPair}
+use Rattle.ans_model.specs.declared.note.Note.TheVariants.{WidthAssumed}
 use Rattle.ans_model.specs.declared.start.Start.{Start}
 use Rattle.ans_model.specs.Bytes.{IsByte}
 use Rattle.ans_model.specs.File.Layout.{FileParts, comment_block, content}
@@ -65,30 +57,8 @@ use Rattle.ans_judge.proofs.CleanPieces.{clean_decimal, clean_hex_byte, clean_nu
 -- ---- faults and notes
 
 fault_text_clean : (cause : Cause) → IsCleanText (fault_text cause)
-fault_text_clean NoRecord = plain_text (fault_text NoRecord) refl
-fault_text_clean WrongVersion = plain_text (fault_text WrongVersion) refl
-fault_text_clean WrongKind = plain_text (fault_text WrongKind) refl
-fault_text_clean CommentsMissing = plain_text (fault_text CommentsMissing) refl
-fault_text_clean LinesUnstated = plain_text (fault_text LinesUnstated) refl
-fault_text_clean WidthTooLarge = plain_text (fault_text WidthTooLarge) refl
-fault_text_clean LinesTooLarge = plain_text (fault_text LinesTooLarge) refl
-fault_text_clean BytesAfterEndMark = plain_text (fault_text BytesAfterEndMark) refl
-fault_text_clean BrokenSequence = plain_text (fault_text BrokenSequence) refl
-fault_text_clean NumberTooLarge = plain_text (fault_text NumberTooLarge) refl
-fault_text_clean TooManyParameters = plain_text (fault_text TooManyParameters) refl
-fault_text_clean EndInSequence = plain_text (fault_text EndInSequence) refl
-fault_text_clean UnknownSequence = plain_text (fault_text UnknownSequence) refl
-fault_text_clean WrongParameters = plain_text (fault_text WrongParameters) refl
-fault_text_clean KeyReassigned = plain_text (fault_text KeyReassigned) refl
-fault_text_clean ScreenMode = plain_text (fault_text ScreenMode) refl
-fault_text_clean ReportAsked = plain_text (fault_text ReportAsked) refl
-fault_text_clean OutsideScreen = plain_text (fault_text OutsideScreen) refl
-fault_text_clean PrintBelow = plain_text (fault_text PrintBelow) refl
-fault_text_clean Scrolls = plain_text (fault_text Scrolls) refl
-fault_text_clean PrintUnknownPlace = plain_text (fault_text PrintUnknownPlace) refl
-fault_text_clean EraseUnknownPlace = plain_text (fault_text EraseUnknownPlace) refl
-fault_text_clean MayScroll = plain_text (fault_text MayScroll) refl
 fault_text_clean (UnknownCell row col) = plain_text (codes "F25 cell stays unknown") refl
+fault_text_clean cause = plain_text (fault_text cause) refl
 
 unknown_cell_clean : (row col : ℕ) → IsCleanText (position_text (UnknownCell row col))
 unknown_cell_clean row col =
@@ -99,30 +69,8 @@ unknown_cell_clean row col =
     (clean_append (decimal col) (codes ")") (clean_decimal col) (plain_text (codes ")") refl))))
 
 position_clean : (cause : Cause) → IsCleanText (position_text cause)
-position_clean NoRecord = clean_nil
-position_clean WrongVersion = clean_nil
-position_clean WrongKind = clean_nil
-position_clean CommentsMissing = clean_nil
-position_clean LinesUnstated = clean_nil
-position_clean WidthTooLarge = clean_nil
-position_clean LinesTooLarge = clean_nil
-position_clean BytesAfterEndMark = clean_nil
-position_clean BrokenSequence = clean_nil
-position_clean NumberTooLarge = clean_nil
-position_clean TooManyParameters = clean_nil
-position_clean EndInSequence = clean_nil
-position_clean UnknownSequence = clean_nil
-position_clean WrongParameters = clean_nil
-position_clean KeyReassigned = clean_nil
-position_clean ScreenMode = clean_nil
-position_clean ReportAsked = clean_nil
-position_clean OutsideScreen = clean_nil
-position_clean PrintBelow = clean_nil
-position_clean Scrolls = clean_nil
-position_clean PrintUnknownPlace = clean_nil
-position_clean EraseUnknownPlace = clean_nil
-position_clean MayScroll = clean_nil
 position_clean (UnknownCell row col) = unknown_cell_clean row col
+position_clean cause = clean_nil
 
 fault_line_clean : (fault : Fault) → IsCleanText (fault_line fault)
 fault_line_clean fault =
@@ -136,11 +84,7 @@ fault_line_clean fault =
 
 note_line_clean : (note : Note) → IsCleanText (note_line note)
 note_line_clean WidthAssumed = plain_text (note_line WidthAssumed) refl
-note_line_clean NoEndMark = plain_text (note_line NoEndMark) refl
-note_line_clean SizeDiffers = plain_text (note_line SizeDiffers) refl
-note_line_clean OddDate = plain_text (note_line OddDate) refl
-note_line_clean FlagBits = plain_text (note_line FlagBits) refl
-note_line_clean FlagPair = plain_text (note_line FlagPair) refl
+note_line_clean note = plain_text (note_line note) refl
 
 refusal_clean : (fault : Fault) → IsCleanText (refusal_text fault)
 refusal_clean fault =

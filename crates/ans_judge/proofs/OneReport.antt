@@ -23,7 +23,7 @@ use Rattle.ans_options.specs.declared.command.Command.TheVariants.{Check, Sauce,
 use Rattle.ans_options.specs.declared.command.Command.{Command}
 use Rattle.ans_options.specs.declared.command.Options.{Options}
 use Rattle.ans_check.specs.CommandText.{Reports, ReportsBy, ReportsCheck, ReportsContent, ReportsFault, ReportsLeast}
-use Rattle.ans_check.specs.CommandText.{ReportsNeeds, ReportsNeedsFault, ReportsPass}
+use Rattle.ans_check.specs.CommandText.{ReportsNeeds, ReportsPass}
 use Rattle.ans_check.specs.CommandText.{ReportsRecordFault, ReportsSauce, ReportsTokens, heading}
 use Rattle.ans_check.specs.FileNeeds.{NeedsClass}
 use Rattle.ans_check.specs.FileVerdict.{Deserves, IsGoodFile, IsRefusedFor, stated_size}
@@ -91,18 +91,18 @@ one_pass file start cells text other h g =
     ∙ ap₂ (λ (v : FileParts) (p : Picture). report_text (heading v (Some start)) (Passed p cells)) apart picture
     ∙ sym g.text_is
 
-one_fault : (file : List ℕ) (start : Start) (text other : List ℕ)
-    → ReportsFault file start text ⊎ ReportsRecordFault file text
-    → ReportsFault file start other ⊎ ReportsRecordFault file other → text ≡ other
-one_fault file start text other (inl h) (inl g) =
+one_fault : (file : List ℕ) (start : Start) (named : Option Start) (text other : List ℕ)
+    → ReportsFault file start named text ⊎ ReportsRecordFault file text
+    → ReportsFault file start named other ⊎ ReportsRecordFault file other → text ≡ other
+one_fault file start named text other (inl h) (inl g) =
     h.text_is
-    ∙ ap₂ (λ (v : FileParts) (f : Fault). report_text (heading v (Some start)) (RefusedFor f))
+    ∙ ap₂ (λ (v : FileParts) (f : Fault). report_text (heading v named) (RefusedFor f))
     (same_apart file h.apart g.apart h.refused.accepts g.refused.accepts)
     (one_refusal file start h.apart g.apart h.fault g.fault h.refused g.refused)
     ∙ sym g.text_is
-one_fault file start text other (inl h) (inr g) = absurd (not_both file h.apart other h.refused.accepts g)
-one_fault file start text other (inr h) (inl g) = absurd (not_both file g.apart text g.refused.accepts h)
-one_fault file start text other (inr h) (inr g) = one_record_fault file text other h g
+one_fault file start named text other (inl h) (inr g) = absurd (not_both file h.apart other h.refused.accepts g)
+one_fault file start named text other (inr h) (inl g) = absurd (not_both file g.apart text g.refused.accepts h)
+one_fault file start named text other (inr h) (inr g) = one_record_fault file text other h g
 
 good_file : (file : List ℕ) (start : Start) (cells : Bool) (text : List ℕ) → ReportsPass file start cells text
     → IsGoodFile file start
@@ -114,7 +114,7 @@ one_check : (file : List ℕ) (start : Start) (cells passed again : Bool) (text 
 one_check file start cells true true text other h g = (refl, one_pass file start cells text other h g)
 one_check file start cells true false text other h g = absurd (g.0 (good_file file start cells text h))
 one_check file start cells false true text other h g = absurd (h.0 (good_file file start cells other g))
-one_check file start cells false false text other h g = (refl, one_fault file start text other h.1 g.1)
+one_check file start cells false false text other h g = (refl, one_fault file start (Some start) text other h.1 g.1)
 
 -- ---- records
 
@@ -184,18 +184,6 @@ one_least file text other h g =
     (one_class file h.apart g.apart h.class g.class h.needs g.needs)
     ∙ sym g.text_is
 
-one_needs_fault : (file text other : List ℕ) → ReportsNeedsFault file text ⊎ ReportsRecordFault file text
-    → ReportsNeedsFault file other ⊎ ReportsRecordFault file other → text ≡ other
-one_needs_fault file text other (inl h) (inl g) =
-    h.text_is
-    ∙ ap₂ (λ (v : FileParts) (f : Fault). report_text (heading v None) (RefusedFor f))
-    (same_apart file h.apart g.apart h.refused.accepts g.refused.accepts)
-    (one_refusal file all_known h.apart g.apart h.fault g.fault h.refused g.refused)
-    ∙ sym g.text_is
-one_needs_fault file text other (inl h) (inr g) = absurd (not_both file h.apart other h.refused.accepts g)
-one_needs_fault file text other (inr h) (inl g) = absurd (not_both file g.apart text g.refused.accepts h)
-one_needs_fault file text other (inr h) (inr g) = one_record_fault file text other h g
-
 -- where a class is found, the file is good from the cleared start
 found_is_good : (file text : List ℕ) → ReportsLeast file text → IsGoodFile file all_known
 found_is_good file text h =
@@ -206,7 +194,7 @@ one_needs : (file : List ℕ) (passed again : Bool) (text other : List ℕ) → 
 one_needs file true true text other h g = (refl, one_least file text other h g)
 one_needs file true false text other h g = absurd (g.0 (found_is_good file text h))
 one_needs file false true text other h g = absurd (h.0 (found_is_good file other g))
-one_needs file false false text other h g = (refl, one_needs_fault file text other h.1 g.1)
+one_needs file false false text other h g = (refl, one_fault file all_known None text other h.1 g.1)
 
 -- ---- each command
 

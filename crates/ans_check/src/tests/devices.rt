@@ -1,20 +1,12 @@
 //! Readers and writers that fail.
-use super::{ANY, CLEARED, HI_REPORT, NEEDS, SAUCE, TOKENS, expect_run, plain_file, run_once};
+use super::{
+    ANY, CLEARED, HI_RECORD, HI_REPORT, NEEDS, SAUCE, TOKENS, expect_run, plain_file, run_once,
+};
 use crate::{Options, RunError, run};
 use ans_report::Tried;
 use ans_samples::{FailingOnce, Failure, Narrow};
 use std::io::{self, Read};
 use std::process::Abort;
-
-const HI_RECORD: &[u8] = b"title: \n\
-    author: \n\
-    group: \n\
-    date: 19960101\n\
-    size: 2 x 1\n\
-    flags: 00\n\
-    font: \n\
-    file size: 2\n\
-    comments: 0\n";
 
 const HI_TOKENS: &[u8] = b"0 1 glyph 48\n1 1 glyph 69\n";
 

@@ -3,7 +3,7 @@
 ghost use Rattle.std.specs.Prelude.{◌≤◌, length};
 ghost use Rattle.ans_model.specs.Bytes.{longest_file};
 
-use super::{NEEDS, expect_run, file_of, file_of_size, plain_file};
+use super::{NEEDS, expect_run, file_of_size, plain_file};
 use crate::{Needs, Start, needs};
 use ans_sauce::{Cause, Fault, MAX_FILE};
 use ans_screen::{Grid, PlainGrid, PlaneGrid};
@@ -259,13 +259,4 @@ fn notes_are_told_before_the_needs(rt: HostRuntime) {
         note: file size differs from the content\n\
         needs: screen\n";
     expect_run(&rt, noted.as_slice(), &NEEDS, 256, Ok(true), text);
-}
-
-#[test]
-fn a_file_without_a_record_needs_one(rt: HostRuntime) {
-    let text: &[u8] = b"verdict: refused\nat 127: F1 no SAUCE record\n";
-    expect_run(&rt, &[b'S'; 127], &NEEDS, 256, Ok(false), text);
-    let file = file_of(&rt, b"Hi\x1a", &[(104, b"\x01")]);
-    let text: &[u8] = b"verdict: refused\nat 107: F4 comment block missing\n";
-    expect_run(&rt, file.as_slice(), &NEEDS, 256, Ok(false), text);
 }

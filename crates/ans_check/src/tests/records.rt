@@ -1,5 +1,8 @@
 //! The texts of records, and files with comments.
-use super::{CLEARED, SAUCE, expect_run, file_of, run_once};
+use super::{
+    ANY, CLEARED, HI_RECORD, HI_REPORT, NEEDS, SAUCE, TOKENS, expect_run, file_of, run_once,
+};
+use crate::Options;
 
 #[test]
 fn a_record_is_told(rt: HostRuntime) {
@@ -51,12 +54,18 @@ fn odd_records_are_told_with_their_notes(rt: HostRuntime) {
 }
 
 #[test]
-fn a_file_without_a_record_is_refused(rt: HostRuntime) {
-    let text: &[u8] = b"verdict: refused\nat 127: F1 no SAUCE record\n";
-    expect_run(&rt, &[b'S'; 127], &SAUCE, 256, Ok(false), text);
-    let file = file_of(&rt, b"Hi\x1a", &[(104, b"\x01")]);
-    let text: &[u8] = b"verdict: refused\nat 107: F4 comment block missing\n";
-    expect_run(&rt, file.as_slice(), &SAUCE, 256, Ok(false), text);
+fn a_refused_record_is_told_by_each_command(rt: HostRuntime) {
+    let uncommented = file_of(&rt, b"Hi\x1a", &[(104, b"\x01")]);
+    let cells = Options {
+        cells: true,
+        ..CLEARED
+    };
+    for asked in [&ANY, &CLEARED, &cells, &SAUCE, &TOKENS, &NEEDS] {
+        let text: &[u8] = b"verdict: refused\nat 127: F1 no SAUCE record\n";
+        expect_run(&rt, &[b'S'; 127], asked, 256, Ok(false), text);
+        let text: &[u8] = b"verdict: refused\nat 107: F4 comment block missing\n";
+        expect_run(&rt, uncommented.as_slice(), asked, 256, Ok(false), text);
+    }
 }
 
 #[test]
@@ -70,24 +79,16 @@ fn the_most_comments_are_told(rt: HostRuntime) {
     }
     let file = file_of(&rt, &front, &[(104, b"\xff")]);
     assert_eq!(rt; file.len(), 16_456);
-    let pass: &[u8] =
-        b"size: 2 x 1\nstart: cleared\ncontent: 2 bytes\nverdict: pass\npicture:\nHi\n";
-    expect_run(&rt, file.as_slice(), &CLEARED, 256, Ok(true), pass);
+    expect_run(&rt, file.as_slice(), &CLEARED, 256, Ok(true), HI_REPORT);
     let ran = run_once(&rt, file.as_slice(), &SAUCE, 4096);
     assert!(rt; ran.answer == Ok(true));
     let written = ran.writer.inner();
-    let fields: &[u8] = b"title: \n\
-        author: \n\
-        group: \n\
-        date: 19960101\n\
-        size: 2 x 1\n\
-        flags: 00\n\
-        font: \n\
-        file size: 2\n\
-        comments: 255\n";
-    assert!(rt; fields.len() <= written.held().len());
-    let (first, comments) = written.held().split_at(fields.len());
+    let fields = &HI_RECORD[..HI_RECORD.len() - 2];
+    assert!(rt; fields.len() + 4 <= written.held().len());
+    let (first, rest) = written.held().split_at(fields.len());
     assert_eq!(rt; first, fields);
+    let (count, comments) = rest.split_at(4);
+    assert!(rt; count == b"255\n".as_slice());
     assert_eq!(rt; comments.len(), 255 * 15);
     for line in comments.chunks(15) {
         assert!(rt; line == b"comment: hello\n".as_slice());

@@ -237,10 +237,7 @@ fn cells_are_told_row_by_row(rt: HostRuntime) {
 }
 
 #[test]
-fn a_report_without_a_record_is_its_fault(rt: HostRuntime) {
-    let text: &[u8] = b"verdict: refused\nat 127: F1 no SAUCE record\n";
-    expect_run(&rt, &[b'S'; 127], &CLEARED, 256, Ok(false), text);
-    expect_run(&rt, &[b'S'; 127], &CELLS, 256, Ok(false), text);
+fn notes_are_told_before_the_verdict(rt: HostRuntime) {
     let noted = file_of_size(&rt, b"", 0, 1);
     let text: &[u8] = b"size: 80 x 1\n\
         start: any\n\

@@ -37,9 +37,3 @@ fn tokens_are_told_up_to_a_fault(rt: HostRuntime) {
         expect_run(&rt, file.as_slice(), &TOKENS, 256, Ok(*passes), text);
     }
 }
-
-#[test]
-fn a_file_without_a_record_has_no_tokens(rt: HostRuntime) {
-    let text: &[u8] = b"verdict: refused\nat 127: F1 no SAUCE record\n";
-    expect_run(&rt, &[b'S'; 127], &TOKENS, 256, Ok(false), text);
-}

@@ -7,7 +7,8 @@ use Rattle.ans_check.proofs.VerdictLemmas.{needs_class, refuses, refused_not_goo
 use Rattle.ans_check.proofs.parts_needed.needs.Goals as goal
 
 pub returns-in-Err-clause-exact : goal.returns-in-Err-clause-exact
-returns-in-Err-clause-exact g c = record_not_good c.args.file.now all_known c.in-Err.fault c.in-Err.ensures.err
+returns-in-Err-clause-exact g c good =
+    absurd (record_not_good c.args.file.now all_known c.in-Err.fault c.in-Err.ensures.err good)
 
 pub returns-in-Err-clause-offset : goal.returns-in-Err-clause-offset
 returns-in-Err-clause-offset g c = refusal_within_file c.args.file.now c.in-Err.fault c.in-Err.ensures.err
@@ -25,10 +26,10 @@ returns-in-Err-2-clause-needs g c =
     (rw c.in-Err-2.is at c.in_ok-fault.ensures.refused)
 
 pub returns-in-Err-2-clause-exact : goal.returns-in-Err-2-clause-exact
-returns-in-Err-2-clause-exact g c =
+returns-in-Err-2-clause-exact g c good =
     let refused = refuses c.args.file.now all_known c.in-Ok.parts c.in-Err-2.fault c.in-Ok.ensures.ok
     (rw c.in-Err-2.is at c.in_ok-fault.ensures.refused) in
-    refused_not_good c.args.file.now all_known refused.0 c.in-Err-2.fault refused.2
+    absurd (refused_not_good c.args.file.now all_known refused.0 c.in-Err-2.fault refused.2 good)
 
 pub returns-clause-needs : goal.returns-clause-needs
 returns-clause-needs g c =

@@ -5,11 +5,11 @@ use Rattle.ans_check.proofs.ReportLemmas.{needs_reported}
 use Rattle.ans_check.proofs.ReportedLemmas.{reported, unreported}
 use Rattle.ans_check.proofs.pipeline.tell_needs.Goals as goal
 
-pub returns-in_default : goal.returns-in_default
-returns-in_default g c = unreported _ _ c.args.writer.now c.requires.works
+pub returns-in_default-clause-reported : goal.returns-in_default-clause-reported
+returns-in_default-clause-reported g c = unreported _ _ c.args.writer.now c.requires.works
 
-pub returns : goal.returns
-returns g c =
+pub returns-clause-reported : goal.returns-clause-reported
+returns-clause-reported g c =
     let text = needs_bytes c.needs_report_of.result in
     reported g.W.Write.contents _ c.args.writer.now c.write_needs-written.new.w c.write_needs-written.result
     c.told.result

@@ -4,7 +4,8 @@ use Rattle.ans_check.proofs.VerdictLemmas.{no_refusal}
 use Rattle.ans_check.proofs.verdict.check.Goals as goal
 
 pub returns-in-Err-clause-exact : goal.returns-in-Err-clause-exact
-returns-in-Err-clause-exact g c = record_not_good c.args.file.now c.args.start c.in-Err.fault c.in-Err.ensures.err
+returns-in-Err-clause-exact g c good =
+    absurd (record_not_good c.args.file.now c.args.start c.in-Err.fault c.in-Err.ensures.err good)
 
 pub returns-in-Err-clause-certain : goal.returns-in-Err-clause-certain
 returns-in-Err-clause-certain g c cleared = record_certain c.args.file.now c.in-Err.fault c.in-Err.ensures.err
@@ -26,7 +27,7 @@ returns-in-Err-end-clause-verdict g c =
     (rw c.in-Err-end.is at c.in_ok-end.ensures.refused)
 
 pub returns-in-Err-end-clause-exact : goal.returns-in-Err-end-clause-exact
-returns-in-Err-end-clause-exact g c =
+returns-in-Err-end-clause-exact g c good =
     let refused = refuses c.args.file.now c.args.start c.in-Ok.parts c.in-Err-end.fault c.in-Ok.ensures.ok
     (rw c.in-Err-end.is at c.in_ok-end.ensures.refused) in
-    refused_not_good c.args.file.now c.args.start refused.0 c.in-Err-end.fault refused.2
+    absurd (refused_not_good c.args.file.now c.args.start refused.0 c.in-Err-end.fault refused.2 good)

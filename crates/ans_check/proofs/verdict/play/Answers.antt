@@ -1,22 +1,18 @@
-use Rattle.std.proofs.Common.{ap₂, ◌∙◌, ◌≡◌}
+use Rattle.std.proofs.Common.{ap₂, ◌∙◌}
 use Rattle.ans_model.specs.Screen.State.{sized}
 use Rattle.ans_model.specs.Verdict.Good.{GoodWith}
-use Rattle.ans_check.specs.FileVerdict.{Deserves, parts_size}
+use Rattle.ans_check.specs.FileVerdict.{Deserves}
 use Rattle.ans_check.proofs.VerdictLemmas.{ok_of_parts, err_of_parts}
 use Rattle.ans_check.proofs.verdict.play.Goals as goal
 
 pub returns-clause-good : goal.returns-clause-good
 returns-clause-good g c =
-    let p = c.in_ok-player.player in
-    let size : p.size ≡ parts_size c.args.parts.now =
-    c.in_ok-player.ensures.new.size ∙ ap₂ sized c.width.ensures.width c.lines.ensures.lines in
-    ok_of_parts c.play_content.result GoodWith size c.in_ok-player.ensures.new.start c.content.ensures
-    c.play_content.ensures.good
+    ok_of_parts c.play_content.result GoodWith
+    (c.in_ok-player.ensures.new.size ∙ ap₂ sized c.width.ensures.width c.lines.ensures.lines)
+    c.in_ok-player.ensures.new.start c.content.ensures c.play_content.ensures.good
 
 pub returns-clause-refused : goal.returns-clause-refused
 returns-clause-refused g c =
-    let p = c.in_ok-player.player in
-    let size : p.size ≡ parts_size c.args.parts.now =
-    c.in_ok-player.ensures.new.size ∙ ap₂ sized c.width.ensures.width c.lines.ensures.lines in
-    err_of_parts c.play_content.result Deserves size c.in_ok-player.ensures.new.start c.content.ensures
-    c.play_content.ensures.refused
+    err_of_parts c.play_content.result Deserves
+    (c.in_ok-player.ensures.new.size ∙ ap₂ sized c.width.ensures.width c.lines.ensures.lines)
+    c.in_ok-player.ensures.new.start c.content.ensures c.play_content.ensures.refused
