@@ -1,9 +1,9 @@
 #!/usr/bin/env python3
 """Feeds `anscheck` files that were changed at random, and reports each run that goes wrong.
 
-Run it in the folder above, after `rt run -- check --cleared data/hi.ans` has built the program:
+Run it in `crates/anscheck`, after `rt run -- check --cleared data/hi.ans` has built the program:
 
-    python3 hostile/mutated_files.py out/anscheck [SEED] [RUNS] [WORKERS]
+    python3 ../../tools/hostile/mutated_files.py out/anscheck [SEED] [RUNS] [WORKERS]
 
 A case is a file and four runs on it. The file is one of the seeds (those of `data`, the contents and
 records on which the crates are tested, and some made here) after one to six changes: bits, bytes,
@@ -67,7 +67,7 @@ OF_A_SEQUENCE = range(9, 15)
 
 def literals(name, pattern):
     """The groups of each match in a file of `ans_samples`."""
-    with open(os.path.join(ABOVE, "..", "ans_samples", "src", name), encoding="utf-8") as file:
+    with open(os.path.join(ABOVE, "..", "crates", "ans_samples", "src", name), encoding="utf-8") as file:
         return re.findall(pattern, file.read())
 
 
@@ -118,7 +118,7 @@ def made_files():
 
 
 def data_files():
-    folder = os.path.join(ABOVE, "data")
+    folder = os.path.join(ABOVE, "..", "crates", "anscheck", "data")
     for name in sorted(os.listdir(folder)):
         with open(os.path.join(folder, name), "rb") as file:
             yield file.read()

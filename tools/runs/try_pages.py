@@ -1,9 +1,9 @@
 #!/usr/bin/env python3
 """Tries what README.md and the pages of docs/ show, on the built program.
 
-Run it in the folder above, after `rt run -- check --cleared data/hi.ans` has built the program:
+Run it in `crates/anscheck`, after `rt run -- check --cleared data/hi.ans` has built the program:
 
-    python3 runs/try_pages.py out/anscheck
+    python3 ../../tools/runs/try_pages.py out/anscheck
 
 - Each example of docs/FAULTS.md, a block of the language `ans`, is made into a file, and the program
   has to print of it what the block says. The record is made here, from SAUCE 00.5.
@@ -25,8 +25,8 @@ import subprocess
 import sys
 import tempfile
 
-HERE = pathlib.Path(__file__).resolve().parent.parent
-TOP = HERE.parent.parent
+TOP = pathlib.Path(__file__).resolve().parent.parent.parent
+HERE = TOP / "crates" / "anscheck"
 PAGE = TOP / "docs" / "FAULTS.md"
 PROFILE = TOP / "docs" / "PROFILE.md"
 MODEL = TOP / "crates" / "ans_model" / "src"

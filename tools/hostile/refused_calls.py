@@ -1,10 +1,10 @@
 #!/usr/bin/env python3
 """Refuses each call of `anscheck`, and each allocation of the crates' tests, one after the other.
 
-Run it in the folder above, after `rt run -- check --cleared data/hi.ans` has built the program and
+Run it in `crates/anscheck`, after `rt run -- check --cleared data/hi.ans` has built the program and
 `rt test` the tests of the crates that allocate (each leaves `out/NAME_tests` in its crate):
 
-    python3 hostile/refused_calls.py out/anscheck [NAME..]
+    python3 ../../tools/hostile/refused_calls.py out/anscheck [NAME..]
 
 `rt try --fail-alloc N` refuses an allocation too, but it builds for each N anew, and the kit's `rt try`
 takes one number alone there, and refuses no read or write of a program that is built. So this script builds
@@ -40,7 +40,7 @@ import tempfile
 
 sys.dont_write_bytecode = True
 HERE = os.path.dirname(os.path.abspath(__file__))
-CRATES = os.path.dirname(os.path.dirname(HERE))
+CRATES = os.path.join(os.path.dirname(os.path.dirname(HERE)), "crates")
 sys.path.insert(0, os.path.join(os.path.dirname(HERE), "runs"))
 
 from table import file_of

@@ -1,9 +1,9 @@
 #!/usr/bin/env python3
 """Times the commands of `anscheck` on files of the greatest size, beside a plain copy and a plain player.
 
-Run it in the folder above, after `rt run -- check --cleared data/hi.ans` has built the program:
+Run it in `crates/anscheck`, after `rt run -- check --cleared data/hi.ans` has built the program:
 
-    python3 bench/speed.py out/anscheck
+    python3 ../../tools/bench/speed.py out/anscheck
 
 It writes each file to a folder of its own, runs each command five times, and prints the least time of
 each in seconds. The plain player, `plain_player.rs`, is built with rustc; it knows one screen, proves

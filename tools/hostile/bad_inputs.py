@@ -1,9 +1,9 @@
 #!/usr/bin/env python3
 """Gives a built `anscheck` the longest files, slow files, bad streams and little memory.
 
-Run it in the folder above, after `rt run -- check --cleared data/hi.ans` has built the program:
+Run it in `crates/anscheck`, after `rt run -- check --cleared data/hi.ans` has built the program:
 
-    python3 hostile/bad_inputs.py out/anscheck
+    python3 ../../tools/hostile/bad_inputs.py out/anscheck
 
 Each row states what is to come: the status, the whole text on standard output and on standard error. They
 are written down from the README and the definitions, and never from what the program printed. The pictures

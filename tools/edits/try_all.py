@@ -3,11 +3,11 @@
 
 Run it anywhere, with the names of crates or with none for all:
 
-    python3 crates/anscheck/edits/try_all.py [CRATE..]
+    python3 tools/edits/try_all.py [CRATE..]
 
 The gate tries the edits in each crate's `must-fail/`. Those here are as well made, and mostly in private
 functions. They are kept apart because each takes some 30 seconds of a processor, and the gate is to end
-within an hour on four cores. They are tried on a copy of the repository, in which the crates below are built.
+within three hours on two slow cores. They are tried on a copy of the repository, in which the crates below are built.
 """
 import os
 import shutil
@@ -16,7 +16,7 @@ import sys
 import tempfile
 
 EDITS = os.path.dirname(os.path.abspath(__file__))
-ROOT = os.path.abspath(f"{EDITS}/../../..")
+ROOT = os.path.abspath(f"{EDITS}/../..")
 
 
 def copy_repository(room):

@@ -1,9 +1,9 @@
 #!/usr/bin/env python3
 """Runs a built `anscheck` on each row of `table.py`, and says which come out otherwise.
 
-Run it in the folder above, after `rt run -- check --cleared data/hi.ans` has built the program:
+Run it in `crates/anscheck`, after `rt run -- check --cleared data/hi.ans` has built the program:
 
-    python3 runs/run_all.py out/anscheck
+    python3 ../../tools/runs/run_all.py out/anscheck
 
 No contract reaches what is shown here: that the program prints to the right stream, opens the file
 that the words name, and returns the status that its functions choose. It is outside the gate.

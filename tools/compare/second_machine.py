@@ -8,10 +8,10 @@ project states them, its own choices among them, and is no source of its own: a 
 it cannot tell. Its screens are small, most of at most four columns, some of up to twenty, and of at most
 three lines; its contents are short, and its records plain. The class of starts is one of all 32.
 
-Run it in the folder above, after `rt run -- check --cleared data/hi.ans` has built the program, with a
+Run it in `crates/anscheck`, after `rt run -- check --cleared data/hi.ans` has built the program, with a
 number that seeds the contents and how many there shall be:
 
-    python3 compare/second_machine.py out/anscheck 1 10000
+    python3 ../../tools/compare/second_machine.py out/anscheck 1 10000
 
 It prints each content whose answers differ, and then how many classes were asked and how often each
 answer came. Its status is 1 where one differs.

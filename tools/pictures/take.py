@@ -1,11 +1,11 @@
 #!/usr/bin/env python3
 """Takes two pictures of a drawing in a real terminal: on a cleared screen, and on a blue one with the cursor elsewhere.
 
-Run it in the folder above; it needs Debian's xterm, xvfb and imagemagick:
+Run it in `crates/anscheck`; it needs Debian's xterm, xvfb and imagemagick:
 
-    python3 pictures/take.py data/harbour.ans pictures/harbour
+    python3 ../../tools/pictures/take.py data/harbour.ans ../../tools/pictures/harbour
 
-It writes pictures/harbour-cleared.png and pictures/harbour-blue.png. The terminal reads UTF-8, so each byte of
+It writes `harbour-cleared.png` and `harbour-blue.png` there. The terminal reads UTF-8, so each byte of
 the content from 80h on is turned into its character of code page 437; the sequences go to it as they are.
 """
 import os

@@ -4,7 +4,7 @@ follows that definition too, and the laws have to refuse it.
 
 Run it anywhere, with the names of edits or with none for all:
 
-    python3 crates/anscheck/definitions/try_all.py [EDIT..]
+    python3 tools/definitions/try_all.py [EDIT..]
 
 An edit is written as those in `must-fail/`, but its files are named from the folder `crates` on. It is tried on a copy
 of `ans_model` and of `ans_laws` without the plain answer, which stands on crates whose own proofs would refuse the
@@ -19,7 +19,7 @@ import sys
 import tempfile
 
 EDITS = os.path.dirname(os.path.abspath(__file__))
-CRATES = os.path.abspath(f"{EDITS}/../..")
+CRATES = os.path.abspath(f"{EDITS}/../../crates")
 TRIED = ["ans_model", "ans_laws"]
 DEPENDENCIES = "ans_model: arrayvec\nans_laws: ans_model arrayvec\n"
 # what of ans_laws belongs to the plain answer

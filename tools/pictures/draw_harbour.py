@@ -1,7 +1,7 @@
 #!/usr/bin/env python3
 """Writes the drawing of the README: a boat in a harbour at sunset, 64 columns and 18 lines.
 
-    python3 pictures/draw_harbour.py data/harbour.ans
+    python3 ../../tools/pictures/draw_harbour.py data/harbour.ans
 """
 import math
 import struct
