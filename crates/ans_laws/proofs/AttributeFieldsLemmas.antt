@@ -42,78 +42,45 @@ fields_of_test new f b g l h =
       blink_is = eqb-true (blink new) l three.1;
     }
 
--- each of the tests below is run on all attributes
-reset_all : all_below 256 (λ a. has_fields (attribute_after a 0) 7 0 0 0) ≡ true
-reset_all = refl
+-- a parameter sets the fields of each attribute, as a run of the test on all of them shows
+sets : (p : ℕ) (f b g l : ℕ → ℕ)
+    → all_below 256 (λ a. has_fields (attribute_after a p) (f a) (b a) (g a) (l a)) ≡ true
+    → (a : ℕ) → a < 256 → HasFields (attribute_after a p) (f a) (b a) (g a) (l a)
+sets p f b g l h a lt = fields_of_test (attribute_after a p) (f a) (b a) (g a) (l a)
+    (holds_at_each 256 (λ a. has_fields (attribute_after a p) (f a) (b a) (g a) (l a)) h a lt)
 
-bright_all : all_below 256 (λ a. has_fields (attribute_after a 1) (foreground a) 1 (background a) (blink a)) ≡ true
-bright_all = refl
-
-blue_all : all_below 256 (λ a. has_fields (attribute_after a 4) 1 (bright a) (background a) (blink a)) ≡ true
-blue_all = refl
-
-black_on_white_all : all_below 256 (λ a. has_fields (attribute_after a 7) 0 (bright a) 7 (blink a)) ≡ true
-black_on_white_all = refl
-
-black_on_black_all : all_below 256 (λ a. has_fields (attribute_after a 8) 0 (bright a) 0 (blink a)) ≡ true
-black_on_black_all = refl
-
-blink_all : all_below 256 (λ a. has_fields (attribute_after a 5) (foreground a) (bright a) (background a) 1) ≡ true
-blink_all = refl
-
-foreground_all : all_below 8
-    (λ i. all_below 256 (λ a. has_fields (attribute_after a (30 + i)) (colour i) (bright a) (background a)
-    (blink a))) ≡ true
-foreground_all = refl
-
-background_all : all_below 8
-    (λ i. all_below 256 (λ a. has_fields (attribute_after a (40 + i)) (foreground a) (bright a) (colour i)
-    (blink a))) ≡ true
-background_all = refl
+-- so do eight parameters, each with its colour
+sets_colour : (first : ℕ) (f b g l : ℕ → ℕ → ℕ)
+    → all_below 8 (λ i. all_below 256 (λ a. has_fields (attribute_after a (first + i)) (f i a) (b i a) (g i a)
+    (l i a))) ≡ true
+    → (a i : ℕ) → a < 256 → i < 8 → HasFields (attribute_after a (first + i)) (f i a) (b i a) (g i a) (l i a)
+sets_colour first f b g l h a i ha hi = sets (first + i) (f i) (b i) (g i) (l i)
+    (holds_at_each 8 (λ i. all_below 256 (λ a. has_fields (attribute_after a (first + i)) (f i a) (b i a) (g i a)
+    (l i a))) h i hi) a ha
 
 pub resets : ResetsAttribute
-resets a h = fields_of_test (attribute_after a 0) 7 0 0 0
-    (holds_at_each 256 (λ a. has_fields (attribute_after a 0) 7 0 0 0) reset_all a h)
+resets = sets 0 (λ a. 7) (λ a. 0) (λ a. 0) (λ a. 0) refl
 
 pub sets_bright : SetsBright
-sets_bright a h = fields_of_test (attribute_after a 1) (foreground a) 1 (background a) (blink a)
-    (holds_at_each 256 (λ a. has_fields (attribute_after a 1) (foreground a) 1 (background a) (blink a)) bright_all a h)
-
-pub sets_blink : SetsBlink
-sets_blink a h = fields_of_test (attribute_after a 5) (foreground a) (bright a) (background a) 1
-    (holds_at_each 256 (λ a. has_fields (attribute_after a 5) (foreground a) (bright a) (background a) 1) blink_all a h)
+sets_bright = sets 1 foreground (λ a. 1) background blink refl
 
 pub sets_blue : SetsBlue
-sets_blue a h = fields_of_test (attribute_after a 4) 1 (bright a) (background a) (blink a)
-    (holds_at_each 256 (λ a. has_fields (attribute_after a 4) 1 (bright a) (background a) (blink a)) blue_all a h)
+sets_blue = sets 4 (λ a. 1) bright background blink refl
+
+pub sets_blink : SetsBlink
+sets_blink = sets 5 foreground bright background (λ a. 1) refl
 
 pub sets_black_on_white : SetsBlackOnWhite
-sets_black_on_white a h = fields_of_test (attribute_after a 7) 0 (bright a) 7 (blink a)
-    (holds_at_each 256 (λ a. has_fields (attribute_after a 7) 0 (bright a) 7 (blink a)) black_on_white_all a h)
+sets_black_on_white = sets 7 (λ a. 0) bright (λ a. 7) blink refl
 
 pub sets_black_on_black : SetsBlackOnBlack
-sets_black_on_black a h = fields_of_test (attribute_after a 8) 0 (bright a) 0 (blink a)
-    (holds_at_each 256 (λ a. has_fields (attribute_after a 8) 0 (bright a) 0 (blink a)) black_on_black_all a h)
+sets_black_on_black = sets 8 (λ a. 0) bright (λ a. 0) blink refl
 
 pub sets_foreground : SetsForeground
-sets_foreground a i h lt =
-    let of_colour =
-    holds_at_each 8
-    (λ i. all_below 256 (λ a. has_fields (attribute_after a (30 + i)) (colour i) (bright a) (background a)
-    (blink a))) foreground_all i lt in
-    fields_of_test (attribute_after a (30 + i)) (colour i) (bright a) (background a) (blink a)
-    (holds_at_each 256 (λ a. has_fields (attribute_after a (30 + i)) (colour i) (bright a) (background a) (blink a))
-    of_colour a h)
+sets_foreground = sets_colour 30 (λ i a. colour i) (λ i. bright) (λ i. background) (λ i. blink) refl
 
 pub sets_background : SetsBackground
-sets_background a i h lt =
-    let of_colour =
-    holds_at_each 8
-    (λ i. all_below 256 (λ a. has_fields (attribute_after a (40 + i)) (foreground a) (bright a) (colour i)
-    (blink a))) background_all i lt in
-    fields_of_test (attribute_after a (40 + i)) (foreground a) (bright a) (colour i) (blink a)
-    (holds_at_each 256 (λ a. has_fields (attribute_after a (40 + i)) (foreground a) (bright a) (colour i) (blink a))
-    of_colour a h)
+sets_background = sets_colour 40 (λ i. foreground) (λ i. bright) (λ i a. colour i) (λ i. blink) refl
 
 -- the law names the parameter of this line
 abbrev is_named : Rendition → Bool
