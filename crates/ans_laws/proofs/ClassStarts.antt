@@ -9,6 +9,7 @@ use Rattle.ans_laws.specs.StartLaws.{NoneKnownIsEvery, AllKnownIsOne, LowIsStart
 use Rattle.ans_laws.specs.StartLaws.{BothKnownIsGreatest, CoversAllBut, known_in_either}
 use Rattle.ans_laws.specs.StartLaws.{KnownScreenAlone, KnownCursorAlone, KnownSavedAlone, KnownColoursAlone}
 use Rattle.ans_laws.specs.StartLaws.{KnownWrapAlone, KnownPartsTogether}
+use Rattle.ans_model.proofs.OneCause.{is_cleared}
 use Rattle.ans_model.proofs.StartLemmas.{low_is_start, high_is_start}
 use Rattle.ans_model.proofs.ClassLemmas.{covers_starts, covers_all_but_screen, covers_all_but_cursor}
 use Rattle.ans_model.proofs.ClassLemmas.{covers_all_but_saved, covers_all_but_colours, covers_all_but_wrap}
@@ -25,13 +26,7 @@ none_known_is_every z s = (
 
 pub all_known_is_one : AllKnownIsOne
 all_known_is_one z s size = (
-  λ start i. record {
-    screen = start.screen refl i;
-    cursor = start.cursor refl i;
-    saved = start.saved refl i;
-    attribute = start.attribute refl i;
-    wrap = start.wrap refl i;
-  },
+  λ start. is_cleared z s start,
   λ e. subst (λ (t : State). IsStart z all_known t) (sym e) (low_is_start z all_known size.some_columns),
 )
 
