@@ -4,16 +4,12 @@ use Rattle.std.proofs.Common.{List, [], ◌∷◌, Option, None, arith}
 use Rattle.std.specs.Prelude.{◌&&◌, ◌==◌}
 use Rattle.std.specs.List.{list_all}
 use Rattle.std.proofs.lemmas.Bool.{eqb-true, cases_eq, and_parts, ne_eqb}
-use Rattle.std.proofs.lemmas.List.Sums.{fold-append}
 use Rattle.ans_model.specs.Screen.Attribute.{Rendition, renditions, rendition_of, attribute_by, attribute_after}
-use Rattle.ans_laws.specs.AttributeLaws.{foreground, bright, background, blink, colour, HasFields}
-use Rattle.ans_laws.specs.AttributeLaws.{ResetsAttribute, SetsBright, SetsBlue, SetsBlink, SetsBlackOnWhite}
-use Rattle.ans_laws.specs.AttributeLaws.{SetsBlackOnBlack, SetsForeground, SetsBackground}
-use Rattle.ans_laws.specs.AttributeLaws.{is_colour_parameter, OthersChangeNothing, NoneChangeNothing}
-use Rattle.ans_laws.specs.AttributeLaws.{EachAfterTheOthers}
+use Rattle.ans_laws.specs.AttributeLaws.{foreground, bright, background, blink, HasFields}
+use Rattle.ans_laws.specs.AttributeLaws.{is_colour_parameter, OthersChangeNothing}
 
 -- the test holds of each number below n
-abbrev all_below : ℕ → (ℕ → Bool) → Bool
+abbrev pub all_below : ℕ → (ℕ → Bool) → Bool
 all_below zero p = true
 all_below (suc n) p = p n && all_below n p
 
@@ -26,7 +22,7 @@ holds_at_each (suc n) p h k lt = elim (cases_eq k n) [
 ]
 
 -- an attribute has these fields, as a test
-abbrev has_fields : ℕ → ℕ → ℕ → ℕ → ℕ → Bool
+abbrev pub has_fields : ℕ → ℕ → ℕ → ℕ → ℕ → Bool
 has_fields new f b g l = foreground new == f && (bright new == b && (background new == g && blink new == l))
 
 -- an attribute that passes the test has the fields
@@ -43,44 +39,20 @@ fields_of_test new f b g l h =
     }
 
 -- a parameter sets the fields of each attribute, as a run of the test on all of them shows
-sets : (p : ℕ) (f b g l : ℕ → ℕ)
+pub sets : (p : ℕ) (f b g l : ℕ → ℕ)
     → all_below 256 (λ a. has_fields (attribute_after a p) (f a) (b a) (g a) (l a)) ≡ true
     → (a : ℕ) → a < 256 → HasFields (attribute_after a p) (f a) (b a) (g a) (l a)
 sets p f b g l h a lt = fields_of_test (attribute_after a p) (f a) (b a) (g a) (l a)
     (holds_at_each 256 (λ a. has_fields (attribute_after a p) (f a) (b a) (g a) (l a)) h a lt)
 
 -- so do eight parameters, each with its colour
-sets_colour : (first : ℕ) (f b g l : ℕ → ℕ → ℕ)
+pub sets_colour : (first : ℕ) (f b g l : ℕ → ℕ → ℕ)
     → all_below 8 (λ i. all_below 256 (λ a. has_fields (attribute_after a (first + i)) (f i a) (b i a) (g i a)
     (l i a))) ≡ true
     → (a i : ℕ) → a < 256 → i < 8 → HasFields (attribute_after a (first + i)) (f i a) (b i a) (g i a) (l i a)
 sets_colour first f b g l h a i ha hi = sets (first + i) (f i) (b i) (g i) (l i)
     (holds_at_each 8 (λ i. all_below 256 (λ a. has_fields (attribute_after a (first + i)) (f i a) (b i a) (g i a)
     (l i a))) h i hi) a ha
-
-pub resets : ResetsAttribute
-resets = sets 0 (λ a. 7) (λ a. 0) (λ a. 0) (λ a. 0) refl
-
-pub sets_bright : SetsBright
-sets_bright = sets 1 foreground (λ a. 1) background blink refl
-
-pub sets_blue : SetsBlue
-sets_blue = sets 4 (λ a. 1) bright background blink refl
-
-pub sets_blink : SetsBlink
-sets_blink = sets 5 foreground bright background (λ a. 1) refl
-
-pub sets_black_on_white : SetsBlackOnWhite
-sets_black_on_white = sets 7 (λ a. 0) bright (λ a. 7) blink refl
-
-pub sets_black_on_black : SetsBlackOnBlack
-sets_black_on_black = sets 8 (λ a. 0) bright (λ a. 0) blink refl
-
-pub sets_foreground : SetsForeground
-sets_foreground = sets_colour 30 (λ i a. colour i) (λ i. bright) (λ i. background) (λ i. blink) refl
-
-pub sets_background : SetsBackground
-sets_background = sets_colour 40 (λ i. foreground) (λ i. bright) (λ i a. colour i) (λ i. blink) refl
 
 -- the law names the parameter of this line
 abbrev is_named : Rendition → Bool
@@ -104,9 +76,3 @@ in_no_line (r ∷ rs) p named h =
 pub others_change_nothing : OthersChangeNothing
 others_change_nothing a p h = ap (λ (o : Option Rendition). attribute_by o a)
     (in_no_line renditions p lines_are_named h)
-
-pub none_change_nothing : NoneChangeNothing
-none_change_nothing a = refl
-
-pub each_after_the_others : EachAfterTheOthers
-each_after_the_others a p others = fold-append attribute_after a others (p ∷ [])

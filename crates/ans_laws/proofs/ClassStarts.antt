@@ -4,18 +4,15 @@ use Rattle.std.specs.Prelude.{◌&&◌, IsTrue}
 use Rattle.std.proofs.lemmas.Bool.{and_parts}
 use Rattle.ans_model.specs.Screen.State.{State}
 use Rattle.ans_model.specs.Screen.StartClass.{all_known, IsStart}
-use Rattle.ans_model.specs.declared.start.Start.{Start}
-use Rattle.ans_laws.specs.StartLaws.{NoneKnownIsEvery, AllKnownIsOne, LowIsStart, HighIsStart}
-use Rattle.ans_laws.specs.StartLaws.{BothKnownIsGreatest, CoversAllBut, known_in_either}
-use Rattle.ans_laws.specs.StartLaws.{KnownScreenAlone, KnownCursorAlone, KnownSavedAlone, KnownColoursAlone}
-use Rattle.ans_laws.specs.StartLaws.{KnownWrapAlone, KnownPartsTogether}
+use Rattle.ans_laws.specs.StartLaws.{NoneKnownIsEvery, AllKnownIsOne}
+use Rattle.ans_laws.specs.StartLaws.{BothKnownIsGreatest, known_in_either}
+use Rattle.ans_laws.specs.StartLaws.{KnownPartsTogether}
 use Rattle.ans_model.proofs.OneCause.{is_cleared}
-use Rattle.ans_model.proofs.StartLemmas.{low_is_start, high_is_start}
-use Rattle.ans_model.proofs.ClassLemmas.{covers_starts, covers_all_but_screen, covers_all_but_cursor}
-use Rattle.ans_model.proofs.ClassLemmas.{covers_all_but_saved, covers_all_but_colours, covers_all_but_wrap}
+use Rattle.ans_model.proofs.StartLemmas.{low_is_start}
+use Rattle.ans_model.proofs.ClassLemmas.{covers_starts}
 
 -- of a part that is not known nothing is asked
-never : {P : Type 0} → IsTrue false → P
+pub never : {P : Type 0} → IsTrue false → P
 never known = absurd (cc known)
 
 pub none_known_is_every : NoneKnownIsEvery
@@ -28,37 +25,6 @@ pub all_known_is_one : AllKnownIsOne
 all_known_is_one z s size = (
   λ start. is_cleared z s start,
   λ e. subst (λ (t : State). IsStart z all_known t) (sym e) (low_is_start z all_known size.some_columns),
-)
-
--- one part alone known: it is as on the cleared screen
-pub known_screen_alone : KnownScreenAlone
-known_screen_alone z s = (
-  λ start. (start.well_formed, start.screen refl),
-  λ h. record { well_formed = h.0; screen = λ k. h.1; cursor = never; saved = never; attribute = never; wrap = never },
-)
-
-pub known_cursor_alone : KnownCursorAlone
-known_cursor_alone z s = (
-  λ start. (start.well_formed, start.cursor refl),
-  λ h. record { well_formed = h.0; screen = never; cursor = λ k. h.1; saved = never; attribute = never; wrap = never },
-)
-
-pub known_saved_alone : KnownSavedAlone
-known_saved_alone z s = (
-  λ start. (start.well_formed, start.saved refl),
-  λ h. record { well_formed = h.0; screen = never; cursor = never; saved = λ k. h.1; attribute = never; wrap = never },
-)
-
-pub known_colours_alone : KnownColoursAlone
-known_colours_alone z s = (
-  λ start. (start.well_formed, start.attribute refl),
-  λ h. record { well_formed = h.0; screen = never; cursor = never; saved = never; attribute = λ k. h.1; wrap = never },
-)
-
-pub known_wrap_alone : KnownWrapAlone
-known_wrap_alone z s = (
-  λ start. (start.well_formed, start.wrap refl),
-  λ h. record { well_formed = h.0; screen = never; cursor = never; saved = never; attribute = never; wrap = λ k. h.1 },
 )
 
 -- what is known in one of two classes is known in either
@@ -104,12 +70,6 @@ known_parts_together z a b s = (
   },
 )
 
-pub low_start_is_start : LowIsStart
-low_start_is_start z class size = low_is_start z class size.some_columns
-
-pub high_start_is_start : HighIsStart
-high_start_is_start z class size = high_is_start z class size.some_columns
-
 -- a truth that implies two implies both at once
 and_then : (p a b : Bool) → (IsTrue p → IsTrue a) → (IsTrue p → IsTrue b) → IsTrue p → IsTrue (a && b)
 and_then p a b first second known = rw (first known, second known) refl
@@ -141,12 +101,3 @@ both_known_is_greatest a b c = (
     wrap = and_then c.wrap a.wrap b.wrap first.wrap second.wrap;
   },
 )
-
-pub covers_all_but : (class : Start) → CoversAllBut class
-covers_all_but class = record {
-  screen = covers_all_but_screen class;
-  cursor = covers_all_but_cursor class;
-  saved = covers_all_but_saved class;
-  colours = covers_all_but_colours class;
-  wrap = covers_all_but_wrap class;
-}
