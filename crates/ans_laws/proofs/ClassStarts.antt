@@ -12,13 +12,13 @@ use Rattle.ans_model.proofs.StartLemmas.{low_is_start}
 use Rattle.ans_model.proofs.ClassLemmas.{covers_starts}
 
 -- of a part that is not known nothing is asked
-pub never : {P : Type 0} → IsTrue false → P
-never known = absurd (cc known)
+pub free : {P : Type 0} → IsTrue false → P
+free known = absurd (cc known)
 
 pub none_known_is_every : NoneKnownIsEvery
 none_known_is_every z s = (
   λ start. start.well_formed,
-  λ h. record { well_formed = h; screen = never; cursor = never; saved = never; attribute = never; wrap = never },
+  λ h. record { well_formed = h; screen = free; cursor = free; saved = free; attribute = free; wrap = free },
 )
 
 pub all_known_is_one : AllKnownIsOne
