@@ -78,14 +78,12 @@ fn cut_front<'a>(front: &'a [u8], sauce: &Record<'_>) -> Result<(&'a [u8], &'a [
     Ok((body, comments))
 }
 
-/// The index of the first end mark, if there is one.
 fn first_end_mark(body: &[u8]) -> Option<usize>
     ensures { result ≡ position is_end_mark body.now }
 {
     memchr(END_MARK, body)
 }
 
-/// What stands before the first end mark, and the rest.
 fn cut_content(body: &[u8]) -> (&[u8], &[u8])
     ensures content { result.0.now ≡ content body.now }
     ensures rest { result.1.now ≡ after_content body.now }
@@ -93,7 +91,6 @@ fn cut_content(body: &[u8]) -> (&[u8], &[u8])
     body.split_at(first_end_mark(body).unwrap_or(body.len()))
 }
 
-/// The index of the first byte that is not an end mark, if there is one.
 fn first_other_byte(rest: &[u8]) -> Option<usize>
     ensures { result ≡ position (λ b. not (is_end_mark b)) rest.now }
 {
