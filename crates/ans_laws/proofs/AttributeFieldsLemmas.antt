@@ -4,16 +4,12 @@ use Rattle.std.proofs.Common.{List, [], ◌∷◌, Option, None, arith}
 use Rattle.std.specs.Prelude.{◌&&◌, ◌==◌}
 use Rattle.std.specs.List.{list_all}
 use Rattle.std.proofs.lemmas.Bool.{eqb-true, cases_eq, and_parts, ne_eqb}
-use Rattle.std.proofs.lemmas.List.Sums.{fold-append}
 use Rattle.ans_model.specs.Screen.Attribute.{Rendition, renditions, rendition_of, attribute_by, attribute_after}
-use Rattle.ans_laws.specs.AttributeLaws.{foreground, bright, background, blink, colour, HasFields}
-use Rattle.ans_laws.specs.AttributeLaws.{ResetsAttribute, SetsBright, SetsBlue, SetsBlink, SetsBlackOnWhite}
-use Rattle.ans_laws.specs.AttributeLaws.{SetsBlackOnBlack, SetsForeground, SetsBackground}
-use Rattle.ans_laws.specs.AttributeLaws.{is_colour_parameter, OthersChangeNothing, NoneChangeNothing}
-use Rattle.ans_laws.specs.AttributeLaws.{EachAfterTheOthers}
+use Rattle.ans_laws.specs.AttributeLaws.{foreground, bright, background, blink, HasFields}
+use Rattle.ans_laws.specs.AttributeLaws.{is_colour_parameter, OthersChangeNothing}
 
 -- the test holds of each number below n
-abbrev all_below : ℕ → (ℕ → Bool) → Bool
+abbrev pub all_below : ℕ → (ℕ → Bool) → Bool
 all_below zero p = true
 all_below (suc n) p = p n && all_below n p
 
@@ -26,7 +22,7 @@ holds_at_each (suc n) p h k lt = elim (cases_eq k n) [
 ]
 
 -- an attribute has these fields, as a test
-abbrev has_fields : ℕ → ℕ → ℕ → ℕ → ℕ → Bool
+abbrev pub has_fields : ℕ → ℕ → ℕ → ℕ → ℕ → Bool
 has_fields new f b g l = foreground new == f && (bright new == b && (background new == g && blink new == l))
 
 -- an attribute that passes the test has the fields
@@ -42,78 +38,21 @@ fields_of_test new f b g l h =
       blink_is = eqb-true (blink new) l three.1;
     }
 
--- each of the tests below is run on all attributes
-reset_all : all_below 256 (λ a. has_fields (attribute_after a 0) 7 0 0 0) ≡ true
-reset_all = refl
+-- a parameter sets the fields of each attribute, as a run of the test on all of them shows
+pub sets : (p : ℕ) (f b g l : ℕ → ℕ)
+    → all_below 256 (λ a. has_fields (attribute_after a p) (f a) (b a) (g a) (l a)) ≡ true
+    → (a : ℕ) → a < 256 → HasFields (attribute_after a p) (f a) (b a) (g a) (l a)
+sets p f b g l h a lt = fields_of_test (attribute_after a p) (f a) (b a) (g a) (l a)
+    (holds_at_each 256 (λ a. has_fields (attribute_after a p) (f a) (b a) (g a) (l a)) h a lt)
 
-bright_all : all_below 256 (λ a. has_fields (attribute_after a 1) (foreground a) 1 (background a) (blink a)) ≡ true
-bright_all = refl
-
-blue_all : all_below 256 (λ a. has_fields (attribute_after a 4) 1 (bright a) (background a) (blink a)) ≡ true
-blue_all = refl
-
-black_on_white_all : all_below 256 (λ a. has_fields (attribute_after a 7) 0 (bright a) 7 (blink a)) ≡ true
-black_on_white_all = refl
-
-black_on_black_all : all_below 256 (λ a. has_fields (attribute_after a 8) 0 (bright a) 0 (blink a)) ≡ true
-black_on_black_all = refl
-
-blink_all : all_below 256 (λ a. has_fields (attribute_after a 5) (foreground a) (bright a) (background a) 1) ≡ true
-blink_all = refl
-
-foreground_all : all_below 8
-    (λ i. all_below 256 (λ a. has_fields (attribute_after a (30 + i)) (colour i) (bright a) (background a)
-    (blink a))) ≡ true
-foreground_all = refl
-
-background_all : all_below 8
-    (λ i. all_below 256 (λ a. has_fields (attribute_after a (40 + i)) (foreground a) (bright a) (colour i)
-    (blink a))) ≡ true
-background_all = refl
-
-pub resets : ResetsAttribute
-resets a h = fields_of_test (attribute_after a 0) 7 0 0 0
-    (holds_at_each 256 (λ a. has_fields (attribute_after a 0) 7 0 0 0) reset_all a h)
-
-pub sets_bright : SetsBright
-sets_bright a h = fields_of_test (attribute_after a 1) (foreground a) 1 (background a) (blink a)
-    (holds_at_each 256 (λ a. has_fields (attribute_after a 1) (foreground a) 1 (background a) (blink a)) bright_all a h)
-
-pub sets_blink : SetsBlink
-sets_blink a h = fields_of_test (attribute_after a 5) (foreground a) (bright a) (background a) 1
-    (holds_at_each 256 (λ a. has_fields (attribute_after a 5) (foreground a) (bright a) (background a) 1) blink_all a h)
-
-pub sets_blue : SetsBlue
-sets_blue a h = fields_of_test (attribute_after a 4) 1 (bright a) (background a) (blink a)
-    (holds_at_each 256 (λ a. has_fields (attribute_after a 4) 1 (bright a) (background a) (blink a)) blue_all a h)
-
-pub sets_black_on_white : SetsBlackOnWhite
-sets_black_on_white a h = fields_of_test (attribute_after a 7) 0 (bright a) 7 (blink a)
-    (holds_at_each 256 (λ a. has_fields (attribute_after a 7) 0 (bright a) 7 (blink a)) black_on_white_all a h)
-
-pub sets_black_on_black : SetsBlackOnBlack
-sets_black_on_black a h = fields_of_test (attribute_after a 8) 0 (bright a) 0 (blink a)
-    (holds_at_each 256 (λ a. has_fields (attribute_after a 8) 0 (bright a) 0 (blink a)) black_on_black_all a h)
-
-pub sets_foreground : SetsForeground
-sets_foreground a i h lt =
-    let of_colour =
-    holds_at_each 8
-    (λ i. all_below 256 (λ a. has_fields (attribute_after a (30 + i)) (colour i) (bright a) (background a)
-    (blink a))) foreground_all i lt in
-    fields_of_test (attribute_after a (30 + i)) (colour i) (bright a) (background a) (blink a)
-    (holds_at_each 256 (λ a. has_fields (attribute_after a (30 + i)) (colour i) (bright a) (background a) (blink a))
-    of_colour a h)
-
-pub sets_background : SetsBackground
-sets_background a i h lt =
-    let of_colour =
-    holds_at_each 8
-    (λ i. all_below 256 (λ a. has_fields (attribute_after a (40 + i)) (foreground a) (bright a) (colour i)
-    (blink a))) background_all i lt in
-    fields_of_test (attribute_after a (40 + i)) (foreground a) (bright a) (colour i) (blink a)
-    (holds_at_each 256 (λ a. has_fields (attribute_after a (40 + i)) (foreground a) (bright a) (colour i) (blink a))
-    of_colour a h)
+-- so do eight parameters, each with its colour
+pub sets_colour : (first : ℕ) (f b g l : ℕ → ℕ → ℕ)
+    → all_below 8 (λ i. all_below 256 (λ a. has_fields (attribute_after a (first + i)) (f i a) (b i a) (g i a)
+    (l i a))) ≡ true
+    → (a i : ℕ) → a < 256 → i < 8 → HasFields (attribute_after a (first + i)) (f i a) (b i a) (g i a) (l i a)
+sets_colour first f b g l h a i ha hi = sets (first + i) (f i) (b i) (g i) (l i)
+    (holds_at_each 8 (λ i. all_below 256 (λ a. has_fields (attribute_after a (first + i)) (f i a) (b i a) (g i a)
+    (l i a))) h i hi) a ha
 
 -- the law names the parameter of this line
 abbrev is_named : Rendition → Bool
@@ -137,9 +76,3 @@ in_no_line (r ∷ rs) p named h =
 pub others_change_nothing : OthersChangeNothing
 others_change_nothing a p h = ap (λ (o : Option Rendition). attribute_by o a)
     (in_no_line renditions p lines_are_named h)
-
-pub none_change_nothing : NoneChangeNothing
-none_change_nothing a = refl
-
-pub each_after_the_others : EachAfterTheOthers
-each_after_the_others a p others = fold-append attribute_after a others (p ∷ [])

@@ -1,119 +1,30 @@
 -- The starts of each class, and which classes cover others.
-use Rattle.std.proofs.Common.{◌≡◌, ◌||◌, refl, sym, subst, List, Bool, true, false, ℕ}
+use Rattle.std.proofs.Common.{◌||◌, refl, sym, subst, Bool, true, false}
 use Rattle.std.specs.Prelude.{◌&&◌, IsTrue}
 use Rattle.std.proofs.lemmas.Bool.{and_parts}
-use Rattle.ans_model.specs.declared.cell.Cell.{Cell}
-use Rattle.ans_model.specs.declared.cell.Position.{Position}
 use Rattle.ans_model.specs.Screen.State.{State}
 use Rattle.ans_model.specs.Screen.StartClass.{all_known, IsStart}
-use Rattle.ans_model.specs.declared.start.Start.{Start}
-use Rattle.ans_laws.specs.StartLaws.{NoneKnownIsEvery, AllKnownIsOne, LowIsStart, HighIsStart}
-use Rattle.ans_laws.specs.StartLaws.{BothKnownIsGreatest, CoversAllBut}
-use Rattle.ans_laws.specs.StartLaws.{KnownScreenAlone, KnownCursorAlone, KnownSavedAlone, KnownColoursAlone}
-use Rattle.ans_laws.specs.StartLaws.{KnownWrapAlone, KnownPartsTogether}
-use Rattle.ans_model.proofs.StartLemmas.{low_is_start, high_is_start}
-use Rattle.ans_model.proofs.ClassLemmas.{covers_all_but_screen, covers_all_but_cursor}
-use Rattle.ans_model.proofs.ClassLemmas.{covers_all_but_saved, covers_all_but_colours, covers_all_but_wrap}
+use Rattle.ans_laws.specs.StartLaws.{NoneKnownIsEvery, AllKnownIsOne}
+use Rattle.ans_laws.specs.StartLaws.{BothKnownIsGreatest, known_in_either}
+use Rattle.ans_laws.specs.StartLaws.{KnownPartsTogether}
+use Rattle.ans_model.proofs.OneCause.{is_cleared}
+use Rattle.ans_model.proofs.StartLemmas.{low_is_start}
+use Rattle.ans_model.proofs.ClassLemmas.{covers_starts}
+
+-- of a part that is not known nothing is asked
+pub free : {P : Type 0} → IsTrue false → P
+free known = absurd (cc known)
 
 pub none_known_is_every : NoneKnownIsEvery
 none_known_is_every z s = (
   λ start. start.well_formed,
-  λ well. record {
-    well_formed = well;
-    screen = λ known. absurd (cc known);
-    cursor = λ known. absurd (cc known);
-    saved = λ known. absurd (cc known);
-    attribute = λ known. absurd (cc known);
-    wrap = λ known. absurd (cc known);
-  },
+  λ h. record { well_formed = h; screen = free; cursor = free; saved = free; attribute = free; wrap = free },
 )
-
-state_of : List Cell → Position → Position → ℕ → Bool → State
-state_of screen cursor saved attribute wrap =
-    record { screen = screen; cursor = cursor; saved = saved; attribute = attribute; wrap = wrap }
-
--- states of equal parts are equal
-same_state : (x y : List Cell) (c d s t : Position) (a b : ℕ) (v w : Bool) → x ≡ y → c ≡ d → s ≡ t → a ≡ b → v ≡ w
-    → state_of x c s a v ≡ state_of y d t b w
-same_state x y c d s t a b v w p q r u e = cc
 
 pub all_known_is_one : AllKnownIsOne
-unfolding state_of
 all_known_is_one z s size = (
-  λ start. same_state _ _ _ _ _ _ _ _ _ _ (start.screen refl) (start.cursor refl) (start.saved refl)
-      (start.attribute refl) (start.wrap refl),
-  λ e. subst (λ (t : State). IsStart z all_known t) (sym e)
-      (low_is_start z all_known size.some_columns),
-)
-
--- the screen alone known: its cells are blanks of white on black
-pub known_screen_alone : KnownScreenAlone
-known_screen_alone z s = (
-  λ start. (start.well_formed, start.screen refl),
-  λ h. record {
-    well_formed = h.0;
-    screen = λ known. h.1;
-    cursor = λ known. absurd (cc known);
-    saved = λ known. absurd (cc known);
-    attribute = λ known. absurd (cc known);
-    wrap = λ known. absurd (cc known);
-  },
-)
-
--- the cursor alone known: it is at home
-pub known_cursor_alone : KnownCursorAlone
-known_cursor_alone z s = (
-  λ start. (start.well_formed, start.cursor refl),
-  λ h. record {
-    well_formed = h.0;
-    screen = λ known. absurd (cc known);
-    cursor = λ known. h.1;
-    saved = λ known. absurd (cc known);
-    attribute = λ known. absurd (cc known);
-    wrap = λ known. absurd (cc known);
-  },
-)
-
--- the saved cursor alone known: it is at home
-pub known_saved_alone : KnownSavedAlone
-known_saved_alone z s = (
-  λ start. (start.well_formed, start.saved refl),
-  λ h. record {
-    well_formed = h.0;
-    screen = λ known. absurd (cc known);
-    cursor = λ known. absurd (cc known);
-    saved = λ known. h.1;
-    attribute = λ known. absurd (cc known);
-    wrap = λ known. absurd (cc known);
-  },
-)
-
--- the colours alone known: they are white on black
-pub known_colours_alone : KnownColoursAlone
-known_colours_alone z s = (
-  λ start. (start.well_formed, start.attribute refl),
-  λ h. record {
-    well_formed = h.0;
-    screen = λ known. absurd (cc known);
-    cursor = λ known. absurd (cc known);
-    saved = λ known. absurd (cc known);
-    attribute = λ known. h.1;
-    wrap = λ known. absurd (cc known);
-  },
-)
-
--- wrap alone known: it is on
-pub known_wrap_alone : KnownWrapAlone
-known_wrap_alone z s = (
-  λ start. (start.well_formed, start.wrap refl),
-  λ h. record {
-    well_formed = h.0;
-    screen = λ known. absurd (cc known);
-    cursor = λ known. absurd (cc known);
-    saved = λ known. absurd (cc known);
-    attribute = λ known. absurd (cc known);
-    wrap = λ known. h.1;
-  },
+  λ start. is_cleared z s start,
+  λ e. subst (λ (t : State). IsStart z all_known t) (sym e) (low_is_start z all_known size.some_columns),
 )
 
 -- what is known in one of two classes is known in either
@@ -134,22 +45,20 @@ from_either false b p q e = q e
 pub known_parts_together : KnownPartsTogether
 known_parts_together z a b s = (
   λ start. (
-    record {
-      well_formed = start.well_formed;
-      screen = λ known. start.screen (known_left a.screen b.screen known);
-      cursor = λ known. start.cursor (known_left a.cursor b.cursor known);
-      saved = λ known. start.saved (known_left a.saved b.saved known);
-      attribute = λ known. start.attribute (known_left a.colours b.colours known);
-      wrap = λ known. start.wrap (known_left a.wrap b.wrap known);
-    },
-    record {
-      well_formed = start.well_formed;
-      screen = λ known. start.screen (known_right a.screen b.screen known);
-      cursor = λ known. start.cursor (known_right a.cursor b.cursor known);
-      saved = λ known. start.saved (known_right a.saved b.saved known);
-      attribute = λ known. start.attribute (known_right a.colours b.colours known);
-      wrap = λ known. start.wrap (known_right a.wrap b.wrap known);
-    },
+    covers_starts z a (known_in_either a b) s (record {
+      screen = known_left a.screen b.screen;
+      cursor = known_left a.cursor b.cursor;
+      saved = known_left a.saved b.saved;
+      colours = known_left a.colours b.colours;
+      wrap = known_left a.wrap b.wrap;
+    }) start,
+    covers_starts z b (known_in_either a b) s (record {
+      screen = known_right a.screen b.screen;
+      cursor = known_right a.cursor b.cursor;
+      saved = known_right a.saved b.saved;
+      colours = known_right a.colours b.colours;
+      wrap = known_right a.wrap b.wrap;
+    }) start,
   ),
   λ both. record {
     well_formed = both.0.well_formed;
@@ -160,12 +69,6 @@ known_parts_together z a b s = (
     wrap = from_either a.wrap b.wrap both.0.wrap both.1.wrap;
   },
 )
-
-pub low_start_is_start : LowIsStart
-low_start_is_start z class size = low_is_start z class size.some_columns
-
-pub high_start_is_start : HighIsStart
-high_start_is_start z class size = high_is_start z class size.some_columns
 
 -- a truth that implies two implies both at once
 and_then : (p a b : Bool) → (IsTrue p → IsTrue a) → (IsTrue p → IsTrue b) → IsTrue p → IsTrue (a && b)
@@ -198,12 +101,3 @@ both_known_is_greatest a b c = (
     wrap = and_then c.wrap a.wrap b.wrap first.wrap second.wrap;
   },
 )
-
-pub covers_all_but : (class : Start) → CoversAllBut class
-covers_all_but class = record {
-  screen = covers_all_but_screen class;
-  cursor = covers_all_but_cursor class;
-  saved = covers_all_but_saved class;
-  colours = covers_all_but_colours class;
-  wrap = covers_all_but_wrap class;
-}

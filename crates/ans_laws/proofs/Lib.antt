@@ -10,8 +10,7 @@ pub mod NoteOrder
 pub mod OwnCharacters
 pub mod OwnLines
 pub mod WholeLines
-pub mod SpellingExamples
-pub mod SequenceExamples
+pub mod ComputedReading
 pub mod TwoCursors
 pub mod TabPlays
 pub mod TokenFaults

@@ -1,18 +1,15 @@
 -- Content determines the text of its tokens, and the fault that ends their reading.
-use Rattle.std.proofs.Common.{◌≡◌, inl, inr, ℕ, List, [], ◌∷◌, ◌++◌, length, refl, ap, ap₂, sym, ◌∙◌, arith}
+use Rattle.std.proofs.Common.{◌≡◌, inl, inr, ℕ, List, [], ◌∷◌, ◌++◌, length, refl, ap, ap₂, sym, ◌∙◌}
 use Rattle.std.proofs.Common.{append_assoc, Option, Some, None}
 use Rattle.std.specs.List.{AllZip, concat}
 use Rattle.ans_model.specs.Sequence.TokenKind.{TokenKind}
 use Rattle.ans_model.specs.declared.fault.Fault.{Fault}
-use Rattle.ans_model.specs.declared.fault.Cause.{Cause}
-use Rattle.ans_model.specs.Sequence.Spelling.{IsUnfinished}
 use Rattle.ans_model.specs.Sequence.Reads.{SpellsToken}
 use Rattle.ans_model.specs.File.Refusals.{fault_at}
-use Rattle.ans_model.specs.Verdict.FirstFault.{IsRefused}
 use Rattle.ans_model.specs.Text.TokensText.{token_lines, Leaves, fault_end, TokensText}
 use Rattle.ans_model.proofs.Reading.{one_token_in_front, token_nonempty, refused_no_token, refused_nonempty}
-use Rattle.ans_model.proofs.Reading.{unfinished_no_token, spelled_no_front}
-use Rattle.ans_model.proofs.Refusing.{one_cause_of_refused, unfinished_broken}
+use Rattle.ans_model.proofs.Reading.{unfinished_no_token, nothing_not_unfinished}
+use Rattle.ans_model.proofs.Refusing.{one_cause_of_refused, unfinished_not_refused}
 
 -- what is left begins with no token
 abbrev NoTokenInFront : List ℕ → Type 0
@@ -56,24 +53,15 @@ one_reading_and_rest (t ∷ ts) (u ∷ us) (a ∷ xs) (b ∷ zs) x y h g p q e =
       left = more.left;
     }
 
-nothing_is_not_unfinished : IsUnfinished [] → ⊥
-nothing_is_not_unfinished o = omega (arith, o.begun)
-
--- an unfinished sequence begins with nothing that is refused
-unfinished_not_refused : (left text rest : List ℕ) (cause : Cause) → IsUnfinished left → IsRefused text cause
-    → left ≡ text ++ rest → ⊥
-unfinished_not_refused left text rest cause o (inl h) e = spelled_no_front h.raw text rest h.spelled (rw e at o)
-unfinished_not_refused left text rest cause o (inr h) e = unfinished_broken left text rest cause o h e
-
 -- what is left determines the fault
 one_fault : (n : ℕ) (left : List ℕ) (f g : Option Fault) → Leaves n left f → Leaves n left g → f ≡ g
 one_fault n left None None h k = refl
 one_fault n left None (Some g) h (inl (text, rest, cause, whole, refused, is)) =
     absurd (refused_nonempty text rest cause refused (sym whole ∙ h))
-one_fault n left None (Some g) h (inr (unfinished, is)) = absurd (nothing_is_not_unfinished (rw h at unfinished))
+one_fault n left None (Some g) h (inr (unfinished, is)) = absurd (nothing_not_unfinished left h unfinished)
 one_fault n left (Some f) None (inl (text, rest, cause, whole, refused, is)) k =
     absurd (refused_nonempty text rest cause refused (sym whole ∙ k))
-one_fault n left (Some f) None (inr (unfinished, is)) k = absurd (nothing_is_not_unfinished (rw k at unfinished))
+one_fault n left (Some f) None (inr (unfinished, is)) k = absurd (nothing_not_unfinished left k unfinished)
 one_fault n left (Some f) (Some g) (inl (text, rest, c, whole, h, is)) (inl (other, more, d, same, k, also)) =
     let cause : c ≡ d = one_cause_of_refused text other rest more c d h k (sym whole ∙ same) in
     ap (λ (v : Fault). Some v) (is ∙ ap (fault_at n) cause ∙ sym also)

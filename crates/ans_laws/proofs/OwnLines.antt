@@ -24,6 +24,7 @@ use Rattle.ans_model.specs.declared.note.Note.TheVariants.{WidthAssumed, NoEndMa
 use Rattle.ans_model.specs.declared.note.Note.TheVariants.{FlagPair}
 use Rattle.ans_model.specs.Text.FaultText.{fault_text, position_text, fault_line, note_line}
 use Rattle.ans_laws.specs.LineLaws.{FitsTypes, PositionFitsTypes, IsUnknownCell}
+use Rattle.ans_model.proofs.OneAnswer.{same_fault}
 use Rattle.ans_model.proofs.Spelling.{tail_of, one_run_before_stop}
 
 -- ---- numbers
@@ -213,9 +214,6 @@ whole_text_tells_cause c d h g e =
           (ap whole_text (sym p.2) ∙ e ∙ ap whole_text q.2) ∙ sym q.2
     ]
 
-fault_path : (f g : Fault) → f.offset ≡ g.offset → f.cause ≡ g.cause → f ≡ g
-fault_path f g o c = λ i. record { offset = o i; cause = c i }
-
 -- the line of a fault tells its offset and cause
 pub line_tells_fault : (f g : Fault) → FitsTypes f → FitsTypes g → fault_line f ≡ fault_line g → f ≡ g
 line_tells_fault f g hf hg e =
@@ -228,7 +226,7 @@ line_tells_fault f g hf hg e =
     (0x20 ∷ (whole_text g.cause ++ 0x0A ∷ [])) hf.offset hg.offset refl refl (sym (line f) ∙ s ∙ line g) in
     let texts : whole_text f.cause ≡ whole_text g.cause = append_cancel_right (whole_text f.cause)
     (whole_text g.cause) (0x0A ∷ []) (tail_of offsets.1) in
-    fault_path f g offsets.0 (whole_text_tells_cause f.cause g.cause hf.position hg.position texts)
+    same_fault f g offsets.0 (whole_text_tells_cause f.cause g.cause hf.position hg.position texts)
 
 -- ---- notes
 abbrev note_of : List ℕ → Note

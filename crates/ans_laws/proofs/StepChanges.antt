@@ -5,14 +5,14 @@ use Rattle.std.proofs.Common.{Some}
 use Rattle.std.specs.Prelude.{if◌then◌else◌, slice_get}
 use Rattle.std.proofs.lemmas.Bool.{cases_lt, lt-ltb, le-ltb, eq-eqb}
 use Rattle.std.proofs.lemmas.List.{length-drop, length-set}
-use Rattle.ans_model.specs.Sequence.TokenKind.{Bell, Clear, EraseLine, Mode, Keys, Ask}
+use Rattle.ans_model.specs.Sequence.TokenKind.{Clear, EraseLine}
 use Rattle.ans_model.specs.Screen.State.{Size, State, IsWellFormed, IsOnScreen, at, cell, cell_at, cell_count, index}
 use Rattle.ans_model.specs.declared.cell.Position.{Position}
 use Rattle.ans_model.specs.Screen.Step.{step, scrolled, line_feed, printed, next_row_start}
 use Rattle.ans_model.specs.Screen.Step.{blank_cell}
 use Rattle.ans_laws.specs.StepLaws.{OnePositionAnIndex}
-use Rattle.ans_laws.specs.StepLaws.{OnlyScreenAndCursor, SavesCursor, ColoursChangeAttribute, WrapChangesWrap}
-use Rattle.ans_laws.specs.StepLaws.{IdleChangesNothing, ClearsScreen, IsErased, ErasesLine}
+use Rattle.ans_laws.specs.StepLaws.{OnlyScreenAndCursor}
+use Rattle.ans_laws.specs.StepLaws.{ClearsScreen, IsErased, ErasesLine}
 use Rattle.ans_laws.specs.StepLaws.{NextPosition, GlyphPrints, GlyphScrolls, LineFeedMovesDown, IsScrolled}
 use Rattle.ans_laws.specs.StepLaws.{LineFeedScrolls, IsPrinted, IsPrintedAndScrolled}
 use Rattle.ans_laws.specs.MoveLaws.{IsLastColumn}
@@ -33,22 +33,6 @@ one_position_an_index z p q on_p on_q e = elim (cases_lt p.row q.row) [
         same_position p q row (omega (arith, start))
   ]
 ]
-
-pub saves_cursor : SavesCursor
-saves_cursor z s = refl
-
-pub colours_change_attribute : ColoursChangeAttribute
-colours_change_attribute z s parameters = refl
-
-pub wrap_changes_wrap : WrapChangesWrap
-wrap_changes_wrap z s on = refl
-
-pub idle_changes_nothing : IdleChangesNothing
-idle_changes_nothing z s Bell i = refl
-idle_changes_nothing z s Mode i = refl
-idle_changes_nothing z s Keys i = refl
-idle_changes_nothing z s Ask i = refl
-idle_changes_nothing z s _ i = absurd i
 
 same_others : (s t : State) → t.saved ≡ s.saved → t.attribute ≡ s.attribute → t.wrap ≡ s.wrap → OnlyScreenAndCursor s t
 same_others s t e f g = record { saved = e; attribute = f; wrap = g }

@@ -130,6 +130,7 @@ pub fn plain_file()
 {}
 
 /// Bytes, and the tokens that they are.
+#[tactic(auto, using(crate::proofs::ComputedReading::spells))]
 pub fn single_bytes()
     ensures bell { SpellsToken Bell (0x07 ∷ []) }
     ensures backspace { SpellsToken BackSpace (0x08 ∷ []) }
@@ -143,6 +144,7 @@ pub fn single_bytes()
 {}
 
 /// Sequences that move the cursor.
+#[tactic(auto, using(crate::proofs::ComputedReading::spells))]
 pub fn moves_of_the_cursor()
     ensures up_by_two { SpellsToken (Up 2) (esc (codes "[2A")) }
     ensures up_without_a_number { SpellsToken (Up 1) (esc (codes "[A")) }
@@ -165,6 +167,7 @@ pub fn moves_of_the_cursor()
 {}
 
 /// Sequences that erase, save, restore, set colours or modes, assign keys or ask.
+#[tactic(auto, using(crate::proofs::ComputedReading::spells))]
 pub fn sequences_with_a_meaning()
     ensures clear_by_two { SpellsToken Clear (esc (codes "[2J")) }
     ensures erase_without_a_number { SpellsToken EraseLine (esc (codes "[K")) }
@@ -193,6 +196,7 @@ pub fn sequences_with_a_meaning()
 {}
 
 /// Sequences that are refused for their meaning.
+#[tactic(auto, using(crate::proofs::ComputedReading::refuses))]
 pub fn sequences_refused_for_their_meaning()
     ensures unknown_letter { IsRefused (esc (codes "[2t")) UnknownSequence }
     ensures mark_before_n { IsRefused (esc (codes "[?6n")) UnknownSequence }
@@ -219,6 +223,7 @@ pub fn sequences_refused_for_their_meaning()
 {}
 
 /// Bytes with which no sequence goes on.
+#[tactic(auto, using(crate::proofs::ComputedReading::refuses))]
 pub fn broken_sequences()
     ensures no_bracket { IsRefused (esc (codes "(")) BrokenSequence }
     ensures blank_after_a_number { IsRefused (esc (codes "[0;0 ")) BrokenSequence }
@@ -231,6 +236,7 @@ pub fn broken_sequences()
 {}
 
 /// Sequences that go on.
+#[tactic(auto, using(crate::proofs::ComputedReading::stays_open))]
 pub fn unfinished_sequences()
     ensures escape_alone { IsUnfinished (esc []) }
     ensures bracket_alone { IsUnfinished (esc (codes "[")) }

@@ -35,7 +35,6 @@ impl Model for TwoPlays {
     ghost invariant = { λ p. (p.low.size ≡ p.size) × (p.high.size ≡ p.size) };
 }
 
-/// The first index at which two screens of one size differ.
 fn first_difference(low: &[Cell], high: &[Cell]) -> Option<usize>
     requires { length low.now ≡ length high.now }
     ensures none { IfNone result (low.now ≡ high.now) }
@@ -72,21 +71,18 @@ impl TwoPlays {
         })
     }
 
-    /// Whether the two cursors stand at one position.
     fn is_one_position(&self) -> bool
         ensures { IsTrue result ↔ (self.now.low.cursor ≡ self.now.high.cursor) }
     {
         self.low.cursor() == self.high.cursor()
     }
 
-    /// Whether the low play's cursor stands in the spare row.
     fn is_low_in_spare_row(&self) -> bool
         ensures { IsTrue result ↔ (self.now.low.cursor.row ≡ self.now.size.lines) }
     {
         self.low.cursor().row == self.size.lines()
     }
 
-    /// Whether the high play's cursor stands in the spare row.
     fn is_high_in_spare_row(&self) -> bool
         ensures { IsTrue result ↔ (self.now.high.cursor.row ≡ self.now.size.lines) }
     {

@@ -214,37 +214,11 @@ no_refusals file front parts h e =
     not_true (is_clean_end (take (length front - block_size n) front)) clean in
     rw (t2, t3, t4, t5, t6, t7, t8)
 
--- A file that is accepted has no fault of its record.
-pub no_fault : (file : List ℕ) (parts : FileParts) → Accepts file parts → record_fault file ≡ None
-no_fault file parts h =
-    let body = parts.body in
-    let comment_bytes = parts.comment_bytes in
-    let record_bytes = parts.record_bytes in
-    let n = comment_count record_bytes in
-    let front = body ++ comment_block n comment_bytes in
-    let joined : file ≡ front ++ record_bytes = h.laid.whole ∙ sym
-    (append_assoc body (comment_block n comment_bytes) record_bytes) in
-    let size : length record_bytes ≡ 128 = h.laid.size in
-    let whole : length file ≡ length front + 128 = ap length joined ∙ length-append front record_bytes
-    ∙ ap (λ (v : ℕ). length front + v) size in
-    let at : length file - 128 ≡ length front = omega (arith, whole) in
-    let taken : take (length file - 128) file ≡ front = ap₂ (λ (v : ℕ) (w : List ℕ). take v w) at joined
-    ∙ take-append_seam front record_bytes in
-    let left : drop (length file - 128) file ≡ record_bytes =
-    ap₂ (λ (v : ℕ) (w : List ℕ). drop v w) at joined ∙ drop-append_seam front record_bytes in
-    let long : nat_le 128 (length file) ≡ true = le_from 128 (length file) (omega (arith, whole)) in
-    let id : bytes_eq (take 5 (drop (length file - 128) file)) (codes "SAUCE") ≡ true =
-    equal_bytes (take 5 (drop (length file - 128) file)) (codes "SAUCE")
-    (ap (λ (v : List ℕ). take 5 v) left ∙ h.laid.id) in
-    let t1 : not (has_record file) ≡ false =
-    not_true (has_record file) (and_from (nat_le 128 (length file))
-    (bytes_eq (take 5 (drop (length file - 128) file)) (codes "SAUCE")) long id) in
-    rw t1 (ap₂ (λ (v w : List ℕ). first_refusal (refusals v w)) taken left ∙ no_refusals file front parts h refl)
-
 -- the last 128 bytes of a file that is laid out, and what stands before them
 pub record Cuts (file front record_bytes : List ℕ) : Type 0 where
   pub front_is : take (length file - 128) file ≡ front
   pub sauce_is : drop (length file - 128) file ≡ record_bytes
+  pub long : 128 ≤ length file
 
 -- the last 128 bytes are the record
 last_bytes_are_record : (file : List ℕ) (parts : FileParts) → Laid file parts
@@ -264,7 +238,23 @@ last_bytes_are_record file parts h =
     record {
       front_is = ap₂ (λ (v : ℕ) (w : List ℕ). take v w) at joined ∙ take-append_seam front record_bytes;
       sauce_is = ap₂ (λ (v : ℕ) (w : List ℕ). drop v w) at joined ∙ drop-append_seam front record_bytes;
+      long = omega (arith, whole);
     }
+
+-- A file that is accepted has no fault of its record.
+pub no_fault : (file : List ℕ) (parts : FileParts) → Accepts file parts → record_fault file ≡ None
+no_fault file parts h =
+    let front = parts.body ++ comment_block (comment_count parts.record_bytes) parts.comment_bytes in
+    let cut = last_bytes_are_record file parts h.laid in
+    let id : bytes_eq (take 5 (drop (length file - 128) file)) (codes "SAUCE") ≡ true =
+    equal_bytes (take 5 (drop (length file - 128) file)) (codes "SAUCE")
+    (ap (λ (v : List ℕ). take 5 v) cut.sauce_is ∙ h.laid.id) in
+    let t1 : not (has_record file) ≡ false =
+    not_true (has_record file) (and_from (nat_le 128 (length file))
+    (bytes_eq (take 5 (drop (length file - 128) file)) (codes "SAUCE")) (le_from 128 (length file) cut.long) id) in
+    rw t1
+    (ap₂ (λ (v w : List ℕ). first_refusal (refusals v w)) cut.front_is cut.sauce_is
+    ∙ no_refusals file front parts h refl)
 
 -- the comment_bytes are what the block says
 block_comments : (c : Bool) (n : ℕ) (xs ys : List ℕ) → (n == 0) ≡ c → length xs ≡ 64 * n → length ys ≡ 64 * n

@@ -66,63 +66,37 @@ known_nowhere : (p : Bool) → (IsTrue p → IsTrue false) → p ≡ false
 known_nowhere true never = absurd (let no : true ≡ false = sym (never refl) in cc)
 known_nowhere false never = refl
 
+-- what is known in a class is known where all is
+known : {P : Type 0} → P → IsTrue true
+known p = refl
+
 -- a class covers that of all parts but one exactly where it does not know that part
 pub covers_all_but_screen : (class : Start) → Covers class all_but_screen ↔ (class.screen ≡ false)
 covers_all_but_screen class = (
   λ covers. known_nowhere class.screen covers.screen,
-  λ e. record {
-    screen = λ k. absurd (cc);
-    cursor = λ k. refl;
-    saved = λ k. refl;
-    colours = λ k. refl;
-    wrap = λ k. refl;
-  },
+  λ e. record { screen = λ k. absurd (cc); cursor = known; saved = known; colours = known; wrap = known },
 )
 
 pub covers_all_but_cursor : (class : Start) → Covers class all_but_cursor ↔ (class.cursor ≡ false)
 covers_all_but_cursor class = (
   λ covers. known_nowhere class.cursor covers.cursor,
-  λ e. record {
-    screen = λ k. refl;
-    cursor = λ k. absurd (cc);
-    saved = λ k. refl;
-    colours = λ k. refl;
-    wrap = λ k. refl;
-  },
+  λ e. record { screen = known; cursor = λ k. absurd (cc); saved = known; colours = known; wrap = known },
 )
 
 pub covers_all_but_saved : (class : Start) → Covers class all_but_saved ↔ (class.saved ≡ false)
 covers_all_but_saved class = (
   λ covers. known_nowhere class.saved covers.saved,
-  λ e. record {
-    screen = λ k. refl;
-    cursor = λ k. refl;
-    saved = λ k. absurd (cc);
-    colours = λ k. refl;
-    wrap = λ k. refl;
-  },
+  λ e. record { screen = known; cursor = known; saved = λ k. absurd (cc); colours = known; wrap = known },
 )
 
 pub covers_all_but_colours : (class : Start) → Covers class all_but_colours ↔ (class.colours ≡ false)
 covers_all_but_colours class = (
   λ covers. known_nowhere class.colours covers.colours,
-  λ e. record {
-    screen = λ k. refl;
-    cursor = λ k. refl;
-    saved = λ k. refl;
-    colours = λ k. absurd (cc);
-    wrap = λ k. refl;
-  },
+  λ e. record { screen = known; cursor = known; saved = known; colours = λ k. absurd (cc); wrap = known },
 )
 
 pub covers_all_but_wrap : (class : Start) → Covers class all_but_wrap ↔ (class.wrap ≡ false)
 covers_all_but_wrap class = (
   λ covers. known_nowhere class.wrap covers.wrap,
-  λ e. record {
-    screen = λ k. refl;
-    cursor = λ k. refl;
-    saved = λ k. refl;
-    colours = λ k. refl;
-    wrap = λ k. absurd (cc);
-  },
+  λ e. record { screen = known; cursor = known; saved = known; colours = known; wrap = λ k. absurd (cc) },
 )

@@ -26,9 +26,10 @@ use Rattle.ans_model.specs.Verdict.LastFault.{CellsDiffer, SameCell, IsBefore, I
 use Rattle.ans_model.specs.Verdict.LastFault.{LeavesUnknown, IsLastFault}
 use Rattle.ans_model.specs.Verdict.Good.{Picture, Shows, PrintsWell, PlaysWell, GoodWith, IsGood}
 use Rattle.ans_model.proofs.Reading.{one_token_in_front, token_nonempty, refused_no_token, refused_nonempty}
-use Rattle.ans_model.proofs.Reading.{one_reading}
-use Rattle.ans_model.proofs.Reading.{spelled_no_front, unfinished_no_token, means_well}
-use Rattle.ans_model.proofs.Refusing.{one_cause_of_refused, unfinished_broken}
+use Rattle.ans_model.proofs.Reading.{one_reading, nothing_not_unfinished}
+use Rattle.ans_model.proofs.Reading.{unfinished_no_token, means_well}
+use Rattle.ans_model.proofs.Refusing.{one_cause_of_refused, unfinished_not_refused}
+use Rattle.ans_model.proofs.PositionLemmas.{same_position}
 use Rattle.ans_model.proofs.OneCause.{one_cause, certain_cause, cleared_is_one}
 use Rattle.ans_model.proofs.StartLemmas.{low_is_start}
 
@@ -87,8 +88,10 @@ end_no_token t a x y h (inr o) e = unfinished_no_token t a y h (rw e at o)
 -- no refused text begins an end
 end_not_refused : (text x y : List ℕ) (c : Cause) → IsRefused text c → IsEnd x → x ≡ text ++ y → ⊥
 end_not_refused text x y c h (inl nil) e = refused_nonempty text y c h (sym e ∙ nil)
-end_not_refused text x y c (inl h) (inr o) e = spelled_no_front h.raw text y h.spelled (rw e at o)
-end_not_refused text x y c (inr h) (inr o) e = unfinished_broken x text y c o h e
+end_not_refused text x y c h (inr o) e = unfinished_not_refused x text y c o h e
+
+pub same_fault : (f g : Fault) → f.offset ≡ g.offset → f.cause ≡ g.cause → f ≡ g
+same_fault f g o c = λ i. record { offset = o i; cause = c i }
 
 -- ---- what is clean does not go on over a fault
 module _ (z : Size) (class : Start) where
@@ -154,16 +157,13 @@ module _ (z : Size) (class : Start) where
       absurd (faulty_ends h.tokens t more h.text a h.rest (concat texts ++ (k.text ++ k.rest)) f.cause
       (rw same at k.clean) w.0 h.faulty (e ∙ append_assoc a (concat texts) (k.text ++ k.rest)))
 
-  fault_path : (f g : Fault) → f.offset ≡ g.offset → f.cause ≡ g.cause → f ≡ g
-  fault_path f g o c = λ i. record { offset = o i; cause = c i }
-
   pub one_first_fault : (bytes : List ℕ) (f g : Fault) → IsFirstFault z class bytes f → IsFirstFault z class bytes g
       → f ≡ g
   one_first_fault bytes f g h k =
       elim (reads_split bytes h.tokens k.tokens (h.text ++ h.rest) (k.text ++ k.rest) (first_reads bytes f h)
       (first_reads bytes g k)) [
-        | inl w ↦ let q = ordered bytes f g h k w.0 w.1 w.2 w.3 w.4 in fault_path f g q.0 q.1
-        | inr w ↦ let q = ordered bytes g f k h w.0 w.1 w.2 w.3 w.4 in fault_path f g (sym q.0) (sym q.1)
+        | inl w ↦ let q = ordered bytes f g h k w.0 w.1 w.2 w.3 w.4 in same_fault f g q.0 q.1
+        | inr w ↦ let q = ordered bytes g f k h w.0 w.1 w.2 w.3 w.4 in same_fault f g (sym q.0) (sym q.1)
       ]
 
   -- ---- bytes of clean tokens, and an end
@@ -237,9 +237,6 @@ module _ (z : Size) (class : Start) where
     end = inl refl;
   }
 
-  nil_not_unfinished : (x : List ℕ) → x ≡ [] → IsUnfinished x → ⊥
-  nil_not_unfinished x e o = let none : length x ≡ 0 = ap length e in omega (arith, o.begun, none)
-
   pub first_or_last : (bytes : List ℕ) (f g : Fault) → IsFirstFault z class bytes f → IsLastFault z class bytes g → ⊥
   first_or_last bytes f g h (inl k) = clean_no_first bytes f k.tokens k.text h (sequence_end bytes g k)
   first_or_last bytes f g h (inr k) = clean_no_first bytes f k.tokens [] h (unknown_end bytes g k)
@@ -253,13 +250,10 @@ module _ (z : Size) (class : Start) where
       (record { reads = record { front = front; reads = reads; whole = whole }; clean = clean; end = end })
 
   -- ---- the first position that differs
-  place_path : (p q : Position) → p.row ≡ q.row → p.column ≡ q.column → p ≡ q
-  place_path p q r c = λ i. record { row = r i; column = c i }
-
   places_ordered : (p q : Position) → IsBefore p q ⊎ (p ≡ q) ⊎ IsBefore q p
   places_ordered p q = elim (cases_eq p.row q.row) [
     | inl r ↦ elim (cases_eq p.column q.column) [
-      | inl c ↦ inr (inl (place_path p q r c))
+      | inl c ↦ inr (inl (same_position p q r c))
       | inr n ↦ elim (cases_lt p.column q.column) [
         | inl l ↦ inl (inr (r, l))
         | inr g ↦ inr (inr (inr (sym r, omega arith)))
@@ -290,10 +284,10 @@ module _ (z : Size) (class : Start) where
       (sequence_end bytes g k).reads same in
       h.fault_is ∙ ap (λ (v : List ℕ). fault_at (length v) EndInSequence) fronts ∙ sym k.fault_is
   one_last_fault bytes f g (inl h) (inr k) =
-      absurd (nil_not_unfinished h.text (one_end bytes h.tokens k.tokens h.text [] (sequence_end bytes f h)
+      absurd (nothing_not_unfinished h.text (one_end bytes h.tokens k.tokens h.text [] (sequence_end bytes f h)
       (unknown_end bytes g k)).1 h.unfinished)
   one_last_fault bytes f g (inr h) (inl k) =
-      absurd (nil_not_unfinished k.text (one_end bytes k.tokens h.tokens k.text [] (sequence_end bytes g k)
+      absurd (nothing_not_unfinished k.text (one_end bytes k.tokens h.tokens k.text [] (sequence_end bytes g k)
       (unknown_end bytes f h)).1 k.unfinished)
   one_last_fault bytes f g (inr h) (inr k) =
       let same : k.tokens ≡ h.tokens = one_reading bytes k.tokens h.tokens k.reads h.reads in
@@ -347,7 +341,7 @@ module _ (z : Size) (class : Start) where
 
   pub good_or_last : (bytes : List ℕ) (f : Fault) → IsGood z class bytes → IsLastFault z class bytes f → ⊥
   good_or_last bytes f (picture, g) (inl h) =
-      nil_not_unfinished h.text (one_end bytes h.tokens g.tokens h.text [] (sequence_end bytes f h)
+      nothing_not_unfinished h.text (one_end bytes h.tokens g.tokens h.text [] (sequence_end bytes f h)
       (good_end bytes picture g)).1 h.unfinished
   good_or_last bytes f (picture, g) (inr h) =
       let same : h.tokens ≡ g.tokens = one_reading bytes h.tokens g.tokens h.reads g.reads in

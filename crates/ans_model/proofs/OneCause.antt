@@ -92,20 +92,18 @@ not_always_and_sometimes_in_spare_row : (z : Size) (class : Start) (played : Lis
     → MayStandInSpareRow z class played → ⊥
 not_always_and_sometimes_in_spare_row z class played h g = g.1.2 (h g.1.0 g.1.1)
 
-one_of_two_print_causes : (z : Size) (class : Start) (played : List TokenKind) (c d : Cause)
-    → ((c ≡ PrintUnknownPlace) × PositionsDiffer z class played) ⊎ ((c ≡ PrintBelow) × SamePosition z class played)
-    → ((d ≡ PrintUnknownPlace) × PositionsDiffer z class played) ⊎ ((d ≡ PrintBelow) × SamePosition z class played)
-    → c ≡ d
-one_of_two_print_causes z class played c d (inl h) (inl g) = h.0 ∙ sym g.0
-one_of_two_print_causes z class played c d (inl h) (inr g) =
-    absurd (not_same_and_different_position z class played h.1 g.1)
-one_of_two_print_causes z class played c d (inr h) (inl g) =
-    absurd (not_same_and_different_position z class played g.1 h.1)
-one_of_two_print_causes z class played c d (inr h) (inr g) = h.0 ∙ sym g.0
+-- of two causes that exclude each other one stands
+one_of_two : {A B : Type 0} (a b c d : Cause) → (A → B → ⊥) → ((c ≡ a) × A) ⊎ ((c ≡ b) × B)
+    → ((d ≡ a) × A) ⊎ ((d ≡ b) × B) → c ≡ d
+one_of_two a b c d never (inl h) (inl g) = h.0 ∙ sym g.0
+one_of_two a b c d never (inl h) (inr g) = absurd (never h.1 g.1)
+one_of_two a b c d never (inr h) (inl g) = absurd (never g.1 h.1)
+one_of_two a b c d never (inr h) (inr g) = h.0 ∙ sym g.0
 
 one_print_cause : (z : Size) (class : Start) (played : List TokenKind) (c d : Cause) → HasPrintFault z class played c
     → HasPrintFault z class played d → c ≡ d
-one_print_cause z class played c d h g = one_of_two_print_causes z class played c d
+one_print_cause z class played c d h g = one_of_two PrintUnknownPlace PrintBelow c d
+    (not_same_and_different_position z class played)
     (fault_of_print_after z class played c h) (fault_of_print_after z class played d g)
 
 -- the first blank that has a fault is one
@@ -122,28 +120,15 @@ one_tab_cause z class played c d h g = elim (cases_lt h.blanks_before g.blanks_b
   ]
 ]
 
-one_line_feed_cause : (z : Size) (class : Start) (played : List TokenKind) (c d : Cause)
-    → ((c ≡ Scrolls) × FromEvery z class (IsInSpareRow z played))
-    ⊎ ((c ≡ MayScroll) × MayStandInSpareRow z class played)
-    → ((d ≡ Scrolls) × FromEvery z class (IsInSpareRow z played))
-    ⊎ ((d ≡ MayScroll) × MayStandInSpareRow z class played)
-    → c ≡ d
-one_line_feed_cause z class played c d (inl h) (inl g) = h.0 ∙ sym g.0
-one_line_feed_cause z class played c d (inl h) (inr g) = absurd
-    (not_always_and_sometimes_in_spare_row z class played h.1 g.1)
-one_line_feed_cause z class played c d (inr h) (inl g) = absurd
-    (not_always_and_sometimes_in_spare_row z class played g.1 h.1)
-one_line_feed_cause z class played c d (inr h) (inr g) = h.0 ∙ sym g.0
-
 one_cause_after : (z : Size) (class : Start) (played : List TokenKind) (t : TokenKind) (c d : Cause)
     → HasFaultAfter z class played t c → HasFaultAfter z class played t d → c ≡ d
 one_cause_after z class played (Glyph byte) c d h g = one_print_cause z class played c d h g
 one_cause_after z class played Tab c d h g = one_tab_cause z class played c d h g
 one_cause_after z class played EraseLine c d h g = (fault_of_erasing_after z class played c h).0
     ∙ sym (fault_of_erasing_after z class played d g).0
-one_cause_after z class played LineFeed c d h g = one_line_feed_cause z class played c d
-    (fault_of_line_feed_after z class played c h)
-    (fault_of_line_feed_after z class played d g)
+one_cause_after z class played LineFeed c d h g = one_of_two Scrolls MayScroll c d
+    (not_always_and_sometimes_in_spare_row z class played)
+    (fault_of_line_feed_after z class played c h) (fault_of_line_feed_after z class played d g)
 one_cause_after z class played _ c d h g = absurd h
 
 static_or_after_not_both : (z : Size) (class : Start) (played : List TokenKind) (t : TokenKind) (c d : Cause)
@@ -164,16 +149,18 @@ one_cause z class played t c d (inr h) (inl g) = absurd (static_or_after_not_bot
 one_cause z class played t c d (inr h) (inr g) = one_cause_after z class played t c d h g
 
 -- ---- the one cleared start
-state_path : (s t : State) → s.screen ≡ t.screen → s.cursor ≡ t.cursor → s.saved ≡ t.saved → s.attribute ≡ t.attribute
-    → s.wrap ≡ t.wrap → s ≡ t
-state_path s t a b c d e = λ i. record { screen = a i; cursor = b i; saved = c i; attribute = d i; wrap = e i }
+-- it is the cleared state
+pub is_cleared : (z : Size) (s : State) → IsStart z all_known s → s ≡ cleared z
+is_cleared z s h = λ i. record {
+  screen = h.screen refl i;
+  cursor = h.cursor refl i;
+  saved = h.saved refl i;
+  attribute = h.attribute refl i;
+  wrap = h.wrap refl i;
+}
 
 pub cleared_is_one : (z : Size) (s t : State) → IsStart z all_known s → IsStart z all_known t → s ≡ t
-cleared_is_one z s t h g = is_cleared s h ∙ sym (is_cleared t g)
-  where
-    is_cleared : (r : State) → IsStart z all_known r → r ≡ cleared z
-    is_cleared r k = state_path r (cleared z) (k.screen refl) (k.cursor refl) (k.saved refl) (k.attribute refl)
-        (k.wrap refl)
+cleared_is_one z s t h g = is_cleared z s h ∙ sym (is_cleared z t g)
 
 cleared_start_has_one_position : (z : Size) (played : List TokenKind) → PositionsDiffer z all_known played → ⊥
 cleared_start_has_one_position z played h =

@@ -17,7 +17,7 @@ use Rattle.ans_model.specs.Sequence.Spelling.{Member, Raw, Spells, IsUnfinished}
 use Rattle.ans_model.specs.Sequence.Meaning.{is_marked, is_quoted, distance, move, place, colours, only_if, Entry}
 use Rattle.ans_model.specs.Sequence.Meaning.{table, is_one_of, look_up, has_a_meaning, meaning}
 use Rattle.ans_model.specs.Sequence.Reads.{kind_of_byte, SpellsToken, Reads}
-use Rattle.ans_model.specs.Verdict.FirstFault.{IsRefused}
+use Rattle.ans_model.specs.Verdict.FirstFault.{IsBroken, IsRefused}
 use Rattle.ans_model.proofs.Spelling.{head_of, tail_of, first_or, one_spelling_in_front}
 
 -- Nothing that is spelled goes on.
@@ -31,6 +31,10 @@ spelled_not_unfinished r a h o =
 -- a sequence begins with ESC
 pub sequence_first : (r : Raw) (a x : List ℕ) → Spells r a → first_or 0 (a ++ x) ≡ escape
 sequence_first r a x h = rw h.loose.whole
+
+-- where nothing is, nothing is unfinished
+pub nothing_not_unfinished : (text : List ℕ) → text ≡ [] → IsUnfinished text → ⊥
+nothing_not_unfinished text e o = let none : length text ≡ 0 = ap length e in omega (arith, o.begun, none)
 
 -- no byte but ESC begins a sequence
 pub byte_not_sequence : (b : ℕ) (a x y : List ℕ) (r : Raw) → b ≢ escape → Spells r a → b ∷ x ≡ a ++ y → ⊥
@@ -128,6 +132,30 @@ unfinished_texts (t ∷ ts) (x ∷ xs) h o = unfinished_no_token t x (concat xs)
 pub unfinished_not_read : (text : List ℕ) (ts : List TokenKind) → IsUnfinished text → Reads text ts → ⊥
 unfinished_not_read text ts o h = unfinished_texts ts h.0 h.1.each (rw h.1.whole at o)
 
+-- a broken text and what follows, by the byte that breaks it
+pub broken_whole : (text : List ℕ) (c : Cause) (x : List ℕ) (h : IsBroken text c) → text ++ x ≡ h.part ++ (h.byte ∷ x)
+broken_whole text c x h = ap (λ (v : List ℕ). v ++ x) h.whole ∙ append_assoc h.part (h.byte ∷ []) x
+
+-- what is spelled does not begin with what is broken, nor the other way round
+pub spelled_broken : (raw : Raw) (a text x y : List ℕ) (cause : Cause) → Spells raw a → IsBroken text cause
+    → text ++ x ≡ a ++ y → ⊥
+spelled_broken raw a text x y cause g h e =
+    let s : h.part ++ (h.byte ∷ x) ≡ a ++ y = sym (broken_whole text cause x h) ∙ e in
+    elim (one_begins_the_other h.part a (h.byte ∷ x) y s) [
+      | inl w ↦
+          let o : IsUnfinished h.part = h.unfinished in
+          let l = one_spelling_in_front raw o.raw a (h.part ++ o.rest) (w.0 ++ o.rest) [] g.loose o.spelled.loose
+          (sym (append_assoc a w.0 o.rest) ∙ ap (λ (v : List ℕ). v ++ o.rest) (sym w.1)
+          ∙ sym (append-nil (h.part ++ o.rest))) in
+          let none : length (w.0 ++ o.rest) ≡ 0 = ap length l.2 in
+          omega (arith, o.more, none, length-append w.0 o.rest)
+      | inr w ↦
+          let same : h.byte ≡ w.0 = head_of w.3 in
+          let longer : a ≡ text ++ w.1 = w.2 ∙ ap (λ (v : ℕ). h.part ++ v ∷ w.1) (sym same)
+          ∙ sym (append_assoc h.part (h.byte ∷ []) w.1) ∙ ap (λ (v : List ℕ). v ++ w.1) (sym h.whole) in
+          h.not_prefix (record { raw = raw; rest = w.1; spelled = rw longer at g })
+    ]
+
 -- no token begins what the reading refuses
 pub refused_no_token : (t : TokenKind) (text a x y : List ℕ) (cause : Cause) → IsRefused text cause → SpellsToken t a
     → text ++ x ≡ a ++ y → ⊥
@@ -138,28 +166,10 @@ refused_no_token t text a x y cause (inl h) (inr g) e =
     let apart : Err cause ≡ Ok t = sym h.means ∙ ap meaning s.0 ∙ g.means in
     cc
 refused_no_token t text a x y cause (inr h) (inl g) e =
-    let s : text ++ x ≡ h.part ++ (h.byte ∷ x) = ap (λ (v : List ℕ). v ++ x) h.whole
-    ∙ append_assoc h.part (h.byte ∷ []) x in
-    g.not_escape (ap (first_or 0) (ap (λ (v : List ℕ). v ++ y) (sym g.whole) ∙ sym e ∙ s)
+    g.not_escape
+    (ap (first_or 0) (ap (λ (v : List ℕ). v ++ y) (sym g.whole) ∙ sym e ∙ broken_whole text cause x h)
     ∙ unfinished_first h.part (h.byte ∷ x) h.unfinished)
-refused_no_token t text a x y cause (inr h) (inr g) e =
-    let s : h.part ++ (h.byte ∷ x) ≡ a ++ y =
-    sym (ap (λ (v : List ℕ). v ++ x) h.whole ∙ append_assoc h.part (h.byte ∷ []) x) ∙ e in
-    elim (one_begins_the_other h.part a (h.byte ∷ x) y s) [
-      | inl w ↦
-          let o : IsUnfinished h.part = h.unfinished in
-          let l = one_spelling_in_front g.raw o.raw a (h.part ++ o.rest)
-          (w.0 ++ o.rest) [] g.spelled.loose o.spelled.loose
-          (sym (append_assoc a w.0 o.rest) ∙ ap (λ (v : List ℕ). v ++ o.rest) (sym w.1)
-          ∙ sym (append-nil (h.part ++ o.rest))) in
-          let none : length (w.0 ++ o.rest) ≡ 0 = ap length l.2 in
-          omega (arith, o.more, none, length-append w.0 o.rest)
-      | inr w ↦
-          let same : h.byte ≡ w.0 = head_of w.3 in
-          let longer : a ≡ text ++ w.1 = w.2 ∙ ap (λ (v : ℕ). h.part ++ v ∷ w.1) (sym same)
-          ∙ sym (append_assoc h.part (h.byte ∷ []) w.1) ∙ ap (λ (v : List ℕ). v ++ w.1) (sym h.whole) in
-          h.not_prefix (record { raw = g.raw; rest = w.1; spelled = rw longer at g.spelled })
-    ]
+refused_no_token t text a x y cause (inr h) (inr g) e = spelled_broken g.raw a text x y cause g.spelled h e
 
 -- what is refused has a byte
 pub refused_nonempty : (text x : List ℕ) (cause : Cause) → IsRefused text cause → text ++ x ≡ [] → ⊥
@@ -168,7 +178,7 @@ refused_nonempty text x cause (inl h) e =
     omega arith
 refused_nonempty text x cause (inr h) e =
     let s : ◌≡◌ {A = ℕ} escape 0 = sym (unfinished_first h.part (h.byte ∷ x) h.unfinished)
-    ∙ ap (first_or 0) (sym (ap (λ (v : List ℕ). v ++ x) h.whole ∙ append_assoc h.part (h.byte ∷ []) x) ∙ e) in
+    ∙ ap (first_or 0) (sym (broken_whole text cause x h) ∙ e) in
     omega arith
 
 -- texts of tokens do not begin with what is refused
@@ -237,42 +247,26 @@ look_up_well (e ∷ es) letter h = here (is_one_of e.letters letter) h.0 (look_u
     here true m more = m
     here false m more = more
 
+-- one more
+also : {A B : Type 0} → A → B → A × B
+also a b = (a, b)
+
 -- each entry of the table is such
 table_well : (raw : Raw) → AllByRecursion (λ e. MeansWell e.means) (table raw)
-table_well raw = (
-  move_well Up raw.members (λ n. tt),
-  (
-    move_well Down raw.members (λ n. tt),
-    (
-      move_well Forward raw.members (λ n. tt),
-      (
-        move_well Backward raw.members (λ n. tt),
-        (
-          place_well raw.members,
-          (
-            only_if_well _ Clear tt,
-            (
-              only_if_well _ EraseLine tt,
-              (
-                only_if_well _ Save tt,
-                (
-                  only_if_well _ Restore tt,
-                  (
-                    colours_print raw.members,
-                    (
-                      by_test _ (Wrap true) Mode tt tt,
-                      (by_test _ (Wrap false) Mode tt tt, (tt, (only_if_well _ Ask tt, tt))),
-                    ),
-                  ),
-                ),
-              ),
-            ),
-          ),
-        ),
-      ),
-    ),
-  ),
-)
+table_well raw =
+    also (move_well Up raw.members (λ n. tt))
+    (also (move_well Down raw.members (λ n. tt))
+    (also (move_well Forward raw.members (λ n. tt))
+    (also (move_well Backward raw.members (λ n. tt))
+    (also (place_well raw.members)
+    (also (only_if_well _ Clear tt)
+    (also (only_if_well _ EraseLine tt)
+    (also (only_if_well _ Save tt)
+    (also (only_if_well _ Restore tt)
+    (also (colours_print raw.members)
+    (also (by_test _ (Wrap true) Mode tt tt)
+    (also (by_test _ (Wrap false) Mode tt tt)
+    (also tt (also (only_if_well _ Ask tt) tt)))))))))))))
 
 -- so is the meaning of each sequence
 pub means_well : (raw : Raw) → MeansWell (meaning raw)

@@ -1,44 +1,29 @@
 -- What the reading refuses after the same bytes has one cause.
-use Rattle.std.proofs.Common.{◌≡◌, inl, inr, ℕ, true, List, [], ◌∷◌, ◌++◌, length, ap, ap₂, sym, ◌∙◌, subst₂, arith}
-use Rattle.std.proofs.Common.{append_assoc, length-append, Err, Result}
+use Rattle.std.proofs.Common.{◌≡◌, inl, inr, ℕ, true, List, [], ◌∷◌, ◌++◌, ap, ap₂, sym, ◌∙◌, subst₂, arith}
+use Rattle.std.proofs.Common.{append_assoc, Err, Result}
 use Rattle.std.proofs.lemmas.List.{append_cancel_left, append-nil}
 use Rattle.std.proofs.lemmas.Bool.Decides.{nat_tests}
 use Rattle.std.specs.Char.{is_ascii_digit}
 use Rattle.ans_model.specs.Sequence.TokenKind.{TokenKind}
 use Rattle.ans_model.specs.Bytes.{semicolon}
 use Rattle.ans_model.specs.declared.fault.Cause.{Cause}
-use Rattle.ans_model.specs.Sequence.Spelling.{Raw, Spells, IsUnfinished}
+use Rattle.ans_model.specs.Sequence.Spelling.{IsUnfinished}
 use Rattle.ans_model.specs.Sequence.Meaning.{meaning}
 use Rattle.ans_model.specs.Verdict.FirstFault.{IsWhy, IsBroken, IsRefused}
 use Rattle.ans_model.proofs.Spelling.{head_of, one_spelling_in_front}
-use Rattle.ans_model.proofs.Reading.{one_begins_the_other}
-
--- what is spelled does not begin with what is broken, nor the other way round
-spelled_broken : (raw : Raw) (a text x y : List ℕ) (cause : Cause) → Spells raw a → IsBroken text cause
-    → text ++ x ≡ a ++ y → ⊥
-spelled_broken raw a text x y cause g h e =
-    let s : h.part ++ (h.byte ∷ x) ≡ a ++ y =
-    sym (ap (λ (v : List ℕ). v ++ x) h.whole ∙ append_assoc h.part (h.byte ∷ []) x) ∙ e in
-    elim (one_begins_the_other h.part a (h.byte ∷ x) y s) [
-      | inl w ↦
-          let o : IsUnfinished h.part = h.unfinished in
-          let l = one_spelling_in_front raw o.raw a (h.part ++ o.rest) (w.0 ++ o.rest) [] g.loose o.spelled.loose
-          (sym (append_assoc a w.0 o.rest) ∙ ap (λ (v : List ℕ). v ++ o.rest) (sym w.1)
-          ∙ sym (append-nil (h.part ++ o.rest))) in
-          let none : length (w.0 ++ o.rest) ≡ 0 = ap length l.2 in
-          omega (arith, o.more, none, length-append w.0 o.rest)
-      | inr w ↦
-          let same : h.byte ≡ w.0 = head_of w.3 in
-          let longer : a ≡ text ++ w.1 = w.2 ∙ ap (λ (v : ℕ). h.part ++ v ∷ w.1) (sym same)
-          ∙ sym (append_assoc h.part (h.byte ∷ []) w.1) ∙ ap (λ (v : List ℕ). v ++ w.1) (sym h.whole) in
-          h.not_prefix (record { raw = raw; rest = w.1; spelled = rw longer at g })
-    ]
+use Rattle.ans_model.proofs.Reading.{one_begins_the_other, broken_whole, spelled_broken, spelled_no_front}
 
 -- an unfinished part does not begin with what is broken
-pub unfinished_broken : (part text w : List ℕ) (cause : Cause) → IsUnfinished part → IsBroken text cause
+unfinished_broken : (part text w : List ℕ) (cause : Cause) → IsUnfinished part → IsBroken text cause
     → part ≡ text ++ w → ⊥
 unfinished_broken part text w cause o h e =
     h.not_prefix (record { raw = o.raw; rest = w ++ o.rest; spelled = rw (e, append_assoc) at o.spelled })
+
+-- an unfinished sequence begins with nothing that is refused
+pub unfinished_not_refused : (left text rest : List ℕ) (cause : Cause) → IsUnfinished left → IsRefused text cause
+    → left ≡ text ++ rest → ⊥
+unfinished_not_refused left text rest cause o (inl h) e = spelled_no_front h.raw text rest h.spelled (rw e at o)
+unfinished_not_refused left text rest cause o (inr h) e = unfinished_broken left text rest cause o h e
 
 no_semicolon : (b : ℕ) → is_ascii_digit b ≡ true → b ≡ semicolon → ⊥
 no_semicolon b d e = grind (arith, nat_tests)
@@ -54,10 +39,6 @@ same_why text b c d (inr (inl h)) (inr (inr g)) = absurd (no_semicolon b h.1 g.1
 same_why text b c d (inr (inr h)) (inl g) = absurd (g.0 h.0)
 same_why text b c d (inr (inr h)) (inr (inl g)) = absurd (no_semicolon b g.1 h.1)
 same_why text b c d (inr (inr h)) (inr (inr g)) = h.2 ∙ sym g.2
-
--- a broken text and what follows, by the byte that breaks it
-broken_whole : (text : List ℕ) (c : Cause) (x : List ℕ) (h : IsBroken text c) → text ++ x ≡ h.part ++ (h.byte ∷ x)
-broken_whole text c x h = ap (λ (v : List ℕ). v ++ x) h.whole ∙ append_assoc h.part (h.byte ∷ []) x
 
 -- the same part and the same byte
 same_break : (text other : List ℕ) (c d : Cause) (h : IsBroken text c) (g : IsBroken other d) → h.part ≡ g.part

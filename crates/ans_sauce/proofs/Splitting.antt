@@ -17,10 +17,10 @@ use Rattle.ans_model.specs.File.Record.{version_field, data_type, file_type, com
 use Rattle.ans_model.specs.File.Layout.{FileParts, file_parts, Laid, comment_block, content, after_content}
 use Rattle.ans_model.specs.File.Layout.{is_end_mark, is_clean_end}
 use Rattle.ans_model.specs.File.Refusals.{Refusal, first_refusal, fault_at, refused_if, block_size, has_block}
-use Rattle.ans_model.specs.File.Refusals.{has_record, refusals, record_fault, Accepts}
+use Rattle.ans_model.specs.File.Refusals.{refusals, record_fault, Accepts}
 use Rattle.ans_model.proofs.AcceptedFiles.{accepted, one_layout, le_true}
 use Rattle.memchr.specs.Find.{IsFirstByte}
-use Rattle.ans_sauce.specs.Split.{IsCut, record_refusals}
+use Rattle.ans_sauce.specs.Split.{EndsInRecord, IsCut, PassesRecord, record_refusals}
 
 same_bytes : (a b : List ℕ) → bytes_eq a b ≡ true → a ≡ b
 same_bytes a b h = (bytes_eq-Decides a b).0 h
@@ -177,19 +177,13 @@ refusals_split : (front r : List ℕ) → refusals front r ≡ record_refusals f
 unfolding end_refusal body_of
 refusals_split front r = refl
 
--- the file's record, and what stands before it
-pub record HasRecord (file front record_bytes : List ℕ) : Type 0 where
-  pub found : true ≡ has_record file
-  pub front_is : front ≡ take (length file - 128) file
-  pub record_is : record_bytes ≡ drop (length file - 128) file
-
 -- a file with a record gets the first of its refusals
-fault_of_refusals : (file front r : List ℕ) → HasRecord file front r
+fault_of_refusals : (file front r : List ℕ) → EndsInRecord file front r
     → record_fault file ≡ first_refusal (refusals front r)
-fault_of_refusals file front r h = rw (sym h.found, h.front_is, h.record_is) refl
+fault_of_refusals file front r h = rw (h.found, h.front_is, h.record_is) refl
 
 -- F2 to F7
-pub refused_by_record : (file front r : List ℕ) (f : Fault) → HasRecord file front r
+pub refused_by_record : (file front r : List ℕ) (f : Fault) → EndsInRecord file front r
     → first_refusal (record_refusals front r) ≡ Some f → record_fault file ≡ Some f
 refused_by_record file front r f h e =
     fault_of_refusals file front r h ∙ ap first_refusal (refusals_split front r)
@@ -216,75 +210,63 @@ body_is : (front body comment_bytes r : List ℕ) → IsCut (comment_count r) fr
 unfolding body_of
 body_is front body comment_bytes r h = cut_body (comment_count r == 0) (comment_count r) front body comment_bytes refl h
 
--- what follows the content of a file whose record is accepted
-pub record HasEnd (file front body comment_bytes record_bytes rest : List ℕ) : Type 0 where
-  pub record_there : HasRecord file front record_bytes
-  pub none : first_refusal (record_refusals front record_bytes) ≡ None
-  pub cut : IsCut (comment_count record_bytes) front body comment_bytes
-  pub rest_is : rest ≡ after_content body
+-- ---- a file whose record passes
+module _ (file front body comment_bytes r rest : List ℕ) (there : EndsInRecord file front r)
+    (passes : PassesRecord front r body comment_bytes) (rest_is : rest ≡ after_content body) where
+  -- the last refusal decides
+  last_refusal : record_fault file ≡ first_refusal (end_refusal body ∷ [])
+  last_refusal =
+      fault_of_refusals file front r there ∙ ap first_refusal (refusals_split front r)
+      ∙ first_of_rest (record_refusals front r) (end_refusal (body_of front r) ∷ []) passes.none
+      ∙ ap (λ (v : List ℕ). first_refusal (end_refusal v ∷ [])) (body_is front body comment_bytes r passes.cut)
 
--- where nothing in the record is refused, the last refusal decides
-last_refusal : (file front body comment_bytes r rest : List ℕ) → HasEnd file front body comment_bytes r rest
-    → record_fault file ≡ first_refusal (end_refusal body ∷ [])
-last_refusal file front body comment_bytes r rest h =
-    fault_of_refusals file front r h.record_there ∙ ap first_refusal (refusals_split front r)
-    ∙ first_of_rest (record_refusals front r) (end_refusal (body_of front r) ∷ []) h.none
-    ∙ ap (λ (v : List ℕ). first_refusal (end_refusal v ∷ [])) (body_is front body comment_bytes r h.cut)
+  -- F8
+  pub refused_at_end : (before_mark : List ℕ) (i : ℕ) → before_mark ≡ content body
+      → Some i ≡ position (λ b. not (is_end_mark b)) rest
+      → record_fault file ≡ Some (fault_at (length before_mark + i) BytesAfterEndMark)
+  unfolding end_refusal
+  refused_at_end before_mark i content_is place =
+      let e : FirstFails is_end_mark (after_content body) i = first_fails is_end_mark (after_content body) i
+      (ap (λ (v : List ℕ). position (λ b. not (is_end_mark b)) v) (sym rest_is) ∙ sym place) in
+      last_refusal ∙ rw (e.fails, e.place, content_is) refl
 
--- F8
-pub refused_at_end : (file front body comment_bytes r rest front_of_mark : List ℕ) (i : ℕ)
-    → HasEnd file front body comment_bytes r rest → front_of_mark ≡ content body
-    → Some i ≡ position (λ b. not (is_end_mark b)) rest
-    → record_fault file ≡ Some (fault_at (length front_of_mark + i) BytesAfterEndMark)
-unfolding end_refusal
-refused_at_end file front body comment_bytes r rest front_of_mark i h content_is place =
-    let e : FirstFails is_end_mark (after_content body) i = first_fails is_end_mark (after_content body) i
-    (ap (λ (v : List ℕ). position (λ b. not (is_end_mark b)) v) (sym h.rest_is) ∙ sym place) in
-    last_refusal file front body comment_bytes r rest h ∙ rw (e.fails, e.place, content_is) refl
+  -- a body with a clean end is not refused
+  no_refusal : is_clean_end body ≡ true → record_fault file ≡ None
+  unfolding end_refusal
+  no_refusal e = last_refusal ∙ rw e refl
 
--- a body with a clean end is not refused
-no_refusal : (file front body comment_bytes r rest : List ℕ) → HasEnd file front body comment_bytes r rest
-    → is_clean_end body ≡ true → record_fault file ≡ None
-unfolding end_refusal
-no_refusal file front body comment_bytes r rest h e = last_refusal file front body comment_bytes r rest h ∙ rw e refl
+  -- the file is laid out so
+  laid_out : Laid file (file_parts body comment_bytes r)
+  laid_out =
+      let found = and_parts (nat_le 128 (length file))
+      (bytes_eq (take 5 (drop (length file - 128) file)) (codes "SAUCE")) there.found in
+      let long : 128 ≤ length file = le_true 128 (length file) found.0 in
+      record {
+        size = ap length there.record_is ∙ simp length-drop (omega arith);
+        id = ap (λ (v : List ℕ). take 5 v) there.record_is ∙ same_bytes (take 5 (drop (length file - 128) file))
+            (codes "SAUCE") found.1;
+        comments = passes.cut.comments;
+        whole = sym (take-append-drop (length file - 128) file)
+            ∙ ap₂ (λ (v w : List ℕ). v ++ w) (sym there.front_is ∙ passes.cut.whole) (sym there.record_is)
+            ∙ append_assoc body (comment_block (comment_count r) comment_bytes) r;
+      }
 
--- the file is laid out so
-laid_out : (file front body comment_bytes r rest : List ℕ) → HasEnd file front body comment_bytes r rest
-    → Laid file (file_parts body comment_bytes r)
-laid_out file front body comment_bytes r rest h =
-    let found = and_parts (nat_le 128 (length file)) (bytes_eq (take 5 (drop (length file - 128) file)) (codes "SAUCE"))
-    (sym h.record_there.found) in
-    let long : 128 ≤ length file = le_true 128 (length file) found.0 in
-    let record_is = h.record_there.record_is in
-    record {
-      size = ap length record_is ∙ simp length-drop (omega arith);
-      id = ap (λ (v : List ℕ). take 5 v) record_is ∙ same_bytes (take 5 (drop (length file - 128) file))
-          (codes "SAUCE") found.1;
-      comments = h.cut.comments;
-      whole = sym (take-append-drop (length file - 128) file)
-          ∙ ap₂ (λ (v w : List ℕ). v ++ w) (sym h.record_there.front_is ∙ h.cut.whole) (sym record_is)
-          ∙ append_assoc body (comment_block (comment_count r) comment_bytes) r;
-    }
-
--- no refusal applies
-pub accepts : (file front body comment_bytes r rest : List ℕ) → HasEnd file front body comment_bytes r rest
-    → None ≡ position (λ b. not (is_end_mark b)) rest
-    → Accepts file (file_parts body comment_bytes r)
-accepts file front body comment_bytes r rest h end =
-    let clean : is_clean_end body ≡ true = none_fails is_end_mark (after_content body)
-    (ap (λ (v : List ℕ). position (λ b. not (is_end_mark b)) v) (sym h.rest_is) ∙ sym end) in
-    let laid = laid_out file front body comment_bytes r rest h in
-    let some = accepted file (no_refusal file front body comment_bytes r rest h clean) in
-    let other : Accepts file some.0 = some.1 in
-    let same = one_layout file some.0 (file_parts body comment_bytes r) other.laid laid in
-    let record_is : some.0.record_bytes ≡ r = ap (λ (v : FileParts). v.record_bytes) same in
-    record {
-      laid = laid;
-      version_00 = ap version_field (sym record_is) ∙ other.version_00;
-      character = ap data_type (sym record_is) ∙ other.character;
-      ansi = ap file_type (sym record_is) ∙ other.ansi;
-      lines_stated = rw record_is at other.lines_stated;
-      width_in_limit = rw record_is at other.width_in_limit;
-      lines_in_limit = rw record_is at other.lines_in_limit;
-      clean_end = clean;
-    }
+  -- no refusal applies
+  pub accepts : None ≡ position (λ b. not (is_end_mark b)) rest → Accepts file (file_parts body comment_bytes r)
+  accepts end =
+      let clean : is_clean_end body ≡ true = none_fails is_end_mark (after_content body)
+      (ap (λ (v : List ℕ). position (λ b. not (is_end_mark b)) v) (sym rest_is) ∙ sym end) in
+      let some = accepted file (no_refusal clean) in
+      let other : Accepts file some.0 = some.1 in
+      let same = one_layout file some.0 (file_parts body comment_bytes r) other.laid laid_out in
+      let record_is : some.0.record_bytes ≡ r = ap (λ (v : FileParts). v.record_bytes) same in
+      record {
+        laid = laid_out;
+        version_00 = ap version_field (sym record_is) ∙ other.version_00;
+        character = ap data_type (sym record_is) ∙ other.character;
+        ansi = ap file_type (sym record_is) ∙ other.ansi;
+        lines_stated = rw record_is at other.lines_stated;
+        width_in_limit = rw record_is at other.width_in_limit;
+        lines_in_limit = rw record_is at other.lines_in_limit;
+        clean_end = clean;
+      }

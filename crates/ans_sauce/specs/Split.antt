@@ -1,7 +1,8 @@
 -- Which parts belong to which file.
-use Rattle.std.specs.Prelude.{◌≡◌, ℕ, ◌*◌, List, ◌++◌, length, take}
+use Rattle.std.specs.Prelude.{◌≡◌, ℕ, ◌-◌, ◌*◌, IsTrue, List, ◌++◌, length, take, drop, None}
+use Rattle.ans_model.specs.File.Record.{comment_count}
 use Rattle.ans_model.specs.File.Layout.{FileParts, comment_block}
-use Rattle.ans_model.specs.File.Refusals.{Accepts, Refusal, refusals}
+use Rattle.ans_model.specs.File.Refusals.{Accepts, Refusal, refusals, has_record, first_refusal}
 use Rattle.ans_sauce.specs.declared.parts.Parts.{Parts}
 use Rattle.ans_sauce.specs.Parts.{ShowsParts}
 
@@ -11,6 +12,12 @@ pub record IsSplit (file : List ℕ) (parts : Parts) : Type 0 where
   pub accepts : Accepts file apart
   pub shows : ShowsParts apart parts
 
+-- the last 128 bytes of the file are a record, and the front stands before them
+pub record EndsInRecord (file front record_bytes : List ℕ) : Type 0 where
+  pub found : IsTrue (has_record file)
+  pub front_is : front ≡ take (length file - 128) file
+  pub record_is : record_bytes ≡ drop (length file - 128) file
+
 -- what stands before the record is the body and the block of this many comments
 pub record IsCut (count : ℕ) (front body comment_bytes : List ℕ) : Type 0 where
   pub comments : length comment_bytes ≡ 64 * count
@@ -19,3 +26,8 @@ pub record IsCut (count : ℕ) (front body comment_bytes : List ℕ) : Type 0 wh
 -- F2 to F7, the refusals of a file with a record but for the last
 abbrev pub record_refusals : List ℕ → List ℕ → List Refusal
 record_refusals front record_bytes = take 6 (refusals front record_bytes)
+
+-- none of these applies, and the front is the body and the block of the comments that the record counts
+pub record PassesRecord (front record_bytes body comment_bytes : List ℕ) : Type 0 where
+  pub none : first_refusal (record_refusals front record_bytes) ≡ None
+  pub cut : IsCut (comment_count record_bytes) front body comment_bytes

@@ -1,11 +1,10 @@
 //! How a file is laid out, and which files are refused.
-ghost use Rattle.std.specs.Prelude.{◌≡◌, ◌-◌, ◌≤◌, not, length, take, drop, is_some, IfOk, IfErr, IfSome, Some, None};
+ghost use Rattle.std.specs.Prelude.{◌≡◌, ◌≤◌, not, length, is_some, IsFalse, IfOk, IfErr, IfSome, IfNone, Some};
 ghost use Rattle.std.specs.List.{position};
 ghost use Rattle.ans_model.specs.File.Layout.{content, after_content, is_end_mark};
-ghost use Rattle.ans_model.specs.File.Record.{comment_count};
 ghost use Rattle.ans_model.specs.File.Refusals.{has_record, has_block, fault_at, first_refusal, record_fault};
 ghost use Rattle.ans_sauce.specs.RecordBytes.{bytes_of};
-ghost use Rattle.ans_sauce.specs.Split.{IsSplit, IsCut, record_refusals};
+ghost use Rattle.ans_sauce.specs.Split.{IsSplit, EndsInRecord, IsCut, PassesRecord, record_refusals};
 
 use crate::note_conditions::notes_on;
 use crate::parts::{COMMENT_SIZE, Parts};
@@ -24,10 +23,8 @@ fn fault(offset: usize, cause: Cause) -> Fault
 
 /// What stands before the record, and the record, where there is one.
 fn cut_record(file: &[u8]) -> Option<(&[u8], Record<'_>)>
-    ensures found { is_some result ≡ has_record file.now }
-    ensures front { IfSome result (λ cut. cut.0.now ≡ take (length file.now - 128) file.now) }
-    ensures sauce { IfSome result
-        (λ cut. bytes_of cut.1 ≡ drop (length file.now - 128) file.now) }
+    ensures cut { IfSome result (λ cut. EndsInRecord file.now cut.0.now (bytes_of cut.1)) }
+    ensures none { IfNone result (IsFalse (has_record file.now)) }
 {
     let (front, bytes) = file.split_at(file.len().checked_sub(RECORD_SIZE)?);
     if bytes.starts_with(b"SAUCE") {
@@ -55,9 +52,7 @@ fn cut_block(front: &[u8], count: u8) -> Option<(&[u8], &[u8])>
 /// refusals F2 to F7, in their order.
 fn cut_front<'a>(front: &'a [u8], sauce: &Record<'_>) -> Result<(&'a [u8], &'a [u8]), Fault>
     ensures ok { IfOk result
-        (λ cut. first_refusal (record_refusals front.now (bytes_of sauce.now)) ≡ None) }
-    ensures parts { IfOk result
-        (λ cut. IsCut (comment_count (bytes_of sauce.now)) front.now cut.0.now cut.1.now) }
+        (λ cut. PassesRecord front.now (bytes_of sauce.now) cut.0.now cut.1.now) }
     ensures err { IfErr result
         (λ fault. first_refusal (record_refusals front.now (bytes_of sauce.now)) ≡ Some fault) }
 {
@@ -83,14 +78,12 @@ fn cut_front<'a>(front: &'a [u8], sauce: &Record<'_>) -> Result<(&'a [u8], &'a [
     Ok((body, comments))
 }
 
-/// The index of the first end mark, if there is one.
 fn first_end_mark(body: &[u8]) -> Option<usize>
     ensures { result ≡ position is_end_mark body.now }
 {
     memchr(END_MARK, body)
 }
 
-/// What stands before the first end mark, and the rest.
 fn cut_content(body: &[u8]) -> (&[u8], &[u8])
     ensures content { result.0.now ≡ content body.now }
     ensures rest { result.1.now ≡ after_content body.now }
@@ -98,7 +91,6 @@ fn cut_content(body: &[u8]) -> (&[u8], &[u8])
     body.split_at(first_end_mark(body).unwrap_or(body.len()))
 }
 
-/// The index of the first byte that is not an end mark, if there is one.
 fn first_other_byte(rest: &[u8]) -> Option<usize>
     ensures { result ≡ position (λ b. not (is_end_mark b)) rest.now }
 {

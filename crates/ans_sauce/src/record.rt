@@ -9,7 +9,6 @@ use crate::padding::trimmed;
 use ans_model::limits::{MAX_LINES, MAX_WIDTH};
 use byteorder::{ByteOrder, LittleEndian};
 
-/// How many bytes a record has.
 pub(crate) const RECORD_SIZE: usize = 128;
 
 /// Where the fields that may be refused stand in a record.
@@ -104,7 +103,6 @@ impl<'a> Record<'a> {
         self.byte(105)
     }
 
-    /// The eight bytes of the date.
     pub(crate) fn date_bytes(&self) -> &'a [u8]
         ensures { result.now ≡ date_field (bytes_of self.now) }
     {
@@ -117,7 +115,6 @@ impl<'a> Record<'a> {
         self.field(VERSION, 2) == b"00".as_slice()
     }
 
-    /// Whether DataType is 1, Character, and FileType is 1, ANSi.
     pub(crate) fn is_character_ansi(&self) -> bool
         ensures { result ≡ (data_type (bytes_of self.now) == 1
             && file_type (bytes_of self.now) == 1) }
@@ -143,7 +140,6 @@ impl<'a> Record<'a> {
         self.tinfo(2) as usize > MAX_LINES
     }
 
-    /// The width: TInfo1, or 80 where that is 0.
     pub(crate) fn width(&self) -> usize
         ensures { result ≡ stated_width (bytes_of self.now) }
     {
@@ -153,7 +149,6 @@ impl<'a> Record<'a> {
         }
     }
 
-    /// The number of lines: TInfo2.
     pub(crate) fn lines(&self) -> usize
         ensures { result ≡ stated_lines (bytes_of self.now) }
     {

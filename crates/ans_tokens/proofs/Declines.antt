@@ -90,6 +90,21 @@ digits_of Omitted text q limit h = rw h (refl, omega arith)
 digits_of (Number n) text q limit h = (h.1, rw h.2 limit)
 digits_of (Quoted quote words) text q limit h = cc
 
+leaves : (done : ℕ) (m : Member) (later : List Member) (letter : ℕ) (rest bytes : List ℕ)
+    → Rest m later letter rest bytes → is_ascii_alphabetic letter ≡ true → list_any is_quoted (m ∷ later) ≡ false
+    → AllByRecursion IsInLimit (m ∷ later) → done + length (m ∷ later) ≤ most_parameters → LeavesMembers done bytes
+leaves done m later letter rest bytes h l q limit count = record {
+  member = m;
+  later = later;
+  letter = letter;
+  rest = rest;
+  rest_is = h;
+  is_letter = l;
+  no_string = q;
+  in_limit = limit;
+  count = count;
+}
+
 begins_member : (done : ℕ) (m : Member) (later : List Member) (letter : ℕ) (rest bytes : List ℕ)
     → Rest m later letter rest bytes → is_ascii_alphabetic letter ≡ true → list_any is_quoted (m ∷ later) ≡ false
     → AllByRecursion IsInLimit (m ∷ later) → done + length (m ∷ later) ≤ most_parameters → BeginsMember done bytes
@@ -109,17 +124,7 @@ begins_member done m [] letter rest bytes h l q limit count =
 begins_member done m (n ∷ ms) letter rest bytes h l q limit count =
     let plain = or_parts (is_quoted m) (list_any is_quoted (n ∷ ms)) q in
     let t = digits_of m h.0 plain.0 limit.0 h.2 in
-    let left : LeavesMembers (done + 1) h.1 = record {
-      member = n;
-      later = ms;
-      letter = letter;
-      rest = rest;
-      rest_is = h.3;
-      is_letter = l;
-      no_string = plain.1;
-      in_limit = limit.1;
-      count = omega (arith, count);
-    } in
+    let left = leaves (done + 1) n ms letter rest h.1 h.3 l plain.1 limit.1 (omega (arith, count)) in
     record {
       text = h.0;
       stop = semicolon;
@@ -212,28 +217,10 @@ none_when_full done bytes full h = omega (arith, full, h.count)
 leaves_tail : (ms : List Member) (letter : ℕ) (rest bytes : List ℕ) → Tail ms letter rest bytes
     → is_ascii_alphabetic letter ≡ true → list_any is_quoted ms ≡ false → AllByRecursion IsInLimit ms
     → length ms ≤ most_parameters → LeavesMembers 0 bytes
-leaves_tail [] letter rest bytes h l q limit count = record {
-  member = Omitted;
-  later = [];
-  letter = letter;
-  rest = rest;
-  rest_is = ([], refl, h);
-  is_letter = l;
-  no_string = refl;
-  in_limit = (tt, tt);
-  count = omega arith;
-}
-leaves_tail (m ∷ ms) letter rest bytes h l q limit count = record {
-  member = m;
-  later = ms;
-  letter = letter;
-  rest = rest;
-  rest_is = h.1;
-  is_letter = l;
-  no_string = q;
-  in_limit = limit;
-  count = omega (arith, count);
-}
+leaves_tail [] letter rest bytes h l q limit count =
+    leaves 0 Omitted [] letter rest bytes ([], refl, h) l refl (tt, tt) (omega arith)
+leaves_tail (m ∷ ms) letter rest bytes h l q limit count =
+    leaves 0 m ms letter rest bytes h.1 l q limit (omega (arith, count))
 
 -- the bytes before the first member
 begun_bytes : (mark : Mark) (bytes : List ℕ) (from : ℕ)

@@ -178,12 +178,6 @@ quote_is b (inr e) = rw e.1
 pub quote_not : (b : ℕ) → b ≢ 34 → b ≢ 39 → is_quote b ≡ false
 quote_not b m n = grind (arith, nat_tests)
 
-pub mark_not : (b : ℕ) → b ≢ 61 → b ≢ 63 → is_mark_byte b ≡ false
-mark_not b m n = grind (arith, nat_tests)
-
-pub stop_not : (b : ℕ) → b ≢ semicolon → is_ascii_alphabetic b ≡ false → is_stop b ≡ false
-stop_not b n h = grind (arith, nat_tests)
-
 pub fresh_not_after : (c : Current) (q : ℕ) (text : List ℕ) → c ≡ AfterString q text → c ≢ Fresh
 fresh_not_after c q text e f = cc
 

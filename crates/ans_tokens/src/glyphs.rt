@@ -6,7 +6,6 @@ ghost use Rattle.ans_tokens.specs.Glyphs.{IsGlyphByte, IsGlyphFront, is_low};
 
 use std::simd::prelude::*;
 
-/// Whether the byte alone is the token that prints it.
 fn is_glyph(byte: u8) -> bool
     ensures { IsTrue result ↔ IsGlyphByte byte }
 {

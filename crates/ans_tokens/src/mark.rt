@@ -6,7 +6,6 @@ ghost use Rattle.ans_model.specs.Sequence.Spelling.{is_mark_byte, mark_bytes};
 
 use ans_model::mark::Mark;
 
-/// Whether there is a mark.
 pub(crate) fn has_mark(mark: Mark) -> bool
     ensures { result ≡ is_marked mark }
 {
@@ -16,7 +15,6 @@ pub(crate) fn has_mark(mark: Mark) -> bool
     }
 }
 
-/// The mark that a byte is.
 pub(crate) fn mark_of_byte(byte: u8) -> Option<Mark>
     ensures { MatchOption result (is_mark_byte byte ≡ false)
         (λ mark. mark_bytes mark ≡ byte ∷ []) }

@@ -72,7 +72,6 @@ fn colours(mut numbers: ArrayVec<u8, MAX_PARAMETERS>) -> Kind
     Kind::Colours(numbers)
 }
 
-/// A kind where the parameters are those that it takes.
 fn only_if(taken: bool, kind: Kind) -> Result<Kind, Cause>
     ensures { Means result (only_if taken (shown_kind kind)) }
 {
@@ -99,7 +98,6 @@ fn plain_numbers(mark: Mark, numbers: &[u8], quoted: bool) -> Result<&[u8], Caus
     Ok(numbers)
 }
 
-/// What `h` and `l` mean: a marked 7 alone is wrap, and all else is a screen mode.
 fn wrap_or_mode(mark: Mark, numbers: &[u8], quoted: bool, on: bool) -> Result<Kind, Cause>
     ensures meant { IfOk result (λ kind. (quoted ≡ false)
         × (wrap_or_mode (plain_sequence mark numbers.now false 0) on ≡ shown_kind kind)) }

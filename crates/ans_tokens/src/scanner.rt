@@ -29,7 +29,6 @@ pub(crate) enum Open {
     Sequence(Unfinished),
 }
 
-/// The token that a byte outside sequences is.
 pub(crate) fn kind_of_byte(byte: u8) -> Kind
     ensures { shown_kind result ≡ kind_of_byte byte }
 {
@@ -46,7 +45,6 @@ pub(crate) fn kind_of_byte(byte: u8) -> Kind
 impl Open {
     ghost use Rattle.ans_tokens.specs.ScannerInside.{HoldsOpen, IsBegun};
 
-    /// Whether there are no bytes since the last token.
     fn is_nothing(&self) -> bool
         ensures { (open_part : List ℕ) → HoldsOpen self.now open_part
             → MatchBool result (open_part ≡ []) (IsUnfinished open_part) }

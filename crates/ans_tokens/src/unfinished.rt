@@ -34,7 +34,6 @@ impl Current {
     ghost use Rattle.ans_tokens.specs.ScannerView.{KeepsCurrent};
     ghost use Rattle.ans_tokens.specs.KeptMember.{kept_member};
 
-    /// Whether there is nothing of the member yet.
     fn is_fresh(self) -> bool
         ensures { (current : parts.Current) → KeepsCurrent (kept_member self) current
             → (IsTrue result ↔ (current ≡ parts.Fresh)) }
@@ -42,7 +41,6 @@ impl Current {
         matches!(self, Current::Fresh)
     }
 
-    /// Whether the member is a string.
     fn is_string(self) -> bool
         ensures { (current : parts.Current) → KeepsCurrent (kept_member self) current
             → result ≡ is_quoted (member_of current) }

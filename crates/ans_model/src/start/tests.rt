@@ -33,46 +33,29 @@ fn classes_cover_those_of_which_more_is_known(rt: HostRuntime) -> Result<(), Fai
     Ok(())
 }
 
+/// A class by what is known of each part, in their order.
+fn class(known: [bool; 5]) -> Start {
+    let [screen, cursor, saved, colours, wrap] = known;
+    Start {
+        screen,
+        cursor,
+        saved,
+        colours,
+        wrap,
+    }
+}
+
 /// A class of which one part is known covers those of which that part is known, and no others.
 #[test]
 fn each_part_is_compared_with_itself(rt: HostRuntime) -> Result<(), Fail> {
-    let any = Start::any();
-    let all = Start::cleared();
-    let screen = Start {
-        screen: true,
-        ..any
-    };
-    let other = Start {
-        screen: false,
-        ..all
-    };
-    assert!(rt; screen.covers(screen) && screen.covers(all) && !screen.covers(other));
-    let cursor = Start {
-        cursor: true,
-        ..any
-    };
-    let other = Start {
-        cursor: false,
-        ..all
-    };
-    assert!(rt; cursor.covers(cursor) && cursor.covers(all) && !cursor.covers(other));
-    let saved = Start { saved: true, ..any };
-    let other = Start {
-        saved: false,
-        ..all
-    };
-    assert!(rt; saved.covers(saved) && saved.covers(all) && !saved.covers(other));
-    let colours = Start {
-        colours: true,
-        ..any
-    };
-    let other = Start {
-        colours: false,
-        ..all
-    };
-    assert!(rt; colours.covers(colours) && colours.covers(all) && !colours.covers(other));
-    let wrap = Start { wrap: true, ..any };
-    let other = Start { wrap: false, ..all };
-    assert!(rt; wrap.covers(wrap) && wrap.covers(all) && !wrap.covers(other));
+    for i in 0..5 {
+        let mut alone = [false; 5];
+        alone[i] = true;
+        let mut others = [true; 5];
+        others[i] = false;
+        let alone = class(alone);
+        assert!(rt; alone.covers(alone) && alone.covers(Start::cleared()));
+        assert!(rt; !alone.covers(class(others)));
+    }
     Ok(())
 }

@@ -1,15 +1,23 @@
-use Rattle.ans_laws.proofs.MoveLemmas as move
+use Rattle.std.proofs.Common.{refl, arith}
+use Rattle.ans_model.specs.Sequence.TokenKind.{BackSpace, Up, Down, Forward, Backward, Place}
+use Rattle.ans_model.specs.Screen.Step.{step}
+use Rattle.ans_model.proofs.PositionLemmas.{same_position}
+use Rattle.ans_laws.proofs.MoveLemmas.{less_by, more_by, nearest}
 use Rattle.ans_laws.proofs.step_laws.moves_go_where_they_say.Goals as goal
 
 pub returns : goal.returns
 returns c = record {
-  up = move.up_goes_up;
-  down = move.down_goes_down;
-  forward = move.forward_goes_right;
-  backward = move.backward_goes_left;
-  back_space = move.back_space_goes_left;
-  carriage_return = move.return_goes_to_first_column;
-  restore = move.restore_goes_to_saved;
-  place = move.places_cursor;
-  place_edges = move.place_stops_at_edges;
+  up = λ z s n. (less_by n s.cursor.row (step z s (Up n)).cursor.row (omega arith), refl);
+  down = λ z s n. (more_by n z.lines s.cursor.row (step z s (Down n)).cursor.row (omega arith), refl);
+  forward = λ z s n last e.
+      (refl, more_by n last s.cursor.column (step z s (Forward n)).cursor.column (omega (arith, e)));
+  backward = λ z s n. (refl, less_by n s.cursor.column (step z s (Backward n)).cursor.column (omega arith));
+  back_space = λ z s. (refl, less_by 1 s.cursor.column (step z s BackSpace).cursor.column (omega arith));
+  carriage_return = λ z s. (refl, refl);
+  restore = λ z s. refl;
+  place = λ z s p on. same_position _ p (omega (arith, on.0)) (omega (arith, on.1));
+  place_edges = λ z s row column last e. (
+    nearest row z.lines (step z s (Place row column)).cursor.row (omega arith),
+    nearest column last (step z s (Place row column)).cursor.column (omega (arith, e)),
+  );
 }

@@ -1,11 +1,7 @@
-use Rattle.std.proofs.Common.{refl}
+use Rattle.std.proofs.Common.{rules}
 use Rattle.std.specs.Fmt.{digits}
 use Rattle.ans_laws.proofs.text_examples.record_texts.Goals as goal
 
-pub returns-clause-sample_record : goal.returns-clause-sample_record
+pub returns : goal.returns
 unfolding digits lib.Utf8.encode
-returns-clause-sample_record c = refl
-
-pub returns-clause-sample_accepted : goal.returns-clause-sample_accepted
-unfolding digits lib.Utf8.encode
-returns-clause-sample_accepted c = refl
+returns c = search rules
