@@ -21,7 +21,7 @@ use Rattle.ans_play.specs.HalfState.{HalfState, one_position, DescribesCell, Des
 use Rattle.ans_play.specs.HalfState.{Describes}
 use Rattle.ans_play.specs.HalfStep.{half_blank, after_move, after_last_column, after_print, wrap_of, half_step}
 use Rattle.ans_play.proofs.Allowed.{IsOnePosition, IsAllowed}
-use Rattle.ans_play.proofs.HullAttributes.{agrees_after_all}
+use Rattle.ans_play.proofs.MeetAttributes.{agrees_after_all}
 use Rattle.ans_play.proofs.Zips.{AllZip-replicate, AllZip-set, AllZip-filled}
 
 -- a described position of one end is that end
