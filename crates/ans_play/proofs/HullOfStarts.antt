@@ -20,7 +20,7 @@ use Rattle.ans_play.specs.Hull.{whole_cell, hull}
 use Rattle.ans_play.specs.Meet.{meet_bits, meet_cell, meet_screen, meet_span, meet_wrap}
 use Rattle.ans_play.proofs.MeetSteps.{same_half}
 use Rattle.ans_play.proofs.PairedScreens.{paired-replicate}
-use Rattle.ans_play.proofs.SpanLemmas.{same_span}
+use Rattle.ans_play.proofs.SpanLemmas.{same_span, position_within}
 use Rattle.ans_play.proofs.Zips.{AllZip-replicate}
 
 -- ---- the hull, part by part
@@ -43,7 +43,7 @@ span_hull : (z : Size) (known : Bool) →
     let high : Position = if known then at 0 0 else at z.lines (z.width - 1) in
     meet_span (span low low) (span high high)) ≡ start_span z known
 span_hull z true = refl
-span_hull z false = same_span _ _ _ _ _ _ _ _ (omega arith) (omega arith) (omega arith) (omega arith)
+span_hull z false = same_span (omega arith) (omega arith) (omega arith) (omega arith)
 
 attribute_hull : (known : Bool) →
     meet_bits (known_bits 0xFF (if known then 7 else 0)) (known_bits 0xFF (if known then 7 else 255))
@@ -58,7 +58,7 @@ wrap_hull false = refl
 
 pub half_start_is_hull : (z : Size) (class : Start) → half_start z class ≡ hull (low_start z class) (high_start z class)
 half_start_is_hull z class =
-    same_half _ _ _ _ _ _ _ _ _ _
+    same_half
     (sym (screen_hull (cell_count z) class.screen))
     (sym (span_hull z class.cursor))
     (sym (span_hull z class.saved))
@@ -81,18 +81,9 @@ screen_describes n false xs e h = uniform_describes _ xs n e (λ c. (tt, and_zer
 
 place_describes : (z : Size) (b : Bool) (p : Position) → IsOnScreen z p → (IsTrue b → p ≡ at 0 0) →
     DescribesPosition (start_span z b) p
-place_describes z true p on h = rw (h refl) (record {
-  low_row = omega arith;
-  high_row = omega arith;
-  low_column = omega arith;
-  high_column = omega arith;
-})
-place_describes z false p on h = record {
-  low_row = omega arith;
-  high_row = on.0;
-  low_column = omega arith;
-  high_column = omega (arith, on.1);
-}
+place_describes z true p on h =
+    rw (h refl) (position_within (omega arith) (omega arith) (omega arith) (omega arith))
+place_describes z false p on h = position_within (omega arith) on.0 (omega arith) (omega (arith, on.1))
 
 attribute_describes : (b : Bool) (a : ℕ) → (IsTrue b → a ≡ 7) → Agrees (start_attribute b) a
 attribute_describes true a h = rw (h refl) refl

@@ -18,6 +18,7 @@ use Rattle.ans_play.specs.Meet.{meet}
 use Rattle.ans_play.proofs.Allowed.{IsAllowed}
 use Rattle.ans_play.proofs.Describing.{next_position, advance_is}
 use Rattle.ans_play.proofs.MeetAttributes.{whole_after_all}
+use Rattle.ans_play.proofs.SpanLemmas.{position_within, span_on_screen}
 use Rattle.ans_play.proofs.MeetSteps.{FitsHalf, meet_step, same_half}
 
 -- ---- a state of which all is known
@@ -45,19 +46,19 @@ whole_next z w p = elim (cases_lt (p.column + 1) z.width) [
 -- all is known after a token too
 pub whole_step : (z : Size) (s : State) (t : TokenKind) → IsAllowed z (whole s) t →
     whole (step z s t) ≡ half_step z (whole s) t
-whole_step z s Clear k = same_half _ _ _ _ _ _ _ _ _ _
+whole_step z s Clear k = same_half
     (map-replicate whole_cell (cell_count z) (blank_cell s.attribute)) refl refl refl refl
-whole_step z s EraseLine k = same_half _ _ _ _ _ _ _ _ _ _
+whole_step z s EraseLine k = same_half
     (map-filled whole_cell s.screen (index z s.cursor) (next_row_start z s.cursor) (blank_cell s.attribute))
     refl refl refl refl
 whole_step z s Save k = refl
 whole_step z s Restore k = refl
-whole_step z s (Colours ps) k = same_half _ _ _ _ _ _ _ _ _ _ refl refl refl (whole_after_all s.attribute ps) refl
+whole_step z s (Colours ps) k = same_half refl refl refl (whole_after_all s.attribute ps) refl
 whole_step z s (Wrap on) k = refl
 whole_step z s LineFeed k = rw (line_feed_is z s k) refl
 whole_step z s (Glyph byte) k =
     rw (advance_is z (printed z s byte) k.1)
-    (same_half _ _ _ _ _ _ _ _ _ _
+    (same_half
     (map-set whole_cell s.screen (index z s.cursor) (cell byte s.attribute))
     (whole_next z s.wrap s.cursor) refl refl refl)
 whole_step z s Tab k = absurd k
@@ -67,7 +68,7 @@ whole_step z s t k = refl
 pub whole_fits : (z : Size) (s : State) → IsWellFormed z s → FitsHalf z (whole s)
 whole_fits z s w = record {
   cells = length-map s.screen whole_cell ∙ w.fits.cells;
-  cursor = record { rows = omega arith; columns = omega arith; on_screen = w.fits.cursor };
+  cursor = span_on_screen (omega arith) (omega arith) w.fits.cursor;
   bytes = record { known = lit< tt; value = w.attribute };
 }
 
@@ -84,18 +85,10 @@ allowed_within z h s _ d k = tt
 pub hull_step : (z : Size) (a b : State) (t : TokenKind) → IsWellFormed z a → IsWellFormed z b →
     IsAllowed z (hull a b) t → hull (step z a t) (step z b t) ≡ half_step z (hull a b) t
 hull_step z a b t p q k =
-    let in_a : IsAllowed z (whole a) t = allowed_within z (hull a b) a t (record {
-      low_row = omega arith;
-      high_row = omega arith;
-      low_column = omega arith;
-      high_column = omega arith;
-    }) k in
-    let in_b : IsAllowed z (whole b) t = allowed_within z (hull a b) b t (record {
-      low_row = omega arith;
-      high_row = omega arith;
-      low_column = omega arith;
-      high_column = omega arith;
-    }) k in
+    let in_a : IsAllowed z (whole a) t = allowed_within z (hull a b) a t
+    (position_within (omega arith) (omega arith) (omega arith) (omega arith)) k in
+    let in_b : IsAllowed z (whole b) t = allowed_within z (hull a b) b t
+    (position_within (omega arith) (omega arith) (omega arith) (omega arith)) k in
     ap (λ (g : HalfState). meet g (whole (step z b t))) (whole_step z a t in_a)
     ∙ ap (λ (h : HalfState). meet (half_step z (whole a) t) h) (whole_step z b t in_b)
     ∙ meet_step z (whole a) (whole b) (whole_fits z a p) (whole_fits z b q) t k

@@ -46,9 +46,9 @@ meet_start_cell false false = refl
 
 meet_start_span : (z : Size) (a b : Bool) → meet_span (start_span z a) (start_span z b) ≡ start_span z (a && b)
 meet_start_span z true true = refl
-meet_start_span z true false = same_span _ _ _ _ _ _ _ _ (omega arith) (omega arith) (omega arith) (omega arith)
-meet_start_span z false true = same_span _ _ _ _ _ _ _ _ (omega arith) (omega arith) (omega arith) (omega arith)
-meet_start_span z false false = same_span _ _ _ _ _ _ _ _ (omega arith) (omega arith) (omega arith) (omega arith)
+meet_start_span z true false = same_span (omega arith) (omega arith) (omega arith) (omega arith)
+meet_start_span z false true = same_span (omega arith) (omega arith) (omega arith) (omega arith)
+meet_start_span z false false = same_span (omega arith) (omega arith) (omega arith) (omega arith)
 
 meet_start_attribute : (a b : Bool) → meet_bits (start_attribute a) (start_attribute b) ≡ start_attribute (a && b)
 meet_start_attribute true true = refl
@@ -64,7 +64,7 @@ meet_start_wrap false false = refl
 
 meet_half_start : (z : Size) (a b : Start) → meet (half_start z a) (half_start z b) ≡ half_start z (both_known a b)
 meet_half_start z a b =
-    same_half _ _ _ _ _ _ _ _ _ _
+    same_half
     (paired-replicate meet_cell (cell_count z) (start_cell a.screen) (start_cell b.screen)
     ∙ ap (λ (c : HalfCell). replicate (cell_count z) c) (meet_start_cell a.screen b.screen))
     (meet_start_span z a.cursor b.cursor)

@@ -28,54 +28,46 @@ use Rattle.ans_play.proofs.SpanLemmas.{same_span}
 
 -- ---- the parts
 -- half-known states of equal parts are equal
-pub same_half : (x y : List HalfCell) (c d s t : Span) (a b : KnownBits) (v w : WrapMode) → x ≡ y → c ≡ d → s ≡ t →
+pub same_half : {x y : List HalfCell} {c d s t : Span} {a b : KnownBits} {v w : WrapMode} → x ≡ y → c ≡ d → s ≡ t →
     a ≡ b → v ≡ w → half_state x c s a v ≡ half_state y d t b w
-same_half x y c d s t a b v w p q r u e = cc
+same_half p q r u e = cc
 
 -- moved positions of both are the positions of both, moved
 meet_after_move : (z : Size) (t : TokenKind) (p q : Span) →
     meet_span (after_move z t p) (after_move z t q) ≡ after_move z t (meet_span p q)
-meet_after_move z (Up n) p q = same_span _ _ _ _ _ _ _ _ (omega arith) refl (omega arith) refl
-meet_after_move z (Down n) p q = same_span _ _ _ _ _ _ _ _ (omega arith) refl (omega arith) refl
-meet_after_move z (Forward n) p q = same_span _ _ _ _ _ _ _ _ refl (omega arith) refl (omega arith)
-meet_after_move z (Backward n) p q = same_span _ _ _ _ _ _ _ _ refl (omega arith) refl (omega arith)
-meet_after_move z (Place row column) p q =
-    same_span _ _ _ _ _ _ _ _ (omega arith) (omega arith) (omega arith) (omega arith)
-meet_after_move z BackSpace p q = same_span _ _ _ _ _ _ _ _ refl (omega arith) refl (omega arith)
-meet_after_move z CarriageReturn p q = same_span _ _ _ _ _ _ _ _ refl (omega arith) refl (omega arith)
+meet_after_move z (Up n) p q = same_span (omega arith) refl (omega arith) refl
+meet_after_move z (Down n) p q = same_span (omega arith) refl (omega arith) refl
+meet_after_move z (Forward n) p q = same_span refl (omega arith) refl (omega arith)
+meet_after_move z (Backward n) p q = same_span refl (omega arith) refl (omega arith)
+meet_after_move z (Place row column) p q = same_span (omega arith) (omega arith) (omega arith) (omega arith)
+meet_after_move z BackSpace p q = same_span refl (omega arith) refl (omega arith)
+meet_after_move z CarriageReturn p q = same_span refl (omega arith) refl (omega arith)
 meet_after_move z _ p q = refl
 
 -- one position in both is the position of both
 meet_itself : (p : Position) →
     meet_span (one_position p.row p.column) (one_position p.row p.column) ≡ one_position p.row p.column
-meet_itself p = same_span _ _ _ _ _ _ _ _ (omega arith) (omega arith) (omega arith) (omega arith)
+meet_itself p = same_span (omega arith) (omega arith) (omega arith) (omega arith)
 
 -- after a byte in the last column
-meet_after_last_column : (z : Size) (v w : WrapMode) (p : Position) → p.column < z.width → z.width ≤ p.column + 1 →
+meet_wrapped : (z : Size) (v w : WrapMode) (p : Position) → p.column < z.width → z.width ≤ p.column + 1 →
     meet_span (after_last_column z v p) (after_last_column z w p) ≡ after_last_column z (meet_wrap v w) p
-meet_after_last_column z On On p on last = meet_itself (at (p.row + 1) 0)
-meet_after_last_column z Off Off p on last = meet_itself p
-meet_after_last_column z On Off p on last =
-    same_span _ _ _ _ _ _ _ _ (omega arith) (omega arith) (omega arith) (omega arith)
-meet_after_last_column z On Unknown p on last =
-    same_span _ _ _ _ _ _ _ _ (omega arith) (omega arith) (omega arith) (omega arith)
-meet_after_last_column z Off On p on last =
-    same_span _ _ _ _ _ _ _ _ (omega arith) (omega arith) (omega arith) (omega arith)
-meet_after_last_column z Off Unknown p on last =
-    same_span _ _ _ _ _ _ _ _ (omega arith) (omega arith) (omega arith) (omega arith)
-meet_after_last_column z Unknown On p on last =
-    same_span _ _ _ _ _ _ _ _ (omega arith) (omega arith) (omega arith) (omega arith)
-meet_after_last_column z Unknown Off p on last =
-    same_span _ _ _ _ _ _ _ _ (omega arith) (omega arith) (omega arith) (omega arith)
-meet_after_last_column z Unknown Unknown p on last =
-    same_span _ _ _ _ _ _ _ _ (omega arith) (omega arith) (omega arith) (omega arith)
+meet_wrapped z On On p on last = meet_itself (at (p.row + 1) 0)
+meet_wrapped z Off Off p on last = meet_itself p
+meet_wrapped z On Off p on last = same_span (omega arith) (omega arith) (omega arith) (omega arith)
+meet_wrapped z On Unknown p on last = same_span (omega arith) (omega arith) (omega arith) (omega arith)
+meet_wrapped z Off On p on last = same_span (omega arith) (omega arith) (omega arith) (omega arith)
+meet_wrapped z Off Unknown p on last = same_span (omega arith) (omega arith) (omega arith) (omega arith)
+meet_wrapped z Unknown On p on last = same_span (omega arith) (omega arith) (omega arith) (omega arith)
+meet_wrapped z Unknown Off p on last = same_span (omega arith) (omega arith) (omega arith) (omega arith)
+meet_wrapped z Unknown Unknown p on last = same_span (omega arith) (omega arith) (omega arith) (omega arith)
 
 -- after any byte
 meet_after_print : (z : Size) (v w : WrapMode) (p : Position) → p.column < z.width →
     meet_span (after_print z v p) (after_print z w p) ≡ after_print z (meet_wrap v w) p
 meet_after_print z v w p on = elim (cases_lt (p.column + 1) z.width) [
   | inl more ↦ rw (lt-ltb (p.column + 1) z.width more) (meet_itself (at p.row (p.column + 1)))
-  | inr last ↦ rw (le-ltb (p.column + 1) z.width last) (meet_after_last_column z v w p on last)
+  | inr last ↦ rw (le-ltb (p.column + 1) z.width last) (meet_wrapped z v w p on last)
 ]
 
 meet_wrap_itself : (b : Bool) → meet_wrap (wrap_of b) (wrap_of b) ≡ wrap_of b
@@ -126,7 +118,7 @@ module _ (z : Size) (g h : HalfState) (fits_g : FitsHalf z g) (fits_h : FitsHalf
   meet_put : (byte : ℕ) → IsOnePosition (meet g h).cursor →
       meet (half_step z g (Glyph byte)) (half_step z h (Glyph byte)) ≡ half_step z (meet g h) (Glyph byte)
   meet_put byte one =
-      same_half _ _ _ _ _ _ _ _ _ _
+      same_half
       (rw (same_place one, min_itself g.cursor.low.row, min_itself g.cursor.low.column)
       (paired-set meet_cell g.screen h.screen (index z g.cursor.low) (printed_cell g.attribute byte)
       (printed_cell h.attribute byte)
@@ -140,7 +132,7 @@ module _ (z : Size) (g h : HalfState) (fits_g : FitsHalf z g) (fits_h : FitsHalf
   meet_erase : IsOnePosition (meet g h).cursor →
       meet (half_step z g EraseLine) (half_step z h EraseLine) ≡ half_step z (meet g h) EraseLine
   meet_erase one =
-      same_half _ _ _ _ _ _ _ _ _ _
+      same_half
       (rw (same_place one, min_itself g.cursor.low.row, min_itself g.cursor.low.column)
       (paired-filled meet_cell g.screen h.screen (index z g.cursor.low) (next_row_start z g.cursor.low)
       (half_blank g.attribute) (half_blank h.attribute) (fits_g.cells ∙ sym fits_h.cells)
@@ -152,23 +144,23 @@ module _ (z : Size) (g h : HalfState) (fits_g : FitsHalf z g) (fits_h : FitsHalf
   meet_move : (t : TokenKind) →
       meet (record g { cursor = after_move z t g.cursor }) (record h { cursor = after_move z t h.cursor })
       ≡ record (meet g h) { cursor = after_move z t (meet g h).cursor }
-  meet_move t = same_half _ _ _ _ _ _ _ _ _ _ refl (meet_after_move z t g.cursor h.cursor) refl refl refl
+  meet_move t = same_half refl (meet_after_move z t g.cursor h.cursor) refl refl refl
 
   -- a token that is played as one step
   pub meet_step : (t : TokenKind) → IsAllowed z (meet g h) t →
       meet (half_step z g t) (half_step z h t) ≡ half_step z (meet g h) t
-  meet_step Clear k = same_half _ _ _ _ _ _ _ _ _ _
+  meet_step Clear k = same_half
       (paired-replicate meet_cell (cell_count z) (half_blank g.attribute) (half_blank h.attribute)
       ∙ ap (λ (x : HalfCell). replicate (cell_count z) x) (meet_printed g.attribute h.attribute blank))
       refl refl refl refl
   meet_step EraseLine k = meet_erase k
   meet_step Save k = refl
   meet_step Restore k = refl
-  meet_step (Colours ps) k = same_half _ _ _ _ _ _ _ _ _ _ refl refl refl
+  meet_step (Colours ps) k = same_half refl refl refl
       (meet_after_all g.attribute h.attribute ps fits_g.bytes fits_h.bytes) refl
-  meet_step (Wrap on) k = same_half _ _ _ _ _ _ _ _ _ _ refl refl refl refl (meet_wrap_itself on)
-  meet_step LineFeed k = same_half _ _ _ _ _ _ _ _ _ _ refl
-      (same_span _ _ _ _ _ _ _ _ (omega arith) refl (omega arith) refl) refl refl refl
+  meet_step (Wrap on) k = same_half refl refl refl refl (meet_wrap_itself on)
+  meet_step LineFeed k = same_half refl
+      (same_span (omega arith) refl (omega arith) refl) refl refl refl
   meet_step (Glyph byte) k = meet_put byte k.0
   meet_step Tab k = absurd k
   meet_step t k = meet_move t

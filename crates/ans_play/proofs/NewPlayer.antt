@@ -42,7 +42,7 @@ pub played_at_start : (z : Size) (class : Start) (cells : List HalfCell) (cell :
     IsPlayed z class [] new_scanner (half_state cells cursor saved attribute wrap)
 played_at_start z class cells cell cursor saved attribute wrap size a b c d f e =
     subst (λ (h : HalfState). IsPlayed z class [] new_scanner h)
-    (sym (same_half _ _ _ _ _ _ _ _ _ _
+    (sym (same_half
     (in_rows z cells cell e ∙ ap (λ (x : HalfCell). replicate (cell_count z) x) a) b c d f))
     (played_none z class size)
 
