@@ -1,13 +1,13 @@
 -- A run of blanks from one position of the stated lines: one filling is what they print one by one.
 use Rattle.std.proofs.Common.{◌≡◌, ℕ, zero, suc, ◌+◌, ◌-◌, ◌*◌, ◌/◌, ◌%◌, ◌<◌, ◌≤◌, min, refl, sym, ap, ◌∙◌, arith}
-use Rattle.std.proofs.Common.{inl, inr, List, length, set, Some, None}
+use Rattle.std.proofs.Common.{inl, inr, List, length, set, All, Some, None, lit<}
 use Rattle.std.proofs.Common.{Bool, true, false, add-mul, one-mul}
 use Rattle.std.specs.Prelude.{nat_lt, if◌then◌else◌, ◌≢◌}
 use Rattle.std.proofs.lemmas.Bool.{cases_lt, lt-ltb, le-ltb, eq-eqb, ne_eqb, ltb-true, ltb-false}
 use Rattle.std.proofs.lemmas.List.{length-set}
 use Rattle.std.proofs.Math.Seq.{set-set}
 use Rattle.std.proofs.lemmas.Nat.{div-mul-add, mod-mul-add, mul-le}
-use Rattle.ans_model.specs.Bytes.{blank}
+use Rattle.ans_model.specs.Bytes.{IsByte, blank}
 use Rattle.ans_model.specs.Screen.State.{Size, at, index, cell_count}
 use Rattle.ans_model.specs.Screen.Step.{filled, next_row_start, tab_blanks}
 use Rattle.ans_model.specs.Sequence.TokenKind.{Tab}
@@ -24,8 +24,9 @@ use Rattle.ans_play.specs.HalfState.{HalfState, half_state, span, one_position, 
 use Rattle.ans_play.specs.HalfStep.{half_blank, half_put, half_blanks, half_step, after_print, after_last_column}
 use Rattle.ans_play.specs.HalfFault.{half_print_fault, half_blanks_fault, half_fault, is_one_position}
 use Rattle.ans_play.specs.HalfBlanks.{fault_of_blanks, end_of_blanks, after_blanks}
+use Rattle.ans_play.specs.PlayView.{IsByteHalfCell}
 use Rattle.ans_play.proofs.Positions.{one_position_if}
-use Rattle.ans_model.proofs.FilledLemmas.{filled_none, filled_from_set}
+use Rattle.ans_model.proofs.FilledLemmas.{All-filled, filled_none, filled_from_set}
 use Rattle.ans_screen.proofs.Places.{filled_one}
 
 -- ---- cells
@@ -35,6 +36,13 @@ filled_from : {A : Type 0} (xs : List A) (i end : ℕ) (c : A) → i < length xs
 filled_from xs i end c lt le =
     let next : suc i ≡ i + 1 = omega arith in
     rw next at (filled_from_set xs i end c lt (omega arith))
+
+-- what is known of filled cells are bytes
+pub filled_bytes : (old : List HalfCell) {new : List HalfCell} (i end : ℕ) {attribute : KnownBits} {c : HalfCell} →
+    new ≡ filled old i end c → c ≡ half_blank attribute → IsByte attribute.value → All IsByteHalfCell old →
+    All IsByteHalfCell new
+filled_bytes old i end {c = c} is e byte bytes =
+    rw is (All-filled IsByteHalfCell old i end c (rw e (lit< tt, byte)) bytes)
 
 -- ---- one blank
 -- a state with the cursor at one position
@@ -54,9 +62,9 @@ module _ (z : Size) (saved : Span) (attribute : KnownBits) where
       rw (eq-eqb row row refl, eq-eqb column column refl, eq-eqb row z.lines bottom) refl
 
   -- where the first blank has no fault, the fault is that of the others
-  others : (h : HalfState) (n : ℕ) → half_print_fault z h ≡ None →
-      half_blanks_fault z h (suc n) ≡ half_blanks_fault z (half_put z h blank) n
-  others h n none = rw none refl
+  others : (h : HalfState) {next : HalfState} (n : ℕ) → half_print_fault z h ≡ None → half_put z h blank ≡ next →
+      half_blanks_fault z h (suc n) ≡ half_blanks_fault z next n
+  others h n none put = rw none (ap (λ (k : HalfState). half_blanks_fault z k n) put)
 
   -- where it has one, it is the fault
   first : (h : HalfState) (n : ℕ) (c : Cause) → half_print_fault z h ≡ Some c →
@@ -101,8 +109,7 @@ module _ (z : Size) (saved : Span) (attribute : KnownBits) where
   one_more screen row column next_row next_column n end wrap cursor above within next le put f =
       let i : ℕ = index z (at row column) in
       let b : HalfCell = half_blank attribute in (
-        others (here screen row column saved attribute wrap) n (none_shown screen row column wrap above)
-            ∙ ap (λ (h : HalfState). half_blanks_fault z h n) put ∙ f.0,
+        others _ n (none_shown screen row column wrap above) put ∙ f.0,
         ap (λ (h : HalfState). half_blanks z h n) put ∙ f.1
             ∙ ap (λ (cells : List HalfCell). half_state cells cursor saved attribute wrap)
             (ap (λ (j : ℕ). filled (set screen i b) j end b) next ∙ filled_from screen i end b within le),
@@ -187,13 +194,12 @@ module _ (z : Size) (saved : Span) (attribute : KnownBits) where
       absurd (let lt = stated_index row column above within in let no : ⊥ = omega (arith, lt) in no)
   fault_on (suc n) screen row column above within over =
       let i : ℕ = index z (at row column) in
-      others (here screen row column saved attribute On) n (none_shown screen row column On above)
-      ∙ elim (cases_lt (column + 1) z.width) [
-        | inl more ↦ ap (λ (h : HalfState). half_blanks_fault z h n) (put_on screen row column On more)
+      elim (cases_lt (column + 1) z.width) [
+        | inl more ↦ others _ n (none_shown screen row column On above) (put_on screen row column On more)
             ∙ fault_on n (set screen i (half_blank attribute)) row (column + 1) above more (omega arith)
         | inr last ↦
             let next : index z (at (row + 1) 0) ≡ i + 1 = next_row row column (omega arith) in
-            ap (λ (h : HalfState). half_blanks_fault z h n) (put_last screen row column On last)
+            others _ n (none_shown screen row column On above) (put_last screen row column On last)
             ∙ elim (cases_lt (row + 1) z.lines) [
               | inl stated ↦ fault_on n (set screen i (half_blank attribute)) (row + 1) 0 stated (omega arith)
                   (omega (arith, next, over))
@@ -228,8 +234,7 @@ module _ (z : Size) (saved : Span) (attribute : KnownBits) where
       ∙ ap (λ (xs : List HalfCell). here xs row column saved attribute Off)
       (set-set screen i (half_blank attribute) (half_blank attribute)) in
       let later = stays n screen row column above last in (
-        others (here cells row column saved attribute Off) n (none_shown cells row column Off above)
-            ∙ ap (λ (h : HalfState). half_blanks_fault z h n) put ∙ later.0,
+        others _ n (none_shown cells row column Off above) put ∙ later.0,
         ap (λ (h : HalfState). half_blanks z h n) put ∙ later.1,
       )
 
@@ -258,8 +263,7 @@ module _ (z : Size) (saved : Span) (attribute : KnownBits) where
             let later = stays n screen row column above last in
             same_filled screen row column (suc n) (i + 1) _ Off (one_position row column) _
             (omega (arith, row_end)) (ap (λ (c : ℕ). one_position row c) (omega arith)) (
-              others (here screen row column saved attribute Off) n (none_shown screen row column Off above)
-                  ∙ ap (λ (h : HalfState). half_blanks_fault z h n) (put_last screen row column Off last) ∙ later.0,
+              others _ n (none_shown screen row column Off above) (put_last screen row column Off last) ∙ later.0,
               ap (λ (h : HalfState). half_blanks z h n) (put_last screen row column Off last) ∙ later.1
                   ∙ ap (λ (xs : List HalfCell). here xs row column saved attribute Off)
                   (sym (filled_one screen i (half_blank attribute) there)),
@@ -275,7 +279,7 @@ module _ (z : Size) (saved : Span) (attribute : KnownBits) where
       let i : ℕ = index z (at row column) in
       let there : i < length screen = cell_there screen row column above (omega arith) cells in
       let same : column ≡ column + 0 = omega arith in (
-        others (here screen row column saved attribute Unknown) 0 (none_shown screen row column Unknown above),
+        others (here screen row column saved attribute Unknown) 0 (none_shown screen row column Unknown above) refl,
         rw (← same) (ap (λ (xs : List HalfCell).
             half_state xs (after_print z Unknown (at row column)) saved attribute Unknown)
             (sym (filled_one screen i (half_blank attribute) there))),
@@ -297,11 +301,10 @@ module _ (z : Size) (saved : Span) (attribute : KnownBits) where
   fault_unknown zero screen row column above within over = absurd (let no : ⊥ = omega arith in no)
   fault_unknown (suc n) screen row column above within over =
       let i : ℕ = index z (at row column) in
-      others (here screen row column saved attribute Unknown) n (none_shown screen row column Unknown above)
-      ∙ elim (cases_lt (column + 1) z.width) [
-        | inl more ↦ ap (λ (h : HalfState). half_blanks_fault z h n) (put_on screen row column Unknown more)
+      elim (cases_lt (column + 1) z.width) [
+        | inl more ↦ others _ n (none_shown screen row column Unknown above) (put_on screen row column Unknown more)
             ∙ fault_unknown n (set screen i (half_blank attribute)) row (column + 1) above more (omega arith)
-        | inr last ↦ ap (λ (h : HalfState). half_blanks_fault z h n) (put_last screen row column Unknown last)
+        | inr last ↦ others _ n (none_shown screen row column Unknown above) (put_last screen row column Unknown last)
             ∙ in_two_rows n (set screen i (half_blank attribute)) row (omega arith)
       ]
     where

@@ -196,19 +196,19 @@ first_within z class bytes fault h =
     omega (arith, h.offset, ap length h.whole, length-append h.front (h.text ++ h.rest))
 
 -- ---- what the code of one byte gives
-module _ (old : PlayView) (scanner : ScannerView) (byte : ℕ) (same : scanner ≡ old.scanner) where
+module _ {old : PlayView} {scanner : ScannerView} {byte : ℕ} (same : scanner ≡ old.scanner) where
   -- the byte is refused
-  pub byte_refused : (fault : Fault) → (scanner.fault ≡ None → RefusesByte scanner byte fault) →
+  pub byte_refused : {fault : Fault} → (scanner.fault ≡ None → RefusesByte scanner byte fault) →
       (rest : List ℕ) → IsDeserved old (byte ∷ rest) fault
-  byte_refused fault scans rest class s p =
+  byte_refused {fault = fault} scans rest class s p =
       refused_byte s old.scanner p.so_far old.size class p.size p.clean byte rest fault
       ((rw same at scans) p.so_far.unrefused)
 
   -- the byte leaves a sequence unfinished
-  pub byte_goes_on : (new : PlayView) (after : ScannerView) → new ≡ record old { scanner = after } →
+  pub byte_goes_on : {new : PlayView} {after : ScannerView} → new ≡ record old { scanner = after } →
       (scanner.fault ≡ None → StaysUnfinished scanner after byte) → after.offset ≡ scanner.offset + 1 →
       after.fault ≡ None → GoesOn old (byte ∷ []) new
-  byte_goes_on new after is scans offset unrefused = rw is (record {
+  byte_goes_on {after = after} is scans offset unrefused = rw is (record {
     size = refl;
     offset = rw same at offset;
     played = λ class s p. record {
@@ -220,7 +220,7 @@ module _ (old : PlayView) (scanner : ScannerView) (byte : ℕ) (same : scanner �
     };
   })
 
-  module _ (before new : PlayView) (after : ScannerView) (token : Spelled)
+  module _ {before : PlayView} (new : PlayView) {after : ScannerView} {token : Spelled}
       (is : before ≡ record old { scanner = after })
       (ends : scanner.fault ≡ None → EndsToken scanner after byte token) where
     -- the byte ends a token, which is played

@@ -189,10 +189,10 @@ pub record IsRun (p : PlayView) (bytes : List ℕ) (count : ℕ) : Type 0 where
   pub room : HasRoom p.size p.state.cursor count
 
 -- the glyphs that the scanner counts in the free columns
-pub is_run : (p old : PlayView) (bytes : List ℕ) (columns m count : ℕ) → p ≡ old →
+pub is_run : {p old : PlayView} {bytes : List ℕ} {columns m count : ℕ} → p ≡ old →
     IsSpanOnScreen p.size p.state.cursor →
     AreFree old columns → m ≤ columns → IsGlyphFront (take m bytes) count → 0 < count → IsRun p bytes count
-is_run p old bytes columns m count same on free below glyphs some =
+is_run {p = p} {bytes = bytes} {columns = columns} {m = m} {count = count} same on free below glyphs some =
     let front = front_of_front bytes m count glyphs in
     record {
       within = front.1;
@@ -243,9 +243,9 @@ free_once p c d free other = by_fault (half_fault p.size p.state (Glyph 0)) refl
     by_fault (Some cause) e = free.refused 0 cause e ∙ sym (other.refused 0 cause e)
 
 -- the glyphs that the scanner counts in the free columns are the longest run
-pub longest_run : (p : PlayView) (bytes : List ℕ) (columns m count : ℕ) → AreFree p columns →
+pub longest_run : {p : PlayView} (bytes : List ℕ) {columns m count : ℕ} → AreFree p columns →
     m ≡ min (length bytes) columns → IsGlyphFront (take m bytes) count → IsLongestRun p bytes count
-longest_run p bytes columns m count free least front other other_free =
+longest_run {p = p} bytes {columns = columns} {m = m} {count = count} free least front other other_free =
     let same : columns ≡ other = free_once p columns other free other_free in
     rw (← same) (subst (λ (xs : List ℕ). IsGlyphFront xs count) (front_is (cases_lt columns (length bytes))) front)
   where

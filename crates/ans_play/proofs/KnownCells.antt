@@ -18,7 +18,8 @@ use Rattle.ans_screen.specs.HalfCells.{is_known}
 use Rattle.ans_screen.specs.GridEdits.{is_unknown, first_unknown}
 use Rattle.ans_screen.specs.declared.cell.HalfCell.{HalfCell}
 use Rattle.ans_play.specs.HalfState.{DescribesCell}
-use Rattle.ans_play.specs.Hull.{hull_cell, hull_screen}
+use Rattle.ans_play.specs.Hull.{whole_cell}
+use Rattle.ans_play.specs.Meet.{meet_cell, meet_screen}
 use Rattle.ans_play.specs.Shown.{known_cell}
 
 -- ---- one cell
@@ -43,11 +44,19 @@ known_is h c k d byte =
     (known_byte h.glyph c.byte parts.0 d.0)
     (known_attribute h.attr.known h.attr.value c.attribute (eqb-true h.attr.known 255 parts.1) d.1 byte.1)
 
+-- what two cells have in common
+abbrev hull_cell : Cell → Cell → HalfCell
+hull_cell a b = meet_cell (whole_cell a) (whole_cell b)
+
 -- the hull of a cell with itself is known
 hull_known : (a : Cell) → is_known (hull_cell a a) ≡ true
 hull_known a = rw (eq-eqb a.byte a.byte refl, xor_self a.attribute) refl
 
 -- ---- a screen
+-- what two screens have in common, cell by cell
+abbrev pub hull_screen : List Cell → List Cell → List HalfCell
+hull_screen xs ys = meet_screen (map whole_cell xs) (map whole_cell ys)
+
 -- a known cell is that of each screen that is described
 pub known_at : (hs : List HalfCell) (xs : List Cell) (i : ℕ) (h : HalfCell) → AllZip DescribesCell hs xs →
     All IsByteCell xs → slice_get hs i ≡ Some h → is_known h ≡ true → slice_get xs i ≡ Some (known_cell h)

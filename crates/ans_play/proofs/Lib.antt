@@ -1,7 +1,6 @@
 pub mod Allowed
 pub mod Zips
 pub mod PairedScreens
-pub mod HullAttributes
 pub mod MeetAttributes
 pub mod Describing
 pub mod HullSteps

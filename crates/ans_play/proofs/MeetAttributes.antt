@@ -1,17 +1,26 @@
--- What two half-known attributes both know, through colour parameters.
-use Rattle.std.proofs.Common.{◌≡◌, ℕ, zero, suc, ◌+◌, ◌<◌, ◌^◌, ◌%◌, min, max, Bool, true, refl, ap, ◌∙◌, arith, rules}
+-- What is known of an attribute, and what is known of two, through colour parameters.
+use Rattle.std.proofs.Common.{◌≡◌, ℕ, zero, suc, ◌+◌, ◌<◌, ◌^◌, ◌%◌, min, max, Bool, true, refl, sym, ap, ◌∙◌, arith, rules}
 use Rattle.std.proofs.Common.{List, [], ◌∷◌, Option, Some, None, lit<}
 use Rattle.std.specs.Prelude.{IfSome, ◌&&◌, ◌==◌, bit_and, bit_or, bit_xor}
 use Rattle.std.specs.Int.{bit_at}
 use Rattle.std.proofs.lemmas.Bool.{and_parts, eqb-true}
-use Rattle.std.proofs.lemmas.Nat.{or_of_8, xor_of_8}
+use Rattle.std.proofs.lemmas.Nat.{and_le_l, and_le_r, or_of_8, xor_of_8}
 use Rattle.std.proofs.lemmas.Nat.Bits.{bit_at_and, bit_at_or, bit_at_xor, bit_at-lt, bit_at_ones, same_from_bits_below}
-use Rattle.ans_model.specs.Screen.Attribute.{Rendition, renditions, rendition_of}
+use Rattle.ans_model.specs.Screen.Attribute.{Rendition, renditions, rendition_of, attribute_by, attribute_after}
+use Rattle.ans_model.specs.Screen.Attribute.{attribute_after_all}
 use Rattle.ans_model.proofs.AttributeBytes.{IsByteRendition, rendition_fits}
-use Rattle.ans_screen.specs.KnownBits.{KnownBits, known_by, known_after}
+use Rattle.ans_screen.specs.KnownBits.{KnownBits, known_bits, Agrees, known_by, known_after}
+use Rattle.ans_screen.proofs.KnownAfter.{agrees_after}
 use Rattle.ans_play.specs.HalfStep.{known_after_all}
-use Rattle.ans_play.specs.Meet.{meet_bits}
-use Rattle.ans_play.proofs.HullAttributes.{byte_and, same_bits}
+use Rattle.ans_play.specs.Meet.{shared_bits, meet_bits}
+
+-- the common bits with a byte are a byte
+byte_and : (a m : ℕ) → m < 2 ^ 8 → bit_and a m < 2 ^ 8
+byte_and a m h = omega (arith, and_le_r a m)
+
+-- known bits of the same mask and value are the same
+same_bits : (k l v w : ℕ) → k ≡ l → v ≡ w → known_bits k v ≡ known_bits l w
+same_bits k l v w e f = cc
 
 -- ---- one bit
 -- a test of both bits
@@ -133,3 +142,46 @@ meet_after_all a b (n ∷ ps) p q =
     (bytes_after_rendition _ b (rendition_fits n) q)
     ∙ ap (λ (h : KnownBits). known_after_all h ps)
     (meet_after_rendition (rendition_of renditions n) a b (rendition_fits n) p q)
+
+-- what both know are bytes
+pub meet_bytes : (a b : KnownBits) → AreBytes a → AreBytes b → AreBytes (meet_bits a b)
+meet_bytes a b p q = record {
+  known = omega (
+    arith,
+    p.known,
+    and_le_l (bit_and a.known b.known) (bit_xor 0xff (bit_xor a.value b.value)),
+    and_le_l a.known b.known,
+  );
+  value = omega (arith, p.value, and_le_l a.value (shared_bits a b));
+}
+
+-- ---- attributes of which all is known
+-- a rendition leaves every bit known
+every_bit_known : (m s : ℕ) → m < 2 ^ 8 → s < 2 ^ 8 → 0xff < 2 ^ 8 → mask_after 0xff m s ≡ 0xff
+every_bit_known m s p q o =
+    same_from_bits_below 8 (mask_after 0xff m s) 0xff
+    (search (rules, xor_of_8, or_of_8, byte_and)) o
+    (λ i h. simp (bit_at_and, bit_at_or, bit_at_xor)
+    (rw (bit_at_ones 8 i h) (each_bit (bit_at m i) (bit_at s i) (bit_at-lt m i) (bit_at-lt s i))))
+  where
+    each_bit : (m s : ℕ) → m < 2 → s < 2 → max (max (min 1 m) ((1 + m) % 2)) s ≡ 1
+    each_bit m s p q = omega arith
+
+whole_after_rendition : (o : Option Rendition) (a : ℕ) → IfSome o IsByteRendition →
+    known_bits 0xff (attribute_by o a) ≡ known_by o (known_bits 0xff a)
+whole_after_rendition None a f = refl
+whole_after_rendition (Some r) a f = same_bits _ _ _ _ (sym (every_bit_known r.mask r.set f.mask f.set (lit< tt))) refl
+
+-- the attribute is known after all parameters
+pub whole_after_all : (a : ℕ) (ps : List ℕ) →
+    known_bits 0xff (attribute_after_all a ps) ≡ known_after_all (known_bits 0xff a) ps
+whole_after_all a [] = refl
+whole_after_all a (n ∷ ps) =
+    whole_after_all (attribute_after a n) ps
+    ∙ ap (λ (h : KnownBits). known_after_all h ps) (whole_after_rendition (rendition_of renditions n) a (rendition_fits n))
+
+-- ---- half-known attributes that agree
+pub agrees_after_all : (h : KnownBits) (a : ℕ) (ps : List ℕ) → Agrees h a →
+    Agrees (known_after_all h ps) (attribute_after_all a ps)
+agrees_after_all h a [] e = e
+agrees_after_all h a (p ∷ ps) e = agrees_after_all (known_after h p) (attribute_after a p) ps (agrees_after h a p e)

@@ -1,43 +1,39 @@
 -- What is known after clean tokens from two classes, and what both know: it is what is known from the class that knows
 -- what both know.
-use Rattle.std.proofs.Common.{◌≡◌, ℕ, zero, suc, ◌+◌, ◌<◌, ◌≤◌, Bool, true, false, refl, sym, ap, ◌∙◌, arith, lit<}
+use Rattle.std.proofs.Common.{◌≡◌, ℕ, zero, suc, ◌+◌, ◌<◌, ◌≤◌, Bool, true, false, refl, sym, ap, ◌∙◌, arith}
 use Rattle.std.proofs.Common.{List, [], ◌∷◌, ◌++◌, length, take, get_or, replicate, All, Option, Some, None, subst}
-use Rattle.std.specs.Prelude.{◌&&◌, bit_xor}
+use Rattle.std.specs.Prelude.{◌&&◌}
 use Rattle.std.proofs.lemmas.List.{take_more, take_all}
 use Rattle.std.proofs.lemmas.List.Elements.{All-get_or}
-use Rattle.std.proofs.lemmas.Nat.{and_le_l, xor_of_8}
 use Rattle.std.proofs.lemmas.Option.{slice_get-get_or}
 use Rattle.ans_model.specs.Bytes.{blank}
-use Rattle.ans_model.specs.Sequence.TokenKind.{TokenKind, PrintsByte, Glyph, Bell, Tab}
-use Rattle.ans_model.specs.Screen.State.{Size, cell_count, IsWellFormed}
-use Rattle.ans_model.specs.Screen.Step.{final, tab_blanks}
-use Rattle.ans_model.specs.Screen.StartClass.{all_known, both_known, cleared, IsStart, low_start, high_start}
+use Rattle.ans_model.specs.Sequence.TokenKind.{TokenKind, PrintsByte, Glyph, LineFeed, EraseLine, Bell, Tab}
+use Rattle.ans_model.specs.Screen.State.{Size, cell_count}
+use Rattle.ans_model.specs.Screen.Step.{tab_blanks}
+use Rattle.ans_model.specs.Screen.StartClass.{all_known, both_known, cleared, IsStart}
 use Rattle.ans_model.specs.Verdict.TokenFault.{IsClean}
 use Rattle.ans_model.specs.declared.fault.Cause.{Cause}
 use Rattle.ans_model.specs.declared.cell.Position.{Position}
 use Rattle.ans_model.specs.declared.start.Start.{Start}
 use Rattle.ans_model.proofs.ClassLemmas.{covers_starts}
 use Rattle.ans_model.proofs.CleanLemmas.{some_blanks}
-use Rattle.ans_model.proofs.StartLemmas.{low_is_start, high_is_start}
+use Rattle.ans_model.proofs.PositionLemmas.{same_position}
+use Rattle.ans_model.proofs.StartLemmas.{low_is_start}
 use Rattle.ans_screen.specs.declared.cell.HalfCell.{HalfCell}
 use Rattle.ans_play.specs.HalfState.{HalfState}
 use Rattle.ans_play.specs.HalfStart.{start_cell, start_span, start_attribute, start_wrap, half_start}
 use Rattle.ans_play.specs.HalfStep.{half_put, half_blanks, half_step}
 use Rattle.ans_play.specs.HalfFault.{half_print_fault, half_blanks_fault, half_fault}
-use Rattle.ans_play.specs.Hull.{hull_attribute}
 use Rattle.ans_play.specs.Meet.{meet_bits, meet_cell, meet_span, meet_wrap, meet}
 use Rattle.ans_play.specs.Stands.{IsKnownAfter}
-use Rattle.ans_play.proofs.Allowed.{IsOneStep, IsAllowed}
+use Rattle.ans_play.proofs.Allowed.{IsOnePosition, IsOneStep, IsAllowed}
 use Rattle.ans_play.proofs.Clean.{clean_none, clean_more}
 use Rattle.ans_play.proofs.FaultShown.{token_has_fault}
-use Rattle.ans_play.proofs.HullSteps.{same_half}
-use Rattle.ans_play.proofs.KnownAfter.{known_none}
-use Rattle.ans_play.proofs.MeetAttributes.{AreBytes}
-use Rattle.ans_play.proofs.MeetSteps.{DescribeOne, here_g, here_h, meet_put, meet_step, meet_prints, meet_shows_none}
-use Rattle.ans_play.proofs.NewPlayer.{half_start_is_hull}
-use Rattle.ans_play.proofs.NoFaultShown.{token_is_allowed, token_has_no_fault, known_next}
+use Rattle.ans_play.proofs.KnownAfter.{known_at_start, known_fits}
+use Rattle.ans_play.proofs.MeetSteps.{same_half, meet_step}
+use Rattle.ans_play.proofs.NoFaultShown.{token_is_allowed, token_has_no_fault, known_next, allowed_shows_none}
 use Rattle.ans_play.proofs.PairedScreens.{paired-replicate}
-use Rattle.ans_play.proofs.PrintFaults.{IsPrintable, print_is_allowed}
+use Rattle.ans_play.proofs.Positions.{one_position_of_all}
 use Rattle.ans_play.proofs.SpanLemmas.{same_span}
 use Rattle.ans_play.proofs.Tabs.{or_none, one_blank_known, first_has_none, others_have_none, printable}
 
@@ -50,9 +46,9 @@ meet_start_cell false false = refl
 
 meet_start_span : (z : Size) (a b : Bool) → meet_span (start_span z a) (start_span z b) ≡ start_span z (a && b)
 meet_start_span z true true = refl
-meet_start_span z true false = same_span _ _ _ _ _ _ _ _ (omega arith) (omega arith) (omega arith) (omega arith)
-meet_start_span z false true = same_span _ _ _ _ _ _ _ _ (omega arith) (omega arith) (omega arith) (omega arith)
-meet_start_span z false false = same_span _ _ _ _ _ _ _ _ (omega arith) (omega arith) (omega arith) (omega arith)
+meet_start_span z true false = same_span (omega arith) (omega arith) (omega arith) (omega arith)
+meet_start_span z false true = same_span (omega arith) (omega arith) (omega arith) (omega arith)
+meet_start_span z false false = same_span (omega arith) (omega arith) (omega arith) (omega arith)
 
 meet_start_attribute : (a b : Bool) → meet_bits (start_attribute a) (start_attribute b) ≡ start_attribute (a && b)
 meet_start_attribute true true = refl
@@ -68,18 +64,13 @@ meet_start_wrap false false = refl
 
 meet_half_start : (z : Size) (a b : Start) → meet (half_start z a) (half_start z b) ≡ half_start z (both_known a b)
 meet_half_start z a b =
-    same_half _ _ _ _ _ _ _ _ _ _
+    same_half
     (paired-replicate meet_cell (cell_count z) (start_cell a.screen) (start_cell b.screen)
     ∙ ap (λ (c : HalfCell). replicate (cell_count z) c) (meet_start_cell a.screen b.screen))
     (meet_start_span z a.cursor b.cursor)
     (meet_start_span z a.saved b.saved)
     (meet_start_attribute a.colours b.colours)
     (meet_start_wrap a.wrap b.wrap)
-
--- what is known before any token
-known_at_start : (z : Size) (class : Start) → IsKnownAfter z class [] (half_start z class)
-known_at_start z class =
-    subst (λ (h : HalfState). IsKnownAfter z class [] h) (sym (half_start_is_hull z class)) (known_none z class)
 
 -- ---- two classes
 -- the cleared state is a start of every class
@@ -89,19 +80,34 @@ cleared_is_start z class w =
     (record { screen = λ k. refl; cursor = λ k. refl; saved = λ k. refl; colours = λ k. refl; wrap = λ k. refl })
     (low_is_start z all_known w)
 
-hull_bytes : (a b : ℕ) → a < 256 → b < 256 → AreBytes (hull_attribute a b)
-hull_bytes a b p q = record {
-  known = xor_of_8 255 (bit_xor a b) (lit< tt) (xor_of_8 a b p q);
-  value = omega (arith, and_le_l a (bit_xor 255 (bit_xor a b)));
-}
+-- where each of two states stands at one position, and at the same, both together do
+meet_one_position : (g h : HalfState) → IsOnePosition g.cursor → IsOnePosition h.cursor →
+    g.cursor.low ≡ h.cursor.low → IsOnePosition (meet g h).cursor
+meet_one_position g h one_g one_h same =
+    same_position _ _
+    (omega (
+      arith,
+      ap (λ (p : Position). p.row) one_g,
+      ap (λ (p : Position). p.row) one_h,
+      ap (λ (p : Position). p.row) same,
+    ))
+    (omega (
+      arith,
+      ap (λ (p : Position). p.column) one_g,
+      ap (λ (p : Position). p.column) one_h,
+      ap (λ (p : Position). p.column) same,
+    ))
 
--- what is known of an attribute are bytes
-known_bytes : (z : Size) (class : Start) (played : List TokenKind) (h : HalfState) → 0 < z.width →
-    IsKnownAfter z class played h → AreBytes h.attribute
-known_bytes z class played h w st =
-    let low : IsWellFormed z (final z (low_start z class) played) = st.well_formed _ (low_is_start z class w) in
-    let high : IsWellFormed z (final z (high_start z class) played) = st.well_formed _ (high_is_start z class w) in
-    subst (λ (k : HalfState). AreBytes k.attribute) (sym st.is_hull) (hull_bytes _ _ low.attribute high.attribute)
+-- and what is allowed in each is allowed in what both know
+meet_allowed : (z : Size) (g h : HalfState) (t : TokenKind) →
+    (IsOnePosition g.cursor → IsOnePosition h.cursor → g.cursor.low ≡ h.cursor.low) → IsAllowed z g t →
+    IsAllowed z h t → IsAllowed z (meet g h) t
+meet_allowed z g h (Glyph byte) same j k =
+    (meet_one_position g h j.0 k.0 (same j.0 k.0), omega (arith, j.1))
+meet_allowed z g h EraseLine same j k = meet_one_position g h j k (same j k)
+meet_allowed z g h LineFeed same j k = omega (arith, j, k)
+meet_allowed z g h Tab same j k = j
+meet_allowed z g h _ same j k = tt
 
 -- where neither state shows a fault at the token, what both know shows none, and is after it what both know then
 record MeetsAt (z : Size) (g h : HalfState) (t : TokenKind) : Type 0 where
@@ -110,18 +116,25 @@ record MeetsAt (z : Size) (g h : HalfState) (t : TokenKind) : Type 0 where
 
 module _ (z : Size) (a b : Start) (w : 0 < z.width) where
   -- both describe the play from the cleared start
-  describe_one : (played : List TokenKind) (g h : HalfState) → IsKnownAfter z a played g → IsKnownAfter z b played h →
-      DescribeOne z g h
-  describe_one played g h p q = record {
-    state = final z (cleared z) played;
-    in_g = p.describes (cleared z) (cleared_is_start z a w);
-    in_h = q.describes (cleared z) (cleared_is_start z b w);
-    well_formed = p.well_formed (cleared z) (cleared_is_start z a w);
-    bytes_g = known_bytes z a played g w p;
-    bytes_h = known_bytes z b played h w q;
-  }
+  same_place : (played : List TokenKind) (g h : HalfState) → IsKnownAfter z a played g → IsKnownAfter z b played h →
+      IsOnePosition g.cursor → IsOnePosition h.cursor → g.cursor.low ≡ h.cursor.low
+  same_place played g h p q one_g one_h =
+      sym (one_position_of_all z a played g w p one_g (cleared z) (cleared_is_start z a w))
+      ∙ one_position_of_all z b played h w q one_h (cleared z) (cleared_is_start z b w)
 
   -- ---- one token
+  -- any token but a tab is one step
+  meet_one_step : (t : TokenKind) (played : List TokenKind) (g h : HalfState) → IsOneStep t →
+      IsKnownAfter z a played g → IsKnownAfter z b played h → half_fault z g t ≡ None → half_fault z h t ≡ None →
+      MeetsAt z g h t
+  meet_one_step t played g h one p q e f =
+      let ok : IsAllowed z (meet g h) t = meet_allowed z g h t (same_place played g h p q)
+      (token_is_allowed z a played g w p t one e) (token_is_allowed z b played h w q t one f) in
+      record {
+        shows_none = allowed_shows_none z g (meet g h) t ok e;
+        step = meet_step z g h (known_fits z a played g w p) (known_fits z b played h w q) t ok;
+      }
+
   -- n blanks
   meet_blanks : (n : ℕ) (played : List TokenKind) (g h : HalfState) → IsKnownAfter z a played g →
       IsKnownAfter z b played h → half_blanks_fault z g n ≡ None → half_blanks_fault z h n ≡ None →
@@ -129,54 +142,33 @@ module _ (z : Size) (a b : Start) (w : 0 < z.width) where
       × (meet (half_blanks z g n) (half_blanks z h n) ≡ half_blanks z (meet g h) n)
   meet_blanks zero played g h p q e f = (refl, refl)
   meet_blanks (suc n) played g h p q e f =
-      let c : DescribeOne z g h = describe_one played g h p q in
       let none_g : half_print_fault z g ≡ None = first_has_none z a w g n (half_print_fault z g) refl e in
       let none_h : half_print_fault z h ≡ None = first_has_none z b w h n (half_print_fault z h) refl f in
-      let ok_g : IsPrintable z g = print_is_allowed z a played g w p none_g in
-      let ok_h : IsPrintable z h = print_is_allowed z b played h w q none_h in
-      let put : meet (half_put z g blank) (half_put z h blank) ≡ half_put z (meet g h) blank =
-      meet_put z g h c blank ok_g.one ok_h.one in
+      let put : MeetsAt z g h (Glyph blank) = meet_one_step (Glyph blank) played g h tt p q none_g none_h in
       let rest : (half_blanks_fault z (meet (half_put z g blank) (half_put z h blank)) n ≡ None)
       × (meet (half_blanks z g (suc n)) (half_blanks z h (suc n))
       ≡ half_blanks z (meet (half_put z g blank) (half_put z h blank)) n) =
       meet_blanks n (played ++ Glyph blank ∷ []) (half_put z g blank) (half_put z h blank)
       (one_blank_known z a w played g p none_g) (one_blank_known z b w played h q none_h)
       (others_have_none z a w g n none_g e) (others_have_none z b w h n none_h f) in (
-        or_none _ _ (meet_prints z g h c ok_g ok_h)
-            ∙ ap (λ (k : HalfState). half_blanks_fault z k n) (sym put) ∙ rest.0,
-        rest.1 ∙ ap (λ (k : HalfState). half_blanks z k n) put,
+        or_none _ _ put.shows_none ∙ ap (λ (k : HalfState). half_blanks_fault z k n) (sym put.step) ∙ rest.0,
+        rest.1 ∙ ap (λ (k : HalfState). half_blanks z k n) put.step,
       )
 
   -- a tab prints as many blanks after both
   meet_tab : (played : List TokenKind) (g h : HalfState) → IsKnownAfter z a played g → IsKnownAfter z b played h →
       half_fault z g Tab ≡ None → half_fault z h Tab ≡ None → MeetsAt z g h Tab
   meet_tab played g h p q e f =
-      let c : DescribeOne z g h = describe_one played g h p q in
-      let low_g : g.cursor.low ≡ c.state.cursor = here_g z g h c
-      (printable z a played g w p (tab_blanks g.cursor.low.column) (some_blanks g.cursor.low.column) e).one in
-      let low_h : h.cursor.low ≡ c.state.cursor = here_h z g h c
-      (printable z b played h w q (tab_blanks h.cursor.low.column) (some_blanks h.cursor.low.column) f).one in
-      let n : ℕ = tab_blanks c.state.cursor.column in
-      let as_g : tab_blanks g.cursor.low.column ≡ n = ap (λ (x : Position). tab_blanks x.column) low_g in
-      let as_h : tab_blanks h.cursor.low.column ≡ n = ap (λ (x : Position). tab_blanks x.column) low_h in
+      let same : g.cursor.low.column ≡ h.cursor.low.column = ap (λ (x : Position). x.column)
+      (same_place played g h p q
+      (printable z a played g w p (tab_blanks g.cursor.low.column) (some_blanks g.cursor.low.column) e).one
+      (printable z b played h w q (tab_blanks h.cursor.low.column) (some_blanks h.cursor.low.column) f).one) in
+      let n : ℕ = tab_blanks h.cursor.low.column in
+      let as_g : tab_blanks g.cursor.low.column ≡ n = ap (λ (k : ℕ). tab_blanks k) same in
       let as_meet : tab_blanks (meet g h).cursor.low.column ≡ n =
-      ap (λ (k : ℕ). tab_blanks k) (omega (
-        arith,
-        ap (λ (x : Position). x.column) low_g,
-        ap (λ (x : Position). x.column) low_h,
-      )) in
-      let both = meet_blanks n played g h p q (rw as_g at e) (rw as_h at f) in
-      record { shows_none = rw as_meet both.0; step = rw (as_g, as_h, as_meet) both.1 }
-
-  -- any other token is one step
-  meet_one_step : (t : TokenKind) (played : List TokenKind) (g h : HalfState) → IsOneStep t →
-      IsKnownAfter z a played g → IsKnownAfter z b played h → half_fault z g t ≡ None → half_fault z h t ≡ None →
-      MeetsAt z g h t
-  meet_one_step t played g h one p q e f =
-      let c : DescribeOne z g h = describe_one played g h p q in
-      let ok_g : IsAllowed z g t = token_is_allowed z a played g w p t one e in
-      let ok_h : IsAllowed z h t = token_is_allowed z b played h w q t one f in
-      record { shows_none = meet_shows_none z g h c t ok_g ok_h e; step = meet_step z g h c t ok_g ok_h }
+      ap (λ (k : ℕ). tab_blanks k) (omega (arith, same)) in
+      let both = meet_blanks n played g h p q (rw as_g at e) f in
+      record { shows_none = rw as_meet both.0; step = rw (as_g, as_meet) both.1 }
 
   -- so any token
   meet_next : (t : TokenKind) (played : List TokenKind) (g h : HalfState) → IsKnownAfter z a played g →

@@ -2,7 +2,7 @@
 use Rattle.std.proofs.Common.{◌≡◌, ℕ, ◌+◌, ◌<◌, Bool, true, false, refl, arith, List, [], ◌∷◌, ◌++◌, Some, None, inl}
 use Rattle.std.proofs.Common.{inr}
 use Rattle.std.specs.Prelude.{◌||◌, ◌⊎◌, if◌then◌else◌, nat_lt, ◌==◌}
-use Rattle.std.proofs.lemmas.Bool.{ltb-true, ltb-false}
+use Rattle.std.proofs.lemmas.Bool.{ltb-true, ltb-false, lt-ltb, ne_eqb}
 use Rattle.ans_model.specs.Sequence.TokenKind.{TokenKind, Glyph, LineFeed, Tab, Place, EraseLine, Mode, Keys, Ask}
 use Rattle.ans_model.specs.Sequence.TokenKind.{PrintsByte}
 use Rattle.ans_model.specs.Screen.State.{Size}
@@ -98,3 +98,17 @@ module _ (z : Size) (class : Start) (played : List TokenKind) (h : HalfState) (w
       IsKnownAfter z class (played ++ t ∷ []) (half_step z h t)
   known_next Tab byte e = known_tab z class played h w st e
   known_next t byte e = known_more z class played h t w byte st (token_is_allowed t tt e)
+
+-- a token that is allowed shows no fault, where it shows none that depends on the token alone
+pub allowed_shows_none : (z : Size) (g h : HalfState) (t : TokenKind) → IsAllowed z h t → half_fault z g t ≡ None →
+    half_fault z h t ≡ None
+allowed_shows_none z g h (Glyph byte) k e =
+    rw (one_position_then h.cursor k.0, ne_eqb h.cursor.low.row z.lines (λ e. omega (arith, e, k.1))) refl
+allowed_shows_none z g h EraseLine k e = rw (one_position_then h.cursor k) refl
+allowed_shows_none z g h LineFeed k e = rw (lt-ltb h.cursor.high.row z.lines k) refl
+allowed_shows_none z g h Tab k e = absurd k
+allowed_shows_none z g h (Place row column) k e = e
+allowed_shows_none z g h Keys k e = e
+allowed_shows_none z g h Mode k e = e
+allowed_shows_none z g h Ask k e = e
+allowed_shows_none z g h _ k e = refl

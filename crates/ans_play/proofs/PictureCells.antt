@@ -9,11 +9,11 @@ use Rattle.std.proofs.lemmas.List.Elements.{All-map, All-take, All-weaker}
 use Rattle.ans_model.specs.Bytes.{IsByte}
 use Rattle.ans_model.specs.Screen.State.{Size, IsByteCell}
 use Rattle.ans_model.specs.Verdict.Good.{Picture, IsPictureOf}
-use Rattle.ans_screen.specs.HalfCells.{glyph_byte, attribute_byte}
+use Rattle.ans_model.specs.declared.cell.Cell.{Cell}
 use Rattle.ans_screen.specs.declared.cell.HalfCell.{HalfCell}
 use Rattle.ans_play.specs.PlayView.{IsByteHalfCell}
 use Rattle.ans_play.specs.Shown.{known_cell, stated_cells, picture_of, IsShown}
-use Rattle.ans_play.specs.Shown.{cells_of_row, bytes_of_row, attributes_of_row}
+use Rattle.ans_play.specs.Shown.{cells_of_row}
 
 byte_or_0 : (o : Option ℕ) → IfSome o IsByte → IsByte (unwrap_or o 0)
 byte_or_0 None h = lit< tt
@@ -53,30 +53,12 @@ row_cells z cells row above =
       stated_row z cells row above,
     ) refl
 
--- the bytes of a row are those that its grid copies
-row_bytes : (z : Size) (cells : List HalfCell) (row : ℕ) → row < z.lines →
-    bytes_of_row (picture_of z cells) row ≡ map glyph_byte (take z.width (drop (row * z.width) cells))
-row_bytes z cells row above =
-    rw (row_cells z cells row above) (map-map _ known_cell (take z.width (drop (row * z.width) cells)))
-
--- the attributes of a row are those that its grid copies
-row_attributes : (z : Size) (cells : List HalfCell) (row : ℕ) → row < z.lines →
-    attributes_of_row (picture_of z cells) row ≡ map attribute_byte (take z.width (drop (row * z.width) cells))
-row_attributes z cells row above =
-    rw (row_cells z cells row above) (map-map _ known_cell (take z.width (drop (row * z.width) cells)))
-
--- bytes copied from a row of the grid are those of the picture's row
-pub copied_bytes : (z : Size) (cells : List HalfCell) (row n : ℕ) (shown : Picture) (bytes : List ℕ) →
+-- what is copied of the cells of the grid's row is that part of the picture's row
+pub copied_row : (part : Cell → ℕ) {z : Size} (cells : List HalfCell) {row n : ℕ} {shown : Picture} {copied : List ℕ} →
     picture_of z cells ≡ shown → row < shown.size.lines → n ≡ shown.size.width →
-    bytes ≡ map glyph_byte (take n (drop (row * z.width) cells)) → bytes ≡ bytes_of_row shown row
-copied_bytes z cells row n shown bytes is above wide copied =
-    subst (λ (p : Picture). row < p.size.lines → n ≡ p.size.width → bytes ≡ bytes_of_row p row) is
-    (λ l e. copied ∙ (rw e (sym (row_bytes z cells row l)))) above wide
-
--- attributes copied from a row of the grid are those of the picture's row
-pub copied_attributes : (z : Size) (cells : List HalfCell) (row n : ℕ) (shown : Picture) (attributes : List ℕ) →
-    picture_of z cells ≡ shown → row < shown.size.lines → n ≡ shown.size.width →
-    attributes ≡ map attribute_byte (take n (drop (row * z.width) cells)) → attributes ≡ attributes_of_row shown row
-copied_attributes z cells row n shown attributes is above wide copied =
-    subst (λ (p : Picture). row < p.size.lines → n ≡ p.size.width → attributes ≡ attributes_of_row p row) is
-    (λ l e. copied ∙ (rw e (sym (row_attributes z cells row l)))) above wide
+    copied ≡ map (λ c. part (known_cell c)) (take n (drop (row * z.width) cells)) →
+    copied ≡ map part (cells_of_row shown row)
+copied_row part {z = z} cells {row = row} {n = n} {copied = copied} is above wide same =
+    subst (λ (p : Picture). row < p.size.lines → n ≡ p.size.width → copied ≡ map part (cells_of_row p row)) is
+    (λ l e. same ∙ rw (e, row_cells z cells row l)
+    (sym (map-map part known_cell (take z.width (drop (row * z.width) cells))))) above wide

@@ -1,6 +1,6 @@
 -- Where the cursors of all plays stand, by what is known.
-use Rattle.std.proofs.Common.{◌≡◌, ◌≢◌, ◌<◌, ◌≤◌, min, max, Bool, true, false, sym, ap, ◌∙◌, arith, List, inl, inr}
-use Rattle.std.proofs.lemmas.Bool.{eq-eqb, cases_eq}
+use Rattle.std.proofs.Common.{◌≡◌, ◌≢◌, ◌<◌, ◌≤◌, min, max, true, false, sym, ap, ◌∙◌, arith, List, inl, inr}
+use Rattle.std.proofs.lemmas.Bool.{eq-eqb, cases_eq, true≢false}
 use Rattle.std.proofs.lemmas.Bool.Decides.{nat_tests}
 use Rattle.ans_model.specs.declared.cell.Position.{Position}
 use Rattle.ans_model.specs.Sequence.TokenKind.{TokenKind}
@@ -17,7 +17,6 @@ use Rattle.ans_play.specs.Stands.{IsKnownAfter}
 use Rattle.ans_play.proofs.Allowed.{IsOnePosition}
 use Rattle.ans_model.proofs.PositionLemmas.{same_position}
 use Rattle.ans_play.proofs.Describing.{one_position_is}
-use Rattle.ans_play.proofs.HullSteps.{hull_itself}
 
 -- the test tells whether the ends are the same
 pub one_position_if : (e : Span) → is_one_position e ≡ true → e.low ≡ e.high
@@ -33,6 +32,14 @@ one_position_then e h =
       eq-eqb e.low.column e.high.column (ap (λ (p : Position). p.column) h),
     )
 
+-- where the low and the high play stand at one position, the ends are the same
+pub one_position_if_same : (z : Size) (class : Start) (played : List TokenKind) (h : HalfState) →
+    IsKnownAfter z class played h →
+    (final z (low_start z class) played).cursor ≡ (final z (high_start z class) played).cursor →
+    is_one_position h.cursor ≡ true
+one_position_if_same z class played h st e =
+    one_position_then h.cursor (rw (st.is_hull, e) (same_position _ _ (omega arith) (omega arith)))
+
 -- where it has not, the low and the high play differ
 pub positions_differ : (z : Size) (class : Start) (played : List TokenKind) (h : HalfState) → 0 < z.width →
     IsKnownAfter z class played h → is_one_position h.cursor ≡ false → PositionsDiffer z class played
@@ -43,16 +50,8 @@ positions_differ z class played h w st apart =
       high,
       low_is_start z class w,
       high_is_start z class w,
-      λ e.
-          true_not_false (is_one_position h.cursor)
-          (one_position_then h.cursor
-          (rw (st.is_hull, sym e) (ap (λ (x : Span). x.low) (hull_itself (final z low played).cursor)
-          ∙ sym (ap (λ (x : Span). x.high) (hull_itself (final z low played).cursor)))))
-          apart,
+      λ e. true≢false (sym (one_position_if_same z class played h st e) ∙ apart),
     )
-  where
-    true_not_false : (b : Bool) → b ≡ true → b ≡ false → ⊥
-    true_not_false b p q = cc
 
 -- and where it has, the position is the same from every start
 pub positions_agree : (z : Size) (class : Start) (played : List TokenKind) (h : HalfState)

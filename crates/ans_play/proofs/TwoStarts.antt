@@ -32,19 +32,18 @@ use Rattle.ans_model.proofs.PositionLemmas.{index-lt_stated}
 use Rattle.ans_model.proofs.Reading.{reads_bytes}
 use Rattle.ans_screen.specs.HalfCells.{is_known}
 use Rattle.ans_screen.specs.declared.cell.HalfCell.{HalfCell}
-use Rattle.ans_play.specs.declared.span.Span.{Span}
 use Rattle.ans_play.specs.Between.{IsBetween}
-use Rattle.ans_play.specs.Hull.{hull, hull_position}
+use Rattle.ans_play.specs.HalfStart.{half_start}
+use Rattle.ans_play.specs.Hull.{hull}
 use Rattle.ans_play.specs.HalfState.{HalfState, DescribesCell, DescribesPosition}
 use Rattle.ans_play.specs.HalfStep.{half_step}
-use Rattle.ans_play.specs.HalfFault.{half_fault, is_one_position}
+use Rattle.ans_play.specs.HalfFault.{half_fault}
 use Rattle.ans_play.specs.Stands.{IsKnownAfter}
 use Rattle.ans_play.proofs.Zips.{AllZip-length}
-use Rattle.ans_play.proofs.HullSteps.{hull_itself}
 use Rattle.ans_play.proofs.KnownCells.{unknown_at, known_where_same}
 use Rattle.ans_play.proofs.Clean.{clean_none, clean_more, clean_blanks, blanks_print}
-use Rattle.ans_play.proofs.KnownAfter.{known_none}
-use Rattle.ans_play.proofs.Positions.{positions_agree, one_position_then, all_in_spare_row, none_in_spare_row}
+use Rattle.ans_play.proofs.KnownAfter.{known_at_start}
+use Rattle.ans_play.proofs.Positions.{positions_agree, one_position_if_same, all_in_spare_row, none_in_spare_row}
 use Rattle.ans_play.proofs.FaultShown.{token_has_fault}
 use Rattle.ans_play.proofs.NoFaultShown.{known_next, token_has_no_fault}
 use Rattle.ans_play.proofs.Finishing.{same_where_known, no_cell}
@@ -96,9 +95,8 @@ module _ (z : Size) (class : Start) (w : 0 < z.width) (tokens : List TokenKind) 
   clean_or_faulty_to : (n : ℕ) → n ≤ length tokens → IsCleanTo z class tokens n ⊎ HasFaultyToken z class tokens
   clean_or_faulty_to zero le = inl (record {
     clean = clean_none z class;
-    state =
-        hull (low_start z class) (high_start z class);
-    known = known_none z class;
+    state = half_start z class;
+    known = known_at_start z class;
   })
   clean_or_faulty_to (suc n) le = elim (clean_or_faulty_to n (omega arith)) [
     | inl c ↦ subst (λ (m : ℕ). IsCleanTo z class tokens m ⊎ HasFaultyToken z class tokens) (omega arith)
@@ -134,9 +132,8 @@ module _ (z : Size) (class : Start) (w : 0 < z.width) (tokens : List TokenKind) 
       (high_final z class tokens).cursor (final z s tokens).cursor)
   cursor_between s start =
       let known = known_after_clean z class w tokens prints clean in
-      let within : DescribesPosition
-      (hull_position (low_final z class tokens).cursor (high_final z class tokens).cursor) (final z s tokens).cursor =
-      rw known.1.is_hull at (known.1.describes s start).cursor in
+      let within : DescribesPosition (hull (low_final z class tokens) (high_final z class tokens)).cursor
+      (final z s tokens).cursor = rw known.1.is_hull at (known.1.describes s start).cursor in
       record {
         row_from = within.low_row;
         row_to = within.high_row;
@@ -178,11 +175,7 @@ module _ (z : Size) (class : Start) (tokens : List TokenKind) (w : 0 < z.width) 
   -- where positions differ, those of the extreme plays do
   cursors_differ : PositionsDiffer z class tokens → CursorsDiffer z class tokens
   cursors_differ d e =
-      let one : is_one_position h.cursor ≡ true =
-      one_position_then h.cursor
-      (rw (st.is_hull, sym e) (ap (λ (x : Span). x.low) (hull_itself (low_final z class tokens).cursor)
-      ∙ sym (ap (λ (x : Span). x.high) (hull_itself (low_final z class tokens).cursor)))) in
-      d.4 (positions_agree z class tokens h st one d.0 d.1 d.2 d.3)
+      d.4 (positions_agree z class tokens h st (one_position_if_same z class tokens h st e) d.0 d.1 d.2 d.3)
 
   -- where some play is in the spare row and some is not, exactly one extreme play is
   one_in_spare_row : FromSome z class (IsInSpareRow z tokens) → FromSome z class (λ s. ¬ IsInSpareRow z tokens s) →

@@ -7,9 +7,11 @@ use Rattle.std.proofs.lemmas.Bool.{cases_lt, lt-ltb, le-ltb}
 use Rattle.std.proofs.lemmas.List.{get_or-set_same, get_or-set_other}
 use Rattle.std.proofs.lemmas.List.FromFn.{get_or-map-range_with_len}
 use Rattle.std.proofs.lemmas.Bool.Decides.{eqb_tells}
-use Rattle.ans_screen.specs.RowCells.{row_cell, cell_at, cells_of_rows, nowhere, state_in, state_at}
+use Rattle.ans_screen.specs.RowCells.{row_cell, cell_at, cells_of_rows, nowhere, state_in, state_at, cell_in_grid}
+use Rattle.ans_screen.specs.RowCells.{cells_of_grid, states_of}
 use Rattle.ans_screen.specs.declared.cell.HalfCell.{HalfCell}
 use Rattle.ans_screen.specs.declared.plane_grid.Extent.{Extent}
+use Rattle.ans_screen.specs.declared.plane_grid.PlaneGrid.{PlaneGrid}
 use Rattle.ans_screen.specs.declared.plane_grid.RowState.{RowState}
 use Rattle.ans_screen.specs.declared.plane_grid.RowState.TheVariants.{Stale, Known, Mixed}
 use Rattle.ans_screen.proofs.Places.{Keeps, same_from_index}
@@ -19,6 +21,12 @@ pub get_rows : (w rows : ℕ) (states : ℕ → RowState) (blank : HalfCell) (gs
     → get_or (cells_of_rows w rows states blank gs ks bs vs) i d ≡ cell_at states blank gs ks bs vs i
 get_rows w rows states blank gs ks bs vs i d lt =
     get_or-map-range_with_len (cell_at states blank gs ks bs vs) 0 (w * rows) i i d lt (omega arith)
+
+-- the same of a grid
+pub get_cell : (g : PlaneGrid) (i : ℕ) (d : HalfCell) → i < g.width * g.rows
+    → get_or (cells_of_grid g) i d ≡ cell_in_grid g i
+get_cell g i d lt =
+    get_rows g.width g.rows (states_of g) g.blank g.glyphs.items g.glyphs_known g.bits_known g.values.items i d lt
 
 -- the same bytes in the same state are the same cell
 pub same_cell : (s t : RowState) (blank : HalfCell) (g k b v g' k' b' v' : ℕ) → s ≡ t → g' ≡ g → k' ≡ k

@@ -8,10 +8,11 @@ use Rattle.std.proofs.lemmas.List.{same_lists, drop_all, append-nil}
 use Rattle.ans_screen.specs.GridEdits.{written}
 use Rattle.ans_screen.specs.CellPlanes.{cell_of}
 use Rattle.ans_screen.specs.RowCells.{row_cell, state_in, state_at, cell_at, cells_of_rows, length_rows, nowhere, Takes}
-use Rattle.ans_screen.specs.RowCells.{AreOpen, AreKnownStates}
+use Rattle.ans_screen.specs.RowCells.{cells_of_grid, states_of, AreOpen, AreKnownStates}
 use Rattle.ans_model.specs.Screen.Step.{filled}
 use Rattle.ans_screen.specs.declared.cell.HalfCell.{HalfCell}
 use Rattle.ans_screen.specs.declared.plane_grid.Extent.{Extent}
+use Rattle.ans_screen.specs.declared.plane_grid.PlaneGrid.{PlaneGrid}
 use Rattle.ans_screen.specs.declared.plane_grid.RowState.{RowState}
 use Rattle.ans_screen.specs.declared.plane_grid.RowState.TheVariants.{Stale, Known, Mixed}
 use Rattle.ans_screen.proofs.Places.{keeps_all, keeps_written, keeps_filled, filled_within, filled_run, written_at}
@@ -49,14 +50,14 @@ written_mixed false Known blank g k b v never full = absurd (false≢true never)
 written_mixed known Mixed blank g k b v takes full = refl
 
 -- four planes of n bytes
-pub record AreLevel (gs ks bs vs : List ℕ) (n : ℕ) : Type 0 where
-  pub glyphs : length gs ≡ n
-  pub glyphs_known : length ks ≡ n
-  pub bits_known : length bs ≡ n
-  pub values : length vs ≡ n
+record AreLevel (gs ks bs vs : List ℕ) (n : ℕ) : Type 0 where
+  glyphs : length gs ≡ n
+  glyphs_known : length ks ≡ n
+  bits_known : length bs ≡ n
+  values : length vs ≡ n
 
 -- a run is written to all four planes
-pub run_mixed : (w rows from to : ℕ) (known : Bool) (states : ℕ → RowState) (blank : HalfCell)
+run_mixed : (w rows from to : ℕ) (known : Bool) (states : ℕ → RowState) (blank : HalfCell)
     (gs ks bs vs gs' ks' bs' vs' run : List ℕ) (k b v : ℕ) → AreLevel gs ks bs vs (w * rows) → to ≡ from + length run
     → to ≤ w * rows → gs' ≡ written gs from run → ks' ≡ filled ks from to k → bs' ≡ filled bs from to b
     → vs' ≡ filled vs from to v → AreOpen states known from to → (known ≡ true → (k ≡ 0xFF) × (b ≡ 0xFF))
@@ -84,7 +85,7 @@ run_mixed w rows from to known states blank gs ks bs vs gs' ks' bs' vs' run k b 
     ∙ sym (get_or-map_within (λ (g : ℕ). cell_of g k b v) run j 0 d (omega arith))))
 
 -- a run of known cells is written to two planes of known rows
-pub run_known : (w rows from to : ℕ) (known : Bool) (states : ℕ → RowState) (blank : HalfCell)
+run_known : (w rows from to : ℕ) (known : Bool) (states : ℕ → RowState) (blank : HalfCell)
     (gs ks bs vs gs' vs' run : List ℕ) (k b v : ℕ) → AreLevel gs ks bs vs (w * rows) → to ≡ from + length run
     → to ≤ w * rows → gs' ≡ written gs from run → vs' ≡ filled vs from to v
     → AreOpen states known from to → AreKnownStates states from to → (known ≡ true → (k ≡ 0xFF) × (b ≡ 0xFF))
@@ -111,40 +112,42 @@ run_known w rows from to known states blank gs ks bs vs gs' vs' run k b v h end 
     ∙ (ap (λ (n : ℕ). cell_of (get_or run j 0) k n v) (sym marks.1)
     ∙ sym (get_or-map_within (λ (g : ℕ). cell_of g k b v) run j 0 d (omega arith)))))
 
--- equal cells as a run of equal glyphs
-equal_cells : (cells : List HalfCell) (from to g k b v : ℕ) (c : HalfCell) → from ≤ to → cell_of g k b v ≡ c
-    → written cells from (map (λ (x : ℕ). cell_of x k b v) (replicate (to - from) g)) ≡ filled cells from to c
-equal_cells cells from to g k b v c le e =
-    ap (λ xs. written cells from xs) (map-replicate (λ (x : ℕ). cell_of x k b v) (to - from) g)
-    ∙ (sym (filled_run cells from to (cell_of g k b v) le) ∙ ap (λ (x : HalfCell). filled cells from to x) e)
+-- what is known of cells side by side is written too, or their states say that all of it is
+abbrev pub AreMarked : PlaneGrid → List ℕ → List ℕ → ℕ → ℕ → ℕ → ℕ → Type 0
+AreMarked g ks bs from to k b =
+    ((ks ≡ filled g.glyphs_known from to k) × (bs ≡ filled g.bits_known from to b))
+    ⊎ ((ks ≡ g.glyphs_known) × (bs ≡ g.bits_known) × AreKnownStates (states_of g) from to)
 
--- a fill of all four planes
-pub fill_mixed : (w rows from to : ℕ) (known : Bool) (states : ℕ → RowState) (blank : HalfCell)
-    (gs ks bs vs gs' ks' bs' vs' : List ℕ) (g k b v : ℕ) (c : HalfCell) → AreLevel gs ks bs vs (w * rows) → from ≤ to
-    → to ≤ w * rows → gs' ≡ filled gs from to g → ks' ≡ filled ks from to k → bs' ≡ filled bs from to b
-    → vs' ≡ filled vs from to v → AreOpen states known from to → (known ≡ true → (k ≡ 0xFF) × (b ≡ 0xFF))
-    → cell_of g k b v ≡ c
-    → cells_of_rows w rows states blank gs' ks' bs' vs'
-    ≡ filled (cells_of_rows w rows states blank gs ks bs vs) from to c
-fill_mixed w rows from to known states blank gs ks bs vs gs' ks' bs' vs' g k b v c h le room eg ek eb ev takes full e =
-    let len : length (replicate (to - from) g) ≡ to - from = length-replicate (to - from) g in
-    run_mixed w rows from to known states blank gs ks bs vs gs' ks' bs' vs' (replicate (to - from) g) k b v h
-    (omega arith) room (eg ∙ filled_run gs from to g le) ek eb ev takes full
-    ∙ equal_cells (cells_of_rows w rows states blank gs ks bs vs) from to g k b v c le e
+module _ (g : PlaneGrid) (from to : ℕ) (known : Bool) (gs ks bs vs : List ℕ) (k b v : ℕ)
+    (room : to ≤ g.width * g.rows) (values : vs ≡ filled g.values.items from to v) (marks : AreMarked g ks bs from to k b)
+    (takes : AreOpen (states_of g) known from to) (full : known ≡ true → (k ≡ 0xFF) × (b ≡ 0xFF)) where
+  -- a run is written to cells that take it
+  pub run_shown : (run : List ℕ) → to ≡ from + length run → gs ≡ written g.glyphs.items from run
+      → cells_of_rows g.width g.rows (states_of g) g.blank gs ks bs vs
+      ≡ written (cells_of_grid g) from (map (λ (x : ℕ). cell_of x k b v) run)
+  run_shown run end glyphs =
+      let level : AreLevel g.glyphs.items g.glyphs_known g.bits_known g.values.items (g.width * g.rows) = record {
+        glyphs = g.whole_glyphs;
+        glyphs_known = g.whole_glyphs_known;
+        bits_known = g.whole_bits_known;
+        values = g.whole_values;
+      } in
+      elim marks [
+        | inl both ↦ run_mixed g.width g.rows from to known (states_of g) g.blank g.glyphs.items g.glyphs_known
+            g.bits_known g.values.items gs ks bs vs run k b v level end room glyphs both.0 both.1 values takes full
+        | inr none ↦ rw (none.0, none.1) (run_known g.width g.rows from to known (states_of g) g.blank g.glyphs.items
+            g.glyphs_known g.bits_known g.values.items gs vs run k b v level end room glyphs values takes none.2 full)
+      ]
 
--- a fill of two planes of known rows
-pub fill_known : (w rows from to : ℕ) (known : Bool) (states : ℕ → RowState) (blank : HalfCell)
-    (gs ks bs vs gs' vs' : List ℕ) (g k b v : ℕ) (c : HalfCell) → AreLevel gs ks bs vs (w * rows) → from ≤ to
-    → to ≤ w * rows → gs' ≡ filled gs from to g → vs' ≡ filled vs from to v
-    → AreOpen states known from to → AreKnownStates states from to → (known ≡ true → (k ≡ 0xFF) × (b ≡ 0xFF))
-    → cell_of g k b v ≡ c
-    → cells_of_rows w rows states blank gs' ks bs vs'
-    ≡ filled (cells_of_rows w rows states blank gs ks bs vs) from to c
-fill_known w rows from to known states blank gs ks bs vs gs' vs' g k b v c h le room eg ev takes knowns full e =
-    let len : length (replicate (to - from) g) ≡ to - from = length-replicate (to - from) g in
-    run_known w rows from to known states blank gs ks bs vs gs' vs' (replicate (to - from) g) k b v h
-    (omega arith) room (eg ∙ filled_run gs from to g le) ev takes knowns full
-    ∙ equal_cells (cells_of_rows w rows states blank gs ks bs vs) from to g k b v c le e
+  -- cells that take it are filled
+  pub fill_shown : (x : ℕ) (c : HalfCell) → from ≤ to → gs ≡ filled g.glyphs.items from to x → cell_of x k b v ≡ c
+      → cells_of_rows g.width g.rows (states_of g) g.blank gs ks bs vs ≡ filled (cells_of_grid g) from to c
+  fill_shown x c le glyphs is =
+      let len : length (replicate (to - from) x) ≡ to - from = length-replicate (to - from) x in
+      run_shown (replicate (to - from) x) (omega arith) (glyphs ∙ filled_run g.glyphs.items from to x le)
+      ∙ (ap (λ xs. written (cells_of_grid g) from xs) (map-replicate (λ (y : ℕ). cell_of y k b v) (to - from) x)
+      ∙ (sym (filled_run (cells_of_grid g) from to (cell_of x k b v) le)
+      ∙ ap (λ (d : HalfCell). filled (cells_of_grid g) from to d) is))
 
 -- ---- all rows are stale
 pub all_stale : (w rows : ℕ) (states : List RowState) (extents : List Extent) (blank : HalfCell)

@@ -1,5 +1,5 @@
 -- Half-known cells in four byte planes, with a state for each row and the extent of what is held of it.
-use Rattle.std.specs.Prelude.{◌≡◌, ℕ, ◌*◌, ◌/◌, ◌<◌, ◌≤◌, Bool, false, IsTrue, List, length, map, slice_index}
+use Rattle.std.specs.Prelude.{◌≡◌, ℕ, ◌+◌, ◌*◌, ◌/◌, ◌<◌, ◌≤◌, Bool, false, IsTrue, List, length, map, slice_index}
 use Rattle.std.specs.Prelude.{slice_index_or, nat_lt, if◌then◌else◌, Option, MatchOption, ◌⊎◌}
 use Rattle.std.specs.List.{range_with_len}
 use Rattle.std.proofs.lemmas.List.FromFn.{length-map-range_with_len}
@@ -60,6 +60,24 @@ abbrev pub cells_of_grid : PlaneGrid → List HalfCell
 cells_of_grid g =
     cells_of_rows g.width g.rows (states_of g) g.blank g.glyphs.items g.glyphs_known g.bits_known
     g.values.items
+
+-- cell i of a grid
+abbrev pub cell_in_grid : PlaneGrid → ℕ → HalfCell
+cell_in_grid g = cell_at (states_of g) g.blank g.glyphs.items g.glyphs_known g.bits_known g.values.items
+
+-- a cell for each row and column of a grid
+pub length_grid : (g : PlaneGrid) → length (cells_of_grid g) ≡ g.width * g.rows
+length_grid g = length_rows g.width g.rows (states_of g) g.blank g.glyphs.items g.glyphs_known g.bits_known g.values.items
+
+-- both grids have the same cells in the same rows
+pub record ShowsSame (old new : PlaneGrid) : Type 0 where
+  pub cells : cells_of_grid new ≡ cells_of_grid old
+  pub width : new.width ≡ old.width
+  pub rows : new.rows ≡ old.rows
+
+-- this part of n cells side by side from cell `from` on is copied
+abbrev pub IsCopied : (HalfCell → ℕ) → PlaneGrid → ℕ → ℕ → List ℕ → Type 0
+IsCopied part g from n copied = (k : ℕ) → k < n → slice_index copied k ≡ part (cell_in_grid g (from + k))
 
 -- a cell can be written to the planes in such a state: a known one, or any
 abbrev pub Takes : Bool → RowState → Type 0

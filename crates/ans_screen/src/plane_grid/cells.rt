@@ -1,7 +1,7 @@
 //! A grid of planes read and written by its cells.
 
 ghost use Rattle.std.specs.Prelude.{◌≡◌, ◌*◌, length};
-ghost use Rattle.ans_screen.specs.RowCells.{cells_of_grid, length_rows, states_of};
+ghost use Rattle.ans_screen.specs.RowCells.{cells_of_grid, length_grid};
 
 use super::{Extent, PlaneGrid, RowState};
 use crate::attr::Attr;
@@ -139,6 +139,5 @@ impl Grid for PlaneGrid {
         }
     }
 
-    ghost whole = { λ g. length_rows g.width g.rows (states_of g) g.blank g.glyphs.items
-        g.glyphs_known g.bits_known g.values.items };
+    ghost whole = { length_grid };
 }

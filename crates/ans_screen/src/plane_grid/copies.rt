@@ -1,8 +1,8 @@
 //! Glyphs and attributes copied from the rows of a grid of planes.
 
-ghost use Rattle.std.specs.Prelude.{◌≡◌, ◌+◌, ◌*◌, ◌<◌, ◌≤◌, ℕ, length, slice_index, slice_index_or};
+ghost use Rattle.std.specs.Prelude.{◌≡◌, ◌+◌, ◌*◌, ◌<◌, ◌≤◌, ℕ, length, slice_index_or};
 ghost use Rattle.ans_screen.specs.HalfCells.{glyph_byte, attribute_byte};
-ghost use Rattle.ans_screen.specs.RowCells.{cell_at, states_of};
+ghost use Rattle.ans_screen.specs.RowCells.{IsCopied, states_of};
 ghost use Rattle.ans_screen.specs.declared.plane_grid.RowState.TheVariants.{Stale};
 
 use super::{PlaneGrid, RowState};
@@ -14,10 +14,7 @@ impl PlaneGrid {
         requires row { row < self.now.rows }
         requires from { row * self.now.width ≤ from }
         requires to { from + length glyphs.old ≤ row * self.now.width + self.now.width }
-        ensures { (k : ℕ) → k < length glyphs.old → slice_index glyphs.new k
-            ≡ glyph_byte (cell_at (states_of self.now) self.now.blank
-            self.now.glyphs.items self.now.glyphs_known self.now.bits_known
-            self.now.values.items (from + k)) }
+        ensures { IsCopied glyph_byte self.now from (length glyphs.old) glyphs.new }
     {
         let (first, end) = self.held_part(row, from, from + glyphs.len());
         glyphs.fill(self.blank.glyph_byte());
@@ -31,10 +28,7 @@ impl PlaneGrid {
         requires to { from + length glyphs.old ≤ self.now.width * self.now.rows }
         requires held { (i : ℕ) → from ≤ i → i < from + length glyphs.old
             → states_of self.now i ≡ slice_index_or self.now.states.items row Stale }
-        ensures { (k : ℕ) → k < length glyphs.old → slice_index glyphs.new k
-            ≡ glyph_byte (cell_at (states_of self.now) self.now.blank
-            self.now.glyphs.items self.now.glyphs_known self.now.bits_known
-            self.now.values.items (from + k)) }
+        ensures { IsCopied glyph_byte self.now from (length glyphs.old) glyphs.new }
     {
         let to = from + glyphs.len();
         match self.states[row] {
@@ -52,10 +46,7 @@ impl PlaneGrid {
         requires row { row < self.now.rows }
         requires from { row * self.now.width ≤ from }
         requires to { from + length values.old ≤ row * self.now.width + self.now.width }
-        ensures { (k : ℕ) → k < length values.old → slice_index values.new k
-            ≡ attribute_byte (cell_at (states_of self.now) self.now.blank
-            self.now.glyphs.items self.now.glyphs_known self.now.bits_known
-            self.now.values.items (from + k)) }
+        ensures { IsCopied attribute_byte self.now from (length values.old) values.new }
     {
         let (first, end) = self.held_part(row, from, from + values.len());
         values.fill(self.blank.attribute_byte());
@@ -69,10 +60,7 @@ impl PlaneGrid {
         requires to { from + length values.old ≤ self.now.width * self.now.rows }
         requires held { (i : ℕ) → from ≤ i → i < from + length values.old
             → states_of self.now i ≡ slice_index_or self.now.states.items row Stale }
-        ensures { (k : ℕ) → k < length values.old → slice_index values.new k
-            ≡ attribute_byte (cell_at (states_of self.now) self.now.blank
-            self.now.glyphs.items self.now.glyphs_known self.now.bits_known
-            self.now.values.items (from + k)) }
+        ensures { IsCopied attribute_byte self.now from (length values.old) values.new }
     {
         let to = from + values.len();
         match self.states[row] {

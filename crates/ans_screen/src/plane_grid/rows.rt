@@ -4,8 +4,8 @@ ghost use Rattle.std.specs.Prelude.{◌≡◌, ◌≢◌, ◌+◌, ◌*◌, ◌/
 ghost use Rattle.std.specs.Prelude.{true, false, IsTrue, IfSome};
 ghost use Rattle.ans_model.specs.Screen.Step.{filled};
 ghost use Rattle.ans_screen.specs.HalfCells.{is_known};
-ghost use Rattle.ans_screen.specs.RowCells.{cells_of_grid, cell_at, states_of, Takes, AreOpen};
-ghost use Rattle.ans_screen.specs.RowCells.{AreKnownStates, IsFirstUnknown, HasBlanks};
+ghost use Rattle.ans_screen.specs.RowCells.{cells_of_grid, cell_in_grid, states_of, Takes, AreOpen};
+ghost use Rattle.ans_screen.specs.RowCells.{AreKnownStates, IsFirstUnknown, HasBlanks, ShowsSame};
 ghost use Rattle.ans_screen.specs.declared.plane_grid.RowState.TheVariants.{Stale, Known, Mixed};
 
 use super::{Extent, PlaneGrid, RowState};
@@ -126,13 +126,11 @@ impl PlaneGrid {
     fn begin(&mut self, row: usize, at: usize, state: RowState)
         requires row { row < self.old.rows }
         requires stale { slice_index_or self.old.states.items row Stale ≡ Stale }
-        ensures cells { cells_of_grid self.new ≡ cells_of_grid self.old }
+        ensures same { ShowsSame self.old self.new }
         ensures states { self.new.states.items ≡ set self.old.states.items row state }
         ensures kept { (i : ℕ) → states_of self.old i ≢ Stale
             → states_of self.new i ≡ states_of self.old i }
         ensures blank { self.new.blank ≡ self.old.blank }
-        ensures width { self.new.width ≡ self.old.width }
-        ensures rows { self.new.rows ≡ self.old.rows }
     {
         self.states[row] = state;
         self.extents[row] = Extent { first: at, end: at };
@@ -143,13 +141,11 @@ impl PlaneGrid {
     fn mix(&mut self, row: usize)
         requires row { row < self.old.rows }
         requires known { slice_index_or self.old.states.items row Stale ≡ Known }
-        ensures cells { cells_of_grid self.new ≡ cells_of_grid self.old }
+        ensures same { ShowsSame self.old self.new }
         ensures states { self.new.states.items ≡ set self.old.states.items row Mixed }
         ensures kept { (known : Bool) (i : ℕ) → Takes known (states_of self.old i)
             → Takes known (states_of self.new i) }
         ensures blank { self.new.blank ≡ self.old.blank }
-        ensures width { self.new.width ≡ self.old.width }
-        ensures rows { self.new.rows ≡ self.old.rows }
     {
         let start = self.row_start(row);
         let (first, end) = self.held_part(row, start, start + self.width);
@@ -169,14 +165,12 @@ impl PlaneGrid {
         requires held { slice_index_or self.old.states.items row Stale ≢ Stale }
         requires known { slice_index_or self.old.states.items row Stale ≡ Known
             → IsTrue (is_known self.old.blank) }
-        ensures cells { cells_of_grid self.new ≡ cells_of_grid self.old }
+        ensures same { ShowsSame self.old self.new }
         ensures states { self.new.states ≡ self.old.states }
         ensures held { (i : ℕ) → from ≤ i → i < to
             → states_of self.new i ≡ slice_index_or self.old.states.items row Stale }
         ensures kept { (i : ℕ) → states_of self.old i ≢ Stale
             → states_of self.new i ≡ states_of self.old i }
-        ensures width { self.new.width ≡ self.old.width }
-        ensures rows { self.new.rows ≡ self.old.rows }
     {
         let start = self.row_start(row);
         let (first, end) = self.held_part(row, start, start + self.width);
@@ -193,14 +187,12 @@ impl PlaneGrid {
     #[inline(always)]
     fn settle(&mut self, row: usize, at: usize, known: bool)
         requires row { row < self.old.rows }
-        ensures cells { cells_of_grid self.new ≡ cells_of_grid self.old }
+        ensures same { ShowsSame self.old self.new }
         ensures held { slice_index_or self.new.states.items row Stale ≢ Stale }
         ensures known { slice_index_or self.new.states.items row Stale ≡ Known
             → (known ≡ true) × IsTrue (is_known self.new.blank) }
         ensures kept { (i : ℕ) → Takes known (states_of self.old i)
             → Takes known (states_of self.new i) }
-        ensures width { self.new.width ≡ self.old.width }
-        ensures rows { self.new.rows ≡ self.old.rows }
     {
         let two_planes = known && self.blank.is_known();
         match self.states[row] {
@@ -221,10 +213,7 @@ impl PlaneGrid {
             → states_of self.now i ≡ slice_index_or self.now.states.items row Stale }
     {
         let Extent { first, end } = self.extents[row];
-        if from < first || end < to {
-            return false;
-        }
-        true
+        first <= from && to <= end
     }
 
     /// Where the cells of a row end that are to be held, if those up to and without `to` are: as many
@@ -250,13 +239,11 @@ impl PlaneGrid {
         requires ordered { from ≤ to }
         requires start { row * self.old.width ≤ from }
         requires end { to ≤ row * self.old.width + self.old.width }
-        ensures cells { cells_of_grid self.new ≡ cells_of_grid self.old }
+        ensures same { ShowsSame self.old self.new }
         ensures takes { AreOpen (states_of self.new) known from to }
         ensures kept { (i : ℕ) → Takes known (states_of self.old i)
             → Takes known (states_of self.new i) }
         ensures planes { result ≡ false → AreKnownStates (states_of self.new) from to }
-        ensures width { self.new.width ≡ self.old.width }
-        ensures rows { self.new.rows ≡ self.old.rows }
     {
         self.settle(row, from, known);
         if !self.holds(row, from, to) {
@@ -270,11 +257,9 @@ impl PlaneGrid {
     #[inline(never)]
     fn open_each(&mut self, first: usize, end: usize, known: bool)
         requires { end ≤ self.old.rows }
-        ensures cells { cells_of_grid self.new ≡ cells_of_grid self.old }
+        ensures same { ShowsSame self.old self.new }
         ensures takes { (i : ℕ) → first ≤ i / self.new.width → i / self.new.width < end
             → Takes known (states_of self.new i) }
-        ensures width { self.new.width ≡ self.old.width }
-        ensures rows { self.new.rows ≡ self.old.rows }
     {
         for row in first..end {
             let start = self.row_start(row);
@@ -288,11 +273,9 @@ impl PlaneGrid {
     pub(super) fn open_cells(&mut self, from: usize, to: usize, known: bool) -> bool
         requires ordered { from ≤ to }
         requires within { to ≤ self.old.width * self.old.rows }
-        ensures cells { cells_of_grid self.new ≡ cells_of_grid self.old }
+        ensures same { ShowsSame self.old self.new }
         ensures takes { AreOpen (states_of self.new) known from to }
         ensures planes { result ≡ false → AreKnownStates (states_of self.new) from to }
-        ensures width { self.new.width ≡ self.old.width }
-        ensures rows { self.new.rows ≡ self.old.rows }
     {
         if from == to {
             return false;
@@ -343,9 +326,7 @@ impl PlaneGrid {
         requires from { row * self.now.width ≤ from }
         requires ordered { from < to }
         requires to { to ≤ row * self.now.width + self.now.width }
-        ensures { IsFirstUnknown (cell_at (states_of self.now) self.now.blank
-            self.now.glyphs.items self.now.glyphs_known self.now.bits_known
-            self.now.values.items) from to result }
+        ensures { IsFirstUnknown (cell_in_grid self.now) from to result }
     {
         let (first, end) = self.held_part(row, from, to);
         if from < first && !self.blank.is_known() {
@@ -368,9 +349,7 @@ impl PlaneGrid {
         requires to { to ≤ self.now.width * self.now.rows }
         requires held { (i : ℕ) → from ≤ i → i < to
             → states_of self.now i ≡ slice_index_or self.now.states.items row Stale }
-        ensures { IsFirstUnknown (cell_at (states_of self.now) self.now.blank
-            self.now.glyphs.items self.now.glyphs_known self.now.bits_known
-            self.now.values.items) from to result }
+        ensures { IsFirstUnknown (cell_in_grid self.now) from to result }
     {
         match self.states[row] {
             RowState::Stale if from < to && !self.blank.is_known() => Some(from),

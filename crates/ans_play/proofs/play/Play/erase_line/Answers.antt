@@ -1,20 +1,15 @@
-use Rattle.std.proofs.Common.{◌+◌, ◌*◌, lit<}
+use Rattle.std.proofs.Common.{◌+◌, ◌*◌}
 use Rattle.ans_model.specs.Bytes.{IsByte}
-use Rattle.ans_play.specs.PlayView.{IsByteHalfCell}
-use Rattle.ans_model.proofs.FilledLemmas.{All-filled}
+use Rattle.ans_play.proofs.BlankRuns.{filled_bytes}
 use Rattle.ans_play.proofs.play.Play.erase_line.Goals as goal
 
 pub invariant_of-self : goal.invariant_of-self
 invariant_of-self g c =
     let attribute : IsByte c.args.self.now.state.attribute.value = rw (← c.self.view_is) c.self.invariant.attribute in
-    let blank : IsByteHalfCell c.blank-blank.result = rw c.blank-blank.ensures (lit< tt, attribute) in
     record {
       cells = cc (g.met.G.Grid.whole c.fill.new.self, g.met.G.Grid.whole c.self.inside.grid);
-      bytes = rw c.fill.ensures.cells
-          (All-filled IsByteHalfCell (g.G.Grid.cells_of c.self.inside.grid)
-          (c.self.inside.cursor.low.row * c.width.result + c.self.inside.cursor.low.column)
-          (c.self.inside.cursor.low.row * c.width.result + c.width-2.result)
-          c.blank-blank.result blank c.self.invariant.bytes);
+      bytes = filled_bytes _ (c.self.inside.cursor.low.row * c.width.result + c.self.inside.cursor.low.column)
+          (c.self.inside.cursor.low.row * c.width.result + c.width-2.result) c.fill.ensures.cells c.blank-blank.ensures attribute c.self.invariant.bytes;
       attribute = c.self.invariant.attribute;
       cursor = c.self.invariant.cursor;
       saved = c.self.invariant.saved;

@@ -9,27 +9,24 @@ returns-in_err-byte-clause-stopped g c =
     let same : c.from_residual.result ≡ Err c.in_err-byte.field-0.0 = search rules in
     rw same (
       ap (λ (p : PlayView). p.size) c.self.view_is,
-      byte_refused c.args.self.now c.self.inside.scanner c.args.byte (ap (λ (p : PlayView). p.scanner) c.self.view_is)
-          c.in_err-byte.field-0.0 c.in_err-byte.ensures.fault,
+      byte_refused (ap (λ (p : PlayView). p.scanner) c.self.view_is) c.in_err-byte.ensures.fault,
     )
 
 pub returns-in-None-clause-played : goal.returns-in-None-clause-played
 returns-in-None-clause-played g c =
-    byte_goes_on c.args.self.now c.self.inside.scanner c.args.byte (ap (λ (p : PlayView). p.scanner) c.self.view_is)
-    _ c.byte.new.self (ap (λ (p : PlayView). record p { scanner = c.byte.new.self }) c.self.view_is)
+    byte_goes_on (ap (λ (p : PlayView). p.scanner) c.self.view_is)
+    (ap (λ (p : PlayView). record p { scanner = c.byte.new.self }) c.self.view_is)
     (rw c.in-None.is at c.in_ok-byte.ensures.unfinished) c.in_ok-byte.ensures.taken c.in_ok-byte.ensures.accepted
 
 pub returns-in-Some-clause-played : goal.returns-in-Some-clause-played
 returns-in-Some-clause-played g c =
-    byte_plays c.args.self.now c.self.inside.scanner c.args.byte (ap (λ (p : PlayView). p.scanner) c.self.view_is)
-    _ c.play_token.new.self c.byte.new.self c.in-Some.token
+    byte_plays (ap (λ (p : PlayView). p.scanner) c.self.view_is) _
     (ap (λ (p : PlayView). record p { scanner = c.byte.new.self }) c.self.view_is)
     (rw c.in-Some.is at c.in_ok-byte.ensures.token) c.play_token.result c.play_token.ensures
     c.in_ok-byte.ensures.taken c.in_ok-byte.ensures.accepted
 
 pub returns-in-Some-clause-stopped : goal.returns-in-Some-clause-stopped
 returns-in-Some-clause-stopped g c =
-    byte_deserved c.args.self.now c.self.inside.scanner c.args.byte (ap (λ (p : PlayView). p.scanner) c.self.view_is)
-    _ c.play_token.new.self c.byte.new.self c.in-Some.token
+    byte_deserved (ap (λ (p : PlayView). p.scanner) c.self.view_is) _
     (ap (λ (p : PlayView). record p { scanner = c.byte.new.self }) c.self.view_is)
     (rw c.in-Some.is at c.in_ok-byte.ensures.token) c.play_token.result c.play_token.ensures

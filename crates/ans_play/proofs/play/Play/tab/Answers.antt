@@ -1,4 +1,4 @@
-use Rattle.std.proofs.Common.{◌≡◌, ◌≢◌, ◌∙◌, ◌+◌, ◌*◌, ap, sym, refl, rules, length, true, lit<, Some, None}
+use Rattle.std.proofs.Common.{◌≡◌, ◌≢◌, ◌∙◌, ◌+◌, ◌*◌, ap, sym, refl, rules, length, true, Some, None}
 use Rattle.std.specs.Prelude.{Err}
 use Rattle.ans_model.specs.Bytes.{IsByte}
 use Rattle.ans_model.specs.Screen.State.{cell_count}
@@ -8,9 +8,8 @@ use Rattle.ans_play.specs.HalfStep.{half_blank}
 use Rattle.ans_model.specs.declared.fault.Cause.TheVariants.{PrintBelow, PrintUnknownPlace}
 use Rattle.ans_play.specs.HalfFault.{is_one_position, half_print_fault}
 use Rattle.ans_play.specs.HalfBlanks.{fault_of_blanks}
-use Rattle.ans_play.specs.PlayView.{PlayView, play_view, IsByteHalfCell}
-use Rattle.ans_play.proofs.BlankRuns.{tab_is_refused, tab_is_played, tab_refused_as_print, same_run}
-use Rattle.ans_model.proofs.FilledLemmas.{All-filled}
+use Rattle.ans_play.specs.PlayView.{PlayView, play_view}
+use Rattle.ans_play.proofs.BlankRuns.{tab_is_refused, tab_is_played, tab_refused_as_print, same_run, filled_bytes}
 use Rattle.ans_play.proofs.play.Play.tab.Goals as goal
 
 pub returns-then-not-is_one_position : goal.returns-then-not-is_one_position
@@ -42,13 +41,10 @@ returns-in_err-cursor g c =
 pub invariant_of-self : goal.invariant_of-self
 invariant_of-self g c =
     let attribute : IsByte c.args.self.now.state.attribute.value = rw (← c.self.view_is) c.self.invariant.attribute in
-    let blank : IsByteHalfCell c.blank-blank.result = rw c.blank-blank.ensures (lit< tt, attribute) in
     record {
       cells = cc (g.met.G.Grid.whole c.fill.new.self, g.met.G.Grid.whole c.self.inside.grid);
-      bytes = rw c.fill.ensures.cells
-          (All-filled IsByteHalfCell (g.G.Grid.cells_of c.self.inside.grid)
-          (c.self.inside.cursor.low.row * c.width.result + c.self.inside.cursor.low.column)
-          c.end_of_blanks-to.result c.blank-blank.result blank c.self.invariant.bytes);
+      bytes = filled_bytes _ (c.self.inside.cursor.low.row * c.width.result + c.self.inside.cursor.low.column)
+          c.end_of_blanks-to.result c.fill.ensures.cells c.blank-blank.ensures attribute c.self.invariant.bytes;
       attribute = c.self.invariant.attribute;
       cursor = c.in_ok-cursor.ensures.on_screen;
       saved = c.self.invariant.saved;

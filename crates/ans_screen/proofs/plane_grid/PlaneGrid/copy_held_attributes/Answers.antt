@@ -1,6 +1,5 @@
 use Rattle.std.proofs.Common.{rules, ◌≡◌, ◌+◌, ◌<◌, ℕ, length, replicate, get_or, List, arith, ap, sym, ◌∙◌}
 use Rattle.std.proofs.lemmas.List.{get_or-replicate}
-use Rattle.ans_screen.specs.RowCells.{states_of}
 use Rattle.ans_screen.specs.declared.plane_grid.RowState.TheVariants.{Mixed}
 use Rattle.ans_screen.proofs.RowReads.{state_read, no_bits}
 use Rattle.ans_screen.proofs.plane_grid.PlaneGrid.copy_held_attributes.Goals as goal
@@ -13,6 +12,5 @@ returns-in-None c = λ k lt.
     let filled : c.fill-in-None.new.self ≡ replicate (length c.args.values.now) 0 = search rules in
     ap (λ (xs : List ℕ). get_or xs k 0) filled
     ∙ (get_or-replicate (length c.args.values.now) k 0 0 lt
-    ∙ sym (no_bits (states_of g) g.blank g.glyphs.items g.glyphs_known g.bits_known g.values.items (c.args.from + k)
-    (length g.bits_known) (c.requires.held (c.args.from + k) (omega arith) (omega arith) ∙ state) c.in-None.ensures
+    ∙ sym (no_bits g (c.args.from + k) (length g.bits_known) (c.requires.held (c.args.from + k) (omega arith) (omega arith) ∙ state) c.in-None.ensures
     (omega arith)))

@@ -1,24 +1,12 @@
-use Rattle.std.proofs.Common.{rules, ℕ, ◌≡◌, length, replicate, arith, ap, sym, ◌∙◌}
+use Rattle.std.proofs.Common.{rules, ◌≡◌, length, replicate, arith}
 use Rattle.ans_screen.specs.HalfCells.{glyph_byte}
-use Rattle.ans_screen.specs.declared.cell.HalfCell.{HalfCell}
-use Rattle.ans_screen.specs.RowCells.{cell_at, states_of}
-use Rattle.ans_screen.specs.declared.plane_grid.RowState.TheVariants.{Stale}
-use Rattle.ans_screen.proofs.RowReads.{cell_in_state, copied_row}
+use Rattle.ans_screen.proofs.RowReads.{copied_held}
 use Rattle.ans_screen.proofs.plane_grid.PlaneGrid.copy_row_glyphs.Goals as goal
 
 pub returns : goal.returns
 returns c =
-    let g = c.args.self.now in
-    let held = c.held_part-first.ensures in
     let filled : c.fill.new.self ≡ replicate (length c.args.glyphs.now) c.glyph_byte.result = search rules in
-    let cell : ℕ → HalfCell =
-    cell_at (states_of g) g.blank g.glyphs.items g.glyphs_known g.bits_known g.values.items in
-    let stale : (i : ℕ) → states_of g i ≡ Stale → glyph_byte (cell i) ≡ c.glyph_byte.result = λ i e.
-    ap glyph_byte (cell_in_state (states_of g) Stale g.blank g.glyphs.items g.glyphs_known g.bits_known
-    g.values.items i e) ∙ sym c.glyph_byte.ensures in
-    copied_row glyph_byte cell c.glyph_byte.result c.args.from c.held_part-first.result.0
-    c.held_part-first.result.1 c.args.glyphs.now c.fill.new.self c.copy_held_glyphs.new.glyphs
-    held.from held.ordered held.to filled
-    (omega (arith, c.copy_held_glyphs.auto.glyphs))
-    (λ i le lt. stale i (held.before i le lt)) (λ i le lt. stale i (held.after i le lt))
+    let held = c.held_part-first.ensures in
+    copied_held c.args.self.now glyph_byte c.args.glyphs.now _ c.glyph_byte.ensures held.from held.ordered held.to filled
+    (omega (arith, c.copy_held_glyphs.auto.glyphs)) held.before held.after
     (λ k lt. c.copy_held_glyphs.ensures k (omega (arith, lt)))

@@ -13,5 +13,5 @@ returns-in-None-clause-takes c = λ i le lt.
     arith) in
     let below : i / g.width < (c.args.to - 1) / g.width + 1 =
     div_below i g.width ((c.args.to - 1) / g.width + 1) g.some_width (omega arith) in
-    let w = c.open_each.ensures.width in
+    let w = c.open_each.ensures.same.width in
     c.open_each.ensures.takes i (rw w above) (rw w below)

@@ -1,13 +1,11 @@
-use Rattle.std.proofs.Common.{◌≡◌, ◌≤◌, ◌<◌, ◌/◌, ℕ}
-use Rattle.ans_screen.specs.RowCells.{cells_of_grid, states_of, Takes}
+use Rattle.std.proofs.Common.{◌≤◌, ◌<◌, ◌/◌, ℕ}
+use Rattle.ans_screen.specs.RowCells.{states_of, ShowsSame, Takes}
 use Rattle.ans_screen.proofs.plane_grid.PlaneGrid.open_each.Given as goal
 
 -- the cells are as they were, and those of the rows so far take what is to be written
 abbrev pub invariant-loop-row : goal.invariant-loop-row
 invariant-loop-row l = record {
-  cells : cells_of_grid l.self ≡ cells_of_grid l.fn.self;
+  same : ShowsSame l.fn.self l.self;
   takes : (i : ℕ) → l.first ≤ i / l.fn.self.width → i / l.fn.self.width < l.row
       → Takes l.known (states_of l.self i);
-  width : l.self.width ≡ l.fn.self.width;
-  rows : l.self.rows ≡ l.fn.self.rows;
 }

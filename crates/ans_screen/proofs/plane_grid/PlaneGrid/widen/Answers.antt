@@ -1,8 +1,7 @@
 use Rattle.std.proofs.Common.{◌≡◌, get_or, arith, ◌∙◌}
 use Rattle.std.proofs.lemmas.List.{get_or_read}
 use Rattle.ans_screen.specs.declared.plane_grid.RowState.TheVariants.{Stale}
-use Rattle.ans_screen.proofs.RowCells.{widened_rows, widened_inside, widened_keeps}
-use Rattle.ans_screen.proofs.Widened.{HoldsFrom, Widening, is_widened}
+use Rattle.ans_screen.proofs.Widened.{HoldsFrom, Widening, is_widened, widening_cells, widening_inside, widening_keeps}
 use Rattle.ans_screen.proofs.plane_grid.PlaneGrid.widen.Goals as goal
 use Rattle.ans_screen.proofs.plane_grid.PlaneGrid.widen.Goals.{After-write_blank-2}
 
@@ -39,35 +38,24 @@ widening c =
           back.blanks front.blank (back.blank ∙ front.blank);
     }
 
-pub returns-clause-cells : goal.returns-clause-cells
-returns-clause-cells c =
-    let g = c.args.self.now in
-    let new = c.write_blank-2.new.self in
-    let held = c.held_part-first in
-    let h = widening (goal.at.returns-clause-cells c).After-write_blank-2 in
-    rw (h.width, h.rows, h.blank, h.states, h.extents, c.min.ensures, c.max.ensures)
-    (widened_rows g.width g.rows c.args.row held.result.0 held.result.1 c.args.from c.args.to g.states.items
-    g.extents.items g.blank g.glyphs.items g.glyphs_known g.bits_known g.values.items new.glyphs.items
-    new.glyphs_known new.bits_known new.values.items held.ensures.ordered h.planes)
+pub returns-clause-same : goal.returns-clause-same
+returns-clause-same c =
+    let h = widening (goal.at.returns-clause-same c).After-write_blank-2 in
+    record {
+      cells = rw (h.width, h.rows, h.blank, h.states, h.extents, c.min.ensures, c.max.ensures)
+          (widening_cells h c.held_part-first.ensures.ordered);
+      width = h.width;
+      rows = h.rows;
+    }
 
 pub returns-clause-held : goal.returns-clause-held
 returns-clause-held c = λ i le lt.
-    let g = c.args.self.now in
-    let new = c.write_blank-2.new.self in
-    let held = c.held_part-first in
     let h = widening (goal.at.returns-clause-held c).After-write_blank-2 in
     rw (h.width, h.states, h.extents, c.min.ensures, c.max.ensures)
-    (widened_inside g.width g.rows c.args.row held.result.0 held.result.1 c.args.from c.args.to g.states.items
-    g.extents.items g.blank g.glyphs.items g.glyphs_known g.bits_known g.values.items new.glyphs.items
-    new.glyphs_known new.bits_known new.values.items held.ensures.ordered h.planes i (omega arith) (omega arith))
+    (widening_inside h c.held_part-first.ensures.ordered i (omega arith) (omega arith))
 
 pub returns-clause-kept : goal.returns-clause-kept
 returns-clause-kept c = λ i other.
-    let g = c.args.self.now in
-    let new = c.write_blank-2.new.self in
-    let held = c.held_part-first in
     let h = widening (goal.at.returns-clause-kept c).After-write_blank-2 in
     rw (h.width, h.states, h.extents, c.min.ensures, c.max.ensures)
-    (widened_keeps g.width g.rows c.args.row held.result.0 held.result.1 c.args.from c.args.to g.states.items
-    g.extents.items g.blank g.glyphs.items g.glyphs_known g.bits_known g.values.items new.glyphs.items
-    new.glyphs_known new.bits_known new.values.items held.ensures.ordered h.planes i other)
+    (widening_keeps h c.held_part-first.ensures.ordered i other)

@@ -1,30 +1,19 @@
 use Rattle.std.proofs.Common.{◌≡◌, ℕ, ◌*◌, ◌≤◌, arith, ap}
 use Rattle.std.proofs.Common.{Some, None, inl, inr}
 use Rattle.std.proofs.lemmas.Bool.{cases_lt}
-use Rattle.ans_screen.specs.RowCells.{length_rows, states_of}
-use Rattle.ans_screen.proofs.RowReads.{first_of_rows}
+use Rattle.ans_screen.specs.RowCells.{length_grid}
+use Rattle.ans_screen.proofs.RowReads.{first_of_grid}
 use Rattle.ans_screen.proofs.plane_grid.cells.PlaneGridGrid.first_unknown.Goals as goal
 
 pub returns-then-from-to : goal.returns-then-from-to
 returns-then-from-to c =
-    let g = c.args.self.now in
-    let len = length_rows g.width g.rows (states_of g) g.blank g.glyphs.items g.glyphs_known g.bits_known
-    g.values.items in
-    let within : c.args.to ≤ g.width * g.rows = omega arith in
-    first_of_rows g.width g.rows (states_of g) g.blank g.glyphs.items g.glyphs_known g.bits_known
-    g.values.items c.args.to None
-    within (λ i start lt. c.loop-row.invariant i (omega arith) lt)
+    first_of_grid c.args.self.now c.args.to None (omega (arith, length_grid c.args.self.now))
+    (λ i start lt. c.loop-row.invariant i (omega arith) lt)
 
 pub returns-in-Some : goal.returns-in-Some
 returns-in-Some c =
-    let g = c.args.self.now in
-    let len = length_rows g.width g.rows (states_of g) g.blank g.glyphs.items g.glyphs_known g.bits_known
-    g.values.items in
-    let within : c.args.to ≤ g.width * g.rows = omega arith in
     let found = c.in-Some.ensures in
-    first_of_rows g.width g.rows (states_of g) g.blank g.glyphs.items g.glyphs_known g.bits_known
-    g.values.items c.args.to
-    (Some c.in-Some.i) within (
+    first_of_grid c.args.self.now c.args.to (Some c.in-Some.i) (omega (arith, length_grid c.args.self.now)) (
       omega arith,
       omega (arith, found.1, c.min-end.ensures),
       λ i start lt. elim (cases_lt i c.row_start-from.result) [
@@ -37,11 +26,7 @@ returns-in-Some c =
 pub returns : goal.returns
 returns c =
     let g = c.args.self.now in
-    let len = length_rows g.width g.rows (states_of g) g.blank g.glyphs.items g.glyphs_known g.bits_known
-    g.values.items in
-    let within : c.args.to ≤ g.width * g.rows = omega arith in
+    let within : c.args.to ≤ g.width * g.rows = omega (arith, length_grid g) in
     let all : c.loop-row.row ≡ g.rows = omega arith in
     let cells : c.loop-row.row * g.width ≡ g.rows * g.width = ap (λ (n : ℕ). n * g.width) all in
-    first_of_rows g.width g.rows (states_of g) g.blank g.glyphs.items g.glyphs_known g.bits_known
-    g.values.items c.args.to None
-    within (λ i start lt. c.loop-row.invariant i (omega arith) lt)
+    first_of_grid g c.args.to None within (λ i start lt. c.loop-row.invariant i (omega arith) lt)

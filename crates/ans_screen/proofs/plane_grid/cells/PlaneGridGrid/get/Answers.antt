@@ -1,31 +1,23 @@
-use Rattle.std.proofs.Common.{ℕ, ◌*◌, ◌/◌, ◌<◌, length, arith, refl, sym, ◌∙◌}
+use Rattle.std.proofs.Common.{◌*◌, ◌/◌, ◌<◌, arith, refl, sym, ◌∙◌}
 use Rattle.std.proofs.Common.{get_or, ◌≡◌, ◌≤◌, ◌⊎◌, inl, inr, ap}
 use Rattle.std.proofs.lemmas.List.{get_or_read}
 use Rattle.ans_screen.specs.declared.plane_grid.RowState.TheVariants.{Stale, Known, Mixed}
-use Rattle.ans_screen.specs.RowCells.{cells_of_grid, length_rows, states_of, nowhere}
+use Rattle.ans_screen.specs.RowCells.{length_grid, states_of, nowhere}
 use Rattle.ans_screen.specs.declared.plane_grid.Extent.{Extent}
-use Rattle.ans_screen.specs.declared.plane_grid.PlaneGrid.{PlaneGrid}
 use Rattle.ans_screen.proofs.Places.{row_below}
-use Rattle.ans_screen.proofs.RowReads.{read_rows}
+use Rattle.ans_screen.proofs.RowReads.{cell_in_state, read_cell}
 use Rattle.ans_screen.proofs.RowCells.{same_cell, in_held, off_held}
 use Rattle.ans_screen.proofs.plane_grid.cells.PlaneGridGrid.get.Goals as goal
 use Rattle.ans_screen.proofs.plane_grid.cells.PlaneGridGrid.get.Goals.{then-i-first-via-then-i-first}
 use Rattle.ans_screen.proofs.plane_grid.cells.PlaneGridGrid.get.Goals.{then-i-first-via-else-i-first+then-i-end}
 use Rattle.ans_screen.proofs.plane_grid.cells.PlaneGridGrid.get.Goals.{After-index, After-index-2}
 
--- a cell of the grid
-in_grid : (g : PlaneGrid) (i : ℕ) → i < length (cells_of_grid g) → i < g.width * g.rows
-in_grid g i lt =
-    let len = length_rows g.width g.rows (states_of g) g.blank g.glyphs.items g.glyphs_known g.bits_known
-    g.values.items in
-    omega arith
-
 -- the extent that is read is that of the cell's row
 extent_read : (c : After-index)
     → c.index.result.now ≡ get_or c.args.self.now.extents.items (c.args.i / c.args.self.now.width) nowhere
 extent_read c =
     let g = c.args.self.now in
-    let below = row_below g.width g.rows c.args.i g.some_width (in_grid g c.args.i c.requires) in
+    let below = row_below g.width g.rows c.args.i g.some_width (omega (arith, length_grid g)) in
     get_or_read g.extents.items (c.args.i / g.width) _ (omega (arith, below)) c.index.ensures nowhere
 
 -- the state that is read is that of the cell
@@ -35,7 +27,7 @@ state_is : (c : After-index-2)
 state_is c held =
     let g = c.args.self.now in
     let row = c.args.i / g.width in
-    let below = row_below g.width g.rows c.args.i g.some_width (in_grid g c.args.i c.requires) in
+    let below = row_below g.width g.rows c.args.i g.some_width (omega (arith, length_grid g)) in
     in_held (get_or g.states.items row Stale) (get_or g.extents.items row nowhere) c.args.i
     (omega (arith, c.if-i-first.false, ap (λ (e : Extent). e.first) held))
     (omega (arith, c.if-i-end.false, ap (λ (e : Extent). e.end) held))
@@ -55,36 +47,25 @@ returns-then-i-first c =
     ] in
     let state = off_held (get_or g.states.items (c.args.i / g.width) Stale)
     (get_or g.extents.items (c.args.i / g.width) nowhere) c.args.i out in
-    read_rows g.width g.rows (states_of g) g.blank g.glyphs.items g.glyphs_known g.bits_known
-    g.values.items c.args.i _ (in_grid g c.args.i c.requires)
-    (sym (same_cell _ Stale g.blank (get_or g.glyphs.items c.args.i 0) (get_or g.glyphs_known c.args.i 0)
-    (get_or g.bits_known c.args.i 0) (get_or g.values.items c.args.i 0) _ _ _ _ state refl refl refl refl))
+    read_cell g (omega (arith, length_grid g)) (sym (cell_in_state g Stale c.args.i state))
 
 pub returns-in-Stale : goal.returns-in-Stale
 returns-in-Stale c =
     let g = c.args.self.now in
     let at = goal.at.returns-in-Stale c in
-    let state = state_is at.After-index-2 (extent_read at.After-index) ∙ c.in-Stale.is in
-    let within = in_grid g c.args.i c.requires in
-    read_rows g.width g.rows (states_of g) g.blank g.glyphs.items g.glyphs_known g.bits_known
-    g.values.items c.args.i _ within
-    (sym (same_cell _ Stale g.blank (get_or g.glyphs.items c.args.i 0) (get_or g.glyphs_known c.args.i 0)
-    (get_or g.bits_known c.args.i 0) (get_or g.values.items c.args.i 0) _ _ _ _ state refl refl refl refl))
+    read_cell g (omega (arith, length_grid g))
+    (sym (cell_in_state g Stale c.args.i (state_is at.After-index-2 (extent_read at.After-index) ∙ c.in-Stale.is)))
 
 pub returns-in-Known : goal.returns-in-Known
 returns-in-Known c =
     let g = c.args.self.now in
     let at = goal.at.returns-in-Known c in
     let state = state_is at.After-index-2 (extent_read at.After-index) ∙ c.in-Known.is in
-    let within = in_grid g c.args.i c.requires in
-    read_rows g.width g.rows (states_of g) g.blank g.glyphs.items g.glyphs_known g.bits_known
-    g.values.items c.args.i _ within
-    (c.cell_of_bytes.ensures
-    ∙ (c.known.ensures
-    ∙ sym (same_cell _ Known g.blank c.index-in-Known.result.now (get_or g.glyphs_known c.args.i 0) (get_or
-    g.bits_known c.args.i 0)
-    c.index-in-Known-2.result.now _ _ _ _ state (sym (get_or_read g.glyphs.items c.args.i _ (omega arith)
-    c.index-in-Known.ensures 0)) refl refl
+    let within : c.args.i < g.width * g.rows = omega (arith, length_grid g) in
+    read_cell g within
+    (c.cell_of_bytes.ensures ∙ (c.known.ensures
+    ∙ sym (same_cell _ Known g.blank _ (get_or g.glyphs_known c.args.i 0) (get_or g.bits_known c.args.i 0) _ _ _ _ _
+    state (sym (get_or_read g.glyphs.items c.args.i _ (omega arith) c.index-in-Known.ensures 0)) refl refl
     (sym (get_or_read g.values.items c.args.i _ (omega arith) c.index-in-Known-2.ensures 0)))))
 
 pub returns-in-Mixed : goal.returns-in-Mixed
@@ -92,13 +73,10 @@ returns-in-Mixed c =
     let g = c.args.self.now in
     let at = goal.at.returns-in-Mixed c in
     let state = state_is at.After-index-2 (extent_read at.After-index) ∙ c.in-Mixed.is in
-    let within = in_grid g c.args.i c.requires in
-    read_rows g.width g.rows (states_of g) g.blank g.glyphs.items g.glyphs_known g.bits_known
-    g.values.items c.args.i _ within
+    let within : c.args.i < g.width * g.rows = omega (arith, length_grid g) in
+    read_cell g within
     (c.cell_of_bytes-in-Mixed.ensures
-    ∙ sym (same_cell _ Mixed g.blank c.index-in-Mixed.result.now c.byte.result c.byte-in-Mixed.result
-    c.index-in-Mixed-2.result.now _ _ _ _ state (sym (get_or_read g.glyphs.items
-    c.args.i _ (omega arith) c.index-in-Mixed.ensures 0))
-    (sym c.byte.ensures)
-    (sym c.byte-in-Mixed.ensures)
+    ∙ sym (same_cell _ Mixed g.blank _ _ _ _ _ _ _ _ state
+    (sym (get_or_read g.glyphs.items c.args.i _ (omega arith) c.index-in-Mixed.ensures 0))
+    (sym c.byte.ensures) (sym c.byte-in-Mixed.ensures)
     (sym (get_or_read g.values.items c.args.i _ (omega arith) c.index-in-Mixed-2.ensures 0))))
