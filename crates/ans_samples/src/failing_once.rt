@@ -20,7 +20,6 @@ impl Failure {
     /// The ways in which a write fails.
     pub const ALL: [Failure; 3] = [Failure::Error, Failure::Interruption, Failure::Nothing];
 
-    /// What a call returns that fails in this way.
     fn returned(self) -> io::Result<usize>
         ensures { IfOk result (λ n. n ≡ 0) }
     {

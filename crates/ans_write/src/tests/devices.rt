@@ -53,17 +53,12 @@ fn a_write_that_fails_is_not_made_again(rt: HostRuntime) {
 /// A device that takes one byte a call is called once for each.
 #[test]
 fn all_is_written_by_short_writes(rt: HostRuntime) {
-    let rows: [(&[u8], u64); 4] = [
-        (b"", 0),
-        (b"a", 1),
-        (b"\x00\x1a\xff", 3),
-        (b"16 bytes in all.", 16),
-    ];
-    for (bytes, calls) in rows {
+    let texts: [&[u8]; 4] = [b"", b"a", b"\x00\x1a\xff", b"16 bytes in all."];
+    for bytes in texts {
         let mut device = Tried::new(Narrow::new(16));
         assert_eq!(rt; device.write_all(bytes), Ok(()));
         assert!(rt; !device.failed());
-        assert_eq!(rt; device.calls(), calls);
+        assert_eq!(rt; device.calls(), bytes.len() as u64);
         assert_eq!(rt; device.inner().held(), bytes);
     }
 }

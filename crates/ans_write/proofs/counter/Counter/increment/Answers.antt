@@ -36,8 +36,8 @@ loop-place-preserved c =
       carries = rw count at more;
     }
 
-pub overflow_sub-digits : goal.overflow_sub-digits
-overflow_sub-digits c =
+pub overflow_sub-start : goal.overflow_sub-start
+overflow_sub-start c =
     let s = c.args.self.now in
     (counted_over s.digits c.loop-place.digits s.start c.loop-place.place s.number c.if-place-self.true
     c.loop-place.invariant.carries s.shown c.requires).1
@@ -52,12 +52,6 @@ overflow_add-digits c =
     digit_most s.digits c.loop-place.digits s.start (place - 1) (8 - place) s.number (after_digit some h.carries)
     (omega arith) s.shown (omega arith) in
     omega arith
-
-pub overflow_sub-self : goal.overflow_sub-self
-overflow_sub-self c =
-    let s = c.args.self.now in
-    (counted_over s.digits c.loop-place.digits s.start c.loop-place.place s.number c.if-place-self.true
-    c.loop-place.invariant.carries s.shown c.requires).1
 
 pub invariant_of-self : goal.invariant_of-self
 invariant_of-self c =
