@@ -69,20 +69,26 @@ static MISTAKES: [(&[&str], ErrorKind); 24] = rows! {
     "anscheck" "needs" "f" "g" => UnknownArgument;
 };
 
+macro_rules! after_help {
+    ($($($word:literal)+ => $kind:ident;)*) => {
+        rows! { $("anscheck" "help" $($word)+ => $kind;)* }
+    };
+}
+
 /// What may not follow `help`, and of which kind that mistake is.
-static HELP_MISTAKES: [(&[&str], ErrorKind); 12] = rows! {
-    "anscheck" "help" "nonsense" => InvalidSubcommand;
-    "anscheck" "help" "need" => InvalidSubcommand;
-    "anscheck" "help" "help" => InvalidSubcommand;
-    "anscheck" "help" "" => InvalidSubcommand;
-    "anscheck" "help" "--" => InvalidSubcommand;
-    "anscheck" "help" "--help" => InvalidSubcommand;
-    "anscheck" "help" "--cleared" => InvalidSubcommand;
-    "anscheck" "help" "-V" => InvalidSubcommand;
-    "anscheck" "help" "nonsense" "check" => InvalidSubcommand;
-    "anscheck" "help" "check" "more" => UnknownArgument;
-    "anscheck" "help" "check" "sauce" => UnknownArgument;
-    "anscheck" "help" "needs" "--help" => UnknownArgument;
+static HELP_MISTAKES: [(&[&str], ErrorKind); 12] = after_help! {
+    "nonsense" => InvalidSubcommand;
+    "need" => InvalidSubcommand;
+    "help" => InvalidSubcommand;
+    "" => InvalidSubcommand;
+    "--" => InvalidSubcommand;
+    "--help" => InvalidSubcommand;
+    "--cleared" => InvalidSubcommand;
+    "-V" => InvalidSubcommand;
+    "nonsense" "check" => InvalidSubcommand;
+    "check" "more" => UnknownArgument;
+    "check" "sauce" => UnknownArgument;
+    "needs" "--help" => UnknownArgument;
 };
 
 #[test]

@@ -17,12 +17,13 @@ macro_rules! help {
     };
 }
 
-/// The help of a command, by what it does, its usage and its options.
-macro_rules! command_help {
-    ($about:literal, $usage:literal, $options:literal) => {
-        help!(
+/// The help of commands, by what each does, its usage and its options.
+macro_rules! command_helps {
+    ($($name:literal: $about:literal, $usage:literal, $options:literal;)*) => {
+        [$(($name, help!(
             $about,
             "\n\nUsage: anscheck ",
+            $name,
             $usage,
             "\n\n\
             Arguments:\n\
@@ -30,7 +31,7 @@ macro_rules! command_help {
             \n\
             Options:\n",
             $options
-        )
+        ))),*]
     };
 }
 
@@ -68,53 +69,30 @@ const PROGRAM_HELP: &str = help!(
     \x20 anscheck help check\n"
 );
 
-const NEEDS_HELP: &str = command_help!(
-    "Print what a drawing relies on: screen, cursor, saved, colours, wrap",
-    "needs [FILE]",
-    "  -h, --help  Print help\n"
-);
-
-const CHECK_HELP: &str = command_help!(
-    "Check that a file always shows the same picture, and print it",
-    "check [OPTIONS] [FILE]",
-    "\x20     --known-screen   Assume the screen to be blank, white on black\n\
-    \x20     --known-cursor   Assume the cursor to be at the top left\n\
-    \x20     --known-saved    Assume the saved cursor to be at the top left\n\
-    \x20     --known-colours  Assume the colours to be white on black\n\
-    \x20     --known-wrap     Assume wrap to be on\n\
-    \x20     --cleared        Assume all five: a screen that was just cleared\n\
-    \x20     --cells          Print each cell too: its byte and its attribute, in hex\n\
-    \x20 -h, --help           Print help\n"
-);
-
-const SAUCE_HELP: &str = command_help!(
-    "Print what a file's SAUCE record says",
-    "sauce [FILE]",
-    "  -h, --help  Print help\n"
-);
-
-const TOKENS_HELP: &str = command_help!(
-    "Print the bytes and the escape sequences of a file, one a line",
-    "tokens [FILE]",
-    "  -h, --help  Print help\n"
-);
-
-/// Words that ask for help, and the text.
-static HELP: [(&[&str], &str); 11] = rows! {
-    "anscheck" "--help" => PROGRAM_HELP;
-    "anscheck" "-h" => PROGRAM_HELP;
-    "anscheck" "help" => PROGRAM_HELP;
-    "anscheck" "needs" "--help" => NEEDS_HELP;
-    "anscheck" "help" "needs" => NEEDS_HELP;
-    "anscheck" "check" "--help" => CHECK_HELP;
-    "anscheck" "help" "check" => CHECK_HELP;
-    "anscheck" "sauce" "--help" => SAUCE_HELP;
-    "anscheck" "help" "sauce" => SAUCE_HELP;
-    "anscheck" "tokens" "--help" => TOKENS_HELP;
-    "anscheck" "help" "tokens" => TOKENS_HELP;
+/// Commands, and the help of each.
+static COMMANDS: [(&str, &str); 4] = command_helps! {
+    "needs":
+        "Print what a drawing relies on: screen, cursor, saved, colours, wrap", " [FILE]",
+        "  -h, --help  Print help\n";
+    "check":
+        "Check that a file always shows the same picture, and print it", " [OPTIONS] [FILE]",
+        "\x20     --known-screen   Assume the screen to be blank, white on black\n\
+        \x20     --known-cursor   Assume the cursor to be at the top left\n\
+        \x20     --known-saved    Assume the saved cursor to be at the top left\n\
+        \x20     --known-colours  Assume the colours to be white on black\n\
+        \x20     --known-wrap     Assume wrap to be on\n\
+        \x20     --cleared        Assume all five: a screen that was just cleared\n\
+        \x20     --cells          Print each cell too: its byte and its attribute, in hex\n\
+        \x20 -h, --help           Print help\n";
+    "sauce":
+        "Print what a file's SAUCE record says", " [FILE]",
+        "  -h, --help  Print help\n";
+    "tokens":
+        "Print the bytes and the escape sequences of a file, one a line", " [FILE]",
+        "  -h, --help  Print help\n";
 };
 
-/// Other words, and the text.
+/// Words that ask for no help, and the text.
 static TEXTS: [(&[&str], &str); 10] = rows! {
     "anscheck" "--version" => "anscheck 0.1.0 (rattle-kit-13f)\n";
     "anscheck" "-V" => "anscheck 0.1.0 (rattle-kit-13f)\n";
@@ -149,21 +127,23 @@ fn text_of(rt: &(impl Abort + AllocGlobal), words: &[&str]) -> String {
     }
 }
 
-#[test]
-fn help_has_its_texts(rt: HostRuntime) {
-    for (words, text) in &HELP {
-        let said = text_of(&rt, words);
-        assert_eq!(rt; said.as_str(), *text);
+/// Asserts what `clap` says of words. No line of a help has more than 79 columns.
+fn expect_help(rt: &(impl Abort + AllocGlobal), words: &[&str], text: &str) {
+    let said = text_of(rt, words);
+    assert_eq!(rt; said.as_str(), text);
+    for line in text.split('\n') {
+        assert!(rt; line.chars().count() <= 79);
     }
 }
 
 #[test]
-fn lines_of_help_have_at_most_79_columns(rt: HostRuntime) {
-    for (words, _) in &HELP {
-        let said = text_of(&rt, words);
-        for line in said.as_str().split('\n') {
-            assert!(rt; line.chars().count() <= 79);
-        }
+fn help_has_its_texts(rt: HostRuntime) {
+    for word in ["--help", "-h", "help"] {
+        expect_help(&rt, &["anscheck", word], PROGRAM_HELP);
+    }
+    for (command, text) in &COMMANDS {
+        expect_help(&rt, &["anscheck", command, "--help"], text);
+        expect_help(&rt, &["anscheck", "help", command], text);
     }
 }
 
