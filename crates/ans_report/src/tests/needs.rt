@@ -3,7 +3,7 @@ use crate::tests::{SOME_KNOWN, expect_written, parts_of};
 use crate::{NeedsReport, write_needs};
 use ans_model::start::Start;
 use ans_samples::sample_file;
-use ans_sauce::{Cause, Fault};
+use ans_sauce::{Cause, Fault, Parts};
 use std::process::Abort;
 use std::test::Fail;
 
@@ -14,34 +14,21 @@ fn expect_needs(rt: &impl Abort, report: &NeedsReport<'_>, text: &[u8]) {
     });
 }
 
-/// Asserts what a content is said to need.
-fn expect_named(
-    rt: &(impl Abort + AllocGlobal),
-    file: &[u8],
-    class: Start,
-    named: &str,
-) -> Result<(), Fail> {
-    let text = format!(in rt.alloc(); "size: 2 x 1\ncontent: 2 bytes\nneeds: {named}\n")?;
-    let report = NeedsReport::Least {
-        parts: &parts_of(rt, file),
-        class,
-    };
-    expect_needs(rt, &report, text.as_bytes());
-    Ok(())
+fn expect_least(rt: &impl Abort, parts: &Parts<'_>, class: Start, text: &[u8]) {
+    expect_needs(rt, &NeedsReport::Least { parts, class }, text);
 }
 
 #[test]
 fn needed_parts_are_named_in_their_order(rt: HostRuntime) -> Result<(), Fail> {
     let file = sample_file(rt.alloc(), b"Hi\x1a", &[])?;
-    expect_named(&rt, &file, Start::ANY, "nothing")?;
-    expect_named(
-        &rt,
-        &file,
-        Start::CLEARED,
-        "screen cursor saved colours wrap",
-    )?;
+    let parts = parts_of(&rt, &file);
+    let nothing: &[u8] = b"size: 2 x 1\ncontent: 2 bytes\nneeds: nothing\n";
+    expect_least(&rt, &parts, Start::ANY, nothing);
+    let all: &[u8] = b"size: 2 x 1\ncontent: 2 bytes\nneeds: screen cursor saved colours wrap\n";
+    expect_least(&rt, &parts, Start::CLEARED, all);
     for (class, named) in &SOME_KNOWN {
-        expect_named(&rt, &file, *class, named)?;
+        let text = format!(in rt.alloc(); "size: 2 x 1\ncontent: 2 bytes\nneeds: {named}\n")?;
+        expect_least(&rt, &parts, *class, text.as_bytes());
     }
     Ok(())
 }
@@ -49,10 +36,6 @@ fn needed_parts_are_named_in_their_order(rt: HostRuntime) -> Result<(), Fail> {
 #[test]
 fn notes_stand_before_the_needs(rt: HostRuntime) -> Result<(), Fail> {
     let file = sample_file(rt.alloc(), b"Hi!", &[(96, b"\x00"), (105, b"\xff")])?;
-    let report = NeedsReport::Least {
-        parts: &parts_of(&rt, &file),
-        class: Start::ANY,
-    };
     let text: &[u8] = b"size: 80 x 1\n\
         content: 3 bytes\n\
         note: width 0 taken as 80\n\
@@ -61,7 +44,7 @@ fn notes_stand_before_the_needs(rt: HostRuntime) -> Result<(), Fail> {
         note: flag bits 5 to 7 are not zero\n\
         note: a flag pair is 11\n\
         needs: nothing\n";
-    expect_needs(&rt, &report, text);
+    expect_least(&rt, &parts_of(&rt, &file), Start::ANY, text);
     Ok(())
 }
 
