@@ -1,6 +1,6 @@
 -- What clap's matches give of the program's words.
 use Rattle.std.proofs.Common.{◌≡◌, ◌∙◌, Bool, true, false, List, [], ◌∷◌, Option, Some, None, refl}
-use Rattle.std.proofs.Common.{sym, ap, codes, option_map, unwrap_or}
+use Rattle.std.proofs.Common.{sym, ap, ap₂, codes, option_map, unwrap_or}
 use Rattle.std.specs.Prelude.{find, IsSome, IsSomeAnd}
 use Rattle.std.specs.Option.{option_map_or}
 use Rattle.std.specs.Str.{bytes_eq}
@@ -22,11 +22,11 @@ use Rattle.clap.specs.Simple.{argument_words, built, entered, label_of, names_of
 use Rattle.ans_options.specs.declared.command.Command.TheVariants.{Check, Sauce, Tokens, Needs}
 use Rattle.std.proofs.Common.{subst, ◌&&◌, not}
 use Rattle.clap.specs.declared.builder.command.Command.{Command}
-use Rattle.clap.specs.Words.{app_of, IsParsedFrom}
+use Rattle.clap.specs.Words.{app_of, is_simple, HasMatchesOf, IsParsedFrom}
 use Rattle.clap.proofs.CallerLemmas.{subcommand_required}
 use Rattle.clap.proofs.TakesLemmas.{some_rows}
 use Rattle.ans_options.specs.declared.command.Options.{Options}
-use Rattle.ans_options.specs.CommandLine.{AsksFor, IsCommand, anscheck, holds_flag}
+use Rattle.ans_options.specs.CommandLine.{AsksFor, IsCommand, anscheck, holds_flag, words_meant}
 
 pub not_true : (b : Bool) → (b ≡ true → ⊥) → b ≡ false
 not_true true h = absurd (h refl)
@@ -151,3 +151,9 @@ pub asks_for : (sub : Option (Text × List Row)) (name : Text) (rows : List Row)
     → sub ≡ Some (name, rows) → AsksFor (name, rows) o file → IsSomeAnd sub (λ p. AsksFor p o file)
 asks_for sub name rows o file e asks = subst (λ (s : Option (Text × List Row)). IsSomeAnd s (λ p. AsksFor p o file))
     (sym e) asks
+
+-- the matches of the words that clap was given have the subcommand that the program finds in them
+pub subcommand_is : (app : App) (meant words : List Text) (m : ArgMatches) → app ≡ anscheck
+    → meant ≡ words_meant words → HasMatchesOf app meant m
+    → subcommand_rows_of m ≡ subcommand_of anscheck (words_meant words)
+subcommand_is app meant words m app_is is has = (has (ap is_simple app_is)).1 ∙ ap₂ subcommand_of app_is is

@@ -1,27 +1,27 @@
 -- What a result that is an error is known to hold.
-use Rattle.std.proofs.Common.{◌≡◌, [], ◌∷◌, Result, Ok, Err, inl, inr}
-use Rattle.std.specs.Prelude.{IsErrAnd, IfErr, IfOk}
-use Rattle.clap.specs.Words.{HasKind, Kinds, kind_of}
+use Rattle.std.proofs.Common.{◌≡◌, [], ◌∷◌, List, Result, Ok, Err, inl, inr, ap, ap₂, subst, true}
+use Rattle.std.specs.Prelude.{IsErrAnd, IfErr}
+use Rattle.clap.specs.Words.{App, HasKind, Kinds, Text, fault_of, is_simple_and_free, kind_of}
 use Rattle.clap.specs.declared.error.Error.{Error}
 use Rattle.clap.specs.declared.error.ErrorKind.TheVariants.{OutOfMemory}
+use Rattle.ans_options.specs.CommandLine.{HasKindAmong, RanOutOfMemory, anscheck, faults_of, words_meant}
+use Rattle.ans_options.specs.declared.command_line.WordsError.{WordsError}
+use Rattle.ans_options.specs.declared.command_line.WordsError.TheVariants.{Clap, Memory}
 
 -- what is known of an error gives what is wanted of it
 pub err_weaker : {T E : Type 0} (r : Result T E) (P Q : E → Type 0) → IsErrAnd r P → ((e : E) → P e → Q e) → IfErr r Q
 err_weaker (Ok v) P Q h f = tt
 err_weaker (Err e) P Q h f = f e h
 
--- what is known of an error, if there is one, gives what is wanted of it
-pub err_gives : {T E : Type 0} (r : Result T E) (P Q : E → Type 0) → IfErr r P → ((e : E) → P e → Q e) → IfErr r Q
-err_gives (Ok v) P Q h f = tt
-err_gives (Err e) P Q h f = f e h
-
--- what holds anyway holds of an `Ok`
-pub ok_with : {T E : Type 0} (r : Result T E) (P : Type 0) → P → IfOk r (λ v. P)
-ok_with (Ok v) P h = h
-ok_with (Err e) P h = tt
+-- an error of the words that clap was given has a kind of their first fault
+pub kind_met : (app : App) (meant words : List Text) (e : Error) → app ≡ anscheck → meant ≡ words_meant words
+    → (is_simple_and_free app ≡ true → HasKind (fault_of app meant) e) → HasKind (faults_of words) e
+kind_met app meant words e app_is is has =
+    subst (λ (k : Kinds). HasKind k e) (ap₂ fault_of app_is is) (has (ap is_simple_and_free app_is))
 
 -- an error of no kind is want of memory
-pub only_memory : (kinds : Kinds) (e : Error) → HasKind kinds e → kinds ≡ [] → kind_of e ≡ OutOfMemory
-only_memory kinds e (inl memory) none = memory
-only_memory [] e (inr among) none = absurd among
-only_memory (k ∷ ks) e (inr among) none = cc
+pub ran_out : (kinds : Kinds) (e : WordsError) → HasKindAmong kinds e → kinds ≡ [] → RanOutOfMemory e
+ran_out kinds Memory has none = tt
+ran_out kinds (Clap e) (inl memory) none = memory
+ran_out [] (Clap e) (inr among) none = absurd among
+ran_out (k ∷ ks) (Clap e) (inr among) none = cc

@@ -63,6 +63,15 @@ Examples:
 "
 );
 
+// What the commands do, in the order of the program's help.
+const NEEDS: &str = "Print what a drawing relies on: screen, cursor, saved, colours, wrap";
+
+const CHECK: &str = "Check that a file always shows the same picture, and print it";
+
+const SAUCE: &str = "Print what a file's SAUCE record says";
+
+const TOKENS: &str = "Print the bytes and the escape sequences of a file, one a line";
+
 /// The flags of `check`, each with its help.
 const CHECK_FLAGS: [(&str, &str); 7] = [
     (
@@ -83,7 +92,6 @@ const CHECK_FLAGS: [(&str, &str); 7] = [
     ),
 ];
 
-/// `NAME [FILE]`.
 fn file_command<'a>(
     alloc: Global,
     name: &'a str,
@@ -100,7 +108,6 @@ fn file_command<'a>(
         .arg(file)
 }
 
-/// `--NAME`.
 fn flag<'a>(alloc: Global, name: &'a str, help: &'a str) -> Arg<'a>
     ensures rule { rule_of result ≡ flag_rule name.now }
     ensures local { result.global ≡ false }
@@ -111,7 +118,6 @@ fn flag<'a>(alloc: Global, name: &'a str, help: &'a str) -> Arg<'a>
         .help(help)
 }
 
-/// A command with a flag for each name and its help.
 fn with_flags<'a>(
     alloc: Global,
     mut command: clap::Command<'a>,
@@ -126,34 +132,20 @@ fn with_flags<'a>(
     Ok(command)
 }
 
-/// `check`, its flags and `[FILE]`.
 fn check_command<'a>(alloc: Global) -> Result<clap::Command<'a>, AllocError>
     ensures { IfOk result (λ c. app_of c ≡ check_app) }
 {
-    let command = file_command(
-        alloc,
-        "check",
-        "Check that a file always shows the same picture, and print it",
-    )?;
+    let command = file_command(alloc, "check", CHECK)?;
     with_flags(alloc, command, &CHECK_FLAGS)
 }
 
-/// The program's command line.
 fn program<'a>(alloc: Global) -> Result<clap::Command<'a>, AllocError>
     ensures { IfOk result (λ c. app_of c ≡ anscheck) }
 {
-    let needs = file_command(
-        alloc,
-        "needs",
-        "Print what a drawing relies on: screen, cursor, saved, colours, wrap",
-    )?;
+    let needs = file_command(alloc, "needs", NEEDS)?;
     let check = check_command(alloc)?;
-    let sauce = file_command(alloc, "sauce", "Print what a file's SAUCE record says")?;
-    let tokens = file_command(
-        alloc,
-        "tokens",
-        "Print the bytes and the escape sequences of a file, one a line",
-    )?;
+    let sauce = file_command(alloc, "sauce", SAUCE)?;
+    let tokens = file_command(alloc, "tokens", TOKENS)?;
     clap::Command::new(alloc, "anscheck")
         .version(VERSION)
         .about("Checks ANSI art files that end in a SAUCE record")
@@ -166,14 +158,12 @@ fn program<'a>(alloc: Global) -> Result<clap::Command<'a>, AllocError>
         .subcommand(tokens)
 }
 
-/// Whether the flag was given.
 fn holds(matches: &ArgMatches<'_>, id: &str) -> bool
     ensures { result ≡ holds_flag id.now (rows_of (found_of matches.now)) }
 {
     matches.get_one::<bool>(id).unwrap_or(false)
 }
 
-/// The command of a subcommand's name.
 fn command_named(name: &str) -> Option<Command>
     ensures some { IfSome result (λ c. name.now ≡ command_name c) }
     ensures none { IfNone result (IsNoCommand name.now) }
@@ -187,14 +177,12 @@ fn command_named(name: &str) -> Option<Command>
     }
 }
 
-/// Whether a part of the start is known: its flag was given, or `--cleared`.
 fn knows(matches: &ArgMatches<'_>, id: &str) -> bool
     ensures { result ≡ holds_flag_or_cleared id.now (rows_of (found_of matches.now)) }
 {
     holds(matches, id) || holds(matches, "cleared")
 }
 
-/// The class of starts that the flags ask for.
 fn start_for(matches: &ArgMatches<'_>) -> Start
     ensures { KnowsAsHeld result (rows_of (found_of matches.now)) }
 {
@@ -207,7 +195,6 @@ fn start_for(matches: &ArgMatches<'_>) -> Start
     }
 }
 
-/// A copy of the file's name, if one was given.
 fn file_of(alloc: Global, matches: &ArgMatches<'_>) -> Result<Option<String>, WordsError>
     ensures memory { IfErr result (λ e. e ≡ WordsError.Memory) }
     ensures ok { IfOk result (λ f.
@@ -222,7 +209,6 @@ fn file_of(alloc: Global, matches: &ArgMatches<'_>) -> Result<Option<String>, Wo
     }
 }
 
-/// The options that a command's matches ask for.
 fn options_of(command: Command, matches: &ArgMatches<'_>) -> Options
     ensures command { result.command ≡ command }
     ensures start { KnowsAsHeld result.start (rows_of (found_of matches.now)) }
@@ -236,7 +222,6 @@ fn options_of(command: Command, matches: &ArgMatches<'_>) -> Options
     }
 }
 
-/// The options that the program's matches ask for, and the file that they name.
 fn read_matches(
     alloc: Global,
     matches: &ArgMatches<'_>,
@@ -256,7 +241,6 @@ fn read_matches(
     Ok((options_of(command, found), file))
 }
 
-/// What stands for `help`, by the words after it.
 fn words_for_help<'a>(
     alloc: Global,
     program: &'a str,
@@ -274,7 +258,6 @@ fn words_for_help<'a>(
     }
 }
 
-/// The words that `clap` is to read.
 fn words_meant<'a>(alloc: Global, words: &[&'a str]) -> Result<Vec<&'a str>, AllocError>
     ensures { IfOk result (λ v. texts_of v.items ≡ words_meant (texts_of words.now)) }
 {

@@ -10,7 +10,6 @@ ghost use Rattle.ans_report.specs.TokenLines.{glyph_lines};
 use ans_write::{Counter, Outbox, hex_byte};
 use std::io::Write;
 
-/// A glyph's line, which begins with these digits of its offset.
 fn glyph_line(digits: &[u8; 8], byte: u8) -> [u8; 20]
     ensures { result ≡ digits.now ++ (codes " 1 glyph " ++ (hex_byte byte ++ codes "\n")) }
 {

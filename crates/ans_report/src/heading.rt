@@ -46,7 +46,6 @@ pub(crate) fn put_known_parts<W: Write>(out: &mut Outbox<'_, W>, start: Start)
     put_known_part(out, start.wrap, b"wrap");
 }
 
-/// Puts the name of a class of starts: `any`, `cleared`, or `known` and the parts that are known.
 fn put_start_name<W: Write>(out: &mut Outbox<'_, W>, start: Start)
     ensures { Puts W.contents out.old out.new (start_name start) }
 {
@@ -90,7 +89,6 @@ pub(crate) fn put_notes<W: Write>(out: &mut Outbox<'_, W>, notes: &[Note])
     }
 }
 
-/// Puts the lines before the verdict, or before what is needed.
 pub(crate) fn put_heading<W: Write>(
     out: &mut Outbox<'_, W>,
     parts: &Parts<'_>,

@@ -9,6 +9,7 @@ ghost use Rattle.ans_model.specs.Text.ReportText.{refusal_text};
 
 use crate::fault_lines::put_refusal;
 use crate::heading::put_heading;
+use crate::needs_text::{NeedsReport, write_needs};
 use crate::picture_text::put_pass;
 use ans_model::start::Start;
 use ans_play::Picture;
@@ -36,7 +37,6 @@ pub enum Report<'a, G: Grid> {
     },
 }
 
-/// Puts why a file is refused, which is the fault alone where there are no parts.
 pub(crate) fn put_refused<W: Write>(
     out: &mut Outbox<'_, W>,
     parts: Option<&Parts<'_>>,
@@ -107,7 +107,9 @@ pub fn write_refusal<W: Write>(w: &mut Tried<W>, f: &Fault) -> Result<(), WriteF
     ensures bytes { WritesText (W.contents (inner_of w.old)) (W.contents (inner_of w.new))
         result (refusal_text f.now) }
 {
-    let mut out = Outbox::new(w);
-    put_refusal(&mut out, f);
-    out.finish()
+    let refused = NeedsReport::Refused {
+        parts: None,
+        fault: *f,
+    };
+    write_needs(w, &refused)
 }

@@ -1,8 +1,5 @@
 //! The tables of texts by example, and each writer on a device that takes one byte a call, also one
 //! of which a call fails.
-ghost use Rattle.std.specs.Prelude.{◌≡◌, false};
-ghost use Rattle.ans_write.specs.Tried.{has_failed};
-
 mod headings;
 mod messages;
 mod needs;
@@ -10,44 +7,70 @@ mod records;
 mod tokens;
 mod written_reports;
 
-use crate::{Tried, fault_text, note_text};
-use ans_samples::{FailingOnce, Failure, Narrow};
-use ans_sauce::{Cause, Fault, Note};
+use crate::{Tried, WriteFault, fault_text, note_text};
+use ans_model::start::Start;
+use ans_samples::{FailingOnce, Narrow, start};
+use ans_sauce::{Cause, Fault, Note, Parts, split};
 use std::process::Abort;
 
-fn room_for(room: usize) -> Tried<Narrow>
-    ensures { has_failed result ≡ false }
+/// Classes of starts that know some parts but not all, and the names of these.
+static SOME_KNOWN: [(Start, &str); 10] = [
+    (start!(known screen), "screen"),
+    (start!(known cursor), "cursor"),
+    (start!(known saved), "saved"),
+    (start!(known colours), "colours"),
+    (start!(known wrap), "wrap"),
+    (start!(known screen cursor), "screen cursor"),
+    (start!(known cursor colours), "cursor colours"),
+    (
+        start!(known screen cursor saved colours),
+        "screen cursor saved colours",
+    ),
+    (
+        start!(known cursor saved colours wrap),
+        "cursor saved colours wrap",
+    ),
+    (
+        start!(known screen cursor colours wrap),
+        "screen cursor colours wrap",
+    ),
+];
+
+/// The parts of a sample.
+fn parts_of<'a>(rt: &impl Abort, file: &'a [u8]) -> Parts<'a> {
+    match split(file) {
+        Ok(parts) => parts,
+        Err(_) => panic!(rt; "the sample is refused"),
+    }
+}
+
+/// Asserts that a writing stops at a device that fails after these bytes.
+fn expect_stopped<F>(rt: &impl Abort, taken: &[u8], write: &F)
+where
+    F: Fn(&mut Tried<FailingOnce<Narrow>>) -> Result<(), WriteFault>,
+    requires { F.IsAlwaysCallable write.now }
 {
-    Tried::new(Narrow::new(room))
-}
-
-/// Asserts which bytes a device holds.
-fn assert_held(rt: &impl Abort, device: Tried<Narrow>, text: &[u8]) {
-    let device = device.into_inner();
-    assert_eq!(rt; device.held(), text);
-}
-
-/// The ways in which a write fails.
-const FAILURES: [Failure; 3] = [Failure::Error, Failure::Interruption, Failure::Nothing];
-
-/// A device that takes this many bytes, one a call, then fails once, and would then take more. The
-/// ways of failing take turns as the number grows.
-fn failing_after(taken: usize) -> Tried<FailingOnce<Narrow>>
-    ensures { has_failed result ≡ false }
-{
-    let failing_call = (taken as u64).saturating_add(1);
-    let failure = FAILURES[taken % FAILURES.len()];
-    Tried::new(FailingOnce::new(Narrow::new(4096), failing_call, failure))
-}
-
-/// Asserts that a device took these bytes, one a call, then failed, and was not called again.
-fn assert_stopped(rt: &impl Abort, device: Tried<FailingOnce<Narrow>>, taken: &[u8]) {
+    let mut device = Tried::new(FailingOnce::after(taken.len()));
+    assert_eq!(rt; write(&mut device), Err(WriteFault));
     assert!(rt; device.failed());
-    let calls = device.calls();
-    let inner = device.into_inner();
-    assert_eq!(rt; inner.device().held(), taken);
-    assert_eq!(rt; inner.calls(), (taken.len() as u64).saturating_add(1));
-    assert_eq!(rt; calls, inner.calls());
+    assert!(rt; device.inner().stopped_after(taken));
+    assert_eq!(rt; device.calls(), device.inner().calls());
+}
+
+/// Asserts what is written to a device that takes it all, and that the writing stops at each of the
+/// calls that fail.
+fn expect_written<F>(rt: &impl Abort, text: &[u8], write: F)
+where
+    F: Fn(&mut Tried<FailingOnce<Narrow>>) -> Result<(), WriteFault>,
+    requires { F.IsAlwaysCallable write }
+{
+    let mut device = Tried::new(FailingOnce::after(text.len()));
+    assert_eq!(rt; write(&mut device), Ok(()));
+    assert!(rt; !device.failed());
+    assert_eq!(rt; device.inner().device().held(), text);
+    for taken in 0..text.len() {
+        expect_stopped(rt, &text[..taken], &write);
+    }
 }
 
 #[test]

@@ -112,7 +112,6 @@ enum Front {
     Nothing,
 }
 
-/// Takes the glyphs or the token that the bytes begin with, where the scanner stands between two tokens.
 fn take_front(scanner: &mut Scanner, bytes: &[u8]) -> Front
     requires { scanner.old.offset + length bytes.now ≤ longest_file }
     ensures { TakesFront scanner.old bytes.now scanner.new result }
@@ -130,8 +129,7 @@ fn take_front(scanner: &mut Scanner, bytes: &[u8]) -> Front
     }
 }
 
-/// Puts the lines of the tokens and of the fault that ends their reading, and returns that fault.
-/// Once the device has failed, it stops, and its answer means nothing.
+/// Stops once the device has failed.
 fn put_tokens<W: Write>(out: &mut Outbox<'_, W>, content: &[u8]) -> Option<Fault>
     requires { length content.now ≤ longest_file }
     ensures { PutsTokens W.contents out.old out.new content.now result }

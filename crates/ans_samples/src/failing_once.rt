@@ -1,7 +1,8 @@
 //! A device that fails once.
 
-ghost use Rattle.std.specs.Prelude.{◌≡◌, IfOk};
+ghost use Rattle.std.specs.Prelude.{◌≡◌, ◌↔◌, ◌+◌, [], min, IsTrue, IfOk};
 
+use crate::narrow::Narrow;
 use std::io::{self, Read, Write};
 
 /// How a call fails.
@@ -16,7 +17,9 @@ pub enum Failure {
 }
 
 impl Failure {
-    /// What a call returns that fails in this way.
+    /// The ways in which a write fails.
+    pub const ALL: [Failure; 3] = [Failure::Error, Failure::Interruption, Failure::Nothing];
+
     fn returned(self) -> io::Result<usize>
         ensures { IfOk result (λ n. n ≡ 0) }
     {
@@ -78,6 +81,31 @@ impl<D> FailingOnce<D> {
         } else {
             None
         }
+    }
+}
+
+impl FailingOnce<Narrow> {
+    ghost use Rattle.ans_samples.specs.FailingOnce.{device_of, calls_of, failing_call_of};
+    ghost use Rattle.ans_samples.specs.Held.{held_of};
+
+    /// A device that takes this many bytes, one a call, then fails once, and would then take more. The
+    /// ways of failing take turns as the number grows.
+    pub fn after(taken: usize) -> FailingOnce<Narrow>
+        ensures empty { held_of (device_of result) ≡ [] }
+        ensures failing_call { failing_call_of result ≡ min (taken + 1) u64.MAX }
+        ensures calls { calls_of result ≡ 0 }
+    {
+        let failing_call = (taken as u64).saturating_add(1);
+        let failure = Failure::ALL[taken % Failure::ALL.len()];
+        FailingOnce::new(Narrow::new(4096), failing_call, failure)
+    }
+
+    /// Whether it took these bytes, then failed, and was not called again.
+    pub fn stopped_after(&self, taken: &[u8]) -> bool
+        ensures { IsTrue result ↔ (held_of (device_of self.now) ≡ taken.now)
+            × (calls_of self.now ≡ failing_call_of self.now) }
+    {
+        self.device.held() == taken && self.calls == self.failing_call
     }
 }
 

@@ -13,7 +13,6 @@ const PLAIN: &[u8; 128] = b"SAUCE00\
     \x02\x00\x00\x00\x01\x01\x02\x00\x01\x00\x00\x00\x00\x00\x00\x00\
     \x00\x00\x00\x00\x00\x00\x00\x00\x00\x00\x00\x00\x00\x00\x00\x00\x00\x00\x00\x00\x00\x00";
 
-/// Overwrites the bytes from an offset on, where they fit.
 fn overwrite(sauce: &mut [u8], at: usize, bytes: &[u8])
     ensures { sauce.new ≡ overwritten sauce.old at bytes.now }
 {

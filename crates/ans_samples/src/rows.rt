@@ -42,15 +42,17 @@ macro_rules! expected {
     };
 }
 
+/// A class of starts: `any`, `cleared`, or `known` and the parts that are known.
+#[macro_export]
 macro_rules! start {
     (any) => {
-        Start::ANY
+        $crate::Start::ANY
     };
     (cleared) => {
-        Start::CLEARED
+        $crate::Start::CLEARED
     };
     (known $($part:ident)+) => {
-        Start { $($part: true,)+ ..Start::ANY }
+        $crate::Start { $($part: true,)+ ..$crate::Start::ANY }
     };
 }
 

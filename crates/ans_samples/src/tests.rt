@@ -36,7 +36,7 @@ fn a_narrow_device_fills_up(rt: HostRuntime) {
 
 #[test]
 fn a_device_fails_at_one_call(rt: HostRuntime) {
-    for failure in [Failure::Error, Failure::Interruption, Failure::Nothing] {
+    for failure in Failure::ALL {
         let mut writer = FailingOnce::new(Narrow::new(4), 2, failure);
         assert_eq!(rt; writer.write(b"a").ok(), Some(1));
         assert_eq!(rt; writer.write(b"b").unwrap_or(0), 0);
@@ -53,4 +53,16 @@ fn a_device_fails_at_one_call(rt: HostRuntime) {
         assert_eq!(rt; byte, [b'b']);
         assert_eq!(rt; reader.calls(), 3);
     }
+}
+
+#[test]
+fn a_device_fails_after_its_bytes(rt: HostRuntime) {
+    let mut device = FailingOnce::after(1);
+    assert_eq!(rt; device.write(b"ab").ok(), Some(1));
+    assert!(rt; !device.stopped_after(b"a"));
+    assert!(rt; device.write(b"b").is_err());
+    assert!(rt; device.stopped_after(b"a"));
+    assert_eq!(rt; device.write(b"c").ok(), Some(1));
+    assert!(rt; !device.stopped_after(b"a"));
+    assert!(rt; !device.stopped_after(b"ac"));
 }

@@ -191,17 +191,24 @@ counted_up old now start p k n h within below shown small =
     ∙ split ((d + 1) ∷ replicate k 48)
     ∙ sym (nines_carry k n d (drop start (take p old)) small (λ nine. below (same ∙ nine)) whole)
 
--- a digit more stands before the nines, which are all
-pub counted_over : (old now : List ℕ) (start k n : ℕ) → Carries old now start k → drop start old ≡ decimal n
+counted_past : (old now : List ℕ) (start k n : ℕ) → Carries old now start k → drop start old ≡ decimal n
     → n + 1 < 100000000 → (decimal (n + 1) ≡ 49 ∷ replicate k 48) × (k + 1 ≤ 8)
-counted_over old now start zero n h shown small =
+counted_past old now start zero n h shown small =
     let some : 0 < length (decimal n) = decimal_nonempty n (omega arith) in
     absurd (omega (arith, ap length (sym shown ∙ h.nines)))
-counted_over old now start (suc k) n h shown small =
+counted_past old now start (suc k) n h shown small =
     let more : decimal (n + 1) ≡ 49 ∷ replicate (suc k) 48 =
     nines_carry_over k n (omega arith) (sym shown ∙ h.nines) in
     let eight : length (decimal (n + 1)) ≤ 8 = length-decimal-le 8 (n + 1) (omega arith) (omega arith) (omega arith) in
     (more, omega (arith, ap length more, length-replicate {A = ℕ} (suc k) 48))
+
+-- a digit more stands before the nines, which are all, and there is a place for it
+pub counted_over : (old now : List ℕ) (start place n : ℕ) → place ≡ start → Carries old now place (8 - place)
+    → drop start old ≡ decimal n → n + 1 < 100000000
+    → (decimal (n + 1) ≡ 49 ∷ replicate (8 - place) 48) × (0 < place)
+counted_over old now start place n all h shown small =
+    let past = counted_past old now place (8 - place) n h (ap (λ (p : ℕ). drop p old) all ∙ shown) small in
+    (past.0, omega (arith, past.1))
 
 -- a one in the array before them: the digits of the next number
 pub one_before_zeros : (old now : List ℕ) (p k n : ℕ) → Carries old now (p + 1) k

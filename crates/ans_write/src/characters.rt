@@ -48,7 +48,6 @@ pub fn glyph_text(byte: u8) -> char
     }
 }
 
-/// Puts the character of a byte.
 fn put_character<W: Write>(out: &mut Outbox<'_, W>, byte: u8)
     ensures { Puts W.contents out.old out.new (byte_text byte) }
 {

@@ -43,11 +43,12 @@ impl Counter {
             digits[place] = b'0';
         }
         if place == self.start {
-            digits[place - 1] = b'1';
+            let start = place - 1;
+            digits[start] = b'1';
             *self = Counter {
                 number: self.number + 1,
                 digits,
-                start: place - 1,
+                start,
             };
             return;
         }

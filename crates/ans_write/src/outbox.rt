@@ -41,7 +41,6 @@ impl<'a, W: Write> Outbox<'a, W> {
         self.device.failed()
     }
 
-    /// Writes what waits.
     fn flush(&mut self)
         ensures puts { Puts W.contents self.old self.new [] }
         ensures empty { device_failed self.new ≡ false → waiting_of self.new ≡ [] }

@@ -61,7 +61,6 @@ impl Tables {
     }
 }
 
-/// The character of a byte in UTF-8.
 fn utf8_character(byte: u8) -> Utf8Character
     ensures { spelling result ≡ byte_text byte }
 {
@@ -73,7 +72,6 @@ fn utf8_character(byte: u8) -> Utf8Character
     Utf8Character { bytes, count }
 }
 
-/// The character of each byte.
 fn character_table() -> [Utf8Character; 256]
     ensures { ShowsBytes result }
 {
@@ -84,7 +82,6 @@ fn character_table() -> [Utf8Character; 256]
     table
 }
 
-/// The two digits of each byte.
 fn digit_table() -> [[u8; 2]; 256]
     ensures { TellsBytes result }
 {

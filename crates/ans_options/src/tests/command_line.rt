@@ -1,62 +1,62 @@
 //! The options that words give.
-use super::{ANY, CLEARED, NEEDS, SAUCE, TOKENS, read_words};
-use crate::Options;
-use ans_model::start::Start;
+use super::read_words;
+use crate::{Command, Options};
+use ans_samples::start;
 use std::process::Abort;
 
-const ANY_WITH_CELLS: Options = Options { cells: true, ..ANY };
+/// A command, its class of starts, and `cells` where they are asked for.
+macro_rules! asked {
+    ($command:ident $($start:ident)+) => {
+        Options { command: Command::$command, start: start!($($start)+), cells: false }
+    };
+    ($command:ident $($start:ident)+, cells) => {
+        Options { cells: true, ..asked!($command $($start)+) }
+    };
+}
 
-const CLEARED_WITH_CELLS: Options = Options {
-    cells: true,
-    ..CLEARED
+/// Words, their options, and the file.
+static TAKEN: [(&[&str], Options, Option<&str>); 20] = rows! {
+    "anscheck" "check" => asked!(Check any), None;
+    "anscheck" "check" "f" => asked!(Check any), Some("f");
+    "anscheck" "check" "--cleared" => asked!(Check cleared), None;
+    "anscheck" "check" "f" "--cleared" => asked!(Check cleared), Some("f");
+    "anscheck" "check" "--cells" "f" => asked!(Check any, cells), Some("f");
+    "anscheck" "check" "--cells" "--cleared" => asked!(Check cleared, cells), None;
+    "anscheck" "check" "--" "--cells" => asked!(Check any), Some("--cells");
+    "anscheck" "check" "--" "--known-wrap" => asked!(Check any), Some("--known-wrap");
+    "anscheck" "check" "--" "--cleared" => asked!(Check any), Some("--cleared");
+    "anscheck" "check" "-" => asked!(Check any), Some("-");
+    "anscheck" "check" "--cleared" "-" => asked!(Check cleared), Some("-");
+    "anscheck" "check" "help" => asked!(Check any), Some("help");
+    "help" "check" "f" => asked!(Check any), Some("f");
+    "anscheck" "check" "--known-cursor" "--cells" "f" "--known-colours"
+        => asked!(Check known cursor colours, cells), Some("f");
+    "anscheck" "sauce" "f" => asked!(Sauce any), Some("f");
+    "anscheck" "sauce" => asked!(Sauce any), None;
+    "anscheck" "tokens" => asked!(Tokens any), None;
+    "anscheck" "needs" => asked!(Needs any), None;
+    "anscheck" "needs" "f" => asked!(Needs any), Some("f");
+    "anscheck" "needs" "--" "--cleared" => asked!(Needs any), Some("--cleared");
 };
 
-/// The program's words, the options that they give, and the file.
-static TAKEN: [(&[&str], Options, Option<&str>); 19] = [
-    (&["anscheck", "check"], ANY, None),
-    (&["anscheck", "check", "f"], ANY, Some("f")),
-    (&["anscheck", "check", "--cleared"], CLEARED, None),
-    (&["anscheck", "check", "f", "--cleared"], CLEARED, Some("f")),
-    (
-        &["anscheck", "check", "--cells", "f"],
-        ANY_WITH_CELLS,
-        Some("f"),
-    ),
-    (
-        &["anscheck", "check", "--cells", "--cleared"],
-        CLEARED_WITH_CELLS,
-        None,
-    ),
-    (
-        &["anscheck", "check", "--", "--cells"],
-        ANY,
-        Some("--cells"),
-    ),
-    (
-        &["anscheck", "check", "--", "--known-wrap"],
-        ANY,
-        Some("--known-wrap"),
-    ),
-    (
-        &["anscheck", "check", "--", "--cleared"],
-        ANY,
-        Some("--cleared"),
-    ),
-    (&["anscheck", "check", "-"], ANY, Some("-")),
-    (&["anscheck", "check", "--cleared", "-"], CLEARED, Some("-")),
-    (&["anscheck", "check", "help"], ANY, Some("help")),
-    (&["help", "check", "f"], ANY, Some("f")),
-    (&["anscheck", "sauce", "f"], SAUCE, Some("f")),
-    (&["anscheck", "sauce"], SAUCE, None),
-    (&["anscheck", "tokens"], TOKENS, None),
-    (&["anscheck", "needs"], NEEDS, None),
-    (&["anscheck", "needs", "f"], NEEDS, Some("f")),
-    (
-        &["anscheck", "needs", "--", "--cleared"],
-        NEEDS,
-        Some("--cleared"),
-    ),
-];
+/// Words with flags that say what is known, and their options.
+static STARTS: [(&[&str], Options); 13] = rows! {
+    "anscheck" "check" "--known-screen" => asked!(Check known screen);
+    "anscheck" "check" "--known-cursor" => asked!(Check known cursor);
+    "anscheck" "check" "--known-saved" => asked!(Check known saved);
+    "anscheck" "check" "--known-colours" => asked!(Check known colours);
+    "anscheck" "check" "--known-wrap" => asked!(Check known wrap);
+    "anscheck" "check" "--known-cursor" "--known-colours" => asked!(Check known cursor colours);
+    "anscheck" "check" "--known-colours" "--known-cursor" => asked!(Check known cursor colours);
+    "anscheck" "check" "--known-wrap" "--known-screen" => asked!(Check known screen wrap);
+    "anscheck" "check" "--known-screen" "--known-cursor" "--known-saved" "--known-colours"
+        => asked!(Check known screen cursor saved colours);
+    "anscheck" "check" "--known-screen" "--known-cursor" "--known-saved" "--known-colours" "--known-wrap"
+        => asked!(Check cleared);
+    "anscheck" "check" "--cleared" => asked!(Check cleared);
+    "anscheck" "check" "--cleared" "--known-saved" => asked!(Check cleared);
+    "anscheck" "check" "--known-wrap" "--cleared" => asked!(Check cleared);
+};
 
 /// Asserts which options words give, and which file.
 fn expect_options(
@@ -81,133 +81,9 @@ fn words_give_options(rt: HostRuntime) {
     }
 }
 
-/// The program's words, and the class of starts that they ask for.
-static STARTS: [(&[&str], Start); 14] = [
-    (&["anscheck", "check"], Start::ANY),
-    (
-        &["anscheck", "check", "--known-screen"],
-        Start {
-            screen: true,
-            ..Start::ANY
-        },
-    ),
-    (
-        &["anscheck", "check", "--known-cursor"],
-        Start {
-            cursor: true,
-            ..Start::ANY
-        },
-    ),
-    (
-        &["anscheck", "check", "--known-saved"],
-        Start {
-            saved: true,
-            ..Start::ANY
-        },
-    ),
-    (
-        &["anscheck", "check", "--known-colours"],
-        Start {
-            colours: true,
-            ..Start::ANY
-        },
-    ),
-    (
-        &["anscheck", "check", "--known-wrap"],
-        Start {
-            wrap: true,
-            ..Start::ANY
-        },
-    ),
-    (
-        &["anscheck", "check", "--known-cursor", "--known-colours"],
-        Start {
-            cursor: true,
-            colours: true,
-            ..Start::ANY
-        },
-    ),
-    (
-        &["anscheck", "check", "--known-colours", "--known-cursor"],
-        Start {
-            cursor: true,
-            colours: true,
-            ..Start::ANY
-        },
-    ),
-    (
-        &["anscheck", "check", "--known-wrap", "--known-screen"],
-        Start {
-            screen: true,
-            wrap: true,
-            ..Start::ANY
-        },
-    ),
-    (
-        &[
-            "anscheck",
-            "check",
-            "--known-screen",
-            "--known-cursor",
-            "--known-saved",
-            "--known-colours",
-        ],
-        Start {
-            wrap: false,
-            ..Start::CLEARED
-        },
-    ),
-    (
-        &[
-            "anscheck",
-            "check",
-            "--known-screen",
-            "--known-cursor",
-            "--known-saved",
-            "--known-colours",
-            "--known-wrap",
-        ],
-        Start::CLEARED,
-    ),
-    (&["anscheck", "check", "--cleared"], Start::CLEARED),
-    (
-        &["anscheck", "check", "--cleared", "--known-saved"],
-        Start::CLEARED,
-    ),
-    (
-        &["anscheck", "check", "--known-wrap", "--cleared"],
-        Start::CLEARED,
-    ),
-];
-
 #[test]
 fn flags_say_what_is_known(rt: HostRuntime) {
-    for (words, start) in &STARTS {
-        let expected = Options {
-            start: *start,
-            ..ANY
-        };
-        expect_options(&rt, words, expected, None);
+    for (words, expected) in &STARTS {
+        expect_options(&rt, words, *expected, None);
     }
-}
-
-#[test]
-fn flags_stand_on_both_sides_of_the_file(rt: HostRuntime) {
-    let expected = Options {
-        start: Start {
-            cursor: true,
-            colours: true,
-            ..Start::ANY
-        },
-        ..ANY_WITH_CELLS
-    };
-    let words = [
-        "anscheck",
-        "check",
-        "--known-cursor",
-        "--cells",
-        "f",
-        "--known-colours",
-    ];
-    expect_options(&rt, &words, expected, Some("f"));
 }

@@ -1,6 +1,6 @@
 //! The line that is said where there is no answer.
-use crate::tests::{assert_held, assert_stopped, failing_after, room_for};
-use crate::{WriteFault, write_message};
+use crate::tests::expect_written;
+use crate::write_message;
 
 /// Texts, and the lines that say them.
 static LINES: [(&str, &[u8]); 4] = [
@@ -13,20 +13,9 @@ static LINES: [(&str, &[u8]); 4] = [
 #[test]
 fn a_message_is_a_line(rt: HostRuntime) {
     for (text, line) in LINES {
-        let mut device = room_for(64);
-        assert_eq!(rt; write_message(&mut device, text), Ok(()));
-        assert!(rt; !device.failed());
-        assert_held(&rt, device, line);
-    }
-}
-
-#[test]
-fn a_message_stops_at_a_write_that_fails(rt: HostRuntime) {
-    for (text, line) in LINES {
-        for taken in 0..line.len() {
-            let mut device = failing_after(taken);
-            assert_eq!(rt; write_message(&mut device, text), Err(WriteFault));
-            assert_stopped(&rt, device, &line[..taken]);
-        }
+        expect_written(&rt, line, |device| {
+            assert!(rt; !device.failed());
+            write_message(device, text)
+        });
     }
 }

@@ -1,24 +1,14 @@
 //! Reports on files, as they are written.
-use crate::tests::{assert_held, assert_stopped, failing_after, room_for};
+use crate::tests::{expect_written, parts_of};
 use crate::{Report, Tried, WriteFault, write_refusal, write_report};
 use ans_model::start::Start;
 use ans_play::{Picture, Player};
-use ans_samples::sample_file;
-use ans_sauce::{Cause, Fault, Parts, split};
+use ans_samples::{sample_file, start};
+use ans_sauce::{Cause, Fault, MAX_FILE, Parts};
 use ans_screen::PlainGrid;
-use std::alloc::{AllocError, Global};
 use std::io::Write;
 use std::process::Abort;
 use std::test::Fail;
-
-/// The content, of at most 20 bytes, an end mark and a record of 2 columns and 1 line.
-fn file_of(rt: &impl Abort, alloc: Global, content: &[u8]) -> Result<Vec<u8>, AllocError> {
-    let mut front = [0x1A; 21];
-    assert!(rt; content.len() <= 20);
-    front[..content.len()].copy_from_slice(content);
-    let file_size = [content.len() as u8];
-    sample_file(alloc, &front[..content.len() + 1], &[(90, &file_size)])
-}
 
 /// Writes the report of how a play ended.
 fn write_end<W: Write>(
@@ -49,103 +39,57 @@ fn write_end<W: Write>(
     write_report(device, &report)
 }
 
-/// Asserts what is written of the content on 2 columns and 1 line to a device that takes all, and to
-/// one that fails at each of the calls.
+/// Asserts the report on a content of one line and at most 255 bytes.
 fn expect_report(
-    rt: &impl Abort,
-    alloc: Global,
+    rt: &(impl Abort + AllocGlobal),
     content: &[u8],
+    width: u8,
     start: Start,
     cells: bool,
-    text: &[u8],
+    text: &str,
 ) -> Result<(), Fail> {
-    let file = file_of(rt, alloc, content)?;
-    let Ok(parts) = split(&file) else {
-        panic!(rt; "the file is refused");
-    };
-    assert!(rt; parts.content().len() <= 20);
-    let mut player = Player::<PlainGrid>::new(alloc, parts.width(), parts.lines(), start)?;
-    assert!(rt; player.fed() == 0);
-    let end = match player.feed(parts.content()) {
+    let mut front = Vec::from_slice(rt.alloc(), content)?;
+    front.push(0x1A)?;
+    let file_size = u8::try_from(content.len()).unwrap_or(0);
+    let sizes = [file_size, 0, 0, 0, 1, 1, width];
+    let file = sample_file(rt.alloc(), front.as_slice(), &[(90, &sizes)])?;
+    let parts = parts_of(rt, &file);
+    let mut player = Player::<PlainGrid>::new(rt.alloc(), parts.width(), parts.lines(), start)?;
+    assert!(rt; player.fed() == 0 && content.len() <= MAX_FILE);
+    let end = match player.feed(content) {
         Ok(()) => player.finish(),
         Err(fault) => Err(fault),
     };
-    let mut whole = room_for(256);
-    assert_eq!(rt;
-        write_end(rt, &mut whole, &parts, start, &end, cells),
-        Ok(())
-    );
-    assert_held(rt, whole, text);
-    for taken in 0..text.len() {
-        let mut device = failing_after(taken);
-        let written = write_end(rt, &mut device, &parts, start, &end, cells);
-        assert_eq!(rt; written, Err(WriteFault));
-        assert_stopped(rt, device, &text[..taken]);
-    }
+    expect_written(rt, text.as_bytes(), |device| {
+        write_end(rt, device, &parts, start, &end, cells)
+    });
     Ok(())
 }
 
-#[test]
-fn a_pass_shows_the_picture(rt: HostRuntime) -> Result<(), Fail> {
-    expect_report(
-        &rt,
-        rt.alloc(),
-        b"\x1b[?7h\x1b[0m\x1b[2JHi",
-        Start::any(),
-        false,
-        b"size: 2 x 1\nstart: any\ncontent: 15 bytes\nverdict: pass\npicture:\nHi\n",
-    )
+macro_rules! reports {
+    ($($content:literal, $start:ident, cells: $cells:literal => $text:literal;)*) => {
+        [$(($content, start!($start), $cells, $text)),*]
+    };
 }
 
-#[test]
-fn a_pass_with_cells_ends_in_their_digits(rt: HostRuntime) -> Result<(), Fail> {
-    expect_report(
-        &rt,
-        rt.alloc(),
-        b"Hi",
-        Start::cleared(),
-        true,
-        b"size: 2 x 1\n\
-        start: cleared\n\
-        content: 2 bytes\n\
-        verdict: pass\n\
-        picture:\n\
-        Hi\n\
-        cells:\n\
-        48076907\n",
-    )?;
-    expect_report(
-        &rt,
-        rt.alloc(),
-        b"\x1b[1;33;44mA\xdb",
-        Start::cleared(),
-        true,
-        "size: 2 x 1\n\
-        start: cleared\n\
-        content: 12 bytes\n\
-        verdict: pass\n\
-        picture:\n\
-        A█\n\
-        cells:\n\
-        411edb1e\n"
-            .as_bytes(),
-    )
-}
+/// Contents on 2 columns, the class of starts, whether the cells are asked for, and the reports.
+static REPORTS: [(&[u8], Start, bool, &str); 4] = reports! {
+    b"\x1b[?7h\x1b[0m\x1b[2JHi", any, cells: false
+        => "size: 2 x 1\nstart: any\ncontent: 15 bytes\nverdict: pass\npicture:\nHi\n";
+    b"Hi", cleared, cells: true
+        => "size: 2 x 1\nstart: cleared\ncontent: 2 bytes\nverdict: pass\npicture:\nHi\ncells:\n48076907\n";
+    b"\x1b[1;33;44mA\xdb", cleared, cells: true
+        => "size: 2 x 1\nstart: cleared\ncontent: 12 bytes\nverdict: pass\npicture:\nA█\ncells:\n411edb1e\n";
+    b"Hi", any, cells: false
+        => "size: 2 x 1\nstart: any\ncontent: 2 bytes\nverdict: refused\nat 0: F22 print at an unknown place\n";
+};
 
 #[test]
-fn a_refusal_tells_its_fault(rt: HostRuntime) -> Result<(), Fail> {
-    expect_report(
-        &rt,
-        rt.alloc(),
-        b"Hi",
-        Start::any(),
-        false,
-        b"size: 2 x 1\n\
-        start: any\n\
-        content: 2 bytes\n\
-        verdict: refused\n\
-        at 0: F22 print at an unknown place\n",
-    )
+fn reports_show_the_picture_or_the_fault(rt: HostRuntime) -> Result<(), Fail> {
+    for (content, start, cells, text) in &REPORTS {
+        expect_report(&rt, content, 2, *start, *cells, text)?;
+    }
+    Ok(())
 }
 
 #[test]
@@ -155,22 +99,19 @@ fn a_refusal_without_parts_is_two_lines(rt: HostRuntime) {
         cause: Cause::NoRecord,
     };
     let text: &[u8] = b"verdict: refused\nat 127: F1 no SAUCE record\n";
-    let report: Report<'_, PlainGrid> = Report::Refused {
-        parts: None,
-        start: Start::any(),
-        fault,
-    };
-    let mut whole = room_for(256);
-    assert_eq!(rt; write_report(&mut whole, &report), Ok(()));
-    assert_held(&rt, whole, text);
-    let mut alone = room_for(256);
-    assert_eq!(rt; write_refusal(&mut alone, &fault), Ok(()));
-    assert_held(&rt, alone, text);
-    for taken in 0..text.len() {
-        let mut device = failing_after(taken);
-        assert_eq!(rt; write_refusal(&mut device, &fault), Err(WriteFault));
-        assert_stopped(&rt, device, &text[..taken]);
-    }
+    expect_written(&rt, text, |device| {
+        assert!(rt; !device.failed());
+        let report: Report<'_, PlainGrid> = Report::Refused {
+            parts: None,
+            start: Start::ANY,
+            fault,
+        };
+        write_report(device, &report)
+    });
+    expect_written(&rt, text, |device| {
+        assert!(rt; !device.failed());
+        write_refusal(device, &fault)
+    });
 }
 
 /// A row of the bytes that print and may stand in a content: all but BEL, BS, TAB, LF, CR, SUB and
@@ -208,28 +149,12 @@ fn a_row_shows_every_glyph(rt: HostRuntime) -> Result<(), Fail> {
         }
     }
     assert_eq!(rt; content.len(), 249);
-    let mut front = Vec::from_slice(rt.alloc(), content.as_slice())?;
-    front.push(0x1A)?;
-    let file = sample_file(rt.alloc(), front.as_slice(), &[(90, &[249]), (96, &[249])])?;
-    let Ok(parts) = split(&file) else {
-        panic!(rt; "the file is refused");
-    };
-    let mut player = Player::<PlainGrid>::new(
-        rt.alloc(),
-        parts.width(),
-        parts.lines(),
-        Start::cleared(),
-    )?;
-    assert!(rt; player.fed() == 0);
-    let end = match player.feed(content.as_slice()) {
-        Ok(()) => player.finish(),
-        Err(fault) => Err(fault),
-    };
-    let mut whole = room_for(4096);
-    assert_eq!(rt;
-        write_end(&rt, &mut whole, &parts, Start::cleared(), &end, true),
-        Ok(())
-    );
-    assert_held(&rt, whole, ALL_GLYPHS.as_bytes());
-    Ok(())
+    expect_report(
+        &rt,
+        content.as_slice(),
+        249,
+        Start::CLEARED,
+        true,
+        ALL_GLYPHS,
+    )
 }

@@ -1,45 +1,14 @@
 //! Reads, writes and flushes, on devices of which one call fails and the next would work.
-ghost use Rattle.std.specs.Prelude.{◌≡◌, false};
-ghost use Rattle.ans_write.specs.Tried.{has_failed};
-
 use crate::{DeviceFault, Tried};
 use ans_samples::{FailingOnce, Failure, Narrow};
 use std::io::{self, Write};
 use std::process::Abort;
 
-fn room_for(room: usize) -> Tried<Narrow>
-    ensures { has_failed result ≡ false }
-{
-    Tried::new(Narrow::new(room))
-}
-
-/// Asserts which bytes a device holds.
-fn assert_held(rt: &impl Abort, device: Tried<Narrow>, text: &[u8]) {
-    let device = device.into_inner();
-    assert_eq!(rt; device.held(), text);
-}
-
-/// The ways in which a write fails.
-const FAILURES: [Failure; 3] = [Failure::Error, Failure::Interruption, Failure::Nothing];
-
-/// A device that takes this many bytes, one a call, then fails once, and would then take more. The
-/// ways of failing take turns as the number grows.
-fn failing_after(taken: usize) -> Tried<FailingOnce<Narrow>>
-    ensures { has_failed result ≡ false }
-{
-    let failing_call = (taken as u64).saturating_add(1);
-    let failure = FAILURES[taken % FAILURES.len()];
-    Tried::new(FailingOnce::new(Narrow::new(4096), failing_call, failure))
-}
-
-/// Asserts that a device took these bytes, one a call, then failed, and was not called again.
-fn assert_stopped(rt: &impl Abort, device: Tried<FailingOnce<Narrow>>, taken: &[u8]) {
+/// Asserts that a device took these bytes, then failed, and was not called again.
+fn assert_stopped(rt: &impl Abort, device: &Tried<FailingOnce<Narrow>>, taken: &[u8]) {
     assert!(rt; device.failed());
-    let calls = device.calls();
-    let inner = device.into_inner();
-    assert_eq!(rt; inner.device().held(), taken);
-    assert_eq!(rt; inner.calls(), (taken.len() as u64).saturating_add(1));
-    assert_eq!(rt; calls, inner.calls());
+    assert!(rt; device.inner().stopped_after(taken));
+    assert_eq!(rt; device.calls(), device.inner().calls());
 }
 
 #[test]
@@ -72,41 +41,36 @@ fn a_read_of_nothing_is_no_failure(rt: HostRuntime) {
 
 #[test]
 fn a_write_that_fails_is_not_made_again(rt: HostRuntime) {
-    for failure in FAILURES {
+    for failure in Failure::ALL {
         let mut device = Tried::new(FailingOnce::new(Narrow::new(8), 2, failure));
         assert_eq!(rt; device.write_some(b"ab"), Ok(1));
         assert!(rt; !device.failed());
         assert_eq!(rt; device.write_some(b"b"), Err(DeviceFault));
-        assert_stopped(&rt, device, b"a");
+        assert_stopped(&rt, &device, b"a");
     }
 }
 
 /// A device that takes one byte a call is called once for each.
 #[test]
 fn all_is_written_by_short_writes(rt: HostRuntime) {
-    let rows: [(&[u8], u64); 4] = [
-        (b"", 0),
-        (b"a", 1),
-        (b"\x00\x1a\xff", 3),
-        (b"16 bytes in all.", 16),
-    ];
-    for (bytes, calls) in rows {
-        let mut device = room_for(16);
+    let texts: [&[u8]; 4] = [b"", b"a", b"\x00\x1a\xff", b"16 bytes in all."];
+    for bytes in texts {
+        let mut device = Tried::new(Narrow::new(16));
         assert_eq!(rt; device.write_all(bytes), Ok(()));
         assert!(rt; !device.failed());
-        assert_eq!(rt; device.calls(), calls);
-        assert_held(&rt, device, bytes);
+        assert_eq!(rt; device.calls(), bytes.len() as u64);
+        assert_eq!(rt; device.inner().held(), bytes);
     }
 }
 
 #[test]
 fn what_was_written_stands_before(rt: HostRuntime) {
-    let mut device = room_for(16);
+    let mut device = Tried::new(Narrow::new(16));
     assert_eq!(rt; device.write_all(b"Hi"), Ok(()));
     assert_eq!(rt; device.write_all(b", "), Ok(()));
     assert_eq!(rt; device.write_all(b"ho"), Ok(()));
     assert_eq!(rt; device.calls(), 6);
-    assert_held(&rt, device, b"Hi, ho");
+    assert_eq!(rt; device.inner().held(), b"Hi, ho".as_slice());
 }
 
 /// Each of the writes fails in turn, and in turn as an error, as interrupted and as a write of
@@ -115,9 +79,9 @@ fn what_was_written_stands_before(rt: HostRuntime) {
 fn no_write_follows_one_that_fails(rt: HostRuntime) {
     let bytes: &[u8] = b"sixteen letters.";
     for taken in 0..bytes.len() {
-        let mut device = failing_after(taken);
+        let mut device = Tried::new(FailingOnce::after(taken));
         assert_eq!(rt; device.write_all(bytes), Err(DeviceFault));
-        assert_stopped(&rt, device, &bytes[..taken]);
+        assert_stopped(&rt, &device, &bytes[..taken]);
     }
 }
 

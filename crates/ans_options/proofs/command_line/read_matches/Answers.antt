@@ -1,9 +1,9 @@
 use Rattle.std.proofs.Common.{rules, subst, List, Option, ◌∙◌}
+use Rattle.std.proofs.lemmas.Result.{err_from_is_err_and}
 use Rattle.std.specs.Prelude.{IsSomeAnd}
 use Rattle.clap.specs.Words.{Row, Text, found_of, rows_of}
 use Rattle.ans_options.specs.CommandLine.{IsCommand}
 use Rattle.ans_options.proofs.CommandLineLemmas.{asks_for, rows_met}
-use Rattle.ans_options.proofs.ErrorLemmas.{err_weaker}
 use Rattle.ans_options.proofs.command_line.read_matches.Goals as goal
 
 pub unreachable-requires-in_default-command_named : goal.unreachable-requires-in_default-command_named
@@ -22,4 +22,5 @@ returns-clause-ok c =
 
 pub returns-in_err-file-clause-memory : goal.returns-in_err-file-clause-memory
 returns-in_err-file-clause-memory c =
-    err_weaker c.from_residual.result _ _ c.from_residual.ensures.1 (λ e is. is ∙ c.in_err-file.ensures.memory)
+    let (e, at, is) = err_from_is_err_and c.from_residual.result c.from_residual.ensures.1 in
+    rw (at, is) c.in_err-file.ensures.memory

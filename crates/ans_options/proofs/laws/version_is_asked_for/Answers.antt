@@ -1,8 +1,5 @@
 use Rattle.ans_options.proofs.HelpWords.{long_version, short_version}
 use Rattle.ans_options.proofs.laws.version_is_asked_for.Goals as goal
 
-pub returns-clause-long : goal.returns-clause-long
-returns-clause-long c = long_version
-
-pub returns-clause-short : goal.returns-clause-short
-returns-clause-short c = short_version
+pub returns : goal.returns
+returns c = record { long = long_version; short = short_version }

@@ -36,12 +36,11 @@ loop-place-preserved c =
       carries = rw count at more;
     }
 
-pub overflow_sub-digits : goal.overflow_sub-digits
-overflow_sub-digits c =
+pub overflow_sub-start : goal.overflow_sub-start
+overflow_sub-start c =
     let s = c.args.self.now in
-    let carries = rw c.if-place-self.true at c.loop-place.invariant.carries in
-    let over = counted_over s.digits c.loop-place.digits s.start (8 - s.start) s.number carries s.shown c.requires in
-    omega (arith, over.1)
+    (counted_over s.digits c.loop-place.digits s.start c.loop-place.place s.number c.if-place-self.true
+    c.loop-place.invariant.carries s.shown c.requires).1
 
 pub overflow_add-digits : goal.overflow_add-digits
 overflow_add-digits c =
@@ -54,27 +53,17 @@ overflow_add-digits c =
     (omega arith) s.shown (omega arith) in
     omega arith
 
-pub overflow_sub-self : goal.overflow_sub-self
-overflow_sub-self c =
-    let s = c.args.self.now in
-    let carries = rw c.if-place-self.true at c.loop-place.invariant.carries in
-    let over = counted_over s.digits c.loop-place.digits s.start (8 - s.start) s.number carries s.shown c.requires in
-    omega (arith, over.1)
-
 pub invariant_of-self : goal.invariant_of-self
 invariant_of-self c =
     let s = c.args.self.now in
     let place = c.loop-place.place in
-    let h = c.loop-place.invariant in
-    let carries = rw c.if-place-self.true at h.carries in
-    let over = counted_over s.digits c.loop-place.digits s.start (8 - s.start) s.number carries s.shown c.requires in
-    let same : 8 - s.start ≡ 8 - place = omega arith in
-    let next = rw same at over.0 in
-    let some : 0 < place = omega (arith, over.1) in
+    let carries = c.loop-place.invariant.carries in
+    let (next, some) = counted_over s.digits c.loop-place.digits s.start place s.number c.if-place-self.true carries
+    s.shown c.requires in
     record {
       within = omega arith;
       shown = one_before_zeros s.digits c.loop-place.digits (place - 1) (8 - place) s.number
-          (after_digit some h.carries) next;
+          (after_digit some carries) next;
     }
 
 pub invariant_of-self-2 : goal.invariant_of-self-2
