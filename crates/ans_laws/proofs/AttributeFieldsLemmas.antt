@@ -6,7 +6,7 @@ use Rattle.std.specs.List.{list_all}
 use Rattle.std.proofs.lemmas.Bool.{eqb-true, cases_eq, and_parts, ne_eqb}
 use Rattle.ans_model.specs.Screen.Attribute.{Rendition, renditions, rendition_of, attribute_by, attribute_after}
 use Rattle.ans_laws.specs.AttributeLaws.{foreground, bright, background, blink, HasFields}
-use Rattle.ans_laws.specs.AttributeLaws.{is_colour_parameter, OthersChangeNothing}
+use Rattle.ans_laws.specs.AttributeLaws.{is_colour_parameter}
 
 -- the test holds of each number below n
 abbrev pub all_below : ℕ → (ℕ → Bool) → Bool
@@ -73,6 +73,6 @@ in_no_line (r ∷ rs) p named h =
       | inr ne ↦ rw (ne_eqb p r.parameter ne) (in_no_line rs p t.1 h)
     ]
 
-pub others_change_nothing : OthersChangeNothing
+pub others_change_nothing : (a p : ℕ) → IsFalse (is_colour_parameter p) → attribute_after a p ≡ a
 others_change_nothing a p h = ap (λ (o : Option Rendition). attribute_by o a)
     (in_no_line renditions p lines_are_named h)

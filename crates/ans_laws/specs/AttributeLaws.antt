@@ -33,48 +33,28 @@ pub record HasFields (new f b g l : ℕ) : Type 0 where
   pub background_is : background new ≡ g
   pub blink_is : blink new ≡ l
 
--- 0: white on black, neither bright nor blinking
-abbrev pub ResetsAttribute : Type 0
-ResetsAttribute = (a : ℕ) → IsByte a → HasFields (attribute_after a 0) 7 0 0 0
-
--- 1 sets bright and keeps the rest
-abbrev pub SetsBright : Type 0
-SetsBright = (a : ℕ) → IsByte a → HasFields (attribute_after a 1) (foreground a) 1 (background a) (blink a)
-
--- 4 sets the foreground to blue and keeps the rest (profile)
-abbrev pub SetsBlue : Type 0
-SetsBlue = (a : ℕ) → IsByte a → HasFields (attribute_after a 4) 1 (bright a) (background a) (blink a)
-
--- 5 sets blink and keeps the rest
-abbrev pub SetsBlink : Type 0
-SetsBlink = (a : ℕ) → IsByte a → HasFields (attribute_after a 5) (foreground a) (bright a) (background a) 1
-
--- 7 sets black on white and keeps the rest (profile)
-abbrev pub SetsBlackOnWhite : Type 0
-SetsBlackOnWhite = (a : ℕ) → IsByte a → HasFields (attribute_after a 7) 0 (bright a) 7 (blink a)
-
--- 8 sets black on black and keeps the rest (profile)
-abbrev pub SetsBlackOnBlack : Type 0
-SetsBlackOnBlack = (a : ℕ) → IsByte a → HasFields (attribute_after a 8) 0 (bright a) 0 (blink a)
-
--- 30 + i sets the foreground and keeps the rest
-abbrev pub SetsForeground : Type 0
-SetsForeground = (a i : ℕ) → IsByte a → i < 8
-    → HasFields (attribute_after a (30 + i)) (colour i) (bright a) (background a) (blink a)
-
--- 40 + i sets the background and keeps the rest
-abbrev pub SetsBackground : Type 0
-SetsBackground = (a i : ℕ) → IsByte a → i < 8
-    → HasFields (attribute_after a (40 + i)) (foreground a) (bright a) (colour i) (blink a)
-
 -- 0, 1, 4, 5, 7, 8, 30 to 37 and 40 to 47
 abbrev pub is_colour_parameter : ℕ → Bool
 is_colour_parameter p = list_any (λ q. p == q) (0 ∷ 1 ∷ 4 ∷ 5 ∷ 7 ∷ 8 ∷ [])
     || ((nat_le 30 p && nat_le p 37) || (nat_le 40 p && nat_le p 47))
 
--- any other number changes nothing (profile)
-abbrev pub OthersChangeNothing : Type 0
-OthersChangeNothing = (a p : ℕ) → IsFalse (is_colour_parameter p) → attribute_after a p ≡ a
+-- What each parameter does. One that sets a field keeps the others.
+pub record ParametersSetFields : Type 0 where
+  -- white on black, neither bright nor blinking
+  pub reset : (a : ℕ) → IsByte a → HasFields (attribute_after a 0) 7 0 0 0
+  pub sets_bright : (a : ℕ) → IsByte a → HasFields (attribute_after a 1) (foreground a) 1 (background a) (blink a)
+  -- 4 stands for a blue foreground (profile)
+  pub sets_blue : (a : ℕ) → IsByte a → HasFields (attribute_after a 4) 1 (bright a) (background a) (blink a)
+  pub sets_blink : (a : ℕ) → IsByte a → HasFields (attribute_after a 5) (foreground a) (bright a) (background a) 1
+  -- 7 and 8 set both colours (profile)
+  pub black_on_white : (a : ℕ) → IsByte a → HasFields (attribute_after a 7) 0 (bright a) 7 (blink a)
+  pub black_on_black : (a : ℕ) → IsByte a → HasFields (attribute_after a 8) 0 (bright a) 0 (blink a)
+  pub sets_foreground : (a i : ℕ) → IsByte a → i < 8
+      → HasFields (attribute_after a (30 + i)) (colour i) (bright a) (background a) (blink a)
+  pub sets_background : (a i : ℕ) → IsByte a → i < 8
+      → HasFields (attribute_after a (40 + i)) (foreground a) (bright a) (colour i) (blink a)
+  -- any other number changes nothing (profile)
+  pub others : (a p : ℕ) → IsFalse (is_colour_parameter p) → attribute_after a p ≡ a
 
 -- no parameters change nothing
 abbrev pub NoneChangeNothing : Type 0

@@ -41,46 +41,6 @@ IsLessBy n old new = ((n ≤ old) × (new + n ≡ old)) ⊎ ((old < n) × (new �
 abbrev pub IsMoreBy : ℕ → ℕ → ℕ → ℕ → Type 0
 IsMoreBy n last old new = ((old + n ≤ last) × (new ≡ old + n)) ⊎ ((last < old + n) × (new ≡ last))
 
--- Up goes n rows up, and stops in row 0.
-abbrev pub UpGoesUp : Type 0
-UpGoesUp = (z : Size) (s : State) (n : ℕ) → let new = (step z s (Up n)).cursor in
-    IsLessBy n s.cursor.row new.row × (new.column ≡ s.cursor.column)
-
--- Down goes n rows down, and stops in the spare row.
-abbrev pub DownGoesDown : Type 0
-DownGoesDown = (z : Size) (s : State) (n : ℕ) → let new = (step z s (Down n)).cursor in
-    IsMoreBy n z.lines s.cursor.row new.row × (new.column ≡ s.cursor.column)
-
--- Forward goes n columns to the right, and stops in the last.
-abbrev pub ForwardGoesRight : Type 0
-ForwardGoesRight = (z : Size) (s : State) (n last : ℕ) → IsLastColumn z last →
-    let new = (step z s (Forward n)).cursor in
-    (new.row ≡ s.cursor.row) × IsMoreBy n last s.cursor.column new.column
-
--- Backward goes n columns to the left, and stops in column 0.
-abbrev pub BackwardGoesLeft : Type 0
-BackwardGoesLeft = (z : Size) (s : State) (n : ℕ) → let new = (step z s (Backward n)).cursor in
-    (new.row ≡ s.cursor.row) × IsLessBy n s.cursor.column new.column
-
--- BackSpace goes one column to the left, and stays in column 0.
-abbrev pub BackSpaceGoesLeft : Type 0
-BackSpaceGoesLeft = (z : Size) (s : State) → let new = (step z s BackSpace).cursor in
-    (new.row ≡ s.cursor.row) × IsLessBy 1 s.cursor.column new.column
-
--- CarriageReturn goes to column 0 of the row.
-abbrev pub ReturnGoesToFirstColumn : Type 0
-ReturnGoesToFirstColumn = (z : Size) (s : State) → let new = (step z s CarriageReturn).cursor in
-    (new.row ≡ s.cursor.row) × (new.column ≡ 0)
-
--- Restore goes to the saved position.
-abbrev pub RestoreGoesToSaved : Type 0
-RestoreGoesToSaved = (z : Size) (s : State) → (step z s Restore).cursor ≡ s.saved
-
--- A position within the screen, counted from 1, is where the cursor then stands.
-abbrev pub PlacesCursor : Type 0
-PlacesCursor = (z : Size) (s : State) (p : Position) → IsOnScreen z p
-    → (step z s (Place (p.row + 1) (p.column + 1))).cursor ≡ p
-
 -- the new row or column, counted from 0, is the given one, counted from 1; or the first or the last, where the screen
 -- has no such one
 abbrev pub IsNearest : ℕ → ℕ → ℕ → Type 0
@@ -89,11 +49,32 @@ IsNearest given last new =
     ⊎ ((0 < given) × (given ≤ last + 1) × (new + 1 ≡ given))
     ⊎ ((last + 1 < given) × (new ≡ last))
 
--- Place goes to the nearest row and to the nearest column that the screen has.
-abbrev pub PlaceStopsAtEdges : Type 0
-PlaceStopsAtEdges = (z : Size) (s : State) (row column last : ℕ) → IsLastColumn z last →
-    let new = (step z s (Place row column)).cursor in
-    IsNearest row z.lines new.row × IsNearest column last new.column
+-- Where each move takes the cursor of this state.
+pub record MovesGoWhereTheySay (z : Size) (s : State) : Type 0 where
+  -- n rows up, to row 0 at most
+  pub up : (n : ℕ) → let new = (step z s (Up n)).cursor in
+      IsLessBy n s.cursor.row new.row × (new.column ≡ s.cursor.column)
+  -- n rows down, to the spare row at most
+  pub down : (n : ℕ) → let new = (step z s (Down n)).cursor in
+      IsMoreBy n z.lines s.cursor.row new.row × (new.column ≡ s.cursor.column)
+  -- n columns to the right, to the last at most
+  pub forward : (n last : ℕ) → IsLastColumn z last → let new = (step z s (Forward n)).cursor in
+      (new.row ≡ s.cursor.row) × IsMoreBy n last s.cursor.column new.column
+  -- n columns to the left, to column 0 at most
+  pub backward : (n : ℕ) → let new = (step z s (Backward n)).cursor in
+      (new.row ≡ s.cursor.row) × IsLessBy n s.cursor.column new.column
+  -- one column to the left
+  pub back_space : let new = (step z s BackSpace).cursor in
+      (new.row ≡ s.cursor.row) × IsLessBy 1 s.cursor.column new.column
+  -- to column 0 of the row
+  pub carriage_return : let new = (step z s CarriageReturn).cursor in (new.row ≡ s.cursor.row) × (new.column ≡ 0)
+  -- to the saved position
+  pub restore : (step z s Restore).cursor ≡ s.saved
+  -- to a position of the screen, counted from 1
+  pub place : (p : Position) → IsOnScreen z p → (step z s (Place (p.row + 1) (p.column + 1))).cursor ≡ p
+  -- to the nearest row and to the nearest column that the screen has
+  pub place_edges : (row column last : ℕ) → IsLastColumn z last → let new = (step z s (Place row column)).cursor in
+      IsNearest row z.lines new.row × IsNearest column last new.column
 
 -- Down brings back what Up took, where no edge is met.
 abbrev pub DownUndoesUp : Type 0

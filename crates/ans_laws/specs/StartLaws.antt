@@ -15,31 +15,18 @@ NoneKnownIsEvery = (z : Size) (s : State) → IsStart z none_known s ↔ IsWellF
 abbrev pub AllKnownIsOne : Type 0
 AllKnownIsOne = (z : Size) (s : State) → IsSize z → IsStart z all_known s ↔ (s ≡ cleared z)
 
--- Where the screen alone is known, the starts are the states whose cells are blanks of white on black.
-abbrev pub KnownScreenAlone : Type 0
-KnownScreenAlone = (z : Size) (s : State)
-    → IsStart z (record none_known { screen = true }) s
-    ↔ (IsWellFormed z s × (s.screen ≡ replicate (cell_count z) (cell 0x20 0x07)))
+-- the starts of the class are the states of the machine of which this is so
+abbrev pub HasStarts : Start → (Size → State → Type 0) → Type 0
+HasStarts class P = (z : Size) (s : State) → IsStart z class s ↔ (IsWellFormed z s × P z s)
 
--- Where the cursor alone is known, the starts are the states whose cursor is at home.
-abbrev pub KnownCursorAlone : Type 0
-KnownCursorAlone = (z : Size) (s : State)
-    → IsStart z (record none_known { cursor = true }) s ↔ (IsWellFormed z s × (s.cursor ≡ at 0 0))
-
--- Where the saved cursor alone is known, the starts are the states whose saved cursor is at home.
-abbrev pub KnownSavedAlone : Type 0
-KnownSavedAlone = (z : Size) (s : State)
-    → IsStart z (record none_known { saved = true }) s ↔ (IsWellFormed z s × (s.saved ≡ at 0 0))
-
--- Where the colours alone are known, the starts are the states whose attribute is white on black.
-abbrev pub KnownColoursAlone : Type 0
-KnownColoursAlone = (z : Size) (s : State)
-    → IsStart z (record none_known { colours = true }) s ↔ (IsWellFormed z s × (s.attribute ≡ 0x07))
-
--- Where wrap alone is known, the starts are the states in which it is on.
-abbrev pub KnownWrapAlone : Type 0
-KnownWrapAlone = (z : Size) (s : State)
-    → IsStart z (record none_known { wrap = true }) s ↔ (IsWellFormed z s × (s.wrap ≡ true))
+-- Where one part alone is known, the starts are the states in which it has its value on the cleared screen.
+pub record OnePartIsKnown : Type 0 where
+  pub screen : HasStarts (record none_known { screen = true })
+      (λ z s. s.screen ≡ replicate (cell_count z) (cell 0x20 0x07))
+  pub cursor : HasStarts (record none_known { cursor = true }) (λ z s. s.cursor ≡ at 0 0)
+  pub saved : HasStarts (record none_known { saved = true }) (λ z s. s.saved ≡ at 0 0)
+  pub colours : HasStarts (record none_known { colours = true }) (λ z s. s.attribute ≡ 0x07)
+  pub wrap : HasStarts (record none_known { wrap = true }) (λ z s. s.wrap ≡ true)
 
 -- the parts that are known in one class or the other
 abbrev pub known_in_either : Start → Start → Start

@@ -1,25 +1,11 @@
 //! What the table of colour parameters does to an attribute's fields.
 
-ghost use Rattle.ans_laws.specs.AttributeLaws.{ResetsAttribute, SetsBright, SetsBlue};
-ghost use Rattle.ans_laws.specs.AttributeLaws.{SetsBlink};
-ghost use Rattle.ans_laws.specs.AttributeLaws.{SetsBlackOnWhite, SetsBlackOnBlack};
-ghost use Rattle.ans_laws.specs.AttributeLaws.{SetsForeground};
-ghost use Rattle.ans_laws.specs.AttributeLaws.{SetsBackground, OthersChangeNothing};
-ghost use Rattle.ans_laws.specs.AttributeLaws.{NoneChangeNothing};
-ghost use Rattle.ans_laws.specs.AttributeLaws.{EachAfterTheOthers};
+ghost use Rattle.ans_laws.specs.AttributeLaws.{EachAfterTheOthers, NoneChangeNothing, ParametersSetFields};
 
 /// Each line of the table sets some fields and keeps the others. A number without a line changes
 /// nothing.
 pub fn parameters_set_fields()
-    ensures reset { ResetsAttribute }
-    ensures bright { SetsBright }
-    ensures blue { SetsBlue }
-    ensures blink { SetsBlink }
-    ensures black_on_white { SetsBlackOnWhite }
-    ensures black_on_black { SetsBlackOnBlack }
-    ensures foreground { SetsForeground }
-    ensures background { SetsBackground }
-    ensures others { OthersChangeNothing }
+    ensures { ParametersSetFields }
 {}
 
 /// Several parameters apply one after the other, the first one first.

@@ -1,11 +1,8 @@
 //! Laws of the classes of starts.
 
-ghost use Rattle.ans_laws.specs.StartLaws.{NoneKnownIsEvery, AllKnownIsOne};
-ghost use Rattle.ans_laws.specs.StartLaws.{KnownScreenAlone, KnownCursorAlone};
-ghost use Rattle.ans_laws.specs.StartLaws.{KnownSavedAlone, KnownColoursAlone};
-ghost use Rattle.ans_laws.specs.StartLaws.{KnownWrapAlone, KnownPartsTogether};
-ghost use Rattle.ans_laws.specs.StartLaws.{LowIsStart, HighIsStart};
-ghost use Rattle.ans_laws.specs.StartLaws.{CoversStarts, CoversGood, BothKnownIsGreatest, CoversAllBut};
+ghost use Rattle.ans_laws.specs.StartLaws.{AllKnownIsOne, BothKnownIsGreatest, CoversAllBut, CoversGood, CoversStarts};
+ghost use Rattle.ans_laws.specs.StartLaws.{HighIsStart, KnownPartsTogether, LowIsStart, NoneKnownIsEvery};
+ghost use Rattle.ans_laws.specs.StartLaws.{OnePartIsKnown};
 ghost use Rattle.ans_model.specs.declared.start.Start.{Start};
 
 /// Where nothing is known, a start is every state of the machine; where all is known, it is the one
@@ -17,11 +14,7 @@ pub fn classes_are_their_starts()
 
 /// Where one part alone is known, it has its value on the cleared screen, and the others have any.
 pub fn parts_are_what_they_say()
-    ensures screen { KnownScreenAlone }
-    ensures cursor { KnownCursorAlone }
-    ensures saved { KnownSavedAlone }
-    ensures colours { KnownColoursAlone }
-    ensures wrap { KnownWrapAlone }
+    ensures { OnePartIsKnown }
 {}
 
 /// Where the known parts of two classes are known together, the starts are those of both classes.

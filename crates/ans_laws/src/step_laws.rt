@@ -1,21 +1,12 @@
 //! Laws of the machine: what each line of the table of steps changes and what it leaves.
 
-ghost use Rattle.ans_laws.specs.MoveLaws.{MovesChangeCursor, UpGoesUp, DownGoesDown};
-ghost use Rattle.ans_laws.specs.MoveLaws.{ForwardGoesRight};
-ghost use Rattle.ans_laws.specs.MoveLaws.{BackwardGoesLeft, BackSpaceGoesLeft};
-ghost use Rattle.ans_laws.specs.MoveLaws.{ReturnGoesToFirstColumn};
-ghost use Rattle.ans_laws.specs.MoveLaws.{RestoreGoesToSaved, PlacesCursor};
-ghost use Rattle.ans_laws.specs.MoveLaws.{PlaceStopsAtEdges, DownUndoesUp};
-ghost use Rattle.ans_laws.specs.MoveLaws.{ForwardUndoesBackward};
-ghost use Rattle.ans_laws.specs.StepLaws.{OnePositionAnIndex, SavesCursor};
-ghost use Rattle.ans_laws.specs.StepLaws.{ColoursChangeAttribute};
-ghost use Rattle.ans_laws.specs.StepLaws.{WrapChangesWrap, IdleChangesNothing, ClearsScreen};
-ghost use Rattle.ans_laws.specs.StepLaws.{ErasesLine};
-ghost use Rattle.ans_laws.specs.StepLaws.{GlyphPrints, GlyphScrolls, LineFeedMovesDown};
-ghost use Rattle.ans_laws.specs.StepLaws.{LineFeedScrolls};
-ghost use Rattle.ans_laws.specs.StepLaws.{TabPrintsBlanks, TabBlanksCells, FullTabScrolls};
-ghost use Rattle.ans_laws.specs.StepLaws.{StepsAreWellFormed};
-ghost use Rattle.ans_laws.specs.StepLaws.{CleanNeverScrolls, GoodNeverScrolls};
+ghost use Rattle.ans_model.specs.Screen.State.{Size, State};
+ghost use Rattle.ans_laws.specs.MoveLaws.{DownUndoesUp, ForwardUndoesBackward, MovesChangeCursor, MovesGoWhereTheySay};
+ghost use Rattle.ans_laws.specs.StepLaws.{CleanNeverScrolls, ClearsScreen, ColoursChangeAttribute, ErasesLine};
+ghost use Rattle.ans_laws.specs.StepLaws.{FullTabScrolls, GlyphPrints, GlyphScrolls, GoodNeverScrolls};
+ghost use Rattle.ans_laws.specs.StepLaws.{IdleChangesNothing, LineFeedMovesDown, LineFeedScrolls, OnePositionAnIndex};
+ghost use Rattle.ans_laws.specs.StepLaws.{SavesCursor, StepsAreWellFormed, TabBlanksCells, TabPrintsBlanks};
+ghost use Rattle.ans_laws.specs.StepLaws.{WrapChangesWrap};
 
 /// Two positions of the screen have two indices.
 pub fn positions_have_indices()
@@ -29,15 +20,7 @@ pub fn moves_change_the_cursor()
 
 /// Where each move takes the cursor, inside the screen and at its edges.
 pub fn moves_go_where_they_say()
-    ensures up { UpGoesUp }
-    ensures down { DownGoesDown }
-    ensures forward { ForwardGoesRight }
-    ensures backward { BackwardGoesLeft }
-    ensures back_space { BackSpaceGoesLeft }
-    ensures carriage_return { ReturnGoesToFirstColumn }
-    ensures restore { RestoreGoesToSaved }
-    ensures place { PlacesCursor }
-    ensures place_edges { PlaceStopsAtEdges }
+    ensures { (z : Size) (s : State) → MovesGoWhereTheySay z s }
 {}
 
 /// Down undoes Up, and Forward undoes Backward, where no edge is met.
