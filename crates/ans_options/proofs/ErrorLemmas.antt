@@ -1,9 +1,8 @@
 -- What a result that is an error is known to hold.
 use Rattle.std.proofs.Common.{◌≡◌, [], ◌∷◌, List, Result, Ok, Err, inl, inr, ap, ap₂, subst, true}
 use Rattle.std.specs.Prelude.{IsErrAnd, IfErr}
-use Rattle.clap.specs.Words.{App, HasKind, Kinds, Text, fault_of, is_simple_and_free, kind_of}
+use Rattle.clap.specs.Words.{App, HasKind, Kinds, Text, fault_of, is_simple_and_free}
 use Rattle.clap.specs.declared.error.Error.{Error}
-use Rattle.clap.specs.declared.error.ErrorKind.TheVariants.{OutOfMemory}
 use Rattle.ans_options.specs.CommandLine.{HasKindAmong, RanOutOfMemory, anscheck, faults_of, words_meant}
 use Rattle.ans_options.specs.declared.command_line.WordsError.{WordsError}
 use Rattle.ans_options.specs.declared.command_line.WordsError.TheVariants.{Clap, Memory}

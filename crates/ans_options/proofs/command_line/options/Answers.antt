@@ -2,7 +2,7 @@ use Rattle.std.proofs.Common.{◌∙◌, ◌≡◌, [], List, Option, ap, ap₂,
 use Rattle.std.proofs.lemmas.Result.{IfErr-weaker, IfOk-weaker, err_from_is_err_and}
 use Rattle.std.specs.Prelude.{IfOk, IsSomeAnd, string_bytes}
 use Rattle.clap.specs.Words.{Row, Text, fault_of, is_simple_and_free, subcommand_rows_of, takes}
-use Rattle.ans_options.specs.CommandLine.{AsksFor, HasKindAmong, faults_of, texts_of, words_meant}
+use Rattle.ans_options.specs.CommandLine.{AsksFor, faults_of, texts_of, words_meant}
 use Rattle.ans_options.proofs.CommandLineLemmas.{command_found, subcommand_is, subcommand_met}
 use Rattle.ans_options.proofs.ErrorLemmas.{kind_met, ran_out}
 use Rattle.ans_options.proofs.FlagLemmas.{flagless}

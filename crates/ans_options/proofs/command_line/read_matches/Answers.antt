@@ -1,4 +1,4 @@
-use Rattle.std.proofs.Common.{rules, subst, List, Option, ◌∙◌}
+use Rattle.std.proofs.Common.{rules, subst, List, Option}
 use Rattle.std.proofs.lemmas.Result.{err_from_is_err_and}
 use Rattle.std.specs.Prelude.{IsSomeAnd}
 use Rattle.clap.specs.Words.{Row, Text, found_of, rows_of}
