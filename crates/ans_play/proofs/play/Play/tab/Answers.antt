@@ -69,7 +69,8 @@ returns g c =
     let blank : c.blank-blank.result ≡ half_blank c.self.inside.attribute =
     c.blank-blank.ensures ∙ ap (λ (p : PlayView). half_blank p.state.attribute) (sym c.self.view_is) in
     let run = tab_is_played c.self.inside.size (g.G.Grid.cells_of c.self.inside.grid) c.self.inside.cursor
-    c.self.inside.saved c.self.inside.attribute c.self.inside.wrap c.self.invariant.cursor (one g at) (above g at) cells none in
+    c.self.inside.saved c.self.inside.attribute c.self.inside.wrap c.self.invariant.cursor (one g at) (above g at)
+    cells none in
     rw (← c.self.view_is) (
       run.0,
       ap (λ (h : HalfState). play_view c.self.inside.size c.self.inside.scanner h)
