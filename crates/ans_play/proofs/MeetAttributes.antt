@@ -1,6 +1,6 @@
 -- What is known of an attribute, and what is known of two, through colour parameters.
-use Rattle.std.proofs.Common.{◌≡◌, ℕ, zero, suc, ◌+◌, ◌<◌, ◌^◌, ◌%◌, min, max, Bool, true, refl, sym, ap, ◌∙◌, arith, rules}
-use Rattle.std.proofs.Common.{List, [], ◌∷◌, Option, Some, None, lit<}
+use Rattle.std.proofs.Common.{◌≡◌, ℕ, zero, suc, ◌+◌, ◌<◌, ◌^◌, ◌%◌, min, max, Bool, true, refl, sym, ap, ◌∙◌, arith}
+use Rattle.std.proofs.Common.{rules, List, [], ◌∷◌, Option, Some, None, lit<}
 use Rattle.std.specs.Prelude.{IfSome, ◌&&◌, ◌==◌, bit_and, bit_or, bit_xor}
 use Rattle.std.specs.Int.{bit_at}
 use Rattle.std.proofs.lemmas.Bool.{and_parts, eqb-true}
@@ -178,7 +178,8 @@ pub whole_after_all : (a : ℕ) (ps : List ℕ) →
 whole_after_all a [] = refl
 whole_after_all a (n ∷ ps) =
     whole_after_all (attribute_after a n) ps
-    ∙ ap (λ (h : KnownBits). known_after_all h ps) (whole_after_rendition (rendition_of renditions n) a (rendition_fits n))
+    ∙ ap (λ (h : KnownBits). known_after_all h ps)
+    (whole_after_rendition (rendition_of renditions n) a (rendition_fits n))
 
 -- ---- half-known attributes that agree
 pub agrees_after_all : (h : KnownBits) (a : ℕ) (ps : List ℕ) → Agrees h a →

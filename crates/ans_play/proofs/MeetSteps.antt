@@ -93,7 +93,8 @@ module _ (z : Size) (g h : HalfState) (fits_g : FitsHalf z g) (fits_h : FitsHalf
   -- what both know is of a machine's state too
   pub meet_fits : FitsHalf z (meet g h)
   meet_fits = record {
-    cells = length-map (zip g.screen h.screen) _ ∙ length-zip g.screen h.screen ∙ omega (arith, fits_g.cells, fits_h.cells);
+    cells = length-map (zip g.screen h.screen) _ ∙ length-zip g.screen h.screen
+        ∙ omega (arith, fits_g.cells, fits_h.cells);
     cursor = record {
       rows = omega (arith, fits_g.cursor.rows);
       columns = omega (arith, fits_g.cursor.columns);

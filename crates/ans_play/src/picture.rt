@@ -30,7 +30,6 @@ impl<G: Grid> Picture<G> {
     ghost use Rattle.ans_play.specs.Shown.{IsShown, picture_of, known_cell, byte_at, attribute_at};
     ghost use Rattle.ans_play.specs.Shown.{bytes_of_row, attributes_of_row};
 
-    /// The picture of a grid whose cells of the stated lines are all known.
     pub(crate) fn new(size: Size, grid: G) -> Picture<G>
         requires { IsShown size (G.cells_of grid) }
         ensures { result ≡ picture_of size (G.cells_of grid) }
@@ -55,7 +54,6 @@ impl<G: Grid> Picture<G> {
         self.size.lines()
     }
 
-    /// The cell at a row and a column, counted from 0.
     fn cell(&self, row: usize, column: usize) -> HalfCell
         requires row { row < self.now.size.lines }
         requires column { column < self.now.size.width }

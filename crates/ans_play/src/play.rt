@@ -1,7 +1,7 @@
 //! The play of bytes over one half-known state.
 
 ghost use Rattle.std.specs.Prelude.{◌≡◌, ◌≢◌, ◌<◌, ◌≤◌, ◌+◌, ℕ, List, [], ◌∷◌, length, take, slice_index_or};
-ghost use Rattle.std.specs.Prelude.{IsOk, IfOk, IfErr, OnOk, OnErr};
+ghost use Rattle.std.specs.Prelude.{IsOk, IfOk, IfErr, OnOk, OnErr, Some, true};
 ghost use Rattle.ans_model.specs.Bytes.{longest_file, escape};
 ghost use Rattle.ans_model.specs.Sequence.Reads.{kind_of_byte};
 ghost use Rattle.ans_model.specs.Sequence.TokenKind.{Glyph, LineFeed, Tab, Place, EraseLine, Clear};
@@ -56,7 +56,6 @@ impl<G: Grid> Model for Play<G> {
         (half_state (G.cells_of p.grid) p.cursor p.saved p.attribute p.wrap)) };
 }
 
-/// A cell of the screen at the start: a blank of white on black, if it is known.
 fn cell_at_start(known: bool) -> HalfCell
     ensures { result ≡ start_cell known }
 {
@@ -67,7 +66,6 @@ fn cell_at_start(known: bool) -> HalfCell
     }
 }
 
-/// The attribute at the start: white on black, if it is known.
 fn attribute_at_start(known: bool) -> Attr
     ensures { result ≡ start_attribute known }
 {
@@ -78,7 +76,6 @@ fn attribute_at_start(known: bool) -> Attr
     }
 }
 
-/// What is known of an attribute after colour parameters, one after the other.
 #[inline(always)]
 fn known_after_all(attribute: Attr, parameters: &[u8]) -> Attr
     ensures { result ≡ known_after_all attribute parameters.now }
@@ -134,7 +131,6 @@ impl<G: Grid> Play<G> {
         }
     }
 
-    /// Plays the first byte, and returns that it is one byte.
     fn play_first(&mut self, bytes: &[u8]) -> Result<usize, Fault>
         requires some { 1 ≤ length bytes.now }
         requires room { self.old.scanner.offset + length bytes.now ≤ longest_file }
@@ -325,20 +321,33 @@ impl<G: Grid> Play<G> {
 // The steps: each token plays, or is refused for the fault that it shows.
 impl<G: Grid> Play<G> {
     ghost use Rattle.ans_play.specs.HalfStep.{half_blank, after_move};
+    ghost use Rattle.ans_play.specs.HalfFault.{is_one_position, half_print_fault};
     ghost use Rattle.ans_play.specs.Plays.{Plays, PlaysLetter};
+
+    /// Where a byte is printed. An error is the fault that it has there.
+    #[inline(always)]
+    fn printing_position(&self) -> Result<Position, Cause>
+        ensures one { IfOk result (λ position. (position ≡ self.now.state.cursor.low)
+            × (is_one_position self.now.state.cursor ≡ true)) }
+        ensures above { IfOk result (λ position. position.row < self.now.size.lines) }
+        ensures fault { IfErr result (λ cause.
+            half_print_fault self.now.size self.now.state ≡ Some cause) }
+    {
+        if !self.cursor.is_one_position() {
+            return Err(Cause::PrintUnknownPlace);
+        }
+        if self.cursor.low.row == self.size.lines() {
+            return Err(Cause::PrintBelow);
+        }
+        Ok(self.cursor.low)
+    }
 
     /// Prints a byte at the cursor, which then goes on. It is refused where the cursor is not known
     /// to stand at one position of the stated lines.
     pub fn print(&mut self, byte: u8) -> Result<(), Cause>
         ensures { Plays self.old self.new (Glyph byte) result }
     {
-        if !self.cursor.is_one_position() {
-            return Err(Cause::PrintUnknownPlace);
-        }
-        let position = self.cursor.low;
-        if position.row == self.size.lines() {
-            return Err(Cause::PrintBelow);
-        }
+        let position = self.printing_position()?;
         let cell = HalfCell {
             glyph: Some(byte),
             attr: self.attribute,
@@ -354,13 +363,7 @@ impl<G: Grid> Play<G> {
     pub fn tab(&mut self) -> Result<(), Cause>
         ensures { Plays self.old self.new Tab result }
     {
-        if !self.cursor.is_one_position() {
-            return Err(Cause::PrintUnknownPlace);
-        }
-        let position = self.cursor.low;
-        if position.row == self.size.lines() {
-            return Err(Cause::PrintBelow);
-        }
+        let position = self.printing_position()?;
         let blanks = tab_blanks(position.column);
         let cursor = self.wrap.after_blanks(position, blanks, self.size)?;
         let from = position.row * self.size.width() + position.column;
@@ -437,7 +440,6 @@ impl<G: Grid> Play<G> {
         Ok(())
     }
 
-    /// A blank of the current attribute.
     fn blank(&self) -> HalfCell
         ensures { result ≡ half_blank self.now.state.attribute }
     {
@@ -447,7 +449,6 @@ impl<G: Grid> Play<G> {
         }
     }
 
-    /// Keeps the cursor.
     pub fn save(&mut self) -> Result<(), Cause>
         ensures { Plays self.old self.new Save result }
     {
@@ -455,7 +456,6 @@ impl<G: Grid> Play<G> {
         Ok(())
     }
 
-    /// Brings the saved cursor back.
     pub fn restore(&mut self) -> Result<(), Cause>
         ensures { Plays self.old self.new Restore result }
     {
@@ -463,7 +463,6 @@ impl<G: Grid> Play<G> {
         Ok(())
     }
 
-    /// Applies colour parameters to the current attribute, one after the other.
     #[inline(always)]
     pub fn colour(&mut self, parameters: &[u8]) -> Result<(), Cause>
         ensures { Plays self.old self.new (Colours parameters.now) result }
@@ -514,7 +513,6 @@ impl<G: Grid> Play<G> {
         }
     }
 
-    /// Sets wrap on or off.
     pub fn set_wrap(&mut self, on: bool) -> Result<(), Cause>
         ensures { Plays self.old self.new (Wrap on) result }
     {

@@ -62,7 +62,6 @@ impl Span {
     ghost use Rattle.ans_play.specs.HalfStep.{after_move, one_row_down};
     ghost use Rattle.ans_play.specs.HalfFault.{is_one_position};
 
-    /// The span of one position.
     pub fn at(row: usize, column: usize) -> Span
         ensures { result ≡ one_position row column }
     {
@@ -73,7 +72,6 @@ impl Span {
         }
     }
 
-    /// At the start: the top left, if it is known, and else anywhere on the screen.
     pub fn of_start(known: bool, size: Size) -> Span
         ensures of_start { result ≡ start_span size known }
         ensures on_screen { IsSpanOnScreen size result }
@@ -97,7 +95,6 @@ impl Span {
         self.low.row == self.high.row && self.low.column == self.high.column
     }
 
-    /// After a token that only moves the cursor.
     #[inline(always)]
     pub fn after_move(self, kind: &Kind, size: Size) -> Span
         requires { IsSpanOnScreen size self }

@@ -64,16 +64,10 @@ fn play<G: Grid>(
     first: usize,
     size: usize,
 ) -> Result<(), Fail> {
-    let Row {
-        start,
-        width,
-        lines,
-        content,
-        expected,
-    } = *row;
-    assert!(rt; 1 <= width && width <= 20 && 1 <= lines && lines <= 10);
+    let content = row.content;
+    assert!(rt; 1 <= row.width && row.width <= 20 && 1 <= row.lines && row.lines <= 10);
     assert!(rt; first <= content.len() && 0 < size);
-    let mut player = Player::<G>::new(alloc, width, lines, start)?;
+    let mut player = Player::<G>::new(alloc, row.width, row.lines, row.start)?;
     let mut met = feed(rt, &mut player, &content[..first]);
     for piece in content[first..].chunks(size) {
         let answer = feed(rt, &mut player, piece);
@@ -84,7 +78,7 @@ fn play<G: Grid>(
             assert_eq!(rt; answer, met);
         }
     }
-    match (player.finish(), expected) {
+    match (player.finish(), row.expected) {
         (Ok(picture), Shows(bytes, attributes)) => assert_shows(rt, &picture, bytes, attributes),
         (Err(fault), Refused(offset, cause)) => {
             assert_eq!(rt; fault, Fault { offset, cause }, "in {content:?}");

@@ -23,14 +23,12 @@ impl WrapMode {
     ghost use Rattle.ans_play.specs.HalfStep.{wrap_of, after_print};
     ghost use Rattle.ans_play.specs.HalfBlanks.{fault_of_blanks, end_of_blanks, after_blanks};
 
-    /// Wrap that is known to be on or off.
     pub fn of(on: bool) -> WrapMode
         ensures { result ≡ wrap_of on }
     {
         if on { WrapMode::On } else { WrapMode::Off }
     }
 
-    /// At the start: on, if it is known.
     pub fn of_start(known: bool) -> WrapMode
         ensures { result ≡ start_wrap known }
     {

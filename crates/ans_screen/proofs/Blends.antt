@@ -62,20 +62,20 @@ selected_is new old count ln lo le =
     ]))
 
 -- what lies behind the new lanes is what lay there
-pub behind : (xs : List ℕ) (from count : ℕ) → count ≤ 16 → from + 16 ≤ length xs
+lanes_behind : (xs : List ℕ) (from count : ℕ) → count ≤ 16 → from + 16 ≤ length xs
     → drop count (take 16 (drop from xs)) ++ drop 16 (drop from xs) ≡ drop (from + count) xs
-behind xs from count le room =
+lanes_behind xs from count le room =
     let tail = drop from xs in
     let long : length (take 16 tail) ≡ 16 = length-take-le 16 tail (omega (arith, length-drop from xs)) in
     sym (drop-append-le count (take 16 tail) (drop 16 tail) (omega arith))
     ∙ (ap (λ (ys : List ℕ). drop count ys) (take-append-drop 16 tail) ∙ drop-drop count from xs)
 
 -- a store of those lanes, by the mask of a comparison
-pub blended : (new old : List ℕ) (count : ℕ) → length new ≡ 16 → length old ≡ 16 → count ≤ 16
+pub masked_store_blends : (new old : List ℕ) (count : ℕ) → length new ≡ 16 → length old ≡ 16 → count ≤ 16
     → put_chunk 0 old (sel_l (map (top (hbits w8)) (zip2 (λ (a b : ℕ). cond (ltb a b) 255 0)
     (range_with_len 0 16) (replicate 16 count))) new (take 16 old))
     ≡ take count new ++ drop count old
-blended new old count ln lo le =
+masked_store_blends new old count ln lo le =
     let mask = tops_compared w8 ltb (range_with_len 0 16) (replicate 16 count) in
     let all : take 16 old ≡ old = take_all 16 old (omega arith) in
     let ms = lanes_below count in
@@ -94,7 +94,7 @@ blended_plane xs new from count ln le room =
     rw len
     (ap (λ (ys : List ℕ). take from xs ++ ys)
     (append_assoc (take count new) (drop count (take 16 (drop from xs))) (drop 16 (drop from xs))
-    ∙ ap (λ (ys : List ℕ). take count new ++ ys) (behind xs from count le room)))
+    ∙ ap (λ (ys : List ℕ). take count new ++ ys) (lanes_behind xs from count le room)))
 
 -- equal lanes are a short fill
 pub short_run : (xs : List ℕ) (from count byte : ℕ) → count ≤ 16

@@ -119,7 +119,8 @@ AreMarked g ks bs from to k b =
     ⊎ ((ks ≡ g.glyphs_known) × (bs ≡ g.bits_known) × AreKnownStates (states_of g) from to)
 
 module _ (g : PlaneGrid) (from to : ℕ) (known : Bool) (gs ks bs vs : List ℕ) (k b v : ℕ)
-    (room : to ≤ g.width * g.rows) (values : vs ≡ filled g.values.items from to v) (marks : AreMarked g ks bs from to k b)
+    (room : to ≤ g.width * g.rows) (values : vs ≡ filled g.values.items from to v)
+    (marks : AreMarked g ks bs from to k b)
     (takes : AreOpen (states_of g) known from to) (full : known ≡ true → (k ≡ 0xFF) × (b ≡ 0xFF)) where
   -- a run is written to cells that take it
   pub run_shown : (run : List ℕ) → to ≡ from + length run → gs ≡ written g.glyphs.items from run

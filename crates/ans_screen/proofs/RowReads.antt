@@ -169,7 +169,8 @@ module _ (g : PlaneGrid) (part : HalfCell → ℕ) where
       → ((i : ℕ) → end ≤ i → i < from + length old → states_of g i ≡ Stale)
       → IsCopied part g first (end - first) held
       → IsCopied part g from (length old) (put_mid (first - from) (end - from - (first - from)) copied held)
-  copied_held old {copied = copied} held {blank = blank} {from = from} {first = first} {end = end} is le ordered room filled len before after inside =
+  copied_held old {copied = copied} held {blank = blank} {from = from} {first = first} {end = end}
+      is le ordered room filled len before after inside =
       let stale : (i : ℕ) → states_of g i ≡ Stale → part (cell_in_grid g i) ≡ blank =
       λ i e. ap part (cell_in_state g Stale i e) ∙ sym is in
       copied_row part (cell_in_grid g) blank from first end old copied held le ordered room filled len

@@ -67,7 +67,8 @@ cell_in_grid g = cell_at (states_of g) g.blank g.glyphs.items g.glyphs_known g.b
 
 -- a cell for each row and column of a grid
 pub length_grid : (g : PlaneGrid) → length (cells_of_grid g) ≡ g.width * g.rows
-length_grid g = length_rows g.width g.rows (states_of g) g.blank g.glyphs.items g.glyphs_known g.bits_known g.values.items
+length_grid g =
+    length_rows g.width g.rows (states_of g) g.blank g.glyphs.items g.glyphs_known g.bits_known g.values.items
 
 -- both grids have the same cells in the same rows
 pub record ShowsSame (old new : PlaneGrid) : Type 0 where

@@ -50,7 +50,6 @@ impl LazyPlane {
         })
     }
 
-    /// Makes the bytes from `from` up to and without `to` this one.
     #[inline(always)]
     pub(crate) fn fill(&mut self, from: usize, to: usize, byte: u8)
         requires ordered { from ≤ to }
@@ -65,7 +64,6 @@ impl LazyPlane {
         fill_plane(&mut self.bytes, from, to, byte);
     }
 
-    /// Byte `i`.
     #[inline(always)]
     pub(crate) fn byte(&self, i: usize) -> u8
         requires { i < length self.now }

@@ -17,7 +17,6 @@ pub struct PlainGrid {
     ghost whole: { length items.items ≡ width * rows },
 }
 
-/// Makes the cells these bytes, all with one attribute.
 fn print_cells(cells: &mut [HalfCell], bytes: &[u8], attr: Attr)
     requires { length bytes.now ≡ length cells.old }
     ensures { cells.new ≡ printed_run attr bytes.now }

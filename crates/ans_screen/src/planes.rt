@@ -21,7 +21,6 @@ pub(crate) struct CellBytes {
 }
 
 impl CellBytes {
-    /// The bytes of a cell that is wholly known.
     pub(crate) fn known(glyph: u8, value: u8) -> CellBytes
         ensures { cell_of result.glyph result.glyph_known result.bits_known result.value
             ≡ cell_of glyph 0xFF 0xFF value }
@@ -34,7 +33,6 @@ impl CellBytes {
         }
     }
 
-    /// Whether the glyph and all bits of the attribute are known.
     pub(crate) fn is_known(&self) -> bool
         ensures { IsTrue result ↔ ((self.now.glyph_known ≡ 0xFF) × (self.now.bits_known ≡ 0xFF)) }
     {
@@ -52,7 +50,6 @@ fn bytes_of_glyph(glyph: Option<u8>) -> (u8, u8)
     }
 }
 
-/// The bytes that stand for a cell.
 pub(crate) fn bytes_of(cell: HalfCell) -> CellBytes
     ensures { cell_of result.glyph result.glyph_known result.bits_known result.value ≡ cell }
 {
@@ -65,7 +62,6 @@ pub(crate) fn bytes_of(cell: HalfCell) -> CellBytes
     }
 }
 
-/// The cell that bytes stand for.
 #[inline(always)]
 pub(crate) fn cell_of_bytes(bytes: CellBytes) -> HalfCell
     ensures { result ≡ cell_of bytes.glyph bytes.glyph_known bytes.bits_known bytes.value }
@@ -154,7 +150,6 @@ pub(crate) fn write_planes(
     }
 }
 
-/// Whether all of 32 cells are known.
 #[inline(always)]
 fn is_known_chunk(glyphs_known: u8x32, bits_known: u8x32) -> bool
     ensures { IsTrue result ↔ AreKnown glyphs_known bits_known 32 }
@@ -184,7 +179,6 @@ fn known_chunks(glyphs_known: &[u8], bits_known: &[u8], to: usize) -> usize
     to / 32 * 32
 }
 
-/// The least `i` below `to` whose cell is not known.
 pub(crate) fn first_gap(glyphs_known: &[u8], bits_known: &[u8], to: usize) -> Option<usize>
     requires glyphs_known { to ≤ length glyphs_known.now }
     requires bits_known { to ≤ length bits_known.now }

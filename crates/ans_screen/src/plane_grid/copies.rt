@@ -9,7 +9,6 @@ use super::{PlaneGrid, RowState};
 use crate::planes::{copy_known_bits, copy_known_glyphs};
 
 impl PlaneGrid {
-    /// Copies the glyphs of cells of one row side by side from cell `from` on.
     pub(super) fn copy_row_glyphs(&self, row: usize, from: usize, glyphs: &mut [u8])
         requires row { row < self.now.rows }
         requires from { row * self.now.width ≤ from }
@@ -21,8 +20,6 @@ impl PlaneGrid {
         self.copy_held_glyphs(row, first, &mut glyphs[first - from..end - from]);
     }
 
-    /// Copies the glyphs of cells side by side from cell `from` on, which are in the state of their
-    /// row.
     fn copy_held_glyphs(&self, row: usize, from: usize, glyphs: &mut [u8])
         requires row { row < self.now.rows }
         requires to { from + length glyphs.old ≤ self.now.width * self.now.rows }
@@ -41,7 +38,6 @@ impl PlaneGrid {
         }
     }
 
-    /// Copies the attributes' values of cells of one row side by side from cell `from` on.
     pub(super) fn copy_row_attributes(&self, row: usize, from: usize, values: &mut [u8])
         requires row { row < self.now.rows }
         requires from { row * self.now.width ≤ from }
@@ -53,8 +49,6 @@ impl PlaneGrid {
         self.copy_held_attributes(row, first, &mut values[first - from..end - from]);
     }
 
-    /// Copies the attributes' values of cells side by side from cell `from` on, which are in the
-    /// state of their row.
     fn copy_held_attributes(&self, row: usize, from: usize, values: &mut [u8])
         requires row { row < self.now.rows }
         requires to { from + length values.old ≤ self.now.width * self.now.rows }

@@ -18,7 +18,6 @@ use crate::planes::{bytes_of, fill_plane};
 const AHEAD: usize = 15;
 
 impl PlaneGrid {
-    /// The first cell of a row.
     #[inline(always)]
     pub(super) fn row_start(&self, row: usize) -> usize
         requires { row < self.now.rows }
@@ -28,7 +27,6 @@ impl PlaneGrid {
         row * self.width
     }
 
-    /// Whether a cell stands in a row.
     #[inline(always)]
     fn is_in_row(&self, i: usize, row: usize) -> bool
         ensures { IsTrue result → (row < self.now.rows) × (row * self.now.width ≤ i)
@@ -203,7 +201,6 @@ impl PlaneGrid {
         }
     }
 
-    /// Whether the planes hold the cells from `from` up to and without `to` of a row.
     #[inline(always)]
     fn holds(&self, row: usize, from: usize, to: usize) -> bool
         requires row { row < self.now.rows }
@@ -289,7 +286,6 @@ impl PlaneGrid {
         }
     }
 
-    /// Makes the cells from `from` up to and without `to` this one.
     #[inline(always)]
     pub(super) fn fill_part(&mut self, from: usize, to: usize, cell: HalfCell)
         requires ordered { from ≤ to }
@@ -320,7 +316,6 @@ impl PlaneGrid {
         self.states.fill(RowState::Stale);
     }
 
-    /// The first cell that is not known of those of one row from `from` up to and without `to`.
     pub(super) fn first_unknown_of_row(&self, row: usize, from: usize, to: usize) -> Option<usize>
         requires row { row < self.now.rows }
         requires from { row * self.now.width ≤ from }

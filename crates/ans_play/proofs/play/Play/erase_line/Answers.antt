@@ -9,7 +9,8 @@ invariant_of-self g c =
     record {
       cells = cc (g.met.G.Grid.whole c.fill.new.self, g.met.G.Grid.whole c.self.inside.grid);
       bytes = filled_bytes _ (c.self.inside.cursor.low.row * c.width.result + c.self.inside.cursor.low.column)
-          (c.self.inside.cursor.low.row * c.width.result + c.width-2.result) c.fill.ensures.cells c.blank-blank.ensures attribute c.self.invariant.bytes;
+          (c.self.inside.cursor.low.row * c.width.result + c.width-2.result) c.fill.ensures.cells
+          c.blank-blank.ensures attribute c.self.invariant.bytes;
       attribute = c.self.invariant.attribute;
       cursor = c.self.invariant.cursor;
       saved = c.self.invariant.saved;

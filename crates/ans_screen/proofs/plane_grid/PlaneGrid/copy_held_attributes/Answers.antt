@@ -12,5 +12,5 @@ returns-in-None c = λ k lt.
     let filled : c.fill-in-None.new.self ≡ replicate (length c.args.values.now) 0 = search rules in
     ap (λ (xs : List ℕ). get_or xs k 0) filled
     ∙ (get_or-replicate (length c.args.values.now) k 0 0 lt
-    ∙ sym (no_bits g (c.args.from + k) (length g.bits_known) (c.requires.held (c.args.from + k) (omega arith) (omega arith) ∙ state) c.in-None.ensures
-    (omega arith)))
+    ∙ sym (no_bits g (c.args.from + k) (length g.bits_known)
+    (c.requires.held (c.args.from + k) (omega arith) (omega arith) ∙ state) c.in-None.ensures (omega arith)))

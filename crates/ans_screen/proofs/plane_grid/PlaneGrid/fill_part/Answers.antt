@@ -11,8 +11,8 @@ filled_so : (c : After-fill_plane-2) (ks bs : List ℕ)
     → AreMarked c.open_cells-all_planes.new.self ks bs c.args.from c.args.to c.bytes_of-bytes.result.glyph_known
     c.bytes_of-bytes.result.bits_known
     → cells_of_rows c.open_cells-all_planes.new.self.width c.open_cells-all_planes.new.self.rows
-    (states_of c.open_cells-all_planes.new.self) c.open_cells-all_planes.new.self.blank c.fill_plane.new.plane.items ks bs
-    c.fill_plane-2.new.plane.items
+    (states_of c.open_cells-all_planes.new.self) c.open_cells-all_planes.new.self.blank c.fill_plane.new.plane.items
+    ks bs c.fill_plane-2.new.plane.items
     ≡ filled (cells_of_grid c.args.self.now) c.args.from c.args.to c.args.cell
 filled_so c ks bs marks =
     let g = c.open_cells-all_planes.new.self in

@@ -1,8 +1,12 @@
 use Rattle.std.proofs.Common.{◌*◌, ◌/◌, ◌<◌, arith, refl, sym, ◌∙◌}
 use Rattle.std.proofs.Common.{get_or, ◌≡◌, ◌≤◌, ◌⊎◌, inl, inr, ap}
 use Rattle.std.proofs.lemmas.List.{get_or_read}
+use Rattle.std.specs.List.{slice_get}
+use Rattle.std.proofs.Common.{Some}
+use Rattle.ans_screen.specs.declared.cell.HalfCell.{HalfCell}
+use Rattle.ans_screen.specs.declared.plane_grid.RowState.{RowState}
 use Rattle.ans_screen.specs.declared.plane_grid.RowState.TheVariants.{Stale, Known, Mixed}
-use Rattle.ans_screen.specs.RowCells.{length_grid, states_of, nowhere}
+use Rattle.ans_screen.specs.RowCells.{length_grid, states_of, nowhere, byte_cell, cells_of_grid}
 use Rattle.ans_screen.specs.declared.plane_grid.Extent.{Extent}
 use Rattle.ans_screen.proofs.Places.{row_below}
 use Rattle.ans_screen.proofs.RowReads.{cell_in_state, read_cell}
@@ -49,34 +53,38 @@ returns-then-i-first c =
     (get_or g.extents.items (c.args.i / g.width) nowhere) c.args.i out in
     read_cell g (omega (arith, length_grid g)) (sym (cell_in_state g Stale c.args.i state))
 
+-- what the bytes stand for in that state is the cell
+read_so : (c : After-index-2) {s : RowState} {x : HalfCell}
+    → c.index.result.now ≡ get_or c.args.self.now.extents.items (c.args.i / c.args.self.now.width) nowhere
+    → c.index-2.result.now ≡ s → x ≡ byte_cell s c.args.self.now c.args.i
+    → slice_get (cells_of_grid c.args.self.now) c.args.i ≡ Some x
+read_so c {s = s} held is e =
+    let g = c.args.self.now in
+    read_cell g (omega (arith, length_grid g)) (e ∙ sym (cell_in_state g s c.args.i (state_is c held ∙ is)))
+
 pub returns-in-Stale : goal.returns-in-Stale
 returns-in-Stale c =
-    let g = c.args.self.now in
     let at = goal.at.returns-in-Stale c in
-    read_cell g (omega (arith, length_grid g))
-    (sym (cell_in_state g Stale c.args.i (state_is at.After-index-2 (extent_read at.After-index) ∙ c.in-Stale.is)))
+    read_so at.After-index-2 (extent_read at.After-index) c.in-Stale.is refl
 
 pub returns-in-Known : goal.returns-in-Known
 returns-in-Known c =
     let g = c.args.self.now in
     let at = goal.at.returns-in-Known c in
-    let state = state_is at.After-index-2 (extent_read at.After-index) ∙ c.in-Known.is in
     let within : c.args.i < g.width * g.rows = omega (arith, length_grid g) in
-    read_cell g within
+    read_so at.After-index-2 (extent_read at.After-index) c.in-Known.is
     (c.cell_of_bytes.ensures ∙ (c.known.ensures
-    ∙ sym (same_cell _ Known g.blank _ (get_or g.glyphs_known c.args.i 0) (get_or g.bits_known c.args.i 0) _ _ _ _ _
-    state (sym (get_or_read g.glyphs.items c.args.i _ (omega arith) c.index-in-Known.ensures 0)) refl refl
+    ∙ sym (same_cell Known Known g.blank _ (get_or g.glyphs_known c.args.i 0) (get_or g.bits_known c.args.i 0) _ _ _ _ _
+    refl (sym (get_or_read g.glyphs.items c.args.i _ (omega arith) c.index-in-Known.ensures 0)) refl refl
     (sym (get_or_read g.values.items c.args.i _ (omega arith) c.index-in-Known-2.ensures 0)))))
 
 pub returns-in-Mixed : goal.returns-in-Mixed
 returns-in-Mixed c =
-    let g = c.args.self.now in
+    let within : c.args.i < c.args.self.now.width * c.args.self.now.rows = omega (arith, length_grid c.args.self.now) in
     let at = goal.at.returns-in-Mixed c in
-    let state = state_is at.After-index-2 (extent_read at.After-index) ∙ c.in-Mixed.is in
-    let within : c.args.i < g.width * g.rows = omega (arith, length_grid g) in
-    read_cell g within
+    read_so at.After-index-2 (extent_read at.After-index) c.in-Mixed.is
     (c.cell_of_bytes-in-Mixed.ensures
-    ∙ sym (same_cell _ Mixed g.blank _ _ _ _ _ _ _ _ state
-    (sym (get_or_read g.glyphs.items c.args.i _ (omega arith) c.index-in-Mixed.ensures 0))
+    ∙ sym (same_cell Mixed Mixed c.args.self.now.blank _ _ _ _ _ _ _ _ refl
+    (sym (get_or_read c.args.self.now.glyphs.items c.args.i _ (omega arith) c.index-in-Mixed.ensures 0))
     (sym c.byte.ensures) (sym c.byte-in-Mixed.ensures)
-    (sym (get_or_read g.values.items c.args.i _ (omega arith) c.index-in-Mixed-2.ensures 0))))
+    (sym (get_or_read c.args.self.now.values.items c.args.i _ (omega arith) c.index-in-Mixed-2.ensures 0))))

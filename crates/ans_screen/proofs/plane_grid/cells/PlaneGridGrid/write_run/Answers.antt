@@ -14,8 +14,8 @@ written_so : (c : After-write_planes) (ks bs : List ℕ)
     → AreMarked c.open_part-all_planes.new.self ks bs (c.row_start.result + c.args.column)
     (c.row_start.result + c.args.column + c.args.count) 0xFF c.attr.inside.known
     → cells_of_rows c.open_part-all_planes.new.self.width c.open_part-all_planes.new.self.rows
-    (states_of c.open_part-all_planes.new.self) c.open_part-all_planes.new.self.blank c.write_planes.new.glyphs.items ks bs
-    c.write_planes.new.values.items
+    (states_of c.open_part-all_planes.new.self) c.open_part-all_planes.new.self.blank c.write_planes.new.glyphs.items
+    ks bs c.write_planes.new.values.items
     ≡ written (cells_of_grid c.args.self.now) (c.args.row * c.args.self.now.width + c.args.column)
     (printed_run c.args.attr (take c.args.count c.args.bytes.now))
 written_so c ks bs marks =
