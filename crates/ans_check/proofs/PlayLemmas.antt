@@ -72,7 +72,8 @@ pub fed_fault : (a b : PlayerView) (content piece rest : List ℕ) (n : ℕ) (f 
     → Cut content piece rest n
     → IsFirstFault b.size b.start (take n content ++ piece) f → Deserves a.size a.start content f
 fed_fault a b content piece rest n f same c first =
-    so_of_same (λ z s bytes. Deserves z s bytes f) b.size a.size b.start a.start content content same.size same.start refl
+    so_of_same (λ z s bytes. Deserves z s bytes f) b.size a.size b.start a.start content content same.size same.start
+    refl
     (first_deserved b.size b.start content f (subst (λ (v : List ℕ). IsFirstFault b.size b.start v f) (sym c.whole)
     (first_longer b.size b.start (take n content ++ piece) rest f first)))
 

@@ -1,7 +1,7 @@
 -- A report on what was found is right of the file.
-use Rattle.std.proofs.Common.{◌≡◌, ◌⊎◌, ◌↔◌, ◌+◌, ◌<◌, ℕ, Bool, false, List, length, Option, Some, None, Result, Ok}
-use Rattle.std.proofs.Common.{Err, inl, inr, refl, sym, ap, ap₂, subst, ◌∙◌, not, true, true≢false}
-use Rattle.std.specs.Prelude.{IfSome, IsErr, IfErr, IsErrAnd, IsErrOf, is_some}
+use Rattle.std.proofs.Common.{◌≡◌, ℕ, Bool, false, List, Option, Some, None}
+use Rattle.std.proofs.Common.{inl, inr, refl, sym, ap, ap₂, subst, ◌∙◌, not, true, true≢false}
+use Rattle.std.specs.Prelude.{is_some}
 use Rattle.ans_model.specs.Verdict.Good.{Picture}
 use Rattle.ans_model.specs.File.Layout.{FileParts}
 use Rattle.ans_model.specs.File.Refusals.{record_fault}
@@ -18,20 +18,18 @@ use Rattle.ans_sauce.specs.Parts.{ShowsParts, content_of, width_of, lines_of}
 use Rattle.ans_sauce.specs.Split.{IsSplit}
 use Rattle.ans_report.specs.Headings.{heading_of}
 use Rattle.ans_report.specs.NeedsBytes.{needs_bytes}
-use Rattle.ans_report.specs.declared.needs_text.NeedsReport.{NeedsReport}
-use Rattle.ans_report.specs.declared.needs_text.NeedsReport.TheVariants as needs_report
 use Rattle.ans_report.specs.ReportBytes.{IsFitting, refused_text, report_bytes}
 use Rattle.ans_report.specs.declared.report.Report.{Report}
 use Rattle.ans_report.specs.declared.report.Report.TheVariants as report
-use Rattle.ans_check.specs.declared.verdict.Needs.{Needs}
-use Rattle.ans_check.specs.declared.verdict.Needs.TheVariants as needs
+use Rattle.ans_report.specs.declared.needs_text.Needs.{Needs}
+use Rattle.ans_report.specs.declared.needs_text.Needs.TheVariants as needs
 use Rattle.ans_check.specs.declared.verdict.Verdict.{Verdict}
 use Rattle.ans_check.specs.declared.verdict.Verdict.TheVariants.{Pass, Refused}
 use Rattle.ans_check.specs.FileNeeds.{NeedsClass, IsNeedsOf, needs_fault}
 use Rattle.ans_check.specs.FileVerdict.{Passes, IsRefusedFor, IsVerdictOn, IsGoodFile, fault_of}
 use Rattle.ans_check.specs.CommandText.{heading, ReportsPass, ReportsFault, ReportsRecordFault, ReportsCheck}
 use Rattle.ans_check.specs.CommandText.{ReportsLeast, ReportsNeeds, ReportsRecord, ReportsContent, ReportsTokens}
-use Rattle.ans_check.specs.CommandText.{IsNeedsReportOf, IsReportOf}
+use Rattle.ans_check.specs.CommandText.{IsReportOf}
 
 -- the heading of a file's parts
 heading_is : (apart : FileParts) (parts : Parts) (start : Option Start) → ShowsParts apart parts
@@ -147,22 +145,11 @@ least_reported file apart parts class shows h = record {
   text_is = ap (λ (v : Heading). needs_text v class) (heading_is apart parts None shows);
 }
 
--- what holds of two values holds of values equal to them
-of_two_equals : {A B : Type 0} (P : A → B → Type 0) {a x : A} {b y : B} → a ≡ x → b ≡ y → P x y → P a b
-of_two_equals P p q h = rw (p, q) h
-
--- the report that tells what a file needs reports on it
-pub needs_reported : (file : List ℕ) (n : Needs) (r : NeedsReport) → IsNeedsReportOf n r → IsNeedsOf file n
-    → (IsGoodFile file all_known → needs_fault n ≡ None)
-    → ReportsNeeds file (not (is_some (needs_fault n))) (needs_bytes r)
-needs_reported file (needs.Least parts class) (needs_report.Least told found) (p, s) h good =
-    of_two_equals (λ (v : Parts) (c : Start). ReportsLeast file (needs_text (heading_of v None) c))
-    p s (least_reported file h.0 parts class h.1 h.2)
-needs_reported file (needs.Refused (Some parts) f) (needs_report.Refused told fault) (p, same) h good =
-    of_two_equals (λ (v : Option Parts) (why : Fault). ReportsNeeds file false (refused_text v None why))
-    p same (never_good file all_known f good, inl (fault_reported file all_known None h.0 parts f h.1 h.2))
-needs_reported file (needs.Refused None f) (needs_report.Refused told fault) (p, same) h good =
-    of_two_equals (λ (v : Option Parts) (why : Fault). ReportsNeeds file false (refused_text v None why))
-    p same (never_good file all_known f good, inr (record_reported file f h))
-needs_reported file (needs.Least parts class) (needs_report.Refused told fault) never h good = absurd never
-needs_reported file (needs.Refused parts f) (needs_report.Least told found) never h good = absurd never
+-- what is found of a file's needs reports on it
+pub needs_reported : (file : List ℕ) (n : Needs) → IsNeedsOf file n → (IsGoodFile file all_known → needs_fault n ≡ None)
+    → ReportsNeeds file (not (is_some (needs_fault n))) (needs_bytes n)
+needs_reported file (needs.Least parts class) h good = least_reported file h.0 parts class h.1 h.2
+needs_reported file (needs.Refused (Some parts) f) h good =
+    (never_good file all_known f good, inl (fault_reported file all_known None h.0 parts f h.1 h.2))
+needs_reported file (needs.Refused None f) h good =
+    (never_good file all_known f good, inr (record_reported file f h))

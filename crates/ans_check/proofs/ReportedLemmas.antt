@@ -1,7 +1,7 @@
 -- What a command has done, by what its writing came to.
 use Rattle.std.proofs.Common.{◌≡◌, ◌⊎◌, ◌↔◌, ◌+◌, ◌<◌, ℕ, Bool, true, false, List, length, Option, Some, None, Result}
 use Rattle.std.proofs.Common.{Ok, Err, inl, inr, refl, sym, subst, ◌∙◌, true≢false}
-use Rattle.std.specs.Prelude.{IfErr, IfOk, IfSome, IsErr, IsErrOf, IsTrue, MatchResult}
+use Rattle.std.specs.Prelude.{IfErr, IfSome, IsErr, IsErrOf, IsTrue, MatchResult}
 use Rattle.ans_model.specs.Bytes.{longest_file}
 use Rattle.ans_write.specs.Tried.{has_failed, inner_of}
 use Rattle.ans_write.specs.Writes.{Wrote, WrotePrefix, WritesText}

@@ -17,10 +17,6 @@ use Rattle.ans_report.specs.declared.report.Report.TheVariants as report
 use Rattle.ans_options.specs.declared.command.Command.{Command}
 use Rattle.ans_options.specs.declared.command.Command.TheVariants.{Check, Sauce, Tokens, Needs}
 use Rattle.ans_options.specs.declared.command.Options.{Options}
-use Rattle.ans_report.specs.declared.needs_text.NeedsReport.{NeedsReport}
-use Rattle.ans_report.specs.declared.needs_text.NeedsReport.TheVariants as needs_report
-use Rattle.ans_check.specs.declared.verdict.Needs.TheVariants as needs
-use Rattle.ans_check.specs.declared.verdict.Needs as found
 use Rattle.ans_check.specs.declared.verdict.Verdict.{Verdict}
 use Rattle.ans_check.specs.declared.verdict.Verdict.TheVariants.{Pass, Refused}
 use Rattle.ans_check.specs.FileNeeds.{NeedsClass}
@@ -117,11 +113,3 @@ IsReportOf (Pass parts picture) start cells (report.Pass told told_start told_pi
 IsReportOf (Refused parts fault) start cells (report.Refused told told_start told_fault) =
     (option_copied told ≡ parts) × (told_start ≡ start) × (told_fault ≡ fault)
 IsReportOf _ start cells _ = ⊥
-
--- the report tells what was found
-abbrev pub IsNeedsReportOf : found.Needs → NeedsReport → Type 0
-IsNeedsReportOf (needs.Least parts class) (needs_report.Least told told_class) =
-    (told.now ≡ parts) × (told_class ≡ class)
-IsNeedsReportOf (needs.Refused parts fault) (needs_report.Refused told told_fault) =
-    (option_copied told ≡ parts) × (told_fault ≡ fault)
-IsNeedsReportOf _ _ = ⊥

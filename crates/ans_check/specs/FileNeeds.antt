@@ -7,8 +7,8 @@ use Rattle.ans_model.specs.Verdict.Needs.{IsLeast}
 use Rattle.ans_model.specs.declared.fault.Fault.{Fault}
 use Rattle.ans_model.specs.declared.start.Start.{Start}
 use Rattle.ans_sauce.specs.Parts.{ShowsParts}
-use Rattle.ans_check.specs.declared.verdict.Needs.{Needs}
-use Rattle.ans_check.specs.declared.verdict.Needs.TheVariants.{Least, Refused}
+use Rattle.ans_report.specs.declared.needs_text.Needs.{Needs}
+use Rattle.ans_report.specs.declared.needs_text.Needs.TheVariants.{Least, Refused}
 use Rattle.ans_check.specs.FileVerdict.{IsRefusedFor, stated_size}
 
 -- The file is accepted so, and its content passes from exactly the classes that know all that this one knows.

@@ -26,6 +26,7 @@ mod verdict;
 
 pub use ans_model::start::Start;
 pub use ans_options::{Command, Options, WordsError, options};
+pub use ans_report::Needs;
 pub use answering::answer;
 pub use errors::RunError;
 pub use exit_status::{Ending, status};
@@ -34,7 +35,7 @@ pub use parts_needed::needs;
 pub use pipeline::run;
 pub use streams::serve;
 pub use system::program;
-pub use verdict::{Needs, Verdict, check};
+pub use verdict::{Verdict, check};
 
 #[cfg(test)]
 mod tests;

@@ -8,8 +8,9 @@ ghost use Rattle.ans_sauce.specs.Parts.{content_of};
 ghost use Rattle.ans_check.specs.FileNeeds.{IsNeedsOf, needs_fault};
 ghost use Rattle.ans_check.specs.FileVerdict.{IsGoodFile, parts_size};
 
-use crate::verdict::{Needs, passes_from, play};
+use crate::verdict::{passes_from, play};
 use ans_model::start::Start;
+use ans_report::Needs;
 use ans_sauce::{Parts, split};
 use ans_screen::Grid;
 use std::alloc::{AllocError, Global};

@@ -4,7 +4,7 @@ ghost use Rattle.ans_model.specs.File.Refusals.{record_fault};
 ghost use Rattle.ans_model.specs.Bytes.{longest_file};
 ghost use Rattle.ans_write.specs.Tried.{has_failed};
 ghost use Rattle.ans_check.specs.CommandText.{Reports, ReportsCheck, ReportsNeeds, ReportsSauce, ReportsTokens};
-ghost use Rattle.ans_check.specs.CommandText.{IsNeedsReportOf, IsReportOf};
+ghost use Rattle.ans_check.specs.CommandText.{IsReportOf};
 ghost use Rattle.ans_check.specs.FileNeeds.{needs_fault};
 ghost use Rattle.ans_check.specs.FileVerdict.{fault_of};
 ghost use Rattle.ans_check.specs.Reported.{IsReported};
@@ -13,11 +13,11 @@ ghost use Rattle.ans_check.specs.Served.{Serves};
 use crate::errors::RunError;
 use crate::parts_needed::needs;
 use crate::reading::read_all;
-use crate::verdict::{Needs, Verdict, check};
+use crate::verdict::{Verdict, check};
 use ans_model::start::Start;
 use ans_options::{Command, Options};
 use ans_report::{
-    NeedsReport, Report, Tried, WriteFault, write_needs, write_record, write_refusal, write_report,
+    Needs, Report, Tried, WriteFault, write_needs, write_record, write_refusal, write_report,
     write_tokens,
 };
 use ans_sauce::split;
@@ -110,22 +110,6 @@ fn tell_tokens<W: Write>(writer: &mut Tried<W>, file: &[u8]) -> Result<bool, Run
     }
 }
 
-/// The report that tells what a file needs.
-fn needs_report_of<'a>(found: &'a Needs<'a>) -> NeedsReport<'a>
-    ensures { IsNeedsReportOf found.now result }
-{
-    match found {
-        Needs::Least(parts, class) => NeedsReport::Least {
-            parts,
-            class: *class,
-        },
-        Needs::Refused(parts, fault) => NeedsReport::Refused {
-            parts: parts.as_ref(),
-            fault: *fault,
-        },
-    }
-}
-
 /// Whether a least class was found.
 fn is_least(found: &Needs<'_>) -> bool
     ensures { result ≡ not (is_some (needs_fault found.now)) }
@@ -143,7 +127,7 @@ fn tell_needs<W: Write>(alloc: Global, writer: &mut Tried<W>, file: &[u8]) -> Re
     let Ok(found) = needs::<PlaneGrid>(alloc, file) else {
         return Err(RunError::Memory);
     };
-    let written = write_needs(writer, &needs_report_of(&found));
+    let written = write_needs(writer, &found);
     told(written, is_least(&found))
 }
 

@@ -29,17 +29,6 @@ pub enum Verdict<'a, G: Grid> {
     Refused(Option<Parts<'a>>, Fault),
 }
 
-/// What a file needs.
-#[derive(Drop)]
-pub enum Needs<'a> {
-    /// The least class of starts: the content passes from exactly the classes that know each part
-    /// which this one knows.
-    Least(Parts<'a>, Start),
-    /// The file is refused even from the cleared start. There are no parts where its record or its
-    /// layout is.
-    Refused(Option<Parts<'a>>, Fault),
-}
-
 /// Plays the content in pieces, on a player to which nothing is fed yet.
 fn play_content<G: Grid>(mut player: Player<G>, content: &[u8]) -> Result<Picture<G>, Fault>
     requires length { length content.now ≤ longest_file }

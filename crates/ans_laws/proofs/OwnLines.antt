@@ -79,30 +79,8 @@ number_on n (b ∷ bs) = if is_ascii_digit b then number_on (10 * n + (b - 0x30)
 
 -- a fault's text begins with a letter and its number
 text_number : (c : Cause) (x : List ℕ) → number_on 0 (drop 1 (fault_text c ++ x)) ≡ fault_number c
-text_number NoRecord x = refl
-text_number WrongVersion x = refl
-text_number WrongKind x = refl
-text_number CommentsMissing x = refl
-text_number LinesUnstated x = refl
-text_number WidthTooLarge x = refl
-text_number LinesTooLarge x = refl
-text_number BytesAfterEndMark x = refl
-text_number BrokenSequence x = refl
-text_number NumberTooLarge x = refl
-text_number TooManyParameters x = refl
-text_number EndInSequence x = refl
-text_number UnknownSequence x = refl
-text_number WrongParameters x = refl
-text_number KeyReassigned x = refl
-text_number ScreenMode x = refl
-text_number ReportAsked x = refl
-text_number OutsideScreen x = refl
-text_number PrintBelow x = refl
-text_number Scrolls x = refl
-text_number PrintUnknownPlace x = refl
-text_number EraseUnknownPlace x = refl
-text_number MayScroll x = refl
 text_number (UnknownCell row col) x = refl
+text_number c x = refl
 
 -- the cause with a number, but for the last
 abbrev cause_of : ℕ → Cause
@@ -143,29 +121,7 @@ is_plain c l e = inl (record { low = l; same = e })
 -- each cause but that of an unknown cell is given back by its number
 plain_or_unknown_cell : (c : Cause) → IsPlain c ⊎ IsUnknownCell c
 plain_or_unknown_cell (UnknownCell row col) = inr (row, col, refl)
-plain_or_unknown_cell NoRecord = is_plain NoRecord (omega arith) refl
-plain_or_unknown_cell WrongVersion = is_plain WrongVersion (omega arith) refl
-plain_or_unknown_cell WrongKind = is_plain WrongKind (omega arith) refl
-plain_or_unknown_cell CommentsMissing = is_plain CommentsMissing (omega arith) refl
-plain_or_unknown_cell LinesUnstated = is_plain LinesUnstated (omega arith) refl
-plain_or_unknown_cell WidthTooLarge = is_plain WidthTooLarge (omega arith) refl
-plain_or_unknown_cell LinesTooLarge = is_plain LinesTooLarge (omega arith) refl
-plain_or_unknown_cell BytesAfterEndMark = is_plain BytesAfterEndMark (omega arith) refl
-plain_or_unknown_cell BrokenSequence = is_plain BrokenSequence (omega arith) refl
-plain_or_unknown_cell NumberTooLarge = is_plain NumberTooLarge (omega arith) refl
-plain_or_unknown_cell TooManyParameters = is_plain TooManyParameters (omega arith) refl
-plain_or_unknown_cell EndInSequence = is_plain EndInSequence (omega arith) refl
-plain_or_unknown_cell UnknownSequence = is_plain UnknownSequence (omega arith) refl
-plain_or_unknown_cell WrongParameters = is_plain WrongParameters (omega arith) refl
-plain_or_unknown_cell KeyReassigned = is_plain KeyReassigned (omega arith) refl
-plain_or_unknown_cell ScreenMode = is_plain ScreenMode (omega arith) refl
-plain_or_unknown_cell ReportAsked = is_plain ReportAsked (omega arith) refl
-plain_or_unknown_cell OutsideScreen = is_plain OutsideScreen (omega arith) refl
-plain_or_unknown_cell PrintBelow = is_plain PrintBelow (omega arith) refl
-plain_or_unknown_cell Scrolls = is_plain Scrolls (omega arith) refl
-plain_or_unknown_cell PrintUnknownPlace = is_plain PrintUnknownPlace (omega arith) refl
-plain_or_unknown_cell EraseUnknownPlace = is_plain EraseUnknownPlace (omega arith) refl
-plain_or_unknown_cell MayScroll = is_plain MayScroll (omega arith) refl
+plain_or_unknown_cell c = is_plain c (omega arith) refl
 
 -- causes of one number are one, or both of unknown cells
 text_cases : (c d : Cause) → fault_number c ≡ fault_number d → IsPlain c ⊎ IsUnknownCell c
@@ -240,11 +196,7 @@ note_of line =
 
 note_back : (n : Note) → note_of (note_line n) ≡ n
 note_back WidthAssumed = refl
-note_back NoEndMark = refl
-note_back SizeDiffers = refl
-note_back OddDate = refl
-note_back FlagBits = refl
-note_back FlagPair = refl
+note_back n = refl
 
 -- the line of a note tells the note
 pub line_tells_note : (m n : Note) → note_line m ≡ note_line n → m ≡ n

@@ -25,7 +25,7 @@ pub use ans_write::{DeviceFault, Tried, WriteFault, glyph_text};
 pub use fault_lines::fault_text;
 pub use heading::note_text;
 pub use message::write_message;
-pub use needs_text::{NeedsReport, write_needs};
+pub use needs_text::{Needs, write_needs};
 pub use record_text::write_record;
 pub use report::{Report, write_refusal, write_report};
 pub use tokens_text::write_tokens;

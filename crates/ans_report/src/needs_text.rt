@@ -14,20 +14,15 @@ use ans_sauce::{Fault, Parts};
 use ans_write::{Outbox, Tried, WriteFault};
 use std::io::Write;
 
-/// What a content needs, or why it is refused.
+/// What a file needs.
 #[derive(Drop)]
-pub enum NeedsReport<'a> {
-    /// The content needs the parts that this class knows.
-    Least {
-        parts: &'a Parts<'a>,
-        class: Start,
-    },
+pub enum Needs<'a> {
+    /// The least class of starts: the content passes from exactly the classes that know each part
+    /// which this one knows.
+    Least(Parts<'a>, Start),
     /// The file is refused even from the cleared start: for its content, or, with no parts, for its
     /// record or its layout.
-    Refused {
-        parts: Option<&'a Parts<'a>>,
-        fault: Fault,
-    },
+    Refused(Option<Parts<'a>>, Fault),
 }
 
 fn put_needed_parts<W: Write>(out: &mut Outbox<'_, W>, class: Start)
@@ -49,12 +44,12 @@ fn put_least<W: Write>(out: &mut Outbox<'_, W>, parts: &Parts<'_>, class: Start)
     out.put(b"\n");
 }
 
-fn put_needs<W: Write>(out: &mut Outbox<'_, W>, r: &NeedsReport<'_>)
-    ensures { Puts W.contents out.old out.new (needs_bytes r.now) }
+fn put_needs<W: Write>(out: &mut Outbox<'_, W>, needs: &Needs<'_>)
+    ensures { Puts W.contents out.old out.new (needs_bytes needs.now) }
 {
-    match r {
-        NeedsReport::Least { parts, class } => put_least(out, parts, *class),
-        NeedsReport::Refused { parts, fault } => put_refused(out, *parts, None, fault),
+    match needs {
+        Needs::Least(parts, class) => put_least(out, parts, *class),
+        Needs::Refused(parts, fault) => put_refused(out, parts.as_ref(), None, fault),
     }
 }
 
@@ -64,13 +59,13 @@ fn put_needs<W: Write>(out: &mut Outbox<'_, W>, r: &NeedsReport<'_>)
 ///
 /// `Err` comes exactly where the device failed in the call, and then a prefix of the text was
 /// written.
-pub fn write_needs<W: Write>(w: &mut Tried<W>, r: &NeedsReport<'_>) -> Result<(), WriteFault>
+pub fn write_needs<W: Write>(w: &mut Tried<W>, needs: &Needs<'_>) -> Result<(), WriteFault>
     requires { has_failed w.old ≡ false }
     ensures device { IsErr result ↔ IsTrue (has_failed w.new) }
     ensures bytes { WritesText (W.contents (inner_of w.old)) (W.contents (inner_of w.new))
-        result (needs_bytes r.now) }
+        result (needs_bytes needs.now) }
 {
     let mut out = Outbox::new(w);
-    put_needs(&mut out, r);
+    put_needs(&mut out, needs);
     out.finish()
 }

@@ -9,7 +9,7 @@ ghost use Rattle.ans_model.specs.Text.ReportText.{refusal_text};
 
 use crate::fault_lines::put_refusal;
 use crate::heading::put_heading;
-use crate::needs_text::{NeedsReport, write_needs};
+use crate::needs_text::{Needs, write_needs};
 use crate::picture_text::put_pass;
 use ans_model::start::Start;
 use ans_play::Picture;
@@ -107,9 +107,6 @@ pub fn write_refusal<W: Write>(w: &mut Tried<W>, f: &Fault) -> Result<(), WriteF
     ensures bytes { WritesText (W.contents (inner_of w.old)) (W.contents (inner_of w.new))
         result (refusal_text f.now) }
 {
-    let refused = NeedsReport::Refused {
-        parts: None,
-        fault: *f,
-    };
+    let refused = Needs::Refused(None, *f);
     write_needs(w, &refused)
 }

@@ -10,11 +10,10 @@ returns-in_default-clause-reported g c = unreported _ _ c.args.writer.now c.requ
 
 pub returns-clause-reported : goal.returns-clause-reported
 returns-clause-reported g c =
-    let text = needs_bytes c.needs_report_of.result in
+    let text = needs_bytes c.in-Ok.found in
     reported g.W.Write.contents _ c.args.writer.now c.write_needs-written.new.w c.write_needs-written.result
     c.told.result
     c.is_least.result text
     (subst (λ passed. ReportsNeeds c.args.file.now passed text) (sym c.is_least.ensures)
-    (needs_reported c.args.file.now c.in-Ok.found c.needs_report_of.result c.needs_report_of.ensures
-    c.in-Ok.ensures.needs c.in-Ok.ensures.exact))
+    (needs_reported c.args.file.now c.in-Ok.found c.in-Ok.ensures.needs c.in-Ok.ensures.exact))
     c.write_needs-written.ensures.device c.write_needs-written.ensures.bytes c.told.ensures

@@ -1,10 +1,7 @@
 use Rattle.std.proofs.Common.{List, ℕ, take, drop, ◌∙◌, ap, sym, subst, refl}
 use Rattle.std.proofs.lemmas.Result.{err_from_is_err_and}
 use Rattle.std.specs.Slice.Iter.{chunks_rest}
-use Rattle.ans_model.specs.Screen.State.{Size}
-use Rattle.ans_model.specs.Verdict.Good.{Picture, GoodWith}
-use Rattle.ans_model.specs.declared.fault.Fault.{Fault}
-use Rattle.ans_model.specs.declared.start.Start.{Start}
+use Rattle.ans_model.specs.Verdict.Good.{GoodWith}
 use Rattle.ans_play.specs.Stands.{Stands}
 use Rattle.ans_check.specs.FileVerdict.{Deserves}
 use Rattle.ans_check.proofs.PlayLemmas.{Cut, cut, SamePlay-then, fed_fault, last_faults, stands_whole}
