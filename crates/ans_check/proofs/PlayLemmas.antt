@@ -1,6 +1,6 @@
 -- Playing the content in pieces.
 use Rattle.std.proofs.Common.{◌≡◌, ℕ, ◌+◌, ◌≤◌, List, ◌++◌, length, take, drop, sym, ap, subst, ◌∙◌, arith}
-use Rattle.std.proofs.Common.{append_assoc, length-append, take-append-drop, inl, inr, refl}
+use Rattle.std.proofs.Common.{append_assoc, length-append, take-append-drop, inl, inr, refl, ◌⊎◌}
 use Rattle.std.specs.Prelude.{Result, IfErr}
 use Rattle.std.proofs.lemmas.List.{length-take-le, take_all}
 use Rattle.std.proofs.lemmas.Result.{IfErr-weaker}
@@ -47,20 +47,16 @@ cut content piece rest n le e =
 pub SamePlay-then : (a b c : PlayerView) → SamePlay a b → SamePlay b c → SamePlay a c
 SamePlay-then a b c p q = record { size = q.size ∙ p.size; start = q.start ∙ p.start }
 
--- what a first fault of the content tells
-first_deserved : (z : Size) (start : Start) (content : List ℕ) (f : Fault) → IsFirstFault z start content f
-    → Deserves z start content f
-first_deserved z start content f first = record {
+-- a fault that is the content's first or last is deserved
+deserved : (z : Size) (start : Start) (content : List ℕ) (f : Fault)
+    → IsFirstFault z start content f ⊎ IsLastFault z start content f → Deserves z start content f
+deserved z start content f (inl first) = record {
   deserved = inl first;
   certain = λ cleared. first_is_certain z content f (rw cleared at first);
   shown = first_shown z start content f first;
   offset = first_within z start content f first;
 }
-
--- and a last one
-last_deserved : (z : Size) (start : Start) (content : List ℕ) (f : Fault) → IsLastFault z start content f
-    → Deserves z start content f
-last_deserved z start content f last = record {
+deserved z start content f (inr last) = record {
   deserved = inr last;
   certain = λ cleared. last_is_certain z content f (rw cleared at last);
   shown = last_shown z start content f last;
@@ -74,15 +70,15 @@ pub fed_fault : (a b : PlayerView) (content piece rest : List ℕ) (n : ℕ) (f 
 fed_fault a b content piece rest n f same c first =
     so_of_same (λ z s bytes. Deserves z s bytes f) b.size a.size b.start a.start content content same.size same.start
     refl
-    (first_deserved b.size b.start content f (subst (λ (v : List ℕ). IsFirstFault b.size b.start v f) (sym c.whole)
-    (first_longer b.size b.start (take n content ++ piece) rest f first)))
+    (deserved b.size b.start content f (inl (subst (λ (v : List ℕ). IsFirstFault b.size b.start v f) (sym c.whole)
+    (first_longer b.size b.start (take n content ++ piece) rest f first))))
 
 -- the fault in the end is the content's
 pub last_faults : {T : Type 0} (r : Result T Fault) (a b : PlayerView) (content : List ℕ) → SamePlay a b
     → IfErr r (IsLastFault b.size b.start content) → IfErr r (Deserves a.size a.start content)
 last_faults r a b content same last =
     err_of_parts r Deserves same.size same.start refl
-    (IfErr-weaker r _ _ (last_deserved b.size b.start content) last)
+    (IfErr-weaker r _ _ (λ f h. deserved b.size b.start content f (inr h)) last)
 
 -- once nothing is left, a player that stands behind what it was fed stands behind the content
 pub stands_whole : (player : PlayerView) (content rest : List ℕ) (n : ℕ) → rest ≡ drop n content → length rest ≡ 0

@@ -20,12 +20,18 @@ use std::alloc::AllocError;
 use std::io::Read;
 use std::process::Abort;
 
+macro_rules! asked {
+    ($command:ident) => {
+        Options {
+            command: Command::$command,
+            start: Start::ANY,
+            cells: false,
+        }
+    };
+}
+
 /// A check from any start.
-const ANY: Options = Options {
-    command: Command::Check,
-    start: Start::ANY,
-    cells: false,
-};
+const ANY: Options = asked!(Check);
 
 /// A check from the cleared screen.
 const CLEARED: Options = Options {
@@ -33,20 +39,11 @@ const CLEARED: Options = Options {
     ..ANY
 };
 
-const SAUCE: Options = Options {
-    command: Command::Sauce,
-    ..ANY
-};
+const SAUCE: Options = asked!(Sauce);
 
-const TOKENS: Options = Options {
-    command: Command::Tokens,
-    ..ANY
-};
+const TOKENS: Options = asked!(Tokens);
 
-const NEEDS: Options = Options {
-    command: Command::Needs,
-    ..ANY
-};
+const NEEDS: Options = asked!(Needs);
 
 /// The report of a check of `Hi` from the cleared screen.
 const HI_REPORT: &[u8] =

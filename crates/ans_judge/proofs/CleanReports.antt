@@ -304,6 +304,19 @@ flags_are_a_byte : (bytes : List ℕ) → All IsByte bytes → IsByte (flags byt
 flags_are_a_byte bytes h =
     one_byte (field 105 1 bytes) (omega (arith, length-take 1 (drop 105 bytes))) (field_is_bytes 105 1 bytes h)
 
+-- a field's line and what follows it
+field_then : (name : List ℕ) (offset size : ℕ) (sauce rest : List ℕ) → IsCleanText name → All IsByte sauce
+    → IsCleanText rest → IsCleanText (field_line name (field offset size sauce) ++ rest)
+field_then name offset size sauce rest plain bytes rest_clean =
+    clean_append (field_line name (field offset size sauce)) rest
+    (field_clean name (field offset size sauce) plain (field_is_bytes offset size sauce bytes)) rest_clean
+
+-- any other line and what follows it
+named_then : (name text rest : List ℕ) → IsCleanText name → IsCleanText text → IsCleanText rest
+    → IsCleanText (named_line name text ++ rest)
+named_then name text rest plain clean rest_clean =
+    clean_append (named_line name text) rest (named_clean name text plain clean) rest_clean
+
 record_clean : (apart : FileParts) → OfBytes apart → IsCleanText (record_text apart)
 record_clean apart h =
     let sauce = apart.record_bytes in
@@ -318,32 +331,18 @@ record_clean apart h =
     let date = field_line (codes "date") (date_field sauce) ++ screen in
     let group = field_line (codes "group") (group_field sauce) ++ date in
     let author = field_line (codes "author") (author_field sauce) ++ group in
-    clean_append (field_line (codes "title") (title_field sauce)) author
-    (field_clean (codes "title") (title_field sauce) (plain_text (codes "title") refl)
-    (field_is_bytes 7 35 sauce h.sauce))
-    (clean_append (field_line (codes "author") (author_field sauce)) group
-    (field_clean (codes "author") (author_field sauce) (plain_text (codes "author") refl)
-    (field_is_bytes 42 20 sauce h.sauce))
-    (clean_append (field_line (codes "group") (group_field sauce)) date
-    (field_clean (codes "group") (group_field sauce) (plain_text (codes "group") refl)
-    (field_is_bytes 62 20 sauce h.sauce))
-    (clean_append (field_line (codes "date") (date_field sauce)) screen
-    (field_clean (codes "date") (date_field sauce) (plain_text (codes "date") refl)
-    (field_is_bytes 82 8 sauce h.sauce))
-    (clean_append (named_line (codes "size") (size_text stated)) flagged
-    (named_clean (codes "size") (size_text stated) (plain_text (codes "size") refl) (size_clean stated))
-    (clean_append (named_line (codes "flags") (hex_byte (flags sauce))) font
-    (named_clean (codes "flags") (hex_byte (flags sauce)) (plain_text (codes "flags") refl)
-    (clean_hex_byte (flags sauce) (flags_are_a_byte sauce h.sauce)))
-    (clean_append (field_line (codes "font") (font_field sauce)) size
-    (field_clean (codes "font") (font_field sauce) (plain_text (codes "font") refl)
-    (field_is_bytes 106 22 sauce h.sauce))
-    (clean_append (named_line (codes "file size") (decimal (file_size sauce))) count
-    (named_clean (codes "file size") (decimal (file_size sauce)) (plain_text (codes "file size") refl)
-    (clean_decimal (file_size sauce)))
-    (clean_append (named_line (codes "comments") (decimal (comment_count sauce))) comments
-    (named_clean (codes "comments") (decimal (comment_count sauce)) (plain_text (codes "comments") refl)
-    (clean_decimal (comment_count sauce)))
+    field_then (codes "title") 7 35 sauce author (plain_text (codes "title") refl) h.sauce
+    (field_then (codes "author") 42 20 sauce group (plain_text (codes "author") refl) h.sauce
+    (field_then (codes "group") 62 20 sauce date (plain_text (codes "group") refl) h.sauce
+    (field_then (codes "date") 82 8 sauce screen (plain_text (codes "date") refl) h.sauce
+    (named_then (codes "size") (size_text stated) flagged (plain_text (codes "size") refl) (size_clean stated)
+    (named_then (codes "flags") (hex_byte (flags sauce)) font (plain_text (codes "flags") refl)
+    (clean_hex_byte (flags sauce) (flags_are_a_byte sauce h.sauce))
+    (field_then (codes "font") 106 22 sauce size (plain_text (codes "font") refl) h.sauce
+    (named_then (codes "file size") (decimal (file_size sauce)) count (plain_text (codes "file size") refl)
+    (clean_decimal (file_size sauce))
+    (named_then (codes "comments") (decimal (comment_count sauce)) comments (plain_text (codes "comments") refl)
+    (clean_decimal (comment_count sauce))
     (clean_append (comment_lines 0 (comment_count sauce) apart.comment_bytes) noted
     (comment_lines_clean 0 (comment_count sauce) apart.comment_bytes h.comments)
     (clean_flat_map note_line (notes apart.body sauce) note_line_clean))))))))))

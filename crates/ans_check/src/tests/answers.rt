@@ -106,14 +106,19 @@ static ANSWERS: [(&[&str], u8, &[u8], &[u8]); 8] = [
     ),
 ];
 
+/// A folder with this file alone, and no record on standard input.
+fn folder_of(file: &[u8]) -> Folder<'_> {
+    Folder {
+        name: "hi.ans",
+        file,
+        standard: b"abc",
+    }
+}
+
 #[test]
 fn words_are_answered(rt: HostRuntime) {
     let file = plain_file(&rt, b"Hi", 2, 1);
-    let folder = Folder {
-        name: "hi.ans",
-        file: file.as_slice(),
-        standard: b"abc",
-    };
+    let folder = folder_of(file.as_slice());
     for (words, status, output, errors) in &ANSWERS {
         let answered = answer_once(&rt, words, folder, (4096, 4096));
         assert_eq!(rt; answered.ending.status(), *status);
@@ -190,11 +195,7 @@ fn rejected_words_are_told_on_the_errors(rt: HostRuntime) {
 #[test]
 fn an_output_that_fails_is_told(rt: HostRuntime) {
     let file = plain_file(&rt, b"Hi", 2, 1);
-    let folder = Folder {
-        name: "hi.ans",
-        file: file.as_slice(),
-        standard: b"",
-    };
+    let folder = folder_of(file.as_slice());
     let words = ANSWERS[0].0;
     for room in 0..HI_REPORT.len() {
         let answered = answer_once(&rt, words, folder, (room, 4096));

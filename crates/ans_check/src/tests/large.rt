@@ -135,35 +135,30 @@ fn glyph_at(glyphs: &[(usize, usize, u8)], row: usize, column: usize) -> u8 {
 /// Some rows of a long screen: the first two, one in the middle and the last.
 const SOME_ROWS: [usize; 4] = [0, 1, 4096, 8191];
 
-/// Asserts that a file passes over one kind of grid, and that its picture has these glyphs on blanks of
-/// attribute 07h in the rows looked at.
-fn expect_glyphs_on<G: Grid>(
-    rt: &(impl Abort + AllocGlobal),
-    file: &[u8],
-    start: Start,
+/// Asserts that a verdict is a pass, and that its picture has these glyphs on blanks of attribute 07h in
+/// the rows looked at.
+fn assert_glyphs<G: Grid>(
+    rt: &impl Abort,
+    verdict: &Verdict<'_, G>,
     size: (usize, usize),
     rows: &[usize],
     glyphs: &[(usize, usize, u8)],
-)
-    requires { length file.now ≤ longest_file }
-{
-    match check_file::<G>(rt, file, start) {
-        Verdict::Pass(_, picture) => {
-            assert_eq!(rt; (picture.width(), picture.lines()), size);
-            for row in rows {
-                assert!(rt; *row < picture.lines());
-                for column in 0..picture.width() {
-                    let expected = glyph_at(glyphs, *row, column);
-                    assert_eq!(rt; picture.glyph(*row, column), expected, "at {row}, {column}");
-                    assert_eq!(rt; picture.attr(*row, column), 0x07);
-                }
-            }
+) {
+    let Verdict::Pass(_, picture) = verdict else {
+        panic!(rt; "a pass was expected");
+    };
+    assert_eq!(rt; (picture.width(), picture.lines()), size);
+    for row in rows {
+        assert!(rt; *row < picture.lines());
+        for column in 0..picture.width() {
+            let expected = glyph_at(glyphs, *row, column);
+            assert_eq!(rt; picture.glyph(*row, column), expected, "at {row}, {column}");
+            assert_eq!(rt; picture.attr(*row, column), 0x07);
         }
-        Verdict::Refused(_, _) => panic!(rt; "a pass was expected"),
     }
 }
 
-/// Asserts the same over both kinds of grid.
+/// Asserts so of a file over both kinds of grid.
 fn expect_glyphs(
     rt: &(impl Abort + AllocGlobal),
     file: &[u8],
@@ -173,8 +168,10 @@ fn expect_glyphs(
     glyphs: &[(usize, usize, u8)],
 ) {
     assert!(rt; file.len() <= MAX_FILE);
-    expect_glyphs_on::<PlainGrid>(rt, file, start, size, rows, glyphs);
-    expect_glyphs_on::<PlaneGrid>(rt, file, start, size, rows, glyphs);
+    let plain = check_file::<PlainGrid>(rt, file, start);
+    assert_glyphs(rt, &plain, size, rows, glyphs);
+    let planes = check_file::<PlaneGrid>(rt, file, start);
+    assert_glyphs(rt, &planes, size, rows, glyphs);
 }
 
 #[test]

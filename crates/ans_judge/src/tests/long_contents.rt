@@ -35,26 +35,10 @@ fn judge_letters(
 }
 
 #[test]
-fn up_to_1024_letters(rt: HostRuntime) -> Result<(), Fail> {
-    judge_letters(&rt, rt.alloc(), 0, 1024)?;
-    Ok(())
-}
-
-#[test]
-fn up_to_2048_letters(rt: HostRuntime) -> Result<(), Fail> {
-    judge_letters(&rt, rt.alloc(), 1025, 2048)?;
-    Ok(())
-}
-
-#[test]
-fn up_to_3072_letters(rt: HostRuntime) -> Result<(), Fail> {
-    judge_letters(&rt, rt.alloc(), 2049, 3072)?;
-    Ok(())
-}
-
-#[test]
 fn a_sequence_after_many_letters(rt: HostRuntime) -> Result<(), Fail> {
-    judge_letters(&rt, rt.alloc(), 3073, 4100)?;
+    for (shortest, longest) in [(0, 1024), (1025, 2048), (2049, 3072), (3073, 4100)] {
+        judge_letters(&rt, rt.alloc(), shortest, longest)?;
+    }
     Ok(())
 }
 
