@@ -1,16 +1,10 @@
--- What a result that is an error is known to hold.
-use Rattle.std.proofs.Common.{◌≡◌, [], ◌∷◌, List, Result, Ok, Err, inl, inr, ap, ap₂, subst, true}
-use Rattle.std.specs.Prelude.{IsErrAnd, IfErr}
+-- What an error of the words tells.
+use Rattle.std.proofs.Common.{◌≡◌, [], ◌∷◌, List, inl, inr, ap, ap₂, subst, true}
 use Rattle.clap.specs.Words.{App, HasKind, Kinds, Text, fault_of, is_simple_and_free}
 use Rattle.clap.specs.declared.error.Error.{Error}
 use Rattle.ans_options.specs.CommandLine.{HasKindAmong, RanOutOfMemory, anscheck, faults_of, words_meant}
 use Rattle.ans_options.specs.declared.command_line.WordsError.{WordsError}
 use Rattle.ans_options.specs.declared.command_line.WordsError.TheVariants.{Clap, Memory}
-
--- what is known of an error gives what is wanted of it
-pub err_weaker : {T E : Type 0} (r : Result T E) (P Q : E → Type 0) → IsErrAnd r P → ((e : E) → P e → Q e) → IfErr r Q
-err_weaker (Ok v) P Q h f = tt
-err_weaker (Err e) P Q h f = f e h
 
 -- an error of the words that clap was given has a kind of their first fault
 pub kind_met : (app : App) (meant words : List Text) (e : Error) → app ≡ anscheck → meant ≡ words_meant words
