@@ -1,0 +1,14 @@
+pub mod Tables
+pub mod Pieces
+pub mod PageRows
+pub mod RunLemmas
+pub mod RunsPut
+pub mod PictureRows
+pub mod TextsRead
+pub mod SeenRuns
+pub mod EachByte
+pub mod TerminalReads
+pub mod PageTags
+pub mod PageCharacters
+pub mod PageReads
+pub mod LongestRuns

@@ -1,0 +1,10 @@
+use Rattle.std.proofs.Common.{take}
+use Rattle.std.specs.List.{flat_map}
+use Rattle.ans_model.specs.Text.ReportText.{rows_of}
+use Rattle.ans_write.specs.Puts.{Puts}
+use Rattle.ans_show.specs.Forms.{line_in}
+use Rattle.ans_show.proofs.rows.put_rows.Given as goal
+
+abbrev pub invariant-loop-row : goal.invariant-loop-row
+invariant-loop-row g l =
+    Puts g.W.Write.contents l.fn.out l.out (flat_map (line_in l.form) (take l.row (rows_of l.picture)))

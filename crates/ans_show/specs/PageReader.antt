@@ -1,0 +1,83 @@
+-- What a reader of a page sees.
+use Rattle.std.specs.Prelude.{ℕ, ◌+◌, ◌-◌, ◌*◌, Bool, true, false, ◌==◌, ◌||◌, List, [], ◌∷◌, ◌++◌, fold, codes}
+use Rattle.std.specs.Prelude.{if◌then◌else◌}
+use Rattle.std.specs.Str.{bytes_eq}
+use Rattle.ans_show.specs.Looks.{Look, plain}
+use Rattle.ans_show.specs.Seen.{Seen, SeenCell, seen_of}
+
+-- the number that decimal digits spell
+abbrev pub number : List ℕ → ℕ
+number digits = fold (λ n d. 10 * n + (d - 0x30)) 0 digits
+
+-- the words between blanks and quotes; of the first one, `word` is read
+abbrev pub words : List ℕ → List ℕ → List (List ℕ)
+words word [] = word ∷ []
+words word (c ∷ text) =
+    (if c == 0x20 || c == 0x22 then word ∷ [] else [])
+    ++ words (if c == 0x20 || c == 0x22 then [] else word ++ c ∷ []) text
+
+-- what a class does: `f` and a number set the foreground, `b` and a number the background, and `k` blinks
+abbrev pub after_class : Look → List ℕ → Look
+after_class l [] = l
+after_class l (c ∷ digits) =
+    if c == 0x66 then record l { foreground = number digits }
+    else if c == 0x62 then record l { background = number digits }
+    else if c == 0x6B then record l { blinks = true }
+    else l
+
+-- how cells look behind a tag of these words: in a span by its classes, and else plain
+abbrev pub look_in : List (List ℕ) → Look
+look_in [] = plain
+look_in (name ∷ classes) = if bytes_eq name (codes "span") then fold after_class plain classes else plain
+
+-- the character of a name
+abbrev pub named_character : List ℕ → ℕ
+named_character name =
+    if bytes_eq name (codes "amp") then 0x26
+    else if bytes_eq name (codes "lt") then 0x3C
+    else if bytes_eq name (codes "gt") then 0x3E
+    else if bytes_eq name (codes "quot") then 0x22
+    else 0x27
+
+-- what a reader is in: text, a tag since its `<`, or a name since its `&`
+pub data Part : Type 0 where
+  InText : Part
+  InTag : (text : List ℕ) → Part
+  InName : (text : List ℕ) → Part
+
+-- where a reader stands: the part, whether it is between `<pre>` and `</pre>`, and how a cell looks
+pub record Page : Type 0 where
+  pub part : Part
+  pub shown : Bool
+  pub how : Look
+
+abbrev pub page : Part → Bool → Look → Page
+page part shown how = record { part = part; shown = shown; how = how }
+
+-- whether a picture is shown behind a tag
+abbrev pub shown_after : List ℕ → Bool → Bool
+shown_after tag shown =
+    if bytes_eq tag (codes "pre") then true
+    else if bytes_eq tag (codes "/pre") then false
+    else shown
+
+-- what a character makes of it: `<` begins a tag and `>` ends it, `&` begins a name and `;` ends it
+abbrev pub page_after : Part → Bool → Look → ℕ → Page
+page_after InText shown l c =
+    page (if c == 0x3C then InTag [] else if c == 0x26 then InName [] else InText) shown l
+page_after (InTag text) shown l c =
+    if c == 0x3E then page InText (shown_after text shown) (look_in (words [] text))
+    else page (InTag (text ++ c ∷ [])) shown l
+page_after (InName text) shown l c = page (if c == 0x3B then InText else InName (text ++ c ∷ [])) shown l
+
+-- what is seen of the character where the picture is shown: text, and names where they end
+abbrev pub page_sees : Part → Look → ℕ → List Seen
+page_sees InText l c = if c == 0x3C || c == 0x26 then [] else seen_of l c ∷ []
+page_sees (InTag text) l c = []
+page_sees (InName text) l c = if c == 0x3B then SeenCell l (named_character text) ∷ [] else []
+
+-- what is seen of characters from there on
+abbrev pub read_page : Page → List ℕ → List Seen
+read_page p [] = []
+read_page p (c ∷ text) =
+    (if p.shown then page_sees p.part p.how c else []) ++ read_page (page_after p.part p.shown p.how c) text

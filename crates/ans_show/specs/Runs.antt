@@ -1,0 +1,46 @@
+-- The longest runs of cells with one attribute.
+use Rattle.std.specs.Prelude.{◌≡◌, ◌≢◌, ℕ, ◌<◌, ◌≤◌, List, [], ◌∷◌, length, map, ◌==◌, slice_index, if◌then◌else◌}
+use Rattle.ans_model.specs.declared.cell.Cell.{Cell}
+use Rattle.ans_model.specs.Screen.State.{cell}
+
+-- an attribute, and the bytes of the cells that have it
+pub record Run : Type 0 where
+  pub attribute : ℕ
+  pub bytes : List ℕ
+
+-- the run of an attribute and these bytes
+abbrev pub run : ℕ → List ℕ → Run
+run attribute bytes = record { attribute = attribute; bytes = bytes }
+
+-- a cell in front of runs: it joins the first one where that has its attribute
+abbrev pub joined : Cell → List Run → List Run
+joined c [] = run c.attribute (c.byte ∷ []) ∷ []
+joined c (r ∷ more) =
+    if c.attribute == r.attribute then run c.attribute (c.byte ∷ r.bytes) ∷ more
+    else run c.attribute (c.byte ∷ []) ∷ r ∷ more
+
+-- the runs of a row
+abbrev pub runs : List Cell → List Run
+runs [] = []
+runs (c ∷ row) = joined c (runs row)
+
+-- This many attributes in front are the first one, and the next is another.
+pub record IsRunLength (attributes : List ℕ) (count : ℕ) : Type 0 where
+  pub some : 0 < count
+  pub within : count ≤ length attributes
+  pub same : (k : ℕ) → k < count → slice_index attributes k ≡ slice_index attributes 0
+  pub longest : count < length attributes → slice_index attributes count ≢ slice_index attributes 0
+
+-- the cells of a run
+abbrev pub cells_of : Run → List Cell
+cells_of r = map (λ b. cell b r.attribute) r.bytes
+
+-- the first run, if there is one, has another attribute
+abbrev pub BeginsOtherwise : ℕ → List Run → Type 0
+BeginsOtherwise attribute [] = Unit {0}
+BeginsOtherwise attribute (r ∷ more) = attribute ≢ r.attribute
+
+-- each run has a cell, and the next one has another attribute
+abbrev pub AreLongest : List Run → Type 0
+AreLongest [] = Unit {0}
+AreLongest (r ∷ more) = (0 < length r.bytes) × BeginsOtherwise r.attribute more × AreLongest more

@@ -1,0 +1,143 @@
+//! The picture as a page.
+ghost use Rattle.std.specs.Prelude.{◌≡◌, ◌↔◌, ◌<◌, [], ◌++◌, false, codes, decimal, if◌then◌else◌, IsTrue, IsErr};
+ghost use Rattle.ans_write.specs.Puts.{Puts};
+ghost use Rattle.ans_write.specs.Tried.{has_failed, inner_of};
+ghost use Rattle.ans_write.specs.Writes.{WritesText};
+ghost use Rattle.ans_show.specs.Looks.{look_of};
+ghost use Rattle.ans_show.specs.PageText.{span_text, page_title, page_style, page_text};
+
+use crate::form::Form;
+use crate::look::{background, blinks, foreground};
+use crate::page_table::PageTable;
+use crate::rows::put_rows;
+use ans_play::Picture;
+use ans_screen::Grid;
+use ans_write::{Outbox, Tried, WriteFault};
+use std::io::Write;
+
+/// Where a span begins, by the number of its foreground.
+const FOREGROUNDS: [&[u8]; 16] = [
+    b"<span class=\"f0",
+    b"<span class=\"f1",
+    b"<span class=\"f2",
+    b"<span class=\"f3",
+    b"<span class=\"f4",
+    b"<span class=\"f5",
+    b"<span class=\"f6",
+    b"<span class=\"f7",
+    b"<span class=\"f8",
+    b"<span class=\"f9",
+    b"<span class=\"f10",
+    b"<span class=\"f11",
+    b"<span class=\"f12",
+    b"<span class=\"f13",
+    b"<span class=\"f14",
+    b"<span class=\"f15",
+];
+
+/// The classes of the backgrounds.
+const BACKGROUNDS: [&[u8]; 16] = [
+    b" b0", b" b1", b" b2", b" b3", b" b4", b" b5", b" b6", b" b7", b" b8", b" b9", b" b10",
+    b" b11", b" b12", b" b13", b" b14", b" b15",
+];
+
+fn foreground_text(colour: usize) -> &'static [u8]
+    requires { colour < 16 }
+    ensures { result.now ≡ codes "<span class=\"f" ++ decimal colour }
+{
+    FOREGROUNDS[colour]
+}
+
+fn background_text(colour: usize) -> &'static [u8]
+    requires { colour < 16 }
+    ensures { result.now ≡ codes " b" ++ decimal colour }
+{
+    BACKGROUNDS[colour]
+}
+
+fn span_end(blinks: bool) -> &'static [u8]
+    ensures { result.now ≡ (if blinks then codes " k" else []) ++ codes "\">" }
+{
+    if blinks { b" k\">" } else { b"\">" }
+}
+
+/// Puts the tag after which cells look as this attribute says.
+pub(crate) fn put_span<W: Write>(out: &mut Outbox<'_, W>, attribute: u8, non_blink: bool)
+    ensures { Puts W.contents out.old out.new (span_text (look_of non_blink attribute)) }
+{
+    out.put(foreground_text(foreground(attribute, non_blink)));
+    out.put(background_text(background(attribute, non_blink)));
+    out.put(span_end(blinks(attribute, non_blink)));
+}
+
+/// Where a page begins, up to its title.
+const START: &[u8] =
+    b"<!DOCTYPE html>\n<html lang=\"en\">\n<head>\n<meta charset=\"utf-8\">\n<title>";
+
+/// What stands between the title and the picture.
+const STYLE: &[u8] = b"</title>\n<style>\nbody{background:#000}\n\
+    pre{margin:0;font-family:monospace;line-height:1;color:#aaa}\n\
+    .f0{color:#000}.f1{color:#00a}.f2{color:#0a0}.f3{color:#0aa}\n\
+    .f4{color:#a00}.f5{color:#a0a}.f6{color:#a50}.f7{color:#aaa}\n\
+    .f8{color:#555}.f9{color:#55f}.f10{color:#5f5}.f11{color:#5ff}\n\
+    .f12{color:#f55}.f13{color:#f5f}.f14{color:#ff5}.f15{color:#fff}\n\
+    .b0{background:#000}.b1{background:#00a}.b2{background:#0a0}.b3{background:#0aa}\n\
+    .b4{background:#a00}.b5{background:#a0a}.b6{background:#a50}.b7{background:#aaa}\n\
+    .b8{background:#555}.b9{background:#55f}.b10{background:#5f5}.b11{background:#5ff}\n\
+    .b12{background:#f55}.b13{background:#f5f}.b14{background:#ff5}.b15{background:#fff}\n\
+    .k{animation:k 1s step-end infinite}\n@keyframes k{50%{color:transparent}}\n\
+    @media (prefers-reduced-motion:reduce){.k{animation:none}}\n\
+    </style>\n</head>\n<body>\n<pre>";
+
+/// What stands behind the picture.
+const END: &[u8] = b"</pre>\n</body>\n</html>\n";
+
+fn put_title<W: Write>(out: &mut Outbox<'_, W>, title: &[u8], table: &PageTable)
+    ensures { Puts W.contents out.old out.new (page_title title.now) }
+{
+    if title.is_empty() {
+        out.put(b"ANSI drawing");
+    } else {
+        table.put_characters(out, title);
+    }
+}
+
+fn put_page<W: Write, G: Grid>(
+    out: &mut Outbox<'_, W>,
+    picture: &Picture<G>,
+    title: &[u8],
+    non_blink: bool,
+)
+    ensures { Puts W.contents out.old out.new (page_text non_blink title.now picture.now) }
+{
+    let table = PageTable::new();
+    out.put(START);
+    put_title(out, title, &table);
+    out.put(STYLE);
+    put_rows(out, picture, &Form::Page { non_blink, table });
+    out.put(END);
+}
+
+/// Writes the picture as a page, a whole document that loads nothing and has no script: one `pre` with
+/// a span for each longest run of cells with one attribute. The classes of a span are `f` and the
+/// number of the foreground, `b` and the number of the background, and `k` where it blinks. The bytes
+/// of the title are shown by their characters; an empty one is told as `ANSI drawing`. An attribute's
+/// bit 7 is blink, or, where the record's non-blink flag is set, a bright background.
+///
+/// `Err` comes exactly where the device failed in the call, and then a prefix of the page was
+/// written.
+pub fn write_page<W: Write, G: Grid>(
+    w: &mut Tried<W>,
+    picture: &Picture<G>,
+    title: &[u8],
+    non_blink: bool,
+) -> Result<(), WriteFault>
+    requires { has_failed w.old ≡ false }
+    ensures device { IsErr result ↔ IsTrue (has_failed w.new) }
+    ensures bytes { WritesText (W.contents (inner_of w.old)) (W.contents (inner_of w.new))
+        result (page_text non_blink title.now picture.now) }
+{
+    let mut out = Outbox::new(w);
+    put_page(&mut out, picture, title, non_blink);
+    out.finish()
+}

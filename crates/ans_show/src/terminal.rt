@@ -1,0 +1,139 @@
+//! The picture for a terminal.
+ghost use Rattle.std.specs.Prelude.{◌≡◌, ◌↔◌, ◌<◌, [], ◌∷◌, ◌++◌, false, codes, if◌then◌else◌, IsTrue, IsErr};
+ghost use Rattle.ans_model.specs.Bytes.{escape};
+ghost use Rattle.ans_write.specs.Puts.{Puts};
+ghost use Rattle.ans_write.specs.Tried.{has_failed, inner_of};
+ghost use Rattle.ans_write.specs.Writes.{WritesText};
+ghost use Rattle.ans_show.specs.Looks.{look_of};
+ghost use Rattle.ans_show.specs.TerminalText.{parameter, foreground_text, background_text, colours_text, terminal_text};
+
+use crate::form::Form;
+use crate::look::{background, blinks, foreground};
+use crate::rows::put_rows;
+use ans_play::Picture;
+use ans_screen::Grid;
+use ans_write::{Outbox, Tables, Tried, WriteFault};
+use std::io::Write;
+
+/// The foregrounds of a terminal, by the number of the colour.
+const FOREGROUNDS: [&[u8]; 16] = [
+    b";30", b";34", b";32", b";36", b";31", b";35", b";33", b";37", b";90", b";94", b";92", b";96",
+    b";91", b";95", b";93", b";97",
+];
+
+/// The backgrounds of a terminal, and the end of the sequence.
+const BACKGROUNDS: [&[u8]; 16] = [
+    b";40m", b";44m", b";42m", b";46m", b";41m", b";45m", b";43m", b";47m", b";100m", b";104m",
+    b";102m", b";106m", b";101m", b";105m", b";103m", b";107m",
+];
+
+/// The foregrounds of a VGA.
+const VGA_FOREGROUNDS: [&[u8]; 16] = [
+    b";38;2;0;0;0",
+    b";38;2;0;0;170",
+    b";38;2;0;170;0",
+    b";38;2;0;170;170",
+    b";38;2;170;0;0",
+    b";38;2;170;0;170",
+    b";38;2;170;85;0",
+    b";38;2;170;170;170",
+    b";38;2;85;85;85",
+    b";38;2;85;85;255",
+    b";38;2;85;255;85",
+    b";38;2;85;255;255",
+    b";38;2;255;85;85",
+    b";38;2;255;85;255",
+    b";38;2;255;255;85",
+    b";38;2;255;255;255",
+];
+
+/// The backgrounds of a VGA, and the end of the sequence.
+const VGA_BACKGROUNDS: [&[u8]; 16] = [
+    b";48;2;0;0;0m",
+    b";48;2;0;0;170m",
+    b";48;2;0;170;0m",
+    b";48;2;0;170;170m",
+    b";48;2;170;0;0m",
+    b";48;2;170;0;170m",
+    b";48;2;170;85;0m",
+    b";48;2;170;170;170m",
+    b";48;2;85;85;85m",
+    b";48;2;85;85;255m",
+    b";48;2;85;255;85m",
+    b";48;2;85;255;255m",
+    b";48;2;255;85;85m",
+    b";48;2;255;85;255m",
+    b";48;2;255;255;85m",
+    b";48;2;255;255;255m",
+];
+
+fn foreground_text(colour: usize, vga: bool) -> &'static [u8]
+    requires { colour < 16 }
+    ensures { result.now ≡ foreground_text vga colour }
+{
+    if vga {
+        VGA_FOREGROUNDS[colour]
+    } else {
+        FOREGROUNDS[colour]
+    }
+}
+
+fn background_text(colour: usize, vga: bool) -> &'static [u8]
+    requires { colour < 16 }
+    ensures { result.now ≡ background_text vga colour ++ codes "m" }
+{
+    if vga {
+        VGA_BACKGROUNDS[colour]
+    } else {
+        BACKGROUNDS[colour]
+    }
+}
+
+fn start_text(blinks: bool) -> &'static [u8]
+    ensures { result.now ≡ (escape ∷ codes "[0") ++ (if blinks then parameter 5 else []) }
+{
+    if blinks { b"\x1b[0;5" } else { b"\x1b[0" }
+}
+
+/// Puts the sequence after which cells look as this attribute says.
+pub(crate) fn put_colours<W: Write>(
+    out: &mut Outbox<'_, W>,
+    attribute: u8,
+    non_blink: bool,
+    vga: bool,
+)
+    ensures { Puts W.contents out.old out.new (colours_text vga (look_of non_blink attribute)) }
+{
+    out.put(start_text(blinks(attribute, non_blink)));
+    out.put(foreground_text(foreground(attribute, non_blink), vga));
+    out.put(background_text(background(attribute, non_blink), vga));
+}
+
+/// Writes the picture for a terminal, line by line: before each longest run of cells with one
+/// attribute the sequence of its colours, and at the end of the line ESC, `[0m` and a line feed. The
+/// characters are those of a report, and trailing blanks are kept. An attribute's bit 7 is blink, or,
+/// where the record's non-blink flag is set, a bright background. With `vga` the colours are the
+/// sixteen of a VGA, and else the terminal's own.
+///
+/// `Err` comes exactly where the device failed in the call, and then a prefix of the text was
+/// written.
+pub fn write_terminal<W: Write, G: Grid>(
+    w: &mut Tried<W>,
+    picture: &Picture<G>,
+    non_blink: bool,
+    vga: bool,
+) -> Result<(), WriteFault>
+    requires { has_failed w.old ≡ false }
+    ensures device { IsErr result ↔ IsTrue (has_failed w.new) }
+    ensures bytes { WritesText (W.contents (inner_of w.old)) (W.contents (inner_of w.new))
+        result (terminal_text vga non_blink picture.now) }
+{
+    let mut out = Outbox::new(w);
+    let form = Form::Terminal {
+        vga,
+        non_blink,
+        tables: Tables::new(),
+    };
+    put_rows(&mut out, picture, &form);
+    out.finish()
+}
