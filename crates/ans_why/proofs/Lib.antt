@@ -1,0 +1,14 @@
+pub mod Mended
+pub mod MendedFiles
+pub mod Printed
+pub mod MoreLines
+pub mod TallerSteps
+pub mod TallerScreens
+pub mod WatchedCells
+pub mod WatchedSteps
+pub mod CleanSteps
+pub mod TabBlanks
+pub mod ReadAll
+pub mod WatchedSoFar
+pub mod BeforeFault
+pub mod NamedCells

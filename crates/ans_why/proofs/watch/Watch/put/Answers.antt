@@ -1,0 +1,10 @@
+use Rattle.std.proofs.Common.{◌≢◌, rules, sym, ap, ◌∙◌}
+use Rattle.ans_why.specs.declared.watch.Watch.{Watch}
+use Rattle.ans_why.proofs.WatchedCells.{printed_elsewhere}
+use Rattle.ans_why.proofs.watch.Watch.put.Goals as goal
+
+pub returns-else-eq-clause-watch : goal.returns-else-eq-clause-watch
+returns-else-eq-clause-watch c s e fits =
+    let other : c.args.self.now.cursor ≢ c.args.at = search rules in
+    e ∙ sym (printed_elsewhere c.args.size c.args.at s fits c.requires.at c.args.byte
+    (λ same. other (ap (λ (w : Watch). w.cursor) e ∙ same)))

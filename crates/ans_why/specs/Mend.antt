@@ -1,0 +1,25 @@
+-- How a drawing that is good from the cleared start is mended.
+use Rattle.std.specs.Prelude.{◌≡◌, true, List, ℕ, [], ◌∷◌, ◌++◌, codes}
+use Rattle.ans_model.specs.Bytes.{escape}
+use Rattle.ans_model.specs.Sequence.TokenKind.{TokenKind, Clear, Save, Colours, Wrap}
+use Rattle.ans_model.specs.Screen.State.{Size, State}
+use Rattle.ans_model.specs.Screen.Step.{final}
+use Rattle.ans_model.specs.Screen.StartClass.{cleared, all_known, none_known}
+use Rattle.ans_model.specs.Verdict.Good.{Picture, GoodWith}
+
+-- ESC[?7h ESC[0m ESC[2J ESC[s
+abbrev pub mending : List ℕ
+mending = (escape ∷ codes "[?7h") ++ (escape ∷ codes "[0m") ++ (escape ∷ codes "[2J") ++ (escape ∷ codes "[s")
+
+-- wrap on, white on black, a blank screen with the cursor at home, and the cursor saved there
+abbrev pub mending_tokens : List TokenKind
+mending_tokens = Wrap true ∷ Colours (0 ∷ []) ∷ Clear ∷ Save ∷ []
+
+-- played from any state, they leave the cleared one
+abbrev pub LeavesClearedScreen : Type 0
+LeavesClearedScreen = (z : Size) (s : State) → final z s mending_tokens ≡ cleared z
+
+-- what is good from the cleared start is good behind them from every start, with the same picture
+abbrev pub MakesGood : Type 0
+MakesGood = (z : Size) (content : List ℕ) (picture : Picture) → GoodWith z all_known content picture
+    → GoodWith z none_known (mending ++ content) picture

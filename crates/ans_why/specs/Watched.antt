@@ -1,0 +1,55 @@
+-- What is watched of a state: all but its screen, and of that the cell at one position.
+use Rattle.std.specs.Prelude.{◌≡◌, ℕ, ◌<◌, Bool, List, fold, replicate, unwrap_or, ⊤}
+use Rattle.ans_model.specs.Bytes.{blank}
+use Rattle.ans_model.specs.Sequence.TokenKind.{TokenKind, Glyph, LineFeed, Tab}
+use Rattle.ans_model.specs.Screen.State.{Size, State, IsOnScreen, cell, cell_at, cell_count}
+use Rattle.ans_model.specs.Screen.Step.{blank_cell, put, tab_blanks}
+use Rattle.ans_model.specs.declared.cell.Position.{Position}
+use Rattle.ans_model.specs.declared.start.Start.{Start}
+use Rattle.ans_model.specs.Verdict.TwoStarts.{low_final, high_final}
+use Rattle.ans_why.specs.declared.watch.Watch.{Watch}
+use Rattle.ans_why.specs.declared.two_watches.TwoWatches.{TwoWatches}
+
+-- the watch of a state at this position, which has a cell if it is on the screen
+abbrev pub watched : Size → Position → State → Watch
+watched z p s = record {
+  cursor = s.cursor;
+  saved = s.saved;
+  attribute = s.attribute;
+  wrap = s.wrap;
+  cell = unwrap_or (cell_at z s.screen p) (blank_cell 0x07);
+}
+
+-- each cell has this byte and this attribute, which is the current one, and both cursors stand here
+abbrev pub uniform_state : Size → ℕ → Position → Bool → State
+uniform_state z byte corner wrap = record {
+  screen = replicate (cell_count z) (cell byte byte);
+  cursor = corner;
+  saved = corner;
+  attribute = byte;
+  wrap = wrap;
+}
+
+-- both cursors stand on the screen
+pub record StandsOn (z : Size) (w : Watch) : Type 0 where
+  pub cursor : IsOnScreen z w.cursor
+  pub saved : IsOnScreen z w.saved
+
+-- a line feed comes, and each byte is printed, above the spare row; so the screen does not scroll
+abbrev pub WritesAbove : Size → State → TokenKind → Type 0
+WritesAbove z s LineFeed = s.cursor.row < z.lines
+WritesAbove z s (Glyph byte) = s.cursor.row < z.lines
+WritesAbove z s Tab = (n : ℕ) → n < tab_blanks s.cursor.column
+    → (fold (put z) s (replicate n blank)).cursor.row < z.lines
+WritesAbove z s _ = ⊤
+
+-- both cursors of both plays stand on the screen
+pub record BothStandOn (z : Size) (w : TwoWatches) : Type 0 where
+  pub low : StandsOn z w.low
+  pub high : StandsOn z w.high
+
+-- the watches of the plays of these tokens from the low and the high start
+pub record AreWatched (z : Size) (class : Start) (p : Position) (tokens : List TokenKind)
+    (w : TwoWatches) : Type 0 where
+  pub low : w.low ≡ watched z p (low_final z class tokens)
+  pub high : w.high ≡ watched z p (high_final z class tokens)

@@ -1,0 +1,16 @@
+//! Why a drawing is refused, what it relies on, and how it is mended.
+//!
+//! Each law is the contract of a function without a body. Of a fault that is deserved,
+//! [`cursors_before`] and [`cells_of_fault`] give what the plays from the low and the high start of
+//! a class show.
+#![tactic(auto)]
+
+mod evidence;
+pub mod laws;
+mod two_watches;
+mod watch;
+
+pub use evidence::{cells_of_fault, cursors_before};
+
+#[cfg(test)]
+mod tests;
