@@ -1,8 +1,10 @@
 -- What a reader of a page sees.
-use Rattle.std.specs.Prelude.{ℕ, ◌+◌, ◌-◌, ◌*◌, Bool, true, false, ◌==◌, ◌||◌, List, [], ◌∷◌, ◌++◌, fold, codes}
-use Rattle.std.specs.Prelude.{if◌then◌else◌}
+use Rattle.std.specs.Prelude.{ℕ, ◌+◌, ◌-◌, ◌*◌, ◌/◌, ◌%◌, Bool, true, false, ◌==◌, ◌||◌, List, [], ◌∷◌, ◌++◌}
+use Rattle.std.specs.Prelude.{fold, codes, decimal, if◌then◌else◌}
 use Rattle.std.specs.Str.{bytes_eq}
+use Rattle.ans_model.specs.Text.Hexadecimal.{hex_digit}
 use Rattle.ans_show.specs.Looks.{Look, plain}
+use Rattle.ans_show.specs.TerminalText.{Triple, vga_colour}
 use Rattle.ans_show.specs.Seen.{Seen, SeenCell, seen_of}
 
 -- the number that decimal digits spell
@@ -38,6 +40,20 @@ named_character name =
     else if bytes_eq name (codes "gt") then 0x3E
     else if bytes_eq name (codes "quot") then 0x22
     else 0x27
+
+-- a colour in hexadecimal digits, one for each part
+abbrev pub colour_digits : Triple → List ℕ
+colour_digits t = hex_digit (t.red / 17) ∷ hex_digit (t.green / 17) ∷ hex_digit (t.blue / 17) ∷ []
+
+-- what the style says of a class: the letter and a number set a property to the VGA's colour; four stand on a line
+abbrev pub class_style : List ℕ → List ℕ → ℕ → List ℕ
+class_style letter property n =
+    codes "." ++ (letter ++ (decimal n ++ (codes "{" ++ (property ++ (codes ":#" ++ (colour_digits (vga_colour n)
+    ++ (codes "}" ++ (if n % 4 == 3 then codes "\n" else []))))))))
+
+-- the numbers of the colours
+abbrev pub sixteen : List ℕ
+sixteen = 0 ∷ 1 ∷ 2 ∷ 3 ∷ 4 ∷ 5 ∷ 6 ∷ 7 ∷ 8 ∷ 9 ∷ 10 ∷ 11 ∷ 12 ∷ 13 ∷ 14 ∷ 15 ∷ []
 
 -- what a reader is in: text, a tag since its `<`, or a name since its `&`
 pub data Part : Type 0 where

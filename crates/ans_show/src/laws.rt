@@ -1,7 +1,7 @@
 //! Laws of the texts: what a reader sees of them is the picture. Each is the contract of a function
 //! without a body.
 
-ghost use Rattle.std.specs.Prelude.{◌≡◌, ℕ, Bool, false, List, All, chars};
+ghost use Rattle.std.specs.Prelude.{◌≡◌, ℕ, Bool, false, List, All, chars, codes};
 ghost use Rattle.std.specs.List.{flat_map};
 ghost use Rattle.ans_model.specs.declared.cell.Cell.{Cell};
 ghost use Rattle.ans_model.specs.Bytes.{IsByte};
@@ -10,8 +10,8 @@ ghost use Rattle.ans_model.specs.Verdict.Good.{Picture};
 ghost use Rattle.ans_show.specs.Looks.{Look, look_of, attribute_of};
 ghost use Rattle.ans_show.specs.Runs.{runs, cells_of, AreLongest};
 ghost use Rattle.ans_show.specs.Seen.{seen_picture};
-ghost use Rattle.ans_show.specs.PageText.{page_text};
-ghost use Rattle.ans_show.specs.PageReader.{InText, page, read_page};
+ghost use Rattle.ans_show.specs.PageText.{page_text, foreground_style, background_style};
+ghost use Rattle.ans_show.specs.PageReader.{InText, page, read_page, class_style, sixteen};
 ghost use Rattle.ans_show.specs.TerminalText.{terminal_text};
 ghost use Rattle.ans_show.specs.TerminalReader.{outside, read_terminal};
 
@@ -41,4 +41,11 @@ pub fn pages_show_the_picture()
         → All IsByteCell picture.cells
         → read_page (page InText false before) (chars (page_text non_blink title picture))
         ≡ seen_picture non_blink picture }
+{}
+
+/// The style of a page gives the classes the colours of a VGA, by their numbers.
+pub fn styles_are_the_vga_colours()
+    ensures foregrounds { flat_map (class_style (codes "f") (codes "color")) sixteen ≡ foreground_style }
+    ensures backgrounds { flat_map (class_style (codes "b") (codes "background")) sixteen
+        ≡ background_style }
 {}
