@@ -1,38 +1,24 @@
 -- What each step changes, and what it leaves as it was.
-use Rattle.std.proofs.Common.{◌≡◌, ◌≢◌, inl, inr, ℕ, ◌+◌, ◌*◌, ◌<◌, ◌≤◌, Bool, true, false, refl}
+use Rattle.std.proofs.Common.{◌≡◌, ◌≢◌, inl, inr, ℕ, ◌+◌, ◌*◌, ◌<◌, Bool, true, false, refl}
 use Rattle.std.proofs.Common.{ap, ◌∙◌, arith, add-mul, one-mul, length, drop, replicate}
-use Rattle.std.proofs.Common.{Some}
 use Rattle.std.specs.Prelude.{if◌then◌else◌, slice_get}
 use Rattle.std.proofs.lemmas.Bool.{cases_lt, lt-ltb, le-ltb, eq-eqb}
 use Rattle.std.proofs.lemmas.List.{length-drop, length-set}
 use Rattle.ans_model.specs.Sequence.TokenKind.{Clear, EraseLine}
-use Rattle.ans_model.specs.Screen.State.{Size, State, IsWellFormed, IsOnScreen, at, cell, cell_at, cell_count, index}
+use Rattle.ans_model.specs.Screen.State.{Size, State, IsWellFormed, at, cell, cell_at, cell_count, index}
 use Rattle.ans_model.specs.declared.cell.Position.{Position}
-use Rattle.ans_model.specs.Screen.Step.{step, scrolled, line_feed, printed, next_row_start}
+use Rattle.ans_model.specs.Screen.Step.{step, scrolled, line_feed, printed}
 use Rattle.ans_model.specs.Screen.Step.{blank_cell}
-use Rattle.ans_laws.specs.StepLaws.{OnePositionAnIndex}
 use Rattle.ans_laws.specs.StepLaws.{OnlyScreenAndCursor}
-use Rattle.ans_laws.specs.StepLaws.{ClearsScreen, IsErased, ErasesLine}
+use Rattle.ans_laws.specs.StepLaws.{ClearsScreen, ErasesLine}
 use Rattle.ans_laws.specs.StepLaws.{NextPosition, GlyphPrints, GlyphScrolls, LineFeedMovesDown, IsScrolled}
 use Rattle.ans_laws.specs.StepLaws.{LineFeedScrolls, IsPrinted, IsPrintedAndScrolled}
 use Rattle.ans_laws.specs.MoveLaws.{IsLastColumn}
-use Rattle.ans_model.proofs.FilledLemmas.{filled_before, filled_within, filled_after}
-use Rattle.ans_model.proofs.Slices.{slice_get-append_left, slice_get-append_right, slice_get-set_same}
-use Rattle.ans_model.proofs.Slices.{slice_get-set_other, slice_get-drop, slice_get-replicate}
-use Rattle.ans_model.proofs.PositionLemmas.{same_position, row_le, row_start, row_end_le, index-lt, index-lt_row}
+use Rattle.ans_model.proofs.Slices.{slice_get-append_left, slice_get-append_right}
+use Rattle.ans_model.proofs.Slices.{slice_get-drop, slice_get-replicate}
+use Rattle.ans_model.proofs.PositionLemmas.{same_position, row_le, index-lt}
 use Rattle.ans_model.proofs.StepLemmas.{line_feed_is}
-
-pub one_position_an_index : OnePositionAnIndex
-one_position_an_index z p q on_p on_q e = elim (cases_lt p.row q.row) [
-  | inl less ↦ absurd (omega (arith, index-lt_row z p q on_p.1 less))
-  | inr more ↦ elim (cases_lt q.row p.row) [
-    | inl less ↦ absurd (omega (arith, index-lt_row z q p on_q.1 less))
-    | inr other ↦
-        let row : p.row ≡ q.row = omega arith in
-        let start : p.row * z.width ≡ q.row * z.width = ap (λ (n : ℕ). n * z.width) row in
-        same_position p q row (omega (arith, start))
-  ]
-]
+use Rattle.ans_model.proofs.ChangedCells.{printed_cell, cell_beside_printed, erased_cell, cell_beside_erased}
 
 same_others : (s t : State) → t.saved ≡ s.saved → t.attribute ≡ s.attribute → t.wrap ≡ s.wrap → OnlyScreenAndCursor s t
 same_others s t e f g = record { saved = e; attribute = f; wrap = g }
@@ -44,47 +30,11 @@ clears_screen z s = record {
   others = same_others s (step z s Clear) refl refl refl;
 }
 
--- ---- a row's end
--- the row of the cursor ends on the screen
-row_fits : (z : Size) (s : State) → IsWellFormed z s → next_row_start z s.cursor ≤ length s.screen
-row_fits z s h = rw h.fits.cells (row_end_le z s.cursor h.fits.cursor)
-
--- a cell outside is kept
-erased_kept : (z : Size) (s : State) (p : Position) → IsWellFormed z s → IsOnScreen z p → ¬ IsErased s.cursor p
-    → cell_at z (step z s EraseLine).screen p ≡ cell_at z s.screen p
-erased_kept z s p h on outside =
-    let fits : next_row_start z s.cursor ≤ length s.screen = row_fits z s h in
-    let ends : next_row_start z s.cursor ≡ s.cursor.row * z.width + z.width = row_start z s.cursor in
-    let begins : index z s.cursor ≤ next_row_start z s.cursor = omega (arith, ends, h.fits.cursor.1) in
-    elim (cases_lt (index z p) (index z s.cursor)) [
-      | inl less ↦ filled_before s.screen (index z s.cursor) (next_row_start z s.cursor) (blank_cell s.attribute)
-          (index z p) begins fits less
-      | inr more ↦ elim (cases_lt s.cursor.row p.row) [
-        | inl below ↦ filled_after s.screen (index z s.cursor) (next_row_start z s.cursor) (blank_cell s.attribute)
-            (index z p) begins (omega (arith, ends, row_le z s.cursor.row p.row below)) fits
-        | inr above ↦ elim (cases_lt p.row s.cursor.row) [
-          | inl higher ↦ absurd (omega (arith, index-lt_row z p s.cursor on.1 higher))
-          | inr same ↦
-              let row : p.row ≡ s.cursor.row = omega arith in
-              let start : p.row * z.width ≡ s.cursor.row * z.width = ap (λ (n : ℕ). n * z.width) row in
-              absurd (outside (row, omega (arith, start)))
-        ]
-      ]
-    ]
-
--- a cell inside is blank
-erased_blank : (z : Size) (s : State) (p : Position) → IsWellFormed z s → IsOnScreen z p → IsErased s.cursor p
-    → cell_at z (step z s EraseLine).screen p ≡ Some (blank_cell s.attribute)
-erased_blank z s p h on inside =
-    let ends : next_row_start z s.cursor ≡ s.cursor.row * z.width + z.width = row_start z s.cursor in
-    let start : p.row * z.width ≡ s.cursor.row * z.width = ap (λ (n : ℕ). n * z.width) inside.0 in
-    filled_within s.screen (index z s.cursor) (next_row_start z s.cursor) (blank_cell s.attribute) (index z p)
-    (omega (arith, start, inside.1)) (omega (arith, start, ends, on.1)) (row_fits z s h)
-
+-- ---- an erased line
 pub erases_line : ErasesLine
 erases_line z s h = record {
-  erased = λ p on inside. erased_blank z s p h on inside;
-  kept = λ p on outside. erased_kept z s p h on outside;
+  erased = λ p on inside. erased_cell z s h.fits p on inside.0 inside.1;
+  kept = λ p on outside. cell_beside_erased z s h.fits p on outside;
   cursor = refl;
   others = same_others s (step z s EraseLine) refl refl refl;
 }
@@ -119,26 +69,12 @@ pub line_feed_scrolls : LineFeedScrolls
 line_feed_scrolls z s h e = rw (eq-eqb s.cursor.row z.lines e) (scrolled_is z s h.fits.cells)
 
 -- ---- a printed byte
--- the cursor's cell has the byte
-cell_is_printed : (z : Size) (s : State) (byte : ℕ) → IsWellFormed z s
-    → cell_at z (printed z s byte).screen s.cursor ≡ Some (cell byte s.attribute)
-cell_is_printed z s byte h =
-    slice_get-set_same s.screen (index z s.cursor) (cell byte s.attribute)
-    (omega (arith, index-lt z s.cursor h.fits.cursor, h.fits.cells))
-
--- each other cell is kept
-cell_is_kept : (z : Size) (s : State) (byte : ℕ) (p : Position) → IsWellFormed z s → IsOnScreen z p → p ≢ s.cursor
-    → cell_at z (printed z s byte).screen p ≡ cell_at z s.screen p
-cell_is_kept z s byte p h on other =
-    slice_get-set_other s.screen (index z s.cursor) (index z p) (cell byte s.attribute)
-    (λ e. other (one_position_an_index z p s.cursor on h.fits.cursor e))
-
 -- a printed byte, and the cursor at the next position
 printed_at : (z : Size) (s : State) (byte : ℕ) (next : Position) → IsWellFormed z s → NextPosition z s next
     → IsPrinted z s byte (record (printed z s byte) { cursor = next })
 printed_at z s byte next h goes_on = record {
-  printed = cell_is_printed z s byte h;
-  kept = λ p on other. cell_is_kept z s byte p h on other;
+  printed = printed_cell z s h.fits byte;
+  kept = λ p on other. cell_beside_printed z s h.fits byte p on other;
   cursor = goes_on;
   others = record { saved = refl; attribute = refl; wrap = refl };
 }
@@ -170,9 +106,9 @@ printed_and_scrolled z s t byte h row scrolls = record {
       same_position (at (p.row + 1) p.column) s.cursor above.0 above.1 in
       let on : p.column < z.width = omega (arith, above.1, h.fits.cursor.1) in
       scrolls.rows p (omega (arith, above.0, row), on) (omega (arith, above.0, row))
-      ∙ ap (λ (q : Position). cell_at z (printed z s byte).screen q) below ∙ cell_is_printed z s byte h;
+      ∙ ap (λ (q : Position). cell_at z (printed z s byte).screen q) below ∙ printed_cell z s h.fits byte;
   rows = λ p on lt other. scrolls.rows p on lt
-      ∙ cell_is_kept z s byte (at (p.row + 1) p.column) h (omega (arith, lt), on.1)
+      ∙ cell_beside_printed z s h.fits byte (at (p.row + 1) p.column) (omega (arith, lt), on.1)
       (λ e. other (ap (λ (q : Position). q.row) e, ap (λ (q : Position). q.column) e));
   last = scrolls.last;
   cursor = scrolls.cursor ∙ ap (λ (r : ℕ). at r 0) row;

@@ -5,6 +5,7 @@ pub mod PositionLemmas
 pub mod WellFormed
 pub mod StartLemmas
 pub mod StepLemmas
+pub mod ChangedCells
 pub mod TabLemmas
 pub mod CleanLemmas
 pub mod ClassLemmas

@@ -25,6 +25,7 @@ pub mod KnownCells
 pub mod PlaysWell
 pub mod Finishing
 pub mod PictureCells
+pub mod PictureRows
 pub mod TwoStarts
 pub mod WholeBytes
 pub mod OneOfThree

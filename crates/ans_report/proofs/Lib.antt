@@ -1,5 +1,4 @@
 pub mod LineTexts
-pub mod PictureRows
 pub mod RecordLemmas
 pub mod StartNames
 pub mod CellsTold

@@ -7,9 +7,9 @@ mod records;
 mod tokens;
 mod written_reports;
 
-use crate::{Tried, WriteFault, fault_text, note_text};
+use crate::{fault_text, note_text};
 use ans_model::start::Start;
-use ans_samples::{FailingOnce, Narrow, start};
+use ans_samples::start;
 use ans_sauce::{Cause, Fault, Note, Parts, split};
 use std::process::Abort;
 
@@ -41,35 +41,6 @@ fn parts_of<'a>(rt: &impl Abort, file: &'a [u8]) -> Parts<'a> {
     match split(file) {
         Ok(parts) => parts,
         Err(_) => panic!(rt; "the sample is refused"),
-    }
-}
-
-/// Asserts that a writing stops at a device that fails after these bytes.
-fn expect_stopped<F>(rt: &impl Abort, taken: &[u8], write: &F)
-where
-    F: Fn(&mut Tried<FailingOnce<Narrow>>) -> Result<(), WriteFault>,
-    requires { F.IsAlwaysCallable write.now }
-{
-    let mut device = Tried::new(FailingOnce::after(taken.len()));
-    assert_eq!(rt; write(&mut device), Err(WriteFault));
-    assert!(rt; device.failed());
-    assert!(rt; device.inner().stopped_after(taken));
-    assert_eq!(rt; device.calls(), device.inner().calls());
-}
-
-/// Asserts what is written to a device that takes it all, and that the writing stops at each of the
-/// calls that fail.
-fn expect_written<F>(rt: &impl Abort, text: &[u8], write: F)
-where
-    F: Fn(&mut Tried<FailingOnce<Narrow>>) -> Result<(), WriteFault>,
-    requires { F.IsAlwaysCallable write }
-{
-    let mut device = Tried::new(FailingOnce::after(text.len()));
-    assert_eq!(rt; write(&mut device), Ok(()));
-    assert!(rt; !device.failed());
-    assert_eq!(rt; device.inner().device().held(), text);
-    for taken in 0..text.len() {
-        expect_stopped(rt, &text[..taken], &write);
     }
 }
 

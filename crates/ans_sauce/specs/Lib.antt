@@ -1,3 +1,4 @@
 pub mod RecordBytes
 pub mod Parts
 pub mod Split
+pub mod Found

@@ -2,7 +2,7 @@
 ghost use Rattle.std.specs.Prelude.{◌≡◌, ◌≤◌, not, length, is_some, IsFalse, IfOk, IfErr, IfSome, IfNone, Some};
 ghost use Rattle.std.specs.List.{position};
 ghost use Rattle.ans_model.specs.File.Layout.{content, after_content, is_end_mark};
-ghost use Rattle.ans_model.specs.File.Refusals.{has_record, has_block, fault_at, first_refusal, record_fault};
+ghost use Rattle.ans_model.specs.File.Refusals.{has_record, has_block, block_size, fault_at, first_refusal, record_fault};
 ghost use Rattle.ans_sauce.specs.RecordBytes.{bytes_of};
 ghost use Rattle.ans_sauce.specs.Split.{IsSplit, EndsInRecord, IsCut, PassesRecord, record_refusals};
 
@@ -22,7 +22,7 @@ fn fault(offset: usize, cause: Cause) -> Fault
 }
 
 /// What stands before the record, and the record, where there is one.
-fn cut_record(file: &[u8]) -> Option<(&[u8], Record<'_>)>
+pub(crate) fn cut_record(file: &[u8]) -> Option<(&[u8], Record<'_>)>
     ensures cut { IfSome result (λ cut. EndsInRecord file.now cut.0.now (bytes_of cut.1)) }
     ensures none { IfNone result (IsFalse (has_record file.now)) }
 {
@@ -34,6 +34,16 @@ fn cut_record(file: &[u8]) -> Option<(&[u8], Record<'_>)>
     }
 }
 
+/// The length of the block of this many comments: 0 where there are none.
+pub(crate) fn block_size(count: u8) -> usize
+    ensures { result ≡ block_size count }
+{
+    if count == 0 {
+        return 0;
+    }
+    b"COMNT".len() + COMMENT_SIZE * count as usize
+}
+
 /// The body, and the lines of the comment block that ends the front, where there is one of this
 /// many comments. Without comments the front is the body.
 fn cut_block(front: &[u8], count: u8) -> Option<(&[u8], &[u8])>
@@ -43,8 +53,7 @@ fn cut_block(front: &[u8], count: u8) -> Option<(&[u8], &[u8])>
     if count == 0 {
         return Some(front.split_at(front.len()));
     }
-    let size = b"COMNT".len() + COMMENT_SIZE * count as usize;
-    let (body, block) = front.split_at(front.len().checked_sub(size)?);
+    let (body, block) = front.split_at(front.len().checked_sub(block_size(count))?);
     Some((body, block.strip_prefix(b"COMNT")?))
 }
 
@@ -84,7 +93,7 @@ fn first_end_mark(body: &[u8]) -> Option<usize>
     memchr(END_MARK, body)
 }
 
-fn cut_content(body: &[u8]) -> (&[u8], &[u8])
+pub(crate) fn cut_content(body: &[u8]) -> (&[u8], &[u8])
     ensures content { result.0.now ≡ content body.now }
     ensures rest { result.1.now ≡ after_content body.now }
 {

@@ -9,6 +9,7 @@
 //! and `NoteConditions`.
 #![tactic(auto)]
 
+mod found;
 mod layout;
 mod note_conditions;
 mod padding;
@@ -18,6 +19,7 @@ mod record;
 pub use ans_model::fault::{Cause, Fault};
 pub use ans_model::limits::MAX_FILE;
 pub use ans_model::note::Note;
+pub use found::{Found, find};
 pub use layout::split;
 pub use parts::Parts;
 pub use record::Record;

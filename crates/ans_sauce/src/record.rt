@@ -34,6 +34,13 @@ pub struct Record<'a> {
 impl<'a> Record<'a> {
     ghost use Rattle.ans_sauce.specs.RecordBytes.{bytes_of};
 
+    /// The version's two bytes. A record that is accepted has `00`.
+    pub(crate) fn version(&self) -> &'a [u8]
+        ensures { result.now ≡ version_field (bytes_of self.now) }
+    {
+        self.field(VERSION, 2)
+    }
+
     /// The title, of at most 35 bytes.
     pub fn title(&self) -> &'a [u8]
         ensures { result.now ≡ trimmed (title_field (bytes_of self.now)) }
@@ -78,6 +85,20 @@ impl<'a> Record<'a> {
         LittleEndian::read_u32(self.field(90, 4))
     }
 
+    /// The kind of file (DataType). A record that is accepted has 1, Character.
+    pub(crate) fn data_type(&self) -> u8
+        ensures { result ≡ data_type (bytes_of self.now) }
+    {
+        self.byte(DATA_TYPE)
+    }
+
+    /// Which of its kind (FileType). A record that is accepted has 1, ANSi.
+    pub(crate) fn file_type(&self) -> u8
+        ensures { result ≡ file_type (bytes_of self.now) }
+    {
+        self.byte(95)
+    }
+
     /// TInfo1 to TInfo4, by their numbers from 1. For Character/ANSi the first is the width in
     /// columns and the second the number of lines.
     pub fn tinfo(&self, i: usize) -> u16
@@ -112,14 +133,14 @@ impl<'a> Record<'a> {
     pub(crate) fn is_version_00(&self) -> bool
         ensures { result ≡ bytes_eq (version_field (bytes_of self.now)) (codes "00") }
     {
-        self.field(VERSION, 2) == b"00".as_slice()
+        self.version() == b"00".as_slice()
     }
 
     pub(crate) fn is_character_ansi(&self) -> bool
         ensures { result ≡ (data_type (bytes_of self.now) == 1
             && file_type (bytes_of self.now) == 1) }
     {
-        self.byte(DATA_TYPE) == 1 && self.byte(95) == 1
+        self.data_type() == 1 && self.file_type() == 1
     }
 
     pub(crate) fn states_no_lines(&self) -> bool

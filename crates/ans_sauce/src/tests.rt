@@ -1,7 +1,7 @@
 //! Files taken apart: which are refused and where, which are accepted with which notes, and what
 //! their parts show.
 
-use crate::split;
+use crate::{Found, find, split};
 use ans_model::fault::{Cause, Fault};
 use ans_samples::records::{ACCEPTED, REFUSED};
 use ans_samples::sample_file;
@@ -104,5 +104,89 @@ fn block_has_255_comments(rt: HostRuntime) -> Result<(), Fail> {
     assert_eq!(rt; parts.comment(254), Some(b"\xfe .".as_slice()));
     assert_eq!(rt; parts.comment(255), None);
     assert_eq!(rt; parts.comment(usize::MAX), None);
+    Ok(())
+}
+
+/// A file, and what is found in it.
+type FoundRow = (
+    &'static [u8],
+    &'static [(usize, &'static [u8])],
+    Found<'static>,
+);
+
+#[test]
+fn what_stands_in_place_of_a_record_is_found(rt: HostRuntime) -> Result<(), Fail> {
+    let rows: [FoundRow; 10] = [
+        (b"Hi", &[(0, b"S4UCE")], Found::NoRecord),
+        (b"Hi", &[(5, b"01")], Found::Version(b"01")),
+        (
+            b"Hi",
+            &[(94, b"\x05\x02")],
+            Found::Kind {
+                data_type: 5,
+                file_type: 2,
+            },
+        ),
+        (b"Hi", &[(104, b"\x03")], Found::Comments(3)),
+        (b"Hi", &[(98, b"\x00\x00")], Found::Lines(0)),
+        (b"Hi", &[(98, b"\x01\x20")], Found::Lines(8193)),
+        (b"Hi", &[(96, b"\x01\x04")], Found::Width(1025)),
+        (
+            b"Hi\x1aHo",
+            &[],
+            Found::AfterEndMark {
+                count: 2,
+                record: false,
+            },
+        ),
+        (
+            b"Hi\x1aSAUCE00 too short\x1a",
+            &[],
+            Found::AfterEndMark {
+                count: 18,
+                record: false,
+            },
+        ),
+        (
+            b"Hi\x1aHoCOMNT                                                                ",
+            &[(104, b"\x01")],
+            Found::AfterEndMark {
+                count: 2,
+                record: false,
+            },
+        ),
+    ];
+    for (front, edits, found) in rows {
+        let file = sample_file(rt.alloc(), front, edits)?;
+        match split(&file) {
+            Ok(_) => panic!(rt; "the sample is accepted"),
+            Err(fault) => assert_eq!(rt; find(&file, fault), found),
+        }
+    }
+    Ok(())
+}
+
+#[test]
+fn records_before_the_end_are_found(rt: HostRuntime) -> Result<(), Fail> {
+    let mut file = sample_file(rt.alloc(), b"Hi\x1a", &[])?;
+    let twice = file.as_slice().to_vec(rt.alloc())?;
+    file.extend_from_slice(b"\r\n")?;
+    let found = Found::Record {
+        offset: 3,
+        behind: 2,
+    };
+    match split(&file) {
+        Ok(_) => panic!(rt; "the sample is accepted"),
+        Err(fault) => assert_eq!(rt; find(&file, fault), found),
+    }
+    let older = sample_file(rt.alloc(), &twice, &[])?;
+    let found = Found::AfterEndMark {
+        count: 128,
+        record: true,
+    };
+    match split(&older) {
+        Ok(_) => panic!(rt; "the sample is accepted"),
+        Err(fault) => assert_eq!(rt; find(&older, fault), found),
+    }
     Ok(())
 }

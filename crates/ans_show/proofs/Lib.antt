@@ -3,7 +3,6 @@ pub mod Pieces
 pub mod PageRows
 pub mod RunLemmas
 pub mod RunsPut
-pub mod PictureRows
 pub mod TextsRead
 pub mod SeenRuns
 pub mod EachByte

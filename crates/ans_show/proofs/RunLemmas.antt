@@ -1,5 +1,5 @@
 -- The runs of a row, from one run's end to the next.
-use Rattle.std.proofs.Common.{true, false, ◌≡◌, ◌≢◌, ℕ, zero, suc, List, [], ◌∷◌, length, take, drop, map}
+use Rattle.std.proofs.Common.{true, false, ◌≡◌, ◌≢◌, ℕ, zero, suc, List, [], ◌∷◌, length, take, drop}
 use Rattle.std.proofs.Common.{refl, ap, sym, ◌∙◌, arith}
 use Rattle.std.specs.Prelude.{◌==◌, slice_index, if◌then◌else◌}
 use Rattle.std.specs.Simd.Lanes.{zip2}
@@ -63,9 +63,3 @@ runs_front (b ∷ bs) (a ∷ more) (suc (suc n)) e h =
     let later = runs (zip2 cell (drop (suc n) bs) (drop (suc n) more)) in
     ap (joined (cell b a)) (ih ∙ ap (λ (x : ℕ). run x (take (suc n) bs) ∷ later)
     first) ∙ joined_same b a (take (suc n) bs) later
-
--- a row's cells by their bytes and their attributes
-pub cells_zipped : (cells : List Cell)
-    → zip2 cell (map (λ (c : Cell). c.byte) cells) (map (λ (c : Cell). c.attribute) cells) ≡ cells
-cells_zipped [] = refl
-cells_zipped (c ∷ cells) = ap (λ (cs : List Cell). c ∷ cs) (cells_zipped cells)

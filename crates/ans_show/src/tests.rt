@@ -3,41 +3,11 @@
 use crate::{write_page, write_terminal};
 use ans_model::start::Start;
 use ans_play::{Picture, Player};
-use ans_samples::{FailingOnce, Narrow};
 use ans_sauce::MAX_FILE;
 use ans_screen::PlainGrid;
-use ans_write::{Tried, WriteFault};
+use ans_trials::expect_written;
 use std::process::Abort;
 use std::test::Fail;
-
-/// Asserts that a writing stops at a device that fails after these bytes.
-fn expect_stopped<F>(rt: &impl Abort, taken: &[u8], write: &F)
-where
-    F: Fn(&mut Tried<FailingOnce<Narrow>>) -> Result<(), WriteFault>,
-    requires { F.IsAlwaysCallable write.now }
-{
-    let mut device = Tried::new(FailingOnce::after(taken.len()));
-    assert_eq!(rt; write(&mut device), Err(WriteFault));
-    assert!(rt; device.failed());
-    assert!(rt; device.inner().stopped_after(taken));
-    assert_eq!(rt; device.calls(), device.inner().calls());
-}
-
-/// Asserts what is written to a device that takes it all, and that the writing stops at each of the
-/// calls that fail.
-fn expect_written<F>(rt: &impl Abort, text: &[u8], write: F)
-where
-    F: Fn(&mut Tried<FailingOnce<Narrow>>) -> Result<(), WriteFault>,
-    requires { F.IsAlwaysCallable write }
-{
-    let mut device = Tried::new(FailingOnce::after(text.len()));
-    assert_eq!(rt; write(&mut device), Ok(()));
-    assert!(rt; !device.failed());
-    assert_eq!(rt; device.inner().device().held(), text);
-    for taken in 0..text.len() {
-        expect_stopped(rt, &text[..taken], &write);
-    }
-}
 
 /// The picture of a content from the cleared start.
 fn picture_of(

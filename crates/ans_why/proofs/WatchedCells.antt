@@ -1,86 +1,38 @@
 -- What a step does to the watched cell.
-use Rattle.std.proofs.Common.{◌≡◌, ◌≢◌, inl, inr, ℕ, ◌+◌, ◌*◌, ◌≤◌, sym, ap, ◌∙◌, arith, length, Option}
+use Rattle.std.proofs.Common.{◌≡◌, ◌≢◌, ℕ, ◌≤◌, sym, ap, ◌∙◌, Option}
 use Rattle.std.specs.Prelude.{unwrap_or}
-use Rattle.std.proofs.lemmas.Bool.{cases_lt}
-use Rattle.ans_model.specs.Screen.State.{Size, State, FitsScreen, IsOnScreen, cell, cell_at, index}
-use Rattle.ans_model.specs.Screen.Step.{blank_cell, next_row_start, printed, step}
+use Rattle.ans_model.specs.Screen.State.{Size, State, FitsScreen, IsOnScreen, cell, cell_at}
+use Rattle.ans_model.specs.Screen.Step.{blank_cell, printed, step}
 use Rattle.ans_model.specs.Sequence.TokenKind.{EraseLine}
 use Rattle.ans_model.specs.declared.cell.Cell.{Cell}
 use Rattle.ans_model.specs.declared.cell.Position.{Position}
-use Rattle.ans_model.proofs.FilledLemmas.{filled_before, filled_within, filled_after}
-use Rattle.ans_model.proofs.PositionLemmas.{same_position, row_le, row_start, row_end_le, index-lt, index-lt_row}
-use Rattle.ans_model.proofs.PositionLemmas.{index-le_row_end}
-use Rattle.ans_model.proofs.Slices.{slice_get-set_same, slice_get-set_other}
+use Rattle.ans_model.proofs.ChangedCells.{printed_cell, cell_beside_printed, erased_cell, cell_beside_erased}
 use Rattle.ans_why.specs.Watched.{watched}
+use Rattle.ans_why.specs.declared.watch.Watch.{Watch}
 
--- positions on the screen with one index are one
-one_index : (z : Size) (p q : Position) → IsOnScreen z p → IsOnScreen z q → index z p ≡ index z q → p ≡ q
-one_index z p q on_p on_q e = elim (cases_lt p.row q.row) [
-  | inl less ↦ absurd (omega (arith, index-lt_row z p q on_p.1 less))
-  | inr more ↦ elim (cases_lt q.row p.row) [
-    | inl less ↦ absurd (omega (arith, index-lt_row z q p on_q.1 less))
-    | inr other ↦
-        let row : p.row ≡ q.row = omega arith in
-        let start : p.row * z.width ≡ q.row * z.width = ap (λ (n : ℕ). n * z.width) row in
-        same_position p q row (omega (arith, start))
-  ]
-]
+-- the watch with the cell that a screen has there
+abbrev with_cell : Size → Position → State → Option Cell → Watch
+with_cell z p s found = record (watched z p s) { cell = unwrap_or found (blank_cell 0x07) }
 
 module _ (z : Size) (p : Position) (s : State) (fits : FitsScreen z s) (on : IsOnScreen z p) where
-  -- ---- a printed byte
-  -- where the cursor stands
+  -- a byte that is printed where the cursor stands
   pub printed_there : (byte : ℕ) → s.cursor ≡ p
       → watched z p (printed z s byte) ≡ record (watched z p s) { cell = cell byte s.attribute }
   printed_there byte e =
-      ap (λ (o : Option Cell). record (watched z p s) { cell = unwrap_or o (blank_cell 0x07) })
-      (ap (λ (q : Position). cell_at z (printed z s byte).screen q) (sym e)
-      ∙ slice_get-set_same s.screen (index z s.cursor) (cell byte s.attribute)
-      (omega (arith, index-lt z s.cursor fits.cursor, fits.cells)))
+      ap (with_cell z p s)
+      (ap (λ (q : Position). cell_at z (printed z s byte).screen q) (sym e) ∙ printed_cell z s fits byte)
 
-  -- elsewhere
+  -- and elsewhere
   pub printed_elsewhere : (byte : ℕ) → s.cursor ≢ p → watched z p (printed z s byte) ≡ watched z p s
   printed_elsewhere byte other =
-      ap (λ (o : Option Cell). record (watched z p s) { cell = unwrap_or o (blank_cell 0x07) })
-      (slice_get-set_other s.screen (index z s.cursor) (index z p) (cell byte s.attribute)
-      (λ e. other (one_index z s.cursor p fits.cursor on (sym e))))
+      ap (with_cell z p s) (cell_beside_printed z s fits byte p on (λ e. other (sym e)))
 
-  -- ---- an erased line
-  row_fits : next_row_start z s.cursor ≤ length s.screen
-  row_fits = rw fits.cells (row_end_le z s.cursor fits.cursor)
-
-  -- in the cursor's row, from the cursor on
+  -- a line that is erased from the cursor on
   pub erased_there : p.row ≡ s.cursor.row → s.cursor.column ≤ p.column
       → watched z p (step z s EraseLine) ≡ record (watched z p s) { cell = blank_cell s.attribute }
-  erased_there row from =
-      let ends : next_row_start z s.cursor ≡ s.cursor.row * z.width + z.width = row_start z s.cursor in
-      let start : p.row * z.width ≡ s.cursor.row * z.width = ap (λ (n : ℕ). n * z.width) row in
-      ap (λ (o : Option Cell). record (watched z p s) { cell = unwrap_or o (blank_cell 0x07) })
-      (filled_within s.screen (index z s.cursor) (next_row_start z s.cursor) (blank_cell s.attribute) (index z p)
-      (omega (arith, start)) (omega (arith, start, ends, on.1)) row_fits)
+  erased_there row from = ap (with_cell z p s) (erased_cell z s fits p on row from)
 
-  -- the cell elsewhere
-  kept_cell : ¬ ((p.row ≡ s.cursor.row) × (s.cursor.column ≤ p.column))
-      → cell_at z (step z s EraseLine).screen p ≡ cell_at z s.screen p
-  kept_cell outside =
-      let ends : next_row_start z s.cursor ≡ s.cursor.row * z.width + z.width = row_start z s.cursor in
-      let begins : index z s.cursor ≤ next_row_start z s.cursor = index-le_row_end z s.cursor fits.cursor in
-      elim (cases_lt (index z p) (index z s.cursor)) [
-        | inl less ↦ filled_before s.screen (index z s.cursor) (next_row_start z s.cursor) (blank_cell s.attribute)
-            (index z p) begins row_fits less
-        | inr more ↦ elim (cases_lt s.cursor.row p.row) [
-          | inl below ↦ filled_after s.screen (index z s.cursor) (next_row_start z s.cursor) (blank_cell s.attribute)
-              (index z p) begins (omega (arith, ends, row_le z s.cursor.row p.row below)) row_fits
-          | inr above ↦ elim (cases_lt p.row s.cursor.row) [
-            | inl higher ↦ absurd (omega (arith, index-lt_row z p s.cursor on.1 higher))
-            | inr same ↦
-                let row : p.row ≡ s.cursor.row = omega arith in
-                let start : p.row * z.width ≡ s.cursor.row * z.width = ap (λ (n : ℕ). n * z.width) row in
-                absurd (outside (row, omega (arith, start)))
-          ]
-        ]
-      ]
-
+  -- and elsewhere
   pub erased_elsewhere : ¬ ((p.row ≡ s.cursor.row) × (s.cursor.column ≤ p.column))
       → watched z p (step z s EraseLine) ≡ watched z p s
-  erased_elsewhere outside =
-      ap (λ (o : Option Cell). record (watched z p s) { cell = unwrap_or o (blank_cell 0x07) }) (kept_cell outside)
+  erased_elsewhere outside = ap (with_cell z p s) (cell_beside_erased z s fits p on outside)

@@ -31,21 +31,22 @@ front_more text piece end w k within fits =
     (drop_at (take end text) (piece ++ rest) end size)
     ∙ ap (λ (b : List ℕ). take end text ++ b) (take-append-le k piece rest fits)
 
-shown_more : (bytes : List ℕ) (i d : ℕ) → i < length bytes
-    → shown_bytes (take (i + 1) bytes) ≡ shown_bytes (take i bytes) ++ byte_text (get_or bytes i d)
-shown_more bytes i d lt =
+-- one text more, where a text is written of each byte
+pub text_more : (f : ℕ → List ℕ) (text piece bytes : List ℕ) (end w k i d : ℕ) → end ≤ length text
+    → k ≤ length piece → take end text ≡ flat_map f (take i bytes) → i < length bytes
+    → take k piece ≡ f (get_or bytes i d) → take (end + k) (put_mid end w text piece) ≡ flat_map f (take (i + 1) bytes)
+text_more f text piece bytes end w k i d within fits before lt spelled =
     let b = get_or bytes i d in
-    shown_bytes_is (take (i + 1) bytes) ∙ ap (flat_map byte_text) (take_more bytes i d lt)
-    ∙ flat_map-append byte_text (take i bytes) (b ∷ [])
-    ∙ ap₂ (λ (x y : List ℕ). x ++ y) (sym (shown_bytes_is (take i bytes))) (append-nil (byte_text b))
+    front_more text piece end w k within fits ∙ ap₂ (λ (x y : List ℕ). x ++ y) before (spelled ∙ sym (append-nil (f b)))
+    ∙ sym (flat_map-append f (take i bytes) (b ∷ [])) ∙ ap (flat_map f) (sym (take_more bytes i d lt))
 
 -- one character more
 pub character_more : (text piece bytes : List ℕ) (end w k i d : ℕ) → end ≤ length text → k ≤ length piece
     → take end text ≡ shown_bytes (take i bytes) → i < length bytes → take k piece ≡ byte_text (get_or bytes i d)
     → take (end + k) (put_mid end w text piece) ≡ shown_bytes (take (i + 1) bytes)
 character_more text piece bytes end w k i d within fits before lt spelled =
-    front_more text piece end w k within fits ∙ ap₂ (λ (a b : List ℕ). a ++ b) before spelled
-    ∙ sym (shown_more bytes i d lt)
+    text_more byte_text text piece bytes end w k i d within fits (before ∙ shown_bytes_is (take i bytes)) lt spelled
+    ∙ sym (shown_bytes_is (take (i + 1) bytes))
 
 -- one pair more
 zip2_more : (xs ys : List ℕ) (i d e : ℕ) → i < length xs → i < length ys
@@ -94,7 +95,7 @@ cell_more text high low bytes attributes i v w d e lt lt' room is_high is_low be
     (ap₂ (λ (x y : List ℕ). take 2 x ++ take 2 y) is_high is_low) ∙ sym more
 
 -- cells by their bytes and their attributes
-cells_zipped : (cells : List Cell)
+pub cells_zipped : (cells : List Cell)
     → zip2 cell (map (λ (c : Cell). c.byte) cells) (map (λ (c : Cell). c.attribute) cells) ≡ cells
 cells_zipped [] = refl
 cells_zipped (c ∷ cells) = ap (λ (cs : List Cell). c ∷ cs) (cells_zipped cells)

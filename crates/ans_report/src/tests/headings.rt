@@ -1,6 +1,6 @@
 //! The lines of a report before its verdict, class by class.
 use crate::heading::put_heading;
-use crate::tests::{SOME_KNOWN, expect_written, parts_of};
+use crate::tests::{SOME_KNOWN, parts_of};
 use ans_model::start::Start;
 use ans_samples::sample_file;
 use ans_write::Outbox;

@@ -1,5 +1,4 @@
 //! The line that is said where there is no answer.
-use crate::tests::expect_written;
 use crate::write_message;
 
 /// Texts, and the lines that say them.

@@ -1,5 +1,5 @@
 //! What is written of contents' needs.
-use crate::tests::{SOME_KNOWN, expect_written, parts_of};
+use crate::tests::{SOME_KNOWN, parts_of};
 use crate::{Needs, write_needs};
 use ans_model::start::Start;
 use ans_samples::sample_file;

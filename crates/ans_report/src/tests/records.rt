@@ -1,5 +1,5 @@
 //! A record, as it is written.
-use crate::tests::{expect_written, parts_of};
+use crate::tests::parts_of;
 use crate::write_record;
 use ans_samples::records::Edits;
 use ans_samples::sample_file;

@@ -1,7 +1,6 @@
 //! The tokens of contents, as they are written.
 ghost use Rattle.std.specs.Prelude.{◌≤◌};
 
-use crate::tests::{expect_stopped, expect_written};
 use crate::{Tried, write_tokens};
 use ans_sauce::{Cause, Fault, MAX_FILE};
 use std::io::{self, Write};

@@ -1,5 +1,5 @@
 //! Reports on files, as they are written.
-use crate::tests::{expect_written, parts_of};
+use crate::tests::parts_of;
 use crate::{Report, Tried, WriteFault, write_refusal, write_report};
 use ans_model::start::Start;
 use ans_play::{Picture, Player};

@@ -2,7 +2,7 @@ use Rattle.std.proofs.Common.{rules, arith, ◌≡◌, ◌<◌, [], true, sym, a
 use Rattle.ans_model.specs.Text.ReportText.{rows_of}
 use Rattle.ans_write.specs.Puts.{device_failed}
 use Rattle.ans_report.specs.Rows.{line_text}
-use Rattle.ans_report.proofs.PictureRows.{row_at, within_rows, all_rows}
+use Rattle.ans_play.proofs.PictureRows.{row_at, within_rows, all_rows}
 use Rattle.ans_write.proofs.PutsLemmas.{Puts-nothing, Puts-same, Puts-next, Puts-all}
 use Rattle.ans_report.proofs.picture_text.put_rows.Goals as goal
 

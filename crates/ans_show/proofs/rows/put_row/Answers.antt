@@ -7,7 +7,7 @@ use Rattle.ans_play.specs.Shown.{cells_of_row}
 use Rattle.ans_write.proofs.PutsLemmas.{Puts-same, Puts-then}
 use Rattle.ans_show.specs.Forms.{run_in}
 use Rattle.ans_show.specs.Runs.{runs}
-use Rattle.ans_show.proofs.RunLemmas.{cells_zipped}
+use Rattle.ans_write.proofs.RowTexts.{cells_zipped}
 use Rattle.ans_show.proofs.rows.put_row.Goals as goal
 
 pub returns : goal.returns

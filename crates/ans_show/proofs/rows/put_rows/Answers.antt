@@ -3,7 +3,7 @@ use Rattle.ans_model.specs.Text.ReportText.{rows_of}
 use Rattle.ans_write.specs.Puts.{device_failed}
 use Rattle.ans_write.proofs.PutsLemmas.{Puts-nothing, Puts-same, Puts-next, Puts-all}
 use Rattle.ans_show.specs.Forms.{line_in}
-use Rattle.ans_show.proofs.PictureRows.{row_at, within_rows, all_rows}
+use Rattle.ans_play.proofs.PictureRows.{row_at, within_rows, all_rows}
 use Rattle.ans_show.proofs.rows.put_rows.Goals as goal
 
 pub loop-row-init : goal.loop-row-init

@@ -1,7 +1,7 @@
 use Rattle.std.proofs.Common.{arith, ◌≡◌, ◌≤◌, ◌<◌, length, get_or, take, ap, ◌∙◌}
 use Rattle.std.proofs.lemmas.List.{length-take, length-drop}
 use Rattle.ans_show.specs.PageText.{page_character}
-use Rattle.ans_show.proofs.PageRows.{character_more}
+use Rattle.ans_write.proofs.RowTexts.{text_more}
 use Rattle.ans_show.proofs.page_table.PageTable.write_characters.Goals as goal
 
 pub loop-byte-preserved : goal.loop-byte-preserved
@@ -20,6 +20,6 @@ loop-byte-preserved c =
     let eight : length piece ≡ 8 = c.copy_from_slice.ensures.len ∙ simp (length-take, length-drop) (omega arith) in
     record {
       within = omega arith;
-      so_far = character_more c.loop-byte.text piece c.args.bytes.now c.loop-byte.end _ character.count i 0
+      so_far = text_more page_character c.loop-byte.text piece c.args.bytes.now c.loop-byte.end _ character.count i 0
           (omega arith) (omega arith) h.so_far c.loop-byte-test.true spelled;
     }

@@ -1,0 +1,53 @@
+-- What stands in a file where its record or its layout is refused.
+use Rattle.std.specs.Prelude.{◌≡◌, ◌⊎◌, ℕ, ◌+◌, ◌-◌, ◌≤◌, ◌↔◌, IsTrue, List, length, take, drop, codes, Option, Some, None}
+use Rattle.memchr.specs.Find.{OccursAt, IsLast}
+use Rattle.ans_model.specs.declared.fault.Cause.{Cause}
+use Rattle.ans_model.specs.declared.fault.Cause.TheVariants.{NoRecord, WrongVersion, WrongKind, CommentsMissing}
+use Rattle.ans_model.specs.declared.fault.Cause.TheVariants.{LinesUnstated, WidthTooLarge, LinesTooLarge}
+use Rattle.ans_model.specs.declared.fault.Cause.TheVariants.{BytesAfterEndMark}
+use Rattle.ans_model.specs.File.Record.{version_field, data_type, file_type, tinfo, comment_count}
+use Rattle.ans_model.specs.File.Layout.{after_content}
+use Rattle.ans_model.specs.File.Refusals.{block_size}
+use Rattle.ans_sauce.specs.declared.found.Found.{Found}
+use Rattle.ans_sauce.specs.declared.found.Found.TheVariants as found
+
+-- `SAUCE00` and 121 more bytes stand here
+pub record IsRecordAt (bytes : List ℕ) (place : ℕ) : Type 0 where
+  pub id : OccursAt bytes (codes "SAUCE00") place
+  pub whole : place + 128 ≤ length bytes
+
+-- the last place of a record of version 00, where there is one
+abbrev pub IsLastRecord : List ℕ → Option ℕ → Type 0
+IsLastRecord bytes place = IsLast (IsRecordAt bytes) 0 (length bytes) place
+
+-- somewhere a record of version 00 stands
+abbrev pub HasRecord : List ℕ → Type 0
+HasRecord bytes = (place : ℕ) × IsRecordAt bytes place
+
+-- the file's last 128 bytes, and those before them
+abbrev pub record_in : List ℕ → List ℕ
+record_in file = drop (length file - 128) file
+
+abbrev pub front_in : List ℕ → List ℕ
+front_in file = take (length file - 128) file
+
+-- what follows the first end mark, up to the comment block
+abbrev pub after_end_mark : List ℕ → List ℕ
+after_end_mark file =
+    drop 1 (after_content (take (length (front_in file) - block_size (comment_count (record_in file))) (front_in file)))
+
+-- this is found in the file where it is refused for the cause
+abbrev pub IsFound : List ℕ → Found → Cause → Type 0
+IsFound file found.NoRecord cause = (cause ≡ NoRecord) × IsLastRecord file None
+IsFound file (found.Record offset behind) cause =
+    (cause ≡ NoRecord) × IsLastRecord file (Some offset) × (offset + 128 + behind ≡ length file)
+IsFound file (found.Version bytes) cause = (cause ≡ WrongVersion) × (bytes.now ≡ version_field (record_in file))
+IsFound file (found.Kind kind subkind) cause =
+    (cause ≡ WrongKind) × (kind ≡ data_type (record_in file)) × (subkind ≡ file_type (record_in file))
+IsFound file (found.Comments count) cause = (cause ≡ CommentsMissing) × (count ≡ comment_count (record_in file))
+IsFound file (found.Width width) cause = (cause ≡ WidthTooLarge) × (width ≡ tinfo 1 (record_in file))
+IsFound file (found.Lines lines) cause =
+    ((cause ≡ LinesUnstated) ⊎ (cause ≡ LinesTooLarge)) × (lines ≡ tinfo 2 (record_in file))
+IsFound file (found.AfterEndMark count has_record) cause =
+    (cause ≡ BytesAfterEndMark) × (count ≡ length (after_end_mark file))
+    × (IsTrue has_record ↔ HasRecord (after_end_mark file))

@@ -1,0 +1,102 @@
+//! What stands in a file where its record or its layout is refused.
+ghost use Rattle.std.specs.Prelude.{◌≡◌, ℕ, List, Some};
+ghost use Rattle.ans_model.specs.File.Refusals.{record_fault};
+ghost use Rattle.ans_model.specs.declared.fault.Cause.TheVariants.{NoRecord, BytesAfterEndMark};
+ghost use Rattle.ans_sauce.specs.RecordBytes.{bytes_of};
+ghost use Rattle.ans_sauce.specs.Split.{EndsInRecord};
+ghost use Rattle.ans_sauce.specs.Found.{IsFound, IsLastRecord, after_end_mark};
+
+use crate::layout::{block_size, cut_content, cut_record};
+use crate::record::Record;
+use ans_model::fault::{Cause, Fault};
+use memchr::memmem;
+
+/// What stands in a file where its record or its layout is refused: the field's value, and for F1 and
+/// F8 whether a record of version 00 stands where it does not count.
+#[derive(Debug, Clone, Copy, PartialEq, Eq)]
+pub enum Found<'a> {
+    /// F1: no record stands anywhere.
+    NoRecord,
+    /// F1: the last record, by its offset in the file, and how many bytes stand behind it.
+    Record { offset: usize, behind: usize },
+    /// F2: the version's two bytes.
+    Version(&'a [u8]),
+    /// F3: DataType and FileType.
+    Kind { data_type: u8, file_type: u8 },
+    /// F4: how many comments are counted.
+    Comments(u8),
+    /// F6: TInfo1.
+    Width(u16),
+    /// F5 and F7: TInfo2.
+    Lines(u16),
+    /// F8: how many bytes stand between the first end mark and the comment block or the record, and
+    /// whether a record stands among them.
+    AfterEndMark { count: usize, record: bool },
+}
+
+/// The last place at which `SAUCE00` and 121 more bytes stand.
+fn last_record_place(bytes: &[u8]) -> Option<usize>
+    ensures { IsLastRecord bytes.now result }
+{
+    let end = bytes.len().checked_sub(121)?;
+    memmem::rfind(&bytes[..end], b"SAUCE00")
+}
+
+/// F1
+fn found_before_the_end(file: &[u8]) -> Found<'_>
+    ensures { IsFound file.now result NoRecord }
+{
+    match last_record_place(file) {
+        None => Found::NoRecord,
+        Some(offset) => Found::Record {
+            offset,
+            behind: file.len() - offset - 128,
+        },
+    }
+}
+
+/// What follows the first end mark, up to the comment block.
+fn after_end_mark<'a>(front: &'a [u8], sauce: &Record<'_>) -> &'a [u8]
+    ensures { (file : List ℕ) → EndsInRecord file front.now (bytes_of sauce.now)
+        → result.now ≡ after_end_mark file }
+{
+    let block = block_size(sauce.comment_count());
+    let (_, rest) = cut_content(&front[..front.len().saturating_sub(block)]);
+    match rest {
+        [_, after @ ..] => after,
+        [] => rest,
+    }
+}
+
+/// F8, of what follows the first end mark.
+fn found_after(after: &[u8]) -> Found<'static>
+    ensures { (file : List ℕ) → after.now ≡ after_end_mark file
+        → IsFound file result BytesAfterEndMark }
+{
+    Found::AfterEndMark {
+        count: after.len(),
+        record: last_record_place(after).is_some(),
+    }
+}
+
+/// What stands in a file that is refused for its record or its layout, F1 to F8, where something
+/// else should stand. It takes no memory.
+pub fn find(file: &[u8], fault: Fault) -> Found<'_>
+    requires { record_fault file.now ≡ Some fault }
+    ensures { IsFound file.now result fault.cause }
+{
+    let Some((front, sauce)) = cut_record(file) else {
+        return found_before_the_end(file);
+    };
+    match fault.cause {
+        Cause::WrongVersion => Found::Version(sauce.version()),
+        Cause::WrongKind => Found::Kind {
+            data_type: sauce.data_type(),
+            file_type: sauce.file_type(),
+        },
+        Cause::CommentsMissing => Found::Comments(sauce.comment_count()),
+        Cause::LinesUnstated | Cause::LinesTooLarge => Found::Lines(sauce.tinfo(2)),
+        Cause::WidthTooLarge => Found::Width(sauce.tinfo(1)),
+        _ => found_after(after_end_mark(front, &sauce)),
+    }
+}
