@@ -9,3 +9,5 @@ pub mod WholeSequences
 pub mod TextFront
 pub mod Declines
 pub mod Scanning
+pub mod PiecesRead
+pub mod TakenSoFar

@@ -124,7 +124,7 @@ scanned_read offset bytes s tokens h ends =
 
 -- ---- what has a reading
 -- of bytes that are read, what stands after tokens is read too
-rest_read : (ts us : List TokenKind) (xs zs : List (List ℕ)) (y : List ℕ) → AllZip SpellsToken ts xs
+pub rest_read : (ts us : List TokenKind) (xs zs : List (List ℕ)) (y : List ℕ) → AllZip SpellsToken ts xs
     → AllZip SpellsToken us zs → concat xs ++ y ≡ concat zs
     → (vs : List TokenKind) × (us ≡ ts ++ vs) × Reads y vs
 rest_read [] us [] zs y h g e = (us, refl, (zs, record { each = g; whole = e }))
@@ -157,7 +157,7 @@ read_on offset bytes rest s tokens us h (zs, g) =
     let r = rest_read (kinds_of tokens) us texts zs (h.open_part ++ rest) h.reads.each g.each whole in
     record { rest = r.0; more = r.1; reads = r.2 }
 
-none_left : (rest : List TokenKind) → Reads [] rest → rest ≡ []
+pub none_left : (rest : List TokenKind) → Reads [] rest → rest ≡ []
 none_left [] h = refl
 none_left (t ∷ rest) ([], h) = absurd h.each
 none_left (t ∷ rest) (x ∷ xs, h) = absurd (token_nonempty t x (concat xs) h.each.0 (sym h.whole))

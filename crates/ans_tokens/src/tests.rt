@@ -1,5 +1,6 @@
 //! Contents byte by byte: the tokens that they hold, and where they are refused.
 
+mod pieces;
 mod sequences;
 mod whole_tokens;
 
