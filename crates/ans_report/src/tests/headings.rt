@@ -3,6 +3,7 @@ use crate::heading::put_heading;
 use crate::tests::{SOME_KNOWN, parts_of};
 use ans_model::start::Start;
 use ans_samples::sample_file;
+use ans_trials::expect_written;
 use ans_write::Outbox;
 use std::process::Abort;
 use std::test::Fail;

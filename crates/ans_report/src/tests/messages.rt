@@ -1,5 +1,6 @@
 //! The line that is said where there is no answer.
 use crate::write_message;
+use ans_trials::expect_written;
 
 /// Texts, and the lines that say them.
 static LINES: [(&str, &[u8]); 4] = [

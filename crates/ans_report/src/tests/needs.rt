@@ -4,6 +4,7 @@ use crate::{Needs, write_needs};
 use ans_model::start::Start;
 use ans_samples::sample_file;
 use ans_sauce::{Cause, Fault, Parts};
+use ans_trials::expect_written;
 use std::process::Abort;
 use std::test::Fail;
 

@@ -3,6 +3,7 @@ use crate::tests::parts_of;
 use crate::write_record;
 use ans_samples::records::Edits;
 use ans_samples::sample_file;
+use ans_trials::expect_written;
 use std::test::Fail;
 
 /// The fields that are changed, and the text of the record, behind `Hi`, an end mark and one comment.

@@ -3,6 +3,7 @@ ghost use Rattle.std.specs.Prelude.{◌≤◌};
 
 use crate::{Tried, write_tokens};
 use ans_sauce::{Cause, Fault, MAX_FILE};
+use ans_trials::{expect_stopped, expect_written};
 use std::io::{self, Write};
 use std::process::Abort;
 use std::test::Fail;

@@ -6,6 +6,7 @@ use ans_play::{Picture, Player};
 use ans_samples::{sample_file, start};
 use ans_sauce::{Cause, Fault, MAX_FILE, Parts};
 use ans_screen::PlainGrid;
+use ans_trials::expect_written;
 use std::io::Write;
 use std::process::Abort;
 use std::test::Fail;
