@@ -4,6 +4,8 @@
 //! spell it, nothing where they begin a spelling, and a fault where they begin none. Between two
 //! tokens it also takes a run of glyphs or a whole token from a slice.
 //!
+//! [`Pieces`] goes over a whole content, glyphs in a row at once and else token by token.
+//!
 //! Other functions are for a caller that plays as it reads and makes no token. [`count_glyphs`]
 //! counts a run. [`read_sequence`] reads a sequence's numbers and letter, and [`distance`],
 //! [`place`] and [`is_just`] read in the numbers what the letter takes. [`Scanner::skip`] then goes

@@ -8,7 +8,6 @@ pub mod WatchedCells
 pub mod WatchedSteps
 pub mod CleanSteps
 pub mod TabBlanks
-pub mod ReadAll
 pub mod WatchedSoFar
 pub mod BeforeFault
 pub mod NamedCells

@@ -1,6 +1,6 @@
 -- What the plays from the low and the high start show of a fault: where their cursors stand before its token, and the
 -- cell in which they differ.
-use Rattle.std.specs.Prelude.{◌≡◌, ◌⊎◌, ℕ, ◌+◌, ◌<◌, Bool, true, false, ◌==◌, List, [], ◌∷◌, ◌++◌, length, Option}
+use Rattle.std.specs.Prelude.{◌≡◌, ◌⊎◌, ℕ, ◌+◌, Bool, true, false, ◌==◌, List, [], ◌∷◌, ◌++◌, length, Option}
 use Rattle.std.specs.Prelude.{None, Some, ⊤}
 use Rattle.ans_model.specs.Sequence.TokenKind.{TokenKind}
 use Rattle.ans_model.specs.Sequence.Reads.{Reads}
@@ -15,11 +15,6 @@ use Rattle.ans_model.specs.Verdict.TokenFault.{HasTabFault, then_blanks}
 use Rattle.ans_model.specs.Verdict.FirstFault.{IsFirstFault}
 use Rattle.ans_model.specs.Verdict.LastFault.{IsLastFault}
 use Rattle.ans_model.specs.Verdict.TwoStarts.{low_final, high_final}
-use Rattle.ans_tokens.specs.ScannerView.{ScannerView}
-use Rattle.ans_tokens.specs.Glyphs.{IsGlyphFront, IsBetweenTokens, scanner_after}
-use Rattle.ans_tokens.specs.WholeToken.{TakesToken}
-use Rattle.ans_why.specs.declared.evidence.Front.{Front}
-use Rattle.ans_why.specs.declared.evidence.Front.TheVariants.{Glyphs, Whole, Nothing}
 
 -- the content has this fault, as its first or as its last
 abbrev pub IsDeserved : Size → Start → List ℕ → Fault → Type 0
@@ -71,10 +66,3 @@ ShowsNamed z class content (UnknownCell row column) (Some (low, high)) = ShowsCe
 ShowsNamed z class content (UnknownCell row column) None = ⊥
 ShowsNamed z class content _ (Some cells) = ⊥
 ShowsNamed z class content _ None = ⊤
-
--- What a scanner took of the bytes at once: glyphs or a token between two tokens, or nothing.
-abbrev pub TakesFront : ScannerView → List ℕ → ScannerView → Front → Type 0
-TakesFront old bytes new (Glyphs count) =
-    IsBetweenTokens old × (0 < count) × IsGlyphFront bytes count × (new ≡ scanner_after old count)
-TakesFront old bytes new (Whole token) = IsBetweenTokens old × TakesToken old bytes new token
-TakesFront old bytes new Nothing = new ≡ old

@@ -3,7 +3,7 @@
 //! They are played over the tokens before the fault, none of which scrolls. So of each play one cell
 //! is enough, and no memory is taken.
 
-ghost use Rattle.std.specs.Prelude.{◌≡◌, ◌+◌, ◌≤◌, ℕ, List, length};
+ghost use Rattle.std.specs.Prelude.{◌≡◌, ◌≤◌, ℕ, List, length};
 ghost use Rattle.ans_model.specs.Bytes.{longest_file};
 ghost use Rattle.ans_model.specs.File.Refusals.{fault_at};
 ghost use Rattle.ans_model.specs.Sequence.TokenKind.{TokenKind};
@@ -13,42 +13,14 @@ ghost use Rattle.ans_model.specs.declared.fault.Cause.TheVariants.{UnknownCell};
 ghost use Rattle.ans_model.specs.Verdict.TokenFault.{IsClean};
 ghost use Rattle.ans_model.specs.Verdict.LastFault.{IsLastFault};
 ghost use Rattle.ans_why.specs.Watched.{AreWatched, BothStandOn};
-ghost use Rattle.ans_why.specs.Evidence.{IsDeserved, ShowsCursors, ShowsCells, ShowsNamed, TakesFront, begins_with_tab};
+ghost use Rattle.ans_why.specs.Evidence.{IsDeserved, ShowsCursors, ShowsCells, ShowsNamed, begins_with_tab};
 
 use crate::two_watches::TwoWatches;
 use ans_model::cell::{Cell, Position};
 use ans_model::fault::{Cause, Fault};
 use ans_model::size::Size;
 use ans_model::start::Start;
-use ans_tokens::{Scanner, Token};
-
-/// What a scanner takes at once.
-enum Front {
-    /// This many glyphs, at least one.
-    Glyphs(usize),
-    /// A whole token of a common form.
-    Whole(Token),
-    /// Nothing: the next byte is to be taken alone.
-    Nothing,
-}
-
-/// Takes the glyphs or the token that the bytes begin with, where the scanner stands between two tokens.
-fn take_front(scanner: &mut Scanner, bytes: &[u8]) -> Front
-    requires { scanner.old.offset + length bytes.now ≤ longest_file }
-    ensures { TakesFront scanner.old bytes.now scanner.new result }
-{
-    if !scanner.is_between_tokens() {
-        return Front::Nothing;
-    }
-    let count = scanner.glyphs(bytes);
-    if count > 0 {
-        return Front::Glyphs(count);
-    }
-    match scanner.token(bytes) {
-        Some(token) => Front::Whole(token),
-        None => Front::Nothing,
-    }
-}
+use ans_tokens::Pieces;
 
 /// The two plays after bytes that are read as clean tokens.
 fn watch_tokens(size: Size, start: Start, at: Position, bytes: &[u8]) -> TwoWatches
@@ -58,30 +30,15 @@ fn watch_tokens(size: Size, start: Start, at: Position, bytes: &[u8]) -> TwoWatc
     ensures watched { (tokens : List TokenKind) → Reads bytes.now tokens → IsClean size start tokens
         → AreWatched size start at tokens result }
 {
-    let mut scanner = Scanner::new();
+    let mut pieces = Pieces::new(bytes);
     let mut watches = TwoWatches::new(size, start, at);
-    let mut read = 0;
-    while read < bytes.len() {
-        match take_front(&mut scanner, &bytes[read..]) {
-            Front::Glyphs(count) => {
-                watches.glyphs(size, at, &bytes[read..read + count]);
-                read += count;
-            }
-            Front::Whole(token) => {
-                watches.step(size, at, token.kind());
-                read += token.length();
-            }
-            Front::Nothing => match scanner.byte(bytes[read]) {
-                Ok(None) => read += 1,
-                Ok(Some(token)) => {
-                    watches.step(size, at, token.kind());
-                    read += 1;
-                }
-                Err(_) => return watches,
-            },
+    'pieces: loop {
+        match pieces.next() {
+            Ok(Some(piece)) => watches.piece(size, at, &piece),
+            Ok(None) => return watches,
+            Err(_) => return watches,
         }
     }
-    watches
 }
 
 fn begins_with_tab(bytes: &[u8]) -> bool

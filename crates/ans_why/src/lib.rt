@@ -2,7 +2,8 @@
 //!
 //! Each law is the contract of a function without a body. Of a fault that is deserved,
 //! [`cursors_before`] and [`cells_of_fault`] give what the plays from the low and the high start of
-//! a class show.
+//! a class show. A [`Watch`] is a play of which one cell is kept, and [`TwoWatches`] are those of the
+//! two starts.
 #![tactic(auto)]
 
 mod evidence;
@@ -11,6 +12,8 @@ mod two_watches;
 mod watch;
 
 pub use evidence::{cells_of_fault, cursors_before};
+pub use two_watches::TwoWatches;
+pub use watch::Watch;
 
 #[cfg(test)]
 mod tests;

@@ -7,6 +7,7 @@ ghost use Rattle.ans_model.specs.Inside.ShownKind.{shown_kind};
 ghost use Rattle.ans_model.specs.declared.fault.Cause.{Cause};
 ghost use Rattle.ans_model.specs.declared.start.Start.{Start};
 ghost use Rattle.ans_model.specs.Verdict.TokenFault.{IsClean, HasTabFault, then_blanks};
+ghost use Rattle.ans_tokens.specs.Pieces.{kinds_of_piece};
 ghost use Rattle.ans_why.specs.Watched.{AreWatched, BothStandOn};
 
 use crate::watch::Watch;
@@ -15,6 +16,7 @@ use ans_model::kind::Kind;
 use ans_model::size::Size;
 use ans_model::start::Start;
 use ans_model::tab::tab_blanks;
+use ans_tokens::Piece;
 
 /// The watches of the two plays.
 #[derive(Debug, Clone, Copy)]
@@ -62,6 +64,22 @@ impl TwoWatches {
     {
         for byte in bytes {
             self.step(size, at, &Kind::Glyph(*byte));
+        }
+    }
+
+    /// A piece of a content in both plays.
+    pub fn piece(&mut self, size: Size, at: Position, piece: &Piece<'_>)
+        requires at { IsOnScreen size at }
+        requires stand { BothStandOn size self.old }
+        ensures stand { BothStandOn size self.new }
+        ensures watched { (class : Start) (tokens : List TokenKind)
+            → IsClean size class (tokens ++ kinds_of_piece piece.now)
+            → AreWatched size class at tokens self.old
+            → AreWatched size class at (tokens ++ kinds_of_piece piece.now) self.new }
+    {
+        match piece {
+            Piece::Glyphs(text) => self.glyphs(size, at, text),
+            Piece::Token(token) => self.step(size, at, token.kind()),
         }
     }
 

@@ -2,7 +2,7 @@
 
 ghost use Rattle.std.specs.Prelude.{◌≡◌, ◌<◌};
 ghost use Rattle.ans_model.specs.Screen.State.{State, FitsScreen, IsOnScreen};
-ghost use Rattle.ans_model.specs.Screen.StartClass.{start_with, low_start, high_start};
+ghost use Rattle.ans_model.specs.Screen.StartClass.{start_with, low_start, high_start, cleared};
 ghost use Rattle.ans_model.specs.Screen.Step.{blank_cell, printed, advanced, line_feed, step};
 ghost use Rattle.ans_model.specs.Sequence.TokenKind.{Glyph, LineFeed, Clear, EraseLine, Tab};
 ghost use Rattle.ans_model.specs.Inside.ShownKind.{shown_kind};
@@ -92,6 +92,15 @@ impl Watch {
             column: size.width() - 1,
         };
         Watch::from_class(size, start, at, 0xFF, last, true)
+    }
+
+    /// The watch of the cleared screen.
+    pub fn cleared(size: Size, at: Position) -> Watch
+        requires at { IsOnScreen size at }
+        ensures watch { result ≡ watched size at (cleared size) }
+        ensures stands { StandsOn size result }
+    {
+        Watch::low(size, Start::CLEARED, at)
     }
 
     /// A blank of the current attribute.

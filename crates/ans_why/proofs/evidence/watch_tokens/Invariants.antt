@@ -1,16 +1,18 @@
-use Rattle.std.proofs.Common.{◌≡◌, ◌≤◌, ◌-◌, length, take}
+use Rattle.std.proofs.Common.{List, length}
+use Rattle.ans_model.specs.Sequence.TokenKind.{TokenKind}
+use Rattle.ans_model.specs.Sequence.Reads.{Reads}
+use Rattle.ans_model.specs.Verdict.TokenFault.{IsClean}
 use Rattle.ans_why.specs.Watched.{BothStandOn}
 use Rattle.ans_why.proofs.WatchedSoFar.{WatchedSoFar}
 use Rattle.ans_why.proofs.evidence.watch_tokens.Given as goal
 
--- the bytes so far are read, and their tokens are played
-abbrev pub invariant-loop-read : goal.invariant-loop-read
-invariant-loop-read l = record {
-  within : l.read ≤ length l.bytes;
-  offset : l.scanner.offset ≡ l.read;
+-- the pieces so far are played
+abbrev pub invariant-pieces : goal.invariant-pieces
+invariant-pieces l = record {
   stand : BothStandOn l.size l.watches;
-  so_far : WatchedSoFar l.size l.fn.start l.at (take l.read l.bytes) l.scanner l.watches;
+  so_far : (tokens : List TokenKind) → Reads l.fn.bytes tokens → IsClean l.size l.fn.start tokens
+      → WatchedSoFar l.size l.fn.start l.at l.pieces.rest tokens l.watches;
 }
 
-abbrev pub decreases-loop-read : goal.decreases-loop-read
-decreases-loop-read l = length l.bytes - l.read
+abbrev pub decreases-pieces : goal.decreases-pieces
+decreases-pieces l = length l.pieces.rest
