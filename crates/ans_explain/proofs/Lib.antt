@@ -1,1 +1,2 @@
 pub mod BlamedLemmas
+pub mod WhyLines

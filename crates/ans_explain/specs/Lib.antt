@@ -1,1 +1,3 @@
 pub mod Blamed
+pub mod Explained
+pub mod WhyText

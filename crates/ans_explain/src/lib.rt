@@ -2,5 +2,9 @@
 #![tactic(auto)]
 
 mod blamed;
+mod why;
+mod why_text;
 
 pub use blamed::bytes_to_blame;
+pub use why::{Pass, Refusal, Reliance, Shown, Why};
+pub use why_text::write_why;

@@ -53,7 +53,8 @@ fn put_position<W: Write>(out: &mut Outbox<'_, W>, cause: &Cause)
     out.put(b")");
 }
 
-pub(crate) fn put_fault_line<W: Write>(out: &mut Outbox<'_, W>, fault: &Fault)
+/// Puts the line of a fault: its offset, its text, and for F25 the row and the column, from 1.
+pub fn put_fault_line<W: Write>(out: &mut Outbox<'_, W>, fault: &Fault)
     ensures { Puts W.contents out.old out.new (fault_line fault.now) }
 {
     out.put(b"at ");
@@ -64,7 +65,8 @@ pub(crate) fn put_fault_line<W: Write>(out: &mut Outbox<'_, W>, fault: &Fault)
     out.put(b"\n");
 }
 
-pub(crate) fn put_refusal<W: Write>(out: &mut Outbox<'_, W>, fault: &Fault)
+/// Puts the two lines of a refusal: the verdict and the fault.
+pub fn put_refusal<W: Write>(out: &mut Outbox<'_, W>, fault: &Fault)
     ensures { Puts W.contents out.old out.new (refusal_text fault.now) }
 {
     out.put(b"verdict: refused\n");

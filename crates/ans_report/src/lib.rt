@@ -6,6 +6,8 @@
 //! `specs/ReportBytes.antt`, `specs/NeedsBytes.antt`, `specs/RecordLines.antt` and
 //! `specs/TokenLines.antt`.
 //!
+//! The text of `why` (`ans_explain`) is put by some of the same lines.
+//!
 //! The same contract holds of the line that says on standard error why there is no answer
 //! (`write_message`, `specs/Message.antt`).
 #![tactic(auto)]
@@ -22,10 +24,11 @@ mod report;
 mod tokens_text;
 
 pub use ans_write::{DeviceFault, Tried, WriteFault, glyph_text};
-pub use fault_lines::fault_text;
+pub use fault_lines::{fault_text, put_fault_line, put_refusal};
 pub use heading::note_text;
+pub use lines::{put_named_line, put_number_line, put_size_line};
 pub use message::write_message;
-pub use needs_text::{Needs, write_needs};
+pub use needs_text::{Needs, put_needed_parts, write_needs};
 pub use record_text::write_record;
 pub use report::{Report, write_refusal, write_report};
 pub use tokens_text::write_tokens;

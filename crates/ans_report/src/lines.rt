@@ -10,7 +10,8 @@ use ans_sauce::Parts;
 use ans_write::Outbox;
 use std::io::Write;
 
-pub(crate) fn put_named_line<W: Write>(out: &mut Outbox<'_, W>, name: &[u8], text: &[u8])
+/// Puts a name, a colon and a text, as a line.
+pub fn put_named_line<W: Write>(out: &mut Outbox<'_, W>, name: &[u8], text: &[u8])
     ensures { Puts W.contents out.old out.new (named_line name.now text.now) }
 {
     out.put(name);
@@ -19,7 +20,8 @@ pub(crate) fn put_named_line<W: Write>(out: &mut Outbox<'_, W>, name: &[u8], tex
     out.put(b"\n");
 }
 
-pub(crate) fn put_number_line<W: Write>(out: &mut Outbox<'_, W>, name: &[u8], number: u64)
+/// Puts a name, a colon and a number in decimal digits, as a line.
+pub fn put_number_line<W: Write>(out: &mut Outbox<'_, W>, name: &[u8], number: u64)
     ensures { Puts W.contents out.old out.new (named_line name.now (decimal number)) }
 {
     out.put(name);
@@ -28,7 +30,8 @@ pub(crate) fn put_number_line<W: Write>(out: &mut Outbox<'_, W>, name: &[u8], nu
     out.put(b"\n");
 }
 
-pub(crate) fn put_size_line<W: Write>(out: &mut Outbox<'_, W>, parts: &Parts<'_>)
+/// Puts the line of the stated size, in columns and lines.
+pub fn put_size_line<W: Write>(out: &mut Outbox<'_, W>, parts: &Parts<'_>)
     ensures { Puts W.contents out.old out.new
         (named_line (codes "size") (size_text (sized (width_of parts.now) (lines_of parts.now)))) }
 {

@@ -25,7 +25,8 @@ pub enum Needs<'a> {
     Refused(Option<Parts<'a>>, Fault),
 }
 
-fn put_needed_parts<W: Write>(out: &mut Outbox<'_, W>, class: Start)
+/// Puts the parts that a class knows, each after a blank, or ` nothing` where it knows none.
+pub fn put_needed_parts<W: Write>(out: &mut Outbox<'_, W>, class: Start)
     ensures { Puts W.contents out.old out.new (needed_parts class) }
 {
     if class == Start::any() {

@@ -1,0 +1,12 @@
+use Rattle.std.proofs.Common.{rules, ◌≡◌, decimal}
+use Rattle.ans_write.proofs.PutsLemmas.{Puts-same, Puts-then}
+use Rattle.ans_explain.proofs.WhyLines.{found_kind}
+use Rattle.ans_explain.proofs.why_text.put_kind_found.Goals as goal
+
+pub returns : goal.returns
+returns g c =
+    let kind : c.from.result ≡ c.args.data_type = search rules in
+    let subkind : c.from-2.result ≡ c.args.file_type = search rules in
+    Puts-same (found_kind (decimal c.args.data_type) (decimal c.args.file_type))
+    (Puts-then c.put.ensures (Puts-then (rw kind at c.put_decimal.ensures)
+    (Puts-then c.put-2.ensures (Puts-then (rw subkind at c.put_decimal-2.ensures) c.put-3.ensures))))

@@ -1,0 +1,119 @@
+-- What is said of a file is true of it.
+use Rattle.std.specs.Prelude.{◌≡◌, ◌≢◌, ◌⊎◌, ℕ, ◌+◌, ◌≤◌, ◌↔◌, Bool, ◌==◌, ◌%◌, IsTrue, List, length, take}
+use Rattle.std.specs.Prelude.{Option, Some, None, IfSome, IfNone}
+use Rattle.ans_model.specs.Bytes.{longest_file, most_lines}
+use Rattle.ans_model.specs.declared.cell.Position.{Position}
+use Rattle.ans_model.specs.declared.fault.Fault.{Fault}
+use Rattle.ans_model.specs.declared.fault.Cause.{Cause}
+use Rattle.ans_model.specs.declared.fault.Cause.TheVariants.{BrokenSequence, NumberTooLarge, TooManyParameters}
+use Rattle.ans_model.specs.declared.fault.Cause.TheVariants.{EndInSequence, UnknownSequence, WrongParameters}
+use Rattle.ans_model.specs.declared.fault.Cause.TheVariants.{OutsideScreen, PrintBelow, Scrolls}
+use Rattle.ans_model.specs.declared.start.Start.{Start}
+use Rattle.ans_model.specs.File.Record.{flags}
+use Rattle.ans_model.specs.File.Refusals.{record_fault}
+use Rattle.ans_model.specs.Sequence.TokenKind.{TokenKind}
+use Rattle.ans_model.specs.Sequence.Reads.{ReadsAs}
+use Rattle.ans_model.specs.Screen.State.{Size, sized}
+use Rattle.ans_model.specs.Screen.StartClass.{all_known, none_known}
+use Rattle.ans_model.specs.Verdict.Needs.{IsLeast}
+use Rattle.ans_sauce.specs.declared.parts.Parts.{Parts}
+use Rattle.ans_sauce.specs.Parts.{content_of, record_of, width_of, lines_of}
+use Rattle.ans_sauce.specs.Split.{IsSplit}
+use Rattle.ans_sauce.specs.Found.{IsFound}
+use Rattle.ans_why.specs.Evidence.{IsDeserved, ShowsCursors, ShowsNamed}
+use Rattle.ans_why.specs.Lines.{IsGoodOn, IsLeastLines}
+use Rattle.ans_why.specs.Taller.{IsTaller}
+use Rattle.ans_hints.specs.Hints.{AreHints}
+use Rattle.ans_hints.specs.declared.hints.Hints.{Hints}
+use Rattle.ans_explain.specs.Blamed.{AreToBlame}
+use Rattle.ans_explain.specs.declared.why.Why.{Why}
+use Rattle.ans_explain.specs.declared.why.Why.TheVariants.{NoContent, Refused, Passes}
+use Rattle.ans_explain.specs.declared.why.Pass.{Pass}
+use Rattle.ans_explain.specs.declared.why.Place.{Place}
+use Rattle.ans_explain.specs.declared.why.Refusal.{Refusal}
+use Rattle.ans_explain.specs.declared.why.Reliance.{Reliance}
+use Rattle.ans_explain.specs.declared.why.Shown.{Shown}
+use Rattle.ans_explain.specs.declared.why.Shown.TheVariants.{Cursors, Cells}
+
+-- the stated size
+abbrev pub size_of : Parts → Size
+size_of parts = sized (width_of parts) (lines_of parts)
+
+-- the non-blink flag: bit 0 of the flags
+abbrev pub non_blink : Parts → Bool
+non_blink parts = flags (record_of parts) % 2 == 1
+
+-- the place of a position: its row and its column, counted from 1
+abbrev pub place_of : Position → Place
+place_of p = record { row = p.row + 1; column = p.column + 1 }
+
+-- the places of the two cursors before the fault
+pub record ShowsPlaces (z : Size) (class : Start) (content : List ℕ) (fault : Fault) (low high : Place) : Type 0 where
+  pub low_position : Position
+  pub high_position : Position
+  pub shows : ShowsCursors z class content fault low_position high_position
+  pub low_is : low ≡ place_of low_position
+  pub high_is : high ≡ place_of high_position
+
+-- the cells of F25, or for another fault the cursors before it
+abbrev pub IsShown : Size → Start → List ℕ → Fault → Shown → Type 0
+IsShown z class content fault (Cursors low high) =
+    ShowsNamed z class content fault.cause None × ShowsPlaces z class content fault low high
+IsShown z class content fault (Cells low high) = ShowsNamed z class content fault.cause (Some (low, high))
+
+-- the hints of bytes that are read as tokens
+abbrev pub AreHintsOf : Size → Bool → List ℕ → Hints → Type 0
+AreHintsOf z flag bytes hints =
+    (tokens : List TokenKind) (texts : List (List ℕ)) → ReadsAs bytes tokens texts → AreHints z flag tokens texts hints
+
+-- what a content relies on that does not pass from every start
+pub record IsReliance (z : Size) (file_length : ℕ) (content : List ℕ) (r : Reliance) : Type 0 where
+  pub deserved : IsDeserved z none_known content r.fault
+  pub bytes : AreToBlame z none_known content r.fault r.bytes.now
+  pub shown : IsShown z none_known content r.fault r.shown
+  pub mends : IsTrue r.mends ↔ (file_length + 16 ≤ longest_file)
+
+-- a content that passes from the cleared start
+pub record IsPass (file_length : ℕ) (parts : Parts) (pass : Pass) : Type 0 where
+  pub needs : IsLeast (size_of parts) (content_of parts) pass.needs
+  pub taller : IsTrue pass.taller ↔ IsTaller (size_of parts) pass.needs (content_of parts)
+  pub nothing : IfNone pass.reliance (pass.needs ≡ none_known)
+  pub relies : IfSome pass.reliance (λ r. (pass.needs ≢ none_known)
+      × IsReliance (size_of parts) file_length (content_of parts) r)
+  pub hints : AreHintsOf (size_of parts) (non_blink parts) (content_of parts) pass.hints
+
+-- F19 to F21, of which more lines may rid a content
+abbrev pub IsOfLines : Cause → Type 0
+IsOfLines cause = (cause ≡ OutsideScreen) ⊎ (cause ≡ PrintBelow) ⊎ (cause ≡ Scrolls)
+
+-- F9 to F14, where the reading refuses the sequence itself
+abbrev pub IsOfReading : Cause → Type 0
+IsOfReading cause =
+    (cause ≡ BrokenSequence) ⊎ (cause ≡ NumberTooLarge) ⊎ (cause ≡ TooManyParameters) ⊎ (cause ≡ EndInSequence)
+    ⊎ (cause ≡ UnknownSequence) ⊎ (cause ≡ WrongParameters)
+
+-- the least number of lines that is enough, for a fault of which they may rid the content; and none where none is
+pub record AreLines (width : ℕ) (content : List ℕ) (cause : Cause) (lines : Option ℕ) : Type 0 where
+  pub least : IfSome lines (λ n. IsOfLines cause × (n ≤ most_lines) × IsLeastLines width content n)
+  pub none : IfNone lines (IsOfLines cause → (n : ℕ) → n ≤ most_lines → ¬ IsGoodOn width content n)
+
+-- where the hints end: at the token to blame with its bytes, or before what the reading refuses
+pub record EndsHints (fault : Fault) (bytes : List ℕ) (end : ℕ) : Type 0 where
+  pub reading : IsOfReading fault.cause → end ≡ fault.offset
+  pub token : ¬ IsOfReading fault.cause → end ≡ fault.offset + length bytes
+
+-- a content that is refused from the cleared start
+pub record IsRefusal (parts : Parts) (r : Refusal) : Type 0 where
+  pub deserved : IsDeserved (size_of parts) all_known (content_of parts) r.fault
+  pub bytes : AreToBlame (size_of parts) all_known (content_of parts) r.fault r.bytes.now
+  pub cursor : ShowsPlaces (size_of parts) all_known (content_of parts) r.fault r.cursor r.cursor
+  pub lines : AreLines (width_of parts) (content_of parts) r.fault.cause r.lines
+  pub hints_end : ℕ
+  pub ends : EndsHints r.fault r.bytes.now hints_end
+  pub hints : AreHintsOf (size_of parts) (non_blink parts) (take hints_end (content_of parts)) r.hints
+
+-- what is said of the file is true of it
+abbrev pub IsTrueOf : List ℕ → Why → Type 0
+IsTrueOf file (NoContent fault found) = (record_fault file ≡ Some fault) × IsFound file found fault.cause
+IsTrueOf file (Refused parts refusal) = IsSplit file parts × IsRefusal parts refusal
+IsTrueOf file (Passes parts pass) = IsSplit file parts × IsPass (length file) parts pass

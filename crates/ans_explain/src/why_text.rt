@@ -1,0 +1,287 @@
+//! The text of `why`.
+ghost use Rattle.std.specs.Prelude.{◌≡◌, ◌↔◌, ◌++◌, false, codes, decimal, IsTrue, IsErr};
+ghost use Rattle.std.specs.List.{flat_map};
+ghost use Rattle.ans_model.specs.Text.Characters.{shown_bytes};
+ghost use Rattle.ans_model.specs.Text.RecordText.{named_line};
+ghost use Rattle.ans_sauce.specs.declared.found.Found.TheVariants as found;
+ghost use Rattle.ans_write.specs.Tried.{has_failed, inner_of};
+ghost use Rattle.ans_write.specs.Writes.{WritesText};
+ghost use Rattle.ans_write.specs.Puts.{Puts};
+ghost use Rattle.ans_explain.specs.WhyText.{quoted_byte, quoted, bytes_line, place_text, cell_text, shown_lines};
+ghost use Rattle.ans_explain.specs.WhyText.{mend_line, reliance_lines, answer_text, lines_line, after_end_mark_text, found_line};
+ghost use Rattle.ans_explain.specs.WhyText.{pass_lines, refusal_lines, why_text};
+
+use crate::why::{Pass, Place, Refusal, Reliance, Shown, Why};
+use ans_hints::{Hints, put_hints};
+use ans_model::cell::Cell;
+use ans_report::{
+    put_fault_line, put_named_line, put_needed_parts, put_number_line, put_refusal, put_size_line,
+};
+use ans_sauce::{Found, Parts};
+use ans_write::{Outbox, Tried, WriteFault, hex_byte, put_characters};
+use std::io::Write;
+
+/// How many bytes are quoted at most.
+const QUOTED: usize = 32;
+
+fn put_quoted_byte<W: Write>(out: &mut Outbox<'_, W>, byte: u8)
+    ensures { Puts W.contents out.old out.new (quoted_byte byte) }
+{
+    match byte {
+        0x07 => out.put(b"<BEL>"),
+        0x08 => out.put(b"<BS>"),
+        b'\t' => out.put(b"<TAB>"),
+        b'\n' => out.put(b"<LF>"),
+        b'\r' => out.put(b"<CR>"),
+        0x1B => out.put(b"<ESC>"),
+        _ => put_characters(out, &[byte]),
+    }
+}
+
+fn put_quoted_bytes<W: Write>(out: &mut Outbox<'_, W>, bytes: &[u8])
+    ensures { Puts W.contents out.old out.new (flat_map quoted_byte bytes.now) }
+{
+    for byte in bytes {
+        put_quoted_byte(out, *byte);
+    }
+}
+
+fn put_quoted<W: Write>(out: &mut Outbox<'_, W>, bytes: &[u8])
+    ensures { Puts W.contents out.old out.new (quoted bytes.now) }
+{
+    if bytes.len() > QUOTED {
+        put_quoted_bytes(out, &bytes[..QUOTED]);
+        out.put(b" ..");
+        return;
+    }
+    put_quoted_bytes(out, bytes);
+}
+
+fn put_bytes_line<W: Write>(out: &mut Outbox<'_, W>, bytes: &[u8])
+    ensures { Puts W.contents out.old out.new (bytes_line bytes.now) }
+{
+    if bytes.is_empty() {
+        return;
+    }
+    out.put(b"bytes: ");
+    put_quoted(out, bytes);
+    out.put(b"\n");
+}
+
+fn put_place<W: Write>(out: &mut Outbox<'_, W>, place: Place)
+    ensures { Puts W.contents out.old out.new (place_text place) }
+{
+    out.put(b"row ");
+    out.put_decimal(place.row as u64);
+    out.put(b", column ");
+    out.put_decimal(place.column as u64);
+}
+
+fn put_place_line<W: Write>(out: &mut Outbox<'_, W>, name: &[u8], place: Place)
+    ensures { Puts W.contents out.old out.new (named_line name.now (place_text place)) }
+{
+    out.put(name);
+    out.put(b": ");
+    put_place(out, place);
+    out.put(b"\n");
+}
+
+fn put_cell<W: Write>(out: &mut Outbox<'_, W>, cell: Cell)
+    ensures { Puts W.contents out.old out.new (cell_text cell) }
+{
+    out.put(b"byte ");
+    out.put(&hex_byte(cell.byte));
+    out.put(b", attribute ");
+    out.put(&hex_byte(cell.attribute));
+}
+
+fn put_cell_line<W: Write>(out: &mut Outbox<'_, W>, name: &[u8], cell: Cell)
+    ensures { Puts W.contents out.old out.new (named_line name.now (cell_text cell)) }
+{
+    out.put(name);
+    out.put(b": ");
+    put_cell(out, cell);
+    out.put(b"\n");
+}
+
+fn put_shown<W: Write>(out: &mut Outbox<'_, W>, shown: Shown)
+    ensures { Puts W.contents out.old out.new (shown_lines shown) }
+{
+    match shown {
+        Shown::Cursors { low, high } => {
+            put_place_line(out, b"low start", low);
+            put_place_line(out, b"high start", high);
+        }
+        Shown::Cells { low, high } => {
+            put_cell_line(out, b"low start", low);
+            put_cell_line(out, b"high start", high);
+        }
+    }
+}
+
+fn put_mend_line<W: Write>(out: &mut Outbox<'_, W>, mends: bool)
+    ensures { Puts W.contents out.old out.new (mend_line mends) }
+{
+    if mends {
+        out.put(b"mend: begin with ESC[?7h ESC[0m ESC[2J ESC[s\n");
+    }
+}
+
+fn put_reliance<W: Write>(out: &mut Outbox<'_, W>, reliance: Option<Reliance<'_>>)
+    ensures { Puts W.contents out.old out.new (reliance_lines reliance.entry) }
+{
+    let Some(reliance) = reliance else {
+        return;
+    };
+    put_fault_line(out, &reliance.fault);
+    put_bytes_line(out, reliance.bytes);
+    put_shown(out, reliance.shown);
+    put_mend_line(out, reliance.mends);
+}
+
+fn answer(yes: bool) -> &'static [u8]
+    ensures { result.now ≡ answer_text yes }
+{
+    if yes { b"yes" } else { b"no" }
+}
+
+fn put_pass<W: Write>(out: &mut Outbox<'_, W>, parts: &Parts<'_>, pass: &Pass<'_>)
+    ensures { Puts W.contents out.old out.new (pass_lines parts.now pass.now) }
+{
+    out.put(b"verdict: pass\n");
+    out.put(b"needs:");
+    put_needed_parts(out, pass.needs);
+    out.put(b"\n");
+    put_named_line(out, b"taller", answer(pass.taller));
+    put_reliance(out, pass.reliance);
+    put_hints(out, &pass.hints, parts.sauce().font());
+}
+
+fn put_lines_line<W: Write>(out: &mut Outbox<'_, W>, lines: Option<u16>)
+    ensures { Puts W.contents out.old out.new (lines_line lines) }
+{
+    if let Some(lines) = lines {
+        put_number_line(out, b"lines", u64::from(lines));
+    }
+}
+
+fn put_refused<W: Write>(out: &mut Outbox<'_, W>, parts: &Parts<'_>, refusal: &Refusal<'_>)
+    ensures { Puts W.contents out.old out.new (refusal_lines parts.now refusal.now) }
+{
+    put_refusal(out, &refusal.fault);
+    put_bytes_line(out, refusal.bytes);
+    put_place_line(out, b"cleared start", refusal.cursor);
+    put_lines_line(out, refusal.lines);
+    let hints = Hints {
+        empty_rows: 0,
+        ..refusal.hints
+    };
+    put_hints(out, &hints, parts.sauce().font());
+}
+
+fn put_count<W: Write>(out: &mut Outbox<'_, W>, count: u64, what: &[u8])
+    ensures { Puts W.contents out.old out.new
+        (named_line (codes "found") (decimal count ++ what.now)) }
+{
+    out.put(b"found: ");
+    out.put_decimal(count);
+    out.put(what);
+    out.put(b"\n");
+}
+
+fn put_record_found<W: Write>(out: &mut Outbox<'_, W>, offset: usize, behind: usize)
+    ensures { Puts W.contents out.old out.new (found_line (found.Record offset behind)) }
+{
+    out.put(b"found: a record at ");
+    out.put_decimal(offset as u64);
+    out.put(b", and ");
+    out.put_decimal(behind as u64);
+    out.put(b" bytes behind it\n");
+}
+
+fn put_kind_found<W: Write>(out: &mut Outbox<'_, W>, data_type: u8, file_type: u8)
+    ensures { Puts W.contents out.old out.new (found_line (found.Kind data_type file_type)) }
+{
+    out.put(b"found: data type ");
+    out.put_decimal(u64::from(data_type));
+    out.put(b", file type ");
+    out.put_decimal(u64::from(file_type));
+    out.put(b"\n");
+}
+
+fn put_version_found<W: Write>(out: &mut Outbox<'_, W>, version: &[u8])
+    ensures { Puts W.contents out.old out.new
+        (named_line (codes "found") (codes "version " ++ shown_bytes version.now)) }
+{
+    out.put(b"found: version ");
+    put_characters(out, version);
+    out.put(b"\n");
+}
+
+fn after_end_mark(older: bool) -> &'static [u8]
+    ensures { result.now ≡ after_end_mark_text older }
+{
+    if older {
+        b" bytes after the end mark, an older record among them"
+    } else {
+        b" bytes after the end mark, no record among them"
+    }
+}
+
+fn put_found<W: Write>(out: &mut Outbox<'_, W>, found: &Found<'_>)
+    ensures { Puts W.contents out.old out.new (found_line found.now) }
+{
+    match *found {
+        Found::NoRecord => {}
+        Found::Record { offset, behind } => put_record_found(out, offset, behind),
+        Found::Version(version) => put_version_found(out, version),
+        Found::Kind {
+            data_type,
+            file_type,
+        } => put_kind_found(out, data_type, file_type),
+        Found::Comments(count) => put_count(out, u64::from(count), b" comments stated"),
+        Found::Lines(lines) => put_count(out, u64::from(lines), b" lines stated"),
+        Found::Width(width) => put_count(out, u64::from(width), b" columns stated"),
+        Found::AfterEndMark { count, record } => {
+            put_count(out, count as u64, after_end_mark(record));
+        }
+    }
+}
+
+fn put_why<W: Write>(out: &mut Outbox<'_, W>, why: &Why<'_>)
+    ensures { Puts W.contents out.old out.new (why_text why.now) }
+{
+    match why {
+        Why::NoContent { fault, found } => {
+            put_refusal(out, fault);
+            put_found(out, found);
+        }
+        Why::Refused { parts, refusal } => {
+            put_size_line(out, parts);
+            put_refused(out, parts, refusal);
+        }
+        Why::Passes { parts, pass } => {
+            put_size_line(out, parts);
+            put_pass(out, parts, pass);
+        }
+    }
+}
+
+/// Writes what `why` says of a file: lines of a key, a colon and a value. After the size and the
+/// verdict come, of a pass, what it needs, whether it plays on taller screens, and what it relies on;
+/// of a refusal the fault, the bytes to blame, where the cursor stands before them, and the number of
+/// lines that is enough; and of both the hints. Of a record or a layout that is refused come the
+/// fault and what stands there.
+///
+/// `Err` comes exactly where the device failed in the call, and then a prefix of the text was
+/// written.
+pub fn write_why<W: Write>(w: &mut Tried<W>, why: &Why<'_>) -> Result<(), WriteFault>
+    requires { has_failed w.old ≡ false }
+    ensures device { IsErr result ↔ IsTrue (has_failed w.new) }
+    ensures bytes { WritesText (W.contents (inner_of w.old)) (W.contents (inner_of w.new))
+        result (why_text why.now) }
+{
+    let mut out = Outbox::new(w);
+    put_why(&mut out, why);
+    out.finish()
+}
