@@ -14,7 +14,7 @@ use Rattle.ans_model.specs.Screen.State.{sized}
 use Rattle.ans_model.specs.declared.fault.Fault.{Fault}
 use Rattle.ans_model.specs.declared.start.Start.{Start}
 use Rattle.ans_sauce.specs.declared.parts.Parts.{Parts}
-use Rattle.ans_sauce.specs.Parts.{ShowsParts, content_of, width_of, lines_of}
+use Rattle.ans_sauce.specs.Parts.{ShowsParts, content_of, width_of, lines_of, record_of}
 use Rattle.ans_sauce.specs.Split.{IsSplit}
 use Rattle.ans_report.specs.Headings.{heading_of}
 use Rattle.ans_report.specs.NeedsBytes.{needs_bytes}
@@ -29,7 +29,8 @@ use Rattle.ans_check.specs.FileNeeds.{NeedsClass, IsNeedsOf, needs_fault}
 use Rattle.ans_check.specs.FileVerdict.{Passes, IsRefusedFor, IsVerdictOn, IsGoodFile, fault_of}
 use Rattle.ans_check.specs.CommandText.{heading, ReportsPass, ReportsFault, ReportsRecordFault, ReportsCheck}
 use Rattle.ans_check.specs.CommandText.{ReportsLeast, ReportsNeeds, ReportsRecord, ReportsContent, ReportsTokens}
-use Rattle.ans_check.specs.CommandText.{IsReportOf}
+use Rattle.ans_check.specs.CommandText.{IsReportOf, ReportsPicture, shown_text}
+use Rattle.ans_options.specs.declared.command.Form.{Form}
 
 -- the heading of a file's parts
 heading_is : (apart : FileParts) (parts : Parts) (start : Option Start) → ShowsParts apart parts
@@ -104,6 +105,17 @@ fitting file start cells (Pass parts picture) (report.Pass told from shown asked
 fitting file start cells (Refused parts f) (report.Refused told from fault) same h = tt
 fitting file start cells (Pass parts picture) (report.Refused told from fault) never h = absurd never
 fitting file start cells (Refused parts f) (report.Pass told from shown asked) never h = absurd never
+
+-- the picture of a pass, by its parts, shows it
+pub picture_reported : {G : Type 0} (file : List ℕ) (start : Start) (form : Form) (parts : Parts) (picture : Picture)
+    → IsVerdictOn {G = G} file start (Pass parts picture)
+    → ReportsPicture file start form (shown_text form (record_of parts) picture)
+picture_reported file start form parts picture h = record {
+  apart = h.0;
+  picture = picture;
+  passes = h.2;
+  text_is = ap (λ (v : List ℕ). shown_text form v picture) h.1.sauce;
+}
 
 -- the text of an accepted record
 pub sauce_reported : (file : List ℕ) (parts : Parts) (s : IsSplit file parts) → ReportsRecord file (record_text s.apart)
