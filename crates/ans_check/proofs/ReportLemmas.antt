@@ -95,6 +95,15 @@ verdict_reported file start cells (Refused None f) (report.Refused told from fau
 verdict_reported file start cells (Pass parts picture) (report.Refused told from fault) never h good = absurd never
 verdict_reported file start cells (Refused parts f) (report.Pass told from shown asked) never h good = absurd never
 
+-- and so does the report that tells a refusal
+pub refused_reported : {G : Type 0} (file : List ℕ) (start : Start) (v : Verdict G) (parts : Option Parts) (f : Fault)
+    (r : Report G) → v ≡ Refused parts f → IsReportOf v start false r → IsVerdictOn file start v
+    → (IsGoodFile file start → fault_of v ≡ None) → ReportsCheck file start false false (report_bytes r)
+refused_reported {G} file start v parts f r e told h good =
+    let passed : not (is_some (fault_of v)) ≡ false = ap (λ (w : Verdict G). not (is_some (fault_of w))) e in
+    subst (λ (b : Bool). ReportsCheck file start false b (report_bytes r)) passed
+    (verdict_reported file start false v r told h good)
+
 -- its picture fits its parts
 pub fitting : {G : Type 0} (file : List ℕ) (start : Start) (cells : Bool) (v : Verdict G) (r : Report G)
     → IsReportOf v start cells r
@@ -107,8 +116,8 @@ fitting file start cells (Pass parts picture) (report.Refused told from fault) n
 fitting file start cells (Refused parts f) (report.Pass told from shown asked) never h = absurd never
 
 -- the picture of a pass, by its parts, shows it
-pub picture_reported : {G : Type 0} (file : List ℕ) (start : Start) (form : Form) (parts : Parts) (picture : Picture)
-    → IsVerdictOn {G = G} file start (Pass parts picture)
+pub picture_reported : (file : List ℕ) (start : Start) (form : Form) (parts : Parts) (picture : Picture)
+    → (apart : FileParts) × ShowsParts apart parts × Passes file start apart picture
     → ReportsPicture file start form (shown_text form (record_of parts) picture)
 picture_reported file start form parts picture h = record {
   apart = h.0;
