@@ -53,6 +53,7 @@ HI_RECORD = (
     b"file size: 2\ncomments: 0\n"
 )
 HI_TOKENS = b"0 1 glyph 48\n1 1 glyph 69\n"
+HI_SHOWN = b"\x1b[0;37;40mHi\x1b[0m\n"
 HI_NEEDS = b"size: 2 x 1\ncontent: 2 bytes\nneeds: cursor colours\n"
 NO_RECORD = b"verdict: refused\nat 127: F1 no SAUCE record\n"
 
@@ -69,6 +70,7 @@ Usage: anscheck <COMMAND>
 Commands:
   needs   Print what a drawing relies on: screen, cursor, saved, colours, wrap
   check   Check that a file always shows the same picture, and print it
+  show    Show the picture in its colours, for a terminal or as a page
   sauce   Print what a file's SAUCE record says
   tokens  Print the bytes and the escape sequences of a file, one a line
 
@@ -79,6 +81,7 @@ Options:
 Examples:
   anscheck needs drawing.ans
   anscheck check --cleared drawing.ans
+  anscheck show drawing.ans
   anscheck help check
 """ + STATUSES
 CHECK_HELP = b"""Check that a file always shows the same picture, and print it
@@ -97,6 +100,26 @@ Options:
       --cleared        Assume all five: a screen that was just cleared
       --cells          Print each cell too: its byte and its attribute, in hex
   -h, --help           Print help
+""" + STATUSES
+SHOW_HELP = b"""Show the picture in its colours, for a terminal or as a page
+
+Usage: anscheck show [OPTIONS] [FILE]
+
+Arguments:
+  [FILE]  The file to read; - or none is standard input
+
+Options:
+      --html           Write an HTML page, in the colours of a VGA
+      --vga            Mix the colours of a VGA, whatever the terminal's are
+      --any            Assume nothing but what a --known flag says
+      --known-screen   Assume the screen to be blank, white on black
+      --known-cursor   Assume the cursor to be at the top left
+      --known-saved    Assume the saved cursor to be at the top left
+      --known-colours  Assume the colours to be white on black
+      --known-wrap     Assume wrap to be on
+  -h, --help           Print help
+
+Without --any or a --known flag all five are assumed: a screen just cleared.
 """ + STATUSES
 
 
@@ -140,6 +163,14 @@ RUNS = [
     Run("check of a tab", ["check", "--cleared"], 0,
         b"size: 16 x 1\nstart: cleared\ncontent: 3 bytes\n"
         b"verdict: pass\npicture:\na       b       \n", stdin=file_of(b"a\tb", 16)),
+    Run("picture of standard input", ["show"], 0, HI_SHOWN, stdin=HI),
+    Run("picture of a named file", ["show", HI], 0, HI_SHOWN),
+    Run("picture in the colours of a VGA", ["show", "--vga"], 0,
+        b"\x1b[0;5;38;2;255;255;85;48;2;0;0;170mA\x1b[0m\n", stdin=file_of(b"\x1b[1;5;33;44mA", 1)),
+    Run("picture from any start", ["show", "--any"], 0, HI_SHOWN,
+        stdin=file_of(b"\x1b[?7h\x1b[0m\x1b[2JHi")),
+    Run("picture with a known cursor", ["show", "--known-cursor"], 0, HI_SHOWN,
+        stdin=file_of(b"\x1b[0mHi")),
     Run("record of standard input", ["sauce"], 0, HI_RECORD, stdin=HI),
     Run("record of a named file", ["sauce", HI], 0, HI_RECORD),
     Run("tokens of standard input", ["tokens"], 0, HI_TOKENS, stdin=HI),
@@ -195,6 +226,9 @@ RUNS = [
     Run("check without a record", ["check"], 1, NO_RECORD, stdin=b"S" * 127),
     Run("record without a record", ["sauce"], 1, NO_RECORD, stdin=b"S" * 127),
     Run("tokens without a record", ["tokens"], 1, NO_RECORD, stdin=b"S" * 127),
+    Run("picture of refused content", ["show", "--any", HI], 1, HI_IS_REFUSED),
+    Run("page of refused content", ["show", "--html", "--any", HI], 1, HI_IS_REFUSED),
+    Run("picture without a record", ["show"], 1, NO_RECORD, stdin=b"S" * 127),
     Run("check of nothing", ["check"], 1, b"verdict: refused\nat 0: F1 no SAUCE record\n"),
     Run("check of the longest file", ["check"], 1,
         b"verdict: refused\nat 16777216: F1 no SAUCE record\n", stdin=bytes(LARGEST_FILE)),
@@ -204,6 +238,7 @@ RUNS = [
     Run("check of a folder", ["check", "data"], 2,
         stderr=b"anscheck: cannot read the file\n", stdin=HI),
     Run("needs of a folder", ["needs", "data"], 2, stderr=b"anscheck: cannot read the file\n"),
+    Run("picture of a folder", ["show", "data"], 2, stderr=b"anscheck: cannot read the file\n"),
     Run("record of a folder", ["sauce", "data"], 2, stderr=b"anscheck: cannot read the file\n"),
     Run("check of too long a file", ["check"], 2,
         stderr=b"anscheck: file above 16777216 bytes\n", stdin=bytes(LARGEST_FILE + 1)),
@@ -211,6 +246,10 @@ RUNS = [
     Run("pass on a full device", ["check", "--cleared", HI], 2,
         stderr=b"anscheck: cannot write the report\n", output="/dev/full"),
     Run("refusal on a full device", ["check", HI], 2,
+        stderr=b"anscheck: cannot write the report\n", output="/dev/full"),
+    Run("picture on a full device", ["show", HI], 2,
+        stderr=b"anscheck: cannot write the report\n", output="/dev/full"),
+    Run("page on a full device", ["show", "--html", HI], 2,
         stderr=b"anscheck: cannot write the report\n", output="/dev/full"),
     Run("record on a full device", ["sauce", HI], 2,
         stderr=b"anscheck: cannot write the report\n", output="/dev/full"),
@@ -239,6 +278,7 @@ RUNS = [
     Run("the version", ["--version"], 0, VERSION, stdin=HI),
     Run("the version by a letter", ["-V"], 0, VERSION, stdin=HI),
     Run("help of check", ["check", "--help"], 0, CHECK_HELP, stdin=HI),
+    Run("help of show", ["show", "--help"], 0, SHOW_HELP, stdin=HI),
     Run("help of sauce", ["sauce", "-h"], 0, SAUCE_HELP, stdin=HI),
     Run("help of needs", ["needs", "--help"], 0, NEEDS_HELP, stdin=HI),
     Run("an unknown flag", ["check", "--bogus"], 2, stdin=HI, stderr=mistake(
@@ -257,11 +297,14 @@ RUNS = [
     Run("a cleared screen for needs", ["needs", "--cleared", HI], 2, stderr=mistake(
         "unexpected argument '--cleared' found\n\n"
         "  tip: to pass '--cleared' as a value, use '-- --cleared'", "needs [FILE]")),
+    Run("cells for a picture", ["show", "--cells", HI], 2, stderr=mistake(
+        "unexpected argument '--cells' found\n\n"
+        "  tip: to pass '--cells' as a value, use '-- --cells'", "show [OPTIONS] [FILE]")),
     Run("a second file", ["check", HI, HI], 2, stderr=mistake(
         f"unexpected argument '{HI}' found", CHECK_USAGE)),
     Run("no subcommand", [], 2, stdin=HI, stderr=mistake(
         "'anscheck' requires a subcommand but one was not provided\n"
-        "  [subcommands: needs, check, sauce, tokens]", "<COMMAND>")),
+        "  [subcommands: needs, check, show, sauce, tokens]", "<COMMAND>")),
     Run("an unknown subcommand", ["other", HI], 2, stderr=mistake(
         "unrecognized subcommand 'other'", "<COMMAND>")),
     Run("a word that is not text", ["check", b"\xff"], 2,

@@ -14,7 +14,7 @@ use Rattle.ans_model.specs.Screen.State.{sized}
 use Rattle.ans_model.specs.declared.fault.Fault.{Fault}
 use Rattle.ans_model.specs.declared.start.Start.{Start}
 use Rattle.ans_sauce.specs.declared.parts.Parts.{Parts}
-use Rattle.ans_sauce.specs.Parts.{ShowsParts, content_of, width_of, lines_of}
+use Rattle.ans_sauce.specs.Parts.{ShowsParts, content_of, width_of, lines_of, record_of}
 use Rattle.ans_sauce.specs.Split.{IsSplit}
 use Rattle.ans_report.specs.Headings.{heading_of}
 use Rattle.ans_report.specs.NeedsBytes.{needs_bytes}
@@ -29,7 +29,8 @@ use Rattle.ans_check.specs.FileNeeds.{NeedsClass, IsNeedsOf, needs_fault}
 use Rattle.ans_check.specs.FileVerdict.{Passes, IsRefusedFor, IsVerdictOn, IsGoodFile, fault_of}
 use Rattle.ans_check.specs.CommandText.{heading, ReportsPass, ReportsFault, ReportsRecordFault, ReportsCheck}
 use Rattle.ans_check.specs.CommandText.{ReportsLeast, ReportsNeeds, ReportsRecord, ReportsContent, ReportsTokens}
-use Rattle.ans_check.specs.CommandText.{IsReportOf}
+use Rattle.ans_check.specs.CommandText.{IsReportOf, ReportsPicture, shown_text}
+use Rattle.ans_options.specs.declared.command.Form.{Form}
 
 -- the heading of a file's parts
 heading_is : (apart : FileParts) (parts : Parts) (start : Option Start) → ShowsParts apart parts
@@ -94,6 +95,15 @@ verdict_reported file start cells (Refused None f) (report.Refused told from fau
 verdict_reported file start cells (Pass parts picture) (report.Refused told from fault) never h good = absurd never
 verdict_reported file start cells (Refused parts f) (report.Pass told from shown asked) never h good = absurd never
 
+-- and so does the report that tells a refusal
+pub refused_reported : {G : Type 0} (file : List ℕ) (start : Start) (v : Verdict G) (parts : Option Parts) (f : Fault)
+    (r : Report G) → v ≡ Refused parts f → IsReportOf v start false r → IsVerdictOn file start v
+    → (IsGoodFile file start → fault_of v ≡ None) → ReportsCheck file start false false (report_bytes r)
+refused_reported {G} file start v parts f r e told h good =
+    let passed : not (is_some (fault_of v)) ≡ false = ap (λ (w : Verdict G). not (is_some (fault_of w))) e in
+    subst (λ (b : Bool). ReportsCheck file start false b (report_bytes r)) passed
+    (verdict_reported file start false v r told h good)
+
 -- its picture fits its parts
 pub fitting : {G : Type 0} (file : List ℕ) (start : Start) (cells : Bool) (v : Verdict G) (r : Report G)
     → IsReportOf v start cells r
@@ -104,6 +114,17 @@ fitting file start cells (Pass parts picture) (report.Pass told from shown asked
 fitting file start cells (Refused parts f) (report.Refused told from fault) same h = tt
 fitting file start cells (Pass parts picture) (report.Refused told from fault) never h = absurd never
 fitting file start cells (Refused parts f) (report.Pass told from shown asked) never h = absurd never
+
+-- the picture of a pass, by its parts, shows it
+pub picture_reported : (file : List ℕ) (start : Start) (form : Form) (parts : Parts) (picture : Picture)
+    → (apart : FileParts) × ShowsParts apart parts × Passes file start apart picture
+    → ReportsPicture file start form (shown_text form (record_of parts) picture)
+picture_reported file start form parts picture h = record {
+  apart = h.0;
+  picture = picture;
+  passes = h.2;
+  text_is = ap (λ (v : List ℕ). shown_text form v picture) h.1.sauce;
+}
 
 -- the text of an accepted record
 pub sauce_reported : (file : List ℕ) (parts : Parts) (s : IsSplit file parts) → ReportsRecord file (record_text s.apart)

@@ -1,7 +1,8 @@
 -- What a run writes of a file.
-use Rattle.std.specs.Prelude.{◌≡◌, ◌⊎◌, ℕ, Bool, true, false, List, length, Option, Some, None}
+use Rattle.std.specs.Prelude.{◌≡◌, ◌⊎◌, ℕ, ◌%◌, ◌==◌, Bool, true, false, List, length, Option, Some, None}
 use Rattle.ans_model.specs.File.Layout.{FileParts, content}
 use Rattle.ans_model.specs.File.NoteConditions.{notes}
+use Rattle.ans_model.specs.File.Record.{flags, title_field, trimmed}
 use Rattle.ans_model.specs.File.Refusals.{Accepts, record_fault}
 use Rattle.ans_model.specs.Verdict.Good.{Picture}
 use Rattle.ans_model.specs.Text.RecordText.{record_text}
@@ -15,8 +16,12 @@ use Rattle.std.specs.Option.{option_copied}
 use Rattle.ans_report.specs.declared.report.Report.{Report}
 use Rattle.ans_report.specs.declared.report.Report.TheVariants as report
 use Rattle.ans_options.specs.declared.command.Command.{Command}
-use Rattle.ans_options.specs.declared.command.Command.TheVariants.{Check, Sauce, Tokens, Needs}
+use Rattle.ans_options.specs.declared.command.Command.TheVariants.{Check, Show, Sauce, Tokens, Needs}
+use Rattle.ans_options.specs.declared.command.Form.{Form}
+use Rattle.ans_options.specs.declared.command.Form.TheVariants.{Terminal, Vga, Page}
 use Rattle.ans_options.specs.declared.command.Options.{Options}
+use Rattle.ans_show.specs.PageText.{page_text}
+use Rattle.ans_show.specs.TerminalText.{terminal_text}
 use Rattle.ans_check.specs.declared.verdict.Verdict.{Verdict}
 use Rattle.ans_check.specs.declared.verdict.Verdict.TheVariants.{Pass, Refused}
 use Rattle.ans_check.specs.FileNeeds.{NeedsClass}
@@ -61,6 +66,29 @@ abbrev pub ReportsCheck : List ℕ → Start → Bool → Bool → List ℕ → 
 ReportsCheck file start cells true text = ReportsPass file start cells text
 ReportsCheck file start cells false text = ReportsRefusal file start (Some start) text
 
+-- bit 0 of the record's flags: bit 7 of an attribute is a bright background, and no blink
+abbrev pub is_non_blink : List ℕ → Bool
+is_non_blink record_bytes = flags record_bytes % 2 == 1
+
+-- the picture in each form, with the record's title and by its non-blink flag
+abbrev pub shown_text : Form → List ℕ → Picture → List ℕ
+shown_text Terminal record_bytes picture = terminal_text false (is_non_blink record_bytes) picture
+shown_text Vga record_bytes picture = terminal_text true (is_non_blink record_bytes) picture
+shown_text Page record_bytes picture =
+    page_text (is_non_blink record_bytes) (trimmed (title_field record_bytes)) picture
+
+-- the file passes, and the text is its picture in this form
+pub record ReportsPicture (file : List ℕ) (start : Start) (form : Form) (text : List ℕ) : Type 0 where
+  pub apart : FileParts
+  pub picture : Picture
+  pub passes : Passes file start apart picture
+  pub text_is : text ≡ shown_text form apart.record_bytes picture
+
+-- The picture is shown; where there is none, the text is what a check writes.
+abbrev pub ReportsShow : List ℕ → Start → Form → Bool → List ℕ → Type 0
+ReportsShow file start form true text = ReportsPicture file start form text
+ReportsShow file start form false text = ReportsCheck file start false false text
+
 -- the file is accepted so, and the text is its record's
 pub record ReportsRecord (file text : List ℕ) : Type 0 where
   pub apart : FileParts
@@ -98,6 +126,7 @@ ReportsNeeds file false text = ReportsRefusal file all_known None text
 -- whether the file passes and the text are what the command is to write of it
 abbrev pub ReportsBy : Command → Start → Bool → List ℕ → Bool → List ℕ → Type 0
 ReportsBy Check start cells file passed text = ReportsCheck file start cells passed text
+ReportsBy (Show form) start cells file passed text = ReportsShow file start form passed text
 ReportsBy Sauce start cells file passed text = ReportsSauce file passed text
 ReportsBy Tokens start cells file passed text = ReportsTokens file passed text
 ReportsBy Needs start cells file passed text = ReportsNeeds file passed text

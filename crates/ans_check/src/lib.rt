@@ -25,7 +25,7 @@ mod system;
 mod verdict;
 
 pub use ans_model::start::Start;
-pub use ans_options::{Command, Options, WordsError, options};
+pub use ans_options::{Command, Form, Options, WordsError, options};
 pub use ans_report::Needs;
 pub use answering::answer;
 pub use errors::RunError;

@@ -1,10 +1,13 @@
 //! Bytes to bytes.
-ghost use Rattle.std.specs.Prelude.{◌≡◌, ◌≤◌, Ok, Err, IfErr, IsSome, false, length, MatchResult, is_some, not};
+ghost use Rattle.std.specs.Prelude.{◌≡◌, ◌≤◌, ◌↔◌, Ok, Err, IfErr, IsErr, IsSome, IsTrue, false, length, MatchResult};
+ghost use Rattle.std.specs.Prelude.{is_some, not};
 ghost use Rattle.ans_model.specs.File.Refusals.{record_fault};
 ghost use Rattle.ans_model.specs.Bytes.{longest_file};
-ghost use Rattle.ans_write.specs.Tried.{has_failed};
-ghost use Rattle.ans_check.specs.CommandText.{Reports, ReportsCheck, ReportsNeeds, ReportsSauce, ReportsTokens};
-ghost use Rattle.ans_check.specs.CommandText.{IsReportOf};
+ghost use Rattle.ans_sauce.specs.Parts.{record_of};
+ghost use Rattle.ans_write.specs.Tried.{has_failed, inner_of};
+ghost use Rattle.ans_write.specs.Writes.{WritesText};
+ghost use Rattle.ans_check.specs.CommandText.{Reports, ReportsCheck, ReportsNeeds, ReportsSauce, ReportsShow};
+ghost use Rattle.ans_check.specs.CommandText.{ReportsTokens, IsReportOf, shown_text};
 ghost use Rattle.ans_check.specs.FileNeeds.{needs_fault};
 ghost use Rattle.ans_check.specs.FileVerdict.{fault_of};
 ghost use Rattle.ans_check.specs.Reported.{IsReported};
@@ -15,13 +18,15 @@ use crate::parts_needed::needs;
 use crate::reading::read_all;
 use crate::verdict::{Verdict, check};
 use ans_model::start::Start;
-use ans_options::{Command, Options};
+use ans_options::{Command, Form, Options};
+use ans_play::Picture;
 use ans_report::{
     Needs, Report, Tried, WriteFault, write_needs, write_record, write_refusal, write_report,
     write_tokens,
 };
-use ans_sauce::split;
+use ans_sauce::{Parts, split};
 use ans_screen::{Grid, PlaneGrid};
+use ans_show::{write_page, write_terminal};
 use std::alloc::Global;
 use std::io::{Read, Write};
 
@@ -79,6 +84,53 @@ fn report<W: Write>(
     };
     let written = write_report(writer, &report_of(&verdict, start, cells));
     told(written, is_pass(&verdict))
+}
+
+/// Writes a picture in colour, with the title of its record and by its non-blink flag.
+fn write_picture<W: Write, G: Grid>(
+    writer: &mut Tried<W>,
+    picture: &Picture<G>,
+    parts: &Parts<'_>,
+    form: Form,
+) -> Result<(), WriteFault>
+    requires { has_failed writer.old ≡ false }
+    ensures device { IsErr result ↔ IsTrue (has_failed writer.new) }
+    ensures bytes { WritesText (W.contents (inner_of writer.old)) (W.contents (inner_of writer.new))
+        result (shown_text form (record_of parts.now) picture.now) }
+{
+    let sauce = parts.sauce();
+    let non_blink = sauce.flags() % 2 == 1;
+    match form {
+        Form::Terminal => write_terminal(writer, picture, non_blink, false),
+        Form::Vga => write_terminal(writer, picture, non_blink, true),
+        Form::Page => write_page(writer, picture, sauce.title(), non_blink),
+    }
+}
+
+/// Checks a file and shows its picture, or writes the report of its refusal. Returns whether the file
+/// passes.
+fn show<W: Write>(
+    alloc: Global,
+    writer: &mut Tried<W>,
+    file: &[u8],
+    start: Start,
+    form: Form,
+) -> Result<bool, RunError>
+    requires works { has_failed writer.old ≡ false }
+    requires length { length file.now ≤ longest_file }
+    ensures reported { IsReported W.contents (ReportsShow file.now start form) writer.old writer.new result }
+    ensures memory { IsSome (record_fault file.now) → IfErr result (λ e. e ≡ RunError.Write) }
+{
+    let Ok(verdict) = check::<PlaneGrid>(alloc, file, start) else {
+        return Err(RunError::Memory);
+    };
+    match &verdict {
+        Verdict::Pass(parts, picture) => told(write_picture(writer, picture, parts, form), true),
+        Verdict::Refused(_, _) => {
+            let report = report_of(&verdict, start, false);
+            told(write_report(writer, &report), false)
+        }
+    }
 }
 
 /// Writes what a file's record says, or why the file is refused. Returns whether it is accepted.
@@ -144,18 +196,20 @@ fn run_command<W: Write>(
 {
     match options.command {
         Command::Check => report(alloc, writer, file, options.start, options.cells),
+        Command::Show(form) => show(alloc, writer, file, options.start, form),
         Command::Sauce => tell_record(writer, file),
         Command::Tokens => tell_tokens(writer, file),
         Command::Needs => tell_needs(alloc, writer, file),
     }
 }
 
-/// Reads the whole input, and writes what the options ask of it: the report of a check, the text of
-/// the record (SAUCE 00.5), the tokens of the content, or what the content needs. Where the record
-/// or the layout is refused, F1 to F8, the two lines of the refusal are written instead. `Ok` says
-/// whether the file passes: a check finds its content good, its record is accepted, all of its
-/// content is read as tokens, or its content is good from the cleared start, so that it is known
-/// what it needs.
+/// Reads the whole input, and writes what the options ask of it: the report of a check, the picture
+/// of a pass in colour, the text of the record (SAUCE 00.5), the tokens of the content, or what the
+/// content needs. Where the content is refused, what should show its picture reports that as a check
+/// does. Where the record or the layout is refused, F1 to F8, the two lines of the refusal are written
+/// instead. `Ok` says whether the file passes: its content is found good, its record is accepted, all
+/// of its content is read as tokens, or its content is good from the cleared start, so that it is
+/// known what it needs.
 ///
 /// `Read` comes exactly where the reader failed in the call, `Write` exactly where the writer did,
 /// and `TooLong` as soon as more than 16,777,216 bytes were read. `Memory` comes where memory runs

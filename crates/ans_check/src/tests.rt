@@ -8,12 +8,13 @@ mod devices;
 mod endings;
 mod large;
 mod needs;
+mod pictures;
 mod records;
 mod reports;
 mod token_lists;
 mod verdicts;
 
-use crate::{Command, Options, RunError, Start, run};
+use crate::{Command, Form, Options, RunError, Start, run};
 use ans_report::Tried;
 use ans_samples::{Narrow, sample_file};
 use std::alloc::AllocError;
@@ -37,6 +38,12 @@ const ANY: Options = asked!(Check);
 const CLEARED: Options = Options {
     start: Start::CLEARED,
     ..ANY
+};
+
+/// The picture for a terminal, from the cleared screen.
+const SHOW: Options = Options {
+    command: Command::Show(Form::Terminal),
+    ..CLEARED
 };
 
 const SAUCE: Options = asked!(Sauce);

@@ -90,28 +90,33 @@ clean_line text h = clean_append text (0x0A ∷ []) h (plain_text (0x0A ∷ []) 
 
 -- ---- numbers
 
+-- what is so of each digit is so of each byte of a number
+module _ (p : ℕ → Bool) (digit : (d : ℕ) → d < 10 → p (digit_glyph false d) ≡ true) where
+  digits_are : (k n : ℕ) (after : List ℕ) → list_all p after ≡ true
+      → list_all p (digits_onto k 10 false n after) ≡ true
+  digits_are zero n after h = h
+  digits_are (suc k) n after h = by_test (n / 10 == 0) (digits_are k (n / 10) (last ∷ after) more)
+    where
+      last : ℕ
+      last = digit_glyph false (n % 10)
+
+      more : list_all p (last ∷ after) ≡ true
+      more = both_true (p last) (list_all p after) (digit (n % 10) (mod-lt n (lit< tt))) h
+
+      by_test : (ends : Bool) → list_all p (digits_onto k 10 false (n / 10) (last ∷ after)) ≡ true
+          → list_all p (if ends then last ∷ after else digits_onto k 10 false (n / 10) (last ∷ after)) ≡ true
+      by_test true rest = more
+      by_test false rest = rest
+
+  pub decimal_is : (n : ℕ) → list_all p (decimal n) ≡ true
+  unfolding digits
+  decimal_is n = digits_are 64 n [] refl
+
 digit_plain : (d : ℕ) → d < 10 → is_plain (digit_glyph false d) ≡ true
 digit_plain d below = grind (arith, nat_tests)
 
-digits_plain : (k n : ℕ) (after : List ℕ) → list_all is_plain after ≡ true
-    → list_all is_plain (digits_onto k 10 false n after) ≡ true
-digits_plain zero n after h = h
-digits_plain (suc k) n after h = by_test (n / 10 == 0) (digits_plain k (n / 10) (digit ∷ after) more)
-  where
-    digit : ℕ
-    digit = digit_glyph false (n % 10)
-
-    more : list_all is_plain (digit ∷ after) ≡ true
-    more = both_true (is_plain digit) (list_all is_plain after) (digit_plain (n % 10) (mod-lt n (lit< tt))) h
-
-    by_test : (last : Bool) → list_all is_plain (digits_onto k 10 false (n / 10) (digit ∷ after)) ≡ true
-        → list_all is_plain (if last then digit ∷ after else digits_onto k 10 false (n / 10) (digit ∷ after)) ≡ true
-    by_test true rest = more
-    by_test false rest = rest
-
 pub clean_decimal : (n : ℕ) → IsCleanText (decimal n)
-unfolding digits
-clean_decimal n = plain_text (decimal n) (digits_plain 64 n [] refl)
+clean_decimal n = plain_text (decimal n) (decimal_is is_plain digit_plain n)
 
 hex_digit_plain : (d : ℕ) → d < 16 → is_plain (hex_digit d) ≡ true
 hex_digit_plain d below = grind (arith, nat_tests)

@@ -38,11 +38,15 @@ use Rattle.ans_model.specs.Text.TokensText.{token_name, token_line, token_lines,
 use Rattle.ans_model.specs.Verdict.Good.{Picture}
 use Rattle.ans_model.proofs.Reading.{reads_bytes}
 use Rattle.ans_options.specs.declared.command.Command.{Command}
-use Rattle.ans_options.specs.declared.command.Command.TheVariants.{Check, Sauce, Tokens, Needs}
+use Rattle.ans_options.specs.declared.command.Command.TheVariants.{Check, Show, Sauce, Tokens, Needs}
+use Rattle.ans_options.specs.declared.command.Form.{Form}
+use Rattle.ans_options.specs.declared.command.Form.TheVariants.{Terminal, Vga, Page}
 use Rattle.ans_options.specs.declared.command.Options.{Options}
 use Rattle.ans_report.specs.Message.{message_line}
 use Rattle.ans_check.specs.CommandText.{Reports, ReportsBy, ReportsCheck, ReportsNeeds}
-use Rattle.ans_check.specs.CommandText.{ReportsRecordFault, ReportsSauce, ReportsTokens, heading}
+use Rattle.ans_check.specs.CommandText.{ReportsPicture, ReportsRecordFault, ReportsSauce, ReportsShow, ReportsTokens}
+use Rattle.ans_check.specs.CommandText.{heading, is_non_blink}
+use Rattle.ans_show.specs.TerminalText.{terminal_text}
 use Rattle.ans_check.specs.Ending.{ending_message}
 use Rattle.ans_check.specs.declared.errors.RunError.{RunError}
 use Rattle.ans_check.specs.declared.errors.RunError.TheVariants as error
@@ -50,7 +54,8 @@ use Rattle.ans_check.specs.declared.exit_status.Ending.{Ending}
 use Rattle.ans_check.specs.declared.exit_status.Ending.TheVariants.{Run, Help, Usage, UnreadableWords, UnopenedFile}
 use Rattle.ans_check.specs.Run.{run_error_text}
 use Rattle.std.specs.Prelude.{Ok, Err}
-use Rattle.ans_judge.specs.CleanTexts.{IsCleanText}
+use Rattle.ans_judge.specs.CleanTexts.{IsCleanText, IsColouredText, is_for_terminal}
+use Rattle.ans_judge.proofs.CleanPictures.{coloured_where_clean, of_rows, page_clean, terminal_coloured}
 use Rattle.ans_judge.proofs.CleanPieces.{clean_nil, clean_append, clean_if, clean_flat_map, plain_text, clean_line}
 use Rattle.ans_judge.proofs.CleanPieces.{clean_decimal, clean_hex_byte, clean_numbers, clean_shown}
 
@@ -179,27 +184,17 @@ digits_clean (c ∷ row) h =
 cells_line_clean : (row : List Cell) → All IsByteCell row → IsCleanText (cells_line row)
 cells_line_clean row h = clean_line (flat_map cell_digits row) (digits_clean row h)
 
--- lines of rows are clean where the line of each row of byte cells is
-rows_clean : (line : List Cell → List ℕ) → ((row : List Cell) → All IsByteCell row → IsCleanText (line row))
-    → (width lines : ℕ) (cells : List Cell) → All IsByteCell cells
-    → IsCleanText (flat_map line (rows width lines cells))
-rows_clean line each width zero cells h = clean_nil
-rows_clean line each width (suc lines) cells h =
-    clean_append (line (take width cells)) (flat_map line (rows width lines (drop width cells)))
-    (each (take width cells) (All-take IsByteCell width cells h))
-    (rows_clean line each width lines (drop width cells) (All-drop IsByteCell width cells h))
-
 picture_clean : (picture : Picture) → All IsByteCell picture.cells → IsCleanText (picture_text picture)
 picture_clean picture h =
     clean_append (line_of (codes "picture:")) (flat_map picture_line (rows_of picture))
     (plain_text (line_of (codes "picture:")) refl)
-    (rows_clean picture_line picture_line_clean picture.size.width picture.size.lines picture.cells h)
+    (of_rows IsCleanText clean_nil clean_append picture_line picture_line_clean picture.size.width picture.size.lines picture.cells h)
 
 cells_clean : (picture : Picture) → All IsByteCell picture.cells → IsCleanText (cells_text picture)
 cells_clean picture h =
     clean_append (line_of (codes "cells:")) (flat_map cells_line (rows_of picture))
     (plain_text (line_of (codes "cells:")) refl)
-    (rows_clean cells_line cells_line_clean picture.size.width picture.size.lines picture.cells h)
+    (of_rows IsCleanText clean_nil clean_append cells_line cells_line_clean picture.size.width picture.size.lines picture.cells h)
 
 pass_clean : (heading : Heading) (picture : Picture) (with_cells : Bool) → All IsByteCell picture.cells
     → IsCleanText (report_text heading (Passed picture with_cells))
@@ -449,17 +444,71 @@ needs_clean file false text (not_good, inl h) =
     subst IsCleanText (sym h.text_is) (refused_clean (heading h.apart None) h.fault)
 needs_clean file false text (not_good, inr h) = record_fault_clean file text h
 
+page_report_clean : (file : List ℕ) (start : Start) (text : List ℕ) → All IsByte file
+    → ReportsPicture file start Page text → IsCleanText text
+page_report_clean file start text bytes h =
+    let sauce = h.apart.record_bytes in
+    let title = trimmed (title_field sauce) in
+    let of_bytes = (parts_are_bytes file h.apart h.passes.accepts bytes).sauce in
+    subst IsCleanText (sym h.text_is)
+    (page_clean (is_non_blink sauce) title h.picture
+    (trimmed_is_bytes (title_field sauce) (field_is_bytes 7 35 sauce of_bytes))
+    h.passes.good.shows.is_picture.bytes)
+
+terminal_report_coloured : (file : List ℕ) (start : Start) (form : Form) (vga : Bool) (text : List ℕ)
+    → (h : ReportsPicture file start form text)
+    → text ≡ terminal_text vga (is_non_blink h.apart.record_bytes) h.picture → IsColouredText text
+terminal_report_coloured file start form vga text h is =
+    subst IsColouredText (sym is)
+    (terminal_coloured vga (is_non_blink h.apart.record_bytes) h.picture h.passes.good.shows.is_picture.bytes)
+
+-- a picture as a page, and any refusal
+show_clean : (file : List ℕ) (start : Start) (form : Form) (passed : Bool) (text : List ℕ) → All IsByte file
+    → ReportsShow file start form passed text → (is_for_terminal (Show form) && passed) ≡ false → IsCleanText text
+show_clean file start Page true text bytes h other = page_report_clean file start text bytes h
+show_clean file start Terminal true text bytes h other = cc
+show_clean file start Vga true text bytes h other = cc
+show_clean file start form false text bytes h other = check_clean file start false false text h
+
+-- any picture, and any refusal
+show_coloured : (file : List ℕ) (start : Start) (form : Form) (passed : Bool) (text : List ℕ) → All IsByte file
+    → ReportsShow file start form passed text → IsColouredText text
+show_coloured file start Page true text bytes h = coloured_where_clean text (page_report_clean file start text bytes h)
+show_coloured file start Terminal true text bytes h =
+    terminal_report_coloured file start Terminal false text h h.text_is
+show_coloured file start Vga true text bytes h = terminal_report_coloured file start Vga true text h h.text_is
+show_coloured file start form false text bytes h =
+    coloured_where_clean text (check_clean file start false false text h)
+
 clean_by : (command : Command) (start : Start) (cells : Bool) (file text : List ℕ) (passed : Bool) → All IsByte file
-    → ReportsBy command start cells file passed text → IsCleanText text
-clean_by Check start cells file text passed bytes h = check_clean file start cells passed text h
-clean_by Sauce start cells file text passed bytes h = sauce_clean file passed text bytes h
-clean_by Tokens start cells file text passed bytes h = tokens_report_clean file passed text h
-clean_by Needs start cells file text passed bytes h = needs_clean file passed text h
+    → ReportsBy command start cells file passed text → (is_for_terminal command && passed) ≡ false → IsCleanText text
+clean_by Check start cells file text passed bytes h other = check_clean file start cells passed text h
+clean_by (Show form) start cells file text passed bytes h other = show_clean file start form passed text bytes h other
+clean_by Sauce start cells file text passed bytes h other = sauce_clean file passed text bytes h
+clean_by Tokens start cells file text passed bytes h other = tokens_report_clean file passed text h
+clean_by Needs start cells file text passed bytes h other = needs_clean file passed text h
 
 pub reports_clean : (options : Options) (file text : List ℕ) (passed : Bool) → All IsByte file
-    → Reports options file passed text → IsCleanText text
-reports_clean options file text passed bytes h =
-    clean_by options.command options.start options.cells file text passed bytes h
+    → Reports options file passed text → (is_for_terminal options.command && passed) ≡ false → IsCleanText text
+reports_clean options file text passed bytes h other =
+    clean_by options.command options.start options.cells file text passed bytes h other
+
+coloured_by : (command : Command) (start : Start) (cells : Bool) (file text : List ℕ) (passed : Bool) → All IsByte file
+    → ReportsBy command start cells file passed text → IsColouredText text
+coloured_by Check start cells file text passed bytes h =
+    coloured_where_clean text (check_clean file start cells passed text h)
+coloured_by (Show form) start cells file text passed bytes h = show_coloured file start form passed text bytes h
+coloured_by Sauce start cells file text passed bytes h =
+    coloured_where_clean text (sauce_clean file passed text bytes h)
+coloured_by Tokens start cells file text passed bytes h =
+    coloured_where_clean text (tokens_report_clean file passed text h)
+coloured_by Needs start cells file text passed bytes h =
+    coloured_where_clean text (needs_clean file passed text h)
+
+pub reports_coloured : (options : Options) (file text : List ℕ) (passed : Bool) → All IsByte file
+    → Reports options file passed text → IsColouredText text
+reports_coloured options file text passed bytes h =
+    coloured_by options.command options.start options.cells file text passed bytes h
 
 -- ---- what is said where there is no answer
 

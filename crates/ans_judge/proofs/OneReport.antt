@@ -19,12 +19,14 @@ use Rattle.ans_model.proofs.AcceptedFiles.{no_fault, one_layout}
 use Rattle.ans_model.proofs.ClassLemmas.{covers_itself}
 use Rattle.ans_model.proofs.OneAnswer.{one_first_fault, one_last_fault, first_or_last}
 use Rattle.ans_laws.proofs.OneTokensText.{one_fault_of_tokens, one_text_of_tokens}
-use Rattle.ans_options.specs.declared.command.Command.TheVariants.{Check, Sauce, Tokens, Needs}
+use Rattle.ans_options.specs.declared.command.Command.TheVariants.{Check, Show, Sauce, Tokens, Needs}
+use Rattle.ans_options.specs.declared.command.Form.{Form}
 use Rattle.ans_options.specs.declared.command.Command.{Command}
 use Rattle.ans_options.specs.declared.command.Options.{Options}
 use Rattle.ans_check.specs.CommandText.{Reports, ReportsBy, ReportsCheck, ReportsContent, ReportsFault, ReportsLeast}
-use Rattle.ans_check.specs.CommandText.{ReportsNeeds, ReportsPass}
-use Rattle.ans_check.specs.CommandText.{ReportsRecordFault, ReportsSauce, ReportsTokens, heading}
+use Rattle.ans_check.specs.CommandText.{ReportsNeeds, ReportsPass, ReportsPicture, ReportsShow}
+use Rattle.ans_check.specs.CommandText.{ReportsRecordFault, ReportsSauce, ReportsTokens, heading, shown_text}
+use Rattle.ans_check.specs.FileVerdict.{Passes}
 use Rattle.ans_check.specs.FileNeeds.{NeedsClass}
 use Rattle.ans_check.specs.FileVerdict.{Deserves, IsGoodFile, IsRefusedFor, stated_size}
 use Rattle.ans_judge.proofs.Covering.{covers_all_known, covers_both_ways}
@@ -79,16 +81,21 @@ one_refusal file start a b f g p q =
 
 -- ---- checks
 
+-- a file passes with one picture, and in one layout
+same_picture : (file : List ℕ) (start : Start) (a b : FileParts) (p q : Picture) → Passes file start a p
+    → Passes file start b q → (a ≡ b) × (p ≡ q)
+same_picture file start a b p q h g =
+    let apart : a ≡ b = same_apart file a b h.accepts g.accepts in
+    let moved : GoodWith (stated_size b) start (content b.body) p =
+    subst (λ (v : FileParts). GoodWith (stated_size v) start (content v.body) p) apart h.good in
+    (apart, one_picture (stated_size b) start start (content b.body) p q moved g.good)
+
 one_pass : (file : List ℕ) (start : Start) (cells : Bool) (text other : List ℕ) → ReportsPass file start cells text
     → ReportsPass file start cells other → text ≡ other
 one_pass file start cells text other h g =
-    let apart : h.apart ≡ g.apart = same_apart file h.apart g.apart h.passes.accepts g.passes.accepts in
-    let moved : GoodWith (stated_size g.apart) start (content g.apart.body) h.picture =
-    subst (λ (v : FileParts). GoodWith (stated_size v) start (content v.body) h.picture) apart h.passes.good in
-    let picture : h.picture ≡ g.picture =
-    one_picture (stated_size g.apart) start start (content g.apart.body) h.picture g.picture moved g.passes.good in
+    let same = same_picture file start h.apart g.apart h.picture g.picture h.passes g.passes in
     h.text_is
-    ∙ ap₂ (λ (v : FileParts) (p : Picture). report_text (heading v (Some start)) (Passed p cells)) apart picture
+    ∙ ap₂ (λ (v : FileParts) (p : Picture). report_text (heading v (Some start)) (Passed p cells)) same.0 same.1
     ∙ sym g.text_is
 
 one_fault : (file : List ℕ) (start : Start) (named : Option Start) (text other : List ℕ)
@@ -115,6 +122,25 @@ one_check file start cells true true text other h g = (refl, one_pass file start
 one_check file start cells true false text other h g = absurd (g.0 (good_file file start cells text h))
 one_check file start cells false true text other h g = absurd (h.0 (good_file file start cells other g))
 one_check file start cells false false text other h g = (refl, one_fault file start (Some start) text other h.1 g.1)
+
+-- ---- pictures
+
+one_shown : (file : List ℕ) (start : Start) (form : Form) (text other : List ℕ) → ReportsPicture file start form text
+    → ReportsPicture file start form other → text ≡ other
+one_shown file start form text other h g =
+    let same = same_picture file start h.apart g.apart h.picture g.picture h.passes g.passes in
+    h.text_is
+    ∙ ap₂ (λ (v : FileParts) (p : Picture). shown_text form v.record_bytes p) same.0 same.1
+    ∙ sym g.text_is
+
+one_show : (file : List ℕ) (start : Start) (form : Form) (passed again : Bool) (text other : List ℕ)
+    → ReportsShow file start form passed text → ReportsShow file start form again other
+    → IsOne passed again text other
+one_show file start form true true text other h g = (refl, one_shown file start form text other h g)
+one_show file start form true false text other h g = absurd (g.0 (h.apart, h.picture, h.passes))
+one_show file start form false true text other h g = absurd (h.0 (g.apart, g.picture, g.passes))
+one_show file start form false false text other h g =
+    (refl, one_fault file start (Some start) text other h.1 g.1)
 
 -- ---- records
 
@@ -202,6 +228,8 @@ one_by : (command : Command) (start : Start) (cells : Bool) (file text other : L
     → ReportsBy command start cells file passed text → ReportsBy command start cells file again other
     → IsOne passed again text other
 one_by Check start cells file text other passed again h g = one_check file start cells passed again text other h g
+one_by (Show form) start cells file text other passed again h g =
+    one_show file start form passed again text other h g
 one_by Sauce start cells file text other passed again h g = one_sauce file passed again text other h g
 one_by Tokens start cells file text other passed again h g = one_tokens file passed again text other h g
 one_by Needs start cells file text other passed again h g = one_needs file passed again text other h g

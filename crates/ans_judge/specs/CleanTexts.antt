@@ -1,6 +1,12 @@
 -- Texts that are shown as they stand: a terminal that reads UTF-8 finds no control character in them but line feeds.
-use Rattle.std.specs.Prelude.{◌≡◌, ◌⊎◌, ℕ, ◌<◌, ◌≤◌, true, List, [], ◌∷◌, ◌++◌, All, encode_utf8_all}
+use Rattle.std.specs.Prelude.{◌≡◌, ◌⊎◌, ◌||◌, ◌&&◌, ◌==◌, ℕ, ◌<◌, ◌≤◌, nat_le, nat_lt, Bool, true, false, All}
+use Rattle.std.specs.Prelude.{List, [], ◌∷◌, ◌++◌, flat_map, encode_utf8_all}
+use Rattle.std.specs.List.{list_all}
 use Rattle.std.specs.Str.{all_scalars}
+use Rattle.ans_model.specs.Bytes.{escape, semicolon}
+use Rattle.ans_options.specs.declared.command.Command.{Command}
+use Rattle.ans_options.specs.declared.command.Command.TheVariants.{Show}
+use Rattle.ans_options.specs.declared.command.Form.TheVariants.{Terminal, Vga}
 
 -- Unicode's control characters: C0, DEL and C1
 abbrev pub IsControl : ℕ → Type 0
@@ -39,3 +45,25 @@ pub record IsOneLine (text : List ℕ) : Type 0 where
   pub line : List ℕ
   pub whole : text ≡ line ++ 0x0A ∷ []
   pub none : All (λ b. ¬ IsControlByte b) line
+
+-- whether a byte is a digit or a semicolon
+abbrev pub is_parameter_byte : ℕ → Bool
+is_parameter_byte b = (nat_le 0x30 b && nat_lt b 0x3A) || b == semicolon
+
+-- The text is a sequence that sets colours: ESC, `[`, digits and semicolons, `m`.
+pub record IsColourSequence (text : List ℕ) : Type 0 where
+  pub parameters : List ℕ
+  pub are_parameters : list_all is_parameter_byte parameters ≡ true
+  pub whole : text ≡ escape ∷ 0x5B ∷ (parameters ++ 0x6D ∷ [])
+
+-- The text is pieces, each of which is clean or a sequence that sets colours.
+pub record IsColouredText (text : List ℕ) : Type 0 where
+  pub pieces : List (List ℕ)
+  pub whole : text ≡ flat_map (λ piece. piece) pieces
+  pub each : All (λ piece. IsCleanText piece ⊎ IsColourSequence piece) pieces
+
+-- whether the command writes pictures for a terminal, with sequences
+abbrev pub is_for_terminal : Command → Bool
+is_for_terminal (Show Terminal) = true
+is_for_terminal (Show Vga) = true
+is_for_terminal _ = false

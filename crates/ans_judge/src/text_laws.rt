@@ -1,6 +1,6 @@
 //! Laws of the texts that are written: no byte of a file comes out as a control character.
 
-ghost use Rattle.std.specs.Prelude.{◌≡◌, ℕ, Bool, List, All, Some};
+ghost use Rattle.std.specs.Prelude.{◌≡◌, ◌&&◌, ℕ, Bool, false, List, All, Some};
 ghost use Rattle.ans_model.specs.Bytes.{IsByte};
 ghost use Rattle.ans_model.specs.Text.Characters.{glyph_text, shown_bytes};
 ghost use Rattle.ans_model.specs.Text.RecordText.{named_line};
@@ -10,7 +10,7 @@ ghost use Rattle.ans_check.specs.declared.exit_status.Ending.{Ending};
 ghost use Rattle.ans_options.specs.declared.command.Options.{Options};
 ghost use Rattle.ans_report.specs.Message.{message_line};
 ghost use Rattle.ans_judge.specs.CleanTexts.{IsCleanByte, IsCleanText, HasNoControls};
-ghost use Rattle.ans_judge.specs.CleanTexts.{IsControl, IsControlByte, IsOneLine};
+ghost use Rattle.ans_judge.specs.CleanTexts.{IsColouredText, IsControl, IsControlByte, IsOneLine, is_for_terminal};
 
 /// No byte is shown by a control character, not even a line feed. So the text by which bytes are
 /// shown has none, whatever they are: the bytes of a record's field, of a comment, or of a picture's
@@ -27,11 +27,15 @@ pub fn fields_are_shown_in_one_line()
         → IsOneLine (named_line name (shown_bytes bytes)) }
 {}
 
-/// What is written of a file is clean, whatever is asked of it, and so is the line on standard error
-/// that says why there is no answer. Of what clap says of the words this tells nothing.
+/// What is written of a file is clean, whatever is asked of it, but for a picture in the colours of a
+/// terminal; that is clean between the sequences that set its colours. So is the line on standard
+/// error that says why there is no answer. Of what clap says of the words this tells nothing.
 pub fn texts_are_clean()
     ensures reports { (options : Options) (file text : List ℕ) (passed : Bool)
-        → All IsByte file → Reports options file passed text → IsCleanText text }
+        → All IsByte file → Reports options file passed text
+        → (is_for_terminal options.command && passed) ≡ false → IsCleanText text }
+    ensures pictures { (options : Options) (file text : List ℕ) (passed : Bool)
+        → All IsByte file → Reports options file passed text → IsColouredText text }
     ensures messages { (ending : Ending) (text : List ℕ)
         → ending_message ending ≡ Some text → IsCleanText (message_line text) }
 {}

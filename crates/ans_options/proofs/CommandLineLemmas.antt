@@ -19,7 +19,8 @@ use Rattle.clap.specs.declared.parser.matches.SubCommand.{SubCommand}
 use Rattle.std.proofs.Common.{inl, inr, ◌⊎◌}
 use Rattle.clap.specs.Walk.{answers_to, stop_after}
 use Rattle.clap.specs.Simple.{argument_words, built, entered, label_of, names_of, rows_at}
-use Rattle.ans_options.specs.declared.command.Command.TheVariants.{Check, Sauce, Tokens, Needs}
+use Rattle.ans_options.specs.declared.command.Command.TheVariants.{Check, Show, Sauce, Tokens, Needs}
+use Rattle.ans_options.specs.declared.command.Form.TheVariants.{Terminal}
 use Rattle.std.proofs.Common.{subst, ◌&&◌, not}
 use Rattle.clap.specs.declared.builder.command.Command.{Command}
 use Rattle.clap.specs.Words.{app_of, is_simple, HasMatchesOf, IsParsedFrom}
@@ -99,7 +100,7 @@ entered_met : (a : App) (stop : Option (Text × List Text)) (met : Text × List 
 entered_met a None met e = cc
 entered_met a (Some p) met e = (p.1, found_met p.1 (λ s. answers_to p.0 (label_of s)) a.subs met e)
 
--- the subcommand that the words name is one of the program's four
+-- the subcommand that the words name is one of the program's
 pub program_met : (words : List Text) (met : Text × List Row) → subcommand_of anscheck words ≡ Some met
     → (w : List Text) × MetIn met w (built anscheck).subs
 program_met words met e =
@@ -119,11 +120,14 @@ command_found words (Some p) e some =
       | inl needs ↦ (Needs, name_met needs)
       | inr others ↦ elim others [
         | inl check ↦ (Check, name_met check)
-        | inr later ↦ elim later [
-          | inl sauce ↦ (Sauce, name_met sauce)
-          | inr last ↦ elim last [
-            | inl tokens ↦ (Tokens, name_met tokens)
-            | inr never ↦ absurd never
+        | inr more ↦ elim more [
+          | inl show ↦ (Show Terminal, name_met show)
+          | inr later ↦ elim later [
+            | inl sauce ↦ (Sauce, name_met sauce)
+            | inr last ↦ elim last [
+              | inl tokens ↦ (Tokens, name_met tokens)
+              | inr never ↦ absurd never
+            ]
           ]
         ]
       ]

@@ -8,7 +8,7 @@ use Rattle.std.specs.Str.{chars}
 use Rattle.clap.specs.declared.error.ErrorKind.TheVariants.{DisplayHelp, DisplayVersion}
 use Rattle.clap.specs.declared.error.ErrorKind.TheVariants.{InvalidSubcommand, UnknownArgument}
 use Rattle.ans_options.specs.declared.command.Command.{Command}
-use Rattle.ans_options.specs.declared.command.Command.TheVariants.{Check, Sauce, Tokens, Needs}
+use Rattle.ans_options.specs.declared.command.Command.TheVariants.{Check, Show, Sauce, Tokens, Needs}
 use Rattle.ans_options.specs.CommandLine.{IsNoCommand, command_name, faults_of}
 use Rattle.ans_options.proofs.MeaningLemmas.{no_command_name}
 
@@ -31,6 +31,7 @@ pub help_of_command : (program : Text) (c : Command)
 unfolding walked walk_fault
 help_of_command program Needs = refl
 help_of_command program Check = refl
+help_of_command program (Show form) = refl
 help_of_command program Sauce = refl
 help_of_command program Tokens = refl
 
@@ -44,5 +45,6 @@ pub help_of_more : (program word : Text) (more : List Text) (c : Command)
 unfolding walked walk_fault
 help_of_more program word more Needs = refl
 help_of_more program word more Check = refl
+help_of_more program word more (Show form) = refl
 help_of_more program word more Sauce = refl
 help_of_more program word more Tokens = refl

@@ -1,5 +1,5 @@
 -- The command line, and the options that its words give.
-use Rattle.std.specs.Prelude.{map, fold, ◌≡◌, ◌≢◌, ◌↔◌, ◌||◌, Bool, true, false, List, [], ◌∷◌, Option, Some, codes}
+use Rattle.std.specs.Prelude.{map, fold, ◌≡◌, ◌≢◌, ◌↔◌, not, Bool, true, false, List, [], ◌∷◌, Option, Some, codes}
 use Rattle.std.specs.Prelude.{IsSomeAnd, IsTrue, if◌then◌else◌, ⊤}
 use Rattle.std.specs.List.{list_any}
 use Rattle.std.specs.Borrow.{Bor}
@@ -11,10 +11,13 @@ use Rattle.clap.specs.declared.builder.ArgAction.TheVariants.{SetTrue}
 use Rattle.clap.specs.declared.error.ErrorKind.TheVariants.{DisplayHelp, DisplayVersion, OutOfMemory}
 use Rattle.clap.specs.declared.error.ErrorKind.{ErrorKind}
 use Rattle.ans_model.specs.declared.start.Start.{Start}
+use Rattle.ans_model.specs.Screen.StartClass.{all_known}
 use Rattle.ans_options.specs.declared.command_line.WordsError.{WordsError}
 use Rattle.ans_options.specs.declared.command_line.WordsError.TheVariants as words_error
 use Rattle.ans_options.specs.declared.command.Command.{Command}
-use Rattle.ans_options.specs.declared.command.Command.TheVariants.{Check, Sauce, Tokens, Needs}
+use Rattle.ans_options.specs.declared.command.Command.TheVariants.{Check, Show, Sauce, Tokens, Needs}
+use Rattle.ans_options.specs.declared.command.Form.{Form}
+use Rattle.ans_options.specs.declared.command.Form.TheVariants.{Terminal, Vga, Page}
 use Rattle.ans_options.specs.declared.command.Options.{Options}
 
 -- the words, as texts
@@ -37,15 +40,18 @@ file_app name = with_rule (new_app name) file_rule
 abbrev pub with_flags : App → List Text → App
 with_flags app names = fold (λ a name. with_rule a (flag_rule name)) app names
 
--- the flags of `check`, in the order of its help
-abbrev pub check_flags : List Text
-check_flags =
-    codes "known-screen" ∷ codes "known-cursor" ∷ codes "known-saved" ∷ codes "known-colours" ∷ codes "known-wrap"
-    ∷ codes "cleared" ∷ codes "cells" ∷ []
+-- the flags that name a part of the start
+abbrev pub part_flags : List Text
+part_flags =
+    codes "known-screen" ∷ codes "known-cursor" ∷ codes "known-saved" ∷ codes "known-colours" ∷ codes "known-wrap" ∷ []
 
--- `check`, its flags and `[FILE]`
+-- `check`, its flags in the order of its help, and `[FILE]`
 abbrev pub check_app : App
-check_app = with_flags (file_app (codes "check")) check_flags
+check_app = with_flags (with_flags (file_app (codes "check")) part_flags) (codes "cleared" ∷ codes "cells" ∷ [])
+
+-- `show`, its flags in the order of its help, and `[FILE]`
+abbrev pub show_app : App
+show_app = with_flags (with_flags (file_app (codes "show")) (codes "html" ∷ codes "vga" ∷ codes "any" ∷ [])) part_flags
 
 -- `sauce [FILE]`
 abbrev pub sauce_app : App
@@ -68,15 +74,24 @@ anscheck_top = let a = new_app (codes "anscheck") in
 abbrev pub anscheck : App
 anscheck =
     with_subcommand
-    (with_subcommand (with_subcommand (with_subcommand anscheck_top needs_app.top) check_app.top) sauce_app.top)
+    (with_subcommand
+    (with_subcommand (with_subcommand (with_subcommand anscheck_top needs_app.top) check_app.top) show_app.top)
+    sauce_app.top)
     tokens_app.top
 
 -- the subcommand of each command
 abbrev pub command_name : Command → Text
 command_name Check = codes "check"
+command_name (Show form) = codes "show"
 command_name Sauce = codes "sauce"
 command_name Tokens = codes "tokens"
 command_name Needs = codes "needs"
+
+-- whether a command takes flags
+abbrev pub takes_flags : Command → Bool
+takes_flags Check = true
+takes_flags (Show form) = true
+takes_flags _ = false
 
 -- no command has this name
 abbrev pub IsNoCommand : Text → Type 0
@@ -84,7 +99,7 @@ IsNoCommand name = (c : Command) → name ≢ command_name c
 
 -- the names of the commands, in the order of the help
 abbrev pub command_names : List Text
-command_names = codes "needs" ∷ codes "check" ∷ codes "sauce" ∷ codes "tokens" ∷ []
+command_names = codes "needs" ∷ codes "check" ∷ codes "show" ∷ codes "sauce" ∷ codes "tokens" ∷ []
 
 -- one of the commands has this name
 abbrev pub is_command_name : Text → Bool
@@ -117,23 +132,45 @@ holds_flag id rows = option_map_or (λ t. bytes_eq t (codes "true")) (one_of id 
 abbrev pub IsCommand : (Text × List Row) → Type 0
 IsCommand sub = (c : Command) × (sub.0 ≡ command_name c)
 
--- the matches hold the flag, or `--cleared`, which knows all parts
-abbrev pub holds_flag_or_cleared : Text → List Row → Bool
-holds_flag_or_cleared id rows = holds_flag id rows || holds_flag (codes "cleared") rows
+-- the parts of the start that the flags name
+abbrev pub named_start : List Row → Start
+named_start rows = record {
+  screen = holds_flag (codes "known-screen") rows;
+  cursor = holds_flag (codes "known-cursor") rows;
+  saved = holds_flag (codes "known-saved") rows;
+  colours = holds_flag (codes "known-colours") rows;
+  wrap = holds_flag (codes "known-wrap") rows;
+}
 
--- each part of the start is known exactly where the matches hold its flag or `--cleared`
-pub record KnowsAsHeld (start : Start) (rows : List Row) : Type 0 where
-  pub screen : start.screen ≡ holds_flag_or_cleared (codes "known-screen") rows
-  pub cursor : start.cursor ≡ holds_flag_or_cleared (codes "known-cursor") rows
-  pub saved : start.saved ≡ holds_flag_or_cleared (codes "known-saved") rows
-  pub colours : start.colours ≡ holds_flag_or_cleared (codes "known-colours") rows
-  pub wrap : start.wrap ≡ holds_flag_or_cleared (codes "known-wrap") rows
+-- Whether all parts are known. A picture is shown from the cleared start unless a flag says otherwise, which names a part
+-- or is `--any`; another command asks for it by `--cleared`.
+abbrev pub asks_for_cleared : Command → List Row → Bool
+asks_for_cleared (Show form) rows = not (list_any (λ flag. holds_flag flag rows) (codes "any" ∷ part_flags))
+asks_for_cleared _ rows = holds_flag (codes "cleared") rows
 
--- The subcommand is named as the command, and its matches say which parts of the start are known. They hold `--cells`
--- exactly where the cells are asked for, and the file exactly where one is given, with that text.
+-- what is known of the start: all of it, or the parts that the flags name
+abbrev pub start_asked : Command → List Row → Start
+start_asked command rows = if asks_for_cleared command rows then all_known else named_start rows
+
+-- the form of a picture: with `--html` a page, else with `--vga` the colours of a VGA
+abbrev pub form_asked : List Row → Form
+form_asked rows =
+    if holds_flag (codes "html") rows then Page
+    else if holds_flag (codes "vga") rows then Vga
+    else Terminal
+
+-- where the command shows a picture, it is in the form that the flags ask for
+abbrev pub IsInFormAsked : Command → List Row → Type 0
+IsInFormAsked (Show form) rows = form ≡ form_asked rows
+IsInFormAsked _ rows = ⊤
+
+-- The subcommand is named as the command, and its matches say in which form a picture is shown and which parts of the
+-- start are known. They hold `--cells` exactly where the cells are asked for, and the file exactly where one is given,
+-- with that text.
 abbrev pub AsksFor : (Text × List Row) → Options → Option Text → Type 0
 AsksFor sub o file = (sub.0 ≡ command_name o.command)
-    × KnowsAsHeld o.start sub.1
+    × IsInFormAsked o.command sub.1
+    × (o.start ≡ start_asked o.command sub.1)
     × (IsTrue o.cells ↔ IsTrue (holds_flag (codes "cells") sub.1))
     × (file ≡ first_of (codes "file") sub.1)
 

@@ -2,11 +2,24 @@
 
 use ans_model::start::Start;
 
+/// The form in which a picture is shown.
+#[derive(Debug, Clone, Copy, PartialEq, Eq)]
+pub enum Form {
+    /// Text for a terminal, in the terminal's own colours.
+    Terminal,
+    /// Text for a terminal, in the sixteen colours of a VGA.
+    Vga,
+    /// A page, an HTML document.
+    Page,
+}
+
 /// What the program does with a file.
 #[derive(Debug, Clone, Copy, PartialEq, Eq)]
 pub enum Command {
     /// Checks it, and writes the report.
     Check,
+    /// Checks it, and writes its picture in colour, or the report of its refusal.
+    Show(Form),
     /// Writes what its record says, or why the file is refused for its record or its layout.
     Sauce,
     /// Writes the tokens of its content, or why the file is refused for its record or its layout.
@@ -19,8 +32,8 @@ pub enum Command {
 #[derive(Debug, Clone, Copy, PartialEq, Eq)]
 pub struct Options {
     pub command: Command,
-    /// What is known of the state that the content finds. Only a check reads it.
+    /// What is known of the state that the content finds. Only `Check` and `Show` read it.
     pub start: Start,
-    /// Whether the report of a pass also tells each cell. Only a check reads it.
+    /// Whether the report of a pass also tells each cell. Only `Check` reads it.
     pub cells: bool,
 }

@@ -3,13 +3,14 @@ ghost use Rattle.std.specs.Prelude.{◌≡◌, true, IfOk, option_map, string_by
 ghost use Rattle.std.specs.Prelude.{IsSomeAnd, IsTrue, ◌↔◌, ◌≢◌, false, [], ◌∷◌};
 ghost use Rattle.clap.specs.Words.{app_of, first_of, found_of, rows_of, rule_of, subcommand_rows_of, takes};
 ghost use Rattle.ans_model.specs.Screen.StartClass.{none_known};
-ghost use Rattle.ans_options.specs.CommandLine.{AreOptionsOf, AsksFor, IsCommand, IsNoCommand, RanOutOfMemory};
-ghost use Rattle.ans_options.specs.CommandLine.{HasKindAmong, KnowsAsHeld, holds_flag_or_cleared, flag_rule};
-ghost use Rattle.ans_options.specs.CommandLine.{faults_of, help_on, with_flags, words_meant};
-ghost use Rattle.ans_options.specs.CommandLine.{anscheck, check_app, command_name, file_app, holds_flag, texts_of};
+ghost use Rattle.ans_options.specs.CommandLine.{AreOptionsOf, AsksFor, IsCommand, IsInFormAsked, IsNoCommand};
+ghost use Rattle.ans_options.specs.CommandLine.{HasKindAmong, RanOutOfMemory, start_asked, flag_rule};
+ghost use Rattle.ans_options.specs.CommandLine.{faults_of, form_asked, help_on, named_start, takes_flags, with_flags};
+ghost use Rattle.ans_options.specs.CommandLine.{words_meant, anscheck, check_app, command_name, file_app};
+ghost use Rattle.ans_options.specs.CommandLine.{asks_for_cleared, holds_flag, show_app, texts_of};
 ghost use Rattle.ans_options.specs.declared.command_line.WordsError.TheVariants.{Clap};
 
-use crate::command::{Command, Options};
+use crate::command::{Command, Form, Options};
 use ans_model::start::Start;
 use clap::{Arg, ArgAction, ArgMatches};
 use std::alloc::{AllocError, Global};
@@ -52,12 +53,21 @@ Exit status:
 /// The last lines of a command's help.
 const COMMAND_END: &str = with_exit_statuses!("");
 
+/// The last lines of the help of `show`.
+const SHOW_END: &str = with_exit_statuses!(
+    "\
+Without --any or a --known flag all five are assumed: a screen just cleared.
+
+"
+);
+
 /// The last lines of the program's help.
 const PROGRAM_END: &str = with_exit_statuses!(
     "\
 Examples:
   anscheck needs drawing.ans
   anscheck check --cleared drawing.ans
+  anscheck show drawing.ans
   anscheck help check
 
 "
@@ -68,12 +78,14 @@ const NEEDS: &str = "Print what a drawing relies on: screen, cursor, saved, colo
 
 const CHECK: &str = "Check that a file always shows the same picture, and print it";
 
+const SHOW: &str = "Show the picture in its colours, for a terminal or as a page";
+
 const SAUCE: &str = "Print what a file's SAUCE record says";
 
 const TOKENS: &str = "Print the bytes and the escape sequences of a file, one a line";
 
-/// The flags of `check`, each with its help.
-const CHECK_FLAGS: [(&str, &str); 7] = [
+/// The flags that name a part of the start, each with its help.
+const PART_FLAGS: [(&str, &str); 5] = [
     (
         "known-screen",
         "Assume the screen to be blank, white on black",
@@ -85,6 +97,10 @@ const CHECK_FLAGS: [(&str, &str); 7] = [
     ),
     ("known-colours", "Assume the colours to be white on black"),
     ("known-wrap", "Assume wrap to be on"),
+];
+
+/// The other flags of `check`.
+const CHECK_FLAGS: [(&str, &str); 2] = [
     ("cleared", "Assume all five: a screen that was just cleared"),
     (
         "cells",
@@ -92,10 +108,18 @@ const CHECK_FLAGS: [(&str, &str); 7] = [
     ),
 ];
 
+/// The other flags of `show`.
+const SHOW_FLAGS: [(&str, &str); 3] = [
+    ("html", "Write an HTML page, in the colours of a VGA"),
+    ("vga", "Mix the colours of a VGA, whatever the terminal's are"),
+    ("any", "Assume nothing but what a --known flag says"),
+];
+
 fn file_command<'a>(
     alloc: Global,
     name: &'a str,
     about: &'a str,
+    end: &'a str,
 ) -> Result<clap::Command<'a>, AllocError>
     ensures { IfOk result (λ c. app_of c ≡ file_app name.now) }
 {
@@ -104,7 +128,7 @@ fn file_command<'a>(
         .help("The file to read; - or none is standard input");
     clap::Command::new(alloc, name)
         .about(about)
-        .after_help(COMMAND_END)
+        .after_help(end)
         .arg(file)
 }
 
@@ -135,17 +159,27 @@ fn with_flags<'a>(
 fn check_command<'a>(alloc: Global) -> Result<clap::Command<'a>, AllocError>
     ensures { IfOk result (λ c. app_of c ≡ check_app) }
 {
-    let command = file_command(alloc, "check", CHECK)?;
+    let command = file_command(alloc, "check", CHECK, COMMAND_END)?;
+    let command = with_flags(alloc, command, &PART_FLAGS)?;
     with_flags(alloc, command, &CHECK_FLAGS)
+}
+
+fn show_command<'a>(alloc: Global) -> Result<clap::Command<'a>, AllocError>
+    ensures { IfOk result (λ c. app_of c ≡ show_app) }
+{
+    let command = file_command(alloc, "show", SHOW, SHOW_END)?;
+    let command = with_flags(alloc, command, &SHOW_FLAGS)?;
+    with_flags(alloc, command, &PART_FLAGS)
 }
 
 fn program<'a>(alloc: Global) -> Result<clap::Command<'a>, AllocError>
     ensures { IfOk result (λ c. app_of c ≡ anscheck) }
 {
-    let needs = file_command(alloc, "needs", NEEDS)?;
+    let needs = file_command(alloc, "needs", NEEDS, COMMAND_END)?;
     let check = check_command(alloc)?;
-    let sauce = file_command(alloc, "sauce", SAUCE)?;
-    let tokens = file_command(alloc, "tokens", TOKENS)?;
+    let show = show_command(alloc)?;
+    let sauce = file_command(alloc, "sauce", SAUCE, COMMAND_END)?;
+    let tokens = file_command(alloc, "tokens", TOKENS, COMMAND_END)?;
     clap::Command::new(alloc, "anscheck")
         .version(VERSION)
         .about("Checks ANSI art files that end in a SAUCE record")
@@ -154,6 +188,7 @@ fn program<'a>(alloc: Global) -> Result<clap::Command<'a>, AllocError>
         .disable_help_subcommand(true)
         .subcommand(needs)?
         .subcommand(check)?
+        .subcommand(show)?
         .subcommand(sauce)?
         .subcommand(tokens)
 }
@@ -171,27 +206,66 @@ fn command_named(name: &str) -> Option<Command>
     match name {
         "needs" => Some(Command::Needs),
         "check" => Some(Command::Check),
+        "show" => Some(Command::Show(Form::Terminal)),
         "sauce" => Some(Command::Sauce),
         "tokens" => Some(Command::Tokens),
         _ => None,
     }
 }
 
-fn knows(matches: &ArgMatches<'_>, id: &str) -> bool
-    ensures { result ≡ holds_flag_or_cleared id.now (rows_of (found_of matches.now)) }
+fn form_asked(matches: &ArgMatches<'_>) -> Form
+    ensures { result ≡ form_asked (rows_of (found_of matches.now)) }
 {
-    holds(matches, id) || holds(matches, "cleared")
+    if holds(matches, "html") {
+        Form::Page
+    } else if holds(matches, "vga") {
+        Form::Vga
+    } else {
+        Form::Terminal
+    }
 }
 
-fn start_for(matches: &ArgMatches<'_>) -> Start
-    ensures { KnowsAsHeld result (rows_of (found_of matches.now)) }
+/// The command, with the form that the flags ask for.
+fn in_form_asked(command: Command, matches: &ArgMatches<'_>) -> Command
+    ensures name { command_name result ≡ command_name command }
+    ensures form { IsInFormAsked result (rows_of (found_of matches.now)) }
+{
+    match command {
+        Command::Show(_) => Command::Show(form_asked(matches)),
+        _ => command,
+    }
+}
+
+fn named_start(matches: &ArgMatches<'_>) -> Start
+    ensures { result ≡ named_start (rows_of (found_of matches.now)) }
 {
     Start {
-        screen: knows(matches, "known-screen"),
-        cursor: knows(matches, "known-cursor"),
-        saved: knows(matches, "known-saved"),
-        colours: knows(matches, "known-colours"),
-        wrap: knows(matches, "known-wrap"),
+        screen: holds(matches, "known-screen"),
+        cursor: holds(matches, "known-cursor"),
+        saved: holds(matches, "known-saved"),
+        colours: holds(matches, "known-colours"),
+        wrap: holds(matches, "known-wrap"),
+    }
+}
+
+fn asks_for_cleared(command: Command, named: Start, matches: &ArgMatches<'_>) -> bool
+    requires { named ≡ named_start (rows_of (found_of matches.now)) }
+    ensures { result ≡ asks_for_cleared command (rows_of (found_of matches.now)) }
+{
+    match command {
+        Command::Show(_) => named == Start::ANY && !holds(matches, "any"),
+        _ => holds(matches, "cleared"),
+    }
+}
+
+fn start_asked(command: Command, matches: &ArgMatches<'_>) -> Start
+    ensures { result ≡ start_asked command (rows_of (found_of matches.now)) }
+{
+    let named = named_start(matches);
+    if asks_for_cleared(command, named, matches) {
+        Start::CLEARED
+    } else {
+        named
     }
 }
 
@@ -210,14 +284,16 @@ fn file_of(alloc: Global, matches: &ArgMatches<'_>) -> Result<Option<String>, Wo
 }
 
 fn options_of(command: Command, matches: &ArgMatches<'_>) -> Options
-    ensures command { result.command ≡ command }
-    ensures start { KnowsAsHeld result.start (rows_of (found_of matches.now)) }
+    ensures name { command_name result.command ≡ command_name command }
+    ensures form { IsInFormAsked result.command (rows_of (found_of matches.now)) }
+    ensures start { result.start ≡ start_asked result.command (rows_of (found_of matches.now)) }
     ensures cells { IsTrue result.cells
         ↔ IsTrue (holds_flag (codes "cells") (rows_of (found_of matches.now))) }
 {
+    let command = in_form_asked(command, matches);
     Options {
         command,
-        start: start_for(matches),
+        start: start_asked(command, matches),
         cells: holds(matches, "cells"),
     }
 }
@@ -268,11 +344,13 @@ fn words_meant<'a>(alloc: Global, words: &[&'a str]) -> Result<Vec<&'a str>, All
 }
 
 /// Reads the options and the file from the program's words, its own name first:
-/// `anscheck needs [FILE]`, `anscheck check` with its flags and `[FILE]`, `anscheck sauce [FILE]` or
-/// `anscheck tokens [FILE]`. A part of the start is known where its flag is given, as
-/// `--known-cursor`, or `--cleared`, and cells are asked for where `--cells` is. With the commands
-/// that take no flags nothing is known and no cells are asked for. The file's name comes as it is
-/// given, `-` too.
+/// `anscheck needs [FILE]`, `anscheck check` or `anscheck show` with its flags and `[FILE]`,
+/// `anscheck sauce [FILE]` or `anscheck tokens [FILE]`. A part of the start is known where its flag
+/// is given, as `--known-cursor`. With `check` all are known where `--cleared` is given, and cells
+/// are asked for where `--cells` is. With `show` all are known where neither such a flag nor `--any`
+/// is given, and the picture comes as a page where `--html` is, else in a VGA's colours where `--vga`
+/// is. With the commands that take no flags nothing is known. The file's name comes as it is given,
+/// `-` too.
 ///
 /// Fails where `clap` rejects the words, where they ask for help or for the version, and where memory
 /// runs out. Help is asked for by `--help`, `-h`, `help` and `help COMMAND`, the version by
@@ -282,8 +360,8 @@ fn words_meant<'a>(alloc: Global, words: &[&'a str]) -> Result<Vec<&'a str>, All
 pub fn options(alloc: Global, words: &[&str]) -> Result<(Options, Option<String>), WordsError>
     ensures ok { IfOk result (λ r.
         AreOptionsOf (texts_of words.now) r.0 (option_map string_bytes r.1)) }
-    ensures flagless { IfOk result (λ r. r.0.command ≢ Command.Check
-        → (r.0.start ≡ none_known) × (r.0.cells ≡ false)) }
+    ensures flagless { IfOk result (λ r. takes_flags r.0.command ≡ false → r.0.start ≡ none_known) }
+    ensures cells { IfOk result (λ r. r.0.command ≢ Command.Check → r.0.cells ≡ false) }
     ensures refuses { IfErr result (λ e.
         takes anscheck (words_meant (texts_of words.now)) ≡ true → RanOutOfMemory e) }
     ensures accepted { IfOk result (λ r. faults_of (texts_of words.now) ≡ []) }

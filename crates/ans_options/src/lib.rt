@@ -15,7 +15,7 @@ mod command;
 mod command_line;
 pub mod laws;
 
-pub use command::{Command, Options};
+pub use command::{Command, Form, Options};
 pub use command_line::{WordsError, options};
 
 #[cfg(test)]

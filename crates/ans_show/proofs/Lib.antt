@@ -1,8 +1,9 @@
 pub mod Tables
 pub mod Pieces
-pub mod PageRows
+pub mod TablesGrow
+pub mod PieceLengths
 pub mod RunLemmas
-pub mod RunsPut
+pub mod CellRuns
 pub mod TextsRead
 pub mod SeenRuns
 pub mod EachByte

@@ -1,7 +1,10 @@
 -- Texts by their pieces.
 use Rattle.std.proofs.Common.{◌≡◌, ℕ, Bool, List, [], ◌∷◌, ◌++◌, codes, decimal, length, refl, ap₂, ◌∙◌, arith}
 use Rattle.std.proofs.Common.{append_assoc, ◌<◌}
-use Rattle.std.specs.Prelude.{if◌then◌else◌}
+use Rattle.std.specs.Prelude.{if◌then◌else◌, flat_map}
+use Rattle.ans_show.specs.declared.form.Form.{Form}
+use Rattle.ans_show.specs.declared.form.Form.TheVariants.{Terminal, Page}
+use Rattle.ans_show.specs.Forms.{IsPage, character_in}
 use Rattle.ans_model.specs.Bytes.{escape}
 use Rattle.ans_show.specs.Looks.{Look}
 use Rattle.ans_show.specs.TerminalText.{parameter, foreground_text, background_text, colours_text}
@@ -24,6 +27,12 @@ pub span_is : (l : Look) (f b e : List ℕ) → f ≡ codes "<span class=\"f" ++
 span_is l f b e hf hb he =
     ap₂ (λ (u v : List ℕ). u ++ v) hf (ap₂ (λ (u v : List ℕ). u ++ v) hb he)
     ∙ simp append_assoc
+
+-- a page shows bytes so
+pub page_characters : (form : Form) → IsPage form → (bytes : List ℕ)
+    → flat_map (character_in form) bytes ≡ page_bytes bytes
+page_characters (Terminal vga non_blink) never bytes = absurd never
+page_characters (Page non_blink) is bytes = refl
 
 -- a title of some bytes
 pub title_of_some : (title : List ℕ) → 0 < length title → page_bytes title ≡ page_title title

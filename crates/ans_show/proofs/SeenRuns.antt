@@ -64,7 +64,7 @@ joined_bytes c (r ∷ more) h all =
           (record { attribute = h.1; bytes = All-cons IsByte c.byte [] h.0 (All-nil IsByte) }) all
     ]
 
-runs_bytes : (row : List Cell) → All IsByteCell row → All IsByteRun (runs row)
+pub runs_bytes : (row : List Cell) → All IsByteCell row → All IsByteRun (runs row)
 runs_bytes [] all = All-nil IsByteRun
 runs_bytes (c ∷ row) all =
     joined_bytes c (runs row) (All-head IsByteCell c row all) (runs_bytes row (All-tail IsByteCell c row all))

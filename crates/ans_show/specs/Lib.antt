@@ -2,8 +2,9 @@ pub mod Looks
 pub mod Runs
 pub mod TerminalText
 pub mod PageText
-pub mod PageTable
 pub mod Forms
+pub mod Pieces
+pub mod FormTables
 pub mod Seen
 pub mod TerminalReader
 pub mod PageReader

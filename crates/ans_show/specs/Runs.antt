@@ -1,5 +1,5 @@
 -- The longest runs of cells with one attribute.
-use Rattle.std.specs.Prelude.{◌≡◌, ◌≢◌, ℕ, ◌<◌, ◌≤◌, List, [], ◌∷◌, length, map, ◌==◌, slice_index, if◌then◌else◌}
+use Rattle.std.specs.Prelude.{◌≢◌, ℕ, ◌<◌, List, [], ◌∷◌, length, map, ◌==◌, if◌then◌else◌}
 use Rattle.ans_model.specs.declared.cell.Cell.{Cell}
 use Rattle.ans_model.specs.Screen.State.{cell}
 
@@ -23,13 +23,6 @@ joined c (r ∷ more) =
 abbrev pub runs : List Cell → List Run
 runs [] = []
 runs (c ∷ row) = joined c (runs row)
-
--- This many attributes in front are the first one, and the next is another.
-pub record IsRunLength (attributes : List ℕ) (count : ℕ) : Type 0 where
-  pub some : 0 < count
-  pub within : count ≤ length attributes
-  pub same : (k : ℕ) → k < count → slice_index attributes k ≡ slice_index attributes 0
-  pub longest : count < length attributes → slice_index attributes count ≢ slice_index attributes 0
 
 -- the cells of a run
 abbrev pub cells_of : Run → List Cell

@@ -1,64 +1,30 @@
 //! The forms in which a picture is written.
-ghost use Rattle.std.specs.Prelude.{◌≤◌, ◌*◌, length};
-ghost use Rattle.ans_write.specs.Puts.{Puts};
-ghost use Rattle.ans_show.specs.Forms.{run_in, end_in};
-ghost use Rattle.ans_show.specs.Runs.{run};
+ghost use Rattle.std.specs.Prelude.{◌≡◌, ◌++◌};
+ghost use Rattle.ans_show.specs.Forms.{end_in, run_end_in};
 
-use crate::page::put_span;
-use crate::page_table::PageTable;
-use crate::terminal::put_colours;
-use ans_write::{Outbox, Tables};
-use std::io::Write;
-
-/// A form, and how bytes are shown in it.
-#[derive(Drop)]
+/// A form. Where `non_blink` is set, an attribute's bit 7 is a bright background.
+#[derive(Clone, Copy)]
 pub(crate) enum Form {
-    Terminal {
-        vga: bool,
-        non_blink: bool,
-        tables: Tables,
-    },
-    Page {
-        non_blink: bool,
-        table: PageTable,
-    },
+    Terminal { vga: bool, non_blink: bool },
+    Page { non_blink: bool },
 }
 
-/// Puts a run. `text` is room for its characters.
-pub(crate) fn put_run<W: Write>(
-    out: &mut Outbox<'_, W>,
-    form: &Form,
-    attribute: u8,
-    bytes: &[u8],
-    text: &mut [u8],
-)
-    requires { 8 * length bytes.now ≤ length text.old }
-    ensures { Puts W.contents out.old out.new (run_in form.now (run attribute bytes.now)) }
+/// What stands behind each run.
+pub(crate) fn run_end(form: Form) -> &'static [u8]
+    ensures { result.now ≡ run_end_in form }
 {
     match form {
-        Form::Terminal {
-            vga,
-            non_blink,
-            tables,
-        } => {
-            put_colours(out, attribute, *non_blink, *vga);
-            let end = tables.write_characters(bytes, text);
-            out.put(&text[..end]);
-        }
-        Form::Page { non_blink, table } => {
-            put_span(out, attribute, *non_blink);
-            let end = table.write_characters(bytes, text);
-            out.put(&text[..end]);
-            out.put(b"</span>");
-        }
+        Form::Terminal { .. } => b"",
+        Form::Page { .. } => b"</span>",
     }
 }
 
-pub(crate) fn put_line_end<W: Write>(out: &mut Outbox<'_, W>, form: &Form)
-    ensures { Puts W.contents out.old out.new (end_in form.now) }
+/// What stands behind the characters of a line's last run.
+pub(crate) fn line_end(form: Form) -> &'static [u8]
+    ensures { result.now ≡ run_end_in form ++ end_in form }
 {
     match form {
-        Form::Terminal { .. } => out.put(b"\x1b[0m\n"),
-        Form::Page { .. } => out.put(b"\n"),
+        Form::Terminal { .. } => b"\x1b[0m\n",
+        Form::Page { .. } => b"</span>\n",
     }
 }

@@ -8,12 +8,13 @@
 #![tactic(auto)]
 
 mod form;
+mod form_tables;
 pub mod laws;
 mod look;
 mod page;
-mod page_character;
-mod page_table;
+mod piece;
 mod rows;
+mod shown_character;
 mod terminal;
 
 pub use page::write_page;

@@ -3,12 +3,15 @@ ghost use Rattle.std.specs.Prelude.{◌≡◌, ◌↔◌, ◌<◌, [], ◌++◌,
 ghost use Rattle.ans_write.specs.Puts.{Puts};
 ghost use Rattle.ans_write.specs.Tried.{has_failed, inner_of};
 ghost use Rattle.ans_write.specs.Writes.{WritesText};
+ghost use Rattle.ans_show.specs.Forms.{IsPage};
 ghost use Rattle.ans_show.specs.Looks.{look_of};
+ghost use Rattle.ans_show.specs.Pieces.{text_of};
 ghost use Rattle.ans_show.specs.PageText.{span_text, page_title, page_style, page_text};
 
 use crate::form::Form;
+use crate::form_tables::FormTables;
 use crate::look::{background, blinks, foreground};
-use crate::page_table::PageTable;
+use crate::piece::Piece;
 use crate::rows::put_rows;
 use ans_play::Picture;
 use ans_screen::Grid;
@@ -61,13 +64,15 @@ fn span_end(blinks: bool) -> &'static [u8]
     if blinks { b" k\">" } else { b"\">" }
 }
 
-/// Puts the tag after which cells look as this attribute says.
-pub(crate) fn put_span<W: Write>(out: &mut Outbox<'_, W>, attribute: u8, non_blink: bool)
-    ensures { Puts W.contents out.old out.new (span_text (look_of non_blink attribute)) }
+/// The end of a span, and the tag after which cells look as this attribute says.
+pub(crate) fn span_break(attribute: u8, non_blink: bool) -> Piece
+    ensures { text_of result ≡ codes "</span>" ++ span_text (look_of non_blink attribute) }
 {
-    out.put(foreground_text(foreground(attribute, non_blink)));
-    out.put(background_text(background(attribute, non_blink)));
-    out.put(span_end(blinks(attribute, non_blink)));
+    Piece::empty()
+        .then(b"</span>")
+        .then(foreground_text(foreground(attribute, non_blink)))
+        .then(background_text(background(attribute, non_blink)))
+        .then(span_end(blinks(attribute, non_blink)))
 }
 
 /// Where a page begins, up to its title.
@@ -92,13 +97,15 @@ const STYLE: &[u8] = b"</title>\n<style>\nbody{background:#000}\n\
 /// What stands behind the picture.
 const END: &[u8] = b"</pre>\n</body>\n</html>\n";
 
-fn put_title<W: Write>(out: &mut Outbox<'_, W>, title: &[u8], table: &PageTable)
+/// Puts the title, by the tables of a page.
+fn put_title<W: Write>(out: &mut Outbox<'_, W>, title: &[u8], tables: &FormTables)
+    requires { IsPage tables.now.form }
     ensures { Puts W.contents out.old out.new (page_title title.now) }
 {
     if title.is_empty() {
         out.put(b"ANSI drawing");
     } else {
-        table.put_characters(out, title);
+        tables.put_characters(out, title);
     }
 }
 
@@ -110,11 +117,11 @@ fn put_page<W: Write, G: Grid>(
 )
     ensures { Puts W.contents out.old out.new (page_text non_blink title.now picture.now) }
 {
-    let table = PageTable::new();
+    let tables = FormTables::new(Form::Page { non_blink });
     out.put(START);
-    put_title(out, title, &table);
+    put_title(out, title, &tables);
     out.put(STYLE);
-    put_rows(out, picture, &Form::Page { non_blink, table });
+    put_rows(out, picture, &tables);
     out.put(END);
 }
 

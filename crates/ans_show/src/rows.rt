@@ -1,48 +1,45 @@
-//! The lines of a picture, run by run.
-ghost use Rattle.std.specs.Prelude.{◌≡◌, ◌<◌, ◌≤◌, length};
+//! The lines of a picture.
+ghost use Rattle.std.specs.Prelude.{◌≡◌, ◌<◌, ◌≤◌, ◌++◌, drop, length};
 ghost use Rattle.std.specs.List.{flat_map};
-ghost use Rattle.std.specs.Simd.Lanes.{zip2};
-ghost use Rattle.ans_model.specs.Screen.State.{cell};
 ghost use Rattle.ans_model.specs.Text.ReportText.{rows_of};
 ghost use Rattle.ans_play.specs.Shown.{cells_of_row};
 ghost use Rattle.ans_write.specs.Puts.{Puts};
-ghost use Rattle.ans_show.specs.Forms.{line_in, run_in};
-ghost use Rattle.ans_show.specs.Runs.{runs, IsRunLength};
+ghost use Rattle.ans_show.specs.Forms.{end_in, line_in, run_end_in};
 
-use crate::form::{Form, put_line_end, put_run};
+use crate::form::{Form, line_end, run_end};
+use crate::form_tables::{CELL, FormTables};
 use ans_model::limits::MAX_WIDTH;
 use ans_play::Picture;
 use ans_screen::Grid;
 use ans_write::Outbox;
 use std::io::Write;
 
-/// How many bytes the characters of a row have at most.
-const ROW: usize = 8 * MAX_WIDTH;
+/// How many bytes the cells of a row have at most.
+const ROW: usize = CELL * MAX_WIDTH;
 
-/// How many attributes in front are the first one.
-fn run_length(attributes: &[u8]) -> usize
-    requires { 0 < length attributes.now }
-    ensures { IsRunLength attributes.now result }
+/// Puts cells that were written as if a run stood before them, and ends their line.
+fn put_cells<W: Write>(out: &mut Outbox<'_, W>, cells: &[u8], form: Form)
+    requires { length (run_end_in form) ≤ length cells.now }
+    ensures { Puts W.contents out.old out.new
+        (drop (length (run_end_in form)) cells.now ++ (run_end_in form ++ end_in form)) }
 {
-    let first = attributes[0];
-    let mut end = 1;
-    while end < attributes.len() {
-        if attributes[end] != first {
-            return end;
-        }
-        end += 1;
-    }
-    end
+    out.put(&cells[run_end(form).len()..]);
+    out.put(line_end(form));
 }
 
+/// Puts the line of a row. `text` is room for its cells.
 fn put_row<W: Write, G: Grid>(
     out: &mut Outbox<'_, W>,
     picture: &Picture<G>,
     row: usize,
-    form: &Form,
+    tables: &FormTables,
+    text: &mut [u8],
 )
-    requires { row < picture.now.size.lines }
-    ensures { Puts W.contents out.old out.new (line_in form.now (cells_of_row picture.now row)) }
+    requires row { row < picture.now.size.lines }
+    requires room { 57344 ≤ length text.old }
+    ensures puts { Puts W.contents out.old out.new
+        (line_in tables.now.form (cells_of_row picture.now row)) }
+    ensures length { length text.new ≡ length text.old }
 {
     let width = picture.width();
     let mut bytes = [0; MAX_WIDTH];
@@ -51,38 +48,23 @@ fn put_row<W: Write, G: Grid>(
     let mut attributes = [0; MAX_WIDTH];
     let attributes = &mut attributes[..width];
     picture.copy_attributes(row, attributes);
-    put_runs(out, form, bytes, attributes);
-    put_line_end(out, form);
-}
-
-fn put_runs<W: Write>(out: &mut Outbox<'_, W>, form: &Form, bytes: &[u8], attributes: &[u8])
-    requires same { length attributes.now ≡ length bytes.now }
-    requires within { length bytes.now ≤ 1024 }
-    ensures { Puts W.contents out.old out.new
-        (flat_map (run_in form.now) (runs (zip2 cell bytes.now attributes.now))) }
-{
-    let mut text = [0; ROW];
-    let mut start = 0;
-    while start < bytes.len() {
-        let attributes = &attributes[start..];
-        let count = run_length(attributes);
-        let run = &bytes[start..][..count];
-        put_run(out, form, attributes[0], run, &mut text);
-        start += count;
-    }
+    let end = tables.write_row(bytes, attributes, text);
+    put_cells(out, &text[..end], tables.form);
 }
 
 pub(crate) fn put_rows<W: Write, G: Grid>(
     out: &mut Outbox<'_, W>,
     picture: &Picture<G>,
-    form: &Form,
+    tables: &FormTables,
 )
-    ensures { Puts W.contents out.old out.new (flat_map (line_in form.now) (rows_of picture.now)) }
+    ensures { Puts W.contents out.old out.new
+        (flat_map (line_in tables.now.form) (rows_of picture.now)) }
 {
+    let mut text = [0; ROW];
     for row in 0..picture.lines() {
         if out.has_failed() {
             return;
         }
-        put_row(out, picture, row, form);
+        put_row(out, picture, row, tables, &mut text);
     }
 }

@@ -1,18 +1,20 @@
 //! The picture for a terminal.
 ghost use Rattle.std.specs.Prelude.{◌≡◌, ◌↔◌, ◌<◌, [], ◌∷◌, ◌++◌, false, codes, if◌then◌else◌, IsTrue, IsErr};
 ghost use Rattle.ans_model.specs.Bytes.{escape};
-ghost use Rattle.ans_write.specs.Puts.{Puts};
 ghost use Rattle.ans_write.specs.Tried.{has_failed, inner_of};
 ghost use Rattle.ans_write.specs.Writes.{WritesText};
 ghost use Rattle.ans_show.specs.Looks.{look_of};
+ghost use Rattle.ans_show.specs.Pieces.{text_of};
 ghost use Rattle.ans_show.specs.TerminalText.{parameter, foreground_text, background_text, colours_text, terminal_text};
 
 use crate::form::Form;
+use crate::form_tables::FormTables;
 use crate::look::{background, blinks, foreground};
+use crate::piece::Piece;
 use crate::rows::put_rows;
 use ans_play::Picture;
 use ans_screen::Grid;
-use ans_write::{Outbox, Tables, Tried, WriteFault};
+use ans_write::{Outbox, Tried, WriteFault};
 use std::io::Write;
 
 /// The foregrounds of a terminal, by the number of the colour.
@@ -95,18 +97,14 @@ fn start_text(blinks: bool) -> &'static [u8]
     if blinks { b"\x1b[0;5" } else { b"\x1b[0" }
 }
 
-/// Puts the sequence after which cells look as this attribute says.
-pub(crate) fn put_colours<W: Write>(
-    out: &mut Outbox<'_, W>,
-    attribute: u8,
-    non_blink: bool,
-    vga: bool,
-)
-    ensures { Puts W.contents out.old out.new (colours_text vga (look_of non_blink attribute)) }
+/// The sequence after which cells look as this attribute says.
+pub(crate) fn colours(attribute: u8, non_blink: bool, vga: bool) -> Piece
+    ensures { text_of result ≡ colours_text vga (look_of non_blink attribute) }
 {
-    out.put(start_text(blinks(attribute, non_blink)));
-    out.put(foreground_text(foreground(attribute, non_blink), vga));
-    out.put(background_text(background(attribute, non_blink), vga));
+    Piece::empty()
+        .then(start_text(blinks(attribute, non_blink)))
+        .then(foreground_text(foreground(attribute, non_blink), vga))
+        .then(background_text(background(attribute, non_blink), vga))
 }
 
 /// Writes the picture for a terminal, line by line: before each longest run of cells with one
@@ -129,11 +127,7 @@ pub fn write_terminal<W: Write, G: Grid>(
         result (terminal_text vga non_blink picture.now) }
 {
     let mut out = Outbox::new(w);
-    let form = Form::Terminal {
-        vga,
-        non_blink,
-        tables: Tables::new(),
-    };
-    put_rows(&mut out, picture, &form);
+    let tables = FormTables::new(Form::Terminal { vga, non_blink });
+    put_rows(&mut out, picture, &tables);
     out.finish()
 }

@@ -21,7 +21,7 @@ shown_bytes_is [] = refl
 shown_bytes_is (b ∷ bytes) = ap (λ (rest : List ℕ). byte_text b ++ rest) (shown_bytes_is bytes)
 
 -- a front of what was written after a front
-front_more : (text piece : List ℕ) (end w k : ℕ) → end ≤ length text → k ≤ length piece
+pub front_more : (text piece : List ℕ) (end w k : ℕ) → end ≤ length text → k ≤ length piece
     → take (end + k) (put_mid end w text piece) ≡ take end text ++ take k piece
 front_more text piece end w k within fits =
     let rest = post_of end w text in

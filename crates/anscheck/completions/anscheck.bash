@@ -2,7 +2,7 @@
 # /usr/share/bash-completion/completions/anscheck.
 _anscheck() {
     local word=${COMP_WORDS[COMP_CWORD]} command=${COMP_WORDS[1]}
-    local commands="needs check sauce tokens"
+    local commands="needs check show sauce tokens"
     COMPREPLY=()
     if [ "$COMP_CWORD" -eq 1 ]; then
         mapfile -t COMPREPLY < <(compgen -W "$commands help --help --version" -- "$word")
@@ -10,9 +10,11 @@ _anscheck() {
         mapfile -t COMPREPLY < <(compgen -W "$commands" -- "$word")
     elif [ "${word#-}" != "$word" ]; then
         local flags="--help"
-        if [ "$command" = check ]; then
-            flags="--cleared --cells --known-screen --known-cursor --known-saved --known-colours --known-wrap --help"
-        fi
+        local parts="--known-screen --known-cursor --known-saved --known-colours --known-wrap"
+        case $command in
+            check) flags="--cleared --cells $parts --help" ;;
+            show) flags="--html --vga --any $parts --help" ;;
+        esac
         mapfile -t COMPREPLY < <(compgen -W "$flags" -- "$word")
     else
         mapfile -t COMPREPLY < <(compgen -f -- "$word")

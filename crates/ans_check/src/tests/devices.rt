@@ -1,12 +1,15 @@
 //! Readers and writers that fail.
 use super::{
-    ANY, CLEARED, HI_RECORD, HI_REPORT, NEEDS, SAUCE, TOKENS, expect_run, plain_file, run_once,
+    ANY, CLEARED, HI_RECORD, HI_REPORT, NEEDS, SAUCE, SHOW, TOKENS, expect_run, plain_file,
+    run_once,
 };
 use crate::{Options, RunError, run};
 use ans_report::Tried;
 use ans_samples::{FailingOnce, Failure, Narrow};
 use std::io::{self, Read};
 use std::process::Abort;
+
+const HI_SHOWN: &[u8] = b"\x1b[0;37;40mHi\x1b[0m\n";
 
 const HI_TOKENS: &[u8] = b"0 1 glyph 48\n1 1 glyph 69\n";
 
@@ -34,8 +37,9 @@ impl Read for Dripping<'_> {
 }
 
 /// What is asked of the sample file, and the whole text of the answer.
-static TEXTS: [(Options, &[u8]); 4] = [
+static TEXTS: [(Options, &[u8]); 5] = [
     (CLEARED, HI_REPORT),
+    (SHOW, HI_SHOWN),
     (SAUCE, HI_RECORD),
     (TOKENS, HI_TOKENS),
     (NEEDS, HI_NEEDS),
@@ -57,7 +61,7 @@ fn a_writer_that_fails_has_a_prefix(rt: HostRuntime) {
 #[test]
 fn a_writer_that_fails_has_a_prefix_of_a_refusal(rt: HostRuntime) {
     let text: &[u8] = b"verdict: refused\nat 127: F1 no SAUCE record\n";
-    for asked in &[ANY, SAUCE, TOKENS, NEEDS] {
+    for asked in &[ANY, SHOW, SAUCE, TOKENS, NEEDS] {
         for room in 0..text.len() {
             let error = Err(RunError::Write);
             expect_run(&rt, &[b'S'; 127], asked, room, error, &text[..room]);
@@ -68,7 +72,7 @@ fn a_writer_that_fails_has_a_prefix_of_a_refusal(rt: HostRuntime) {
 #[test]
 fn a_reader_that_fails_leaves_nothing_written(rt: HostRuntime) {
     let file = plain_file(&rt, b"Hi", 2, 1);
-    for asked in &[CLEARED, SAUCE, TOKENS, NEEDS] {
+    for asked in &[CLEARED, SHOW, SAUCE, TOKENS, NEEDS] {
         for fails_at in 1..133u64 {
             let input = Dripping {
                 left: file.as_slice(),

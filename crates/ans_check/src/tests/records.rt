@@ -1,6 +1,6 @@
 //! The texts of records, and files with comments.
 use super::{
-    ANY, CLEARED, HI_RECORD, HI_REPORT, NEEDS, SAUCE, TOKENS, expect_run, file_of, run_once,
+    ANY, CLEARED, HI_RECORD, HI_REPORT, NEEDS, SAUCE, SHOW, TOKENS, expect_run, file_of, run_once,
 };
 use crate::Options;
 
@@ -60,7 +60,7 @@ fn a_refused_record_is_told_by_each_command(rt: HostRuntime) {
         cells: true,
         ..CLEARED
     };
-    for asked in [&ANY, &CLEARED, &cells, &SAUCE, &TOKENS, &NEEDS] {
+    for asked in [&ANY, &CLEARED, &cells, &SHOW, &SAUCE, &TOKENS, &NEEDS] {
         let text: &[u8] = b"verdict: refused\nat 127: F1 no SAUCE record\n";
         expect_run(&rt, &[b'S'; 127], asked, 256, Ok(false), text);
         let text: &[u8] = b"verdict: refused\nat 107: F4 comment block missing\n";

@@ -1,6 +1,6 @@
 //! The options that words give.
 use super::read_words;
-use crate::{Command, Options};
+use crate::{Command, Form, Options};
 use ans_samples::start;
 use std::process::Abort;
 
@@ -11,6 +11,13 @@ macro_rules! asked {
     };
     ($command:ident $($start:ident)+, cells) => {
         Options { cells: true, ..asked!($command $($start)+) }
+    };
+}
+
+/// A picture in a form, and its class of starts.
+macro_rules! shown {
+    ($form:ident $($start:ident)+) => {
+        Options { command: Command::Show(Form::$form), start: start!($($start)+), cells: false }
     };
 }
 
@@ -58,6 +65,30 @@ static STARTS: [(&[&str], Options); 13] = rows! {
     "anscheck" "check" "--known-wrap" "--cleared" => asked!(Check cleared);
 };
 
+/// Words that ask for a picture, their options, and the file.
+static SHOWN: [(&[&str], Options, Option<&str>); 18] = rows! {
+    "anscheck" "show" => shown!(Terminal cleared), None;
+    "anscheck" "show" "f" => shown!(Terminal cleared), Some("f");
+    "anscheck" "show" "-" => shown!(Terminal cleared), Some("-");
+    "anscheck" "show" "--" "--html" => shown!(Terminal cleared), Some("--html");
+    "anscheck" "show" "--vga" "f" => shown!(Vga cleared), Some("f");
+    "anscheck" "show" "f" "--html" => shown!(Page cleared), Some("f");
+    "anscheck" "show" "--html" "--vga" => shown!(Page cleared), None;
+    "anscheck" "show" "--vga" "--html" "f" => shown!(Page cleared), Some("f");
+    "anscheck" "show" "--any" => shown!(Terminal any), None;
+    "anscheck" "show" "--any" "--vga" "f" => shown!(Vga any), Some("f");
+    "anscheck" "show" "--known-screen" => shown!(Terminal known screen), None;
+    "anscheck" "show" "--known-cursor" => shown!(Terminal known cursor), None;
+    "anscheck" "show" "--known-saved" => shown!(Terminal known saved), None;
+    "anscheck" "show" "--known-colours" => shown!(Terminal known colours), None;
+    "anscheck" "show" "--known-wrap" => shown!(Terminal known wrap), None;
+    "anscheck" "show" "--any" "--known-wrap" => shown!(Terminal known wrap), None;
+    "anscheck" "show" "--html" "--known-cursor" "f" "--known-screen" "--any"
+        => shown!(Page known screen cursor), Some("f");
+    "anscheck" "show" "--known-screen" "--known-cursor" "--known-saved" "--known-colours" "--known-wrap"
+        => shown!(Terminal cleared), None;
+};
+
 /// Asserts which options words give, and which file.
 fn expect_options(
     rt: &(impl Abort + AllocGlobal),
@@ -77,6 +108,13 @@ fn expect_options(
 #[test]
 fn words_give_options(rt: HostRuntime) {
     for (words, expected, file) in &TAKEN {
+        expect_options(&rt, words, *expected, *file);
+    }
+}
+
+#[test]
+fn flags_say_how_a_picture_is_shown(rt: HostRuntime) {
+    for (words, expected, file) in &SHOWN {
         expect_options(&rt, words, *expected, *file);
     }
 }

@@ -21,7 +21,7 @@ fn expect_kind(rt: &(impl Abort + AllocGlobal), words: &[&str], kind: ErrorKind)
 }
 
 /// Words that ask for help or for the version, and which.
-static REQUESTS: [(&[&str], ErrorKind); 17] = rows! {
+static REQUESTS: [(&[&str], ErrorKind); 19] = rows! {
     "anscheck" "--help" => DisplayHelp;
     "anscheck" "-h" => DisplayHelp;
     "anscheck" "help" => DisplayHelp;
@@ -29,10 +29,12 @@ static REQUESTS: [(&[&str], ErrorKind); 17] = rows! {
     "anscheck" "check" "--help" => DisplayHelp;
     "anscheck" "check" "-h" => DisplayHelp;
     "anscheck" "check" "--cleared" "f" "--help" => DisplayHelp;
+    "anscheck" "show" "--help" => DisplayHelp;
     "anscheck" "sauce" "--help" => DisplayHelp;
     "anscheck" "tokens" "--help" => DisplayHelp;
     "anscheck" "help" "needs" => DisplayHelp;
     "anscheck" "help" "check" => DisplayHelp;
+    "anscheck" "help" "show" => DisplayHelp;
     "anscheck" "help" "sauce" => DisplayHelp;
     "anscheck" "help" "tokens" => DisplayHelp;
     "anscheck" "--version" => DisplayVersion;
@@ -42,7 +44,7 @@ static REQUESTS: [(&[&str], ErrorKind); 17] = rows! {
 };
 
 /// Mistakes, and of which kind they are.
-static MISTAKES: [(&[&str], ErrorKind); 24] = rows! {
+static MISTAKES: [(&[&str], ErrorKind); 31] = rows! {
     => MissingSubcommand;
     "anscheck" => MissingSubcommand;
     "help" => MissingSubcommand;
@@ -58,6 +60,13 @@ static MISTAKES: [(&[&str], ErrorKind); 24] = rows! {
     "anscheck" "check" "--cells" "--cells" => ArgumentConflict;
     "anscheck" "check" "--known-wrap" "--known-wrap" => ArgumentConflict;
     "anscheck" "check" "--known" => UnknownArgument;
+    "anscheck" "check" "--html" => UnknownArgument;
+    "anscheck" "check" "--any" => UnknownArgument;
+    "anscheck" "show" "--cells" => UnknownArgument;
+    "anscheck" "show" "--cleared" => UnknownArgument;
+    "anscheck" "show" "f" "g" => UnknownArgument;
+    "anscheck" "show" "--html" "--html" => ArgumentConflict;
+    "anscheck" "tokens" "--vga" => UnknownArgument;
     "anscheck" "sauce" "--cleared" => UnknownArgument;
     "anscheck" "sauce" "--known-screen" => UnknownArgument;
     "anscheck" "tokens" "--known-cursor" => UnknownArgument;

@@ -56,6 +56,7 @@ const PROGRAM_HELP: &str = help!(
     Commands:\n\
     \x20 needs   Print what a drawing relies on: screen, cursor, saved, colours, wrap\n\
     \x20 check   Check that a file always shows the same picture, and print it\n\
+    \x20 show    Show the picture in its colours, for a terminal or as a page\n\
     \x20 sauce   Print what a file's SAUCE record says\n\
     \x20 tokens  Print the bytes and the escape sequences of a file, one a line\n\
     \n\
@@ -66,11 +67,12 @@ const PROGRAM_HELP: &str = help!(
     Examples:\n\
     \x20 anscheck needs drawing.ans\n\
     \x20 anscheck check --cleared drawing.ans\n\
+    \x20 anscheck show drawing.ans\n\
     \x20 anscheck help check\n"
 );
 
 /// Commands, and the help of each.
-static COMMANDS: [(&str, &str); 4] = command_helps! {
+static COMMANDS: [(&str, &str); 5] = command_helps! {
     "needs":
         "Print what a drawing relies on: screen, cursor, saved, colours, wrap", " [FILE]",
         "  -h, --help  Print help\n";
@@ -84,6 +86,19 @@ static COMMANDS: [(&str, &str); 4] = command_helps! {
         \x20     --cleared        Assume all five: a screen that was just cleared\n\
         \x20     --cells          Print each cell too: its byte and its attribute, in hex\n\
         \x20 -h, --help           Print help\n";
+    "show":
+        "Show the picture in its colours, for a terminal or as a page", " [OPTIONS] [FILE]",
+        "\x20     --html           Write an HTML page, in the colours of a VGA\n\
+        \x20     --vga            Mix the colours of a VGA, whatever the terminal's are\n\
+        \x20     --any            Assume nothing but what a --known flag says\n\
+        \x20     --known-screen   Assume the screen to be blank, white on black\n\
+        \x20     --known-cursor   Assume the cursor to be at the top left\n\
+        \x20     --known-saved    Assume the saved cursor to be at the top left\n\
+        \x20     --known-colours  Assume the colours to be white on black\n\
+        \x20     --known-wrap     Assume wrap to be on\n\
+        \x20 -h, --help           Print help\n\
+        \n\
+        Without --any or a --known flag all five are assumed: a screen just cleared.\n";
     "sauce":
         "Print what a file's SAUCE record says", " [FILE]",
         "  -h, --help  Print help\n";
@@ -102,7 +117,7 @@ static TEXTS: [(&[&str], &str); 10] = rows! {
     );
     "anscheck" "check" "f" "g" => mistake!("unexpected argument 'g' found", "check [OPTIONS] [FILE]");
     "anscheck" => mistake!(
-        "'anscheck' requires a subcommand but one was not provided\n  [subcommands: needs, check, sauce, tokens]",
+        "'anscheck' requires a subcommand but one was not provided\n  [subcommands: needs, check, show, sauce, tokens]",
         "<COMMAND>"
     );
     "anscheck" "other" => mistake!("unrecognized subcommand 'other'", "<COMMAND>");

@@ -5,7 +5,7 @@ use Rattle.clap.specs.Words.{Row, Text, fault_of, is_simple_and_free, subcommand
 use Rattle.ans_options.specs.CommandLine.{AsksFor, faults_of, texts_of, words_meant}
 use Rattle.ans_options.proofs.CommandLineLemmas.{command_found, subcommand_is, subcommand_met}
 use Rattle.ans_options.proofs.ErrorLemmas.{kind_met, ran_out}
-use Rattle.ans_options.proofs.FlagLemmas.{flagless}
+use Rattle.ans_options.proofs.FlagLemmas.{flagless, no_cells}
 use Rattle.ans_options.proofs.command_line.options.Goals as goal
 
 pub read_matches-requires : goal.read_matches-requires
@@ -29,6 +29,12 @@ returns-clause-flagless c =
     let words = texts_of c.args.words.now in
     IfOk-weaker c.read_matches.result _ _ (λ r asked.
     flagless words r.0 (option_map string_bytes r.1) asked) (returns-clause-ok c)
+
+pub returns-clause-cells : goal.returns-clause-cells
+returns-clause-cells c =
+    let words = texts_of c.args.words.now in
+    IfOk-weaker c.read_matches.result _ _ (λ r asked.
+    no_cells words r.0 (option_map string_bytes r.1) asked) (returns-clause-ok c)
 
 pub returns-clause-accepted : goal.returns-clause-accepted
 returns-clause-accepted c =

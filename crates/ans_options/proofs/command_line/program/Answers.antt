@@ -3,7 +3,7 @@ use Rattle.std.proofs.lemmas.Result.{IfOk-weaker}
 use Rattle.clap.specs.Words.{App, Shape, app_of, with_subcommand}
 use Rattle.clap.specs.Simple.{app_of_fields, on_top}
 use Rattle.clap.proofs.SimpleLemmas.{plain_fields}
-use Rattle.ans_options.specs.CommandLine.{anscheck_top, check_app, needs_app, sauce_app}
+use Rattle.ans_options.specs.CommandLine.{anscheck_top, check_app, needs_app, sauce_app, show_app}
 use Rattle.ans_options.proofs.command_line.program.Goals as goal
 
 abbrev versioned : App → App
@@ -32,9 +32,14 @@ returns c =
     c.in_ok-subcommand-2.ensures.shape (plain_fields c.in_ok-check.check (ap plain c.in_ok-check.ensures)).globals
     ∙ ap₂ with_subcommand one_is (ap top c.in_ok-check.ensures) in
     let three_is : app_of c.in_ok-subcommand-3.field-0 ≡ with_subcommand
-    (with_subcommand (with_subcommand anscheck_top needs_app.top) check_app.top) sauce_app.top =
-    c.in_ok-subcommand-3.ensures.shape (plain_fields c.in_ok-sauce.sauce (ap plain c.in_ok-sauce.ensures)).globals
-    ∙ ap₂ with_subcommand two_is (ap top c.in_ok-sauce.ensures) in
-    IfOk-weaker c.subcommand-4.result _ _ (λ r adds.
+    (with_subcommand (with_subcommand anscheck_top needs_app.top) check_app.top) show_app.top =
+    c.in_ok-subcommand-3.ensures.shape (plain_fields c.in_ok-show.show (ap plain c.in_ok-show.ensures)).globals
+    ∙ ap₂ with_subcommand two_is (ap top c.in_ok-show.ensures) in
+    let four_is : app_of c.in_ok-subcommand-4.field-0 ≡ with_subcommand
+    (with_subcommand (with_subcommand (with_subcommand anscheck_top needs_app.top) check_app.top) show_app.top)
+    sauce_app.top =
+    c.in_ok-subcommand-4.ensures.shape (plain_fields c.in_ok-sauce.sauce (ap plain c.in_ok-sauce.ensures)).globals
+    ∙ ap₂ with_subcommand three_is (ap top c.in_ok-sauce.ensures) in
+    IfOk-weaker c.subcommand-5.result _ _ (λ r adds.
     adds.shape (plain_fields c.in_ok-tokens.tokens (ap plain c.in_ok-tokens.ensures)).globals
-    ∙ ap₂ with_subcommand three_is (ap top c.in_ok-tokens.ensures)) c.subcommand-4.ensures
+    ∙ ap₂ with_subcommand four_is (ap top c.in_ok-tokens.ensures)) c.subcommand-5.ensures

@@ -1,8 +1,0 @@
-use Rattle.std.proofs.Common.{take}
-use Rattle.std.specs.List.{flat_map}
-use Rattle.ans_write.specs.Puts.{Puts}
-use Rattle.ans_show.specs.PageText.{page_character}
-use Rattle.ans_show.proofs.page_table.PageTable.put_characters.Given as goal
-
-abbrev pub invariant-loop-byte : goal.invariant-loop-byte
-invariant-loop-byte g l = Puts g.W.Write.contents l.fn.out l.out (flat_map page_character (take l.byte-index l.bytes))
