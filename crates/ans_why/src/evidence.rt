@@ -57,7 +57,9 @@ pub fn cursors_before(
 ) -> (Position, Position)
     requires length { length content.now ≤ longest_file }
     requires deserved { IsDeserved size start content.now fault }
-    ensures { ShowsCursors size start content.now fault result.0 result.1 }
+    ensures shows { ShowsCursors size start content.now fault result.0 result.1 }
+    ensures low_on_screen { IsOnScreen size result.0 }
+    ensures high_on_screen { IsOnScreen size result.1 }
 {
     let home = Position { row: 0, column: 0 };
     let (front, rest) = content.split_at(fault.offset);

@@ -8,8 +8,8 @@ use Rattle.ans_why.proofs.BeforeFault.{IsBefore, stands_before, shows_before_tok
 use Rattle.ans_why.proofs.evidence.cursors_before.Goals.{then-begins_with_tab, else-begins_with_tab}
 use Rattle.ans_why.proofs.evidence.cursors_before.Goals as goal
 
-pub returns : goal.returns
-returns c =
+pub returns-clause-shows : goal.returns-clause-shows
+returns-clause-shows c =
     let z = c.args.size in
     let class = c.args.start in
     let f = c.args.fault in

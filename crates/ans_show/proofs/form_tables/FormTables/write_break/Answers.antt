@@ -3,7 +3,7 @@ use Rattle.std.specs.Prelude.{◌==◌}
 use Rattle.std.proofs.lemmas.Bool.{ne_eqb}
 use Rattle.std.proofs.lemmas.List.{length-take, length-drop}
 use Rattle.ans_show.specs.Forms.{break_in}
-use Rattle.ans_show.proofs.TablesGrow.{front_more}
+use Rattle.ans_write.proofs.RowTexts.{front_more}
 use Rattle.ans_show.proofs.form_tables.FormTables.write_break.Goals as goal
 
 pub returns-clause-text : goal.returns-clause-text

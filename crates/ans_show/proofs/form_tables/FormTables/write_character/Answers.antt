@@ -1,7 +1,7 @@
 use Rattle.std.proofs.Common.{arith, ◌≡◌, ◌≤◌, ◌<◌, ◌++◌, List, ℕ, length, get_or, take, ap, ◌∙◌}
 use Rattle.std.proofs.lemmas.List.{length-take, length-drop}
 use Rattle.ans_show.specs.Forms.{character_in}
-use Rattle.ans_show.proofs.TablesGrow.{front_more}
+use Rattle.ans_write.proofs.RowTexts.{front_more}
 use Rattle.ans_show.proofs.form_tables.FormTables.write_character.Goals as goal
 
 pub returns-clause-text : goal.returns-clause-text

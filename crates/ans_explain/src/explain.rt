@@ -1,0 +1,207 @@
+//! What there is to say of a file.
+
+ghost use Rattle.std.specs.Prelude.{◌≡◌, ◌≢◌, ◌+◌, ◌≤◌, ◌↔◌, ℕ, List, IsTrue, IfSome, IfNone, Some, length};
+ghost use Rattle.ans_model.specs.Bytes.{longest_file, most_columns};
+ghost use Rattle.ans_model.specs.File.Refusals.{record_fault};
+ghost use Rattle.ans_model.specs.Screen.State.{IsOnScreen};
+ghost use Rattle.ans_model.specs.Screen.StartClass.{none_known, all_known};
+ghost use Rattle.ans_model.specs.Verdict.Needs.{IsLeast};
+ghost use Rattle.ans_sauce.specs.Parts.{content_of};
+ghost use Rattle.ans_sauce.specs.Split.{IsSplit};
+ghost use Rattle.ans_why.specs.Evidence.{IsDeserved};
+ghost use Rattle.ans_explain.specs.Blamed.{AreToBlame};
+ghost use Rattle.ans_explain.specs.Explained.{size_of, non_blink, place_of, IsShown, AreHintsOf, IsReliance, IsPass};
+ghost use Rattle.ans_explain.specs.Explained.{IsOfReading, AreLines, EndsHints, IsRefusal, IsTrueOf};
+
+use crate::blamed::bytes_to_blame;
+use crate::why::{Pass, Place, Refusal, Reliance, Shown, Why};
+use ans_hints::Hints;
+use ans_model::cell::Position;
+use ans_model::fault::{Cause, Fault};
+use ans_model::limits::MAX_FILE;
+use ans_model::size::Size;
+use ans_model::start::Start;
+use ans_sauce::{Parts, find};
+use ans_why::{cells_of_fault, cursors_before, is_taller, least_lines};
+
+/// How many bytes mend a drawing.
+const MENDING: usize = 16;
+
+fn place(size: Size, position: Position) -> Place
+    requires { IsOnScreen size position }
+    ensures { result ≡ place_of position }
+{
+    Place {
+        row: position.row + 1,
+        column: position.column + 1,
+    }
+}
+
+fn size_of(parts: &Parts<'_>) -> Size
+    ensures { result ≡ size_of parts.now }
+{
+    Size::new(parts.width(), parts.lines())
+}
+
+fn non_blink(parts: &Parts<'_>) -> bool
+    ensures { result ≡ non_blink parts.now }
+{
+    parts.sauce().flags() % 2 == 1
+}
+
+/// What the plays from the low and the high of all starts show of a fault.
+fn shown(size: Size, content: &[u8], fault: Fault) -> Shown
+    requires length { length content.now ≤ longest_file }
+    requires deserved { IsDeserved size none_known content.now fault }
+    ensures { IsShown size none_known content.now fault result }
+{
+    if let Some((low, high)) = cells_of_fault(size, Start::ANY, content, fault) {
+        return Shown::Cells { low, high };
+    }
+    let (low, high) = cursors_before(size, Start::ANY, content, fault);
+    Shown::Cursors {
+        low: place(size, low),
+        high: place(size, high),
+    }
+}
+
+fn reliance(size: Size, file_length: usize, content: &[u8], fault: Fault) -> Reliance<'_>
+    requires length { length content.now ≤ longest_file }
+    requires file { file_length ≤ longest_file }
+    requires deserved { IsDeserved size none_known content.now fault }
+    ensures { IsReliance size file_length content.now result }
+{
+    Reliance {
+        fault,
+        bytes: bytes_to_blame(content, size, Start::ANY, fault),
+        shown: shown(size, content, fault),
+        mends: file_length + MENDING <= MAX_FILE,
+    }
+}
+
+/// Whether the reading refuses the sequence itself: F9 to F14.
+fn is_of_reading(cause: &Cause) -> bool
+    ensures { IsTrue result ↔ IsOfReading cause.now }
+{
+    matches!(
+        cause,
+        Cause::BrokenSequence
+            | Cause::NumberTooLarge
+            | Cause::TooManyParameters
+            | Cause::EndInSequence
+            | Cause::UnknownSequence
+            | Cause::WrongParameters
+    )
+}
+
+fn end_of_hints(fault: &Fault, bytes: &[u8]) -> usize
+    requires { fault.now.offset + length bytes.now ≤ longest_file }
+    ensures ends { EndsHints fault.now bytes.now result }
+    ensures within { result ≤ fault.now.offset + length bytes.now }
+{
+    if is_of_reading(&fault.cause) {
+        return fault.offset;
+    }
+    fault.offset + bytes.len()
+}
+
+/// For F19 to F21 the least number of lines that is enough.
+fn enough_lines(width: usize, content: &[u8], cause: &Cause) -> Option<u16>
+    requires some_columns { 1 ≤ width }
+    requires columns { width ≤ most_columns }
+    requires length { length content.now ≤ longest_file }
+    ensures { AreLines width content.now cause.now result }
+{
+    match cause {
+        Cause::OutsideScreen | Cause::PrintBelow | Cause::Scrolls => least_lines(width, content),
+        _ => None,
+    }
+}
+
+fn refusal<'a>(parts: &Parts<'a>, fault: Fault) -> Refusal<'a>
+    requires length { length (content_of parts.now) ≤ longest_file }
+    requires deserved { IsDeserved (size_of parts.now) all_known (content_of parts.now) fault }
+    ensures { IsRefusal parts.now result }
+{
+    let size = size_of(parts);
+    let content = parts.content();
+    let bytes = bytes_to_blame(content, size, Start::CLEARED, fault);
+    let (cursor, _) = cursors_before(size, Start::CLEARED, content, fault);
+    let end = end_of_hints(&fault, bytes);
+    Refusal {
+        fault,
+        bytes,
+        cursor: place(size, cursor),
+        lines: enough_lines(parts.width(), content, &fault.cause),
+        hints: Hints::of(size, non_blink(parts), &content[..end]),
+    }
+}
+
+fn pass<'a>(
+    parts: &Parts<'a>,
+    file_length: usize,
+    needs: Start,
+    fault: Option<Fault>,
+) -> Pass<'a>
+    requires length { length (content_of parts.now) ≤ longest_file }
+    requires file { file_length ≤ longest_file }
+    requires needs { IsLeast (size_of parts.now) (content_of parts.now) needs }
+    requires nothing { IfNone fault (needs ≡ none_known) }
+    requires fault { IfSome fault (λ f. (needs ≢ none_known)
+        × IsDeserved (size_of parts.now) none_known (content_of parts.now) f) }
+    ensures { IsPass file_length parts.now result }
+{
+    let size = size_of(parts);
+    let content = parts.content();
+    Pass {
+        needs,
+        taller: is_taller(size, needs, content),
+        reliance: fault.map(|fault| reliance(size, file_length, content, fault)),
+        hints: Hints::of(size, non_blink(parts), content),
+    }
+}
+
+impl<'a> Why<'a> {
+    /// Of a file that is refused for its record or its layout. It takes no memory.
+    pub fn of_record(file: &'a [u8], fault: Fault) -> Why<'a>
+        requires { record_fault file.now ≡ Some fault }
+        ensures { IsTrueOf file.now result }
+    {
+        Why::NoContent {
+            fault,
+            found: find(file, fault),
+        }
+    }
+
+    /// Of a file whose content is refused from the cleared start, for this fault. It takes no memory.
+    pub fn of_refusal(parts: Parts<'a>, fault: Fault) -> Why<'a>
+        requires length { length (content_of parts) ≤ longest_file }
+        requires deserved { IsDeserved (size_of parts) all_known (content_of parts) fault }
+        ensures { (file : List ℕ) → IsSplit file parts → IsTrueOf file result }
+    {
+        let refusal = refusal(&parts, fault);
+        Why::Refused { parts, refusal }
+    }
+
+    /// Of a file of this length whose content passes from the cleared start: it needs this class, and
+    /// where that is not the class of all starts, it has this fault from all starts. It takes no
+    /// memory.
+    pub fn of_pass(
+        parts: Parts<'a>,
+        file_length: usize,
+        needs: Start,
+        fault: Option<Fault>,
+    ) -> Why<'a>
+        requires length { length (content_of parts) ≤ longest_file }
+        requires file { file_length ≤ longest_file }
+        requires needs { IsLeast (size_of parts) (content_of parts) needs }
+        requires nothing { IfNone fault (needs ≡ none_known) }
+        requires fault { IfSome fault (λ f. (needs ≢ none_known)
+            × IsDeserved (size_of parts) none_known (content_of parts) f) }
+        ensures { (file : List ℕ) → IsSplit file parts → file_length ≡ length file
+            → IsTrueOf file result }
+    {
+        let pass = pass(&parts, file_length, needs, fault);
+        Why::Passes { parts, pass }
+    }
+}
