@@ -35,7 +35,7 @@ clean_front z class xs ys clean k cause b =
     )
 
 -- the element after a list
-slice_get_last : (xs : List TokenKind) (t : TokenKind) → slice_get (xs ++ t ∷ []) (length xs) ≡ Some t
+pub slice_get_last : (xs : List TokenKind) (t : TokenKind) → slice_get (xs ++ t ∷ []) (length xs) ≡ Some t
 slice_get_last [] t = refl
 slice_get_last (x ∷ xs) t = slice_get_last xs t
 

@@ -11,3 +11,10 @@ pub mod TabBlanks
 pub mod WatchedSoFar
 pub mod BeforeFault
 pub mod NamedCells
+pub mod RunEnds
+pub mod ClearedSteps
+pub mod Runs
+pub mod Descents
+pub mod DescentSteps
+pub mod FreeKinds
+pub mod LinesFound

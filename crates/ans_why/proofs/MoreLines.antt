@@ -216,7 +216,7 @@ module _ (width lines : ℕ) (some_columns : 0 < width) where
     larger_static (Place row column) OutsideScreen (inr h) = inr h
     larger_static t cause h = h
 
-    plays_larger : PlaysWell large all_known tokens
+    pub plays_larger : PlaysWell large all_known tokens
     plays_larger = record {
       no_static_fault = λ k t cause e h. plays.no_static_fault k t cause e (larger_static t cause h);
       never_scrolls = λ k e. none_in_spare_row (take k tokens) (stays_above k LineFeed e (room_for k LineFeed e));
@@ -235,11 +235,11 @@ well_formed_after z s (t ∷ tokens) w prints h =
     (well_formed_after_step z s t (All-head PrintsByte t tokens prints) w h)
 
 -- what a play from the cleared state shows in the stated lines
-abbrev shown_picture : Size → List TokenKind → Picture
+abbrev pub shown_picture : Size → List TokenKind → Picture
 shown_picture z tokens =
     record { size = z; cells = take (z.lines * z.width) (final z (cleared z) tokens).screen }
 
-shows_it : (z : Size) (tokens : List TokenKind) → 0 < z.width → All PrintsByte tokens
+pub shows_it : (z : Size) (tokens : List TokenKind) → 0 < z.width → All PrintsByte tokens
     → Shows z all_known tokens (shown_picture z tokens)
 shows_it z tokens w prints =
     let start : IsStart z all_known (cleared z) = low_is_start z all_known w in

@@ -4,3 +4,4 @@ pub mod Lines
 pub mod Taller
 pub mod Watched
 pub mod Evidence
+pub mod Descent

@@ -1,5 +1,5 @@
 -- How many lines a content needs from the cleared start.
-use Rattle.std.specs.Prelude.{ℕ, ◌+◌, ◌<◌, List}
+use Rattle.std.specs.Prelude.{ℕ, ◌+◌, ◌<◌, ◌≤◌, List}
 use Rattle.ans_model.specs.Screen.State.{sized}
 use Rattle.ans_model.specs.Screen.StartClass.{all_known}
 use Rattle.ans_model.specs.Verdict.Good.{IsGood}
@@ -17,3 +17,7 @@ OneLineMoreIsGood = (width lines : ℕ) (content : List ℕ) → IsGoodOn width 
 pub record IsLeastLines (width : ℕ) (content : List ℕ) (lines : ℕ) : Type 0 where
   pub enough : IsGoodOn width content lines
   pub fewer : (n : ℕ) → n < lines → ¬ IsGoodOn width content n
+
+-- it is good with none up to the most
+abbrev pub IsNeverGood : ℕ → List ℕ → ℕ → Type 0
+IsNeverGood width content most = (n : ℕ) → n ≤ most → ¬ IsGoodOn width content n

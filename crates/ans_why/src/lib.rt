@@ -6,12 +6,15 @@
 //! two starts.
 #![tactic(auto)]
 
+mod descent;
 mod evidence;
 pub mod laws;
+mod lines;
 mod two_watches;
 mod watch;
 
 pub use evidence::{cells_of_fault, cursors_before};
+pub use lines::least_lines;
 pub use two_watches::TwoWatches;
 pub use watch::Watch;
 

@@ -5,6 +5,8 @@ ghost use Rattle.ans_model.specs.Bytes.{longest_file, most_columns, most_lines};
 ghost use Rattle.ans_model.specs.Screen.State.{sized};
 ghost use Rattle.ans_why.specs.Evidence.{IsDeserved};
 
+mod lines;
+
 use crate::{cells_of_fault, cursors_before};
 use ans_model::cell::{Cell, Position};
 use ans_model::fault::{Cause, Fault};
