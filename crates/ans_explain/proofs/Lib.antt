@@ -1,2 +1,3 @@
 pub mod BlamedLemmas
 pub mod WhyLines
+pub mod Relying

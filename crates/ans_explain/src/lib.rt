@@ -2,6 +2,7 @@
 #![tactic(auto)]
 
 mod blamed;
+mod explain;
 mod why;
 mod why_text;
 
