@@ -4,7 +4,7 @@ use Rattle.std.specs.Prelude.{◌==◌, if◌then◌else◌}
 use Rattle.std.specs.Simd.Lanes.{zip2}
 use Rattle.ans_model.specs.declared.cell.Cell.{Cell}
 use Rattle.ans_model.specs.Screen.State.{cell}
-use Rattle.ans_show.specs.Runs.{Run, run, joined, runs}
+use Rattle.ans_show.specs.Runs.{Run, run, joined}
 
 -- runs in front of which a cell was put begin with its attribute
 pub record BeginsWith (attribute : ℕ) (rs : List Run) : Type 0 where
