@@ -88,6 +88,11 @@ def plain_player(room):
     return path
 
 
+COMMANDS = [
+    ["check"], ["check", "--cleared"], ["show"], ["show", "--vga"], ["show", "--html"], ["needs"], ["sauce"], ["tokens"],
+]
+
+
 def main(program):
     with tempfile.TemporaryDirectory() as room:
         player = plain_player(room)
@@ -98,7 +103,7 @@ def main(program):
             print(f"{name}: {size} bytes, copy {copy:.3f} s")
             if player:
                 print(f"  plain player {least([player, path]):.3f} s")
-            for command in (["check"], ["check", "--cleared"], ["needs"], ["sauce"], ["tokens"]):
+            for command in COMMANDS:
                 print(f"  {' '.join(command)} {least([program, *command, path]):.3f} s")
         for name, content in slow_files():
             path = saved(room, content)

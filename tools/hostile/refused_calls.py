@@ -68,7 +68,8 @@ FILES = {
 }
 COMMANDS = [
     ["check"], ["check", "--cleared"], ["check", "--cleared", "--cells"],
-    ["check", "--known-cursor", "--known-colours"], ["needs"], ["sauce"], ["tokens"],
+    ["check", "--known-cursor", "--known-colours"], ["show"], ["show", "--html", "--any"], ["needs"], ["sauce"],
+    ["tokens"],
 ]
 OTHER_WORDS = [["--help"], ["check", "--help"], ["check", "--bogus"], []]
 

@@ -1,14 +1,14 @@
 -- Pictures in colour are clean: a page as it stands, and a text for a terminal between its sequences.
 use Rattle.std.proofs.Common.{◌≡◌, ◌⊎◌, inl, inr, ℕ, zero, suc, ◌<◌, Bool, true, false, refl, sym, ap, subst, ◌∙◌}
 use Rattle.std.proofs.Common.{append_assoc, append-nil, arith, List, [], ◌∷◌, ◌++◌, take, drop, codes, All}
-use Rattle.std.specs.Prelude.{◌&&◌, ◌==◌, if◌then◌else◌, decimal, encode_utf8, flat_map}
+use Rattle.std.specs.Prelude.{◌==◌, if◌then◌else◌, decimal, encode_utf8, flat_map}
 use Rattle.std.specs.Fmt.{digit_glyph}
 use Rattle.std.specs.List.{list_all}
 use Rattle.std.proofs.lemmas.Bool.{and_parts}
 use Rattle.std.proofs.lemmas.Bool.Decides.{nat_tests}
 use Rattle.std.proofs.lemmas.List.Elements.{All-head, All-tail, All-nil, All-cons, All-append, All-take, All-drop}
 use Rattle.ans_model.specs.declared.cell.Cell.{Cell}
-use Rattle.ans_model.specs.Bytes.{IsByte, escape, semicolon}
+use Rattle.ans_model.specs.Bytes.{IsByte, escape}
 use Rattle.ans_model.specs.Screen.State.{IsByteCell}
 use Rattle.ans_model.specs.Text.Characters.{glyph_text, shown_bytes}
 use Rattle.ans_model.specs.Text.ReportText.{rows, rows_of}

@@ -32,7 +32,7 @@ use Rattle.ans_model.specs.Text.NeedsText.{needed_parts}
 use Rattle.ans_model.specs.Text.RecordText.{named_line, field_line, comment_lines, record_text}
 use Rattle.ans_model.specs.Text.ReportText.{Heading, Passed, RefusedFor, known_part, known_parts, start_name}
 use Rattle.ans_model.specs.Text.ReportText.{size_text, start_line}
-use Rattle.ans_model.specs.Text.ReportText.{heading_text, rows, rows_of, picture_line, cell_digits, cells_line}
+use Rattle.ans_model.specs.Text.ReportText.{heading_text, rows_of, picture_line, cell_digits, cells_line}
 use Rattle.ans_model.specs.Text.ReportText.{picture_text, cells_text, refusal_text, verdict_text, report_text}
 use Rattle.ans_model.specs.Text.TokensText.{token_name, token_line, token_lines, fault_end, TokensText}
 use Rattle.ans_model.specs.Verdict.Good.{Picture}

@@ -1,5 +1,5 @@
 -- What is asked for without flags, and of which flags a command takes none.
-use Rattle.std.proofs.Common.{◌≡◌, ◌≢◌, ◌∙◌, ◌⊎◌, ℕ, Bool, true, false, true≢false, List, []}
+use Rattle.std.proofs.Common.{◌≡◌, ◌≢◌, ◌∙◌, ◌⊎◌, ℕ, true, false, true≢false, List, []}
 use Rattle.std.proofs.Common.{◌∷◌, Option, Some, None, refl, sym, ap, subst}
 use Rattle.std.proofs.Common.{inl, inr, codes, arith, slice_index}
 use Rattle.std.specs.Prelude.{IsSomeAnd, if◌then◌else◌}

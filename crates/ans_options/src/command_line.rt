@@ -111,7 +111,10 @@ const CHECK_FLAGS: [(&str, &str); 2] = [
 /// The other flags of `show`.
 const SHOW_FLAGS: [(&str, &str); 3] = [
     ("html", "Write an HTML page, in the colours of a VGA"),
-    ("vga", "Mix the colours of a VGA, whatever the terminal's are"),
+    (
+        "vga",
+        "Mix the colours of a VGA, whatever the terminal's are",
+    ),
     ("any", "Assume nothing but what a --known flag says"),
 ];
 

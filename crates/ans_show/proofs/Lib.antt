@@ -1,7 +1,7 @@
 pub mod Tables
 pub mod Pieces
 pub mod TablesGrow
-pub mod PieceLengths
+pub mod ShortTextLengths
 pub mod RunLemmas
 pub mod CellRuns
 pub mod TextsRead

@@ -3,7 +3,7 @@ pub mod Runs
 pub mod TerminalText
 pub mod PageText
 pub mod Forms
-pub mod Pieces
+pub mod ShortTexts
 pub mod FormTables
 pub mod Seen
 pub mod TerminalReader

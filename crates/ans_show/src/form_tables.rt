@@ -8,18 +8,18 @@ ghost use Rattle.ans_write.specs.Tables.{byte_text};
 ghost use Rattle.ans_show.specs.FormTables.{spelling, ShowsIn, BreaksIn, cells_in};
 ghost use Rattle.ans_show.specs.Forms.{break_in, character_in};
 ghost use Rattle.ans_show.specs.PageText.{page_character};
-ghost use Rattle.ans_show.specs.Pieces.{text_of};
+ghost use Rattle.ans_show.specs.ShortTexts.{text_of};
 
 use crate::form::Form;
 use crate::page::span_break;
-use crate::piece::{PIECE, Piece};
+use crate::short_text::{SHORT_TEXT, ShortText};
 use crate::shown_character::ShownCharacter;
 use crate::terminal::colours;
 use ans_write::{Outbox, glyph_text};
 use std::io::Write;
 
 /// How many bytes are written for a cell at most.
-pub(crate) const CELL: usize = PIECE + 8;
+pub(crate) const CELL: usize = SHORT_TEXT + 8;
 
 /// What no attribute is.
 const NO_ATTRIBUTE: usize = 256;
@@ -29,7 +29,7 @@ const NO_ATTRIBUTE: usize = 256;
 #[derive(Drop)]
 pub(crate) struct FormTables {
     pub(crate) form: Form,
-    pub(crate) breaks: [Piece; 256],
+    pub(crate) breaks: [ShortText; 256],
     pub(crate) characters: [ShownCharacter; 256],
     ghost broken: { BreaksIn form breaks },
     ghost shown: { ShowsIn form characters },
@@ -59,9 +59,9 @@ impl FormTables {
         if last == attribute as usize {
             return end;
         }
-        let piece = &self.breaks[attribute as usize];
-        text[end..end + PIECE].copy_from_slice(&piece.bytes);
-        end + piece.count
+        let between = &self.breaks[attribute as usize];
+        text[end..end + SHORT_TEXT].copy_from_slice(&between.bytes);
+        end + between.count
     }
 
     /// Writes to a text from `end` on the character of a byte, and returns where that ends.
@@ -157,7 +157,7 @@ fn character_table(form: Form) -> [ShownCharacter; 256]
     table
 }
 
-fn run_break(form: Form, attribute: u8) -> Piece
+fn run_break(form: Form, attribute: u8) -> ShortText
     ensures { text_of result ≡ break_in form attribute }
 {
     match form {
@@ -166,7 +166,7 @@ fn run_break(form: Form, attribute: u8) -> Piece
     }
 }
 
-fn break_table(form: Form) -> [Piece; 256]
+fn break_table(form: Form) -> [ShortText; 256]
     ensures { BreaksIn form result }
 {
     let mut table = [run_break(form, 0); 256];

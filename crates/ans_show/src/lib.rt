@@ -12,8 +12,8 @@ mod form_tables;
 pub mod laws;
 mod look;
 mod page;
-mod piece;
 mod rows;
+mod short_text;
 mod shown_character;
 mod terminal;
 

@@ -5,14 +5,14 @@ ghost use Rattle.ans_write.specs.Tried.{has_failed, inner_of};
 ghost use Rattle.ans_write.specs.Writes.{WritesText};
 ghost use Rattle.ans_show.specs.Forms.{IsPage};
 ghost use Rattle.ans_show.specs.Looks.{look_of};
-ghost use Rattle.ans_show.specs.Pieces.{text_of};
+ghost use Rattle.ans_show.specs.ShortTexts.{text_of};
 ghost use Rattle.ans_show.specs.PageText.{span_text, page_title, page_style, page_text};
 
 use crate::form::Form;
 use crate::form_tables::FormTables;
 use crate::look::{background, blinks, foreground};
-use crate::piece::Piece;
 use crate::rows::put_rows;
+use crate::short_text::ShortText;
 use ans_play::Picture;
 use ans_screen::Grid;
 use ans_write::{Outbox, Tried, WriteFault};
@@ -65,10 +65,10 @@ fn span_end(blinks: bool) -> &'static [u8]
 }
 
 /// The end of a span, and the tag after which cells look as this attribute says.
-pub(crate) fn span_break(attribute: u8, non_blink: bool) -> Piece
+pub(crate) fn span_break(attribute: u8, non_blink: bool) -> ShortText
     ensures { text_of result ≡ codes "</span>" ++ span_text (look_of non_blink attribute) }
 {
-    Piece::empty()
+    ShortText::empty()
         .then(b"</span>")
         .then(foreground_text(foreground(attribute, non_blink)))
         .then(background_text(background(attribute, non_blink)))

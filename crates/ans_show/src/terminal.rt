@@ -4,14 +4,14 @@ ghost use Rattle.ans_model.specs.Bytes.{escape};
 ghost use Rattle.ans_write.specs.Tried.{has_failed, inner_of};
 ghost use Rattle.ans_write.specs.Writes.{WritesText};
 ghost use Rattle.ans_show.specs.Looks.{look_of};
-ghost use Rattle.ans_show.specs.Pieces.{text_of};
+ghost use Rattle.ans_show.specs.ShortTexts.{text_of};
 ghost use Rattle.ans_show.specs.TerminalText.{parameter, foreground_text, background_text, colours_text, terminal_text};
 
 use crate::form::Form;
 use crate::form_tables::FormTables;
 use crate::look::{background, blinks, foreground};
-use crate::piece::Piece;
 use crate::rows::put_rows;
+use crate::short_text::ShortText;
 use ans_play::Picture;
 use ans_screen::Grid;
 use ans_write::{Outbox, Tried, WriteFault};
@@ -98,10 +98,10 @@ fn start_text(blinks: bool) -> &'static [u8]
 }
 
 /// The sequence after which cells look as this attribute says.
-pub(crate) fn colours(attribute: u8, non_blink: bool, vga: bool) -> Piece
+pub(crate) fn colours(attribute: u8, non_blink: bool, vga: bool) -> ShortText
     ensures { text_of result ≡ colours_text vga (look_of non_blink attribute) }
 {
-    Piece::empty()
+    ShortText::empty()
         .then(start_text(blinks(attribute, non_blink)))
         .then(foreground_text(foreground(attribute, non_blink), vga))
         .then(background_text(background(attribute, non_blink), vga))

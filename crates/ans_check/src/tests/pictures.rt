@@ -115,7 +115,7 @@ static TEXTS: [(&[u8], (u16, u16), u8, Options, bool, &[u8]); 16] = [
         b"\x1b[0;38;2;170;85;0;48;2;0;0;0mA\x1b[0m\n",
     ),
     (
-        b"a\x1b[31mb\x1b[42mc\r\nd",
+        b"a\x1b[31mb\x1b[42mcd",
         (3, 2),
         0,
         SHOW,

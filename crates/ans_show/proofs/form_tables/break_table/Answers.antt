@@ -1,7 +1,7 @@
 use Rattle.std.proofs.Common.{arith, ◌<◌, length, ◌∙◌}
 use Rattle.std.proofs.lemmas.List.{length-set}
 use Rattle.ans_show.specs.Forms.{break_in}
-use Rattle.ans_show.specs.Pieces.{text_of}
+use Rattle.ans_show.specs.ShortTexts.{text_of}
 use Rattle.ans_show.proofs.TablesGrow.{text_more}
 use Rattle.ans_show.proofs.form_tables.break_table.Goals as goal
 

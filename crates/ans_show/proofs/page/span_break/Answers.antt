@@ -1,6 +1,6 @@
 use Rattle.std.proofs.Common.{◌≤◌, length, arith}
-use Rattle.ans_show.specs.Pieces.{text_of}
-use Rattle.ans_show.proofs.PieceLengths.{length_ground, length_span, length_span_end, then_length}
+use Rattle.ans_show.specs.ShortTexts.{text_of}
+use Rattle.ans_show.proofs.ShortTextLengths.{length_ground, length_span, length_span_end, then_length}
 use Rattle.ans_show.proofs.page.span_break.Goals as goal
 
 pub then-requires-2 : goal.then-requires-2

@@ -1,6 +1,6 @@
 use Rattle.std.proofs.Common.{◌≤◌, length, arith}
-use Rattle.ans_show.specs.Pieces.{text_of}
-use Rattle.ans_show.proofs.PieceLengths.{length_back, length_front, length_start, then_length}
+use Rattle.ans_show.specs.ShortTexts.{text_of}
+use Rattle.ans_show.proofs.ShortTextLengths.{length_back, length_front, length_start, then_length}
 use Rattle.ans_show.proofs.terminal.colours.Goals as goal
 
 pub then-requires : goal.then-requires

@@ -1,4 +1,4 @@
--- How long the pieces of a run's beginning are.
+-- How long the parts of what begins a run are.
 use Rattle.std.proofs.Common.{◌≡◌, ℕ, ◌<◌, ◌≤◌, ◌+◌, Bool, true, false, List, [], ◌∷◌, ◌++◌, length, codes, decimal, refl, arith}
 use Rattle.std.proofs.Common.{length-append}
 use Rattle.std.specs.Prelude.{if◌then◌else◌, nat_le}

@@ -1,0 +1,7 @@
+-- Short texts.
+use Rattle.std.specs.Prelude.{ℕ, List, take}
+use Rattle.ans_show.specs.declared.short_text.ShortText.{ShortText}
+
+-- the bytes of a short text
+abbrev pub text_of : ShortText → List ℕ
+text_of text = take text.count text.bytes
