@@ -1,0 +1,48 @@
+-- What the hints of tokens are about. Each condition is asked of a token, of the state before it, and of the bytes
+-- after it.
+use Rattle.std.specs.Prelude.{ℕ, ◌+◌, Bool, false, not, ◌||◌, ◌&&◌, ◌==◌, nat_eq, nat_le, List, [], ◌∷◌, take}
+use Rattle.std.specs.Prelude.{slice_index}
+use Rattle.std.specs.Int.{is_in_range}
+use Rattle.std.specs.List.{list_any, starts_with}
+use Rattle.std.specs.Str.{is_utf8}
+use Rattle.ans_model.specs.Sequence.TokenKind.{TokenKind, Glyph, LineFeed, Colours}
+use Rattle.ans_model.specs.Screen.State.{Size, State}
+
+-- a line feed comes with the cursor not in the first column, and no return follows
+abbrev pub loose_line_feed : Size → State → TokenKind → List ℕ → Bool
+loose_line_feed z s LineFeed rest = not (s.cursor.column == 0) && not (starts_with nat_eq rest (0x0D ∷ []))
+loose_line_feed z s _ rest = false
+
+-- the bytes begin with a line feed, or with a return and a line feed
+abbrev pub begins_with_line_end : List ℕ → Bool
+begins_with_line_end bytes = starts_with nat_eq bytes (0x0A ∷ []) || starts_with nat_eq bytes (0x0D ∷ 0x0A ∷ [])
+
+-- a glyph wraps, since it is printed in the last column with wrap on, and a line end follows
+abbrev pub full_row : Size → State → TokenKind → List ℕ → Bool
+full_row z s (Glyph byte) rest = s.cursor.column + 1 == z.width && s.wrap && begins_with_line_end rest
+full_row z s _ rest = false
+
+-- the bytes begin with a character of UTF-8 (RFC 3629) that takes three bytes or four; its first byte says how many
+abbrev pub begins_with_wide : List ℕ → Bool
+begins_with_wide bytes =
+    nat_le 0xE0 (slice_index bytes 0) && is_utf8 (take 3 bytes)
+    || nat_le 0xF0 (slice_index bytes 0) && is_utf8 (take 4 bytes)
+
+-- a glyph is the first byte of such a character
+abbrev pub wide_character : Size → State → TokenKind → List ℕ → Bool
+wide_character z s (Glyph byte) rest = begins_with_wide (byte ∷ rest)
+wide_character z s _ rest = false
+
+-- a number by which later terminals set a colour, and ANSI.SYS none
+abbrev pub is_later_colour : ℕ → Bool
+is_later_colour n = n == 38 || n == 48 || is_in_range 90 97 n || is_in_range 100 107 n
+
+-- colours with such a number
+abbrev pub later_colours : Size → State → TokenKind → List ℕ → Bool
+later_colours z s (Colours parameters) rest = list_any is_later_colour parameters
+later_colours z s _ rest = false
+
+-- a glyph is printed with bit 7 of the attribute set
+abbrev pub blinking_glyph : Size → State → TokenKind → List ℕ → Bool
+blinking_glyph z s (Glyph byte) rest = nat_le 0x80 s.attribute
+blinking_glyph z s _ rest = false

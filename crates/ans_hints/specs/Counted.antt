@@ -1,0 +1,17 @@
+-- Times that are counted one by one.
+use Rattle.std.specs.Prelude.{ℕ, ◌+◌, Bool, Option, None, Some, if◌then◌else◌}
+use Rattle.ans_hints.specs.declared.times.Times.{Times}
+
+-- how many times
+abbrev pub count_of : Option Times → ℕ
+count_of None = 0
+count_of (Some times) = times.count
+
+-- one time more, at this offset
+abbrev pub once_more : Option Times → ℕ → Option Times
+once_more None offset = Some (record { count = 1; first = offset })
+once_more (Some times) offset = Some (record { count = times.count + 1; first = times.first })
+
+-- one time more where the test holds
+abbrev pub counted : Option Times → Bool → ℕ → Option Times
+counted times test offset = if test then once_more times offset else times

@@ -1,0 +1,18 @@
+-- The names of fonts (SAUCE 00.5, font names), and their code page.
+use Rattle.std.specs.Prelude.{ℕ, Bool, not, ◌&&◌, List, [], ◌∷◌, codes}
+use Rattle.std.specs.List.{list_any}
+use Rattle.std.specs.Str.{bytes_eq}
+
+-- the fonts of the IBM PC, whose code page is 437 unless the name has another
+abbrev pub fonts_of_437 : List (List ℕ)
+fonts_of_437 =
+    codes "IBM VGA" ∷ codes "IBM VGA 437"
+    ∷ codes "IBM VGA50" ∷ codes "IBM VGA50 437"
+    ∷ codes "IBM VGA25G" ∷ codes "IBM VGA25G 437"
+    ∷ codes "IBM EGA" ∷ codes "IBM EGA 437"
+    ∷ codes "IBM EGA43" ∷ codes "IBM EGA43 437"
+    ∷ []
+
+-- the name is not empty, and it is none of those
+abbrev pub has_other_code_page : List ℕ → Bool
+has_other_code_page name = not (bytes_eq name []) && not (list_any (bytes_eq name) fonts_of_437)

@@ -1,0 +1,9 @@
+pub mod Places
+pub mod Conditions
+pub mod Rows
+pub mod Fonts
+pub mod Counted
+pub mod Pens
+pub mod FoundSoFar
+pub mod Hints
+pub mod Walks

@@ -1,0 +1,36 @@
+//! The code page of a font.
+
+ghost use Rattle.std.specs.Prelude.{◌≡◌};
+ghost use Rattle.std.specs.List.{list_any};
+ghost use Rattle.std.specs.Str.{bytes_eq};
+ghost use Rattle.ans_hints.specs.Fonts.{fonts_of_437, has_other_code_page};
+
+fn is(name: &[u8], font: &[u8]) -> bool
+    ensures { result ≡ bytes_eq name.now font.now }
+{
+    name == font
+}
+
+fn is_of_437(name: &[u8]) -> bool
+    ensures { result ≡ list_any (bytes_eq name.now) fonts_of_437 }
+{
+    is(name, b"IBM VGA")
+        || is(name, b"IBM VGA 437")
+        || is(name, b"IBM VGA50")
+        || is(name, b"IBM VGA50 437")
+        || is(name, b"IBM VGA25G")
+        || is(name, b"IBM VGA25G 437")
+        || is(name, b"IBM EGA")
+        || is(name, b"IBM EGA 437")
+        || is(name, b"IBM EGA43")
+        || is(name, b"IBM EGA43 437")
+}
+
+/// Whether a font is named, and it is none whose code page is 437. Those are the IBM PC's fonts, alone
+/// or followed by ` 437` (SAUCE 00.5, font names). The name comes without its trailing blanks and
+/// zero bytes.
+pub fn has_other_code_page(name: &[u8]) -> bool
+    ensures { result ≡ has_other_code_page name.now }
+{
+    !name.is_empty() && !is_of_437(name)
+}

@@ -1,0 +1,96 @@
+//! What is found of the hints, token by token.
+
+ghost use Rattle.std.specs.Prelude.{◌≡◌, ◌+◌, ◌<◌};
+ghost use Rattle.ans_model.specs.Bytes.{longest_file};
+ghost use Rattle.ans_model.specs.Sequence.TokenKind.{Glyph, LineFeed};
+ghost use Rattle.ans_model.specs.Screen.State.{Size, State};
+ghost use Rattle.ans_model.specs.Inside.ShownKind.{shown_kind};
+ghost use Rattle.ans_hints.specs.Pens.{pen_of, StandsOn};
+ghost use Rattle.ans_hints.specs.FoundSoFar.{found_with, nothing_found, CountsWithin};
+
+use crate::conditions::{begins_with_line_end, begins_with_wide, has_later_colour};
+use crate::pen::Pen;
+use crate::times::{Times, counted};
+use ans_model::kind::Kind;
+use ans_model::size::Size;
+
+/// What is found so far. The rows are those down to the lowest in which something was printed.
+#[derive(Debug, Clone, Copy)]
+pub(crate) struct Found {
+    pub(crate) loose_line_feeds: Option<Times>,
+    pub(crate) full_rows: Option<Times>,
+    pub(crate) wide_characters: Option<Times>,
+    pub(crate) later_colours: Option<Times>,
+    pub(crate) blinking_glyphs: Option<Times>,
+    pub(crate) rows: usize,
+}
+
+impl Found {
+    /// What is found before the first token.
+    pub(crate) fn nothing() -> Found
+        ensures found { result ≡ nothing_found }
+        ensures within { CountsWithin result 0 }
+    {
+        Found {
+            loose_line_feeds: None,
+            full_rows: None,
+            wide_characters: None,
+            later_colours: None,
+            blinking_glyphs: None,
+            rows: 0,
+        }
+    }
+
+    fn line_feed(&mut self, pen: &Pen, offset: usize, rest: &[u8])
+        requires room { offset < longest_file }
+        requires within { CountsWithin self.old offset }
+        ensures within { CountsWithin self.new (offset + 1) }
+        ensures found { (size : Size) (s : State) → pen.now ≡ pen_of s
+            → self.new ≡ found_with size s offset LineFeed rest.now self.old }
+    {
+        let comes = pen.cursor.column != 0 && !rest.starts_with(b"\r");
+        self.loose_line_feeds = counted(self.loose_line_feeds, comes, offset);
+    }
+
+    /// A glyph, before the rest of the content.
+    #[inline(always)]
+    fn glyph(&mut self, size: Size, pen: &Pen, offset: usize, byte: u8, rest: &[u8])
+        requires room { offset < longest_file }
+        requires stands { StandsOn size pen.now }
+        requires within { CountsWithin self.old offset }
+        ensures within { CountsWithin self.new (offset + 1) }
+        ensures found { (s : State) → pen.now ≡ pen_of s
+            → self.new ≡ found_with size s offset (Glyph byte) rest.now self.old }
+    {
+        let wraps = pen.cursor.column + 1 == size.width() && pen.wrap;
+        let full = wraps && begins_with_line_end(rest);
+        let wide = begins_with_wide(byte, rest);
+        self.full_rows = counted(self.full_rows, full, offset + 1);
+        self.wide_characters = counted(self.wide_characters, wide, offset);
+        self.blinking_glyphs = counted(self.blinking_glyphs, pen.attribute >= 0x80, offset);
+        self.rows = self.rows.max(pen.cursor.row + 1);
+    }
+
+    /// A token that stands at this offset, before the rest of the content. The pen is that of the
+    /// state before it.
+    #[inline(always)]
+    pub(crate) fn token(&mut self, size: Size, pen: &Pen, offset: usize, kind: &Kind, rest: &[u8])
+        requires room { offset < longest_file }
+        requires stands { StandsOn size pen.now }
+        requires within { CountsWithin self.old offset }
+        ensures within { CountsWithin self.new (offset + 1) }
+        ensures found { (s : State) → pen.now ≡ pen_of s
+            → self.new ≡ found_with size s offset (shown_kind kind.now) rest.now self.old }
+    {
+        match kind {
+            Kind::Glyph(byte) => self.glyph(size, pen, offset, *byte, rest),
+            Kind::LineFeed => self.line_feed(pen, offset, rest),
+            Kind::Tab => self.rows = self.rows.max(pen.row_of_tab(size) + 1),
+            Kind::Colours(numbers) => {
+                let later = has_later_colour(numbers);
+                self.later_colours = counted(self.later_colours, later, offset);
+            }
+            _ => {}
+        }
+    }
+}

@@ -1,0 +1,67 @@
+//! A walk over the tokens of a content.
+
+ghost use Rattle.std.specs.Prelude.{◌+◌, ◌<◌, ◌≤◌, length, map, take};
+ghost use Rattle.ans_model.specs.Bytes.{longest_file};
+ghost use Rattle.ans_model.specs.Sequence.TokenKind.{Glyph};
+ghost use Rattle.ans_model.specs.Screen.State.{Size, State};
+ghost use Rattle.ans_model.specs.Screen.Step.{step, final};
+ghost use Rattle.ans_model.specs.Screen.StartClass.{cleared};
+ghost use Rattle.ans_model.specs.Inside.ShownKind.{shown_kind};
+ghost use Rattle.ans_hints.specs.FoundSoFar.{found_with, nothing_found};
+ghost use Rattle.ans_hints.specs.Walks.{IsAt, Shows, found_in_glyphs};
+ghost use Rattle.ans_hints.specs.declared.found.Found.{Found};
+
+use crate::found::Found;
+use crate::pen::Pen;
+use ans_model::kind::Kind;
+use ans_model::size::Size;
+
+/// A play without its screen, and what is found in it so far.
+#[derive(Debug, Clone, Copy)]
+pub(crate) struct Walk {
+    pub(crate) pen: Pen,
+    pub(crate) found: Found,
+}
+
+impl Walk {
+    /// Before the first token of a play from the cleared start.
+    pub(crate) fn new(size: Size) -> Walk
+        ensures at { IsAt size 0 result }
+        ensures begins { Shows result (cleared size) nothing_found }
+    {
+        Walk {
+            pen: Pen::cleared(size),
+            found: Found::nothing(),
+        }
+    }
+
+    /// A token that stands at this offset, before the rest of the content.
+    #[inline(always)]
+    pub(crate) fn token(&mut self, size: Size, offset: usize, kind: &Kind, rest: &[u8])
+        requires room { offset < longest_file }
+        requires at { IsAt size offset self.old }
+        ensures at { IsAt size (offset + 1) self.new }
+        ensures goes_on { (s : State) (found : Found) → Shows self.old s found
+            → Shows self.new (step size s (shown_kind kind.now))
+            (found_with size s offset (shown_kind kind.now) rest.now found) }
+    {
+        self.found.token(size, &self.pen, offset, kind, rest);
+        self.pen.step(size, kind);
+    }
+
+    /// The first `count` of these bytes, each as a glyph. The first of them stands at this offset,
+    /// and they go on to the content's end.
+    pub(crate) fn glyphs(&mut self, size: Size, offset: usize, bytes: &[u8], count: usize)
+        requires room { offset + length bytes.now ≤ longest_file }
+        requires some { count ≤ length bytes.now }
+        requires at { IsAt size offset self.old }
+        ensures at { IsAt size (offset + count) self.new }
+        ensures goes_on { (s : State) (found : Found) → Shows self.old s found
+            → Shows self.new (final size s (map Glyph (take count bytes.now)))
+            (found_in_glyphs size s offset count bytes.now found) }
+    {
+        for i in 0..count {
+            self.token(size, offset + i, &Kind::Glyph(bytes[i]), &bytes[i + 1..]);
+        }
+    }
+}
