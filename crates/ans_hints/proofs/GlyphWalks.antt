@@ -1,7 +1,7 @@
 -- A walk over glyphs.
 use Rattle.std.proofs.Common.{◌≡◌, ℕ, zero, suc, ◌+◌, ◌-◌, ◌<◌, ◌≤◌, List, [], ◌∷◌, length, map, take, drop, get_or}
 use Rattle.std.proofs.Common.{sym, ap, arith, ◌∙◌}
-use Rattle.std.proofs.lemmas.List.{drop_more}
+use Rattle.std.proofs.lemmas.List.{drop_more, length-drop, take_all}
 use Rattle.ans_model.specs.Sequence.TokenKind.{Glyph}
 use Rattle.ans_model.specs.Screen.State.{Size, State}
 use Rattle.ans_model.specs.Screen.Step.{step, final}
@@ -18,6 +18,10 @@ pub record ComesTo (z : Size) (offset count : ℕ) (bytes : List ℕ) (walk : Wa
   pub shows : Shows walk state found
   pub last_is : final z state (map Glyph (take count bytes)) ≡ last
   pub end_is : found_in_glyphs z state offset count bytes found ≡ end
+
+-- the rest of a list
+pub rest_of : (bytes : List ℕ) (i : ℕ) → take (length bytes - i) (drop i bytes) ≡ drop i bytes
+rest_of bytes i = take_all (length bytes - i) (drop i bytes) (omega (arith, length-drop i bytes))
 
 module _ (z : Size) (count : ℕ) (bytes : List ℕ) (walk : Walk) (last : State) (end : Found) where
   -- one glyph more is walked over
@@ -45,9 +49,10 @@ module _ (z : Size) (count : ℕ) (bytes : List ℕ) (walk : Walk) (last : State
             there) ∙ h.end_is;
       }
 
-  -- all are walked over
-  pub comes_to_end : (offset : ℕ) → ComesTo z offset 0 bytes walk last end → Shows walk last end
-  comes_to_end offset h = record {
-    pen = h.shows.pen ∙ ap pen_of h.last_is;
-    found_is = h.shows.found_is ∙ h.end_is;
-  }
+-- all are walked over
+pub comes_to_end : (z : Size) (bytes : List ℕ) (walk : Walk) (last : State) (end : Found) (offset : ℕ)
+    → ComesTo z offset 0 bytes walk last end → Shows walk last end
+comes_to_end z bytes walk last end offset h = record {
+  pen = h.shows.pen ∙ ap pen_of h.last_is;
+  found_is = h.shows.found_is ∙ h.end_is;
+}
