@@ -7,3 +7,4 @@ pub mod Pens
 pub mod FoundSoFar
 pub mod Hints
 pub mod Walks
+pub mod HintsText

@@ -1,10 +1,11 @@
 -- Where a walk over tokens stands.
 use Rattle.std.specs.Prelude.{◌≡◌, ℕ, zero, suc, ◌+◌, List, [], ◌∷◌}
-use Rattle.ans_model.specs.Sequence.TokenKind.{Glyph}
+use Rattle.ans_model.specs.Sequence.TokenKind.{TokenKind, Glyph}
+use Rattle.ans_model.specs.Sequence.Reads.{ReadsAs}
 use Rattle.ans_model.specs.Screen.State.{Size, State}
 use Rattle.ans_model.specs.Screen.Step.{step}
 use Rattle.ans_hints.specs.Pens.{pen_of, StandsOn}
-use Rattle.ans_hints.specs.FoundSoFar.{CountsWithin, found_with}
+use Rattle.ans_hints.specs.FoundSoFar.{CountsWithin, found_with, found_after}
 use Rattle.ans_hints.specs.declared.found.Found.{Found}
 use Rattle.ans_hints.specs.declared.walk.Walk.{Walk}
 
@@ -17,6 +18,16 @@ pub record IsAt (z : Size) (offset : ℕ) (walk : Walk) : Type 0 where
 pub record Shows (walk : Walk) (s : State) (found : Found) : Type 0 where
   pub pen : walk.pen ≡ pen_of s
   pub found_is : walk.found ≡ found
+
+-- The bytes that are left are read as some tokens, and what is found in these makes it this.
+pub record LeadsTo (z : Size) (offset : ℕ) (bytes : List ℕ) (walk : Walk) (end : Found) : Type 0 where
+  pub tokens : List TokenKind
+  pub texts : List (List ℕ)
+  pub reads : ReadsAs bytes tokens texts
+  pub state : State
+  pub found : Found
+  pub shows : Shows walk state found
+  pub end_is : found_after z state offset tokens texts found ≡ end
 
 -- what is found with the first bytes more, as many as the number says, each a glyph
 abbrev pub found_in_glyphs : Size → State → ℕ → ℕ → List ℕ → Found → Found

@@ -1,6 +1,14 @@
 //! The hints of a content.
 
+ghost use Rattle.std.specs.Prelude.{◌≤◌, ℕ, List, length};
+ghost use Rattle.ans_model.specs.Bytes.{longest_file};
+ghost use Rattle.ans_model.specs.Sequence.TokenKind.{TokenKind};
+ghost use Rattle.ans_model.specs.Sequence.Reads.{ReadsAs};
+ghost use Rattle.ans_hints.specs.Hints.{AreHints};
+
 use crate::times::Times;
+use crate::walk::found_in;
+use ans_model::size::Size;
 
 /// What is worth a hint, in the play from the cleared start. None, or 0 rows, is no hint.
 #[derive(Debug, Clone, Copy, PartialEq, Eq)]
@@ -17,4 +25,29 @@ pub struct Hints {
     pub blinking_glyphs: Option<Times>,
     /// How many of the stated lines lie below all that is printed.
     pub empty_rows: usize,
+}
+
+impl Hints {
+    /// The hints of a content that is read as tokens: a content that passes, or the front of a refused
+    /// one up to the end of the token to blame. Glyphs that blink are none where the record sets
+    /// the non-blink flag. It takes no memory, and reads the content once.
+    pub fn of(size: Size, non_blink: bool, content: &[u8]) -> Hints
+        requires { length content.now ≤ longest_file }
+        ensures { (tokens : List TokenKind) (texts : List (List ℕ))
+            → ReadsAs content.now tokens texts → AreHints size non_blink tokens texts result }
+    {
+        let found = found_in(size, content);
+        Hints {
+            loose_line_feeds: found.loose_line_feeds,
+            full_rows: found.full_rows,
+            wide_characters: found.wide_characters,
+            later_colours: found.later_colours,
+            blinking_glyphs: if non_blink {
+                None
+            } else {
+                found.blinking_glyphs
+            },
+            empty_rows: size.lines().saturating_sub(found.rows),
+        }
+    }
 }

@@ -1,13 +1,14 @@
 //! A walk over the tokens of a content.
 
-ghost use Rattle.std.specs.Prelude.{◌+◌, ◌<◌, ◌≤◌, length, map, take};
+ghost use Rattle.std.specs.Prelude.{◌≡◌, ◌+◌, ◌<◌, ◌≤◌, ℕ, List, length, map, take};
 ghost use Rattle.ans_model.specs.Bytes.{longest_file};
-ghost use Rattle.ans_model.specs.Sequence.TokenKind.{Glyph};
+ghost use Rattle.ans_model.specs.Sequence.TokenKind.{TokenKind, Glyph};
+ghost use Rattle.ans_model.specs.Sequence.Reads.{ReadsAs};
 ghost use Rattle.ans_model.specs.Screen.State.{Size, State};
 ghost use Rattle.ans_model.specs.Screen.Step.{step, final};
 ghost use Rattle.ans_model.specs.Screen.StartClass.{cleared};
 ghost use Rattle.ans_model.specs.Inside.ShownKind.{shown_kind};
-ghost use Rattle.ans_hints.specs.FoundSoFar.{found_with, nothing_found};
+ghost use Rattle.ans_hints.specs.FoundSoFar.{found_with, found_after, nothing_found};
 ghost use Rattle.ans_hints.specs.Walks.{IsAt, Shows, found_in_glyphs};
 ghost use Rattle.ans_hints.specs.declared.found.Found.{Found};
 
@@ -15,6 +16,7 @@ use crate::found::Found;
 use crate::pen::Pen;
 use ans_model::kind::Kind;
 use ans_model::size::Size;
+use ans_tokens::{Piece, Pieces};
 
 /// A play without its screen, and what is found in it so far.
 #[derive(Debug, Clone, Copy)]
@@ -62,6 +64,31 @@ impl Walk {
     {
         for i in 0..count {
             self.token(size, offset + i, &Kind::Glyph(bytes[i]), &bytes[i + 1..]);
+        }
+    }
+}
+
+/// What is found in the content, in its play from the cleared start.
+pub(crate) fn found_in(size: Size, content: &[u8]) -> Found
+    requires { length content.now ≤ longest_file }
+    ensures { (tokens : List TokenKind) (texts : List (List ℕ))
+        → ReadsAs content.now tokens texts
+        → result ≡ found_after size (cleared size) 0 tokens texts nothing_found }
+{
+    let mut pieces = Pieces::new(content);
+    let mut walk = Walk::new(size);
+    loop {
+        match pieces.next() {
+            Ok(Some(Piece::Glyphs(text))) => {
+                let start = pieces.offset() - text.len();
+                walk.glyphs(size, start, &content[start..], text.len());
+            }
+            Ok(Some(Piece::Token(token))) => {
+                let rest = &content[pieces.offset()..];
+                walk.token(size, token.start(), token.kind(), rest);
+            }
+            Ok(None) => return walk.found,
+            Err(_) => return walk.found,
         }
     }
 }
