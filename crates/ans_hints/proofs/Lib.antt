@@ -5,3 +5,4 @@ pub mod FoundLater
 pub mod Split
 pub mod Leading
 pub mod PieceWalks
+pub mod HintLines
