@@ -14,3 +14,6 @@ pub use font::has_other_code_page;
 pub use hints::Hints;
 pub use hints_text::put_hints;
 pub use times::Times;
+
+#[cfg(test)]
+mod tests;
