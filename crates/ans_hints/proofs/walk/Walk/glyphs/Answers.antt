@@ -1,11 +1,9 @@
-use Rattle.std.proofs.Common.{◌≡◌, ℕ, List, ◌+◌, ◌-◌, ◌<◌, length, drop, take, get_or, arith, subst}
+use Rattle.std.proofs.Common.{◌≡◌, ℕ, List, ◌+◌, ◌-◌, ◌<◌, length, get_or, arith, subst}
 use Rattle.ans_model.specs.Sequence.TokenKind.{Glyph}
-use Rattle.ans_model.specs.Screen.State.{State}
 use Rattle.ans_model.specs.Screen.Step.{step}
 use Rattle.ans_hints.specs.FoundSoFar.{found_with}
 use Rattle.ans_hints.specs.Walks.{IsAt, Shows}
-use Rattle.ans_hints.specs.declared.found.Found.{Found}
-use Rattle.ans_hints.proofs.GlyphWalks.{ComesTo, comes_to_next, comes_to_end, rest_of}
+use Rattle.ans_hints.proofs.GlyphWalks.{comes_to_next, comes_to_end, rest_of}
 use Rattle.ans_hints.proofs.walk.Walk.glyphs.Goals as goal
 
 pub loop-i-preserved : goal.loop-i-preserved
