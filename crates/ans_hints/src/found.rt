@@ -10,7 +10,7 @@ ghost use Rattle.ans_hints.specs.FoundSoFar.{found_with, nothing_found, CountsWi
 
 use crate::conditions::{begins_with_line_end, begins_with_wide, has_later_colour};
 use crate::pen::Pen;
-use crate::times::{Times, counted};
+use crate::times::{Times, count};
 use ans_model::kind::Kind;
 use ans_model::size::Size;
 
@@ -49,7 +49,7 @@ impl Found {
             → self.new ≡ found_with size s offset LineFeed rest.now self.old }
     {
         let comes = pen.cursor.column != 0 && !rest.starts_with(b"\r");
-        self.loose_line_feeds = counted(self.loose_line_feeds, comes, offset);
+        count(&mut self.loose_line_feeds, comes, offset);
     }
 
     /// A glyph, before the rest of the content.
@@ -65,9 +65,9 @@ impl Found {
         let wraps = pen.cursor.column + 1 == size.width() && pen.wrap;
         let full = wraps && begins_with_line_end(rest);
         let wide = begins_with_wide(byte, rest);
-        self.full_rows = counted(self.full_rows, full, offset + 1);
-        self.wide_characters = counted(self.wide_characters, wide, offset);
-        self.blinking_glyphs = counted(self.blinking_glyphs, pen.attribute >= 0x80, offset);
+        count(&mut self.full_rows, full, offset + 1);
+        count(&mut self.wide_characters, wide, offset);
+        count(&mut self.blinking_glyphs, pen.attribute >= 0x80, offset);
         self.rows = self.rows.max(pen.cursor.row + 1);
     }
 
@@ -88,7 +88,7 @@ impl Found {
             Kind::Tab => self.rows = self.rows.max(pen.row_of_tab(size) + 1),
             Kind::Colours(numbers) => {
                 let later = has_later_colour(numbers);
-                self.later_colours = counted(self.later_colours, later, offset);
+                count(&mut self.later_colours, later, offset);
             }
             _ => {}
         }
