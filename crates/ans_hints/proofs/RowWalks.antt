@@ -20,14 +20,9 @@ use Rattle.ans_hints.specs.declared.found.Found.{Found}
 use Rattle.ans_hints.specs.declared.pen.Pen.{Pen}
 use Rattle.ans_hints.specs.declared.walk.Walk.{Walk}
 use Rattle.ans_hints.proofs.GlyphWalks.{ComesTo}
+use Rattle.ans_hints.proofs.PenSteps.{one_on, stays_in_row}
 
 -- ---- one glyph
-abbrev one_on : Size → State → ℕ → State
-one_on z s byte = record (printed z s byte) { cursor = at s.cursor.row (s.cursor.column + 1) }
-
-stays_in_row : (z : Size) (s : State) (byte : ℕ) → s.cursor.column + 1 < z.width → put z s byte ≡ one_on z s byte
-stays_in_row z s byte lt = rw (lt-ltb (s.cursor.column + 1) z.width lt) refl
-
 -- it fills no row
 found_one : (z : Size) (s : State) (offset byte : ℕ) (rest : List ℕ) (found : Found)
     → s.cursor.column + 1 < z.width
