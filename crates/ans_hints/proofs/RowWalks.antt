@@ -1,16 +1,16 @@
 -- Glyphs that stand in one row before its last column are found at once.
-use Rattle.std.proofs.Common.{◌≡◌, ℕ, zero, suc, ◌+◌, ◌-◌, ◌<◌, ◌≤◌, max, Bool, true, false, List, [], ◌∷◌, ◌++◌}
-use Rattle.std.proofs.Common.{length, map, take, drop, get_or, refl, sym, ap, ap₂, arith, ◌∙◌, Option, None, Some, ◌&&◌, subst}
+use Rattle.std.proofs.Common.{◌≡◌, ℕ, zero, suc, ◌+◌, ◌-◌, ◌<◌, ◌≤◌, max, Bool, true, false, List, [], ◌∷◌}
+use Rattle.std.proofs.Common.{length, map, take, drop, get_or, refl, sym, ap, ap₂, arith, ◌∙◌, Option, None, Some}
 use Rattle.std.specs.Prelude.{nat_le, if◌then◌else◌}
 use Rattle.std.proofs.Math.Seq.{take-add}
-use Rattle.std.proofs.lemmas.Bool.{lt-ltb, ne_eqb}
+use Rattle.std.proofs.lemmas.Bool.{ne_eqb}
 use Rattle.std.proofs.lemmas.List.{map-append, drop-drop, drop_more, length-drop}
 use Rattle.std.proofs.lemmas.List.Sums.{fold-append}
 use Rattle.ans_model.specs.Sequence.TokenKind.{TokenKind, Glyph}
 use Rattle.ans_model.specs.Screen.State.{Size, State, at}
-use Rattle.ans_model.specs.Screen.Step.{put, printed, step, final}
-use Rattle.ans_hints.specs.Conditions.{begins_with_line_end, begins_with_wide}
-use Rattle.ans_hints.specs.Counted.{once_more, counted}
+use Rattle.ans_model.specs.Screen.Step.{put, step, final}
+use Rattle.ans_hints.specs.Conditions.{begins_with_wide}
+use Rattle.ans_hints.specs.Counted.{counted}
 use Rattle.ans_hints.specs.FoundSoFar.{found_with}
 use Rattle.ans_hints.specs.InRow.{many_more, with_wide, found_in_row}
 use Rattle.ans_hints.specs.Pens.{pen_of}

@@ -92,7 +92,14 @@ impl Found {
     /// The first `count` of these bytes, each as a glyph, in one row before its last column. The first
     /// stands at this offset, and the bytes go on to the content's end.
     #[inline(always)]
-    pub(crate) fn in_row(&mut self, size: Size, pen: &Pen, offset: usize, bytes: &[u8], count: usize)
+    pub(crate) fn in_row(
+        &mut self,
+        size: Size,
+        pen: &Pen,
+        offset: usize,
+        bytes: &[u8],
+        count: usize,
+    )
         requires room { offset + count ≤ longest_file }
         requires some { count ≤ length bytes.now }
         requires stands { StandsOn size pen.now }

@@ -1,4 +1,4 @@
-use Rattle.std.proofs.Common.{◌≡◌, ℕ, List, ◌+◌, ◌∷◌, length, ◌<◌, get_or, ap, arith, ◌∙◌}
+use Rattle.std.proofs.Common.{ℕ, List, ◌+◌, ◌∷◌, get_or, ap, arith, ◌∙◌}
 use Rattle.ans_hints.specs.Conditions.{begins_with_wide}
 use Rattle.ans_hints.proofs.GlyphWalks.{rest_of}
 use Rattle.ans_hints.proofs.RowWalks.{wide_next}

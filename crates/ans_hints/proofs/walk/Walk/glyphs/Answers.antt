@@ -1,6 +1,5 @@
-use Rattle.std.proofs.Common.{◌≡◌, ℕ, List, ◌+◌, ◌-◌, ◌<◌, ◌≤◌, length, map, drop, take, get_or, arith, subst}
+use Rattle.std.proofs.Common.{◌≡◌, ℕ, List, ◌+◌, ◌-◌, ◌<◌, length, map, take, get_or, arith, subst}
 use Rattle.ans_model.specs.Sequence.TokenKind.{Glyph}
-use Rattle.ans_model.specs.Screen.State.{State}
 use Rattle.ans_model.specs.Screen.Step.{step, final}
 use Rattle.ans_hints.specs.FoundSoFar.{found_with}
 use Rattle.ans_hints.specs.Walks.{IsAt, Shows, found_in_glyphs}
