@@ -1,11 +1,11 @@
 -- What is found in tokens one after another is what their places say.
-use Rattle.std.proofs.Common.{◌≡◌, ℕ, zero, suc, ◌+◌, ◌≤◌, Bool, true, false, List, [], ◌∷◌, ◌++◌, length, map, take, drop}
+use Rattle.std.proofs.Common.{◌≡◌, ℕ, ◌+◌, Bool, true, false, List, [], ◌∷◌, ◌++◌, length, map}
 use Rattle.std.proofs.Common.{fold, refl, sym, ap, arith, ◌∙◌, Option, None, Some}
 use Rattle.std.specs.List.{concat}
 use Rattle.ans_model.specs.Sequence.TokenKind.{TokenKind, Glyph}
 use Rattle.ans_model.specs.Screen.State.{Size, State}
 use Rattle.ans_model.specs.Screen.Step.{step, final}
-use Rattle.ans_hints.specs.Places.{Condition, offset_if, places, times_of}
+use Rattle.ans_hints.specs.Places.{offset_if, places, times_of}
 use Rattle.ans_hints.specs.Conditions.{loose_line_feed, full_row, wide_character, later_colours, blinking_glyph}
 use Rattle.ans_hints.specs.Rows.{rows_with, rows_after}
 use Rattle.ans_hints.specs.Counted.{once_more, counted}

@@ -1,5 +1,5 @@
 -- The lines of hints as they are put, piece by piece.
-use Rattle.std.proofs.Common.{◌≡◌, ℕ, true, false, List, ◌++◌, codes, decimal, sym, ap, ◌∙◌, append_assoc, refl}
+use Rattle.std.proofs.Common.{◌≡◌, ℕ, true, List, ◌++◌, codes, decimal, sym, ap, ◌∙◌, append_assoc, refl}
 use Rattle.std.proofs.lemmas.Bool.{eq-eqb, ne_eqb}
 use Rattle.ans_model.specs.Text.Characters.{shown_bytes}
 use Rattle.ans_hints.specs.Fonts.{has_other_code_page}

@@ -6,3 +6,4 @@ pub mod Split
 pub mod Leading
 pub mod PieceWalks
 pub mod HintLines
+pub mod RowWalks

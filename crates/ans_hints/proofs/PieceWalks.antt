@@ -1,5 +1,5 @@
 -- A walk over the pieces of a content.
-use Rattle.std.proofs.Common.{◌≡◌, ℕ, ◌+◌, ◌-◌, ◌≤◌, List, [], ◌∷◌, ◌++◌, length, map, take, drop, refl, sym, ap, arith}
+use Rattle.std.proofs.Common.{◌≡◌, ℕ, ◌≤◌, List, [], ◌∷◌, ◌++◌, length, map, take, drop, refl, sym, ap, arith}
 use Rattle.std.proofs.Common.{◌∙◌, subst, length-append, Bor}
 use Rattle.std.proofs.lemmas.List.{take_at, drop_at, drop-drop, length-drop}
 use Rattle.ans_model.specs.Sequence.TokenKind as token
@@ -28,8 +28,14 @@ module _ (content : List ℕ) (old new : PiecesView) (piece : Piece) (within : o
     (left : old.rest ≡ drop old.offset content) (taken : TakesPiece old new piece) where
   pub within_after : new.offset ≤ length content
   within_after =
-      omega (arith, taken.offset, ap length taken.whole, length-append taken.text new.rest, ap length left,
-      length-drop old.offset content)
+      omega (
+        arith,
+        taken.offset,
+        ap length taken.whole,
+        length-append taken.text new.rest,
+        ap length left,
+        length-drop old.offset content,
+      )
 
   pub left_after : new.rest ≡ drop new.offset content
   left_after =
@@ -71,7 +77,7 @@ module _ (z : Size) (old new : PiecesView) (walk next : Walk) (end : Found)
       → ((s : State) (found : Found) → Shows walk s found → Shows next (step z s kind)
       (found_with z s start kind rest found))
       → LeadsTo z new.offset new.rest next end
-  token_leads t kind start rest taken starts is are goes_on = 
+  token_leads t kind start rest taken starts is are goes_on =
       let text = taken.text in
       let here : LeadsTo z old.offset (text ++ new.rest) walk end =
       subst (λ (v : List ℕ). LeadsTo z old.offset v walk end) taken.whole h in

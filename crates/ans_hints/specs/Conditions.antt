@@ -1,7 +1,7 @@
 -- What the hints of tokens are about. Each condition is asked of a token, of the state before it, and of the bytes
 -- after it.
 use Rattle.std.specs.Prelude.{ℕ, ◌+◌, Bool, false, not, ◌||◌, ◌&&◌, ◌==◌, nat_eq, nat_le, List, [], ◌∷◌, take}
-use Rattle.std.specs.Prelude.{slice_index}
+use Rattle.std.specs.Prelude.{nat_lt, slice_index, if◌then◌else◌}
 use Rattle.std.specs.Int.{is_in_range}
 use Rattle.std.specs.List.{list_any, starts_with}
 use Rattle.std.specs.Str.{is_utf8}
@@ -22,11 +22,14 @@ abbrev pub full_row : Size → State → TokenKind → List ℕ → Bool
 full_row z s (Glyph byte) rest = s.cursor.column + 1 == z.width && s.wrap && begins_with_line_end rest
 full_row z s _ rest = false
 
--- the bytes begin with a character of UTF-8 (RFC 3629) that takes three bytes or four; its first byte says how many
+-- how many bytes a character takes in UTF-8 (RFC 3629) if they are three or four: its first byte says it
+abbrev pub wide_size : ℕ → ℕ
+wide_size first = if nat_lt first 0xF0 then 3 else 4
+
+-- the bytes begin with such a character
 abbrev pub begins_with_wide : List ℕ → Bool
 begins_with_wide bytes =
-    nat_le 0xE0 (slice_index bytes 0) && is_utf8 (take 3 bytes)
-    || nat_le 0xF0 (slice_index bytes 0) && is_utf8 (take 4 bytes)
+    nat_le 0xE0 (slice_index bytes 0) && is_utf8 (take (wide_size (slice_index bytes 0)) bytes)
 
 -- a glyph is the first byte of such a character
 abbrev pub wide_character : Size → State → TokenKind → List ℕ → Bool

@@ -8,3 +8,4 @@ pub mod FoundSoFar
 pub mod Hints
 pub mod Walks
 pub mod HintsText
+pub mod InRow

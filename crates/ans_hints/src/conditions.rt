@@ -1,9 +1,9 @@
 //! What the hints of tokens are about.
 
-ghost use Rattle.std.specs.Prelude.{◌≡◌, ◌≤◌, ◌∷◌, nat_le, take};
+ghost use Rattle.std.specs.Prelude.{◌≡◌, ◌≤◌, ◌∷◌, take};
 ghost use Rattle.std.specs.List.{list_any};
 ghost use Rattle.std.specs.Str.{is_utf8};
-ghost use Rattle.ans_hints.specs.Conditions.{begins_with_line_end, begins_with_wide, is_later_colour};
+ghost use Rattle.ans_hints.specs.Conditions.{begins_with_line_end, wide_size, begins_with_wide, is_later_colour};
 
 /// Whether the bytes begin with a line feed, or with a return and a line feed.
 pub(crate) fn begins_with_line_end(bytes: &[u8]) -> bool
@@ -19,6 +19,7 @@ fn is_utf8(bytes: &[u8]) -> bool
 }
 
 /// Whether the first `count` bytes, or all where there are fewer, are UTF-8.
+#[inline(never)]
 fn front_is_utf8(first: u8, rest: &[u8], count: usize) -> bool
     requires some { 1 ≤ count }
     requires few { count ≤ 4 }
@@ -30,12 +31,20 @@ fn front_is_utf8(first: u8, rest: &[u8], count: usize) -> bool
     is_utf8(&text[..1 + more])
 }
 
+fn wide_size(first: u8) -> usize
+    ensures size { result ≡ wide_size first }
+    ensures some { 1 ≤ result }
+    ensures few { result ≤ 4 }
+{
+    if first < 0xF0 { 3 } else { 4 }
+}
+
 /// Whether the bytes begin with a character of UTF-8 (RFC 3629) that takes three bytes or four.
 #[inline(always)]
 pub(crate) fn begins_with_wide(first: u8, rest: &[u8]) -> bool
     ensures { result ≡ begins_with_wide (first ∷ rest.now) }
 {
-    first >= 0xE0 && front_is_utf8(first, rest, 3) || first >= 0xF0 && front_is_utf8(first, rest, 4)
+    first >= 0xE0 && front_is_utf8(first, rest, wide_size(first))
 }
 
 fn is_later_colour(number: u8) -> bool

@@ -1,16 +1,18 @@
 //! What is found of the hints, token by token.
 
-ghost use Rattle.std.specs.Prelude.{◌≡◌, ◌+◌, ◌<◌};
+ghost use Rattle.std.specs.Prelude.{◌≡◌, ◌+◌, ◌<◌, ◌≤◌, length};
 ghost use Rattle.ans_model.specs.Bytes.{longest_file};
 ghost use Rattle.ans_model.specs.Sequence.TokenKind.{Glyph, LineFeed};
 ghost use Rattle.ans_model.specs.Screen.State.{Size, State};
 ghost use Rattle.ans_model.specs.Inside.ShownKind.{shown_kind};
 ghost use Rattle.ans_hints.specs.Pens.{pen_of, StandsOn};
+ghost use Rattle.ans_hints.specs.Counted.{count_of};
+ghost use Rattle.ans_hints.specs.InRow.{with_wide, found_in_row};
 ghost use Rattle.ans_hints.specs.FoundSoFar.{found_with, nothing_found, CountsWithin};
 
 use crate::conditions::{begins_with_line_end, begins_with_wide, has_later_colour};
 use crate::pen::Pen;
-use crate::times::{Times, counted};
+use crate::times::{self, Times, count, count_many};
 use ans_model::kind::Kind;
 use ans_model::size::Size;
 
@@ -23,6 +25,22 @@ pub(crate) struct Found {
     pub(crate) later_colours: Option<Times>,
     pub(crate) blinking_glyphs: Option<Times>,
     pub(crate) rows: usize,
+}
+
+/// Counts the characters of UTF-8 in three or four bytes that begin at the first `count` of these
+/// bytes.
+#[inline(always)]
+fn count_wide(times: &mut Option<Times>, offset: usize, bytes: &[u8], count: usize)
+    requires room { offset + count ≤ longest_file }
+    requires some { count ≤ length bytes.now }
+    requires few { count_of times.old ≤ offset }
+    ensures value { times.new ≡ with_wide offset count bytes.now times.old }
+    ensures within { count_of times.new ≤ offset + count }
+{
+    for i in 0..count {
+        let wide = begins_with_wide(bytes[i], &bytes[i + 1..]);
+        times::count(times, wide, offset + i);
+    }
 }
 
 impl Found {
@@ -49,7 +67,7 @@ impl Found {
             → self.new ≡ found_with size s offset LineFeed rest.now self.old }
     {
         let comes = pen.cursor.column != 0 && !rest.starts_with(b"\r");
-        self.loose_line_feeds = counted(self.loose_line_feeds, comes, offset);
+        count(&mut self.loose_line_feeds, comes, offset);
     }
 
     /// A glyph, before the rest of the content.
@@ -65,9 +83,34 @@ impl Found {
         let wraps = pen.cursor.column + 1 == size.width() && pen.wrap;
         let full = wraps && begins_with_line_end(rest);
         let wide = begins_with_wide(byte, rest);
-        self.full_rows = counted(self.full_rows, full, offset + 1);
-        self.wide_characters = counted(self.wide_characters, wide, offset);
-        self.blinking_glyphs = counted(self.blinking_glyphs, pen.attribute >= 0x80, offset);
+        count(&mut self.full_rows, full, offset + 1);
+        count(&mut self.wide_characters, wide, offset);
+        count(&mut self.blinking_glyphs, pen.attribute >= 0x80, offset);
+        self.rows = self.rows.max(pen.cursor.row + 1);
+    }
+
+    /// The first `count` of these bytes, each as a glyph, in one row before its last column. The first
+    /// stands at this offset, and the bytes go on to the content's end.
+    #[inline(always)]
+    pub(crate) fn in_row(
+        &mut self,
+        size: Size,
+        pen: &Pen,
+        offset: usize,
+        bytes: &[u8],
+        count: usize,
+    )
+        requires room { offset + count ≤ longest_file }
+        requires some { count ≤ length bytes.now }
+        requires stands { StandsOn size pen.now }
+        requires within { CountsWithin self.old offset }
+        ensures within { CountsWithin self.new (offset + count) }
+        ensures found { (s : State) → pen.now ≡ pen_of s
+            → self.new ≡ found_in_row s offset count bytes.now self.old }
+    {
+        let blinks = pen.attribute >= 0x80;
+        count_wide(&mut self.wide_characters, offset, bytes, count);
+        count_many(&mut self.blinking_glyphs, blinks, count, offset);
         self.rows = self.rows.max(pen.cursor.row + 1);
     }
 
@@ -88,7 +131,7 @@ impl Found {
             Kind::Tab => self.rows = self.rows.max(pen.row_of_tab(size) + 1),
             Kind::Colours(numbers) => {
                 let later = has_later_colour(numbers);
-                self.later_colours = counted(self.later_colours, later, offset);
+                count(&mut self.later_colours, later, offset);
             }
             _ => {}
         }

@@ -80,7 +80,12 @@ pub fn put_hints<W: Write>(out: &mut Outbox<'_, W>, hints: &Hints, font: &[u8])
         hints.loose_line_feeds,
         b"",
     );
-    put_times_line(out, b"a full row and a line end take two rows", hints.full_rows, b"");
+    put_times_line(
+        out,
+        b"a full row and a line end take two rows",
+        hints.full_rows,
+        b"",
+    );
     put_times_line(
         out,
         b"a character is in UTF-8",

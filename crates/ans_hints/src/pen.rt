@@ -68,11 +68,16 @@ impl Pen {
 
     /// So many blanks are printed.
     pub(crate) fn blanks(&mut self, size: Size, count: usize)
+        requires few { count ≤ 8 }
         requires stands { StandsOn size self.old }
         ensures stands { StandsOn size self.new }
         ensures pen { (s : State) → self.old ≡ pen_of s
             → self.new ≡ pen_of (fold (put size) s (replicate count blank)) }
     {
+        if self.cursor.column + count < size.width() {
+            self.cursor.column += count;
+            return;
+        }
         for _ in 0..count {
             self.advance(size);
         }

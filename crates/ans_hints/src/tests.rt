@@ -115,7 +115,12 @@ fn expect_rows(rt: &impl Abort, rows: &[Row]) {
             text,
         } = *row;
         assert!(rt; 1 <= width && width <= 20 && 1 <= lines && lines <= 10 && content.len() < 200);
-        expect_hints(rt, Hints::of(Size::new(width, lines), false, content), b"", text);
+        expect_hints(
+            rt,
+            Hints::of(Size::new(width, lines), false, content),
+            b"",
+            text,
+        );
     }
 }
 

@@ -1,8 +1,9 @@
 //! How often something comes.
 
-ghost use Rattle.std.specs.Prelude.{◌≡◌, ◌+◌, ◌≤◌};
+ghost use Rattle.std.specs.Prelude.{◌≡◌, ◌+◌, ◌≤◌, if◌then◌else◌};
 ghost use Rattle.ans_model.specs.Bytes.{longest_file};
-ghost use Rattle.ans_hints.specs.Counted.{count_of, counted};
+ghost use Rattle.ans_hints.specs.Counted.{count_of, once_more, counted};
+ghost use Rattle.ans_hints.specs.InRow.{many_more};
 
 /// How many times something comes, at least one, and the offset of the first in bytes from the
 /// content's start.
@@ -13,22 +14,50 @@ pub struct Times {
 }
 
 /// One time more where it comes at this offset.
-pub(crate) fn counted(times: Option<Times>, comes: bool, offset: usize) -> Option<Times>
-    requires { count_of times ≤ longest_file }
-    ensures value { result ≡ counted times comes offset }
-    ensures within { count_of result ≤ count_of times + 1 }
+#[inline(always)]
+pub(crate) fn count(times: &mut Option<Times>, comes: bool, offset: usize)
+    requires { count_of times.old ≤ longest_file }
+    ensures value { times.new ≡ counted times.old comes offset }
+    ensures within { count_of times.new ≤ count_of times.old + 1 }
 {
-    if !comes {
-        return times;
+    if comes {
+        count_once(times, offset);
     }
+}
+
+#[inline(never)]
+fn count_once(times: &mut Option<Times>, offset: usize)
+    requires { count_of times.old ≤ longest_file }
+    ensures value { times.new ≡ once_more times.old offset }
+    ensures within { count_of times.new ≡ count_of times.old + 1 }
+{
     match times {
-        None => Some(Times {
-            count: 1,
-            first: offset,
-        }),
-        Some(times) => Some(Times {
-            count: times.count + 1,
-            first: times.first,
-        }),
+        None => {
+            *times = Some(Times {
+                count: 1,
+                first: offset,
+            })
+        }
+        Some(times) => times.count += 1,
+    }
+}
+
+/// `many` times more where they come, the first at this offset.
+#[inline(always)]
+pub(crate) fn count_many(times: &mut Option<Times>, come: bool, many: usize, offset: usize)
+    requires { count_of times.old + many ≤ longest_file }
+    ensures value { times.new ≡ (if come then many_more times.old many offset else times.old) }
+    ensures within { count_of times.new ≤ count_of times.old + many }
+{
+    if come {
+        match times {
+            None => {
+                *times = Some(Times {
+                    count: many,
+                    first: offset,
+                })
+            }
+            Some(times) => times.count += many,
+        }
     }
 }

@@ -51,6 +51,23 @@ impl Walk {
         self.pen.step(size, kind);
     }
 
+    /// Such glyphs in one row before its last column.
+    #[inline(always)]
+    fn in_row(&mut self, size: Size, offset: usize, bytes: &[u8], count: usize)
+        requires room { offset + length bytes.now ≤ longest_file }
+        requires some { 0 < count }
+        requires within { count ≤ length bytes.now }
+        requires in_row { self.old.pen.cursor.column + count < size.width }
+        requires at { IsAt size offset self.old }
+        ensures at { IsAt size (offset + count) self.new }
+        ensures goes_on { (s : State) (found : Found) → Shows self.old s found
+            → Shows self.new (final size s (map Glyph (take count bytes.now)))
+            (found_in_glyphs size s offset count bytes.now found) }
+    {
+        self.found.in_row(size, &self.pen, offset, bytes, count);
+        self.pen.cursor.column += count;
+    }
+
     /// The first `count` of these bytes, each as a glyph. The first of them stands at this offset,
     /// and they go on to the content's end.
     pub(crate) fn glyphs(&mut self, size: Size, offset: usize, bytes: &[u8], count: usize)
@@ -62,8 +79,18 @@ impl Walk {
             → Shows self.new (final size s (map Glyph (take count bytes.now)))
             (found_in_glyphs size s offset count bytes.now found) }
     {
-        for i in 0..count {
-            self.token(size, offset + i, &Kind::Glyph(bytes[i]), &bytes[i + 1..]);
+        let mut done = 0;
+        while done < count {
+            let before_last = size.width() - 1 - self.pen.cursor.column;
+            let here = before_last.min(count - done);
+            if here > 0 {
+                self.in_row(size, offset + done, &bytes[done..], here);
+                done += here;
+            } else {
+                let glyph = Kind::Glyph(bytes[done]);
+                self.token(size, offset + done, &glyph, &bytes[done + 1..]);
+                done += 1;
+            }
         }
     }
 }

@@ -1,4 +1,4 @@
-use Rattle.std.proofs.Common.{ap, ◌∙◌, drop, refl}
+use Rattle.std.proofs.Common.{ap, ◌∙◌}
 use Rattle.std.specs.Str.{is_utf8}
 use Rattle.ans_hints.proofs.TextTests.{front_copied}
 use Rattle.ans_hints.proofs.conditions.front_is_utf8.Goals as goal

@@ -1,10 +1,8 @@
-use Rattle.std.proofs.Common.{◌≡◌, ℕ, ◌+◌, ◌-◌, List, length, refl, sym, ap, ◌∙◌, arith, subst}
-use Rattle.ans_model.specs.Screen.StartClass.{cleared}
+use Rattle.std.proofs.Common.{◌≡◌, ℕ, ◌+◌, ◌-◌, length, refl, sym, ap, ◌∙◌, arith, subst}
 use Rattle.ans_model.specs.declared.kind.Kind.{Kind}
 use Rattle.ans_model.specs.Inside.ShownKind.{shown_kind}
 use Rattle.ans_tokens.specs.Pieces.{TakesPiece}
 use Rattle.ans_tokens.specs.declared.pieces.Piece.TheVariants as pieces
-use Rattle.ans_hints.specs.FoundSoFar.{nothing_found}
 use Rattle.ans_hints.specs.Walks.{IsAt}
 use Rattle.ans_hints.proofs.GlyphWalks.{rest_of}
 use Rattle.ans_hints.proofs.PieceWalks.{within_after, left_after, glyphs_lead, token_leads, nothing_left, never_refused}
@@ -39,16 +37,22 @@ slice_bounds-rest-count c =
     let h = c.loop-text.invariant in
     let taken : TakesPiece c.loop-text.pieces c.next.new.self (pieces.Token c.in-Ok-Some-Token.token) =
     rw (c.in-Ok-Some-Token.field-0-is, c.in-Ok-Some-Token.field-0-0-is) at c.in-Ok-Some-Token.ensures.piece in
-    omega (arith, c.offset-in-Ok-Some-Token.ensures,
-    within_after c.args.content.now c.loop-text.pieces c.next.new.self _ h.within h.rest taken)
+    omega (
+      arith,
+      c.offset-in-Ok-Some-Token.ensures,
+      within_after c.args.content.now c.loop-text.pieces c.next.new.self _ h.within h.rest taken,
+    )
 
 pub slice_bounds-rest-start : goal.slice_bounds-rest-start
 slice_bounds-rest-start c =
     let h = c.loop-text.invariant in
     let taken : TakesPiece c.loop-text.pieces c.next.new.self (pieces.Token c.in-Ok-Some-Token.token) =
     rw (c.in-Ok-Some-Token.field-0-is, c.in-Ok-Some-Token.field-0-0-is) at c.in-Ok-Some-Token.ensures.piece in
-    omega (arith, c.offset-in-Ok-Some-Token.ensures,
-    within_after c.args.content.now c.loop-text.pieces c.next.new.self _ h.within h.rest taken)
+    omega (
+      arith,
+      c.offset-in-Ok-Some-Token.ensures,
+      within_after c.args.content.now c.loop-text.pieces c.next.new.self _ h.within h.rest taken,
+    )
 
 pub loop-text-preserved : goal.loop-text-preserved
 loop-text-preserved c =

@@ -13,10 +13,10 @@ returns c tokens texts reads =
       wide_characters = ap (λ (f : Found). f.wide_characters) e ∙ counted_from_none _;
       later_colours = ap (λ (f : Found). f.later_colours) e ∙ counted_from_none _;
       blinking_glyphs = elim c.if-non_blink.branch [
-          | then-non_blink w ↦ rw w.if-non_blink.true w.result-is
-          | else-non_blink w ↦ rw w.if-non_blink.false (w.result-is ∙ ap (λ (f : Found). f.blinking_glyphs) e
-              ∙ counted_from_none _)
-        ];
+        | then-non_blink w ↦ rw w.if-non_blink.true w.result-is
+        | else-non_blink w ↦ rw w.if-non_blink.false (w.result-is ∙ ap (λ (f : Found). f.blinking_glyphs) e
+            ∙ counted_from_none _)
+      ];
       empty_rows = c.saturating_sub.ensures
           ∙ ap₂ (λ (m n : ℕ). m - n) c.lines.ensures.lines (ap (λ (f : Found). f.rows) e);
     }

@@ -1,5 +1,5 @@
 use Rattle.std.proofs.Common.{◌≡◌, ◌+◌, ◌≤◌, true, arith, sym, ap, ◌∙◌}
-use Rattle.ans_model.specs.Screen.State.{State, at}
+use Rattle.ans_model.specs.Screen.State.{at}
 use Rattle.ans_hints.specs.Pens.{pen_of}
 use Rattle.ans_hints.specs.declared.pen.Pen.{Pen}
 use Rattle.ans_hints.proofs.PenSteps.{wraps}
