@@ -29,7 +29,10 @@ use Rattle.ans_check.specs.FileNeeds.{NeedsClass, IsNeedsOf, needs_fault}
 use Rattle.ans_check.specs.FileVerdict.{Passes, IsRefusedFor, IsVerdictOn, IsGoodFile, fault_of}
 use Rattle.ans_check.specs.CommandText.{heading, ReportsPass, ReportsFault, ReportsRecordFault, ReportsCheck}
 use Rattle.ans_check.specs.CommandText.{ReportsLeast, ReportsNeeds, ReportsRecord, ReportsContent, ReportsTokens}
-use Rattle.ans_check.specs.CommandText.{IsReportOf, ReportsPicture, shown_text}
+use Rattle.ans_check.specs.CommandText.{IsReportOf, ReportsPicture, ReportsWhy, is_of_pass, shown_text}
+use Rattle.ans_explain.specs.Explained.{IsTrueOf}
+use Rattle.ans_explain.specs.WhyText.{why_text}
+use Rattle.ans_explain.specs.declared.why.Why.{Why}
 use Rattle.ans_options.specs.declared.command.Form.{Form}
 
 -- the heading of a file's parts
@@ -125,6 +128,11 @@ picture_reported file start form parts picture h = record {
   passes = h.2;
   text_is = ap (λ (v : List ℕ). shown_text form v picture) h.1.sauce;
 }
+
+-- what is said of a file, where it is true
+pub why_reported : (file : List ℕ) (why : Why) (passed : Bool) → IsTrueOf file why → passed ≡ is_of_pass why
+    → ReportsWhy file passed (why_text why)
+why_reported file why passed h e = record { said = why; is_true = h; passed_is = e; text_is = refl }
 
 -- the text of an accepted record
 pub sauce_reported : (file : List ℕ) (parts : Parts) (s : IsSplit file parts) → ReportsRecord file (record_text s.apart)

@@ -16,12 +16,16 @@ use Rattle.std.specs.Option.{option_copied}
 use Rattle.ans_report.specs.declared.report.Report.{Report}
 use Rattle.ans_report.specs.declared.report.Report.TheVariants as report
 use Rattle.ans_options.specs.declared.command.Command.{Command}
-use Rattle.ans_options.specs.declared.command.Command.TheVariants.{Check, Show, Sauce, Tokens, Needs}
+use Rattle.ans_options.specs.declared.command.Command.TheVariants.{Why, Check, Show, Sauce, Tokens, Needs}
 use Rattle.ans_options.specs.declared.command.Form.{Form}
 use Rattle.ans_options.specs.declared.command.Form.TheVariants.{Terminal, Vga, Page}
 use Rattle.ans_options.specs.declared.command.Options.{Options}
 use Rattle.ans_show.specs.PageText.{page_text}
 use Rattle.ans_show.specs.TerminalText.{terminal_text}
+use Rattle.ans_explain.specs.Explained.{IsTrueOf}
+use Rattle.ans_explain.specs.WhyText.{why_text}
+use Rattle.ans_explain.specs.declared.why.Why as why
+use Rattle.ans_explain.specs.declared.why.Why.TheVariants as said
 use Rattle.ans_check.specs.declared.verdict.Verdict.{Verdict}
 use Rattle.ans_check.specs.declared.verdict.Verdict.TheVariants.{Pass, Refused}
 use Rattle.ans_check.specs.FileNeeds.{NeedsClass}
@@ -123,8 +127,21 @@ abbrev pub ReportsNeeds : List ℕ → Bool → List ℕ → Type 0
 ReportsNeeds file true text = ReportsLeast file text
 ReportsNeeds file false text = ReportsRefusal file all_known None text
 
+-- what is said of a file that passes from the cleared start
+abbrev pub is_of_pass : why.Why → Bool
+is_of_pass (said.Passes parts pass) = true
+is_of_pass _ = false
+
+-- What is said is true of the file, and the text says it. The file passes where it passes from the cleared start.
+pub record ReportsWhy (file : List ℕ) (passed : Bool) (text : List ℕ) : Type 0 where
+  pub said : why.Why
+  pub is_true : IsTrueOf file said
+  pub passed_is : passed ≡ is_of_pass said
+  pub text_is : text ≡ why_text said
+
 -- whether the file passes and the text are what the command is to write of it
 abbrev pub ReportsBy : Command → Start → Bool → List ℕ → Bool → List ℕ → Type 0
+ReportsBy Why start cells file passed text = ReportsWhy file passed text
 ReportsBy Check start cells file passed text = ReportsCheck file start cells passed text
 ReportsBy (Show form) start cells file passed text = ReportsShow file start form passed text
 ReportsBy Sauce start cells file passed text = ReportsSauce file passed text

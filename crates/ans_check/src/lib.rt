@@ -23,6 +23,7 @@ mod reading;
 mod streams;
 mod system;
 mod verdict;
+mod why_of;
 
 pub use ans_model::start::Start;
 pub use ans_options::{Command, Form, Options, WordsError, options};

@@ -7,7 +7,7 @@ ghost use Rattle.ans_sauce.specs.Parts.{record_of};
 ghost use Rattle.ans_write.specs.Tried.{has_failed, inner_of};
 ghost use Rattle.ans_write.specs.Writes.{WritesText};
 ghost use Rattle.ans_check.specs.CommandText.{Reports, ReportsCheck, ReportsNeeds, ReportsSauce, ReportsShow};
-ghost use Rattle.ans_check.specs.CommandText.{ReportsTokens, IsReportOf, shown_text};
+ghost use Rattle.ans_check.specs.CommandText.{ReportsTokens, ReportsWhy, IsReportOf, is_of_pass, shown_text};
 ghost use Rattle.ans_check.specs.FileNeeds.{needs_fault};
 ghost use Rattle.ans_check.specs.FileVerdict.{fault_of};
 ghost use Rattle.ans_check.specs.Reported.{IsReported};
@@ -17,6 +17,8 @@ use crate::errors::RunError;
 use crate::parts_needed::needs;
 use crate::reading::read_all;
 use crate::verdict::{Verdict, check};
+use crate::why_of::why_of;
+use ans_explain::{Why, write_why};
 use ans_model::start::Start;
 use ans_options::{Command, Form, Options};
 use ans_play::Picture;
@@ -183,6 +185,28 @@ fn tell_needs<W: Write>(alloc: Global, writer: &mut Tried<W>, file: &[u8]) -> Re
     told(written, is_least(&found))
 }
 
+/// Whether a file passes from the cleared start, by what is said of it.
+fn is_of_pass(why: &Why<'_>) -> bool
+    ensures { result ≡ is_of_pass why.now }
+{
+    matches!(why, Why::Passes { parts: _, pass: _ })
+}
+
+/// Writes why a file is refused, or what it relies on. Returns whether it passes from the cleared
+/// start.
+fn tell_why<W: Write>(alloc: Global, writer: &mut Tried<W>, file: &[u8]) -> Result<bool, RunError>
+    requires works { has_failed writer.old ≡ false }
+    requires length { length file.now ≤ longest_file }
+    ensures reported { IsReported W.contents (ReportsWhy file.now) writer.old writer.new result }
+    ensures memory { IsSome (record_fault file.now) → IfErr result (λ e. e ≡ RunError.Write) }
+{
+    let Ok(why) = why_of::<PlaneGrid>(alloc, file) else {
+        return Err(RunError::Memory);
+    };
+    let written = write_why(writer, &why);
+    told(written, is_of_pass(&why))
+}
+
 /// Runs the chosen command on a file. Returns whether the file passes.
 fn run_command<W: Write>(
     alloc: Global,
@@ -195,6 +219,7 @@ fn run_command<W: Write>(
     ensures { IsReported W.contents (Reports options.now file.now) writer.old writer.new result }
 {
     match options.command {
+        Command::Why => tell_why(alloc, writer, file),
         Command::Check => report(alloc, writer, file, options.start, options.cells),
         Command::Show(form) => show(alloc, writer, file, options.start, form),
         Command::Sauce => tell_record(writer, file),
@@ -204,8 +229,8 @@ fn run_command<W: Write>(
 }
 
 /// Reads the whole input, and writes what the options ask of it: the report of a check, the picture
-/// of a pass in colour, the text of the record (SAUCE 00.5), the tokens of the content, or what the
-/// content needs. Where the content is refused, what should show its picture reports that as a check
+/// of a pass in colour, the text of the record (SAUCE 00.5), the tokens of the content, what the
+/// content needs, or why the file is refused and what it relies on. Where the content is refused, what should show its picture reports that as a check
 /// does. Where the record or the layout is refused, F1 to F8, the two lines of the refusal are written
 /// instead. `Ok` says whether the file passes: its content is found good, its record is accepted, all
 /// of its content is read as tokens, or its content is good from the cleared start, so that it is

@@ -19,7 +19,7 @@ use Rattle.clap.specs.declared.parser.matches.SubCommand.{SubCommand}
 use Rattle.std.proofs.Common.{inl, inr, ◌⊎◌}
 use Rattle.clap.specs.Walk.{answers_to, stop_after}
 use Rattle.clap.specs.Simple.{argument_words, built, entered, label_of, names_of, rows_at}
-use Rattle.ans_options.specs.declared.command.Command.TheVariants.{Check, Show, Sauce, Tokens, Needs}
+use Rattle.ans_options.specs.declared.command.Command.TheVariants.{Why, Check, Show, Sauce, Tokens, Needs}
 use Rattle.ans_options.specs.declared.command.Form.TheVariants.{Terminal}
 use Rattle.std.proofs.Common.{subst, ◌&&◌, not}
 use Rattle.clap.specs.declared.builder.command.Command.{Command}
@@ -117,16 +117,19 @@ pub command_found : (words : List Text) (sub : Option (Text × List Row)) → su
 command_found words None e some = cc
 command_found words (Some p) e some =
     elim ((program_met words p e).1) [
-      | inl needs ↦ (Needs, name_met needs)
-      | inr others ↦ elim others [
-        | inl check ↦ (Check, name_met check)
-        | inr more ↦ elim more [
-          | inl show ↦ (Show Terminal, name_met show)
-          | inr later ↦ elim later [
-            | inl sauce ↦ (Sauce, name_met sauce)
-            | inr last ↦ elim last [
-              | inl tokens ↦ (Tokens, name_met tokens)
-              | inr never ↦ absurd never
+      | inl why ↦ (Why, name_met why)
+      | inr behind ↦ elim behind [
+        | inl needs ↦ (Needs, name_met needs)
+        | inr others ↦ elim others [
+          | inl check ↦ (Check, name_met check)
+          | inr more ↦ elim more [
+            | inl show ↦ (Show Terminal, name_met show)
+            | inr later ↦ elim later [
+              | inl sauce ↦ (Sauce, name_met sauce)
+              | inr last ↦ elim last [
+                | inl tokens ↦ (Tokens, name_met tokens)
+                | inr never ↦ absurd never
+              ]
             ]
           ]
         ]

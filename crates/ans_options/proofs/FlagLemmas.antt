@@ -8,7 +8,7 @@ use Rattle.clap.specs.Walk.{Rule, rows_after}
 use Rattle.clap.specs.Words.{Row, Text, subcommand_of}
 use Rattle.ans_model.specs.Screen.StartClass.{all_known, none_known}
 use Rattle.ans_options.specs.declared.command.Command.{Command}
-use Rattle.ans_options.specs.declared.command.Command.TheVariants.{Check, Show, Sauce, Tokens, Needs}
+use Rattle.ans_options.specs.declared.command.Command.TheVariants.{Why, Check, Show, Sauce, Tokens, Needs}
 use Rattle.ans_options.specs.declared.command.Options.{Options}
 use Rattle.ans_options.specs.CommandLine.{AreOptionsOf, AsksFor, anscheck, command_name, words_meant}
 use Rattle.ans_options.specs.CommandLine.{file_rule, flag_rule, holds_flag, named_start, start_asked, takes_flags}
@@ -104,8 +104,11 @@ named_check Tokens e =
 named_check Needs e =
     let bad : ◌≡◌ {A = ℕ} 110 99 = ap (λ t. slice_index t 0) e in
     absurd (omega arith)
+named_check Why e =
+    let bad : ◌≡◌ {A = ℕ} 119 99 = ap (λ t. slice_index t 0) e in
+    absurd (omega arith)
 
--- and the second one tells `show` from them
+-- and the first two tell `show` from them
 named_show : (c : Command) → command_name c ≡ codes "show" → takes_flags c ≡ true
 named_show Check e = refl
 named_show (Show form) e = refl
@@ -117,6 +120,9 @@ named_show Tokens e =
     absurd (omega arith)
 named_show Needs e =
     let bad : ◌≡◌ {A = ℕ} 101 104 = ap (λ t. slice_index t 1) e in
+    absurd (omega arith)
+named_show Why e =
+    let bad : ◌≡◌ {A = ℕ} 119 115 = ap (λ t. slice_index t 0) e in
     absurd (omega arith)
 
 -- where no flag is held, no part is known
@@ -139,6 +145,7 @@ none_asked (Show form) rows e none = absurd (true≢false e)
 none_asked Sauce rows e none = none_named rows none
 none_asked Tokens rows e none = none_named rows none
 none_asked Needs rows e none = none_named rows none
+none_asked Why rows e none = none_named rows none
 
 -- what is known without flags
 pub flagless : (words : List Text) (o : Options) (file : Option Text) → AreOptionsOf words o file

@@ -8,7 +8,7 @@ use Rattle.std.specs.Str.{chars}
 use Rattle.clap.specs.declared.error.ErrorKind.TheVariants.{DisplayHelp, DisplayVersion}
 use Rattle.clap.specs.declared.error.ErrorKind.TheVariants.{InvalidSubcommand, UnknownArgument}
 use Rattle.ans_options.specs.declared.command.Command.{Command}
-use Rattle.ans_options.specs.declared.command.Command.TheVariants.{Check, Show, Sauce, Tokens, Needs}
+use Rattle.ans_options.specs.declared.command.Command.TheVariants.{Why, Check, Show, Sauce, Tokens, Needs}
 use Rattle.ans_options.specs.CommandLine.{IsNoCommand, command_name, faults_of}
 use Rattle.ans_options.proofs.MeaningLemmas.{no_command_name}
 
@@ -29,6 +29,7 @@ help_alone program = refl
 pub help_of_command : (program : Text) (c : Command)
     → faults_of (program ∷ codes "help" ∷ command_name c ∷ []) ≡ DisplayHelp ∷ []
 unfolding walked walk_fault
+help_of_command program Why = refl
 help_of_command program Needs = refl
 help_of_command program Check = refl
 help_of_command program (Show form) = refl
@@ -43,6 +44,7 @@ help_of_other program name more other = rw (no_command_name name other) refl
 pub help_of_more : (program word : Text) (more : List Text) (c : Command)
     → faults_of (program ∷ codes "help" ∷ command_name c ∷ word ∷ more) ≡ UnknownArgument ∷ []
 unfolding walked walk_fault
+help_of_more program word more Why = refl
 help_of_more program word more Needs = refl
 help_of_more program word more Check = refl
 help_of_more program word more (Show form) = refl

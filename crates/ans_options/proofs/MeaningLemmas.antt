@@ -7,7 +7,7 @@ use Rattle.std.specs.Str.{bytes_eq}
 use Rattle.std.proofs.lemmas.Slice.Eq.{bytes_eq-Decides}
 use Rattle.clap.specs.Words.{Text}
 use Rattle.ans_options.specs.declared.command.Command.{Command}
-use Rattle.ans_options.specs.declared.command.Command.TheVariants.{Check, Show, Sauce, Tokens, Needs}
+use Rattle.ans_options.specs.declared.command.Command.TheVariants.{Why, Check, Show, Sauce, Tokens, Needs}
 use Rattle.ans_options.specs.declared.command.Form.TheVariants.{Terminal}
 use Rattle.ans_options.specs.CommandLine.{IsNoCommand, help_on, is_command_name, texts_of, words_meant}
 use Rattle.ans_options.proofs.CommandLineLemmas.{not_true}
@@ -19,6 +19,7 @@ unequal name other h = not_true _ (λ same. h ((bytes_eq-Decides name other).0 s
 pub no_command_name : (name : Text) → IsNoCommand name → is_command_name name ≡ false
 no_command_name name h =
     rw (
+      unequal name (codes "why") (h Why),
       unequal name (codes "needs") (h Needs),
       unequal name (codes "check") (h Check),
       unequal name (codes "show") (h (Show Terminal)),

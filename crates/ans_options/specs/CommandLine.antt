@@ -15,7 +15,7 @@ use Rattle.ans_model.specs.Screen.StartClass.{all_known}
 use Rattle.ans_options.specs.declared.command_line.WordsError.{WordsError}
 use Rattle.ans_options.specs.declared.command_line.WordsError.TheVariants as words_error
 use Rattle.ans_options.specs.declared.command.Command.{Command}
-use Rattle.ans_options.specs.declared.command.Command.TheVariants.{Check, Show, Sauce, Tokens, Needs}
+use Rattle.ans_options.specs.declared.command.Command.TheVariants.{Why, Check, Show, Sauce, Tokens, Needs}
 use Rattle.ans_options.specs.declared.command.Form.{Form}
 use Rattle.ans_options.specs.declared.command.Form.TheVariants.{Terminal, Vga, Page}
 use Rattle.ans_options.specs.declared.command.Options.{Options}
@@ -65,6 +65,10 @@ tokens_app = file_app (codes "tokens")
 abbrev pub needs_app : App
 needs_app = file_app (codes "needs")
 
+-- `why [FILE]`
+abbrev pub why_app : App
+why_app = file_app (codes "why")
+
 -- `anscheck`, which has a version, wants a subcommand, and has no subcommand `help`
 abbrev pub anscheck_top : App
 anscheck_top = let a = new_app (codes "anscheck") in
@@ -75,12 +79,15 @@ abbrev pub anscheck : App
 anscheck =
     with_subcommand
     (with_subcommand
-    (with_subcommand (with_subcommand (with_subcommand anscheck_top needs_app.top) check_app.top) show_app.top)
+    (with_subcommand
+    (with_subcommand (with_subcommand (with_subcommand anscheck_top why_app.top) needs_app.top) check_app.top)
+    show_app.top)
     sauce_app.top)
     tokens_app.top
 
 -- the subcommand of each command
 abbrev pub command_name : Command → Text
+command_name Why = codes "why"
 command_name Check = codes "check"
 command_name (Show form) = codes "show"
 command_name Sauce = codes "sauce"
@@ -99,7 +106,7 @@ IsNoCommand name = (c : Command) → name ≢ command_name c
 
 -- the names of the commands, in the order of the help
 abbrev pub command_names : List Text
-command_names = codes "needs" ∷ codes "check" ∷ codes "show" ∷ codes "sauce" ∷ codes "tokens" ∷ []
+command_names = codes "why" ∷ codes "needs" ∷ codes "check" ∷ codes "show" ∷ codes "sauce" ∷ codes "tokens" ∷ []
 
 -- one of the commands has this name
 abbrev pub is_command_name : Text → Bool

@@ -16,6 +16,8 @@ pub enum Form {
 /// What the program does with a file.
 #[derive(Debug, Clone, Copy, PartialEq, Eq)]
 pub enum Command {
+    /// Writes why it is refused, or what it relies on, and how that is mended.
+    Why,
     /// Checks it, and writes the report.
     Check,
     /// Checks it, and writes its picture in colour, or the report of its refusal.

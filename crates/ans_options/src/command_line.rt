@@ -65,7 +65,7 @@ Without --any or a --known flag all five are assumed: a screen just cleared.
 const PROGRAM_END: &str = with_exit_statuses!(
     "\
 Examples:
-  anscheck needs drawing.ans
+  anscheck why drawing.ans
   anscheck check --cleared drawing.ans
   anscheck show drawing.ans
   anscheck help check
@@ -74,6 +74,8 @@ Examples:
 );
 
 // What the commands do, in the order of the program's help.
+const WHY: &str = "Say why a drawing is refused, what it relies on, and how to mend it";
+
 const NEEDS: &str = "Print what a drawing relies on: screen, cursor, saved, colours, wrap";
 
 const CHECK: &str = "Check that a file always shows the same picture, and print it";
@@ -178,6 +180,7 @@ fn show_command<'a>(alloc: Global) -> Result<clap::Command<'a>, AllocError>
 fn program<'a>(alloc: Global) -> Result<clap::Command<'a>, AllocError>
     ensures { IfOk result (λ c. app_of c ≡ anscheck) }
 {
+    let why = file_command(alloc, "why", WHY, COMMAND_END)?;
     let needs = file_command(alloc, "needs", NEEDS, COMMAND_END)?;
     let check = check_command(alloc)?;
     let show = show_command(alloc)?;
@@ -189,6 +192,7 @@ fn program<'a>(alloc: Global) -> Result<clap::Command<'a>, AllocError>
         .after_help(PROGRAM_END)
         .subcommand_required(true)
         .disable_help_subcommand(true)
+        .subcommand(why)?
         .subcommand(needs)?
         .subcommand(check)?
         .subcommand(show)?
@@ -207,6 +211,7 @@ fn command_named(name: &str) -> Option<Command>
     ensures none { IfNone result (IsNoCommand name.now) }
 {
     match name {
+        "why" => Some(Command::Why),
         "needs" => Some(Command::Needs),
         "check" => Some(Command::Check),
         "show" => Some(Command::Show(Form::Terminal)),
@@ -347,7 +352,7 @@ fn words_meant<'a>(alloc: Global, words: &[&'a str]) -> Result<Vec<&'a str>, All
 }
 
 /// Reads the options and the file from the program's words, its own name first:
-/// `anscheck needs [FILE]`, `anscheck check` or `anscheck show` with its flags and `[FILE]`,
+/// `anscheck why [FILE]`, `anscheck needs [FILE]`, `anscheck check` or `anscheck show` with its flags and `[FILE]`,
 /// `anscheck sauce [FILE]` or `anscheck tokens [FILE]`. A part of the start is known where its flag
 /// is given, as `--known-cursor`. With `check` all are known where `--cleared` is given, and cells
 /// are asked for where `--cells` is. With `show` all are known where neither such a flag nor `--any`

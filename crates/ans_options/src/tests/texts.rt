@@ -54,6 +54,7 @@ const PROGRAM_HELP: &str = help!(
     Usage: anscheck <COMMAND>\n\
     \n\
     Commands:\n\
+    \x20 why     Say why a drawing is refused, what it relies on, and how to mend it\n\
     \x20 needs   Print what a drawing relies on: screen, cursor, saved, colours, wrap\n\
     \x20 check   Check that a file always shows the same picture, and print it\n\
     \x20 show    Show the picture in its colours, for a terminal or as a page\n\
@@ -65,14 +66,17 @@ const PROGRAM_HELP: &str = help!(
     \x20 -V, --version  Print version\n\
     \n\
     Examples:\n\
-    \x20 anscheck needs drawing.ans\n\
+    \x20 anscheck why drawing.ans\n\
     \x20 anscheck check --cleared drawing.ans\n\
     \x20 anscheck show drawing.ans\n\
     \x20 anscheck help check\n"
 );
 
 /// Commands, and the help of each.
-static COMMANDS: [(&str, &str); 5] = command_helps! {
+static COMMANDS: [(&str, &str); 6] = command_helps! {
+    "why":
+        "Say why a drawing is refused, what it relies on, and how to mend it", " [FILE]",
+        "  -h, --help  Print help\n";
     "needs":
         "Print what a drawing relies on: screen, cursor, saved, colours, wrap", " [FILE]",
         "  -h, --help  Print help\n";
@@ -117,7 +121,7 @@ static TEXTS: [(&[&str], &str); 10] = rows! {
     );
     "anscheck" "check" "f" "g" => mistake!("unexpected argument 'g' found", "check [OPTIONS] [FILE]");
     "anscheck" => mistake!(
-        "'anscheck' requires a subcommand but one was not provided\n  [subcommands: needs, check, show, sauce, tokens]",
+        "'anscheck' requires a subcommand but one was not provided\n  [subcommands: why, needs, check, show, sauce, tokens]",
         "<COMMAND>"
     );
     "anscheck" "other" => mistake!("unrecognized subcommand 'other'", "<COMMAND>");
