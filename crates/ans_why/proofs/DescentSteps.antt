@@ -10,24 +10,28 @@ use Rattle.ans_model.specs.declared.fault.Cause.TheVariants.{OutsideScreen}
 use Rattle.ans_model.specs.Sequence.TokenKind.{TokenKind, Glyph, Tab, LineFeed, Place, Down, Keys, Mode, Ask}
 use Rattle.ans_model.specs.Screen.State.{Size, State, at, sized}
 use Rattle.ans_model.specs.Screen.Step.{final, step}
-use Rattle.ans_model.specs.Screen.StartClass.{all_known, cleared}
+use Rattle.ans_model.specs.Screen.StartClass.{IsStart, all_known, cleared}
 use Rattle.ans_model.specs.Verdict.TokenFault.{HasStaticFault, IsClean}
 use Rattle.ans_model.proofs.StartLemmas.{low_is_start}
 use Rattle.ans_model.proofs.StepLemmas.{line_feed_is}
-use Rattle.ans_why.specs.Descent.{run_end, walk_of, AsksForNothing, IsWalked, IsDescent, IsNeverClean, IsInOrder}
+use Rattle.ans_why.specs.Walks.{run_end, walk_of}
+use Rattle.ans_why.specs.Descent.{AsksForNothing, IsWalked, IsDescent, IsNeverClean, IsInOrder}
 use Rattle.ans_why.specs.Descent.{PrintsRun}
 use Rattle.ans_why.specs.Watched.{WritesAbove}
-use Rattle.ans_why.specs.declared.descent.Walk.{Walk}
+use Rattle.ans_why.specs.declared.walk.Walk.{Walk}
 use Rattle.ans_why.specs.declared.descent.Descent.{Descent}
 use Rattle.ans_why.proofs.CleanSteps.{clean_front, slice_get_last, writes_above}
 use Rattle.ans_why.proofs.ClearedSteps.{clean_with}
 use Rattle.ans_why.proofs.RunEnds.{run_end-last}
-use Rattle.ans_why.proofs.Runs.{run_needs, run_clean}
+use Rattle.ans_why.proofs.Runs.{run_needs, run_walk, run_above, run_clean}
 
 module _ (old : Descent) (order : IsInOrder old) (tokens : List TokenKind) (h : IsDescent tokens old) where
   -- the play on so many lines
   abbrev there : ℕ → State
   there n = final (sized old.width n) (cleared (sized old.width n)) tokens
+
+  start : (n : ℕ) → IsStart (sized old.width n) all_known (cleared (sized old.width n))
+  start n = low_is_start (sized old.width n) all_known order.some_columns
 
   -- ---- a run
   module _ (ts : List TokenKind) (count : ℕ) (run : PrintsRun old.walk.cursor.column count ts) (least : 1 ≤ count) where
@@ -43,7 +47,8 @@ module _ (old : Descent) (order : IsInOrder old) (tokens : List TokenKind) (h : 
     run_asks n le most clean =
         let e = (h.walked n le most).walk in
         subst (λ (w : Walk). (run_end old.width w.cursor w.wrap (count - 1)).row + 1 ≤ n) (sym e)
-        (run_needs (sized old.width n) order.some_columns tokens ts count (run_there n e) least clean)
+        (run_needs (sized old.width n) order.some_columns all_known (cleared (sized old.width n)) (start n) tokens ts
+        count (run_there n e) least clean)
 
     pub run_goes : (n : ℕ) → old.enough ≤ n → n ≤ old.most → run_lines ≤ n
         → IsWalked old.width n (tokens ++ ts)
@@ -51,11 +56,13 @@ module _ (old : Descent) (order : IsInOrder old) (tokens : List TokenKind) (h : 
     run_goes n le most enough =
         let w = h.walked n le most in
         let last = subst (λ (w : Walk). (run_end old.width w.cursor w.wrap (count - 1)).row + 1 ≤ n) w.walk enough in
-        let told = run_clean (sized old.width n) order.some_columns tokens ts count (run_there n w.walk) least w.clean
-        last in
+        let z : Size = sized old.width n in
+        let above = run_above z order.some_columns all_known (cleared z) (start n) (there n) count last in
+        let told = run_walk z order.some_columns all_known (cleared z) (start n) tokens ts count (run_there n w.walk)
+        above in
         record {
-          clean = told.0;
-          walk = ap (λ (v : Walk). record v { cursor = run_end old.width v.cursor v.wrap count }) w.walk ∙ sym told.1;
+          clean = run_clean z order.some_columns tokens ts count (run_there n w.walk) w.clean above;
+          walk = ap (λ (v : Walk). record v { cursor = run_end old.width v.cursor v.wrap count }) w.walk ∙ sym told;
         }
 
     -- all bytes but the last, and then that

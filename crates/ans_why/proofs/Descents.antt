@@ -6,7 +6,7 @@ use Rattle.ans_model.specs.Screen.State.{sized}
 use Rattle.ans_model.specs.Screen.StartClass.{all_known}
 use Rattle.ans_model.specs.Verdict.TokenFault.{IsClean}
 use Rattle.ans_why.specs.Descent.{IsWalked, IsDescent, IsNeverClean, IsInOrder, asked}
-use Rattle.ans_why.specs.declared.descent.Walk.{Walk}
+use Rattle.ans_why.specs.declared.walk.Walk.{Walk}
 use Rattle.ans_why.specs.declared.descent.Descent.{Descent}
 use Rattle.ans_why.proofs.CleanSteps.{clean_front}
 use Rattle.ans_why.proofs.ClearedSteps.{clean_with_more}

@@ -3,7 +3,10 @@ use Rattle.std.proofs.Common.{◌≢◌, ℕ, refl}
 use Rattle.ans_model.specs.Inside.ShownKind.{shown_kind}
 use Rattle.ans_model.specs.declared.kind.Kind.{Kind}
 use Rattle.ans_model.specs.declared.kind.Kind.TheVariants.{Glyph, LineFeed, Tab, Down, Place, Mode, Keys, Ask}
+use Rattle.ans_model.specs.Sequence.TokenKind as token
+use Rattle.ans_model.specs.Sequence.TokenKind.{TokenKind}
 use Rattle.ans_why.specs.Descent.{AsksForNothing}
+use Rattle.ans_why.specs.Walks.{MovesAlike}
 
 -- they are all the others
 pub free_kind : (k : Kind) → ((byte : ℕ) → k ≢ Glyph byte) → k ≢ LineFeed → k ≢ Tab → ((n : ℕ) → k ≢ Down n)
@@ -17,3 +20,20 @@ free_kind Mode glyph feed tab down place mode keys ask = mode refl
 free_kind Keys glyph feed tab down place mode keys ask = keys refl
 free_kind Ask glyph feed tab down place mode keys ask = ask refl
 free_kind _ glyph feed tab down place mode keys ask = tt
+
+-- those that print nothing, and move alike on any number of lines
+pub alike_kind : (k : Kind) → ((byte : ℕ) → k ≢ Glyph byte) → k ≢ LineFeed → k ≢ Tab → ((n : ℕ) → k ≢ Down n)
+    → ((row column : ℕ) → k ≢ Place row column) → MovesAlike (shown_kind k)
+alike_kind (Glyph byte) glyph feed tab down place = glyph byte refl
+alike_kind LineFeed glyph feed tab down place = feed refl
+alike_kind Tab glyph feed tab down place = tab refl
+alike_kind (Down n) glyph feed tab down place = down n refl
+alike_kind (Place row column) glyph feed tab down place = place row column refl
+alike_kind _ glyph feed tab down place = tt
+
+-- what asks for nothing moves alike
+pub free_moves_alike : (t : TokenKind) → AsksForNothing t → MovesAlike t
+free_moves_alike token.Keys free = tt
+free_moves_alike token.Mode free = tt
+free_moves_alike token.Ask free = tt
+free_moves_alike t free = free

@@ -18,3 +18,5 @@ pub mod Descents
 pub mod DescentSteps
 pub mod FreeKinds
 pub mod LinesFound
+pub mod TallerFound
+pub mod TallerWalk

@@ -9,7 +9,7 @@ use Rattle.ans_model.specs.declared.cell.Position.{Position}
 use Rattle.ans_model.specs.Sequence.TokenKind.{Glyph}
 use Rattle.ans_model.specs.Screen.State.{Size, State, at}
 use Rattle.ans_model.specs.Screen.Step.{final, put}
-use Rattle.ans_why.specs.Descent.{run_end, walk_of}
+use Rattle.ans_why.specs.Walks.{run_end, walk_of}
 use Rattle.ans_why.proofs.Printed.{next, put_is}
 
 -- no byte is printed

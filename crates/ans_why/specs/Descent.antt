@@ -1,40 +1,23 @@
 -- A play from the cleared start by its cursors alone, on several numbers of lines at once.
-use Rattle.std.specs.Prelude.{◌≡◌, ◌⊎◌, ℕ, ◌+◌, ◌-◌, ◌/◌, ◌%◌, ◌<◌, ◌≤◌, min, Bool, true, false, nat_lt, if◌then◌else◌}
+use Rattle.std.specs.Prelude.{◌≡◌, ◌⊎◌, ℕ, ◌<◌, ◌≤◌, Bool, true, false, nat_lt, if◌then◌else◌}
 use Rattle.std.specs.Prelude.{List, [], ◌∷◌, map, length}
-use Rattle.ans_model.specs.Bytes.{longest_file, most_columns, most_lines}
-use Rattle.ans_model.specs.Sequence.TokenKind.{TokenKind, Glyph, Tab, LineFeed, Place, Down, Keys, Mode, Ask}
-use Rattle.ans_model.specs.Screen.State.{State, IsOnScreen, at, sized}
+use Rattle.ans_model.specs.Bytes.{most_columns, most_lines}
+use Rattle.ans_model.specs.Sequence.TokenKind.{TokenKind, Glyph, Tab, Keys, Mode, Ask}
+use Rattle.ans_model.specs.Screen.State.{IsOnScreen, sized}
 use Rattle.ans_model.specs.Screen.Step.{final, tab_blanks}
 use Rattle.ans_model.specs.Screen.StartClass.{all_known, cleared}
-use Rattle.ans_model.specs.declared.cell.Position.{Position}
 use Rattle.ans_model.specs.Verdict.TokenFault.{IsClean}
-use Rattle.ans_tokens.specs.declared.pieces.Piece.{Piece}
-use Rattle.ans_tokens.specs.declared.pieces.Piece.TheVariants.{Glyphs, Token}
 use Rattle.ans_why.specs.Lines.{IsGoodOn}
-use Rattle.ans_why.specs.declared.descent.Walk.{Walk}
+use Rattle.ans_why.specs.Walks.{MovesAlike, walk_of}
+use Rattle.ans_why.specs.declared.walk.Walk.{Walk}
 use Rattle.ans_why.specs.declared.descent.Descent.{Descent}
-
--- where the cursor stands after so many printed bytes, if none is printed in the spare row
-abbrev pub run_end : ℕ → Position → Bool → ℕ → Position
-run_end width p wrap count =
-    if wrap then at (p.row + (p.column + count) / width) ((p.column + count) % width)
-    else at p.row (min (p.column + count) (width - 1))
-
--- both cursors of a state, and whether wrap is on
-abbrev pub walk_of : State → Walk
-walk_of s = record { cursor = s.cursor; saved = s.saved; wrap = s.wrap }
 
 -- the token has no fault, and moves the cursors alike on any number of lines
 abbrev pub AsksForNothing : TokenKind → Type 0
-AsksForNothing (Glyph byte) = ⊥
-AsksForNothing Tab = ⊥
-AsksForNothing LineFeed = ⊥
-AsksForNothing (Place row column) = ⊥
-AsksForNothing (Down n) = ⊥
 AsksForNothing Keys = ⊥
 AsksForNothing Mode = ⊥
 AsksForNothing Ask = ⊥
-AsksForNothing _ = Unit {0}
+AsksForNothing t = MovesAlike t
 
 -- on this many lines the tokens are clean, and their play has this walk
 pub record IsWalked (width lines : ℕ) (tokens : List TokenKind) (w : Walk) : Type 0 where
@@ -82,11 +65,6 @@ pub record GoesOn (old new : Descent) : Type 0 where
 -- a token asks for so many lines, of which there are not more than the most
 abbrev pub asked : Descent → ℕ → Descent
 asked d lines = if nat_lt d.enough lines then record d { enough = lines; refused = lines } else d
-
--- a piece is no longer than a file
-abbrev pub PieceFits : Piece → Type 0
-PieceFits (Glyphs text) = (0 < length text.now) × (length text.now ≤ longest_file)
-PieceFits (Token t) = Unit {0}
 
 -- the content is good with `enough` lines and with the most, and with fewer than `refused` it is not
 pub record Settles (width : ℕ) (content : List ℕ) (most : ℕ) (d : Descent) : Type 0 where

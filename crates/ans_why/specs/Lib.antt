@@ -4,4 +4,5 @@ pub mod Lines
 pub mod Taller
 pub mod Watched
 pub mod Evidence
+pub mod Walks
 pub mod Descent

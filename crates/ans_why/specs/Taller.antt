@@ -2,6 +2,7 @@
 use Rattle.std.specs.Prelude.{◌≡◌, ℕ, ◌+◌, ◌≤◌, List, take, slice_get, Some}
 use Rattle.ans_model.specs.Sequence.TokenKind.{TokenKind, Up, Down}
 use Rattle.ans_model.specs.Sequence.Reads.{Reads}
+use Rattle.ans_model.specs.Inside.ShownKind.{shown_kind}
 use Rattle.ans_model.specs.Screen.State.{Size, State, IsStated, cell_at, sized}
 use Rattle.ans_model.specs.Screen.Step.{final}
 use Rattle.ans_model.specs.Screen.StartClass.{IsStart}
@@ -9,6 +10,9 @@ use Rattle.ans_model.specs.Verdict.Good.{Picture, GoodWith, PlaysWell}
 use Rattle.ans_model.specs.Verdict.TokenFault.{FromEvery}
 use Rattle.ans_model.specs.declared.cell.Position.{Position}
 use Rattle.ans_model.specs.declared.start.Start.{Start}
+use Rattle.ans_tokens.specs.Token.{kind_of}
+use Rattle.ans_tokens.specs.declared.pieces.Piece.{Piece}
+use Rattle.ans_tokens.specs.declared.pieces.Piece.TheVariants.{Glyphs, Token}
 
 -- after these tokens the cursor's row is the same from every start
 abbrev pub SameRow : Size → Start → List TokenKind → Type 0
@@ -40,3 +44,20 @@ abbrev pub TallerShowsTheSame : Type 0
 TallerShowsTheSame = (z : Size) (class : Start) (content : List ℕ) (picture : Picture) (lines : ℕ)
     → (good : GoodWith z class content picture) → IsTaller z class content → z.lines ≤ lines
     → ShowsOn z class good.tokens picture lines
+
+-- after these tokens the token is no move up or down, or a free one
+abbrev pub IsFreeAfter : Size → Start → List TokenKind → TokenKind → Type 0
+IsFreeAfter z class played (Down n) = FromEvery z class (λ s. (final z s played).cursor.row + n ≤ z.lines)
+IsFreeAfter z class played (Up n) = SameRow z class played
+IsFreeAfter z class played _ = Unit {0}
+
+-- so two cursors show it
+abbrev pub IsFreeBetween : Size → Position → Position → TokenKind → Type 0
+IsFreeBetween z low high (Down n) = (low.row + n ≤ z.lines) × (high.row + n ≤ z.lines)
+IsFreeBetween z low high (Up n) = low.row ≡ high.row
+IsFreeBetween z low high _ = Unit {0}
+
+-- none of the piece's tokens is another move
+abbrev pub IsFreePiece : Size → Position → Position → Piece → Type 0
+IsFreePiece z low high (Glyphs text) = Unit {0}
+IsFreePiece z low high (Token t) = IsFreeBetween z low high (shown_kind (kind_of t))

@@ -4,88 +4,15 @@ ghost use Rattle.std.specs.Prelude.{◌≡◌, ◌<◌, ◌≤◌, ◌++◌, ◌
 ghost use Rattle.ans_model.specs.Bytes.{longest_file, most_columns, most_lines};
 ghost use Rattle.ans_model.specs.Sequence.TokenKind.{TokenKind, Down, Place, LineFeed};
 ghost use Rattle.ans_model.specs.Inside.ShownKind.{shown_kind};
-ghost use Rattle.ans_model.specs.Screen.State.{State, IsOnScreen, sized};
-ghost use Rattle.ans_model.specs.Screen.Step.{step};
 ghost use Rattle.ans_tokens.specs.Pieces.{kinds_of_piece};
-ghost use Rattle.ans_why.specs.Descent.{run_end, walk_of, asked, AsksForNothing, IsDescent, IsInOrder, GoesOn, Outcome, PrintsRun, PieceFits};
+ghost use Rattle.ans_why.specs.Walks.{PieceFits};
+ghost use Rattle.ans_why.specs.Descent.{asked, IsDescent, IsInOrder, GoesOn, Outcome, PrintsRun};
 
+use crate::walk::{HOME, Walk, run_end};
 use ans_model::cell::Position;
 use ans_model::kind::Kind;
 use ans_model::tab::tab_blanks;
 use ans_tokens::Piece;
-
-const HOME: Position = Position { row: 0, column: 0 };
-
-/// Where the cursor stands after so many printed bytes, if none is printed in the spare row.
-fn run_end(width: usize, from: Position, wrap: bool, count: usize) -> Position
-    requires some_columns { 0 < width }
-    requires column { from.column < width }
-    requires row { from.row ≤ most_lines }
-    requires columns { width ≤ most_columns }
-    requires count { count ≤ longest_file }
-    ensures { result ≡ run_end width from wrap count }
-{
-    let total = from.column + count;
-    if total < width {
-        return Position {
-            row: from.row,
-            column: total,
-        };
-    }
-    if !wrap {
-        return Position {
-            row: from.row,
-            column: width - 1,
-        };
-    }
-    Position {
-        row: from.row + total / width,
-        column: total % width,
-    }
-}
-
-/// What a play keeps of its cursor.
-#[derive(Debug, Clone, Copy, PartialEq, Eq)]
-pub(crate) struct Walk {
-    pub(crate) cursor: Position,
-    pub(crate) saved: Position,
-    pub(crate) wrap: bool,
-}
-
-impl Walk {
-    /// After a token that asks for no lines and has no fault.
-    fn moved(self, width: usize, kind: &Kind) -> Walk
-        requires some_columns { 0 < width }
-        requires columns { width ≤ most_columns }
-        requires cursor { self.cursor.column < width }
-        ensures stands { (lines : ℕ) → IsOnScreen (sized width lines) self.cursor
-            → IsOnScreen (sized width lines) self.saved
-            → IsOnScreen (sized width lines) result.cursor
-            × IsOnScreen (sized width lines) result.saved }
-        ensures walk { (lines : ℕ) (s : State) → AsksForNothing (shown_kind kind.now)
-            → self ≡ walk_of s
-            → result ≡ walk_of (step (sized width lines) s (shown_kind kind.now)) }
-    {
-        let mut next = self;
-        match kind {
-            Kind::Up(n) => next.cursor.row = self.cursor.row.saturating_sub(*n as usize),
-            Kind::Forward(n) => {
-                next.cursor.column = (self.cursor.column + *n as usize).min(width - 1)
-            }
-            Kind::Backward(n) => {
-                next.cursor.column = self.cursor.column.saturating_sub(*n as usize)
-            }
-            Kind::BackSpace => next.cursor.column = self.cursor.column.saturating_sub(1),
-            Kind::CarriageReturn => next.cursor.column = 0,
-            Kind::Clear => next.cursor = HOME,
-            Kind::Save => next.saved = self.cursor,
-            Kind::Restore => next.cursor = self.saved,
-            Kind::Wrap(on) => next.wrap = *on,
-            _ => {}
-        }
-        next
-    }
-}
 
 /// Plays from the cleared start on each number of lines from `enough` to `most`, which have one walk.
 /// With fewer lines than `refused` some token had a fault; between the two nothing is known.

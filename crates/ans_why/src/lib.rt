@@ -10,11 +10,14 @@ mod descent;
 mod evidence;
 pub mod laws;
 mod lines;
+mod taller;
 mod two_watches;
+mod walk;
 mod watch;
 
 pub use evidence::{cells_of_fault, cursors_before};
 pub use lines::least_lines;
+pub use taller::is_taller;
 pub use two_watches::TwoWatches;
 pub use watch::Watch;
 

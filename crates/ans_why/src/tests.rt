@@ -6,6 +6,7 @@ ghost use Rattle.ans_model.specs.Screen.State.{sized};
 ghost use Rattle.ans_why.specs.Evidence.{IsDeserved};
 
 mod lines;
+mod taller;
 
 use crate::{cells_of_fault, cursors_before};
 use ans_model::cell::{Cell, Position};

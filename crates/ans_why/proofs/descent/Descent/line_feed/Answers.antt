@@ -2,7 +2,7 @@ use Rattle.std.proofs.Common.{◌≡◌, ℕ, ◌+◌, ◌∷◌, [], ◌++◌, 
 use Rattle.ans_model.specs.Sequence.TokenKind.{LineFeed}
 use Rattle.ans_model.specs.Screen.State.{at}
 use Rattle.ans_why.specs.Descent.{IsDescent, IsNeverClean}
-use Rattle.ans_why.specs.declared.descent.Walk.{Walk}
+use Rattle.ans_why.specs.declared.walk.Walk.{Walk}
 use Rattle.ans_why.specs.declared.descent.Descent.{Descent}
 use Rattle.ans_why.proofs.Descents.{asks_too_much, asked_goes, asked_walk}
 use Rattle.ans_why.proofs.DescentSteps.{feed_asks, feed_goes}

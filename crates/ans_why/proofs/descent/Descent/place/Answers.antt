@@ -4,7 +4,7 @@ use Rattle.ans_model.specs.Screen.State.{at}
 use Rattle.ans_model.specs.declared.cell.Position.{Position}
 use Rattle.ans_model.specs.declared.fault.Cause.TheVariants.{OutsideScreen}
 use Rattle.ans_why.specs.Descent.{IsDescent, IsNeverClean}
-use Rattle.ans_why.specs.declared.descent.Walk.{Walk}
+use Rattle.ans_why.specs.declared.walk.Walk.{Walk}
 use Rattle.ans_why.specs.declared.descent.Descent.{Descent}
 use Rattle.ans_why.proofs.Descents.{asks_too_much, asked_goes, asked_walk}
 use Rattle.ans_why.proofs.DescentSteps.{never_static, place_asks, place_goes}

@@ -1,7 +1,8 @@
 use Rattle.std.proofs.Common.{◌≡◌, ℕ, ◌++◌, refl, sym, ap, ap₂, ◌∙◌, subst}
 use Rattle.ans_model.specs.declared.cell.Position.{Position}
-use Rattle.ans_why.specs.Descent.{IsDescent, IsNeverClean, run_end}
-use Rattle.ans_why.specs.declared.descent.Walk.{Walk}
+use Rattle.ans_why.specs.Walks.{run_end}
+use Rattle.ans_why.specs.Descent.{IsDescent, IsNeverClean}
+use Rattle.ans_why.specs.declared.walk.Walk.{Walk}
 use Rattle.ans_why.specs.declared.descent.Descent.{Descent}
 use Rattle.ans_why.proofs.Descents.{asks_too_much, asked_goes, asked_walk}
 use Rattle.ans_why.proofs.DescentSteps.{run_lines, run_asks, run_goes, run_in_two}

@@ -7,7 +7,7 @@ use Rattle.ans_model.specs.declared.fault.Cause.TheVariants.{KeyReassigned, Scre
 use Rattle.ans_why.specs.Descent.{AsksForNothing, IsDescent, IsInOrder, IsNeverClean}
 use Rattle.ans_why.specs.declared.descent.Descent.{Descent}
 use Rattle.ans_why.proofs.DescentSteps.{never_static, free_goes}
-use Rattle.ans_why.proofs.FreeKinds.{free_kind}
+use Rattle.ans_why.proofs.FreeKinds.{free_kind, free_moves_alike}
 use Rattle.ans_why.proofs.descent.Descent.step.Goals as goal
 
 pub returns-in-Glyph-clause-played : goal.returns-in-Glyph-clause-played
@@ -62,5 +62,5 @@ returns-in_default c =
       };
       played = λ tokens h.
           free_goes old order tokens h (shown_kind k) c.moved-self.result free
-          (λ n s e. c.moved-self.ensures.walk n s free e);
+          (λ n s e. c.moved-self.ensures.walk n s (free_moves_alike (shown_kind k) free) e);
     }

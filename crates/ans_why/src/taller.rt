@@ -1,0 +1,71 @@
+//! Whether a content plays on taller screens as on the stated one.
+
+ghost use Rattle.std.specs.Prelude.{◌≤◌, ◌↔◌, length, IsTrue};
+ghost use Rattle.ans_model.specs.Bytes.{longest_file};
+ghost use Rattle.ans_model.specs.Inside.ShownKind.{shown_kind};
+ghost use Rattle.ans_model.specs.Verdict.Good.{IsGood};
+ghost use Rattle.ans_why.specs.Taller.{IsTaller, IsFreeBetween, IsFreePiece};
+ghost use Rattle.ans_why.specs.Walks.{WalksOn};
+
+use crate::walk::{HOME, Walk};
+use crate::watch::Watch;
+use ans_model::kind::Kind;
+use ans_model::size::Size;
+use ans_model::start::Start;
+use ans_tokens::{Piece, Pieces};
+
+/// Whether a token is no move up or down, or one that nothing stops, where the cursors of the low and
+/// the high start stand so.
+fn is_free(size: Size, low: &Walk, high: &Walk, kind: &Kind) -> bool
+    requires low { WalksOn size low.now }
+    requires high { WalksOn size high.now }
+    ensures { IsTrue result
+        ↔ IsFreeBetween size low.now.cursor high.now.cursor (shown_kind kind.now) }
+{
+    match kind {
+        Kind::Down(n) => {
+            let rows = *n as usize;
+            low.cursor.row + rows <= size.lines() && high.cursor.row + rows <= size.lines()
+        }
+        Kind::Up(_) => low.cursor.row == high.cursor.row,
+        _ => true,
+    }
+}
+
+/// The same of a piece of a content.
+fn is_free_piece(size: Size, low: &Walk, high: &Walk, piece: &Piece<'_>) -> bool
+    requires low { WalksOn size low.now }
+    requires high { WalksOn size high.now }
+    ensures { IsTrue result ↔ IsFreePiece size low.now.cursor high.now.cursor piece.now }
+{
+    match piece {
+        Piece::Glyphs(_) => true,
+        Piece::Token(token) => is_free(size, low, high, token.kind()),
+    }
+}
+
+/// Whether the moves of good content are free from every start of a class: the bottom edge stops no
+/// move down, and each move up comes with the cursor in one row. Then the content shows its picture on
+/// every taller screen of its width. It takes no memory.
+pub fn is_taller(size: Size, start: Start, content: &[u8]) -> bool
+    requires length { length content.now ≤ longest_file }
+    requires good { IsGood size start content.now }
+    ensures { IsTrue result ↔ IsTaller size start content.now }
+{
+    let mut low = Walk::of(&Watch::low(size, start, HOME));
+    let mut high = Walk::of(&Watch::high(size, start, HOME));
+    let mut pieces = Pieces::new(content);
+    'pieces: loop {
+        match pieces.next() {
+            Ok(Some(piece)) => {
+                if !is_free_piece(size, &low, &high, &piece) {
+                    return false;
+                }
+                low = low.piece(size, &piece);
+                high = high.piece(size, &piece);
+            }
+            Ok(None) => return true,
+            Err(_) => return false,
+        }
+    }
+}
