@@ -266,13 +266,17 @@ def fed(words, file):
 def try_closed_output(tally, program, room):
     """`| head -c 10`: the reader takes ten bytes and goes. The report is longer than a pipe holds."""
     path = saved(room, "wide", file_of(CLEAR, WIDTH, LINES))
-    for words in (["check"], ["check", "--cells"]):
+    begins = (
+        (["check"], b"size: 1024"), (["check", "--cells"], b"size: 1024"), (["show"], b"\x1b[0;37;40m"),
+        (["show", "--html"], b"<!DOCTYPE "),
+    )
+    for words, begin in begins:
         head = subprocess.Popen(["head", "-c", "10"], stdin=subprocess.PIPE, stdout=subprocess.PIPE)
         came = came_of([program, *words, path], stdout=head.stdin)
         head.stdin.close()
         came = came._replace(out=head.stdout.read())
         head.wait()
-        tally.row(f"{' '.join(words)} | head -c 10", came, Wanted(2, b"size: 1024", NOT_WRITTEN))
+        tally.row(f"{' '.join(words)} | head -c 10", came, Wanted(2, begin, NOT_WRITTEN))
     with open("/dev/full", "wb") as full:
         came = came_of([program, "check", "--cells", path], stdout=full)
     tally.row("check --cells of the largest screen > /dev/full", came, stops(NOT_WRITTEN))

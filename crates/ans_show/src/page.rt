@@ -133,6 +133,7 @@ fn put_page<W: Write, G: Grid>(
 ///
 /// `Err` comes exactly where the device failed in the call, and then a prefix of the page was
 /// written.
+#[inline(never)]
 pub fn write_page<W: Write, G: Grid>(
     w: &mut Tried<W>,
     picture: &Picture<G>,

@@ -115,6 +115,7 @@ pub(crate) fn colours(attribute: u8, non_blink: bool, vga: bool) -> ShortText
 ///
 /// `Err` comes exactly where the device failed in the call, and then a prefix of the text was
 /// written.
+#[inline(never)]
 pub fn write_terminal<W: Write, G: Grid>(
     w: &mut Tried<W>,
     picture: &Picture<G>,
