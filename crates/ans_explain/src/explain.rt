@@ -22,14 +22,10 @@ use ans_model::limits::MAX_FILE;
 use ans_model::size::Size;
 use ans_model::start::Start;
 use ans_sauce::{Parts, find};
-use ans_why::{cells_of_fault, cursors_before, least_lines};
+use ans_why::{cells_of_fault, cursors_before, is_taller, least_lines};
 
 /// How many bytes mend a drawing.
 const MENDING: usize = 16;
-
-fn is_taller(_size: Size, _start: Start, _content: &[u8]) -> bool { // TEMPORARY
-    true
-}
 
 fn place(size: Size, position: Position) -> Place
     requires { IsOnScreen size position }

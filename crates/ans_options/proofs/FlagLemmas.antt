@@ -46,21 +46,25 @@ flags_met words met e =
     let found = program_met words met e in
     let lacks = file_holds_no_flag found.0 in
     elim (found.1) [
-      | inl needs ↦ inr (subst HoldsNoFlag (ap (λ (q : Text × List Row). q.1) needs) lacks)
-      | inr others ↦ elim others [
-        | inl check ↦ inl (inl (name_met check))
-        | inr more ↦ elim more [
-          | inl show ↦ inl (inr (name_met show))
-          | inr later ↦ elim later [
-            | inl sauce ↦ inr (subst HoldsNoFlag (ap (λ (q : Text × List Row). q.1) sauce) lacks)
-            | inr last ↦ elim last [
-              | inl tokens ↦ inr (subst HoldsNoFlag (ap (λ (q : Text × List Row). q.1) tokens) lacks)
-              | inr never ↦ absurd never
+      | inl why ↦ inr (subst HoldsNoFlag (ap (λ (q : Text × List Row). q.1) why) lacks)
+      | inr behind ↦ elim behind [
+        | inl needs ↦ inr (subst HoldsNoFlag (ap (λ (q : Text × List Row). q.1) needs) lacks)
+        | inr others ↦ elim others [
+          | inl check ↦ inl (inl (name_met check))
+          | inr more ↦ elim more [
+            | inl show ↦ inl (inr (name_met show))
+            | inr later ↦ elim later [
+              | inl sauce ↦ inr (subst HoldsNoFlag (ap (λ (q : Text × List Row). q.1) sauce) lacks)
+              | inr last ↦ elim last [
+                | inl tokens ↦ inr (subst HoldsNoFlag (ap (λ (q : Text × List Row). q.1) tokens) lacks)
+                | inr never ↦ absurd never
+              ]
             ]
           ]
         ]
       ]
     ]
+
 
 -- the rows do not hold `--cells`
 abbrev HoldsNoCells : List Row → Type 0
@@ -73,21 +77,25 @@ no_cells_met words met e other =
     let found = program_met words met e in
     let lacks = file_holds_no_flag found.0 (codes "cells") refl in
     elim (found.1) [
-      | inl needs ↦ subst HoldsNoCells (ap (λ (q : Text × List Row). q.1) needs) lacks
-      | inr others ↦ elim others [
-        | inl check ↦ absurd (other (name_met check))
-        | inr more ↦ elim more [
-          | inl show ↦ subst HoldsNoCells (ap (λ (q : Text × List Row). q.1) show) (show_holds_no_cells found.0)
-          | inr later ↦ elim later [
-            | inl sauce ↦ subst HoldsNoCells (ap (λ (q : Text × List Row). q.1) sauce) lacks
-            | inr last ↦ elim last [
-              | inl tokens ↦ subst HoldsNoCells (ap (λ (q : Text × List Row). q.1) tokens) lacks
-              | inr never ↦ absurd never
+      | inl why ↦ subst HoldsNoCells (ap (λ (q : Text × List Row). q.1) why) lacks
+      | inr behind ↦ elim behind [
+        | inl needs ↦ subst HoldsNoCells (ap (λ (q : Text × List Row). q.1) needs) lacks
+        | inr others ↦ elim others [
+          | inl check ↦ absurd (other (name_met check))
+          | inr more ↦ elim more [
+            | inl show ↦ subst HoldsNoCells (ap (λ (q : Text × List Row). q.1) show) (show_holds_no_cells found.0)
+            | inr later ↦ elim later [
+              | inl sauce ↦ subst HoldsNoCells (ap (λ (q : Text × List Row). q.1) sauce) lacks
+              | inr last ↦ elim last [
+                | inl tokens ↦ subst HoldsNoCells (ap (λ (q : Text × List Row). q.1) tokens) lacks
+                | inr never ↦ absurd never
+              ]
             ]
           ]
         ]
       ]
     ]
+
 
 -- the first letter tells `check` from the other commands
 named_check : (c : Command) → command_name c ≡ codes "check" → c ≡ Check

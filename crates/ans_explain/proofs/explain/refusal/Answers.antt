@@ -1,7 +1,4 @@
-use Rattle.std.proofs.Common.{◌≡◌, ℕ, List, take, refl, sym, ap, ◌∙◌}
-use Rattle.ans_model.specs.declared.cell.Position.{Position}
-use Rattle.ans_model.specs.Screen.State.{Size}
-use Rattle.ans_model.specs.Screen.StartClass.{all_known}
+use Rattle.std.proofs.Common.{◌≡◌, sym, ap, ◌∙◌}
 use Rattle.ans_explain.specs.Explained.{place_of}
 use Rattle.ans_explain.proofs.explain.refusal.Goals as goal
 
