@@ -13,6 +13,7 @@ mod records;
 mod reports;
 mod token_lists;
 mod verdicts;
+mod why;
 
 use crate::{Command, Form, Options, RunError, Start, run};
 use ans_report::Tried;
@@ -51,6 +52,8 @@ const SAUCE: Options = asked!(Sauce);
 const TOKENS: Options = asked!(Tokens);
 
 const NEEDS: Options = asked!(Needs);
+
+const WHY: Options = asked!(Why);
 
 /// The report of a check of `Hi` from the cleared screen.
 const HI_REPORT: &[u8] =

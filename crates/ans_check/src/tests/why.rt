@@ -1,0 +1,377 @@
+//! Why files are refused, and what they rely on, from end to end.
+use super::{WHY, expect_run, file_of, plain_file};
+use std::process::Abort;
+
+/// A content, its width and lines, and what is said of it where it is refused.
+static REFUSED: [(&[u8], u16, u16, &str); 18] = [
+    (
+        b"\x1b7",
+        2,
+        1,
+        "at 0: F9 broken sequence\nbytes: <ESC>7\ncleared start: row 1, column 1\n",
+    ),
+    (
+        b"\x1b[999D",
+        2,
+        1,
+        "at 0: F10 number above 255\nbytes: <ESC>[999\ncleared start: row 1, column 1\n",
+    ),
+    (
+        b"\x1b[0;0;0;0;0;0;0;0;0;0;0;0;0;0;0;0;0m",
+        2,
+        1,
+        "at 0: F11 more than 16 parameters\n\
+        bytes: <ESC>[0;0;0;0;0;0;0;0;0;0;0;0;0;0;0; ..\n\
+        cleared start: row 1, column 1\n",
+    ),
+    (
+        b"Hi\x1b[12;3",
+        2,
+        1,
+        "at 2: F12 content ends in a sequence\nbytes: <ESC>[12;3\ncleared start: row 2, column 1\n",
+    ),
+    (
+        b"\x1b[?6n",
+        2,
+        1,
+        "at 0: F13 unknown sequence\nbytes: <ESC>[?6n\ncleared start: row 1, column 1\n",
+    ),
+    (
+        b"\x1b[1K",
+        2,
+        1,
+        "at 0: F14 wrong parameters\nbytes: <ESC>[1K\ncleared start: row 1, column 1\n",
+    ),
+    (
+        b"H\x1b[13;\"dir\";13p",
+        2,
+        1,
+        "at 1: F15 key reassigned\n\
+        bytes: <ESC>[13;\"dir\";13p\n\
+        cleared start: row 1, column 2\n",
+    ),
+    (
+        b"\x1b[?33h",
+        2,
+        1,
+        "at 0: F16 screen mode set\nbytes: <ESC>[?33h\ncleared start: row 1, column 1\n",
+    ),
+    (
+        b"\x1b[6n",
+        2,
+        1,
+        "at 0: F17 cursor report asked\nbytes: <ESC>[6n\ncleared start: row 1, column 1\n",
+    ),
+    (
+        b"\x1b[3;1H",
+        2,
+        1,
+        "at 0: F19 place outside the screen\n\
+        bytes: <ESC>[3;1H\n\
+        cleared start: row 1, column 1\n\
+        lines: 2\n",
+    ),
+    (
+        b"\x1b[1;3H",
+        2,
+        1,
+        "at 0: F19 place outside the screen\nbytes: <ESC>[1;3H\ncleared start: row 1, column 1\n",
+    ),
+    (
+        b"Hi!",
+        2,
+        1,
+        "at 2: F20 print below the stated lines\n\
+        bytes: !\n\
+        cleared start: row 2, column 1\n\
+        lines: 2\n",
+    ),
+    (
+        b"\t",
+        2,
+        1,
+        "at 0: F20 print below the stated lines\n\
+        bytes: <TAB>\n\
+        cleared start: row 2, column 1\n\
+        lines: 4\n",
+    ),
+    (
+        b"Hi\r\n",
+        2,
+        1,
+        "at 3: F21 scrolls\n\
+        bytes: <LF>\n\
+        cleared start: row 2, column 1\n\
+        lines: 2\n\
+        hint: a full row and a line end take two rows, once, at 2\n",
+    ),
+    (
+        b"\n\n\x1b[6n",
+        2,
+        1,
+        "at 1: F21 scrolls\nbytes: <LF>\ncleared start: row 2, column 1\n",
+    ),
+    (
+        b"a\nb\x07\n",
+        3,
+        1,
+        "at 2: F20 print below the stated lines\n\
+        bytes: b\n\
+        cleared start: row 2, column 2\n\
+        lines: 2\n\
+        hint: a line feed with no return beside it goes straight down, once, at 1\n",
+    ),
+    (
+        b"\xe2\x96\x84\xe2\x96\x84\x1b[",
+        8,
+        1,
+        "at 6: F12 content ends in a sequence\n\
+        bytes: <ESC>[\n\
+        cleared start: row 1, column 7\n\
+        hint: a character is in UTF-8, 2 times, first at 0: convert the text to code page 437\n",
+    ),
+    (
+        b"\x1b[38;5;48mA\x1b[0m\xdb\x1b[6n",
+        3,
+        1,
+        "at 16: F17 cursor report asked\n\
+        bytes: <ESC>[6n\n\
+        cleared start: row 1, column 3\n\
+        hint: a sequence has a colour of later terminals (38, 48, 90 to 97 or 100 to 107), once, at 0\n\
+        hint: a character blinks, once, at 10: for bright backgrounds set the non-blink flag\n",
+    ),
+];
+
+/// A content, its width and lines, and what is said of it where it passes from the cleared start.
+static PASSED: [(&[u8], u16, u16, &str); 11] = [
+    (
+        b"Hi",
+        2,
+        1,
+        "needs: cursor colours\n\
+        taller: yes\n\
+        at 0: F22 print at an unknown place\n\
+        bytes: H\n\
+        low start: row 1, column 1\n\
+        high start: row 2, column 2\n\
+        mend: begin with ESC[?7h ESC[0m ESC[2J ESC[s\n",
+    ),
+    (
+        b"\x1b[0m\x1b[2J\t",
+        4,
+        3,
+        "needs: wrap\n\
+        taller: yes\n\
+        at 8: F22 print at an unknown place\n\
+        bytes: <TAB>\n\
+        low start: row 1, column 4\n\
+        high start: row 2, column 1\n\
+        mend: begin with ESC[?7h ESC[0m ESC[2J ESC[s\n\
+        hint: nothing is printed in the last line\n",
+    ),
+    (
+        b"\x1b[K",
+        2,
+        1,
+        "needs: cursor colours\n\
+        taller: yes\n\
+        at 0: F23 erase at an unknown place\n\
+        bytes: <ESC>[K\n\
+        low start: row 1, column 1\n\
+        high start: row 2, column 2\n\
+        mend: begin with ESC[?7h ESC[0m ESC[2J ESC[s\n\
+        hint: nothing is printed in the last line\n",
+    ),
+    (
+        b"\n\x1b[0m\x1b[2J",
+        1,
+        2,
+        "needs: cursor\n\
+        taller: yes\n\
+        at 0: F24 may scroll\n\
+        bytes: <LF>\n\
+        low start: row 1, column 1\n\
+        high start: row 3, column 1\n\
+        mend: begin with ESC[?7h ESC[0m ESC[2J ESC[s\n\
+        hint: nothing is printed in the last 2 lines\n",
+    ),
+    (
+        b"\x1b[2JHi",
+        2,
+        1,
+        "needs: colours\n\
+        taller: yes\n\
+        at 6: F25 cell stays unknown (row 1, column 1)\n\
+        low start: byte 48, attribute 00\n\
+        high start: byte 48, attribute ff\n\
+        mend: begin with ESC[?7h ESC[0m ESC[2J ESC[s\n",
+    ),
+    (
+        b"\x1b[0m\x1b[1;1HH",
+        2,
+        1,
+        "needs: screen\n\
+        taller: yes\n\
+        at 11: F25 cell stays unknown (row 1, column 2)\n\
+        low start: byte 00, attribute 00\n\
+        high start: byte ff, attribute ff\n\
+        mend: begin with ESC[?7h ESC[0m ESC[2J ESC[s\n",
+    ),
+    (
+        b"\x1b[?7h\x1b[0m\x1b[2JHi",
+        2,
+        1,
+        "needs: nothing\ntaller: yes\n",
+    ),
+    (
+        b"\x1b[?7h\x1b[0m\x1b[255A\x1b[255DHi",
+        2,
+        1,
+        "needs: nothing\ntaller: no\n",
+    ),
+    (
+        b"\x1b[?7h\x1b[0m\x1b[2J\x1b[255B\x1b[1;1HHi",
+        2,
+        1,
+        "needs: nothing\ntaller: no\n",
+    ),
+    (
+        b"\x1b[?7h\x1b[0m\x1b[2J\x1b[1B\x1b[1AHi",
+        2,
+        1,
+        "needs: nothing\ntaller: yes\n",
+    ),
+    (
+        b"\x1b[?7h\x1b[0m\x1b[2J\x1b[5mHi",
+        2,
+        3,
+        "needs: nothing\n\
+        taller: yes\n\
+        hint: a character blinks, 2 times, first at 17: for bright backgrounds set the non-blink flag\n\
+        hint: nothing is printed in the last 2 lines\n",
+    ),
+];
+
+/// The whole text: the size, the verdict, and what is said.
+fn text_of(
+    rt: &(impl Abort + AllocGlobal),
+    (width, lines): (u16, u16),
+    verdict: &str,
+    said: &str,
+) -> String {
+    match format!(in rt.alloc(); "size: {width} x {lines}\nverdict: {verdict}\n{said}") {
+        Ok(text) => text,
+        Err(_) => format!(in rt.alloc();
+            "size: {width} x {lines}\nverdict: {verdict}\n{said}"
+        ).expect(rt, "no text"),
+    }
+}
+
+#[test]
+fn a_refused_content_is_explained(rt: HostRuntime) {
+    for (content, width, lines, said) in &REFUSED {
+        let file = plain_file(&rt, content, *width, *lines);
+        let text = text_of(&rt, (*width, *lines), "refused", said);
+        expect_run(&rt, file.as_slice(), &WHY, 512, Ok(false), text.as_bytes());
+    }
+}
+
+#[test]
+fn what_a_content_relies_on_is_explained(rt: HostRuntime) {
+    for (content, width, lines, said) in &PASSED {
+        let file = plain_file(&rt, content, *width, *lines);
+        let text = text_of(&rt, (*width, *lines), "pass", said);
+        expect_run(&rt, file.as_slice(), &WHY, 512, Ok(true), text.as_bytes());
+    }
+}
+
+/// What stands before the record, the fields of the plain record that are changed, and the text.
+type RecordRow = (
+    &'static [u8],
+    &'static [(usize, &'static [u8])],
+    &'static [u8],
+);
+
+static RECORDS: [RecordRow; 10] = [
+    (
+        b"Hi",
+        &[(0, b"X")],
+        b"verdict: refused\nat 130: F1 no SAUCE record\n",
+    ),
+    (
+        b"Hi\x1a",
+        &[(5, b"01")],
+        b"verdict: refused\nat 8: F2 SAUCE version is not 00\nfound: version 01\n",
+    ),
+    (
+        b"Hi\x1a",
+        &[(95, b"\x02")],
+        b"verdict: refused\nat 97: F3 not Character/ANSi\nfound: data type 1, file type 2\n",
+    ),
+    (
+        b"Hi\x1a",
+        &[(104, b"\x03")],
+        b"verdict: refused\nat 107: F4 comment block missing\nfound: 3 comments stated\n",
+    ),
+    (
+        b"Hi\x1a",
+        &[(98, b"\x00\x00")],
+        b"verdict: refused\nat 101: F5 number of lines not stated\nfound: 0 lines stated\n",
+    ),
+    (
+        b"Hi\x1a",
+        &[(96, b"\x01\x04")],
+        b"verdict: refused\nat 99: F6 width above 1024\nfound: 1025 columns stated\n",
+    ),
+    (
+        b"Hi\x1a",
+        &[(98, b"\x01\x20")],
+        b"verdict: refused\nat 101: F7 lines above 8192\nfound: 8193 lines stated\n",
+    ),
+    (
+        b"Hi\x1ax",
+        &[],
+        b"verdict: refused\n\
+        at 3: F8 bytes after the end mark\n\
+        found: 1 bytes after the end mark, no record among them\n",
+    ),
+    (
+        b"\x1b[?7h\x1b[0m\x1b[2JH\x1a",
+        &[
+            (90, b"\x0e\x00\x00\x00"),
+            (96, b"\x01"),
+            (106, b"IBM VGA 866"),
+        ],
+        b"size: 1 x 1\n\
+        verdict: pass\n\
+        needs: nothing\n\
+        taller: yes\n\
+        hint: the font IBM VGA 866 is not one of code page 437, so other characters may show\n",
+    ),
+    (
+        b"\x1b[?7h\x1b[5m\x1b[2JH\x1a",
+        &[
+            (90, b"\x0e\x00\x00\x00"),
+            (96, b"\x01"),
+            (105, b"\x01"),
+            (106, b"IBM VGA50 437"),
+        ],
+        b"size: 1 x 1\n\
+        verdict: pass\n\
+        needs: colours\n\
+        taller: yes\n\
+        at 14: F25 cell stays unknown (row 1, column 1)\n\
+        low start: byte 48, attribute 80\n\
+        high start: byte 48, attribute ff\n\
+        mend: begin with ESC[?7h ESC[0m ESC[2J ESC[s\n",
+    ),
+];
+
+#[test]
+fn a_record_is_explained(rt: HostRuntime) {
+    for (front, edits, text) in &RECORDS {
+        let file = file_of(&rt, front, edits);
+        let passes = text.starts_with(b"size");
+        expect_run(&rt, file.as_slice(), &WHY, 512, Ok(passes), text);
+    }
+}
