@@ -49,8 +49,10 @@ pub(crate) fn why_of<G: Grid>(alloc: Global, file: &[u8]) -> Result<Why<'_>, All
     ensures memory { IsSome (record_fault file.now) → IsOk result }
 {
     match needs::<G>(alloc, file)? {
-        Needs::Refused(None, fault) => Ok(Why::of_record(file, fault)),
-        Needs::Refused(Some(parts), fault) => Ok(Why::of_refusal(parts, fault)),
+        Needs::Refused(parts, fault) => match parts {
+            Some(parts) => Ok(Why::of_refusal(parts, fault)),
+            None => Ok(Why::of_record(file, fault)),
+        },
         Needs::Least(parts, needs) => {
             let fault = fault_from_any::<G>(alloc, &parts, needs)?;
             Ok(Why::of_pass(parts, file.len(), needs, fault))

@@ -2,7 +2,7 @@
 # /usr/share/bash-completion/completions/anscheck.
 _anscheck() {
     local word=${COMP_WORDS[COMP_CWORD]} command=${COMP_WORDS[1]}
-    local commands="needs check show sauce tokens"
+    local commands="why needs check show sauce tokens"
     COMPREPLY=()
     if [ "$COMP_CWORD" -eq 1 ]; then
         mapfile -t COMPREPLY < <(compgen -W "$commands help --help --version" -- "$word")

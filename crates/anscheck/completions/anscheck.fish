@@ -1,12 +1,13 @@
 # Completion for fish: copy this file to ~/.config/fish/completions.
-set -l commands needs check show sauce tokens help
+set -l commands why needs check show sauce tokens help
+complete -c anscheck -n "not __fish_seen_subcommand_from $commands" -f -a why -d 'Why a drawing is refused, and what it relies on'
 complete -c anscheck -n "not __fish_seen_subcommand_from $commands" -f -a needs -d 'What a drawing relies on'
 complete -c anscheck -n "not __fish_seen_subcommand_from $commands" -f -a check -d 'Check a drawing, and print its picture'
 complete -c anscheck -n "not __fish_seen_subcommand_from $commands" -f -a show -d 'Show a picture in its colours'
 complete -c anscheck -n "not __fish_seen_subcommand_from $commands" -f -a sauce -d 'What the record says'
 complete -c anscheck -n "not __fish_seen_subcommand_from $commands" -f -a tokens -d 'The bytes and sequences of the content'
 complete -c anscheck -n "not __fish_seen_subcommand_from $commands" -f -a help -d 'Help on a command'
-complete -c anscheck -n "__fish_seen_subcommand_from help" -f -a 'needs check show sauce tokens'
+complete -c anscheck -n "__fish_seen_subcommand_from help" -f -a 'why needs check show sauce tokens'
 complete -c anscheck -n "__fish_seen_subcommand_from check" -l cleared -d 'From the cleared screen alone'
 complete -c anscheck -n "__fish_seen_subcommand_from check" -l cells -d 'Print each cell too'
 complete -c anscheck -n "__fish_seen_subcommand_from show" -l html -d 'A page'
