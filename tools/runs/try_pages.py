@@ -165,7 +165,7 @@ def try_headings(tried, text):
 # The table of the tests.
 
 LITERAL = r'(b"(?:[^"\\]|\\.)*")'
-ASKED = r'"([FN]\d+)" (check|needs) (cleared|any) '
+ASKED = r'"([FN]\d+)" (check|needs|why) (cleared|any) '
 CONTENT_ROW = re.compile(ASKED + rf"(\d+) x (\d+), {LITERAL}\s*=> \w+\s*{LITERAL};", re.DOTALL)
 FILE_ROW = re.compile(
     ASKED + rf"{LITERAL},\s*\[((?:\d+ => {LITERAL}(?:, )?)*)\], {LITERAL}\s*=> \w+\s*{LITERAL};", re.DOTALL

@@ -4,3 +4,4 @@ pub mod ReportLemmas
 pub mod ReportedLemmas
 pub mod ServedLemmas
 pub mod AnswerLemmas
+pub mod WhyLemmas

@@ -33,10 +33,8 @@ fn fault_from_any<G: Grid>(
     if needs == Start::ANY {
         return Ok(None);
     }
-    match play::<G>(alloc, parts, Start::ANY)? {
-        Ok(_) => Ok(None),
-        Err(fault) => Ok(Some(fault)),
-    }
+    let end = play::<G>(alloc, parts, Start::ANY)?;
+    Ok(end.err())
 }
 
 /// Finds what there is to say of a file of at most 16,777,216 bytes: what it needs is found, and where

@@ -37,6 +37,9 @@ macro_rules! asked {
     (check any, refused, $text:literal) => {
         Asked { command: Command::Check, cleared: false, passes: false, text: $text }
     };
+    (why any, refused, $text:literal) => {
+        Asked { command: Command::Why, cleared: false, passes: false, text: $text }
+    };
     (needs any, passes, $text:literal) => {
         Asked { command: Command::Needs, cleared: false, passes: true, text: $text }
     };
@@ -143,7 +146,7 @@ static NOTED_FILES: [FileExample; 7] = files! {
 };
 
 /// Contents that are refused from every start.
-static CERTAIN: [ContentExample; 22] = contents! {
+static CERTAIN: [ContentExample; 23] = contents! {
     "F9" check cleared 2 x 1, b"\x1b7" => refused
         b"size: 2 x 1\nstart: cleared\ncontent: 2 bytes\nverdict: refused\nat 0: F9 broken sequence\n";
     "F9" check cleared 2 x 1, b"\x1b[0;0 D" => refused
@@ -178,6 +181,10 @@ static CERTAIN: [ContentExample; 22] = contents! {
         b"size: 2 x 1\nstart: cleared\ncontent: 3 bytes\nverdict: refused\nat 2: F20 print below the stated lines\n";
     "F20" check cleared 2 x 2, b"Hi\r\nHo" => refused
         b"size: 2 x 2\nstart: cleared\ncontent: 6 bytes\nverdict: refused\nat 4: F20 print below the stated lines\n";
+    "F20" why any 2 x 2, b"Hi\r\nHo" => refused
+        b"size: 2 x 2\nverdict: refused\nat 4: F20 print below the stated lines\nbytes: H\n\
+        cleared start: row 3, column 1\nlines: 3\n\
+        hint: a full row and a line end take two rows, once, at 2\n";
     "F20" check cleared 2 x 2, b"HiHo" => passes
         b"size: 2 x 2\nstart: cleared\ncontent: 4 bytes\nverdict: pass\npicture:\nHi\nHo\n";
     "F20" check cleared 4 x 2, b"ab\ncdef" => refused
