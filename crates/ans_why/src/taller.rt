@@ -61,8 +61,8 @@ pub fn is_taller(size: Size, start: Start, content: &[u8]) -> bool
                 if !is_free_piece(size, &low, &high, &piece) {
                     return false;
                 }
-                low = low.piece(size, &piece);
-                high = high.piece(size, &piece);
+                low.piece(size, &piece);
+                high.piece(size, &piece);
             }
             Ok(None) => return true,
             Err(_) => return false,
