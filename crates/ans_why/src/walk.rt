@@ -23,6 +23,7 @@ use ans_tokens::Piece;
 pub(crate) const HOME: Position = Position { row: 0, column: 0 };
 
 /// Where the cursor stands after so many printed bytes, if none is printed in the spare row.
+#[inline(always)]
 pub(crate) fn run_end(width: usize, from: Position, wrap: bool, count: usize) -> Position
     requires some_columns { 0 < width }
     requires column { from.column < width }
@@ -60,6 +61,7 @@ pub(crate) struct Walk {
 
 impl Walk {
     /// A token that prints nothing and moves alike on any number of lines.
+    #[inline(always)]
     pub(crate) fn moved(&mut self, width: usize, kind: &Kind)
         requires some_columns { 0 < width }
         requires columns { width ≤ most_columns }
@@ -104,6 +106,7 @@ impl Walk {
     }
 
     /// So many bytes are printed.
+    #[inline(always)]
     fn printed(&mut self, size: Size, count: usize)
         requires on { WalksOn size self.old }
         requires count { count ≤ longest_file }
@@ -121,6 +124,7 @@ impl Walk {
     }
 
     /// A token, which prints nothing and does not scroll in the spare row.
+    #[inline(always)]
     pub(crate) fn step(&mut self, size: Size, kind: &Kind)
         requires on { WalksOn size self.old }
         ensures on { WalksOn size self.new }
@@ -145,6 +149,7 @@ impl Walk {
     }
 
     /// A piece of a content whose tokens are clean.
+    #[inline(always)]
     pub(crate) fn piece(&mut self, size: Size, piece: &Piece<'_>)
         requires on { WalksOn size self.old }
         requires length { PieceFits piece.now }
