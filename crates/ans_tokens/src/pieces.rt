@@ -2,10 +2,11 @@
 
 ghost use Rattle.std.specs.Prelude.{◌≡◌, ◌+◌, ◌≤◌, [], length, take, MatchOption, IfOk, IfErr};
 ghost use Rattle.ans_model.specs.Bytes.{longest_file};
+ghost use Rattle.ans_tokens.specs.Glyphs.{IsGlyphFront};
 ghost use Rattle.ans_tokens.specs.WholeToken.{IsTokenAt};
 ghost use Rattle.ans_tokens.specs.Pieces.{IsFaultAt};
 
-use crate::glyphs::count_glyphs;
+use crate::glyphs::{count_glyphs, is_glyph};
 use crate::scanner::Scanner;
 use crate::token::Token;
 use crate::whole::whole_token;
@@ -21,8 +22,20 @@ pub enum Piece<'a> {
     Token(Token),
 }
 
+/// Counts as `count_glyphs` does. Most tokens need no more than a look at their first byte.
+#[inline(always)]
+fn glyphs_in_front(bytes: &[u8]) -> usize
+    ensures { IsGlyphFront bytes.now result }
+{
+    match bytes {
+        [first, ..] if !is_glyph(*first) => 0,
+        _ => count_glyphs(bytes),
+    }
+}
+
 /// The token that the bytes begin with, which stands at this offset: they are taken one by one. None
 /// where there is no byte, and else a fault at the offset, F9 to F14.
+#[inline(never)]
 fn token_by_bytes(bytes: &[u8], offset: usize) -> Result<Option<Token>, Fault>
     requires { offset + length bytes.now ≤ longest_file }
     ensures token { IfOk result (λ token. MatchOption token (bytes.now ≡ [])
@@ -41,6 +54,7 @@ fn token_by_bytes(bytes: &[u8], offset: usize) -> Result<Option<Token>, Fault>
 }
 
 /// The token that the bytes begin with, as `token_by_bytes` has it: a common one is taken whole.
+#[inline(always)]
 fn first_token(bytes: &[u8], offset: usize) -> Result<Option<Token>, Fault>
     requires { offset + length bytes.now ≤ longest_file }
     ensures token { IfOk result (λ token. MatchOption token (bytes.now ≡ [])
@@ -95,6 +109,7 @@ impl<'a> Pieces<'a> {
         self.offset
     }
 
+    #[inline(always)]
     fn take(&mut self, count: usize) -> &'a [u8]
         requires { count ≤ length self.old.rest }
         ensures front { result.now ≡ take count self.old.rest }
@@ -109,13 +124,14 @@ impl<'a> Pieces<'a> {
     /// Takes what comes next: all glyphs that stand there in a row, or one token. None where the
     /// content ends. Where the reading refuses what stands there, or the content ends in a sequence,
     /// it takes nothing and returns the fault at its offset, F9 to F14.
+    #[inline(always)]
     pub fn next(&mut self) -> Result<Option<Piece<'a>>, Fault>
         ensures piece { IfOk result (λ piece. MatchOption piece (HasEnded self.old self.new)
             (TakesPiece self.old self.new)) }
         ensures fault { IfErr result (IsFaultAt self.old.offset self.old.rest) }
         ensures unchanged { IfErr result (λ _. self.new ≡ self.old) }
     {
-        let count = count_glyphs(self.rest);
+        let count = glyphs_in_front(self.rest);
         if count > 0 {
             return Ok(Some(Piece::Glyphs(self.take(count))));
         }

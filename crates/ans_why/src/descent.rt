@@ -151,7 +151,7 @@ impl Descent {
                 true
             }
             _ => {
-                self.walk = self.walk.moved(self.width, kind);
+                self.walk.moved(self.width, kind);
                 true
             }
         }

@@ -16,6 +16,7 @@ use ans_tokens::{Piece, Pieces};
 
 /// Whether a token is no move up or down, or one that nothing stops, where the cursors of the low and
 /// the high start stand so.
+#[inline(always)]
 fn is_free(size: Size, low: &Walk, high: &Walk, kind: &Kind) -> bool
     requires low { WalksOn size low.now }
     requires high { WalksOn size high.now }
@@ -33,6 +34,7 @@ fn is_free(size: Size, low: &Walk, high: &Walk, kind: &Kind) -> bool
 }
 
 /// The same of a piece of a content.
+#[inline(always)]
 fn is_free_piece(size: Size, low: &Walk, high: &Walk, piece: &Piece<'_>) -> bool
     requires low { WalksOn size low.now }
     requires high { WalksOn size high.now }
@@ -61,8 +63,8 @@ pub fn is_taller(size: Size, start: Start, content: &[u8]) -> bool
                 if !is_free_piece(size, &low, &high, &piece) {
                     return false;
                 }
-                low = low.piece(size, &piece);
-                high = high.piece(size, &piece);
+                low.piece(size, &piece);
+                high.piece(size, &piece);
             }
             Ok(None) => return true,
             Err(_) => return false,

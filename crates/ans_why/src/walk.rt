@@ -4,7 +4,7 @@ ghost use Rattle.std.specs.Prelude.{◌≡◌, ◌<◌, ◌≤◌, ◌++◌, ℕ
 ghost use Rattle.ans_model.specs.Bytes.{longest_file, most_columns, most_lines};
 ghost use Rattle.ans_model.specs.Sequence.TokenKind.{TokenKind};
 ghost use Rattle.ans_model.specs.Inside.ShownKind.{shown_kind};
-ghost use Rattle.ans_model.specs.Screen.State.{State, IsOnScreen, sized};
+ghost use Rattle.ans_model.specs.Screen.State.{State, sized};
 ghost use Rattle.ans_model.specs.Screen.StartClass.{IsStart};
 ghost use Rattle.ans_model.specs.Screen.Step.{step, final};
 ghost use Rattle.ans_model.specs.Verdict.TokenFault.{IsClean};
@@ -23,6 +23,7 @@ use ans_tokens::Piece;
 pub(crate) const HOME: Position = Position { row: 0, column: 0 };
 
 /// Where the cursor stands after so many printed bytes, if none is printed in the spare row.
+#[inline(always)]
 pub(crate) fn run_end(width: usize, from: Position, wrap: bool, count: usize) -> Position
     requires some_columns { 0 < width }
     requires column { from.column < width }
@@ -59,37 +60,34 @@ pub(crate) struct Walk {
 }
 
 impl Walk {
-    /// After a token that prints nothing and moves alike on any number of lines.
-    pub(crate) fn moved(self, width: usize, kind: &Kind) -> Walk
+    /// A token that prints nothing and moves alike on any number of lines.
+    #[inline(always)]
+    pub(crate) fn moved(&mut self, width: usize, kind: &Kind)
         requires some_columns { 0 < width }
         requires columns { width ≤ most_columns }
-        requires cursor { self.cursor.column < width }
-        ensures stands { (lines : ℕ) → IsOnScreen (sized width lines) self.cursor
-            → IsOnScreen (sized width lines) self.saved
-            → IsOnScreen (sized width lines) result.cursor
-            × IsOnScreen (sized width lines) result.saved }
+        requires cursor { self.old.cursor.column < width }
+        ensures stands { (lines : ℕ) → WalksOn (sized width lines) self.old
+            → WalksOn (sized width lines) self.new }
         ensures walk { (lines : ℕ) (s : State) → MovesAlike (shown_kind kind.now)
-            → self ≡ walk_of s
-            → result ≡ walk_of (step (sized width lines) s (shown_kind kind.now)) }
+            → self.old ≡ walk_of s
+            → self.new ≡ walk_of (step (sized width lines) s (shown_kind kind.now)) }
     {
-        let mut next = self;
         match kind {
-            Kind::Up(n) => next.cursor.row = self.cursor.row.saturating_sub(*n as usize),
+            Kind::Up(n) => self.cursor.row = self.cursor.row.saturating_sub(*n as usize),
             Kind::Forward(n) => {
-                next.cursor.column = (self.cursor.column + *n as usize).min(width - 1)
+                self.cursor.column = (self.cursor.column + *n as usize).min(width - 1)
             }
             Kind::Backward(n) => {
-                next.cursor.column = self.cursor.column.saturating_sub(*n as usize)
+                self.cursor.column = self.cursor.column.saturating_sub(*n as usize)
             }
-            Kind::BackSpace => next.cursor.column = self.cursor.column.saturating_sub(1),
-            Kind::CarriageReturn => next.cursor.column = 0,
-            Kind::Clear => next.cursor = HOME,
-            Kind::Save => next.saved = self.cursor,
-            Kind::Restore => next.cursor = self.saved,
-            Kind::Wrap(on) => next.wrap = *on,
+            Kind::BackSpace => self.cursor.column = self.cursor.column.saturating_sub(1),
+            Kind::CarriageReturn => self.cursor.column = 0,
+            Kind::Clear => self.cursor = HOME,
+            Kind::Save => self.saved = self.cursor,
+            Kind::Restore => self.cursor = self.saved,
+            Kind::Wrap(on) => self.wrap = *on,
             _ => {}
         }
-        next
     }
 
     /// Of a play that is watched.
@@ -107,59 +105,59 @@ impl Walk {
         }
     }
 
-    /// After so many printed bytes.
-    fn printed(self, size: Size, count: usize) -> Walk
-        requires on { WalksOn size self }
+    /// So many bytes are printed.
+    #[inline(always)]
+    fn printed(&mut self, size: Size, count: usize)
+        requires on { WalksOn size self.old }
         requires count { count ≤ longest_file }
-        ensures on { WalksOn size result }
-        ensures cursor { (run_end size.width self.cursor self.wrap count).row ≤ size.lines
-            → result ≡ record self { cursor = run_end size.width self.cursor self.wrap count } }
+        ensures on { WalksOn size self.new }
+        ensures cursor { (run_end size.width self.old.cursor self.old.wrap count).row ≤ size.lines
+            → self.new ≡ record self.old {
+              cursor = run_end size.width self.old.cursor self.old.wrap count;
+            } }
     {
         let end = run_end(size.width(), self.cursor, self.wrap, count);
-        Walk {
-            cursor: Position {
-                row: end.row.min(size.lines()),
-                column: end.column,
-            },
-            ..self
-        }
+        self.cursor = Position {
+            row: end.row.min(size.lines()),
+            column: end.column,
+        };
     }
 
-    /// After a token, which prints nothing and does not scroll in the spare row.
-    pub(crate) fn step(self, size: Size, kind: &Kind) -> Walk
-        requires on { WalksOn size self }
-        ensures on { WalksOn size result }
-        ensures walk { (s : State) → self ≡ walk_of s
+    /// A token, which prints nothing and does not scroll in the spare row.
+    #[inline(always)]
+    pub(crate) fn step(&mut self, size: Size, kind: &Kind)
+        requires on { WalksOn size self.old }
+        ensures on { WalksOn size self.new }
+        ensures walk { (s : State) → self.old ≡ walk_of s
             → WritesAbove size s (shown_kind kind.now)
-            → result ≡ walk_of (step size s (shown_kind kind.now)) }
+            → self.new ≡ walk_of (step size s (shown_kind kind.now)) }
     {
         let last_row = size.lines();
-        let mut next = self;
         match kind {
-            Kind::Glyph(_) => return self.printed(size, 1),
-            Kind::Tab => return self.printed(size, tab_blanks(self.cursor.column)),
-            Kind::LineFeed => next.cursor.row = (self.cursor.row + 1).min(last_row),
-            Kind::Down(n) => next.cursor.row = (self.cursor.row + *n as usize).min(last_row),
+            Kind::Glyph(_) => self.printed(size, 1),
+            Kind::Tab => self.printed(size, tab_blanks(self.cursor.column)),
+            Kind::LineFeed => self.cursor.row = (self.cursor.row + 1).min(last_row),
+            Kind::Down(n) => self.cursor.row = (self.cursor.row + *n as usize).min(last_row),
             Kind::Place(row, column) => {
-                next.cursor = Position {
+                self.cursor = Position {
                     row: (*row as usize).saturating_sub(1).min(last_row),
                     column: (*column as usize).saturating_sub(1).min(size.width() - 1),
                 }
             }
-            _ => return self.moved(size.width(), kind),
+            _ => self.moved(size.width(), kind),
         }
-        next
     }
 
-    /// After a piece of a content whose tokens are clean.
-    pub(crate) fn piece(self, size: Size, piece: &Piece<'_>) -> Walk
-        requires on { WalksOn size self }
+    /// A piece of a content whose tokens are clean.
+    #[inline(always)]
+    pub(crate) fn piece(&mut self, size: Size, piece: &Piece<'_>)
+        requires on { WalksOn size self.old }
         requires length { PieceFits piece.now }
-        ensures on { WalksOn size result }
+        ensures on { WalksOn size self.new }
         ensures walk { (class : Start) (s : State) (tokens : List TokenKind)
             → IsStart size class s → IsClean size class (tokens ++ kinds_of_piece piece.now)
-            → self ≡ walk_of (final size s tokens)
-            → result ≡ walk_of (final size s (tokens ++ kinds_of_piece piece.now)) }
+            → self.old ≡ walk_of (final size s tokens)
+            → self.new ≡ walk_of (final size s (tokens ++ kinds_of_piece piece.now)) }
     {
         match piece {
             Piece::Glyphs(text) => self.printed(size, text.len()),

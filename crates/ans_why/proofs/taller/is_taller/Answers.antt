@@ -27,13 +27,13 @@ pieces-init c = record {
       ∙ ap walk_of_watch c.high.ensures.watch);
 }
 
-pub piece-low-requires-clause-length : goal.piece-low-requires-clause-length
-piece-low-requires-clause-length c =
+pub piece-requires-clause-length : goal.piece-requires-clause-length
+piece-requires-clause-length c =
     piece_is_short c.args.size c.args.start c.args.content.now c.pieces.pieces c.next.new.self c.pieces.low
     c.pieces.high c.pieces.invariant.so_far c.in-Ok-Some.piece (rw c.in-Ok-Some.field-0-is at c.in-Ok-Some.ensures.piece)
 
-pub piece-high-requires-clause-length : goal.piece-high-requires-clause-length
-piece-high-requires-clause-length c =
+pub piece-requires-in-Ok-Some-clause-length : goal.piece-requires-in-Ok-Some-clause-length
+piece-requires-in-Ok-Some-clause-length c =
     piece_is_short c.args.size c.args.start c.args.content.now c.pieces.pieces c.next.new.self c.pieces.low
     c.pieces.high c.pieces.invariant.so_far c.in-Ok-Some.piece (rw c.in-Ok-Some.field-0-is at c.in-Ok-Some.ensures.piece)
 
@@ -55,12 +55,12 @@ pieces-preserved c =
     let clean = clean_with_piece z class c.args.content.now c.pieces.pieces c.next.new.self c.pieces.low c.pieces.high
     h c.in-Ok-Some.piece taken in
     record {
-      low = c.piece-low.ensures.on;
-      high = c.piece-high.ensures.on;
+      low = c.piece.ensures.on;
+      high = c.piece-in-Ok-Some.ensures.on;
       so_far = walked_more z class c.args.content.now c.pieces.pieces c.next.new.self c.pieces.low c.pieces.high h
-          c.in-Ok-Some.piece taken c.piece-low.result c.piece-high.result
-          (c.piece-low.ensures.walk class (low_start z class) h.played (low_is_start z class h.some) clean h.low_is)
-          (c.piece-high.ensures.walk class (high_start z class) h.played (high_is_start z class h.some) clean h.high_is)
+          c.in-Ok-Some.piece taken c.piece.new.self c.piece-in-Ok-Some.new.self
+          (c.piece.ensures.walk class (low_start z class) h.played (low_is_start z class h.some) clean h.low_is)
+          (c.piece-in-Ok-Some.ensures.walk class (high_start z class) h.played (high_is_start z class h.some) clean h.high_is)
           (c.if-not-is_free_piece.ensures.0 refl);
     }
 

@@ -44,7 +44,7 @@ returns-in_default c =
     let free : AsksForNothing (shown_kind k) =
     free_kind k d.not-Glyph d.not-LineFeed d.not-Tab d.not-Down d.not-Place d.not-Mode d.not-Keys d.not-Ask in
     let order = c.requires.order in
-    let stands = c.moved-self.ensures.stands old.enough order.cursor order.saved in
+    let stands = c.moved.ensures.stands old.enough (record { cursor = order.cursor; saved = order.saved }) in
     record {
       on = record {
         width = refl;
@@ -56,11 +56,11 @@ returns-in_default c =
           refused = order.refused;
           enough = order.enough;
           most = order.most;
-          cursor = stands.0;
-          saved = stands.1;
+          cursor = stands.cursor;
+          saved = stands.saved;
         };
       };
       played = λ tokens h.
-          free_goes old order tokens h (shown_kind k) c.moved-self.result free
-          (λ n s e. c.moved-self.ensures.walk n s (free_moves_alike (shown_kind k) free) e);
+          free_goes old order tokens h (shown_kind k) c.moved.new.self free
+          (λ n s e. c.moved.ensures.walk n s (free_moves_alike (shown_kind k) free) e);
     }
