@@ -19,7 +19,7 @@ use Rattle.ans_model.proofs.AcceptedFiles.{no_fault, one_layout}
 use Rattle.ans_model.proofs.ClassLemmas.{covers_itself}
 use Rattle.ans_model.proofs.OneAnswer.{one_first_fault, one_last_fault, first_or_last}
 use Rattle.ans_laws.proofs.OneTokensText.{one_fault_of_tokens, one_text_of_tokens}
-use Rattle.ans_options.specs.declared.command.Command.TheVariants.{Check, Show, Sauce, Tokens, Needs}
+use Rattle.ans_options.specs.declared.command.Command.TheVariants.{Why, Check, Show, Sauce, Tokens, Needs}
 use Rattle.ans_options.specs.declared.command.Form.{Form}
 use Rattle.ans_options.specs.declared.command.Command.{Command}
 use Rattle.ans_options.specs.declared.command.Options.{Options}
@@ -225,16 +225,17 @@ one_needs file false false text other h g = (refl, one_fault file all_known None
 -- ---- each command
 
 one_by : (command : Command) (start : Start) (cells : Bool) (file text other : List ℕ) (passed again : Bool)
-    → ReportsBy command start cells file passed text → ReportsBy command start cells file again other
+    → command ≢ Why → ReportsBy command start cells file passed text → ReportsBy command start cells file again other
     → IsOne passed again text other
-one_by Check start cells file text other passed again h g = one_check file start cells passed again text other h g
-one_by (Show form) start cells file text other passed again h g =
+one_by Why start cells file text other passed again others h g = absurd (others refl)
+one_by Check start cells file text other passed again others h g = one_check file start cells passed again text other h g
+one_by (Show form) start cells file text other passed again others h g =
     one_show file start form passed again text other h g
-one_by Sauce start cells file text other passed again h g = one_sauce file passed again text other h g
-one_by Tokens start cells file text other passed again h g = one_tokens file passed again text other h g
-one_by Needs start cells file text other passed again h g = one_needs file passed again text other h g
+one_by Sauce start cells file text other passed again others h g = one_sauce file passed again text other h g
+one_by Tokens start cells file text other passed again others h g = one_tokens file passed again text other h g
+one_by Needs start cells file text other passed again others h g = one_needs file passed again text other h g
 
-pub one_report : (options : Options) (file text other : List ℕ) (passed again : Bool)
+pub one_report : (options : Options) (file text other : List ℕ) (passed again : Bool) → options.command ≢ Why
     → Reports options file passed text → Reports options file again other → (passed ≡ again) × (text ≡ other)
-one_report options file text other passed again h g =
-    one_by options.command options.start options.cells file text other passed again h g
+one_report options file text other passed again others h g =
+    one_by options.command options.start options.cells file text other passed again others h g
