@@ -2,8 +2,9 @@
 //!
 //! Each law is the contract of a function without a body. Of a fault that is deserved,
 //! [`cursors_before`] and [`cells_of_fault`] give what the plays from the low and the high start of
-//! a class show. A [`Watch`] is a play of which one cell is kept, and [`TwoWatches`] are those of the
-//! two starts.
+//! a class show. [`least_lines`] says with how many lines a content passes from the cleared start, and
+//! [`is_taller`] whether it plays on taller screens as on the stated one. None of them takes memory: a
+//! [`Watch`] is a play of which one cell is kept, and [`TwoWatches`] are those of the two starts.
 #![tactic(auto)]
 
 mod descent;
