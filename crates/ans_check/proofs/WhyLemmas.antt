@@ -1,10 +1,9 @@
 -- What is said of a file, by what is found of it.
-use Rattle.std.proofs.Common.{◌≡◌, ◌≢◌, ℕ, Bool, true, false, List, Option, None, Some, Ok, Err, subst, sym, ap, ap₂, ◌∙◌, refl}
+use Rattle.std.proofs.Common.{◌≡◌, ◌≢◌, ℕ, Bool, true, false, List, Some, Ok, Err, subst, sym, ap₂, refl}
 use Rattle.std.specs.Prelude.{IfSome, IfNone, IfOk, IfErr, IsSome, IsTrue, Result}
 use Rattle.std.specs.Result.{result_err}
 use Rattle.ans_model.specs.declared.fault.Fault.{Fault}
 use Rattle.ans_model.specs.declared.start.Start.{Start}
-use Rattle.ans_model.specs.File.Layout.{content}
 use Rattle.ans_model.specs.File.Refusals.{record_fault}
 use Rattle.ans_model.specs.Screen.State.{Size, sized}
 use Rattle.ans_model.specs.Screen.StartClass.{Covers, none_known, all_known}

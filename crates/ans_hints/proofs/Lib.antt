@@ -7,3 +7,4 @@ pub mod Leading
 pub mod PieceWalks
 pub mod HintLines
 pub mod RowWalks
+pub mod EmptyRows

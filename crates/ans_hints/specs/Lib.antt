@@ -9,3 +9,4 @@ pub mod Hints
 pub mod Walks
 pub mod HintsText
 pub mod InRow
+pub mod RowLaws

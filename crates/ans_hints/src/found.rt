@@ -89,8 +89,8 @@ impl Found {
         self.rows = self.rows.max(pen.cursor.row + 1);
     }
 
-    /// The first `count` of these bytes, each as a glyph, in one row before its last column. The first
-    /// stands at this offset, and the bytes go on to the content's end.
+    /// The first `count` of these bytes, each as a glyph, in one row before its last column. They go on
+    /// to the content's end.
     #[inline(always)]
     pub(crate) fn in_row(
         &mut self,

@@ -50,13 +50,15 @@ static FULL_ROWS: [Row; 8] = rows! {
     4 x 1, b"\x1b[1;4Hd\n" => "hint: a full row and a line end take two rows, once, at 7\n";
 };
 
-static WIDE_CHARACTERS: [Row; 12] = rows! {
+static WIDE_CHARACTERS: [Row; 13] = rows! {
     9 x 1, b"\xe2\x96\x88" =>
         "hint: a character is in UTF-8, once, at 0: convert the text to code page 437\n";
     9 x 1, b"a\xf0\x9f\x98\x80\xe2\x96\x88" =>
         "hint: a character is in UTF-8, 2 times, first at 1: convert the text to code page 437\n";
     9 x 1, b"\xed\x9f\xbf\xee\x80\x80\xf4\x8f" =>
         "hint: a character is in UTF-8, 2 times, first at 0: convert the text to code page 437\n";
+    4 x 2, b"abc\xe2\x96\x88" =>
+        "hint: a character is in UTF-8, once, at 3: convert the text to code page 437\n";
     9 x 1, b"\xc3\xa9" => "";
     9 x 1, b"\xe0\x80\x80" => "";
     9 x 1, b"\xed\xa0\x80" => "";
@@ -68,7 +70,7 @@ static WIDE_CHARACTERS: [Row; 12] = rows! {
     9 x 1, b"\xe2\x1b[0m\x96\x88" => "";
 };
 
-static COLOURS: [Row; 7] = rows! {
+static COLOURS: [Row; 8] = rows! {
     9 x 1, b"\x1b[37;90mA\x1b[48m\x1b[107;38m" =>
         "hint: a sequence has a colour of later terminals (38, 48, 90 to 97 or 100 to 107), 3 times, first at 0\n";
     9 x 1, b"A\x1b[97;100m" =>
@@ -76,6 +78,8 @@ static COLOURS: [Row; 7] = rows! {
     9 x 1, b"A\x1b[37;39;47;49;89;98;99;108m" => "";
     9 x 1, b"\x1b[5mab\x1b[0mc" =>
         "hint: a character blinks, 2 times, first at 4: for bright backgrounds set the non-blink flag\n";
+    3 x 3, b"\x1b[5mabcdefg" =>
+        "hint: a character blinks, 7 times, first at 4: for bright backgrounds set the non-blink flag\n";
     9 x 1, b"a\x1b[5m\t\x1b[K\x1b[0m" => "";
     9 x 1, b"\x1b[5ma" =>
         "hint: a character blinks, once, at 4: for bright backgrounds set the non-blink flag\n";

@@ -51,7 +51,8 @@ impl Walk {
         self.pen.step(size, kind);
     }
 
-    /// Such glyphs in one row before its last column.
+    /// The first `count` of these bytes, each as a glyph, in one row before its last column. They go on
+    /// to the content's end.
     #[inline(always)]
     fn in_row(&mut self, size: Size, offset: usize, bytes: &[u8], count: usize)
         requires room { offset + length bytes.now ≤ longest_file }
@@ -68,8 +69,8 @@ impl Walk {
         self.pen.cursor.column += count;
     }
 
-    /// The first `count` of these bytes, each as a glyph. The first of them stands at this offset,
-    /// and they go on to the content's end.
+    /// The first `count` of these bytes, each as a glyph. The first stands at this offset, and they go on
+    /// to the content's end.
     pub(crate) fn glyphs(&mut self, size: Size, offset: usize, bytes: &[u8], count: usize)
         requires room { offset + length bytes.now ≤ longest_file }
         requires some { count ≤ length bytes.now }

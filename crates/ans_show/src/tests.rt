@@ -5,7 +5,7 @@ use ans_model::start::Start;
 use ans_play::{Picture, Player};
 use ans_sauce::MAX_FILE;
 use ans_screen::PlainGrid;
-use ans_trials::expect_written;
+use ans_trials::writes;
 use std::process::Abort;
 use std::test::Fail;
 
@@ -133,10 +133,12 @@ static TEXTS: [(usize, usize, &[u8], Manner, &[u8]); 12] = [
 fn a_terminal_shows_the_colours(rt: HostRuntime) -> Result<(), Fail> {
     for (width, lines, content, manner, text) in &TEXTS {
         let picture = picture_of(&rt, *width, *lines, content)?;
-        expect_written(&rt, text, |device| {
-            assert!(rt; !device.failed());
-            write_terminal(device, &picture, manner.non_blink, manner.vga)
-        });
+        assert!(rt;
+            writes(text, |device| {
+                assert!(rt; !device.failed());
+                write_terminal(device, &picture, manner.non_blink, manner.vga)
+            })
+        );
     }
     Ok(())
 }
@@ -223,10 +225,12 @@ static PAGES: [(usize, &[u8], &[u8], bool, &str); 5] = [
 fn a_page_shows_the_colours(rt: HostRuntime) -> Result<(), Fail> {
     for (width, content, title, non_blink, page) in &PAGES {
         let picture = picture_of(&rt, *width, 1, content)?;
-        expect_written(&rt, page.as_bytes(), |device| {
-            assert!(rt; !device.failed());
-            write_page(device, &picture, title, *non_blink)
-        });
+        assert!(rt;
+            writes(page.as_bytes(), |device| {
+                assert!(rt; !device.failed());
+                write_page(device, &picture, title, *non_blink)
+            })
+        );
     }
     Ok(())
 }

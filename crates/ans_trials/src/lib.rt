@@ -3,33 +3,37 @@
 
 use ans_samples::{FailingOnce, Narrow};
 use ans_write::{Tried, WriteFault};
-use std::process::Abort;
 
-/// Asserts that a writing stops at a device that fails after these bytes, and is not called again.
-pub fn expect_stopped<F>(rt: &impl Abort, taken: &[u8], write: &F)
+/// Whether a writing stops at a device that fails after these bytes, and calls it no more.
+pub fn stops_after<F>(taken: &[u8], write: &F) -> bool
 where
     F: Fn(&mut Tried<FailingOnce<Narrow>>) -> Result<(), WriteFault>,
     requires { F.IsAlwaysCallable write.now }
 {
     let mut device = Tried::new(FailingOnce::after(taken.len()));
-    assert_eq!(rt; write(&mut device), Err(WriteFault));
-    assert!(rt; device.failed());
-    assert!(rt; device.inner().stopped_after(taken));
-    assert_eq!(rt; device.calls(), device.inner().calls());
+    let written = write(&mut device);
+    written == Err(WriteFault)
+        && device.failed()
+        && device.inner().stopped_after(taken)
+        && device.calls() == device.inner().calls()
 }
 
-/// Asserts what is written to a device that takes it all, and that the writing stops at each of the
+/// Whether this text is written to a device that takes it all, and the writing stops at each of the
 /// calls that fail.
-pub fn expect_written<F>(rt: &impl Abort, text: &[u8], write: F)
+pub fn writes<F>(text: &[u8], write: F) -> bool
 where
     F: Fn(&mut Tried<FailingOnce<Narrow>>) -> Result<(), WriteFault>,
     requires { F.IsAlwaysCallable write }
 {
     let mut device = Tried::new(FailingOnce::after(text.len()));
-    assert_eq!(rt; write(&mut device), Ok(()));
-    assert!(rt; !device.failed());
-    assert_eq!(rt; device.inner().device().held(), text);
-    for taken in 0..text.len() {
-        expect_stopped(rt, &text[..taken], &write);
+    let written = write(&mut device);
+    if written.is_err() || device.failed() || device.inner().device().held() != text {
+        return false;
     }
+    for taken in 0..text.len() {
+        if !stops_after(&text[..taken], &write) {
+            return false;
+        }
+    }
+    true
 }

@@ -3,7 +3,7 @@ use crate::heading::put_heading;
 use crate::tests::{SOME_KNOWN, parts_of};
 use ans_model::start::Start;
 use ans_samples::sample_file;
-use ans_trials::expect_written;
+use ans_trials::writes;
 use ans_write::Outbox;
 use std::process::Abort;
 use std::test::Fail;
@@ -17,11 +17,13 @@ fn expect_name(
 ) -> Result<(), Fail> {
     let parts = parts_of(rt, file);
     let text = format!(in rt.alloc(); "size: 2 x 1\nstart: {name}\ncontent: 2 bytes\n")?;
-    expect_written(rt, text.as_bytes(), |device| {
-        let mut out = Outbox::new(device);
-        put_heading(&mut out, &parts, Some(start));
-        out.finish()
-    });
+    assert!(rt;
+        writes(text.as_bytes(), |device| {
+            let mut out = Outbox::new(device);
+            put_heading(&mut out, &parts, Some(start));
+            out.finish()
+        })
+    );
     Ok(())
 }
 

@@ -1,6 +1,6 @@
 //! The line that is said where there is no answer.
 use crate::write_message;
-use ans_trials::expect_written;
+use ans_trials::writes;
 
 /// Texts, and the lines that say them.
 static LINES: [(&str, &[u8]); 4] = [
@@ -13,9 +13,11 @@ static LINES: [(&str, &[u8]); 4] = [
 #[test]
 fn a_message_is_a_line(rt: HostRuntime) {
     for (text, line) in LINES {
-        expect_written(&rt, line, |device| {
-            assert!(rt; !device.failed());
-            write_message(device, text)
-        });
+        assert!(rt;
+            writes(line, |device| {
+                assert!(rt; !device.failed());
+                write_message(device, text)
+            })
+        );
     }
 }

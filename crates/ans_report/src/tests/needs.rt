@@ -4,15 +4,17 @@ use crate::{Needs, write_needs};
 use ans_model::start::Start;
 use ans_samples::sample_file;
 use ans_sauce::{Cause, Fault, Parts};
-use ans_trials::expect_written;
+use ans_trials::writes;
 use std::process::Abort;
 use std::test::Fail;
 
 fn expect_needs(rt: &impl Abort, needs: &Needs<'_>, text: &[u8]) {
-    expect_written(rt, text, |device| {
-        assert!(rt; !device.failed());
-        write_needs(device, needs)
-    });
+    assert!(rt;
+        writes(text, |device| {
+            assert!(rt; !device.failed());
+            write_needs(device, needs)
+        })
+    );
 }
 
 fn expect_least(rt: &impl Abort, parts: Parts<'_>, class: Start, text: &[u8]) {

@@ -3,7 +3,7 @@ use crate::tests::parts_of;
 use crate::write_record;
 use ans_samples::records::Edits;
 use ans_samples::sample_file;
-use ans_trials::expect_written;
+use ans_trials::writes;
 use std::test::Fail;
 
 /// The fields that are changed, and the text of the record, behind `Hi`, an end mark and one comment.
@@ -34,10 +34,12 @@ fn a_record_is_written(rt: HostRuntime) -> Result<(), Fail> {
     for (edits, text) in &RECORDS {
         let file = sample_file(rt.alloc(), front, edits)?;
         let parts = parts_of(&rt, &file);
-        expect_written(&rt, text.as_bytes(), |device| {
-            assert!(rt; !device.failed());
-            write_record(device, &parts)
-        });
+        assert!(rt;
+            writes(text.as_bytes(), |device| {
+                assert!(rt; !device.failed());
+                write_record(device, &parts)
+            })
+        );
     }
     Ok(())
 }

@@ -3,7 +3,7 @@ ghost use Rattle.std.specs.Prelude.{◌≤◌};
 
 use crate::{Tried, write_tokens};
 use ans_sauce::{Cause, Fault, MAX_FILE};
-use ans_trials::{expect_stopped, expect_written};
+use ans_trials::{stops_after, writes};
 use std::io::{self, Write};
 use std::process::Abort;
 use std::test::Fail;
@@ -51,12 +51,14 @@ static ROWS: [(&[u8], &[u8], Option<Fault>); 18] = rows! {
 
 /// Asserts what is written of a content, and its fault.
 fn expect_tokens(rt: &impl Abort, content: &[u8], text: &[u8], fault: Option<Fault>) {
-    expect_written(rt, text, |device| {
-        assert!(rt; !device.failed() && content.len() <= MAX_FILE);
-        let told = write_tokens(device, content)?;
-        assert_eq!(rt; told, fault);
-        Ok(())
-    });
+    assert!(rt;
+        writes(text, |device| {
+            assert!(rt; !device.failed() && content.len() <= MAX_FILE);
+            let told = write_tokens(device, content)?;
+            assert_eq!(rt; told, fault);
+            Ok(())
+        })
+    );
 }
 
 #[test]
@@ -86,14 +88,15 @@ fn long_sequences_are_one_token_or_none(rt: HostRuntime) -> Result<(), Fail> {
 #[test]
 fn a_failed_device_is_not_called_again(rt: HostRuntime) -> Result<(), Fail> {
     let bells = vec![in rt.alloc(); 0x07u8; 20_001]?;
-    expect_stopped(
-        &rt,
-        b"",
-        &|device| {
-            assert!(rt; !device.failed() && bells.len() <= MAX_FILE);
-            write_tokens(device, bells.as_slice())?;
-            Ok(())
-        },
+    assert!(rt;
+        stops_after(
+            b"",
+            &|device| {
+                assert!(rt; !device.failed() && bells.len() <= MAX_FILE);
+                write_tokens(device, bells.as_slice())?;
+                Ok(())
+            },
+        )
     );
     Ok(())
 }

@@ -6,7 +6,7 @@ use ans_play::{Picture, Player};
 use ans_samples::{sample_file, start};
 use ans_sauce::{Cause, Fault, MAX_FILE, Parts};
 use ans_screen::PlainGrid;
-use ans_trials::expect_written;
+use ans_trials::writes;
 use std::io::Write;
 use std::process::Abort;
 use std::test::Fail;
@@ -61,9 +61,11 @@ fn expect_report(
         Ok(()) => player.finish(),
         Err(fault) => Err(fault),
     };
-    expect_written(rt, text.as_bytes(), |device| {
-        write_end(rt, device, &parts, start, &end, cells)
-    });
+    assert!(rt;
+        writes(text.as_bytes(), |device| {
+            write_end(rt, device, &parts, start, &end, cells)
+        })
+    );
     Ok(())
 }
 
@@ -100,19 +102,23 @@ fn a_refusal_without_parts_is_two_lines(rt: HostRuntime) {
         cause: Cause::NoRecord,
     };
     let text: &[u8] = b"verdict: refused\nat 127: F1 no SAUCE record\n";
-    expect_written(&rt, text, |device| {
-        assert!(rt; !device.failed());
-        let report: Report<'_, PlainGrid> = Report::Refused {
-            parts: None,
-            start: Start::ANY,
-            fault,
-        };
-        write_report(device, &report)
-    });
-    expect_written(&rt, text, |device| {
-        assert!(rt; !device.failed());
-        write_refusal(device, &fault)
-    });
+    assert!(rt;
+        writes(text, |device| {
+            assert!(rt; !device.failed());
+            let report: Report<'_, PlainGrid> = Report::Refused {
+                parts: None,
+                start: Start::ANY,
+                fault,
+            };
+            write_report(device, &report)
+        })
+    );
+    assert!(rt;
+        writes(text, |device| {
+            assert!(rt; !device.failed());
+            write_refusal(device, &fault)
+        })
+    );
 }
 
 /// A row of the bytes that print and may stand in a content: all but BEL, BS, TAB, LF, CR, SUB and
