@@ -20,6 +20,8 @@ module _ (z : Size) (file_length : ℕ) (content : List ℕ) (needs : Start) (fa
       → IfSome r (λ r. IsReliance z file_length content r × (fault ≡ Some r.fault))
       → IfSome r (λ r. (needs ≢ none_known) × IsReliance z file_length content r)
   relied None has relies = tt
-  relied (Some r) has (relies, is) =
-      ((subst (λ (f : Option Fault). IfSome f (λ f. (needs ≢ none_known) × IsDeserved z none_known content f)) is
-      has).0, relies)
+  relied (Some r) has (relies, is) = (
+    (subst (λ (f : Option Fault). IfSome f (λ f. (needs ≢ none_known) × IsDeserved z none_known content f)) is
+        has).0,
+    relies,
+  )

@@ -158,12 +158,7 @@ fn refusal<'a>(parts: &Parts<'a>, fault: Fault) -> Refusal<'a>
     }
 }
 
-fn pass<'a>(
-    parts: &Parts<'a>,
-    file_length: usize,
-    needs: Start,
-    fault: Option<Fault>,
-) -> Pass<'a>
+fn pass<'a>(parts: &Parts<'a>, file_length: usize, needs: Start, fault: Option<Fault>) -> Pass<'a>
     requires length { length (content_of parts.now) ≤ longest_file }
     requires file { file_length ≤ longest_file }
     requires needs { IsLeast (size_of parts.now) (content_of parts.now) needs }

@@ -65,7 +65,6 @@ flags_met words met e =
       ]
     ]
 
-
 -- the rows do not hold `--cells`
 abbrev HoldsNoCells : List Row → Type 0
 HoldsNoCells rows = holds_flag (codes "cells") rows ≡ false
@@ -95,7 +94,6 @@ no_cells_met words met e other =
         ]
       ]
     ]
-
 
 -- the first letter tells `check` from the other commands
 named_check : (c : Command) → command_name c ≡ codes "check" → c ≡ Check

@@ -22,7 +22,7 @@ macro_rules! shown {
 }
 
 /// Words, their options, and the file.
-static TAKEN: [(&[&str], Options, Option<&str>); 20] = rows! {
+static TAKEN: [(&[&str], Options, Option<&str>); 22] = rows! {
     "anscheck" "check" => asked!(Check any), None;
     "anscheck" "check" "f" => asked!(Check any), Some("f");
     "anscheck" "check" "--cleared" => asked!(Check cleared), None;

@@ -21,7 +21,7 @@ fn expect_kind(rt: &(impl Abort + AllocGlobal), words: &[&str], kind: ErrorKind)
 }
 
 /// Words that ask for help or for the version, and which.
-static REQUESTS: [(&[&str], ErrorKind); 19] = rows! {
+static REQUESTS: [(&[&str], ErrorKind); 20] = rows! {
     "anscheck" "--help" => DisplayHelp;
     "anscheck" "-h" => DisplayHelp;
     "anscheck" "help" => DisplayHelp;
@@ -45,7 +45,7 @@ static REQUESTS: [(&[&str], ErrorKind); 19] = rows! {
 };
 
 /// Mistakes, and of which kind they are.
-static MISTAKES: [(&[&str], ErrorKind); 31] = rows! {
+static MISTAKES: [(&[&str], ErrorKind); 32] = rows! {
     => MissingSubcommand;
     "anscheck" => MissingSubcommand;
     "help" => MissingSubcommand;
