@@ -3,5 +3,7 @@ pub mod NeedsAndChecks
 pub mod OneReport
 pub mod CleanPieces
 pub mod CleanPictures
+pub mod CleanLines
+pub mod CleanWhy
 pub mod CleanReports
 pub mod CleanBytes

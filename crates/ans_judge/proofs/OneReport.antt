@@ -1,5 +1,5 @@
 -- A file and its options have one report.
-use Rattle.std.proofs.Common.{◌≡◌, ◌⊎◌, inl, inr, ℕ, Bool, true, false, List, ◌∙◌, ap, ap₂, refl, sym, subst, Option}
+use Rattle.std.proofs.Common.{◌≡◌, ◌≢◌, ◌⊎◌, inl, inr, ℕ, Bool, true, false, List, ◌∙◌, ap, ap₂, refl, sym, subst, Option}
 use Rattle.std.proofs.Common.{Some, None}
 use Rattle.std.proofs.lemmas.Option.{same_Some}
 use Rattle.ans_model.specs.declared.fault.Fault.{Fault}
