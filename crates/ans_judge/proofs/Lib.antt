@@ -1,6 +1,11 @@
 pub mod Covering
 pub mod NeedsAndChecks
 pub mod OneReport
+pub mod OneBlamed
+pub mod OneEvidence
+pub mod OneFound
+pub mod OneHints
+pub mod OneWhy
 pub mod CleanPieces
 pub mod CleanPictures
 pub mod CleanLines
