@@ -2,43 +2,37 @@
 use Rattle.std.proofs.Common.{◌≡◌, inl, inr, ℕ, zero, suc, ◌+◌, ◌*◌, ◌≤◌, Bool, true, false, refl, sym, ap, subst}
 use Rattle.std.proofs.Common.{arith, List, [], ◌∷◌, ◌++◌, length, map, take, drop, codes, Option, Some, None, All}
 use Rattle.std.proofs.Common.{unwrap_or}
-use Rattle.std.specs.Prelude.{◌==◌, ◌&&◌, ◌||◌, if◌then◌else◌, decimal, flat_map}
-use Rattle.std.proofs.lemmas.Bool.Decides.{nat_tests}
+use Rattle.std.specs.Prelude.{◌&&◌, if◌then◌else◌, decimal, flat_map}
 use Rattle.std.proofs.lemmas.List.{length-take}
-use Rattle.std.proofs.lemmas.List.Elements.{All-head, All-tail, All-nil, All-cons, All-map, All-weaker, All-take}
+use Rattle.std.proofs.lemmas.List.Elements.{All-head, All-tail, All-map, All-weaker, All-take}
 use Rattle.std.proofs.lemmas.List.Elements.{All-drop}
 use Rattle.ans_model.specs.declared.cell.Cell.{Cell}
 use Rattle.ans_model.specs.declared.fault.Fault.{Fault}
-use Rattle.ans_model.specs.declared.fault.Cause.{Cause}
-use Rattle.ans_model.specs.declared.fault.Cause.TheVariants.{UnknownCell}
-use Rattle.ans_model.specs.declared.note.Note.{Note}
-use Rattle.ans_model.specs.declared.note.Note.TheVariants.{WidthAssumed}
 use Rattle.ans_model.specs.declared.start.Start.{Start}
 use Rattle.ans_model.specs.Bytes.{IsByte}
-use Rattle.ans_model.specs.File.Layout.{FileParts, comment_block, content}
+use Rattle.ans_model.specs.File.Layout.{FileParts, content}
 use Rattle.ans_model.specs.File.NoteConditions.{notes}
 use Rattle.ans_model.specs.File.Record.{number, field, title_field, author_field, group_field, date_field, file_size}
 use Rattle.ans_model.specs.File.Record.{comment_count, flags, font_field, stated_width, stated_lines}
 use Rattle.ans_model.specs.File.Record.{trimmed, comment}
-use Rattle.ans_model.specs.File.Refusals.{Accepts}
-use Rattle.ans_model.specs.Screen.State.{Size, IsByteCell, sized}
+use Rattle.ans_model.specs.Screen.State.{IsByteCell, sized}
 use Rattle.ans_model.specs.Sequence.TokenKind.{TokenKind, PrintsByte, Glyph, Bell, BackSpace, LineFeed, CarriageReturn}
 use Rattle.ans_model.specs.Sequence.TokenKind.{Tab, Up, Down, Forward, Backward, Place, Clear, EraseLine, Save}
 use Rattle.ans_model.specs.Sequence.TokenKind.{Restore, Colours, Wrap, Mode, Keys, Ask}
 use Rattle.ans_model.specs.Text.Characters.{shown_bytes}
-use Rattle.ans_model.specs.Text.FaultText.{line_of, fault_text, position_text, fault_line, note_line}
+use Rattle.ans_model.specs.Text.FaultText.{line_of, note_line}
 use Rattle.ans_model.specs.Text.Hexadecimal.{hex_byte}
 use Rattle.ans_model.specs.Text.NeedsText.{needed_parts}
 use Rattle.ans_model.specs.Text.RecordText.{named_line, field_line, comment_lines, record_text}
-use Rattle.ans_model.specs.Text.ReportText.{Heading, Passed, RefusedFor, known_part, known_parts, start_name}
-use Rattle.ans_model.specs.Text.ReportText.{size_text, start_line}
+use Rattle.ans_model.specs.Text.ReportText.{Heading, Passed, RefusedFor}
+use Rattle.ans_model.specs.Text.ReportText.{size_text}
 use Rattle.ans_model.specs.Text.ReportText.{heading_text, rows_of, picture_line, cell_digits, cells_line}
 use Rattle.ans_model.specs.Text.ReportText.{picture_text, cells_text, refusal_text, verdict_text, report_text}
 use Rattle.ans_model.specs.Text.TokensText.{token_name, token_line, token_lines, fault_end, TokensText}
 use Rattle.ans_model.specs.Verdict.Good.{Picture}
 use Rattle.ans_model.proofs.Reading.{reads_bytes}
 use Rattle.ans_options.specs.declared.command.Command.{Command}
-use Rattle.ans_options.specs.declared.command.Command.TheVariants.{Check, Show, Sauce, Tokens, Needs}
+use Rattle.ans_options.specs.declared.command.Command.TheVariants.{Why, Check, Show, Sauce, Tokens, Needs}
 use Rattle.ans_options.specs.declared.command.Form.{Form}
 use Rattle.ans_options.specs.declared.command.Form.TheVariants.{Terminal, Vga, Page}
 use Rattle.ans_options.specs.declared.command.Options.{Options}
@@ -55,113 +49,13 @@ use Rattle.ans_check.specs.declared.exit_status.Ending.TheVariants.{Run, Help, U
 use Rattle.ans_check.specs.Run.{run_error_text}
 use Rattle.std.specs.Prelude.{Ok, Err}
 use Rattle.ans_judge.specs.CleanTexts.{IsCleanText, IsColouredText, is_for_terminal}
+use Rattle.ans_judge.proofs.CleanLines.{fault_line_clean, note_line_clean, refusal_clean, size_clean, needed_parts_clean}
+use Rattle.ans_judge.proofs.CleanLines.{heading_clean, OfBytes, parts_are_bytes, field_is_bytes, trimmed_is_bytes}
+use Rattle.ans_judge.proofs.CleanLines.{named_clean, field_clean}
+use Rattle.ans_judge.proofs.CleanWhy.{why_clean}
 use Rattle.ans_judge.proofs.CleanPictures.{coloured_where_clean, of_rows, page_clean, terminal_coloured}
 use Rattle.ans_judge.proofs.CleanPieces.{clean_nil, clean_append, clean_if, clean_flat_map, plain_text, clean_line}
 use Rattle.ans_judge.proofs.CleanPieces.{clean_decimal, clean_hex_byte, clean_numbers, clean_shown}
-
--- ---- faults and notes
-
-fault_text_clean : (cause : Cause) → IsCleanText (fault_text cause)
-fault_text_clean (UnknownCell row col) = plain_text (codes "F25 cell stays unknown") refl
-fault_text_clean cause = plain_text (fault_text cause) refl
-
-unknown_cell_clean : (row col : ℕ) → IsCleanText (position_text (UnknownCell row col))
-unknown_cell_clean row col =
-    clean_append (codes " (row ") (decimal row ++ (codes ", column " ++ (decimal col ++ codes ")")))
-    (plain_text (codes " (row ") refl)
-    (clean_append (decimal row) (codes ", column " ++ (decimal col ++ codes ")")) (clean_decimal row)
-    (clean_append (codes ", column ") (decimal col ++ codes ")") (plain_text (codes ", column ") refl)
-    (clean_append (decimal col) (codes ")") (clean_decimal col) (plain_text (codes ")") refl))))
-
-position_clean : (cause : Cause) → IsCleanText (position_text cause)
-position_clean (UnknownCell row col) = unknown_cell_clean row col
-position_clean cause = clean_nil
-
-fault_line_clean : (fault : Fault) → IsCleanText (fault_line fault)
-fault_line_clean fault =
-    let told = fault_text fault.cause ++ position_text fault.cause in
-    clean_line (codes "at " ++ (decimal fault.offset ++ (codes ": " ++ told)))
-    (clean_append (codes "at ") (decimal fault.offset ++ (codes ": " ++ told)) (plain_text (codes "at ") refl)
-    (clean_append (decimal fault.offset) (codes ": " ++ told) (clean_decimal fault.offset)
-    (clean_append (codes ": ") told (plain_text (codes ": ") refl)
-    (clean_append (fault_text fault.cause) (position_text fault.cause) (fault_text_clean fault.cause)
-    (position_clean fault.cause)))))
-
-note_line_clean : (note : Note) → IsCleanText (note_line note)
-note_line_clean WidthAssumed = plain_text (note_line WidthAssumed) refl
-note_line_clean note = plain_text (note_line note) refl
-
-refusal_clean : (fault : Fault) → IsCleanText (refusal_text fault)
-refusal_clean fault =
-    clean_append (line_of (codes "verdict: refused")) (fault_line fault)
-    (plain_text (line_of (codes "verdict: refused")) refl) (fault_line_clean fault)
-
--- ---- headings
-
-size_clean : (z : Size) → IsCleanText (size_text z)
-size_clean z =
-    clean_append (decimal z.width) (codes " x " ++ decimal z.lines) (clean_decimal z.width)
-    (clean_append (codes " x ") (decimal z.lines) (plain_text (codes " x ") refl) (clean_decimal z.lines))
-
-parts_clean : (s : Start) → IsCleanText (known_parts s)
-parts_clean s =
-    let colours = known_part s.colours (codes "colours") in
-    let saved = known_part s.saved (codes "saved") in
-    let cursor = known_part s.cursor (codes "cursor") in
-    let wrap = known_part s.wrap (codes "wrap") in
-    clean_append (known_part s.screen (codes "screen")) (cursor ++ (saved ++ (colours ++ wrap)))
-    (clean_if s.screen (codes " screen") [] (plain_text (codes " screen") refl) clean_nil)
-    (clean_append cursor (saved ++ (colours ++ wrap))
-    (clean_if s.cursor (codes " cursor") [] (plain_text (codes " cursor") refl) clean_nil)
-    (clean_append saved (colours ++ wrap)
-    (clean_if s.saved (codes " saved") [] (plain_text (codes " saved") refl) clean_nil)
-    (clean_append colours wrap
-    (clean_if s.colours (codes " colours") [] (plain_text (codes " colours") refl) clean_nil)
-    (clean_if s.wrap (codes " wrap") [] (plain_text (codes " wrap") refl) clean_nil))))
-
-start_name_clean : (s : Start) → IsCleanText (start_name s)
-start_name_clean s =
-    let named = codes "known" ++ known_parts s in
-    let some = if s.screen || s.cursor || s.saved || s.colours || s.wrap then named else codes "any" in
-    clean_if (s.screen && s.cursor && s.saved && s.colours && s.wrap) (codes "cleared") some
-    (plain_text (codes "cleared") refl)
-    (clean_if (s.screen || s.cursor || s.saved || s.colours || s.wrap) (codes "known" ++ known_parts s) (codes "any")
-    (clean_append (codes "known") (known_parts s) (plain_text (codes "known") refl) (parts_clean s))
-    (plain_text (codes "any") refl))
-
-needed_parts_clean : (s : Start) → IsCleanText (needed_parts s)
-needed_parts_clean s =
-    clean_if (s.screen || s.cursor || s.saved || s.colours || s.wrap) (known_parts s) (codes " nothing") (parts_clean s)
-    (plain_text (codes " nothing") refl)
-
-size_line_clean : (z : Size) → IsCleanText (line_of (codes "size: " ++ size_text z))
-size_line_clean z =
-    clean_line (codes "size: " ++ size_text z)
-    (clean_append (codes "size: ") (size_text z) (plain_text (codes "size: ") refl) (size_clean z))
-
--- the lines of the content's length and of the notes
-length_and_notes_clean : (n : ℕ) (noted : List Note)
-    → IsCleanText (line_of (codes "content: " ++ (decimal n ++ codes " bytes")) ++ flat_map note_line noted)
-length_and_notes_clean n noted =
-    clean_append (line_of (codes "content: " ++ (decimal n ++ codes " bytes"))) (flat_map note_line noted)
-    (clean_line (codes "content: " ++ (decimal n ++ codes " bytes"))
-    (clean_append (codes "content: ") (decimal n ++ codes " bytes") (plain_text (codes "content: ") refl)
-    (clean_append (decimal n) (codes " bytes") (clean_decimal n) (plain_text (codes " bytes") refl))))
-    (clean_flat_map note_line noted note_line_clean)
-
-start_line_clean : (start : Option Start) → IsCleanText (start_line start)
-start_line_clean None = clean_nil
-start_line_clean (Some s) =
-    clean_line (codes "start: " ++ start_name s)
-    (clean_append (codes "start: ") (start_name s) (plain_text (codes "start: ") refl) (start_name_clean s))
-
-heading_clean : (h : Heading) → IsCleanText (heading_text h)
-heading_clean h =
-    let length_line = line_of (codes "content: " ++ (decimal h.content_length ++ codes " bytes")) in
-    let after = length_line ++ flat_map note_line h.notes in
-    clean_append (line_of (codes "size: " ++ size_text h.size)) (start_line h.start ++ after) (size_line_clean h.size)
-    (clean_append (start_line h.start) after (start_line_clean h.start)
-    (length_and_notes_clean h.content_length h.notes))
 
 -- ---- pictures
 
@@ -210,70 +104,7 @@ refused_clean : (heading : Heading) (fault : Fault) → IsCleanText (report_text
 refused_clean heading fault =
     clean_append (heading_text heading) (refusal_text fault) (heading_clean heading) (refusal_clean fault)
 
--- ---- bytes of a file
-
--- of two lists of which all are so, all of each are
-all_left : {X : Type 0} (P : X → Type 0) (xs ys : List X) → All P (xs ++ ys) → All P xs
-all_left P [] ys h = All-nil P
-all_left P (x ∷ xs) ys h =
-    All-cons P x xs (All-head P x (xs ++ ys) h) (all_left P xs ys (All-tail P x (xs ++ ys) h))
-
-all_right : {X : Type 0} (P : X → Type 0) (xs ys : List X) → All P (xs ++ ys) → All P ys
-all_right P [] ys h = h
-all_right P (x ∷ xs) ys h = all_right P xs ys (All-tail P x (xs ++ ys) h)
-
-none_of : (xs : List ℕ) → length xs ≡ 0 → All IsByte xs
-none_of [] e = All-nil IsByte
-none_of (x ∷ xs) e = absurd (omega (arith, e))
-
--- the comments are bytes where their block is
-comments_are_bytes : (count : ℕ) (comment_bytes : List ℕ) → length comment_bytes ≡ 64 * count
-    → All IsByte (comment_block count comment_bytes) → All IsByte comment_bytes
-comments_are_bytes count comment_bytes long h = by_test (count == 0) refl h
-  where
-    zero_of : (count == 0) ≡ true → count ≡ 0
-    zero_of e = grind (arith, nat_tests)
-
-    by_test : (none : Bool) → (count == 0) ≡ none → All IsByte (if none then [] else codes "COMNT" ++ comment_bytes)
-        → All IsByte comment_bytes
-    by_test true e g = none_of comment_bytes (omega (arith, long, zero_of e))
-    by_test false e g = all_right IsByte (codes "COMNT") comment_bytes g
-
--- the parts of a file of bytes are bytes
-record OfBytes (apart : FileParts) : Type 0 where
-  comments : All IsByte apart.comment_bytes
-  sauce : All IsByte apart.record_bytes
-
-parts_are_bytes : (file : List ℕ) (apart : FileParts) → Accepts file apart → All IsByte file → OfBytes apart
-parts_are_bytes file apart accepts h =
-    let count = comment_count apart.record_bytes in
-    let block = comment_block count apart.comment_bytes in
-    let all : All IsByte (apart.body ++ (block ++ apart.record_bytes)) =
-    subst (λ (v : List ℕ). All IsByte v) accepts.laid.whole h in
-    let rest = all_right IsByte apart.body (block ++ apart.record_bytes) all in
-    record {
-      comments = comments_are_bytes count apart.comment_bytes accepts.laid.comments
-          (all_left IsByte block apart.record_bytes rest);
-      sauce = all_right IsByte block apart.record_bytes rest;
-    }
-
 -- ---- records
-
-field_is_bytes : (offset size : ℕ) (bytes : List ℕ) → All IsByte bytes → All IsByte (field offset size bytes)
-field_is_bytes offset size bytes h =
-    All-take IsByte size (drop offset bytes) (All-drop IsByte offset bytes h)
-
-trimmed_is_bytes : (text : List ℕ) → All IsByte text → All IsByte (trimmed text)
-trimmed_is_bytes text h = All-take IsByte _ text h
-
-named_clean : (name text : List ℕ) → IsCleanText name → IsCleanText text → IsCleanText (named_line name text)
-named_clean name text h g =
-    clean_line (name ++ (codes ": " ++ text))
-    (clean_append name (codes ": " ++ text) h (clean_append (codes ": ") text (plain_text (codes ": ") refl) g))
-
-field_clean : (name bytes : List ℕ) → IsCleanText name → All IsByte bytes → IsCleanText (field_line name bytes)
-field_clean name bytes h g =
-    named_clean name (shown_bytes (trimmed bytes)) h (clean_shown (trimmed bytes) (trimmed_is_bytes bytes g))
 
 comment_clean : (i : ℕ) (bytes : List ℕ) → All IsByte bytes
     → IsCleanText (named_line (codes "comment") (shown_bytes (comment bytes i)))
@@ -482,6 +313,8 @@ show_coloured file start form false text bytes h =
 
 clean_by : (command : Command) (start : Start) (cells : Bool) (file text : List ℕ) (passed : Bool) → All IsByte file
     → ReportsBy command start cells file passed text → (is_for_terminal command && passed) ≡ false → IsCleanText text
+clean_by Why start cells file text passed bytes h other =
+    subst IsCleanText (sym h.text_is) (why_clean file h.said bytes h.is_true)
 clean_by Check start cells file text passed bytes h other = check_clean file start cells passed text h
 clean_by (Show form) start cells file text passed bytes h other = show_clean file start form passed text bytes h other
 clean_by Sauce start cells file text passed bytes h other = sauce_clean file passed text bytes h
@@ -495,6 +328,8 @@ reports_clean options file text passed bytes h other =
 
 coloured_by : (command : Command) (start : Start) (cells : Bool) (file text : List ℕ) (passed : Bool) → All IsByte file
     → ReportsBy command start cells file passed text → IsColouredText text
+coloured_by Why start cells file text passed bytes h =
+    coloured_where_clean text (subst IsCleanText (sym h.text_is) (why_clean file h.said bytes h.is_true))
 coloured_by Check start cells file text passed bytes h =
     coloured_where_clean text (check_clean file start cells passed text h)
 coloured_by (Show form) start cells file text passed bytes h = show_coloured file start form passed text bytes h

@@ -73,7 +73,7 @@ covers_through a b c h g = record {
 }
 
 -- truths that imply each other are one
-same_truth : (p q : Bool) → (IsTrue p → IsTrue q) → (IsTrue q → IsTrue p) → p ≡ q
+pub same_truth : (p q : Bool) → (IsTrue p → IsTrue q) → (IsTrue q → IsTrue p) → p ≡ q
 same_truth true q h g = sym (h refl)
 same_truth false true h g = g refl
 same_truth false false h g = refl

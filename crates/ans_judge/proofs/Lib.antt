@@ -1,7 +1,14 @@
 pub mod Covering
 pub mod NeedsAndChecks
 pub mod OneReport
+pub mod OneBlamed
+pub mod OneEvidence
+pub mod OneFound
+pub mod OneHints
+pub mod OneWhy
 pub mod CleanPieces
 pub mod CleanPictures
+pub mod CleanLines
+pub mod CleanWhy
 pub mod CleanReports
 pub mod CleanBytes

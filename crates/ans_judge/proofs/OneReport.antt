@@ -24,13 +24,14 @@ use Rattle.ans_options.specs.declared.command.Form.{Form}
 use Rattle.ans_options.specs.declared.command.Command.{Command}
 use Rattle.ans_options.specs.declared.command.Options.{Options}
 use Rattle.ans_check.specs.CommandText.{Reports, ReportsBy, ReportsCheck, ReportsContent, ReportsFault, ReportsLeast}
-use Rattle.ans_check.specs.CommandText.{ReportsNeeds, ReportsPass, ReportsPicture, ReportsShow}
+use Rattle.ans_check.specs.CommandText.{ReportsNeeds, ReportsPass, ReportsPicture, ReportsShow, ReportsWhy}
 use Rattle.ans_check.specs.CommandText.{ReportsRecordFault, ReportsSauce, ReportsTokens, heading, shown_text}
 use Rattle.ans_check.specs.FileVerdict.{Passes}
 use Rattle.ans_check.specs.FileNeeds.{NeedsClass}
 use Rattle.ans_check.specs.FileVerdict.{Deserves, IsGoodFile, IsRefusedFor, stated_size}
 use Rattle.ans_judge.proofs.Covering.{covers_all_known, covers_both_ways}
 use Rattle.ans_judge.proofs.NeedsAndChecks.{good_where_covered}
+use Rattle.ans_judge.proofs.OneWhy.{one_why}
 use Rattle.ans_play.proofs.OneEnd.{one_picture}
 
 -- two answers, and their texts, are one
@@ -222,20 +223,29 @@ one_needs file true false text other h g = absurd (g.0 (found_is_good file text 
 one_needs file false true text other h g = absurd (h.0 (found_is_good file other g))
 one_needs file false false text other h g = (refl, one_fault file all_known None text other h.1 g.1)
 
+-- ---- why
+
+one_why_text : (file : List ℕ) (passed again : Bool) (text other : List ℕ) → ReportsWhy file passed text
+    → ReportsWhy file again other → IsOne passed again text other
+one_why_text file passed again text other h g =
+    let same = one_why file h.said g.said h.is_true g.is_true in (
+      h.passed_is ∙ same.0 ∙ sym g.passed_is,
+      h.text_is ∙ same.1 ∙ sym g.text_is,
+    )
+
 -- ---- each command
 
 one_by : (command : Command) (start : Start) (cells : Bool) (file text other : List ℕ) (passed again : Bool)
-    → command ≢ Why → ReportsBy command start cells file passed text → ReportsBy command start cells file again other
+    → ReportsBy command start cells file passed text → ReportsBy command start cells file again other
     → IsOne passed again text other
-one_by Why start cells file text other passed again others h g = absurd (others refl)
-one_by Check start cells file text other passed again others h g = one_check file start cells passed again text other h g
-one_by (Show form) start cells file text other passed again others h g =
-    one_show file start form passed again text other h g
-one_by Sauce start cells file text other passed again others h g = one_sauce file passed again text other h g
-one_by Tokens start cells file text other passed again others h g = one_tokens file passed again text other h g
-one_by Needs start cells file text other passed again others h g = one_needs file passed again text other h g
+one_by Why start cells file text other passed again h g = one_why_text file passed again text other h g
+one_by Check start cells file text other passed again h g = one_check file start cells passed again text other h g
+one_by (Show form) start cells file text other passed again h g = one_show file start form passed again text other h g
+one_by Sauce start cells file text other passed again h g = one_sauce file passed again text other h g
+one_by Tokens start cells file text other passed again h g = one_tokens file passed again text other h g
+one_by Needs start cells file text other passed again h g = one_needs file passed again text other h g
 
-pub one_report : (options : Options) (file text other : List ℕ) (passed again : Bool) → options.command ≢ Why
+pub one_report : (options : Options) (file text other : List ℕ) (passed again : Bool)
     → Reports options file passed text → Reports options file again other → (passed ≡ again) × (text ≡ other)
-one_report options file text other passed again others h g =
-    one_by options.command options.start options.cells file text other passed again others h g
+one_report options file text other passed again h g =
+    one_by options.command options.start options.cells file text other passed again h g
