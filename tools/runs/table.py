@@ -54,6 +54,12 @@ HI_RECORD = (
 )
 HI_TOKENS = b"0 1 glyph 48\n1 1 glyph 69\n"
 HI_SHOWN = b"\x1b[0;37;40mHi\x1b[0m\n"
+HI_WHY = (
+    b"size: 2 x 1\nverdict: pass\nneeds: cursor colours\ntaller: yes\n"
+    b"at 0: F22 print at an unknown place\nbytes: H\n"
+    b"low start: row 1, column 1\nhigh start: row 2, column 2\n"
+    b"mend: begin with ESC[?7h ESC[0m ESC[2J ESC[s\n"
+)
 HI_NEEDS = b"size: 2 x 1\ncontent: 2 bytes\nneeds: cursor colours\n"
 NO_RECORD = b"verdict: refused\nat 127: F1 no SAUCE record\n"
 
@@ -68,6 +74,7 @@ HELP = b"""Checks ANSI art files that end in a SAUCE record
 Usage: anscheck <COMMAND>
 
 Commands:
+  why     Say why a drawing is refused, what it relies on, and how to mend it
   needs   Print what a drawing relies on: screen, cursor, saved, colours, wrap
   check   Check that a file always shows the same picture, and print it
   show    Show the picture in its colours, for a terminal or as a page
@@ -79,7 +86,7 @@ Options:
   -V, --version  Print version
 
 Examples:
-  anscheck needs drawing.ans
+  anscheck why drawing.ans
   anscheck check --cleared drawing.ans
   anscheck show drawing.ans
   anscheck help check
@@ -133,6 +140,7 @@ def file_help(about, command):
 
 
 SAUCE_HELP = file_help("Print what a file's SAUCE record says", "sauce")
+WHY_HELP = file_help("Say why a drawing is refused, what it relies on, and how to mend it", "why")
 NEEDS_HELP = file_help("Print what a drawing relies on: screen, cursor, saved, colours, wrap", "needs")
 TOKENS_HELP = file_help("Print the bytes and the escape sequences of a file, one a line", "tokens")
 VERSION = b"anscheck 0.1.0 (rattle-kit-13f)\n"
@@ -175,6 +183,13 @@ RUNS = [
     Run("record of a named file", ["sauce", HI], 0, HI_RECORD),
     Run("tokens of standard input", ["tokens"], 0, HI_TOKENS, stdin=HI),
     Run("tokens of a named file", ["tokens", HI], 0, HI_TOKENS),
+    Run("why, of standard input", ["why"], 0, HI_WHY, stdin=HI),
+    Run("why, of a named file", ["why", HI], 0, HI_WHY),
+    Run("why, of a drawing that is refused", ["why", "data/rows.ans"], 1,
+        b"size: 80 x 5\nverdict: refused\nat 249: F21 scrolls\nbytes: <LF>\n"
+        b"cleared start: row 6, column 1\nlines: 10\n"
+        b"hint: a full row and a line end take two rows, 3 times, first at 84\n"),
+    Run("why, without a record", ["why"], 1, NO_RECORD, stdin=b"S" * 127),
     Run("needs of standard input", ["needs"], 0, HI_NEEDS, stdin=HI),
     Run("needs of a named file", ["needs", HI], 0, HI_NEEDS),
     Run("needs of a drawing that needs nothing", ["needs", BOX], 0,
@@ -255,6 +270,9 @@ RUNS = [
         stderr=b"anscheck: cannot write the report\n", output="/dev/full"),
     Run("tokens on a full device", ["tokens", HI], 2,
         stderr=b"anscheck: cannot write the report\n", output="/dev/full"),
+    Run("why, of a folder", ["why", "data"], 2, stderr=b"anscheck: cannot read the file\n"),
+    Run("why, on a full device", ["why", HI], 2,
+        stderr=b"anscheck: cannot write the report\n", output="/dev/full"),
     Run("needs on a full device", ["needs", HI], 2,
         stderr=b"anscheck: cannot write the report\n", output="/dev/full"),
     Run("help on a full device", ["--help"], 2,
@@ -280,6 +298,7 @@ RUNS = [
     Run("help of check", ["check", "--help"], 0, CHECK_HELP, stdin=HI),
     Run("help of show", ["show", "--help"], 0, SHOW_HELP, stdin=HI),
     Run("help of sauce", ["sauce", "-h"], 0, SAUCE_HELP, stdin=HI),
+    Run("help of why", ["why", "--help"], 0, WHY_HELP, stdin=HI),
     Run("help of needs", ["needs", "--help"], 0, NEEDS_HELP, stdin=HI),
     Run("an unknown flag", ["check", "--bogus"], 2, stdin=HI, stderr=mistake(
         "unexpected argument '--bogus' found\n\n"
@@ -304,7 +323,7 @@ RUNS = [
         f"unexpected argument '{HI}' found", CHECK_USAGE)),
     Run("no subcommand", [], 2, stdin=HI, stderr=mistake(
         "'anscheck' requires a subcommand but one was not provided\n"
-        "  [subcommands: needs, check, show, sauce, tokens]", "<COMMAND>")),
+        "  [subcommands: why, needs, check, show, sauce, tokens]", "<COMMAND>")),
     Run("an unknown subcommand", ["other", HI], 2, stderr=mistake(
         "unrecognized subcommand 'other'", "<COMMAND>")),
     Run("a word that is not text", ["check", b"\xff"], 2,
