@@ -43,7 +43,7 @@ STRING = object()
 
 
 class Refused(Exception):
-    """The number of the fault that ends the reading."""
+    """The number of the fault that ends the reading, and the place after the byte that decides it."""
 
 
 def read_members(bytes_, at):
@@ -53,36 +53,36 @@ def read_members(bytes_, at):
         char = chr(bytes_[at])
         if char in "0123456789":
             if member is STRING:
-                raise Refused(9)
+                raise Refused(9, at + 1)
             member, begun = 10 * (member or 0) + int(char), True
             if member > 255:
-                raise Refused(10)
+                raise Refused(10, at + 1)
         elif char == ";":
             members.append(member)
             member, begun = None, True
             if len(members) == 16:
-                raise Refused(11)
+                raise Refused(11, at + 1)
         elif char in "\"'":
             if member is not None:
-                raise Refused(9)
+                raise Refused(9, at + 1)
             at = bytes_.find(bytes_[at], at + 1)
             if at < 0:
-                raise Refused(12)
+                raise Refused(12, len(bytes_))
             member, begun = STRING, True
         elif re.fullmatch("[A-Za-z]", char):
             return members + [member] if begun else members, at
         else:
-            raise Refused(9)
+            raise Refused(9, at + 1)
         at += 1
-    raise Refused(12)
+    raise Refused(12, len(bytes_))
 
 
-def meaning(mark, members, letter):
-    """The token of a sequence, by its name and its numbers."""
+def meaning(mark, members, letter, after):
+    """The token of a sequence, by its name and its numbers. The place after it is for a refusal."""
     if letter not in "ABCDHfJKmsuhlpn" or (mark and letter not in "hl"):
-        raise Refused(13)
+        raise Refused(13, after)
     if STRING in members and letter != "p":
-        raise Refused(14)
+        raise Refused(14, after)
     counted = [member or 1 for member in members] + [1, 1]
     if letter in "ABCD" and len(members) <= 1:
         return letter, counted[0]
@@ -102,22 +102,22 @@ def meaning(mark, members, letter):
         return ("keys",)
     if letter == "n" and members == [6]:
         return ("ask",)
-    raise Refused(14)
+    raise Refused(14, after)
 
 
 def read_sequence(content, at):
     """The token that begins with the ESC at this place, and the place after it."""
     rest = at + 1
     if content[rest:rest + 1] != b"[":
-        raise Refused(9 if rest < len(content) else 12)
+        raise Refused(9, rest + 1) if rest < len(content) else Refused(12, rest)
     rest += 1
     mark = content[rest:rest + 1] in (b"=", b"?")
     members, letter = read_members(content, rest + mark)
-    return meaning(mark, members, chr(content[letter])), letter + 1
+    return meaning(mark, members, chr(content[letter]), letter + 1), letter + 1
 
 
 def read(content):
-    """Each token with its offset, and the fault that ends the reading with its own."""
+    """Each token with its offset; and of a refusal its offset, its fault, and the place after what decides it."""
     tokens, at = [], 0
     while at < len(content):
         byte = content[at]
@@ -129,7 +129,7 @@ def read(content):
         try:
             token, after = read_sequence(content, at)
         except Refused as refused:
-            return tokens, (at, refused.args[0])
+            return tokens, (at, *refused.args)
         tokens.append((at, token))
         at = after
     return tokens, None
@@ -277,20 +277,35 @@ def play(token, machines):
     return fault
 
 
-def answer(content, machines):
-    """The fault's line, or the picture as lines of cells."""
+def fault_in(content, machines):
+    """The offset and the number of the first fault of a token or of the reading, or None.
+
+    The machines are left as they stand before it: in a tab before the blank that decides."""
     tokens, ending = read(content)
     for offset, token in tokens:
         fault = play(token, machines)
         if fault:
-            return f"at {offset}: F{fault} {FAULTS[fault]}"
-    if ending:
-        return f"at {ending[0]}: F{ending[1]} {FAULTS[ending[1]]}"
+            return offset, fault
+    return ending and ending[:2]
+
+
+def unknown_cell(machines):
+    """The row and the column of the first cell in which the machines differ, or None."""
     for row in range(machines[0].lines):
         for column in range(machines[0].width):
             if len({machine.rows[row][column] for machine in machines}) > 1:
-                place = f"(row {row + 1}, column {column + 1})"
-                return f"at {len(content)}: F25 {FAULTS[25]} {place}"
+                return row, column
+    return None
+
+
+def answer(content, machines):
+    """The fault's line, or the picture as lines of cells."""
+    fault = fault_in(content, machines)
+    if fault:
+        return f"at {fault[0]}: F{fault[1]} {FAULTS[fault[1]]}"
+    cell = unknown_cell(machines)
+    if cell:
+        return f"at {len(content)}: F25 {FAULTS[25]} (row {cell[0] + 1}, column {cell[1] + 1})"
     picture = machines[0].rows[:-1]
     return ["".join(f"{byte:02x}{attribute:02x}" for byte, attribute in row) for row in picture]
 
@@ -319,11 +334,11 @@ def needs_answer(chance, content, width, lines):
     return " ".join(["needs:"] + [part for part in PARTS if part in least]) if least else "needs: nothing"
 
 
-def printed_lines(words, content, width, lines):
+def printed_lines(words, content, width, lines, flags=0, font=b""):
     """What the program prints of the content as a file with a plain record, and its status."""
     record = (
         b"SAUCE00" + b" " * 75 + b"19960101" + struct.pack("<I", len(content))
-        + bytes([1, 1]) + struct.pack("<4H", width, lines, 0, 0) + bytes(24)
+        + bytes([1, 1]) + struct.pack("<4H", width, lines, 0, 0) + bytes([0, flags]) + font.ljust(22, b"\0")
     )
     run = subprocess.run(words, input=content + b"\x1a" + record, stdout=subprocess.PIPE)
     return run.stdout.decode().splitlines(), run.returncode
