@@ -230,11 +230,11 @@ fn run_command<W: Write>(
 
 /// Reads the whole input, and writes what the options ask of it: the report of a check, the picture
 /// of a pass in colour, the text of the record (SAUCE 00.5), the tokens of the content, what the
-/// content needs, or why the file is refused and what it relies on. Where the content is refused, what should show its picture reports that as a check
-/// does. Where the record or the layout is refused, F1 to F8, the two lines of the refusal are written
-/// instead. `Ok` says whether the file passes: its content is found good, its record is accepted, all
-/// of its content is read as tokens, or its content is good from the cleared start, so that it is
-/// known what it needs.
+/// content needs, or why the file is refused and what it relies on. Where the content is refused,
+/// what should show its picture reports that as a check does. Where the record or the layout is
+/// refused, F1 to F8, the two lines of the refusal are written instead. `Ok` says whether the file
+/// passes: its content is found good, its record is accepted, all of its content is read as tokens,
+/// or its content is good from the cleared start, so that it is known what it needs.
 ///
 /// `Read` comes exactly where the reader failed in the call, `Write` exactly where the writer did,
 /// and `TooLong` as soon as more than 16,777,216 bytes were read. `Memory` comes where memory runs

@@ -1,5 +1,6 @@
 -- What is read first at a fault is what is to blame for it.
-use Rattle.std.proofs.Common.{◌≡◌, ◌⊎◌, inl, inr, ℕ, ◌+◌, ◌≤◌, ◌<◌, List, [], ◌∷◌, ◌++◌, length, take, drop, get_or, refl}
+use Rattle.std.proofs.Common.{◌≡◌, ◌⊎◌, inl, inr, ℕ, ◌+◌, ◌≤◌, ◌<◌, List, [], ◌∷◌, ◌++◌, length, take, drop}
+use Rattle.std.proofs.Common.{get_or, refl}
 use Rattle.std.proofs.Common.{sym, ap, ◌∙◌, arith, subst, None}
 use Rattle.std.proofs.Math.Seq.{drop-append_seam, drop-length}
 use Rattle.std.proofs.lemmas.List.{take_all, take_more, take-append-drop}
@@ -32,7 +33,12 @@ pub record IsOpenSoFar (bytes : List ℕ) (i : ℕ) (s : ScannerView) : Type 0 w
 
 pub none_open : (bytes : List ℕ) (s : ScannerView) → s ≡ new_scanner → IsOpenSoFar bytes 0 s
 none_open bytes s e =
-    rw e (record { within = omega arith; offset = refl; unrefused = refl; holds = record { keeps = refl; begun_at = refl } })
+    rw e (record {
+      within = omega arith;
+      offset = refl;
+      unrefused = refl;
+      holds = record { keeps = refl; begun_at = refl };
+    })
 
 module _ (bytes : List ℕ) (i : ℕ) (old : ScannerView) (h : IsOpenSoFar bytes i old) (lt : i < length bytes) where
   next_byte : take i bytes ++ get_or bytes i 0 ∷ [] ≡ take (i + 1) bytes

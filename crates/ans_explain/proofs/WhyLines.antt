@@ -12,11 +12,13 @@ pub named_line_is : (name text : List ℕ) → name ++ (codes ": " ++ (text ++ c
 named_line_is name text = simp append_assoc
 
 -- the same with the key in one piece
-pub keyed_line_is : (key name text : List ℕ) → key ≡ name ++ codes ": " → key ++ (text ++ codes "\n") ≡ named_line name text
+pub keyed_line_is : (key name text : List ℕ) → key ≡ name ++ codes ": "
+    → key ++ (text ++ codes "\n") ≡ named_line name text
 keyed_line_is key name text e = rw e (simp append_assoc)
 
 -- ---- quoted bytes
-pub quoted_long : (bytes : List ℕ) → 32 < length bytes → flat_map quoted_byte (take 32 bytes) ++ codes " .." ≡ quoted bytes
+pub quoted_long : (bytes : List ℕ) → 32 < length bytes
+    → flat_map quoted_byte (take 32 bytes) ++ codes " .." ≡ quoted bytes
 quoted_long bytes lt = rw (lt-ltb 32 (length bytes) lt) refl
 
 pub quoted_short : (bytes : List ℕ) → length bytes ≤ 32 → flat_map quoted_byte bytes ≡ quoted bytes

@@ -9,6 +9,7 @@ returns c =
     let a = c.args in
     let rest : take (length a.content.now - a.fault.offset) (drop a.fault.offset a.content.now)
     ≡ drop a.fault.offset a.content.now =
-    take_all (length a.content.now - a.fault.offset) (drop a.fault.offset a.content.now) (simp length-drop (omega arith)) in
+    take_all (length a.content.now - a.fault.offset) (drop a.fault.offset a.content.now)
+    (simp length-drop (omega arith)) in
     to_blame a.size a.start a.content.now a.fault c.read_first.result.now c.requires.deserved
     (subst (λ (v : List ℕ). IsReadFirst v c.read_first.result.now) rest c.read_first.ensures)

@@ -29,4 +29,5 @@ loop-i-preserved c =
     (rw c.in-Ok-None.field-0-is at (byte.unfinished h.unrefused)) byte.taken byte.accepted
 
 pub returns : goal.returns
-returns c = all_read c.args.bytes.now c.loop-i.i c.loop-i.scanner c.loop-i.invariant (omega (arith, c.loop-i-test.false))
+returns c =
+    all_read c.args.bytes.now c.loop-i.i c.loop-i.scanner c.loop-i.invariant (omega (arith, c.loop-i-test.false))
