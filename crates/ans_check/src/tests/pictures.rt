@@ -19,15 +19,6 @@ const FROM_ANY: Options = Options {
     ..SHOW
 };
 
-/// A page, from the starts whose cursor is known.
-const PAGE_FROM_KNOWN: Options = Options {
-    start: Start {
-        cursor: true,
-        ..Start::ANY
-    },
-    ..PAGE
-};
-
 /// The content, one end mark, and a record of this size, with these flags and this title.
 fn drawing(
     rt: &(impl Abort + AllocGlobal),
@@ -56,7 +47,7 @@ fn drawing(
 }
 
 /// A content, its size, the record's flags, what is asked, whether the file passes, and the text.
-static TEXTS: [(&[u8], (u16, u16), u8, Options, bool, &[u8]); 16] = [
+static TEXTS: [(&[u8], (u16, u16), u8, Options, bool, &[u8]); 12] = [
     (b"Hi", (2, 1), 0, SHOW, true, b"\x1b[0;37;40mHi\x1b[0m\n"),
     (
         b"\x1b[1;5;33;44mA",
@@ -138,54 +129,6 @@ static TEXTS: [(&[u8], (u16, u16), u8, Options, bool, &[u8]); 16] = [
         FROM_ANY,
         true,
         b"\x1b[0;37;40mHi\x1b[0m\n",
-    ),
-    (
-        b"Hi",
-        (2, 1),
-        0,
-        FROM_ANY,
-        false,
-        b"size: 2 x 1\n\
-        start: any\n\
-        content: 2 bytes\n\
-        verdict: refused\n\
-        at 0: F22 print at an unknown place\n",
-    ),
-    (
-        b"Hi",
-        (2, 1),
-        0,
-        PAGE_FROM_KNOWN,
-        false,
-        b"size: 2 x 1\n\
-        start: known cursor\n\
-        content: 2 bytes\n\
-        verdict: refused\n\
-        at 2: F25 cell stays unknown (row 1, column 1)\n",
-    ),
-    (
-        b"Hi!",
-        (2, 1),
-        1,
-        VGA,
-        false,
-        b"size: 2 x 1\n\
-        start: cleared\n\
-        content: 3 bytes\n\
-        verdict: refused\n\
-        at 2: F20 print below the stated lines\n",
-    ),
-    (
-        b"H\x1b[3",
-        (2, 1),
-        0,
-        PAGE,
-        false,
-        b"size: 2 x 1\n\
-        start: cleared\n\
-        content: 4 bytes\n\
-        verdict: refused\n\
-        at 1: F12 content ends in a sequence\n",
     ),
     (
         b"Hi",

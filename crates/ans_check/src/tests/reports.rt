@@ -1,6 +1,6 @@
 //! Reports of checks, byte for byte.
 use super::{ANY, CLEARED, expect_run, file_of_size, plain_file};
-use crate::{Options, Start};
+use crate::{Command, Form, Options, Start};
 
 /// A check from the cleared screen that tells the cells.
 const CELLS: Options = Options {
@@ -8,15 +8,49 @@ const CELLS: Options = Options {
     ..CLEARED
 };
 
+/// Checks from the starts whose cursor is known, and from those whose colours are known too.
+const FROM_KNOWN_CURSOR: Options = Options {
+    start: Start {
+        cursor: true,
+        ..Start::ANY
+    },
+    ..ANY
+};
+
+const FROM_KNOWN_CURSOR_AND_COLOURS: Options = Options {
+    start: Start {
+        cursor: true,
+        colours: true,
+        ..Start::ANY
+    },
+    ..ANY
+};
+
+macro_rules! report {
+    ($size:literal, $start:literal, $bytes:literal, $verdict:literal) => {
+        concat!(
+            "size: ",
+            $size,
+            "\nstart: ",
+            $start,
+            "\ncontent: ",
+            $bytes,
+            " bytes\nverdict: ",
+            $verdict,
+            "\n"
+        )
+    };
+}
+
 /// The content, its width and lines, what is asked, whether it passes, and the report.
-static REPORTS: [(&[u8], u16, u16, Options, bool, &[u8]); 11] = [
+static REPORTS: [(&[u8], u16, u16, Options, bool, &str); 16] = [
     (
         b"\x1b[?7h\x1b[0m\x1b[2JHi",
         2,
         1,
         ANY,
         true,
-        b"size: 2 x 1\nstart: any\ncontent: 15 bytes\nverdict: pass\npicture:\nHi\n",
+        report!("2 x 1", "any", "15", "pass\npicture:\nHi"),
     ),
     (
         b"Hi",
@@ -24,11 +58,12 @@ static REPORTS: [(&[u8], u16, u16, Options, bool, &[u8]); 11] = [
         1,
         ANY,
         false,
-        b"size: 2 x 1\n\
-        start: any\n\
-        content: 2 bytes\n\
-        verdict: refused\n\
-        at 0: F22 print at an unknown place\n",
+        report!(
+            "2 x 1",
+            "any",
+            "2",
+            "refused\nat 0: F22 print at an unknown place"
+        ),
     ),
     (
         b"Hi",
@@ -36,7 +71,7 @@ static REPORTS: [(&[u8], u16, u16, Options, bool, &[u8]); 11] = [
         1,
         CLEARED,
         true,
-        b"size: 2 x 1\nstart: cleared\ncontent: 2 bytes\nverdict: pass\npicture:\nHi\n",
+        report!("2 x 1", "cleared", "2", "pass\npicture:\nHi"),
     ),
     (
         b"",
@@ -44,11 +79,12 @@ static REPORTS: [(&[u8], u16, u16, Options, bool, &[u8]); 11] = [
         2,
         ANY,
         false,
-        b"size: 3 x 2\n\
-        start: any\n\
-        content: 0 bytes\n\
-        verdict: refused\n\
-        at 0: F25 cell stays unknown (row 1, column 1)\n",
+        report!(
+            "3 x 2",
+            "any",
+            "0",
+            "refused\nat 0: F25 cell stays unknown (row 1, column 1)"
+        ),
     ),
     (
         b"\xdb\x7f",
@@ -56,13 +92,7 @@ static REPORTS: [(&[u8], u16, u16, Options, bool, &[u8]); 11] = [
         2,
         CLEARED,
         true,
-        b"size: 2 x 2\n\
-        start: cleared\n\
-        content: 2 bytes\n\
-        verdict: pass\n\
-        picture:\n\
-        \xe2\x96\x88\xe2\x8c\x82\n\
-        \x20\x20\n",
+        report!("2 x 2", "cleared", "2", "pass\npicture:\n█⌂\n  "),
     ),
     (
         b"",
@@ -70,7 +100,7 @@ static REPORTS: [(&[u8], u16, u16, Options, bool, &[u8]); 11] = [
         1,
         CLEARED,
         true,
-        b"size: 1 x 1\nstart: cleared\ncontent: 0 bytes\nverdict: pass\npicture:\n \n",
+        report!("1 x 1", "cleared", "0", "pass\npicture:\n "),
     ),
     (
         b"Hi!",
@@ -78,11 +108,12 @@ static REPORTS: [(&[u8], u16, u16, Options, bool, &[u8]); 11] = [
         1,
         CELLS,
         false,
-        b"size: 2 x 1\n\
-        start: cleared\n\
-        content: 3 bytes\n\
-        verdict: refused\n\
-        at 2: F20 print below the stated lines\n",
+        report!(
+            "2 x 1",
+            "cleared",
+            "3",
+            "refused\nat 2: F20 print below the stated lines"
+        ),
     ),
     (
         b"H\x1b[3",
@@ -90,49 +121,33 @@ static REPORTS: [(&[u8], u16, u16, Options, bool, &[u8]); 11] = [
         1,
         CELLS,
         false,
-        b"size: 2 x 1\n\
-        start: cleared\n\
-        content: 4 bytes\n\
-        verdict: refused\n\
-        at 1: F12 content ends in a sequence\n",
+        report!(
+            "2 x 1",
+            "cleared",
+            "4",
+            "refused\nat 1: F12 content ends in a sequence"
+        ),
     ),
     (
         b"Hi",
         2,
         1,
-        Options {
-            start: Start {
-                cursor: true,
-                colours: true,
-                ..Start::ANY
-            },
-            ..ANY
-        },
+        FROM_KNOWN_CURSOR_AND_COLOURS,
         true,
-        b"size: 2 x 1\n\
-        start: known cursor colours\n\
-        content: 2 bytes\n\
-        verdict: pass\n\
-        picture:\n\
-        Hi\n",
+        report!("2 x 1", "known cursor colours", "2", "pass\npicture:\nHi"),
     ),
     (
         b"Hi",
         2,
         1,
-        Options {
-            start: Start {
-                cursor: true,
-                ..Start::ANY
-            },
-            ..ANY
-        },
+        FROM_KNOWN_CURSOR,
         false,
-        b"size: 2 x 1\n\
-        start: known cursor\n\
-        content: 2 bytes\n\
-        verdict: refused\n\
-        at 2: F25 cell stays unknown (row 1, column 1)\n",
+        report!(
+            "2 x 1",
+            "known cursor",
+            "2",
+            "refused\nat 2: F25 cell stays unknown (row 1, column 1)"
+        ),
     ),
     (
         b"\tx",
@@ -140,99 +155,97 @@ static REPORTS: [(&[u8], u16, u16, Options, bool, &[u8]); 11] = [
         1,
         CLEARED,
         true,
-        b"size: 10 x 1\n\
-        start: cleared\n\
-        content: 2 bytes\n\
-        verdict: pass\n\
-        picture:\n\
-        \x20       x \n",
+        report!("10 x 1", "cleared", "2", "pass\npicture:\n        x "),
     ),
-];
-
-#[test]
-fn a_file_is_read_and_reported_on(rt: HostRuntime) {
-    for (content, width, lines, asked, passes, text) in &REPORTS {
-        let file = plain_file(&rt, content, *width, *lines);
-        expect_run(&rt, file.as_slice(), asked, 256, Ok(*passes), text);
-    }
-}
-
-/// The content, its width and lines, and the report of its pass with the cells.
-static WITH_CELLS: [(&[u8], u16, u16, &[u8]); 5] = [
     (
         b"Hi",
         2,
         1,
-        b"size: 2 x 1\n\
-        start: cleared\n\
-        content: 2 bytes\n\
-        verdict: pass\n\
-        picture:\n\
-        Hi\n\
-        cells:\n\
-        48076907\n",
+        CELLS,
+        true,
+        report!(
+            "2 x 1",
+            "cleared",
+            "2",
+            "pass\npicture:\nHi\ncells:\n48076907"
+        ),
     ),
     (
         b"\x1b[0;1;5;33;44mA",
         1,
         1,
-        b"size: 1 x 1\n\
-        start: cleared\n\
-        content: 15 bytes\n\
-        verdict: pass\n\
-        picture:\n\
-        A\n\
-        cells:\n\
-        419e\n",
+        CELLS,
+        true,
+        report!("1 x 1", "cleared", "15", "pass\npicture:\nA\ncells:\n419e"),
     ),
     (
         b"abc\x1b[1;2H\x1b[44m\x1b[K",
         3,
         1,
-        b"size: 3 x 1\n\
-        start: cleared\n\
-        content: 17 bytes\n\
-        verdict: pass\n\
-        picture:\n\
-        a  \n\
-        cells:\n\
-        610720172017\n",
+        CELLS,
+        true,
+        report!(
+            "3 x 1",
+            "cleared",
+            "17",
+            "pass\npicture:\na  \ncells:\n610720172017"
+        ),
     ),
     (
         b"\xdb\x00",
         2,
         1,
-        b"size: 2 x 1\n\
-        start: cleared\n\
-        content: 2 bytes\n\
-        verdict: pass\n\
-        picture:\n\
-        \xe2\x96\x88 \n\
-        cells:\n\
-        db070007\n",
+        CELLS,
+        true,
+        report!(
+            "2 x 1",
+            "cleared",
+            "2",
+            "pass\npicture:\n█ \ncells:\ndb070007"
+        ),
     ),
     (
         b"ab",
         1,
         2,
-        b"size: 1 x 2\n\
-        start: cleared\n\
-        content: 2 bytes\n\
-        verdict: pass\n\
-        picture:\n\
-        a\n\
-        b\n\
-        cells:\n\
-        6107\n\
-        6207\n",
+        CELLS,
+        true,
+        report!(
+            "1 x 2",
+            "cleared",
+            "2",
+            "pass\npicture:\na\nb\ncells:\n6107\n6207"
+        ),
     ),
 ];
 
+/// What a refusal is reported as is the same where the picture is asked for, in any form.
 #[test]
-fn cells_are_told_row_by_row(rt: HostRuntime) {
-    for (content, width, lines, text) in &WITH_CELLS {
+fn a_file_is_read_and_reported_on(rt: HostRuntime) {
+    for (content, width, lines, asked, passes, text) in &REPORTS {
         let file = plain_file(&rt, content, *width, *lines);
-        expect_run(&rt, file.as_slice(), &CELLS, 256, Ok(true), text);
+        expect_run(
+            &rt,
+            file.as_slice(),
+            asked,
+            256,
+            Ok(*passes),
+            text.as_bytes(),
+        );
+        if !*passes {
+            let shown = Options {
+                command: Command::Show(Form::Page),
+                ..*asked
+            };
+            expect_run(
+                &rt,
+                file.as_slice(),
+                &shown,
+                256,
+                Ok(false),
+                text.as_bytes(),
+            );
+        }
     }
 }
 
