@@ -224,20 +224,14 @@ static TEXTS: [(&[u8], u16, u16, bool, &[u8]); 6] = [
         2,
         1,
         false,
-        b"size: 2 x 1\n\
-        content: 3 bytes\n\
-        verdict: refused\n\
-        at 2: F20 print below the stated lines\n",
+        b"size: 2 x 1\ncontent: 3 bytes\nverdict: refused\nat 2: F20 print below the stated lines\n",
     ),
     (
         b"H\x1b[3",
         2,
         1,
         false,
-        b"size: 2 x 1\n\
-        content: 4 bytes\n\
-        verdict: refused\n\
-        at 1: F12 content ends in a sequence\n",
+        b"size: 2 x 1\ncontent: 4 bytes\nverdict: refused\nat 1: F12 content ends in a sequence\n",
     ),
 ];
 

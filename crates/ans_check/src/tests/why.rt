@@ -2,8 +2,11 @@
 use super::{WHY, expect_run, file_of, plain_file};
 use std::process::Abort;
 
-/// A content, its width and lines, and what is said of it where it is refused.
-static REFUSED: [(&[u8], u16, u16, &str); 18] = [
+/// A content, its width and lines, and what is said of it.
+type Row = (&'static [u8], u16, u16, &'static str);
+
+/// What is refused.
+static REFUSED: [Row; 18] = [
     (
         b"\x1b7",
         2,
@@ -142,8 +145,8 @@ static REFUSED: [(&[u8], u16, u16, &str); 18] = [
     ),
 ];
 
-/// A content, its width and lines, and what is said of it where it passes from the cleared start.
-static PASSED: [(&[u8], u16, u16, &str); 11] = [
+/// What passes from the cleared start.
+static PASSED: [Row; 11] = [
     (
         b"Hi",
         2,
@@ -267,81 +270,82 @@ fn text_of(
     }
 }
 
+fn expect_explained(rt: &(impl Abort + AllocGlobal), rows: &[Row], verdict: &str, passes: bool) {
+    for (content, width, lines, said) in rows {
+        let file = plain_file(rt, content, *width, *lines);
+        let text = text_of(rt, (*width, *lines), verdict, said);
+        expect_run(rt, file.as_slice(), &WHY, 512, Ok(passes), text.as_bytes());
+    }
+}
+
 #[test]
 fn a_refused_content_is_explained(rt: HostRuntime) {
-    for (content, width, lines, said) in &REFUSED {
-        let file = plain_file(&rt, content, *width, *lines);
-        let text = text_of(&rt, (*width, *lines), "refused", said);
+    expect_explained(&rt, &REFUSED, "refused", false);
+}
+
+#[test]
+fn what_a_content_relies_on_is_explained(rt: HostRuntime) {
+    expect_explained(&rt, &PASSED, "pass", true);
+}
+
+/// Where the record of `Hi` is changed, to what, and the text.
+static CHANGED: [(usize, &[u8], &str); 7] = [
+    (0, b"X", "verdict: refused\nat 131: F1 no SAUCE record\n"),
+    (
+        5,
+        b"01",
+        "verdict: refused\nat 8: F2 SAUCE version is not 00\nfound: version 01\n",
+    ),
+    (
+        95,
+        b"\x02",
+        "verdict: refused\nat 97: F3 not Character/ANSi\nfound: data type 1, file type 2\n",
+    ),
+    (
+        104,
+        b"\x03",
+        "verdict: refused\nat 107: F4 comment block missing\nfound: 3 comments stated\n",
+    ),
+    (
+        98,
+        b"\x00\x00",
+        "verdict: refused\nat 101: F5 number of lines not stated\nfound: 0 lines stated\n",
+    ),
+    (
+        96,
+        b"\x01\x04",
+        "verdict: refused\nat 99: F6 width above 1024\nfound: 1025 columns stated\n",
+    ),
+    (
+        98,
+        b"\x01\x20",
+        "verdict: refused\nat 101: F7 lines above 8192\nfound: 8193 lines stated\n",
+    ),
+];
+
+#[test]
+fn a_refused_record_is_explained(rt: HostRuntime) {
+    for (offset, bytes, text) in &CHANGED {
+        let file = file_of(&rt, b"Hi\x1a", &[(*offset, bytes)]);
         expect_run(&rt, file.as_slice(), &WHY, 512, Ok(false), text.as_bytes());
     }
 }
 
 #[test]
-fn what_a_content_relies_on_is_explained(rt: HostRuntime) {
-    for (content, width, lines, said) in &PASSED {
-        let file = plain_file(&rt, content, *width, *lines);
-        let text = text_of(&rt, (*width, *lines), "pass", said);
-        expect_run(&rt, file.as_slice(), &WHY, 512, Ok(true), text.as_bytes());
-    }
+fn bytes_after_the_end_mark_are_counted(rt: HostRuntime) {
+    let file = file_of(&rt, b"Hi\x1ax", &[]);
+    let text = b"verdict: refused\n\
+        at 3: F8 bytes after the end mark\n\
+        found: 1 bytes after the end mark, no record among them\n";
+    expect_run(&rt, file.as_slice(), &WHY, 512, Ok(false), text);
 }
 
-/// What stands before the record, the fields of the plain record that are changed, and the text.
-type RecordRow = (
-    &'static [u8],
-    &'static [(usize, &'static [u8])],
-    &'static [u8],
-);
-
-static RECORDS: [RecordRow; 10] = [
-    (
-        b"Hi",
-        &[(0, b"X")],
-        b"verdict: refused\nat 130: F1 no SAUCE record\n",
-    ),
-    (
-        b"Hi\x1a",
-        &[(5, b"01")],
-        b"verdict: refused\nat 8: F2 SAUCE version is not 00\nfound: version 01\n",
-    ),
-    (
-        b"Hi\x1a",
-        &[(95, b"\x02")],
-        b"verdict: refused\nat 97: F3 not Character/ANSi\nfound: data type 1, file type 2\n",
-    ),
-    (
-        b"Hi\x1a",
-        &[(104, b"\x03")],
-        b"verdict: refused\nat 107: F4 comment block missing\nfound: 3 comments stated\n",
-    ),
-    (
-        b"Hi\x1a",
-        &[(98, b"\x00\x00")],
-        b"verdict: refused\nat 101: F5 number of lines not stated\nfound: 0 lines stated\n",
-    ),
-    (
-        b"Hi\x1a",
-        &[(96, b"\x01\x04")],
-        b"verdict: refused\nat 99: F6 width above 1024\nfound: 1025 columns stated\n",
-    ),
-    (
-        b"Hi\x1a",
-        &[(98, b"\x01\x20")],
-        b"verdict: refused\nat 101: F7 lines above 8192\nfound: 8193 lines stated\n",
-    ),
-    (
-        b"Hi\x1ax",
-        &[],
-        b"verdict: refused\n\
-        at 3: F8 bytes after the end mark\n\
-        found: 1 bytes after the end mark, no record among them\n",
-    ),
+/// A content for one cell, the record's flags and font, and what is said behind the size.
+static FONTS: [(&[u8], u8, &[u8], &[u8]); 2] = [
     (
         b"\x1b[?7h\x1b[0m\x1b[2JH\x1a",
-        &[
-            (90, b"\x0e\x00\x00\x00"),
-            (96, b"\x01"),
-            (106, b"IBM VGA 866"),
-        ],
+        0,
+        b"IBM VGA 866",
         b"size: 1 x 1\n\
         verdict: pass\n\
         needs: nothing\n\
@@ -350,12 +354,8 @@ static RECORDS: [RecordRow; 10] = [
     ),
     (
         b"\x1b[?7h\x1b[5m\x1b[2JH\x1a",
-        &[
-            (90, b"\x0e\x00\x00\x00"),
-            (96, b"\x01"),
-            (105, b"\x01"),
-            (106, b"IBM VGA50 437"),
-        ],
+        1,
+        b"IBM VGA50 437",
         b"size: 1 x 1\n\
         verdict: pass\n\
         needs: colours\n\
@@ -368,10 +368,18 @@ static RECORDS: [RecordRow; 10] = [
 ];
 
 #[test]
-fn a_record_is_explained(rt: HostRuntime) {
-    for (front, edits, text) in &RECORDS {
-        let file = file_of(&rt, front, edits);
-        let passes = text.starts_with(b"size");
-        expect_run(&rt, file.as_slice(), &WHY, 512, Ok(passes), text);
+fn the_flags_and_the_font_are_heeded(rt: HostRuntime) {
+    for (front, flags, font, text) in &FONTS {
+        let file = file_of(
+            &rt,
+            front,
+            &[
+                (90, b"\x0e\x00\x00\x00"),
+                (96, b"\x01"),
+                (105, &[*flags]),
+                (106, font),
+            ],
+        );
+        expect_run(&rt, file.as_slice(), &WHY, 512, Ok(true), text);
     }
 }
