@@ -85,8 +85,14 @@ fn file_of_size(rt: &(impl Abort + AllocGlobal), front: &[u8], width: u16, lines
     file_of(rt, front, &[(96, &width), (98, &lines)])
 }
 
-/// The content, one end mark and the plain record of this size.
-fn plain_file(rt: &(impl Abort + AllocGlobal), content: &[u8], width: u16, lines: u16) -> Vec<u8> {
+/// The content, one end mark, and the plain record with this size, these flags and this title.
+fn drawing(
+    rt: &(impl Abort + AllocGlobal),
+    content: &[u8],
+    (width, lines): (u16, u16),
+    flags: u8,
+    title: &[u8],
+) -> Vec<u8> {
     let mut front = [0x1a; 64];
     assert!(rt; content.len() < 64);
     front[..content.len()].copy_from_slice(content);
@@ -96,8 +102,19 @@ fn plain_file(rt: &(impl Abort + AllocGlobal), content: &[u8], width: u16, lines
     file_of(
         rt,
         &front[..content.len() + 1],
-        &[(90, &file_size), (96, &width), (98, &lines)],
+        &[
+            (7, title),
+            (90, &file_size),
+            (96, &width),
+            (98, &lines),
+            (105, &[flags]),
+        ],
     )
+}
+
+/// The content, one end mark and the plain record of this size.
+fn plain_file(rt: &(impl Abort + AllocGlobal), content: &[u8], width: u16, lines: u16) -> Vec<u8> {
+    drawing(rt, content, (width, lines), 0, b"")
 }
 
 fn room_for(room: usize) -> Tried<Narrow>

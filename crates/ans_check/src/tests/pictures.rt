@@ -1,5 +1,5 @@
 //! Pictures in colour from end to end.
-use super::{Ran, SHOW, expect_run, file_of, run_once};
+use super::{Ran, SHOW, drawing, expect_run, run_once};
 use crate::{Command, Form, Options, Start};
 use std::process::Abort;
 
@@ -18,33 +18,6 @@ const FROM_ANY: Options = Options {
     start: Start::ANY,
     ..SHOW
 };
-
-/// The content, one end mark, and a record of this size, with these flags and this title.
-fn drawing(
-    rt: &(impl Abort + AllocGlobal),
-    content: &[u8],
-    (width, lines): (u16, u16),
-    flags: u8,
-    title: &[u8],
-) -> Vec<u8> {
-    let mut front = [0x1a; 64];
-    assert!(rt; content.len() < 64);
-    front[..content.len()].copy_from_slice(content);
-    let file_size = u32::try_from(content.len()).unwrap_or(0).to_le_bytes();
-    let width = width.to_le_bytes();
-    let lines = lines.to_le_bytes();
-    file_of(
-        rt,
-        &front[..content.len() + 1],
-        &[
-            (7, title),
-            (90, &file_size),
-            (96, &width),
-            (98, &lines),
-            (105, &[flags]),
-        ],
-    )
-}
 
 /// A content, its size, the record's flags, what is asked, whether the file passes, and the text.
 static TEXTS: [(&[u8], (u16, u16), u8, Options, bool, &[u8]); 12] = [
