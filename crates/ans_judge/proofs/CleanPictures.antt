@@ -170,14 +170,14 @@ of_parameter : (n : ℕ) → AreParameters (parameter n)
 of_parameter n = decimal_is is_parameter_byte digit_is_parameter n
 
 of_mixed : (n : ℕ) (t : Triple) → AreParameters (mixed n t)
-of_mixed n t =
-    let blue = parameter t.blue in
-    let green = parameter t.green ++ blue in
-    let red = parameter t.red ++ green in
+of_mixed n (r, g, b) =
+    let blue = parameter b in
+    let green = parameter g ++ blue in
+    let red = parameter r ++ green in
     parameters_append (parameter n) (parameter 2 ++ red) (of_parameter n)
     (parameters_append (parameter 2) red (of_parameter 2)
-    (parameters_append (parameter t.red) green (of_parameter t.red)
-    (parameters_append (parameter t.green) blue (of_parameter t.green) (of_parameter t.blue))))
+    (parameters_append (parameter r) green (of_parameter r)
+    (parameters_append (parameter g) blue (of_parameter g) (of_parameter b))))
 
 of_foreground : (vga : Bool) (colour : ℕ) → AreParameters (foreground_text vga colour)
 of_foreground false colour = of_parameter (foreground_parameter colour)

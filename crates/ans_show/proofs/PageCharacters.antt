@@ -10,10 +10,10 @@ use Rattle.ans_model.specs.Text.Characters.{glyph_text}
 use Rattle.ans_show.specs.Looks.{Look}
 use Rattle.ans_show.specs.Seen.{Seen, SeenCell}
 use Rattle.ans_show.specs.PageText.{page_character, page_bytes, page_title}
-use Rattle.ans_show.specs.PageReader.{read_page}
+use Rattle.ans_show.specs.PageReader.{InText, read_page}
 use Rattle.ans_show.proofs.EachByte.{all_below, holds_at, not_true}
 use Rattle.ans_show.proofs.TextsRead.{is_ascii, Reads, reads_characters, reads_nothing, reads_same, reads_then}
-use Rattle.ans_show.proofs.PageTags.{text_of, through, reads_alone}
+use Rattle.ans_show.proofs.PageTags.{through, reads_alone}
 
 -- what is seen of a byte
 abbrev seen_byte : Bool → Look → ℕ → List Seen
@@ -21,7 +21,7 @@ seen_byte shown l b = if shown then SeenCell l (glyph_text b) ∷ [] else []
 
 -- the byte is read where the picture is shown, and where it is not
 abbrev IsRead : Bool → Look → ℕ → List ℕ → Type 0
-IsRead shown l b text = Reads read_page (text_of shown l) text (seen_byte shown l b) (text_of shown l)
+IsRead shown l b text = Reads read_page (InText shown l) text (seen_byte shown l b) (InText shown l)
 
 -- a byte's character begins no tag and no name and ends no line, if it has no name
 abbrev is_shown : ℕ → Bool
@@ -60,14 +60,14 @@ plain_read shown l b lt n1 n2 n3 =
 
 -- a byte by its name
 named_read : (shown : Bool) (l : Look) (b : ℕ) → is_ascii (page_character b) ≡ true
-    → read_page (text_of true l) (page_character b) ≡ seen_byte true l b
-    → through (text_of true l) (page_character b) ≡ text_of true l
-    → read_page (text_of false l) (page_character b) ≡ []
-    → through (text_of false l) (page_character b) ≡ text_of false l → IsRead shown l b (page_character b)
+    → read_page (InText true l) (page_character b) ≡ seen_byte true l b
+    → through (InText true l) (page_character b) ≡ InText true l
+    → read_page (InText false l) (page_character b) ≡ []
+    → through (InText false l) (page_character b) ≡ InText false l → IsRead shown l b (page_character b)
 named_read true l b a seen after unseen after_unseen =
-    reads_alone (text_of true l) (text_of true l) (page_character b) (seen_byte true l b) a seen after
+    reads_alone (InText true l) (InText true l) (page_character b) (seen_byte true l b) a seen after
 named_read false l b a seen after unseen after_unseen =
-    reads_alone (text_of false l) (text_of false l) (page_character b) [] a unseen after_unseen
+    reads_alone (InText false l) (InText false l) (page_character b) [] a unseen after_unseen
 
 byte_read : (shown : Bool) (l : Look) (b : ℕ) → b < 256 → IsRead shown l b (page_character b)
 byte_read shown l b lt = elim (cases_eq b 0x26) [
@@ -99,20 +99,20 @@ byte_read shown l b lt = elim (cases_eq b 0x26) [
 
 -- bytes in the picture are seen
 pub bytes_read : (l : Look) (bytes : List ℕ) → All IsByte bytes
-    → Reads read_page (text_of true l) (page_bytes bytes) (map (λ b. SeenCell l (glyph_text b)) bytes) (text_of true l)
-bytes_read l [] all = reads_nothing (text_of true l)
+    → Reads read_page (InText true l) (page_bytes bytes) (map (λ b. SeenCell l (glyph_text b)) bytes) (InText true l)
+bytes_read l [] all = reads_nothing (InText true l)
 bytes_read l (b ∷ bytes) all =
     reads_then (byte_read true l b (All-head IsByte b bytes all)) (bytes_read l bytes (All-tail IsByte b bytes all))
 
 -- and those of a title are not
 title_bytes_read : (l : Look) (bytes : List ℕ) → All IsByte bytes
-    → Reads read_page (text_of false l) (page_bytes bytes) [] (text_of false l)
-title_bytes_read l [] all = reads_nothing (text_of false l)
+    → Reads read_page (InText false l) (page_bytes bytes) [] (InText false l)
+title_bytes_read l [] all = reads_nothing (InText false l)
 title_bytes_read l (b ∷ bytes) all =
     reads_then (byte_read false l b (All-head IsByte b bytes all))
     (title_bytes_read l bytes (All-tail IsByte b bytes all))
 
 pub title_read : (l : Look) (title : List ℕ) → All IsByte title
-    → Reads read_page (text_of false l) (page_title title) [] (text_of false l)
-title_read l [] all = reads_alone (text_of false l) (text_of false l) (page_title []) [] refl refl refl
+    → Reads read_page (InText false l) (page_title title) [] (InText false l)
+title_read l [] all = reads_alone (InText false l) (InText false l) (page_title []) [] refl refl refl
 title_read l (b ∷ title) all = title_bytes_read l (b ∷ title) all

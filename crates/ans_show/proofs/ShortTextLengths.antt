@@ -8,11 +8,6 @@ use Rattle.ans_model.specs.Bytes.{escape}
 use Rattle.ans_show.specs.TerminalText.{parameter, foreground_text, background_text}
 use Rattle.ans_show.proofs.EachByte.{holds_at}
 
--- a text with another behind it
-pub then_length : (front whole text : List ℕ) (n m : ℕ) → whole ≡ front ++ text → length front ≤ n → length text ≤ m
-    → length whole ≤ n + m
-then_length front whole text n m e short behind = rw e (omega (arith, length-append front text, short, behind))
-
 by_test : (n m : ℕ) → nat_le n m ≡ true → n ≤ m
 by_test n m h = grind (arith, nat_tests)
 
@@ -30,14 +25,14 @@ length_front false c lt =
     by_test (length (foreground_text false c)) 17
     (holds_at 16 (λ n. nat_le (length (foreground_text false n)) 17) refl c lt)
 
-pub length_back : (vga : Bool) (c : ℕ) → c < 16 → length (background_text vga c ++ codes "m") ≤ 18
+pub length_back : (vga : Bool) (c : ℕ) → c < 16 → length (background_text vga c) ≤ 17
 unfolding digits
 length_back true c lt =
-    by_test (length (background_text true c ++ codes "m")) 18
-    (holds_at 16 (λ n. nat_le (length (background_text true n ++ codes "m")) 18) refl c lt)
+    by_test (length (background_text true c)) 17
+    (holds_at 16 (λ n. nat_le (length (background_text true n)) 17) refl c lt)
 length_back false c lt =
-    by_test (length (background_text false c ++ codes "m")) 18
-    (holds_at 16 (λ n. nat_le (length (background_text false n ++ codes "m")) 18) refl c lt)
+    by_test (length (background_text false c)) 17
+    (holds_at 16 (λ n. nat_le (length (background_text false n)) 17) refl c lt)
 
 pub length_span : (c : ℕ) → c < 16 → length (codes "<span class=\"f" ++ decimal c) ≤ 16
 unfolding digits

@@ -1,5 +1,5 @@
 -- What a reader of a page sees.
-use Rattle.std.specs.Prelude.{ℕ, ◌+◌, ◌-◌, ◌*◌, ◌/◌, ◌%◌, Bool, true, false, ◌==◌, ◌||◌, List, [], ◌∷◌, ◌++◌}
+use Rattle.std.specs.Prelude.{ℕ, ◌+◌, ◌-◌, ◌*◌, ◌/◌, ◌%◌, Bool, true, false, ◌==◌, ◌||◌, ◌&&◌, not, List, [], ◌∷◌, ◌++◌}
 use Rattle.std.specs.Prelude.{fold, codes, decimal, if◌then◌else◌}
 use Rattle.std.specs.Str.{bytes_eq}
 use Rattle.ans_model.specs.Text.Hexadecimal.{hex_digit}
@@ -43,7 +43,7 @@ named_character name =
 
 -- a colour in hexadecimal digits, one for each part
 abbrev pub colour_digits : Triple → List ℕ
-colour_digits t = hex_digit (t.red / 17) ∷ hex_digit (t.green / 17) ∷ hex_digit (t.blue / 17) ∷ []
+colour_digits (red, green, blue) = hex_digit (red / 17) ∷ hex_digit (green / 17) ∷ hex_digit (blue / 17) ∷ []
 
 -- what the style says of a class: the letter and a number set a property to the VGA's colour; four stand on a line
 abbrev pub class_style : List ℕ → List ℕ → ℕ → List ℕ
@@ -55,20 +55,12 @@ class_style letter property n =
 abbrev pub sixteen : List ℕ
 sixteen = 0 ∷ 1 ∷ 2 ∷ 3 ∷ 4 ∷ 5 ∷ 6 ∷ 7 ∷ 8 ∷ 9 ∷ 10 ∷ 11 ∷ 12 ∷ 13 ∷ 14 ∷ 15 ∷ []
 
--- what a reader is in: text, a tag since its `<`, or a name since its `&`
-pub data Part : Type 0 where
-  InText : Part
-  InTag : (text : List ℕ) → Part
-  InName : (text : List ℕ) → Part
-
--- where a reader stands: the part, whether it is between `<pre>` and `</pre>`, and how a cell looks
-pub record Page : Type 0 where
-  pub part : Part
-  pub shown : Bool
-  pub how : Look
-
-abbrev pub page : Part → Bool → Look → Page
-page part shown how = record { part = part; shown = shown; how = how }
+-- Where a reader stands: in text, in a tag since its `<`, or in a name since its `&`; whether it is between `<pre>` and
+-- `</pre>`, and how a cell looks.
+pub data Page : Type 0 where
+  InText : (shown : Bool) (how : Look) → Page
+  InTag : (text : List ℕ) (shown : Bool) (how : Look) → Page
+  InName : (text : List ℕ) (shown : Bool) (how : Look) → Page
 
 -- whether a picture is shown behind a tag
 abbrev pub shown_after : List ℕ → Bool → Bool
@@ -78,22 +70,23 @@ shown_after tag shown =
     else shown
 
 -- what a character makes of it: `<` begins a tag and `>` ends it, `&` begins a name and `;` ends it
-abbrev pub page_after : Part → Bool → Look → ℕ → Page
-page_after InText shown l c =
-    page (if c == 0x3C then InTag [] else if c == 0x26 then InName [] else InText) shown l
-page_after (InTag text) shown l c =
-    if c == 0x3E then page InText (shown_after text shown) (look_in (words [] text))
-    else page (InTag (text ++ c ∷ [])) shown l
-page_after (InName text) shown l c = page (if c == 0x3B then InText else InName (text ++ c ∷ [])) shown l
+abbrev pub page_after : Page → ℕ → Page
+page_after (InText shown l) c =
+    if c == 0x3C then InTag [] shown l
+    else if c == 0x26 then InName [] shown l
+    else InText shown l
+page_after (InTag text shown l) c =
+    if c == 0x3E then InText (shown_after text shown) (look_in (words [] text))
+    else InTag (text ++ c ∷ []) shown l
+page_after (InName text shown l) c = if c == 0x3B then InText shown l else InName (text ++ c ∷ []) shown l
 
 -- what is seen of the character where the picture is shown: text, and names where they end
-abbrev pub page_sees : Part → Look → ℕ → List Seen
-page_sees InText l c = if c == 0x3C || c == 0x26 then [] else seen_of l c ∷ []
-page_sees (InTag text) l c = []
-page_sees (InName text) l c = if c == 0x3B then SeenCell l (named_character text) ∷ [] else []
+abbrev pub page_sees : Page → ℕ → List Seen
+page_sees (InText shown l) c = if shown && not (c == 0x3C || c == 0x26) then seen_of l c ∷ [] else []
+page_sees (InTag text shown l) c = []
+page_sees (InName text shown l) c = if shown && c == 0x3B then SeenCell l (named_character text) ∷ [] else []
 
 -- what is seen of characters from there on
 abbrev pub read_page : Page → List ℕ → List Seen
 read_page p [] = []
-read_page p (c ∷ text) =
-    (if p.shown then page_sees p.part p.how c else []) ++ read_page (page_after p.part p.shown p.how c) text
+read_page p (c ∷ text) = page_sees p c ++ read_page (page_after p c) text

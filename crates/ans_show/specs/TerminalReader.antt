@@ -3,7 +3,7 @@ use Rattle.std.specs.Prelude.{ℕ, ◌+◌, ◌-◌, ◌*◌, Bool, true, nat_le
 use Rattle.std.specs.Prelude.{◌||◌, drop, Option, Some, None, if◌then◌else◌}
 use Rattle.ans_model.specs.Bytes.{escape, semicolon}
 use Rattle.ans_show.specs.Looks.{Look, plain}
-use Rattle.ans_show.specs.TerminalText.{Triple, triple, terminal_order, vga_colours}
+use Rattle.ans_show.specs.TerminalText.{Triple, terminal_order, vga_colours}
 use Rattle.ans_show.specs.Seen.{Seen, seen_of}
 
 -- the numbers between semicolons; of the first one, `n` is read
@@ -15,7 +15,7 @@ numbers n (c ∷ text) =
 
 -- whether two mixed colours are the same
 abbrev pub same_triple : Triple → Triple → Bool
-same_triple t u = t.red == u.red && (t.green == u.green && t.blue == u.blue)
+same_triple (red, green, blue) (r, g, b) = red == r && (green == g && blue == b)
 
 -- the place of a mixed colour in a list
 abbrev pub place_of : Triple → List Triple → ℕ
@@ -43,7 +43,7 @@ after_mixed p t l =
 abbrev pub after_parameters : List ℕ → Look → Look
 after_parameters [] l = l
 after_parameters (p ∷ two ∷ r ∷ g ∷ b ∷ more) l =
-    if (p == 38 || p == 48) && two == 2 then after_parameters more (after_mixed p (triple r g b) l)
+    if (p == 38 || p == 48) && two == 2 then after_parameters more (after_mixed p (r, g, b) l)
     else after_parameters (two ∷ r ∷ g ∷ b ∷ more) (after_parameter p l)
 after_parameters (p ∷ more) l = after_parameters more (after_parameter p l)
 

@@ -24,39 +24,33 @@ abbrev pub background_parameter : ℕ → ℕ
 background_parameter colour = 10 + foreground_parameter colour
 
 -- red, green and blue
-pub record Triple : Type 0 where
-  pub red : ℕ
-  pub green : ℕ
-  pub blue : ℕ
-
--- the triple of these
-abbrev pub triple : ℕ → ℕ → ℕ → Triple
-triple red green blue = record { red = red; green = green; blue = blue }
+abbrev pub Triple : Type 0
+Triple = ℕ × ℕ × ℕ
 
 -- the sixteen colours of a VGA, in steps of 55h; the seventh is brown
 abbrev pub vga_colours : List Triple
 vga_colours =
-    triple 0x00 0x00 0x00
-    ∷ triple 0x00 0x00 0xAA
-    ∷ triple 0x00 0xAA 0x00
-    ∷ triple 0x00 0xAA 0xAA
-    ∷ triple 0xAA 0x00 0x00
-    ∷ triple 0xAA 0x00 0xAA
-    ∷ triple 0xAA 0x55 0x00
-    ∷ triple 0xAA 0xAA 0xAA
-    ∷ triple 0x55 0x55 0x55
-    ∷ triple 0x55 0x55 0xFF
-    ∷ triple 0x55 0xFF 0x55
-    ∷ triple 0x55 0xFF 0xFF
-    ∷ triple 0xFF 0x55 0x55
-    ∷ triple 0xFF 0x55 0xFF
-    ∷ triple 0xFF 0xFF 0x55
-    ∷ triple 0xFF 0xFF 0xFF
+    (0x00, 0x00, 0x00)
+    ∷ (0x00, 0x00, 0xAA)
+    ∷ (0x00, 0xAA, 0x00)
+    ∷ (0x00, 0xAA, 0xAA)
+    ∷ (0xAA, 0x00, 0x00)
+    ∷ (0xAA, 0x00, 0xAA)
+    ∷ (0xAA, 0x55, 0x00)
+    ∷ (0xAA, 0xAA, 0xAA)
+    ∷ (0x55, 0x55, 0x55)
+    ∷ (0x55, 0x55, 0xFF)
+    ∷ (0x55, 0xFF, 0x55)
+    ∷ (0x55, 0xFF, 0xFF)
+    ∷ (0xFF, 0x55, 0x55)
+    ∷ (0xFF, 0x55, 0xFF)
+    ∷ (0xFF, 0xFF, 0x55)
+    ∷ (0xFF, 0xFF, 0xFF)
     ∷ []
 
 -- the mixed colour of a number
 abbrev pub vga_colour : ℕ → Triple
-vga_colour colour = slice_index_or vga_colours colour (triple 0 0 0)
+vga_colour colour = slice_index_or vga_colours colour (0, 0, 0)
 
 -- a parameter behind another
 abbrev pub parameter : ℕ → List ℕ
@@ -64,7 +58,7 @@ parameter n = semicolon ∷ decimal n
 
 -- a colour that is mixed, behind 38 for a foreground and 48 for a background
 abbrev pub mixed : ℕ → Triple → List ℕ
-mixed n t = parameter n ++ (parameter 2 ++ (parameter t.red ++ (parameter t.green ++ parameter t.blue)))
+mixed n (red, green, blue) = parameter n ++ (parameter 2 ++ (parameter red ++ (parameter green ++ parameter blue)))
 
 -- a foreground: by its parameter, or mixed as a VGA does
 abbrev pub foreground_text : Bool → ℕ → List ℕ

@@ -24,6 +24,20 @@ pub(crate) const CELL: usize = SHORT_TEXT + 8;
 /// What no attribute is.
 const NO_ATTRIBUTE: usize = 256;
 
+/// Copies bytes to a text from `end` on, of which the first `count` are meant, and returns where
+/// these end. What is behind them is written over next.
+#[inline(always)]
+fn write_front(text: &mut [u8], end: usize, bytes: &[u8], count: usize) -> usize
+    requires meant { count ≤ length bytes.now }
+    requires room { end + length bytes.now ≤ length text.old }
+    ensures ends { result ≡ end + count }
+    ensures length { length text.new ≡ length text.old }
+    ensures text { take result text.new ≡ take end text.old ++ take count bytes.now }
+{
+    text[end..end + bytes.len()].copy_from_slice(bytes);
+    end + count
+}
+
 /// What is written where a run begins behind another, by its attribute, and the character of each
 /// byte.
 #[derive(Drop)]
@@ -60,8 +74,7 @@ impl FormTables {
             return end;
         }
         let between = &self.breaks[attribute as usize];
-        text[end..end + SHORT_TEXT].copy_from_slice(&between.bytes);
-        end + between.count
+        write_front(text, end, &between.bytes, between.count)
     }
 
     /// Writes to a text from `end` on the character of a byte, and returns where that ends.
@@ -73,8 +86,7 @@ impl FormTables {
         ensures text { take result text.new ≡ take end text.old ++ character_in self.now.form byte }
     {
         let character = &self.characters[byte as usize];
-        text[end..end + 8].copy_from_slice(&character.bytes);
-        end + character.count
+        write_front(text, end, &character.bytes, character.count)
     }
 
     /// Writes the cells of a row to the start of a text, and returns where they end. Each run begins

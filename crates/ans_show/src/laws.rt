@@ -11,7 +11,7 @@ ghost use Rattle.ans_show.specs.Looks.{Look, look_of, attribute_of};
 ghost use Rattle.ans_show.specs.Runs.{runs, cells_of, AreLongest};
 ghost use Rattle.ans_show.specs.Seen.{seen_picture};
 ghost use Rattle.ans_show.specs.PageText.{page_text, foreground_style, background_style};
-ghost use Rattle.ans_show.specs.PageReader.{InText, page, read_page, class_style, sixteen};
+ghost use Rattle.ans_show.specs.PageReader.{InText, read_page, class_style, sixteen};
 ghost use Rattle.ans_show.specs.TerminalText.{terminal_text};
 ghost use Rattle.ans_show.specs.TerminalReader.{outside, read_terminal};
 
@@ -39,7 +39,7 @@ pub fn terminals_show_the_picture()
 pub fn pages_show_the_picture()
     ensures { (non_blink : Bool) (before : Look) (title : List ℕ) (picture : Picture) → All IsByte title
         → All IsByteCell picture.cells
-        → read_page (page InText false before) (chars (page_text non_blink title picture))
+        → read_page (InText false before) (chars (page_text non_blink title picture))
         ≡ seen_picture non_blink picture }
 {}
 

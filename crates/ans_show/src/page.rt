@@ -68,11 +68,12 @@ fn span_end(blinks: bool) -> &'static [u8]
 pub(crate) fn span_break(attribute: u8, non_blink: bool) -> ShortText
     ensures { text_of result ≡ codes "</span>" ++ span_text (look_of non_blink attribute) }
 {
-    ShortText::empty()
-        .then(b"</span>")
-        .then(foreground_text(foreground(attribute, non_blink)))
-        .then(background_text(background(attribute, non_blink)))
-        .then(span_end(blinks(attribute, non_blink)))
+    ShortText::joined(
+        b"</span>",
+        foreground_text(foreground(attribute, non_blink)),
+        background_text(background(attribute, non_blink)),
+        span_end(blinks(attribute, non_blink)),
+    )
 }
 
 /// Where a page begins, up to its title.

@@ -15,7 +15,7 @@ pub(crate) struct ShortText {
 impl ShortText {
     ghost use Rattle.ans_show.specs.ShortTexts.{text_of};
 
-    pub(crate) fn empty() -> ShortText
+    fn empty() -> ShortText
         ensures { text_of result ≡ [] }
     {
         ShortText {
@@ -25,7 +25,7 @@ impl ShortText {
     }
 
     /// This text and another behind it.
-    pub(crate) fn then(self, text: &[u8]) -> ShortText
+    fn then(self, text: &[u8]) -> ShortText
         requires { length (text_of self) + length text.now ≤ 48 }
         ensures { text_of result ≡ text_of self ++ text.now }
     {
@@ -33,5 +33,17 @@ impl ShortText {
         let count = self.count + text.len();
         bytes[self.count..count].copy_from_slice(text);
         ShortText { bytes, count }
+    }
+
+    /// Four texts, one behind the other.
+    pub(crate) fn joined(first: &[u8], second: &[u8], third: &[u8], fourth: &[u8]) -> ShortText
+        requires { length first.now + length second.now + length third.now + length fourth.now ≤ 48 }
+        ensures { text_of result ≡ first.now ++ (second.now ++ (third.now ++ fourth.now)) }
+    {
+        ShortText::empty()
+            .then(first)
+            .then(second)
+            .then(third)
+            .then(fourth)
     }
 }

@@ -25,8 +25,8 @@ const FOREGROUNDS: [&[u8]; 16] = [
 
 /// The backgrounds of a terminal, and the end of the sequence.
 const BACKGROUNDS: [&[u8]; 16] = [
-    b";40m", b";44m", b";42m", b";46m", b";41m", b";45m", b";43m", b";47m", b";100m", b";104m",
-    b";102m", b";106m", b";101m", b";105m", b";103m", b";107m",
+    b";40", b";44", b";42", b";46", b";41", b";45", b";43", b";47", b";100", b";104", b";102",
+    b";106", b";101", b";105", b";103", b";107",
 ];
 
 /// The foregrounds of a VGA.
@@ -51,22 +51,22 @@ const VGA_FOREGROUNDS: [&[u8]; 16] = [
 
 /// The backgrounds of a VGA, and the end of the sequence.
 const VGA_BACKGROUNDS: [&[u8]; 16] = [
-    b";48;2;0;0;0m",
-    b";48;2;0;0;170m",
-    b";48;2;0;170;0m",
-    b";48;2;0;170;170m",
-    b";48;2;170;0;0m",
-    b";48;2;170;0;170m",
-    b";48;2;170;85;0m",
-    b";48;2;170;170;170m",
-    b";48;2;85;85;85m",
-    b";48;2;85;85;255m",
-    b";48;2;85;255;85m",
-    b";48;2;85;255;255m",
-    b";48;2;255;85;85m",
-    b";48;2;255;85;255m",
-    b";48;2;255;255;85m",
-    b";48;2;255;255;255m",
+    b";48;2;0;0;0",
+    b";48;2;0;0;170",
+    b";48;2;0;170;0",
+    b";48;2;0;170;170",
+    b";48;2;170;0;0",
+    b";48;2;170;0;170",
+    b";48;2;170;85;0",
+    b";48;2;170;170;170",
+    b";48;2;85;85;85",
+    b";48;2;85;85;255",
+    b";48;2;85;255;85",
+    b";48;2;85;255;255",
+    b";48;2;255;85;85",
+    b";48;2;255;85;255",
+    b";48;2;255;255;85",
+    b";48;2;255;255;255",
 ];
 
 fn foreground_text(colour: usize, vga: bool) -> &'static [u8]
@@ -82,7 +82,7 @@ fn foreground_text(colour: usize, vga: bool) -> &'static [u8]
 
 fn background_text(colour: usize, vga: bool) -> &'static [u8]
     requires { colour < 16 }
-    ensures { result.now ≡ background_text vga colour ++ codes "m" }
+    ensures { result.now ≡ background_text vga colour }
 {
     if vga {
         VGA_BACKGROUNDS[colour]
@@ -101,10 +101,12 @@ fn start_text(blinks: bool) -> &'static [u8]
 pub(crate) fn colours(attribute: u8, non_blink: bool, vga: bool) -> ShortText
     ensures { text_of result ≡ colours_text vga (look_of non_blink attribute) }
 {
-    ShortText::empty()
-        .then(start_text(blinks(attribute, non_blink)))
-        .then(foreground_text(foreground(attribute, non_blink), vga))
-        .then(background_text(background(attribute, non_blink), vga))
+    ShortText::joined(
+        start_text(blinks(attribute, non_blink)),
+        foreground_text(foreground(attribute, non_blink), vga),
+        background_text(background(attribute, non_blink), vga),
+        b"m",
+    )
 }
 
 /// Writes the picture for a terminal, line by line: before each longest run of cells with one

@@ -29,35 +29,17 @@ fn picture_of(
     }
 }
 
-/// How a picture is shown in a terminal.
-#[derive(Clone, Copy)]
-struct Manner {
-    non_blink: bool,
-    vga: bool,
-}
+/// Whether bit 7 blinks or is a bright background, and whether the colours are those of a VGA.
+const BLINK: (bool, bool) = (false, false);
 
-const BLINK: Manner = Manner {
-    non_blink: false,
-    vga: false,
-};
+const BRIGHT: (bool, bool) = (true, false);
 
-const BRIGHT: Manner = Manner {
-    non_blink: true,
-    vga: false,
-};
+const VGA: (bool, bool) = (false, true);
 
-const VGA: Manner = Manner {
-    non_blink: false,
-    vga: true,
-};
-
-const BRIGHT_VGA: Manner = Manner {
-    non_blink: true,
-    vga: true,
-};
+const BRIGHT_VGA: (bool, bool) = (true, true);
 
 /// The width, the lines, a content, the manner, and the text for a terminal.
-static TEXTS: [(usize, usize, &[u8], Manner, &[u8]); 12] = [
+static TEXTS: [(usize, usize, &[u8], (bool, bool), &[u8]); 12] = [
     (
         1,
         1,
@@ -131,12 +113,12 @@ static TEXTS: [(usize, usize, &[u8], Manner, &[u8]); 12] = [
 
 #[test]
 fn a_terminal_shows_the_colours(rt: HostRuntime) -> Result<(), Fail> {
-    for (width, lines, content, manner, text) in &TEXTS {
+    for (width, lines, content, (non_blink, vga), text) in &TEXTS {
         let picture = picture_of(&rt, *width, *lines, content)?;
         assert!(rt;
             writes(text, |device| {
                 assert!(rt; !device.failed());
-                write_terminal(device, &picture, manner.non_blink, manner.vga)
+                write_terminal(device, &picture, *non_blink, *vga)
             })
         );
     }

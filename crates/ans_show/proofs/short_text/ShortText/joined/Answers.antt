@@ -1,0 +1,19 @@
+use Rattle.std.proofs.Common.{◌≡◌, length, arith, length-append}
+use Rattle.ans_show.specs.ShortTexts.{text_of}
+use Rattle.ans_show.proofs.short_text.ShortText.joined.Goals as goal
+
+pub then-requires : goal.then-requires
+then-requires c = rw c.empty.ensures (omega (arith, c.requires))
+
+pub then-requires-2 : goal.then-requires-2
+then-requires-2 c =
+    rw (c.then.ensures, c.empty.ensures) (simp length-append (omega (arith, c.requires)))
+
+pub then-requires-3 : goal.then-requires-3
+then-requires-3 c =
+    rw (c.then-2.ensures, c.then.ensures, c.empty.ensures) (simp length-append (omega (arith, c.requires)))
+
+pub then-requires-4 : goal.then-requires-4
+then-requires-4 c =
+    rw (c.then-3.ensures, c.then-2.ensures, c.then.ensures, c.empty.ensures)
+    (simp length-append (omega (arith, c.requires)))
