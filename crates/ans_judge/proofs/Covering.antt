@@ -13,6 +13,7 @@ use Rattle.ans_model.proofs.PositionLemmas.{index-lt}
 use Rattle.ans_model.proofs.Slices.{slice_get-replicate}
 use Rattle.ans_model.proofs.StartLemmas.{low_is_start, high_is_start}
 use Rattle.ans_judge.specs.Starts.{HasStartsOf}
+use Rattle.ans_why.proofs.TallerScreens.{covered_by_all}
 
 -- a part that has its cleared value, and would else have another, is known
 known_by_value : {A : Type 0} (known : Bool) (x y : A) → (y ≡ x → ⊥) → (if known then x else y) ≡ x → IsTrue known
@@ -105,10 +106,4 @@ none_known_covers a = record {
 }
 
 pub covers_all_known : (a : Start) → Covers a all_known
-covers_all_known a = record {
-  screen = λ k. refl;
-  cursor = λ k. refl;
-  saved = λ k. refl;
-  colours = λ k. refl;
-  wrap = λ k. refl;
-}
+covers_all_known = covered_by_all

@@ -1,11 +1,10 @@
 -- The text of what a scanner has read of the content so far.
 use Rattle.std.proofs.Common.{◌≡◌, ℕ, ◌+◌, ◌≤◌, List, [], ◌∷◌, ◌++◌, length, take, drop, map, refl, ap, sym, subst, ◌∙◌}
 use Rattle.std.proofs.Common.{arith, append_assoc, append-nil, length-append}
-use Rattle.std.specs.Prelude.{None, All}
+use Rattle.std.specs.Prelude.{None}
 use Rattle.std.specs.List.{AllZip, concat}
 use Rattle.std.proofs.Math.Seq.{take-add}
 use Rattle.std.proofs.lemmas.List.{length-take, length-take-le, take-take}
-use Rattle.std.proofs.lemmas.List.Elements.{All-head, All-tail}
 use Rattle.ans_model.specs.Sequence.TokenKind as token
 use Rattle.ans_model.specs.Sequence.TokenKind.{Glyph}
 use Rattle.ans_model.specs.Inside.ShownKind.{shown_kind}
@@ -14,10 +13,10 @@ use Rattle.ans_model.specs.Text.TokensText.{token_line, token_lines}
 use Rattle.ans_tokens.specs.declared.token.Token.{Token}
 use Rattle.ans_tokens.specs.Token.{kind_of, start_of, length_of}
 use Rattle.ans_tokens.specs.ScannerView.{ScannerView, StaysUnfinished, EndsToken, new_scanner}
-use Rattle.ans_tokens.specs.Glyphs.{IsGlyphByte, IsGlyphFront, IsBetweenTokens, scanner_after}
+use Rattle.ans_tokens.specs.Glyphs.{IsGlyphFront, IsBetweenTokens, scanner_after}
 use Rattle.ans_tokens.specs.WholeToken.{TakesToken}
 use Rattle.ans_tokens.specs.ReadSoFar.{ReadSoFar}
-use Rattle.ans_tokens.proofs.Readable.{reads_as_one}
+use Rattle.ans_tokens.proofs.Readable.{glyphs_read, reads_as_one}
 use Rattle.ans_tokens.proofs.ReadSoFar.{nothing_read, read_unfinished, read_token, read_whole, nothing_open}
 use Rattle.ans_tokens.proofs.ReadSoFar.{open_part_starts}
 use Rattle.ans_report.specs.TokenLines.{glyph_lines, token_text}
@@ -100,16 +99,6 @@ module _ (bytes : List ℕ) (old : ScannerView) (text : List ℕ) (h : TextSoFar
       }
 
 -- ---- whole tokens in front of a piece of the content
--- glyphs are read one by one
-glyphs_read : (bytes : List ℕ) → All IsGlyphByte bytes → ReadsAs bytes (map Glyph bytes) (map (λ b. b ∷ []) bytes)
-glyphs_read [] h = record { each = tt; whole = refl }
-glyphs_read (b ∷ bytes) h =
-    let later = glyphs_read bytes (All-tail IsGlyphByte b bytes h) in
-    record {
-      each = (All-head IsGlyphByte b bytes h, later.each);
-      whole = ap (λ (v : List ℕ). b ∷ v) later.whole;
-    }
-
 module _ (content : List ℕ) (i m : ℕ) (old new : ScannerView) (text : List ℕ) (within : i ≤ length content)
     (h : TextSoFar (take i content) old text) (between : IsBetweenTokens old) where
   abbrev piece : List ℕ

@@ -32,7 +32,8 @@ use Rattle.ans_why.specs.Taller.{MovesFreely, TallerShowsTheSame}
 use Rattle.ans_why.proofs.TallerSteps.{tall, AreAlike, AreAlikeStates, IsRoomFor, alike_blanks, alike_step}
 use Rattle.ans_why.proofs.TallerSteps.{one_where_same_row}
 
-covered_by_all : (class : Start) → Covers class all_known
+-- all that is known covers each class
+pub covered_by_all : (class : Start) → Covers class all_known
 covered_by_all class = record {
   screen = λ k. refl;
   cursor = λ k. refl;
