@@ -1,6 +1,6 @@
 //! The picture that the content shows.
 
-ghost use Rattle.std.specs.Prelude.{◌≡◌, ◌<◌, length, Some};
+ghost use Rattle.std.specs.Prelude.{◌≡◌, ◌<◌, ◌≤◌, length, Some};
 
 use ans_model::size::Size;
 use ans_screen::{Grid, HalfCell};
@@ -11,6 +11,8 @@ use std::marker::Model;
 pub struct Picture<G: Grid> {
     size: Size,
     grid: G,
+    ghost grid_width: { G.width_of grid ≡ size.width },
+    ghost grid_rows: { size.lines ≤ G.rows_of grid },
 }
 
 impl<G: Grid> Model for Picture<G> {
@@ -31,7 +33,9 @@ impl<G: Grid> Picture<G> {
     ghost use Rattle.ans_play.specs.Shown.{bytes_of_row, attributes_of_row};
 
     pub(crate) fn new(size: Size, grid: G) -> Picture<G>
-        requires { IsShown size (G.cells_of grid) }
+        requires shown { IsShown size (G.cells_of grid) }
+        requires width { G.width_of grid ≡ size.width }
+        requires rows { size.lines ≤ G.rows_of grid }
         ensures { result ≡ picture_of size (G.cells_of grid) }
     {
         Picture { size, grid }
@@ -87,7 +91,7 @@ impl<G: Grid> Picture<G> {
         requires width { length bytes.old ≡ self.now.size.width }
         ensures { bytes.new ≡ bytes_of_row self.now row }
     {
-        self.grid.copy_glyphs(row * self.size.width(), bytes);
+        self.grid.copy_glyphs(row, bytes);
     }
 
     /// Copies the attributes of a row, counted from 0, one for each column.
@@ -96,7 +100,6 @@ impl<G: Grid> Picture<G> {
         requires width { length attributes.old ≡ self.now.size.width }
         ensures { attributes.new ≡ attributes_of_row self.now row }
     {
-        self.grid
-            .copy_attributes(row * self.size.width(), attributes);
+        self.grid.copy_attributes(row, attributes);
     }
 }

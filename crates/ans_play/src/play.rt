@@ -1,8 +1,9 @@
 //! The play of bytes over one half-known state.
 
-ghost use Rattle.std.specs.Prelude.{◌≡◌, ◌≢◌, ◌<◌, ◌≤◌, ◌+◌, ℕ, List, [], ◌∷◌, length, take, slice_index_or};
+ghost use Rattle.std.specs.Prelude.{◌≡◌, ◌≢◌, ◌<◌, ◌≤◌, ◌+◌, ◌*◌, ℕ, List, [], ◌∷◌, length, take, set, slice_index_or};
 ghost use Rattle.std.specs.Prelude.{IsOk, IfOk, IfErr, OnOk, OnErr, Some, true};
 ghost use Rattle.ans_model.specs.Bytes.{longest_file, escape};
+ghost use Rattle.ans_model.specs.Screen.Step.{filled};
 ghost use Rattle.ans_model.specs.Sequence.Reads.{kind_of_byte};
 ghost use Rattle.ans_model.specs.Sequence.TokenKind.{Glyph, LineFeed, Tab, Place, EraseLine, Clear};
 ghost use Rattle.ans_model.specs.Sequence.TokenKind.{Save, Restore, Colours, Wrap};
@@ -318,6 +319,38 @@ impl<G: Grid> Play<G> {
     }
 }
 
+/// Makes the cell at a position this one.
+fn put_at<G: Grid>(grid: &mut G, position: Position, cell: HalfCell)
+    requires row { position.row < G.rows_of grid.old }
+    requires column { position.column < G.width_of grid.old }
+    ensures cells { G.cells_of grid.new
+        ≡ set (G.cells_of grid.old) (position.row * G.width_of grid.old + position.column) cell }
+    ensures width { G.width_of grid.new ≡ G.width_of grid.old }
+    ensures rows { G.rows_of grid.new ≡ G.rows_of grid.old }
+{
+    let Position { row, column } = position;
+    grid.fill_row(row, column, column + 1, cell);
+}
+
+/// Makes the cells from a position up to and without cell `to` this one, which mostly stand in one row.
+fn fill_from<G: Grid>(grid: &mut G, from: Position, to: usize, cell: HalfCell)
+    requires row { from.row < G.rows_of grid.old }
+    requires ordered { from.row * G.width_of grid.old + from.column ≤ to }
+    requires within { to ≤ length (G.cells_of grid.old) }
+    ensures cells { G.cells_of grid.new ≡ filled (G.cells_of grid.old)
+        (from.row * G.width_of grid.old + from.column) to cell }
+    ensures width { G.width_of grid.new ≡ G.width_of grid.old }
+    ensures rows { G.rows_of grid.new ≡ G.rows_of grid.old }
+{
+    let Position { row, column } = from;
+    let start = row * grid.width();
+    if to - start <= grid.width() {
+        grid.fill_row(row, column, to - start, cell);
+    } else {
+        grid.fill(start + column, to, cell);
+    }
+}
+
 // The steps: each token plays, or is refused for the fault that it shows.
 impl<G: Grid> Play<G> {
     ghost use Rattle.ans_play.specs.HalfStep.{half_blank, after_move};
@@ -352,8 +385,7 @@ impl<G: Grid> Play<G> {
             glyph: Some(byte),
             attr: self.attribute,
         };
-        self.grid
-            .put(position.row * self.size.width() + position.column, cell);
+        put_at(&mut self.grid, position, cell);
         self.cursor = self.wrap.after_print(position, self.size);
         Ok(())
     }
@@ -366,10 +398,9 @@ impl<G: Grid> Play<G> {
         let position = self.printing_position()?;
         let blanks = tab_blanks(position.column);
         let cursor = self.wrap.after_blanks(position, blanks, self.size)?;
-        let from = position.row * self.size.width() + position.column;
         let to = self.wrap.end_of_blanks(position, blanks, self.size);
         let blank = self.blank();
-        self.grid.fill(from, to, blank);
+        fill_from(&mut self.grid, position, to, blank);
         self.cursor = cursor;
         Ok(())
     }
@@ -422,10 +453,8 @@ impl<G: Grid> Play<G> {
             return Err(Cause::EraseUnknownPlace);
         }
         let Position { row, column } = self.cursor.low;
-        let from = row * self.size.width();
         let blank = self.blank();
-        self.grid
-            .fill(from + column, from + self.size.width(), blank);
+        self.grid.fill_row(row, column, self.size.width(), blank);
         Ok(())
     }
 
@@ -434,8 +463,7 @@ impl<G: Grid> Play<G> {
         ensures { Plays self.old self.new Clear result }
     {
         let blank = self.blank();
-        self.grid
-            .fill(0, (self.size.lines() + 1) * self.size.width(), blank);
+        self.grid.clear(blank);
         self.cursor = Span::at(0, 0);
         Ok(())
     }

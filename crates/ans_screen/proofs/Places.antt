@@ -1,14 +1,14 @@
 -- The elements of a list after some of them are written, and a list that is made of a function of the index.
 use Rattle.std.proofs.Common.{◌≡◌, ℕ, zero, suc, ◌+◌, ◌-◌, ◌*◌, ◌/◌, ◌≤◌, ◌<◌, List, [], ◌∷◌, ◌++◌, take, drop, set}
-use Rattle.std.proofs.Common.{map, ◌%◌}
+use Rattle.std.proofs.Common.{map, ◌%◌, ◌≢◌}
 use Rattle.std.proofs.Common.{replicate, length, get_or, refl, ap, sym, ◌∙◌, arith, inl, inr, ◌⊎◌, append_assoc}
 use Rattle.std.specs.List.{range_with_len}
 use Rattle.std.proofs.lemmas.Bool.{cases_lt}
 use Rattle.std.proofs.lemmas.List.{get_or-take, get_or-drop, get_or_append_left, get_or-append_right, length-append}
 use Rattle.std.proofs.lemmas.List.{length-take-le, length-drop, length-replicate, get_or-replicate, same_lists}
-use Rattle.std.proofs.lemmas.List.{set_split}
+use Rattle.std.proofs.lemmas.List.{set_split, take-append-drop, length-set, get_or-set_other, get_or-set_same}
 use Rattle.std.proofs.lemmas.List.FromFn.{length-map-range_with_len, get_or-map-range_with_len}
-use Rattle.std.proofs.lemmas.Nat.{div-mul-add, div-add-mod', mod_below, div_below, row_fits_turned}
+use Rattle.std.proofs.lemmas.Nat.{div-mul-add, div-add-mod', mod_below, div_below, mul-le, row_fits_turned}
 use Rattle.ans_model.specs.Screen.Step.{filled}
 use Rattle.ans_screen.specs.GridEdits.{written}
 
@@ -75,6 +75,40 @@ module _ {A : Type 0} where
           | inr past ↦
               outside k d (omega arith) (inr past) ∙ sym (written_behind xs from new k d (omega arith) past)
         ]
+      ])
+
+  pub written_none : (xs : List A) (from : ℕ) → written xs from [] ≡ xs
+  written_none xs from =
+      let at : from + 0 ≡ from = omega arith in
+      ap (λ (n : ℕ). take from xs ++ drop n xs) at ∙ take-append-drop from xs
+
+  -- one more element is written behind
+  pub written_more : (xs : List A) (from n : ℕ) (new : List A) (x : A) → length new ≡ n → from + n < length xs
+      → set (written xs from new) (from + n) x ≡ written xs from (new ++ x ∷ [])
+  written_more xs from n new x len room =
+      let longer : length (new ++ x ∷ []) ≡ n + 1 = length-append new (x ∷ []) ∙ omega arith in
+      let size = length-written xs from new (omega arith) in
+      is_written xs (set (written xs from new) (from + n) x) from (new ++ x ∷ [])
+      (length-set (written xs from new) (from + n) x ∙ size) (omega arith)
+      (λ i d lt out.
+      let other : i ≢ from + n = elim out [ inl before ↦ omega arith | inr past ↦ omega arith ] in
+      get_or-set_other (written xs from new) (from + n) i x d other ∙ elim out [
+        | inl before ↦ written_before xs from new i d (omega arith) before
+        | inr past ↦ written_behind xs from new i d (omega arith) (omega arith)
+      ])
+      (λ j d lt. elim (cases_lt j n) [
+        | inl earlier ↦
+            get_or-set_other (written xs from new) (from + n) (from + j) x d (omega arith)
+            ∙ (written_at xs from new j d (omega arith) (omega arith)
+            ∙ sym (get_or_append_left new (x ∷ []) d j (omega arith)))
+        | inr later ↦
+            let at : j ≡ n = omega arith in
+            let none : n - n ≡ 0 = omega arith in
+            ap (λ (k : ℕ). get_or (set (written xs from new) (from + n) x) (from + k) d) at
+            ∙ (get_or-set_same (written xs from new) (from + n) x d (omega arith)
+            ∙ sym (ap (λ (k : ℕ). get_or (new ++ x ∷ []) k d) at
+            ∙ (get_or-append_right new (x ∷ []) n n d len (omega arith)
+            ∙ ap (λ (k : ℕ). get_or (x ∷ []) k d) none)))
       ])
 
   -- ---- a list that is made of a function of the index
@@ -164,6 +198,17 @@ row_end w row rows lt = row_fits_turned row w w rows lt (omega arith)
 
 pub row_below : (w rows i : ℕ) → 0 < w → i < w * rows → i / w < rows
 row_below w rows i some lt = div_below i w rows some (omega arith)
+
+-- each row from that of one place on to that of the last place before another has places between the two
+pub row_between : (w from to row : ℕ) → 0 < w → from < to → from / w ≤ row → row < (to - 1) / w + 1
+    → (row * w < to) × (from < row * w + w)
+row_between w from to row some lt le before =
+    let first = div-add-mod' from w in
+    let column : from % w < w = mod_below from w some in
+    let last = div-add-mod' (to - 1) w in
+    let above : from / w * w ≤ row * w = mul-le (from / w) w row w le (omega arith) in
+    let below : row * w ≤ (to - 1) / w * w = mul-le row w ((to - 1) / w) w (omega arith) (omega arith) in
+    (omega arith, omega arith)
 
 -- the bytes of a plane from `from` up to and without `to`
 pub record IsPart (xs : List ℕ) (from to : ℕ) (part : List ℕ) : Type 0 where

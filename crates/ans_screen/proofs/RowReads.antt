@@ -5,7 +5,7 @@ use Rattle.std.proofs.Common.{bit_and, take, drop, ◌++◌, replicate, inl, inr
 use Rattle.std.specs.List.{position, slice_get}
 use Rattle.std.proofs.lemmas.List.{get_or_default, get_or-drop, length-drop}
 use Rattle.std.proofs.lemmas.List.{get_or-take, length-take-le, length-map}
-use Rattle.std.proofs.lemmas.List.{get_or_read, same_lists}
+use Rattle.std.proofs.lemmas.List.{same_lists}
 use Rattle.std.proofs.lemmas.Bool.{cases_lt}
 use Rattle.std.proofs.lemmas.List.{length-replicate, get_or-replicate}
 use Rattle.std.specs.Int.Bits.{and_zero_r}
@@ -16,27 +16,18 @@ use Rattle.std.proofs.lemmas.Option.{slice_get-get_or}
 use Rattle.ans_screen.specs.HalfCells.{attribute_byte}
 use Rattle.ans_screen.specs.GridEdits.{is_unknown, first_unknown}
 use Rattle.ans_screen.specs.CellPlanes.{cell_of, AreKnown, IsFirstGap}
-use Rattle.ans_screen.specs.RowCells.{byte_cell, cell_in_grid, cells_of_grid, states_of, length_grid, AreKnownCells}
-use Rattle.ans_screen.specs.RowCells.{IsFirstUnknown, IsCopied}
+use Rattle.ans_screen.specs.RowCells.{Stale, Mixed, cell_in_grid, cells_of_grid, states_of, length_grid, AreKnownCells}
+use Rattle.ans_screen.specs.RowCells.{IsFirstUnknown, IsCopied, IsHeldRow}
+use Rattle.ans_screen.specs.declared.plane_grid.Row.{Row}
 use Rattle.ans_screen.specs.declared.plane_grid.PlaneGrid.{PlaneGrid}
 use Rattle.ans_screen.proofs.FirstGap.{known_cell, unknown_cell, known_next, position_none, position_some}
 use Rattle.std.proofs.lemmas.List.Sums.{position_or_len_is}
 use Rattle.ans_screen.specs.declared.cell.HalfCell.{HalfCell}
-use Rattle.ans_screen.specs.declared.plane_grid.RowState.{RowState}
-use Rattle.ans_screen.specs.declared.plane_grid.RowState.TheVariants.{Stale, Mixed}
 use Rattle.ans_screen.proofs.Places.{get_or-map_within, IsPart, written_before, written_at, written_behind}
-use Rattle.ans_screen.proofs.RowCells.{get_cell}
-
--- what is read of a state
-pub state_read : (states : List RowState) (row : ℕ) (x s : RowState) → row < length states → x ≡ get_or states row x
-    → x ≡ s → get_or states row Stale ≡ s
-state_read states row x s lt read e = sym (get_or_read states row x lt read Stale) ∙ e
+use Rattle.ans_screen.proofs.Places.{length-written, row_end}
+use Rattle.ans_screen.proofs.RowCells.{get_cell, cell_in_state}
 
 module _ (g : PlaneGrid) where
-  -- a cell, by its state
-  pub cell_in_state : (s : RowState) (i : ℕ) → states_of g i ≡ s → cell_in_grid g i ≡ byte_cell s g i
-  cell_in_state s i e = ap (λ t. byte_cell t g i) e
-
   -- what is read is cell i
   pub read_cell : {i : ℕ} {x : HalfCell} → i < g.width * g.rows → x ≡ cell_in_grid g i
       → slice_get (cells_of_grid g) i ≡ Some x
@@ -55,7 +46,7 @@ module _ (g : PlaneGrid) where
       ∙ (sym (hk.same (i - from) (omega arith)) ∙ here.0) in
       let b = ap (λ (n : ℕ). get_or g.bits_known n 0) (sym at)
       ∙ (sym (hb.same (i - from) (omega arith)) ∙ here.1) in
-      ap is_unknown (cell_in_state Mixed i (mixed i le lt))
+      ap is_unknown (cell_in_state g Mixed i (mixed i le lt))
       ∙ known_cell (get_or g.glyphs.items i 0) (get_or g.glyphs_known i 0) (get_or g.bits_known i 0)
       (get_or g.values.items i 0) k b
 
@@ -71,7 +62,7 @@ module _ (g : PlaneGrid) where
             (record { same = λ j below. hk.same j (omega arith) })
             (record { same = λ j below. hb.same j (omega arith) })
             (let n : from + i - from ≡ i = omega arith in rw n found.1),
-        ap is_unknown (cell_in_state Mixed (from + i) (mixed (from + i) (omega arith) (omega arith)))
+        ap is_unknown (cell_in_state g Mixed (from + i) (mixed (from + i) (omega arith) (omega arith)))
             ∙ unknown_cell (get_or g.glyphs.items (from + i) 0) (get_or g.glyphs_known (from + i) 0)
             (get_or g.bits_known (from + i) 0) (get_or g.values.items (from + i) 0)
             (λ ek eb. found.2 (known_next ks bs i found.1 (hk.same i lt ∙ ek) (hb.same i lt ∙ eb))),
@@ -118,79 +109,75 @@ module _ (g : PlaneGrid) where
       let value : ℕ = get_or g.values.items i 0 in
       let none : get_or g.bits_known i 0 ≡ 0 =
       ap (λ (xs : List ℕ). get_or xs i 0) e ∙ get_or-replicate n i 0 0 lt in
-      ap attribute_byte (cell_in_state Mixed i mixed) ∙ (ap (λ (b : ℕ). bit_and value b) none ∙ and_zero_r value)
+      ap attribute_byte (cell_in_state g Mixed i mixed) ∙ (ap (λ (b : ℕ). bit_and value b) none ∙ and_zero_r value)
 
 -- a part of a list that is written
 put_is_written : (a k : ℕ) (xs ys : List ℕ) → k ≡ length ys → put_mid a k xs ys ≡ written xs a ys
 put_is_written a k xs ys e =
     ap (λ (zs : List ℕ). take a xs ++ (ys ++ zs)) (drop-drop k a xs ∙ ap (λ (n : ℕ). drop (a + n) xs) e)
 
--- cells of one row, of which those from `first` up to and without `end` are held, and the others are the blank
-copied_row : (f : HalfCell → ℕ) (cell : ℕ → HalfCell) (blank from first end : ℕ) (old copied held : List ℕ)
-    → from ≤ first → first ≤ end → end ≤ from + length old → copied ≡ replicate (length old) blank
-    → length held ≡ end - first
-    → ((i : ℕ) → from ≤ i → i < first → f (cell i) ≡ blank)
-    → ((i : ℕ) → end ≤ i → i < from + length old → f (cell i) ≡ blank)
-    → ((k : ℕ) → k < end - first → get_or held k 0 ≡ f (cell (first + k)))
-    → (k : ℕ) → k < length old
-    → get_or (put_mid (first - from) (end - from - (first - from)) copied held) k 0 ≡ f (cell (from + k))
-copied_row f cell blank from first end old copied held le ordered room is len before after inside k lt =
-    ap (λ (xs : List ℕ). get_or xs k 0)
-    (put_is_written (first - from) (end - from - (first - from)) copied held (omega (arith, len, le, ordered)))
-    ∙ elim (cases_lt k (first - from)) [
-      | inl early ↦
-          written_before copied (first - from) held k 0 (omega (arith, long)) early
-          ∙ (all_blank k lt ∙ sym (before (from + k) (omega arith) (omega arith)))
-      | inr later ↦ elim (cases_lt k (end - from)) [
-        | inl here ↦
-            let at : first - from + (k - (first - from)) ≡ k = omega arith in
-            let cell_at : first + (k - (first - from)) ≡ from + k = omega arith in
-            ap (λ (n : ℕ). get_or (written copied (first - from) held) n 0) (sym at)
-            ∙ (written_at copied (first - from) held (k - (first - from)) 0 (omega (arith, long)) (omega (arith, len))
-            ∙ (inside (k - (first - from)) (omega arith) ∙ ap (λ (n : ℕ). f (cell n)) cell_at))
-        | inr past ↦
-            written_behind copied (first - from) held k 0 (omega (arith, long)) (omega (arith, len))
-            ∙ (all_blank k lt ∙ sym (after (from + k) (omega arith) (omega arith)))
-      ]
+-- what is copied of a row is what its cells have there
+module _ (g : PlaneGrid) (part : HalfCell → ℕ) (row : ℕ) (held : Row) (holds : IsHeldRow g row held)
+    (lt : row < g.rows) (old copied inner : List ℕ) (blank from : ℕ) (is : blank ≡ part g.blank)
+    (at_start : from ≡ row * g.width) (long : length old ≡ g.width) (filled : copied ≡ replicate (length old) blank)
+    (len : length inner ≡ held.end - held.first)
+    (inside : IsCopied part g held.first (held.end - held.first) inner) where
+  abbrev at : ℕ
+  at = held.first - from
+
+  abbrev new : List ℕ
+  new = put_mid at (held.end - from - at) copied inner
+
+  all : length copied ≡ length old
+  all = ap length filled ∙ length-replicate (length old) blank
+
+  new_is : new ≡ written copied at inner
+  new_is = put_is_written at (held.end - from - at) copied inner (omega (arith, len, holds.start, holds.ordered))
+
+  -- a cell that is not held
+  blank_there : (k : ℕ) → k < g.width → states_of g (from + k) ≡ Stale
+      → get_or copied k 0 ≡ part (cell_in_grid g (from + k))
+  blank_there k within e =
+      ap (λ (xs : List ℕ). get_or xs k 0) filled
+      ∙ (get_or-replicate (length old) k blank 0 (omega arith)
+      ∙ (is ∙ ap part (sym (cell_in_state g Stale (from + k) e))))
+
+  copied_each : IsCopied part g from g.width new
+  copied_each k within = ap (λ (xs : List ℕ). get_or xs k 0) new_is ∙ elim (cases_lt k at) [
+    | inl early ↦
+        written_before copied at inner k 0 (omega (arith, all, holds.stop, holds.ordered)) early
+        ∙ blank_there k within (holds.before (from + k) (omega arith) (omega arith))
+    | inr later ↦ elim (cases_lt k (held.end - from)) [
+      | inl here ↦
+          let place : at + (k - at) ≡ k = omega arith in
+          let cell : held.first + (k - at) ≡ from + k = omega (arith, holds.start) in
+          ap (λ (n : ℕ). get_or (written copied at inner) n 0) (sym place)
+          ∙ (written_at copied at inner (k - at) 0 (omega (arith, all, holds.stop, holds.ordered)) (omega (arith, len))
+          ∙ (inside (k - at) (omega arith) ∙ ap (λ (n : ℕ). part (cell_in_grid g n)) cell))
+      | inr past ↦
+          written_behind copied at inner k 0 (omega (arith, all, holds.stop, holds.ordered))
+          (omega (arith, len, holds.start, holds.ordered))
+          ∙ blank_there k within (holds.after (from + k) (omega arith) (omega arith))
     ]
-  where
-    long : length copied ≡ length old
-    long = ap length is ∙ length-replicate (length old) blank
+  ]
 
-    all_blank : (n : ℕ) → n < length old → get_or copied n 0 ≡ blank
-    all_blank n l = ap (λ (xs : List ℕ). get_or xs n 0) is ∙ get_or-replicate (length old) n blank 0 l
-
-module _ (g : PlaneGrid) (part : HalfCell → ℕ) where
-  -- what is copied of a row whose cells from `first` up to and without `end` are held, over the blank's
-  pub copied_held : (old : List ℕ) {copied : List ℕ} (held : List ℕ) {blank from first end : ℕ} → blank ≡ part g.blank
-      → from ≤ first → first ≤ end → end ≤ from + length old → copied ≡ replicate (length old) blank
-      → length held ≡ end - first
-      → ((i : ℕ) → from ≤ i → i < first → states_of g i ≡ Stale)
-      → ((i : ℕ) → end ≤ i → i < from + length old → states_of g i ≡ Stale)
-      → IsCopied part g first (end - first) held
-      → IsCopied part g from (length old) (put_mid (first - from) (end - from - (first - from)) copied held)
-  copied_held old {copied = copied} held {blank = blank} {from = from} {first = first} {end = end}
-      is le ordered room filled len before after inside =
-      let stale : (i : ℕ) → states_of g i ≡ Stale → part (cell_in_grid g i) ≡ blank =
-      λ i e. ap part (cell_in_state g Stale i e) ∙ sym is in
-      copied_row part (cell_in_grid g) blank from first end old copied held le ordered room filled len
-      (λ i from lt. stale i (before i from lt)) (λ i from lt. stale i (after i from lt)) inside
-
-  -- what is copied cell by cell from a part of all cells
-  pub copied_is : (from : ℕ) (old new : List ℕ) → length new ≡ length old → from + length old ≤ g.width * g.rows
-      → IsCopied part g from (length old) new → new ≡ map part (take (length old) (drop from (cells_of_grid g)))
-  copied_is from old new len room copied =
+  pub row_copied : new ≡ map part (take g.width (drop (row * g.width) (cells_of_grid g)))
+  row_copied =
       let cells = cells_of_grid g in
-      let front = take (length old) (drop from cells) in
-      let rest = length-drop from cells in
-      let long : length front ≡ length old =
-      length-take-le (length old) (drop from cells) (omega (arith, length_grid g)) in
+      let front = take g.width (drop (row * g.width) cells) in
+      let room = row_end g.width row g.rows lt in
+      let rest = length-drop (row * g.width) cells in
+      let count : length front ≡ g.width =
+      length-take-le g.width (drop (row * g.width) cells) (omega (arith, length_grid g)) in
       let mapped = length-map front part in
-      same_lists new (map part front) (omega arith) (λ k d lt.
-      let within : k < length old = omega arith in
-      get_or_default new k d 0 lt
-      ∙ (copied k within
-      ∙ (ap part (sym (get_cell g (from + k) g.blank (omega arith)))
-      ∙ (ap part (sym (get_or-take (length old) (drop from cells) k g.blank within
-      ∙ get_or-drop from cells k g.blank))
-      ∙ sym (get_or-map_within part front k g.blank d (omega arith))))))
+      let size : length new ≡ length copied = ap length new_is
+      ∙ length-written copied at inner (omega (arith, len, all, holds.start, holds.stop, holds.ordered)) in
+      same_lists new (map part front) (omega (arith, all)) (λ k d below.
+      let within : k < g.width = omega (arith, all) in
+      get_or_default new k d 0 below
+      ∙ (copied_each k within
+      ∙ (ap (λ (n : ℕ). part (cell_in_grid g (n + k))) at_start
+      ∙ (ap part (sym (get_cell g (row * g.width + k) g.blank (omega arith)))
+      ∙ (ap part (sym (get_or-take g.width (drop (row * g.width) cells) k g.blank within
+      ∙ get_or-drop (row * g.width) cells k g.blank))
+      ∙ sym (get_or-map_within part front k g.blank d (omega arith)))))))

@@ -1,32 +1,29 @@
--- More of a row is held, in two grids of planes.
-use Rattle.std.proofs.Common.{◌≡◌, inl, inr, ℕ, ◌+◌, ◌*◌, ◌≤◌, ◌<◌, ◌≢◌, List, set, min, max, length, get_or, ap, sym}
-use Rattle.std.proofs.Common.{◌∙◌, arith}
-use Rattle.ans_screen.specs.RowCells.{row_cell, state_at, cells_of_rows, states_of, cells_of_grid, HasBlanks, SameBytes}
-use Rattle.ans_screen.specs.RowCells.{ShowsSame}
-use Rattle.ans_screen.specs.declared.plane_grid.Extent.{Extent}
+-- More of a row is held.
+use Rattle.std.proofs.Common.{◌≡◌, ◌≢◌, ℕ, ◌+◌, ◌*◌, ◌/◌, ◌≤◌, ◌<◌, Bool, List, set, min, max, length, get_or, ap, sym}
+use Rattle.std.proofs.Common.{◌∙◌, ◌⊎◌, inl, inr, arith, refl}
+use Rattle.std.proofs.lemmas.Bool.{cases_lt}
+use Rattle.std.proofs.lemmas.Bool.Decides.{eqb_tells}
+use Rattle.std.proofs.lemmas.List.{get_or-set_same, get_or-set_other}
+use Rattle.ans_screen.specs.RowCells.{CellState, Stale, row_cell, state_of, state_in, state_at, cells_of_rows}
+use Rattle.ans_screen.specs.RowCells.{states_of}
+use Rattle.ans_screen.specs.RowCells.{cells_of_grid, cell_in_grid, cell_at, byte_cell, never_written}
+use Rattle.ans_screen.specs.RowCells.{SameBytes, SameRows, HasBlanks, IsMarked, IsHeldRow}
 use Rattle.ans_screen.specs.declared.cell.HalfCell.{HalfCell}
+use Rattle.ans_screen.specs.declared.plane_grid.Row.{Row}
 use Rattle.ans_screen.specs.declared.plane_grid.PlaneGrid.{PlaneGrid}
-use Rattle.ans_screen.specs.declared.plane_grid.RowState.{RowState}
-use Rattle.ans_screen.specs.declared.plane_grid.RowState.TheVariants.{Stale}
 use Rattle.ans_screen.proofs.Places.{row_of, places_of}
-use Rattle.ans_screen.proofs.RowCells.{IsWidened, same_cell, wider, widened_rows, widened_inside, widened_keeps}
+use Rattle.ans_screen.proofs.RowCells.{same_cell, same_byte_cell, cell_in_state, in_held, off_held, same_rows}
 
--- what is known of the row before: these cells of it are held, and no others
-pub record HoldsFrom (g : PlaneGrid) (row first end : ℕ) : Type 0 where
-  pub ordered : first ≤ end
-  pub start : row * g.width ≤ first
-  pub stop : end ≤ row * g.width + g.width
-  pub held : (i : ℕ) → first ≤ i → i < end
-      → state_at g.width g.states.items g.extents.items i ≡ get_or g.states.items row Stale
-  pub before : (i : ℕ) → row * g.width ≤ i → i < first → state_at g.width g.states.items g.extents.items i ≡ Stale
-  pub after : (i : ℕ) → end ≤ i → i < row * g.width + g.width
-      → state_at g.width g.states.items g.extents.items i ≡ Stale
+-- the same after two steps
+same_both : {g mid new : PlaneGrid} → SameRows g mid → SameRows mid new → SameRows g new
+same_both a b = record {
+  held = b.held ∙ a.held;
+  round = b.round ∙ a.round;
+  blank = b.blank ∙ a.blank;
+  width = b.width ∙ a.width;
+  rows = b.rows ∙ a.rows;
+}
 
--- a grid shows the same after two steps
-pub same_after_both : {g mid new : PlaneGrid} → ShowsSame g mid → ShowsSame mid new → ShowsSame g new
-same_after_both a b = record { cells = b.cells ∙ a.cells; width = b.width ∙ a.width; rows = b.rows ∙ a.rows }
-
--- the same bytes after two steps
 two_steps : (g mid new : PlaneGrid) (i : ℕ) → SameBytes g mid i → SameBytes mid new i → SameBytes g new i
 two_steps g mid new i a b = record {
   glyph = b.glyph ∙ a.glyph;
@@ -35,81 +32,137 @@ two_steps g mid new i a b = record {
   value = b.value ∙ a.value;
 }
 
--- more of a row is held, and the grid is otherwise as it was
-pub record Widening (g new : PlaneGrid) (row first end from to : ℕ) : Type 0 where
-  pub width : new.width ≡ g.width
-  pub rows : new.rows ≡ g.rows
-  pub blank : new.blank ≡ g.blank
-  pub states : new.states ≡ g.states
-  pub extents : new.extents ≡ g.extents
-  pub planes : IsWidened g.width row first end from to g.states.items g.extents.items g.blank g.glyphs.items
-      g.glyphs_known g.bits_known g.values.items new.glyphs.items new.glyphs_known new.bits_known new.values.items
+-- What is held of a row is marked, and the blank is written before and behind it.
+pub record IsWidened (g a b c : PlaneGrid) (row from to : ℕ) (held : Row) (known : Bool) : Type 0 where
+  pub row_there : row < length g.held.items
+  pub holds : IsHeldRow g row held
+  pub start : row * g.width ≤ from
+  pub stop : to ≤ row * g.width + g.width
+  pub marks : IsMarked held known g a
+  pub front : HasBlanks (state_of known) a b from held.first
+  pub back : HasBlanks (state_of known) b c held.end to
+  pub marked : SameRows g a
+  pub fronted : SameRows a b
+  pub backed : SameRows b c
 
-module _ {g new : PlaneGrid} {row first end from to : ℕ} (h : Widening g new row first end from to)
-    (ordered : first ≤ end) where
-  abbrev extents_then : List Extent
-  extents_then = set g.extents.items row (wider first end from to)
+-- what is held of the row then
+abbrev pub wider : ℕ → ℕ → ℕ → Row → Bool → Row
+wider round from to held known =
+    record { round = round; known = known; first = min held.first from; end = max held.end to }
+
+module _ {g a b c : PlaneGrid} {row from to : ℕ} {held : Row} {known : Bool}
+    (h : IsWidened g a b c row from to held known) where
+  abbrev w : Row
+  w = wider g.round from to held known
+
+  abbrev rows_then : List Row
+  rows_then = set g.held.items row w
+
+  abbrev states_then : ℕ → CellState
+  states_then = state_at g.width g.round rows_then
+
+  pub widened_frame : SameRows g c
+  widened_frame = same_both (same_both h.marked h.fronted) h.backed
+
+  -- a cell of the row that was not held
+  was_blank : (i : ℕ) → i / g.width ≡ row → (i < held.first) ⊎ (held.end ≤ i) → cell_in_grid g i ≡ g.blank
+  was_blank i at (inl before) =
+      cell_in_state g Stale i (h.holds.before i (places_of g.width row i g.some_width at).0 before)
+  was_blank i at (inr past) =
+      cell_in_state g Stale i (h.holds.after i past (places_of g.width row i g.some_width at).1)
+
+  -- the bytes within stand for the cells that were there
+  stands : (i : ℕ) → w.first ≤ i → i < w.end → i / g.width ≡ row → byte_cell (state_of known) c i ≡ cell_in_grid g i
+  stands i le lt at = elim (cases_lt i held.first) [
+    | inl before ↦
+        same_byte_cell (state_of known) b c i h.backed.blank (h.back.outside i (inl (omega (arith, h.holds.ordered))))
+        ∙ (h.front.inside i (omega arith) before
+        ∙ (h.fronted.blank ∙ h.marked.blank
+        ∙ sym (was_blank i at (inl before))))
+    | inr after ↦ elim (cases_lt i held.end) [
+      | inl within ↦
+          same_byte_cell (state_of known) b c i h.backed.blank (h.back.outside i (inl within))
+          ∙ (same_byte_cell (state_of known) a b i h.fronted.blank (h.front.outside i (inr after))
+          ∙ (h.marks.inside i after within
+          ∙ sym (cell_in_state g (state_of held.known) i (h.holds.inside i after within))))
+      | inr past ↦
+          h.back.inside i past (omega arith)
+          ∙ (widened_frame.blank ∙ sym (was_blank i at (inr past)))
+    ]
+  ]
+
+  -- and the others are as they were
+  stays : (i : ℕ) → (i < w.first) ⊎ (w.end ≤ i) → SameBytes g c i
+  stays i (inl before) =
+      two_steps g a c i (h.marks.outside i (inl (omega arith)))
+      (two_steps a b c i (h.front.outside i (inl (omega arith)))
+      (h.back.outside i (inl (omega (arith, h.holds.ordered)))))
+  stays i (inr past) =
+      two_steps g a c i (h.marks.outside i (inr (omega arith)))
+      (two_steps a b c i (h.front.outside i (inr (omega (arith, h.holds.ordered))))
+      (h.back.outside i (inr (omega arith))))
+
+  in_row : (i : ℕ) → w.first ≤ i → i < w.end → i / g.width ≡ row
+  in_row i le lt =
+      row_of g.width row i (omega (arith, h.holds.start, h.start)) (omega (arith, h.holds.stop, h.stop))
+
+  state_then : (i : ℕ) → i / g.width ≡ row → states_then i ≡ state_in g.round w i
+  state_then i at =
+      ap (λ (n : ℕ). state_in g.round (get_or rows_then n never_written) i) at
+      ∙ ap (λ (r : Row). state_in g.round r i) (get_or-set_same g.held.items row w never_written h.row_there)
+
+  -- the cells within are held
+  pub widened_inside : (i : ℕ) → w.first ≤ i → i < w.end → states_then i ≡ state_of known
+  widened_inside i le lt = state_then i (in_row i le lt) ∙ in_held g.round w i refl le lt
+
+  abbrev cell_then : ℕ → HalfCell
+  cell_then = cell_at states_then g.blank c.glyphs.items c.glyphs_known c.bits_known c.values.items
+
+  -- a cell in some state then
+  in_state : (s : CellState) (i : ℕ) → states_then i ≡ s → cell_then i ≡ byte_cell s c i
+  in_state s i e =
+      ap (λ t. row_cell t g.blank (get_or c.glyphs.items i 0) (get_or c.glyphs_known i 0) (get_or c.bits_known i 0)
+      (get_or c.values.items i 0)) e
+      ∙ ap (λ (x : HalfCell). row_cell s x (get_or c.glyphs.items i 0) (get_or c.glyphs_known i 0)
+      (get_or c.bits_known i 0) (get_or c.values.items i 0)) (sym widened_frame.blank)
+
+  -- a cell that is the blank before and then
+  stale_then : (i : ℕ) → i / g.width ≡ row → (i < w.first) ⊎ (w.end ≤ i) → (i < held.first) ⊎ (held.end ≤ i)
+      → cell_then i ≡ cell_in_grid g i
+  stale_then i at out off =
+      in_state Stale i (state_then i at ∙ off_held g.round w i out)
+      ∙ (widened_frame.blank ∙ sym (was_blank i at off))
+
+  -- a cell of another row
+  same_elsewhere : (i : ℕ) → i / g.width ≢ row → (i < w.first) ⊎ (w.end ≤ i) → cell_then i ≡ cell_in_grid g i
+  same_elsewhere i other out =
+      let state : states_then i ≡ states_of g i =
+      ap (λ (r : Row). state_in g.round r i) (get_or-set_other g.held.items row (i / g.width) w never_written other) in
+      let bytes = stays i out in
+      same_cell (states_then i) (states_of g i) g.blank _ _ _ _ _ _ _ _ state bytes.glyph bytes.glyph_known
+      bytes.bits_known bytes.value
+
+  -- each cell is as it was
+  same_then : (i : ℕ) → cell_then i ≡ cell_in_grid g i
+  same_then i = elim (cases_lt i w.first) [
+    | inl before ↦ elim (eqb_tells (i / g.width) row) [
+      | inl at ↦ stale_then i at.1 (inl before) (inl (omega arith))
+      | inr other ↦ same_elsewhere i other.1 (inl before)
+    ]
+    | inr after ↦ elim (cases_lt i w.end) [
+      | inl within ↦
+          let at = in_row i after within in
+          in_state (state_of known) i (widened_inside i after within) ∙ stands i after within at
+      | inr past ↦ elim (eqb_tells (i / g.width) row) [
+        | inl at ↦ stale_then i at.1 (inr past) (inr (omega arith))
+        | inr other ↦ same_elsewhere i other.1 (inr past)
+      ]
+    ]
+  ]
 
   -- the cells are as they were
-  pub widening_cells : cells_of_rows g.width g.rows (state_at g.width g.states.items extents_then) g.blank
-      new.glyphs.items new.glyphs_known new.bits_known new.values.items ≡ cells_of_grid g
-  widening_cells =
-      widened_rows g.width g.rows row first end from to g.states.items g.extents.items g.blank g.glyphs.items
-      g.glyphs_known g.bits_known g.values.items new.glyphs.items new.glyphs_known new.bits_known new.values.items
-      ordered h.planes
-
-  -- those within are in the row's state
-  pub widening_inside : (i : ℕ) → min first from ≤ i → i < max end to
-      → state_at g.width g.states.items extents_then i ≡ get_or g.states.items row Stale
-  widening_inside =
-      widened_inside g.width g.rows row first end from to g.states.items g.extents.items g.blank g.glyphs.items
-      g.glyphs_known g.bits_known g.values.items new.glyphs.items new.glyphs_known new.bits_known new.values.items
-      ordered h.planes
-
-  -- and those that were held are so in the state that they were in
-  pub widening_keeps : (i : ℕ) → states_of g i ≢ Stale
-      → state_at g.width g.states.items extents_then i ≡ states_of g i
-  widening_keeps =
-      widened_keeps g.width g.rows row first end from to g.states.items g.extents.items g.blank g.glyphs.items
-      g.glyphs_known g.bits_known g.values.items new.glyphs.items new.glyphs_known new.bits_known new.values.items
-      ordered h.planes
-
--- the blank is written before and behind what is held
-pub is_widened : (g mid new : PlaneGrid) (row first end from to : ℕ) (s : RowState)
-    → s ≡ get_or g.states.items row Stale → row < length g.states.items → row < length g.extents.items
-    → HoldsFrom g row first end → row * g.width ≤ from → to ≤ row * g.width + g.width
-    → HasBlanks s g mid from first → HasBlanks s mid new end to → mid.blank ≡ g.blank → new.blank ≡ g.blank
-    → IsWidened g.width row first end from to g.states.items g.extents.items g.blank g.glyphs.items
-    g.glyphs_known g.bits_known g.values.items new.glyphs.items new.glyphs_known
-    new.bits_known new.values.items
-is_widened g mid new row first end from to s is ls le h start stop b d mid_blank new_blank = record {
-  state_there = ls;
-  extent_there = le;
-  inside = h.held;
-  outside = λ i at out.
-      let place = places_of g.width row i g.some_width at in elim out [
-        | inl before ↦ h.before i (omega (arith, place.0)) before
-        | inr past ↦ h.after i past (omega (arith, place.1))
-      ];
-  in_row = λ i after before.
-      row_of g.width row i (omega (arith, h.start)) (omega (arith, h.stop));
-  blanks = λ i gap. elim gap [
-    | inl front ↦
-        let later = d.outside i (inl (omega (arith, front.1, h.ordered))) in
-        same_cell (get_or g.states.items row Stale) s g.blank (get_or mid.glyphs.items i 0)
-        (get_or mid.glyphs_known i 0) (get_or mid.bits_known i 0) (get_or mid.values.items i 0) _ _ _ _
-        (sym is) later.glyph later.glyph_known later.bits_known later.value
-        ∙ (ap (λ (x : HalfCell). row_cell s x (get_or mid.glyphs.items i 0) (get_or mid.glyphs_known i 0)
-        (get_or mid.bits_known i 0) (get_or mid.values.items i 0)) (sym mid_blank)
-        ∙ (b.inside i front.0 front.1 ∙ mid_blank))
-    | inr back ↦
-        ap (λ t. row_cell t g.blank (get_or new.glyphs.items i 0) (get_or new.glyphs_known i 0)
-        (get_or new.bits_known i 0) (get_or new.values.items i 0)) (sym is)
-        ∙ (ap (λ (x : HalfCell). row_cell s x (get_or new.glyphs.items i 0) (get_or new.glyphs_known i 0)
-        (get_or new.bits_known i 0) (get_or new.values.items i 0)) (sym new_blank)
-        ∙ (d.inside i back.0 back.1 ∙ new_blank))
-  ];
-  same = λ i l r.
-      let both = two_steps g mid new i (b.outside i l) (d.outside i r) in
-      (both.glyph, both.glyph_known, both.bits_known, both.value);
-}
+  pub widened_cells : cells_of_rows g.width g.rows states_then g.blank c.glyphs.items c.glyphs_known c.bits_known
+      c.values.items ≡ cells_of_grid g
+  widened_cells =
+      same_rows g.width g.rows (states_of g) states_then g.blank g.glyphs.items g.glyphs_known g.bits_known
+      g.values.items c.glyphs.items c.glyphs_known c.bits_known c.values.items (λ i within. same_then i)

@@ -1,59 +1,67 @@
--- Half-known cells in four byte planes, with a state for each row and the extent of what is held of it.
-use Rattle.std.specs.Prelude.{◌≡◌, ℕ, ◌+◌, ◌*◌, ◌/◌, ◌<◌, ◌≤◌, Bool, false, IsTrue, List, length, map, slice_index}
-use Rattle.std.specs.Prelude.{slice_index_or, nat_lt, if◌then◌else◌, Option, MatchOption, ◌⊎◌}
+-- Half-known cells in four byte planes, of which the rows hold what was written to them in this round.
+use Rattle.std.specs.Prelude.{◌≡◌, ℕ, ◌+◌, ◌*◌, ◌/◌, ◌<◌, ◌≤◌, ◌==◌, Bool, true, false, IsTrue, List, length, map}
+use Rattle.std.specs.Prelude.{slice_index, slice_index_or, nat_lt, if◌then◌else◌, Option, MatchOption, ◌⊎◌}
 use Rattle.std.specs.List.{range_with_len}
 use Rattle.std.proofs.lemmas.List.FromFn.{length-map-range_with_len}
 use Rattle.ans_screen.specs.GridEdits.{is_unknown}
 use Rattle.ans_screen.specs.CellPlanes.{cell_of}
 use Rattle.ans_screen.specs.declared.cell.HalfCell.{HalfCell}
 use Rattle.ans_screen.specs.declared.plane_grid.PlaneGrid.{PlaneGrid}
-use Rattle.ans_screen.specs.declared.plane_grid.Extent.{Extent}
-use Rattle.ans_screen.specs.declared.plane_grid.RowState.{RowState}
-use Rattle.ans_screen.specs.declared.plane_grid.RowState.TheVariants.{Stale, Known, Mixed}
+use Rattle.ans_screen.specs.declared.plane_grid.Row.{Row}
 
--- The cell that a row's state, the blank and four bytes stand for: in a stale row the blank, and in a known row a cell
--- of which the glyph and all bits are known.
-abbrev pub row_cell : RowState → HalfCell → ℕ → ℕ → ℕ → ℕ → HalfCell
+-- how a cell stands in the planes: not at all, in the two of glyphs and of values, or in all four
+pub data CellState : Type 0 where
+  Stale : CellState
+  Known : CellState
+  Mixed : CellState
+
+-- The cell that its state, the blank and four bytes stand for: the blank where it is not held, and by two planes a
+-- cell of which the glyph and all bits are known.
+abbrev pub row_cell : CellState → HalfCell → ℕ → ℕ → ℕ → ℕ → HalfCell
 row_cell Stale blank glyph glyph_known bits_known value = blank
 row_cell Known blank glyph glyph_known bits_known value = cell_of glyph 0xFF 0xFF value
 row_cell Mixed blank glyph glyph_known bits_known value = cell_of glyph glyph_known bits_known value
 
--- no cells
-abbrev pub nowhere : Extent
-nowhere = record { first = 0; end = 0 }
+-- the state of the cells that a row holds, by whether all of them are known
+abbrev pub state_of : Bool → CellState
+state_of true = Known
+state_of false = Mixed
 
--- the state of cell i, where this is its row's and these are the row's cells that are held: outside them it is stale
-abbrev pub state_in : RowState → Extent → ℕ → RowState
-state_in state held i =
-    if nat_lt i held.first then Stale
-    else if nat_lt i held.end then state
+-- a row that was never written
+abbrev pub never_written : Row
+never_written = record { round = 0; known = true; first = 0; end = 0 }
+
+-- the state of cell i in a round, where this is its row
+abbrev pub state_in : ℕ → Row → ℕ → CellState
+state_in round row i =
+    if row.round == round then
+      (if nat_lt i row.first then Stale else if nat_lt i row.end then state_of row.known else Stale)
     else Stale
 
 -- the state of cell i, by its row
-abbrev pub state_at : ℕ → List RowState → List Extent → ℕ → RowState
-state_at width states extents i =
-    state_in (slice_index_or states (i / width) Stale) (slice_index_or extents (i / width) nowhere) i
+abbrev pub state_at : ℕ → ℕ → List Row → ℕ → CellState
+state_at width round held i = state_in round (slice_index_or held (i / width) never_written) i
 
 -- cell i, by the cells' states
-abbrev pub cell_at : (ℕ → RowState) → HalfCell → List ℕ → List ℕ → List ℕ → List ℕ → ℕ → HalfCell
+abbrev pub cell_at : (ℕ → CellState) → HalfCell → List ℕ → List ℕ → List ℕ → List ℕ → ℕ → HalfCell
 cell_at states blank glyphs glyphs_known bits_known values i =
     row_cell (states i) blank (slice_index glyphs i) (slice_index glyphs_known i) (slice_index bits_known i)
     (slice_index values i)
 
 -- all cells
-abbrev pub cells_of_rows : ℕ → ℕ → (ℕ → RowState) → HalfCell → List ℕ → List ℕ → List ℕ → List ℕ → List HalfCell
+abbrev pub cells_of_rows : ℕ → ℕ → (ℕ → CellState) → HalfCell → List ℕ → List ℕ → List ℕ → List ℕ → List HalfCell
 cells_of_rows width rows states blank glyphs glyphs_known bits_known values =
     map (cell_at states blank glyphs glyphs_known bits_known values) (range_with_len 0 (width * rows))
 
 -- a cell for each row and column
-pub length_rows : (w rows : ℕ) (states : ℕ → RowState) (blank : HalfCell) (gs ks bs vs : List ℕ)
+pub length_rows : (w rows : ℕ) (states : ℕ → CellState) (blank : HalfCell) (gs ks bs vs : List ℕ)
     → length (cells_of_rows w rows states blank gs ks bs vs) ≡ w * rows
 length_rows w rows states blank gs ks bs vs =
     length-map-range_with_len (cell_at states blank gs ks bs vs) 0 (w * rows)
 
 -- the states of a grid's cells
-abbrev pub states_of : PlaneGrid → ℕ → RowState
-states_of g = state_at g.width g.states.items g.extents.items
+abbrev pub states_of : PlaneGrid → ℕ → CellState
+states_of g = state_at g.width g.round g.held.items
 
 -- all cells of a grid
 abbrev pub cells_of_grid : PlaneGrid → List HalfCell
@@ -76,23 +84,27 @@ pub record ShowsSame (old new : PlaneGrid) : Type 0 where
   pub width : new.width ≡ old.width
   pub rows : new.rows ≡ old.rows
 
+-- the grids differ in bytes of the planes alone
+pub record SameRows (old new : PlaneGrid) : Type 0 where
+  pub held : new.held ≡ old.held
+  pub round : new.round ≡ old.round
+  pub blank : new.blank ≡ old.blank
+  pub width : new.width ≡ old.width
+  pub rows : new.rows ≡ old.rows
+
+-- this is what a row of the grid holds
+pub record IsHeldRow (g : PlaneGrid) (row : ℕ) (held : Row) : Type 0 where
+  pub round : held.round ≡ g.round
+  pub start : row * g.width ≤ held.first
+  pub ordered : held.first ≤ held.end
+  pub stop : held.end ≤ row * g.width + g.width
+  pub inside : (i : ℕ) → held.first ≤ i → i < held.end → states_of g i ≡ state_of held.known
+  pub before : (i : ℕ) → row * g.width ≤ i → i < held.first → states_of g i ≡ Stale
+  pub after : (i : ℕ) → held.end ≤ i → i < row * g.width + g.width → states_of g i ≡ Stale
+
 -- this part of n cells side by side from cell `from` on is copied
 abbrev pub IsCopied : (HalfCell → ℕ) → PlaneGrid → ℕ → ℕ → List ℕ → Type 0
 IsCopied part g from n copied = (k : ℕ) → k < n → slice_index copied k ≡ part (cell_in_grid g (from + k))
-
--- a cell can be written to the planes in such a state: a known one, or any
-abbrev pub Takes : Bool → RowState → Type 0
-Takes known Stale = ⊥
-Takes known Known = IsTrue known
-Takes known Mixed = Unit {0}
-
--- so they can at the cells from `from` up to and without `to`
-abbrev pub AreOpen : (ℕ → RowState) → Bool → ℕ → ℕ → Type 0
-AreOpen states known from to = (i : ℕ) → from ≤ i → i < to → Takes known (states i)
-
--- the states of those cells are known
-abbrev pub AreKnownStates : (ℕ → RowState) → ℕ → ℕ → Type 0
-AreKnownStates states from to = (i : ℕ) → from ≤ i → i < to → states i ≡ Known
 
 -- of the cells from `from` up to and without `to` each is known
 abbrev pub AreKnownCells : (ℕ → HalfCell) → ℕ → ℕ → Type 0
@@ -112,13 +124,19 @@ pub record SameBytes (old new : PlaneGrid) (i : ℕ) : Type 0 where
   pub value : slice_index new.values.items i ≡ slice_index old.values.items i
 
 -- the cell that the bytes of cell i stand for in this state
-abbrev pub byte_cell : RowState → PlaneGrid → ℕ → HalfCell
+abbrev pub byte_cell : CellState → PlaneGrid → ℕ → HalfCell
 byte_cell state g i =
     row_cell state g.blank (slice_index g.glyphs.items i) (slice_index g.glyphs_known i)
     (slice_index g.bits_known i) (slice_index g.values.items i)
 
 -- from `from` up to and without `to` the bytes of each cell stand for the blank in this state, and the others are as
 -- they were
-pub record HasBlanks (state : RowState) (old new : PlaneGrid) (from to : ℕ) : Type 0 where
+pub record HasBlanks (state : CellState) (old new : PlaneGrid) (from to : ℕ) : Type 0 where
   pub inside : (i : ℕ) → from ≤ i → i < to → byte_cell state new i ≡ new.blank
   pub outside : (i : ℕ) → (i < from) ⊎ (to ≤ i) → SameBytes old new i
+
+-- the bytes of the cells that are held stand for the same cells now, by two planes or by four
+pub record IsMarked (held : Row) (known : Bool) (old new : PlaneGrid) : Type 0 where
+  pub inside : (i : ℕ) → held.first ≤ i → i < held.end
+      → byte_cell (state_of known) new i ≡ byte_cell (state_of held.known) old i
+  pub outside : (i : ℕ) → (i < held.first) ⊎ (held.end ≤ i) → SameBytes old new i

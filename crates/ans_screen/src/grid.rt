@@ -1,6 +1,6 @@
 //! Grids of half-known cells.
 
-ghost use Rattle.std.specs.Prelude.{◌≡◌, ℕ, ◌+◌, ◌*◌, ◌<◌, ◌≤◌, List, length, map, take, drop, set};
+ghost use Rattle.std.specs.Prelude.{◌≡◌, ℕ, ◌+◌, ◌*◌, ◌^◌, ◌<◌, ◌≤◌, List, length, map, take, drop, set};
 ghost use Rattle.std.specs.Prelude.{replicate, slice_get, Some, IfOk};
 ghost use Rattle.ans_model.specs.Bytes.{most_columns};
 ghost use Rattle.ans_model.specs.Screen.Step.{filled};
@@ -13,6 +13,7 @@ use crate::cell::HalfCell;
 use std::alloc::{AllocError, Global};
 
 /// Cells in row order: cell `i` stands in row `i / width` and column `i % width`, counted from 0.
+/// What goes by row and column has a default over the calls that go by cells.
 pub trait Grid: Sized + Drop {
     ghost width_of: { Self → ℕ };
 
@@ -59,8 +60,36 @@ pub trait Grid: Sized + Drop {
         ensures width { width_of self.new ≡ width_of self.old }
         ensures rows { rows_of self.new ≡ rows_of self.old };
 
+    /// The least `i` below `to` whose cell is not known.
+    fn first_unknown(&self, to: usize) -> Option<usize>
+        requires { to ≤ length (cells_of self.now) }
+        ensures { result ≡ first_unknown (cells_of self.now) to };
+
+    /// Makes the cells of a row from column `from` up to and without `to` this one.
+    fn fill_row(&mut self, row: usize, from: usize, to: usize, cell: HalfCell)
+        requires row { row < rows_of self.old }
+        requires ordered { from ≤ to }
+        requires within { to ≤ width_of self.old }
+        ensures cells { cells_of self.new ≡ filled (cells_of self.old)
+            (row * width_of self.old + from) (row * width_of self.old + to) cell }
+        ensures width { width_of self.new ≡ width_of self.old }
+        ensures rows { rows_of self.new ≡ rows_of self.old }
+    {
+        let start = row * self.width();
+        self.fill(start + from, start + to, cell);
+    }
+
+    /// Makes every cell this one.
+    fn clear(&mut self, cell: HalfCell)
+        ensures cells { cells_of self.new ≡ replicate (width_of self.old * rows_of self.old) cell }
+        ensures width { width_of self.new ≡ width_of self.old }
+        ensures rows { rows_of self.new ≡ rows_of self.old }
+    {
+        self.fill(0, self.width() * self.rows(), cell);
+    }
+
     /// Writes the first `count` bytes side by side in a row from a column on, each with this
-    /// attribute. The bytes after them are not written. The row and the column are counted from 0.
+    /// attribute. The bytes after them are not written.
     fn write_run(&mut self, row: usize, column: usize, bytes: &[u8], count: usize, attr: Attr)
         requires count { count ≤ length bytes.now }
         requires row { row < rows_of self.old }
@@ -68,26 +97,47 @@ pub trait Grid: Sized + Drop {
         ensures cells { cells_of self.new ≡ written (cells_of self.old)
             (row * width_of self.old + column) (printed_run attr (take count bytes.now)) }
         ensures width { width_of self.new ≡ width_of self.old }
-        ensures rows { rows_of self.new ≡ rows_of self.old };
+        ensures rows { rows_of self.new ≡ rows_of self.old }
+    {
+        let from = row * self.width() + column;
+        for i in 0..count {
+            let cell = HalfCell {
+                glyph: Some(bytes[i]),
+                attr,
+            };
+            self.put(from + i, cell);
+        }
+    }
 
-    /// The least `i` below `to` whose cell is not known.
-    fn first_unknown(&self, to: usize) -> Option<usize>
-        requires { to ≤ length (cells_of self.now) }
-        ensures { result ≡ first_unknown (cells_of self.now) to };
-
-    /// Copies the glyphs of cells side by side from cell `from` on: 0 for one that is not known.
-    fn copy_glyphs(&self, from: usize, glyphs: &mut [u8])
-        requires { from + length glyphs.old ≤ length (cells_of self.now) }
+    /// Copies the glyphs of a row: 0 for one that is not known.
+    fn copy_glyphs(&self, row: usize, glyphs: &mut [u8])
+        requires row { row < rows_of self.now }
+        requires width { length glyphs.old ≡ width_of self.now }
         ensures { glyphs.new
-            ≡ map glyph_byte (take (length glyphs.old) (drop from (cells_of self.now))) };
+            ≡ map glyph_byte (take (width_of self.now) (drop (row * width_of self.now) (cells_of self.now))) }
+    {
+        let from = row * self.width();
+        for i in 0..glyphs.len() {
+            glyphs[i] = self.get(from + i).glyph_byte();
+        }
+    }
 
-    /// Copies the attributes' values of cells side by side from cell `from` on, with 0 for each bit
-    /// that is not known.
-    fn copy_attributes(&self, from: usize, values: &mut [u8])
-        requires { from + length values.old ≤ length (cells_of self.now) }
+    /// Copies the attributes' values of a row, with 0 for each bit that is not known.
+    fn copy_attributes(&self, row: usize, values: &mut [u8])
+        requires row { row < rows_of self.now }
+        requires width { length values.old ≡ width_of self.now }
         ensures { values.new
-            ≡ map attribute_byte (take (length values.old) (drop from (cells_of self.now))) };
+            ≡ map attribute_byte (take (width_of self.now) (drop (row * width_of self.now) (cells_of self.now))) }
+    {
+        let from = row * self.width();
+        for i in 0..values.len() {
+            values[i] = self.get(from + i).attribute_byte();
+        }
+    }
 
     // a cell for each row and column
     ghost whole: { (g : Self) → length (cells_of g) ≡ width_of g * rows_of g };
+
+    // each cell has an index
+    ghost indexed: { (g : Self) → width_of g * rows_of g < 2 ^ 64 };
 }

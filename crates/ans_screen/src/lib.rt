@@ -2,11 +2,11 @@
 //!
 //! An attribute is known by its bits, a glyph whole or not at all. [`Attr::apply`] keeps all that
 //! can be known, and no more. A [`Grid`] is a width, a number of rows and a list of half-known
-//! cells in row order; each call of it is exact. [`PlainGrid`] is a vector of cells, [`PlaneGrid`]
-//! four planes of bytes, and a state and an extent for each row. The definitions stand in
-//! `specs/KnownBits.antt`, `specs/HalfCells.antt` and `specs/GridEdits.antt`;
-//! `specs/CellPlanes.antt` says which cell four bytes stand for, and `specs/RowCells.antt` which
-//! cells planes and states do.
+//! cells in row order; each call of it is exact, and both grids keep that one contract.
+//! [`PlainGrid`] is a vector of cells, [`PlaneGrid`] four planes of bytes and a record for each row.
+//! The definitions stand in `specs/KnownBits.antt`, `specs/HalfCells.antt` and
+//! `specs/GridEdits.antt`; `specs/CellPlanes.antt` says which cell four bytes stand for, and
+//! `specs/RowCells.antt` which cells planes and rows do.
 #![tactic(auto)]
 
 mod attr;

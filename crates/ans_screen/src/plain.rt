@@ -1,9 +1,7 @@
 //! A grid that is a vector of cells.
 
-ghost use Rattle.std.specs.Prelude.{◌≡◌, ◌*◌, length};
-ghost use Rattle.ans_screen.specs.GridEdits.{printed_run};
+ghost use Rattle.std.specs.Prelude.{◌≡◌, ◌*◌, ◌^◌, ◌<◌, length};
 
-use crate::attr::Attr;
 use crate::cell::HalfCell;
 use crate::grid::Grid;
 use std::alloc::{AllocError, Global};
@@ -15,18 +13,7 @@ pub struct PlainGrid {
     rows: usize,
     items: Vec<HalfCell>,
     ghost whole: { length items.items ≡ width * rows },
-}
-
-fn print_cells(cells: &mut [HalfCell], bytes: &[u8], attr: Attr)
-    requires { length bytes.now ≡ length cells.old }
-    ensures { cells.new ≡ printed_run attr bytes.now }
-{
-    for i in 0..bytes.len() {
-        cells[i] = HalfCell {
-            glyph: Some(bytes[i]),
-            attr,
-        };
-    }
+    ghost indexed: { width * rows < 2 ^ 64 },
 }
 
 impl Grid for PlainGrid {
@@ -61,26 +48,11 @@ impl Grid for PlainGrid {
         self.items[from..to].fill(cell);
     }
 
-    fn write_run(&mut self, row: usize, column: usize, bytes: &[u8], count: usize, attr: Attr) {
-        let from = row * self.width + column;
-        print_cells(&mut self.items[from..from + count], &bytes[..count], attr);
-    }
-
     fn first_unknown(&self, to: usize) -> Option<usize> {
         self.items[..to].iter().position(|cell| !cell.is_known())
     }
 
-    fn copy_glyphs(&self, from: usize, glyphs: &mut [u8]) {
-        for i in 0..glyphs.len() {
-            glyphs[i] = self.items[from + i].glyph_byte();
-        }
-    }
-
-    fn copy_attributes(&self, from: usize, values: &mut [u8]) {
-        for i in 0..values.len() {
-            values[i] = self.items[from + i].attribute_byte();
-        }
-    }
-
     ghost whole = { λ g. g.whole };
+
+    ghost indexed = { λ g. g.indexed };
 }

@@ -61,6 +61,13 @@ fn edit_a_row<G: Grid>(rt: &impl Abort, alloc: Global) -> Result<(), Fail> {
     assert_eq!(rt; grid.get(1), HalfCell::known(b'H', 0x4E));
     assert_eq!(rt; grid.get(2), HalfCell::known(b'i', 0x4E));
     assert_eq!(rt; grid.get(3), HalfCell::known(b' ', 0x07));
+    grid.clear(HalfCell::known(b'.', 0x07));
+    grid.fill_row(0, 1, 3, HalfCell::known(b'x', 0x1F));
+    let mut copied = [0; 33];
+    grid.copy_glyphs(0, &mut copied);
+    assert_eq!(rt; &copied[..4], b".xx.".as_slice());
+    grid.copy_attributes(0, &mut copied);
+    assert_eq!(rt; &copied[..4], [0x07, 0x1F, 0x1F, 0x07].as_slice());
     Ok(())
 }
 
@@ -165,6 +172,7 @@ fn cell_of(content: Content) -> HalfCell {
 enum Edit {
     Clear(Content),
     Fill(usize, usize, Content),
+    FillRow(usize, usize, usize, Content),
     Put(usize, Content),
     Run(usize, usize, usize, Content),
 }
@@ -177,12 +185,18 @@ fn apply<G: Grid>(grid: &mut G, edit: &Edit) -> bool
     ensures rows { G.rows_of grid.new ≡ 3 }
 {
     match edit {
-        Edit::Clear(content) => grid.fill(0, 99, cell_of(*content)),
+        Edit::Clear(content) => grid.clear(cell_of(*content)),
         Edit::Fill(from, to, content) => {
             if *from > *to || *to > 99 {
                 return false;
             }
             grid.fill(*from, *to, cell_of(*content));
+        }
+        Edit::FillRow(row, from, to, content) => {
+            if *row >= 3 || *from > *to || *to > 33 {
+                return false;
+            }
+            grid.fill_row(*row, *from, *to, cell_of(*content));
         }
         Edit::Put(i, content) => {
             if *i >= 99 {
@@ -201,38 +215,37 @@ fn apply<G: Grid>(grid: &mut G, edit: &Edit) -> bool
     true
 }
 
-/// The cells from `from` on, copied from both grids.
-fn compare_copies<A: Grid, B: Grid>(rt: &impl Abort, grid: &A, model: &B, from: usize, count: usize)
-    requires grid { length (A.cells_of grid.now) ≡ 99 }
-    requires model { length (B.cells_of model.now) ≡ 99 }
-    requires within { from + count ≤ 99 }
+/// A row of 33 cells, copied from both grids.
+fn compare_copies<A: Grid, B: Grid>(rt: &impl Abort, grid: &A, model: &B, row: usize)
+    requires grid_width { A.width_of grid.now ≡ 33 }
+    requires grid_row { row < A.rows_of grid.now }
+    requires model_width { B.width_of model.now ≡ 33 }
+    requires model_row { row < B.rows_of model.now }
 {
-    let mut copied = [0xEE; 99];
-    let mut expected = [0xEE; 99];
-    grid.copy_glyphs(from, &mut copied[..count]);
-    model.copy_glyphs(from, &mut expected[..count]);
-    assert_eq!(rt; copied, expected, "glyphs from {from}, {count}");
-    grid.copy_attributes(from, &mut copied[..count]);
-    model.copy_attributes(from, &mut expected[..count]);
-    assert_eq!(rt; copied, expected, "attributes from {from}, {count}");
+    let mut copied = [0xEE; 33];
+    let mut expected = [0xEE; 33];
+    grid.copy_glyphs(row, &mut copied);
+    model.copy_glyphs(row, &mut expected);
+    assert_eq!(rt; copied, expected, "glyphs of row {row}");
+    grid.copy_attributes(row, &mut copied);
+    model.copy_attributes(row, &mut expected);
+    assert_eq!(rt; copied, expected, "attributes of row {row}");
 }
 
 /// All that two grids answer.
 fn compare_answers<A: Grid, B: Grid>(rt: &impl Abort, grid: &A, model: &B)
-    requires grid { length (A.cells_of grid.now) ≡ 99 }
-    requires model { length (B.cells_of model.now) ≡ 99 }
+    requires grid_width { A.width_of grid.now ≡ 33 }
+    requires grid_rows { A.rows_of grid.now ≡ 3 }
+    requires model_width { B.width_of model.now ≡ 33 }
+    requires model_rows { B.rows_of model.now ≡ 3 }
 {
     for i in 0..99 {
         assert_eq!(rt; grid.get(i), model.get(i), "cell {i}");
         assert_eq!(rt; grid.first_unknown(i), model.first_unknown(i), "to {i}");
     }
     assert_eq!(rt; grid.first_unknown(99), model.first_unknown(99));
-    for from in 0..99 {
-        compare_copies(rt, grid, model, from, 1);
-        compare_copies(rt, grid, model, from, 99 - from);
-    }
     for row in 0..3 {
-        compare_copies(rt, grid, model, 33 * row, 33);
+        compare_copies(rt, grid, model, row);
     }
 }
 
@@ -256,16 +269,18 @@ fn edit_both<A: Grid, B: Grid, const N: usize>(
     }
 }
 
-/// The same, of a grid of planes and a plain one.
+/// The same, of a plain grid and two grids of planes, of which one is near its last round.
 fn compare_edits<const N: usize>(
     rt: &impl Abort,
     alloc: Global,
     start: Content,
     edits: &[Edit; N],
 ) -> Result<(), Fail> {
-    let mut planes = PlaneGrid::new(alloc, 33, 3, cell_of(start))?;
-    let mut plain = PlainGrid::new(alloc, 33, 3, cell_of(start))?;
-    edit_both(rt, &mut planes, &mut plain, edits);
+    for round in [1, u32::MAX - 2] {
+        let mut planes = PlaneGrid::in_round(alloc, 33, 3, cell_of(start), round)?;
+        let mut plain = PlainGrid::new(alloc, 33, 3, cell_of(start))?;
+        edit_both(rt, &mut planes, &mut plain, edits);
+    }
     Ok(())
 }
 
@@ -295,6 +310,7 @@ fn fills_of_each_length(rt: HostRuntime) -> Result<(), Fail> {
                 Edit::Fill(from, from + count, Content::Letter),
                 Edit::Fill(99 - count, 99, Content::Unknown),
                 Edit::Put(98, Content::Letter),
+                Edit::FillRow(1, from.min(count).min(33), from, Content::NoGlyph),
             ];
             compare_edits(&rt, rt.alloc(), Content::Blank, &edits)?;
             compare_edits(&rt, rt.alloc(), Content::Unknown, &edits)?;
@@ -323,8 +339,9 @@ fn clear_and_write(
         Edit::Fill(70, 71, half),
         Edit::Run(2, 24, 9, Content::SomeBits),
         Edit::Clear(blank),
-        Edit::Clear(Content::Unknown),
+        Edit::Fill(0, 99, Content::Unknown),
         Edit::Fill(20, 80, Content::Letter),
+        Edit::FillRow(2, 11, 22, half),
     ];
     compare_edits(rt, alloc, Content::Letter, &edits)?;
     compare_edits(rt, alloc, half, &edits)

@@ -6,11 +6,12 @@ use Rattle.ans_play.proofs.play.Play.erase_line.Goals as goal
 pub invariant_of-self : goal.invariant_of-self
 invariant_of-self g c =
     let attribute : IsByte c.args.self.now.state.attribute.value = rw (← c.self.view_is) c.self.invariant.attribute in
+    let row = c.self.inside.cursor.low.row in
+    let w = g.G.Grid.width_of c.self.inside.grid in
     record {
-      cells = cc (g.met.G.Grid.whole c.fill.new.self, g.met.G.Grid.whole c.self.inside.grid);
-      bytes = filled_bytes _ (c.self.inside.cursor.low.row * c.width.result + c.self.inside.cursor.low.column)
-          (c.self.inside.cursor.low.row * c.width.result + c.width-2.result) c.fill.ensures.cells
-          c.blank-blank.ensures attribute c.self.invariant.bytes;
+      cells = cc (g.met.G.Grid.whole c.fill_row.new.self, g.met.G.Grid.whole c.self.inside.grid);
+      bytes = filled_bytes _ (row * w + c.self.inside.cursor.low.column) (row * w + c.width.result)
+          c.fill_row.ensures.cells c.blank-blank.ensures attribute c.self.invariant.bytes;
       attribute = c.self.invariant.attribute;
       cursor = c.self.invariant.cursor;
       saved = c.self.invariant.saved;

@@ -8,15 +8,19 @@ use Rattle.ans_play.proofs.play.Play.finish.Goals as goal
 
 pub new-requires : goal.new-requires
 new-requires g c = record {
-  enough = omega (
-    arith,
-    c.self.invariant.cells,
-    mul-le c.self.inside.size.lines c.self.inside.size.width (c.self.inside.size.lines + 1) c.self.inside.size.width
-        (omega arith) (omega arith),
-  );
-  known = known_if (g.G.Grid.cells_of c.self.inside.grid) (c.self.inside.size.lines * c.self.inside.size.width)
-      (rw (c.lines.ensures.lines, c.width-width.ensures.width) at (sym c.first_unknown.ensures ∙ c.in-None.is));
-  bytes = c.self.invariant.bytes;
+  shown = record {
+    enough = omega (
+      arith,
+      c.self.invariant.cells,
+      mul-le c.self.inside.size.lines c.self.inside.size.width (c.self.inside.size.lines + 1) c.self.inside.size.width
+          (omega arith) (omega arith),
+    );
+    known = known_if (g.G.Grid.cells_of c.self.inside.grid) (c.self.inside.size.lines * c.self.inside.size.width)
+        (rw (c.lines.ensures.lines, c.width-width.ensures.width) at (sym c.first_unknown.ensures ∙ c.in-None.is));
+    bytes = c.self.invariant.bytes;
+  };
+  width = c.self.inside.grid_width;
+  rows = omega (arith, c.self.inside.grid_rows);
 }
 
 pub returns-in-None-clause-ends : goal.returns-in-None-clause-ends

@@ -50,9 +50,10 @@ pub invariant_of-self : goal.invariant_of-self
 invariant_of-self g c =
     let attribute : IsByte c.args.self.now.state.attribute.value = rw (← c.self.view_is) c.self.invariant.attribute in
     record {
-      cells = cc (g.met.G.Grid.whole c.fill.new.self, g.met.G.Grid.whole c.self.inside.grid);
-      bytes = filled_bytes _ (c.in_ok-position.position.row * c.width.result + c.in_ok-position.position.column)
-          c.end_of_blanks-to.result c.fill.ensures.cells c.blank-blank.ensures attribute c.self.invariant.bytes;
+      cells = cc (g.met.G.Grid.whole c.fill_from.new.grid, g.met.G.Grid.whole c.self.inside.grid);
+      bytes = filled_bytes _ (c.in_ok-position.position.row * g.G.Grid.width_of c.self.inside.grid
+          + c.in_ok-position.position.column)
+          c.end_of_blanks-to.result c.fill_from.ensures.cells c.blank-blank.ensures attribute c.self.invariant.bytes;
       attribute = c.self.invariant.attribute;
       cursor = c.in_ok-cursor.ensures.on_screen;
       saved = c.self.invariant.saved;
@@ -75,8 +76,8 @@ returns g c =
       run.0,
       ap (λ (h : HalfState). play_view c.self.inside.size c.self.inside.scanner h)
           (same_run _ _ _ _ c.self.inside.saved c.self.inside.attribute c.self.inside.wrap
-          (rw (c.width.ensures.width, c.end_of_blanks-to.ensures, c.tab_blanks-blanks.ensures, here g at, blank)
-          at c.fill.ensures.cells)
+          (rw (c.self.inside.grid_width, c.end_of_blanks-to.ensures, c.tab_blanks-blanks.ensures, here g at, blank)
+          at c.fill_from.ensures.cells)
           (rw (c.tab_blanks-blanks.ensures, here g at) at c.in_ok-cursor.ensures.after)
           ∙ sym run.1),
     )

@@ -1,17 +1,13 @@
-use Rattle.std.proofs.Common.{◌≡◌, ◌<◌, ◌≤◌, ℕ, length, arith, refl, ◌∙◌}
-use Rattle.ans_screen.specs.RowCells.{states_of}
-use Rattle.ans_screen.specs.declared.plane_grid.RowState.TheVariants.{Mixed}
+use Rattle.std.proofs.Common.{◌≡◌, ◌<◌, ◌≤◌, ℕ, refl, ap, ◌∙◌}
+use Rattle.ans_screen.specs.RowCells.{states_of, Mixed, state_of}
 use Rattle.ans_screen.proofs.Places.{is_part}
-use Rattle.ans_screen.proofs.RowReads.{state_read, gap_none, gap_some}
+use Rattle.ans_screen.proofs.RowReads.{gap_none, gap_some}
 use Rattle.ans_screen.proofs.plane_grid.PlaneGrid.first_unknown_held.Goals as goal
 use Rattle.ans_screen.proofs.plane_grid.PlaneGrid.first_unknown_held.Goals.{After-first_gap_from}
 
--- the cells are mixed, as their row
+-- all four planes count for the cells
 mixed : (c : After-first_gap_from) (i : ℕ) → c.args.from ≤ i → i < c.args.to → states_of c.args.self.now i ≡ Mixed
-mixed c i le lt =
-    let row : c.args.row < length c.args.self.now.states.items = omega arith in
-    c.requires.held i le lt
-    ∙ state_read c.args.self.now.states.items c.args.row _ Mixed row c.index.ensures c.in-Mixed.is
+mixed c i le lt = c.requires.held i le lt ∙ ap state_of c.if-known.false
 
 pub returns-in-Some : goal.returns-in-Some
 returns-in-Some c =

@@ -1,20 +1,11 @@
-use Rattle.std.proofs.Common.{arith, sym}
-use Rattle.std.proofs.lemmas.Option.{get_or_from_slice_get}
+use Rattle.std.proofs.Common.{rules, ◌≡◌, length, replicate, arith}
 use Rattle.ans_screen.specs.HalfCells.{attribute_byte}
-use Rattle.ans_screen.specs.RowCells.{cells_of_grid, length_grid}
-use Rattle.ans_screen.proofs.Copies.{copied_from}
-use Rattle.ans_screen.proofs.RowReads.{copied_is}
+use Rattle.ans_screen.proofs.RowReads.{row_copied}
 use Rattle.ans_screen.proofs.plane_grid.cells.PlaneGridGrid.copy_attributes.Goals as goal
 
-pub loop-i-preserved : goal.loop-i-preserved
-loop-i-preserved c =
-    let cells = cells_of_grid c.args.self.now in
-    rw c.loop-i.invariant
-    (copied_from attribute_byte cells c.args.values.now c.args.from c.loop-i.i c.get.result c.attribute_byte.result
-    (sym (get_or_from_slice_get cells _ _ _ c.get.ensures)) c.attribute_byte.ensures
-    (omega (arith, length_grid c.args.self.now)) (omega arith))
-
-pub returns-in-Some : goal.returns-in-Some
-returns-in-Some c =
-    copied_is c.args.self.now attribute_byte c.args.from c.args.values.now _ c.copy_row_attributes.auto.values
-    (omega (arith, length_grid c.args.self.now)) c.copy_row_attributes.ensures
+pub returns : goal.returns
+returns c =
+    let filled : c.fill.new.self ≡ replicate (length c.args.values.now) c.attribute_byte.result = search rules in
+    row_copied c.args.self.now attribute_byte c.args.row c.held_row-held.result c.held_row-held.ensures c.requires.row
+    c.args.values.now _ _ _ _ c.attribute_byte.ensures c.row_start-start.ensures.start c.requires.width filled
+    (omega (arith, c.copy_held_attributes.auto.values)) (λ k lt. c.copy_held_attributes.ensures k (omega (arith, lt)))

@@ -5,20 +5,21 @@ use Rattle.ans_screen.specs.RowCells.{length_grid}
 use Rattle.ans_screen.proofs.RowReads.{first_of_grid}
 use Rattle.ans_screen.proofs.plane_grid.cells.PlaneGridGrid.first_unknown.Goals as goal
 
-pub returns-then-from-to : goal.returns-then-from-to
-returns-then-from-to c =
+pub returns-then-start-to : goal.returns-then-start-to
+returns-then-start-to c =
     first_of_grid c.args.self.now c.args.to None (omega (arith, length_grid c.args.self.now))
     (λ i start lt. c.loop-row.invariant i (omega arith) lt)
 
 pub returns-in-Some : goal.returns-in-Some
 returns-in-Some c =
     let found = c.in-Some.ensures in
+    let start = c.row_start-start.ensures.start in
     first_of_grid c.args.self.now c.args.to (Some c.in-Some.i) (omega (arith, length_grid c.args.self.now)) (
       omega arith,
-      omega (arith, found.1, c.min-end.ensures),
-      λ i start lt. elim (cases_lt i c.row_start-from.result) [
-        | inl before ↦ c.loop-row.invariant i (omega arith) (omega (arith, found.1, c.min-end.ensures))
-        | inr after ↦ found.2 i after lt
+      omega (arith, found.1, c.min.ensures),
+      λ i first lt. elim (cases_lt i c.row_start-start.result) [
+        | inl before ↦ c.loop-row.invariant i (omega (arith, start)) (omega (arith, found.1, c.min.ensures))
+        | inr after ↦ found.2 i (omega (arith, start)) lt
       ],
       found.3,
     )

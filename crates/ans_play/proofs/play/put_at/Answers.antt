@@ -1,0 +1,18 @@
+use Rattle.std.proofs.Common.{◌≡◌, ◌*◌, ◌+◌, ℕ, arith, ap, ◌∙◌}
+use Rattle.ans_model.specs.Screen.Step.{filled}
+use Rattle.ans_screen.proofs.Places.{filled_one, row_end}
+use Rattle.ans_play.proofs.play.put_at.Goals as goal
+
+pub returns-clause-cells : goal.returns-clause-cells
+returns-clause-cells g c =
+    let grid = c.args.grid.now in
+    let cells = g.G.Grid.cells_of grid in
+    let at = c.args.position.row * g.G.Grid.width_of grid + c.args.position.column in
+    let next : c.args.position.row * g.G.Grid.width_of grid + (c.args.position.column + 1) ≡ at + 1 = omega arith in
+    c.fill_row.ensures.cells
+    ∙ (ap (λ (n : ℕ). filled cells at n c.args.cell) next
+    ∙ filled_one cells at c.args.cell (omega (
+      arith,
+      g.met.G.Grid.whole grid,
+      row_end (g.G.Grid.width_of grid) c.args.position.row (g.G.Grid.rows_of grid) c.requires.row,
+    )))
