@@ -1,5 +1,5 @@
 -- How an attribute looks: two of the sixteen colours, and whether its character blinks.
-use Rattle.std.specs.Prelude.{ℕ, ◌+◌, ◌*◌, ◌/◌, ◌%◌, Bool, true, false, not, ◌&&◌, nat_le, if◌then◌else◌}
+use Rattle.std.specs.Prelude.{ℕ, ◌+◌, ◌*◌, ◌/◌, ◌%◌, Bool, false, not, ◌&&◌, nat_le, if◌then◌else◌}
 
 -- The colours by number: bits 0 to 2 are blue, green and red, bit 3 is bright.
 pub record Look : Type 0 where

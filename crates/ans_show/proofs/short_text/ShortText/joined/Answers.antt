@@ -1,5 +1,4 @@
-use Rattle.std.proofs.Common.{◌≡◌, length, arith, length-append}
-use Rattle.ans_show.specs.ShortTexts.{text_of}
+use Rattle.std.proofs.Common.{arith, length-append}
 use Rattle.ans_show.proofs.short_text.ShortText.joined.Goals as goal
 
 pub then-requires : goal.then-requires
