@@ -13,7 +13,8 @@ It finds each line of that text by itself, from the words of its definitions:
   scrolls, and the first lines show the picture;
 - `mend`: behind these bytes it plays the content from eight starts of any kind: there is no fault, and
   the picture is that from the cleared start;
-- the bytes to blame, and each hint with its count and its first offset.
+- the bytes to blame, and each hint with its count and its first offset. On a refusal the tokens count up to
+  the one to blame; what they are judged by may stand behind it.
 
 It follows the rules as this project states them, so it cannot tell a rule that both misread. Run it in
 `crates/anscheck`, on the built program, with a number that seeds the contents and how many there shall be:
@@ -168,9 +169,9 @@ def is_wide(text):
         return False
 
 
-def hints_of_token(token, machine, text, end):
-    """The hints of a token, with its offset or that of the line end behind it. It ends at `end` of the text."""
-    rest = text[end:]
+def hints_of_token(token, machine, content, end):
+    """The hints of a token, with its offset or that of the line end behind it. It ends at `end` of the content."""
+    rest = content[end:]
     if token[0] == "linefeed":
         return {"loose line feed": end - 1} if machine.column > 0 and rest[:1] != b"\r" else {}
     if token[0] == "colours":
@@ -180,7 +181,7 @@ def hints_of_token(token, machine, text, end):
     wraps = machine.column == machine.width - 1 and machine.wrap
     found = {
         "full row": wraps and (rest[:1] == b"\n" or rest[:2] == b"\r\n"),
-        "UTF-8": is_wide(text[end - 1:]),
+        "UTF-8": is_wide(content[end - 1:]),
         "blinking": machine.attribute & 0x80,
     }
     return {what: end if what == "full row" else end - 1 for what in found if found[what]}
@@ -198,13 +199,13 @@ def rows_printed(token, machine):
     return rows
 
 
-def hint_lines(text, width, lines, flags, font, all_is_played):
-    """The lines of the hints of bytes that are read as tokens, and of the font."""
+def hint_lines(content, last, width, lines, flags, font, all_is_played):
+    """The lines of the hints of the bytes before `last`, which are read as tokens, and of the font."""
     machine, offsets, printed = cleared(width, lines), collections.defaultdict(list), {-1}
-    tokens = read(text)[0]
-    ends = [offset for offset, _ in tokens[1:]] + [len(text)]
+    tokens = read(content[:last])[0]
+    ends = [offset for offset, _ in tokens[1:]] + [last]
     for (offset, token), end in zip(tokens, ends):
-        for what, place in hints_of_token(token, machine, text, end).items():
+        for what, place in hints_of_token(token, machine, content, end).items():
             offsets[what].append(offset if place is None else place)
         printed.update(rows_printed(token, machine))
     if flags & 1:
@@ -253,7 +254,7 @@ def pass_lines(chance, content, width, lines, needs, picture):
 
 
 def refusal_lines(chance, content, width, lines):
-    """The lines of a refusal but those of hints, and where the bytes end of which hints are given."""
+    """The lines of a refusal but those of hints, and where the tokens end of which hints are given."""
     machine = cleared(width, lines)
     offset, number = fault_in(content, [machine])
     blamed = to_blame(content, offset)
@@ -270,10 +271,10 @@ def why(chance, content, width, lines, flags, font):
     picture = answer(content, [cleared(width, lines)])
     if isinstance(picture, str):
         said, end = refusal_lines(chance, content, width, lines)
-        return [size] + said + hint_lines(content[:end], width, lines, flags, font, False), 1
+        return [size] + said + hint_lines(content, end, width, lines, flags, font, False), 1
     needs = needs_answer(chance, content, width, lines)
     said = pass_lines(chance, content, width, lines, needs, picture)
-    return [size] + said + hint_lines(content, width, lines, flags, font, True), 0
+    return [size] + said + hint_lines(content, len(content), width, lines, flags, font, True), 0
 
 
 # Contents.

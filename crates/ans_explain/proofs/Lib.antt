@@ -1,3 +1,5 @@
 pub mod BlamedLemmas
 pub mod WhyLines
 pub mod Relying
+pub mod AllHints
+pub mod NoMoves

@@ -1,5 +1,6 @@
 -- What is said of a file is true of it.
-use Rattle.std.specs.Prelude.{◌≡◌, ◌≢◌, ◌⊎◌, ℕ, ◌+◌, ◌≤◌, ◌↔◌, Bool, ◌==◌, ◌%◌, IsTrue, List, length, take}
+use Rattle.std.specs.Prelude.{◌≡◌, ◌≢◌, ◌⊎◌, ℕ, ◌+◌, ◌≤◌, ◌↔◌, Bool, ◌==◌, ◌%◌, IsTrue, List, []}
+use Rattle.std.specs.Prelude.{length, take, drop}
 use Rattle.std.specs.Prelude.{Option, Some, None, IfSome, IfNone}
 use Rattle.ans_model.specs.Bytes.{longest_file, most_lines}
 use Rattle.ans_model.specs.declared.cell.Position.{Position}
@@ -61,10 +62,11 @@ IsShown z class content fault (Cursors low high) =
     ShowsNamed z class content fault.cause None × ShowsPlaces z class content fault low high
 IsShown z class content fault (Cells low high) = ShowsNamed z class content fault.cause (Some (low, high))
 
--- the hints of bytes that are read as tokens
-abbrev pub AreHintsOf : Size → Bool → List ℕ → Hints → Type 0
-AreHintsOf z flag bytes hints =
-    (tokens : List TokenKind) (texts : List (List ℕ)) → ReadsAs bytes tokens texts → AreHints z flag tokens texts hints
+-- the hints of bytes that are read as tokens, before the bytes behind them
+abbrev pub AreHintsOf : Size → Bool → List ℕ → List ℕ → Hints → Type 0
+AreHintsOf z flag bytes behind hints =
+    (tokens : List TokenKind) (texts : List (List ℕ)) → ReadsAs bytes tokens texts
+    → AreHints z flag tokens texts behind hints
 
 -- what a content relies on that does not pass from every start
 pub record IsReliance (z : Size) (file_length : ℕ) (content : List ℕ) (r : Reliance) : Type 0 where
@@ -80,7 +82,7 @@ pub record IsPass (file_length : ℕ) (parts : Parts) (pass : Pass) : Type 0 whe
   pub nothing : IfNone pass.reliance (pass.needs ≡ none_known)
   pub relies : IfSome pass.reliance (λ r. (pass.needs ≢ none_known)
       × IsReliance (size_of parts) file_length (content_of parts) r)
-  pub hints : AreHintsOf (size_of parts) (non_blink parts) (content_of parts) pass.hints
+  pub hints : AreHintsOf (size_of parts) (non_blink parts) (content_of parts) [] pass.hints
 
 -- F19 to F21, of which more lines may rid a content
 abbrev pub IsOfLines : Cause → Type 0
@@ -97,7 +99,7 @@ pub record AreLines (width : ℕ) (content : List ℕ) (cause : Cause) (lines : 
   pub least : IfSome lines (λ n. IsOfLines cause × (n ≤ most_lines) × IsLeastLines width content n)
   pub none : IfNone lines (IsOfLines cause → (n : ℕ) → n ≤ most_lines → ¬ IsGoodOn width content n)
 
--- where the hints end: at the token to blame with its bytes, or before what the reading refuses
+-- where the tokens that hints count end: at the token to blame with its bytes, or before what the reading refuses
 pub record EndsHints (fault : Fault) (bytes : List ℕ) (end : ℕ) : Type 0 where
   pub reading : IsOfReading fault.cause → end ≡ fault.offset
   pub token : ¬ IsOfReading fault.cause → end ≡ fault.offset + length bytes
@@ -110,7 +112,8 @@ pub record IsRefusal (parts : Parts) (r : Refusal) : Type 0 where
   pub lines : AreLines (width_of parts) (content_of parts) r.fault.cause r.lines
   pub hints_end : ℕ
   pub ends : EndsHints r.fault r.bytes.now hints_end
-  pub hints : AreHintsOf (size_of parts) (non_blink parts) (take hints_end (content_of parts)) r.hints
+  pub hints : AreHintsOf (size_of parts) (non_blink parts) (take hints_end (content_of parts))
+      (drop hints_end (content_of parts)) r.hints
 
 -- what is said of the file is true of it
 abbrev pub IsTrueOf : List ℕ → Why → Type 0

@@ -154,7 +154,7 @@ fn refusal<'a>(parts: &Parts<'a>, fault: Fault) -> Refusal<'a>
         bytes,
         cursor: place(size, cursor),
         lines: enough_lines(parts.width(), content, &fault.cause),
-        hints: Hints::of(size, non_blink(parts), &content[..end]),
+        hints: Hints::of(size, non_blink(parts), content, end),
     }
 }
 
@@ -169,11 +169,12 @@ fn pass<'a>(parts: &Parts<'a>, file_length: usize, needs: Start, fault: Option<F
 {
     let size = size_of(parts);
     let content = parts.content();
+    let hints = Hints::of(size, non_blink(parts), content, content.len());
     Pass {
         needs,
-        taller: is_taller(size, needs, content),
+        taller: !hints.moves_rows || is_taller(size, needs, content),
         reliance: reliance_of(size, file_length, content, fault),
-        hints: Hints::of(size, non_blink(parts), content),
+        hints,
     }
 }
 

@@ -1,6 +1,6 @@
 -- What is found in tokens one after another is what their places say.
 use Rattle.std.proofs.Common.{◌≡◌, ℕ, ◌+◌, Bool, true, false, List, [], ◌∷◌, ◌++◌, length, map}
-use Rattle.std.proofs.Common.{fold, refl, sym, ap, arith, ◌∙◌, Option, None, Some}
+use Rattle.std.proofs.Common.{fold, refl, sym, ap, arith, ◌∙◌, append_assoc, Option, None, Some}
 use Rattle.std.specs.List.{concat}
 use Rattle.ans_model.specs.Sequence.TokenKind.{TokenKind, Glyph}
 use Rattle.ans_model.specs.Screen.State.{Size, State}
@@ -8,6 +8,7 @@ use Rattle.ans_model.specs.Screen.Step.{step, final}
 use Rattle.ans_hints.specs.Places.{offset_if, places, times_of}
 use Rattle.ans_hints.specs.Conditions.{loose_line_feed, full_row, wide_character, later_colours, blinking_glyph}
 use Rattle.ans_hints.specs.Rows.{rows_with, rows_after}
+use Rattle.ans_hints.specs.RowMoves.{moved_with}
 use Rattle.ans_hints.specs.Counted.{once_more, counted}
 use Rattle.ans_hints.specs.FoundSoFar.{found_with, found_after}
 use Rattle.ans_hints.specs.Walks.{found_in_glyphs}
@@ -39,33 +40,37 @@ counted_if times true offset later = refl
 counted_if times false offset later = refl
 
 -- ---- a token
-abbrev found_of : Option Times → Option Times → Option Times → Option Times → Option Times → ℕ → Found
-found_of loose full wide later blinking rows = record {
+abbrev found_of : Option Times → Option Times → Option Times → Option Times → Option Times → ℕ → Bool
+    → Found
+found_of loose full wide later blinking rows moves = record {
   loose_line_feeds = loose;
   full_rows = full;
   wide_characters = wide;
   later_colours = later;
   blinking_glyphs = blinking;
   rows = rows;
+  moves_rows = moves;
 }
 
-same_found : (a b c d e a' b' c' d' e' : Option Times) (rows : ℕ) → a ≡ a' → b ≡ b' → c ≡ c' → d ≡ d' → e ≡ e'
-    → found_of a b c d e rows ≡ found_of a' b' c' d' e' rows
-same_found a b c d e a' b' c' d' e' rows f g h i j = cc
+same_found : (a b c d e a' b' c' d' e' : Option Times) (rows : ℕ) (moves : Bool) → a ≡ a' → b ≡ b' → c ≡ c' → d ≡ d'
+    → e ≡ e' → found_of a b c d e rows moves ≡ found_of a' b' c' d' e' rows moves
+same_found a b c d e a' b' c' d' e' rows moves f g h i j = cc
 
 -- the token is found, and then the others
 pub found_next : (z : Size) (s : State) (offset : ℕ) (t : TokenKind) (tokens : List TokenKind) (text : List ℕ)
-    (texts : List (List ℕ)) (found : Found)
-    → found_after z s offset (t ∷ tokens) (text ∷ texts) found
-    ≡ found_after z (step z s t) (offset + length text) tokens texts (found_with z s offset t (concat texts) found)
-found_next z s offset t tokens text texts found =
-    let rest = concat texts in
+    (texts : List (List ℕ)) (behind : List ℕ) (found : Found)
+    → found_after z s offset (t ∷ tokens) (text ∷ texts) behind found
+    ≡ found_after z (step z s t) (offset + length text) tokens texts behind
+    (found_with z s offset t (concat texts ++ behind) found)
+found_next z s offset t tokens text texts behind found =
+    let rest = concat texts ++ behind in
     let on : (offset + 1) + length text ≡ (offset + length text) + 1 = omega arith in
     same_found _ _ _ _ _ _ _ _ _ _ (rows_after z (step z s t) (rows_with z s found.rows t) tokens)
+    (fold moved_with (moved_with found.moves_rows t) tokens)
     (counted_if found.loose_line_feeds (loose_line_feed z s t rest) offset _)
     (counted_if found.full_rows (full_row z s t rest) (offset + 1) _
     ∙ ap (λ (n : ℕ). fold once_more (counted found.full_rows (full_row z s t rest) (offset + 1))
-    (places full_row z (step z s t) n tokens texts)) on)
+    (places full_row z (step z s t) n tokens texts behind)) on)
     (counted_if found.wide_characters (wide_character z s t rest) offset _)
     (counted_if found.later_colours (later_colours z s t rest) offset _)
     (counted_if found.blinking_glyphs (blinking_glyph z s t rest) offset _)
@@ -81,19 +86,21 @@ concat_alone (b ∷ run) texts = ap (λ (v : List ℕ). b ∷ v) (concat_alone r
 
 -- the glyphs are found, and then the others
 pub found_behind_glyphs : (z : Size) (s : State) (offset : ℕ) (run rest : List ℕ) (tokens : List TokenKind)
-    (texts : List (List ℕ)) (found : Found) → rest ≡ concat texts
-    → found_after z s offset (map Glyph run ++ tokens) (each_alone run ++ texts) found
-    ≡ found_after z (final z s (map Glyph run)) (offset + length run) tokens texts
+    (texts : List (List ℕ)) (behind : List ℕ) (found : Found) → rest ≡ concat texts ++ behind
+    → found_after z s offset (map Glyph run ++ tokens) (each_alone run ++ texts) behind found
+    ≡ found_after z (final z s (map Glyph run)) (offset + length run) tokens texts behind
     (found_in_glyphs z s offset (length run) (run ++ rest) found)
-found_behind_glyphs z s offset [] rest tokens texts found e =
+found_behind_glyphs z s offset [] rest tokens texts behind found e =
     let same : offset ≡ offset + 0 = omega arith in
-    ap (λ (n : ℕ). found_after z s n tokens texts found) same
-found_behind_glyphs z s offset (b ∷ run) rest tokens texts found e =
+    ap (λ (n : ℕ). found_after z s n tokens texts behind found) same
+found_behind_glyphs z s offset (b ∷ run) rest tokens texts behind found e =
     let F : List ℕ → Found = λ xs. found_with z s offset (Glyph b) xs found in
     let on : (offset + 1) + length run ≡ offset + length (b ∷ run) = omega arith in
-    found_next z s offset (Glyph b) (map Glyph run ++ tokens) (b ∷ []) (each_alone run ++ texts) found
+    found_next z s offset (Glyph b) (map Glyph run ++ tokens) (b ∷ []) (each_alone run ++ texts) behind found
     ∙ ap (λ (xs : List ℕ). found_after z (step z s (Glyph b)) (offset + 1) (map Glyph run ++ tokens)
-    (each_alone run ++ texts) (F xs)) (concat_alone run texts ∙ ap (λ (v : List ℕ). run ++ v) (sym e))
-    ∙ found_behind_glyphs z (step z s (Glyph b)) (offset + 1) run rest tokens texts (F (run ++ rest)) e
-    ∙ ap (λ (n : ℕ). found_after z (final z (step z s (Glyph b)) (map Glyph run)) n tokens texts
+    (each_alone run ++ texts) behind (F xs))
+    (ap (λ (v : List ℕ). v ++ behind) (concat_alone run texts) ∙ append_assoc run (concat texts) behind
+    ∙ ap (λ (v : List ℕ). run ++ v) (sym e))
+    ∙ found_behind_glyphs z (step z s (Glyph b)) (offset + 1) run rest tokens texts behind (F (run ++ rest)) e
+    ∙ ap (λ (n : ℕ). found_after z (final z (step z s (Glyph b)) (map Glyph run)) n tokens texts behind
     (found_in_glyphs z (step z s (Glyph b)) (offset + 1) (length run) (run ++ rest) (F (run ++ rest)))) on

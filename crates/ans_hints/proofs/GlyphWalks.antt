@@ -12,7 +12,8 @@ use Rattle.ans_hints.specs.declared.found.Found.{Found}
 use Rattle.ans_hints.specs.declared.walk.Walk.{Walk}
 
 -- with the first `count` bytes more the walk comes to this state, and finds this
-pub record ComesTo (z : Size) (offset count : ℕ) (bytes : List ℕ) (walk : Walk) (last : State) (end : Found) : Type 0 where
+pub record ComesTo (z : Size) (offset count : ℕ) (bytes : List ℕ) (walk : Walk) (last : State)
+    (end : Found) : Type 0 where
   pub state : State
   pub found : Found
   pub shows : Shows walk state found
@@ -45,8 +46,8 @@ module _ (z : Size) (count : ℕ) (bytes : List ℕ) (walk : Walk) (last : State
         end_is = sym (ap (λ (xs : List ℕ). found_in_glyphs z h.state (offset + i) (count - i) xs h.found) here
             ∙ ap (λ (n : ℕ). found_in_glyphs z h.state (offset + i) n (get_or bytes i 0 ∷ drop (i + 1) bytes) h.found)
             left ∙ ap (λ (n : ℕ). found_in_glyphs z (step z h.state (Glyph (get_or bytes i 0))) n (count - (i + 1))
-            (drop (i + 1) bytes) (found_with z h.state (offset + i) (Glyph (get_or bytes i 0)) (drop (i + 1) bytes) h.found))
-            there) ∙ h.end_is;
+            (drop (i + 1) bytes)
+            (found_with z h.state (offset + i) (Glyph (get_or bytes i 0)) (drop (i + 1) bytes) h.found)) there) ∙ h.end_is;
       }
 
 -- all are walked over

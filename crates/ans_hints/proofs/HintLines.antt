@@ -26,7 +26,8 @@ font_line_is font other =
     rw other (sym (append_assoc (codes "hint: the font ")
     (shown_bytes font ++ codes " is not one of code page 437, so other characters may show") (codes "\n")
     ∙ ap (λ (v : List ℕ). codes "hint: the font " ++ v)
-    (append_assoc (shown_bytes font) (codes " is not one of code page 437, so other characters may show") (codes "\n"))))
+    (append_assoc (shown_bytes font) (codes " is not one of code page 437, so other characters may show")
+    (codes "\n"))))
 
 pub empty_rows_line_is : (rows : ℕ) → (rows ≡ 0 → ⊥) → (rows ≡ 1 → ⊥)
     → codes "hint: nothing is printed in the last " ++ (decimal rows ++ codes " lines\n") ≡ empty_rows_line rows

@@ -14,8 +14,8 @@ use Rattle.ans_hints.specs.declared.walk.Walk.{Walk}
 use Rattle.ans_hints.proofs.FoundLater.{each_alone, found_next, found_behind_glyphs}
 use Rattle.ans_hints.proofs.Split.{IsSplit, split_reading, texts_alone}
 
-module _ (z : Size) (walk next : Walk) (end : Found) (text rest : List ℕ) (offset : ℕ)
-    (h : LeadsTo z offset (text ++ rest) walk end) where
+module _ (z : Size) (walk next : Walk) (end : Found) (text rest behind : List ℕ) (offset : ℕ)
+    (h : LeadsTo z offset (text ++ rest) behind walk end) where
   -- the reading is split behind a text
   split_here : (ts : List token.TokenKind) (xs : List (List ℕ)) → ReadsAs text ts xs
       → IsSplit ts h.tokens xs h.texts rest
@@ -26,8 +26,8 @@ module _ (z : Size) (walk next : Walk) (end : Found) (text rest : List ℕ) (off
   -- behind glyphs
   pub leads_behind_glyphs : (xs : List (List ℕ)) → ReadsAs text (map token.Glyph text) xs
       → ((s : State) (found : Found) → Shows walk s found → Shows next (final z s (map token.Glyph text))
-      (found_in_glyphs z s offset (length text) (text ++ rest) found))
-      → LeadsTo z (offset + length text) rest next end
+      (found_in_glyphs z s offset (length text) (text ++ (rest ++ behind)) found))
+      → LeadsTo z (offset + length text) rest behind next end
   leads_behind_glyphs xs reads goes_on =
       let split = split_here (map token.Glyph text) xs reads in
       let many : length (concat xs) ≡ length (map token.Glyph text) =
@@ -39,11 +39,12 @@ module _ (z : Size) (walk next : Walk) (end : Found) (text rest : List ℕ) (off
         texts = split.later_texts;
         reads = split.reads;
         state = final z h.state (map token.Glyph text);
-        found = found_in_glyphs z h.state offset (length text) (text ++ rest) h.found;
+        found = found_in_glyphs z h.state offset (length text) (text ++ (rest ++ behind)) h.found;
         shows = goes_on h.state h.found h.shows;
-        end_is = sym (found_behind_glyphs z h.state offset text rest split.later split.later_texts h.found
-            split.reads.whole)
-            ∙ sym (ap₂ (λ (us : List token.TokenKind) (zs : List (List ℕ)). found_after z h.state offset us zs h.found)
+        end_is = sym (found_behind_glyphs z h.state offset text (rest ++ behind) split.later split.later_texts behind
+            h.found (ap (λ (v : List ℕ). v ++ behind) split.reads.whole))
+            ∙ sym (ap₂ (λ (us : List token.TokenKind) (zs : List (List ℕ)).
+            found_after z h.state offset us zs behind h.found)
             split.tokens_are (split.texts_are ∙ ap (λ (v : List (List ℕ)). v ++ split.later_texts) alone))
             ∙ h.end_is;
       }
@@ -51,8 +52,8 @@ module _ (z : Size) (walk next : Walk) (end : Found) (text rest : List ℕ) (off
   -- behind a token
   pub leads_behind_token : (t : token.TokenKind) (xs : List (List ℕ)) → ReadsAs text (t ∷ []) xs
       → ((s : State) (found : Found) → Shows walk s found
-      → Shows next (step z s t) (found_with z s offset t rest found))
-      → LeadsTo z (offset + length text) rest next end
+      → Shows next (step z s t) (found_with z s offset t (rest ++ behind) found))
+      → LeadsTo z (offset + length text) rest behind next end
   leads_behind_token t [] reads goes_on = absurd reads.each
   leads_behind_token t (x ∷ y ∷ xs) reads goes_on = absurd reads.each.1
   leads_behind_token t (x ∷ []) reads goes_on =
@@ -63,12 +64,13 @@ module _ (z : Size) (walk next : Walk) (end : Found) (text rest : List ℕ) (off
         texts = split.later_texts;
         reads = split.reads;
         state = step z h.state t;
-        found = found_with z h.state offset t rest h.found;
+        found = found_with z h.state offset t (rest ++ behind) h.found;
         shows = goes_on h.state h.found h.shows;
-        end_is = sym (found_next z h.state offset t split.later text split.later_texts h.found
+        end_is = sym (found_next z h.state offset t split.later text split.later_texts behind h.found
             ∙ ap (λ (v : List ℕ). found_after z (step z h.state t) (offset + length text) split.later split.later_texts
-            (found_with z h.state offset t v h.found)) (sym split.reads.whole))
-            ∙ sym (ap₂ (λ (us : List token.TokenKind) (zs : List (List ℕ)). found_after z h.state offset us zs h.found)
+            behind (found_with z h.state offset t (v ++ behind) h.found)) (sym split.reads.whole))
+            ∙ sym (ap₂ (λ (us : List token.TokenKind) (zs : List (List ℕ)).
+            found_after z h.state offset us zs behind h.found)
             split.tokens_are
             (split.texts_are ∙ ap (λ (v : List ℕ). v ∷ split.later_texts) same))
             ∙ h.end_is;

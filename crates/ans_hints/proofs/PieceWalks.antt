@@ -1,7 +1,7 @@
 -- A walk over the pieces of a content.
 use Rattle.std.proofs.Common.{◌≡◌, ℕ, ◌≤◌, List, [], ◌∷◌, ◌++◌, length, map, take, drop, refl, sym, ap, arith}
-use Rattle.std.proofs.Common.{◌∙◌, subst, length-append, Bor}
-use Rattle.std.proofs.lemmas.List.{take_at, drop_at, drop-drop, length-drop}
+use Rattle.std.proofs.Common.{◌∙◌, subst, append_assoc, length-append, Bor}
+use Rattle.std.proofs.lemmas.List.{take_at, drop_at, drop-drop, length-drop, take-append-drop, drop-append-le}
 use Rattle.ans_model.specs.Sequence.TokenKind as token
 use Rattle.ans_model.specs.Sequence.TokenKind.{TokenKind}
 use Rattle.ans_model.specs.Sequence.Reads.{Reads, ReadsAs}
@@ -43,48 +43,57 @@ module _ (content : List ℕ) (old new : PiecesView) (piece : Piece) (within : o
       ∙ ap (λ (v : List ℕ). drop (length taken.text) v) (sym taken.whole ∙ left)
       ∙ drop-drop (length taken.text) old.offset content ∙ ap (λ (n : ℕ). drop n content) (sym taken.offset)
 
+-- the whole of a content goes on behind its front
+pub with_behind : (content : List ℕ) (end offset : ℕ) (rest : List ℕ) → rest ≡ drop offset (take end content)
+    → offset ≤ length (take end content) → drop offset content ≡ rest ++ drop end content
+with_behind content end offset rest left within =
+    ap (λ (v : List ℕ). drop offset v) (sym (take-append-drop end content))
+    ∙ drop-append-le offset (take end content) (drop end content) within
+    ∙ ap (λ (v : List ℕ). v ++ drop end content) (sym left)
+
 -- ---- a piece
 -- a walk that comes to the same
 shows_same : (walk : Walk) (s t : State) (found more : Found) → s ≡ t → found ≡ more → Shows walk s found
     → Shows walk t more
 shows_same walk s t found more e f h = record { pen = h.pen ∙ ap pen_of e; found_is = h.found_is ∙ f }
 
-module _ (z : Size) (old new : PiecesView) (walk next : Walk) (end : Found)
-    (h : LeadsTo z old.offset old.rest walk end) where
+module _ (z : Size) (old new : PiecesView) (behind : List ℕ) (walk next : Walk) (end : Found)
+    (h : LeadsTo z old.offset old.rest behind walk end) where
   pub glyphs_lead : (run : Bor (List ℕ)) (start count : ℕ) (bytes : List ℕ) → TakesPiece old new (pieces.Glyphs run)
-      → start ≡ old.offset → count ≡ length run.now → bytes ≡ old.rest
+      → start ≡ old.offset → count ≡ length run.now → bytes ≡ old.rest ++ behind
       → ((s : State) (found : Found) → Shows walk s found → Shows next
       (final z s (map token.Glyph (take count bytes))) (found_in_glyphs z s start count bytes found))
-      → LeadsTo z new.offset new.rest next end
+      → LeadsTo z new.offset new.rest behind next end
   glyphs_lead run start count bytes taken starts counts are goes_on =
       let text = taken.text in
       let size : count ≡ length text = counts ∙ ap length taken.stands.0 in
-      let whole : bytes ≡ text ++ new.rest = are ∙ taken.whole in
+      let whole : bytes ≡ text ++ (new.rest ++ behind) =
+      are ∙ ap (λ (v : List ℕ). v ++ behind) taken.whole ∙ append_assoc text new.rest behind in
       let front : take count bytes ≡ text =
-      ap (λ (v : List ℕ). take count v) whole ∙ take_at text new.rest count (sym size) in
-      let here : LeadsTo z old.offset (text ++ new.rest) walk end =
-      subst (λ (v : List ℕ). LeadsTo z old.offset v walk end) taken.whole h in
+      ap (λ (v : List ℕ). take count v) whole ∙ take_at text (new.rest ++ behind) count (sym size) in
+      let here : LeadsTo z old.offset (text ++ new.rest) behind walk end =
+      subst (λ (v : List ℕ). LeadsTo z old.offset v behind walk end) taken.whole h in
       let reads : ReadsAs text (map token.Glyph text) taken.reads.0 =
       subst (λ (v : List ℕ). ReadsAs text (map token.Glyph v) taken.reads.0) taken.stands.0 taken.reads.1 in
-      subst (λ (n : ℕ). LeadsTo z n new.rest next end) (sym taken.offset)
-      (leads_behind_glyphs z walk next end text new.rest old.offset here taken.reads.0 reads
+      subst (λ (n : ℕ). LeadsTo z n new.rest behind next end) (sym taken.offset)
+      (leads_behind_glyphs z walk next end text new.rest behind old.offset here taken.reads.0 reads
       (λ s found shows. shows_same next _ _ _ _
       (ap (λ (v : List ℕ). final z s (map token.Glyph v)) front)
       (rw (starts, size, whole) refl) (goes_on s found shows)))
 
   pub token_leads : (t : Token) (kind : TokenKind) (start : ℕ) (rest : List ℕ) → TakesPiece old new (pieces.Token t)
-      → start ≡ old.offset → kind ≡ shown_kind (kind_of t) → rest ≡ new.rest
+      → start ≡ old.offset → kind ≡ shown_kind (kind_of t) → rest ≡ new.rest ++ behind
       → ((s : State) (found : Found) → Shows walk s found → Shows next (step z s kind)
       (found_with z s start kind rest found))
-      → LeadsTo z new.offset new.rest next end
+      → LeadsTo z new.offset new.rest behind next end
   token_leads t kind start rest taken starts is are goes_on =
       let text = taken.text in
-      let here : LeadsTo z old.offset (text ++ new.rest) walk end =
-      subst (λ (v : List ℕ). LeadsTo z old.offset v walk end) taken.whole h in
+      let here : LeadsTo z old.offset (text ++ new.rest) behind walk end =
+      subst (λ (v : List ℕ). LeadsTo z old.offset v behind walk end) taken.whole h in
       let reads : ReadsAs text (kind ∷ []) taken.reads.0 =
       subst (λ (k : TokenKind). ReadsAs text (k ∷ []) taken.reads.0) (sym is) taken.reads.1 in
-      subst (λ (n : ℕ). LeadsTo z n new.rest next end) (sym taken.offset)
-      (leads_behind_token z walk next end text new.rest old.offset here kind taken.reads.0 reads
+      subst (λ (n : ℕ). LeadsTo z n new.rest behind next end) (sym taken.offset)
+      (leads_behind_token z walk next end text new.rest behind old.offset here kind taken.reads.0 reads
       (λ s found shows. shows_same next _ _ _ _ refl (rw (starts, are) refl) (goes_on s found shows)))
 
 -- no more were counted than there are bytes, of which there are more now
@@ -101,15 +110,15 @@ counts_within z walk n m less at = record {
 }
 
 -- ---- the end
-module _ (z : Size) (offset : ℕ) (bytes : List ℕ) (walk : Walk) (end : Found) where
+module _ (z : Size) (offset : ℕ) (bytes behind : List ℕ) (walk : Walk) (end : Found) where
   -- with no bytes left, all is found
-  pub nothing_left : LeadsTo z offset bytes walk end → bytes ≡ [] → walk.found ≡ end
+  pub nothing_left : LeadsTo z offset bytes behind walk end → bytes ≡ [] → walk.found ≡ end
   nothing_left h none =
       let no_tokens : h.tokens ≡ [] =
       none_left h.tokens (subst (λ (v : List ℕ). Reads v h.tokens) none (h.texts, h.reads)) in
       h.shows.found_is
-      ∙ ap (λ (ts : List TokenKind). found_after z h.state offset ts h.texts h.found) (sym no_tokens) ∙ h.end_is
+      ∙ ap (λ (ts : List TokenKind). found_after z h.state offset ts h.texts behind h.found) (sym no_tokens) ∙ h.end_is
 
   -- what is read is never refused
-  pub never_refused : (fault : Fault) → LeadsTo z offset bytes walk end → ¬ IsFaultAt offset bytes fault
+  pub never_refused : (fault : Fault) → LeadsTo z offset bytes behind walk end → ¬ IsFaultAt offset bytes fault
   never_refused fault h at = no_fault offset bytes fault h.tokens at (h.texts, h.reads)

@@ -1,6 +1,7 @@
 pub mod Places
 pub mod Conditions
 pub mod Rows
+pub mod RowMoves
 pub mod Fonts
 pub mod Counted
 pub mod Pens

@@ -15,14 +15,14 @@ Condition = Size → State → TokenKind → List ℕ → Bool
 abbrev pub offset_if : Bool → ℕ → List ℕ
 offset_if test offset = if test then offset ∷ [] else []
 
--- The offsets of the tokens at which the condition holds. The tokens are played from this state, and the first of them
--- stands at this offset.
-abbrev pub places : Condition → Size → State → ℕ → List TokenKind → List (List ℕ) → List ℕ
-places holds z s offset [] texts = []
-places holds z s offset (t ∷ tokens) [] = []
-places holds z s offset (t ∷ tokens) (text ∷ texts) =
-    offset_if (holds z s t (concat texts)) offset
-    ++ places holds z (step z s t) (offset + length text) tokens texts
+-- The offsets of the tokens at which the condition holds. The tokens are played from this state, the first of them
+-- stands at this offset, and other bytes may stand behind the last.
+abbrev pub places : Condition → Size → State → ℕ → List TokenKind → List (List ℕ) → List ℕ → List ℕ
+places holds z s offset [] texts behind = []
+places holds z s offset (t ∷ tokens) [] behind = []
+places holds z s offset (t ∷ tokens) (text ∷ texts) behind =
+    offset_if (holds z s t (concat texts ++ behind)) offset
+    ++ places holds z (step z s t) (offset + length text) tokens texts behind
 
 -- how many offsets there are, and the first of them
 abbrev pub times_of : List ℕ → Option Times

@@ -19,15 +19,15 @@ pub record Shows (walk : Walk) (s : State) (found : Found) : Type 0 where
   pub pen : walk.pen ≡ pen_of s
   pub found_is : walk.found ≡ found
 
--- The bytes that are left are read as some tokens, and what is found in these makes it this.
-pub record LeadsTo (z : Size) (offset : ℕ) (bytes : List ℕ) (walk : Walk) (end : Found) : Type 0 where
+-- The bytes that are left, before those behind them, are read as some tokens, and what is found in these makes it this.
+pub record LeadsTo (z : Size) (offset : ℕ) (bytes behind : List ℕ) (walk : Walk) (end : Found) : Type 0 where
   pub tokens : List TokenKind
   pub texts : List (List ℕ)
   pub reads : ReadsAs bytes tokens texts
   pub state : State
   pub found : Found
   pub shows : Shows walk state found
-  pub end_is : found_after z state offset tokens texts found ≡ end
+  pub end_is : found_after z state offset tokens texts behind found ≡ end
 
 -- what is found with the first bytes more, as many as the number says, each a glyph
 abbrev pub found_in_glyphs : Size → State → ℕ → ℕ → List ℕ → Found → Found

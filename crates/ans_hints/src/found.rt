@@ -16,7 +16,8 @@ use crate::times::{self, Times, count, count_many};
 use ans_model::kind::Kind;
 use ans_model::size::Size;
 
-/// What is found so far. The rows are those down to the lowest in which something was printed.
+/// What is found so far. The rows are those down to the lowest in which something was printed; and
+/// some token moves the cursor up or down by rows, or none.
 #[derive(Debug, Clone, Copy)]
 pub(crate) struct Found {
     pub(crate) loose_line_feeds: Option<Times>,
@@ -25,6 +26,7 @@ pub(crate) struct Found {
     pub(crate) later_colours: Option<Times>,
     pub(crate) blinking_glyphs: Option<Times>,
     pub(crate) rows: usize,
+    pub(crate) moves_rows: bool,
 }
 
 /// Counts the characters of UTF-8 in three or four bytes that begin at the first `count` of these
@@ -56,6 +58,7 @@ impl Found {
             later_colours: None,
             blinking_glyphs: None,
             rows: 0,
+            moves_rows: false,
         }
     }
 
@@ -129,6 +132,7 @@ impl Found {
             Kind::Glyph(byte) => self.glyph(size, pen, offset, *byte, rest),
             Kind::LineFeed => self.line_feed(pen, offset, rest),
             Kind::Tab => self.rows = self.rows.max(pen.row_of_tab(size) + 1),
+            Kind::Up(_) | Kind::Down(_) => self.moves_rows = true,
             Kind::Colours(numbers) => {
                 let later = has_later_colour(numbers);
                 count(&mut self.later_colours, later, offset);

@@ -1,6 +1,6 @@
 //! The hints of a content.
 
-ghost use Rattle.std.specs.Prelude.{◌≤◌, ℕ, List, length};
+ghost use Rattle.std.specs.Prelude.{◌≤◌, ℕ, List, length, take, drop};
 ghost use Rattle.ans_model.specs.Bytes.{longest_file};
 ghost use Rattle.ans_model.specs.Sequence.TokenKind.{TokenKind};
 ghost use Rattle.ans_model.specs.Sequence.Reads.{ReadsAs};
@@ -25,18 +25,23 @@ pub struct Hints {
     pub blinking_glyphs: Option<Times>,
     /// How many of the stated lines lie below all that is printed.
     pub empty_rows: usize,
+    /// Whether some sequence moves the cursor up or down by rows. It is no hint and has no line.
+    pub moves_rows: bool,
 }
 
 impl Hints {
-    /// The hints of a content that is read as tokens: a content that passes, or the front of a refused
-    /// one up to the end of the token to blame. Glyphs that blink are none where the record sets
-    /// the non-blink flag. It takes no memory, and reads the content once.
-    pub fn of(size: Size, non_blink: bool, content: &[u8]) -> Hints
-        requires { length content.now ≤ longest_file }
+    /// The hints of the first bytes of a content, as many as `end` says, which are read as tokens: of
+    /// all of a content that passes, or of a refused one up to the end of the token to blame. What
+    /// stands behind them tells of the last of them. Glyphs that blink are none where the record sets
+    /// the non-blink flag. It takes no memory, and reads the bytes once.
+    pub fn of(size: Size, non_blink: bool, content: &[u8], end: usize) -> Hints
+        requires length { length content.now ≤ longest_file }
+        requires end { end ≤ length content.now }
         ensures { (tokens : List TokenKind) (texts : List (List ℕ))
-            → ReadsAs content.now tokens texts → AreHints size non_blink tokens texts result }
+            → ReadsAs (take end content.now) tokens texts
+            → AreHints size non_blink tokens texts (drop end content.now) result }
     {
-        let found = found_in(size, content);
+        let found = found_in(size, content, end);
         Hints {
             loose_line_feeds: found.loose_line_feeds,
             full_rows: found.full_rows,
@@ -48,6 +53,7 @@ impl Hints {
                 found.blinking_glyphs
             },
             empty_rows: size.lines().saturating_sub(found.rows),
+            moves_rows: found.moves_rows,
         }
     }
 }

@@ -121,7 +121,7 @@ fn expect_rows(rt: &impl Abort, rows: &[Row]) {
         assert!(rt; 1 <= width && width <= 20 && 1 <= lines && lines <= 10 && content.len() < 200);
         expect_hints(
             rt,
-            Hints::of(Size::new(width, lines), false, content),
+            Hints::of(Size::new(width, lines), false, content, content.len()),
             b"",
             text,
         );
@@ -148,7 +148,7 @@ fn full_rows_of_a_screen(rt: HostRuntime) {
     }
     expect_hints(
         &rt,
-        Hints::of(Size::new(80, 5), false, &content),
+        Hints::of(Size::new(80, 5), false, &content, content.len()),
         b"",
         "hint: a full row and a line end take two rows, 3 times, first at 84\n",
     );
@@ -159,7 +159,7 @@ fn all_hints_have_an_order(rt: HostRuntime) {
     let content = b"ab\n\x1b[96mc\xe2\x96\x88\x1b[5md\x1b[3;10He\r\n";
     expect_hints(
         &rt,
-        Hints::of(Size::new(10, 6), false, content),
+        Hints::of(Size::new(10, 6), false, content, content.len()),
         b"IBM VGA 866",
         "hint: a line feed with no return beside it goes straight down, once, at 2\n\
             hint: a full row and a line end take two rows, once, at 25\n\
@@ -171,9 +171,54 @@ fn all_hints_have_an_order(rt: HostRuntime) {
     );
 }
 
+/// Contents of which only the first bytes count, and what is said of these.
+static FRONTS: [(&[u8], usize, &str); 8] = [
+    (
+        b"ab\ncd\n",
+        3,
+        "hint: a line feed with no return beside it goes straight down, once, at 2\n",
+    ),
+    (b"ab\n\rcd", 3, ""),
+    (
+        b"abcd\r\n",
+        4,
+        "hint: a full row and a line end take two rows, once, at 4\n",
+    ),
+    (b"abcd\r\n", 3, ""),
+    (b"abcd\r", 4, ""),
+    (
+        b"\xe2\x96\x88",
+        1,
+        "hint: a character is in UTF-8, once, at 0: convert the text to code page 437\n",
+    ),
+    (b"a\xe2\x96", 2, ""),
+    (
+        b"a\xe2\x96\x88\xe2\x96\x88",
+        4,
+        "hint: a character is in UTF-8, once, at 1: convert the text to code page 437\n",
+    ),
+];
+
+#[test]
+fn what_stands_behind_tells_of_the_front(rt: HostRuntime) {
+    for (content, end, text) in FRONTS {
+        let hints = Hints {
+            empty_rows: 0,
+            ..Hints::of(Size::new(4, 9), false, content, end)
+        };
+        expect_hints(&rt, hints, b"", text);
+    }
+}
+
 #[test]
 fn no_glyph_blinks_with_the_flag(rt: HostRuntime) {
-    expect_hints(&rt, Hints::of(Size::new(2, 1), true, b"\x1b[5mab"), b"", "");
+    let content = b"\x1b[5mab";
+    expect_hints(
+        &rt,
+        Hints::of(Size::new(2, 1), true, content, content.len()),
+        b"",
+        "",
+    );
 }
 
 #[test]
@@ -203,7 +248,7 @@ fn fonts_have_their_code_page(rt: HostRuntime) {
     }
     expect_hints(
         &rt,
-        Hints::of(Size::new(2, 1), false, b"Hi"),
+        Hints::of(Size::new(2, 1), false, b"Hi", 2),
         b"\x03 Topaz",
         "hint: the font \u{2665} Topaz is not one of code page 437, so other characters may show\n",
     );

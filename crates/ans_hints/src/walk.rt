@@ -1,6 +1,6 @@
 //! A walk over the tokens of a content.
 
-ghost use Rattle.std.specs.Prelude.{◌≡◌, ◌+◌, ◌<◌, ◌≤◌, ℕ, List, length, map, take};
+ghost use Rattle.std.specs.Prelude.{◌≡◌, ◌+◌, ◌<◌, ◌≤◌, ℕ, List, length, map, take, drop};
 ghost use Rattle.ans_model.specs.Bytes.{longest_file};
 ghost use Rattle.ans_model.specs.Sequence.TokenKind.{TokenKind, Glyph};
 ghost use Rattle.ans_model.specs.Sequence.Reads.{ReadsAs};
@@ -96,14 +96,15 @@ impl Walk {
     }
 }
 
-/// What is found in the content, in its play from the cleared start.
-pub(crate) fn found_in(size: Size, content: &[u8]) -> Found
-    requires { length content.now ≤ longest_file }
+/// What is found in the first `end` bytes of the content, in their play from the cleared start.
+pub(crate) fn found_in(size: Size, content: &[u8], end: usize) -> Found
+    requires length { length content.now ≤ longest_file }
+    requires end { end ≤ length content.now }
     ensures { (tokens : List TokenKind) (texts : List (List ℕ))
-        → ReadsAs content.now tokens texts
-        → result ≡ found_after size (cleared size) 0 tokens texts nothing_found }
+        → ReadsAs (take end content.now) tokens texts → result ≡ found_after
+        size (cleared size) 0 tokens texts (drop end content.now) nothing_found }
 {
-    let mut pieces = Pieces::new(content);
+    let mut pieces = Pieces::new(&content[..end]);
     let mut walk = Walk::new(size);
     loop {
         match pieces.next() {

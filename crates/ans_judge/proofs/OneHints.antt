@@ -236,19 +236,20 @@ module _ (z : Size) (content : List ℕ) (fault : Fault) where
 
 -- ---- the hints
 
-one_of_tokens : (z : Size) (flag : Bool) (tokens : List TokenKind) (texts : List (List ℕ)) (a b : Hints)
-    → AreHints z flag tokens texts a → AreHints z flag tokens texts b → a ≡ b
-one_of_tokens z flag tokens texts a b h g = λ i. record {
+one_of_tokens : (z : Size) (flag : Bool) (tokens : List TokenKind) (texts : List (List ℕ)) (behind : List ℕ)
+    (a b : Hints) → AreHints z flag tokens texts behind a → AreHints z flag tokens texts behind b → a ≡ b
+one_of_tokens z flag tokens texts behind a b h g = λ i. record {
   loose_line_feeds = (h.loose_line_feeds ∙ sym g.loose_line_feeds) i;
   full_rows = (h.full_rows ∙ sym g.full_rows) i;
   wide_characters = (h.wide_characters ∙ sym g.wide_characters) i;
   later_colours = (h.later_colours ∙ sym g.later_colours) i;
   blinking_glyphs = (h.blinking_glyphs ∙ sym g.blinking_glyphs) i;
   empty_rows = (h.empty_rows ∙ sym g.empty_rows) i;
+  moves_rows = (h.moves_rows ∙ sym g.moves_rows) i;
 }
 
 -- of bytes that are read as tokens
-pub one_hints : (z : Size) (flag : Bool) (bytes : List ℕ) (tokens : List TokenKind) (a b : Hints) → Reads bytes tokens
-    → AreHintsOf z flag bytes a → AreHintsOf z flag bytes b → a ≡ b
-one_hints z flag bytes tokens a b reads h g =
-    one_of_tokens z flag tokens reads.0 a b (h tokens reads.0 reads.1) (g tokens reads.0 reads.1)
+pub one_hints : (z : Size) (flag : Bool) (bytes behind : List ℕ) (tokens : List TokenKind) (a b : Hints)
+    → Reads bytes tokens → AreHintsOf z flag bytes behind a → AreHintsOf z flag bytes behind b → a ≡ b
+one_hints z flag bytes behind tokens a b reads h g =
+    one_of_tokens z flag tokens reads.0 behind a b (h tokens reads.0 reads.1) (g tokens reads.0 reads.1)

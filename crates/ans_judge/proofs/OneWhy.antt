@@ -1,5 +1,5 @@
 -- What is true of a file has one text.
-use Rattle.std.proofs.Common.{◌≡◌, ◌≢◌, inl, inr, ℕ, Bool, List, ◌++◌, length, take, codes, refl}
+use Rattle.std.proofs.Common.{◌≡◌, ◌≢◌, inl, inr, ℕ, Bool, List, [], ◌++◌, length, take, drop, codes, refl}
 use Rattle.std.proofs.Common.{sym, ap, ap₂, ◌∙◌, subst, subst₂, Option, Some, None}
 use Rattle.std.specs.Prelude.{◌↔◌, ◌==◌, ◌%◌, IsTrue, IfSome, IfNone}
 use Rattle.std.proofs.lemmas.Bool.{cases_lt}
@@ -91,7 +91,7 @@ record RefusalOf (sauce bytes : List ℕ) (r : Refusal) : Type 0 where
   lines : AreLines (stated_width sauce) bytes r.fault.cause r.lines
   end : ℕ
   ends : EndsHints r.fault r.bytes.now end
-  hints : AreHintsOf (size_by sauce) (non_blink_by sauce) (take end bytes) r.hints
+  hints : AreHintsOf (size_by sauce) (non_blink_by sauce) (take end bytes) (drop end bytes) r.hints
 
 refusal_of : (parts : Parts) (r : Refusal) → IsRefusal parts r → RefusalOf (record_of parts) (content_of parts) r
 refusal_of parts r h = record {
@@ -110,7 +110,7 @@ record PassOf (file_length : ℕ) (sauce bytes : List ℕ) (p : Pass) : Type 0 w
   taller : IsTrue p.taller ↔ IsTaller (size_by sauce) p.needs bytes
   nothing : IfNone p.reliance (p.needs ≡ none_known)
   relies : IfSome p.reliance (λ r. (p.needs ≢ none_known) × IsReliance (size_by sauce) file_length bytes r)
-  hints : AreHintsOf (size_by sauce) (non_blink_by sauce) bytes p.hints
+  hints : AreHintsOf (size_by sauce) (non_blink_by sauce) bytes [] p.hints
 
 pass_of : (file_length : ℕ) (parts : Parts) (p : Pass) → IsPass file_length parts p
     → PassOf file_length (record_of parts) (content_of parts) p
@@ -198,10 +198,12 @@ module _ (sauce bytes : List ℕ) (r s : Refusal) (h : RefusalOf sauce bytes r) 
       let moved : EndsHints r.fault r.bytes.now g.end =
       subst₂ (λ (f : Fault) (v : List ℕ). EndsHints f v g.end) same_fault (sym same_bytes) g.ends in
       let end_is : g.end ≡ at.end = at.only g.end moved in
-      one_hints (size_by sauce) (non_blink_by sauce) (take at.end bytes) at.tokens r.hints s.hints at.reads
-      (subst (λ (n : ℕ). AreHintsOf (size_by sauce) (non_blink_by sauce) (take n bytes) r.hints)
+      one_hints (size_by sauce) (non_blink_by sauce) (take at.end bytes) (drop at.end bytes) at.tokens r.hints s.hints
+      at.reads
+      (subst (λ (n : ℕ). AreHintsOf (size_by sauce) (non_blink_by sauce) (take n bytes) (drop n bytes) r.hints)
       (at.only h.end h.ends) h.hints)
-      (subst (λ (n : ℕ). AreHintsOf (size_by sauce) (non_blink_by sauce) (take n bytes) s.hints) end_is g.hints)
+      (subst (λ (n : ℕ). AreHintsOf (size_by sauce) (non_blink_by sauce) (take n bytes) (drop n bytes) s.hints) end_is
+      g.hints)
 
   one_refusal : refusal_said sauce r.fault r.bytes.now r.cursor r.lines r.hints
       ≡ refusal_said sauce s.fault s.bytes.now s.cursor s.lines s.hints
@@ -278,7 +280,8 @@ module _ (file_length : ℕ) (sauce bytes : List ℕ) (p q : Pass) (h : PassOf f
   same_pass_hints : p.hints ≡ q.hints
   same_pass_hints =
       let good : IsGood (size_by sauce) all_known bytes = least_is_good (size_by sauce) bytes p.needs h.needs in
-      one_hints (size_by sauce) (non_blink_by sauce) bytes good.1.tokens p.hints q.hints good.1.reads h.hints g.hints
+      one_hints (size_by sauce) (non_blink_by sauce) bytes [] good.1.tokens p.hints q.hints good.1.reads h.hints
+      g.hints
 
   one_pass : pass_said sauce p.needs p.taller (reliance_lines p.reliance) p.hints
       ≡ pass_said sauce q.needs q.taller (reliance_lines q.reliance) q.hints

@@ -38,7 +38,8 @@ glyphs_taken old new text count front some is after =
       stands = (
         is,
         λ b next. front.longest b
-            (ap (λ (k : ℕ). slice_get old.rest k) here ∙ sym (slice_get-drop count old.rest 0) ∙ ap (λ (v : List ℕ). slice_get v 0) (sym rest) ∙ next),
+            (ap (λ (k : ℕ). slice_get old.rest k) here ∙ sym (slice_get-drop count old.rest 0)
+            ∙ ap (λ (v : List ℕ). slice_get v 0) (sym rest) ∙ next),
       );
     }
 

@@ -138,6 +138,7 @@ pub fn read_sequence(bytes: &[u8], numbers: &mut ArrayVec<u8, MAX_PARAMETERS>) -
 
 /// The token of the sequence that the bytes begin with, which stands at this offset. The first byte
 /// is ESC. It declines only where the sequence is not whole, has a string, or is refused.
+#[inline(always)]
 fn whole_sequence(bytes: &[u8], start: usize) -> Option<Token>
     requires { slice_index_or bytes.now 0 0 ≡ escape }
     ensures taken { IfSome result (IsTokenAt start bytes.now) }
@@ -160,6 +161,7 @@ fn whole_sequence(bytes: &[u8], start: usize) -> Option<Token>
 
 /// The token that the bytes begin with, which stands at this offset. It declines only where there is
 /// no byte, or they begin with ESC and no sequence of the common form.
+#[inline(always)]
 pub(crate) fn whole_token(bytes: &[u8], start: usize) -> Option<Token>
     ensures taken { IfSome result (IsTokenAt start bytes.now) }
     ensures declined { IfNone result (HasNoCommonToken bytes.now) }

@@ -21,16 +21,6 @@ free_kind Keys glyph feed tab down place mode keys ask = keys refl
 free_kind Ask glyph feed tab down place mode keys ask = ask refl
 free_kind _ glyph feed tab down place mode keys ask = tt
 
--- those that print nothing, and move alike on any number of lines
-pub alike_kind : (k : Kind) → ((byte : ℕ) → k ≢ Glyph byte) → k ≢ LineFeed → k ≢ Tab → ((n : ℕ) → k ≢ Down n)
-    → ((row column : ℕ) → k ≢ Place row column) → MovesAlike (shown_kind k)
-alike_kind (Glyph byte) glyph feed tab down place = glyph byte refl
-alike_kind LineFeed glyph feed tab down place = feed refl
-alike_kind Tab glyph feed tab down place = tab refl
-alike_kind (Down n) glyph feed tab down place = down n refl
-alike_kind (Place row column) glyph feed tab down place = place row column refl
-alike_kind _ glyph feed tab down place = tt
-
 -- what asks for nothing moves alike
 pub free_moves_alike : (t : TokenKind) → AsksForNothing t → MovesAlike t
 free_moves_alike token.Keys free = tt

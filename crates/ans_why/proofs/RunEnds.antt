@@ -21,14 +21,6 @@ run_end-none width p true on =
     ap₂ at row (ap (λ (n : ℕ). n % width) total ∙ mod-eq_of_lt on)
 run_end-none width p false on = ap (at p.row) (omega (arith, on))
 
--- where there is room in the row
-run_end-within : (width : ℕ) (p : Position) (wrap : Bool) (n : ℕ) → p.column + n < width
-    → run_end width p wrap n ≡ at p.row (p.column + n)
-run_end-within width p true n on =
-    let row : p.row + (p.column + n) / width ≡ p.row = omega (arith, div-eq_of_lt on) in
-    ap₂ at row (mod-eq_of_lt on)
-run_end-within width p false n on = ap (at p.row) (omega (arith, on))
-
 -- the column is on the screen
 pub run_end-column : (width : ℕ) (p : Position) (wrap : Bool) (n : ℕ) → 0 < width
     → (run_end width p wrap n).column < width

@@ -23,7 +23,8 @@ use Rattle.ans_why.specs.Watched.{WritesAbove}
 use Rattle.ans_why.proofs.CleanSteps.{clean_front, writes_above}
 use Rattle.ans_why.proofs.ClearedSteps.{clean_with}
 use Rattle.ans_why.proofs.Printed.{next, next_row, put_is}
-use Rattle.ans_why.proofs.RunEnds.{run_end-none, run_end-first, run_end-one, run_end-last, run_end-column, run_rows_grow, walk_of_run}
+use Rattle.ans_why.proofs.RunEnds.{run_end-none, run_end-first, run_end-one, run_end-last, run_end-column}
+use Rattle.ans_why.proofs.RunEnds.{run_rows_grow, walk_of_run}
 
 map-replicate : (n : ℕ) (b : ℕ) → map Glyph (replicate n b) ≡ replicate n (Glyph b)
 map-replicate zero b = refl
@@ -158,7 +159,8 @@ module _ (z : Size) (some : 0 < z.width) (class : Start) (from : State) (start :
   run_walk tokens ts count (inr (e, size)) above =
       let s : State = there tokens in
       rw e (ap walk_of (fold-append (step z) from tokens (Tab ∷ []))
-      ∙ blanks_end z some s (tab_blanks s.cursor.column) (fits tokens).cursor.1 (λ i lt. above i (omega (arith, lt, size)))
+      ∙ blanks_end z some s (tab_blanks s.cursor.column) (fits tokens).cursor.1
+      (λ i lt. above i (omega (arith, lt, size)))
       ∙ ap (λ (k : ℕ). record (walk_of s) { cursor = run_end z.width s.cursor s.wrap k }) (sym size))
 
   -- where its last byte stands above the spare row, all do
@@ -190,7 +192,8 @@ module _ (z : Size) (some : 0 < z.width) where
       at (above 0 (omega arith)) in
       subst (IsClean z all_known) (sym (more_first z some all_known (cleared z) start_cleared tokens b bytes))
       (glyphs_clean bytes (tokens ++ Glyph b ∷ []) (clean_with z some tokens (Glyph b) clean first (λ cause f. f))
-      (λ i lt. rw (one_byte z some all_known (cleared z) start_cleared tokens b i first) (above (suc i) (omega (arith, lt)))))
+      (λ i lt. rw (one_byte z some all_known (cleared z) start_cleared tokens b i first)
+      (above (suc i) (omega (arith, lt)))))
 
   -- a run whose last byte stands above the spare row is clean
   pub run_clean : (tokens ts : List TokenKind) (count : ℕ) → PrintsRun (here tokens).cursor.column count ts

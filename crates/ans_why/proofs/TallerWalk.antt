@@ -1,6 +1,6 @@
 -- Good content whose moves were free so far, with the walks of the plays from the low and the high start.
-use Rattle.std.proofs.Common.{◌≡◌, ℕ, ◌<◌, ◌≤◌, List, [], ◌∷◌, ◌++◌, length, take, refl, sym, ap, ◌∙◌, arith, subst, All}
-use Rattle.std.proofs.Common.{append_assoc, length-append}
+use Rattle.std.proofs.Common.{◌≡◌, ℕ, ◌<◌, ◌≤◌, List, [], ◌∷◌, ◌++◌, length, take, refl, sym, ap, ◌∙◌, arith, subst}
+use Rattle.std.proofs.Common.{All, append_assoc, length-append}
 use Rattle.std.proofs.lemmas.List.{append-nil, take_at}
 use Rattle.std.proofs.lemmas.List.Elements.{All-take}
 use Rattle.ans_model.specs.Bytes.{longest_file}
@@ -43,7 +43,8 @@ pub record WalkedSoFar (z : Size) (class : Start) (content rest : List ℕ) (low
 
 -- before the first byte
 pub walked_nothing : (z : Size) (class : Start) (content rest : List ℕ) (low high : Walk) → IsGood z class content
-    → length content ≤ longest_file → rest ≡ content → low ≡ walk_of (low_start z class) → high ≡ walk_of (high_start z class)
+    → length content ≤ longest_file → rest ≡ content → low ≡ walk_of (low_start z class)
+    → high ≡ walk_of (high_start z class)
     → WalkedSoFar z class content rest low high
 walked_nothing z class content rest low high (picture, good) short e low_is high_is = record {
   tokens = good.tokens;

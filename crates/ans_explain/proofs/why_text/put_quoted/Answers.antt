@@ -5,7 +5,8 @@ use Rattle.ans_explain.proofs.WhyLines.{quoted_long, quoted_short}
 use Rattle.ans_explain.proofs.why_text.put_quoted.Goals as goal
 
 pub slice_bounds-put_quoted_bytes-end : goal.slice_bounds-put_quoted_bytes-end
-slice_bounds-put_quoted_bytes-end g c = sym (length-take-le 32 c.args.bytes.now (omega (arith, c.if-bytes-gt-QUOTED.true)))
+slice_bounds-put_quoted_bytes-end g c =
+    sym (length-take-le 32 c.args.bytes.now (omega (arith, c.if-bytes-gt-QUOTED.true)))
 
 pub returns-then-bytes-gt-QUOTED : goal.returns-then-bytes-gt-QUOTED
 returns-then-bytes-gt-QUOTED g c =

@@ -5,7 +5,8 @@ use Rattle.ans_explain.proofs.why_text.put_shown.Goals as goal
 
 pub returns-in-Cursors : goal.returns-in-Cursors
 returns-in-Cursors g c =
-    Puts-same (sym (ap shown_lines c.in-Cursors.is)) (Puts-then c.put_place_line.ensures c.put_place_line-in-Cursors.ensures)
+    Puts-same (sym (ap shown_lines c.in-Cursors.is))
+    (Puts-then c.put_place_line.ensures c.put_place_line-in-Cursors.ensures)
 
 pub returns-in-Cells : goal.returns-in-Cells
 returns-in-Cells g c =

@@ -1,12 +1,13 @@
-use Rattle.std.proofs.Common.{◌≡◌, ℕ, ◌+◌, ◌-◌, length, refl, sym, ap, ◌∙◌, arith, subst}
+use Rattle.std.proofs.Common.{◌≡◌, ℕ, ◌+◌, ◌-◌, ◌≤◌, length, take, drop, refl, sym, ap, ◌∙◌, arith, subst}
+use Rattle.std.proofs.lemmas.List.{length-drop, length-take}
 use Rattle.ans_model.specs.declared.kind.Kind.{Kind}
 use Rattle.ans_model.specs.Inside.ShownKind.{shown_kind}
 use Rattle.ans_tokens.specs.Pieces.{TakesPiece}
 use Rattle.ans_tokens.specs.declared.pieces.Piece.TheVariants as pieces
 use Rattle.ans_hints.specs.Walks.{IsAt}
 use Rattle.ans_hints.proofs.GlyphWalks.{rest_of}
-use Rattle.ans_hints.proofs.PieceWalks.{within_after, left_after, glyphs_lead, token_leads, nothing_left, never_refused}
-use Rattle.ans_hints.proofs.PieceWalks.{counts_within}
+use Rattle.ans_hints.proofs.PieceWalks.{within_after, left_after, with_behind, glyphs_lead, token_leads, nothing_left}
+use Rattle.ans_hints.proofs.PieceWalks.{never_refused, counts_within}
 use Rattle.ans_hints.proofs.walk.found_in.Goals as goal
 
 pub loop-text-preserved-in-Ok-Some-Glyphs : goal.loop-text-preserved-in-Ok-Some-Glyphs
@@ -15,6 +16,7 @@ loop-text-preserved-in-Ok-Some-Glyphs c =
     let old = c.loop-text.pieces in
     let new = c.next.new.self in
     let content = c.args.content.now in
+    let front = take c.args.end content in
     let text = c.in-Ok-Some-Glyphs.text in
     let taken : TakesPiece old new (pieces.Glyphs text) =
     rw (c.in-Ok-Some-Glyphs.field-0-is, c.in-Ok-Some-Glyphs.field-0-0-is) at c.in-Ok-Some-Glyphs.ensures.piece in
@@ -24,34 +26,54 @@ loop-text-preserved-in-Ok-Some-Glyphs c =
     omega (arith, start, taken.offset, long) in
     record {
       at = subst (λ (n : ℕ). IsAt c.args.size n c.glyphs.new.self) end c.glyphs.ensures.at;
-      rest = left_after content old new (pieces.Glyphs text) h.within h.rest taken;
-      within = within_after content old new (pieces.Glyphs text) h.within h.rest taken;
+      rest = left_after front old new (pieces.Glyphs text) h.within h.rest taken;
+      within = within_after front old new (pieces.Glyphs text) h.within h.rest taken;
       leads = λ tokens texts reads.
-          glyphs_lead c.args.size old new c.loop-text.walk c.glyphs.new.self _ (h.leads tokens texts reads) text
-          (c.offset.result - length text.now) (length text.now) _ taken start refl
-          (rw start (rest_of content old.offset ∙ sym h.rest)) c.glyphs.ensures.goes_on;
+          glyphs_lead c.args.size old new (drop c.args.end content) c.loop-text.walk c.glyphs.new.self _
+          (h.leads tokens texts reads) text (c.offset.result - length text.now) (length text.now) _ taken start refl
+          (rw start (rest_of content old.offset ∙ with_behind content c.args.end old.offset old.rest h.rest h.within))
+          c.glyphs.ensures.goes_on;
     }
+
+pub glyphs-requires-clause-some : goal.glyphs-requires-clause-some
+glyphs-requires-clause-some c =
+    let h = c.loop-text.invariant in
+    let content = c.args.content.now in
+    let front = take c.args.end content in
+    let text = c.in-Ok-Some-Glyphs.text in
+    let taken : TakesPiece c.loop-text.pieces c.next.new.self (pieces.Glyphs text) =
+    rw (c.in-Ok-Some-Glyphs.field-0-is, c.in-Ok-Some-Glyphs.field-0-0-is) at c.in-Ok-Some-Glyphs.ensures.piece in
+    let long : length text.now ≡ length taken.text = ap length taken.stands.0 in
+    let start = c.offset.result - length text.now in
+    let within : c.next.new.self.offset ≤ length front =
+    within_after front c.loop-text.pieces c.next.new.self _ h.within h.rest taken in
+    let all : c.next.new.self.offset ≤ length content = omega (arith, within, length-take c.args.end content) in
+    rw (rest_of content start) (omega (arith, c.offset.ensures, taken.offset, long, all, length-drop start content))
 
 pub slice_bounds-rest-count : goal.slice_bounds-rest-count
 slice_bounds-rest-count c =
     let h = c.loop-text.invariant in
+    let front = take c.args.end c.args.content.now in
     let taken : TakesPiece c.loop-text.pieces c.next.new.self (pieces.Token c.in-Ok-Some-Token.token) =
     rw (c.in-Ok-Some-Token.field-0-is, c.in-Ok-Some-Token.field-0-0-is) at c.in-Ok-Some-Token.ensures.piece in
     omega (
       arith,
       c.offset-in-Ok-Some-Token.ensures,
-      within_after c.args.content.now c.loop-text.pieces c.next.new.self _ h.within h.rest taken,
+      within_after front c.loop-text.pieces c.next.new.self _ h.within h.rest taken,
+      length-take c.args.end c.args.content.now,
     )
 
 pub slice_bounds-rest-start : goal.slice_bounds-rest-start
 slice_bounds-rest-start c =
     let h = c.loop-text.invariant in
+    let front = take c.args.end c.args.content.now in
     let taken : TakesPiece c.loop-text.pieces c.next.new.self (pieces.Token c.in-Ok-Some-Token.token) =
     rw (c.in-Ok-Some-Token.field-0-is, c.in-Ok-Some-Token.field-0-0-is) at c.in-Ok-Some-Token.ensures.piece in
     omega (
       arith,
       c.offset-in-Ok-Some-Token.ensures,
-      within_after c.args.content.now c.loop-text.pieces c.next.new.self _ h.within h.rest taken,
+      within_after front c.loop-text.pieces c.next.new.self _ h.within h.rest taken,
+      length-take c.args.end c.args.content.now,
     )
 
 pub loop-text-preserved : goal.loop-text-preserved
@@ -60,30 +82,34 @@ loop-text-preserved c =
     let old = c.loop-text.pieces in
     let new = c.next.new.self in
     let content = c.args.content.now in
+    let front = take c.args.end content in
     let token = c.in-Ok-Some-Token.token in
     let taken : TakesPiece old new (pieces.Token token) =
     rw (c.in-Ok-Some-Token.field-0-is, c.in-Ok-Some-Token.field-0-0-is) at c.in-Ok-Some-Token.ensures.piece in
     let start : c.start.result ≡ old.offset = c.start.ensures ∙ taken.stands.0 in
+    let left = left_after front old new (pieces.Token token) h.within h.rest taken in
+    let within = within_after front old new (pieces.Token token) h.within h.rest taken in
     record {
       at = counts_within c.args.size c.token.new.self (c.start.result + 1) new.offset
           (omega (arith, start, taken.offset, taken.some)) c.token.ensures.at;
-      rest = left_after content old new (pieces.Token token) h.within h.rest taken;
-      within = within_after content old new (pieces.Token token) h.within h.rest taken;
+      rest = left;
+      within = within;
       leads = λ tokens texts reads.
-          token_leads c.args.size old new c.loop-text.walk c.token.new.self _ (h.leads tokens texts reads) token
-          (shown_kind c.kind.result.now) c.start.result _ taken start
+          token_leads c.args.size old new (drop c.args.end content) c.loop-text.walk c.token.new.self _
+          (h.leads tokens texts reads) token (shown_kind c.kind.result.now) c.start.result _ taken start
           (ap (λ (k : Kind). shown_kind k) c.kind.ensures)
           (rw c.offset-in-Ok-Some-Token.ensures (rest_of content new.offset
-          ∙ sym (left_after content old new (pieces.Token token) h.within h.rest taken))) c.token.ensures.goes_on;
+          ∙ with_behind content c.args.end new.offset new.rest left within)) c.token.ensures.goes_on;
     }
 
 pub returns-in-Ok-None : goal.returns-in-Ok-None
 returns-in-Ok-None c tokens texts reads =
-    nothing_left c.args.size c.loop-text.pieces.offset c.loop-text.pieces.rest c.loop-text.walk _
-    (c.loop-text.invariant.leads tokens texts reads)
+    nothing_left c.args.size c.loop-text.pieces.offset c.loop-text.pieces.rest (drop c.args.end c.args.content.now)
+    c.loop-text.walk _ (c.loop-text.invariant.leads tokens texts reads)
     (rw c.in-Ok-None.field-0-is at c.in-Ok-None.ensures.piece).0
 
 pub returns-in-Err : goal.returns-in-Err
 returns-in-Err c tokens texts reads =
-    absurd (never_refused c.args.size c.loop-text.pieces.offset c.loop-text.pieces.rest c.loop-text.walk _
+    absurd (never_refused c.args.size c.loop-text.pieces.offset c.loop-text.pieces.rest
+    (drop c.args.end c.args.content.now) c.loop-text.walk _
     c.in-Err.field-0 (c.loop-text.invariant.leads tokens texts reads) c.in-Err.ensures.fault)

@@ -1,4 +1,4 @@
-use Rattle.std.proofs.Common.{◌≡◌, ◌≤◌, List, ℕ, length, drop}
+use Rattle.std.proofs.Common.{◌≡◌, ◌≤◌, List, ℕ, length, take, drop}
 use Rattle.ans_model.specs.Sequence.TokenKind.{TokenKind}
 use Rattle.ans_model.specs.Sequence.Reads.{ReadsAs}
 use Rattle.ans_model.specs.Screen.StartClass.{cleared}
@@ -10,11 +10,11 @@ use Rattle.ans_hints.proofs.walk.found_in.Given as goal
 abbrev pub invariant-loop-text : goal.invariant-loop-text
 invariant-loop-text l = record {
   at : IsAt l.size l.pieces.offset l.walk;
-  rest : l.pieces.rest ≡ drop l.pieces.offset l.content;
-  within : l.pieces.offset ≤ length l.content;
-  leads : (tokens : List TokenKind) (texts : List (List ℕ)) → ReadsAs l.content tokens texts
-      → LeadsTo l.size l.pieces.offset l.pieces.rest l.walk
-      (found_after l.size (cleared l.size) 0 tokens texts nothing_found);
+  rest : l.pieces.rest ≡ drop l.pieces.offset (take l.end l.content);
+  within : l.pieces.offset ≤ length (take l.end l.content);
+  leads : (tokens : List TokenKind) (texts : List (List ℕ)) → ReadsAs (take l.end l.content) tokens texts
+      → LeadsTo l.size l.pieces.offset l.pieces.rest (drop l.end l.content) l.walk
+      (found_after l.size (cleared l.size) 0 tokens texts (drop l.end l.content) nothing_found);
 }
 
 abbrev pub decreases-loop-text : goal.decreases-loop-text

@@ -30,12 +30,14 @@ pieces-init c = record {
 pub piece-requires-clause-length : goal.piece-requires-clause-length
 piece-requires-clause-length c =
     piece_is_short c.args.size c.args.start c.args.content.now c.pieces.pieces c.next.new.self c.pieces.low
-    c.pieces.high c.pieces.invariant.so_far c.in-Ok-Some.piece (rw c.in-Ok-Some.field-0-is at c.in-Ok-Some.ensures.piece)
+    c.pieces.high c.pieces.invariant.so_far c.in-Ok-Some.piece
+    (rw c.in-Ok-Some.field-0-is at c.in-Ok-Some.ensures.piece)
 
 pub piece-requires-in-Ok-Some-clause-length : goal.piece-requires-in-Ok-Some-clause-length
 piece-requires-in-Ok-Some-clause-length c =
     piece_is_short c.args.size c.args.start c.args.content.now c.pieces.pieces c.next.new.self c.pieces.low
-    c.pieces.high c.pieces.invariant.so_far c.in-Ok-Some.piece (rw c.in-Ok-Some.field-0-is at c.in-Ok-Some.ensures.piece)
+    c.pieces.high c.pieces.invariant.so_far c.in-Ok-Some.piece
+    (rw c.in-Ok-Some.field-0-is at c.in-Ok-Some.ensures.piece)
 
 pub returns-then-not-is_free_piece : goal.returns-then-not-is_free_piece
 returns-then-not-is_free_piece c = (
@@ -60,7 +62,8 @@ pieces-preserved c =
       so_far = walked_more z class c.args.content.now c.pieces.pieces c.next.new.self c.pieces.low c.pieces.high h
           c.in-Ok-Some.piece taken c.piece.new.self c.piece-in-Ok-Some.new.self
           (c.piece.ensures.walk class (low_start z class) h.played (low_is_start z class h.some) clean h.low_is)
-          (c.piece-in-Ok-Some.ensures.walk class (high_start z class) h.played (high_is_start z class h.some) clean h.high_is)
+          (c.piece-in-Ok-Some.ensures.walk class (high_start z class) h.played (high_is_start z class h.some) clean
+          h.high_is)
           (c.if-not-is_free_piece.ensures.0 refl);
     }
 

@@ -19,4 +19,5 @@ returns c tokens texts reads =
       ];
       empty_rows = c.saturating_sub.ensures
           ∙ ap₂ (λ (m n : ℕ). m - n) c.lines.ensures.lines (ap (λ (f : Found). f.rows) e);
+      moves_rows = ap (λ (f : Found). f.moves_rows) e;
     }

@@ -17,7 +17,8 @@ returns-in-Tab-clause-walk c s e above =
     let told = tab_walk z (omega (arith, some)) s on room in
     let printed = rw c.tab_blanks.ensures at c.printed-in-Tab.ensures.cursor in
     let result = printed
-    (subst (λ (w : Walk). (run_end z.width w.cursor w.wrap (tab_blanks w.cursor.column)).row ≤ z.lines) (sym e) told.0) in
+    (subst (λ (w : Walk). (run_end z.width w.cursor w.wrap (tab_blanks w.cursor.column)).row ≤ z.lines) (sym e)
+    told.0) in
     rw c.in-Tab.is
     (result
     ∙ ap (λ (w : Walk). record w { cursor = run_end z.width w.cursor w.wrap (tab_blanks w.cursor.column) }) e
