@@ -53,20 +53,6 @@ fn token_by_bytes(bytes: &[u8], offset: usize) -> Result<Option<Token>, Fault>
     Ok(None)
 }
 
-/// The token that the bytes begin with, as `token_by_bytes` has it: a common one is taken whole.
-#[inline(always)]
-fn first_token(bytes: &[u8], offset: usize) -> Result<Option<Token>, Fault>
-    requires { offset + length bytes.now ≤ longest_file }
-    ensures token { IfOk result (λ token. MatchOption token (bytes.now ≡ [])
-        (IsTokenAt offset bytes.now)) }
-    ensures fault { IfErr result (IsFaultAt offset bytes.now) }
-{
-    match whole_token(bytes, offset) {
-        Some(token) => Ok(Some(token)),
-        None => token_by_bytes(bytes, offset),
-    }
-}
-
 /// Reads a content from its start, glyphs in a row at once and else token by token.
 ///
 /// A loop over it sees every token in turn. It takes no memory.
@@ -135,7 +121,12 @@ impl<'a> Pieces<'a> {
         if count > 0 {
             return Ok(Some(Piece::Glyphs(self.take(count))));
         }
-        match first_token(self.rest, self.offset)? {
+        // A token is large, so a common one is returned at once: it would be copied where ways join.
+        if let Some(token) = whole_token(self.rest, self.offset) {
+            self.take(token.length);
+            return Ok(Some(Piece::Token(token)));
+        }
+        match token_by_bytes(self.rest, self.offset)? {
             Some(token) => {
                 self.take(token.length);
                 Ok(Some(Piece::Token(token)))

@@ -20,5 +20,15 @@ returns-in-Some-clause-piece c =
     subst (λ (v : PiecesView). IsGlyphFront v.rest 0) c.self.view_is (rw none at c.glyphs_in_front-count.ensures) in
     let token : IsTokenAt c.args.self.now.offset c.args.self.now.rest c.in-Some.token =
     subst (λ (v : PiecesView). IsTokenAt v.offset v.rest c.in-Some.token) c.self.view_is
-    (rw c.in-Some.is at c.in_ok-token.ensures.token) in
+    (rw c.in-Some.is at c.whole_token.ensures.taken) in
     token_taken c.args.self.now c.take-in-Some.new.self c.in-Some.token token front c.take-in-Some.ensures.taken
+
+pub returns-in-Some-2-clause-piece : goal.returns-in-Some-2-clause-piece
+returns-in-Some-2-clause-piece c =
+    let none : c.glyphs_in_front-count.result ≡ 0 = omega (arith, c.if-count-gt0.false) in
+    let front : IsGlyphFront c.args.self.now.rest 0 =
+    subst (λ (v : PiecesView). IsGlyphFront v.rest 0) c.self.view_is (rw none at c.glyphs_in_front-count.ensures) in
+    let token : IsTokenAt c.args.self.now.offset c.args.self.now.rest c.in-Some-2.token =
+    subst (λ (v : PiecesView). IsTokenAt v.offset v.rest c.in-Some-2.token) c.self.view_is
+    (rw c.in-Some-2.is at c.in_ok-token.ensures.token) in
+    token_taken c.args.self.now c.take-in-Some-2.new.self c.in-Some-2.token token front c.take-in-Some-2.ensures.taken
