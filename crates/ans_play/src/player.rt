@@ -92,7 +92,7 @@ impl<G: Grid> Player<G> {
         }
         let mut played = 0;
         while played < piece.len() {
-            match self.play.play_front(&piece[played..]) {
+            match self.play.advance(&piece[played..]) {
                 Ok(count) => played += count,
                 Err(fault) => {
                     self.fault = Some(fault);

@@ -15,7 +15,7 @@ pub loop-played-preserved : goal.loop-played-preserved
 loop-played-preserved g c =
     let here = c.loop-played.invariant in
     record {
-      plays = plays_more (play_of c.args.self.now) c.loop-played.self-inside.play c.play_front.new.self
+      plays = plays_more (play_of c.args.self.now) c.loop-played.self-inside.play c.advance.new.self
           c.args.piece.now c.loop-played.played c.in-Ok.count here.plays c.in-Ok.ensures.played;
       start = here.start;
       fed = here.fed;

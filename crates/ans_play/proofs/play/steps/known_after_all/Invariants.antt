@@ -1,6 +1,6 @@
 use Rattle.std.proofs.Common.{◌≡◌, drop}
 use Rattle.ans_play.specs.HalfStep.{known_after_all}
-use Rattle.ans_play.proofs.play.known_after_all.Given as goal
+use Rattle.ans_play.proofs.play.steps.known_after_all.Given as goal
 
 -- what is left to apply gives what all gives
 abbrev pub invariant-loop-parameter : goal.invariant-loop-parameter

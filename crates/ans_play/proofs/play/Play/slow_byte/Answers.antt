@@ -2,7 +2,7 @@ use Rattle.std.proofs.Common.{◌≡◌, ap, rules}
 use Rattle.std.specs.Prelude.{Err}
 use Rattle.ans_play.specs.PlayView.{PlayView}
 use Rattle.ans_play.proofs.Feeding.{byte_refused, byte_goes_on, byte_plays, byte_deserved}
-use Rattle.ans_play.proofs.play.Play.play_byte.Goals as goal
+use Rattle.ans_play.proofs.play.Play.slow_byte.Goals as goal
 
 pub returns-in_err-byte-clause-stopped : goal.returns-in_err-byte-clause-stopped
 returns-in_err-byte-clause-stopped g c =
@@ -22,11 +22,11 @@ pub returns-in-Some-clause-played : goal.returns-in-Some-clause-played
 returns-in-Some-clause-played g c =
     byte_plays (ap (λ (p : PlayView). p.scanner) c.self.view_is) _
     (ap (λ (p : PlayView). record p { scanner = c.byte.new.self }) c.self.view_is)
-    (rw c.in-Some.is at c.in_ok-byte.ensures.token) c.play_token.result c.play_token.ensures
+    (rw c.in-Some.is at c.in_ok-byte.ensures.token) c.step.result c.step.ensures
     c.in_ok-byte.ensures.taken c.in_ok-byte.ensures.accepted
 
 pub returns-in-Some-clause-stopped : goal.returns-in-Some-clause-stopped
 returns-in-Some-clause-stopped g c =
     byte_deserved (ap (λ (p : PlayView). p.scanner) c.self.view_is) _
     (ap (λ (p : PlayView). record p { scanner = c.byte.new.self }) c.self.view_is)
-    (rw c.in-Some.is at c.in_ok-byte.ensures.token) c.play_token.result c.play_token.ensures
+    (rw c.in-Some.is at c.in_ok-byte.ensures.token) c.step.result c.step.ensures

@@ -1,6 +1,6 @@
 use Rattle.std.proofs.Common.{arith}
 use Rattle.ans_play.proofs.Letters.{colours_played}
-use Rattle.ans_play.proofs.play.Play.play_letter.Goals as goal
+use Rattle.ans_play.proofs.play.Play.step_of_letter.Goals as goal
 
 pub returns-in-109-2-clause-played : goal.returns-in-109-2-clause-played
 returns-in-109-2-clause-played g c =
