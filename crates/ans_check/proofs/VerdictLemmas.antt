@@ -11,9 +11,12 @@ use Rattle.ans_model.specs.Screen.State.{Size, sized}
 use Rattle.ans_model.specs.Verdict.Good.{Picture, GoodWith, IsGood}
 use Rattle.ans_model.specs.Verdict.FirstFault.{IsFirstFault}
 use Rattle.ans_model.specs.Verdict.LastFault.{IsLastFault}
-use Rattle.ans_model.specs.Verdict.Needs.{IsLeast}
+use Rattle.ans_model.specs.Screen.StartClass.{Covers, none_known, all_but_screen, all_but_cursor, all_but_saved}
+use Rattle.ans_model.specs.Screen.StartClass.{all_but_colours, all_but_wrap}
+use Rattle.ans_model.specs.Verdict.Needs.{IsLeast, IsFoundByParts}
 use Rattle.ans_model.specs.declared.fault.Fault.{Fault}
 use Rattle.ans_model.specs.declared.start.Start.{Start}
+use Rattle.ans_model.proofs.ClassLemmas.{covers_good}
 use Rattle.ans_model.proofs.OneAnswer.{good_or_first, good_or_last}
 use Rattle.ans_model.proofs.AcceptedFiles.{one_layout, no_fault}
 use Rattle.ans_sauce.specs.declared.parts.Parts.{Parts}
@@ -136,6 +139,29 @@ pub good_or_deserves : (z : Size) (start : Start) (bytes : List ℕ) (r : Result
 good_or_deserves z start bytes (Ok picture) good told with refused = (λ _. (picture, with), λ _. told)
 good_or_deserves z start bytes (Err f) good told with refused =
     (λ ok. absurd (cc), λ shows. absurd (not_good z start bytes f refused shows))
+
+-- what is good from every start needs no part
+pub nothing_needed : (z : Size) (content : List ℕ) → IsGood z none_known content
+    → IsFoundByParts z content none_known
+nothing_needed z content good = record {
+  screen = (λ e. without all_but_screen, λ g. refl);
+  cursor = (λ e. without all_but_cursor, λ g. refl);
+  saved = (λ e. without all_but_saved, λ g. refl);
+  colours = (λ e. without all_but_colours, λ g. refl);
+  wrap = (λ e. without all_but_wrap, λ g. refl);
+}
+  where
+    covers : (class : Start) → Covers none_known class
+    covers class = record {
+      screen = λ k. absurd (cc k);
+      cursor = λ k. absurd (cc k);
+      saved = λ k. absurd (cc k);
+      colours = λ k. absurd (cc k);
+      wrap = λ k. absurd (cc k);
+    }
+
+    without : (class : Start) → IsGood z class content
+    without class = (good.0, covers_good z none_known class content good.0 (covers class) good.1)
 
 -- a part is not needed exactly where the content is good without it
 pub unneeded : {P : Type 0} (good : Bool) → IsTrue good ↔ P → (not good ≡ false) ↔ P

@@ -41,12 +41,15 @@ const ALL_BUT_WRAP: Start = Start {
     ..Start::CLEARED
 };
 
-/// The class of the parts that the content cannot do without, each tried by itself: the content is
-/// played from the class of all other parts.
+/// The class of the parts that the content cannot do without: none where it passes from every start.
+/// Else each part is tried by itself: the content is played from the class of all other parts.
 fn least_class<G: Grid>(alloc: Global, parts: &Parts<'_>) -> Result<Start, AllocError>
     requires { length (content_of parts.now) ≤ longest_file }
     ensures { IfOk result (IsFoundByParts (parts_size parts.now) (content_of parts.now)) }
 {
+    if passes_from::<G>(alloc, parts, Start::ANY)? {
+        return Ok(Start::ANY);
+    }
     Ok(Start {
         screen: !passes_from::<G>(alloc, parts, ALL_BUT_SCREEN)?,
         cursor: !passes_from::<G>(alloc, parts, ALL_BUT_CURSOR)?,
@@ -57,8 +60,8 @@ fn least_class<G: Grid>(alloc: Global, parts: &Parts<'_>) -> Result<Start, Alloc
 }
 
 /// Finds what a file of at most 16,777,216 bytes needs. Its content is played from the cleared start,
-/// and where that passes, from each class that knows all parts but one: at most six plays, one after
-/// the other, each up to its first fault.
+/// where that passes from all starts, and where that does not pass from each class that knows all
+/// parts but one: at most seven plays, one after the other, each up to its first fault.
 ///
 /// Fails where memory runs out; a file that is refused for its record or its layout takes none.
 /// An offset counts bytes from the file's start, which is the content's too.
