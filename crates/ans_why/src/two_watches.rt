@@ -52,6 +52,21 @@ impl TwoWatches {
         self.high.step(size, at, kind);
     }
 
+    /// A byte that is printed in both plays.
+    #[inline(always)]
+    fn print(&mut self, size: Size, at: Position, byte: u8)
+        requires at { IsOnScreen size at }
+        requires stand { BothStandOn size self.old }
+        ensures stand { BothStandOn size self.new }
+        ensures watched { (class : Start) (tokens : List TokenKind)
+            → IsClean size class (tokens ++ Glyph byte ∷ [])
+            → AreWatched size class at tokens self.old
+            → AreWatched size class at (tokens ++ Glyph byte ∷ []) self.new }
+    {
+        self.low.print(size, at, byte);
+        self.high.print(size, at, byte);
+    }
+
     /// Glyphs in both plays.
     pub fn glyphs(&mut self, size: Size, at: Position, bytes: &[u8])
         requires at { IsOnScreen size at }
@@ -63,7 +78,7 @@ impl TwoWatches {
             → AreWatched size class at (tokens ++ map Glyph bytes.now) self.new }
     {
         for byte in bytes {
-            self.step(size, at, &Kind::Glyph(*byte));
+            self.print(size, at, *byte);
         }
     }
 

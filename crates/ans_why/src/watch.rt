@@ -127,6 +127,7 @@ impl Watch {
     }
 
     /// A byte in the cursor's cell.
+    #[inline(always)]
     fn put(&mut self, size: Size, at: Position, byte: u8)
         requires at { IsOnScreen size at }
         requires stands { StandsOn size self.old }
@@ -143,6 +144,7 @@ impl Watch {
     }
 
     /// The cursor goes on after a printed byte.
+    #[inline(always)]
     fn advance(&mut self, size: Size, at: Position)
         requires at { IsOnScreen size at }
         requires stands { StandsOn size self.old }
@@ -159,7 +161,8 @@ impl Watch {
     }
 
     /// A byte at the cursor, which then goes on.
-    fn print(&mut self, size: Size, at: Position, byte: u8)
+    #[inline(always)]
+    pub(crate) fn print(&mut self, size: Size, at: Position, byte: u8)
         requires at { IsOnScreen size at }
         requires stands { StandsOn size self.old }
         ensures stands { StandsOn size self.new }

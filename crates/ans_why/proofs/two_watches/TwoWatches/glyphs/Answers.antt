@@ -17,7 +17,7 @@ glyphs_split tokens bytes n =
 
 pub loop-byte-preserved : goal.loop-byte-preserved
 loop-byte-preserved c = record {
-  stand = c.step.ensures.stand;
+  stand = c.print.ensures.stand;
   watched = λ class tokens clean was.
       let z = c.args.size in
       let bytes = c.args.bytes.now in
@@ -31,7 +31,7 @@ loop-byte-preserved c = record {
       let front : IsClean z class (tokens ++ map Glyph (take (i + 1) bytes)) =
       clean_front z class (tokens ++ map Glyph (take (i + 1) bytes)) (map Glyph (drop (i + 1) bytes))
       (subst (IsClean z class) (glyphs_split tokens bytes (i + 1)) clean) in
-      subst (λ (ts : List TokenKind). AreWatched z class c.args.at ts c.step.new.self) more
-      (c.step.ensures.watched class so_far (subst (IsClean z class) (sym more) front)
+      subst (λ (ts : List TokenKind). AreWatched z class c.args.at ts c.print.new.self) more
+      (c.print.ensures.watched class so_far (subst (IsClean z class) (sym more) front)
       (c.loop-byte.invariant.watched class tokens clean was));
 }
