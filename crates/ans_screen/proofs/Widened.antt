@@ -5,7 +5,7 @@ use Rattle.std.proofs.lemmas.Bool.{cases_lt}
 use Rattle.std.proofs.lemmas.Bool.Decides.{eqb_tells}
 use Rattle.std.proofs.lemmas.List.{get_or-set_same, get_or-set_other}
 use Rattle.ans_screen.specs.RowCells.{CellState, Stale, row_cell, state_of, state_in, state_at, cells_of_rows}
-use Rattle.ans_screen.specs.RowCells.{states_of}
+use Rattle.ans_screen.specs.RowCells.{states_of, holds_none}
 use Rattle.ans_screen.specs.RowCells.{cells_of_grid, cell_in_grid, cell_at, byte_cell, never_written}
 use Rattle.ans_screen.specs.RowCells.{SameBytes, SameRows, HasBlanks, IsMarked, IsHeldRow}
 use Rattle.ans_screen.specs.declared.cell.HalfCell.{HalfCell}
@@ -166,3 +166,46 @@ module _ {g a b c : PlaneGrid} {row from to : ℕ} {held : Row} {known : Bool}
   widened_cells =
       same_rows g.width g.rows (states_of g) states_then g.blank g.glyphs.items g.glyphs_known g.bits_known
       g.values.items c.glyphs.items c.glyphs_known c.bits_known c.values.items (λ i within. same_then i)
+
+-- a row that holds no cell does so wherever that is said to begin
+pub none_held : (g : PlaneGrid) (row place : ℕ) (held : Row) → IsHeldRow g row held → held.first ≡ held.end
+    → row * g.width ≤ place → place ≤ row * g.width + g.width → IsHeldRow g row (holds_none g.round place)
+none_held g row place held h none start stop =
+    let stale : (i : ℕ) → row * g.width ≤ i → i < row * g.width + g.width → states_of g i ≡ Stale =
+    λ i le lt. elim (cases_lt i held.first) [
+      | inl before ↦ h.before i le before
+      | inr past ↦ h.after i (omega arith) lt
+    ] in
+    record {
+      round = refl;
+      start = start;
+      ordered = omega arith;
+      stop = stop;
+      inside = λ i le lt. absurd (omega arith);
+      before = λ i le lt. stale i le (omega arith);
+      after = λ i le lt. stale i (omega arith) lt;
+    }
+
+same_bytes : (g : PlaneGrid) (i : ℕ) → SameBytes g g i
+same_bytes g i = record { glyph = refl; glyph_known = refl; bits_known = refl; value = refl }
+
+same_all : (g : PlaneGrid) → SameRows g g
+same_all g = record { held = refl; round = refl; blank = refl; width = refl; rows = refl }
+
+-- the blank is written to the first cells that a row holds
+pub begun : (g c : PlaneGrid) (row from to : ℕ) (known : Bool) → row < length g.held.items
+    → IsHeldRow g row (holds_none g.round from) → to ≤ row * g.width + g.width
+    → HasBlanks (state_of known) g c from to → SameRows g c
+    → IsWidened g g g c row from to (holds_none g.round from) known
+begun g c row from to known there holds stop blanks same = record {
+  row_there = there;
+  holds = holds;
+  start = holds.start;
+  stop = stop;
+  marks = record { inside = λ i le lt. absurd (omega arith); outside = λ i out. same_bytes g i };
+  front = record { inside = λ i le lt. absurd (omega arith); outside = λ i out. same_bytes g i };
+  back = blanks;
+  marked = same_all g;
+  fronted = same_all g;
+  backed = same;
+}

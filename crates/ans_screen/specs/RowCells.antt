@@ -31,11 +31,15 @@ state_of false = Mixed
 abbrev pub never_written : Row
 never_written = record { round = 0; known = true; first = 0; end = 0 }
 
+-- a row that holds no cell in a round: what it holds begins and ends at a place
+abbrev pub holds_none : ℕ → ℕ → Row
+holds_none round place = record { round = round; known = true; first = place; end = place }
+
 -- the state of cell i in a round, where this is its row
 abbrev pub state_in : ℕ → Row → ℕ → CellState
 state_in round row i =
     if row.round == round then
-      (if nat_lt i row.first then Stale else if nat_lt i row.end then state_of row.known else Stale)
+    (if nat_lt i row.first then Stale else if nat_lt i row.end then state_of row.known else Stale)
     else Stale
 
 -- the state of cell i, by its row

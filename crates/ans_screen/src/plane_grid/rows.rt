@@ -3,8 +3,8 @@
 ghost use Rattle.std.specs.Prelude.{◌≡◌, ◌+◌, ◌*◌, ◌<◌, ◌≤◌, ℕ, true, IsTrue};
 ghost use Rattle.ans_model.specs.Screen.Step.{filled};
 ghost use Rattle.ans_screen.specs.HalfCells.{is_known};
-ghost use Rattle.ans_screen.specs.RowCells.{cells_of_grid, cell_in_grid, states_of, state_of, IsHeldRow, SameRows};
-ghost use Rattle.ans_screen.specs.RowCells.{IsFirstUnknown, HasBlanks, IsMarked, ShowsSame};
+ghost use Rattle.ans_screen.specs.RowCells.{cells_of_grid, cell_in_grid, states_of, state_of, holds_none, IsHeldRow};
+ghost use Rattle.ans_screen.specs.RowCells.{SameRows, IsFirstUnknown, HasBlanks, IsMarked, ShowsSame};
 
 use super::{PlaneGrid, Row};
 use crate::cell::HalfCell;
@@ -26,6 +26,7 @@ impl PlaneGrid {
     }
 
     /// The row as this round holds it. If it holds no cell, what it holds begins and ends at `at`.
+    #[inline(always)]
     pub(super) fn held_row(&self, row: usize, at: usize) -> Row
         requires row { row < self.now.rows }
         requires start { row * self.now.width ≤ at }
@@ -106,6 +107,32 @@ impl PlaneGrid {
             .min(self.row_start(row) + self.width)
     }
 
+    /// Has a row that holds no cell hold those from `from` up to and without `to`, and 16 at least, as
+    /// far as the row goes.
+    #[inline(always)]
+    fn begin(&mut self, row: usize, from: usize, to: usize, known: bool)
+        requires row { row < self.old.rows }
+        requires ordered { from ≤ to }
+        requires start { row * self.old.width ≤ from }
+        requires end { to ≤ row * self.old.width + self.old.width }
+        requires known { known ≡ true → IsTrue (is_known self.old.blank) }
+        requires empty { IsHeldRow self.old row (holds_none self.old.round from) }
+        ensures same { ShowsSame self.old self.new }
+        ensures held { (i : ℕ) → from ≤ i → i < to → states_of self.new i ≡ state_of known }
+    {
+        let start = self.row_start(row);
+        let stop = to
+            .max(from.saturating_add(AHEAD + 1))
+            .min(start + self.width);
+        self.write_blank(from, stop, known);
+        self.held[row] = Row {
+            round: self.round,
+            known,
+            first: from,
+            end: stop,
+        };
+    }
+
     /// Has the row hold the cells from `from` up to and without `to` too, and those between them and
     /// the ones that it holds, and says whether it is known then.
     #[cold]
@@ -121,6 +148,10 @@ impl PlaneGrid {
         ensures known { result ≡ true → known ≡ true }
     {
         let held = self.held_row(row, from);
+        if held.first == held.end {
+            self.begin(row, from, to, known);
+            return known;
+        }
         let stop = self.stop_ahead(row, held, to);
         let known = held.known && known;
         self.mark_known(held, known);

@@ -1,11 +1,11 @@
 use Rattle.std.proofs.Common.{arith}
-use Rattle.ans_screen.proofs.Widened.{IsWidened, widened_cells, widened_frame, widened_inside}
+use Rattle.ans_screen.proofs.Widened.{IsWidened, widened_cells, widened_frame, widened_inside, none_held}
 use Rattle.ans_screen.proofs.plane_grid.PlaneGrid.widen.Goals as goal
 use Rattle.ans_screen.proofs.plane_grid.PlaneGrid.widen.Goals.{After-write_blank-2}
 
 -- what is held of the row is marked, and the blank is written before and behind it
 widened : (c : After-write_blank-2) → IsWidened c.args.self.now c.mark_known.new.self c.write_blank.new.self
-    c.write_blank-2.new.self c.args.row c.args.from c.stop_ahead-stop.result c.held_row-held.result c.if-held.known
+    c.write_blank-2.new.self c.args.row c.args.from c.stop_ahead-stop.result c.held_row-held.result c.if-held-2.known
 widened c = record {
   row_there = omega arith;
   holds = c.held_row-held.ensures;
@@ -18,6 +18,11 @@ widened c = record {
   fronted = c.write_blank.ensures.same;
   backed = c.write_blank-2.ensures.same;
 }
+
+pub begin-requires-clause-empty : goal.begin-requires-clause-empty
+begin-requires-clause-empty c =
+    none_held c.args.self.now c.args.row c.args.from c.held_row-held.result c.held_row-held.ensures (omega arith)
+    c.requires.start (omega arith)
 
 pub returns-clause-same : goal.returns-clause-same
 returns-clause-same c =
