@@ -61,6 +61,20 @@ HI_WHY = (
     b"mend: begin with ESC[?7h ESC[0m ESC[2J ESC[s\n"
 )
 HI_NEEDS = b"size: 2 x 1\ncontent: 2 bytes\nneeds: cursor colours\n"
+TABLE_HEADER = (
+    b"verdict\tneeds\ttaller\tfault\tat\trow\tcolumn\twidth\tlines\tcontent\tnotes\t"
+    b"ice\tspacing\taspect\tfont\tdate\ttitle\tauthor\tgroup\tfile\n"
+)
+HI_ROW = (
+    b"pass\tcursor colours\tyes\t\t\t\t\t2\t1\t2\t\tno\t\t\t\t19960101\t\t\t\tdata/hi.ans\n"
+)
+
+
+def error_row(why, name):
+    """The row of a file that is not read."""
+    return b"error\t\t\t" + why + b"\t" * 16 + name + b"\n"
+
+
 NO_RECORD = b"verdict: refused\nat 127: F1 no SAUCE record\n"
 
 STATUSES = b"""
@@ -80,6 +94,7 @@ Commands:
   show    Show the picture in its colours, for a terminal or as a page
   sauce   Print what a file's SAUCE record says
   tokens  Print the bytes and the escape sequences of a file, one a line
+  table   Print one row for each file: its verdict, its needs, its record
 
 Options:
   -h, --help     Print help
@@ -200,6 +215,27 @@ RUNS = [
     Run("needs of a content that needs each part", ["needs"], 0,
         b"size: 2 x 2\ncontent: 7 bytes\nneeds: screen cursor saved colours wrap\n",
         stdin=file_of(b"H\x1b[uHia", 2, 2)),
+    # Tables.
+    Run("table of a named file", ["table", HI], 0, TABLE_HEADER + HI_ROW,
+        b"anscheck: 1 file: 1 pass, 0 refused, 0 not read\n"),
+    Run("table of names on standard input", ["table", "--no-header"], 0, HI_ROW + HI_ROW,
+        b"anscheck: 2 files: 2 pass, 0 refused, 0 not read\n", stdin=b"data/hi.ans\0data/hi.ans"),
+    Run("table of a file that is refused", ["table", "--no-header", HI, "data/rows.ans"], 1,
+        HI_ROW + b"refused\t\t\tF21\t249\t6\t1\t80\t5\t414\t\tno\t\t\tIBM VGA\t20260101\tRows\t\t\tdata/rows.ans\n",
+        b"anscheck: 2 files: 1 pass, 1 refused, 0 not read\n"),
+    Run("table of files that are not read", ["table", "--no-header", "data/none.ans", "data", HI], 2,
+        error_row(b"cannot open the file", b"data/none.ans")
+        + error_row(b"cannot read the file", b"data") + HI_ROW,
+        b"anscheck: 3 files: 1 pass, 0 refused, 2 not read\n"),
+    Run("table of a name that is not text", ["table", "--no-header"], 2,
+        error_row(b"name is not UTF-8", b"a\\x82"),
+        b"anscheck: 1 file: 0 pass, 0 refused, 1 not read\n", stdin=b"a\x82\0"),
+    Run("table of no names", ["table"], 0, TABLE_HEADER,
+        b"anscheck: 0 files: 0 pass, 0 refused, 0 not read\n"),
+    Run("table of standard input", ["table", "-"], 2,
+        stderr=b"anscheck: - names no file of a table; without FILE, names are read\n", stdin=HI),
+    Run("table on a full device", ["table", HI], 2,
+        stderr=b"anscheck: cannot write the report\n", output="/dev/full"),
     # Files that pass from the starts of which some parts are known, and not from every start.
     Run("check with a known screen", ["check", "--known-screen"], 0,
         b"size: 1 x 1\nstart: known screen\ncontent: 0 bytes\nverdict: pass\npicture:\n \n",
@@ -323,7 +359,7 @@ RUNS = [
         f"unexpected argument '{HI}' found", CHECK_USAGE)),
     Run("no subcommand", [], 2, stdin=HI, stderr=mistake(
         "'anscheck' requires a subcommand but one was not provided\n"
-        "  [subcommands: why, needs, check, show, sauce, tokens]", "<COMMAND>")),
+        "  [subcommands: why, needs, check, show, sauce, tokens, table]", "<COMMAND>")),
     Run("an unknown subcommand", ["other", HI], 2, stderr=mistake(
         "unrecognized subcommand 'other'", "<COMMAND>")),
     Run("a word that is not text", ["check", b"\xff"], 2,

@@ -1,14 +1,19 @@
 -- What is said of an ending.
-use Rattle.std.proofs.Common.{◌≡◌, ℕ, Bool, true, false, List, Option, Some, None, Ok, Err}
-use Rattle.std.proofs.Common.{refl, subst, sym, true≢false}
+use Rattle.std.proofs.Common.{◌≡◌, ℕ, ◌≤◌, Bool, true, false, List, [], ◌∷◌, length, Option, Some, None, Ok, Err}
+use Rattle.std.proofs.Common.{arith, refl, subst, sym, true≢false}
 use Rattle.std.specs.Prelude.{◌↔◌, Result, IsErr, IsTrue, MatchOption}
 use Rattle.ans_report.specs.Message.{message_line}
 use Rattle.ans_write.specs.Writes.{AppendsUnless, WritesText}
 use Rattle.ans_write.specs.declared.tried.Tried.{Tried}
-use Rattle.ans_check.specs.Answer.{Says, Tells}
+use Rattle.clap.specs.Words.{Text}
+use Rattle.ans_options.specs.declared.command.TableForm.{TableForm}
+use Rattle.ans_table.specs.declared.finding.Finding.{Finding}
+use Rattle.ans_check.specs.Answer.{EndsBy, EndsListed, EndsNamed, Says, Tells}
 use Rattle.ans_check.specs.Ending.{ending_message}
 use Rattle.ans_check.specs.declared.exit_status.Ending.{Ending}
 use Rattle.ans_check.specs.declared.exit_status.Ending.TheVariants.{Run, Help, Usage, UnreadableWords, UnopenedFile}
+use Rattle.ans_check.specs.declared.exit_status.Ending.TheVariants.{Table}
+use Rattle.ans_check.specs.declared.exit_status.Ending.TheVariants.{NamedInput, UnreadNames}
 
 -- what was written by its result is what was written by whether the device has failed
 pub written_unless : {T E : Type 0} (old new : Option (List ℕ)) (r : Result T E) (failed : Bool) (text : List ℕ)
@@ -37,3 +42,26 @@ says_message contents errors after UnreadableWords text e h =
     text e h
 says_message contents errors after UnopenedFile text e h =
     in_some (λ t. Tells contents errors after (message_line t)) (after ≡ errors) (ending_message UnopenedFile) text e h
+says_message contents errors after (Table counts) text e h = absurd (cc)
+says_message contents errors after NamedInput text e h =
+    in_some (λ t. Tells contents errors after (message_line t)) (after ≡ errors) (ending_message NamedInput) text e h
+says_message contents errors after UnreadNames text e h =
+    in_some (λ t. Tells contents errors after (message_line t)) (after ≡ errors) (ending_message UnreadNames) text e h
+
+-- the table of names that the words give
+pub ends_by_names : {R W : Type 0} (remaining : R → Option (List ℕ)) (contents : W → Option (List ℕ))
+    (is_standard : R → Type 0) (found : Text → Finding → Type 0) (form : TableForm) (names : List Text)
+    (output after : Tried W) (ending : Ending) → 1 ≤ length names
+    → EndsNamed contents found form names output after ending
+    → EndsBy remaining contents is_standard found form names output after ending
+ends_by_names remaining contents is_standard found form [] output after ending some h = absurd (omega arith)
+ends_by_names remaining contents is_standard found form (name ∷ more) output after ending some h = h
+
+-- the table of names on standard input
+pub ends_by_input : {R W : Type 0} (remaining : R → Option (List ℕ)) (contents : W → Option (List ℕ))
+    (is_standard : R → Type 0) (found : Text → Finding → Type 0) (form : TableForm) (names : List Text)
+    (output after : Tried W) (ending : Ending) → length names ≤ 0
+    → EndsListed remaining contents is_standard found form output after ending
+    → EndsBy remaining contents is_standard found form names output after ending
+ends_by_input remaining contents is_standard found form [] output after ending none h = h
+ends_by_input remaining contents is_standard found form (name ∷ more) output after ending none h = absurd (omega arith)

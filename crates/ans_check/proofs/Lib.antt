@@ -5,3 +5,5 @@ pub mod ReportedLemmas
 pub mod ServedLemmas
 pub mod AnswerLemmas
 pub mod WhyLemmas
+pub mod ListingLemmas
+pub mod TableLemmas

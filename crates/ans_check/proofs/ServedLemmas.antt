@@ -13,7 +13,8 @@ use Rattle.ans_check.specs.declared.errors.RunError.{RunError}
 use Rattle.ans_check.specs.declared.errors.RunError.TheVariants as error
 
 -- what was appended is there after a call that keeps the bytes
-appended_and_kept : (old between new : Option (List ℕ)) (text : List ℕ) → Appends old between text → Keeps between new
+pub appended_and_kept : (old between new : Option (List ℕ)) (text : List ℕ) → Appends old between text
+    → Keeps between new
     → Appends old new text
 appended_and_kept None between new text h k = tt
 appended_and_kept (Some xs) None new text h k = absurd h

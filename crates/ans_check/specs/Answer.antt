@@ -1,21 +1,33 @@
 -- How the program answers its words.
-use Rattle.std.specs.Prelude.{◌≡◌, ◌⊎◌, ℕ, Bool, false, List, [], Option, Some, None, Result, Err, codes}
+use Rattle.std.specs.Prelude.{◌≡◌, ◌⊎◌, ℕ, Bool, true, false, List, [], ◌∷◌, Option, Some, None, Result, Ok, Err, codes}
 use Rattle.std.specs.Prelude.{MatchBool, MatchOption}
+use Rattle.std.specs.List.{list_any}
 use Rattle.std.specs.Str.{bytes_eq}
 use Rattle.clap.specs.Words.{Text}
-use Rattle.ans_options.specs.CommandLine.{AreOptionsOf, HasKindAmong, RanOutOfMemory, faults_of}
+use Rattle.ans_options.specs.CommandLine.{AreNamesOf, AreOptionsOf, HasKindAmong, RanOutOfMemory, faults_of, is_table}
+use Rattle.ans_options.specs.declared.command.Command.TheVariants as command
+use Rattle.ans_options.specs.declared.command.TableForm.{TableForm}
 use Rattle.ans_options.specs.declared.command.Options.{Options}
 use Rattle.ans_options.specs.declared.command_line.WordsError.{WordsError}
 use Rattle.ans_report.specs.Message.{message_line}
+use Rattle.ans_table.specs.declared.counts.Counts.{Counts}
+use Rattle.ans_table.specs.declared.finding.Finding.{Finding}
+use Rattle.ans_table.specs.Counting.{counts_text}
+use Rattle.ans_write.specs.declared.outbox.WriteFault.{WriteFault}
 use Rattle.ans_write.specs.Tried.{call_count, has_failed, inner_of}
 use Rattle.ans_write.specs.Writes.{AppendsUnless, Wrote, WrotePrefix}
 use Rattle.ans_write.specs.declared.tried.Tried.{Tried}
 use Rattle.ans_check.specs.Ending.{ending_message, ending_of_words}
+use Rattle.ans_check.specs.Listing.{IsListing, bytes_of, is_whole, names_in}
 use Rattle.ans_check.specs.Served.{Serves}
+use Rattle.ans_check.specs.Table.{IsFound, WritesTable}
+use Rattle.ans_check.specs.declared.listing.Listing.{Listing}
 use Rattle.ans_check.specs.declared.errors.RunError.{RunError}
 use Rattle.ans_check.specs.declared.errors.RunError.TheVariants as error
 use Rattle.ans_check.specs.declared.exit_status.Ending.{Ending}
 use Rattle.ans_check.specs.declared.exit_status.Ending.TheVariants.{Run, Help, Usage, UnreadableWords, UnopenedFile}
+use Rattle.ans_check.specs.declared.exit_status.Ending.TheVariants.{Table}
+use Rattle.ans_check.specs.declared.exit_status.Ending.TheVariants.{NamedInput, UnreadNames}
 
 -- `-` names standard input
 abbrev pub names_standard : Text → Bool
@@ -27,13 +39,14 @@ IsNamed is_file is_standard (Some name) reader =
     MatchBool (names_standard name) (is_standard reader) (is_file name reader)
 IsNamed is_file is_standard None reader = is_standard reader
 
--- The words give options, and the program ends as a run with them on the input that they name.
+-- The words give options, and the program ends as a run with them on the input that they name. A table is no such run.
 pub record EndsAsServed {R W : Type 0} (remaining : R → Option (List ℕ)) (contents : W → Option (List ℕ))
     (is_file : Text → R → Type 0) (is_standard : R → Type 0) (words : List Text) (output output_after : Tried W)
     (ending : Ending) : Type 0 where
   pub options : Options
   pub file : Option Text
   pub asked : AreOptionsOf words options file
+  pub one : is_table options.command ≡ false
   pub faultless : faults_of words ≡ []
   pub reader : Tried R
   pub reader_after : Tried R
@@ -54,6 +67,74 @@ pub record EndsUnopened {W : Type 0} (is_missing : Text → Type 0) (words : Lis
   pub missing : is_missing file
   pub unwritten : output_after ≡ output
   pub ends : ending ≡ UnopenedFile
+
+-- how a table ends, by whether all names were read and what its writing came to
+abbrev pub ending_of_table : Bool → Result Counts WriteFault → Ending
+ending_of_table true (Ok counts) = Table counts
+ending_of_table false (Ok counts) = UnreadNames
+ending_of_table whole (Err fault) = Run (Err error.Write)
+
+-- the table of these names was written, and is the ending; or there was no memory to list them, and nothing was
+abbrev pub EndsWritten : {W : Type 0} → (W → Option (List ℕ)) → (Text → Finding → Type 0) → TableForm → Bool
+    → List Text → Tried W → Tried W → Ending → Type 0
+EndsWritten contents found form whole names output output_after ending =
+    ((result : Result Counts WriteFault) × WritesTable contents found form names output output_after result
+    × (ending ≡ ending_of_table whole result))
+    ⊎ ((ending ≡ Run (Err error.Memory)) × (output_after ≡ output))
+
+-- The table of the named files; `-` is none of them.
+abbrev pub EndsNamed : {W : Type 0} → (W → Option (List ℕ)) → (Text → Finding → Type 0) → TableForm → List Text
+    → Tried W → Tried W → Ending → Type 0
+EndsNamed contents found form names output output_after ending =
+    MatchBool (list_any names_standard names) ((ending ≡ NamedInput) × (output_after ≡ output))
+    (EndsWritten contents found form true names output output_after ending)
+
+-- standard input gave names, and the program ends as the table of them
+pub record EndsAfterListing {R W : Type 0} (remaining : R → Option (List ℕ)) (contents : W → Option (List ℕ))
+    (is_standard : R → Type 0) (found : Text → Finding → Type 0) (form : TableForm) (output output_after : Tried W)
+    (ending : Ending) : Type 0 where
+  pub reader : Tried R
+  pub reader_after : Tried R
+  pub input : is_standard (inner_of reader)
+  pub listing : Listing
+  pub listed : IsListing remaining reader reader_after listing
+  pub ends : EndsWritten contents found form (is_whole listing) (names_in (is_whole listing) (bytes_of listing))
+      output output_after ending
+
+-- The table of the files whose names stand on standard input; or there was no memory for their names.
+abbrev pub EndsListed : {R W : Type 0} → (R → Option (List ℕ)) → (W → Option (List ℕ)) → (R → Type 0)
+    → (Text → Finding → Type 0) → TableForm → Tried W → Tried W → Ending → Type 0
+EndsListed remaining contents is_standard found form output output_after ending =
+    EndsAfterListing remaining contents is_standard found form output output_after ending
+    ⊎ ((ending ≡ Run (Err error.Memory)) × (output_after ≡ output))
+
+-- the table by the names that the words give: where they give none, by those on standard input
+abbrev pub EndsBy : {R W : Type 0} → (R → Option (List ℕ)) → (W → Option (List ℕ)) → (R → Type 0)
+    → (Text → Finding → Type 0) → TableForm → List Text → Tried W → Tried W → Ending → Type 0
+EndsBy remaining contents is_standard found form [] output output_after ending =
+    EndsListed remaining contents is_standard found form output output_after ending
+EndsBy remaining contents is_standard found form (name ∷ more) output output_after ending =
+    EndsNamed contents found form (name ∷ more) output output_after ending
+
+-- the table of the names that the words give, or there was no memory for those
+abbrev pub EndsTable : {R W : Type 0} → (R → Option (List ℕ)) → (W → Option (List ℕ)) → (R → Type 0)
+    → (Text → Finding → Type 0) → List Text → TableForm → Tried W → Tried W → Ending → Type 0
+EndsTable remaining contents is_standard found words form output output_after ending =
+    ((names : List Text) × AreNamesOf words names
+    × EndsBy remaining contents is_standard found form names output output_after ending)
+    ⊎ ((ending ≡ UnreadableWords) × (output_after ≡ output))
+
+-- The words ask for a table, and the program ends with it.
+pub record EndsTabled {R W : Type 0} (remaining : R → Option (List ℕ)) (contents : W → Option (List ℕ))
+    (is_standard : R → Type 0) (found : Text → Finding → Type 0) (words : List Text) (output output_after : Tried W)
+    (ending : Ending) : Type 0 where
+  pub options : Options
+  pub file : Option Text
+  pub asked : AreOptionsOf words options file
+  pub faultless : faults_of words ≡ []
+  pub form : TableForm
+  pub command : options.command ≡ command.Table form
+  pub ends : EndsTable remaining contents is_standard found words form output output_after ending
 
 -- The error is one that these words can have. Where they have no fault, it is want of memory.
 pub record IsRefusalOf (words : List Text) (refusal : WordsError) : Type 0 where
@@ -86,12 +167,13 @@ pub record EndsRefused {W : Type 0} (contents : W → Option (List ℕ)) (words 
   pub refused : IsRefusalOf words refusal
   pub ends : EndsAfter contents (ending_of_words refusal) output output_after ending
 
--- The three ways in which the words are answered.
+-- The four ways in which the words are answered.
 abbrev pub EndsSo : {R W : Type 0} → (R → Option (List ℕ)) → (W → Option (List ℕ))
     → (Text → R → Type 0) → (R → Type 0) → (Text → Type 0)
     → List Text → Tried W → Tried W → Ending → Type 0
 EndsSo remaining contents is_file is_standard is_missing words output output_after ending =
     EndsAsServed remaining contents is_file is_standard words output output_after ending
+    ⊎ EndsTabled remaining contents is_standard (IsFound remaining is_file is_missing) words output output_after ending
     ⊎ EndsUnopened is_missing words output output_after ending
     ⊎ EndsRefused contents words output output_after ending
 
@@ -100,8 +182,11 @@ abbrev pub Tells : {E : Type 0} → (E → Option (List ℕ)) → Tried E → Tr
 Tells contents errors errors_after text =
     AppendsUnless (has_failed errors_after) (contents (inner_of errors)) (contents (inner_of errors_after)) text
 
--- What the errors took: the line of the ending's message; clap's text, where the words are rejected; else nothing.
+-- What the errors took: the line of the ending's message; that of a table's counts; clap's text, where the words are
+-- rejected; else nothing.
 abbrev pub Says : {E : Type 0} → (E → Option (List ℕ)) → Tried E → Tried E → Ending → Type 0
 Says contents errors errors_after Usage = (text : List ℕ) × Tells contents errors errors_after text
+Says contents errors errors_after (Table counts) =
+    Tells contents errors errors_after (message_line (counts_text counts))
 Says contents errors errors_after ending = MatchOption (ending_message ending) (errors_after ≡ errors)
     (λ text. Tells contents errors errors_after (message_line text))

@@ -5,8 +5,11 @@ use Rattle.clap.specs.declared.error.ErrorKind.{ErrorKind}
 use Rattle.clap.specs.declared.error.ErrorKind.TheVariants.{DisplayHelp, DisplayVersion, OutOfMemory}
 use Rattle.ans_options.specs.declared.command_line.WordsError.{WordsError}
 use Rattle.ans_options.specs.declared.command_line.WordsError.TheVariants as words_error
+use Rattle.ans_table.specs.Counting.{counts_status}
 use Rattle.ans_check.specs.declared.exit_status.Ending.{Ending}
 use Rattle.ans_check.specs.declared.exit_status.Ending.TheVariants.{Run, Help, Usage, UnreadableWords, UnopenedFile}
+use Rattle.ans_check.specs.declared.exit_status.Ending.TheVariants.{Table}
+use Rattle.ans_check.specs.declared.exit_status.Ending.TheVariants.{NamedInput, UnreadNames}
 use Rattle.ans_check.specs.Run.{run_error_text, status_of}
 
 -- the exit status of each ending
@@ -16,6 +19,9 @@ ending_status Help = 0
 ending_status Usage = 2
 ending_status UnreadableWords = 2
 ending_status UnopenedFile = 2
+ending_status (Table counts) = counts_status counts
+ending_status NamedInput = 2
+ending_status UnreadNames = 2
 
 -- what each ending says on standard error after `anscheck: `, if anything
 abbrev pub ending_message : Ending → Option (List ℕ)
@@ -25,6 +31,9 @@ ending_message Help = None
 ending_message Usage = None
 ending_message UnreadableWords = Some (codes "cannot read the command line")
 ending_message UnopenedFile = Some (codes "cannot open the file")
+ending_message (Table counts) = None
+ending_message NamedInput = Some (codes "- names no file of a table; without FILE, names are read")
+ending_message UnreadNames = Some (codes "cannot read the names")
 
 -- how the program ends at each kind of clap's errors
 abbrev pub ending_of_kind : ErrorKind → Ending

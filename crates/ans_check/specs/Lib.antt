@@ -6,5 +6,7 @@ pub mod FileNeeds
 pub mod CommandText
 pub mod Reported
 pub mod Served
+pub mod Table
+pub mod Listing
 pub mod Answer
 pub mod SystemInput

@@ -1,28 +1,39 @@
 //! From the program's words to its ending.
 
 ghost use Rattle.std.specs.Prelude.{◌≡◌, ◌≢◌, ◌↔◌, [], Err, None, false, IsTrue, IfSome, IsSomeAnd};
-ghost use Rattle.std.specs.Prelude.{option_map, string_bytes};
-ghost use Rattle.ans_options.specs.CommandLine.{AreOptionsOf, faults_of, texts_of};
+ghost use Rattle.std.specs.Prelude.{option_map, string_bytes, true, map, IfOk};
+ghost use Rattle.std.specs.List.{list_any};
+ghost use Rattle.ans_options.specs.CommandLine.{AreOptionsOf, faults_of, is_table, texts_of};
 ghost use Rattle.ans_write.specs.Tried.{has_failed};
 ghost use Rattle.ans_check.specs.Answer.{EndsAfter, EndsSo, IsNamed, PrintsHelp, Says, Tells, names_standard};
+ghost use Rattle.ans_check.specs.Answer.{EndsListed, EndsNamed, EndsTable, EndsWritten, ending_of_table};
 ghost use Rattle.ans_check.specs.Ending.{ending_of_words};
+ghost use Rattle.ans_check.specs.Listing.{bytes_of, is_whole, names_in};
+ghost use Rattle.ans_check.specs.Table.{IsFound};
 
 use crate::errors::RunError;
 use crate::exit_status::Ending;
 use crate::inputs::Inputs;
+use crate::listing::Listing;
+use crate::rows::table;
 use crate::streams::serve;
-use ans_options::{Options, WordsError, options};
-use ans_report::{Tried, write_message};
-use std::alloc::Global;
+use ans_options::{Command, Options, TableForm, WordsError, options, table_names};
+use ans_report::{Tried, WriteFault, write_message};
+use ans_table::{Counts, write_counts};
+use std::alloc::{AllocError, Global};
 use std::io::Write;
 
-/// Says why there is no answer, if there is none: `anscheck: ` and the ending's message. What is
-/// wrong with rejected words is `clap`'s to say.
+/// Says why there is no answer, if there is none: `anscheck: ` and the ending's message; and of a table
+/// how many files came out how. What is wrong with rejected words is `clap`'s to say.
 pub(crate) fn say<E: Write>(errors: &mut Tried<E>, ending: Ending)
     requires works { has_failed errors.old ≡ false }
     requires told { ending ≢ Ending.Usage }
     ensures { Says E.contents errors.old errors.new ending }
 {
+    if let Ending::Table(counts) = ending {
+        let _ = write_counts(errors, &counts);
+        return;
+    }
     if let Some(text) = ending.message() {
         let _ = write_message(errors, text);
     }
@@ -91,8 +102,154 @@ fn refuse_words<W: Write, E: Write>(
     ending
 }
 
+/// A view of each name.
+fn byte_views<'a>(alloc: Global, names: &'a [String]) -> Result<Vec<&'a [u8]>, AllocError>
+    ensures { IfOk result (λ views. texts_of views.items ≡ map string_bytes names.now) }
+{
+    let mut views = Vec::new(alloc);
+    for name in names {
+        views.push(name.as_bytes())?;
+    }
+    Ok(views)
+}
+
+fn names_input(names: &[String]) -> bool
+    ensures { result ≡ list_any names_standard (map string_bytes names.now) }
+{
+    for name in names {
+        if name.as_str() == "-" {
+            return true;
+        }
+    }
+    false
+}
+
+/// How a table ends, whose names were all read.
+fn end_of_table(counts: Result<Counts, WriteFault>) -> Ending
+    ensures { result ≡ ending_of_table true counts }
+{
+    match counts {
+        Ok(counts) => Ending::Table(counts),
+        Err(WriteFault) => Ending::Run(Err(RunError::Write)),
+    }
+}
+
+/// Writes the table of the files that the words name.
+fn serve_names<I: Inputs, W: Write>(
+    alloc: Global,
+    inputs: I,
+    names: &[String],
+    form: TableForm,
+    output: &mut Tried<W>,
+) -> Ending
+    requires { has_failed output.old ≡ false }
+    ensures ends { EndsNamed W.contents (IsFound I.Reader.remaining (I.is_file inputs) (I.is_missing inputs)) form
+        (map string_bytes names.now) output.old output.new result }
+    ensures write { result ≡ Ending.Run (Err RunError.Write) ↔ IsTrue (has_failed output.new) }
+{
+    if names_input(names) {
+        return Ending::NamedInput;
+    }
+    match byte_views(alloc, names) {
+        Ok(views) => end_of_table(table(alloc, inputs, views.as_slice(), form, output)),
+        Err(AllocError) => Ending::Run(Err(RunError::Memory)),
+    }
+}
+
+/// Writes the table of the files that a listing names.
+fn serve_listing<I: Inputs, W: Write>(
+    alloc: Global,
+    inputs: I,
+    listing: &Listing,
+    form: TableForm,
+    output: &mut Tried<W>,
+) -> Ending
+    requires { has_failed output.old ≡ false }
+    ensures ends { EndsWritten W.contents (IsFound I.Reader.remaining (I.is_file inputs) (I.is_missing inputs)) form
+        (is_whole listing.now) (names_in (is_whole listing.now) (bytes_of listing.now)) output.old output.new result }
+    ensures write { result ≡ Ending.Run (Err RunError.Write) ↔ IsTrue (has_failed output.new) }
+{
+    let Ok(names) = listing.names(alloc) else {
+        return Ending::Run(Err(RunError::Memory));
+    };
+    let ending = end_of_table(table(alloc, inputs, names.as_slice(), form, output));
+    match ending {
+        Ending::Table(_) if !listing.is_whole() => Ending::UnreadNames,
+        _ => ending,
+    }
+}
+
+/// Writes the table of the files that standard input names.
+fn serve_input<I: Inputs, W: Write>(
+    alloc: Global,
+    inputs: I,
+    form: TableForm,
+    output: &mut Tried<W>,
+) -> Ending
+    requires { has_failed output.old ≡ false }
+    ensures ends { EndsListed I.Reader.remaining W.contents (I.is_standard inputs)
+        (IsFound I.Reader.remaining (I.is_file inputs) (I.is_missing inputs)) form output.old output.new result }
+    ensures write { result ≡ Ending.Run (Err RunError.Write) ↔ IsTrue (has_failed output.new) }
+{
+    let mut reader = Tried::new(inputs.standard());
+    match Listing::read(alloc, &mut reader) {
+        Ok(listing) => serve_listing(alloc, inputs, &listing, form, output),
+        Err(AllocError) => Ending::Run(Err(RunError::Memory)),
+    }
+}
+
+/// Writes the table that the words ask for.
+fn serve_table<I: Inputs, W: Write>(
+    alloc: Global,
+    words: &[&str],
+    inputs: I,
+    form: TableForm,
+    output: &mut Tried<W>,
+) -> Ending
+    requires prints { has_failed output.old ≡ false }
+    requires faultless { faults_of (texts_of words.now) ≡ [] }
+    ensures ends { EndsTable I.Reader.remaining W.contents (I.is_standard inputs)
+        (IsFound I.Reader.remaining (I.is_file inputs) (I.is_missing inputs)) (texts_of words.now) form
+        output.old output.new result }
+    ensures write { result ≡ Ending.Run (Err RunError.Write) ↔ IsTrue (has_failed output.new) }
+{
+    let Ok(names) = table_names(alloc, words) else {
+        return Ending::UnreadableWords;
+    };
+    let files = names.as_slice();
+    if files.is_empty() {
+        return serve_input(alloc, inputs, form, output);
+    }
+    serve_names(alloc, inputs, files, form, output)
+}
+
 /// Serves the options on the input that the words name.
 fn serve_named<I: Inputs, W: Write>(
+    alloc: Global,
+    words: &[&str],
+    inputs: I,
+    options: &Options,
+    name: &Option<String>,
+    output: &mut Tried<W>,
+) -> Ending
+    requires prints { has_failed output.old ≡ false }
+    requires asked { AreOptionsOf (texts_of words.now) options.now (option_map string_bytes name.now) }
+    requires faultless { faults_of (texts_of words.now) ≡ [] }
+    requires one { is_table options.now.command ≡ false }
+    ensures ends { EndsSo I.Reader.remaining W.contents (I.is_file inputs) (I.is_standard inputs)
+        (I.is_missing inputs) (texts_of words.now) output.old output.new result }
+    ensures ran { result ≢ Ending.Usage }
+    ensures write { result ≡ Ending.Run (Err RunError.Write) ↔ IsTrue (has_failed output.new) }
+{
+    let Some(input) = input_named(inputs, name) else {
+        return Ending::UnopenedFile;
+    };
+    let mut reader = Tried::new(input);
+    Ending::Run(serve(alloc, &mut reader, output, options))
+}
+
+/// Serves the options: a table of many files, or one command on one input.
+fn serve_options<I: Inputs, W: Write>(
     alloc: Global,
     words: &[&str],
     inputs: I,
@@ -108,11 +265,10 @@ fn serve_named<I: Inputs, W: Write>(
     ensures ran { result ≢ Ending.Usage }
     ensures write { result ≡ Ending.Run (Err RunError.Write) ↔ IsTrue (has_failed output.new) }
 {
-    let Some(input) = input_named(inputs, name) else {
-        return Ending::UnopenedFile;
-    };
-    let mut reader = Tried::new(input);
-    Ending::Run(serve(alloc, &mut reader, output, options))
+    match options.command {
+        Command::Table(form) => serve_table(alloc, words, inputs, form, output),
+        _ => serve_named(alloc, words, inputs, options, name, output),
+    }
 }
 
 /// Answers the words, and leaves the ending's message to the caller.
@@ -132,13 +288,14 @@ fn end_of_words<I: Inputs, W: Write, E: Write>(
     ensures write { result ≡ Ending.Run (Err RunError.Write) ↔ IsTrue (has_failed output.new) }
 {
     match options(alloc, words) {
-        Ok((options, name)) => serve_named(alloc, words, inputs, &options, &name, output),
+        Ok((options, name)) => serve_options(alloc, words, inputs, &options, &name, output),
         Err(refusal) => refuse_words(alloc, &refusal, output, errors),
     }
 }
 
 /// Answers the program's words, its own name first: reads the input that they name, which is
-/// standard input where they name none or `-`, and writes what they ask for to `output`. On `errors` it
+/// standard input where they name none or `-`, and writes what they ask for to `output`. For a table it
+/// reads all files that they name, or those whose names stand on standard input, each ended by 00h. On `errors` it
 /// says why there is no answer: `anscheck: ` and the ending's message, or `clap`'s text where the
 /// words are rejected. Where help is asked for, its text goes to `output`. Which text `clap` gives is
 /// promised nowhere and only tested; so is it that `output` is flushed after its text.

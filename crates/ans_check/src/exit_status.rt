@@ -6,6 +6,7 @@ ghost use Rattle.ans_check.specs.Run.{status_of};
 
 use crate::errors::RunError;
 use ans_options::WordsError;
+use ans_table::Counts;
 use clap::error::ErrorKind;
 
 /// The exit status of what a run returned: 0 where the file passes, 1 where it is refused, and 2
@@ -33,6 +34,12 @@ pub enum Ending {
     UnreadableWords,
     /// The file that the words name cannot be opened.
     UnopenedFile,
+    /// A table was written: so many files came out so.
+    Table(Counts),
+    /// The words name `-` among the files of a table.
+    NamedInput,
+    /// The names for a table could not be read to their end. The rows of those that were read are written.
+    UnreadNames,
 }
 
 impl Ending {
@@ -52,27 +59,32 @@ impl Ending {
         }
     }
 
-    /// The exit status: that of the run, 0 for help, and 2 where no run began.
+    /// The exit status: that of the run or of the table's counts, 0 for help, and 2 where no run began
+    /// and where the names for a table were not all read.
     pub fn status(&self) -> u8
         ensures { result ≡ ending_status self.now }
     {
         match self {
             Ending::Run(answer) => status(answer),
             Ending::Help => 0,
+            Ending::Table(counts) => counts.status(),
             Ending::Usage | Ending::UnreadableWords | Ending::UnopenedFile => 2,
+            Ending::NamedInput | Ending::UnreadNames => 2,
         }
     }
 
     /// Why there is no answer, for standard error after `anscheck: `. There is none where the file
-    /// has an answer, and none where `clap`'s text says it.
+    /// has an answer, none where `clap`'s text says it, and none for a table, whose counts are told.
     pub fn message(&self) -> Option<&'static str>
         ensures { option_map (λ text. text.now) result ≡ ending_message self.now }
     {
         match self {
             Ending::Run(Err(error)) => Some(error.text()),
-            Ending::Run(Ok(_)) | Ending::Help | Ending::Usage => None,
+            Ending::Run(Ok(_)) | Ending::Help | Ending::Usage | Ending::Table(_) => None,
             Ending::UnreadableWords => Some("cannot read the command line"),
             Ending::UnopenedFile => Some("cannot open the file"),
+            Ending::NamedInput => Some("- names no file of a table; without FILE, names are read"),
+            Ending::UnreadNames => Some("cannot read the names"),
         }
     }
 }

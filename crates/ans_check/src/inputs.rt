@@ -5,9 +5,8 @@ ghost use Rattle.clap.specs.Words.{Text};
 
 use std::io::{self, Read};
 
-/// Where a program's files and its standard input come from: the system, or memory in tests. One
-/// input can be taken, once.
-pub trait Inputs: Drop {
+/// Where a program's files and its standard input come from: the system, or memory in tests.
+pub trait Inputs: Copy + Drop {
     /// What an input is read by.
     type Reader: Read + Drop;
 

@@ -3,37 +3,42 @@
 //! [`check`] finds the verdict on a file and [`needs`] which parts of the start it needs. [`run`]
 //! reads a file and writes what a command tells of it, and [`serve`] also has the writer hand on what
 //! it holds back. [`answer`] goes from the program's words, over the [`Inputs`] that they can name,
-//! to the [`Ending`]: its exit status and what it says. [`program`] is that on the system's own words,
+//! to the [`Ending`]: its exit status and what it says. [`table`] reads many files and writes a row for
+//! each. [`program`] is that on the system's own words,
 //! files and streams.
 //!
 //! What a verdict says of a file stands in `specs/FileVerdict.antt`, what its needs say in
 //! `specs/FileNeeds.antt`, what each command writes in `specs/CommandText.antt`, what a run has done
-//! when it returns in `specs/Served.antt`, how words are answered in `specs/Answer.antt`, and the
-//! endings in `specs/Ending.antt`. The command line is read by `ans_options`, whose public names are
-//! passed on.
+//! when it returns in `specs/Served.antt`, what a table has in `specs/Table.antt`, how words are
+//! answered in `specs/Answer.antt`, and the endings in `specs/Ending.antt`. The command line is read
+//! by `ans_options`, whose public names are passed on.
 #![tactic(auto)]
 
 mod answering;
 mod errors;
 mod exit_status;
 mod inputs;
+mod listing;
 mod parts_needed;
 mod pipeline;
 mod reading;
+mod rows;
 mod streams;
 mod system;
 mod verdict;
 mod why_of;
 
 pub use ans_model::start::Start;
-pub use ans_options::{Command, Form, Options, WordsError, options};
+pub use ans_options::{Command, Form, Options, TableForm, WordsError, options, table_names};
 pub use ans_report::Needs;
+pub use ans_table::{Counts, Finding, Outcome, Unread};
 pub use answering::answer;
 pub use errors::RunError;
 pub use exit_status::{Ending, status};
 pub use inputs::Inputs;
 pub use parts_needed::needs;
 pub use pipeline::run;
+pub use rows::table;
 pub use streams::serve;
 pub use system::program;
 pub use verdict::{Verdict, check};

@@ -224,7 +224,7 @@ fn run_command<W: Write>(
         Command::Show(form) => show(alloc, writer, file, options.start, form),
         Command::Sauce => tell_record(writer, file),
         Command::Tokens => tell_tokens(writer, file),
-        Command::Needs => tell_needs(alloc, writer, file),
+        Command::Needs | Command::Table(_) => tell_needs(alloc, writer, file),
     }
 }
 
@@ -232,8 +232,9 @@ fn run_command<W: Write>(
 /// of a pass in colour, the text of the record (SAUCE 00.5), the tokens of the content, what the
 /// content needs, or why the file is refused and what it relies on. Where the content is refused,
 /// what should show its picture reports that as a check does. Where the record or the layout is
-/// refused, F1 to F8, the two lines of the refusal are written instead. `Ok` says whether the file
-/// passes: its content is found good, its record is accepted, all of its content is read as tokens,
+/// refused, F1 to F8, the two lines of the refusal are written instead. A table is of files by their
+/// names, and [`table`](crate::table) writes it; of the one input here what it needs is written. `Ok`
+/// says whether the file passes: its content is found good, its record is accepted, all of its content is read as tokens,
 /// or its content is good from the cleared start, so that it is known what it needs.
 ///
 /// `Read` comes exactly where the reader failed in the call, `Write` exactly where the writer did,

@@ -11,6 +11,7 @@ mod needs;
 mod pictures;
 mod records;
 mod reports;
+mod tables;
 mod token_lists;
 mod verdicts;
 mod why;

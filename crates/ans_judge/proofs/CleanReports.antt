@@ -32,7 +32,7 @@ use Rattle.ans_model.specs.Text.TokensText.{token_name, token_line, token_lines,
 use Rattle.ans_model.specs.Verdict.Good.{Picture}
 use Rattle.ans_model.proofs.Reading.{reads_bytes}
 use Rattle.ans_options.specs.declared.command.Command.{Command}
-use Rattle.ans_options.specs.declared.command.Command.TheVariants.{Why, Check, Show, Sauce, Tokens, Needs}
+use Rattle.ans_options.specs.declared.command.Command.TheVariants.{Why, Check, Show, Sauce, Tokens, Needs, Table}
 use Rattle.ans_options.specs.declared.command.Form.{Form}
 use Rattle.ans_options.specs.declared.command.Form.TheVariants.{Terminal, Vga, Page}
 use Rattle.ans_options.specs.declared.command.Options.{Options}
@@ -45,6 +45,7 @@ use Rattle.ans_check.specs.Ending.{ending_message}
 use Rattle.ans_check.specs.declared.errors.RunError.{RunError}
 use Rattle.ans_check.specs.declared.errors.RunError.TheVariants as error
 use Rattle.ans_check.specs.declared.exit_status.Ending.{Ending}
+use Rattle.ans_check.specs.declared.exit_status.Ending.TheVariants as ended
 use Rattle.ans_check.specs.declared.exit_status.Ending.TheVariants.{Run, Help, Usage, UnreadableWords, UnopenedFile}
 use Rattle.ans_check.specs.Run.{run_error_text}
 use Rattle.std.specs.Prelude.{Ok, Err}
@@ -320,6 +321,7 @@ clean_by (Show form) start cells file text passed bytes h other = show_clean fil
 clean_by Sauce start cells file text passed bytes h other = sauce_clean file passed text bytes h
 clean_by Tokens start cells file text passed bytes h other = tokens_report_clean file passed text h
 clean_by Needs start cells file text passed bytes h other = needs_clean file passed text h
+clean_by (Table form) start cells file text passed bytes h other = needs_clean file passed text h
 
 pub reports_clean : (options : Options) (file text : List ℕ) (passed : Bool) → All IsByte file
     → Reports options file passed text → (is_for_terminal options.command && passed) ≡ false → IsCleanText text
@@ -338,6 +340,8 @@ coloured_by Sauce start cells file text passed bytes h =
 coloured_by Tokens start cells file text passed bytes h =
     coloured_where_clean text (tokens_report_clean file passed text h)
 coloured_by Needs start cells file text passed bytes h =
+    coloured_where_clean text (needs_clean file passed text h)
+coloured_by (Table form) start cells file text passed bytes h =
     coloured_where_clean text (needs_clean file passed text h)
 
 pub reports_coloured : (options : Options) (file text : List ℕ) (passed : Bool) → All IsByte file
@@ -366,6 +370,12 @@ message_clean UnreadableWords text e =
     given_clean (codes "cannot read the command line") text (plain_text (codes "cannot read the command line") refl) e
 message_clean UnopenedFile text e =
     given_clean (codes "cannot open the file") text (plain_text (codes "cannot open the file") refl) e
+message_clean (ended.Table counts) text e = absurd (cc)
+message_clean ended.NamedInput text e =
+    given_clean (codes "- names no file of a table; without FILE, names are read") text
+    (plain_text (codes "- names no file of a table; without FILE, names are read") refl) e
+message_clean ended.UnreadNames text e =
+    given_clean (codes "cannot read the names") text (plain_text (codes "cannot read the names") refl) e
 
 pub messages_clean : (ending : Ending) (text : List ℕ) → ending_message ending ≡ Some text
     → IsCleanText (message_line text)

@@ -1,6 +1,6 @@
 -- What clap's matches give of the program's words.
 use Rattle.std.proofs.Common.{◌≡◌, ◌∙◌, Bool, true, false, List, [], ◌∷◌, Option, Some, None, refl}
-use Rattle.std.proofs.Common.{sym, ap, ap₂, codes, option_map, unwrap_or}
+use Rattle.std.proofs.Common.{sym, ap, codes, option_map, unwrap_or}
 use Rattle.std.specs.Prelude.{find, IsSome, IsSomeAnd}
 use Rattle.std.specs.Option.{option_map_or}
 use Rattle.std.specs.Str.{bytes_eq}
@@ -19,15 +19,16 @@ use Rattle.clap.specs.declared.parser.matches.SubCommand.{SubCommand}
 use Rattle.std.proofs.Common.{inl, inr, ◌⊎◌}
 use Rattle.clap.specs.Walk.{answers_to, stop_after}
 use Rattle.clap.specs.Simple.{argument_words, built, entered, label_of, names_of, rows_at}
-use Rattle.ans_options.specs.declared.command.Command.TheVariants.{Why, Check, Show, Sauce, Tokens, Needs}
+use Rattle.ans_options.specs.declared.command.Command.TheVariants.{Why, Check, Show, Sauce, Tokens, Needs, Table}
 use Rattle.ans_options.specs.declared.command.Form.TheVariants.{Terminal}
+use Rattle.ans_options.specs.declared.command.TableForm.TheVariants.{Headed}
 use Rattle.std.proofs.Common.{subst, ◌&&◌, not}
 use Rattle.clap.specs.declared.builder.command.Command.{Command}
-use Rattle.clap.specs.Words.{app_of, is_simple, HasMatchesOf, IsParsedFrom}
+use Rattle.clap.specs.Words.{app_of, IsParsedFrom}
 use Rattle.clap.proofs.CallerLemmas.{subcommand_required}
 use Rattle.clap.proofs.TakesLemmas.{some_rows}
 use Rattle.ans_options.specs.declared.command.Options.{Options}
-use Rattle.ans_options.specs.CommandLine.{AsksFor, IsCommand, anscheck, holds_flag, words_meant}
+use Rattle.ans_options.specs.CommandLine.{AsksFor, IsCommand, anscheck, holds_flag}
 
 pub not_true : (b : Bool) → (b ≡ true → ⊥) → b ≡ false
 not_true true h = absurd (h refl)
@@ -128,7 +129,10 @@ command_found words (Some p) e some =
               | inl sauce ↦ (Sauce, name_met sauce)
               | inr last ↦ elim last [
                 | inl tokens ↦ (Tokens, name_met tokens)
-                | inr never ↦ absurd never
+                | inr end ↦ elim end [
+                  | inl table ↦ (Table Headed, name_met table)
+                  | inr never ↦ absurd never
+                ]
               ]
             ]
           ]
@@ -158,9 +162,3 @@ pub asks_for : (sub : Option (Text × List Row)) (name : Text) (rows : List Row)
     → sub ≡ Some (name, rows) → AsksFor (name, rows) o file → IsSomeAnd sub (λ p. AsksFor p o file)
 asks_for sub name rows o file e asks = subst (λ (s : Option (Text × List Row)). IsSomeAnd s (λ p. AsksFor p o file))
     (sym e) asks
-
--- the matches of the words that clap was given have the subcommand that the program finds in them
-pub subcommand_is : (app : App) (meant words : List Text) (m : ArgMatches) → app ≡ anscheck
-    → meant ≡ words_meant words → HasMatchesOf app meant m
-    → subcommand_rows_of m ≡ subcommand_of anscheck (words_meant words)
-subcommand_is app meant words m app_is is has = (has (ap is_simple app_is)).1 ∙ ap₂ subcommand_of app_is is

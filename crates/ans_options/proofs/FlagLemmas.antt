@@ -1,185 +1,150 @@
--- What is asked for without flags, and of which flags a command takes none.
-use Rattle.std.proofs.Common.{◌≡◌, ◌≢◌, ◌∙◌, ◌⊎◌, ℕ, true, false, true≢false, List, []}
-use Rattle.std.proofs.Common.{◌∷◌, Option, Some, None, refl, sym, ap, subst}
-use Rattle.std.proofs.Common.{inl, inr, codes, arith, slice_index}
+-- An argument that a command does not take has no row in its matches. So without flags nothing is known of the start.
+use Rattle.std.proofs.Common.{◌≡◌, ◌≢◌, ◌∙◌, Bool, ◌&&◌, ◌||◌, true, false, true≢false, List, []}
+use Rattle.std.proofs.Common.{◌∷◌, Option, Some, None, refl, sym, subst}
+use Rattle.std.proofs.Common.{inl, inr, codes}
 use Rattle.std.specs.Prelude.{IsSomeAnd, if◌then◌else◌}
-use Rattle.clap.specs.Simple.{filled_from, help_rule}
-use Rattle.clap.specs.Walk.{Rule, rows_after}
-use Rattle.clap.specs.Words.{Row, Text, subcommand_of}
+use Rattle.std.specs.List.{list_any}
+use Rattle.std.specs.Str.{bytes_eq}
+use Rattle.std.proofs.lemmas.Slice.Eq.{bytes_eq-Decides}
+use Rattle.clap.specs.Simple.{built}
+use Rattle.clap.specs.Walk.{rows_after}
+use Rattle.clap.specs.Words.{Row, Shape, Text, subcommand_of}
+use Rattle.ans_model.specs.declared.start.Start.{Start}
 use Rattle.ans_model.specs.Screen.StartClass.{all_known, none_known}
 use Rattle.ans_options.specs.declared.command.Command.{Command}
-use Rattle.ans_options.specs.declared.command.Command.TheVariants.{Why, Check, Show, Sauce, Tokens, Needs}
+use Rattle.ans_options.specs.declared.command.Command.TheVariants.{Why, Check, Show, Sauce, Tokens, Needs, Table}
 use Rattle.ans_options.specs.declared.command.Options.{Options}
 use Rattle.ans_options.specs.CommandLine.{AreOptionsOf, AsksFor, anscheck, command_name, words_meant}
-use Rattle.ans_options.specs.CommandLine.{file_rule, flag_rule, holds_flag, named_start, start_asked, takes_flags}
-use Rattle.ans_options.proofs.CommandLineLemmas.{name_met, not_true, program_met}
-use Rattle.ans_options.proofs.RowLemmas.{NoneHas, never_held}
+use Rattle.ans_options.specs.CommandLine.{holds_flag, is_table, named_start, part_flags, start_asked, takes_flags}
+use Rattle.ans_options.proofs.CommandLineLemmas.{MetIn, not_true, program_met}
+use Rattle.ans_options.proofs.RowLemmas.{Lacks, neither, never_has, unfound, unheld}
 
--- `[FILE]` and `--help`, built
-abbrev file_rules : List Rule
-file_rules = filled_from 1 (file_rule ∷ help_rule ∷ [])
+-- whether one of the subcommands has this name and an argument of this id
+abbrev is_taken : Text → Text → List Shape → Bool
+is_taken id name shapes = list_any (λ s. bytes_eq s.name name && list_any (λ a. bytes_eq a.id id) s.rules) shapes
 
--- the rows hold no flag but those of every command
-abbrev HoldsNoFlag : List Row → Type 0
-HoldsNoFlag rows = (id : Text) → NoneHas id file_rules → holds_flag id rows ≡ false
+-- whether the command takes the argument of this id
+abbrev takes : Text → Command → Bool
+takes id c = is_taken id (command_name c) (built anscheck).subs
 
-file_holds_no_flag : (w : List Text) → HoldsNoFlag (rows_after file_rules [] w)
-file_holds_no_flag w id others = never_held id file_rules [] w others
+second_false : (a b : Bool) → a ≡ true → (a && b) ≡ false → b ≡ false
+second_false true b e none = none
+second_false false b e none = absurd (true≢false (sym e))
 
--- `--NAME`, `[FILE]` and `--help` of `show`, built
-abbrev show_rules : List Rule
-show_rules =
-    filled_from 1
-    (file_rule ∷ flag_rule (codes "html") ∷ flag_rule (codes "vga") ∷ flag_rule (codes "any")
-    ∷ flag_rule (codes "known-screen") ∷ flag_rule (codes "known-cursor") ∷ flag_rule (codes "known-saved")
-    ∷ flag_rule (codes "known-colours") ∷ flag_rule (codes "known-wrap") ∷ help_rule ∷ [])
+-- the matches of a subcommand that has no such argument
+lacks_in : (id : Text) (w : List Text) (shapes : List Shape) (met : Text × List Row) → MetIn met w shapes
+    → is_taken id met.0 shapes ≡ false → Lacks id met.1
+lacks_in id w [] met never none = absurd never
+lacks_in id w (s ∷ shapes) met (inr behind) none =
+    lacks_in id w shapes met behind (neither _ (is_taken id met.0 shapes) none).1
+lacks_in id w (s ∷ shapes) met (inl here) none =
+    subst (λ (m : Text × List Row). is_taken id m.0 (s ∷ shapes) ≡ false → Lacks id m.1) here own none
+  where
+    own : is_taken id s.name (s ∷ shapes) ≡ false → Lacks id (rows_after s.rules [] w)
+    own free =
+        never_has id s.rules [] w
+        (second_false (bytes_eq s.name s.name) _ ((bytes_eq-Decides s.name s.name).1 refl)
+        (neither _ (is_taken id s.name shapes) free).0)
 
-show_holds_no_cells : (w : List Text) → holds_flag (codes "cells") (rows_after show_rules [] w) ≡ false
-show_holds_no_cells w = never_held (codes "cells") show_rules [] w refl
+-- the subcommand that the words name: it asks for the options, and lacks what their command does not take
+record Met (words : List Text) (o : Options) (file : Option Text) : Type 0 where
+  met : Text × List Row
+  asks : AsksFor met o file
+  lacks : (id : Text) → takes id o.command ≡ false → Lacks id met.1
 
--- the subcommand is `check` or `show`, or finds no flag in the words
-abbrev TakesOrLacks : Text × List Row → Type 0
-TakesOrLacks met = ((met.0 ≡ codes "check") ⊎ (met.0 ≡ codes "show")) ⊎ HoldsNoFlag met.1
+met_by : (words : List Text) (o : Options) (file : Option Text) → AreOptionsOf words o file → Met words o file
+met_by words o file asked = go (subcommand_of anscheck (words_meant words)) refl asked
+  where
+    go : (sub : Option (Text × List Row)) → subcommand_of anscheck (words_meant words) ≡ sub
+        → IsSomeAnd sub (λ p. AsksFor p o file) → Met words o file
+    go None e asks = absurd asks
+    go (Some met) e asks =
+        let found = program_met (words_meant words) met e in
+        record {
+          met = met;
+          asks = asks;
+          lacks = λ id none. lacks_in id found.0 (built anscheck).subs met found.1
+              (subst (λ (name : Text). is_taken id name (built anscheck).subs ≡ false) (sym asks.0) none);
+        }
 
-flags_met : (words : List Text) (met : Text × List Row) → subcommand_of anscheck words ≡ Some met → TakesOrLacks met
-flags_met words met e =
-    let found = program_met words met e in
-    let lacks = file_holds_no_flag found.0 in
-    elim (found.1) [
-      | inl why ↦ inr (subst HoldsNoFlag (ap (λ (q : Text × List Row). q.1) why) lacks)
-      | inr behind ↦ elim behind [
-        | inl needs ↦ inr (subst HoldsNoFlag (ap (λ (q : Text × List Row). q.1) needs) lacks)
-        | inr others ↦ elim others [
-          | inl check ↦ inl (inl (name_met check))
-          | inr more ↦ elim more [
-            | inl show ↦ inl (inr (name_met show))
-            | inr later ↦ elim later [
-              | inl sauce ↦ inr (subst HoldsNoFlag (ap (λ (q : Text × List Row). q.1) sauce) lacks)
-              | inr last ↦ elim last [
-                | inl tokens ↦ inr (subst HoldsNoFlag (ap (λ (q : Text × List Row). q.1) tokens) lacks)
-                | inr never ↦ absurd never
-              ]
-            ]
-          ]
-        ]
-      ]
-    ]
+-- the flags that say what is known of the start
+abbrev start_flags : List Text
+start_flags = codes "cleared" ∷ part_flags
 
--- the rows do not hold `--cells`
-abbrev HoldsNoCells : List Row → Type 0
-HoldsNoCells rows = holds_flag (codes "cells") rows ≡ false
+-- a class by its parts
+abbrev class : Bool → Bool → Bool → Bool → Bool → Start
+class screen cursor saved colours wrap =
+    record { screen = screen; cursor = cursor; saved = saved; colours = colours; wrap = wrap }
 
--- every command but `check` finds no `--cells` in the words
-no_cells_met : (words : List Text) (met : Text × List Row) → subcommand_of anscheck words ≡ Some met
-    → (met.0 ≡ codes "check" → ⊥) → HoldsNoCells met.1
-no_cells_met words met e other =
-    let found = program_met words met e in
-    let lacks = file_holds_no_flag found.0 (codes "cells") refl in
-    elim (found.1) [
-      | inl why ↦ subst HoldsNoCells (ap (λ (q : Text × List Row). q.1) why) lacks
-      | inr behind ↦ elim behind [
-        | inl needs ↦ subst HoldsNoCells (ap (λ (q : Text × List Row). q.1) needs) lacks
-        | inr others ↦ elim others [
-          | inl check ↦ absurd (other (name_met check))
-          | inr more ↦ elim more [
-            | inl show ↦ subst HoldsNoCells (ap (λ (q : Text × List Row). q.1) show) (show_holds_no_cells found.0)
-            | inr later ↦ elim later [
-              | inl sauce ↦ subst HoldsNoCells (ap (λ (q : Text × List Row). q.1) sauce) lacks
-              | inr last ↦ elim last [
-                | inl tokens ↦ subst HoldsNoCells (ap (λ (q : Text × List Row). q.1) tokens) lacks
-                | inr never ↦ absurd never
-              ]
-            ]
-          ]
-        ]
-      ]
-    ]
-
--- the first letter tells `check` from the other commands
-named_check : (c : Command) → command_name c ≡ codes "check" → c ≡ Check
-named_check Check e = refl
-named_check (Show form) e =
-    let bad : ◌≡◌ {A = ℕ} 115 99 = ap (λ t. slice_index t 0) e in
-    absurd (omega arith)
-named_check Sauce e =
-    let bad : ◌≡◌ {A = ℕ} 115 99 = ap (λ t. slice_index t 0) e in
-    absurd (omega arith)
-named_check Tokens e =
-    let bad : ◌≡◌ {A = ℕ} 116 99 = ap (λ t. slice_index t 0) e in
-    absurd (omega arith)
-named_check Needs e =
-    let bad : ◌≡◌ {A = ℕ} 110 99 = ap (λ t. slice_index t 0) e in
-    absurd (omega arith)
-named_check Why e =
-    let bad : ◌≡◌ {A = ℕ} 119 99 = ap (λ t. slice_index t 0) e in
-    absurd (omega arith)
-
--- and the first two tell `show` from them
-named_show : (c : Command) → command_name c ≡ codes "show" → takes_flags c ≡ true
-named_show Check e = refl
-named_show (Show form) e = refl
-named_show Sauce e =
-    let bad : ◌≡◌ {A = ℕ} 97 104 = ap (λ t. slice_index t 1) e in
-    absurd (omega arith)
-named_show Tokens e =
-    let bad : ◌≡◌ {A = ℕ} 111 104 = ap (λ t. slice_index t 1) e in
-    absurd (omega arith)
-named_show Needs e =
-    let bad : ◌≡◌ {A = ℕ} 101 104 = ap (λ t. slice_index t 1) e in
-    absurd (omega arith)
-named_show Why e =
-    let bad : ◌≡◌ {A = ℕ} 119 115 = ap (λ t. slice_index t 0) e in
-    absurd (omega arith)
-
--- where no flag is held, no part is known
-none_named : (rows : List Row) → HoldsNoFlag rows
+-- where none of them is held, no part is known
+none_named : (rows : List Row) → list_any (λ flag. holds_flag flag rows) start_flags ≡ false
     → (if holds_flag (codes "cleared") rows then all_known else named_start rows) ≡ none_known
 none_named rows none =
-    rw (
-      none (codes "cleared") refl,
-      none (codes "known-screen") refl,
-      none (codes "known-cursor") refl,
-      none (codes "known-saved") refl,
-      none (codes "known-colours") refl,
-      none (codes "known-wrap") refl,
-    ) refl
+    go (holds_flag (codes "cleared") rows) (holds_flag (codes "known-screen") rows)
+    (holds_flag (codes "known-cursor") rows) (holds_flag (codes "known-saved") rows)
+    (holds_flag (codes "known-colours") rows) (holds_flag (codes "known-wrap") rows) none
+  where
+    go : (all a b c d e : Bool) → (all || (a || (b || (c || (d || (e || false)))))) ≡ false
+        → (if all then all_known else class a b c d e) ≡ none_known
+    go false false false false false false none = refl
+    go _ _ _ _ _ _ none = cc
 
-none_asked : (c : Command) (rows : List Row) → takes_flags c ≡ false → HoldsNoFlag rows
-    → start_asked c rows ≡ none_known
-none_asked Check rows e none = absurd (true≢false e)
-none_asked (Show form) rows e none = absurd (true≢false e)
-none_asked Sauce rows e none = none_named rows none
-none_asked Tokens rows e none = none_named rows none
-none_asked Needs rows e none = none_named rows none
-none_asked Why rows e none = none_named rows none
+-- a command that takes none of the flags finds none of them
+none_held : (c : Command) (rows : List Row) (flags : List Text) → ((id : Text) → takes id c ≡ false → Lacks id rows)
+    → list_any (λ flag. takes flag c) flags ≡ false → list_any (λ flag. holds_flag flag rows) flags ≡ false
+none_held c rows [] lacks none = refl
+none_held c rows (flag ∷ flags) lacks none =
+    let parts = neither (takes flag c) _ none in
+    rw (unheld flag rows (lacks flag parts.0)) (none_held c rows flags lacks parts.1)
+
+none_asked : (c : Command) (rows : List Row) → takes_flags c ≡ false
+    → ((id : Text) → takes id c ≡ false → Lacks id rows) → start_asked c rows ≡ none_known
+none_asked Check rows e lacks = absurd (true≢false e)
+none_asked (Show form) rows e lacks = absurd (true≢false e)
+none_asked Sauce rows e lacks = none_named rows (none_held Sauce rows start_flags lacks refl)
+none_asked Tokens rows e lacks = none_named rows (none_held Tokens rows start_flags lacks refl)
+none_asked Needs rows e lacks = none_named rows (none_held Needs rows start_flags lacks refl)
+none_asked Why rows e lacks = none_named rows (none_held Why rows start_flags lacks refl)
+none_asked (Table form) rows e lacks = none_named rows (none_held (Table form) rows start_flags lacks refl)
 
 -- what is known without flags
 pub flagless : (words : List Text) (o : Options) (file : Option Text) → AreOptionsOf words o file
     → takes_flags o.command ≡ false → o.start ≡ none_known
-flagless words o file asked flags = go (subcommand_of anscheck (words_meant words)) refl asked
-  where
-    takes : (sub : Text × List Row) → sub.0 ≡ command_name o.command
-        → (sub.0 ≡ codes "check") ⊎ (sub.0 ≡ codes "show") → takes_flags o.command ≡ true
-    takes sub named (inl check) = ap takes_flags (named_check o.command (sym named ∙ check))
-    takes sub named (inr show) = named_show o.command (sym named ∙ show)
+flagless words o file asked flags =
+    let m = met_by words o file asked in
+    m.asks.2 ∙ none_asked o.command m.met.1 flags m.lacks
 
-    go : (sub : Option (Text × List Row)) → subcommand_of anscheck (words_meant words) ≡ sub
-        → IsSomeAnd sub (λ p. AsksFor p o file) → o.start ≡ none_known
-    go None e asks = absurd asks
-    go (Some met) e asks = elim (flags_met (words_meant words) met e) [
-      | inl named ↦ absurd (true≢false (sym (takes met asks.0 named) ∙ flags))
-      | inr lacks ↦ asks.2 ∙ none_asked o.command met.1 flags lacks
-    ]
+-- only `check` takes `--cells`
+takes_no_cells : (c : Command) → c ≢ Check → takes (codes "cells") c ≡ false
+takes_no_cells Check other = absurd (other refl)
+takes_no_cells (Show form) other = refl
+takes_no_cells Sauce other = refl
+takes_no_cells Tokens other = refl
+takes_no_cells Needs other = refl
+takes_no_cells Why other = refl
+takes_no_cells (Table form) other = refl
 
 -- without `check` no cells are asked for
 pub no_cells : (words : List Text) (o : Options) (file : Option Text) → AreOptionsOf words o file
     → o.command ≢ Check → o.cells ≡ false
-no_cells words o file asked other = go (subcommand_of anscheck (words_meant words)) refl asked
-  where
-    go : (sub : Option (Text × List Row)) → subcommand_of anscheck (words_meant words) ≡ sub
-        → IsSomeAnd sub (λ p. AsksFor p o file) → o.cells ≡ false
-    go None e asks = absurd asks
-    go (Some met) e asks =
-        let none = no_cells_met (words_meant words) met e
-        (λ check. other (named_check o.command (sym asks.0 ∙ check))) in
-        not_true o.cells (λ on. true≢false (sym (asks.3.0 on) ∙ none))
+no_cells words o file asked other =
+    let m = met_by words o file asked in
+    let none = unheld (codes "cells") m.met.1 (m.lacks (codes "cells") (takes_no_cells o.command other)) in
+    not_true o.cells (λ on. true≢false (sym (m.asks.3.0 on) ∙ none))
+
+-- a table takes no `[FILE]`
+takes_no_file : (c : Command) → is_table c ≡ true → takes (codes "file") c ≡ false
+takes_no_file (Table form) e = refl
+takes_no_file Check e = absurd (true≢false (sym e))
+takes_no_file (Show form) e = absurd (true≢false (sym e))
+takes_no_file Sauce e = absurd (true≢false (sym e))
+takes_no_file Tokens e = absurd (true≢false (sym e))
+takes_no_file Needs e = absurd (true≢false (sym e))
+takes_no_file Why e = absurd (true≢false (sym e))
+
+-- the names for a table are no file
+pub nameless : (words : List Text) (o : Options) (file : Option Text) → AreOptionsOf words o file
+    → is_table o.command ≡ true → file ≡ None
+nameless words o file asked table =
+    let m = met_by words o file asked in
+    m.asks.4 ∙ unfound (codes "file") m.met.1 (m.lacks (codes "file") (takes_no_file o.command table))

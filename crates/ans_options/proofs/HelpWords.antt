@@ -1,5 +1,5 @@
 -- The first fault of words that ask for help or for the version.
-use Rattle.std.proofs.Common.{◌≡◌, List, [], ◌∷◌, codes, refl}
+use Rattle.std.proofs.Common.{◌≡◌, false, true≢false, List, [], ◌∷◌, codes, refl}
 use Rattle.clap.specs.Words.{Text}
 use Rattle.clap.specs.Faults.{flags_fault, walk_fault}
 use Rattle.clap.specs.Walk.{bundle_met, walked}
@@ -8,8 +8,8 @@ use Rattle.std.specs.Str.{chars}
 use Rattle.clap.specs.declared.error.ErrorKind.TheVariants.{DisplayHelp, DisplayVersion}
 use Rattle.clap.specs.declared.error.ErrorKind.TheVariants.{InvalidSubcommand, UnknownArgument}
 use Rattle.ans_options.specs.declared.command.Command.{Command}
-use Rattle.ans_options.specs.declared.command.Command.TheVariants.{Why, Check, Show, Sauce, Tokens, Needs}
-use Rattle.ans_options.specs.CommandLine.{IsNoCommand, command_name, faults_of}
+use Rattle.ans_options.specs.declared.command.Command.TheVariants.{Why, Check, Show, Sauce, Tokens, Needs, Table}
+use Rattle.ans_options.specs.CommandLine.{IsNoCommand, command_name, faults_of, is_table}
 use Rattle.ans_options.proofs.MeaningLemmas.{no_command_name}
 
 pub long_version : (program : Text) (more : List Text)
@@ -35,18 +35,25 @@ help_of_command program Check = refl
 help_of_command program (Show form) = refl
 help_of_command program Sauce = refl
 help_of_command program Tokens = refl
+help_of_command program (Table form) = refl
 
 pub help_of_other : (program name : Text) (more : List Text) → IsNoCommand name
     → faults_of (program ∷ codes "help" ∷ name ∷ more) ≡ UnknownArgument ∷ InvalidSubcommand ∷ []
 unfolding walked walk_fault
 help_of_other program name more other = rw (no_command_name name other) refl
 
-pub help_of_more : (program word : Text) (more : List Text) (c : Command)
+pub help_of_more : (program word : Text) (more : List Text) (c : Command) → is_table c ≡ false
     → faults_of (program ∷ codes "help" ∷ command_name c ∷ word ∷ more) ≡ UnknownArgument ∷ []
 unfolding walked walk_fault
-help_of_more program word more Why = refl
-help_of_more program word more Needs = refl
-help_of_more program word more Check = refl
-help_of_more program word more (Show form) = refl
-help_of_more program word more Sauce = refl
-help_of_more program word more Tokens = refl
+help_of_more program word more Why one = refl
+help_of_more program word more Needs one = refl
+help_of_more program word more Check one = refl
+help_of_more program word more (Show form) one = refl
+help_of_more program word more Sauce one = refl
+help_of_more program word more Tokens one = refl
+help_of_more program word more (Table form) one = absurd (true≢false one)
+
+pub help_of_table_and_more : (program word : Text) (more : List Text)
+    → faults_of (program ∷ codes "help" ∷ codes "table" ∷ word ∷ more) ≡ UnknownArgument ∷ InvalidSubcommand ∷ []
+unfolding walked walk_fault
+help_of_table_and_more program word more = refl

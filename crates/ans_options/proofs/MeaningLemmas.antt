@@ -7,8 +7,9 @@ use Rattle.std.specs.Str.{bytes_eq}
 use Rattle.std.proofs.lemmas.Slice.Eq.{bytes_eq-Decides}
 use Rattle.clap.specs.Words.{Text}
 use Rattle.ans_options.specs.declared.command.Command.{Command}
-use Rattle.ans_options.specs.declared.command.Command.TheVariants.{Why, Check, Show, Sauce, Tokens, Needs}
+use Rattle.ans_options.specs.declared.command.Command.TheVariants.{Why, Check, Show, Sauce, Tokens, Needs, Table}
 use Rattle.ans_options.specs.declared.command.Form.TheVariants.{Terminal}
+use Rattle.ans_options.specs.declared.command.TableForm.TheVariants.{Headed}
 use Rattle.ans_options.specs.CommandLine.{IsNoCommand, help_on, is_command_name, texts_of, words_meant}
 use Rattle.ans_options.proofs.CommandLineLemmas.{not_true}
 
@@ -25,6 +26,7 @@ no_command_name name h =
       unequal name (codes "show") (h (Show Terminal)),
       unequal name (codes "sauce") (h Sauce),
       unequal name (codes "tokens") (h Tokens),
+      unequal name (codes "table") (h (Table Headed)),
     ) refl
 
 -- `help` on what is no command

@@ -15,7 +15,8 @@ use Rattle.clap.specs.Walk.{arg_by_index, arg_by_long, arg_by_short, at_row}
 use Rattle.clap.specs.Walk.{attached_value, bundle, bundle_met, bundle_step, count_of, counted, default_rows}
 use Rattle.clap.specs.Walk.{flag_met, has_long, has_row, has_short, is_pending, long_met, long_or_other, long_word}
 use Rattle.clap.specs.Walk.{more_values, new_count, nothing_held, option_met, option_word, plain_word, positional_held}
-use Rattle.clap.specs.Walk.{reacted, reading_by, row_text, rows_after, settled, settled_rows, short_met, short_or_plain}
+use Rattle.clap.specs.Walk.{reacted, reading_by, row_text, rows_after, settled, first_of, settled_rows, short_met}
+use Rattle.clap.specs.Walk.{short_or_plain}
 use Rattle.clap.specs.Walk.{short_word, subcommand_met, subcommand_or_other, takes_several, takes_values, to_positional}
 use Rattle.clap.specs.Walk.{used, used_as, used_by_id, values_or_missing, walk, walk_from, walked, walked_from}
 use Rattle.clap.specs.Walk.{with_count, with_default, with_values, without, word_met}
@@ -27,7 +28,7 @@ use Rattle.clap.specs.declared.parser.matches.ValueSource.TheVariants.{DefaultVa
 use Rattle.ans_options.specs.CommandLine.{holds_flag}
 
 -- no row has this id
-abbrev Lacks : Text → List Row → Type 0
+abbrev pub Lacks : Text → List Row → Type 0
 Lacks id rows = has_row id rows ≡ false
 
 -- the rule has another id
@@ -35,11 +36,11 @@ abbrev IsOther : Text → Rule → Type 0
 IsOther id a = bytes_eq a.id id ≡ false
 
 -- no rule has this id
-abbrev pub NoneHas : Text → List Rule → Type 0
+abbrev NoneHas : Text → List Rule → Type 0
 NoneHas id rules = list_any (λ a. bytes_eq a.id id) rules ≡ false
 
 -- both sides of an `or` that is false are
-neither : (a b : Bool) → (a || b) ≡ false → (a ≡ false) × (b ≡ false)
+pub neither : (a b : Bool) → (a || b) ≡ false → (a ≡ false) × (b ≡ false)
 neither true b e = cc
 neither false b e = (refl, e)
 
@@ -60,6 +61,21 @@ unheld id (r ∷ rows) lacks =
 
     go : (b : Bool) → b ≡ false → test (find (λ x. bytes_eq x.id id) rows) ≡ false
         → test (cond b (Some r) (find (λ x. bytes_eq x.id id) rows)) ≡ false
+    go true e rest = cc
+    go false e rest = rest
+
+-- and an argument that has no row has no value
+pub unfound : (id : Text) (rows : List Row) → Lacks id rows → first_of id rows ≡ None
+unfound id [] lacks = refl
+unfound id (r ∷ rows) lacks =
+    let parts = neither (bytes_eq r.id id) (has_row id rows) lacks in
+    go (bytes_eq r.id id) parts.0 (unfound id rows parts.1)
+  where
+    first : Option Row → Option Text
+    first o = option_and_then (λ x. slice_get x.values 0) o
+
+    go : (b : Bool) → b ≡ false → first (find (λ x. bytes_eq x.id id) rows) ≡ None
+        → first (cond b (Some r) (find (λ x. bytes_eq x.id id) rows)) ≡ None
     go true e rest = cc
     go false e rest = rest
 
@@ -339,11 +355,10 @@ defaults-lacks id (a ∷ rest) rows none lacks =
     let parts = neither (bytes_eq a.id id) (list_any (λ r. bytes_eq r.id id) rest) none in
     defaults-lacks id rest (with_default rows a) parts.1 (with_default-lacks id rows a parts.0 lacks)
 
--- an id that no argument of a command has is not held in its matches
-pub never_held : (id : Text) (rules : List Rule) (names : Names) (words : List Text) → NoneHas id rules
-    → holds_flag id (rows_after rules names words) ≡ false
-never_held id rules names words none =
+-- an id that no argument of a command has has no row in its matches
+pub never_has : (id : Text) (rules : List Rule) (names : Names) (words : List Text)
+    → list_any (λ a. bytes_eq a.id id) rules ≡ false → Lacks id (rows_after rules names words)
+never_has id rules names words none =
     let over = walk rules names nothing_held words in
-    unheld id (rows_after rules names words)
-    (defaults-lacks id rules (settled rules over.held).rows none
-    (settled-lacks id rules none over.held (walk-lacks id rules none names words (walk_from nothing_held) refl)))
+    defaults-lacks id rules (settled rules over.held).rows none
+    (settled-lacks id rules none over.held (walk-lacks id rules none names words (walk_from nothing_held) refl))

@@ -1,13 +1,13 @@
 -- The command line, and the options that its words give.
 use Rattle.std.specs.Prelude.{map, fold, ◌≡◌, ◌≢◌, ◌↔◌, not, Bool, true, false, List, [], ◌∷◌, Option, Some, codes}
-use Rattle.std.specs.Prelude.{IsSomeAnd, IsTrue, if◌then◌else◌, ⊤}
+use Rattle.std.specs.Prelude.{IsSomeAnd, IsTrue, if◌then◌else◌, unwrap_or, ⊤}
 use Rattle.std.specs.List.{list_any}
 use Rattle.std.specs.Borrow.{Bor}
 use Rattle.std.specs.Option.{option_map_or}
 use Rattle.std.specs.Str.{bytes_eq}
-use Rattle.clap.specs.Words.{App, Row, Rule, Text, first_of, kind_of, one_of, new_app, new_rule, subcommand_of}
+use Rattle.clap.specs.Words.{App, Row, Rule, Text, all_of, first_of, kind_of, one_of, new_app, new_rule, subcommand_of}
 use Rattle.clap.specs.Words.{HasKind, IsAmong, Kinds, fault_of, with_rule, with_subcommand}
-use Rattle.clap.specs.declared.builder.ArgAction.TheVariants.{SetTrue}
+use Rattle.clap.specs.declared.builder.ArgAction.TheVariants.{Append, SetTrue}
 use Rattle.clap.specs.declared.error.ErrorKind.TheVariants.{DisplayHelp, DisplayVersion, OutOfMemory}
 use Rattle.clap.specs.declared.error.ErrorKind.{ErrorKind}
 use Rattle.ans_model.specs.declared.start.Start.{Start}
@@ -15,9 +15,11 @@ use Rattle.ans_model.specs.Screen.StartClass.{all_known}
 use Rattle.ans_options.specs.declared.command_line.WordsError.{WordsError}
 use Rattle.ans_options.specs.declared.command_line.WordsError.TheVariants as words_error
 use Rattle.ans_options.specs.declared.command.Command.{Command}
-use Rattle.ans_options.specs.declared.command.Command.TheVariants.{Why, Check, Show, Sauce, Tokens, Needs}
+use Rattle.ans_options.specs.declared.command.Command.TheVariants.{Why, Check, Show, Sauce, Tokens, Needs, Table}
 use Rattle.ans_options.specs.declared.command.Form.{Form}
 use Rattle.ans_options.specs.declared.command.Form.TheVariants.{Terminal, Vga, Page}
+use Rattle.ans_options.specs.declared.command.TableForm.{TableForm}
+use Rattle.ans_options.specs.declared.command.TableForm.TheVariants.{Headed, Bare}
 use Rattle.ans_options.specs.declared.command.Options.{Options}
 
 -- the words, as texts
@@ -69,6 +71,14 @@ needs_app = file_app (codes "needs")
 abbrev pub why_app : App
 why_app = file_app (codes "why")
 
+-- `[FILE]..`
+abbrev pub files_rule : Rule
+files_rule = record (new_rule (codes "files")) { value_names = 1; action = Some Append }
+
+-- `table`, its flag, and `[FILE]..`
+abbrev pub table_app : App
+table_app = with_flags (with_rule (new_app (codes "table")) files_rule) (codes "no-header" ∷ [])
+
 -- `anscheck`, which has a version, wants a subcommand, and has no subcommand `help`
 abbrev pub anscheck_top : App
 anscheck_top = let a = new_app (codes "anscheck") in
@@ -80,10 +90,12 @@ anscheck =
     with_subcommand
     (with_subcommand
     (with_subcommand
+    (with_subcommand
     (with_subcommand (with_subcommand (with_subcommand anscheck_top why_app.top) needs_app.top) check_app.top)
     show_app.top)
     sauce_app.top)
-    tokens_app.top
+    tokens_app.top)
+    table_app.top
 
 -- the subcommand of each command
 abbrev pub command_name : Command → Text
@@ -93,8 +105,14 @@ command_name (Show form) = codes "show"
 command_name Sauce = codes "sauce"
 command_name Tokens = codes "tokens"
 command_name Needs = codes "needs"
+command_name (Table form) = codes "table"
 
--- whether a command takes flags
+-- whether a command writes a table of many files
+abbrev pub is_table : Command → Bool
+is_table (Table form) = true
+is_table _ = false
+
+-- whether a command takes flags that say what is known of the start
 abbrev pub takes_flags : Command → Bool
 takes_flags Check = true
 takes_flags (Show form) = true
@@ -106,17 +124,20 @@ IsNoCommand name = (c : Command) → name ≢ command_name c
 
 -- the names of the commands, in the order of the help
 abbrev pub command_names : List Text
-command_names = codes "why" ∷ codes "needs" ∷ codes "check" ∷ codes "show" ∷ codes "sauce" ∷ codes "tokens" ∷ []
+command_names = codes "why" ∷ codes "needs" ∷ codes "check" ∷ codes "show" ∷ codes "sauce" ∷ codes "tokens"
+    ∷ codes "table" ∷ []
 
 -- one of the commands has this name
 abbrev pub is_command_name : Text → Bool
 is_command_name name = list_any (bytes_eq name) command_names
 
 -- What stands for `help COMMAND`: `COMMAND --help`. A word after it is a mistake. To have clap name it, the command
--- gets its own name as the FILE, behind `--`, and then the word, which is one too many.
+-- gets its own name as the FILE, behind `--`, and then the word, which is one too many. For `table` no word is one too
+-- many, so there the word stands behind `--` alone, where the program takes none.
 abbrev pub help_on_command : Text → List Text → List Text
 help_on_command name [] = name ∷ codes "--help" ∷ []
-help_on_command name (word ∷ more) = name ∷ codes "--" ∷ name ∷ word ∷ []
+help_on_command name (word ∷ more) =
+    if bytes_eq name (codes "table") then codes "--" ∷ word ∷ [] else name ∷ codes "--" ∷ name ∷ word ∷ []
 
 -- What stands for `help` with these words after it: `--help` where there are none. A first word that is no command is a
 -- mistake. To have clap name it, it stands behind `--`, where the program takes no word.
@@ -166,9 +187,14 @@ form_asked rows =
     else if holds_flag (codes "vga") rows then Vga
     else Terminal
 
--- where the command shows a picture, it is in the form that the flags ask for
+-- the form of a table: with `--no-header` without the line of names
+abbrev pub table_form_asked : List Row → TableForm
+table_form_asked rows = if holds_flag (codes "no-header") rows then Bare else Headed
+
+-- where the command shows a picture or writes a table, it is in the form that the flags ask for
 abbrev pub IsInFormAsked : Command → List Row → Type 0
 IsInFormAsked (Show form) rows = form ≡ form_asked rows
+IsInFormAsked (Table form) rows = form ≡ table_form_asked rows
 IsInFormAsked _ rows = ⊤
 
 -- The subcommand is named as the command, and its matches say in which form a picture is shown and which parts of the
@@ -184,6 +210,14 @@ AsksFor sub o file = (sub.0 ≡ command_name o.command)
 -- clap finds a subcommand in what the words mean, which asks for this
 abbrev pub AreOptionsOf : List Text → Options → Option Text → Type 0
 AreOptionsOf words o file = IsSomeAnd (subcommand_of anscheck (words_meant words)) (λ sub. AsksFor sub o file)
+
+-- the names of `[FILE]..` in the matches: none where no file is given
+abbrev pub files_of : List Row → List Text
+files_of rows = unwrap_or (all_of (codes "files") rows) []
+
+-- clap finds a subcommand in what the words mean, and these are its `[FILE]..`
+abbrev pub AreNamesOf : List Text → List Text → Type 0
+AreNamesOf words names = IsSomeAnd (subcommand_of anscheck (words_meant words)) (λ sub. names ≡ files_of sub.1)
 
 -- the kinds that the first fault of what the words mean may have; to ask for help or for the version counts as a fault
 abbrev pub faults_of : List Text → Kinds

@@ -13,7 +13,16 @@ pub enum Form {
     Page,
 }
 
-/// What the program does with a file.
+/// The form of a table.
+#[derive(Debug, Clone, Copy, PartialEq, Eq)]
+pub enum TableForm {
+    /// Rows of columns, under a line of the columns' names.
+    Headed,
+    /// Rows of columns alone.
+    Bare,
+}
+
+/// What the program does with a file, or with many.
 #[derive(Debug, Clone, Copy, PartialEq, Eq)]
 pub enum Command {
     /// Writes why it is refused, or what it relies on, and how that is mended.
@@ -28,6 +37,8 @@ pub enum Command {
     Tokens,
     /// Writes which parts of the start its content needs to be known, or why the file is refused.
     Needs,
+    /// Writes a row for each of many files: the verdict, what it needs, its fault, and its record.
+    Table(TableForm),
 }
 
 /// What the command line asks for.

@@ -1,16 +1,18 @@
 //! The command line, and the options that its words give.
 ghost use Rattle.std.specs.Prelude.{◌≡◌, true, IfOk, option_map, string_bytes, codes, map, IfSome, IfNone, IfErr};
-ghost use Rattle.std.specs.Prelude.{IsSomeAnd, IsTrue, ◌↔◌, ◌≢◌, false, [], ◌∷◌};
-ghost use Rattle.clap.specs.Words.{app_of, first_of, found_of, rows_of, rule_of, subcommand_rows_of, takes};
+ghost use Rattle.std.specs.Prelude.{IsSomeAnd, IsSome, None, IsTrue, ◌↔◌, ◌≢◌, false, [], ◌∷◌};
+ghost use Rattle.clap.specs.Words.{all_of, app_of, first_of, found_of, rows_of, rule_of, subcommand_rows_of, takes};
+ghost use Rattle.clap.specs.Words.{fault_of, subcommand_of};
 ghost use Rattle.ans_model.specs.Screen.StartClass.{none_known};
 ghost use Rattle.ans_options.specs.CommandLine.{AreOptionsOf, AsksFor, IsCommand, IsInFormAsked, IsNoCommand};
 ghost use Rattle.ans_options.specs.CommandLine.{HasKindAmong, RanOutOfMemory, start_asked, flag_rule};
 ghost use Rattle.ans_options.specs.CommandLine.{faults_of, form_asked, help_on, named_start, takes_flags, with_flags};
 ghost use Rattle.ans_options.specs.CommandLine.{words_meant, anscheck, check_app, command_name, file_app};
 ghost use Rattle.ans_options.specs.CommandLine.{asks_for_cleared, holds_flag, show_app, texts_of};
+ghost use Rattle.ans_options.specs.CommandLine.{AreNamesOf, files_of, is_table, table_app, table_form_asked};
 ghost use Rattle.ans_options.specs.declared.command_line.WordsError.TheVariants.{Clap};
 
-use crate::command::{Command, Form, Options};
+use crate::command::{Command, Form, Options, TableForm};
 use ans_model::start::Start;
 use clap::{Arg, ArgAction, ArgMatches};
 use std::alloc::{AllocError, Global};
@@ -61,6 +63,17 @@ Without --any or a --known flag all five are assumed: a screen just cleared.
 "
 );
 
+/// The last lines of the help of `table`.
+const TABLE_END: &str = "\
+The verdict is that of needs: pass means from a screen just cleared. A file
+that cannot be read has the verdict error, and the reason as its fault. In a
+name \\t, \\n and \\xHH stand for a tab, a line end and a byte that is not shown.
+
+Exit status:
+  0  Every file passes, or help was asked for
+  1  A file is refused, and every file was read
+  2  A file could not be read, or the table could not be written";
+
 /// The last lines of the program's help.
 const PROGRAM_END: &str = with_exit_statuses!(
     "\
@@ -85,6 +98,8 @@ const SHOW: &str = "Show the picture in its colours, for a terminal or as a page
 const SAUCE: &str = "Print what a file's SAUCE record says";
 
 const TOKENS: &str = "Print the bytes and the escape sequences of a file, one a line";
+
+const TABLE: &str = "Print one row for each file: its verdict, its needs, its record";
 
 /// The flags that name a part of the start, each with its help.
 const PART_FLAGS: [(&str, &str); 5] = [
@@ -119,6 +134,9 @@ const SHOW_FLAGS: [(&str, &str); 3] = [
     ),
     ("any", "Assume nothing but what a --known flag says"),
 ];
+
+/// The flags of `table`.
+const TABLE_FLAGS: [(&str, &str); 1] = [("no-header", "Leave out the line of the columns' names")];
 
 fn file_command<'a>(
     alloc: Global,
@@ -177,6 +195,20 @@ fn show_command<'a>(alloc: Global) -> Result<clap::Command<'a>, AllocError>
     with_flags(alloc, command, &PART_FLAGS)
 }
 
+fn table_command<'a>(alloc: Global) -> Result<clap::Command<'a>, AllocError>
+    ensures { IfOk result (λ c. app_of c ≡ table_app) }
+{
+    let files = Arg::new(alloc, "files")
+        .value_name("FILE")
+        .action(ArgAction::Append)
+        .help("The files; without one, names from standard input, ended by 00h");
+    let command = clap::Command::new(alloc, "table")
+        .about(TABLE)
+        .after_help(TABLE_END)
+        .arg(files)?;
+    with_flags(alloc, command, &TABLE_FLAGS)
+}
+
 fn program<'a>(alloc: Global) -> Result<clap::Command<'a>, AllocError>
     ensures { IfOk result (λ c. app_of c ≡ anscheck) }
 {
@@ -186,6 +218,7 @@ fn program<'a>(alloc: Global) -> Result<clap::Command<'a>, AllocError>
     let show = show_command(alloc)?;
     let sauce = file_command(alloc, "sauce", SAUCE, COMMAND_END)?;
     let tokens = file_command(alloc, "tokens", TOKENS, COMMAND_END)?;
+    let table = table_command(alloc)?;
     clap::Command::new(alloc, "anscheck")
         .version(VERSION)
         .about("Checks ANSI art files that end in a SAUCE record")
@@ -197,7 +230,8 @@ fn program<'a>(alloc: Global) -> Result<clap::Command<'a>, AllocError>
         .subcommand(check)?
         .subcommand(show)?
         .subcommand(sauce)?
-        .subcommand(tokens)
+        .subcommand(tokens)?
+        .subcommand(table)
 }
 
 fn holds(matches: &ArgMatches<'_>, id: &str) -> bool
@@ -217,6 +251,7 @@ fn command_named(name: &str) -> Option<Command>
         "show" => Some(Command::Show(Form::Terminal)),
         "sauce" => Some(Command::Sauce),
         "tokens" => Some(Command::Tokens),
+        "table" => Some(Command::Table(TableForm::Headed)),
         _ => None,
     }
 }
@@ -233,6 +268,16 @@ fn form_asked(matches: &ArgMatches<'_>) -> Form
     }
 }
 
+fn table_form_asked(matches: &ArgMatches<'_>) -> TableForm
+    ensures { result ≡ table_form_asked (rows_of (found_of matches.now)) }
+{
+    if holds(matches, "no-header") {
+        TableForm::Bare
+    } else {
+        TableForm::Headed
+    }
+}
+
 /// The command, with the form that the flags ask for.
 fn in_form_asked(command: Command, matches: &ArgMatches<'_>) -> Command
     ensures name { command_name result ≡ command_name command }
@@ -240,6 +285,7 @@ fn in_form_asked(command: Command, matches: &ArgMatches<'_>) -> Command
 {
     match command {
         Command::Show(_) => Command::Show(form_asked(matches)),
+        Command::Table(_) => Command::Table(table_form_asked(matches)),
         _ => command,
     }
 }
@@ -325,6 +371,41 @@ fn read_matches(
     Ok((options_of(command, found), file))
 }
 
+fn texts_owned(alloc: Global, texts: &[&str]) -> Result<Vec<String>, AllocError>
+    ensures { IfOk result (λ v. map string_bytes v.items ≡ texts_of texts.now) }
+{
+    let mut owned = Vec::new(alloc);
+    for text in texts {
+        owned.push(String::from_str(alloc, text)?)?;
+    }
+    Ok(owned)
+}
+
+fn files_of(alloc: Global, matches: &ArgMatches<'_>) -> Result<Vec<String>, WordsError>
+    ensures memory { IfErr result (λ e. e ≡ WordsError.Memory) }
+    ensures ok { IfOk result (λ v. map string_bytes v.items ≡ files_of (rows_of (found_of matches.now))) }
+{
+    let Some(texts) = matches.get_strs("files") else {
+        return Ok(Vec::new(alloc));
+    };
+    match texts_owned(alloc, texts) {
+        Ok(files) => Ok(files),
+        Err(AllocError) => Err(WordsError::Memory),
+    }
+}
+
+fn read_names(alloc: Global, matches: &ArgMatches<'_>) -> Result<Vec<String>, WordsError>
+    requires { IsSome (subcommand_rows_of matches.now) }
+    ensures memory { IfErr result (λ e. e ≡ WordsError.Memory) }
+    ensures ok { IfOk result (λ v. IsSomeAnd (subcommand_rows_of matches.now)
+        (λ p. map string_bytes v.items ≡ files_of p.1)) }
+{
+    let Some((_, found)) = matches.subcommand() else {
+        unreachable!()
+    };
+    files_of(alloc, found)
+}
+
 fn words_for_help<'a>(
     alloc: Global,
     program: &'a str,
@@ -338,6 +419,7 @@ fn words_for_help<'a>(
             Vec::from_slice(alloc, &[program, "--", name])
         }
         [command] => Vec::from_slice(alloc, &[program, command, "--help"]),
+        ["table", word, ..] => Vec::from_slice(alloc, &[program, "--", word]),
         [command, word, ..] => Vec::from_slice(alloc, &[program, command, "--", command, word]),
     }
 }
@@ -351,14 +433,30 @@ fn words_meant<'a>(alloc: Global, words: &[&'a str]) -> Result<Vec<&'a str>, All
     words_for_help(alloc, program, topic)
 }
 
+/// The matches of what the words mean.
+fn matches_of<'a>(alloc: Global, meant: &'a [&'a str]) -> Result<ArgMatches<'a>, WordsError>
+    ensures met { IfOk result (λ m. subcommand_rows_of m ≡ subcommand_of anscheck (texts_of meant.now)) }
+    ensures some { IfOk result (λ m. IsSome (subcommand_rows_of m)) }
+    ensures accepted { IfOk result (λ m. fault_of anscheck (texts_of meant.now) ≡ []) }
+    ensures refuses { IfErr result (λ e. takes anscheck (texts_of meant.now) ≡ true → RanOutOfMemory e) }
+    ensures kinds { IfErr result (HasKindAmong (fault_of anscheck (texts_of meant.now))) }
+{
+    let program = match program(alloc) {
+        Ok(program) => program,
+        Err(error) => return Err(WordsError::Clap(clap::Error::from(error))),
+    };
+    Ok(program.try_get_matches_from(meant)?)
+}
+
 /// Reads the options and the file from the program's words, its own name first:
 /// `anscheck why [FILE]`, `anscheck needs [FILE]`, `anscheck check` or `anscheck show` with its flags and `[FILE]`,
-/// `anscheck sauce [FILE]` or `anscheck tokens [FILE]`. A part of the start is known where its flag
-/// is given, as `--known-cursor`. With `check` all are known where `--cleared` is given, and cells
-/// are asked for where `--cells` is. With `show` all are known where neither such a flag nor `--any`
-/// is given, and the picture comes as a page where `--html` is, else in a VGA's colours where `--vga`
-/// is. With the commands that take no flags nothing is known. The file's name comes as it is given,
-/// `-` too.
+/// `anscheck sauce [FILE]`, `anscheck tokens [FILE]`, or `anscheck table` with its flags and `[FILE]..`.
+/// A part of the start is known where its flag is given, as `--known-cursor`. With `check` all are known
+/// where `--cleared` is given, and cells are asked for where `--cells` is. With `show` all are known where
+/// neither such a flag nor `--any` is given, and the picture comes as a page where `--html` is, else in a
+/// VGA's colours where `--vga` is. A table has a line of names unless `--no-header` is given. With the
+/// other commands nothing is known. The file's name comes as it is given, `-` too; the names for `table`
+/// come by [`table_names`], and here as none.
 ///
 /// Fails where `clap` rejects the words, where they ask for help or for the version, and where memory
 /// runs out. Help is asked for by `--help`, `-h`, `help` and `help COMMAND`, the version by
@@ -370,6 +468,7 @@ pub fn options(alloc: Global, words: &[&str]) -> Result<(Options, Option<String>
         AreOptionsOf (texts_of words.now) r.0 (option_map string_bytes r.1)) }
     ensures flagless { IfOk result (λ r. takes_flags r.0.command ≡ false → r.0.start ≡ none_known) }
     ensures cells { IfOk result (λ r. r.0.command ≢ Command.Check → r.0.cells ≡ false) }
+    ensures nameless { IfOk result (λ r. is_table r.0.command ≡ true → r.1 ≡ None) }
     ensures refuses { IfErr result (λ e.
         takes anscheck (words_meant (texts_of words.now)) ≡ true → RanOutOfMemory e) }
     ensures accepted { IfOk result (λ r. faults_of (texts_of words.now) ≡ []) }
@@ -380,10 +479,27 @@ pub fn options(alloc: Global, words: &[&str]) -> Result<(Options, Option<String>
     let Ok(meant) = words_meant(alloc, words) else {
         return Err(WordsError::Memory);
     };
-    let program = match program(alloc) {
-        Ok(program) => program,
-        Err(error) => return Err(WordsError::Clap(clap::Error::from(error))),
-    };
-    let matches = program.try_get_matches_from(meant.as_slice())?;
+    let matches = matches_of(alloc, meant.as_slice())?;
     read_matches(alloc, &matches)
+}
+
+/// Reads the names of the files from the program's words for a table, its own name first, as
+/// [`options`] reads the rest: each as it is given, in their order. They are none where the words name
+/// none, and where they ask for another command.
+///
+/// Fails as [`options`] does.
+pub fn table_names(alloc: Global, words: &[&str]) -> Result<Vec<String>, WordsError>
+    ensures ok { IfOk result (λ v. AreNamesOf (texts_of words.now) (map string_bytes v.items)) }
+    ensures refuses { IfErr result (λ e.
+        takes anscheck (words_meant (texts_of words.now)) ≡ true → RanOutOfMemory e) }
+    ensures accepted { IfOk result (λ v. faults_of (texts_of words.now) ≡ []) }
+    ensures faultless { IfErr result (λ e.
+        faults_of (texts_of words.now) ≡ [] → RanOutOfMemory e) }
+    ensures kinds { IfErr result (HasKindAmong (faults_of (texts_of words.now))) }
+{
+    let Ok(meant) = words_meant(alloc, words) else {
+        return Err(WordsError::Memory);
+    };
+    let matches = matches_of(alloc, meant.as_slice())?;
+    read_names(alloc, &matches)
 }

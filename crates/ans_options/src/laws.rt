@@ -1,16 +1,16 @@
 //! Laws of the command line: each is the contract of a function without a body.
 
-ghost use Rattle.std.specs.Prelude.{◌≡◌, true, List, [], ◌∷◌, codes};
+ghost use Rattle.std.specs.Prelude.{◌≡◌, true, false, List, [], ◌∷◌, codes};
 ghost use Rattle.clap.specs.Words.{Text, fault_of, is_simple, is_simple_and_free};
 ghost use Rattle.clap.specs.declared.error.ErrorKind.TheVariants.{DisplayHelp, DisplayVersion};
 ghost use Rattle.clap.specs.declared.error.ErrorKind.TheVariants.{InvalidSubcommand, UnknownArgument};
 ghost use Rattle.ans_options.specs.declared.command.Command.{Command};
 ghost use Rattle.ans_options.specs.CommandLine.{IsNoCommand, IsRequestAloneOrNotAtAll, anscheck, command_name};
-ghost use Rattle.ans_options.specs.CommandLine.{faults_of};
+ghost use Rattle.ans_options.specs.CommandLine.{faults_of, is_table};
 
-/// The command line is of `clap`'s simple kind: one level of subcommands, flags, one optional FILE
-/// and no rules between arguments. So its matches are a function of the words, and so are the kinds
-/// that an error may have.
+/// The command line is of `clap`'s simple kind: one level of subcommands, flags, one optional FILE or,
+/// for a table, any number of them, and no rules between arguments. So its matches are a function of
+/// the words, and so are the kinds that an error may have.
 pub fn command_line_is_simple()
     ensures simple { is_simple anscheck ≡ true }
     ensures free { is_simple_and_free anscheck ≡ true }
@@ -39,6 +39,9 @@ pub fn help_takes_one_command()
         → faults_of (program ∷ codes "help" ∷ command_name c ∷ []) ≡ DisplayHelp ∷ [] }
     ensures other { (program name : Text) → (more : List Text) → IsNoCommand name
         → faults_of (program ∷ codes "help" ∷ name ∷ more) ≡ UnknownArgument ∷ InvalidSubcommand ∷ [] }
-    ensures more { (program word : Text) → (more : List Text) → (c : Command)
+    ensures more { (program word : Text) → (more : List Text) → (c : Command) → is_table c ≡ false
         → faults_of (program ∷ codes "help" ∷ command_name c ∷ word ∷ more) ≡ UnknownArgument ∷ [] }
+    ensures more_of_table { (program word : Text) → (more : List Text)
+        → faults_of (program ∷ codes "help" ∷ codes "table" ∷ word ∷ more)
+        ≡ UnknownArgument ∷ InvalidSubcommand ∷ [] }
 {}

@@ -1,7 +1,8 @@
 //! The command line, and what its words ask for.
 //!
 //! [`options`] has `clap` read what the words mean, and returns the [`Options`] and the file's name,
-//! or a [`WordsError`]. Which words ask for what stands in `specs/CommandLine.antt`; there `help`
+//! or a [`WordsError`]; [`table_names`] gives the names of many files, for a table. Which words ask
+//! for what stands in `specs/CommandLine.antt`; there `help`
 //! stands for `--help`, and `help COMMAND` for `COMMAND --help`. That the command line is of `clap`'s
 //! simple kind, and no argument has a rule on another, is a law, in [`laws`].
 //!
@@ -15,8 +16,8 @@ mod command;
 mod command_line;
 pub mod laws;
 
-pub use command::{Command, Form, Options};
-pub use command_line::{WordsError, options};
+pub use command::{Command, Form, Options, TableForm};
+pub use command_line::{WordsError, options, table_names};
 
 #[cfg(test)]
 mod tests;

@@ -10,6 +10,7 @@ macro_rules! rows {
 
 mod command_line;
 mod faults;
+mod tables;
 mod texts;
 
 use crate::{Options, WordsError, options};

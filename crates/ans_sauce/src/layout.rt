@@ -22,7 +22,7 @@ fn fault(offset: usize, cause: Cause) -> Fault
 }
 
 /// What stands before the record, and the record, where there is one.
-pub(crate) fn cut_record(file: &[u8]) -> Option<(&[u8], Record<'_>)>
+pub fn cut_record(file: &[u8]) -> Option<(&[u8], Record<'_>)>
     ensures cut { IfSome result (λ cut. EndsInRecord file.now cut.0.now (bytes_of cut.1)) }
     ensures none { IfNone result (IsFalse (has_record file.now)) }
 {

@@ -20,7 +20,7 @@ pub use ans_model::fault::{Cause, Fault};
 pub use ans_model::limits::MAX_FILE;
 pub use ans_model::note::Note;
 pub use found::{Found, find};
-pub use layout::split;
+pub use layout::{cut_record, split};
 pub use parts::Parts;
 pub use record::Record;
 

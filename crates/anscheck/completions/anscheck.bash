@@ -2,7 +2,7 @@
 # /usr/share/bash-completion/completions/anscheck.
 _anscheck() {
     local word=${COMP_WORDS[COMP_CWORD]} command=${COMP_WORDS[1]}
-    local commands="why needs check show sauce tokens"
+    local commands="why needs check show sauce tokens table"
     COMPREPLY=()
     if [ "$COMP_CWORD" -eq 1 ]; then
         mapfile -t COMPREPLY < <(compgen -W "$commands help --help --version" -- "$word")
@@ -14,6 +14,7 @@ _anscheck() {
         case $command in
             check) flags="--cleared --cells $parts --help" ;;
             show) flags="--html --vga --any $parts --help" ;;
+            table) flags="--no-header --help" ;;
         esac
         mapfile -t COMPREPLY < <(compgen -W "$flags" -- "$word")
     else

@@ -1,13 +1,14 @@
 # Completion for fish: copy this file to ~/.config/fish/completions.
-set -l commands why needs check show sauce tokens help
+set -l commands why needs check show sauce tokens table help
 complete -c anscheck -n "not __fish_seen_subcommand_from $commands" -f -a why -d 'Why a drawing is refused, and what it relies on'
 complete -c anscheck -n "not __fish_seen_subcommand_from $commands" -f -a needs -d 'What a drawing relies on'
 complete -c anscheck -n "not __fish_seen_subcommand_from $commands" -f -a check -d 'Check a drawing, and print its picture'
 complete -c anscheck -n "not __fish_seen_subcommand_from $commands" -f -a show -d 'Show a picture in its colours'
 complete -c anscheck -n "not __fish_seen_subcommand_from $commands" -f -a sauce -d 'What the record says'
 complete -c anscheck -n "not __fish_seen_subcommand_from $commands" -f -a tokens -d 'The bytes and sequences of the content'
+complete -c anscheck -n "not __fish_seen_subcommand_from $commands" -f -a table -d 'A row for each of many files'
 complete -c anscheck -n "not __fish_seen_subcommand_from $commands" -f -a help -d 'Help on a command'
-complete -c anscheck -n "__fish_seen_subcommand_from help" -f -a 'why needs check show sauce tokens'
+complete -c anscheck -n "__fish_seen_subcommand_from help" -f -a 'why needs check show sauce tokens table'
 complete -c anscheck -n "__fish_seen_subcommand_from check" -l cleared -d 'From the cleared screen alone'
 complete -c anscheck -n "__fish_seen_subcommand_from check" -l cells -d 'Print each cell too'
 complete -c anscheck -n "__fish_seen_subcommand_from show" -l html -d 'A page'
@@ -18,5 +19,6 @@ complete -c anscheck -n "__fish_seen_subcommand_from check show" -l known-cursor
 complete -c anscheck -n "__fish_seen_subcommand_from check show" -l known-saved -d 'The saved cursor at the top left'
 complete -c anscheck -n "__fish_seen_subcommand_from check show" -l known-colours -d 'White on black'
 complete -c anscheck -n "__fish_seen_subcommand_from check show" -l known-wrap -d 'Wrap on'
+complete -c anscheck -n "__fish_seen_subcommand_from table" -l no-header -d 'No line of names'
 complete -c anscheck -s h -l help -d 'Print help'
 complete -c anscheck -n "not __fish_seen_subcommand_from $commands" -s V -l version -d 'Print the version'

@@ -60,6 +60,7 @@ const PROGRAM_HELP: &str = help!(
     \x20 show    Show the picture in its colours, for a terminal or as a page\n\
     \x20 sauce   Print what a file's SAUCE record says\n\
     \x20 tokens  Print the bytes and the escape sequences of a file, one a line\n\
+    \x20 table   Print one row for each file: its verdict, its needs, its record\n\
     \n\
     Options:\n\
     \x20 -h, --help     Print help\n\
@@ -111,6 +112,27 @@ static COMMANDS: [(&str, &str); 6] = command_helps! {
         "  -h, --help  Print help\n";
 };
 
+const TABLE_HELP: &str = "\
+    Print one row for each file: its verdict, its needs, its record\n\
+    \n\
+    Usage: anscheck table [OPTIONS] [FILE]...\n\
+    \n\
+    Arguments:\n\
+    \x20 [FILE]...  The files; without one, names from standard input, ended by 00h\n\
+    \n\
+    Options:\n\
+    \x20     --no-header  Leave out the line of the columns' names\n\
+    \x20 -h, --help       Print help\n\
+    \n\
+    The verdict is that of needs: pass means from a screen just cleared. A file\n\
+    that cannot be read has the verdict error, and the reason as its fault. In a\n\
+    name \\t, \\n and \\xHH stand for a tab, a line end and a byte that is not shown.\n\
+    \n\
+    Exit status:\n\
+    \x20 0  Every file passes, or help was asked for\n\
+    \x20 1  A file is refused, and every file was read\n\
+    \x20 2  A file could not be read, or the table could not be written\n";
+
 /// Words that ask for no help, and the text.
 static TEXTS: [(&[&str], &str); 10] = rows! {
     "anscheck" "--version" => "anscheck 0.1.0 (rattle-kit-13f)\n";
@@ -121,7 +143,8 @@ static TEXTS: [(&[&str], &str); 10] = rows! {
     );
     "anscheck" "check" "f" "g" => mistake!("unexpected argument 'g' found", "check [OPTIONS] [FILE]");
     "anscheck" => mistake!(
-        "'anscheck' requires a subcommand but one was not provided\n  [subcommands: why, needs, check, show, sauce, tokens]",
+        "'anscheck' requires a subcommand but one was not provided\n\
+        \x20 [subcommands: why, needs, check, show, sauce, tokens, table]",
         "<COMMAND>"
     );
     "anscheck" "other" => mistake!("unrecognized subcommand 'other'", "<COMMAND>");
@@ -159,6 +182,12 @@ fn expect_help(rt: &(impl Abort + AllocGlobal), words: &[&str], text: &str) {
 fn help_has_its_texts(rt: HostRuntime) {
     for word in ["--help", "-h", "help"] {
         expect_help(&rt, &["anscheck", word], PROGRAM_HELP);
+    }
+    for words in [
+        ["anscheck", "table", "--help"],
+        ["anscheck", "help", "table"],
+    ] {
+        expect_help(&rt, &words, TABLE_HELP);
     }
     for (command, text) in &COMMANDS {
         expect_help(&rt, &["anscheck", command, "--help"], text);

@@ -8,6 +8,7 @@ returns-clause-ends g c = inl (record {
   options = c.args.options.now;
   file = option_map string_bytes c.args.name.now;
   asked = c.requires.asked;
+  one = c.requires.one;
   faultless = c.requires.faultless;
   reader = c.new-reader.result;
   reader_after = c.serve.new.reader;

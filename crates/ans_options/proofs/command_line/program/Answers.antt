@@ -4,6 +4,7 @@ use Rattle.clap.specs.Words.{App, Shape, app_of, with_subcommand}
 use Rattle.clap.specs.Simple.{app_of_fields, on_top}
 use Rattle.clap.proofs.SimpleLemmas.{plain_fields}
 use Rattle.ans_options.specs.CommandLine.{anscheck_top, why_app, check_app, needs_app, sauce_app, show_app}
+use Rattle.ans_options.specs.CommandLine.{tokens_app}
 use Rattle.ans_options.proofs.command_line.program.Goals as goal
 
 abbrev versioned : App → App
@@ -44,6 +45,9 @@ returns c =
     let five_is : app_of c.in_ok-subcommand-5.field-0 ≡ five =
     c.in_ok-subcommand-5.ensures.shape (plain_fields c.in_ok-sauce.sauce (ap plain c.in_ok-sauce.ensures)).globals
     ∙ ap₂ with_subcommand four_is (ap top c.in_ok-sauce.ensures) in
-    IfOk-weaker c.subcommand-6.result _ _ (λ r adds.
-    adds.shape (plain_fields c.in_ok-tokens.tokens (ap plain c.in_ok-tokens.ensures)).globals
-    ∙ ap₂ with_subcommand five_is (ap top c.in_ok-tokens.ensures)) c.subcommand-6.ensures
+    let six_is : app_of c.in_ok-subcommand-6.field-0 ≡ with_subcommand five tokens_app.top =
+    c.in_ok-subcommand-6.ensures.shape (plain_fields c.in_ok-tokens.tokens (ap plain c.in_ok-tokens.ensures)).globals
+    ∙ ap₂ with_subcommand five_is (ap top c.in_ok-tokens.ensures) in
+    IfOk-weaker c.subcommand-7.result _ _ (λ r adds.
+    adds.shape (plain_fields c.in_ok-table.table (ap plain c.in_ok-table.ensures)).globals
+    ∙ ap₂ with_subcommand six_is (ap top c.in_ok-table.ensures)) c.subcommand-7.ensures

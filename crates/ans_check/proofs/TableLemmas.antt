@@ -1,0 +1,280 @@
+-- Rows after rows, and the text before them.
+use Rattle.std.proofs.Common.{◌≡◌, ◌∙◌, ℕ, ◌+◌, ◌≤◌, List, [], ◌∷◌, ◌++◌, length, take, All}
+use Rattle.std.proofs.Common.{Option, Some, None, Result, Ok, Err, refl, sym, ap, subst, arith}
+use Rattle.std.proofs.Common.{append-nil}
+use Rattle.std.proofs.Common.{length-append, ◌<◌, drop, get_or}
+use Rattle.std.specs.Borrow.{Bor}
+use Rattle.std.specs.Io.KnownBytes.{Appends}
+use Rattle.std.proofs.KnownBytes.{Appends-nil, Appends-trans}
+use Rattle.std.proofs.lemmas.List.{length-map, length-take, take_all, take_more, take-append-drop, take-append-le}
+use Rattle.std.proofs.lemmas.List.{map-append}
+use Rattle.std.proofs.Math.Seq.{take-append-add}
+use Rattle.std.proofs.lemmas.List.Elements.{All-nil, All-push}
+use Rattle.std.proofs.lemmas.Grind.{flat_map-append}
+use Rattle.clap.specs.Words.{Text}
+use Rattle.ans_model.specs.Bytes.{longest_file}
+use Rattle.ans_model.specs.File.Layout.{content}
+use Rattle.ans_sauce.specs.declared.parts.Parts.{Parts}
+use Rattle.ans_sauce.specs.Parts.{content_of}
+use Rattle.ans_sauce.specs.Split.{IsSplit}
+use Rattle.ans_table.specs.declared.counts.Counts.{Counts}
+use Rattle.ans_table.specs.declared.counts.Outcome.{Outcome}
+use Rattle.ans_table.specs.declared.finding.Finding.{Finding}
+use Rattle.ans_options.specs.CommandLine.{texts_of}
+use Rattle.std.proofs.lemmas.List.Sums.{count_by-le-length}
+use Rattle.ans_table.specs.Counting.{counts_of, is_pass, is_refused, is_unread}
+use Rattle.ans_table.specs.Findings.{outcome_of}
+use Rattle.ans_table.specs.RowText.{Row, row_line, rows_text}
+use Rattle.std.specs.Prelude.{IfSome, IsErrOf, IsTrue, Vec, ◌↔◌, ◌≢◌}
+use Rattle.std.specs.Global.{Global}
+use Rattle.ans_table.specs.declared.finding.Finding.TheVariants.{Pass, Refused, NoContent, Unread}
+use Rattle.ans_table.specs.declared.finding.Unread.TheVariants as why
+use Rattle.ans_check.specs.declared.errors.RunError.{RunError}
+use Rattle.ans_check.specs.declared.errors.RunError.TheVariants as error
+use Rattle.ans_check.specs.Run.{HasRead}
+use Rattle.ans_write.specs.Tried.{call_count, has_failed, inner_of}
+use Rattle.ans_write.specs.Writes.{AppendsPrefix}
+use Rattle.ans_write.specs.declared.outbox.WriteFault.{WriteFault}
+use Rattle.ans_write.specs.declared.tried.Tried.{Tried}
+use Rattle.ans_check.specs.Table.{IsFound, MayBeFoundIn, WritesAfter, WritesRow, WritesRows, outcomes, row_names}
+use Rattle.ans_check.specs.Table.{unread_of}
+
+-- ---- files
+-- a content is no longer than its file
+pub content_within : (file : List ℕ) (parts : Parts) → IsSplit file parts → length file ≤ longest_file
+    → length (content_of parts) ≤ longest_file
+content_within file parts h within =
+    let body = h.apart.body in
+    let size = ap length h.accepts.laid.whole ∙ length-append body _ in
+    let front : length (content body) ≤ length body = simp length-take (omega arith) in
+    rw h.shows.content (omega (arith, within, size, front))
+
+module _ {R : Type 0} (remaining : R → Option (List ℕ)) (is_file : Text → R → Type 0) (is_missing : Text → Type 0)
+    (name : Text) (reader after : Tried R) where
+  -- what is found in a file that was read
+  pub found_in : (file : List ℕ) (finding : Finding) → is_file name (inner_of reader) → call_count reader ≡ 0
+      → HasRead (remaining (inner_of reader)) (remaining (inner_of after)) file → MayBeFoundIn file finding
+      → IsFound remaining is_file is_missing name finding
+  found_in file (Pass parts needs taller) input calls read is =
+      record { reader = reader; reader_after = after; input = input; unread = calls; gave = (file, read, is) }
+  found_in file (Refused parts fault row column) input calls read is =
+      record { reader = reader; reader_after = after; input = input; unread = calls; gave = (file, read, is) }
+  found_in file (NoContent fault sauce) input calls read is =
+      record { reader = reader; reader_after = after; input = input; unread = calls; gave = (file, read, is) }
+  found_in file (Unread why.Memory) input calls read is =
+      record { reader = reader; reader_after = after; input = input; unread = calls; gave = tt }
+  found_in file (Unread why.Unopened) input calls read is = absurd is
+  found_in file (Unread why.ReadFailed) input calls read is = absurd is
+  found_in file (Unread why.TooLong) input calls read is = absurd is
+  found_in file (Unread why.NameNotText) input calls read is = absurd is
+
+  -- a file that was not read to its end
+  pub not_read : (e : RunError) → is_file name (inner_of reader) → call_count reader ≡ 0 → e ≢ error.Write
+      → IsErrOf {T = Vec ℕ Global} (Err e) error.Read ↔ IsTrue (has_failed after)
+      → IfSome (remaining (inner_of reader)) (λ xs. IfSome (remaining (inner_of after)) (λ ys.
+      IsErrOf {T = Vec ℕ Global} (Err e) error.TooLong ↔ (longest_file + length ys < length xs)))
+      → IsFound remaining is_file is_missing name (Unread (unread_of e))
+  not_read error.Read input calls other device long =
+      record { reader = reader; reader_after = after; input = input; unread = calls; gave = device.0 refl }
+  not_read error.TooLong input calls other device long =
+      record {
+        reader = reader;
+        reader_after = after;
+        input = input;
+        unread = calls;
+        gave = go (remaining (inner_of reader)) (remaining (inner_of after)) long;
+      }
+    where
+      go : (a b : Option (List ℕ)) → IfSome a (λ xs. IfSome b (λ ys.
+          IsErrOf {T = Vec ℕ Global} (Err error.TooLong) error.TooLong ↔ (longest_file + length ys < length xs)))
+          → IfSome a (λ xs. IfSome b (λ ys. longest_file + length ys < length xs))
+      go None b h = tt
+      go (Some xs) None h = tt
+      go (Some xs) (Some ys) h = h.0 refl
+  not_read error.Memory input calls other device long =
+      record { reader = reader; reader_after = after; input = input; unread = calls; gave = tt }
+  not_read error.Write input calls other device long = absurd (other refl)
+
+-- ---- texts
+-- a text that was written is a prefix of itself
+pub written_whole : (a b : Option (List ℕ)) (text : List ℕ) → Appends a b text → AppendsPrefix a b text
+written_whole a b text h =
+    let whole : take (length text) text ≡ text = take_all (length text) text (omega arith) in
+    (length text, omega arith, subst (λ (v : List ℕ). Appends a b v) (sym whole) h)
+
+-- a prefix of a text is one of a longer text
+pub prefix_of_longer : (a b : Option (List ℕ)) (text more : List ℕ) → AppendsPrefix a b text
+    → AppendsPrefix a b (text ++ more)
+prefix_of_longer a b text more (n, within, h) = (
+  n,
+  omega (arith, within, length-append text more),
+  subst (λ (v : List ℕ). Appends a b v) (sym (take-append-le n text more within)) h,
+)
+
+-- a prefix after a text that was written
+pub prefix_behind : (a b c : Option (List ℕ)) (front text : List ℕ) → Appends a b front → AppendsPrefix b c text
+    → AppendsPrefix a c (front ++ text)
+prefix_behind a b c front text h (n, within, g) = (
+  length front + n,
+  omega (arith, within, length-append front text),
+  subst (λ (v : List ℕ). Appends a c v) (sym (take-append-add front text n))
+      (Appends-trans a b c front (take n text) h g),
+)
+
+-- ---- rows
+abbrev one_row : Text → Finding → Row
+one_row name finding = record { name = name; finding = finding }
+
+one_text : (name : Text) (finding : Finding) → rows_text (one_row name finding ∷ []) ≡ row_line name finding
+one_text name finding = append-nil (row_line name finding)
+
+module _ {W : Type 0} (contents : W → Option (List ℕ)) (found : Text → Finding → Type 0) (names : List (Bor Text)) where
+  -- the rows of the first i names were written, and counted
+  pub record TellsFirst (i : ℕ) (output output_after : Tried W) (counts : Counts) : Type 0 where
+    pub rows : List Row
+    pub each : All (λ row. found row.name row.finding) rows
+    pub written : Appends (contents (inner_of output)) (contents (inner_of output_after)) (rows_text rows)
+    pub named : texts_of (take i names) ≡ row_names rows
+    pub counted : counts ≡ counts_of (outcomes rows)
+
+  pub none_told : (output : Tried W) (counts : Counts) → counts ≡ counts_of [] → TellsFirst 0 output output counts
+  none_told output counts is = record {
+    rows = [];
+    each = All-nil (λ (row : Row). found row.name row.finding);
+    written = Appends-nil (contents (inner_of output));
+    named = refl;
+    counted = is;
+  }
+
+  -- no more were counted than there are names
+  pub record CountedWithin (i : ℕ) (counts : Counts) : Type 0 where
+    pub files : counts.files ≤ i
+    pub pass : counts.pass ≤ counts.files
+    pub refused : counts.refused ≤ counts.files
+    pub unread : counts.unread ≤ counts.files
+
+  pub counted_within : (i : ℕ) (output after : Tried W) (counts : Counts) → TellsFirst i output after counts
+      → CountedWithin i counts
+  counted_within i output after counts h =
+      let came = outcomes h.rows in
+      let size = ap length h.named in
+      rw h.counted (record {
+        files = omega (
+          arith,
+          size,
+          length-map h.rows (λ (row : Row). row.name),
+          length-map h.rows (λ (row : Row). outcome_of row.finding),
+          length-map (take i names) (λ (w : Bor Text). w.now),
+          length-take i names,
+        );
+        pass = count_by-le-length is_pass came;
+        refused = count_by-le-length is_refused came;
+        unread = count_by-le-length is_unread came;
+      })
+
+  module _ (i : ℕ) (d : Bor Text) (output between : Tried W) (counts : Counts) (h : TellsFirst i output between counts)
+      (lt : i < length names) where
+    next_names : texts_of (take (i + 1) names) ≡ texts_of (take i names) ++ (get_or names i d).now ∷ []
+    next_names = ap texts_of (take_more names i d lt) ∙ map-append _ (take i names) (get_or names i d ∷ [])
+
+    module _ (finding : Finding) (is_found : found (get_or names i d).now finding) where
+      abbrev next : List Row
+      next = h.rows ++ one_row (get_or names i d).now finding ∷ []
+
+      next_each : All (λ row. found row.name row.finding) next
+      next_each = All-push (λ (row : Row). found row.name row.finding) h.rows _ h.each is_found
+
+      next_named : texts_of (take (i + 1) names) ≡ row_names next
+      next_named = next_names ∙ ap (λ (v : List Text). v ++ (get_or names i d).now ∷ []) h.named
+          ∙ sym (map-append (λ (row : Row). row.name) h.rows (one_row (get_or names i d).now finding ∷ []))
+
+      next_outcomes : outcomes next ≡ outcomes h.rows ++ outcome_of finding ∷ []
+      next_outcomes = map-append (λ (row : Row). outcome_of row.finding) h.rows _
+
+      next_text : rows_text next ≡ rows_text h.rows ++ row_line (get_or names i d).now finding
+      next_text = flat_map-append (λ (row : Row). row_line row.name row.finding) h.rows _
+          ∙ ap (λ (v : List ℕ). rows_text h.rows ++ v) (one_text (get_or names i d).now finding)
+
+    -- one more row was written
+    pub one_more : (after : Tried W) (outcome : Outcome) (more : Counts)
+        → WritesRow contents found (get_or names i d).now between after (Ok outcome)
+        → ((before : List Outcome) → counts ≡ counts_of before → more ≡ counts_of (before ++ outcome ∷ []))
+        → TellsFirst (i + 1) output after more
+    one_more after outcome more w adds = record {
+      rows = next w.finding w.is_found;
+      each = next_each w.finding w.is_found;
+      written = subst
+          (λ (v : List ℕ). Appends (contents (inner_of output)) (contents (inner_of after)) v)
+          (sym (next_text w.finding w.is_found))
+          (Appends-trans _ _ _ (rows_text h.rows) (row_line (get_or names i d).now w.finding) h.written w.row);
+      named = next_named w.finding w.is_found;
+      counted = adds (outcomes h.rows) h.counted
+          ∙ ap (λ (o : Outcome). counts_of (outcomes h.rows ++ o ∷ [])) w.outcome
+          ∙ sym (ap counts_of (next_outcomes w.finding w.is_found));
+    }
+
+    -- the device failed at one more
+    pub cut_off : (after : Tried W) (fault : WriteFault)
+        → WritesRow contents found (get_or names i d).now between after (Err fault)
+        → WritesRows contents found (texts_of names) output after (Err fault)
+    cut_off after fault w = record {
+      rows = next w.finding w.is_found;
+      each = next_each w.finding w.is_found;
+      written = subst
+          (λ (v : List ℕ). AppendsPrefix (contents (inner_of output)) (contents (inner_of after)) v)
+          (sym (next_text w.finding w.is_found))
+          (prefix_behind _ _ _ (rows_text h.rows) (row_line (get_or names i d).now w.finding) h.written w.row);
+      later = texts_of (drop (i + 1) names);
+      named = sym (ap texts_of (take-append-drop (i + 1) names))
+          ∙ map-append _ (take (i + 1) names) (drop (i + 1) names)
+          ∙ ap (λ (v : List Text). v ++ texts_of (drop (i + 1) names)) (next_named w.finding w.is_found);
+      all = tt;
+    }
+
+  -- all were written
+  pub all_told : (i : ℕ) (output after : Tried W) (counts : Counts) → TellsFirst i output after counts
+      → length names ≤ i → WritesRows contents found (texts_of names) output after (Ok counts)
+  all_told i output after counts h all = record {
+    rows = h.rows;
+    each = h.each;
+    written = h.written;
+    later = [];
+    named = sym (ap texts_of (take_all i names all)) ∙ h.named ∙ sym (append-nil (row_names h.rows));
+    all = (refl, h.counted);
+  }
+
+-- ---- the text before the rows
+module _ {W : Type 0} (contents : W → Option (List ℕ)) (found : Text → Finding → Type 0) (text : List ℕ)
+    (names : List Text) (output between after : Tried W) where
+  pub rows_behind : (result : Result Counts WriteFault)
+      → Appends (contents (inner_of output)) (contents (inner_of between)) text
+      → WritesRows contents found names between after result → WritesAfter contents found text names output after result
+  rows_behind (Ok counts) h w = record {
+    rows = w.rows;
+    each = w.each;
+    written = Appends-trans _ _ _ text (rows_text w.rows) h w.written;
+    later = w.later;
+    named = w.named;
+    all = w.all;
+  }
+  rows_behind (Err fault) h w = record {
+    rows = w.rows;
+    each = w.each;
+    written = prefix_behind _ _ _ text (rows_text w.rows) h w.written;
+    later = w.later;
+    named = w.named;
+    all = tt;
+  }
+
+  -- the device failed at the text
+  pub text_cut_off : (fault : WriteFault)
+      → AppendsPrefix (contents (inner_of output)) (contents (inner_of after)) text
+      → WritesAfter contents found text names output after (Err fault)
+  text_cut_off fault h = record {
+    rows = [];
+    each = All-nil (λ (row : Row). found row.name row.finding);
+    written = prefix_of_longer _ _ text [] h;
+    later = names;
+    named = refl;
+    all = tt;
+  }

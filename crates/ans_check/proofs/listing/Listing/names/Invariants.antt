@@ -1,0 +1,11 @@
+use Rattle.std.proofs.Common.{◌≡◌, ◌++◌, length}
+use Rattle.ans_options.specs.CommandLine.{texts_of}
+use Rattle.ans_check.specs.Listing.{bytes_of, is_whole, names_in}
+use Rattle.ans_check.proofs.listing.Listing.names.Given as goal
+
+abbrev pub invariant-loop-name : goal.invariant-loop-name
+invariant-loop-name l = names_in (is_whole l.self) (bytes_of l.self)
+    ≡ texts_of l.names.items ++ names_in (is_whole l.self) l.rest
+
+abbrev pub decreases-loop-name : goal.decreases-loop-name
+decreases-loop-name l = length l.rest

@@ -1,0 +1,106 @@
+-- The table of many files.
+use Rattle.std.specs.Prelude.{◌≡◌, ℕ, ◌+◌, ◌<◌, List, [], ◌++◌, length, map, All, Option, Result, IfOk, IfSome}
+use Rattle.std.specs.Prelude.{⊤}
+use Rattle.std.specs.Prelude.{IsTrue}
+use Rattle.std.specs.Str.{IsUtf8}
+use Rattle.clap.specs.Words.{Text}
+use Rattle.ans_model.specs.Bytes.{longest_file}
+use Rattle.ans_options.specs.declared.command.TableForm.{TableForm}
+use Rattle.ans_options.specs.declared.command.TableForm.TheVariants.{Headed, Bare}
+use Rattle.ans_table.specs.declared.counts.Counts.{Counts}
+use Rattle.ans_table.specs.declared.counts.Outcome.{Outcome}
+use Rattle.ans_table.specs.declared.finding.Finding.{Finding}
+use Rattle.ans_table.specs.declared.finding.Finding.TheVariants.{Unread}
+use Rattle.ans_table.specs.declared.finding.Unread as unread
+use Rattle.ans_table.specs.declared.finding.Unread.TheVariants as why
+use Rattle.ans_table.specs.Counting.{counts_of}
+use Rattle.ans_table.specs.Findings.{IsFindingOf, outcome_of}
+use Rattle.ans_table.specs.RowText.{Row, header_line, row_line, rows_text}
+use Rattle.ans_write.specs.Tried.{call_count, has_failed, inner_of}
+use Rattle.ans_write.specs.Writes.{WritesText}
+use Rattle.ans_write.specs.declared.outbox.WriteFault.{WriteFault}
+use Rattle.ans_write.specs.declared.tried.Tried.{Tried}
+use Rattle.ans_check.specs.Run.{HasRead}
+use Rattle.ans_check.specs.declared.errors.RunError.{RunError}
+use Rattle.ans_check.specs.declared.errors.RunError.TheVariants as error
+
+-- what is found of a file that was read: what is true of it, or that memory ran out
+abbrev pub MayBeFoundIn : List ℕ → Finding → Type 0
+MayBeFoundIn file (Unread why.Memory) = ⊤
+MayBeFoundIn file finding = IsFindingOf file finding
+
+-- why a file was not read, by what its reading came to
+abbrev pub unread_of : RunError → unread.Unread
+unread_of error.Read = why.ReadFailed
+unread_of error.TooLong = why.TooLong
+unread_of error.Memory = why.Memory
+unread_of error.Write = why.ReadFailed
+
+-- What a reader gave of a file: a failure; more bytes than a file may have; or all bytes of it, of which this is true.
+abbrev pub Gave : {R : Type 0} → (R → Option (List ℕ)) → Tried R → Tried R → Finding → Type 0
+Gave remaining reader after (Unread why.ReadFailed) = IsTrue (has_failed after)
+Gave remaining reader after (Unread why.TooLong) =
+    IfSome (remaining (inner_of reader)) (λ xs. IfSome (remaining (inner_of after)) (λ ys.
+    longest_file + length ys < length xs))
+Gave remaining reader after (Unread why.Memory) = ⊤
+Gave remaining reader after finding =
+    (file : List ℕ) × HasRead (remaining (inner_of reader)) (remaining (inner_of after)) file × IsFindingOf file finding
+
+-- the file was opened, and this is found by its reader
+pub record IsRead {R : Type 0} (remaining : R → Option (List ℕ)) (is_file : R → Type 0)
+    (finding : Finding) : Type 0 where
+  pub reader : Tried R
+  pub reader_after : Tried R
+  pub input : is_file (inner_of reader)
+  pub unread : call_count reader ≡ 0
+  pub gave : Gave remaining reader reader_after finding
+
+-- What is found of the file of this name: that the name is no text, that the file cannot be opened, or what was read.
+abbrev pub IsFound : {R : Type 0} → (R → Option (List ℕ)) → (Text → R → Type 0) → (Text → Type 0) → Text → Finding
+    → Type 0
+IsFound remaining is_file is_missing name (Unread why.NameNotText) = ¬ IsUtf8 name
+IsFound remaining is_file is_missing name (Unread why.Unopened) = is_missing name
+IsFound remaining is_file is_missing name finding = IsRead remaining (is_file name) finding
+
+-- the row of one file was written, or a prefix of it
+pub record WritesRow {W : Type 0} (contents : W → Option (List ℕ)) (found : Text → Finding → Type 0) (name : Text)
+    (output output_after : Tried W) (result : Result Outcome WriteFault) : Type 0 where
+  pub finding : Finding
+  pub is_found : found name finding
+  pub row : WritesText (contents (inner_of output)) (contents (inner_of output_after)) result (row_line name finding)
+  pub outcome : IfOk result (λ o. o ≡ outcome_of finding)
+
+-- how the files of rows came out
+abbrev pub outcomes : List Row → List Outcome
+outcomes rows = map (λ row. outcome_of row.finding) rows
+
+-- the names of the files of rows
+abbrev pub row_names : List Row → List Text
+row_names rows = map (λ row. row.name) rows
+
+-- The text was written before the rows of files: at `Ok` of all that are named, and else of the first, with a prefix of
+-- the whole. Each row tells what is found of its file.
+pub record WritesAfter {W : Type 0} (contents : W → Option (List ℕ)) (found : Text → Finding → Type 0) (text : List ℕ)
+    (names : List Text) (output output_after : Tried W) (result : Result Counts WriteFault) : Type 0 where
+  pub rows : List Row
+  pub each : All (λ row. found row.name row.finding) rows
+  pub written : WritesText (contents (inner_of output)) (contents (inner_of output_after)) result
+      (text ++ rows_text rows)
+  pub later : List Text
+  pub named : names ≡ row_names rows ++ later
+  pub all : IfOk result (λ counts. (later ≡ []) × (counts ≡ counts_of (outcomes rows)))
+
+abbrev pub WritesRows : {W : Type 0} → (W → Option (List ℕ)) → (Text → Finding → Type 0) → List Text → Tried W
+    → Tried W → Result Counts WriteFault → Type 0
+WritesRows contents found names output output_after result =
+    WritesAfter contents found [] names output output_after result
+
+-- the line of the columns' names, where the form asks for it
+abbrev pub header : TableForm → List ℕ
+header Headed = header_line
+header Bare = []
+
+abbrev pub WritesTable : {W : Type 0} → (W → Option (List ℕ)) → (Text → Finding → Type 0) → TableForm → List Text
+    → Tried W → Tried W → Result Counts WriteFault → Type 0
+WritesTable contents found form names output output_after result =
+    WritesAfter contents found (header form) names output output_after result

@@ -1,0 +1,44 @@
+use Rattle.std.proofs.Common.{◌∙◌, ◌≡◌, [], ap, map, subst, sym, List, Option}
+use Rattle.std.proofs.lemmas.Result.{IfErr-weaker, IfOk-weaker, err_from_is_err_and}
+use Rattle.std.specs.Prelude.{IfOk, IsSomeAnd, string_bytes}
+use Rattle.clap.specs.Words.{Kinds, Row, Text, fault_of, subcommand_of, takes}
+use Rattle.ans_options.specs.CommandLine.{HasKindAmong, anscheck, faults_of, files_of, texts_of}
+use Rattle.ans_options.proofs.ErrorLemmas.{ran_out}
+use Rattle.ans_options.proofs.command_line.table_names.Goals as goal
+
+pub returns-clause-ok : goal.returns-clause-ok
+returns-clause-ok c =
+    let is = ap texts_of c.as_slice.ensures.value ∙ c.in-Ok.ensures in
+    let same = c.in_ok-matches.ensures.met ∙ ap (λ (w : List Text). subcommand_of anscheck w) is in
+    subst (λ (s : Option (Text × List Row)). IfOk c.read_names.result
+    (λ v. IsSomeAnd s (λ p. map string_bytes v.items ≡ files_of p.1))) same c.read_names.ensures.ok
+
+pub returns-clause-accepted : goal.returns-clause-accepted
+returns-clause-accepted c =
+    let is = ap texts_of c.as_slice.ensures.value ∙ c.in-Ok.ensures in
+    let none : faults_of (texts_of c.args.words.now) ≡ [] =
+    sym (ap (λ (w : List Text). fault_of anscheck w) is) ∙ c.in_ok-matches.ensures.accepted in
+    IfOk-weaker c.read_names.result _ _ (λ r asked. none) (returns-clause-ok c)
+
+pub returns-clause-kinds : goal.returns-clause-kinds
+returns-clause-kinds c =
+    IfErr-weaker c.read_names.result _ _ (λ e is. rw is tt) c.read_names.ensures.memory
+
+pub returns-in_err-matches-clause-refuses : goal.returns-in_err-matches-clause-refuses
+returns-in_err-matches-clause-refuses c =
+    let is = ap texts_of c.as_slice.ensures.value ∙ c.in-Ok.ensures in
+    let (e, at, same) = err_from_is_err_and c.from_residual.result c.from_residual.ensures.1 in
+    rw (at, same) (λ taken. c.in_err-matches.ensures.refuses (ap (λ (w : List Text). takes anscheck w) is ∙ taken))
+
+pub returns-in_err-matches-clause-kinds : goal.returns-in_err-matches-clause-kinds
+returns-in_err-matches-clause-kinds c =
+    let is = ap texts_of c.as_slice.ensures.value ∙ c.in-Ok.ensures in
+    let (e, at, same) = err_from_is_err_and c.from_residual.result c.from_residual.ensures.1 in
+    rw (at, same)
+    (subst (λ (k : Kinds). HasKindAmong k c.in_err-matches.field-0.0) (ap (λ (w : List Text). fault_of anscheck w) is)
+    c.in_err-matches.ensures.kinds)
+
+pub returns-in_err-matches-clause-faultless : goal.returns-in_err-matches-clause-faultless
+returns-in_err-matches-clause-faultless c =
+    IfErr-weaker c.from_residual.result _ _ (λ e has none. ran_out _ e has none)
+    (returns-in_err-matches-clause-kinds c)

@@ -1,0 +1,11 @@
+-- Counts, and the line of them by the pieces that are put.
+use Rattle.std.proofs.Common.{◌≡◌, ℕ, List, ◌++◌, codes, append_assoc}
+use Rattle.ans_model.specs.Text.RecordText.{named_line}
+
+pub counts_line : (files word pass refused unread : List ℕ)
+    → codes "anscheck: " ++ (files ++ (word ++ (pass ++ (codes " pass, "
+    ++ (refused ++ (codes " refused, " ++ (unread ++ codes " not read\n")))))))
+    ≡ named_line (codes "anscheck")
+    (files ++ (word ++ (pass ++ (codes " pass, "
+    ++ (refused ++ (codes " refused, " ++ (unread ++ codes " not read")))))))
+counts_line files word pass refused unread = simp append_assoc

@@ -1,0 +1,6 @@
+use Rattle.ans_write.proofs.PutsLemmas.{Puts-then}
+use Rattle.ans_table.proofs.columns.put_size.Goals as goal
+
+pub returns : goal.returns
+returns g c =
+    Puts-then (rw c.stated_width.ensures at c.put_number.ensures) (rw c.stated_lines.ensures at c.put_number-2.ensures)

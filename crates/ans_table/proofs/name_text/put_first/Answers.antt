@@ -1,0 +1,15 @@
+use Rattle.std.proofs.Common.{◌≡◌, arith, get_or}
+use Rattle.ans_table.specs.NameText.{byte_escape}
+use Rattle.ans_table.proofs.NameLemmas.{escaped_first}
+use Rattle.ans_table.proofs.name_text.put_first.Goals as goal
+
+pub returns : goal.returns
+returns g c =
+    let rest = c.args.rest.now in
+    let none : c.args.copied ≡ 0 = omega (arith, c.if-copied-gt0.false) in
+    rw none (
+      byte_escape (get_or rest 0 0),
+      c.put_byte_escape.ensures,
+      escaped_first rest c.requires (omega (arith, c.if-byte-lt128.false))
+          (rw c.wide_size-size.ensures at c.if-size-gt0.false),
+    )

@@ -1,0 +1,105 @@
+-- The columns of a row before the file's name, each with a tab behind it. A value that is absent is empty.
+use Rattle.std.specs.Prelude.{ℕ, ◌/◌, ◌%◌, ◌==◌, Bool, true, false, List, [], ◌∷◌, ◌++◌, length, codes, decimal}
+use Rattle.std.specs.Prelude.{Option, Some, None, if◌then◌else◌}
+use Rattle.std.specs.List.{before_first, flat_map}
+use Rattle.ans_model.specs.Bytes.{blank}
+use Rattle.ans_model.specs.declared.fault.Cause.{Cause}
+use Rattle.ans_model.specs.declared.fault.Fault.{Fault}
+use Rattle.ans_model.specs.File.Record.{author_field, date_field, flags, font_field, group_field, stated_lines}
+use Rattle.ans_model.specs.File.Record.{stated_width, title_field, trimmed}
+use Rattle.ans_model.specs.Text.Characters.{shown_bytes}
+use Rattle.ans_model.specs.Text.FaultText.{fault_text}
+use Rattle.ans_sauce.specs.declared.parts.Parts.{Parts}
+use Rattle.ans_sauce.specs.Parts.{content_of, notes_of}
+use Rattle.ans_table.specs.declared.finding.Finding.{Finding}
+use Rattle.ans_table.specs.declared.finding.Finding.TheVariants.{Pass, Refused, NoContent, Unread}
+use Rattle.ans_table.specs.Findings.{unread_text}
+use Rattle.ans_table.specs.Words.{needs_text, notes_text}
+
+abbrev pub tab : ℕ
+tab = 0x09
+
+-- a text, and the tab behind it
+abbrev pub column : List ℕ → List ℕ
+column text = text ++ tab ∷ []
+
+-- yes or no
+abbrev pub ice_text : Bool → List ℕ
+ice_text true = codes "yes"
+ice_text false = codes "no"
+
+-- the number of a fault, as `F20`: its text up to the first blank
+abbrev pub fault_number : Cause → List ℕ
+fault_number cause = before_first (λ b. b == blank) (fault_text cause)
+
+-- the columns from the verdict to the fault's offset: `needs` and `taller` are empty
+abbrev pub fault_columns : Fault → List ℕ
+fault_columns fault =
+    column (codes "refused") ++ (tab ∷ tab ∷ (column (fault_number fault.cause) ++ column (decimal fault.offset)))
+
+-- the columns from the verdict to the place of the fault
+abbrev pub verdict_columns : Finding → List ℕ
+verdict_columns (Pass parts needs taller) =
+    column (codes "pass")
+    ++ (column (needs_text needs) ++ (column (ice_text taller) ++ tab ∷ tab ∷ tab ∷ tab ∷ []))
+verdict_columns (Refused parts fault row column_number) =
+    fault_columns fault ++ (column (decimal row) ++ column (decimal column_number))
+verdict_columns (NoContent fault sauce) = fault_columns fault ++ tab ∷ tab ∷ []
+verdict_columns (Unread reason) =
+    column (codes "error") ++ (tab ∷ tab ∷ (column (unread_text reason) ++ tab ∷ tab ∷ tab ∷ []))
+
+-- the width in columns and the number of lines; a width of 0 is 80
+abbrev pub size_columns : List ℕ → List ℕ
+size_columns sauce = column (decimal (stated_width sauce)) ++ column (decimal (stated_lines sauce))
+
+abbrev pub stated_columns : Option (List ℕ) → List ℕ
+stated_columns (Some sauce) = size_columns sauce
+stated_columns None = tab ∷ tab ∷ []
+
+-- the length of the content in bytes, and the notes
+abbrev pub parts_columns : Parts → List ℕ
+parts_columns parts = column (decimal (length (content_of parts))) ++ column (notes_text (notes_of parts))
+
+abbrev pub content_columns : Finding → List ℕ
+content_columns (Pass parts needs taller) = parts_columns parts
+content_columns (Refused parts fault row column_number) = parts_columns parts
+content_columns (NoContent fault sauce) = tab ∷ tab ∷ []
+content_columns (Unread reason) = tab ∷ tab ∷ []
+
+-- bits 1 and 2 of the flags: letters of 8 or of 9 pixels, where they say which
+abbrev pub spacing_text : ℕ → List ℕ
+spacing_text flags = let pair = flags / 2 % 4 in
+    if pair == 1 then codes "8" else if pair == 2 then codes "9" else []
+
+-- bits 3 and 4 of the flags: pixels to be stretched, or square ones, where they say which
+abbrev pub aspect_text : ℕ → List ℕ
+aspect_text flags = let pair = flags / 8 % 4 in
+    if pair == 1 then codes "stretch" else if pair == 2 then codes "square" else []
+
+-- whether bit 7 of an attribute is a bright background (bit 0), the spacing and the aspect
+abbrev pub flag_columns : ℕ → List ℕ
+flag_columns flags =
+    column (ice_text (flags % 2 == 1)) ++ (column (spacing_text flags) ++ column (aspect_text flags))
+
+-- a byte of a text by its character; a backslash is `\\`
+abbrev pub escaped_byte : ℕ → List ℕ
+escaped_byte byte = if byte == 0x5C then 0x5C ∷ 0x5C ∷ [] else shown_bytes (byte ∷ [])
+
+abbrev pub escaped_text : List ℕ → List ℕ
+escaped_text text = flat_map escaped_byte text
+
+-- the text of a field
+abbrev pub field_column : List ℕ → List ℕ
+field_column field = column (escaped_text (trimmed field))
+
+-- font, date, title, author and group
+abbrev pub field_columns : List ℕ → List ℕ
+field_columns sauce =
+    field_column (font_field sauce)
+    ++ (field_column (date_field sauce)
+    ++ (field_column (title_field sauce) ++ (field_column (author_field sauce) ++ field_column (group_field sauce))))
+
+-- the columns of the flags and of the texts
+abbrev pub record_columns : Option (List ℕ) → List ℕ
+record_columns (Some sauce) = flag_columns (flags sauce) ++ field_columns sauce
+record_columns None = tab ∷ tab ∷ tab ∷ tab ∷ tab ∷ tab ∷ tab ∷ tab ∷ []

@@ -1,0 +1,43 @@
+-- How many files came out how.
+use Rattle.std.specs.Prelude.{ℕ, ◌==◌, Bool, true, false, nat_lt, List, ◌++◌, length, codes, decimal, if◌then◌else◌}
+use Rattle.std.specs.List.{count_by}
+use Rattle.ans_table.specs.declared.counts.Counts.{Counts}
+use Rattle.ans_table.specs.declared.counts.Outcome.{Outcome}
+use Rattle.ans_table.specs.declared.counts.Outcome.TheVariants.{Pass, Refused, Unread}
+
+abbrev pub is_pass : Outcome → Bool
+is_pass Pass = true
+is_pass _ = false
+
+abbrev pub is_refused : Outcome → Bool
+is_refused Refused = true
+is_refused _ = false
+
+abbrev pub is_unread : Outcome → Bool
+is_unread Unread = true
+is_unread _ = false
+
+-- how many there are, and how many of each
+abbrev pub counts_of : List Outcome → Counts
+counts_of outcomes = record {
+  files = length outcomes;
+  pass = count_by is_pass outcomes;
+  refused = count_by is_refused outcomes;
+  unread = count_by is_unread outcomes;
+}
+
+-- 2 where one was not read, else 1 where one is refused, else 0
+abbrev pub counts_status : Counts → ℕ
+counts_status c = if nat_lt 0 c.unread then 2 else if nat_lt 0 c.refused then 1 else 0
+
+-- one file, or another number of files
+abbrev pub files_word : ℕ → List ℕ
+files_word files = if files == 1 then codes " file: " else codes " files: "
+
+-- the counts in words
+abbrev pub counts_text : Counts → List ℕ
+counts_text c =
+    decimal c.files
+    ++ (files_word c.files
+    ++ (decimal c.pass ++ (codes " pass, "
+    ++ (decimal c.refused ++ (codes " refused, " ++ (decimal c.unread ++ codes " not read"))))))

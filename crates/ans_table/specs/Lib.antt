@@ -1,0 +1,6 @@
+pub mod Words
+pub mod Findings
+pub mod Columns
+pub mod NameText
+pub mod RowText
+pub mod Counting

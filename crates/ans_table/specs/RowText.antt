@@ -1,0 +1,35 @@
+-- The lines of a table.
+use Rattle.std.specs.Prelude.{ℕ, List, [], ◌∷◌, ◌++◌, codes}
+use Rattle.std.specs.List.{flat_map}
+use Rattle.ans_model.specs.Text.FaultText.{line_of}
+use Rattle.ans_table.specs.declared.finding.Finding.{Finding}
+use Rattle.ans_table.specs.Columns.{column, content_columns, record_columns, stated_columns, verdict_columns}
+use Rattle.ans_table.specs.Findings.{sauce_of}
+use Rattle.ans_table.specs.NameText.{name_text}
+
+-- the names of the columns but the last
+abbrev pub column_names : List (List ℕ)
+column_names =
+    codes "verdict" ∷ codes "needs" ∷ codes "taller" ∷ codes "fault" ∷ codes "at" ∷ codes "row" ∷ codes "column"
+    ∷ codes "width" ∷ codes "lines" ∷ codes "content" ∷ codes "notes" ∷ codes "ice" ∷ codes "spacing" ∷ codes "aspect"
+    ∷ codes "font" ∷ codes "date" ∷ codes "title" ∷ codes "author" ∷ codes "group" ∷ []
+
+-- the line of the columns' names
+abbrev pub header_line : List ℕ
+header_line = flat_map column column_names ++ line_of (codes "file")
+
+-- the row of a file of this name
+abbrev pub row_line : List ℕ → Finding → List ℕ
+row_line name finding =
+    verdict_columns finding
+    ++ (stated_columns (sauce_of finding)
+    ++ (content_columns finding ++ (record_columns (sauce_of finding) ++ line_of (name_text name))))
+
+-- a file's name, and what is found of it
+pub record Row : Type 0 where
+  pub name : List ℕ
+  pub finding : Finding
+
+-- the rows, in their order
+abbrev pub rows_text : List Row → List ℕ
+rows_text rows = flat_map (λ row. row_line row.name row.finding) rows

@@ -1,0 +1,235 @@
+//! The columns of a row.
+
+ghost use Rattle.std.specs.Prelude.{◌≡◌, option_map, decimal};
+ghost use Rattle.ans_model.specs.File.Record.{stated_lines, stated_width};
+ghost use Rattle.ans_sauce.specs.RecordBytes.{bytes_of};
+ghost use Rattle.ans_write.specs.Puts.{Puts};
+ghost use Rattle.ans_table.specs.Columns.{aspect_text, column, content_columns, escaped_byte, escaped_text};
+ghost use Rattle.ans_table.specs.Columns.{fault_columns};
+ghost use Rattle.ans_table.specs.Columns.{fault_number, field_columns, flag_columns, ice_text, parts_columns};
+ghost use Rattle.ans_table.specs.Columns.{record_columns, size_columns, spacing_text, stated_columns, verdict_columns};
+
+use crate::finding::Finding;
+use crate::words::{put_needs, put_notes};
+use ans_model::fault::Fault;
+use ans_report::fault_text;
+use ans_sauce::{Parts, Record};
+use ans_write::{Outbox, put_characters};
+use memchr::memchr;
+use std::io::Write;
+
+fn put_column<W: Write>(out: &mut Outbox<'_, W>, text: &[u8])
+    ensures { Puts W.contents out.old out.new (column text.now) }
+{
+    out.put(text);
+    out.put(b"\t");
+}
+
+fn put_number<W: Write>(out: &mut Outbox<'_, W>, number: usize)
+    ensures { Puts W.contents out.old out.new (column (decimal number)) }
+{
+    out.put_decimal(number as u64);
+    out.put(b"\t");
+}
+
+/// The number of a fault, as `F20`: its text up to the first blank.
+fn fault_number(fault: &Fault) -> &'static [u8]
+    ensures { result.now ≡ fault_number fault.now.cause }
+{
+    let text = fault_text(fault).as_bytes();
+    let end = memchr(b' ', text).unwrap_or(text.len());
+    let (number, _) = text.split_at(end);
+    number
+}
+
+fn put_fault<W: Write>(out: &mut Outbox<'_, W>, fault: &Fault)
+    ensures { Puts W.contents out.old out.new (fault_columns fault.now) }
+{
+    out.put(b"refused\t\t\t");
+    put_column(out, fault_number(fault));
+    put_number(out, fault.offset);
+}
+
+fn answer(yes: bool) -> &'static [u8]
+    ensures { result.now ≡ ice_text yes }
+{
+    if yes { b"yes" } else { b"no" }
+}
+
+/// The columns from the verdict to the place of the fault.
+pub(crate) fn put_verdict<W: Write>(out: &mut Outbox<'_, W>, finding: &Finding<'_>)
+    ensures { Puts W.contents out.old out.new (verdict_columns finding.now) }
+{
+    match finding {
+        Finding::Pass {
+            parts: _,
+            needs,
+            taller,
+        } => {
+            out.put(b"pass\t");
+            put_needs(out, *needs);
+            out.put(b"\t");
+            put_column(out, answer(*taller));
+            out.put(b"\t\t\t\t");
+        }
+        Finding::Refused {
+            parts: _,
+            fault,
+            row,
+            column,
+        } => {
+            put_fault(out, fault);
+            put_number(out, *row);
+            put_number(out, *column);
+        }
+        Finding::NoContent { fault, sauce: _ } => {
+            put_fault(out, fault);
+            out.put(b"\t\t");
+        }
+        Finding::Unread(why) => {
+            out.put(b"error\t\t\t");
+            put_column(out, why.text().as_bytes());
+            out.put(b"\t\t\t");
+        }
+    }
+}
+
+/// The stated width in columns. 0 counts as 80.
+fn stated_width(sauce: &Record<'_>) -> usize
+    ensures { result ≡ stated_width (bytes_of sauce.now) }
+{
+    match sauce.tinfo(1) {
+        0 => 80,
+        width => width as usize,
+    }
+}
+
+fn stated_lines(sauce: &Record<'_>) -> usize
+    ensures { result ≡ stated_lines (bytes_of sauce.now) }
+{
+    sauce.tinfo(2) as usize
+}
+
+fn put_size<W: Write>(out: &mut Outbox<'_, W>, sauce: &Record<'_>)
+    ensures { Puts W.contents out.old out.new (size_columns (bytes_of sauce.now)) }
+{
+    put_number(out, stated_width(sauce));
+    put_number(out, stated_lines(sauce));
+}
+
+/// The columns of the stated size.
+pub(crate) fn put_stated_size<W: Write>(out: &mut Outbox<'_, W>, sauce: Option<Record<'_>>)
+    ensures { Puts W.contents out.old out.new (stated_columns (option_map bytes_of sauce.entry)) }
+{
+    match sauce {
+        Some(sauce) => put_size(out, &sauce),
+        None => out.put(b"\t\t"),
+    }
+}
+
+fn put_parts<W: Write>(out: &mut Outbox<'_, W>, parts: &Parts<'_>)
+    ensures { Puts W.contents out.old out.new (parts_columns parts.now) }
+{
+    put_number(out, parts.content().len());
+    put_notes(out, parts.notes().as_slice());
+    out.put(b"\t");
+}
+
+/// The columns of the content's length and of the notes.
+pub(crate) fn put_content<W: Write>(out: &mut Outbox<'_, W>, finding: &Finding<'_>)
+    ensures { Puts W.contents out.old out.new (content_columns finding.now) }
+{
+    match finding {
+        Finding::Pass {
+            parts,
+            needs: _,
+            taller: _,
+        } => put_parts(out, parts),
+        Finding::Refused {
+            parts,
+            fault: _,
+            row: _,
+            column: _,
+        } => put_parts(out, parts),
+        Finding::NoContent { fault: _, sauce: _ } => out.put(b"\t\t"),
+        Finding::Unread(_) => out.put(b"\t\t"),
+    }
+}
+
+/// Bits 1 and 2 of the flags.
+fn spacing(flags: u8) -> &'static [u8]
+    ensures { result.now ≡ spacing_text flags }
+{
+    match flags / 2 % 4 {
+        1 => b"8",
+        2 => b"9",
+        _ => b"",
+    }
+}
+
+/// Bits 3 and 4 of the flags.
+fn aspect(flags: u8) -> &'static [u8]
+    ensures { result.now ≡ aspect_text flags }
+{
+    match flags / 8 % 4 {
+        1 => b"stretch",
+        2 => b"square",
+        _ => b"",
+    }
+}
+
+fn put_flags<W: Write>(out: &mut Outbox<'_, W>, flags: u8)
+    ensures { Puts W.contents out.old out.new (flag_columns flags) }
+{
+    put_column(out, answer(flags % 2 == 1));
+    put_column(out, spacing(flags));
+    put_column(out, aspect(flags));
+}
+
+fn put_escaped_byte<W: Write>(out: &mut Outbox<'_, W>, byte: u8)
+    ensures { Puts W.contents out.old out.new (escaped_byte byte) }
+{
+    if byte == b'\\' {
+        out.put(b"\\\\");
+        return;
+    }
+    put_characters(out, &[byte]);
+}
+
+fn put_escaped<W: Write>(out: &mut Outbox<'_, W>, text: &[u8])
+    ensures { Puts W.contents out.old out.new (escaped_text text.now) }
+{
+    for byte in text {
+        put_escaped_byte(out, *byte);
+    }
+}
+
+fn put_field<W: Write>(out: &mut Outbox<'_, W>, text: &[u8])
+    ensures { Puts W.contents out.old out.new (column (escaped_text text.now)) }
+{
+    put_escaped(out, text);
+    out.put(b"\t");
+}
+
+fn put_fields<W: Write>(out: &mut Outbox<'_, W>, sauce: &Record<'_>)
+    ensures { Puts W.contents out.old out.new (field_columns (bytes_of sauce.now)) }
+{
+    put_field(out, sauce.font());
+    put_field(out, sauce.date());
+    put_field(out, sauce.title());
+    put_field(out, sauce.author());
+    put_field(out, sauce.group());
+}
+
+/// The columns of the record's flags and texts.
+pub(crate) fn put_record<W: Write>(out: &mut Outbox<'_, W>, sauce: Option<Record<'_>>)
+    ensures { Puts W.contents out.old out.new (record_columns (option_map bytes_of sauce.entry)) }
+{
+    match sauce {
+        Some(sauce) => {
+            put_flags(out, sauce.flags());
+            put_fields(out, &sauce);
+        }
+        None => out.put(b"\t\t\t\t\t\t\t\t"),
+    }
+}

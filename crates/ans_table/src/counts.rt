@@ -1,0 +1,108 @@
+//! How many files came out how.
+
+ghost use Rattle.std.specs.Prelude.{◌≡◌, ◌<◌, ◌≤◌, ◌↔◌, ◌++◌, [], ◌∷◌, false, length, IsTrue, IsErr, List};
+ghost use Rattle.ans_write.specs.Tried.{has_failed, inner_of};
+ghost use Rattle.ans_write.specs.Writes.{WritesText};
+ghost use Rattle.ans_write.specs.Puts.{Puts};
+ghost use Rattle.ans_report.specs.Message.{message_line};
+ghost use Rattle.ans_table.specs.Counting.{counts_of, counts_status, counts_text, files_word};
+ghost use Rattle.ans_table.specs.declared.counts.Outcome.{Outcome};
+
+use ans_write::{Outbox, Tried, WriteFault};
+use std::io::Write;
+
+/// How a file came out.
+#[derive(Debug, Clone, Copy, PartialEq, Eq)]
+pub enum Outcome {
+    /// It passes from the cleared start.
+    Pass,
+    /// It is refused.
+    Refused,
+    /// It was not read.
+    Unread,
+}
+
+/// How many files there are, and how many of them came out how.
+#[derive(Debug, Clone, Copy, PartialEq, Eq)]
+pub struct Counts {
+    pub files: usize,
+    pub pass: usize,
+    pub refused: usize,
+    pub unread: usize,
+}
+
+impl Counts {
+    /// No file.
+    pub const NONE: Counts = Counts {
+        files: 0,
+        pass: 0,
+        refused: 0,
+        unread: 0,
+    };
+
+    /// One file more.
+    pub fn add(&mut self, outcome: Outcome)
+        requires room { self.old.files < usize.MAX }
+        requires pass { self.old.pass ≤ self.old.files }
+        requires refused { self.old.refused ≤ self.old.files }
+        requires unread { self.old.unread ≤ self.old.files }
+        ensures { (before : List Outcome) → self.old ≡ counts_of before
+            → self.new ≡ counts_of (before ++ outcome ∷ []) }
+    {
+        self.files += 1;
+        match outcome {
+            Outcome::Pass => self.pass += 1,
+            Outcome::Refused => self.refused += 1,
+            Outcome::Unread => self.unread += 1,
+        }
+    }
+
+    /// The exit status: 0 where all files pass, 1 where one is refused and all were read, and 2 where
+    /// one was not read.
+    pub fn status(&self) -> u8
+        ensures { result ≡ counts_status self.now }
+    {
+        if self.unread > 0 {
+            2
+        } else if self.refused > 0 {
+            1
+        } else {
+            0
+        }
+    }
+}
+
+fn files_word(files: usize) -> &'static [u8]
+    ensures { result.now ≡ files_word files }
+{
+    if files == 1 { b" file: " } else { b" files: " }
+}
+
+fn put_counts<W: Write>(out: &mut Outbox<'_, W>, counts: &Counts)
+    ensures { Puts W.contents out.old out.new (message_line (counts_text counts.now)) }
+{
+    out.put(b"anscheck: ");
+    out.put_decimal(counts.files as u64);
+    out.put(files_word(counts.files));
+    out.put_decimal(counts.pass as u64);
+    out.put(b" pass, ");
+    out.put_decimal(counts.refused as u64);
+    out.put(b" refused, ");
+    out.put_decimal(counts.unread as u64);
+    out.put(b" not read\n");
+}
+
+/// Writes the line that says on standard error how many files came out how.
+///
+/// `Err` comes exactly where the device failed in the call, and then a prefix of the line was
+/// written.
+pub fn write_counts<W: Write>(writer: &mut Tried<W>, counts: &Counts) -> Result<(), WriteFault>
+    requires works { has_failed writer.old ≡ false }
+    ensures device { IsErr result ↔ IsTrue (has_failed writer.new) }
+    ensures bytes { WritesText (W.contents (inner_of writer.old)) (W.contents (inner_of writer.new))
+        result (message_line (counts_text counts.now)) }
+{
+    let mut out = Outbox::new(writer);
+    put_counts(&mut out, counts);
+    out.finish()
+}

@@ -1,0 +1,86 @@
+//! The rows of a table.
+
+ghost use Rattle.std.specs.Prelude.{◌≡◌, ◌↔◌, false, option_map, IsTrue, IsErr};
+ghost use Rattle.ans_sauce.specs.RecordBytes.{bytes_of};
+ghost use Rattle.ans_write.specs.Tried.{has_failed, inner_of};
+ghost use Rattle.ans_write.specs.Writes.{WritesText};
+ghost use Rattle.ans_write.specs.Puts.{Puts};
+ghost use Rattle.ans_table.specs.Findings.{sauce_of};
+ghost use Rattle.ans_table.specs.RowText.{header_line, row_line};
+
+use crate::columns::{put_content, put_record, put_stated_size, put_verdict};
+use crate::finding::Finding;
+use crate::name_text::put_name;
+use ans_sauce::Record;
+use ans_write::{Outbox, Tried, WriteFault};
+use std::io::Write;
+
+/// The columns' names.
+const HEADER: &[u8] =
+    b"verdict\tneeds\ttaller\tfault\tat\trow\tcolumn\twidth\tlines\tcontent\tnotes\t\
+    ice\tspacing\taspect\tfont\tdate\ttitle\tauthor\tgroup\tfile\n";
+
+/// The record of the file, where one was read.
+fn sauce_of<'a>(finding: &Finding<'a>) -> Option<Record<'a>>
+    ensures { option_map bytes_of result ≡ sauce_of finding.now }
+{
+    match finding {
+        Finding::Pass {
+            parts,
+            needs: _,
+            taller: _,
+        } => Some(parts.sauce()),
+        Finding::Refused {
+            parts,
+            fault: _,
+            row: _,
+            column: _,
+        } => Some(parts.sauce()),
+        Finding::NoContent { fault: _, sauce } => *sauce,
+        Finding::Unread(_) => None,
+    }
+}
+
+fn put_row<W: Write>(out: &mut Outbox<'_, W>, name: &[u8], finding: &Finding<'_>)
+    ensures { Puts W.contents out.old out.new (row_line name.now finding.now) }
+{
+    let sauce = sauce_of(finding);
+    put_verdict(out, finding);
+    put_stated_size(out, sauce);
+    put_content(out, finding);
+    put_record(out, sauce);
+    put_name(out, name);
+    out.put(b"\n");
+}
+
+/// Writes the row of a file of this name: its columns with a tab after each, and then the name.
+///
+/// `Err` comes exactly where the device failed in the call, and then a prefix of the row was written.
+pub fn write_row<W: Write>(
+    w: &mut Tried<W>,
+    name: &[u8],
+    finding: &Finding<'_>,
+) -> Result<(), WriteFault>
+    requires { has_failed w.old ≡ false }
+    ensures device { IsErr result ↔ IsTrue (has_failed w.new) }
+    ensures bytes { WritesText (W.contents (inner_of w.old)) (W.contents (inner_of w.new))
+        result (row_line name.now finding.now) }
+{
+    let mut out = Outbox::new(w);
+    put_row(&mut out, name, finding);
+    out.finish()
+}
+
+/// Writes the line of the columns' names.
+///
+/// `Err` comes exactly where the device failed in the call, and then a prefix of the line was written.
+pub fn write_header<W: Write>(w: &mut Tried<W>) -> Result<(), WriteFault>
+    requires { has_failed w.old ≡ false }
+    ensures device { IsErr result ↔ IsTrue (has_failed w.new) }
+    ensures bytes { WritesText (W.contents (inner_of w.old)) (W.contents (inner_of w.new))
+        result header_line }
+{
+    let mut out = Outbox::new(w);
+    out.put(HEADER);
+    out.finish()
+}
