@@ -202,6 +202,7 @@ static FRONTS: [(&[u8], usize, &str); 8] = [
 #[test]
 fn what_stands_behind_tells_of_the_front(rt: HostRuntime) {
     for (content, end, text) in FRONTS {
+        assert!(rt; end <= content.len() && content.len() < 200);
         let hints = Hints {
             empty_rows: 0,
             ..Hints::of(Size::new(4, 9), false, content, end)
