@@ -2,3 +2,4 @@ mod WordLemmas
 mod CountLemmas
 mod NameLemmas
 mod NumberLemmas
+mod JsonLemmas

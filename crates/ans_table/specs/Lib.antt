@@ -4,3 +4,4 @@ pub mod Columns
 pub mod NameText
 pub mod RowText
 pub mod Counting
+pub mod JsonRow

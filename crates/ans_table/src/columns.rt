@@ -33,7 +33,7 @@ fn put_number<W: Write>(out: &mut Outbox<'_, W>, number: usize)
 }
 
 /// The number of a fault, as `F20`: its text up to the first blank.
-fn fault_number(fault: &Fault) -> &'static [u8]
+pub(crate) fn fault_number(fault: &Fault) -> &'static [u8]
     ensures { result.now ≡ fault_number fault.now.cause }
 {
     let text = fault_text(fault).as_bytes();
@@ -95,7 +95,7 @@ pub(crate) fn put_verdict<W: Write>(out: &mut Outbox<'_, W>, finding: &Finding<'
 }
 
 /// The stated width in columns. 0 counts as 80.
-fn stated_width(sauce: &Record<'_>) -> usize
+pub(crate) fn stated_width(sauce: &Record<'_>) -> usize
     ensures { result ≡ stated_width (bytes_of sauce.now) }
 {
     match sauce.tinfo(1) {
@@ -104,7 +104,7 @@ fn stated_width(sauce: &Record<'_>) -> usize
     }
 }
 
-fn stated_lines(sauce: &Record<'_>) -> usize
+pub(crate) fn stated_lines(sauce: &Record<'_>) -> usize
     ensures { result ≡ stated_lines (bytes_of sauce.now) }
 {
     sauce.tinfo(2) as usize

@@ -1,6 +1,7 @@
 //! The rows of a table.
 
 ghost use Rattle.std.specs.Prelude.{◌≡◌, ◌↔◌, false, option_map, IsTrue, IsErr};
+ghost use Rattle.ans_model.specs.Text.FaultText.{line_of};
 ghost use Rattle.ans_sauce.specs.RecordBytes.{bytes_of};
 ghost use Rattle.ans_write.specs.Tried.{has_failed, inner_of};
 ghost use Rattle.ans_write.specs.Writes.{WritesText};
@@ -21,7 +22,7 @@ const HEADER: &[u8] =
     ice\tspacing\taspect\tfont\tdate\ttitle\tauthor\tgroup\tfile\n";
 
 /// The record of the file, where one was read.
-fn sauce_of<'a>(finding: &Finding<'a>) -> Option<Record<'a>>
+pub(crate) fn sauce_of<'a>(finding: &Finding<'a>) -> Option<Record<'a>>
     ensures { option_map bytes_of result ≡ sauce_of finding.now }
 {
     match finding {
@@ -82,5 +83,20 @@ pub fn write_header<W: Write>(w: &mut Tried<W>) -> Result<(), WriteFault>
 {
     let mut out = Outbox::new(w);
     out.put(HEADER);
+    out.finish()
+}
+
+/// Writes a text, as that of a [`json_row`](crate::json_row), and a line feed behind it.
+///
+/// `Err` comes exactly where the device failed in the call, and then a prefix of the line was written.
+pub fn write_line<W: Write>(w: &mut Tried<W>, text: &[u8]) -> Result<(), WriteFault>
+    requires { has_failed w.old ≡ false }
+    ensures device { IsErr result ↔ IsTrue (has_failed w.new) }
+    ensures bytes { WritesText (W.contents (inner_of w.old)) (W.contents (inner_of w.new))
+        result (line_of text.now) }
+{
+    let mut out = Outbox::new(w);
+    out.put(text);
+    out.put(b"\n");
     out.finish()
 }

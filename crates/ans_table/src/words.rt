@@ -23,7 +23,7 @@ fn push_part(names: &mut ArrayVec<&'static str, 5>, known: bool, name: &'static 
 }
 
 /// The parts that a class knows, by their names and in their order.
-fn part_names(class: Start) -> ArrayVec<&'static str, 5>
+pub(crate) fn part_names(class: Start) -> ArrayVec<&'static str, 5>
     ensures { texts_of result.items ≡ part_names class }
 {
     let mut names = ArrayVec::new();
@@ -65,7 +65,7 @@ pub(crate) fn put_needs<W: Write>(out: &mut Outbox<'_, W>, needs: Start)
     put_words(out, part_names(needs).as_slice());
 }
 
-fn note_number(note: &Note) -> &'static [u8]
+pub(crate) fn note_number(note: &Note) -> &'static [u8]
     ensures { result.now ≡ note_number note.now }
 {
     match note {

@@ -1,0 +1,251 @@
+-- The object of a row has no float, and nests lists in an object and nothing more.
+use Rattle.std.proofs.Common.{◌≡◌, ◌∙◌, ◌/◌, ◌%◌, ◌==◌, ◌≤◌, ◌<◌, ℕ, suc, ◌+◌, ◌-◌, Bool, true, false, ◌||◌, List, []}
+use Rattle.std.proofs.Common.{◌∷◌, ◌++◌, map}
+use Rattle.std.proofs.Common.{max, arith, refl, sym, ap, append_assoc, append-nil, Result, Ok, Err}
+use Rattle.std.proofs.Common.{Ordering, Less, Equal, Greater, nat_cmp, Option, Some, None, codes}
+use Rattle.std.specs.Prelude.{⊤, if◌then◌else◌}
+use Rattle.std.proofs.lemmas.List.{map-append}
+use Rattle.std.specs.Ordering.{match_ordering}
+use Rattle.std.specs.Cmp.Lexicographic.{slice_cmp}
+use Rattle.serde_json.specs.Data.{Data, Items, Members, no_members, member, string, array, object, put}
+use Rattle.serde_json.specs.Data.{depth, items_depth, members_depth}
+use Rattle.serde_json.specs.Read.{max_depth}
+use Rattle.serde_json.specs.View.{items_of, view}
+use Rattle.serde_json.specs.declared.value.Value.{Value}
+use Rattle.serde_json.specs.Written.{has_float, items_have_float, members_have_float}
+use Rattle.ans_model.specs.declared.fault.Fault.{Fault}
+use Rattle.ans_model.specs.File.Record.{comment, flags}
+use Rattle.ans_model.specs.Text.Characters.{shown_bytes}
+use Rattle.ans_sauce.specs.declared.parts.Parts.{Parts}
+use Rattle.ans_table.specs.declared.finding.Finding.{Finding}
+use Rattle.ans_table.specs.declared.finding.Finding.TheVariants.{Pass, Refused, NoContent, Unread}
+use Rattle.ans_table.specs.Findings.{sauce_of}
+use Rattle.ans_table.specs.NameText.{name_text}
+use Rattle.ans_table.specs.JsonRow.{Adds, Named, aspect_values, comments_from, content_values, count, fault_values}
+use Rattle.ans_table.specs.JsonRow.{field_values, flag_values}
+use Rattle.ans_table.specs.JsonRow.{parts_values, record_values, row_data, row_values, sauce_values, size_values}
+use Rattle.ans_table.specs.JsonRow.{spacing_values, texts, verdict_values, with_values}
+
+-- no float, and at most lists
+record IsFlat (d : Data) : Type 0 where
+  float : has_float d ≡ false
+  nests : depth d ≤ 1
+
+-- the same of all members
+record AreFlat (ms : Members) : Type 0 where
+  float : members_have_float ms ≡ false
+  nests : members_depth ms ≤ 1
+
+first_false : (a b : Bool) → (a || b) ≡ false → a ≡ false
+first_false false b e = refl
+first_false true b e = e
+
+second_false : (a b : Bool) → (a || b) ≡ false → b ≡ false
+second_false false b e = e
+second_false true b e = cc
+
+both_false : (a b : Bool) → a ≡ false → b ≡ false → (a || b) ≡ false
+both_false a b e f = rw (e, f) refl
+
+flat_member : (k : List ℕ) (d : Data) (ms : Members) → IsFlat d → AreFlat ms → AreFlat (member k d ms)
+flat_member k d ms h g = record {
+  float = both_false (has_float d) (members_have_float ms) h.float g.float;
+  nests = omega (arith, h.nests, g.nests);
+}
+
+flat_first : (k : List ℕ) (d : Data) (ms : Members) → AreFlat (member k d ms) → IsFlat d
+flat_first k d ms h = record {
+  float = first_false (has_float d) (members_have_float ms) h.float;
+  nests = omega (arith, h.nests);
+}
+
+flat_later : (k : List ℕ) (d : Data) (ms : Members) → AreFlat (member k d ms) → AreFlat ms
+flat_later k d ms h = record {
+  float = second_false (has_float d) (members_have_float ms) h.float;
+  nests = omega (arith, h.nests);
+}
+
+flat_choice : (o : Ordering) (a b c : Members) → AreFlat a → AreFlat b → AreFlat c → AreFlat (match_ordering o a b c)
+flat_choice Less a b c f g h = f
+flat_choice Equal a b c f g h = g
+flat_choice Greater a b c f g h = h
+
+flat_put : (k : List ℕ) (d : Data) (ms : Members) → IsFlat d → AreFlat ms → AreFlat (put k d ms)
+flat_put k d no_members h g = flat_member k d no_members h g
+flat_put k d (member l e ms) h g =
+    let first = flat_first l e ms g in
+    let later = flat_later l e ms g in
+    flat_choice (slice_cmp nat_cmp k l) (member k d (member l e ms)) (member l d ms) (member l e (put k d ms))
+    (flat_member k d (member l e ms) h g) (flat_member l d ms h later)
+    (flat_member l e (put k d ms) first (flat_put k d ms h later))
+
+-- flat values
+abbrev AllFlat : List Named → Type 0
+AllFlat [] = ⊤
+AllFlat (v ∷ vs) = IsFlat v.1 × AllFlat vs
+
+flat_append : (vs ws : List Named) → AllFlat vs → AllFlat ws → AllFlat (vs ++ ws)
+flat_append [] ws h g = g
+flat_append (v ∷ vs) ws h g = (h.0, flat_append vs ws h.1 g)
+
+flat_with : (vs : List Named) (ms : Members) → AllFlat vs → AreFlat ms → AreFlat (with_values vs ms)
+flat_with [] ms h g = g
+flat_with (v ∷ vs) ms h g = flat_with vs (put v.0 v.1 ms) h.1 (flat_put v.0 v.1 ms h.0 g)
+
+-- a value that nests nothing
+simple : (d : Data) → has_float d ≡ false → depth d ≤ 0 → IsFlat d
+simple d e h = record { float = e; nests = omega (arith, h) }
+
+items_float : (ts : List (List ℕ)) → items_have_float (items_of (map string ts)) ≡ false
+items_float [] = refl
+items_float (t ∷ ts) = items_float ts
+
+items_nest : (ts : List (List ℕ)) → items_depth (items_of (map string ts)) ≤ 0
+items_nest [] = omega arith
+items_nest (t ∷ ts) = omega (arith, items_nest ts)
+
+flat_texts : (ts : List (List ℕ)) → IsFlat (texts ts)
+flat_texts ts = record { float = items_float ts; nests = omega (arith, items_nest ts) }
+
+flat_fault : (fault : Fault) → AllFlat (fault_values fault)
+flat_fault fault = (simple _ refl (omega arith), (simple _ refl (omega arith), (simple _ refl (omega arith), tt)))
+
+flat_verdict : (finding : Finding) → AllFlat (verdict_values finding)
+flat_verdict (Pass parts needs taller) =
+    (simple _ refl (omega arith), (flat_texts _, (simple _ refl (omega arith), tt)))
+flat_verdict (Refused parts fault row column) =
+    flat_append (fault_values fault) ((codes "row", count row) ∷ (codes "column", count column) ∷ []) (flat_fault fault)
+    (simple (count row) refl (omega arith), (simple (count column) refl (omega arith), tt))
+flat_verdict (NoContent fault sauce) = flat_fault fault
+flat_verdict (Unread reason) = (simple _ refl (omega arith), (simple _ refl (omega arith), tt))
+
+flat_parts : (parts : Parts) → AllFlat (parts_values parts)
+flat_parts parts = (simple _ refl (omega arith), (flat_texts _, (flat_texts _, tt)))
+
+flat_content : (finding : Finding) → AllFlat (content_values finding)
+flat_content (Pass parts needs taller) = flat_parts parts
+flat_content (Refused parts fault row column) = flat_parts parts
+flat_content (NoContent fault sauce) = tt
+flat_content (Unread reason) = tt
+
+flat_if : (b : Bool) (vs ws : List Named) → AllFlat vs → AllFlat ws → AllFlat (if b then vs else ws)
+flat_if true vs ws h g = h
+flat_if false vs ws h g = g
+
+flat_one : (v : Named) → IsFlat v.1 → AllFlat (v ∷ [])
+flat_one v h = (h, tt)
+
+flat_spacing : (bits : ℕ) → AllFlat (spacing_values bits)
+flat_spacing bits =
+    flat_if (bits / 2 % 4 == 1) ((codes "spacing", count 8) ∷ [])
+    (if bits / 2 % 4 == 2 then (codes "spacing", count 9) ∷ [] else [])
+    (flat_one (codes "spacing", count 8) (simple (count 8) refl (omega arith)))
+    (flat_if (bits / 2 % 4 == 2) ((codes "spacing", count 9) ∷ []) []
+    (flat_one (codes "spacing", count 9) (simple (count 9) refl (omega arith))) tt)
+
+flat_aspect : (bits : ℕ) → AllFlat (aspect_values bits)
+flat_aspect bits =
+    flat_if (bits / 8 % 4 == 1) ((codes "aspect", string (codes "stretch")) ∷ [])
+    (if bits / 8 % 4 == 2 then (codes "aspect", string (codes "square")) ∷ [] else [])
+    (flat_one (codes "aspect", string (codes "stretch")) (simple (string (codes "stretch")) refl (omega arith)))
+    (flat_if (bits / 8 % 4 == 2) ((codes "aspect", string (codes "square")) ∷ []) []
+    (flat_one (codes "aspect", string (codes "square")) (simple (string (codes "square")) refl (omega arith))) tt)
+
+flat_flags : (bits : ℕ) → AllFlat (flag_values bits)
+flat_flags bits = (
+  simple _ refl (omega arith),
+  flat_append (spacing_values bits) (aspect_values bits) (flat_spacing bits) (flat_aspect bits),
+)
+
+flat_fields : (sauce : List ℕ) → AllFlat (field_values sauce)
+flat_fields sauce = (
+  simple _ refl (omega arith),
+  (
+    simple _ refl (omega arith),
+    (
+      simple _ refl (omega arith),
+      (simple _ refl (omega arith), (simple _ refl (omega arith), tt)),
+    ),
+  ),
+)
+
+flat_record : (sauce : Option (List ℕ)) → AllFlat (record_values sauce)
+flat_record (Some sauce) = (
+  simple _ refl (omega arith),
+  (
+    simple _ refl (omega arith),
+    flat_append (flag_values (flags sauce)) (field_values sauce) (flat_flags (flags sauce)) (flat_fields sauce),
+  ),
+)
+flat_record None = tt
+
+flat_row : (name : List ℕ) (finding : Finding) → AllFlat (row_values name finding)
+flat_row name finding =
+    let file : List Named = (codes "file", string (name_text name)) ∷ [] in
+    flat_append (verdict_values finding) (content_values finding ++ (record_values (sauce_of finding) ++ file))
+    (flat_verdict finding)
+    (flat_append (content_values finding) (record_values (sauce_of finding) ++ file) (flat_content finding)
+    (flat_append (record_values (sauce_of finding)) file (flat_record (sauce_of finding))
+    (simple (string (name_text name)) refl (omega arith), tt)))
+
+flat_members : (name : List ℕ) (finding : Finding) → AreFlat (with_values (row_values name finding) no_members)
+flat_members name finding =
+    flat_with (row_values name finding) no_members (flat_row name finding)
+    (record { float = refl; nests = omega arith })
+
+pub row_float : (name : List ℕ) (finding : Finding) → has_float (row_data name finding) ≡ false
+row_float name finding = (flat_members name finding).float
+
+pub row_nests : (name : List ℕ) (finding : Finding) → depth (row_data name finding) ≤ max_depth
+row_nests name finding = omega (arith, (flat_members name finding).nests)
+
+-- values after values
+pub with_append : (vs ws : List Named) (ms : Members) → with_values (vs ++ ws) ms ≡ with_values ws (with_values vs ms)
+with_append [] ws ms = refl
+with_append (v ∷ vs) ws ms = with_append vs ws (put v.0 v.1 ms)
+
+pub Adds-then : {T E : Type 0} (a b c : Members) (r : Result T E) (vs ws : List Named) → b ≡ with_values vs a
+    → Adds b c r ws → Adds a c r (vs ++ ws)
+Adds-then a b c (Ok x) vs ws e h = h ∙ ap (with_values ws) e ∙ sym (with_append vs ws a)
+Adds-then a b c (Err x) vs ws e h = tt
+
+pub Adds-same : {T E : Type 0} (a b : Members) (r : Result T E) {vs ws : List Named} → vs ≡ ws → Adds a b r vs
+    → Adds a b r ws
+Adds-same a b r e h = rw e at h
+
+-- the members of a row, group after group
+pub row_made : (vs ks rs : List Named) (n : Named) (a b c d e : Members) → a ≡ no_members → b ≡ with_values vs a
+    → c ≡ with_values ks b → d ≡ with_values rs c → e ≡ put n.0 n.1 d
+    → e ≡ with_values (vs ++ (ks ++ (rs ++ n ∷ []))) no_members
+row_made vs ks rs n a b c d e none first second third fourth =
+    fourth
+    ∙ ap (put n.0 n.1) (third ∙ ap (with_values rs) (second ∙ ap (with_values ks) (first ∙ ap (with_values vs) none)))
+    ∙ sym
+    (with_append vs (ks ++ (rs ++ n ∷ [])) no_members
+    ∙ with_append ks (rs ++ n ∷ []) (with_values vs no_members)
+    ∙ with_append rs (n ∷ []) (with_values ks (with_values vs no_members)))
+
+-- one comment more
+pub comment_next : (done : List Data) (i n : ℕ) (bytes : List ℕ) (d : Data) (all : List Data) → i < n
+    → d ≡ string (shown_bytes (comment bytes i)) → done ++ map string (comments_from i (n - i) bytes) ≡ all
+    → (done ++ d ∷ []) ++ map string (comments_from (i + 1) (n - (i + 1)) bytes) ≡ all
+comment_next done i n bytes d all lt is sofar =
+    let one_less : n - i ≡ suc (n - (i + 1)) = omega (arith, lt) in
+    append_assoc done (d ∷ []) (map string (comments_from (i + 1) (n - (i + 1)) bytes))
+    ∙ ap (λ (e : Data). done ++ e ∷ map string (comments_from (i + 1) (n - (i + 1)) bytes)) is
+    ∙ ap (λ (k : ℕ). done ++ map string (comments_from i k bytes)) (sym one_less)
+    ∙ sofar
+
+-- no comment is left
+pub comments_done : (done : List Data) (i n : ℕ) (bytes : List ℕ) (all : List Data) → n ≤ i
+    → done ++ map string (comments_from i (n - i) bytes) ≡ all → done ≡ all
+comments_done done i n bytes all le sofar =
+    let none : n - i ≡ 0 = omega (arith, le) in
+    sym (append-nil done) ∙ ap (λ (k : ℕ). done ++ map string (comments_from i k bytes)) (sym none) ∙ sofar
+
+-- the data of a list that has grown by one value
+pub views_next : (old new : List Value) (v : Value) (rest all : List Data) → new ≡ old ++ v ∷ []
+    → (map view old ++ view v ∷ []) ++ rest ≡ all → map view new ++ rest ≡ all
+views_next old new v rest all grown is =
+    ap (λ (vs : List Value). map view vs ++ rest) grown
+    ∙ ap (λ (ds : List Data). ds ++ rest) (map-append view old (v ∷ [])) ∙ is

@@ -1,0 +1,134 @@
+-- The row of a file as a JSON object. What is absent is left out. The names of an object stand in the order of their
+-- bytes, as those of its map do.
+use Rattle.std.specs.Prelude.{◌≡◌, ℕ, zero, suc, ◌+◌, ◌/◌, ◌%◌, ◌==◌, Bool, true, false, List, [], ◌∷◌, ◌++◌, length}
+use Rattle.std.specs.Prelude.{map}
+use Rattle.std.specs.Prelude.{Option, Some, None, Result, OnOk, codes, if◌then◌else◌}
+use Rattle.serde_json.specs.Data.{Data, Members, unsigned, boolean, number, string, array, object, no_members, put}
+use Rattle.serde_json.specs.View.{items_of}
+use Rattle.serde_json.specs.Written.{compact_text}
+use Rattle.ans_model.specs.declared.fault.Fault.{Fault}
+use Rattle.ans_model.specs.File.Record.{author_field, comment, comment_count, date_field, flags, font_field}
+use Rattle.ans_model.specs.File.Record.{group_field}
+use Rattle.ans_model.specs.File.Record.{stated_lines, stated_width, title_field, trimmed}
+use Rattle.ans_model.specs.Text.Characters.{shown_bytes}
+use Rattle.ans_sauce.specs.declared.parts.Parts.{Parts}
+use Rattle.ans_sauce.specs.Parts.{comments_of, content_of, notes_of, record_of}
+use Rattle.ans_table.specs.declared.finding.Finding.{Finding}
+use Rattle.ans_table.specs.declared.finding.Finding.TheVariants.{Pass, Refused, NoContent, Unread}
+use Rattle.ans_table.specs.Columns.{fault_number}
+use Rattle.ans_table.specs.Findings.{sauce_of, unread_text}
+use Rattle.ans_table.specs.NameText.{name_text}
+use Rattle.ans_table.specs.Words.{note_number, part_names}
+
+-- a value and its name
+abbrev pub Named : Type 0
+Named = List ℕ × Data
+
+abbrev pub count : ℕ → Data
+count n = number (unsigned n)
+
+-- a list of texts
+abbrev pub texts : List (List ℕ) → Data
+texts ts = array (items_of (map string ts))
+
+-- the members, and the values by their names
+abbrev pub with_values : List Named → Members → Members
+with_values [] members = members
+with_values (v ∷ vs) members = with_values vs (put v.0 v.1 members)
+
+-- the fault and its offset
+abbrev pub fault_values : Fault → List Named
+fault_values fault =
+    (codes "verdict", string (codes "refused"))
+    ∷ (codes "fault", string (fault_number fault.cause)) ∷ (codes "at", count fault.offset) ∷ []
+
+-- the verdict, and what belongs to it
+abbrev pub verdict_values : Finding → List Named
+verdict_values (Pass parts needs taller) =
+    (codes "verdict", string (codes "pass"))
+    ∷ (codes "needs", texts (part_names needs)) ∷ (codes "taller", boolean taller) ∷ []
+verdict_values (Refused parts fault row column_number) =
+    fault_values fault ++ (codes "row", count row) ∷ (codes "column", count column_number) ∷ []
+verdict_values (NoContent fault sauce) = fault_values fault
+verdict_values (Unread reason) =
+    (codes "verdict", string (codes "error")) ∷ (codes "fault", string (unread_text reason)) ∷ []
+
+-- the comments from the i-th on, so many, as they are shown
+abbrev pub comments_from : ℕ → ℕ → List ℕ → List (List ℕ)
+comments_from i zero bytes = []
+comments_from i (suc n) bytes = shown_bytes (comment bytes i) ∷ comments_from (i + 1) n bytes
+
+abbrev pub comment_texts : Parts → List (List ℕ)
+comment_texts parts = comments_from 0 (comment_count (record_of parts)) (comments_of parts)
+
+-- the length of the content in bytes, the notes and the comments
+abbrev pub parts_values : Parts → List Named
+parts_values parts =
+    (codes "content", count (length (content_of parts)))
+    ∷ (codes "notes", texts (map note_number (notes_of parts)))
+    ∷ (codes "comments", texts (comment_texts parts)) ∷ []
+
+abbrev pub content_values : Finding → List Named
+content_values (Pass parts needs taller) = parts_values parts
+content_values (Refused parts fault row column_number) = parts_values parts
+content_values (NoContent fault sauce) = []
+content_values (Unread reason) = []
+
+-- bits 1 and 2 of the flags: letters of 8 or of 9 pixels, where they say which
+abbrev pub spacing_values : ℕ → List Named
+spacing_values flags = let pair = flags / 2 % 4 in
+    if pair == 1 then (codes "spacing", count 8) ∷ []
+    else if pair == 2 then (codes "spacing", count 9) ∷ []
+    else []
+
+-- bits 3 and 4 of the flags: pixels to be stretched, or square ones, where they say which
+abbrev pub aspect_values : ℕ → List Named
+aspect_values flags = let pair = flags / 8 % 4 in
+    if pair == 1 then (codes "aspect", string (codes "stretch")) ∷ []
+    else if pair == 2 then (codes "aspect", string (codes "square")) ∷ []
+    else []
+
+-- whether bit 7 of an attribute is a bright background (bit 0), the spacing and the aspect
+abbrev pub flag_values : ℕ → List Named
+flag_values flags = (codes "ice", boolean (flags % 2 == 1)) ∷ (spacing_values flags ++ aspect_values flags)
+
+-- a field as it is shown
+abbrev pub field_value : List ℕ → Data
+field_value field = string (shown_bytes (trimmed field))
+
+-- the width in columns and the number of lines; a width of 0 is 80
+abbrev pub size_values : List ℕ → List Named
+size_values sauce = (codes "width", count (stated_width sauce)) ∷ (codes "lines", count (stated_lines sauce)) ∷ []
+
+-- font, date, title, author and group
+abbrev pub field_values : List ℕ → List Named
+field_values sauce =
+    (codes "font", field_value (font_field sauce)) ∷ (codes "date", field_value (date_field sauce))
+    ∷ (codes "title", field_value (title_field sauce)) ∷ (codes "author", field_value (author_field sauce))
+    ∷ (codes "group", field_value (group_field sauce)) ∷ []
+
+-- what the record says
+abbrev pub sauce_values : List ℕ → List Named
+sauce_values sauce = size_values sauce ++ (flag_values (flags sauce) ++ field_values sauce)
+
+abbrev pub record_values : Option (List ℕ) → List Named
+record_values (Some sauce) = sauce_values sauce
+record_values None = []
+
+-- all that is known of a file of this name
+abbrev pub row_values : List ℕ → Finding → List Named
+row_values name finding =
+    verdict_values finding
+    ++ (content_values finding ++ (record_values (sauce_of finding) ++ (codes "file", string (name_text name)) ∷ []))
+
+-- the object of it
+abbrev pub row_data : List ℕ → Finding → Data
+row_data name finding = object (with_values (row_values name finding) no_members)
+
+-- the text of the object
+abbrev pub json_text : List ℕ → Finding → List ℕ
+json_text name finding = compact_text (row_data name finding)
+
+-- at `Ok` the members have these values too
+abbrev pub Adds : {T E : Type 0} → Members → Members → Result T E → List Named → Type 0
+Adds old new result values = OnOk result (new ≡ with_values values old)

@@ -1,0 +1,326 @@
+//! The row of a file as a JSON object.
+
+ghost use Rattle.std.specs.Prelude.{◌≡◌, Some, IfOk, map, option_map, string_bytes};
+ghost use Rattle.serde_json.specs.Data.{string};
+ghost use Rattle.serde_json.specs.Read.{read};
+ghost use Rattle.serde_json.specs.View.{members_view, view};
+ghost use Rattle.ans_model.specs.Text.Characters.{shown_bytes};
+ghost use Rattle.ans_sauce.specs.RecordBytes.{bytes_of};
+ghost use Rattle.ans_table.specs.JsonRow.{Adds, aspect_values, comment_texts, content_values};
+ghost use Rattle.ans_table.specs.JsonRow.{fault_values, field_values, flag_values, json_text, parts_values};
+ghost use Rattle.ans_table.specs.JsonRow.{record_values, row_data, size_values, spacing_values, texts, verdict_values};
+ghost use Rattle.ans_table.specs.NameText.{name_text};
+ghost use Rattle.ans_table.specs.Words.{note_number, part_names, texts_of};
+
+use crate::columns::{fault_number, stated_lines, stated_width};
+use crate::finding::Finding;
+use crate::name_text::put_name;
+use crate::row_text::sauce_of;
+use crate::words::{note_number, part_names};
+use ans_model::fault::Fault;
+use ans_model::note::Note;
+use ans_model::start::Start;
+use ans_sauce::{Parts, Record};
+use ans_write::{Outbox, Tried, glyph_text};
+use serde_json::{Map, Value, push, put};
+use std::alloc::{AllocError, Global};
+
+/// The members of an object.
+type Members = Map<String, Value>;
+
+/// A text that is UTF-8. Another one is taken for want of memory.
+fn text_value(alloc: Global, text: &[u8]) -> Result<Value, AllocError>
+    ensures { IfOk result (λ v. view v ≡ string text.now) }
+{
+    match str::from_utf8(text) {
+        Ok(text) => Value::try_from_str(alloc, text),
+        Err(_) => Err(AllocError),
+    }
+}
+
+/// The characters of bytes.
+fn shown_value(alloc: Global, bytes: &[u8]) -> Result<Value, AllocError>
+    ensures { IfOk result (λ v. view v ≡ string (shown_bytes bytes.now)) }
+{
+    let mut text = String::new(alloc);
+    for byte in bytes {
+        text.push(glyph_text(*byte))?;
+    }
+    Ok(Value::String(text))
+}
+
+fn name_value(alloc: Global, name: &[u8]) -> Result<Value, AllocError>
+    ensures { IfOk result (λ v. view v ≡ string (name_text name.now)) }
+{
+    let mut device = Tried::new(Vec::new(alloc));
+    let mut out = Outbox::new(&mut device);
+    put_name(&mut out, name);
+    if out.finish().is_err() {
+        return Err(AllocError);
+    }
+    let shown = device.into_inner();
+    text_value(alloc, shown.as_slice())
+}
+
+fn words_value(alloc: Global, words: &[&str]) -> Result<Value, AllocError>
+    ensures { IfOk result (λ v. view v ≡ texts (texts_of words.now)) }
+{
+    let mut list = Vec::new(alloc);
+    for word in words {
+        push(&mut list, Value::try_from_str(alloc, word)?)?;
+    }
+    Ok(Value::Array(list))
+}
+
+/// The names of the parts that a class knows.
+fn needs_value(alloc: Global, needs: Start) -> Result<Value, AllocError>
+    ensures { IfOk result (λ v. view v ≡ texts (part_names needs)) }
+{
+    words_value(alloc, part_names(needs).as_slice())
+}
+
+/// The numbers of notes.
+fn notes_value(alloc: Global, notes: &[Note]) -> Result<Value, AllocError>
+    ensures { IfOk result (λ v. view v ≡ texts (map note_number notes.now)) }
+{
+    let mut list = Vec::new(alloc);
+    for note in notes {
+        push(&mut list, text_value(alloc, note_number(note))?)?;
+    }
+    Ok(Value::Array(list))
+}
+
+/// The lines of the comment block.
+fn comments_value(alloc: Global, parts: &Parts<'_>) -> Result<Value, AllocError>
+    ensures { IfOk result (λ v. view v ≡ texts (comment_texts parts.now)) }
+{
+    let mut list = Vec::new(alloc);
+    for i in 0..parts.sauce().comment_count() as usize {
+        push(&mut list, shown_value(alloc, parts.comment(i).unwrap())?)?;
+    }
+    Ok(Value::Array(list))
+}
+
+fn put_fault(members: &mut Members, alloc: Global, fault: &Fault) -> Result<(), AllocError>
+    ensures { Adds (members_view members.old.entries) (members_view members.new.entries) result
+        (fault_values fault.now) }
+{
+    put(
+        members,
+        alloc,
+        "verdict",
+        Value::try_from_str(alloc, "refused")?,
+    )?;
+    put(
+        members,
+        alloc,
+        "fault",
+        text_value(alloc, fault_number(fault))?,
+    )?;
+    put(members, alloc, "at", Value::from(fault.offset))
+}
+
+/// The members from the verdict to the place of the fault.
+fn put_verdict(
+    members: &mut Members,
+    alloc: Global,
+    finding: &Finding<'_>,
+) -> Result<(), AllocError>
+    ensures { Adds (members_view members.old.entries) (members_view members.new.entries) result
+        (verdict_values finding.now) }
+{
+    match finding {
+        Finding::Pass {
+            parts: _,
+            needs,
+            taller,
+        } => {
+            put(
+                members,
+                alloc,
+                "verdict",
+                Value::try_from_str(alloc, "pass")?,
+            )?;
+            put(members, alloc, "needs", needs_value(alloc, *needs)?)?;
+            put(members, alloc, "taller", Value::Bool(*taller))
+        }
+        Finding::Refused {
+            parts: _,
+            fault,
+            row,
+            column,
+        } => {
+            put_fault(members, alloc, fault)?;
+            put(members, alloc, "row", Value::from(*row))?;
+            put(members, alloc, "column", Value::from(*column))
+        }
+        Finding::NoContent { fault, sauce: _ } => put_fault(members, alloc, fault),
+        Finding::Unread(why) => {
+            put(
+                members,
+                alloc,
+                "verdict",
+                Value::try_from_str(alloc, "error")?,
+            )?;
+            put(
+                members,
+                alloc,
+                "fault",
+                Value::try_from_str(alloc, why.text())?,
+            )
+        }
+    }
+}
+
+fn put_parts(members: &mut Members, alloc: Global, parts: &Parts<'_>) -> Result<(), AllocError>
+    ensures { Adds (members_view members.old.entries) (members_view members.new.entries) result
+        (parts_values parts.now) }
+{
+    put(
+        members,
+        alloc,
+        "content",
+        Value::from(parts.content().len()),
+    )?;
+    put(
+        members,
+        alloc,
+        "notes",
+        notes_value(alloc, parts.notes().as_slice())?,
+    )?;
+    put(members, alloc, "comments", comments_value(alloc, parts)?)
+}
+
+/// The members of the content's length, the notes and the comments.
+fn put_content(
+    members: &mut Members,
+    alloc: Global,
+    finding: &Finding<'_>,
+) -> Result<(), AllocError>
+    ensures { Adds (members_view members.old.entries) (members_view members.new.entries) result
+        (content_values finding.now) }
+{
+    match finding {
+        Finding::Pass {
+            parts,
+            needs: _,
+            taller: _,
+        } => put_parts(members, alloc, parts),
+        Finding::Refused {
+            parts,
+            fault: _,
+            row: _,
+            column: _,
+        } => put_parts(members, alloc, parts),
+        Finding::NoContent { fault: _, sauce: _ } => Ok(()),
+        Finding::Unread(_) => Ok(()),
+    }
+}
+
+/// Bits 1 and 2 of the flags.
+fn put_spacing(members: &mut Members, alloc: Global, flags: u8) -> Result<(), AllocError>
+    ensures { Adds (members_view members.old.entries) (members_view members.new.entries) result
+        (spacing_values flags) }
+{
+    match flags / 2 % 4 {
+        1 => put(members, alloc, "spacing", Value::from(8u64)),
+        2 => put(members, alloc, "spacing", Value::from(9u64)),
+        _ => Ok(()),
+    }
+}
+
+/// Bits 3 and 4 of the flags.
+fn put_aspect(members: &mut Members, alloc: Global, flags: u8) -> Result<(), AllocError>
+    ensures { Adds (members_view members.old.entries) (members_view members.new.entries) result
+        (aspect_values flags) }
+{
+    match flags / 8 % 4 {
+        1 => put(
+            members,
+            alloc,
+            "aspect",
+            Value::try_from_str(alloc, "stretch")?,
+        ),
+        2 => put(
+            members,
+            alloc,
+            "aspect",
+            Value::try_from_str(alloc, "square")?,
+        ),
+        _ => Ok(()),
+    }
+}
+
+fn put_flags(members: &mut Members, alloc: Global, flags: u8) -> Result<(), AllocError>
+    ensures { Adds (members_view members.old.entries) (members_view members.new.entries) result
+        (flag_values flags) }
+{
+    put(members, alloc, "ice", Value::Bool(flags % 2 == 1))?;
+    put_spacing(members, alloc, flags)?;
+    put_aspect(members, alloc, flags)
+}
+
+fn put_size(members: &mut Members, alloc: Global, sauce: &Record<'_>) -> Result<(), AllocError>
+    ensures { Adds (members_view members.old.entries) (members_view members.new.entries) result
+        (size_values (bytes_of sauce.now)) }
+{
+    put(members, alloc, "width", Value::from(stated_width(sauce)))?;
+    put(members, alloc, "lines", Value::from(stated_lines(sauce)))
+}
+
+fn put_fields(members: &mut Members, alloc: Global, sauce: &Record<'_>) -> Result<(), AllocError>
+    ensures { Adds (members_view members.old.entries) (members_view members.new.entries) result
+        (field_values (bytes_of sauce.now)) }
+{
+    put(members, alloc, "font", shown_value(alloc, sauce.font())?)?;
+    put(members, alloc, "date", shown_value(alloc, sauce.date())?)?;
+    put(members, alloc, "title", shown_value(alloc, sauce.title())?)?;
+    put(
+        members,
+        alloc,
+        "author",
+        shown_value(alloc, sauce.author())?,
+    )?;
+    put(members, alloc, "group", shown_value(alloc, sauce.group())?)
+}
+
+/// The members of the record, where there is one.
+fn put_record(
+    members: &mut Members,
+    alloc: Global,
+    sauce: Option<Record<'_>>,
+) -> Result<(), AllocError>
+    ensures { Adds (members_view members.old.entries) (members_view members.new.entries) result
+        (record_values (option_map bytes_of sauce.entry)) }
+{
+    match sauce {
+        Some(sauce) => {
+            put_size(members, alloc, &sauce)?;
+            put_flags(members, alloc, sauce.flags())?;
+            put_fields(members, alloc, &sauce)
+        }
+        None => Ok(()),
+    }
+}
+
+fn row_value(alloc: Global, name: &[u8], finding: &Finding<'_>) -> Result<Value, AllocError>
+    ensures { IfOk result (λ v. view v ≡ row_data name.now finding.now) }
+{
+    let mut members = Map::new(alloc);
+    put_verdict(&mut members, alloc, finding)?;
+    put_content(&mut members, alloc, finding)?;
+    put_record(&mut members, alloc, sauce_of(finding))?;
+    put(&mut members, alloc, "file", name_value(alloc, name)?)?;
+    Ok(Value::Object(members))
+}
+
+/// The row of a file of this name as a JSON object, in one line without its line feed: what is absent
+/// is left out, and the names stand in the order of their bytes.
+///
+/// `Err` comes where memory for it is refused.
+pub fn json_row(alloc: Global, name: &[u8], finding: &Finding<'_>) -> Result<String, AllocError>
+    ensures text { IfOk result (λ s. string_bytes s ≡ json_text name.now finding.now) }
+    ensures reads_back { IfOk result (λ s. read (string_bytes s) ≡ Some (row_data name.now finding.now)) }
+{
+    row_value(alloc, name, finding)?.to_string(alloc)
+}
