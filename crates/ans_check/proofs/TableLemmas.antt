@@ -12,6 +12,7 @@ use Rattle.std.proofs.Math.Seq.{take-append-add}
 use Rattle.std.proofs.lemmas.List.Elements.{All-nil, All-push}
 use Rattle.std.proofs.lemmas.Grind.{flat_map-append}
 use Rattle.clap.specs.Words.{Text}
+use Rattle.ans_options.specs.declared.command.TableForm.{TableForm}
 use Rattle.ans_model.specs.Bytes.{longest_file}
 use Rattle.ans_model.specs.File.Layout.{content}
 use Rattle.ans_sauce.specs.declared.parts.Parts.{Parts}
@@ -24,7 +25,7 @@ use Rattle.ans_options.specs.CommandLine.{texts_of}
 use Rattle.std.proofs.lemmas.List.Sums.{count_by-le-length}
 use Rattle.ans_table.specs.Counting.{counts_of, is_pass, is_refused, is_unread}
 use Rattle.ans_table.specs.Findings.{outcome_of}
-use Rattle.ans_table.specs.RowText.{Row, row_line, rows_text}
+use Rattle.ans_table.specs.RowText.{Row}
 use Rattle.std.specs.Prelude.{IfSome, IsErrOf, IsTrue, Vec, ◌↔◌, ◌≢◌}
 use Rattle.std.specs.Global.{Global}
 use Rattle.ans_table.specs.declared.finding.Finding.TheVariants.{Pass, Refused, NoContent, Unread}
@@ -34,9 +35,9 @@ use Rattle.ans_check.specs.declared.errors.RunError.TheVariants as error
 use Rattle.ans_check.specs.Run.{HasRead}
 use Rattle.ans_write.specs.Tried.{call_count, has_failed, inner_of}
 use Rattle.ans_write.specs.Writes.{AppendsPrefix}
-use Rattle.ans_write.specs.declared.outbox.WriteFault.{WriteFault}
 use Rattle.ans_write.specs.declared.tried.Tried.{Tried}
-use Rattle.ans_check.specs.Table.{IsFound, MayBeFoundIn, WritesAfter, WritesRow, WritesRows, outcomes, row_names}
+use Rattle.ans_check.specs.Table.{IsFound, MayBeFoundIn, WritesAfter, WritesRow, WritesRows, outcomes, row_in}
+use Rattle.ans_check.specs.Table.{row_names, rows_in}
 use Rattle.ans_check.specs.Table.{unread_of}
 
 -- ---- files
@@ -125,15 +126,17 @@ prefix_behind a b c front text h (n, within, g) = (
 abbrev one_row : Text → Finding → Row
 one_row name finding = record { name = name; finding = finding }
 
-one_text : (name : Text) (finding : Finding) → rows_text (one_row name finding ∷ []) ≡ row_line name finding
-one_text name finding = append-nil (row_line name finding)
+one_text : (form : TableForm) (name : Text) (finding : Finding)
+    → rows_in form (one_row name finding ∷ []) ≡ row_in form name finding
+one_text form name finding = append-nil (row_in form name finding)
 
-module _ {W : Type 0} (contents : W → Option (List ℕ)) (found : Text → Finding → Type 0) (names : List (Bor Text)) where
+module _ {W : Type 0} (contents : W → Option (List ℕ)) (found : Text → Finding → Type 0) (form : TableForm)
+    (names : List (Bor Text)) where
   -- the rows of the first i names were written, and counted
   pub record TellsFirst (i : ℕ) (output output_after : Tried W) (counts : Counts) : Type 0 where
     pub rows : List Row
     pub each : All (λ row. found row.name row.finding) rows
-    pub written : Appends (contents (inner_of output)) (contents (inner_of output_after)) (rows_text rows)
+    pub written : Appends (contents (inner_of output)) (contents (inner_of output_after)) (rows_in form rows)
     pub named : texts_of (take i names) ≡ row_names rows
     pub counted : counts ≡ counts_of (outcomes rows)
 
@@ -191,13 +194,13 @@ module _ {W : Type 0} (contents : W → Option (List ℕ)) (found : Text → Fin
       next_outcomes : outcomes next ≡ outcomes h.rows ++ outcome_of finding ∷ []
       next_outcomes = map-append (λ (row : Row). outcome_of row.finding) h.rows _
 
-      next_text : rows_text next ≡ rows_text h.rows ++ row_line (get_or names i d).now finding
-      next_text = flat_map-append (λ (row : Row). row_line row.name row.finding) h.rows _
-          ∙ ap (λ (v : List ℕ). rows_text h.rows ++ v) (one_text (get_or names i d).now finding)
+      next_text : rows_in form next ≡ rows_in form h.rows ++ row_in form (get_or names i d).now finding
+      next_text = flat_map-append (λ (row : Row). row_in form row.name row.finding) h.rows _
+          ∙ ap (λ (v : List ℕ). rows_in form h.rows ++ v) (one_text form (get_or names i d).now finding)
 
     -- one more row was written
     pub one_more : (after : Tried W) (outcome : Outcome) (more : Counts)
-        → WritesRow contents found (get_or names i d).now between after (Ok outcome)
+        → WritesRow contents found form (get_or names i d).now between after (Ok outcome)
         → ((before : List Outcome) → counts ≡ counts_of before → more ≡ counts_of (before ++ outcome ∷ []))
         → TellsFirst (i + 1) output after more
     one_more after outcome more w adds = record {
@@ -206,7 +209,7 @@ module _ {W : Type 0} (contents : W → Option (List ℕ)) (found : Text → Fin
       written = subst
           (λ (v : List ℕ). Appends (contents (inner_of output)) (contents (inner_of after)) v)
           (sym (next_text w.finding w.is_found))
-          (Appends-trans _ _ _ (rows_text h.rows) (row_line (get_or names i d).now w.finding) h.written w.row);
+          (Appends-trans _ _ _ (rows_in form h.rows) (row_in form (get_or names i d).now w.finding) h.written w.row);
       named = next_named w.finding w.is_found;
       counted = adds (outcomes h.rows) h.counted
           ∙ ap (λ (o : Outcome). counts_of (outcomes h.rows ++ o ∷ [])) w.outcome
@@ -214,16 +217,16 @@ module _ {W : Type 0} (contents : W → Option (List ℕ)) (found : Text → Fin
     }
 
     -- the device failed at one more
-    pub cut_off : (after : Tried W) (fault : WriteFault)
-        → WritesRow contents found (get_or names i d).now between after (Err fault)
-        → WritesRows contents found (texts_of names) output after (Err fault)
+    pub cut_off : (after : Tried W) (fault : RunError)
+        → WritesRow contents found form (get_or names i d).now between after (Err fault)
+        → WritesRows contents found form (texts_of names) output after (Err fault)
     cut_off after fault w = record {
       rows = next w.finding w.is_found;
       each = next_each w.finding w.is_found;
       written = subst
           (λ (v : List ℕ). AppendsPrefix (contents (inner_of output)) (contents (inner_of after)) v)
           (sym (next_text w.finding w.is_found))
-          (prefix_behind _ _ _ (rows_text h.rows) (row_line (get_or names i d).now w.finding) h.written w.row);
+          (prefix_behind _ _ _ (rows_in form h.rows) (row_in form (get_or names i d).now w.finding) h.written w.row);
       later = texts_of (drop (i + 1) names);
       named = sym (ap texts_of (take-append-drop (i + 1) names))
           ∙ map-append _ (take (i + 1) names) (drop (i + 1) names)
@@ -233,7 +236,7 @@ module _ {W : Type 0} (contents : W → Option (List ℕ)) (found : Text → Fin
 
   -- all were written
   pub all_told : (i : ℕ) (output after : Tried W) (counts : Counts) → TellsFirst i output after counts
-      → length names ≤ i → WritesRows contents found (texts_of names) output after (Ok counts)
+      → length names ≤ i → WritesRows contents found form (texts_of names) output after (Ok counts)
   all_told i output after counts h all = record {
     rows = h.rows;
     each = h.each;
@@ -244,15 +247,16 @@ module _ {W : Type 0} (contents : W → Option (List ℕ)) (found : Text → Fin
   }
 
 -- ---- the text before the rows
-module _ {W : Type 0} (contents : W → Option (List ℕ)) (found : Text → Finding → Type 0) (text : List ℕ)
-    (names : List Text) (output between after : Tried W) where
-  pub rows_behind : (result : Result Counts WriteFault)
+module _ {W : Type 0} (contents : W → Option (List ℕ)) (found : Text → Finding → Type 0) (form : TableForm)
+    (text : List ℕ) (names : List Text) (output between after : Tried W) where
+  pub rows_behind : (result : Result Counts RunError)
       → Appends (contents (inner_of output)) (contents (inner_of between)) text
-      → WritesRows contents found names between after result → WritesAfter contents found text names output after result
+      → WritesRows contents found form names between after result
+      → WritesAfter contents found form text names output after result
   rows_behind (Ok counts) h w = record {
     rows = w.rows;
     each = w.each;
-    written = Appends-trans _ _ _ text (rows_text w.rows) h w.written;
+    written = Appends-trans _ _ _ text (rows_in form w.rows) h w.written;
     later = w.later;
     named = w.named;
     all = w.all;
@@ -260,16 +264,16 @@ module _ {W : Type 0} (contents : W → Option (List ℕ)) (found : Text → Fin
   rows_behind (Err fault) h w = record {
     rows = w.rows;
     each = w.each;
-    written = prefix_behind _ _ _ text (rows_text w.rows) h w.written;
+    written = prefix_behind _ _ _ text (rows_in form w.rows) h w.written;
     later = w.later;
     named = w.named;
     all = tt;
   }
 
   -- the device failed at the text
-  pub text_cut_off : (fault : WriteFault)
+  pub text_cut_off : (fault : RunError)
       → AppendsPrefix (contents (inner_of output)) (contents (inner_of after)) text
-      → WritesAfter contents found text names output after (Err fault)
+      → WritesAfter contents found form text names output after (Err fault)
   text_cut_off fault h = record {
     rows = [];
     each = All-nil (λ (row : Row). found row.name row.finding);

@@ -13,7 +13,6 @@ use Rattle.ans_report.specs.Message.{message_line}
 use Rattle.ans_table.specs.declared.counts.Counts.{Counts}
 use Rattle.ans_table.specs.declared.finding.Finding.{Finding}
 use Rattle.ans_table.specs.Counting.{counts_text}
-use Rattle.ans_write.specs.declared.outbox.WriteFault.{WriteFault}
 use Rattle.ans_write.specs.Tried.{call_count, has_failed, inner_of}
 use Rattle.ans_write.specs.Writes.{AppendsUnless, Wrote, WrotePrefix}
 use Rattle.ans_write.specs.declared.tried.Tried.{Tried}
@@ -69,16 +68,16 @@ pub record EndsUnopened {W : Type 0} (is_missing : Text → Type 0) (words : Lis
   pub ends : ending ≡ UnopenedFile
 
 -- how a table ends, by whether all names were read and what its writing came to
-abbrev pub ending_of_table : Bool → Result Counts WriteFault → Ending
+abbrev pub ending_of_table : Bool → Result Counts RunError → Ending
 ending_of_table true (Ok counts) = Table counts
 ending_of_table false (Ok counts) = UnreadNames
-ending_of_table whole (Err fault) = Run (Err error.Write)
+ending_of_table whole (Err fault) = Run (Err fault)
 
 -- the table of these names was written, and is the ending; or there was no memory to list them, and nothing was
 abbrev pub EndsWritten : {W : Type 0} → (W → Option (List ℕ)) → (Text → Finding → Type 0) → TableForm → Bool
     → List Text → Tried W → Tried W → Ending → Type 0
 EndsWritten contents found form whole names output output_after ending =
-    ((result : Result Counts WriteFault) × WritesTable contents found form names output output_after result
+    ((result : Result Counts RunError) × WritesTable contents found form names output output_after result
     × (ending ≡ ending_of_table whole result))
     ⊎ ((ending ≡ Run (Err error.Memory)) × (output_after ≡ output))
 

@@ -1,12 +1,14 @@
 -- The table of many files.
 use Rattle.std.specs.Prelude.{◌≡◌, ℕ, ◌+◌, ◌<◌, List, [], ◌++◌, length, map, All, Option, Result, IfOk, IfSome}
 use Rattle.std.specs.Prelude.{⊤}
+use Rattle.std.specs.List.{flat_map}
+use Rattle.ans_model.specs.Text.FaultText.{line_of}
 use Rattle.std.specs.Prelude.{IsTrue}
 use Rattle.std.specs.Str.{IsUtf8}
 use Rattle.clap.specs.Words.{Text}
 use Rattle.ans_model.specs.Bytes.{longest_file}
 use Rattle.ans_options.specs.declared.command.TableForm.{TableForm}
-use Rattle.ans_options.specs.declared.command.TableForm.TheVariants.{Headed, Bare}
+use Rattle.ans_options.specs.declared.command.TableForm.TheVariants.{Headed, Bare, Json}
 use Rattle.ans_table.specs.declared.counts.Counts.{Counts}
 use Rattle.ans_table.specs.declared.counts.Outcome.{Outcome}
 use Rattle.ans_table.specs.declared.finding.Finding.{Finding}
@@ -15,10 +17,10 @@ use Rattle.ans_table.specs.declared.finding.Unread as unread
 use Rattle.ans_table.specs.declared.finding.Unread.TheVariants as why
 use Rattle.ans_table.specs.Counting.{counts_of}
 use Rattle.ans_table.specs.Findings.{IsFindingOf, outcome_of}
-use Rattle.ans_table.specs.RowText.{Row, header_line, row_line, rows_text}
+use Rattle.ans_table.specs.JsonRow.{json_text}
+use Rattle.ans_table.specs.RowText.{Row, header_line, row_line}
 use Rattle.ans_write.specs.Tried.{call_count, has_failed, inner_of}
 use Rattle.ans_write.specs.Writes.{WritesText}
-use Rattle.ans_write.specs.declared.outbox.WriteFault.{WriteFault}
 use Rattle.ans_write.specs.declared.tried.Tried.{Tried}
 use Rattle.ans_check.specs.Run.{HasRead}
 use Rattle.ans_check.specs.declared.errors.RunError.{RunError}
@@ -62,12 +64,22 @@ IsFound remaining is_file is_missing name (Unread why.NameNotText) = ¬ IsUtf8 n
 IsFound remaining is_file is_missing name (Unread why.Unopened) = is_missing name
 IsFound remaining is_file is_missing name finding = IsRead remaining (is_file name) finding
 
+-- a row in a form: columns, or a JSON object
+abbrev pub row_in : TableForm → Text → Finding → List ℕ
+row_in Headed name finding = row_line name finding
+row_in Bare name finding = row_line name finding
+row_in Json name finding = line_of (json_text name finding)
+
+-- the rows in a form, in their order
+abbrev pub rows_in : TableForm → List Row → List ℕ
+rows_in form rows = flat_map (λ row. row_in form row.name row.finding) rows
+
 -- the row of one file was written, or a prefix of it
-pub record WritesRow {W : Type 0} (contents : W → Option (List ℕ)) (found : Text → Finding → Type 0) (name : Text)
-    (output output_after : Tried W) (result : Result Outcome WriteFault) : Type 0 where
+pub record WritesRow {W : Type 0} (contents : W → Option (List ℕ)) (found : Text → Finding → Type 0) (form : TableForm)
+    (name : Text) (output output_after : Tried W) (result : Result Outcome RunError) : Type 0 where
   pub finding : Finding
   pub is_found : found name finding
-  pub row : WritesText (contents (inner_of output)) (contents (inner_of output_after)) result (row_line name finding)
+  pub row : WritesText (contents (inner_of output)) (contents (inner_of output_after)) result (row_in form name finding)
   pub outcome : IfOk result (λ o. o ≡ outcome_of finding)
 
 -- how the files of rows came out
@@ -80,27 +92,29 @@ row_names rows = map (λ row. row.name) rows
 
 -- The text was written before the rows of files: at `Ok` of all that are named, and else of the first, with a prefix of
 -- the whole. Each row tells what is found of its file.
-pub record WritesAfter {W : Type 0} (contents : W → Option (List ℕ)) (found : Text → Finding → Type 0) (text : List ℕ)
-    (names : List Text) (output output_after : Tried W) (result : Result Counts WriteFault) : Type 0 where
+pub record WritesAfter {W : Type 0} (contents : W → Option (List ℕ)) (found : Text → Finding → Type 0)
+    (form : TableForm) (text : List ℕ) (names : List Text) (output output_after : Tried W)
+    (result : Result Counts RunError) : Type 0 where
   pub rows : List Row
   pub each : All (λ row. found row.name row.finding) rows
   pub written : WritesText (contents (inner_of output)) (contents (inner_of output_after)) result
-      (text ++ rows_text rows)
+      (text ++ rows_in form rows)
   pub later : List Text
   pub named : names ≡ row_names rows ++ later
   pub all : IfOk result (λ counts. (later ≡ []) × (counts ≡ counts_of (outcomes rows)))
 
-abbrev pub WritesRows : {W : Type 0} → (W → Option (List ℕ)) → (Text → Finding → Type 0) → List Text → Tried W
-    → Tried W → Result Counts WriteFault → Type 0
-WritesRows contents found names output output_after result =
-    WritesAfter contents found [] names output output_after result
+abbrev pub WritesRows : {W : Type 0} → (W → Option (List ℕ)) → (Text → Finding → Type 0) → TableForm → List Text
+    → Tried W → Tried W → Result Counts RunError → Type 0
+WritesRows contents found form names output output_after result =
+    WritesAfter contents found form [] names output output_after result
 
 -- the line of the columns' names, where the form asks for it
 abbrev pub header : TableForm → List ℕ
 header Headed = header_line
 header Bare = []
+header Json = []
 
 abbrev pub WritesTable : {W : Type 0} → (W → Option (List ℕ)) → (Text → Finding → Type 0) → TableForm → List Text
-    → Tried W → Tried W → Result Counts WriteFault → Type 0
+    → Tried W → Tried W → Result Counts RunError → Type 0
 WritesTable contents found form names output output_after result =
-    WritesAfter contents found (header form) names output output_after result
+    WritesAfter contents found form (header form) names output output_after result

@@ -18,7 +18,7 @@ use crate::listing::Listing;
 use crate::rows::table;
 use crate::streams::serve;
 use ans_options::{Command, Options, TableForm, WordsError, options, table_names};
-use ans_report::{Tried, WriteFault, write_message};
+use ans_report::{Tried, write_message};
 use ans_table::{Counts, write_counts};
 use std::alloc::{AllocError, Global};
 use std::io::Write;
@@ -125,12 +125,12 @@ fn names_input(names: &[String]) -> bool
 }
 
 /// How a table ends, whose names were all read.
-fn end_of_table(counts: Result<Counts, WriteFault>) -> Ending
+fn end_of_table(counts: Result<Counts, RunError>) -> Ending
     ensures { result ≡ ending_of_table true counts }
 {
     match counts {
         Ok(counts) => Ending::Table(counts),
-        Err(WriteFault) => Ending::Run(Err(RunError::Write)),
+        Err(error) => Ending::Run(Err(error)),
     }
 }
 

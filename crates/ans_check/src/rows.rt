@@ -1,6 +1,6 @@
 //! The table of many files.
 
-ghost use Rattle.std.specs.Prelude.{◌≡◌, ◌≢◌, ◌↔◌, ◌≤◌, false, length, IsTrue, IsErr, IfOk, map};
+ghost use Rattle.std.specs.Prelude.{◌≡◌, ◌≢◌, ◌↔◌, ◌≤◌, false, length, IsTrue, IsErrOf, IfOk, OnOk, map};
 ghost use Rattle.ans_model.specs.Bytes.{longest_file};
 ghost use Rattle.ans_options.specs.CommandLine.{texts_of};
 ghost use Rattle.ans_write.specs.Tried.{has_failed, inner_of};
@@ -8,7 +8,9 @@ ghost use Rattle.ans_write.specs.Writes.{WritesText};
 ghost use Rattle.ans_table.specs.Findings.{IsFindingOf, outcome_of};
 ghost use Rattle.ans_table.specs.RowText.{row_line};
 ghost use Rattle.ans_check.specs.FileNeeds.{IsNeedsOf};
-ghost use Rattle.ans_check.specs.Table.{IsFound, MayBeFoundIn, WritesRow, WritesRows, WritesTable, header, unread_of};
+ghost use Rattle.ans_options.specs.declared.command.TableForm.{TableForm};
+ghost use Rattle.ans_check.specs.Table.{IsFound, MayBeFoundIn, WritesRow, WritesRows, WritesTable, header, row_in};
+ghost use Rattle.ans_check.specs.Table.{unread_of};
 
 use crate::errors::RunError;
 use crate::inputs::Inputs;
@@ -17,7 +19,7 @@ use crate::reading::read_all;
 use ans_options::TableForm;
 use ans_report::{Needs, Tried, WriteFault};
 use ans_screen::PlaneGrid;
-use ans_table::{Counts, Finding, Outcome, Unread, write_header, write_row};
+use ans_table::{Counts, Finding, Outcome, Unread, json_row, write_header, write_line, write_row};
 use std::alloc::{AllocError, Global};
 use std::io::Write;
 
@@ -60,21 +62,84 @@ fn unread(error: RunError) -> Unread
     }
 }
 
-/// Writes a row, and has the writer hand it on.
-fn tell<W: Write>(
+/// Writes a row as a JSON object.
+fn write_object<W: Write>(
+    alloc: Global,
     output: &mut Tried<W>,
     name: &[u8],
     finding: &Finding<'_>,
-) -> Result<Outcome, WriteFault>
+) -> Result<(), RunError>
     requires { has_failed output.old ≡ false }
-    ensures device { IsErr result ↔ IsTrue (has_failed output.new) }
+    ensures device { IsErrOf result RunError.Write ↔ IsTrue (has_failed output.new) }
+    ensures works { OnOk result (has_failed output.new ≡ false) }
+    ensures row { WritesText (W.contents (inner_of output.old)) (W.contents (inner_of output.new))
+        result (row_in TableForm.Json name.now finding.now) }
+{
+    let Ok(row) = json_row(alloc, name, finding) else {
+        return Err(RunError::Memory);
+    };
+    match write_line(output, row.as_bytes()) {
+        Ok(()) => Ok(()),
+        Err(WriteFault) => Err(RunError::Write),
+    }
+}
+
+/// Writes a row of columns.
+fn write_columns<W: Write>(
+    output: &mut Tried<W>,
+    name: &[u8],
+    finding: &Finding<'_>,
+) -> Result<(), RunError>
+    requires { has_failed output.old ≡ false }
+    ensures device { IsErrOf result RunError.Write ↔ IsTrue (has_failed output.new) }
+    ensures works { OnOk result (has_failed output.new ≡ false) }
     ensures row { WritesText (W.contents (inner_of output.old)) (W.contents (inner_of output.new))
         result (row_line name.now finding.now) }
+{
+    match write_row(output, name, finding) {
+        Ok(()) => Ok(()),
+        Err(WriteFault) => Err(RunError::Write),
+    }
+}
+
+fn write_in<W: Write>(
+    alloc: Global,
+    form: TableForm,
+    output: &mut Tried<W>,
+    name: &[u8],
+    finding: &Finding<'_>,
+) -> Result<(), RunError>
+    requires { has_failed output.old ≡ false }
+    ensures device { IsErrOf result RunError.Write ↔ IsTrue (has_failed output.new) }
+    ensures works { OnOk result (has_failed output.new ≡ false) }
+    ensures row { WritesText (W.contents (inner_of output.old)) (W.contents (inner_of output.new))
+        result (row_in form name.now finding.now) }
+{
+    match form {
+        TableForm::Headed => write_columns(output, name, finding),
+        TableForm::Bare => write_columns(output, name, finding),
+        TableForm::Json => write_object(alloc, output, name, finding),
+    }
+}
+
+/// Writes a row, and has the writer hand it on.
+fn tell<W: Write>(
+    alloc: Global,
+    form: TableForm,
+    output: &mut Tried<W>,
+    name: &[u8],
+    finding: &Finding<'_>,
+) -> Result<Outcome, RunError>
+    requires { has_failed output.old ≡ false }
+    ensures device { IsErrOf result RunError.Write ↔ IsTrue (has_failed output.new) }
+    ensures works { OnOk result (has_failed output.new ≡ false) }
+    ensures row { WritesText (W.contents (inner_of output.old)) (W.contents (inner_of output.new))
+        result (row_in form name.now finding.now) }
     ensures outcome { IfOk result (λ o. o ≡ outcome_of finding.now) }
 {
-    write_row(output, name, finding)?;
+    write_in(alloc, form, output, name, finding)?;
     if output.flush().is_err() {
-        return Err(WriteFault);
+        return Err(RunError::Write);
     }
     Ok(finding.outcome())
 }
@@ -84,23 +149,43 @@ fn tell_file<I: Inputs, W: Write>(
     alloc: Global,
     inputs: I,
     name: &[u8],
+    form: TableForm,
     output: &mut Tried<W>,
-) -> Result<Outcome, WriteFault>
+) -> Result<Outcome, RunError>
     requires { has_failed output.old ≡ false }
-    ensures device { IsErr result ↔ IsTrue (has_failed output.new) }
+    ensures device { IsErrOf result RunError.Write ↔ IsTrue (has_failed output.new) }
+    ensures works { OnOk result (has_failed output.new ≡ false) }
     ensures row { WritesRow W.contents (IsFound I.Reader.remaining (I.is_file inputs) (I.is_missing inputs))
-        name.now output.old output.new result }
+        form name.now output.old output.new result }
 {
     let Ok(text) = str::from_utf8(name) else {
-        return tell(output, name, &Finding::Unread(Unread::NameNotText));
+        return tell(
+            alloc,
+            form,
+            output,
+            name,
+            &Finding::Unread(Unread::NameNotText),
+        );
     };
     let Ok(input) = inputs.file(text) else {
-        return tell(output, name, &Finding::Unread(Unread::Unopened));
+        return tell(
+            alloc,
+            form,
+            output,
+            name,
+            &Finding::Unread(Unread::Unopened),
+        );
     };
     let mut reader = Tried::new(input);
     match read_all(alloc, &mut reader) {
-        Ok(file) => tell(output, name, &finding_in(alloc, file.as_slice())),
-        Err(error) => tell(output, name, &Finding::Unread(unread(error))),
+        Ok(file) => tell(
+            alloc,
+            form,
+            output,
+            name,
+            &finding_in(alloc, file.as_slice()),
+        ),
+        Err(error) => tell(alloc, form, output, name, &Finding::Unread(unread(error))),
     }
 }
 
@@ -109,52 +194,59 @@ fn tell_files<I: Inputs, W: Write>(
     alloc: Global,
     inputs: I,
     names: &[&[u8]],
+    form: TableForm,
     output: &mut Tried<W>,
-) -> Result<Counts, WriteFault>
+) -> Result<Counts, RunError>
     requires { has_failed output.old ≡ false }
-    ensures device { IsErr result ↔ IsTrue (has_failed output.new) }
+    ensures device { IsErrOf result RunError.Write ↔ IsTrue (has_failed output.new) }
     ensures rows { WritesRows W.contents (IsFound I.Reader.remaining (I.is_file inputs) (I.is_missing inputs))
-        (texts_of names.now) output.old output.new result }
+        form (texts_of names.now) output.old output.new result }
 {
     let mut counts = Counts::NONE;
     for name in names {
-        let outcome = tell_file(alloc, inputs, name, output)?;
+        let outcome = tell_file(alloc, inputs, name, form, output)?;
         counts.add(outcome);
     }
     Ok(counts)
 }
 
 /// Writes the line of the columns' names, where the form asks for it.
-fn tell_header<W: Write>(form: TableForm, output: &mut Tried<W>) -> Result<(), WriteFault>
+fn tell_header<W: Write>(form: TableForm, output: &mut Tried<W>) -> Result<(), RunError>
     requires { has_failed output.old ≡ false }
-    ensures device { IsErr result ↔ IsTrue (has_failed output.new) }
+    ensures device { IsErrOf result RunError.Write ↔ IsTrue (has_failed output.new) }
+    ensures works { OnOk result (has_failed output.new ≡ false) }
     ensures bytes { WritesText (W.contents (inner_of output.old)) (W.contents (inner_of output.new))
         result (header form) }
 {
     match form {
-        TableForm::Headed => write_header(output),
+        TableForm::Headed => match write_header(output) {
+            Ok(()) => Ok(()),
+            Err(WriteFault) => Err(RunError::Write),
+        },
         TableForm::Bare => Ok(()),
+        TableForm::Json => Ok(()),
     }
 }
 
 /// Writes the table of the files of these names: the line of the columns' names where the form asks for
-/// it, and then a row for each name, in their order. A row is written, and the writer is asked to hand it
+/// it, and then a row for each name, in their order and in the form. A row is written, and the writer is asked to hand it
 /// on, before the next file is opened. A file that cannot be opened or read, or that is too long, has a
 /// row too, and so has one for which memory runs out. Returns how many files came out how.
 ///
-/// `Err` comes exactly where the device failed in the call, and then a prefix of the table was written.
+/// At `Err` a prefix of the table was written. `Err(Write)` comes exactly where the device failed in the
+/// call, and `Err(Memory)` where memory for the text of a JSON row ran out; no other error comes.
 pub fn table<I: Inputs, W: Write>(
     alloc: Global,
     inputs: I,
     names: &[&[u8]],
     form: TableForm,
     output: &mut Tried<W>,
-) -> Result<Counts, WriteFault>
+) -> Result<Counts, RunError>
     requires { has_failed output.old ≡ false }
-    ensures device { IsErr result ↔ IsTrue (has_failed output.new) }
+    ensures device { IsErrOf result RunError.Write ↔ IsTrue (has_failed output.new) }
     ensures table { WritesTable W.contents (IsFound I.Reader.remaining (I.is_file inputs) (I.is_missing inputs))
         form (texts_of names.now) output.old output.new result }
 {
     tell_header(form, output)?;
-    tell_files(alloc, inputs, names, output)
+    tell_files(alloc, inputs, names, form, output)
 }

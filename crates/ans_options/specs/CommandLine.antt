@@ -19,7 +19,7 @@ use Rattle.ans_options.specs.declared.command.Command.TheVariants.{Why, Check, S
 use Rattle.ans_options.specs.declared.command.Form.{Form}
 use Rattle.ans_options.specs.declared.command.Form.TheVariants.{Terminal, Vga, Page}
 use Rattle.ans_options.specs.declared.command.TableForm.{TableForm}
-use Rattle.ans_options.specs.declared.command.TableForm.TheVariants.{Headed, Bare}
+use Rattle.ans_options.specs.declared.command.TableForm.TheVariants.{Headed, Bare, Json}
 use Rattle.ans_options.specs.declared.command.Options.{Options}
 
 -- the words, as texts
@@ -75,9 +75,10 @@ why_app = file_app (codes "why")
 abbrev pub files_rule : Rule
 files_rule = record (new_rule (codes "files")) { value_names = 1; action = Some Append }
 
--- `table`, its flag, and `[FILE]..`
+-- `table`, its flags, and `[FILE]..`
 abbrev pub table_app : App
-table_app = with_flags (with_rule (new_app (codes "table")) files_rule) (codes "no-header" ∷ [])
+table_app =
+    with_flags (with_rule (new_app (codes "table")) files_rule) (codes "json" ∷ codes "no-header" ∷ [])
 
 -- `anscheck`, which has a version, wants a subcommand, and has no subcommand `help`
 abbrev pub anscheck_top : App
@@ -187,9 +188,12 @@ form_asked rows =
     else if holds_flag (codes "vga") rows then Vga
     else Terminal
 
--- the form of a table: with `--no-header` without the line of names
+-- the form of a table: with `--json` objects, else with `--no-header` without the line of names
 abbrev pub table_form_asked : List Row → TableForm
-table_form_asked rows = if holds_flag (codes "no-header") rows then Bare else Headed
+table_form_asked rows =
+    if holds_flag (codes "json") rows then Json
+    else if holds_flag (codes "no-header") rows then Bare
+    else Headed
 
 -- where the command shows a picture or writes a table, it is in the form that the flags ask for
 abbrev pub IsInFormAsked : Command → List Row → Type 0

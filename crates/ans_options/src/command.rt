@@ -20,6 +20,8 @@ pub enum TableForm {
     Headed,
     /// Rows of columns alone.
     Bare,
+    /// A JSON object a line.
+    Json,
 }
 
 /// What the program does with a file, or with many.

@@ -136,7 +136,10 @@ const SHOW_FLAGS: [(&str, &str); 3] = [
 ];
 
 /// The flags of `table`.
-const TABLE_FLAGS: [(&str, &str); 1] = [("no-header", "Leave out the line of the columns' names")];
+const TABLE_FLAGS: [(&str, &str); 2] = [
+    ("json", "Write each row as a JSON object, one a line"),
+    ("no-header", "Leave out the line of the columns' names"),
+];
 
 fn file_command<'a>(
     alloc: Global,
@@ -271,7 +274,9 @@ fn form_asked(matches: &ArgMatches<'_>) -> Form
 fn table_form_asked(matches: &ArgMatches<'_>) -> TableForm
     ensures { result ≡ table_form_asked (rows_of (found_of matches.now)) }
 {
-    if holds(matches, "no-header") {
+    if holds(matches, "json") {
+        TableForm::Json
+    } else if holds(matches, "no-header") {
         TableForm::Bare
     } else {
         TableForm::Headed
@@ -454,7 +459,8 @@ fn matches_of<'a>(alloc: Global, meant: &'a [&'a str]) -> Result<ArgMatches<'a>,
 /// A part of the start is known where its flag is given, as `--known-cursor`. With `check` all are known
 /// where `--cleared` is given, and cells are asked for where `--cells` is. With `show` all are known where
 /// neither such a flag nor `--any` is given, and the picture comes as a page where `--html` is, else in a
-/// VGA's colours where `--vga` is. A table has a line of names unless `--no-header` is given. With the
+/// VGA's colours where `--vga` is. A table's rows are JSON where `--json` is given, and else have a line
+/// of names above them unless `--no-header` is. With the
 /// other commands nothing is known. The file's name comes as it is given, `-` too; the names for `table`
 /// come by [`table_names`], and here as none.
 ///

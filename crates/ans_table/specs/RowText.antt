@@ -29,7 +29,3 @@ row_line name finding =
 pub record Row : Type 0 where
   pub name : List ℕ
   pub finding : Finding
-
--- the rows, in their order
-abbrev pub rows_text : List Row → List ℕ
-rows_text rows = flat_map (λ row. row_line row.name row.finding) rows

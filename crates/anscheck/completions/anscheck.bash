@@ -14,7 +14,7 @@ _anscheck() {
         case $command in
             check) flags="--cleared --cells $parts --help" ;;
             show) flags="--html --vga --any $parts --help" ;;
-            table) flags="--no-header --help" ;;
+            table) flags="--json --no-header --help" ;;
         esac
         mapfile -t COMPREPLY < <(compgen -W "$flags" -- "$word")
     else

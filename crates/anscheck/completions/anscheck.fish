@@ -19,6 +19,7 @@ complete -c anscheck -n "__fish_seen_subcommand_from check show" -l known-cursor
 complete -c anscheck -n "__fish_seen_subcommand_from check show" -l known-saved -d 'The saved cursor at the top left'
 complete -c anscheck -n "__fish_seen_subcommand_from check show" -l known-colours -d 'White on black'
 complete -c anscheck -n "__fish_seen_subcommand_from check show" -l known-wrap -d 'Wrap on'
+complete -c anscheck -n "__fish_seen_subcommand_from table" -l json -d 'JSON objects'
 complete -c anscheck -n "__fish_seen_subcommand_from table" -l no-header -d 'No line of names'
 complete -c anscheck -s h -l help -d 'Print help'
 complete -c anscheck -n "not __fish_seen_subcommand_from $commands" -s V -l version -d 'Print the version'

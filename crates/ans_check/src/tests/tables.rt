@@ -99,8 +99,12 @@ fn answer_once(
 /// Whether memory ran out for a file.
 fn has_memory_row(text: &[u8]) -> bool {
     let row = b"error\t\t\tout of memory\t";
+    let object = b"{\"fault\":\"out of memory\"";
     text.windows(row.len())
         .any(|window| window == row.as_slice())
+        || text
+            .windows(object.len())
+            .any(|window| window == object.as_slice())
 }
 
 /// Whether a text is these pieces, one after the other.
@@ -149,8 +153,27 @@ const LOW_ROW: &str = "refused\t\t\tF20\t3\t2\t1\t80\t1\t4\t\tno\t\t\t\t19960101
 
 const ABC_ROW: &str = "refused\t\t\tF1\t3\t\t\t\t\t\t\t\t\t\t\t\t\t\t\tabc\n";
 
+const HI_OBJECT: &str = "{\"author\":\"\",\"comments\":[],\"content\":2,\"date\":\"19960101\",\
+    \"file\":\"hi.ans\",\"font\":\"\",\"group\":\"\",\"ice\":false,\"lines\":1,\
+    \"needs\":[\"cursor\",\"colours\"],\"notes\":[],\"taller\":true,\"title\":\"\",\
+    \"verdict\":\"pass\",\"width\":2}\n";
+
+const LOW_OBJECT: &str = "{\"at\":3,\"author\":\"\",\"column\":1,\"comments\":[],\"content\":4,\
+    \"date\":\"19960101\",\"fault\":\"F20\",\"file\":\"low.ans\",\"font\":\"\",\"group\":\"\",\
+    \"ice\":false,\"lines\":1,\"notes\":[],\"row\":2,\"title\":\"\",\"verdict\":\"refused\",\
+    \"width\":80}\n";
+
+const ABC_OBJECT: &str = "{\"at\":3,\"fault\":\"F1\",\"file\":\"abc\",\"verdict\":\"refused\"}\n";
+
+/// The object of a file that was not read.
+macro_rules! error_object {
+    ($why:literal, $name:literal) => {
+        concat!("{\"fault\":\"", $why, "\",\"file\":\"", $name, "\",\"verdict\":\"error\"}\n")
+    };
+}
+
 /// Words behind `anscheck table`, what standard input gives, the table, what is said, and the status.
-static TABLES: [(&[&str], Stored<'static>, &[&str], &str, u8); 11] = [
+static TABLES: [(&[&str], Stored<'static>, &[&str], &str, u8); 15] = [
     (
         &["anscheck", "table", "hi.ans"],
         Stored::Bytes(b"abc\0"),
@@ -229,6 +252,50 @@ static TABLES: [(&[&str], Stored<'static>, &[&str], &str, u8); 11] = [
         &[
             error_row!("cannot open the file", "a\\tb\\nc\\\\d\\x1b[m\\x7f"),
             error_row!("name is not UTF-8", "\\x82\u{e9}\\xc2\\x9b\\xe2\\x82"),
+        ],
+        "anscheck: 2 files: 0 pass, 0 refused, 2 not read\n",
+        2,
+    ),
+    (
+        &["anscheck", "table", "--json"],
+        Stored::Bytes(b"hi.ans\0low.ans\0abc\0torn\0gone\0hi.ans"),
+        &[
+            HI_OBJECT,
+            LOW_OBJECT,
+            ABC_OBJECT,
+            error_object!("cannot read the file", "torn"),
+            error_object!("cannot open the file", "gone"),
+            HI_OBJECT,
+        ],
+        "anscheck: 6 files: 2 pass, 2 refused, 2 not read\n",
+        2,
+    ),
+    (
+        &["anscheck", "table", "--json", "--no-header", "abc"],
+        Stored::Broken,
+        &[ABC_OBJECT],
+        "anscheck: 1 file: 0 pass, 1 refused, 0 not read\n",
+        1,
+    ),
+    (
+        &["anscheck", "table", "--json"],
+        Stored::Bytes(b""),
+        &[],
+        "anscheck: 0 files: 0 pass, 0 refused, 0 not read\n",
+        0,
+    ),
+    (
+        &["anscheck", "table", "--json"],
+        Stored::Bytes(b"a\tb\nc\\d\"\x1b[m\x7f\0\x82\xc3\xa9\xc2\x9b\xe2\x82\0"),
+        &[
+            error_object!(
+                "cannot open the file",
+                "a\\\\tb\\\\nc\\\\\\\\d\\\"\\\\x1b[m\\\\x7f"
+            ),
+            error_object!(
+                "name is not UTF-8",
+                "\\\\x82\u{e9}\\\\xc2\\\\x9b\\\\xe2\\\\x82"
+            ),
         ],
         "anscheck: 2 files: 0 pass, 0 refused, 2 not read\n",
         2,
@@ -335,5 +402,72 @@ fn a_table_that_is_cut_off_is_an_error(rt: HostRuntime) {
         assert!(rt; whole.output.held().starts_with(answered.output.held()));
         let said: &[u8] = b"anscheck: cannot write the report\n";
         assert_eq!(rt; answered.errors.held(), said);
+    }
+}
+
+/// What stands before a record, what the record has beside the plain one, and the object.
+static OBJECTS: [(&[u8], &[(usize, &[u8])], &str); 4] = [
+    (
+        b"Hi\x1a",
+        edits![(105, b"\x0b"), (106, b"IBM VGA"), (7, b"a\\b \x01")],
+        "{\"aspect\":\"stretch\",\"author\":\"\",\"comments\":[],\"content\":2,\
+        \"date\":\"19960101\",\"file\":\"f\",\"font\":\"IBM VGA\",\"group\":\"\",\
+        \"ice\":true,\"lines\":1,\"needs\":[\"cursor\",\"colours\"],\"notes\":[],\
+        \"spacing\":8,\"taller\":true,\"title\":\"a\\\\b \u{263a}\",\
+        \"verdict\":\"pass\",\"width\":2}\n",
+    ),
+    (
+        b"Hi\x1aCOMNTone \"\\\x02\"                                                        ",
+        edits![(104, b"\x01"), (105, b"\xf4"), (82, b"1996x")],
+        "{\"aspect\":\"square\",\"author\":\"\",\"comments\":[\"one \\\"\\\\\u{263b}\\\"\"],\
+        \"content\":2,\"date\":\"1996x101\",\"file\":\"f\",\"font\":\"\",\"group\":\"\",\
+        \"ice\":false,\"lines\":1,\"needs\":[\"cursor\",\"colours\"],\"notes\":[\"N4\",\"N5\"],\
+        \"spacing\":9,\"taller\":true,\"title\":\"\",\"verdict\":\"pass\",\"width\":2}\n",
+    ),
+    (
+        b"\x1b[?7h\x1b[0m\x1b[2J\x1a",
+        edits![(90, b"\x0d\0")],
+        "{\"author\":\"\",\"comments\":[],\"content\":13,\"date\":\"19960101\",\"file\":\"f\",\
+        \"font\":\"\",\"group\":\"\",\"ice\":false,\"lines\":1,\"needs\":[],\"notes\":[],\
+        \"taller\":true,\"title\":\"\",\"verdict\":\"pass\",\"width\":2}\n",
+    ),
+    (
+        b"Hi\x1a",
+        edits![(98, b"\0\0"), (7, b"old")],
+        "{\"at\":101,\"author\":\"\",\"date\":\"19960101\",\"fault\":\"F5\",\"file\":\"f\",\
+        \"font\":\"\",\"group\":\"\",\"ice\":false,\"lines\":0,\"title\":\"old\",\
+        \"verdict\":\"refused\",\"width\":2}\n",
+    ),
+];
+
+#[test]
+fn records_are_shown_in_objects(rt: HostRuntime) {
+    for (front, edits, object) in &OBJECTS {
+        let file = file_of(&rt, front, edits);
+        let shelf = Shelf {
+            files: &[("f", Stored::Bytes(file.as_slice()))],
+            standard: Stored::Broken,
+        };
+        let answered = answer_once(&rt, &["anscheck", "table", "--json", "f"], shelf, 4096);
+        assert!(rt; is_made_of(answered.output.held(), &[object]));
+    }
+}
+
+#[test]
+fn objects_that_are_cut_off_are_an_error(rt: HostRuntime) {
+    let hi = plain_file(&rt, b"Hi", 2, 1);
+    let shelf = Shelf {
+        files: &[("hi.ans", Stored::Bytes(hi.as_slice()))],
+        standard: Stored::Bytes(b"hi.ans\0gone\0"),
+    };
+    let words = &["anscheck", "table", "--json"];
+    let whole = answer_once(&rt, words, shelf, 4096);
+    let gone = error_object!("cannot open the file", "gone");
+    assert!(rt; is_made_of(whole.output.held(), &[HI_OBJECT, gone]));
+    for room in 0..whole.output.held().len() {
+        let answered = answer_once(&rt, words, shelf, room);
+        assert!(rt; answered.ending == Ending::Run(Err(RunError::Write)));
+        assert_eq!(rt; answered.output.held().len(), room);
+        assert!(rt; whole.output.held().starts_with(answered.output.held()));
     }
 }

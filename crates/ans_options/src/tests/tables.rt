@@ -13,7 +13,7 @@ macro_rules! table {
 }
 
 /// Words that ask for a table, their options, and the names.
-static TABLES: [(&[&str], Options, &[&str]); 9] = [
+static TABLES: [(&[&str], Options, &[&str]); 12] = [
     (&["anscheck", "table"], table!(Headed), &[]),
     (&["anscheck", "table", "a"], table!(Headed), &["a"]),
     (
@@ -27,6 +27,17 @@ static TABLES: [(&[&str], Options, &[&str]); 9] = [
         &["a", "b"],
     ),
     (&["anscheck", "table", "--no-header"], table!(Bare), &[]),
+    (&["anscheck", "table", "--json"], table!(Json), &[]),
+    (
+        &["anscheck", "table", "--no-header", "a", "--json"],
+        table!(Json),
+        &["a"],
+    ),
+    (
+        &["anscheck", "table", "--", "--json"],
+        table!(Headed),
+        &["--json"],
+    ),
     (
         &["anscheck", "table", "--", "--no-header"],
         table!(Headed),
@@ -42,7 +53,7 @@ static TABLES: [(&[&str], Options, &[&str]); 9] = [
 ];
 
 /// Words that are wrong, and the kind of the mistake.
-static FAULTS: [(&[&str], ErrorKind); 4] = [
+static FAULTS: [(&[&str], ErrorKind); 6] = [
     (
         &["anscheck", "table", "--cleared"],
         ErrorKind::UnknownArgument,
@@ -55,6 +66,11 @@ static FAULTS: [(&[&str], ErrorKind); 4] = [
         &["anscheck", "check", "--no-header"],
         ErrorKind::UnknownArgument,
     ),
+    (
+        &["anscheck", "table", "--json", "--json"],
+        ErrorKind::ArgumentConflict,
+    ),
+    (&["anscheck", "show", "--json"], ErrorKind::UnknownArgument),
     (&["anscheck", "help", "table"], ErrorKind::DisplayHelp),
 ];
 

@@ -121,6 +121,7 @@ const TABLE_HELP: &str = "\
     \x20 [FILE]...  The files; without one, names from standard input, ended by 00h\n\
     \n\
     Options:\n\
+    \x20     --json       Write each row as a JSON object, one a line\n\
     \x20     --no-header  Leave out the line of the columns' names\n\
     \x20 -h, --help       Print help\n\
     \n\

@@ -10,12 +10,13 @@ returns-in_err-tell_header-clause-table g c =
     rw at
     (text_cut_off g.W.Write.contents
     (IsFound g.I.Reader.Read.remaining (g.I.Inputs.is_file c.args.inputs) (g.I.Inputs.is_missing c.args.inputs))
-    (header c.args.form) (texts_of c.args.names.now) c.args.output.now c.args.output.now c.tell_header.new.output e
+    c.args.form (header c.args.form) (texts_of c.args.names.now) c.args.output.now c.args.output.now
+    c.tell_header.new.output e
     c.in_err-tell_header.ensures.bytes)
 
 pub returns-clause-table : goal.returns-clause-table
 returns-clause-table g c =
     rows_behind g.W.Write.contents
     (IsFound g.I.Reader.Read.remaining (g.I.Inputs.is_file c.args.inputs) (g.I.Inputs.is_missing c.args.inputs))
-    (header c.args.form) (texts_of c.args.names.now) c.args.output.now c.tell_header.new.output
+    c.args.form (header c.args.form) (texts_of c.args.names.now) c.args.output.now c.tell_header.new.output
     c.tell_files.new.output c.tell_files.result c.in_ok-tell_header.ensures.bytes c.tell_files.ensures.rows

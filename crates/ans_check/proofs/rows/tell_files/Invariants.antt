@@ -8,4 +8,4 @@ abbrev pub invariant-loop-name : goal.invariant-loop-name
 invariant-loop-name g l = (has_failed l.output ≡ false)
     × TellsFirst g.W.Write.contents
     (IsFound g.I.Reader.Read.remaining (g.I.Inputs.is_file l.fn.inputs) (g.I.Inputs.is_missing l.fn.inputs))
-    l.names l.name-index l.fn.output l.output l.counts
+    l.form l.names l.name-index l.fn.output l.output l.counts
