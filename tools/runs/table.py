@@ -65,6 +65,11 @@ TABLE_HEADER = (
     b"verdict\tneeds\ttaller\tfault\tat\trow\tcolumn\twidth\tlines\tcontent\tnotes\t"
     b"ice\tspacing\taspect\tfont\tdate\ttitle\tauthor\tgroup\tfile\n"
 )
+HI_OBJECT = (
+    b'{"author":"","comments":[],"content":2,"date":"19960101","file":"data/hi.ans","font":"","group":"",'
+    b'"ice":false,"lines":1,"needs":["cursor","colours"],"notes":[],"taller":true,"title":"",'
+    b'"verdict":"pass","width":2}\n'
+)
 HI_ROW = (
     b"pass\tcursor colours\tyes\t\t\t\t\t2\t1\t2\t\tno\t\t\t\t19960101\t\t\t\tdata/hi.ans\n"
 )
@@ -227,6 +232,9 @@ RUNS = [
         error_row(b"cannot open the file", b"data/none.ans")
         + error_row(b"cannot read the file", b"data") + HI_ROW,
         b"anscheck: 3 files: 1 pass, 0 refused, 2 not read\n"),
+    Run("table of objects", ["table", "--json", HI, "data/none.ans"], 2,
+        HI_OBJECT + b'{"fault":"cannot open the file","file":"data/none.ans","verdict":"error"}\n',
+        b"anscheck: 2 files: 1 pass, 0 refused, 1 not read\n"),
     Run("table of a name that is not text", ["table", "--no-header"], 2,
         error_row(b"name is not UTF-8", b"a\\x82"),
         b"anscheck: 1 file: 0 pass, 0 refused, 1 not read\n", stdin=b"a\x82\0"),
