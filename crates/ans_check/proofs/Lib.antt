@@ -7,3 +7,4 @@ pub mod AnswerLemmas
 pub mod WhyLemmas
 pub mod ListingLemmas
 pub mod TableLemmas
+pub mod LeastLemmas

@@ -132,14 +132,6 @@ pub record_certain : (file : List ℕ) (f : Fault) → record_fault file ≡ Som
 record_certain file f e =
     rw e at (certain_first (file_refusals file) (tt, (tt, (tt, (tt, (tt, (tt, (tt, (tt, tt)))))))))
 
--- a play that ends well tells that the content is good, and one that ends in a fault that it is not
-pub good_or_deserves : (z : Size) (start : Start) (bytes : List ℕ) (r : Result Picture Fault) (good : Bool)
-    → good ≡ is_ok r → IfOk r (GoodWith z start bytes) → IfErr r (Deserves z start bytes)
-    → IsTrue good ↔ IsGood z start bytes
-good_or_deserves z start bytes (Ok picture) good told with refused = (λ _. (picture, with), λ _. told)
-good_or_deserves z start bytes (Err f) good told with refused =
-    (λ ok. absurd (cc), λ shows. absurd (not_good z start bytes f refused shows))
-
 -- what is good from every start needs no part
 pub nothing_needed : (z : Size) (content : List ℕ) → IsGood z none_known content
     → IsFoundByParts z content none_known
@@ -162,8 +154,3 @@ nothing_needed z content good = record {
 
     without : (class : Start) → IsGood z class content
     without class = (good.0, covers_good z none_known class content good.0 (covers class) good.1)
-
--- a part is not needed exactly where the content is good without it
-pub unneeded : {P : Type 0} (good : Bool) → IsTrue good ↔ P → (not good ≡ false) ↔ P
-unneeded true told = (λ _. told.0 refl, λ p. refl)
-unneeded false told = (λ e. absurd (true≢false e), λ p. absurd (true≢false (sym (told.1 p))))

@@ -2,6 +2,7 @@ pub use Rattle.ans_options.specs.CommandLine
 pub mod Run
 pub mod Ending
 pub mod FileVerdict
+pub mod StartParts
 pub mod FileNeeds
 pub mod CommandText
 pub mod Reported

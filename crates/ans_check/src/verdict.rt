@@ -1,15 +1,15 @@
 //! What the checker finds of a file.
-ghost use Rattle.std.specs.Prelude.{◌≡◌, ◌↔◌, ◌≤◌, length, [], None, IsOk, IsSome, IsTrue, IfOk, IfErr};
-ghost use Rattle.std.specs.Prelude.{IfSome};
+ghost use Rattle.std.specs.Prelude.{◌≡◌, ◌≤◌, length, [], None, IsOk, IsSome, IfOk, IfErr, IfSome};
 ghost use Rattle.ans_model.specs.Bytes.{longest_file};
 ghost use Rattle.ans_model.specs.declared.start.Start.{Start};
-ghost use Rattle.ans_model.specs.Verdict.Good.{GoodWith, IsGood};
+ghost use Rattle.ans_model.specs.Verdict.Good.{GoodWith};
 ghost use Rattle.ans_model.specs.Screen.StartClass.{all_known};
 ghost use Rattle.ans_model.specs.Verdict.Certain.{IsCertain};
 ghost use Rattle.ans_model.specs.File.Refusals.{record_fault};
 ghost use Rattle.ans_play.specs.Stands.{Stands};
 ghost use Rattle.ans_sauce.specs.Parts.{content_of};
 ghost use Rattle.ans_check.specs.FileVerdict.{Deserves, IsVerdictOn, IsGoodFile, fault_of, parts_size};
+ghost use Rattle.ans_check.specs.StartParts.{EndsFrom};
 
 use ans_model::start::Start;
 use ans_play::{Picture, Player};
@@ -62,20 +62,20 @@ pub(crate) fn play<G: Grid>(
     Ok(play_content(player, parts.content()))
 }
 
-/// Whether the parts' content is good for a class of starts.
+/// The first fault, or else the last one, that the parts' content has from the starts of a class, if it
+/// has any.
 ///
 /// Fails where memory runs out.
-pub(crate) fn passes_from<G: Grid>(
+pub(crate) fn fault_from<G: Grid>(
     alloc: Global,
     parts: &Parts<'_>,
     start: Start,
-) -> Result<bool, AllocError>
+) -> Result<Option<Fault>, AllocError>
     requires { length (content_of parts.now) ≤ longest_file }
-    ensures { IfOk result (λ good. IsTrue good
-        ↔ IsGood (parts_size parts.now) start (content_of parts.now)) }
+    ensures { IfOk result (EndsFrom (parts_size parts.now) (content_of parts.now) start) }
 {
     let end = play::<G>(alloc, parts, start)?;
-    Ok(end.is_ok())
+    Ok(end.err())
 }
 
 /// Checks a file of at most 16,777,216 bytes: the record first, and then the play of its content from

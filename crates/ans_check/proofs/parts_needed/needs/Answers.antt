@@ -1,8 +1,5 @@
 use Rattle.ans_model.specs.Screen.StartClass.{all_known}
 use Rattle.ans_model.proofs.FirstRefusal.{refusal_within_file}
-use Rattle.ans_play.proofs.LeastClass.{least_by_parts}
-use Rattle.ans_sauce.specs.Parts.{content_of}
-use Rattle.ans_check.specs.FileVerdict.{parts_size}
 use Rattle.ans_check.proofs.VerdictLemmas.{needs_class, refuses, refused_not_good, record_not_good, no_refusal}
 use Rattle.ans_check.proofs.parts_needed.needs.Goals as goal
 
@@ -16,8 +13,8 @@ returns-in-Err-clause-offset g c = refusal_within_file c.args.file.now c.in-Err.
 pub returns-in_err-fault-clause-memory : goal.returns-in_err-fault-clause-memory
 returns-in_err-fault-clause-memory g c some = absurd (no_refusal c.args.file.now c.in-Ok.parts c.in-Ok.ensures.ok some)
 
-pub returns-in_err-class-clause-memory : goal.returns-in_err-class-clause-memory
-returns-in_err-class-clause-memory g c some =
+pub returns-in_err-least-clause-memory : goal.returns-in_err-least-clause-memory
+returns-in_err-least-clause-memory g c some =
     absurd (no_refusal c.args.file.now c.in-Ok.parts c.in-Ok.ensures.ok some)
 
 pub returns-in-Err-2-clause-needs : goal.returns-in-Err-2-clause-needs
@@ -33,6 +30,8 @@ returns-in-Err-2-clause-exact g c good =
 
 pub returns-clause-needs : goal.returns-clause-needs
 returns-clause-needs g c =
-    needs_class c.args.file.now c.in-Ok.parts c.in_ok-class.class c.in-Ok.ensures.ok
-    (least_by_parts (parts_size c.in-Ok.parts) (content_of c.in-Ok.parts) c.in_ok-class.class
-    (c.in_default.field-0, rw c.in_default.is at c.in_ok-fault.ensures.good) c.in_ok-class.ensures)
+    needs_class c.args.file.now c.in-Ok.parts c.in_ok-least.least.class c.in-Ok.ensures.ok
+    c.in_ok-least.ensures.least
+
+pub least_class-requires-clause-good : goal.least_class-requires-clause-good
+least_class-requires-clause-good g c = (c.in_default.field-0, rw c.in_default.is at c.in_ok-fault.ensures.good)

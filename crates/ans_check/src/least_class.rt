@@ -1,0 +1,182 @@
+//! The least class of starts from which a content passes, by few plays.
+ghost use Rattle.std.specs.Prelude.{◌≡◌, ◌≢◌, ◌↔◌, ◌≤◌, true, false, length, IfOk, IfNone, IfSome};
+ghost use Rattle.ans_model.specs.Bytes.{longest_file};
+ghost use Rattle.ans_model.specs.Screen.StartClass.{all_known, none_known};
+ghost use Rattle.ans_model.specs.Verdict.Good.{IsGood};
+ghost use Rattle.ans_model.specs.Verdict.Needs.{IsFoundByParts, IsLeast};
+ghost use Rattle.ans_sauce.specs.Parts.{content_of};
+ghost use Rattle.ans_check.specs.FileVerdict.{Deserves, parts_size};
+ghost use Rattle.ans_check.specs.StartParts.{EndsFrom, Passes, all_but, knows, with_part};
+
+use crate::part::Part;
+use crate::verdict::fault_from;
+use ans_model::fault::{Cause, Fault};
+use ans_model::start::Start;
+use ans_sauce::Parts;
+use ans_screen::Grid;
+use std::alloc::{AllocError, Global};
+
+/// The class that a content needs, and its fault from all starts, where it needs anything.
+#[derive(Clone, Copy)]
+pub(crate) struct Least {
+    pub(crate) class: Start,
+    pub(crate) fault: Option<Fault>,
+}
+
+/// A class from which a content passes, and one from which it does not.
+#[derive(Clone, Copy)]
+pub(crate) struct Passing {
+    pub(crate) class: Start,
+    pub(crate) refused: Start,
+}
+
+/// How a play ends where one part more is known.
+#[derive(Clone, Copy)]
+pub(crate) struct Mended {
+    pub(crate) part: Part,
+    pub(crate) fault: Option<Fault>,
+}
+
+/// The parts that may be missing where a content has this fault, the likeliest first. They decide
+/// how many plays it takes to find the class, and not which class that is.
+fn likely_parts(cause: Cause) -> &'static [Part] {
+    match cause {
+        Cause::UnknownCell { .. } => &[Part::Screen, Part::Colours],
+        _ => &[Part::Cursor, Part::Wrap, Part::Saved],
+    }
+}
+
+/// Looks for a part that makes a difference: with it known too, the content passes or has another
+/// fault.
+fn part_that_mends<G: Grid>(
+    alloc: Global,
+    parts: &Parts<'_>,
+    class: Start,
+    fault: Fault,
+) -> Result<Option<Mended>, AllocError>
+    requires { length (content_of parts.now) ≤ longest_file }
+    ensures unknown { IfOk result (λ found. IfSome found (λ m. knows class m.part ≡ false)) }
+    ensures end { IfOk result (λ found. IfSome found (λ m.
+        EndsFrom (parts_size parts.now) (content_of parts.now) (with_part m.part true class) m.fault)) }
+{
+    for part in likely_parts(fault.cause) {
+        if !part.is_known_in(class) {
+            let next = fault_from::<G>(alloc, parts, part.made_known(true, class))?;
+            if next != Some(fault) {
+                return Ok(Some(Mended {
+                    part: *part,
+                    fault: next,
+                }));
+            }
+        }
+    }
+    Ok(None)
+}
+
+/// Finds a class from which the content passes: from all starts it has this fault, and as long as it
+/// has one, the part is made known that mends it. Where no part does so by itself, it is the class of
+/// the cleared start.
+fn passing_class<G: Grid>(
+    alloc: Global,
+    parts: &Parts<'_>,
+    fault_from_any: Fault,
+) -> Result<Passing, AllocError>
+    requires length { length (content_of parts.now) ≤ longest_file }
+    requires good { IsGood (parts_size parts.now) all_known (content_of parts.now) }
+    requires fault { Deserves (parts_size parts.now) none_known (content_of parts.now) fault_from_any }
+    ensures { IfOk result (Passes (parts_size parts.now) (content_of parts.now)) }
+{
+    let mut class = Start::ANY;
+    let mut fault = fault_from_any;
+    for _ in 0..5 {
+        let Some(mended) = part_that_mends::<G>(alloc, parts, class, fault)? else {
+            break;
+        };
+        let wider = mended.part.made_known(true, class);
+        match mended.fault {
+            Some(next) => {
+                class = wider;
+                fault = next;
+            }
+            None => {
+                return Ok(Passing {
+                    class: wider,
+                    refused: class,
+                });
+            }
+        }
+    }
+    Ok(Passing {
+        class: Start::CLEARED,
+        refused: class,
+    })
+}
+
+/// Whether the content needs a part, by a class from which it passes.
+fn needs_part<G: Grid>(
+    alloc: Global,
+    parts: &Parts<'_>,
+    passing: &Passing,
+    part: Part,
+) -> Result<bool, AllocError>
+    requires length { length (content_of parts.now) ≤ longest_file }
+    requires passes { Passes (parts_size parts.now) (content_of parts.now) passing.now }
+    ensures { IfOk result (λ needed. (needed ≡ false)
+        ↔ IsGood (parts_size parts.now) (all_but part) (content_of parts.now)) }
+{
+    if !part.is_known_in(passing.class) {
+        return Ok(false);
+    }
+    let without = part.made_known(false, passing.class);
+    if without.covers(passing.refused) {
+        return Ok(true);
+    }
+    let fault = fault_from::<G>(alloc, parts, without)?;
+    Ok(fault.is_some())
+}
+
+/// The class of the parts that the content cannot do without, where it passes from a class.
+fn class_by_parts<G: Grid>(
+    alloc: Global,
+    parts: &Parts<'_>,
+    passing: &Passing,
+) -> Result<Start, AllocError>
+    requires length { length (content_of parts.now) ≤ longest_file }
+    requires passes { Passes (parts_size parts.now) (content_of parts.now) passing.now }
+    ensures { IfOk result (IsFoundByParts (parts_size parts.now) (content_of parts.now)) }
+{
+    Ok(Start {
+        screen: needs_part::<G>(alloc, parts, passing, Part::Screen)?,
+        cursor: needs_part::<G>(alloc, parts, passing, Part::Cursor)?,
+        saved: needs_part::<G>(alloc, parts, passing, Part::Saved)?,
+        colours: needs_part::<G>(alloc, parts, passing, Part::Colours)?,
+        wrap: needs_part::<G>(alloc, parts, passing, Part::Wrap)?,
+    })
+}
+
+/// Finds the least class of a content that passes from the cleared start. It is played from all
+/// starts first. Where that fails, a class from which it passes is looked for by the faults, and then
+/// each part of that class is tried: the content is played without it.
+///
+/// Fails where memory runs out.
+pub(crate) fn least_class<G: Grid>(alloc: Global, parts: &Parts<'_>) -> Result<Least, AllocError>
+    requires length { length (content_of parts.now) ≤ longest_file }
+    requires good { IsGood (parts_size parts.now) all_known (content_of parts.now) }
+    ensures least { IfOk result (λ l. IsLeast (parts_size parts.now) (content_of parts.now) l.class) }
+    ensures nothing { IfOk result (λ l. IfNone l.fault (l.class ≡ none_known)) }
+    ensures fault { IfOk result (λ l. IfSome l.fault (λ f. (l.class ≢ none_known)
+        × Deserves (parts_size parts.now) none_known (content_of parts.now) f)) }
+{
+    let Some(fault) = fault_from::<G>(alloc, parts, Start::ANY)? else {
+        return Ok(Least {
+            class: Start::ANY,
+            fault: None,
+        });
+    };
+    let passing = passing_class::<G>(alloc, parts, fault)?;
+    let class = class_by_parts::<G>(alloc, parts, &passing)?;
+    Ok(Least {
+        class,
+        fault: Some(fault),
+    })
+}

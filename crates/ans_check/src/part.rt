@@ -1,0 +1,58 @@
+//! The parts of a start, each by itself.
+
+ghost use Rattle.std.specs.Prelude.{◌≡◌};
+ghost use Rattle.ans_check.specs.StartParts.{knows, with_part};
+
+use ans_model::start::Start;
+
+/// A part of the start that may be known.
+#[derive(Clone, Copy)]
+pub(crate) enum Part {
+    Screen,
+    Cursor,
+    Saved,
+    Colours,
+    Wrap,
+}
+
+impl Part {
+    pub(crate) fn is_known_in(self, class: Start) -> bool
+        ensures { result ≡ knows class self }
+    {
+        match self {
+            Part::Screen => class.screen,
+            Part::Cursor => class.cursor,
+            Part::Saved => class.saved,
+            Part::Colours => class.colours,
+            Part::Wrap => class.wrap,
+        }
+    }
+
+    /// The class with this part known or not.
+    pub(crate) fn made_known(self, known: bool, class: Start) -> Start
+        ensures { result ≡ with_part self known class }
+    {
+        match self {
+            Part::Screen => Start {
+                screen: known,
+                ..class
+            },
+            Part::Cursor => Start {
+                cursor: known,
+                ..class
+            },
+            Part::Saved => Start {
+                saved: known,
+                ..class
+            },
+            Part::Colours => Start {
+                colours: known,
+                ..class
+            },
+            Part::Wrap => Start {
+                wrap: known,
+                ..class
+            },
+        }
+    }
+}
