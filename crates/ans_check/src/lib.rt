@@ -44,6 +44,3 @@ pub use rows::table;
 pub use streams::serve;
 pub use system::program;
 pub use verdict::{Verdict, check};
-
-#[cfg(test)]
-mod tests;

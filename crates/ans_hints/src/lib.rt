@@ -21,6 +21,3 @@ pub use font::has_other_code_page;
 pub use hints::Hints;
 pub use hints_text::put_hints;
 pub use times::Times;
-
-#[cfg(test)]
-mod tests;

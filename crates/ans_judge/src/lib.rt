@@ -22,6 +22,4 @@
 
 pub mod class_laws;
 pub mod report_laws;
-#[cfg(test)]
-mod tests;
 pub mod text_laws;

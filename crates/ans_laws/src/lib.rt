@@ -23,6 +23,3 @@ pub mod text_laws;
 mod two_plays;
 
 pub use answer::{Answer, plain_answer};
-
-#[cfg(test)]
-mod tests;

@@ -266,6 +266,3 @@ impl Machine {
         Machine::low(alloc, size, Start::cleared())
     }
 }
-
-#[cfg(test)]
-mod tests;

@@ -65,6 +65,3 @@ impl Start {
             && (!self.wrap || other.wrap)
     }
 }
-
-#[cfg(test)]
-mod tests;

@@ -18,6 +18,3 @@ pub mod laws;
 
 pub use command::{Command, Form, Options, TableForm};
 pub use command_line::{WordsError, options, table_names};
-
-#[cfg(test)]
-mod tests;

@@ -18,6 +18,3 @@ mod wrap;
 pub use ans_model::start::Start;
 pub use picture::Picture;
 pub use player::Player;
-
-#[cfg(test)]
-mod tests;

@@ -32,6 +32,3 @@ pub use needs_text::{Needs, put_needed_parts, write_needs};
 pub use record_text::write_record;
 pub use report::{Report, write_refusal, write_report};
 pub use tokens_text::write_tokens;
-
-#[cfg(test)]
-mod tests;

@@ -23,6 +23,3 @@ pub use found::{Found, find};
 pub use layout::{cut_record, split};
 pub use parts::Parts;
 pub use record::Record;
-
-#[cfg(test)]
-mod tests;

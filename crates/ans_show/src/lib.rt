@@ -19,6 +19,3 @@ mod terminal;
 
 pub use page::write_page;
 pub use terminal::write_terminal;
-
-#[cfg(test)]
-mod tests;

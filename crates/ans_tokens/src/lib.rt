@@ -31,6 +31,3 @@ pub use pieces::{Piece, Pieces};
 pub use scanner::{ESCAPE, Scanner};
 pub use token::Token;
 pub use whole::{Letter, read_sequence};
-
-#[cfg(test)]
-mod tests;

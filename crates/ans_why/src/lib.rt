@@ -21,6 +21,3 @@ pub use lines::least_lines;
 pub use taller::is_taller;
 pub use two_watches::TwoWatches;
 pub use watch::Watch;
-
-#[cfg(test)]
-mod tests;

@@ -27,6 +27,3 @@ pub use hexadecimal::hex_byte;
 pub use outbox::{Outbox, WriteFault};
 pub use tables::Tables;
 pub use tried::{DeviceFault, Tried};
-
-#[cfg(test)]
-mod tests;

@@ -1,0 +1,171 @@
+//! Files, readers and writers from end to end. A call that met a refused allocation is made once
+//! more, and its answer is then insisted on; so each allocation can be refused in turn.
+ghost use Rattle.std.specs.Prelude.{◌≡◌, false};
+ghost use Rattle.ans_write.specs.Tried.{has_failed};
+
+mod answers;
+mod devices;
+mod endings;
+mod large;
+mod needs;
+mod pictures;
+mod records;
+mod reports;
+mod tables;
+mod token_lists;
+mod verdicts;
+mod why;
+
+use ans_check::{Command, Form, Options, RunError, Start, run};
+use ans_report::Tried;
+use ans_samples::{Narrow, sample_file};
+use std::alloc::AllocError;
+use std::io::Read;
+use std::process::Abort;
+
+macro_rules! asked {
+    ($command:ident) => {
+        Options {
+            command: Command::$command,
+            start: Start::ANY,
+            cells: false,
+        }
+    };
+}
+
+/// A check from any start.
+const ANY: Options = asked!(Check);
+
+/// A check from the cleared screen.
+const CLEARED: Options = Options {
+    start: Start::CLEARED,
+    ..ANY
+};
+
+/// The picture for a terminal, from the cleared screen.
+const SHOW: Options = Options {
+    command: Command::Show(Form::Terminal),
+    ..CLEARED
+};
+
+const SAUCE: Options = asked!(Sauce);
+
+const TOKENS: Options = asked!(Tokens);
+
+const NEEDS: Options = asked!(Needs);
+
+const WHY: Options = asked!(Why);
+
+/// The report of a check of `Hi` from the cleared screen.
+const HI_REPORT: &[u8] =
+    b"size: 2 x 1\nstart: cleared\ncontent: 2 bytes\nverdict: pass\npicture:\nHi\n";
+
+/// The text of the record of `Hi`.
+const HI_RECORD: &[u8] = b"title: \n\
+    author: \n\
+    group: \n\
+    date: 19960101\n\
+    size: 2 x 1\n\
+    flags: 00\n\
+    font: \n\
+    file size: 2\n\
+    comments: 0\n";
+
+/// What stands before the record, and the plain record with these bytes changed.
+fn file_of(rt: &(impl Abort + AllocGlobal), front: &[u8], edits: &[(usize, &[u8])]) -> Vec<u8> {
+    match sample_file(rt.alloc(), front, edits) {
+        Ok(file) => file,
+        Err(AllocError) => sample_file(rt.alloc(), front, edits).expect(rt, "memory"),
+    }
+}
+
+/// What stands before the record, and the plain record with this width and these lines.
+fn file_of_size(rt: &(impl Abort + AllocGlobal), front: &[u8], width: u16, lines: u16) -> Vec<u8> {
+    let width = width.to_le_bytes();
+    let lines = lines.to_le_bytes();
+    file_of(rt, front, &[(96, &width), (98, &lines)])
+}
+
+/// The content, one end mark, and the plain record with this size, these flags and this title.
+fn drawing(
+    rt: &(impl Abort + AllocGlobal),
+    content: &[u8],
+    (width, lines): (u16, u16),
+    flags: u8,
+    title: &[u8],
+) -> Vec<u8> {
+    let mut front = [0x1a; 64];
+    assert!(rt; content.len() < 64);
+    front[..content.len()].copy_from_slice(content);
+    let file_size = u32::try_from(content.len()).unwrap_or(0).to_le_bytes();
+    let width = width.to_le_bytes();
+    let lines = lines.to_le_bytes();
+    file_of(
+        rt,
+        &front[..content.len() + 1],
+        &[
+            (7, title),
+            (90, &file_size),
+            (96, &width),
+            (98, &lines),
+            (105, &[flags]),
+        ],
+    )
+}
+
+/// The content, one end mark and the plain record of this size.
+fn plain_file(rt: &(impl Abort + AllocGlobal), content: &[u8], width: u16, lines: u16) -> Vec<u8> {
+    drawing(rt, content, (width, lines), 0, b"")
+}
+
+fn room_for(room: usize) -> Tried<Narrow>
+    ensures { has_failed result ≡ false }
+{
+    Tried::new(Narrow::new(room))
+}
+
+/// What became of a run.
+#[derive(Drop)]
+struct Ran<R> {
+    answer: Result<bool, RunError>,
+    reader: Tried<R>,
+    writer: Tried<Narrow>,
+}
+
+/// Runs on an input, and writes to a device with this much room. Nothing is written where memory was
+/// refused.
+fn run_once<R: Read + Copy + Drop>(
+    rt: &(impl Abort + AllocGlobal),
+    input: R,
+    options: &Options,
+    room: usize,
+) -> Ran<R> {
+    for _ in 0..2 {
+        let mut reader = Tried::new(input);
+        let mut writer = room_for(room);
+        let answer = run(rt.alloc(), &mut reader, &mut writer, options);
+        if answer != Err(RunError::Memory) {
+            return Ran {
+                answer,
+                reader,
+                writer,
+            };
+        }
+        assert_eq!(rt; writer.calls(), 0);
+    }
+    panic!(rt; "memory was refused twice");
+}
+
+/// Asserts what a run returns, and what it writes to a device with this much room.
+fn expect_run(
+    rt: &(impl Abort + AllocGlobal),
+    file: &[u8],
+    options: &Options,
+    room: usize,
+    expected: Result<bool, RunError>,
+    text: &[u8],
+) {
+    let ran = run_once(rt, file, options, room);
+    assert!(rt; ran.answer == expected);
+    assert_eq!(rt; ran.writer.inner().held(), text);
+}

@@ -1,0 +1,125 @@
+//! Readers and writers that fail.
+use super::{
+    ANY, CLEARED, HI_RECORD, HI_REPORT, NEEDS, SAUCE, SHOW, TOKENS, expect_run, plain_file,
+    run_once,
+};
+use ans_check::{Options, RunError, run};
+use ans_report::Tried;
+use ans_samples::{FailingOnce, Failure, Narrow};
+use std::io::{self, Read};
+use std::process::Abort;
+
+const HI_SHOWN: &[u8] = b"\x1b[0;37;40mHi\x1b[0m\n";
+
+const HI_TOKENS: &[u8] = b"0 1 glyph 48\n1 1 glyph 69\n";
+
+const HI_NEEDS: &[u8] = b"size: 2 x 1\ncontent: 2 bytes\nneeds: cursor colours\n";
+
+/// Gives one byte a read, and fails at one of the reads alone.
+#[derive(Clone, Copy)]
+struct Dripping<'a> {
+    left: &'a [u8],
+    reads: u64,
+    fails_at: u64,
+}
+
+impl Read for Dripping<'_> {
+    fn read(&mut self, buf: &mut [u8]) -> io::Result<usize> {
+        self.reads = self.reads.saturating_add(1);
+        if self.reads == self.fails_at {
+            return Err(io::Error::from(io::ErrorKind::Other));
+        }
+        let n = self.left.len().min(buf.len()).min(1);
+        buf[..n].copy_from_slice(&self.left[..n]);
+        self.left = &self.left[n..];
+        Ok(n)
+    }
+}
+
+/// What is asked of the sample file, and the whole text of the answer.
+static TEXTS: [(Options, &[u8]); 5] = [
+    (CLEARED, HI_REPORT),
+    (SHOW, HI_SHOWN),
+    (SAUCE, HI_RECORD),
+    (TOKENS, HI_TOKENS),
+    (NEEDS, HI_NEEDS),
+];
+
+#[test]
+fn a_writer_that_fails_has_a_prefix(rt: HostRuntime) {
+    let file = plain_file(&rt, b"Hi", 2, 1);
+    assert_eq!(rt; HI_REPORT.len(), 70);
+    for (asked, text) in &TEXTS {
+        for room in 0..text.len() {
+            let error = Err(RunError::Write);
+            expect_run(&rt, file.as_slice(), asked, room, error, &text[..room]);
+        }
+        expect_run(&rt, file.as_slice(), asked, text.len(), Ok(true), text);
+    }
+}
+
+#[test]
+fn a_writer_that_fails_has_a_prefix_of_a_refusal(rt: HostRuntime) {
+    let text: &[u8] = b"verdict: refused\nat 127: F1 no SAUCE record\n";
+    for asked in &[ANY, SHOW, SAUCE, TOKENS, NEEDS] {
+        for room in 0..text.len() {
+            let error = Err(RunError::Write);
+            expect_run(&rt, &[b'S'; 127], asked, room, error, &text[..room]);
+        }
+    }
+}
+
+#[test]
+fn a_reader_that_fails_leaves_nothing_written(rt: HostRuntime) {
+    let file = plain_file(&rt, b"Hi", 2, 1);
+    for asked in &[CLEARED, SHOW, SAUCE, TOKENS, NEEDS] {
+        for fails_at in 1..133u64 {
+            let input = Dripping {
+                left: file.as_slice(),
+                reads: 0,
+                fails_at,
+            };
+            let ran = run_once(&rt, input, asked, 256);
+            assert!(rt; ran.answer == Err(RunError::Read), "at {fails_at}");
+            assert_eq!(rt; ran.reader.calls(), fails_at);
+            assert_eq!(rt; ran.reader.inner().reads, fails_at);
+            assert_eq!(rt; ran.writer.calls(), 0);
+        }
+    }
+}
+
+/// Asserts that a run ends at the one write that fails, with a prefix of its text written.
+fn expect_end_at_write(
+    rt: &(impl Abort + AllocGlobal),
+    file: &[u8],
+    asked: &Options,
+    fails_at: u64,
+    written: &[u8],
+) {
+    for _ in 0..2 {
+        let mut reader = Tried::new(file);
+        let device = FailingOnce::new(Narrow::new(128), fails_at, Failure::Error);
+        let mut writer = Tried::new(device);
+        let answer = run(rt.alloc(), &mut reader, &mut writer, asked);
+        if answer != Err(RunError::Memory) {
+            assert!(rt; answer == Err(RunError::Write), "at {fails_at}");
+            assert_eq!(rt; writer.calls(), fails_at);
+            let device = writer.into_inner();
+            assert_eq!(rt; device.calls(), fails_at);
+            assert_eq!(rt; device.device().held(), written);
+            return;
+        }
+    }
+    panic!(rt; "memory was refused twice");
+}
+
+#[test]
+fn a_writer_that_fails_once_is_not_asked_again(rt: HostRuntime) {
+    let file = plain_file(&rt, b"Hi", 2, 1);
+    for (asked, text) in &TEXTS {
+        for written in 0..text.len() {
+            let fails_at = (written as u64).saturating_add(1);
+            expect_end_at_write(&rt, file.as_slice(), asked, fails_at, &text[..written]);
+        }
+    }
+}

@@ -1,0 +1,208 @@
+//! How the program ends.
+use super::{CLEARED, plain_file};
+use ans_check::{Ending, RunError, WordsError, options, serve, status};
+use ans_report::Tried;
+use ans_samples::{FailingOnce, Failure};
+use std::alloc::AllocError;
+use std::fmt::Display;
+use std::io::{self, Read, Write};
+use std::process::Abort;
+
+/// How a value is displayed. Where memory was refused it is displayed once more.
+fn shown<D: Display>(rt: &(impl Abort + AllocGlobal), value: &D) -> String {
+    match format!(in rt.alloc(); "{value}") {
+        Ok(text) => text,
+        Err(_) => format!(in rt.alloc(); "{value}").expect(rt, "no text"),
+    }
+}
+
+/// An ending, its exit status, and what it says.
+static ENDINGS: [(Ending, u8, Option<&str>); 9] = [
+    (Ending::Run(Ok(true)), 0, None),
+    (Ending::Run(Ok(false)), 1, None),
+    (
+        Ending::Run(Err(RunError::Read)),
+        2,
+        Some("cannot read the file"),
+    ),
+    (
+        Ending::Run(Err(RunError::TooLong)),
+        2,
+        Some("file above 16777216 bytes"),
+    ),
+    (Ending::Run(Err(RunError::Memory)), 2, Some("out of memory")),
+    (
+        Ending::Run(Err(RunError::Write)),
+        2,
+        Some("cannot write the report"),
+    ),
+    (Ending::Help, 0, None),
+    (Ending::Usage, 2, None),
+    (
+        Ending::UnreadableWords,
+        2,
+        Some("cannot read the command line"),
+    ),
+];
+
+#[test]
+fn endings_have_their_statuses_and_texts(rt: HostRuntime) {
+    for (ending, expected, message) in &ENDINGS {
+        assert_eq!(rt; ending.status(), *expected);
+        assert!(rt; ending.message() == *message);
+        if let Ending::Run(answer) = ending {
+            assert_eq!(rt; status(answer), *expected);
+        }
+        if let Ending::Run(Err(error)) = ending {
+            let text = shown(&rt, error);
+            assert!(rt; Some(text.as_str()) == *message);
+        }
+    }
+    assert_eq!(rt; Ending::UnopenedFile.status(), 2);
+    assert!(rt; Ending::UnopenedFile.message() == Some("cannot open the file"));
+}
+
+/// Words that give no options, of each kind that the tests of `ans_options` meet, and how the program
+/// ends.
+static REFUSED_WORDS: [(&[&str], Ending); 7] = [
+    (&["anscheck", "--help"], Ending::Help),
+    (&["anscheck", "check", "--help"], Ending::Help),
+    (&["anscheck"], Ending::Usage),
+    (&["anscheck", "other"], Ending::Usage),
+    (&["anscheck", "check", "--bogus"], Ending::Usage),
+    (&["anscheck", "check", "f", "g"], Ending::Usage),
+    (&["anscheck", "check", "--cells", "--cells"], Ending::Usage),
+];
+
+/// How the program ends at words that give no options. Where memory was refused they are read once
+/// more.
+fn ending_at(rt: &(impl Abort + AllocGlobal), words: &[&str]) -> Ending {
+    for _ in 0..2 {
+        match options(rt.alloc(), words) {
+            Ok(_) => panic!(rt; "the words give options"),
+            Err(error) => {
+                let ending = Ending::of_words(&error);
+                if ending != Ending::UnreadableWords {
+                    return ending;
+                }
+            }
+        }
+    }
+    panic!(rt; "memory was refused twice");
+}
+
+#[test]
+fn words_without_options_have_their_endings(rt: HostRuntime) {
+    for (words, ending) in &REFUSED_WORDS {
+        assert_eq!(rt; ending_at(&rt, words), *ending);
+    }
+    let refused = WordsError::Clap(clap::Error::from(AllocError));
+    assert_eq!(rt; Ending::of_words(&refused), Ending::UnreadableWords);
+    assert_eq!(rt;
+        Ending::of_words(&WordsError::Memory),
+        Ending::UnreadableWords
+    );
+}
+
+/// A device with room for so many bytes, which may fail to hand on what it took.
+#[derive(Clone, Copy)]
+pub(super) struct Output {
+    room: usize,
+    flushes: bool,
+}
+
+impl Output {
+    /// A device with this much room.
+    pub(super) fn with_room(room: usize) -> Output {
+        Output {
+            room,
+            flushes: true,
+        }
+    }
+}
+
+impl Write for Output {
+    fn write(&mut self, buf: &[u8]) -> io::Result<usize> {
+        let n = buf.len().min(self.room);
+        self.room -= n;
+        Ok(n)
+    }
+
+    fn flush(&mut self) -> io::Result<()> {
+        if self.flushes {
+            Ok(())
+        } else {
+            Err(io::Error::from(io::ErrorKind::Other))
+        }
+    }
+}
+
+/// What serving an input into a device returns, and how much room is left.
+pub(super) fn serve_once<R: Read + Copy + Drop>(
+    rt: &(impl Abort + AllocGlobal),
+    input: R,
+    output: Output,
+) -> (Result<bool, RunError>, usize) {
+    for _ in 0..2 {
+        let mut reader = Tried::new(input);
+        let mut writer = Tried::new(output);
+        let answer = serve(rt.alloc(), &mut reader, &mut writer, &CLEARED);
+        if answer != Err(RunError::Memory) {
+            return (answer, writer.inner().room);
+        }
+    }
+    panic!(rt; "memory was refused twice");
+}
+
+/// The room, whether the device flushes, and what is returned for a report of 70 bytes, with the room
+/// that is left.
+static OUTPUTS: [(usize, bool, Result<bool, RunError>, usize); 6] = [
+    (100, true, Ok(true), 30),
+    (70, true, Ok(true), 0),
+    (69, true, Err(RunError::Write), 0),
+    (1, true, Err(RunError::Write), 0),
+    (0, true, Err(RunError::Write), 0),
+    (100, false, Err(RunError::Write), 30),
+];
+
+#[test]
+fn a_report_is_flushed(rt: HostRuntime) {
+    let file = plain_file(&rt, b"Hi", 2, 1);
+    for (room, flushes, expected, left) in &OUTPUTS {
+        let output = Output {
+            room: *room,
+            flushes: *flushes,
+        };
+        let (answer, room_left) = serve_once(&rt, file.as_slice(), output);
+        assert!(rt; answer == *expected);
+        assert_eq!(rt; room_left, *left);
+    }
+}
+
+#[test]
+fn a_refusal_is_flushed(rt: HostRuntime) {
+    let output = Output::with_room(100);
+    let (answer, left) = serve_once(&rt, [b'S'; 127].as_slice(), output);
+    assert!(rt; answer == Ok(false));
+    assert_eq!(rt; left, 56);
+    let output = Output {
+        flushes: false,
+        ..output
+    };
+    let (answer, _) = serve_once(&rt, [b'S'; 127].as_slice(), output);
+    assert!(rt; answer == Err(RunError::Write));
+}
+
+#[test]
+fn errors_of_a_run_are_served(rt: HostRuntime) {
+    let output = Output::with_room(100);
+    let file = plain_file(&rt, b"Hi", 2, 1);
+    let input = FailingOnce::new(file.as_slice(), 2, Failure::Error);
+    let (answer, left) = serve_once(&rt, input, output);
+    assert!(rt; answer == Err(RunError::Read));
+    assert_eq!(rt; left, 100);
+    let file = plain_file(&rt, b"", 80, 200);
+    let (answer, left) = serve_once(&rt, file.as_slice(), output);
+    assert!(rt; answer == Err(RunError::Write));
+    assert_eq!(rt; left, 0);
+}

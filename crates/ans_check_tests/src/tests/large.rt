@@ -1,0 +1,410 @@
+//! Files of many chunks, and screens as wide and as long as they may be.
+
+ghost use Rattle.std.specs.Prelude.{◌≤◌, length};
+ghost use Rattle.ans_model.specs.Bytes.{longest_file};
+
+use super::endings::{Output, serve_once};
+use super::verdicts::check_file;
+use super::{
+    ANY, CLEARED, NEEDS, SAUCE, TOKENS, expect_run, file_of, file_of_size, plain_file, run_once,
+};
+use ans_check::{Options, RunError, Start, Verdict, run};
+use ans_report::Tried;
+use ans_samples::Narrow;
+use ans_sauce::{Cause, Fault, MAX_FILE};
+use ans_screen::{Grid, PlainGrid, PlaneGrid};
+use std::io::{self, Read, Write};
+use std::process::Abort;
+
+/// Gives some bytes, then a line of 1024 bytes again and again, and then the last bytes.
+#[derive(Clone, Copy)]
+struct Overprinted<'a> {
+    first: &'a [u8],
+    line: &'a [u8; 1024],
+    left: usize,
+    last: &'a [u8],
+}
+
+impl Read for Overprinted<'_> {
+    fn read(&mut self, buf: &mut [u8]) -> io::Result<usize> {
+        if !self.first.is_empty() {
+            return self.first.read(buf);
+        }
+        if self.left == 0 {
+            return self.last.read(buf);
+        }
+        let left_of_line = (self.left - 1) % 1024 + 1;
+        let line = self.line;
+        let n = left_of_line.min(buf.len());
+        buf[..n].copy_from_slice(&line[1024 - left_of_line..1024 - left_of_line + n]);
+        self.left -= n;
+        Ok(n)
+    }
+}
+
+/// What a run makes of a screen of one line of 1024 columns: the first bytes, then so many times all
+/// columns but the last, then `Hi` at the front.
+fn run_overprinted(
+    rt: &(impl Abort + AllocGlobal),
+    first: &[u8],
+    times: u16,
+) -> (Result<bool, RunError>, Narrow) {
+    let mut line = [b'y'; 1024];
+    line[0] = b'\r';
+    let left = times as usize * 1024;
+    let length = u32::try_from(first.len())
+        .unwrap_or(0)
+        .saturating_add(left as u32);
+    let file_size = length.saturating_add(3).to_le_bytes();
+    let last = file_of(rt, b"\rHi\x1a", &[(90, &file_size), (96, b"\x00\x04")]);
+    let input = Overprinted {
+        first,
+        line: &line,
+        left,
+        last: last.as_slice(),
+    };
+    let ran = run_once(rt, input, &CLEARED, 4096);
+    (ran.answer, ran.writer.into_inner())
+}
+
+/// How many `x` and lines, and the report up to the picture's first two glyphs. The second file has
+/// the greatest length.
+static OVERPRINTED: [(usize, u16, &[u8]); 2] = [
+    (
+        188,
+        195,
+        b"size: 1024 x 1\n\
+        start: cleared\n\
+        content: 199871 bytes\n\
+        verdict: pass\n\
+        picture:\n\
+        Hi",
+    ),
+    (
+        892,
+        16_383,
+        b"size: 1024 x 1\n\
+        start: cleared\n\
+        content: 16777087 bytes\n\
+        verdict: pass\n\
+        picture:\n\
+        Hi",
+    ),
+];
+
+#[test]
+fn files_are_read_up_to_the_largest(rt: HostRuntime) {
+    let mut rest_of_row = [b'y'; 1023];
+    rest_of_row[1021] = b' ';
+    rest_of_row[1022] = b'\n';
+    for (first, times, report) in &OVERPRINTED {
+        let (answer, written) = run_overprinted(&rt, &[b'x'; 1000][..*first], *times);
+        assert!(rt; answer == Ok(true), "with {first} bytes first");
+        assert!(rt; report.len() <= written.held().len());
+        let (begin, rest) = written.held().split_at(report.len());
+        assert_eq!(rt; begin, *report);
+        assert_eq!(rt; rest, rest_of_row.as_slice());
+    }
+    let (answer, written) = run_overprinted(&rt, &[b'x'; 893], 16_383);
+    assert!(rt; answer == Err(RunError::TooLong));
+    assert!(rt; written.held().is_empty());
+}
+
+#[test]
+fn a_longer_file_is_not_served(rt: HostRuntime) {
+    let input = Overprinted {
+        first: b"",
+        line: &[b'y'; 1024],
+        left: MAX_FILE,
+        last: b"y",
+    };
+    let (answer, _) = serve_once(&rt, input, Output::with_room(100));
+    assert!(rt; answer == Err(RunError::TooLong));
+}
+
+/// The glyph of a cell, where those that are not listed are blank.
+fn glyph_at(glyphs: &[(usize, usize, u8)], row: usize, column: usize) -> u8 {
+    for (its_row, its_column, glyph) in glyphs {
+        if *its_row == row && *its_column == column {
+            return *glyph;
+        }
+    }
+    b' '
+}
+
+/// Some rows of a long screen: the first two, one in the middle and the last.
+const SOME_ROWS: [usize; 4] = [0, 1, 4096, 8191];
+
+/// Asserts that a verdict is a pass, and that its picture has these glyphs on blanks of attribute 07h in
+/// the rows looked at.
+fn assert_glyphs<G: Grid>(
+    rt: &impl Abort,
+    verdict: &Verdict<'_, G>,
+    size: (usize, usize),
+    rows: &[usize],
+    glyphs: &[(usize, usize, u8)],
+) {
+    let Verdict::Pass(_, picture) = verdict else {
+        panic!(rt; "a pass was expected");
+    };
+    assert_eq!(rt; (picture.width(), picture.lines()), size);
+    for row in rows {
+        assert!(rt; *row < picture.lines());
+        for column in 0..picture.width() {
+            let expected = glyph_at(glyphs, *row, column);
+            assert_eq!(rt; picture.glyph(*row, column), expected, "at {row}, {column}");
+            assert_eq!(rt; picture.attr(*row, column), 0x07);
+        }
+    }
+}
+
+/// Asserts so of a file over both kinds of grid.
+fn expect_glyphs(
+    rt: &(impl Abort + AllocGlobal),
+    file: &[u8],
+    start: Start,
+    size: (usize, usize),
+    rows: &[usize],
+    glyphs: &[(usize, usize, u8)],
+) {
+    assert!(rt; file.len() <= MAX_FILE);
+    let plain = check_file::<PlainGrid>(rt, file, start);
+    assert_glyphs(rt, &plain, size, rows, glyphs);
+    let planes = check_file::<PlaneGrid>(rt, file, start);
+    assert_glyphs(rt, &planes, size, rows, glyphs);
+}
+
+#[test]
+fn the_widest_screen_is_played(rt: HostRuntime) {
+    let content = b"A\x1b[255C\x1b[255C\x1b[255C\x1b[255C\x1b[255CBC";
+    let glyphs = [(0, 0, b'A'), (0, 1023, b'B'), (1, 0, b'C')];
+    let file = file_of_size(&rt, content, 1024, 2);
+    expect_glyphs(
+        &rt,
+        file.as_slice(),
+        Start::cleared(),
+        (1024, 2),
+        &[0, 1],
+        &glyphs,
+    );
+}
+
+#[test]
+fn the_longest_screen_is_played(rt: HostRuntime) {
+    let mut content = [b'\n'; 8192];
+    content[0] = b'A';
+    content[8191] = b'B';
+    let file = file_of_size(&rt, &content, 1, 8192);
+    let glyphs = [(0, 0, b'A'), (8191, 0, b'B')];
+    expect_glyphs(
+        &rt,
+        file.as_slice(),
+        Start::cleared(),
+        (1, 8192),
+        &SOME_ROWS,
+        &glyphs,
+    );
+}
+
+#[test]
+fn the_largest_screen_is_played(rt: HostRuntime) {
+    let mut content = [b'\n'; 8223];
+    content[0] = b'A';
+    content[8192..].copy_from_slice(b"\x1b[255C\x1b[255C\x1b[255C\x1b[255C\x1b[255CB");
+    let file = file_of_size(&rt, &content, 1024, 8192);
+    let glyphs = [(0, 0, b'A'), (8191, 1023, b'B')];
+    expect_glyphs(
+        &rt,
+        file.as_slice(),
+        Start::cleared(),
+        (1024, 8192),
+        &SOME_ROWS,
+        &glyphs,
+    );
+}
+
+#[test]
+fn the_largest_screen_is_cleared_from_any_start(rt: HostRuntime) {
+    let file = file_of_size(&rt, b"\x1b[0m\x1b[2J", 1024, 8192);
+    expect_glyphs(
+        &rt,
+        file.as_slice(),
+        Start::any(),
+        (1024, 8192),
+        &SOME_ROWS,
+        &[],
+    );
+}
+
+/// Asserts that a file passes over one kind of grid, with `a` up to a place of the last line of 80
+/// columns and 52 lines, and a bright `b` there.
+fn expect_bright_end<G: Grid>(rt: &(impl Abort + AllocGlobal), file: &[u8])
+    requires { length file.now ≤ longest_file }
+{
+    match check_file::<G>(rt, file, Start::cleared()) {
+        Verdict::Pass(_, picture) => {
+            assert!(rt; picture.width() == 80 && picture.lines() == 52);
+            assert_eq!(rt; picture.glyph(51, 14), b'a');
+            assert_eq!(rt; picture.glyph(51, 15), b'b');
+            assert_eq!(rt; picture.attr(51, 15), 0x0F);
+            for column in 16..80 {
+                assert_eq!(rt; picture.glyph(51, column), b' ');
+                assert_eq!(rt; picture.attr(51, column), 0x07);
+            }
+        }
+        Verdict::Refused(_, _) => panic!(rt; "a pass was expected"),
+    }
+}
+
+/// The 4096 bytes that are fed at once end within the sequence.
+#[test]
+fn a_sequence_crosses_two_pieces(rt: HostRuntime) {
+    let mut content = [b'a'; 4100];
+    content[4095..].copy_from_slice(b"\x1b[1mb");
+    let file = file_of_size(&rt, &content, 80, 52);
+    assert!(rt; file.len() <= MAX_FILE);
+    expect_bright_end::<PlainGrid>(&rt, file.as_slice());
+    expect_bright_end::<PlaneGrid>(&rt, file.as_slice());
+}
+
+/// Asserts that a file is refused over one kind of grid since its content ends in a sequence that
+/// begins with it.
+fn expect_open_sequence<G: Grid>(rt: &(impl Abort + AllocGlobal), file: &[u8])
+    requires { length file.now ≤ longest_file }
+{
+    let fault = Fault {
+        offset: 0,
+        cause: Cause::EndInSequence,
+    };
+    match check_file::<G>(rt, file, Start::cleared()) {
+        Verdict::Refused(_, found) => assert_eq!(rt; found, fault),
+        Verdict::Pass(_, _) => panic!(rt; "a refusal was expected"),
+    }
+}
+
+#[test]
+fn long_sequences_are_read(rt: HostRuntime) {
+    let mut content = [b'0'; 1004];
+    content[..2].copy_from_slice(b"\x1b[");
+    content[1002..].copy_from_slice(b"5C");
+    let file = file_of_size(&rt, &content, 2, 1);
+    expect_glyphs(&rt, file.as_slice(), Start::cleared(), (2, 1), &[0], &[]);
+    let mut content = [0x1b; 100_003];
+    content[1] = b'[';
+    content[2] = b'"';
+    let file = file_of_size(&rt, &content, 2, 1);
+    assert!(rt; file.len() <= MAX_FILE);
+    expect_open_sequence::<PlainGrid>(&rt, file.as_slice());
+    expect_open_sequence::<PlaneGrid>(&rt, file.as_slice());
+}
+
+/// What stands before the picture in the report of the largest screen.
+const LARGEST_HEADING: &[u8] =
+    b"size: 1024 x 8192\nstart: any\ncontent: 8 bytes\nverdict: pass\npicture:\n";
+
+/// The bytes of the largest picture, one for each blank, and of its cells, four for each.
+const LARGEST_PICTURE: usize = 8192 * 1025;
+
+const LARGEST_CELLS: usize = 8192 * 4097;
+
+/// The byte at a place of the report of the largest screen, blank and with its cells.
+fn byte_of_largest_report(at: usize) -> u8 {
+    if at < LARGEST_HEADING.len() {
+        return LARGEST_HEADING[at];
+    }
+    let at = at - LARGEST_HEADING.len();
+    if at < LARGEST_PICTURE {
+        return if at % 1025 == 1024 { b'\n' } else { b' ' };
+    }
+    let at = at - LARGEST_PICTURE;
+    let title = b"cells:\n";
+    if at < title.len() {
+        return title[at];
+    }
+    let column = (at - title.len()) % 4097;
+    if column == 4096 {
+        b'\n'
+    } else {
+        b"2007"[column % 4]
+    }
+}
+
+/// Counts the bytes that it takes, and those that the report of the largest screen does not have there.
+#[derive(Clone, Copy)]
+struct LargestReport {
+    taken: usize,
+    others: usize,
+}
+
+impl Write for LargestReport {
+    fn write(&mut self, buf: &[u8]) -> io::Result<usize> {
+        for byte in buf {
+            if *byte != byte_of_largest_report(self.taken) {
+                self.others = self.others.saturating_add(1);
+            }
+            self.taken = self.taken.saturating_add(1);
+        }
+        Ok(buf.len())
+    }
+
+    fn flush(&mut self) -> io::Result<()> {
+        Ok(())
+    }
+}
+
+/// What became of a report of the largest screen. Nothing is written where memory was refused.
+fn report_largest(rt: &(impl Abort + AllocGlobal), file: &[u8], asked: &Options) -> LargestReport {
+    for _ in 0..2 {
+        let mut reader = Tried::new(file);
+        let mut writer = Tried::new(LargestReport {
+            taken: 0,
+            others: 0,
+        });
+        let answer = run(rt.alloc(), &mut reader, &mut writer, asked);
+        if answer != Err(RunError::Memory) {
+            assert!(rt; answer == Ok(true));
+            return writer.into_inner();
+        }
+        assert_eq!(rt; writer.calls(), 0);
+    }
+    panic!(rt; "memory was refused twice");
+}
+
+#[test]
+fn each_cell_of_the_largest_screen_is_reported(rt: HostRuntime) {
+    let file = plain_file(&rt, b"\x1b[0m\x1b[2J", 1024, 8192);
+    let asked = Options { cells: true, ..ANY };
+    let written = report_largest(&rt, file.as_slice(), &asked);
+    assert_eq!(rt; written.others, 0);
+    let length = LARGEST_HEADING.len() + LARGEST_PICTURE + 7 + LARGEST_CELLS;
+    assert_eq!(rt; written.taken, length);
+}
+
+#[test]
+fn an_empty_content_needs_the_largest_screen(rt: HostRuntime) {
+    let file = plain_file(&rt, b"", 1024, 8192);
+    let text: &[u8] = b"size: 1024 x 8192\ncontent: 0 bytes\nneeds: screen\n";
+    expect_run(&rt, file.as_slice(), &NEEDS, 256, Ok(true), text);
+}
+
+/// What the commands but `check` tell of a string of 100,000 bytes that does not end.
+#[test]
+fn a_long_string_without_an_end_is_told(rt: HostRuntime) {
+    let mut front = [0x1b; 100_004];
+    front[1] = b'[';
+    front[2] = b'"';
+    front[100_003] = 0x1a;
+    let edits: [(usize, &[u8]); 1] = [(90, b"\xa3\x86\x01\x00")];
+    let file = file_of(&rt, &front, &edits);
+    let refused: &[u8] = b"size: 2 x 1\n\
+        content: 100003 bytes\n\
+        verdict: refused\n\
+        at 0: F12 content ends in a sequence\n";
+    expect_run(&rt, file.as_slice(), &NEEDS, 256, Ok(false), refused);
+    let told: &[u8] = b"at 0: F12 content ends in a sequence\n";
+    expect_run(&rt, file.as_slice(), &TOKENS, 256, Ok(false), told);
+    let ran = run_once(&rt, file.as_slice(), &SAUCE, 256);
+    assert!(rt; ran.answer == Ok(true));
+    let record: &[u8] = b"file size: 100003\ncomments: 0\n";
+    assert!(rt; ran.writer.inner().held().ends_with(record));
+}

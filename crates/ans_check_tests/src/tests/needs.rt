@@ -1,0 +1,256 @@
+//! What files need.
+
+ghost use Rattle.std.specs.Prelude.{◌≤◌, length};
+ghost use Rattle.ans_model.specs.Bytes.{longest_file};
+
+use super::{NEEDS, expect_run, file_of_size, plain_file};
+use ans_check::{Needs, Start, needs};
+use ans_sauce::{Cause, Fault, MAX_FILE};
+use ans_screen::{Grid, PlainGrid, PlaneGrid};
+use std::alloc::AllocError;
+use std::process::Abort;
+
+/// A content, its width and lines, and the parts that it needs, by their names.
+type Row = (&'static [u8], u16, u16, &'static str);
+
+/// For each class a content that needs the parts which it knows. `H` or `Hi` at the front stands at
+/// the cursor, after `ESC[u` at the saved one, after `ESC[1;1H` or `ESC[2J` at the top left. The
+/// screen is needed where a cell is left, the colours where none are set before a print or an
+/// erasure, and wrap where a print follows one in the last column.
+static EACH_CLASS: [Row; 32] = [
+    (b"\x1b[?7h\x1b[0m\x1b[2JHi", 2, 1, ""),
+    (b"", 1, 1, "screen"),
+    (b"\x1b[0mHi", 2, 1, "cursor"),
+    (b"\x1b[0m\x1b[uHi", 2, 1, "saved"),
+    (b"\x1b[2JHi", 2, 1, "colours"),
+    (b"\x1b[0m\x1b[2JHia", 2, 2, "wrap"),
+    (b"\x1b[0mH", 2, 1, "screen cursor"),
+    (b"\x1b[0m\x1b[uH", 2, 1, "screen saved"),
+    (b"\x1b[1;1HH", 2, 1, "screen colours"),
+    (b"\x1b[0m\x1b[1;1HHia", 2, 2, "screen wrap"),
+    (b"\x1b[0mH\x1b[uHi", 2, 1, "cursor saved"),
+    (b"Hi", 2, 1, "cursor colours"),
+    (b"\x1b[0mHiab", 2, 2, "cursor wrap"),
+    (b"\x1b[uHi", 2, 1, "saved colours"),
+    (b"\x1b[0m\x1b[uHiab", 2, 2, "saved wrap"),
+    (b"\x1b[2JHia", 2, 2, "colours wrap"),
+    (b"\x1b[0mH\x1b[uH", 2, 1, "screen cursor saved"),
+    (b"H", 2, 1, "screen cursor colours"),
+    (b"\x1b[0mHia", 2, 2, "screen cursor wrap"),
+    (b"\x1b[uH", 2, 1, "screen saved colours"),
+    (b"\x1b[0m\x1b[uHia", 2, 2, "screen saved wrap"),
+    (b"\x1b[1;1HHia", 2, 2, "screen colours wrap"),
+    (b"H\x1b[uHi", 2, 1, "cursor saved colours"),
+    (b"\x1b[0mH\x1b[uHiab", 2, 2, "cursor saved wrap"),
+    (b"Hiab", 2, 2, "cursor colours wrap"),
+    (b"\x1b[uHiab", 2, 2, "saved colours wrap"),
+    (b"H\x1b[uH", 2, 1, "screen cursor saved colours"),
+    (b"\x1b[0mH\x1b[uHia", 2, 2, "screen cursor saved wrap"),
+    (b"Hia", 2, 2, "screen cursor colours wrap"),
+    (b"\x1b[uHia", 2, 2, "screen saved colours wrap"),
+    (b"H\x1b[uHiab", 2, 2, "cursor saved colours wrap"),
+    (b"H\x1b[uHia", 2, 2, "screen cursor saved colours wrap"),
+];
+
+/// Contents that need a part for another reason, or do not need it.
+static OTHERS: [Row; 12] = [
+    // An erasure, a line feed or a tab at the cursor.
+    (b"\x1b[0m\x1b[K", 2, 1, "cursor"),
+    (b"\n\x1b[0m\x1b[2J", 1, 1, "cursor"),
+    (b"\x1b[0m\t", 8, 1, "cursor"),
+    // A cursor that the content saves itself.
+    (b"\x1b[0m\x1b[sH\x1b[uHi", 2, 1, "cursor"),
+    // A cursor that is known after moves that end at the borders.
+    (b"\x1b[0m\x1b[9A\x1b[9DHi", 2, 1, ""),
+    // Cells that are printed over.
+    (b"\x1b[1;1HHi\x1b[0m\x1b[1;1HHi", 2, 1, ""),
+    // Colours that are set but for one bit, and colours that are set after the last print.
+    (b"\x1b[1;37;40m\x1b[2J", 1, 1, "colours"),
+    (b"\x1b[2J\x1b[0m", 1, 1, "colours"),
+    // Wrap that is set off, and wrap that moves nothing but the last cursor.
+    (b"\x1b[?7l\x1b[0m\x1b[2JHia", 2, 2, ""),
+    (b"\x1b[0m\x1b[2JHi", 2, 1, ""),
+    // Bytes after the end mark are no content.
+    (b"\x1b[0m\x1b[2J\x1a\x1a\x1a", 1, 1, ""),
+    // A screen that is left but for the cells of one line.
+    (b"\x1b[0m\x1b[2;1HHi", 2, 2, "screen"),
+];
+
+/// The class that knows the parts of these names.
+fn class_named(names: &str) -> Start {
+    Start {
+        screen: names.contains("screen"),
+        cursor: names.contains("cursor"),
+        saved: names.contains("saved"),
+        colours: names.contains("colours"),
+        wrap: names.contains("wrap"),
+    }
+}
+
+/// What a file needs. A search that ran out of memory is made again.
+pub(super) fn needs_of<'a, G: Grid>(rt: &(impl Abort + AllocGlobal), file: &'a [u8]) -> Needs<'a>
+    requires { length file.now ≤ longest_file }
+{
+    match needs::<G>(rt.alloc(), file) {
+        Ok(found) => found,
+        Err(AllocError) => needs::<G>(rt.alloc(), file).expect(rt, "memory"),
+    }
+}
+
+/// Asserts what the contents need, found over one kind of grid.
+fn expect_needs_on<G: Grid>(rt: &(impl Abort + AllocGlobal), rows: &[Row]) {
+    for (content, width, lines, names) in rows {
+        let file = plain_file(rt, content, *width, *lines);
+        assert!(rt; file.len() <= MAX_FILE);
+        match needs_of::<G>(rt, file.as_slice()) {
+            Needs::Least(parts, class) => {
+                assert!(rt; class == class_named(names), "{names} at {content:?}");
+                assert_eq!(rt; parts.width(), *width as usize);
+                assert_eq!(rt; parts.lines(), *lines as usize);
+            }
+            Needs::Refused(_, _) => panic!(rt; "refused: {content:?}"),
+        }
+    }
+}
+
+/// Asserts what the contents need.
+fn expect_needs(rt: &(impl Abort + AllocGlobal), rows: &[Row]) {
+    expect_needs_on::<PlainGrid>(rt, rows);
+    expect_needs_on::<PlaneGrid>(rt, rows);
+}
+
+#[test]
+fn each_class_is_needed_by_a_content(rt: HostRuntime) {
+    expect_needs(&rt, &EACH_CLASS);
+}
+
+#[test]
+fn parts_are_needed_for_other_reasons(rt: HostRuntime) {
+    expect_needs(&rt, &OTHERS);
+}
+
+/// Asserts the fault of a content for which nothing is enough, found over one kind of grid.
+fn expect_needs_fault<G: Grid>(
+    rt: &(impl Abort + AllocGlobal),
+    content: &[u8],
+    offset: usize,
+    cause: Cause,
+) {
+    let file = plain_file(rt, content, 2, 1);
+    assert!(rt; file.len() <= MAX_FILE);
+    match &needs_of::<G>(rt, file.as_slice()) {
+        Needs::Refused(Some(parts), fault) => {
+            assert_eq!(rt; *fault, Fault { offset, cause });
+            assert_eq!(rt; parts.content(), content);
+        }
+        _ => panic!(rt; "a fault of the content was expected"),
+    }
+}
+
+#[test]
+fn content_that_fails_from_the_cleared_start_is_refused(rt: HostRuntime) {
+    let rows: [(&[u8], usize, Cause); 5] = [
+        (b"Hi!", 2, Cause::PrintBelow),
+        (b"\x1b[6n", 0, Cause::ReportAsked),
+        (b"\n\n", 1, Cause::Scrolls),
+        (b"H\x1b[3", 1, Cause::EndInSequence),
+        (b"\x1b[2J\x1b[0m\x1b[9;9H", 8, Cause::OutsideScreen),
+    ];
+    for (content, offset, cause) in rows {
+        expect_needs_fault::<PlainGrid>(&rt, content, offset, cause);
+        expect_needs_fault::<PlaneGrid>(&rt, content, offset, cause);
+    }
+}
+
+/// Asserts the fault of a file whose record or layout is refused, found over one kind of grid.
+fn expect_record_fault<G: Grid>(
+    rt: &(impl Abort + AllocGlobal),
+    file: &[u8],
+    offset: usize,
+    cause: Cause,
+) {
+    assert!(rt; file.len() <= MAX_FILE);
+    match &needs_of::<G>(rt, file) {
+        Needs::Refused(None, fault) => assert_eq!(rt; *fault, Fault { offset, cause }),
+        _ => panic!(rt; "a fault of the record was expected"),
+    }
+}
+
+#[test]
+fn a_refused_record_has_no_parts(rt: HostRuntime) {
+    let after_the_end = file_of_size(&rt, b"Hi\x1a!", 2, 1);
+    let rows: [(&[u8], usize, Cause); 2] = [
+        (&[b'S'; 127], 127, Cause::NoRecord),
+        (after_the_end.as_slice(), 3, Cause::BytesAfterEndMark),
+    ];
+    for (file, offset, cause) in rows {
+        expect_record_fault::<PlainGrid>(&rt, file, offset, cause);
+        expect_record_fault::<PlaneGrid>(&rt, file, offset, cause);
+    }
+}
+
+/// The content, its width and lines, whether it is known what it needs, and the text.
+static TEXTS: [(&[u8], u16, u16, bool, &[u8]); 6] = [
+    (
+        b"\x1b[?7h\x1b[0m\x1b[2JHi",
+        2,
+        1,
+        true,
+        b"size: 2 x 1\ncontent: 15 bytes\nneeds: nothing\n",
+    ),
+    (
+        b"Hi",
+        2,
+        1,
+        true,
+        b"size: 2 x 1\ncontent: 2 bytes\nneeds: cursor colours\n",
+    ),
+    (
+        b"H\x1b[uHia",
+        2,
+        2,
+        true,
+        b"size: 2 x 2\ncontent: 7 bytes\nneeds: screen cursor saved colours wrap\n",
+    ),
+    (
+        b"",
+        3,
+        2,
+        true,
+        b"size: 3 x 2\ncontent: 0 bytes\nneeds: screen\n",
+    ),
+    (
+        b"Hi!",
+        2,
+        1,
+        false,
+        b"size: 2 x 1\ncontent: 3 bytes\nverdict: refused\nat 2: F20 print below the stated lines\n",
+    ),
+    (
+        b"H\x1b[3",
+        2,
+        1,
+        false,
+        b"size: 2 x 1\ncontent: 4 bytes\nverdict: refused\nat 1: F12 content ends in a sequence\n",
+    ),
+];
+
+#[test]
+fn needs_are_told(rt: HostRuntime) {
+    for (content, width, lines, passes, text) in &TEXTS {
+        let file = plain_file(&rt, content, *width, *lines);
+        expect_run(&rt, file.as_slice(), &NEEDS, 256, Ok(*passes), text);
+    }
+}
+
+#[test]
+fn notes_are_told_before_the_needs(rt: HostRuntime) {
+    let noted = file_of_size(&rt, b"", 0, 1);
+    let text: &[u8] = b"size: 80 x 1\n\
+        content: 0 bytes\n\
+        note: width 0 taken as 80\n\
+        note: no end mark after the content\n\
+        note: file size differs from the content\n\
+        needs: screen\n";
+    expect_run(&rt, noted.as_slice(), &NEEDS, 256, Ok(true), text);
+}

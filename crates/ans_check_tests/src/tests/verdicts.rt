@@ -1,0 +1,269 @@
+//! What a check finds of files.
+
+ghost use Rattle.std.specs.Prelude.{◌≤◌, length};
+ghost use Rattle.ans_model.specs.Bytes.{longest_file};
+
+use super::needs::needs_of;
+use super::{file_of, file_of_size};
+use ans_check::{Needs, Start, Verdict, check};
+use ans_play::Picture;
+use ans_samples::records::{ACCEPTED, AcceptedFile, REFUSED};
+use ans_samples::rows::Expected::{Refused, Shows};
+use ans_samples::rows::{
+    BROKEN, BYTES, COLOURS, FORBIDDEN, MISPLACED, PARTS_KNOWN, PASSES_FROM_ANY,
+    PASSES_FROM_CLEARED, Row, TABS, UNKNOWN_CELLS, WITHOUT_MEANING,
+};
+use ans_sauce::{Cause, Fault, MAX_FILE, Parts};
+use ans_screen::{Grid, PlainGrid, PlaneGrid};
+use std::alloc::AllocError;
+use std::process::Abort;
+
+/// Whether the cause is in a file's record or its layout.
+fn is_of_the_record(cause: Cause) -> bool {
+    matches!(
+        cause,
+        Cause::NoRecord
+            | Cause::WrongVersion
+            | Cause::WrongKind
+            | Cause::CommentsMissing
+            | Cause::LinesUnstated
+            | Cause::WidthTooLarge
+            | Cause::LinesTooLarge
+            | Cause::BytesAfterEndMark
+    )
+}
+
+/// Asserts the picture's bytes in row order, and their attributes where these are compared.
+fn assert_shows<G: Grid>(rt: &impl Abort, picture: &Picture<G>, bytes: &[u8], attributes: &[u8]) {
+    let width = picture.width();
+    let lines = picture.lines();
+    assert!(rt; width <= 100 && lines <= 100);
+    assert_eq!(rt; bytes.len(), width * lines);
+    assert!(rt; attributes.is_empty() || attributes.len() == bytes.len());
+    for row in 0..lines {
+        for col in 0..width {
+            let i = row * width + col;
+            assert_eq!(rt;
+                Some(&picture.glyph(row, col)),
+                bytes.get(i),
+                "at {row}, {col}"
+            );
+            if let Some(attribute) = attributes.get(i) {
+                assert_eq!(rt; picture.attr(row, col), *attribute, "at {row}, {col}");
+            }
+        }
+    }
+}
+
+/// What a check answers. One that ran out of memory is made again.
+pub(super) fn check_file<'a, G: Grid>(
+    rt: &(impl Abort + AllocGlobal),
+    file: &'a [u8],
+    start: Start,
+) -> Verdict<'a, G>
+    requires { length file.now ≤ longest_file }
+{
+    match check(rt.alloc(), file, start) {
+        Ok(verdict) => verdict,
+        Err(AllocError) => check(rt.alloc(), file, start).expect(rt, "memory"),
+    }
+}
+
+/// Asserts what a check over one kind of grid answers: the picture's bytes and attributes, or a fault.
+fn expect_verdict_on<G: Grid>(
+    rt: &(impl Abort + AllocGlobal),
+    file: &[u8],
+    start: Start,
+    expected: Result<(&[u8], &[u8]), (usize, Cause)>,
+)
+    requires { length file.now ≤ longest_file }
+{
+    match check_file::<G>(rt, file, start) {
+        Verdict::Pass(parts, picture) => {
+            assert_eq!(rt; picture.width(), parts.width());
+            assert_eq!(rt; picture.lines(), parts.lines());
+            let (bytes, attributes) = expected.expect(rt, "a fault was expected");
+            assert_shows(rt, &picture, bytes, attributes);
+        }
+        Verdict::Refused(parts, fault) => {
+            let (offset, cause) = expected.expect_err(rt, "a pass was expected");
+            assert_eq!(rt; fault, Fault { offset, cause });
+            assert_eq!(rt; parts.is_none(), is_of_the_record(cause));
+        }
+    }
+}
+
+/// Asserts what a check answers, over both kinds of grid.
+fn expect_verdict(
+    rt: &(impl Abort + AllocGlobal),
+    file: &[u8],
+    start: Start,
+    expected: Result<(&[u8], &[u8]), (usize, Cause)>,
+) {
+    assert!(rt; file.len() <= MAX_FILE);
+    expect_verdict_on::<PlainGrid>(rt, file, start, expected);
+    expect_verdict_on::<PlaneGrid>(rt, file, start, expected);
+}
+
+/// Asserts that what the file needs, found over both kinds of grid, tells from which starts it passes:
+/// from this one exactly where it passes.
+fn expect_needs_agree(rt: &(impl Abort + AllocGlobal), file: &[u8], start: Start, passes: bool) {
+    assert!(rt; file.len() <= MAX_FILE);
+    for found in [
+        needs_of::<PlainGrid>(rt, file),
+        needs_of::<PlaneGrid>(rt, file),
+    ] {
+        let agrees = match &found {
+            Needs::Least(_, class) => class.covers(start) == passes,
+            Needs::Refused(_, _) => !passes,
+        };
+        assert!(rt; agrees, "needs of {file:?}");
+    }
+}
+
+/// The content, an end mark and the plain record of this size.
+fn file_of_content(rt: &(impl Abort + AllocGlobal), row: &Row) -> Vec<u8> {
+    let mut front = [0x1a; 256];
+    assert!(rt; row.content.len() < 256 && row.width < 256 && row.lines < 256);
+    front[..row.content.len()].copy_from_slice(row.content);
+    file_of_size(
+        rt,
+        &front[..row.content.len() + 1],
+        row.width as u16,
+        row.lines as u16,
+    )
+}
+
+/// Asserts that a check finds of each content, as a file, what is expected of it, and that what it
+/// needs agrees.
+fn expect_rows(rt: &(impl Abort + AllocGlobal), rows: &[Row]) {
+    for row in rows {
+        let file = file_of_content(rt, row);
+        let expected = match row.expected {
+            Shows(bytes, attributes) => Ok((bytes, attributes)),
+            Refused(offset, cause) => Err((offset, cause)),
+        };
+        expect_verdict(rt, file.as_slice(), row.start, expected);
+        expect_needs_agree(rt, file.as_slice(), row.start, expected.is_ok());
+    }
+}
+
+#[test]
+fn bytes_alone(rt: HostRuntime) {
+    expect_rows(&rt, &BYTES);
+}
+
+#[test]
+fn tabs(rt: HostRuntime) {
+    expect_rows(&rt, &TABS);
+}
+
+#[test]
+fn starts_known_in_part(rt: HostRuntime) {
+    expect_rows(&rt, &PARTS_KNOWN);
+}
+
+#[test]
+fn pictures_from_any_start(rt: HostRuntime) {
+    expect_rows(&rt, &PASSES_FROM_ANY);
+}
+
+#[test]
+fn pictures_from_the_cleared_start(rt: HostRuntime) {
+    expect_rows(&rt, &PASSES_FROM_CLEARED);
+}
+
+#[test]
+fn pictures_in_colours(rt: HostRuntime) {
+    expect_rows(&rt, &COLOURS);
+}
+
+#[test]
+fn broken_sequences(rt: HostRuntime) {
+    expect_rows(&rt, &BROKEN);
+}
+
+#[test]
+fn sequences_without_a_meaning(rt: HostRuntime) {
+    expect_rows(&rt, &WITHOUT_MEANING);
+}
+
+#[test]
+fn sequences_that_are_not_allowed(rt: HostRuntime) {
+    expect_rows(&rt, &FORBIDDEN);
+}
+
+#[test]
+fn cells_that_stay_unknown(rt: HostRuntime) {
+    expect_rows(&rt, &UNKNOWN_CELLS);
+}
+
+#[test]
+fn misplaced_tokens(rt: HostRuntime) {
+    expect_rows(&rt, &MISPLACED);
+}
+
+#[test]
+fn records_and_layouts_are_refused(rt: HostRuntime) {
+    for row in &REFUSED {
+        let file = file_of(&rt, row.front, row.edits);
+        let fault = (row.offset, row.cause);
+        expect_verdict(&rt, file.as_slice(), Start::any(), Err(fault));
+    }
+    let fault = Err((127, Cause::NoRecord));
+    expect_verdict(&rt, &[b'S'; 127], Start::cleared(), fault);
+    expect_verdict(&rt, b"", Start::cleared(), Err((0, Cause::NoRecord)));
+}
+
+/// Asserts the content, the size and the notes of an accepted file.
+fn expect_parts(rt: &impl Abort, parts: &Parts<'_>, row: &AcceptedFile) {
+    assert_eq!(rt; parts.content(), row.content);
+    assert_eq!(rt; parts.width(), row.width);
+    assert_eq!(rt; parts.lines(), row.lines);
+    assert_eq!(rt; parts.notes().as_slice(), row.notes);
+}
+
+#[test]
+fn accepted_files_have_their_parts(rt: HostRuntime) {
+    for row in &ACCEPTED {
+        let file = file_of(&rt, row.front, row.edits);
+        assert!(rt; file.len() <= MAX_FILE);
+        let verdict = check_file::<PlaneGrid>(&rt, file.as_slice(), Start::cleared());
+        match &verdict {
+            Verdict::Pass(parts, _) => expect_parts(&rt, parts, row),
+            Verdict::Refused(Some(parts), _) => expect_parts(&rt, parts, row),
+            Verdict::Refused(None, _) => panic!(rt; "the record is accepted"),
+        }
+    }
+}
+
+#[test]
+fn files_with_odd_ends_are_accepted(rt: HostRuntime) {
+    let mut wide = [b' '; 80];
+    wide[..2].copy_from_slice(b"Hi");
+    let rows: [(&[u8], u16, u16, &[u8]); 4] = [
+        (b"Hi", 2, 1, b"Hi"),
+        (b"Hi\x1a\x1a", 2, 1, b"Hi"),
+        (b"\x1a", 1, 2, b"  "),
+        (b"Hi\x1a", 0, 1, &wide),
+    ];
+    for (front, width, lines, picture) in rows {
+        let file = file_of_size(&rt, front, width, lines);
+        expect_verdict(&rt, file.as_slice(), Start::cleared(), Ok((picture, &[])));
+    }
+}
+
+#[test]
+fn each_proper_prefix_of_a_file_has_no_record(rt: HostRuntime) {
+    let file = file_of(&rt, b"Hi\x1a", &[]);
+    assert_eq!(rt; file.len(), 131);
+    for n in 0..131usize {
+        expect_verdict(
+            &rt,
+            &file.as_slice()[..n],
+            Start::cleared(),
+            Err((n, Cause::NoRecord)),
+        );
+    }
+    expect_verdict(&rt, file.as_slice(), Start::cleared(), Ok((b"Hi", &[7, 7])));
+}

@@ -1,0 +1,52 @@
+//! What no row of `ans_samples` shows. The rows are played on two machines in the tests of the plain
+//! answer, and none of them scrolls.
+
+use ans_laws::machine::Machine;
+use ans_model::cell::{Cell, Position};
+use ans_model::kind::Kind;
+use ans_model::size::Size;
+use arrayvec::ArrayVec;
+use std::alloc::{AllocError, Global};
+use std::process::Abort;
+
+/// A machine in its cleared state. A call that ran out of memory is made again.
+fn cleared(rt: &impl Abort, alloc: Global, size: Size) -> Machine {
+    match Machine::cleared(alloc, size) {
+        Ok(machine) => machine,
+        Err(AllocError) => Machine::cleared(alloc, size).expect(rt, "memory"),
+    }
+}
+
+fn print(machine: &mut Machine, bytes: &[u8]) {
+    for byte in bytes {
+        machine.step(&Kind::Glyph(*byte));
+    }
+}
+
+/// A line of glyphs wraps at once: after the last column the cursor stands in the row below.
+#[test]
+fn wrap_is_immediate(rt: HostRuntime) {
+    let mut machine = cleared(&rt, rt.alloc(), Size::new(2, 1));
+    machine.play(&[Kind::Glyph(b'H'), Kind::Glyph(b'i')]);
+    assert_eq!(rt; machine.cursor(), Position { row: 1, column: 0 });
+}
+
+/// A line feed in the spare row scrolls: the first line is gone, and the last row is blank in the
+/// current colours.
+#[test]
+fn line_feeds_scroll(rt: HostRuntime) {
+    let mut machine = cleared(&rt, rt.alloc(), Size::new(2, 2));
+    print(&mut machine, b"abcd");
+    let mut red = ArrayVec::new();
+    let _ = red.try_push(41);
+    machine.step(&Kind::Colours(red));
+    machine.step(&Kind::LineFeed);
+    print(&mut machine, b"x");
+    let bytes = b"cd  x ";
+    let attributes = [0x07, 0x07, 0x07, 0x07, 0x47, 0x47];
+    assert_eq!(rt; machine.cells().len(), 6);
+    for (i, cell) in machine.cells().iter().enumerate().take(6) {
+        let (byte, attribute) = (bytes[i], attributes[i]);
+        assert_eq!(rt; *cell, Cell { byte, attribute }, "cell {i}");
+    }
+}

@@ -1,0 +1,114 @@
+//! The names and the form of a table.
+use super::read_words;
+use ans_options::{Command, Options, TableForm, WordsError, table_names};
+use ans_samples::start;
+use clap::error::ErrorKind;
+use std::process::Abort;
+
+/// The options of a table in a form.
+macro_rules! table {
+    ($form:ident) => {
+        Options { command: Command::Table(TableForm::$form), start: start!(any), cells: false }
+    };
+}
+
+/// Words that ask for a table, their options, and the names.
+static TABLES: [(&[&str], Options, &[&str]); 12] = [
+    (&["anscheck", "table"], table!(Headed), &[]),
+    (&["anscheck", "table", "a"], table!(Headed), &["a"]),
+    (
+        &["anscheck", "table", "a", "b", "a"],
+        table!(Headed),
+        &["a", "b", "a"],
+    ),
+    (
+        &["anscheck", "table", "a", "--no-header", "b"],
+        table!(Bare),
+        &["a", "b"],
+    ),
+    (&["anscheck", "table", "--no-header"], table!(Bare), &[]),
+    (&["anscheck", "table", "--json"], table!(Json), &[]),
+    (
+        &["anscheck", "table", "--no-header", "a", "--json"],
+        table!(Json),
+        &["a"],
+    ),
+    (
+        &["anscheck", "table", "--", "--json"],
+        table!(Headed),
+        &["--json"],
+    ),
+    (
+        &["anscheck", "table", "--", "--no-header"],
+        table!(Headed),
+        &["--no-header"],
+    ),
+    (&["anscheck", "table", ""], table!(Headed), &[""]),
+    (
+        &["anscheck", "table", "a", "-"],
+        table!(Headed),
+        &["a", "-"],
+    ),
+    (&["anscheck", "table", "help"], table!(Headed), &["help"]),
+];
+
+/// Words that are wrong, and the kind of the mistake.
+static FAULTS: [(&[&str], ErrorKind); 6] = [
+    (
+        &["anscheck", "table", "--cleared"],
+        ErrorKind::UnknownArgument,
+    ),
+    (
+        &["anscheck", "table", "--no-header", "--no-header"],
+        ErrorKind::ArgumentConflict,
+    ),
+    (
+        &["anscheck", "check", "--no-header"],
+        ErrorKind::UnknownArgument,
+    ),
+    (
+        &["anscheck", "table", "--json", "--json"],
+        ErrorKind::ArgumentConflict,
+    ),
+    (&["anscheck", "show", "--json"], ErrorKind::UnknownArgument),
+    (&["anscheck", "help", "table"], ErrorKind::DisplayHelp),
+];
+
+/// The names that words give. Where memory was refused they are read once more.
+fn names_of(rt: &(impl Abort + AllocGlobal), words: &[&str]) -> Vec<String> {
+    match table_names(rt.alloc(), words) {
+        Ok(names) => names,
+        Err(_) => match table_names(rt.alloc(), words) {
+            Ok(names) => names,
+            Err(_) => panic!(rt; "no names"),
+        },
+    }
+}
+
+#[test]
+fn words_name_the_files_of_a_table(rt: HostRuntime) {
+    for (words, expected, files) in &TABLES {
+        match read_words(&rt, words) {
+            Ok((found, name)) => {
+                assert!(rt; found == *expected);
+                assert!(rt; name.is_none());
+            }
+            Err(_) => panic!(rt; "no options"),
+        }
+        let names = names_of(&rt, words);
+        assert_eq!(rt; names.len(), files.len());
+        for (name, file) in names.iter().zip(files.iter()) {
+            assert_eq!(rt; name.as_str(), *file);
+        }
+    }
+}
+
+#[test]
+fn wrong_words_of_a_table_have_their_kind(rt: HostRuntime) {
+    for (words, kind) in &FAULTS {
+        match read_words(&rt, words) {
+            Err(WordsError::Clap(error)) => assert!(rt; error.kind() == *kind),
+            _ => panic!(rt; "no error of clap's"),
+        }
+    }
+}

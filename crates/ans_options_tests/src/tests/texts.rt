@@ -1,0 +1,205 @@
+//! What `clap` says of words, in the layout of Rust's clap 4.
+use super::read_words;
+use ans_options::WordsError;
+use std::process::Abort;
+
+/// A help, by all that stands before the exit statuses.
+macro_rules! help {
+    ($($text:literal),+) => {
+        concat!(
+            $($text,)+
+            "\n\
+            Exit status:\n\
+            \x20 0  The file passes, or help or the version was asked for\n\
+            \x20 1  The file is refused\n\
+            \x20 2  There is no answer; standard error says why\n"
+        )
+    };
+}
+
+/// The help of commands, by what each does, its usage and its options.
+macro_rules! command_helps {
+    ($($name:literal: $about:literal, $usage:literal, $options:literal;)*) => {
+        [$(($name, help!(
+            $about,
+            "\n\nUsage: anscheck ",
+            $name,
+            $usage,
+            "\n\n\
+            Arguments:\n\
+            \x20 [FILE]  The file to read; - or none is standard input\n\
+            \n\
+            Options:\n",
+            $options
+        ))),*]
+    };
+}
+
+/// A mistake, by what `clap` says of it and the usage that it shows.
+macro_rules! mistake {
+    ($what:literal, $usage:literal) => {
+        concat!(
+            "error: ",
+            $what,
+            "\n\nUsage: anscheck ",
+            $usage,
+            "\n\nFor more information, try '--help'.\n"
+        )
+    };
+}
+
+const PROGRAM_HELP: &str = help!(
+    "Checks ANSI art files that end in a SAUCE record\n\
+    \n\
+    Usage: anscheck <COMMAND>\n\
+    \n\
+    Commands:\n\
+    \x20 why     Say why a drawing is refused, what it relies on, and how to mend it\n\
+    \x20 needs   Print what a drawing relies on: screen, cursor, saved, colours, wrap\n\
+    \x20 check   Check that a file always shows the same picture, and print it\n\
+    \x20 show    Show the picture in its colours, for a terminal or as a page\n\
+    \x20 sauce   Print what a file's SAUCE record says\n\
+    \x20 tokens  Print the bytes and the escape sequences of a file, one a line\n\
+    \x20 table   Print one row for each file: its verdict, its needs, its record\n\
+    \n\
+    Options:\n\
+    \x20 -h, --help     Print help\n\
+    \x20 -V, --version  Print version\n\
+    \n\
+    Examples:\n\
+    \x20 anscheck why drawing.ans\n\
+    \x20 anscheck check --cleared drawing.ans\n\
+    \x20 anscheck show drawing.ans\n\
+    \x20 anscheck help check\n"
+);
+
+/// Commands, and the help of each.
+static COMMANDS: [(&str, &str); 6] = command_helps! {
+    "why":
+        "Say why a drawing is refused, what it relies on, and how to mend it", " [FILE]",
+        "  -h, --help  Print help\n";
+    "needs":
+        "Print what a drawing relies on: screen, cursor, saved, colours, wrap", " [FILE]",
+        "  -h, --help  Print help\n";
+    "check":
+        "Check that a file always shows the same picture, and print it", " [OPTIONS] [FILE]",
+        "\x20     --known-screen   Assume the screen to be blank, white on black\n\
+        \x20     --known-cursor   Assume the cursor to be at the top left\n\
+        \x20     --known-saved    Assume the saved cursor to be at the top left\n\
+        \x20     --known-colours  Assume the colours to be white on black\n\
+        \x20     --known-wrap     Assume wrap to be on\n\
+        \x20     --cleared        Assume all five: a screen that was just cleared\n\
+        \x20     --cells          Print each cell too: its byte and its attribute, in hex\n\
+        \x20 -h, --help           Print help\n";
+    "show":
+        "Show the picture in its colours, for a terminal or as a page", " [OPTIONS] [FILE]",
+        "\x20     --html           Write an HTML page, in the colours of a VGA\n\
+        \x20     --vga            Mix the colours of a VGA, whatever the terminal's are\n\
+        \x20     --any            Assume nothing but what a --known flag says\n\
+        \x20     --known-screen   Assume the screen to be blank, white on black\n\
+        \x20     --known-cursor   Assume the cursor to be at the top left\n\
+        \x20     --known-saved    Assume the saved cursor to be at the top left\n\
+        \x20     --known-colours  Assume the colours to be white on black\n\
+        \x20     --known-wrap     Assume wrap to be on\n\
+        \x20 -h, --help           Print help\n\
+        \n\
+        Without --any or a --known flag all five are assumed: a screen just cleared.\n";
+    "sauce":
+        "Print what a file's SAUCE record says", " [FILE]",
+        "  -h, --help  Print help\n";
+    "tokens":
+        "Print the bytes and the escape sequences of a file, one a line", " [FILE]",
+        "  -h, --help  Print help\n";
+};
+
+const TABLE_HELP: &str = "\
+    Print one row for each file: its verdict, its needs, its record\n\
+    \n\
+    Usage: anscheck table [OPTIONS] [FILE]...\n\
+    \n\
+    Arguments:\n\
+    \x20 [FILE]...  The files; without one, names from standard input, ended by 00h\n\
+    \n\
+    Options:\n\
+    \x20     --json       Write each row as a JSON object, one a line\n\
+    \x20     --no-header  Leave out the line of the columns' names\n\
+    \x20 -h, --help       Print help\n\
+    \n\
+    The verdict is that of needs: pass means from a screen just cleared. A file\n\
+    that cannot be read has the verdict error, and the reason as its fault. In a\n\
+    name \\t, \\n and \\xHH stand for a tab, a line end and a byte that is not shown.\n\
+    \n\
+    Exit status:\n\
+    \x20 0  Every file passes, or help was asked for\n\
+    \x20 1  A file is refused, and every file was read\n\
+    \x20 2  A file could not be read, or the table could not be written\n";
+
+/// Words that ask for no help, and the text.
+static TEXTS: [(&[&str], &str); 10] = rows! {
+    "anscheck" "--version" => "anscheck 0.1.0 (rattle-kit-13f)\n";
+    "anscheck" "-V" => "anscheck 0.1.0 (rattle-kit-13f)\n";
+    "anscheck" "check" "--bogus" => mistake!(
+        "unexpected argument '--bogus' found\n\n  tip: to pass '--bogus' as a value, use '-- --bogus'",
+        "check [OPTIONS] [FILE]"
+    );
+    "anscheck" "check" "f" "g" => mistake!("unexpected argument 'g' found", "check [OPTIONS] [FILE]");
+    "anscheck" => mistake!(
+        "'anscheck' requires a subcommand but one was not provided\n\
+        \x20 [subcommands: why, needs, check, show, sauce, tokens, table]",
+        "<COMMAND>"
+    );
+    "anscheck" "other" => mistake!("unrecognized subcommand 'other'", "<COMMAND>");
+    "anscheck" "help" "nonsense" => mistake!("unrecognized subcommand 'nonsense'", "<COMMAND>");
+    "anscheck" "help" "chek" => mistake!(
+        "unrecognized subcommand 'chek'\n\n  tip: a similar subcommand exists: 'check'",
+        "<COMMAND>"
+    );
+    "anscheck" "help" "--cleared" => mistake!("unrecognized subcommand '--cleared'", "<COMMAND>");
+    "anscheck" "help" "check" "more"
+        => mistake!("unexpected argument 'more' found", "check [OPTIONS] [FILE]");
+};
+
+/// What `clap` says of words. Where memory was refused it says it once more.
+fn text_of(rt: &(impl Abort + AllocGlobal), words: &[&str]) -> String {
+    let Err(WordsError::Clap(error)) = read_words(rt, words) else {
+        panic!(rt; "no error of clap's");
+    };
+    match format!(in rt.alloc(); "{error}") {
+        Ok(text) => text,
+        Err(_) => format!(in rt.alloc(); "{error}").expect(rt, "no text"),
+    }
+}
+
+/// Asserts what `clap` says of words. No line of a help has more than 79 columns.
+fn expect_help(rt: &(impl Abort + AllocGlobal), words: &[&str], text: &str) {
+    let said = text_of(rt, words);
+    assert_eq!(rt; said.as_str(), text);
+    for line in text.split('\n') {
+        assert!(rt; line.chars().count() <= 79);
+    }
+}
+
+#[test]
+fn help_has_its_texts(rt: HostRuntime) {
+    for word in ["--help", "-h", "help"] {
+        expect_help(&rt, &["anscheck", word], PROGRAM_HELP);
+    }
+    for words in [
+        ["anscheck", "table", "--help"],
+        ["anscheck", "help", "table"],
+    ] {
+        expect_help(&rt, &words, TABLE_HELP);
+    }
+    for (command, text) in &COMMANDS {
+        expect_help(&rt, &["anscheck", command, "--help"], text);
+        expect_help(&rt, &["anscheck", "help", command], text);
+    }
+}
+
+#[test]
+fn words_have_their_texts(rt: HostRuntime) {
+    for (words, text) in &TEXTS {
+        let said = text_of(&rt, words);
+        assert_eq!(rt; said.as_str(), *text);
+    }
+}

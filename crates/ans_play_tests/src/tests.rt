@@ -1,0 +1,219 @@
+//! Plays of small contents over both grids, each fed whole, in two pieces at every cut, and byte by
+//! byte.
+
+use ans_model::fault::{Cause, Fault};
+use ans_play::{Picture, Player, Start};
+use ans_samples::rows::Expected::{Refused, Shows};
+use ans_samples::rows::{
+    BROKEN, BYTES, COLOURS, FORBIDDEN, MISPLACED, PARTS_KNOWN, PASSES_FROM_ANY,
+    PASSES_FROM_CLEARED, Row, TABS, UNKNOWN_CELLS, WITHOUT_MEANING,
+};
+use ans_screen::{Grid, PlainGrid, PlaneGrid};
+use std::alloc::Global;
+use std::process::Abort;
+use std::test::Fail;
+
+fn feed<G: Grid>(rt: &impl Abort, player: &mut Player<G>, piece: &[u8]) -> Result<(), Fault> {
+    let fed = player.fed();
+    assert!(rt; fed <= 200 && piece.len() <= 200);
+    let answer = player.feed(piece);
+    let more = if answer.is_ok() { piece.len() } else { 0 };
+    assert_eq!(rt; player.fed(), fed + more);
+    answer
+}
+
+fn assert_shows<G: Grid>(rt: &impl Abort, picture: &Picture<G>, bytes: &[u8], attributes: &[u8]) {
+    let width = picture.width();
+    let lines = picture.lines();
+    assert!(rt; width <= 20 && lines <= 10);
+    assert_eq!(rt; bytes.len(), width * lines);
+    assert!(rt; attributes.is_empty() || attributes.len() == bytes.len());
+    for row in 0..lines {
+        for col in 0..width {
+            let i = row * width + col;
+            assert!(rt; i < bytes.len());
+            assert_eq!(rt; picture.glyph(row, col), bytes[i]);
+            if let Some(attribute) = attributes.get(i) {
+                assert_eq!(rt; picture.attr(row, col), *attribute);
+            }
+        }
+        assert_copies(rt, picture, row);
+    }
+}
+
+/// Asserts that the bytes and attributes copied of a row are its cells', read one by one.
+fn assert_copies<G: Grid>(rt: &impl Abort, picture: &Picture<G>, row: usize) {
+    let width = picture.width();
+    assert!(rt; row < picture.lines() && width <= 20);
+    let mut bytes = [0; 20];
+    let mut attributes = [0; 20];
+    picture.copy_glyphs(row, &mut bytes[..width]);
+    picture.copy_attributes(row, &mut attributes[..width]);
+    for col in 0..width {
+        assert_eq!(rt; bytes[col], picture.glyph(row, col));
+        assert_eq!(rt; attributes[col], picture.attr(row, col));
+    }
+}
+
+/// Feeds the first bytes of a row's content as one piece and the others in pieces of a size, with an
+/// empty piece after each.
+fn play<G: Grid>(
+    rt: &impl Abort,
+    alloc: Global,
+    row: &Row,
+    first: usize,
+    size: usize,
+) -> Result<(), Fail> {
+    let content = row.content;
+    assert!(rt; 1 <= row.width && row.width <= 20 && 1 <= row.lines && row.lines <= 10);
+    assert!(rt; first <= content.len() && 0 < size);
+    let mut player = Player::<G>::new(alloc, row.width, row.lines, row.start)?;
+    let mut met = feed(rt, &mut player, &content[..first]);
+    for piece in content[first..].chunks(size) {
+        let answer = feed(rt, &mut player, piece);
+        assert_eq!(rt; feed(rt, &mut player, b""), answer);
+        if met.is_ok() {
+            met = answer;
+        } else {
+            assert_eq!(rt; answer, met);
+        }
+    }
+    match (player.finish(), row.expected) {
+        (Ok(picture), Shows(bytes, attributes)) => assert_shows(rt, &picture, bytes, attributes),
+        (Err(fault), Refused(offset, cause)) => {
+            assert_eq!(rt; fault, Fault { offset, cause }, "in {content:?}");
+            assert!(rt; met.is_ok() || met == Err(fault));
+        }
+        _ => panic!(rt; "a picture where a fault was expected, or the reverse, in {content:?}"),
+    }
+    Ok(())
+}
+
+/// Plays each content over both grids: whole, in two pieces at every cut, and byte by byte.
+fn play_all(rt: &impl Abort, alloc: Global, rows: &[Row]) -> Result<(), Fail> {
+    for row in rows {
+        let all = row.content.len();
+        assert!(rt; all < 200);
+        for cut in 0..all + 1 {
+            play::<PlainGrid>(rt, alloc, row, cut, all + 1)?;
+            play::<PlaneGrid>(rt, alloc, row, cut, all + 1)?;
+        }
+        play::<PlainGrid>(rt, alloc, row, 0, 1)?;
+        play::<PlaneGrid>(rt, alloc, row, 0, 1)?;
+    }
+    Ok(())
+}
+
+#[test]
+fn bytes_alone(rt: HostRuntime) -> Result<(), Fail> {
+    play_all(&rt, rt.alloc(), &BYTES)
+}
+
+#[test]
+fn tabs(rt: HostRuntime) -> Result<(), Fail> {
+    play_all(&rt, rt.alloc(), &TABS)
+}
+
+#[test]
+fn starts_of_known_parts(rt: HostRuntime) -> Result<(), Fail> {
+    play_all(&rt, rt.alloc(), &PARTS_KNOWN)
+}
+
+#[test]
+fn pictures_from_any_start(rt: HostRuntime) -> Result<(), Fail> {
+    play_all(&rt, rt.alloc(), &PASSES_FROM_ANY)
+}
+
+#[test]
+fn pictures_from_the_cleared_start(rt: HostRuntime) -> Result<(), Fail> {
+    play_all(&rt, rt.alloc(), &PASSES_FROM_CLEARED)
+}
+
+#[test]
+fn pictures_in_colours(rt: HostRuntime) -> Result<(), Fail> {
+    play_all(&rt, rt.alloc(), &COLOURS)
+}
+
+#[test]
+fn broken_sequences(rt: HostRuntime) -> Result<(), Fail> {
+    play_all(&rt, rt.alloc(), &BROKEN)
+}
+
+#[test]
+fn sequences_without_a_meaning(rt: HostRuntime) -> Result<(), Fail> {
+    play_all(&rt, rt.alloc(), &WITHOUT_MEANING)
+}
+
+#[test]
+fn sequences_that_are_not_allowed(rt: HostRuntime) -> Result<(), Fail> {
+    play_all(&rt, rt.alloc(), &FORBIDDEN)
+}
+
+#[test]
+fn cells_that_stay_unknown(rt: HostRuntime) -> Result<(), Fail> {
+    play_all(&rt, rt.alloc(), &UNKNOWN_CELLS)
+}
+
+#[test]
+fn misplaced_tokens(rt: HostRuntime) -> Result<(), Fail> {
+    play_all(&rt, rt.alloc(), &MISPLACED)
+}
+
+#[test]
+fn answers_its_fault_again(rt: HostRuntime) -> Result<(), Fail> {
+    let mut player = Player::<PlainGrid>::new(rt.alloc(), 2, 1, Start::cleared())?;
+    let fault = Fault {
+        offset: 2,
+        cause: Cause::PrintBelow,
+    };
+    assert_eq!(rt; feed(&rt, &mut player, b"H"), Ok(()));
+    assert_eq!(rt; feed(&rt, &mut player, b"i"), Ok(()));
+    assert_eq!(rt; player.fed(), 2);
+    assert_eq!(rt; feed(&rt, &mut player, b"!"), Err(fault));
+    assert_eq!(rt; feed(&rt, &mut player, b""), Err(fault));
+    assert_eq!(rt; player.fed(), 2);
+    assert_eq!(rt; player.finish().err(), Some(fault));
+    Ok(())
+}
+
+/// Asserts that a row's cells are blank from a column on.
+fn expect_blanks(rt: &impl Abort, picture: &Picture<PlainGrid>, row: usize, from: usize) {
+    assert!(rt; row < picture.lines());
+    for col in from..picture.width() {
+        assert_eq!(rt; picture.glyph(row, col), b' ');
+        assert_eq!(rt; picture.attr(row, col), 0x07);
+    }
+}
+
+/// Plays 4095 letters and a coloured one in pieces of a size.
+fn play_letters(rt: &impl Abort, alloc: Global, content: &[u8], size: usize) -> Result<(), Fail> {
+    assert!(rt; 0 < size);
+    let mut player = Player::<PlainGrid>::new(alloc, 80, 52, Start::cleared())?;
+    for piece in content.chunks(size) {
+        let fed = player.fed();
+        assert!(rt; fed <= 5000 && piece.len() <= 5000);
+        assert_eq!(rt; player.feed(piece), Ok(()));
+    }
+    match player.finish() {
+        Ok(picture) => {
+            assert!(rt; picture.width() == 80 && picture.lines() == 52);
+            assert_eq!(rt; picture.glyph(51, 14), b'a');
+            assert_eq!(rt; picture.glyph(51, 15), b'b');
+            assert_eq!(rt; picture.attr(51, 15), 0x0F);
+            expect_blanks(rt, &picture, 51, 16);
+        }
+        Err(fault) => panic!(rt; "refused: {fault:?}"),
+    }
+    Ok(())
+}
+
+/// A sequence after 4095 bytes, whichever way the bytes are cut.
+#[test]
+fn plays_across_long_pieces(rt: HostRuntime) -> Result<(), Fail> {
+    let mut content = vec![in rt.alloc(); b'a'; 4095]?;
+    content.extend_from_slice(b"\x1b[1mb")?;
+    for size in [1usize, 4095, 4096, 4097, 5000] {
+        play_letters(&rt, rt.alloc(), content.as_slice(), size)?;
+    }
+    Ok(())
+}

@@ -1,0 +1,23 @@
+//! The line that is said where there is no answer.
+use ans_report::write_message;
+use ans_trials::writes;
+
+/// Texts, and the lines that say them.
+static LINES: [(&str, &[u8]); 4] = [
+    ("", b"anscheck: \n"),
+    ("out of memory", b"anscheck: out of memory\n"),
+    ("cannot open the file", b"anscheck: cannot open the file\n"),
+    ("\u{2591}", b"anscheck: \xe2\x96\x91\n"),
+];
+
+#[test]
+fn a_message_is_a_line(rt: HostRuntime) {
+    for (text, line) in LINES {
+        assert!(rt;
+            writes(line, |device| {
+                assert!(rt; !device.failed());
+                write_message(device, text)
+            })
+        );
+    }
+}

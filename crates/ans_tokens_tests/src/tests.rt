@@ -1,0 +1,277 @@
+//! Contents byte by byte: the tokens that they hold, and where they are refused.
+
+mod pieces;
+mod sequences;
+mod whole_tokens;
+
+use ans_model::limits::MAX_FILE;
+use ans_tokens::{Cause, Fault, Kind, Scanner, Token, count_glyphs};
+use std::alloc::{AllocError, Global};
+use std::process::Abort;
+use std::test::Fail;
+
+/// Feeds one byte. The content is never as long as the longest file.
+fn feed(rt: &impl Abort, scanner: &mut Scanner, byte: u8) -> Result<Option<Token>, Fault> {
+    assert!(rt; scanner.offset() < MAX_FILE);
+    scanner.byte(byte)
+}
+
+/// How many tokens the content holds, and the fault that ends it.
+fn scan(rt: &impl Abort, content: &[u8]) -> (usize, Option<Fault>) {
+    let mut scanner = Scanner::new();
+    let mut tokens = 0usize;
+    for (i, byte) in content.iter().enumerate() {
+        assert_eq!(rt; scanner.offset(), i);
+        match feed(rt, &mut scanner, *byte) {
+            Ok(Some(token)) => {
+                tokens = tokens.wrapping_add(1);
+                assert_eq!(rt;
+                    token.start().checked_add(token.length()),
+                    Some(scanner.offset())
+                );
+            }
+            Ok(None) => {}
+            Err(fault) => {
+                assert!(rt; feed(rt, &mut scanner, *byte).is_err_and(|again| again == fault));
+                assert_eq!(rt; scanner.end(), Err(fault));
+                assert_eq!(rt; scanner.offset(), i);
+                return (tokens, Some(fault));
+            }
+        }
+    }
+    (tokens, scanner.end().err())
+}
+
+/// Contents that are refused: how many tokens stand before, the fault's offset and its cause.
+const REFUSED: [(&[u8], usize, usize, Cause); 40] = [
+    (b"\x1b", 0, 0, Cause::EndInSequence),
+    (b"\x1b[", 0, 0, Cause::EndInSequence),
+    (b"\x1b[3", 0, 0, Cause::EndInSequence),
+    (b"\x1b[1;37mH\x1b[3", 2, 8, Cause::EndInSequence),
+    (b"\x1b[\"p", 0, 0, Cause::EndInSequence),
+    (b"ab\x1b[?7", 2, 2, Cause::EndInSequence),
+    (b"\x1b\x1b[m", 0, 0, Cause::BrokenSequence),
+    (b"\x1b(B", 0, 0, Cause::BrokenSequence),
+    (b"\x1b[0;0 D", 0, 0, Cause::BrokenSequence),
+    (b"\x1b[\"a\"1p", 0, 0, Cause::BrokenSequence),
+    (b"\x1b['a' p", 0, 0, Cause::BrokenSequence),
+    (b"\x1b[1\"a\"p", 0, 0, Cause::BrokenSequence),
+    (b"\x1b[=?7h", 0, 0, Cause::BrokenSequence),
+    (b"\x1b[7=h", 0, 0, Cause::BrokenSequence),
+    (b"\x1b[;?7h", 0, 0, Cause::BrokenSequence),
+    (b"\x1b[1\nm", 0, 0, Cause::BrokenSequence),
+    (b"a\x1b[\x1b[m", 1, 1, Cause::BrokenSequence),
+    (b"\x1b[256C", 0, 0, Cause::NumberTooLarge),
+    (b"\x1b[1;2;0999m", 0, 0, Cause::NumberTooLarge),
+    (b"\x1b[512C", 0, 0, Cause::NumberTooLarge),
+    (b"\x1b[;;;;;;;;;;;;;;;;m", 0, 0, Cause::TooManyParameters),
+    (b"\x1b[2t", 0, 0, Cause::UnknownSequence),
+    (b"\x1b[a", 0, 0, Cause::UnknownSequence),
+    (b"\x1b[?6n", 0, 0, Cause::UnknownSequence),
+    (b"\x1b[?7m", 0, 0, Cause::UnknownSequence),
+    (b"\x1b[=p", 0, 0, Cause::UnknownSequence),
+    (b"\x1b[J", 0, 0, Cause::WrongParameters),
+    (b"\x1b[;J", 0, 0, Cause::WrongParameters),
+    (b"\x1b[1K", 0, 0, Cause::WrongParameters),
+    (b"\x1b[;K", 0, 0, Cause::WrongParameters),
+    (b"\x1b[\"x\"m", 0, 0, Cause::WrongParameters),
+    (b"\x1b[\"p\"m", 0, 0, Cause::WrongParameters),
+    (b"\x1b[\"7\"h", 0, 0, Cause::WrongParameters),
+    (b"\x1b[1s", 0, 0, Cause::WrongParameters),
+    (b"\x1b[0u", 0, 0, Cause::WrongParameters),
+    (b"\x1b[5n", 0, 0, Cause::WrongParameters),
+    (b"\x1b[n", 0, 0, Cause::WrongParameters),
+    (b"\x1b[1;2A", 0, 0, Cause::WrongParameters),
+    (b"\x1b[;A", 0, 0, Cause::WrongParameters),
+    (b"\x1b[1;1;1H", 0, 0, Cause::WrongParameters),
+];
+
+#[test]
+fn refusals_come_at_their_offsets(rt: HostRuntime) {
+    for (content, tokens, offset, cause) in REFUSED {
+        let fault = Fault { offset, cause };
+        assert_eq!(rt; scan(&rt, content), (tokens, Some(fault)), "in {content:?}");
+    }
+}
+
+/// Contents that are read to their end, by the number of their tokens.
+const READ: [(&[u8], usize); 13] = [
+    (b"", 0),
+    (b"Hi", 2),
+    (b"\x07\x08\t\n\r", 5),
+    (b"\x9b1m\x1a", 4),
+    (b"\x1b[m\x1b[1;m\x1b[;3f", 3),
+    (b"\x1b[\"\x1b[2J\"p", 1),
+    (b"\x1b[13;\"dir\";13p", 1),
+    (b"\x1b['a\"b'p", 1),
+    (b"\x1b[;;;;;;;;;;;;;;;m", 1),
+    (b"\x1b[000255D", 1),
+    (b"\x1b[?25h\x1b[7h\x1b[=7l\x1b[6n", 4),
+    (b"\x1b[K\x1b[0K\x1b[2J\x1b[s\x1b[u", 5),
+    (b"\x1b[A\x1b[2B\x1b[0C\x1b[255D\x1b[H\x1b[2;f", 6),
+];
+
+#[test]
+fn contents_are_read(rt: HostRuntime) {
+    for (content, tokens) in READ {
+        assert_eq!(rt; scan(&rt, content), (tokens, None), "in {content:?}");
+    }
+}
+
+/// The last token of the content as its `Debug` text would name it, with its numbers.
+fn last_kind(rt: &impl Abort, alloc: Global, content: &[u8]) -> Result<String, AllocError> {
+    let mut scanner = Scanner::new();
+    let mut text = String::new(alloc);
+    for byte in content {
+        if let Ok(Some(token)) = feed(rt, &mut scanner, *byte) {
+            text = named(alloc, token.kind())?;
+        }
+    }
+    Ok(text)
+}
+
+fn named(alloc: Global, kind: &Kind) -> Result<String, AllocError> {
+    match kind {
+        Kind::Up(n) => format!(in alloc; "up {n}"),
+        Kind::Down(n) => format!(in alloc; "down {n}"),
+        Kind::Forward(n) => format!(in alloc; "forward {n}"),
+        Kind::Backward(n) => format!(in alloc; "backward {n}"),
+        Kind::Place(row, column) => format!(in alloc; "place {row};{column}"),
+        Kind::Colours(numbers) => {
+            let numbers = numbers.as_slice();
+            format!(in alloc; "colours {numbers:?}")
+        }
+        Kind::Wrap(on) => format!(in alloc; "wrap {on}"),
+        Kind::Glyph(byte) => format!(in alloc; "glyph {byte}"),
+        other => format!(in alloc; "{other:?}"),
+    }
+}
+
+/// What sequences mean: an omitted distance and 0 count as 1, an omitted colour as 0.
+const MEANT: [(&[u8], &str); 24] = [
+    (b"\x1b[A", "up 1"),
+    (b"\x1b[0B", "down 1"),
+    (b"\x1b[2C", "forward 2"),
+    (b"\x1b[000255D", "backward 255"),
+    (b"\x1b[H", "place 1;1"),
+    (b"\x1b[3H", "place 3;1"),
+    (b"\x1b[;3f", "place 1;3"),
+    (b"\x1b[2;0f", "place 2;1"),
+    (b"\x1b[2J", "Clear"),
+    (b"\x1b[K", "EraseLine"),
+    (b"\x1b[0K", "EraseLine"),
+    (b"\x1b[s", "Save"),
+    (b"\x1b[u", "Restore"),
+    (b"\x1b[m", "colours [0]"),
+    (b"\x1b[1;m", "colours [1, 0]"),
+    (b"\x1b[;5;33m", "colours [0, 5, 33]"),
+    (b"\x1b[?7h", "wrap true"),
+    (b"\x1b[=7l", "wrap false"),
+    (b"\x1b[7h", "Mode"),
+    (b"\x1b[?7;7h", "Mode"),
+    (b"\x1b[?25l", "Mode"),
+    (b"\x1b[13;\"dir\";13p", "Keys"),
+    (b"\x1b[6n", "Ask"),
+    (b"\x1b[31mx", "glyph 120"),
+];
+
+#[test]
+fn sequences_have_their_meanings(rt: HostRuntime) -> Result<(), Fail> {
+    for (content, meaning) in MEANT {
+        let text = last_kind(&rt, rt.alloc(), content)?;
+        assert_eq!(rt; text.as_str(), meaning, "in {content:?}");
+    }
+    Ok(())
+}
+
+/// Bytes one after the other. Of each: whether it ends a token, the offset after it, whether the
+/// scanner then stands between two tokens, and the fault at an end there.
+const STEPS: [(u8, bool, usize, bool, Option<(usize, Cause)>); 5] = [
+    (0x1B, false, 1, false, Some((0, Cause::EndInSequence))),
+    (b'[', false, 2, false, Some((0, Cause::EndInSequence))),
+    (b'm', true, 3, true, None),
+    (0x1B, false, 4, false, Some((3, Cause::EndInSequence))),
+    (b'm', false, 4, false, Some((3, Cause::BrokenSequence))),
+];
+
+/// Feeds these bytes from an offset on.
+fn take_steps(rt: &impl Abort, scanner: &mut Scanner, from: usize) {
+    for (byte, ends, offset, between, fault) in STEPS {
+        let token = feed(rt, scanner, byte);
+        assert_eq!(rt; token.is_ok_and(|token| token.is_some()), ends);
+        assert_eq!(rt; scanner.offset().checked_sub(from), Some(offset));
+        assert_eq!(rt; scanner.is_between_tokens(), between);
+        let at_end = scanner.end().err();
+        assert_eq!(rt;
+            at_end.map(|at_end| (at_end.offset.wrapping_sub(from), at_end.cause)),
+            fault
+        );
+    }
+}
+
+/// An end may be asked for within a sequence, which then goes on.
+#[test]
+fn asking_for_the_end_changes_nothing(rt: HostRuntime) {
+    take_steps(&rt, &mut Scanner::new(), 0);
+}
+
+/// Glyphs are taken together up to a control, and only between two tokens.
+#[test]
+fn glyphs_are_taken_together(rt: HostRuntime) {
+    let rows: [(&[u8], usize); 7] = [
+        (b"a\x00\x1a\xff\n!", 4),
+        (b"\x07a", 0),
+        (b"\x08a", 0),
+        (b"\ta", 0),
+        (b"\na", 0),
+        (b"\ra", 0),
+        (b"\x1ba", 0),
+    ];
+    let mut scanner = Scanner::new();
+    for (bytes, count) in rows {
+        assert!(rt; scanner.is_between_tokens() && scanner.offset() <= 4);
+        assert_eq!(rt; count_glyphs(bytes), count, "in {bytes:?}");
+        assert_eq!(rt; scanner.glyphs(bytes), count, "in {bytes:?}");
+        assert_eq!(rt; scanner.offset(), 4);
+    }
+    take_steps(&rt, &mut scanner, 4);
+}
+
+/// Long sequences: their first bytes, a byte and how often it follows, their last bytes, and the
+/// length of the token, or none where they are left open.
+const LONG: [(&[u8], u8, u32, &[u8], Option<usize>); 2] = [
+    (b"\x1b[\"", 0x1B, 100_000, b"", None),
+    (b"\x1b[", b'0', 1000, b"5C", Some(1004)),
+];
+
+/// Feeds bytes, and returns the length of the token that the last one ends.
+fn feed_all(rt: &impl Abort, scanner: &mut Scanner, bytes: &[u8]) -> Option<usize> {
+    let mut length = None;
+    for byte in bytes {
+        assert_eq!(rt; length, None);
+        let token = feed(rt, scanner, *byte);
+        assert!(rt; token.is_ok());
+        length = token.ok().flatten().map(|token| token.length());
+    }
+    length
+}
+
+#[test]
+fn long_sequences(rt: HostRuntime) {
+    for (first, byte, count, last, length) in LONG {
+        let mut scanner = Scanner::new();
+        assert_eq!(rt; feed_all(&rt, &mut scanner, first), None);
+        for _ in 0..count {
+            assert_eq!(rt; feed_all(&rt, &mut scanner, &[byte]), None);
+        }
+        assert_eq!(rt; feed_all(&rt, &mut scanner, last), length);
+        let open = Fault {
+            offset: 0,
+            cause: Cause::EndInSequence,
+        };
+        assert_eq!(rt;
+            scanner.end().is_err_and(|fault| fault == open),
+            length.is_none()
+        );
+    }
+}

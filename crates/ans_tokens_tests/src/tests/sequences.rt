@@ -1,0 +1,99 @@
+//! Sequences of numbers that are read from a slice, and what their numbers stand for.
+
+use ans_tokens::{Cause, Scanner, distance, is_just, place, read_sequence};
+use arrayvec::ArrayVec;
+
+/// Bytes that begin with a sequence of numbers: the numbers, the letter and the index after it.
+const READ: [(&[u8], &[u8], u8, usize); 11] = [
+    (b"\x1b[A", &[], b'A', 3),
+    (b"\x1b[2Bx", &[2], b'B', 4),
+    (b"\x1b[000255C0", &[255], b'C', 9),
+    (b"\x1b[;3f\n", &[0, 3], b'f', 5),
+    (b"\x1b[2;f", &[2, 0], b'f', 5),
+    (b"\x1b[;m", &[0, 0], b'm', 4),
+    (b"\x1b[1;33;44mtext", &[1, 33, 44], b'm', 10),
+    (b"\x1b[2t", &[2], b't', 4),
+    (b"\x1b[7h?", &[7], b'h', 4),
+    (b"\x1b[13;14p\"", &[13, 14], b'p', 8),
+    (
+        b"\x1b[1;2;3;4;5;6;7;8;9;10;11;12;13;14;15;16m",
+        &[1, 2, 3, 4, 5, 6, 7, 8, 9, 10, 11, 12, 13, 14, 15, 16],
+        b'm',
+        41,
+    ),
+];
+
+#[test]
+fn numbers_and_letters_are_read(rt: HostRuntime) {
+    for (bytes, numbers, letter, end) in READ {
+        let mut found = ArrayVec::new();
+        let read = read_sequence(bytes, &mut found).expect(&rt, "a sequence");
+        assert_eq!(rt; found.as_slice(), numbers, "in {bytes:?}");
+        assert_eq!(rt; read.byte, letter, "in {bytes:?}");
+        assert_eq!(rt; read.end, end, "in {bytes:?}");
+    }
+}
+
+/// Bytes that begin with no whole sequence, or with one that has a mark or a string, a number above
+/// 255 or more than 16 members.
+const NOT_READ: [&[u8]; 13] = [
+    b"",
+    b"a\x1b[m",
+    b"\x1b",
+    b"\x1b[",
+    b"\x1b[1;2",
+    b"\x1b[?7h",
+    b"\x1b[=7h",
+    b"\x1b[\"m\"p",
+    b"\x1b[1'm'p",
+    b"\x1b[1 m",
+    b"\x1b[\x1b[m",
+    b"\x1b[256C",
+    b"\x1b[;;;;;;;;;;;;;;;;m",
+];
+
+#[test]
+fn others_are_not_read(rt: HostRuntime) {
+    for bytes in NOT_READ {
+        let mut found = ArrayVec::new();
+        assert!(rt;
+            read_sequence(bytes, &mut found).is_none(),
+            "{bytes:?} is read"
+        );
+    }
+}
+
+#[test]
+fn moves_take_one_number(rt: HostRuntime) {
+    assert_eq!(rt; distance(&[]), Ok(1));
+    assert_eq!(rt; distance(&[0]), Ok(1));
+    assert_eq!(rt; distance(&[255]), Ok(255));
+    assert_eq!(rt; distance(&[1, 1]), Err(Cause::WrongParameters));
+}
+
+#[test]
+fn places_take_two_numbers(rt: HostRuntime) {
+    assert_eq!(rt; place(&[]), Ok((1, 1)));
+    assert_eq!(rt; place(&[3]), Ok((3, 1)));
+    assert_eq!(rt; place(&[0, 7]), Ok((1, 7)));
+    assert_eq!(rt; place(&[25, 80]), Ok((25, 80)));
+    assert_eq!(rt; place(&[1, 1, 1]), Err(Cause::WrongParameters));
+}
+
+#[test]
+fn a_number_alone(rt: HostRuntime) {
+    assert!(rt; is_just(2, &[2]));
+    assert!(rt; !is_just(2, &[]));
+    assert!(rt; !is_just(2, &[0]));
+    assert!(rt; !is_just(2, &[2, 2]));
+}
+
+#[test]
+fn bytes_are_skipped(rt: HostRuntime) {
+    let mut scanner = Scanner::new();
+    scanner.skip(3);
+    assert_eq!(rt; scanner.offset(), 3);
+    let token = scanner.token(b"x").expect(&rt, "a token");
+    assert_eq!(rt; token.start(), 3);
+    assert_eq!(rt; scanner.offset(), 4);
+}
