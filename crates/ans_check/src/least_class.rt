@@ -14,6 +14,7 @@ use ans_model::fault::{Cause, Fault};
 use ans_model::start::Start;
 use ans_sauce::Parts;
 use ans_screen::Grid;
+use memchr::memmem;
 use std::alloc::{AllocError, Global};
 
 /// The class that a content needs, and its fault from all starts, where it needs anything.
@@ -38,11 +39,16 @@ pub(crate) struct Mended {
 }
 
 /// The parts that may be missing where a content has this fault, the likeliest first. They decide
-/// how many plays it takes to find the class, and not which class that is.
-fn likely_parts(cause: Cause) -> &'static [Part] {
-    match cause {
-        Cause::UnknownCell { .. } => &[Part::Screen, Part::Colours],
-        _ => &[Part::Cursor, Part::Wrap, Part::Saved],
+/// how many plays it takes to find the class, and not which class that is. Where the screen was
+/// cleared before, its cells are in the current colours, and the cursor was at home.
+fn likely_parts(content: &[u8], fault: Fault) -> &'static [Part] {
+    let before = content.get(..fault.offset).unwrap_or(content);
+    let is_cleared = memmem::find(before, b"\x1b[2J").is_some();
+    match (fault.cause, is_cleared) {
+        (Cause::UnknownCell { .. }, false) => &[Part::Screen, Part::Colours],
+        (Cause::UnknownCell { .. }, true) => &[Part::Colours, Part::Screen],
+        (_, false) => &[Part::Cursor, Part::Wrap, Part::Saved],
+        (_, true) => &[Part::Wrap, Part::Saved, Part::Cursor],
     }
 }
 
@@ -59,7 +65,7 @@ fn part_that_mends<G: Grid>(
     ensures end { IfOk result (λ found. IfSome found (λ m.
         EndsFrom (parts_size parts.now) (content_of parts.now) (with_part m.part true class) m.fault)) }
 {
-    for part in likely_parts(fault.cause) {
+    for part in likely_parts(parts.content(), fault) {
         if !part.is_known_in(class) {
             let next = fault_from::<G>(alloc, parts, part.made_known(true, class))?;
             if next != Some(fault) {
