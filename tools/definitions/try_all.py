@@ -21,15 +21,15 @@ import tempfile
 EDITS = os.path.dirname(os.path.abspath(__file__))
 CRATES = os.path.abspath(f"{EDITS}/../../crates")
 TRIED = ["ans_model", "ans_laws"]
-DEPENDENCIES = "ans_model: arrayvec\nans_laws: ans_model arrayvec\n"
+DEPENDENCIES = "ans_model: arrayvec\nans_laws: ans_model\n"
 # what of ans_laws belongs to the plain answer
 ANSWER = {
-    "src/lib.rt": r"(mod|pub use) (answer|two_plays)\b.*|#\[cfg\(test\)\]|mod tests;",
+    "src/lib.rt": r"(mod|pub use) (answer|two_plays)\b.*",
     "specs/Lib.antt": r"pub mod (Answers|TwoPlays)",
     "proofs/Lib.antt": r"pub mod (TwoCursors|TabPlays|TokenFaults|Played|EndOfPlays)",
 }
-ANSWER_FILES = ["src/answer.rt", "src/two_plays.rt", "src/tests.rt", "src/tests", "specs/Answers.antt",
-                "specs/TwoPlays.antt", "proofs/answer", "proofs/two_plays"] + [
+ANSWER_FILES = ["src/answer.rt", "src/two_plays.rt", "specs/Answers.antt", "specs/TwoPlays.antt",
+                "proofs/answer", "proofs/two_plays"] + [
     f"proofs/{name}.antt" for name in ["TwoCursors", "TabPlays", "TokenFaults", "Played", "EndOfPlays"]]
 
 

@@ -25,8 +25,8 @@ What has to come of a run of the program in which one call is refused:
 - A read or a write that moves one byte in place of several: all that comes without it.
 
 Of a test: `error: AllocError` or `error: AllocFailed`, where the test hands its errors on. The tests of
-`ans_laws`, `ans_options` and `ans_check` make a call that met the refusal once more, and have to pass. A test process
-that ends with a signal, or passes although its error was to be handed on, is wrong.
+`ans_laws_tests`, `ans_options_tests` and `ans_check_tests` make a call that met the refusal once more, and have to
+pass. A test process that ends with a signal, or passes although its error was to be handed on, is wrong.
 
 It prints the refusals of each kind and each crate, and what came out otherwise. The status is 1 where
 something did, where tests are not built, or where a kind of call was never met.
@@ -45,8 +45,8 @@ sys.path.insert(0, os.path.join(os.path.dirname(HERE), "runs"))
 
 from table import file_of
 
-TESTED = ["ans_screen", "ans_play", "ans_laws", "ans_report", "ans_options", "ans_check"]
-MAKES_THE_CALL_AGAIN = {"ans_laws", "ans_options", "ans_check"}
+TESTED = ["ans_screen", "ans_play_tests", "ans_laws_tests", "ans_report_tests", "ans_options_tests", "ans_check_tests"]
+MAKES_THE_CALL_AGAIN = {"ans_laws_tests", "ans_options_tests", "ans_check_tests"}
 AT_ONCE, WORKERS, SECONDS = 16, 4, 120
 
 MEMORY = [b"anscheck: out of memory\n", b"anscheck: cannot read the command line\n"]
