@@ -1,10 +1,10 @@
 -- A new play has played no bytes.
-use Rattle.std.proofs.Common.{◌≡◌, ℕ, ◌*◌, ◌+◌, sym, ap, ◌∙◌, List, [], replicate, length, mul_comm}
+use Rattle.std.proofs.Common.{◌≡◌, ℕ, ◌*◌, ◌+◌, ◌-◌, ◌≤◌, arith, sym, ap, ◌∙◌, List, [], replicate, length, mul_comm}
 use Rattle.std.proofs.Common.{lit<, Bool, true, false, subst}
 use Rattle.ans_model.specs.Bytes.{IsByte}
 use Rattle.std.proofs.lemmas.List.{length-replicate}
 use Rattle.std.proofs.lemmas.List.Elements.{All-replicate}
-use Rattle.ans_model.specs.Screen.State.{Size, IsSize, cell_count}
+use Rattle.ans_model.specs.Screen.State.{Size, IsSize, sized, cell_count}
 use Rattle.ans_model.specs.declared.start.Start.{Start}
 use Rattle.ans_tokens.specs.ScannerView.{ScannerView, new_scanner}
 use Rattle.ans_screen.specs.KnownBits.{KnownBits}
@@ -33,6 +33,13 @@ played_none z start size = record {
 in_rows : (z : Size) (cells : List HalfCell) (c : HalfCell) → cells ≡ replicate (z.width * (z.lines + 1)) c →
     cells ≡ replicate (cell_count z) c
 in_rows z cells c e = e ∙ ap (λ (n : ℕ). replicate n c) (mul_comm z.width (z.lines + 1))
+
+-- a screen of a grid's size has a row for each line, and one more
+pub in_size : (z : Size) (w r width rows : ℕ) → z ≡ sized width (rows - 1) → width ≡ w → rows ≡ r → 2 ≤ r →
+    w * r ≡ z.width * (z.lines + 1)
+in_size z w r width rows e a b two =
+    let next : r ≡ (r - 1) + 1 = omega arith in
+    rw (e, a, b) (ap (λ (n : ℕ). w * n) next)
 
 -- from the parts that the code chooses
 pub played_at_start : (z : Size) (class : Start) (cells : List HalfCell) (cell : HalfCell) (cursor saved : Span)

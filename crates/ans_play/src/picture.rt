@@ -3,19 +3,19 @@
 ghost use Rattle.std.specs.Prelude.{◌≡◌, ◌<◌, ◌≤◌, length, Some};
 
 use ans_model::size::Size;
-use ans_screen::{Grid, HalfCell};
+use ans_screen::{HalfCell, Screen};
 use std::marker::Model;
 
 /// A byte and an attribute at each row and column of the stated size.
 #[derive(Drop)]
-pub struct Picture<G: Grid> {
+pub struct Picture<G: Screen> {
     size: Size,
     grid: G,
     ghost grid_width: { G.width_of grid ≡ size.width },
     ghost grid_rows: { size.lines ≤ G.rows_of grid },
 }
 
-impl<G: Grid> Model for Picture<G> {
+impl<G: Screen> Model for Picture<G> {
     ghost use Rattle.ans_model.specs.Verdict.Good.{Picture};
     ghost use Rattle.ans_play.specs.Shown.{picture_of, IsShown};
 
@@ -26,7 +26,7 @@ impl<G: Grid> Model for Picture<G> {
     ghost invariant = { λ p. IsShown p.size (G.cells_of p.grid) };
 }
 
-impl<G: Grid> Picture<G> {
+impl<G: Screen> Picture<G> {
     ghost use Rattle.ans_model.specs.Screen.State.{at, cell_at, IsPlayableSize};
     ghost use Rattle.ans_model.specs.Verdict.Good.{IsPictureOf};
     ghost use Rattle.ans_play.specs.Shown.{IsShown, picture_of, known_cell, byte_at, attribute_at};

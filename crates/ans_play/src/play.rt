@@ -1,10 +1,12 @@
 //! The play of bytes over one half-known state.
 
-ghost use Rattle.std.specs.Prelude.{◌≡◌, ◌≢◌, ◌<◌, ◌≤◌, ◌+◌, ◌*◌, ℕ, List, [], ◌∷◌, length, take, set, slice_index_or};
+ghost use Rattle.std.specs.Prelude.{◌≡◌, ◌≢◌, ◌<◌, ◌≤◌, ◌+◌, ◌-◌, ◌*◌, ℕ, List, [], ◌∷◌, length, take, set, slice_index_or};
 ghost use Rattle.std.specs.Prelude.{IfOk, IfErr, OnOk};
-ghost use Rattle.ans_model.specs.Bytes.{longest_file, escape};
+ghost use Rattle.ans_model.specs.Bytes.{most_columns, longest_file, escape};
+ghost use Rattle.ans_model.specs.Screen.State.{sized};
 ghost use Rattle.ans_model.specs.Sequence.TokenKind.{Glyph};
 ghost use Rattle.ans_model.specs.declared.start.Start.{Start};
+ghost use Rattle.ans_screen.specs.GridEdits.{most_rows};
 ghost use Rattle.ans_play.specs.HalfStart.{start_cell, start_attribute};
 
 mod steps;
@@ -16,16 +18,15 @@ use ans_model::cell::Position;
 use ans_model::fault::{Cause, Fault};
 use ans_model::size::Size;
 use ans_model::start::Start;
-use ans_screen::{Attr, Grid, HalfCell};
+use ans_screen::{Attr, HalfCell, Screen};
 use ans_tokens::{ESCAPE, Scanner, count_glyphs, read_sequence};
 use arrayvec::ArrayVec;
-use std::alloc::{AllocError, Global};
 use std::marker::Model;
 
 /// The play of bytes from every start of a class: the scanner that reads them, and one state of
 /// which parts are known.
 #[derive(Drop)]
-pub(crate) struct Play<G: Grid> {
+pub(crate) struct Play<G: Screen> {
     size: Size,
     scanner: Scanner,
     grid: G,
@@ -37,7 +38,7 @@ pub(crate) struct Play<G: Grid> {
     ghost grid_rows: { G.rows_of grid ≡ size.lines + 1 },
 }
 
-impl<G: Grid> Model for Play<G> {
+impl<G: Screen> Model for Play<G> {
     ghost use Rattle.ans_play.specs.HalfState.{half_state};
     ghost use Rattle.ans_play.specs.PlayView.{PlayView, play_view, IsPlayView};
 
@@ -73,7 +74,7 @@ fn attribute_at_start(known: bool) -> Attr
 }
 
 /// Makes the cell at a position this one.
-fn put_at<G: Grid>(grid: &mut G, position: Position, cell: HalfCell)
+fn put_at<G: Screen>(grid: &mut G, position: Position, cell: HalfCell)
     requires row { position.row < G.rows_of grid.old }
     requires column { position.column < G.width_of grid.old }
     ensures cells { G.cells_of grid.new
@@ -85,19 +86,24 @@ fn put_at<G: Grid>(grid: &mut G, position: Position, cell: HalfCell)
     grid.fill_row(row, column, column + 1, cell);
 }
 
-impl<G: Grid> Play<G> {
+impl<G: Screen> Play<G> {
     ghost use Rattle.ans_tokens.specs.Glyphs.{IsBetweenTokens};
     ghost use Rattle.ans_play.specs.Plays.{AreFree, IsLongestRun, Plays};
     ghost use Rattle.ans_play.specs.Stands.{IsNewPlay, GoesOn, PlaysWholeTokens, PlaysFront};
     ghost use Rattle.ans_play.specs.Stands.{IsDeserved, EndsPlay};
 
-    /// A play of no bytes yet, from the starts of a class. It fails where memory runs out.
-    pub fn new(alloc: Global, size: Size, start: Start) -> Result<Play<G>, AllocError>
-        ensures { IfOk result (λ p. IsNewPlay p size start) }
+    /// A play of no bytes yet, from the starts of a class, on a grid of one row more than the lines.
+    /// What the grid held is gone.
+    pub fn on(mut grid: G, start: Start) -> Play<G>
+        requires some_columns { 1 ≤ G.width_of grid }
+        requires columns { G.width_of grid ≤ most_columns }
+        requires some_lines { 2 ≤ G.rows_of grid }
+        requires rows { G.rows_of grid ≤ most_rows }
+        ensures { IsNewPlay result (sized (G.width_of grid) (G.rows_of grid - 1)) start }
     {
-        let cell = cell_at_start(start.screen);
-        let grid = G::new(alloc, size.width(), size.lines() + 1, cell)?;
-        Ok(Play {
+        let size = Size::new(grid.width(), grid.rows() - 1);
+        grid.clear(cell_at_start(start.screen));
+        Play {
             size,
             scanner: Scanner::new(),
             grid,
@@ -105,7 +111,7 @@ impl<G: Grid> Play<G> {
             saved: Span::of_start(start.saved, size),
             attribute: attribute_at_start(start.colours),
             wrap: WrapMode::of_start(start.wrap),
-        })
+        }
     }
 
     /// Plays what the bytes begin with, and returns how many bytes that is: all tokens of the common

@@ -1,29 +1,29 @@
 //! The play of the content, which is fed in pieces.
 
-ghost use Rattle.std.specs.Prelude.{◌≡◌, ◌+◌, ◌≤◌, ℕ, List, [], length};
+ghost use Rattle.std.specs.Prelude.{◌≡◌, ◌+◌, ◌-◌, ◌≤◌, ℕ, List, [], length};
 ghost use Rattle.std.specs.Prelude.{Some, None, IfOk, IfErr, OnOk};
 ghost use Rattle.ans_model.specs.Bytes.{most_columns, most_lines, longest_file};
 ghost use Rattle.ans_model.specs.Screen.State.{sized};
+ghost use Rattle.ans_screen.specs.GridEdits.{most_rows};
 
 use crate::picture::Picture;
 use crate::play::Play;
 use ans_model::fault::Fault;
-use ans_model::size::Size;
 use ans_model::start::Start;
-use ans_screen::Grid;
+use ans_screen::{Grid, HalfCell, Screen};
 use std::alloc::{AllocError, Global};
 use std::marker::Model;
 
 /// The play of the bytes fed so far from every start of a class. It ends at the first fault.
 #[derive(Drop)]
-pub struct Player<G: Grid> {
+pub struct Player<G: Screen> {
     start: Start,
     fed: usize,
     fault: Option<Fault>,
     play: Play<G>,
 }
 
-impl<G: Grid> Model for Player<G> {
+impl<G: Screen> Model for Player<G> {
     ghost use Rattle.ans_play.specs.PlayerView.{PlayerView, player_view, IsPlayerView};
 
     ghost Value = { PlayerView };
@@ -34,8 +34,7 @@ impl<G: Grid> Model for Player<G> {
 }
 
 impl<G: Grid> Player<G> {
-    ghost use Rattle.ans_model.specs.declared.fault.Fault.{Fault};
-    ghost use Rattle.ans_play.specs.Stands.{IsNew, IsFed, IsStopped, Repeats, SamePlay, Stands, Feeds, Finishes};
+    ghost use Rattle.ans_play.specs.Stands.{IsNew, Stands};
 
     /// A player of a width, 1 to 1024 columns, and a number of lines, 1 to 8192, from the starts of a
     /// class, to which nothing is fed yet. It fails where memory runs out.
@@ -52,13 +51,33 @@ impl<G: Grid> Player<G> {
         ensures new { IfOk result (λ p. IsNew p (sized width lines) start) }
         ensures stands { IfOk result (λ p. Stands p []) }
     {
-        let play = Play::new(alloc, Size::new(width, lines), start)?;
-        Ok(Player {
+        let grid = G::new(alloc, width, lines + 1, HalfCell::unknown())?;
+        Ok(Player::on(grid, start))
+    }
+}
+
+impl<G: Screen> Player<G> {
+    ghost use Rattle.ans_model.specs.declared.fault.Fault.{Fault};
+    ghost use Rattle.ans_play.specs.Stands.{IsNew, IsFed, IsStopped, Repeats, SamePlay, Stands, Feeds, Finishes};
+
+    /// A player from the starts of a class on a grid that is there already, to which nothing is fed
+    /// yet. It has the grid's columns, 1 to 1024, and as many lines as the grid has rows but for the
+    /// last one, 1 to 8192. Each cell is set to the start's, whatever the grid held. It asks for no
+    /// memory.
+    pub fn on(grid: G, start: Start) -> Player<G>
+        requires some_columns { 1 ≤ G.width_of grid }
+        requires columns { G.width_of grid ≤ most_columns }
+        requires some_lines { 2 ≤ G.rows_of grid }
+        requires lines { G.rows_of grid ≤ most_rows }
+        ensures new { IsNew result (sized (G.width_of grid) (G.rows_of grid - 1)) start }
+        ensures stands { Stands result [] }
+    {
+        Player {
             start,
             fed: 0,
             fault: None,
-            play,
-        })
+            play: Play::on(grid, start),
+        }
     }
 
     /// The number of bytes of all pieces that were fed without a fault. It is at most 16,777,216.

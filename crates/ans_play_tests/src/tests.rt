@@ -8,12 +8,12 @@ use ans_samples::rows::{
     BROKEN, BYTES, COLOURS, FORBIDDEN, MISPLACED, PARTS_KNOWN, PASSES_FROM_ANY,
     PASSES_FROM_CLEARED, Row, TABS, UNKNOWN_CELLS, WITHOUT_MEANING,
 };
-use ans_screen::{Grid, PlainGrid, PlaneGrid};
+use ans_screen::{Grid, HalfCell, PlainGrid, PlaneGrid, Screen};
 use std::alloc::Global;
 use std::process::Abort;
 use std::test::Fail;
 
-fn feed<G: Grid>(rt: &impl Abort, player: &mut Player<G>, piece: &[u8]) -> Result<(), Fault> {
+fn feed<G: Screen>(rt: &impl Abort, player: &mut Player<G>, piece: &[u8]) -> Result<(), Fault> {
     let fed = player.fed();
     assert!(rt; fed <= 200 && piece.len() <= 200);
     let answer = player.feed(piece);
@@ -22,7 +22,7 @@ fn feed<G: Grid>(rt: &impl Abort, player: &mut Player<G>, piece: &[u8]) -> Resul
     answer
 }
 
-fn assert_shows<G: Grid>(rt: &impl Abort, picture: &Picture<G>, bytes: &[u8], attributes: &[u8]) {
+fn assert_shows<G: Screen>(rt: &impl Abort, picture: &Picture<G>, bytes: &[u8], attributes: &[u8]) {
     let width = picture.width();
     let lines = picture.lines();
     assert!(rt; width <= 20 && lines <= 10);
@@ -42,7 +42,7 @@ fn assert_shows<G: Grid>(rt: &impl Abort, picture: &Picture<G>, bytes: &[u8], at
 }
 
 /// Asserts that the bytes and attributes copied of a row are its cells', read one by one.
-fn assert_copies<G: Grid>(rt: &impl Abort, picture: &Picture<G>, row: usize) {
+fn assert_copies<G: Screen>(rt: &impl Abort, picture: &Picture<G>, row: usize) {
     let width = picture.width();
     assert!(rt; row < picture.lines() && width <= 20);
     let mut bytes = [0; 20];
@@ -57,17 +57,15 @@ fn assert_copies<G: Grid>(rt: &impl Abort, picture: &Picture<G>, row: usize) {
 
 /// Feeds the first bytes of a row's content as one piece and the others in pieces of a size, with an
 /// empty piece after each.
-fn play<G: Grid>(
+fn play_by<G: Screen>(
     rt: &impl Abort,
-    alloc: Global,
+    mut player: Player<G>,
     row: &Row,
     first: usize,
     size: usize,
-) -> Result<(), Fail> {
+) {
     let content = row.content;
-    assert!(rt; 1 <= row.width && row.width <= 20 && 1 <= row.lines && row.lines <= 10);
     assert!(rt; first <= content.len() && 0 < size);
-    let mut player = Player::<G>::new(alloc, row.width, row.lines, row.start)?;
     let mut met = feed(rt, &mut player, &content[..first]);
     for piece in content[first..].chunks(size) {
         let answer = feed(rt, &mut player, piece);
@@ -86,10 +84,33 @@ fn play<G: Grid>(
         }
         _ => panic!(rt; "a picture where a fault was expected, or the reverse, in {content:?}"),
     }
+}
+
+fn play<G: Grid>(
+    rt: &impl Abort,
+    alloc: Global,
+    row: &Row,
+    first: usize,
+    size: usize,
+) -> Result<(), Fail> {
+    assert!(rt; 1 <= row.width && row.width <= 20 && 1 <= row.lines && row.lines <= 10);
+    let player = Player::<G>::new(alloc, row.width, row.lines, row.start)?;
+    play_by(rt, player, row, first, size);
     Ok(())
 }
 
-/// Plays each content over both grids: whole, in two pieces at every cut, and byte by byte.
+/// Plays a content byte by byte on a grid that is there already and holds other cells.
+fn play_on<G: Grid>(rt: &impl Abort, alloc: Global, row: &Row) -> Result<(), Fail> {
+    assert!(rt; 1 <= row.width && row.width <= 20 && 1 <= row.lines && row.lines <= 10);
+    let mut grid = G::new(alloc, row.width, row.lines + 1, HalfCell::unknown())?;
+    grid.fill_row(row.lines, 0, row.width, HalfCell::known(b'#', 0x4F));
+    grid.fill_row(0, 0, 1, HalfCell::known(b'#', 0x4F));
+    play_by(rt, Player::on(grid, row.start), row, 0, 1);
+    Ok(())
+}
+
+/// Plays each content over both grids: whole, in two pieces at every cut, byte by byte, and on a grid
+/// that is there already.
 fn play_all(rt: &impl Abort, alloc: Global, rows: &[Row]) -> Result<(), Fail> {
     for row in rows {
         let all = row.content.len();
@@ -100,6 +121,8 @@ fn play_all(rt: &impl Abort, alloc: Global, rows: &[Row]) -> Result<(), Fail> {
         }
         play::<PlainGrid>(rt, alloc, row, 0, 1)?;
         play::<PlaneGrid>(rt, alloc, row, 0, 1)?;
+        play_on::<PlainGrid>(rt, alloc, row)?;
+        play_on::<PlaneGrid>(rt, alloc, row)?;
     }
     Ok(())
 }

@@ -16,12 +16,14 @@ mod lazy_plane;
 mod plain;
 mod plane_grid;
 mod planes;
+mod screen;
 
 pub use attr::Attr;
 pub use cell::HalfCell;
 pub use grid::Grid;
 pub use plain::PlainGrid;
 pub use plane_grid::PlaneGrid;
+pub use screen::Screen;
 
 #[cfg(test)]
 mod tests;

@@ -15,7 +15,7 @@ use ans_model::cell::Position;
 use ans_model::fault::{Cause, Fault};
 use ans_model::kind::Kind;
 use ans_model::tab::tab_blanks;
-use ans_screen::{Attr, Grid, HalfCell};
+use ans_screen::{Attr, HalfCell, Screen};
 use ans_tokens::{Token, distance, is_just, place};
 
 #[inline(always)]
@@ -30,7 +30,7 @@ fn known_after_all(attribute: Attr, parameters: &[u8]) -> Attr
 }
 
 /// Makes the cells from a position up to and without cell `to` this one, which mostly stand in one row.
-fn fill_from<G: Grid>(grid: &mut G, from: Position, to: usize, cell: HalfCell)
+fn fill_from<G: Screen>(grid: &mut G, from: Position, to: usize, cell: HalfCell)
     requires row { from.row < G.rows_of grid.old }
     requires ordered { from.row * G.width_of grid.old + from.column ≤ to }
     requires within { to ≤ length (G.cells_of grid.old) }
@@ -48,7 +48,7 @@ fn fill_from<G: Grid>(grid: &mut G, from: Position, to: usize, cell: HalfCell)
     }
 }
 
-impl<G: Grid> Play<G> {
+impl<G: Screen> Play<G> {
     ghost use Rattle.ans_play.specs.HalfStep.{half_blank, after_move};
     ghost use Rattle.ans_play.specs.HalfFault.{is_one_position, half_print_fault};
     ghost use Rattle.ans_play.specs.Plays.{Plays, PlaysLetter, PlaysToken};

@@ -6,13 +6,13 @@ use Rattle.ans_play.proofs.play.put_at.Goals as goal
 pub returns-clause-cells : goal.returns-clause-cells
 returns-clause-cells g c =
     let grid = c.args.grid.now in
-    let cells = g.G.Grid.cells_of grid in
-    let at = c.args.position.row * g.G.Grid.width_of grid + c.args.position.column in
-    let next : c.args.position.row * g.G.Grid.width_of grid + (c.args.position.column + 1) ≡ at + 1 = omega arith in
+    let cells = g.G.Screen.cells_of grid in
+    let at = c.args.position.row * g.G.Screen.width_of grid + c.args.position.column in
+    let next : c.args.position.row * g.G.Screen.width_of grid + (c.args.position.column + 1) ≡ at + 1 = omega arith in
     c.fill_row.ensures.cells
     ∙ (ap (λ (n : ℕ). filled cells at n c.args.cell) next
     ∙ filled_one cells at c.args.cell (omega (
       arith,
-      g.met.G.Grid.whole grid,
-      row_end (g.G.Grid.width_of grid) c.args.position.row (g.G.Grid.rows_of grid) c.requires.row,
+      g.met.G.Screen.whole grid,
+      row_end (g.G.Screen.width_of grid) c.args.position.row (g.G.Screen.rows_of grid) c.requires.row,
     )))

@@ -15,7 +15,7 @@ new-requires g c = record {
       mul-le c.self.inside.size.lines c.self.inside.size.width (c.self.inside.size.lines + 1) c.self.inside.size.width
           (omega arith) (omega arith),
     );
-    known = known_if (g.G.Grid.cells_of c.self.inside.grid) (c.self.inside.size.lines * c.self.inside.size.width)
+    known = known_if (g.G.Screen.cells_of c.self.inside.grid) (c.self.inside.size.lines * c.self.inside.size.width)
         (rw (c.lines.ensures.lines, c.width-width.ensures.width) at (sym c.first_unknown.ensures ∙ c.in-None.is));
     bytes = c.self.invariant.bytes;
   };

@@ -27,10 +27,10 @@ invariant_of-self g c =
     let are_bytes : All IsByte bytes = All-take IsByte c.count_glyphs-count.result c.args.bytes.now
     (All-from_get_or IsByte c.args.bytes.now 0 (λ i l. omega (arith, c.type_inv.bytes i))) in
     record {
-      cells = cc (g.met.G.Grid.whole c.write_run.new.self, g.met.G.Grid.whole c.self.inside.grid);
+      cells = cc (g.met.G.Screen.whole c.write_run.new.self, g.met.G.Screen.whole c.self.inside.grid);
       bytes = rw c.write_run.ensures.cells
-          (All-written IsByteHalfCell (g.G.Grid.cells_of c.self.inside.grid)
-          (c.self.inside.cursor.low.row * g.G.Grid.width_of c.self.inside.grid + c.self.inside.cursor.low.column)
+          (All-written IsByteHalfCell (g.G.Screen.cells_of c.self.inside.grid)
+          (c.self.inside.cursor.low.row * g.G.Screen.width_of c.self.inside.grid + c.self.inside.cursor.low.column)
           (printed_run c.self.inside.attribute bytes) c.self.invariant.bytes
           (printed_bytes c.self.inside.attribute bytes c.self.invariant.attribute are_bytes));
       attribute = c.self.invariant.attribute;
@@ -44,8 +44,8 @@ returns-then-count-gt0-clause-printed g c =
     let run = is_run c.self.view_is c.self.invariant.cursor c.columns_before_last-columns.ensures
     (omega (arith, c.min.ensures)) c.count_glyphs-count.ensures c.if-count-gt0.true in
     rw (← c.self.view_is, c.at-self-inside.ensures)
-    (run_is_played c.self.inside.size c.self.inside.scanner (g.G.Grid.cells_of c.self.inside.grid)
-    (g.G.Grid.cells_of c.write_run.new.self) c.self.inside.cursor c.self.inside.saved c.self.inside.attribute
+    (run_is_played c.self.inside.size c.self.inside.scanner (g.G.Screen.cells_of c.self.inside.grid)
+    (g.G.Screen.cells_of c.write_run.new.self) c.self.inside.cursor c.self.inside.saved c.self.inside.attribute
     c.self.inside.wrap c.args.bytes.now c.count_glyphs-count.result run.within run.room
     run.glyphs c.self.invariant.cells
     (rw c.self.inside.grid_width at c.write_run.ensures.cells))

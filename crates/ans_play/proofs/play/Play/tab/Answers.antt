@@ -40,7 +40,7 @@ returns-in_err-cursor g c =
     (tab_blanks c.self.inside.cursor.low.column) ≡ Some c.in_err-cursor.field-0.0 =
     rw (c.tab_blanks-blanks.ensures, here g at) at c.in_err-cursor.ensures.fault in
     rw (same, ← c.self.view_is) (
-      tab_is_refused c.self.inside.size (g.G.Grid.cells_of c.self.inside.grid) c.self.inside.cursor
+      tab_is_refused c.self.inside.size (g.G.Screen.cells_of c.self.inside.grid) c.self.inside.cursor
           c.self.inside.saved c.self.inside.attribute c.self.inside.wrap c.self.invariant.cursor (one g at) (above g at)
           c.in_err-cursor.field-0.0 some,
       refl,
@@ -50,8 +50,8 @@ pub invariant_of-self : goal.invariant_of-self
 invariant_of-self g c =
     let attribute : IsByte c.args.self.now.state.attribute.value = rw (← c.self.view_is) c.self.invariant.attribute in
     record {
-      cells = cc (g.met.G.Grid.whole c.fill_from.new.grid, g.met.G.Grid.whole c.self.inside.grid);
-      bytes = filled_bytes _ (c.in_ok-position.position.row * g.G.Grid.width_of c.self.inside.grid
+      cells = cc (g.met.G.Screen.whole c.fill_from.new.grid, g.met.G.Screen.whole c.self.inside.grid);
+      bytes = filled_bytes _ (c.in_ok-position.position.row * g.G.Screen.width_of c.self.inside.grid
           + c.in_ok-position.position.column)
           c.end_of_blanks-to.result c.fill_from.ensures.cells c.blank-blank.ensures attribute c.self.invariant.bytes;
       attribute = c.self.invariant.attribute;
@@ -65,11 +65,11 @@ returns g c =
     let none : fault_of_blanks c.self.inside.size c.self.inside.wrap c.self.inside.cursor.low
     (tab_blanks c.self.inside.cursor.low.column) ≡ None =
     rw (c.tab_blanks-blanks.ensures, here g at) at c.in_ok-cursor.ensures.ok in
-    let cells : length (g.G.Grid.cells_of c.self.inside.grid) ≡ cell_count c.self.inside.size =
+    let cells : length (g.G.Screen.cells_of c.self.inside.grid) ≡ cell_count c.self.inside.size =
     c.self.invariant.cells in
     let blank : c.blank-blank.result ≡ half_blank c.self.inside.attribute =
     c.blank-blank.ensures ∙ ap (λ (p : PlayView). half_blank p.state.attribute) (sym c.self.view_is) in
-    let run = tab_is_played c.self.inside.size (g.G.Grid.cells_of c.self.inside.grid) c.self.inside.cursor
+    let run = tab_is_played c.self.inside.size (g.G.Screen.cells_of c.self.inside.grid) c.self.inside.cursor
     c.self.inside.saved c.self.inside.attribute c.self.inside.wrap c.self.invariant.cursor (one g at) (above g at)
     cells none in
     rw (← c.self.view_is) (
