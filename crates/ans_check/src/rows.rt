@@ -1,6 +1,6 @@
 //! The table of many files.
 
-ghost use Rattle.std.specs.Prelude.{◌≡◌, ◌≢◌, ◌↔◌, ◌≤◌, false, length, IsTrue, IsErrOf, IfOk, OnOk, map};
+ghost use Rattle.std.specs.Prelude.{◌≡◌, ◌≢◌, ◌↔◌, ◌≤◌, ◌⊎◌, false, length, IsTrue, IsErrOf, IfErr, IfOk, OnOk, map};
 ghost use Rattle.ans_model.specs.Bytes.{longest_file};
 ghost use Rattle.ans_options.specs.CommandLine.{texts_of};
 ghost use Rattle.ans_write.specs.Tried.{has_failed, inner_of};
@@ -71,6 +71,7 @@ fn write_object<W: Write>(
 ) -> Result<(), RunError>
     requires { has_failed output.old ≡ false }
     ensures device { IsErrOf result RunError.Write ↔ IsTrue (has_failed output.new) }
+    ensures errors { IfErr result (λ e. (e ≡ RunError.Memory) ⊎ (e ≡ RunError.Write)) }
     ensures works { OnOk result (has_failed output.new ≡ false) }
     ensures row { WritesText (W.contents (inner_of output.old)) (W.contents (inner_of output.new))
         result (row_in TableForm.Json name.now finding.now) }
@@ -92,6 +93,7 @@ fn write_columns<W: Write>(
 ) -> Result<(), RunError>
     requires { has_failed output.old ≡ false }
     ensures device { IsErrOf result RunError.Write ↔ IsTrue (has_failed output.new) }
+    ensures errors { IfErr result (λ e. (e ≡ RunError.Memory) ⊎ (e ≡ RunError.Write)) }
     ensures works { OnOk result (has_failed output.new ≡ false) }
     ensures row { WritesText (W.contents (inner_of output.old)) (W.contents (inner_of output.new))
         result (row_line name.now finding.now) }
@@ -111,6 +113,7 @@ fn write_in<W: Write>(
 ) -> Result<(), RunError>
     requires { has_failed output.old ≡ false }
     ensures device { IsErrOf result RunError.Write ↔ IsTrue (has_failed output.new) }
+    ensures errors { IfErr result (λ e. (e ≡ RunError.Memory) ⊎ (e ≡ RunError.Write)) }
     ensures works { OnOk result (has_failed output.new ≡ false) }
     ensures row { WritesText (W.contents (inner_of output.old)) (W.contents (inner_of output.new))
         result (row_in form name.now finding.now) }
@@ -132,6 +135,7 @@ fn tell<W: Write>(
 ) -> Result<Outcome, RunError>
     requires { has_failed output.old ≡ false }
     ensures device { IsErrOf result RunError.Write ↔ IsTrue (has_failed output.new) }
+    ensures errors { IfErr result (λ e. (e ≡ RunError.Memory) ⊎ (e ≡ RunError.Write)) }
     ensures works { OnOk result (has_failed output.new ≡ false) }
     ensures row { WritesText (W.contents (inner_of output.old)) (W.contents (inner_of output.new))
         result (row_in form name.now finding.now) }
@@ -154,6 +158,7 @@ fn tell_file<I: Inputs, W: Write>(
 ) -> Result<Outcome, RunError>
     requires { has_failed output.old ≡ false }
     ensures device { IsErrOf result RunError.Write ↔ IsTrue (has_failed output.new) }
+    ensures errors { IfErr result (λ e. (e ≡ RunError.Memory) ⊎ (e ≡ RunError.Write)) }
     ensures works { OnOk result (has_failed output.new ≡ false) }
     ensures row { WritesRow W.contents (IsFound I.Reader.remaining (I.is_file inputs) (I.is_missing inputs))
         form name.now output.old output.new result }
@@ -199,6 +204,7 @@ fn tell_files<I: Inputs, W: Write>(
 ) -> Result<Counts, RunError>
     requires { has_failed output.old ≡ false }
     ensures device { IsErrOf result RunError.Write ↔ IsTrue (has_failed output.new) }
+    ensures errors { IfErr result (λ e. (e ≡ RunError.Memory) ⊎ (e ≡ RunError.Write)) }
     ensures rows { WritesRows W.contents (IsFound I.Reader.remaining (I.is_file inputs) (I.is_missing inputs))
         form (texts_of names.now) output.old output.new result }
 {
@@ -214,6 +220,7 @@ fn tell_files<I: Inputs, W: Write>(
 fn tell_header<W: Write>(form: TableForm, output: &mut Tried<W>) -> Result<(), RunError>
     requires { has_failed output.old ≡ false }
     ensures device { IsErrOf result RunError.Write ↔ IsTrue (has_failed output.new) }
+    ensures errors { IfErr result (λ e. (e ≡ RunError.Memory) ⊎ (e ≡ RunError.Write)) }
     ensures works { OnOk result (has_failed output.new ≡ false) }
     ensures bytes { WritesText (W.contents (inner_of output.old)) (W.contents (inner_of output.new))
         result (header form) }
@@ -244,6 +251,7 @@ pub fn table<I: Inputs, W: Write>(
 ) -> Result<Counts, RunError>
     requires { has_failed output.old ≡ false }
     ensures device { IsErrOf result RunError.Write ↔ IsTrue (has_failed output.new) }
+    ensures errors { IfErr result (λ e. (e ≡ RunError.Memory) ⊎ (e ≡ RunError.Write)) }
     ensures table { WritesTable W.contents (IsFound I.Reader.remaining (I.is_file inputs) (I.is_missing inputs))
         form (texts_of names.now) output.old output.new result }
 {

@@ -1,5 +1,4 @@
 mod WordLemmas
 mod CountLemmas
 mod NameLemmas
-mod NumberLemmas
 mod JsonLemmas

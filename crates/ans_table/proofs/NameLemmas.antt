@@ -1,9 +1,20 @@
--- A name by its first byte and the rest.
-use Rattle.std.proofs.Common.{◌≡◌, ℕ, zero, suc, ◌-◌, ◌<◌, ◌≤◌, Bool, true, false, List, [], ◌∷◌, ◌++◌, length, drop}
-use Rattle.std.proofs.Common.{ap, arith, get_or, refl, sym}
+-- A name by its first byte and the rest, and that what shows it is UTF-8.
+use Rattle.std.proofs.Common.{◌≡◌, ◌∙◌, ℕ, zero, suc, ◌-◌, ◌/◌, ◌%◌, ◌<◌, ◌≤◌, ◌==◌, ◌||◌, Bool, true, false, List, []}
+use Rattle.std.proofs.Common.{◌∷◌, ◌++◌, length, drop, All, Option, Some, None, ap, arith, get_or, refl, subst, sym}
 use Rattle.std.specs.Prelude.{if◌then◌else◌, nat_lt}
+use Rattle.std.specs.Char.{encode_utf8}
+use Rattle.std.specs.Option.{option_map_or}
+use Rattle.std.specs.Str.{IsUtf8}
 use Rattle.std.proofs.lemmas.Bool.{lt-ltb, le-ltb}
-use Rattle.ans_table.specs.NameText.{ascii_shown, byte_escape, name_after, wide_size}
+use Rattle.std.proofs.lemmas.Bool.Decides.{nat_tests}
+use Rattle.std.proofs.lemmas.List.{length-drop}
+use Rattle.std.proofs.lemmas.List.Elements.{All-drop, All-get_or}
+use Rattle.std.proofs.lemmas.Str.{IsUtf8-append, IsUtf8-encode, IsUtf8-from_ascii, IsUtf8-nil}
+use Rattle.bstr.specs.Utf8.{decoded}
+use Rattle.bstr.proofs.lemmas.SoundLemmas.{SpellsChar-decoded}
+use Rattle.ans_model.specs.Bytes.{IsByte}
+use Rattle.ans_model.specs.Text.Hexadecimal.{hex_byte, hex_digit}
+use Rattle.ans_table.specs.NameText.{ascii_shown, byte_escape, name_after, name_text, wide_size}
 
 -- a byte that is copied
 pub copied_first : (n : ℕ) (rest : List ℕ) → 0 < n → 0 < length rest
@@ -46,3 +57,105 @@ escaped_first (b ∷ rest) more le none =
     third_case (nat_lt b 0x80) (nat_lt 0 (wide_size (b ∷ rest))) (ascii_shown b ++ name_after 0 rest)
     (b ∷ name_after (wide_size (b ∷ rest) - 1) rest) (byte_escape b ++ name_after 0 rest) (le-ltb b 0x80 le)
     (le-ltb 0 (wide_size (b ∷ rest)) none)
+
+-- ---- UTF-8
+-- one byte below 80h
+one_ascii : (b : ℕ) → b < 0x80 → IsUtf8 (b ∷ [])
+one_ascii b lt = IsUtf8-from_ascii (b ∷ []) go
+  where
+    go : (i : ℕ) → get_or (b ∷ []) i 0 < 0x80
+    go zero = lt
+    go (suc i) = omega arith
+
+two_ascii : (a b : ℕ) → a < 0x80 → b < 0x80 → IsUtf8 (a ∷ b ∷ [])
+two_ascii a b lt less = IsUtf8-append (a ∷ []) (b ∷ []) (one_ascii a lt) (one_ascii b less)
+
+either : (first : Bool) (a b : List ℕ) → IsUtf8 a → IsUtf8 b → IsUtf8 (if first then a else b)
+either true a b h k = h
+either false a b h k = k
+
+-- the digits of a byte
+digit_below : (n : ℕ) → n < 16 → hex_digit n < 0x80
+digit_below n lt = grind (arith, nat_tests)
+
+escape_utf8 : (b : ℕ) → b < 0x100 → IsUtf8 (byte_escape b)
+escape_utf8 b lt =
+    IsUtf8-append (0x5C ∷ 0x78 ∷ []) (hex_byte b) (two_ascii 0x5C 0x78 (omega arith) (omega arith))
+    (IsUtf8-append (hex_digit (b / 16) ∷ []) (hex_digit (b % 16) ∷ [])
+    (one_ascii (hex_digit (b / 16)) (digit_below (b / 16) (omega arith)))
+    (one_ascii (hex_digit (b % 16)) (digit_below (b % 16) (omega arith))))
+
+ascii_utf8 : (b : ℕ) → b < 0x80 → IsUtf8 (ascii_shown b)
+ascii_utf8 b lt =
+    either (b == 0x09) (0x5C ∷ 0x74 ∷ []) _ (two_ascii 0x5C 0x74 (omega arith) (omega arith))
+    (either (b == 0x0A) (0x5C ∷ 0x6E ∷ []) _ (two_ascii 0x5C 0x6E (omega arith) (omega arith))
+    (either (b == 0x5C) (0x5C ∷ 0x5C ∷ []) _ (two_ascii 0x5C 0x5C (omega arith) (omega arith))
+    (either (nat_lt b 0x20 || b == 0x7F) (byte_escape b) (b ∷ []) (escape_utf8 b (omega (arith, lt)))
+    (one_ascii b lt))))
+
+-- bytes that are copied, and then the rest
+copied_front : (n : ℕ) (front rest : List ℕ) → length front ≡ n
+    → name_after n (front ++ rest) ≡ front ++ name_after 0 rest
+copied_front zero [] rest e = refl
+copied_front zero (b ∷ front) rest e = absurd (omega (arith, e))
+copied_front (suc n) [] rest e = absurd (omega (arith, e))
+copied_front (suc n) (b ∷ front) rest e =
+    ap (λ (v : List ℕ). b ∷ v) (copied_front n front rest (omega (arith, e)))
+
+-- the character that is shown as itself
+wide_char : (o : Option ℕ) (size : ℕ) → 0 < (if option_map_or (λ c. nat_lt 0x9F c) o false then size else 0)
+    → (c : ℕ) × (o ≡ Some c) × ((if option_map_or (λ c. nat_lt 0x9F c) o false then size else 0) ≡ size)
+wide_char None size some = absurd (omega (arith, some))
+wide_char (Some c) size some = (c, refl, go (nat_lt 0x9F c) some)
+  where
+    go : (b : Bool) → 0 < (if b then size else 0) → (if b then size else 0) ≡ size
+    go true some = refl
+    go false some = absurd (omega (arith, some))
+
+-- a character that is shown as itself, and then the rest
+wide_front : (name : List ℕ) → 0 < length name → 0x80 ≤ get_or name 0 0 → 0 < wide_size name
+    → (c : ℕ) × IsUtf8 (encode_utf8 c)
+    × (name_after 0 name ≡ encode_utf8 c ++ name_after 0 (drop (wide_size name) name))
+wide_front name more le some =
+    let (c, char, size) = wide_char (decoded name).char (decoded name).size some in
+    let spelled = SpellsChar-decoded name c char in
+    let whole : name ≡ encode_utf8 c ++ drop (wide_size name) name =
+    spelled.bytes ∙ ap (λ (k : ℕ). encode_utf8 c ++ drop k name) (sym size) in (
+      c,
+      IsUtf8-encode c spelled.scalar,
+      wide_first name more le some ∙ sym (copied_first (wide_size name) name some more)
+          ∙ ap (λ (v : List ℕ). name_after (wide_size name) v) whole
+          ∙ copied_front (wide_size name) (encode_utf8 c) (drop (wide_size name) name) (spelled.width ∙ sym size),
+    )
+
+-- what shows a name of bytes, where so is what stands behind its first byte or character
+shown_first : (b : ℕ) (rest : List ℕ) → IsByte b → IsUtf8 (name_after 0 rest)
+    → ((size : ℕ) → 0 < size → IsUtf8 (name_after 0 (drop size (b ∷ rest)))) → IsUtf8 (name_after 0 (b ∷ rest))
+shown_first b rest byte behind further = go (nat_lt b 0x80) (nat_lt 0 (wide_size (b ∷ rest))) refl refl
+  where
+    go : (low wide : Bool) → nat_lt b 0x80 ≡ low → nat_lt 0 (wide_size (b ∷ rest)) ≡ wide
+        → IsUtf8 (name_after 0 (b ∷ rest))
+    go true wide e f =
+        let lt : b < 0x80 = grind (arith, nat_tests) in
+        subst IsUtf8 (sym (ascii_first (b ∷ rest) (omega arith) lt)) (IsUtf8-append _ _ (ascii_utf8 b lt) behind)
+    go false true e f =
+        let size = wide_size (b ∷ rest) in
+        let some : 0 < size = grind (arith, nat_tests) in
+        let (c, utf8, is) = wide_front (b ∷ rest) (omega arith) (grind (arith, nat_tests)) some in
+        subst IsUtf8 (sym is) (IsUtf8-append _ _ utf8 (further size some))
+    go false false e f =
+        subst IsUtf8
+        (sym (escaped_first (b ∷ rest) (omega arith) (grind (arith, nat_tests)) (grind (arith, nat_tests))))
+        (IsUtf8-append _ _ (escape_utf8 b byte) behind)
+
+shown_within : (most : ℕ) (name : List ℕ) → length name ≤ most → All IsByte name → IsUtf8 (name_after 0 name)
+shown_within most [] within bytes = IsUtf8-nil
+shown_within zero (b ∷ rest) within bytes = absurd (omega (arith, within))
+shown_within (suc most) (b ∷ rest) within bytes =
+    shown_first b rest (All-get_or IsByte (b ∷ rest) 0 0 (omega arith) bytes)
+    (shown_within most rest (omega (arith, within)) (All-drop IsByte 1 (b ∷ rest) bytes))
+    (λ size some. shown_within most (drop size (b ∷ rest)) (omega (arith, within, some, length-drop size (b ∷ rest)))
+    (All-drop IsByte size (b ∷ rest) bytes))
+
+pub shown_utf8 : (name : List ℕ) → All IsByte name → IsUtf8 (name_text name)
+shown_utf8 name bytes = shown_within (length name) name (omega arith) bytes

@@ -17,6 +17,10 @@ abbrev pub is_unread : Outcome → Bool
 is_unread Unread = true
 is_unread _ = false
 
+-- one for a file that came out so, and none for another
+abbrev pub one_if : Bool → ℕ
+one_if so = if so then 1 else 0
+
 -- how many there are, and how many of each
 abbrev pub counts_of : List Outcome → Counts
 counts_of outcomes = record {

@@ -15,7 +15,6 @@ use ans_model::fault::Fault;
 use ans_report::fault_text;
 use ans_sauce::{Parts, Record};
 use ans_write::{Outbox, put_characters};
-use memchr::memchr;
 use std::io::Write;
 
 fn put_column<W: Write>(out: &mut Outbox<'_, W>, text: &[u8])
@@ -33,20 +32,21 @@ fn put_number<W: Write>(out: &mut Outbox<'_, W>, number: usize)
 }
 
 /// The number of a fault, as `F20`: its text up to the first blank.
-pub(crate) fn fault_number(fault: &Fault) -> &'static [u8]
+pub(crate) fn fault_number(fault: &Fault) -> &'static str
     ensures { result.now ≡ fault_number fault.now.cause }
 {
-    let text = fault_text(fault).as_bytes();
-    let end = memchr(b' ', text).unwrap_or(text.len());
-    let (number, _) = text.split_at(end);
-    number
+    let text = fault_text(fault);
+    match text.split_once(' ') {
+        Some((number, _)) => number,
+        None => text,
+    }
 }
 
 fn put_fault<W: Write>(out: &mut Outbox<'_, W>, fault: &Fault)
     ensures { Puts W.contents out.old out.new (fault_columns fault.now) }
 {
     out.put(b"refused\t\t\t");
-    put_column(out, fault_number(fault));
+    put_column(out, fault_number(fault).as_bytes());
     put_number(out, fault.offset);
 }
 

@@ -1,11 +1,12 @@
 //! How many files came out how.
 
-ghost use Rattle.std.specs.Prelude.{◌≡◌, ◌<◌, ◌≤◌, ◌↔◌, ◌++◌, [], ◌∷◌, false, length, IsTrue, IsErr, List};
+ghost use Rattle.std.specs.Prelude.{◌≡◌, ◌+◌, ◌<◌, ◌≤◌, ◌↔◌, ◌++◌, [], ◌∷◌, false, length, IsTrue, IsErr, List};
 ghost use Rattle.ans_write.specs.Tried.{has_failed, inner_of};
 ghost use Rattle.ans_write.specs.Writes.{WritesText};
 ghost use Rattle.ans_write.specs.Puts.{Puts};
 ghost use Rattle.ans_report.specs.Message.{message_line};
-ghost use Rattle.ans_table.specs.Counting.{counts_of, counts_status, counts_text, files_word};
+ghost use Rattle.ans_table.specs.Counting.{counts_of, counts_status, counts_text, files_word, is_pass, is_refused};
+ghost use Rattle.ans_table.specs.Counting.{is_unread, one_if};
 ghost use Rattle.ans_table.specs.declared.counts.Outcome.{Outcome};
 
 use ans_write::{Outbox, Tried, WriteFault};
@@ -40,14 +41,18 @@ impl Counts {
         unread: 0,
     };
 
-    /// One file more.
+    /// One file more, which came out so.
     pub fn add(&mut self, outcome: Outcome)
         requires room { self.old.files < usize.MAX }
         requires pass { self.old.pass ≤ self.old.files }
         requires refused { self.old.refused ≤ self.old.files }
         requires unread { self.old.unread ≤ self.old.files }
-        ensures { (before : List Outcome) → self.old ≡ counts_of before
+        ensures counts { (before : List Outcome) → self.old ≡ counts_of before
             → self.new ≡ counts_of (before ++ outcome ∷ []) }
+        ensures files_more { self.new.files ≡ self.old.files + 1 }
+        ensures pass_more { self.new.pass ≡ self.old.pass + one_if (is_pass outcome) }
+        ensures refused_more { self.new.refused ≡ self.old.refused + one_if (is_refused outcome) }
+        ensures unread_more { self.new.unread ≡ self.old.unread + one_if (is_unread outcome) }
     {
         self.files += 1;
         match outcome {

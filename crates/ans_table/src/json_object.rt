@@ -28,16 +28,6 @@ use std::alloc::{AllocError, Global};
 /// The members of an object.
 type Members = Map<String, Value>;
 
-/// A text that is UTF-8. Another one is taken for want of memory.
-fn text_value(alloc: Global, text: &[u8]) -> Result<Value, AllocError>
-    ensures { IfOk result (λ v. view v ≡ string text.now) }
-{
-    match str::from_utf8(text) {
-        Ok(text) => Value::try_from_str(alloc, text),
-        Err(_) => Err(AllocError),
-    }
-}
-
 /// The characters of bytes.
 fn shown_value(alloc: Global, bytes: &[u8]) -> Result<Value, AllocError>
     ensures { IfOk result (λ v. view v ≡ string (shown_bytes bytes.now)) }
@@ -59,7 +49,10 @@ fn name_value(alloc: Global, name: &[u8]) -> Result<Value, AllocError>
         return Err(AllocError);
     }
     let shown = device.into_inner();
-    text_value(alloc, shown.as_slice())
+    match str::from_utf8(shown.as_slice()) {
+        Ok(text) => Value::try_from_str(alloc, text),
+        Err(_) => unreachable!(),
+    }
 }
 
 fn words_value(alloc: Global, words: &[&str]) -> Result<Value, AllocError>
@@ -85,7 +78,7 @@ fn notes_value(alloc: Global, notes: &[Note]) -> Result<Value, AllocError>
 {
     let mut list = Vec::new(alloc);
     for note in notes {
-        push(&mut list, text_value(alloc, note_number(note))?)?;
+        push(&mut list, Value::try_from_str(alloc, note_number(note))?)?;
     }
     Ok(Value::Array(list))
 }
@@ -115,7 +108,7 @@ fn put_fault(members: &mut Members, alloc: Global, fault: &Fault) -> Result<(), 
         members,
         alloc,
         "fault",
-        text_value(alloc, fault_number(fault))?,
+        Value::try_from_str(alloc, fault_number(fault))?,
     )?;
     put(members, alloc, "at", Value::from(fault.offset))
 }

@@ -1,6 +1,8 @@
 //! How the name of a file is shown.
 
-ghost use Rattle.std.specs.Prelude.{◌≡◌, ◌<◌, ◌++◌, ℕ, List, drop, length};
+ghost use Rattle.std.specs.Prelude.{◌≡◌, ◌<◌, ◌++◌, ℕ, List, drop, length, slice_index};
+ghost use Rattle.std.specs.Str.{IsUtf8};
+ghost use Rattle.ans_model.specs.Bytes.{IsByte};
 ghost use Rattle.ans_write.specs.Puts.{Puts};
 ghost use Rattle.ans_table.specs.NameText.{ascii_shown, byte_escape, name_after, name_text, wide_size};
 
@@ -42,8 +44,9 @@ fn wide_size(bytes: &[u8]) -> usize
 /// they are. Returns how many of those behind it are.
 fn put_first<W: Write>(out: &mut Outbox<'_, W>, rest: &[u8], copied: usize) -> usize
     requires { 0 < length rest.now }
-    ensures { (text : List ℕ) × Puts W.contents out.old out.new text
+    ensures shown { (text : List ℕ) × Puts W.contents out.old out.new text
         × (name_after copied rest.now ≡ text ++ name_after result (drop 1 rest.now)) }
+    ensures byte { IsByte (slice_index rest.now 0) }
 {
     let byte = rest[0];
     if copied > 0 {
@@ -64,9 +67,10 @@ fn put_first<W: Write>(out: &mut Outbox<'_, W>, rest: &[u8], copied: usize) -> u
 }
 
 /// Puts the name of a file: a tab, a line end and a backslash by their escapes, and each other control
-/// character, and what is not UTF-8, by its bytes in hexadecimal digits.
+/// character, and what is not UTF-8, by its bytes in hexadecimal digits. What is put is UTF-8.
 pub(crate) fn put_name<W: Write>(out: &mut Outbox<'_, W>, name: &[u8])
-    ensures { Puts W.contents out.old out.new (name_text name.now) }
+    ensures puts { Puts W.contents out.old out.new (name_text name.now) }
+    ensures utf8 { IsUtf8 (name_text name.now) }
 {
     let mut copied = 0;
     for i in 0..name.len() {

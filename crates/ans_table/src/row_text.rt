@@ -1,12 +1,14 @@
 //! The rows of a table.
 
 ghost use Rattle.std.specs.Prelude.{◌≡◌, ◌↔◌, false, option_map, IsTrue, IsErr};
+ghost use Rattle.std.specs.Str.{IsUtf8};
 ghost use Rattle.ans_model.specs.Text.FaultText.{line_of};
 ghost use Rattle.ans_sauce.specs.RecordBytes.{bytes_of};
 ghost use Rattle.ans_write.specs.Tried.{has_failed, inner_of};
 ghost use Rattle.ans_write.specs.Writes.{WritesText};
 ghost use Rattle.ans_write.specs.Puts.{Puts};
 ghost use Rattle.ans_table.specs.Findings.{sauce_of};
+ghost use Rattle.ans_table.specs.NameText.{name_text};
 ghost use Rattle.ans_table.specs.RowText.{header_line, row_line};
 
 use crate::columns::{put_content, put_record, put_stated_size, put_verdict};
@@ -43,7 +45,8 @@ pub(crate) fn sauce_of<'a>(finding: &Finding<'a>) -> Option<Record<'a>>
 }
 
 fn put_row<W: Write>(out: &mut Outbox<'_, W>, name: &[u8], finding: &Finding<'_>)
-    ensures { Puts W.contents out.old out.new (row_line name.now finding.now) }
+    ensures puts { Puts W.contents out.old out.new (row_line name.now finding.now) }
+    ensures utf8 { IsUtf8 (name_text name.now) }
 {
     let sauce = sauce_of(finding);
     put_verdict(out, finding);
@@ -54,7 +57,8 @@ fn put_row<W: Write>(out: &mut Outbox<'_, W>, name: &[u8], finding: &Finding<'_>
     out.put(b"\n");
 }
 
-/// Writes the row of a file of this name: its columns with a tab after each, and then the name.
+/// Writes the row of a file of this name: its columns with a tab after each, and then the name, whose
+/// text is UTF-8 whatever the name is.
 ///
 /// `Err` comes exactly where the device failed in the call, and then a prefix of the row was written.
 pub fn write_row<W: Write>(
@@ -66,6 +70,7 @@ pub fn write_row<W: Write>(
     ensures device { IsErr result ↔ IsTrue (has_failed w.new) }
     ensures bytes { WritesText (W.contents (inner_of w.old)) (W.contents (inner_of w.new))
         result (row_line name.now finding.now) }
+    ensures utf8 { IsUtf8 (name_text name.now) }
 {
     let mut out = Outbox::new(w);
     put_row(&mut out, name, finding);

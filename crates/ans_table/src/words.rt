@@ -65,16 +65,16 @@ pub(crate) fn put_needs<W: Write>(out: &mut Outbox<'_, W>, needs: Start)
     put_words(out, part_names(needs).as_slice());
 }
 
-pub(crate) fn note_number(note: &Note) -> &'static [u8]
+pub(crate) fn note_number(note: &Note) -> &'static str
     ensures { result.now ≡ note_number note.now }
 {
     match note {
-        Note::WidthAssumed => b"N1",
-        Note::NoEndMark => b"N2",
-        Note::SizeDiffers => b"N3",
-        Note::OddDate => b"N4",
-        Note::FlagBits => b"N5",
-        Note::FlagPair => b"N6",
+        Note::WidthAssumed => "N1",
+        Note::NoEndMark => "N2",
+        Note::SizeDiffers => "N3",
+        Note::OddDate => "N4",
+        Note::FlagBits => "N5",
+        Note::FlagPair => "N6",
     }
 }
 
@@ -83,7 +83,7 @@ fn put_later_notes<W: Write>(out: &mut Outbox<'_, W>, notes: &[Note])
 {
     for note in notes {
         out.put(b" ");
-        out.put(note_number(note));
+        out.put(note_number(note).as_bytes());
     }
 }
 
@@ -94,6 +94,6 @@ pub(crate) fn put_notes<W: Write>(out: &mut Outbox<'_, W>, notes: &[Note])
     let [first, later @ ..] = notes else {
         return;
     };
-    out.put(note_number(first));
+    out.put(note_number(first).as_bytes());
     put_later_notes(out, later);
 }

@@ -36,7 +36,7 @@ loop-name-preserved g c = (
   c.in_ok-outcome.ensures.works,
   one_more _ _ _ _ c.loop-name.name-index _ c.args.output.now c.loop-name.output c.loop-name.counts
       c.loop-name.invariant.1 c.loop-name-test.true c.tell_file.new.output c.in_ok-outcome.outcome c.add.new.self
-      c.in_ok-outcome.ensures.row c.add.ensures,
+      c.in_ok-outcome.ensures.row c.add.ensures.counts,
 )
 
 pub returns-clause-rows : goal.returns-clause-rows

@@ -3,8 +3,8 @@ use Rattle.ans_table.specs.NameText.{byte_escape}
 use Rattle.ans_table.proofs.NameLemmas.{escaped_first}
 use Rattle.ans_table.proofs.name_text.put_first.Goals as goal
 
-pub returns : goal.returns
-returns g c =
+pub returns-clause-shown : goal.returns-clause-shown
+returns-clause-shown g c =
     let rest = c.args.rest.now in
     let none : c.args.copied ≡ 0 = omega (arith, c.if-copied-gt0.false) in
     rw none (

@@ -9,7 +9,7 @@ loop-note-init g c = Puts-nothing c.args.out.now
 pub loop-note-preserved : goal.loop-note-preserved
 loop-note-preserved g c =
     Puts-next later_note c.args.notes.now c.loop-note.note-index _ c.loop-note-test.true c.loop-note.invariant
-    (Puts-then c.put.ensures (rw c.note_number.ensures at c.put-in-loop-note.ensures))
+    (Puts-then c.put.ensures (rw (c.as_bytes.ensures.value, c.note_number.ensures) at c.put-in-loop-note.ensures))
 
 pub returns : goal.returns
 returns g c =
