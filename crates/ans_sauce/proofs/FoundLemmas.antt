@@ -1,5 +1,5 @@
 -- What is found, by the refusal that applies first.
-use Rattle.std.proofs.Common.{◌≡◌, ◌≢◌, ◌⊎◌, inl, inr, ℕ, ◌+◌, ◌≤◌, ◌<◌, Bool, true, false, List, [], ◌∷◌, length, take}
+use Rattle.std.proofs.Common.{◌≡◌, ◌≢◌, ◌⊎◌, inl, inr, ℕ, ◌+◌, ◌≤◌, Bool, true, false, List, [], ◌∷◌, length, take}
 use Rattle.std.proofs.Common.{refl, sym, ap, ◌∙◌, arith, Option, Some, None, codes}
 use Rattle.std.specs.Prelude.{◌↔◌, IsTrue, is_some}
 use Rattle.std.proofs.lemmas.List.{length-take, get_or-take}
@@ -33,10 +33,6 @@ one_of_them (r ∷ rs) f e = here r.applies refl (one_of_them rs f)
         → (f.cause ≡ r.cause) ⊎ IsCauseOf rs f.cause
     here true applies more = inl (same_cause None f (fault_at r.offset r.cause) (rw applies at e))
     here false applies more = inr (more (rw applies at e))
-
-pub no_record : (file : List ℕ) (f : Fault) → has_record file ≡ false → record_fault file ≡ Some f → f.cause ≡ NoRecord
-no_record file f none e =
-    same_cause None f (record { offset = length file; cause = NoRecord }) (rw none at e)
 
 pub bytes_after : (file : List ℕ) (f : Fault) → has_record file ≡ true → record_fault file ≡ Some f
     → f.cause ≢ WrongVersion → f.cause ≢ WrongKind → f.cause ≢ CommentsMissing → f.cause ≢ LinesUnstated
@@ -96,10 +92,6 @@ module _ (bytes : List ℕ) (end : ℕ) (room : end + 121 ≡ length bytes) wher
     },
     record_at place here,
   )
-
--- too few bytes hold none
-pub none_in_few : (bytes : List ℕ) → length bytes < 121 → IsLastRecord bytes None
-none_in_few bytes few k low lt h = omega (arith, h.whole, few)
 
 -- there is a last record exactly where there is one
 pub some_last : (bytes : List ℕ) (r : Option ℕ) → IsLastRecord bytes r → IsTrue (is_some r) ↔ HasRecord bytes
