@@ -16,7 +16,7 @@ use Rattle.ans_tokens.specs.Token.{kind_of}
 use Rattle.ans_tokens.specs.declared.pieces.Piece.{Piece}
 use Rattle.ans_tokens.specs.declared.pieces.Piece.TheVariants as pieces
 use Rattle.ans_tokens.specs.declared.token.Token.{Token}
-use Rattle.ans_hints.specs.Pens.{pen_of}
+use Rattle.ans_pen.specs.Pens.{pen_of}
 use Rattle.ans_hints.specs.FoundSoFar.{found_with, found_after}
 use Rattle.ans_hints.specs.Walks.{IsAt, Shows, LeadsTo, found_in_glyphs}
 use Rattle.ans_hints.specs.declared.found.Found.{Found}

@@ -13,14 +13,14 @@ use Rattle.ans_hints.specs.Conditions.{begins_with_wide}
 use Rattle.ans_hints.specs.Counted.{counted}
 use Rattle.ans_hints.specs.FoundSoFar.{found_with}
 use Rattle.ans_hints.specs.InRow.{many_more, with_wide, found_in_row}
-use Rattle.ans_hints.specs.Pens.{pen_of}
+use Rattle.ans_pen.specs.Pens.{pen_of}
 use Rattle.ans_hints.specs.Walks.{Shows, found_in_glyphs}
 use Rattle.ans_hints.specs.declared.times.Times.{Times}
 use Rattle.ans_hints.specs.declared.found.Found.{Found}
-use Rattle.ans_hints.specs.declared.pen.Pen.{Pen}
+use Rattle.ans_pen.specs.declared.pen.Pen.{Pen}
 use Rattle.ans_hints.specs.declared.walk.Walk.{Walk}
 use Rattle.ans_hints.proofs.GlyphWalks.{ComesTo}
-use Rattle.ans_hints.proofs.PenSteps.{one_on, stays_in_row}
+use Rattle.ans_pen.proofs.PenSteps.{one_on, stays_in_row}
 
 -- ---- one glyph
 -- it fills no row

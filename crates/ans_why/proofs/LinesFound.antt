@@ -19,7 +19,7 @@ use Rattle.ans_tokens.proofs.PiecesRead.{no_fault}
 use Rattle.ans_tokens.proofs.Readable.{reads_as_append}
 use Rattle.ans_tokens.proofs.Scanning.{rest_read}
 use Rattle.ans_why.specs.Lines.{IsGoodOn, IsNeverGood}
-use Rattle.ans_why.specs.Walks.{PieceFits}
+use Rattle.ans_why.specs.Runs.{PieceFits}
 use Rattle.ans_why.specs.Descent.{IsDescent, IsNeverClean, IsInOrder, Settles}
 use Rattle.ans_why.specs.declared.descent.Descent.{Descent}
 use Rattle.ans_why.proofs.CleanSteps.{clean_front}

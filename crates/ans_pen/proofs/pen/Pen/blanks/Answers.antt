@@ -2,10 +2,10 @@ use Rattle.std.proofs.Common.{◌+◌, fold, replicate, arith, sym, ap, ◌∙�
 use Rattle.ans_model.specs.Bytes.{blank}
 use Rattle.ans_model.specs.Screen.State.{State, at}
 use Rattle.ans_model.specs.Screen.Step.{printed, put}
-use Rattle.ans_hints.specs.Pens.{pen_of}
-use Rattle.ans_hints.specs.declared.pen.Pen.{Pen}
-use Rattle.ans_hints.proofs.PenSteps.{one_blank_last, blanks_in_row}
-use Rattle.ans_hints.proofs.pen.Pen.blanks.Goals as goal
+use Rattle.ans_pen.specs.Pens.{pen_of}
+use Rattle.ans_pen.specs.declared.pen.Pen.{Pen}
+use Rattle.ans_pen.proofs.PenSteps.{one_blank_last, blanks_in_row}
+use Rattle.ans_pen.proofs.pen.Pen.blanks.Goals as goal
 
 pub returns-then-self-count-clause-pen : goal.returns-then-self-count-clause-pen
 returns-then-self-count-clause-pen c s e =

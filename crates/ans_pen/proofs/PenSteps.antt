@@ -4,7 +4,7 @@ use Rattle.std.proofs.lemmas.Bool.{le-ltb, lt-ltb}
 use Rattle.ans_model.specs.Bytes.{blank}
 use Rattle.ans_model.specs.Screen.State.{Size, State, at}
 use Rattle.ans_model.specs.Screen.Step.{advanced, line_feed, printed, put}
-use Rattle.ans_hints.specs.Pens.{pen_of}
+use Rattle.ans_pen.specs.Pens.{pen_of}
 
 -- in the last column, where wrap is on
 pub wraps : (z : Size) (s : State) → z.width ≤ s.cursor.column + 1 → s.wrap ≡ true
