@@ -19,7 +19,8 @@ use Rattle.ans_tokens.specs.Pieces.{PiecesView, TakesPiece, HasEnded, kinds_of_p
 use Rattle.ans_tokens.specs.Token.{kind_of}
 use Rattle.ans_tokens.specs.declared.pieces.Piece.{Piece}
 use Rattle.ans_tokens.specs.declared.pieces.Piece.TheVariants.{Glyphs, Token}
-use Rattle.ans_tokens.proofs.PiecesRead.{GoesOn, goes_on, no_more}
+use Rattle.ans_tokens.proofs.PiecesRead.{goes_on, no_more}
+use Rattle.ans_tokens.proofs.Scanning.{ReadsOn}
 use Rattle.ans_why.specs.Taller.{IsTaller, MovesFreely, IsFreeBetween, IsFreePiece}
 use Rattle.ans_pen.specs.Pens.{pen_of}
 use Rattle.ans_why.specs.Runs.{PieceFits}
@@ -64,7 +65,7 @@ walked_nothing z class content rest low high (picture, good) short e low_is high
 
 module _ (z : Size) (class : Start) (content : List ℕ) (old new : PiecesView) (low high : Pen)
     (h : WalkedSoFar z class content old.rest low high) (piece : Piece) (taken : TakesPiece old new piece) where
-  on : GoesOn new.rest piece h.later
+  on : ReadsOn new.rest (kinds_of_piece piece) h.later
   on = goes_on old new piece h.later taken h.left
 
   all_with_piece : h.tokens ≡ (h.played ++ kinds_of_piece piece) ++ on.later
