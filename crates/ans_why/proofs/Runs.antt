@@ -1,8 +1,9 @@
 -- From the cleared start a run of printed bytes, or a tab, is clean where its last byte stands above the spare row.
 use Rattle.std.proofs.Common.{◌≡◌, inl, inr, ℕ, zero, suc, ◌+◌, ◌-◌, ◌<◌, ◌≤◌, Bool, List, [], ◌∷◌, ◌++◌, length, map}
-use Rattle.std.proofs.Common.{refl, ap, ap₂, sym, ◌∙◌, arith, subst, replicate, fold, append_assoc}
+use Rattle.std.proofs.Common.{ap, ap₂, sym, ◌∙◌, arith, subst, replicate, fold, append_assoc}
 use Rattle.std.proofs.lemmas.Bool.{cases_lt}
 use Rattle.std.proofs.lemmas.List.{append-nil, length-replicate}
+use Rattle.std.proofs.lemmas.List.Folds.{fold-map}
 use Rattle.std.proofs.lemmas.List.Sums.{fold-append}
 use Rattle.ans_model.specs.Bytes.{blank}
 use Rattle.ans_model.specs.declared.cell.Position.{Position}
@@ -13,7 +14,6 @@ use Rattle.ans_model.specs.Screen.Step.{final, put, step, tab_blanks}
 use Rattle.ans_model.specs.Screen.StartClass.{IsStart, all_known, cleared}
 use Rattle.ans_model.specs.Verdict.TokenFault.{IsClean}
 use Rattle.ans_model.proofs.StartLemmas.{low_is_start}
-use Rattle.ans_model.proofs.TabLemmas.{blanks_are_glyphs}
 use Rattle.ans_model.proofs.WellFormed.{fits_after_tokens}
 use Rattle.ans_pen.specs.Pens.{pen_of}
 use Rattle.ans_why.specs.Runs.{run_end}
@@ -25,15 +25,11 @@ use Rattle.ans_why.proofs.Printed.{next, next_row, put_is}
 use Rattle.ans_why.proofs.RunEnds.{run_end-none, run_end-first, run_end-one, run_end-last, run_end-column}
 use Rattle.ans_why.proofs.RunEnds.{run_rows_grow, pen_of_run}
 
-map-replicate : (n : ℕ) (b : ℕ) → map Glyph (replicate n b) ≡ replicate n (Glyph b)
-map-replicate zero b = refl
-map-replicate (suc n) b = ap (λ (ts : List TokenKind). Glyph b ∷ ts) (map-replicate n b)
-
 -- ---- in any state
 module _ (z : Size) (some : 0 < z.width) where
   blanks_fold : (s : State) (n : ℕ)
       → fold (put z) s (replicate n blank) ≡ final z s (map Glyph (replicate n blank))
-  blanks_fold s n = blanks_are_glyphs z s n ∙ ap (final z s) (sym (map-replicate n blank))
+  blanks_fold s n = sym (fold-map (step z) Glyph s (replicate n blank))
 
   blanks_end : (s : State) (n : ℕ) → s.cursor.column < z.width
       → ((i : ℕ) → i < n → (run_end z.width s.cursor s.wrap i).row < z.lines)

@@ -1,8 +1,8 @@
 -- The blanks of a tab that has a fault, up to the one that decides.
-use Rattle.std.proofs.Common.{◌≡◌, ◌≢◌, ◌⊎◌, inl, inr, ℕ, zero, suc, ◌+◌, ◌<◌, ◌≤◌, refl, sym, ap, ◌∙◌, arith}
+use Rattle.std.proofs.Common.{◌≡◌, ◌≢◌, ◌⊎◌, inl, inr, ℕ, ◌+◌, ◌<◌, ◌≤◌, sym, ap, ◌∙◌, arith}
 use Rattle.std.proofs.Common.{subst, List, [], ◌∷◌, ◌++◌, All, replicate, append_assoc}
 use Rattle.std.proofs.lemmas.Bool.{cases_lt}
-use Rattle.std.proofs.lemmas.List.{append-nil}
+use Rattle.std.proofs.lemmas.List.{append-nil, replicate-append-replicate}
 use Rattle.ans_model.specs.Bytes.{blank}
 use Rattle.ans_model.specs.Sequence.TokenKind.{TokenKind, PrintsByte, Glyph}
 use Rattle.ans_model.specs.Screen.State.{Size, State}
@@ -78,16 +78,11 @@ module _ (z : Size) (class : Start) (p : Position) (some : 0 < z.width) (played 
   fault_decides _ prints clean f = absurd f
 
 -- one blank more is one more in the end
-blank_last : (n : ℕ) → replicate n (Glyph blank) ++ Glyph blank ∷ [] ≡ replicate (suc n) (Glyph blank)
-blank_last zero = refl
-blank_last (suc n) = ap (λ (ts : List TokenKind). Glyph blank ∷ ts) (blank_last n)
-
 pub blanks_more : (tokens : List TokenKind) (n : ℕ)
     → then_blanks tokens n ++ Glyph blank ∷ [] ≡ then_blanks tokens (n + 1)
 blanks_more tokens n =
-    let more : n + 1 ≡ suc n = omega arith in
-    rw more (append_assoc tokens (replicate n (Glyph blank)) (Glyph blank ∷ [])
-    ∙ ap (λ (ts : List TokenKind). tokens ++ ts) (blank_last n))
+    append_assoc tokens (replicate n (Glyph blank)) (Glyph blank ∷ [])
+    ∙ ap (λ (ts : List TokenKind). tokens ++ ts) (replicate-append-replicate n 1 (Glyph blank))
 
 module _ (z : Size) (class : Start) (p : Position) (tokens : List TokenKind) (cause : Cause)
     (fault : HasTabFault z class tokens cause) where
