@@ -6,7 +6,7 @@ use Rattle.ans_model.specs.Sequence.TokenKind.{Glyph}
 use Rattle.ans_model.specs.Screen.State.{Size, State}
 use Rattle.ans_model.specs.Screen.Step.{step, final}
 use Rattle.ans_hints.specs.FoundSoFar.{found_with}
-use Rattle.ans_hints.specs.Pens.{pen_of}
+use Rattle.ans_pen.specs.Pens.{pen_of}
 use Rattle.ans_hints.specs.Walks.{Shows, found_in_glyphs}
 use Rattle.ans_hints.specs.declared.found.Found.{Found}
 use Rattle.ans_hints.specs.declared.walk.Walk.{Walk}

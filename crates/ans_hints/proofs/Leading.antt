@@ -12,7 +12,8 @@ use Rattle.ans_hints.specs.Walks.{Shows, LeadsTo, found_in_glyphs}
 use Rattle.ans_hints.specs.declared.found.Found.{Found}
 use Rattle.ans_hints.specs.declared.walk.Walk.{Walk}
 use Rattle.ans_hints.proofs.FoundLater.{each_alone, found_next, found_behind_glyphs}
-use Rattle.ans_hints.proofs.Split.{IsSplit, split_reading, texts_alone}
+use Rattle.ans_tokens.proofs.Scanning.{IsSplit, split_reading}
+use Rattle.ans_hints.proofs.Split.{texts_alone}
 
 module _ (z : Size) (walk next : Walk) (end : Found) (text rest behind : List ℕ) (offset : ℕ)
     (h : LeadsTo z offset (text ++ rest) behind walk end) where

@@ -1,4 +1,3 @@
-pub mod PenSteps
 pub mod TextTests
 pub mod GlyphWalks
 pub mod FoundLater

@@ -1,7 +1,7 @@
 -- A walk over the pieces of a content.
 use Rattle.std.proofs.Common.{◌≡◌, ℕ, ◌≤◌, List, [], ◌∷◌, ◌++◌, length, map, take, drop, refl, sym, ap, arith}
 use Rattle.std.proofs.Common.{◌∙◌, subst, append_assoc, length-append, Bor}
-use Rattle.std.proofs.lemmas.List.{take_at, drop_at, drop-drop, length-drop, take-append-drop, drop-append-le}
+use Rattle.std.proofs.lemmas.List.{take_at, drop_at, drop-drop, length-drop, take-append-drop, drop-append-le, length-take}
 use Rattle.ans_model.specs.Sequence.TokenKind as token
 use Rattle.ans_model.specs.Sequence.TokenKind.{TokenKind}
 use Rattle.ans_model.specs.Sequence.Reads.{Reads, ReadsAs}
@@ -16,7 +16,7 @@ use Rattle.ans_tokens.specs.Token.{kind_of}
 use Rattle.ans_tokens.specs.declared.pieces.Piece.{Piece}
 use Rattle.ans_tokens.specs.declared.pieces.Piece.TheVariants as pieces
 use Rattle.ans_tokens.specs.declared.token.Token.{Token}
-use Rattle.ans_hints.specs.Pens.{pen_of}
+use Rattle.ans_pen.specs.Pens.{pen_of}
 use Rattle.ans_hints.specs.FoundSoFar.{found_with, found_after}
 use Rattle.ans_hints.specs.Walks.{IsAt, Shows, LeadsTo, found_in_glyphs}
 use Rattle.ans_hints.specs.declared.found.Found.{Found}
@@ -42,6 +42,13 @@ module _ (content : List ℕ) (old new : PiecesView) (piece : Piece) (within : o
       sym (drop_at taken.text new.rest (length taken.text) refl)
       ∙ ap (λ (v : List ℕ). drop (length taken.text) v) (sym taken.whole ∙ left)
       ∙ drop-drop (length taken.text) old.offset content ∙ ap (λ (n : ℕ). drop n content) (sym taken.offset)
+
+-- a piece of a content's front ends in the content
+pub ends_within : (content : List ℕ) (end : ℕ) (old new : PiecesView) (piece : Piece)
+    → old.offset ≤ length (take end content) → old.rest ≡ drop old.offset (take end content)
+    → TakesPiece old new piece → new.offset ≤ length content
+ends_within content end old new piece within left taken =
+    omega (arith, within_after (take end content) old new piece within left taken, length-take end content)
 
 -- the whole of a content goes on behind its front
 pub with_behind : (content : List ℕ) (end offset : ℕ) (rest : List ℕ) → rest ≡ drop offset (take end content)

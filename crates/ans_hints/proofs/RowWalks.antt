@@ -4,7 +4,7 @@ use Rattle.std.proofs.Common.{length, map, take, drop, get_or, refl, sym, ap, ap
 use Rattle.std.specs.Prelude.{nat_le, if◌then◌else◌}
 use Rattle.std.proofs.Math.Seq.{take-add}
 use Rattle.std.proofs.lemmas.Bool.{ne_eqb}
-use Rattle.std.proofs.lemmas.List.{map-append, drop-drop, drop_more, length-drop}
+use Rattle.std.proofs.lemmas.List.{map-append, drop-drop, drop_more, length-drop, length-take-le}
 use Rattle.std.proofs.lemmas.List.Sums.{fold-append}
 use Rattle.ans_model.specs.Sequence.TokenKind.{TokenKind, Glyph}
 use Rattle.ans_model.specs.Screen.State.{Size, State, at}
@@ -13,14 +13,15 @@ use Rattle.ans_hints.specs.Conditions.{begins_with_wide}
 use Rattle.ans_hints.specs.Counted.{counted}
 use Rattle.ans_hints.specs.FoundSoFar.{found_with}
 use Rattle.ans_hints.specs.InRow.{many_more, with_wide, found_in_row}
-use Rattle.ans_hints.specs.Pens.{pen_of}
+use Rattle.ans_pen.specs.Pens.{pen_of}
 use Rattle.ans_hints.specs.Walks.{Shows, found_in_glyphs}
 use Rattle.ans_hints.specs.declared.times.Times.{Times}
 use Rattle.ans_hints.specs.declared.found.Found.{Found}
-use Rattle.ans_hints.specs.declared.pen.Pen.{Pen}
+use Rattle.ans_pen.specs.declared.pen.Pen.{Pen}
 use Rattle.ans_hints.specs.declared.walk.Walk.{Walk}
 use Rattle.ans_hints.proofs.GlyphWalks.{ComesTo}
-use Rattle.ans_hints.proofs.PenSteps.{one_on, stays_in_row}
+use Rattle.std.proofs.lemmas.List.Folds.{fold-map}
+use Rattle.ans_pen.proofs.PenSteps.{one_on, stays_in_row, bytes_in_row}
 
 -- ---- one glyph
 -- it fills no row
@@ -87,15 +88,9 @@ row_found (suc n) z s offset (b ∷ bytes) found lt some =
 pub row_pen : (n : ℕ) (z : Size) (s : State) (bytes : List ℕ) → s.cursor.column + n < z.width → n ≤ length bytes
     → pen_of (final z s (map Glyph (take n bytes)))
     ≡ record (pen_of s) { cursor = at s.cursor.row (s.cursor.column + n) }
-row_pen zero z s bytes lt some =
-    let same : s.cursor.column ≡ s.cursor.column + 0 = omega arith in
-    ap (λ (c : ℕ). record (pen_of s) { cursor = at s.cursor.row c }) same
-row_pen (suc n) z s [] lt some = absurd (omega (arith, some))
-row_pen (suc n) z s (b ∷ bytes) lt some =
-    let same : (s.cursor.column + 1) + n ≡ s.cursor.column + suc n = omega arith in
-    ap (λ (t : State). pen_of (final z t (map Glyph (take n bytes)))) (stays_in_row z s b (omega (arith, lt)))
-    ∙ row_pen n z (one_on z s b) bytes (omega (arith, lt)) (omega (arith, some))
-    ∙ ap (λ (c : ℕ). record (pen_of s) { cursor = at s.cursor.row c }) same
+row_pen n z s bytes lt some =
+    ap pen_of (fold-map (step z) Glyph s (take n bytes))
+    ∙ bytes_in_row (take n bytes) z s n (length-take-le n bytes some) lt
 
 -- ---- some glyphs, and then others
 found_split : (n m : ℕ) (z : Size) (s : State) (offset : ℕ) (bytes : List ℕ) (found : Found) → n ≤ length bytes

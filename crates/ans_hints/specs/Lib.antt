@@ -4,7 +4,6 @@ pub mod Rows
 pub mod RowMoves
 pub mod Fonts
 pub mod Counted
-pub mod Pens
 pub mod FoundSoFar
 pub mod Hints
 pub mod Walks

@@ -4,7 +4,7 @@ use Rattle.ans_model.specs.Sequence.TokenKind.{TokenKind, Glyph}
 use Rattle.ans_model.specs.Sequence.Reads.{ReadsAs}
 use Rattle.ans_model.specs.Screen.State.{Size, State}
 use Rattle.ans_model.specs.Screen.Step.{step}
-use Rattle.ans_hints.specs.Pens.{pen_of, StandsOn}
+use Rattle.ans_pen.specs.Pens.{pen_of, StandsOn}
 use Rattle.ans_hints.specs.FoundSoFar.{CountsWithin, found_with, found_after}
 use Rattle.ans_hints.specs.declared.found.Found.{Found}
 use Rattle.ans_hints.specs.declared.walk.Walk.{Walk}

@@ -5,16 +5,18 @@ ghost use Rattle.ans_model.specs.Bytes.{longest_file};
 ghost use Rattle.ans_model.specs.Sequence.TokenKind.{Glyph, LineFeed};
 ghost use Rattle.ans_model.specs.Screen.State.{Size, State};
 ghost use Rattle.ans_model.specs.Inside.ShownKind.{shown_kind};
-ghost use Rattle.ans_hints.specs.Pens.{pen_of, StandsOn};
+ghost use Rattle.ans_pen.specs.Pens.{pen_of, StandsOn};
+ghost use Rattle.ans_hints.specs.Rows.{before_last_blank};
 ghost use Rattle.ans_hints.specs.Counted.{count_of};
 ghost use Rattle.ans_hints.specs.InRow.{with_wide, found_in_row};
 ghost use Rattle.ans_hints.specs.FoundSoFar.{found_with, nothing_found, CountsWithin};
 
 use crate::conditions::{begins_with_line_end, begins_with_wide, has_later_colour};
-use crate::pen::Pen;
 use crate::times::{self, Times, count, count_many};
 use ans_model::kind::Kind;
 use ans_model::size::Size;
+use ans_model::tab::tab_blanks;
+use ans_pen::Pen;
 
 /// What is found so far. The rows are those down to the lowest in which something was printed; and
 /// some token moves the cursor up or down by rows, or none.
@@ -43,6 +45,18 @@ fn count_wide(times: &mut Option<Times>, offset: usize, bytes: &[u8], count: usi
         let wide = begins_with_wide(bytes[i], &bytes[i + 1..]);
         times::count(times, wide, offset + i);
     }
+}
+
+/// The row of the last blank that a tab prints, which is the lowest.
+fn row_of_tab(size: Size, pen: &Pen) -> usize
+    requires stands { StandsOn size pen.now }
+    ensures within { result ≤ size.lines }
+    ensures row { (s : State) → pen.now ≡ pen_of s
+        → result ≡ (before_last_blank size s).cursor.row }
+{
+    let mut last = *pen;
+    last.blanks(size, tab_blanks(pen.cursor.column) - 1);
+    last.cursor.row
 }
 
 impl Found {
@@ -131,7 +145,7 @@ impl Found {
         match kind {
             Kind::Glyph(byte) => self.glyph(size, pen, offset, *byte, rest),
             Kind::LineFeed => self.line_feed(pen, offset, rest),
-            Kind::Tab => self.rows = self.rows.max(pen.row_of_tab(size) + 1),
+            Kind::Tab => self.rows = self.rows.max(row_of_tab(size, pen) + 1),
             Kind::Up(_) | Kind::Down(_) => self.moves_rows = true,
             Kind::Colours(numbers) => {
                 let later = has_later_colour(numbers);

@@ -13,7 +13,6 @@ mod found;
 mod hints;
 mod hints_text;
 pub mod laws;
-mod pen;
 mod times;
 mod walk;
 

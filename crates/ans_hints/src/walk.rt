@@ -13,9 +13,9 @@ ghost use Rattle.ans_hints.specs.Walks.{IsAt, Shows, found_in_glyphs};
 ghost use Rattle.ans_hints.specs.declared.found.Found.{Found};
 
 use crate::found::Found;
-use crate::pen::Pen;
 use ans_model::kind::Kind;
 use ans_model::size::Size;
+use ans_pen::Pen;
 use ans_tokens::{Piece, Pieces};
 
 /// A play without its screen, and what is found in it so far.
@@ -32,7 +32,7 @@ impl Walk {
         ensures begins { Shows result (cleared size) nothing_found }
     {
         Walk {
-            pen: Pen::cleared(size),
+            pen: Pen::cleared(),
             found: Found::nothing(),
         }
     }

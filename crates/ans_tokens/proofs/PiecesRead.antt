@@ -1,6 +1,6 @@
 -- Where a content has a reading, its pieces are that reading.
 use Rattle.std.proofs.Common.{◌≡◌, inl, inr, ℕ, ◌+◌, ◌<◌, List, [], ◌∷◌, ◌++◌, length, map, take, drop, sym, ap, ◌∙◌}
-use Rattle.std.proofs.Common.{arith, Bor}
+use Rattle.std.proofs.Common.{arith, subst, Bor}
 use Rattle.std.specs.Prelude.{slice_get}
 use Rattle.std.proofs.lemmas.List.{length-take-le, take-append-drop}
 use Rattle.ans_model.specs.Sequence.TokenKind.{TokenKind}
@@ -18,7 +18,7 @@ use Rattle.ans_tokens.specs.declared.pieces.Piece.{Piece}
 use Rattle.ans_tokens.specs.declared.pieces.Piece.TheVariants as piece
 use Rattle.ans_tokens.specs.declared.pieces.Piece.TheVariants.{Glyphs}
 use Rattle.ans_tokens.proofs.Readable.{glyphs_read, reads_as_one}
-use Rattle.ans_tokens.proofs.Scanning.{rest_read, none_left}
+use Rattle.ans_tokens.proofs.Scanning.{ReadsOn, reads_on, none_left}
 
 -- ---- what is taken
 -- glyphs in front
@@ -65,21 +65,12 @@ token_taken old new t h none after =
     }
 
 -- ---- what the reading says
--- The tokens are those of the piece, and then those of the bytes that are left.
-pub record GoesOn (rest : List ℕ) (piece : Piece) (tokens : List TokenKind) : Type 0 where
-  pub later : List TokenKind
-  pub more : tokens ≡ kinds_of_piece piece ++ later
-  pub reads : Reads rest later
-
 -- after a piece, the reading goes on
 pub goes_on : (old new : PiecesView) (piece : Piece) (tokens : List TokenKind) → TakesPiece old new piece
-    → Reads old.rest tokens → GoesOn new.rest piece tokens
-goes_on old new piece tokens taken (texts, reads) =
-    let (piece_texts, piece_reads) = taken.reads in
-    let whole = ap (λ (v : List ℕ). v ++ new.rest) (sym piece_reads.whole) ∙ sym taken.whole ∙ reads.whole in
-    let (later, more, left) =
-    rest_read (kinds_of_piece piece) tokens piece_texts texts new.rest piece_reads.each reads.each whole in
-    record { later = later; more = more; reads = left }
+    → Reads old.rest tokens → ReadsOn new.rest (kinds_of_piece piece) tokens
+goes_on old new piece tokens taken reads =
+    reads_on taken.text new.rest (kinds_of_piece piece) tokens taken.reads
+    (subst (λ (v : List ℕ). Reads v tokens) taken.whole reads)
 
 -- at the end there is no token
 pub no_more : (old new : PiecesView) (tokens : List TokenKind) → HasEnded old new → Reads old.rest tokens → tokens ≡ []

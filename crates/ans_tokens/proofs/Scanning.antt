@@ -123,39 +123,62 @@ scanned_read offset bytes s tokens h ends =
     subst (λ (v : List ℕ). ReadsAs v (kinds_of tokens) (texts_of offset bytes tokens)) all h.reads
 
 -- ---- what has a reading
--- of bytes that are read, what stands after tokens is read too
-pub rest_read : (ts us : List TokenKind) (xs zs : List (List ℕ)) (y : List ℕ) → AllZip SpellsToken ts xs
-    → AllZip SpellsToken us zs → concat xs ++ y ≡ concat zs
-    → (vs : List TokenKind) × (us ≡ ts ++ vs) × Reads y vs
-rest_read [] us [] zs y h g e = (us, refl, (zs, record { each = g; whole = e }))
-rest_read [] us (a ∷ xs) zs y h g e = absurd h
-rest_read (t ∷ ts) us [] zs y h g e = absurd h
-rest_read (t ∷ ts) [] (a ∷ xs) [] y h g e =
+-- the reading begins with these tokens and texts, and goes on over the other bytes
+pub record IsSplit (first tokens : List TokenKind) (first_texts texts : List (List ℕ)) (rest : List ℕ) : Type 0 where
+  pub later : List TokenKind
+  pub later_texts : List (List ℕ)
+  pub tokens_are : tokens ≡ first ++ later
+  pub texts_are : texts ≡ first_texts ++ later_texts
+  pub reads : ReadsAs rest later later_texts
+
+pub split_reading : (ts us : List TokenKind) (xs zs : List (List ℕ)) (y : List ℕ) → AllZip SpellsToken ts xs
+    → AllZip SpellsToken us zs → concat xs ++ y ≡ concat zs → IsSplit ts us xs zs y
+split_reading [] us [] zs y h g e = record {
+  later = us;
+  later_texts = zs;
+  tokens_are = refl;
+  texts_are = refl;
+  reads = record { each = g; whole = e };
+}
+split_reading [] us (a ∷ xs) zs y h g e = absurd h
+split_reading (t ∷ ts) us [] zs y h g e = absurd h
+split_reading (t ∷ ts) [] (a ∷ xs) [] y h g e =
     absurd (token_nonempty t a (concat xs ++ y) h.0 (sym (append_assoc a (concat xs) y) ∙ e))
-rest_read (t ∷ ts) [] (a ∷ xs) (b ∷ zs) y h g e = absurd g
-rest_read (t ∷ ts) (u ∷ us) (a ∷ xs) [] y h g e = absurd g
-rest_read (t ∷ ts) (u ∷ us) (a ∷ xs) (b ∷ zs) y h g e =
+split_reading (t ∷ ts) [] (a ∷ xs) (b ∷ zs) y h g e = absurd g
+split_reading (t ∷ ts) (u ∷ us) (a ∷ xs) [] y h g e = absurd g
+split_reading (t ∷ ts) (u ∷ us) (a ∷ xs) (b ∷ zs) y h g e =
     let s = one_token_in_front t u a b (concat xs ++ y) (concat zs) h.0 g.0
     (sym (append_assoc a (concat xs) y) ∙ e) in
-    let r = rest_read ts us xs zs y h.1 g.1 s.2 in
-    (r.0, ap₂ (λ (v : TokenKind) (w : List TokenKind). v ∷ w) (sym s.0) r.1, r.2)
+    let r = split_reading ts us xs zs y h.1 g.1 s.2 in
+    record {
+      later = r.later;
+      later_texts = r.later_texts;
+      tokens_are = ap₂ (λ (v : TokenKind) (w : List TokenKind). v ∷ w) (sym s.0) r.tokens_are;
+      texts_are = ap₂ (λ (v : List ℕ) (w : List (List ℕ)). v ∷ w) (sym s.1) r.texts_are;
+      reads = r.reads;
+    }
+
+-- tokens begin with these, and the others are those of the bytes that are left
+pub record ReadsOn (rest : List ℕ) (ts us : List TokenKind) : Type 0 where
+  pub later : List TokenKind
+  pub more : us ≡ ts ++ later
+  pub reads : Reads rest later
+
+-- what stands after bytes that are read is read too
+pub reads_on : (front rest : List ℕ) (ts us : List TokenKind) → Reads front ts → Reads (front ++ rest) us
+    → ReadsOn rest ts us
+reads_on front rest ts us (xs, h) (zs, g) =
+    let s = split_reading ts us xs zs rest h.each g.each (ap (λ (v : List ℕ). v ++ rest) (sym h.whole) ∙ g.whole) in
+    record { later = s.later; more = s.tokens_are; reads = (s.later_texts, s.reads) }
 
 -- after what was taken
-record IsReadOn (ts us : List TokenKind) (y : List ℕ) : Type 0 where
-  rest : List TokenKind
-  more : us ≡ ts ++ rest
-  reads : Reads y rest
-
 read_on : (offset : ℕ) (bytes rest : List ℕ) (s : ScannerView) (tokens : List Token) (us : List TokenKind)
     (h : IsScanned offset bytes s tokens) → Reads (bytes ++ rest) us
-    → IsReadOn (kinds_of tokens) us (h.open_part ++ rest)
-read_on offset bytes rest s tokens us h (zs, g) =
-    let texts = texts_of offset bytes tokens in
-    let whole : concat texts ++ (h.open_part ++ rest) ≡ concat zs =
-    ap (λ (v : List ℕ). v ++ (h.open_part ++ rest)) (sym h.reads.whole)
-    ∙ sym (append_assoc h.front h.open_part rest) ∙ ap (λ (v : List ℕ). v ++ rest) (sym h.whole) ∙ g.whole in
-    let r = rest_read (kinds_of tokens) us texts zs (h.open_part ++ rest) h.reads.each g.each whole in
-    record { rest = r.0; more = r.1; reads = r.2 }
+    → ReadsOn (h.open_part ++ rest) (kinds_of tokens) us
+read_on offset bytes rest s tokens us h reads =
+    reads_on h.front (h.open_part ++ rest) (kinds_of tokens) us (texts_of offset bytes tokens, h.reads)
+    (subst (λ (v : List ℕ). Reads v us)
+    (ap (λ (v : List ℕ). v ++ rest) h.whole ∙ append_assoc h.front h.open_part rest) reads)
 
 pub none_left : (rest : List TokenKind) → Reads [] rest → rest ≡ []
 none_left [] h = refl
@@ -167,12 +190,12 @@ pub scanned_only : (offset : ℕ) (bytes : List ℕ) (s : ScannerView) (tokens :
     → IsScanned offset bytes s tokens → Reads bytes us → kinds_of tokens ≡ us
 scanned_only offset bytes s tokens us h reads =
     let r = read_on offset bytes [] s tokens us h (rw append-nil reads) in
-    let left : Reads h.open_part r.rest = rw append-nil at r.reads in
+    let left : Reads h.open_part r.later = rw append-nil at r.reads in
     elim (open_ends h.open_part (kept_open s.kept h.open_part h.holds.keeps)) [
       | inl none ↦
-          let end : r.rest ≡ [] = none_left r.rest (subst (λ (v : List ℕ). Reads v r.rest) none left) in
+          let end : r.later ≡ [] = none_left r.later (subst (λ (v : List ℕ). Reads v r.later) none left) in
           sym (r.more ∙ ap (λ (v : List TokenKind). kinds_of tokens ++ v) end ∙ append-nil (kinds_of tokens))
-      | inr unfinished ↦ absurd (unfinished_not_read h.open_part r.rest unfinished left)
+      | inr unfinished ↦ absurd (unfinished_not_read h.open_part r.later unfinished left)
     ]
 
 -- bytes that are read do not end in a sequence
@@ -180,8 +203,8 @@ pub scanned_ends : (offset : ℕ) (bytes : List ℕ) (s : ScannerView) (tokens :
     (fault : Fault) → IsScanned offset bytes s tokens → Reads bytes us → ¬ Ends s (Err fault)
 scanned_ends offset bytes s tokens us fault h reads ends =
     let r = read_on offset bytes [] s tokens us h (rw append-nil reads) in
-    let left : Reads h.open_part r.rest = rw append-nil at r.reads in
-    unfinished_not_read h.open_part r.rest (ends h.open_part h.holds).0 left
+    let left : Reads h.open_part r.later = rw append-nil at r.reads in
+    unfinished_not_read h.open_part r.later (ends h.open_part h.holds).0 left
 
 -- no byte of bytes that are read is refused
 pub scanned_refused : (offset : ℕ) (bytes rest : List ℕ) (b : ℕ) (s : ScannerView) (tokens : List Token)
@@ -189,6 +212,6 @@ pub scanned_refused : (offset : ℕ) (bytes rest : List ℕ) (b : ℕ) (s : Scan
     → ¬ Reads (bytes ++ b ∷ rest) us
 scanned_refused offset bytes rest b s tokens us fault h refuses reads =
     let r = read_on offset bytes (b ∷ rest) s tokens us h reads in
-    let left : Reads ((h.open_part ++ b ∷ []) ++ rest) r.rest =
+    let left : Reads ((h.open_part ++ b ∷ []) ++ rest) r.later =
     rw (append_assoc h.open_part (b ∷ []) rest) r.reads in
-    refused_not_read (h.open_part ++ b ∷ []) rest fault.cause r.rest (refuses h.open_part h.holds).refused left
+    refused_not_read (h.open_part ++ b ∷ []) rest fault.cause r.later (refuses h.open_part h.holds).refused left

@@ -107,7 +107,7 @@ module _ (z : Size) (class : Start) (content : List ℕ) (fault : Fault) (b : Is
   -- these tokens are played before the fault
   shows_after : (played : List TokenKind)
       → IsPlayedBefore z class b.tokens (begins_with_tab b.rest) fault.cause played → AreWatched z class p played w
-      → ShowsCursors z class content fault w.low.cursor w.high.cursor
+      → ShowsCursors z class content fault w.low.pen.cursor w.high.pen.cursor
   shows_after played before watches = record {
     played = played;
     stands = record {
@@ -119,13 +119,13 @@ module _ (z : Size) (class : Start) (content : List ℕ) (fault : Fault) (b : Is
       reads = b.reads;
       before = before;
     };
-    low_is = ap (λ (v : Watch). v.cursor) watches.low;
-    high_is = ap (λ (v : Watch). v.cursor) watches.high;
+    low_is = ap (λ (v : Watch). v.pen.cursor) watches.low;
+    high_is = ap (λ (v : Watch). v.pen.cursor) watches.high;
   }
 
   -- before a token
   pub shows_before_token : begins_with_tab b.rest ≡ false → AreWatched z class p b.tokens w
-      → ShowsCursors z class content fault w.low.cursor w.high.cursor
+      → ShowsCursors z class content fault w.low.pen.cursor w.high.pen.cursor
   shows_before_token no_tab =
       shows_after b.tokens
       (subst (λ (t : Bool). IsPlayedBefore z class b.tokens t fault.cause b.tokens) (sym no_tab) refl)
@@ -133,7 +133,7 @@ module _ (z : Size) (class : Start) (content : List ℕ) (fault : Fault) (b : Is
   -- before a blank of a tab
   pub shows_before_blank : (tab : begins_with_tab b.rest ≡ true)
       → AreWatched z class p (then_blanks b.tokens (b.tab tab).blanks_before) w
-      → ShowsCursors z class content fault w.low.cursor w.high.cursor
+      → ShowsCursors z class content fault w.low.pen.cursor w.high.pen.cursor
   shows_before_blank tab =
       let played : List TokenKind = then_blanks b.tokens (b.tab tab).blanks_before in
       shows_after played

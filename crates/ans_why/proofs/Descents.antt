@@ -6,7 +6,7 @@ use Rattle.ans_model.specs.Screen.State.{sized}
 use Rattle.ans_model.specs.Screen.StartClass.{all_known}
 use Rattle.ans_model.specs.Verdict.TokenFault.{IsClean}
 use Rattle.ans_why.specs.Descent.{IsWalked, IsDescent, IsNeverClean, IsInOrder, asked}
-use Rattle.ans_why.specs.declared.walk.Walk.{Walk}
+use Rattle.ans_pen.specs.declared.pen.Pen.{Pen}
 use Rattle.ans_why.specs.declared.descent.Descent.{Descent}
 use Rattle.ans_why.proofs.CleanSteps.{clean_front}
 use Rattle.ans_why.proofs.ClearedSteps.{clean_with_more}
@@ -44,8 +44,8 @@ is_asked old lines = elim (cases_lt old.enough lines) [
   })
 ]
 
-pub asked_walk : (old : Descent) (lines : ℕ) → (asked old lines).walk ≡ old.walk
-asked_walk old lines = elim (cases_lt old.enough lines) [
+pub asked_pen : (old : Descent) (lines : ℕ) → (asked old lines).pen ≡ old.pen
+asked_pen old lines = elim (cases_lt old.enough lines) [
   | inl more ↦ rw (lt-ltb old.enough lines more) refl
   | inr less ↦ rw (le-ltb old.enough lines less) refl
 ]
@@ -75,7 +75,7 @@ module _ (old : Descent) (order : IsInOrder old) (tokens ts : List TokenKind) (h
   -- there are enough, from a number on that may be higher still
   pub asks_enough : (new : Descent) (floor : ℕ) → lines ≤ old.most → IsAsked old lines new → floor ≤ new.enough
       → ((n : ℕ) → old.enough ≤ n → n ≤ old.most → lines ≤ n → floor ≤ n
-      → IsWalked old.width n (tokens ++ ts) new.walk) → IsDescent (tokens ++ ts) new
+      → IsWalked old.width n (tokens ++ ts) new.pen) → IsDescent (tokens ++ ts) new
   asks_enough new floor within asked above goes = record {
     walked = λ n le most. rw asked.width
         (goes n (omega (arith, asked.enough, le)) (omega (arith, asked.most, most)) (omega (arith, asked.met, le))
@@ -89,13 +89,13 @@ module _ (old : Descent) (order : IsInOrder old) (tokens ts : List TokenKind) (h
           h.fewer n (omega (arith, lt, same)) (clean_front (sized old.width n) all_known tokens ts clean)
       fewer n lt (inr (raised, more)) clean = not_with_fewer more within n (omega (arith, lt, raised)) clean
 
-  -- there are enough, and the walk is this one
-  pub asked_goes : (a : Descent) (w : Walk) → lines ≤ old.most → a ≡ asked old lines
+  -- there are enough, and the pen is this one
+  pub asked_goes : (a : Descent) (w : Pen) → lines ≤ old.most → a ≡ asked old lines
       → ((n : ℕ) → old.enough ≤ n → n ≤ old.most → lines ≤ n → IsWalked old.width n (tokens ++ ts) w)
-      → IsDescent (tokens ++ ts) (record a { walk = w })
+      → IsDescent (tokens ++ ts) (record a { pen = w })
   asked_goes a w within e goes =
       let told : IsAsked old lines a = subst (IsAsked old lines) (sym e) (is_asked old lines) in
-      asks_enough (record a { walk = w }) 0 within (record {
+      asks_enough (record a { pen = w }) 0 within (record {
         width = told.width;
         most = told.most;
         enough = told.enough;

@@ -6,7 +6,7 @@ use Rattle.ans_model.specs.declared.kind.Kind.TheVariants.{Glyph, LineFeed, Tab,
 use Rattle.ans_model.specs.Sequence.TokenKind as token
 use Rattle.ans_model.specs.Sequence.TokenKind.{TokenKind}
 use Rattle.ans_why.specs.Descent.{AsksForNothing}
-use Rattle.ans_why.specs.Walks.{MovesAlike}
+use Rattle.ans_pen.specs.Pens.{MovesAlike}
 
 -- they are all the others
 pub free_kind : (k : Kind) → ((byte : ℕ) → k ≢ Glyph byte) → k ≢ LineFeed → k ≢ Tab → ((n : ℕ) → k ≢ Down n)

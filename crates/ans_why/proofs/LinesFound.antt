@@ -17,9 +17,9 @@ use Rattle.ans_tokens.specs.declared.pieces.Piece.{Piece}
 use Rattle.ans_tokens.specs.declared.pieces.Piece.TheVariants.{Glyphs, Token}
 use Rattle.ans_tokens.proofs.PiecesRead.{no_fault}
 use Rattle.ans_tokens.proofs.Readable.{reads_as_append}
-use Rattle.ans_tokens.proofs.Scanning.{rest_read}
+use Rattle.ans_tokens.proofs.Scanning.{reads_on}
 use Rattle.ans_why.specs.Lines.{IsGoodOn, IsNeverGood}
-use Rattle.ans_why.specs.Walks.{PieceFits}
+use Rattle.ans_why.specs.Runs.{PieceFits}
 use Rattle.ans_why.specs.Descent.{IsDescent, IsNeverClean, IsInOrder, Settles}
 use Rattle.ans_why.specs.declared.descent.Descent.{Descent}
 use Rattle.ans_why.proofs.CleanSteps.{clean_front}
@@ -51,19 +51,6 @@ good_is_clean width n content (picture, good) = record {
   reads = good.reads;
   clean = well_is_clean (sized width n) all_known good.tokens good.size.some_columns good.plays;
 }
-
--- what stands after bytes that are read is read too
-record ReadsOn (rest : List ℕ) (ts us : List TokenKind) : Type 0 where
-  later : List TokenKind
-  more : us ≡ ts ++ later
-  reads : Reads rest later
-
-reads_on : (front rest : List ℕ) (ts us : List TokenKind) → Reads front ts → Reads (front ++ rest) us
-    → ReadsOn rest ts us
-reads_on front rest ts us (xs, h) (zs, g) =
-    let (later, more, reads) =
-    rest_read ts us xs zs rest h.each g.each (ap (λ (v : List ℕ). v ++ rest) (sym h.whole) ∙ g.whole) in
-    record { later = later; more = more; reads = reads }
 
 -- ---- a content that is read piece by piece
 -- a front is read as tokens, and the descent is theirs

@@ -9,7 +9,8 @@ use Rattle.ans_model.specs.declared.cell.Position.{Position}
 use Rattle.ans_model.specs.Sequence.TokenKind.{Glyph}
 use Rattle.ans_model.specs.Screen.State.{Size, State, at}
 use Rattle.ans_model.specs.Screen.Step.{final, put}
-use Rattle.ans_why.specs.Walks.{run_end, walk_of}
+use Rattle.ans_pen.specs.Pens.{pen_of}
+use Rattle.ans_why.specs.Runs.{run_end}
 use Rattle.ans_why.proofs.Printed.{next, put_is}
 
 -- no byte is printed
@@ -91,25 +92,26 @@ run_rows_grow width p false m n some le = omega arith
 -- ---- the play of a run
 module _ (z : Size) (some : 0 < z.width) where
   -- where none is printed in the spare row
-  pub walk_of_run : (s : State) (bytes : List ℕ) → s.cursor.column < z.width
+  pub pen_of_run : (s : State) (bytes : List ℕ) → s.cursor.column < z.width
       → ((i : ℕ) → i < length bytes → (run_end z.width s.cursor s.wrap i).row < z.lines)
-      → walk_of (final z s (map Glyph bytes))
-      ≡ record (walk_of s) { cursor = run_end z.width s.cursor s.wrap (length bytes) }
-  walk_of_run s [] on above =
-      ap (λ (p : Position). record (walk_of s) { cursor = p }) (sym (run_end-none z.width s.cursor s.wrap on))
-  walk_of_run s (byte ∷ bytes) on above =
+      → pen_of (final z s (map Glyph bytes))
+      ≡ record (pen_of s) { cursor = run_end z.width s.cursor s.wrap (length bytes) }
+  pen_of_run s [] on above =
+      ap (λ (p : Position). record (pen_of s) { cursor = p }) (sym (run_end-none z.width s.cursor s.wrap on))
+  pen_of_run s (byte ∷ bytes) on above =
       let first : s.cursor.row < z.lines =
       rw (run_end-none z.width s.cursor s.wrap on) at (above 0 (omega arith)) in
       let t : State = put z s byte in
       let cursor : t.cursor ≡ next z s.cursor s.wrap = ap (λ (u : State). u.cursor) (put_is z s byte first) in
       let wrap : t.wrap ≡ s.wrap = ap (λ (u : State). u.wrap) (put_is z s byte first) in
+      let attribute : t.attribute ≡ s.attribute = ap (λ (u : State). u.attribute) (put_is z s byte first) in
       let saved : t.saved ≡ s.saved = ap (λ (u : State). u.saved) (put_is z s byte first) in
       let ends = λ (i : ℕ). ap₂ (λ (p : Position) (w : Bool). run_end z.width p w i) cursor wrap
       ∙ run_end-first z s.cursor s.wrap i on in
       let column : t.cursor.column < z.width =
       rw (cursor, sym (run_end-one z s.cursor s.wrap on)) (run_end-column z.width s.cursor s.wrap 1 some) in
-      walk_of_run t bytes column (λ i lt. rw (ends i) (above (suc i) (omega (arith, lt))))
-      ∙ (λ i. record { cursor = ends (length bytes) i; saved = saved i; wrap = wrap i })
+      pen_of_run t bytes column (λ i lt. rw (ends i) (above (suc i) (omega (arith, lt))))
+      ∙ (λ i. record { cursor = ends (length bytes) i; saved = saved i; attribute = attribute i; wrap = wrap i })
 
 -- the last byte after the others
 pub run_end-last : (z : Size) (p : Position) (wrap : Bool) (n : ℕ) → 0 < z.width → p.column < z.width

@@ -1,8 +1,9 @@
 -- From the cleared start a run of printed bytes, or a tab, is clean where its last byte stands above the spare row.
 use Rattle.std.proofs.Common.{◌≡◌, inl, inr, ℕ, zero, suc, ◌+◌, ◌-◌, ◌<◌, ◌≤◌, Bool, List, [], ◌∷◌, ◌++◌, length, map}
-use Rattle.std.proofs.Common.{refl, ap, ap₂, sym, ◌∙◌, arith, subst, replicate, fold, append_assoc}
+use Rattle.std.proofs.Common.{ap, ap₂, sym, ◌∙◌, arith, subst, replicate, fold, append_assoc}
 use Rattle.std.proofs.lemmas.Bool.{cases_lt}
 use Rattle.std.proofs.lemmas.List.{append-nil, length-replicate}
+use Rattle.std.proofs.lemmas.List.Folds.{fold-map}
 use Rattle.std.proofs.lemmas.List.Sums.{fold-append}
 use Rattle.ans_model.specs.Bytes.{blank}
 use Rattle.ans_model.specs.declared.cell.Position.{Position}
@@ -12,39 +13,33 @@ use Rattle.ans_model.specs.Screen.State.{Size, State, FitsScreen}
 use Rattle.ans_model.specs.Screen.Step.{final, put, step, tab_blanks}
 use Rattle.ans_model.specs.Screen.StartClass.{IsStart, all_known, cleared}
 use Rattle.ans_model.specs.Verdict.TokenFault.{IsClean}
-use Rattle.ans_model.proofs.CleanLemmas.{some_blanks}
 use Rattle.ans_model.proofs.StartLemmas.{low_is_start}
-use Rattle.ans_model.proofs.TabLemmas.{blanks_are_glyphs}
 use Rattle.ans_model.proofs.WellFormed.{fits_after_tokens}
-use Rattle.ans_why.specs.Walks.{run_end, walk_of}
+use Rattle.ans_pen.specs.Pens.{pen_of}
+use Rattle.ans_why.specs.Runs.{run_end}
 use Rattle.ans_why.specs.Descent.{PrintsRun}
-use Rattle.ans_why.specs.declared.walk.Walk.{Walk}
-use Rattle.ans_why.specs.Watched.{WritesAbove}
+use Rattle.ans_pen.specs.declared.pen.Pen.{Pen}
 use Rattle.ans_why.proofs.CleanSteps.{clean_front, writes_above}
 use Rattle.ans_why.proofs.ClearedSteps.{clean_with}
 use Rattle.ans_why.proofs.Printed.{next, next_row, put_is}
 use Rattle.ans_why.proofs.RunEnds.{run_end-none, run_end-first, run_end-one, run_end-last, run_end-column}
-use Rattle.ans_why.proofs.RunEnds.{run_rows_grow, walk_of_run}
-
-map-replicate : (n : ℕ) (b : ℕ) → map Glyph (replicate n b) ≡ replicate n (Glyph b)
-map-replicate zero b = refl
-map-replicate (suc n) b = ap (λ (ts : List TokenKind). Glyph b ∷ ts) (map-replicate n b)
+use Rattle.ans_why.proofs.RunEnds.{run_rows_grow, pen_of_run}
 
 -- ---- in any state
 module _ (z : Size) (some : 0 < z.width) where
   blanks_fold : (s : State) (n : ℕ)
       → fold (put z) s (replicate n blank) ≡ final z s (map Glyph (replicate n blank))
-  blanks_fold s n = blanks_are_glyphs z s n ∙ ap (final z s) (sym (map-replicate n blank))
+  blanks_fold s n = sym (fold-map (step z) Glyph s (replicate n blank))
 
   blanks_end : (s : State) (n : ℕ) → s.cursor.column < z.width
       → ((i : ℕ) → i < n → (run_end z.width s.cursor s.wrap i).row < z.lines)
-      → walk_of (fold (put z) s (replicate n blank))
-      ≡ record (walk_of s) { cursor = run_end z.width s.cursor s.wrap n }
+      → pen_of (fold (put z) s (replicate n blank))
+      ≡ record (pen_of s) { cursor = run_end z.width s.cursor s.wrap n }
   blanks_end s n on above =
       let size : length (replicate n blank) ≡ n = length-replicate n blank in
-      ap walk_of (blanks_fold s n)
-      ∙ walk_of_run z some s (replicate n blank) on (λ i lt. above i (omega (arith, lt, size)))
-      ∙ ap (λ (k : ℕ). record (walk_of s) { cursor = run_end z.width s.cursor s.wrap k }) size
+      ap pen_of (blanks_fold s n)
+      ∙ pen_of_run z some s (replicate n blank) on (λ i lt. above i (omega (arith, lt, size)))
+      ∙ ap (λ (k : ℕ). record (pen_of s) { cursor = run_end z.width s.cursor s.wrap k }) size
 
   -- blanks that stand above the spare row stand where the run's bytes do
   blank_rows : (s : State) (count : ℕ) → s.cursor.column < z.width
@@ -56,7 +51,7 @@ module _ (z : Size) (some : 0 < z.width) where
     | inr more ↦
         let same : i ≡ n = omega (arith, lt, more) in
         let end = blanks_end s n on (blank_rows s count on above n (omega (arith, le))) in
-        rw (same, ← ap (λ (w : Walk). w.cursor.row) end) (above n (omega (arith, le)))
+        rw (same, ← ap (λ (w : Pen). w.cursor.row) end) (above n (omega (arith, le)))
   ]
 
   -- after a run the cursor stands on the screen
@@ -71,17 +66,6 @@ module _ (z : Size) (some : 0 < z.width) where
       ∙ sym (run_end-last z s.cursor s.wrap (count - 1) some on)
       ∙ run_end-one z last s.wrap (run_end-column z.width s.cursor s.wrap (count - 1) some) in
       rw end (next_row z last s.wrap (above (count - 1) (omega (arith, least))))
-
-  -- a tab above the spare row
-  pub tab_walk : (s : State) → s.cursor.column < z.width → WritesAbove z s Tab
-      → ((run_end z.width s.cursor s.wrap (tab_blanks s.cursor.column)).row ≤ z.lines)
-      × (walk_of (step z s Tab) ≡ record (walk_of s) {
-        cursor = run_end z.width s.cursor s.wrap (tab_blanks s.cursor.column);
-      })
-  tab_walk s on above =
-      let blanks : ℕ = tab_blanks s.cursor.column in
-      let rows = blank_rows s blanks on above blanks (omega arith) in
-      (run_on s blanks on (some_blanks s.cursor.column) rows, blanks_end s blanks on rows)
 
 -- ---- from a start
 module _ (z : Size) (some : 0 < z.width) (class : Start) (from : State) (start : IsStart z class from) where
@@ -146,22 +130,22 @@ module _ (z : Size) (some : 0 < z.width) (class : Start) (from : State) (start :
       )
 
   -- after clean bytes the cursors stand at the run's end
-  pub run_walk : (tokens ts : List TokenKind) (count : ℕ) → PrintsRun (there tokens).cursor.column count ts
+  pub run_pen : (tokens ts : List TokenKind) (count : ℕ) → PrintsRun (there tokens).cursor.column count ts
       → ((i : ℕ) → i < count → (run_end z.width (there tokens).cursor (there tokens).wrap i).row < z.lines)
-      → walk_of (there (tokens ++ ts)) ≡ record (walk_of (there tokens)) {
+      → pen_of (there (tokens ++ ts)) ≡ record (pen_of (there tokens)) {
         cursor = run_end z.width (there tokens).cursor (there tokens).wrap count;
       }
-  run_walk tokens ts count (inl (bytes, size, e)) above =
+  run_pen tokens ts count (inl (bytes, size, e)) above =
       let s : State = there tokens in
-      rw e (ap walk_of (fold-append (step z) from tokens (map Glyph bytes))
-      ∙ walk_of_run z some s bytes (fits tokens).cursor.1 (λ i lt. above i (omega (arith, lt, size)))
-      ∙ ap (λ (k : ℕ). record (walk_of s) { cursor = run_end z.width s.cursor s.wrap k }) size)
-  run_walk tokens ts count (inr (e, size)) above =
+      rw e (ap pen_of (fold-append (step z) from tokens (map Glyph bytes))
+      ∙ pen_of_run z some s bytes (fits tokens).cursor.1 (λ i lt. above i (omega (arith, lt, size)))
+      ∙ ap (λ (k : ℕ). record (pen_of s) { cursor = run_end z.width s.cursor s.wrap k }) size)
+  run_pen tokens ts count (inr (e, size)) above =
       let s : State = there tokens in
-      rw e (ap walk_of (fold-append (step z) from tokens (Tab ∷ []))
+      rw e (ap pen_of (fold-append (step z) from tokens (Tab ∷ []))
       ∙ blanks_end z some s (tab_blanks s.cursor.column) (fits tokens).cursor.1
       (λ i lt. above i (omega (arith, lt, size)))
-      ∙ ap (λ (k : ℕ). record (walk_of s) { cursor = run_end z.width s.cursor s.wrap k }) (sym size))
+      ∙ ap (λ (k : ℕ). record (pen_of s) { cursor = run_end z.width s.cursor s.wrap k }) (sym size))
 
   -- where its last byte stands above the spare row, all do
   pub run_above : (s : State) (count : ℕ) → (run_end z.width s.cursor s.wrap (count - 1)).row + 1 ≤ z.lines
@@ -207,4 +191,4 @@ module _ (z : Size) (some : 0 < z.width) where
       rw e (clean_with z some tokens Tab clean (λ n lt.
       let end = blanks_end z some s n (column tokens)
       (λ i less. above i (omega (arith, less, lt, size))) in
-      rw (ap (λ (w : Walk). w.cursor.row) end) (above n (omega (arith, lt, size)))) (λ cause f. f))
+      rw (ap (λ (w : Pen). w.cursor.row) end) (above n (omega (arith, lt, size)))) (λ cause f. f))

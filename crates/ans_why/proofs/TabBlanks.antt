@@ -1,8 +1,8 @@
 -- The blanks of a tab that has a fault, up to the one that decides.
-use Rattle.std.proofs.Common.{◌≡◌, ◌≢◌, ◌⊎◌, inl, inr, ℕ, zero, suc, ◌+◌, ◌<◌, ◌≤◌, refl, sym, ap, ◌∙◌, arith}
+use Rattle.std.proofs.Common.{◌≡◌, ◌≢◌, ◌⊎◌, inl, inr, ℕ, ◌+◌, ◌<◌, ◌≤◌, sym, ap, ◌∙◌, arith}
 use Rattle.std.proofs.Common.{subst, List, [], ◌∷◌, ◌++◌, All, replicate, append_assoc}
 use Rattle.std.proofs.lemmas.Bool.{cases_lt}
-use Rattle.std.proofs.lemmas.List.{append-nil}
+use Rattle.std.proofs.lemmas.List.{append-nil, replicate-append-replicate}
 use Rattle.ans_model.specs.Bytes.{blank}
 use Rattle.ans_model.specs.Sequence.TokenKind.{TokenKind, PrintsByte, Glyph}
 use Rattle.ans_model.specs.Screen.State.{Size, State}
@@ -27,7 +27,7 @@ use Rattle.ans_why.specs.declared.two_watches.TwoWatches.{TwoWatches}
 
 -- a byte that is printed next has a fault
 abbrev pub Decides : Size → TwoWatches → Type 0
-Decides z w = (w.low.cursor ≢ w.high.cursor) ⊎ (w.low.cursor.row ≡ z.lines)
+Decides z w = (w.low.pen.cursor ≢ w.high.pen.cursor) ⊎ (w.low.pen.cursor.row ≡ z.lines)
 
 -- n blanks of a tab with a fault are played, and not more than there are before the one that decides
 pub record AreBlanksWatched (z : Size) (class : Start) (p : Position) (tokens : List TokenKind) (cause : Cause)
@@ -44,11 +44,11 @@ between_one a b p e h =
 
 module _ (z : Size) (class : Start) (p : Position) (some : 0 < z.width) (played : List TokenKind) (w : TwoWatches)
     (watched : AreWatched z class p played w) where
-  low_there : w.low.cursor ≡ (low_final z class played).cursor
-  low_there = ap (λ (v : Watch). v.cursor) watched.low
+  low_there : w.low.pen.cursor ≡ (low_final z class played).cursor
+  low_there = ap (λ (v : Watch). v.pen.cursor) watched.low
 
-  high_there : w.high.cursor ≡ (high_final z class played).cursor
-  high_there = ap (λ (v : Watch). v.cursor) watched.high
+  high_there : w.high.pen.cursor ≡ (high_final z class played).cursor
+  high_there = ap (λ (v : Watch). v.pen.cursor) watched.high
 
   -- where a byte is printed well
   pub none_decides : PrintsWell z class played → ¬ Decides z w
@@ -64,7 +64,7 @@ module _ (z : Size) (class : Start) (p : Position) (some : 0 < z.width) (played 
   pub fault_decides : (cause : Cause) → All PrintsByte played → IsClean z class played
       → HasPrintFault z class played cause → Decides z w
   fault_decides PrintUnknownPlace prints clean (s, t, start_s, start_t, differ) =
-      elim (position_eq w.low.cursor w.high.cursor) [
+      elim (position_eq w.low.pen.cursor w.high.pen.cursor) [
         | inl same ↦
             let one : (low_final z class played).cursor ≡ (high_final z class played).cursor =
             sym low_there ∙ same ∙ high_there in
@@ -78,16 +78,11 @@ module _ (z : Size) (class : Start) (p : Position) (some : 0 < z.width) (played 
   fault_decides _ prints clean f = absurd f
 
 -- one blank more is one more in the end
-blank_last : (n : ℕ) → replicate n (Glyph blank) ++ Glyph blank ∷ [] ≡ replicate (suc n) (Glyph blank)
-blank_last zero = refl
-blank_last (suc n) = ap (λ (ts : List TokenKind). Glyph blank ∷ ts) (blank_last n)
-
 pub blanks_more : (tokens : List TokenKind) (n : ℕ)
     → then_blanks tokens n ++ Glyph blank ∷ [] ≡ then_blanks tokens (n + 1)
 blanks_more tokens n =
-    let more : n + 1 ≡ suc n = omega arith in
-    rw more (append_assoc tokens (replicate n (Glyph blank)) (Glyph blank ∷ [])
-    ∙ ap (λ (ts : List TokenKind). tokens ++ ts) (blank_last n))
+    append_assoc tokens (replicate n (Glyph blank)) (Glyph blank ∷ [])
+    ∙ ap (λ (ts : List TokenKind). tokens ++ ts) (replicate-append-replicate n 1 (Glyph blank))
 
 module _ (z : Size) (class : Start) (p : Position) (tokens : List TokenKind) (cause : Cause)
     (fault : HasTabFault z class tokens cause) where
@@ -128,6 +123,6 @@ module _ (z : Size) (class : Start) (p : Position) (tokens : List TokenKind) (ca
 
   -- a tab goes on to the blank that decides
   pub within_tab : (w : TwoWatches) → 0 < z.width → AreWatched z class p tokens w
-      → fault.blanks_before < tab_blanks w.low.cursor.column
+      → fault.blanks_before < tab_blanks w.low.pen.cursor.column
   within_tab w some h =
-      rw (ap (λ (v : Watch). v.cursor.column) h.low) (fault.goes_on (low_start z class) (low_is_start z class some))
+      rw (ap (λ (v : Watch). v.pen.cursor.column) h.low) (fault.goes_on (low_start z class) (low_is_start z class some))

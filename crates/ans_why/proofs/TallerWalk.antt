@@ -1,4 +1,4 @@
--- Good content whose moves were free so far, with the walks of the plays from the low and the high start.
+-- Good content whose moves were free so far, with the pens of the plays from the low and the high start.
 use Rattle.std.proofs.Common.{◌≡◌, ℕ, ◌<◌, ◌≤◌, List, [], ◌∷◌, ◌++◌, length, take, refl, sym, ap, ◌∙◌, arith, subst}
 use Rattle.std.proofs.Common.{All, append_assoc, length-append}
 use Rattle.std.proofs.lemmas.List.{append-nil, take_at}
@@ -19,15 +19,17 @@ use Rattle.ans_tokens.specs.Pieces.{PiecesView, TakesPiece, HasEnded, kinds_of_p
 use Rattle.ans_tokens.specs.Token.{kind_of}
 use Rattle.ans_tokens.specs.declared.pieces.Piece.{Piece}
 use Rattle.ans_tokens.specs.declared.pieces.Piece.TheVariants.{Glyphs, Token}
-use Rattle.ans_tokens.proofs.PiecesRead.{GoesOn, goes_on, no_more}
+use Rattle.ans_tokens.proofs.PiecesRead.{goes_on, no_more}
+use Rattle.ans_tokens.proofs.Scanning.{ReadsOn}
 use Rattle.ans_why.specs.Taller.{IsTaller, MovesFreely, IsFreeBetween, IsFreePiece}
-use Rattle.ans_why.specs.Walks.{walk_of, PieceFits}
-use Rattle.ans_why.specs.declared.walk.Walk.{Walk}
+use Rattle.ans_pen.specs.Pens.{pen_of}
+use Rattle.ans_why.specs.Runs.{PieceFits}
+use Rattle.ans_pen.specs.declared.pen.Pen.{Pen}
 use Rattle.ans_why.proofs.CleanSteps.{clean_front}
 use Rattle.ans_why.proofs.TallerFound.{free_there, free_glyphs, free_token, between_is_free, free_is_between}
 
--- the first of the content's tokens are played, and these are their walks; what is left is read as the others
-pub record WalkedSoFar (z : Size) (class : Start) (content rest : List ℕ) (low high : Walk) : Type 0 where
+-- the first of the content's tokens are played, and these are their pens; what is left is read as the others
+pub record WalkedSoFar (z : Size) (class : Start) (content rest : List ℕ) (low high : Pen) : Type 0 where
   pub tokens : List TokenKind
   pub reads : Reads content tokens
   pub clean : IsClean z class tokens
@@ -37,14 +39,14 @@ pub record WalkedSoFar (z : Size) (class : Start) (content rest : List ℕ) (low
   pub all : tokens ≡ played ++ later
   pub left : Reads rest later
   pub short : length rest ≤ longest_file
-  pub low_is : low ≡ walk_of (low_final z class played)
-  pub high_is : high ≡ walk_of (high_final z class played)
+  pub low_is : low ≡ pen_of (low_final z class played)
+  pub high_is : high ≡ pen_of (high_final z class played)
   pub free : MovesFreely z class played
 
 -- before the first byte
-pub walked_nothing : (z : Size) (class : Start) (content rest : List ℕ) (low high : Walk) → IsGood z class content
-    → length content ≤ longest_file → rest ≡ content → low ≡ walk_of (low_start z class)
-    → high ≡ walk_of (high_start z class)
+pub walked_nothing : (z : Size) (class : Start) (content rest : List ℕ) (low high : Pen) → IsGood z class content
+    → length content ≤ longest_file → rest ≡ content → low ≡ pen_of (low_start z class)
+    → high ≡ pen_of (high_start z class)
     → WalkedSoFar z class content rest low high
 walked_nothing z class content rest low high (picture, good) short e low_is high_is = record {
   tokens = good.tokens;
@@ -61,9 +63,9 @@ walked_nothing z class content rest low high (picture, good) short e low_is high
   free = record { down = λ k n e. absurd (cc); up = λ k n e. absurd (cc) };
 }
 
-module _ (z : Size) (class : Start) (content : List ℕ) (old new : PiecesView) (low high : Walk)
+module _ (z : Size) (class : Start) (content : List ℕ) (old new : PiecesView) (low high : Pen)
     (h : WalkedSoFar z class content old.rest low high) (piece : Piece) (taken : TakesPiece old new piece) where
-  on : GoesOn new.rest piece h.later
+  on : ReadsOn new.rest (kinds_of_piece piece) h.later
   on = goes_on old new piece h.later taken h.left
 
   all_with_piece : h.tokens ≡ (h.played ++ kinds_of_piece piece) ++ on.later
@@ -98,8 +100,8 @@ module _ (z : Size) (class : Start) (content : List ℕ) (old new : PiecesView) 
       go (Token t) _ = tt
 
   -- one piece more, whose moves are free
-  pub walked_more : (lo hi : Walk) → lo ≡ walk_of (low_final z class (h.played ++ kinds_of_piece piece))
-      → hi ≡ walk_of (high_final z class (h.played ++ kinds_of_piece piece))
+  pub walked_more : (lo hi : Pen) → lo ≡ pen_of (low_final z class (h.played ++ kinds_of_piece piece))
+      → hi ≡ pen_of (high_final z class (h.played ++ kinds_of_piece piece))
       → IsFreePiece z low.cursor high.cursor piece → WalkedSoFar z class content new.rest lo hi
   walked_more lo hi low_is high_is free = record {
     tokens = h.tokens;
@@ -123,8 +125,8 @@ module _ (z : Size) (class : Start) (content : List ℕ) (old new : PiecesView) 
           let kind : TokenKind = shown_kind (kind_of t) in
           free_token z class h.played kind h.free
           (between_is_free z class h.some h.played played_prints played_clean kind
-          (subst (λ (w : Walk). IsFreeBetween z w.cursor (high_final z class h.played).cursor kind) h.low_is
-          (subst (λ (w : Walk). IsFreeBetween z low.cursor w.cursor kind) h.high_is free)))
+          (subst (λ (w : Pen). IsFreeBetween z w.cursor (high_final z class h.played).cursor kind) h.low_is
+          (subst (λ (w : Pen). IsFreeBetween z low.cursor w.cursor kind) h.high_is free)))
 
   -- a piece with another move
   pub not_taller : ¬ IsFreePiece z low.cursor high.cursor piece → ¬ IsTaller z class content
@@ -141,11 +143,11 @@ module _ (z : Size) (class : Start) (content : List ℕ) (old new : PiecesView) 
           same ∙ h.all ∙ ap (λ (ts : List TokenKind). h.played ++ ts) more in
           let free = free_is_between z class h.some h.played played_prints played_clean kind
           (free_there z class h.played on.later kind (subst (MovesFreely z class) whole taller.free)) in
-          subst (λ (w : Walk). IsFreeBetween z w.cursor high.cursor kind) (sym h.low_is)
-          (subst (λ (w : Walk). IsFreeBetween z (low_final z class h.played).cursor w.cursor kind) (sym h.high_is) free)
+          subst (λ (w : Pen). IsFreeBetween z w.cursor high.cursor kind) (sym h.low_is)
+          (subst (λ (w : Pen). IsFreeBetween z (low_final z class h.played).cursor w.cursor kind) (sym h.high_is) free)
 
 -- at the end all moves were free
-pub taller_at_end : (z : Size) (class : Start) (content : List ℕ) (old new : PiecesView) (low high : Walk)
+pub taller_at_end : (z : Size) (class : Start) (content : List ℕ) (old new : PiecesView) (low high : Pen)
     → WalkedSoFar z class content old.rest low high → HasEnded old new → IsTaller z class content
 taller_at_end z class content old new low high h ended =
     let none : h.later ≡ [] = no_more old new h.later ended h.left in

@@ -1,30 +1,29 @@
--- What a printed byte and the blanks of a tab do, step by step.
-use Rattle.std.proofs.Common.{◌≡◌, ℕ, zero, suc, ◌+◌, ◌<◌, ◌≤◌, true, refl, arith, fold, replicate}
-use Rattle.std.proofs.lemmas.Bool.{le-ltb}
+-- What a token that changes no cell, and the blanks of a tab, do to a state.
+use Rattle.std.proofs.Common.{◌≡◌, ◌≢◌, ℕ, ◌<◌, refl, ap, fold, replicate}
 use Rattle.ans_model.specs.Bytes.{blank}
-use Rattle.ans_model.specs.Sequence.TokenKind.{Glyph}
-use Rattle.ans_model.specs.Screen.State.{Size, State, FitsScreen, at}
-use Rattle.ans_model.specs.Screen.Step.{advanced, line_feed, put}
+use Rattle.ans_model.specs.Inside.ShownKind.{shown_kind}
+use Rattle.ans_model.specs.declared.kind.Kind.{Kind}
+use Rattle.ans_model.specs.declared.kind.Kind.TheVariants.{Glyph, Tab, Clear, EraseLine, LineFeed}
+use Rattle.ans_model.specs.Sequence.TokenKind as token
+use Rattle.ans_model.specs.Screen.State.{Size, State, FitsScreen}
+use Rattle.ans_model.specs.Screen.Step.{put, step}
+use Rattle.ans_model.proofs.StepLemmas.{line_feed_is}
 use Rattle.ans_model.proofs.TabLemmas.{blanks_are_glyphs}
 use Rattle.ans_model.proofs.WellFormed.{fits_after_tokens}
+use Rattle.ans_why.specs.Watched.{WritesAbove}
 
--- in the last column, where wrap is on
-pub wraps : (z : Size) (s : State) → z.width ≤ s.cursor.column + 1 → s.wrap ≡ true
-    → advanced z s ≡ line_feed z (record s { cursor = at s.cursor.row 0 })
-wraps z s last on = rw (le-ltb (s.cursor.column + 1) z.width last, on) refl
-
--- one blank more is one more in the end
-pub one_blank_last : (z : Size) (s : State) (n : ℕ)
-    → put z (fold (put z) s (replicate n blank)) blank ≡ fold (put z) s (replicate (n + 1) blank)
-one_blank_last z s n = let more : n + 1 ≡ suc n = omega arith in rw more (last s n)
-  where
-    last : (s : State) (n : ℕ)
-        → put z (fold (put z) s (replicate n blank)) blank ≡ fold (put z) s (replicate (suc n) blank)
-    last s zero = refl
-    last s (suc n) = last (put z s blank) n
+-- a token that writes no cell leaves the screen as it is, above the spare row
+pub same_screen : (z : Size) (s : State) (k : Kind) → ((byte : ℕ) → k ≢ Glyph byte) → k ≢ Tab → k ≢ Clear
+    → k ≢ EraseLine → WritesAbove z s (shown_kind k) → (step z s (shown_kind k)).screen ≡ s.screen
+same_screen z s (Glyph byte) glyph tab clear erase above = absurd (glyph byte refl)
+same_screen z s Tab glyph tab clear erase above = absurd (tab refl)
+same_screen z s Clear glyph tab clear erase above = absurd (clear refl)
+same_screen z s EraseLine glyph tab clear erase above = absurd (erase refl)
+same_screen z s LineFeed glyph tab clear erase above = ap (λ (t : State). t.screen) (line_feed_is z s above)
+same_screen z s _ glyph tab clear erase above = refl
 
 -- blanks leave a state that fits its screen
 pub fits_after_blanks : (z : Size) (s : State) (n : ℕ) → 0 < z.width → FitsScreen z s
     → FitsScreen z (fold (put z) s (replicate n blank))
 fits_after_blanks z s n some fits =
-    rw (blanks_are_glyphs z s n) (fits_after_tokens z s (replicate n (Glyph blank)) some fits)
+    rw (blanks_are_glyphs z s n) (fits_after_tokens z s (replicate n (token.Glyph blank)) some fits)

@@ -8,8 +8,8 @@ use Rattle.ans_model.specs.Screen.Step.{final, tab_blanks}
 use Rattle.ans_model.specs.Screen.StartClass.{all_known, cleared}
 use Rattle.ans_model.specs.Verdict.TokenFault.{IsClean}
 use Rattle.ans_why.specs.Lines.{IsGoodOn}
-use Rattle.ans_why.specs.Walks.{MovesAlike, walk_of}
-use Rattle.ans_why.specs.declared.walk.Walk.{Walk}
+use Rattle.ans_pen.specs.Pens.{MovesAlike, pen_of}
+use Rattle.ans_pen.specs.declared.pen.Pen.{Pen}
 use Rattle.ans_why.specs.declared.descent.Descent.{Descent}
 
 -- the token has no fault, and moves the cursors alike on any number of lines
@@ -19,15 +19,15 @@ AsksForNothing Mode = ⊥
 AsksForNothing Ask = ⊥
 AsksForNothing t = MovesAlike t
 
--- on this many lines the tokens are clean, and their play has this walk
-pub record IsWalked (width lines : ℕ) (tokens : List TokenKind) (w : Walk) : Type 0 where
+-- on this many lines the tokens are clean, and their play has this pen
+pub record IsWalked (width lines : ℕ) (tokens : List TokenKind) (w : Pen) : Type 0 where
   pub clean : IsClean (sized width lines) all_known tokens
-  pub walk : w ≡ walk_of (final (sized width lines) (cleared (sized width lines)) tokens)
+  pub pen : w ≡ pen_of (final (sized width lines) (cleared (sized width lines)) tokens)
 
--- On each number of lines from `enough` to `most` the play has this walk; with fewer than `refused` some token has a
+-- On each number of lines from `enough` to `most` the play has this pen; with fewer than `refused` some token has a
 -- fault.
 pub record IsDescent (tokens : List TokenKind) (d : Descent) : Type 0 where
-  pub walked : (n : ℕ) → d.enough ≤ n → n ≤ d.most → IsWalked d.width n tokens d.walk
+  pub walked : (n : ℕ) → d.enough ≤ n → n ≤ d.most → IsWalked d.width n tokens d.pen
   pub fewer : (n : ℕ) → n < d.refused → ¬ IsClean (sized d.width n) all_known tokens
 
 -- some token has a fault on each number of lines up to the most
@@ -53,8 +53,8 @@ pub record IsInOrder (d : Descent) : Type 0 where
   pub refused : d.refused ≤ d.enough
   pub enough : d.enough ≤ d.most
   pub most : d.most ≤ most_lines
-  pub cursor : IsOnScreen (sized d.width d.enough) d.walk.cursor
-  pub saved : IsOnScreen (sized d.width d.enough) d.walk.saved
+  pub cursor : IsOnScreen (sized d.width d.enough) d.pen.cursor
+  pub saved : IsOnScreen (sized d.width d.enough) d.pen.saved
 
 -- it goes on with the same width and the same most lines
 pub record GoesOn (old new : Descent) : Type 0 where

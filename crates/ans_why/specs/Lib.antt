@@ -4,5 +4,5 @@ pub mod Lines
 pub mod Taller
 pub mod Watched
 pub mod Evidence
-pub mod Walks
+pub mod Runs
 pub mod Descent

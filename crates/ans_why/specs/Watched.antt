@@ -2,21 +2,19 @@
 use Rattle.std.specs.Prelude.{◌≡◌, ℕ, ◌<◌, Bool, List, fold, replicate, unwrap_or, ⊤}
 use Rattle.ans_model.specs.Bytes.{blank}
 use Rattle.ans_model.specs.Sequence.TokenKind.{TokenKind, Glyph, LineFeed, Tab}
-use Rattle.ans_model.specs.Screen.State.{Size, State, IsOnScreen, cell, cell_at, cell_count}
+use Rattle.ans_model.specs.Screen.State.{Size, State, cell, cell_at, cell_count}
 use Rattle.ans_model.specs.Screen.Step.{blank_cell, put, tab_blanks}
 use Rattle.ans_model.specs.declared.cell.Position.{Position}
 use Rattle.ans_model.specs.declared.start.Start.{Start}
 use Rattle.ans_model.specs.Verdict.TwoStarts.{low_final, high_final}
+use Rattle.ans_pen.specs.Pens.{pen_of, StandsOn}
 use Rattle.ans_why.specs.declared.watch.Watch.{Watch}
 use Rattle.ans_why.specs.declared.two_watches.TwoWatches.{TwoWatches}
 
 -- the watch of a state at this position, which has a cell if it is on the screen
 abbrev pub watched : Size → Position → State → Watch
 watched z p s = record {
-  cursor = s.cursor;
-  saved = s.saved;
-  attribute = s.attribute;
-  wrap = s.wrap;
+  pen = pen_of s;
   cell = unwrap_or (cell_at z s.screen p) (blank_cell 0x07);
 }
 
@@ -30,11 +28,6 @@ uniform_state z byte corner wrap = record {
   wrap = wrap;
 }
 
--- both cursors stand on the screen
-pub record StandsOn (z : Size) (w : Watch) : Type 0 where
-  pub cursor : IsOnScreen z w.cursor
-  pub saved : IsOnScreen z w.saved
-
 -- a line feed comes, and each byte is printed, above the spare row; so the screen does not scroll
 abbrev pub WritesAbove : Size → State → TokenKind → Type 0
 WritesAbove z s LineFeed = s.cursor.row < z.lines
@@ -45,8 +38,8 @@ WritesAbove z s _ = ⊤
 
 -- both cursors of both plays stand on the screen
 pub record BothStandOn (z : Size) (w : TwoWatches) : Type 0 where
-  pub low : StandsOn z w.low
-  pub high : StandsOn z w.high
+  pub low : StandsOn z w.low.pen
+  pub high : StandsOn z w.high.pen
 
 -- the watches of the plays of these tokens from the low and the high start
 pub record AreWatched (z : Size) (class : Start) (p : Position) (tokens : List TokenKind)

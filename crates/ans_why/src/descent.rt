@@ -5,16 +5,17 @@ ghost use Rattle.ans_model.specs.Bytes.{longest_file, most_columns, most_lines};
 ghost use Rattle.ans_model.specs.Sequence.TokenKind.{TokenKind, Down, Place, LineFeed};
 ghost use Rattle.ans_model.specs.Inside.ShownKind.{shown_kind};
 ghost use Rattle.ans_tokens.specs.Pieces.{kinds_of_piece};
-ghost use Rattle.ans_why.specs.Walks.{PieceFits};
+ghost use Rattle.ans_why.specs.Runs.{PieceFits};
 ghost use Rattle.ans_why.specs.Descent.{asked, IsDescent, IsInOrder, GoesOn, Outcome, PrintsRun};
 
-use crate::walk::{HOME, Walk, run_end};
+use crate::print::run_end;
 use ans_model::cell::Position;
 use ans_model::kind::Kind;
 use ans_model::tab::tab_blanks;
+use ans_pen::Pen;
 use ans_tokens::Piece;
 
-/// Plays from the cleared start on each number of lines from `enough` to `most`, which have one walk.
+/// Plays from the cleared start on each number of lines from `enough` to `most`, which have one pen.
 /// With fewer lines than `refused` some token had a fault; between the two nothing is known.
 #[derive(Debug, Clone, Copy)]
 pub(crate) struct Descent {
@@ -22,7 +23,7 @@ pub(crate) struct Descent {
     pub(crate) most: usize,
     pub(crate) enough: usize,
     pub(crate) refused: usize,
-    pub(crate) walk: Walk,
+    pub(crate) pen: Pen,
 }
 
 impl Descent {
@@ -45,11 +46,7 @@ impl Descent {
             most,
             enough,
             refused: 0,
-            walk: Walk {
-                cursor: HOME,
-                saved: HOME,
-                wrap: true,
-            },
+            pen: Pen::cleared(),
         }
     }
 
@@ -77,15 +74,15 @@ impl Descent {
         requires count { count ≤ longest_file }
         ensures on { GoesOn self.old self.new }
         ensures played { (tokens run : List TokenKind)
-            → PrintsRun self.old.walk.cursor.column count run → IsDescent tokens self.old
+            → PrintsRun self.old.pen.cursor.column count run → IsDescent tokens self.old
             → Outcome result (tokens ++ run) self.new }
     {
-        let Walk { cursor, wrap, .. } = self.walk;
+        let Pen { cursor, wrap, .. } = self.pen;
         let last = run_end(self.width, cursor, wrap, count - 1);
         if !self.ask(last.row + 1) {
             return false;
         }
-        self.walk.cursor = run_end(self.width, last, wrap, 1);
+        self.pen.cursor = run_end(self.width, last, wrap, 1);
         true
     }
 
@@ -97,9 +94,9 @@ impl Descent {
         ensures played { (tokens : List TokenKind) → IsDescent tokens self.old
             → IsDescent (tokens ++ Down rows ∷ []) self.new }
     {
-        let row = (self.walk.cursor.row + rows).min(self.most);
+        let row = (self.pen.cursor.row + rows).min(self.most);
         self.enough = self.enough.max(row);
-        self.walk.cursor.row = row;
+        self.pen.cursor.row = row;
     }
 
     /// The cursor goes to a row and a column, counted from 1: whether they are on the screen.
@@ -112,7 +109,7 @@ impl Descent {
         if column > self.width || !self.ask(row.saturating_sub(1)) {
             return false;
         }
-        self.walk.cursor = Position {
+        self.pen.cursor = Position {
             row: row.saturating_sub(1),
             column: column.saturating_sub(1),
         };
@@ -126,10 +123,10 @@ impl Descent {
         ensures played { (tokens : List TokenKind) → IsDescent tokens self.old
             → Outcome result (tokens ++ LineFeed ∷ []) self.new }
     {
-        if !self.ask(self.walk.cursor.row + 1) {
+        if !self.ask(self.pen.cursor.row + 1) {
             return false;
         }
-        self.walk.cursor.row += 1;
+        self.pen.cursor.row += 1;
         true
     }
 
@@ -142,7 +139,7 @@ impl Descent {
     {
         match kind {
             Kind::Glyph(_) => self.print(1),
-            Kind::Tab => self.print(tab_blanks(self.walk.cursor.column)),
+            Kind::Tab => self.print(tab_blanks(self.pen.cursor.column)),
             Kind::LineFeed => self.line_feed(),
             Kind::Place(row, column) => self.place(*row as usize, *column as usize),
             Kind::Keys | Kind::Mode | Kind::Ask => false,
@@ -151,7 +148,7 @@ impl Descent {
                 true
             }
             _ => {
-                self.walk.moved(self.width, kind);
+                self.pen.moved(self.width, kind);
                 true
             }
         }

@@ -20,6 +20,7 @@ use ans_model::cell::{Cell, Position};
 use ans_model::fault::{Cause, Fault};
 use ans_model::size::Size;
 use ans_model::start::Start;
+use ans_pen::HOME;
 use ans_tokens::Pieces;
 
 /// The two plays after bytes that are read as clean tokens.
@@ -61,13 +62,12 @@ pub fn cursors_before(
     ensures low_on_screen { IsOnScreen size result.0 }
     ensures high_on_screen { IsOnScreen size result.1 }
 {
-    let home = Position { row: 0, column: 0 };
     let (front, rest) = content.split_at(fault.offset);
-    let mut watches = watch_tokens(size, start, home, front);
+    let mut watches = watch_tokens(size, start, HOME, front);
     if begins_with_tab(rest) {
-        watches.blanks(size, home);
+        watches.blanks(size, HOME);
     }
-    (watches.low.cursor, watches.high.cursor)
+    (watches.low.pen.cursor, watches.high.pen.cursor)
 }
 
 /// The cell in a row and a column, counted from 1, at the end of both plays.

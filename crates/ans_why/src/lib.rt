@@ -11,9 +11,9 @@ mod descent;
 mod evidence;
 pub mod laws;
 mod lines;
+mod print;
 mod taller;
 mod two_watches;
-mod walk;
 mod watch;
 
 pub use evidence::{cells_of_fault, cursors_before};

@@ -4,22 +4,23 @@ ghost use Rattle.std.specs.Prelude.{◌≤◌, ◌↔◌, length, IsTrue};
 ghost use Rattle.ans_model.specs.Bytes.{longest_file};
 ghost use Rattle.ans_model.specs.Inside.ShownKind.{shown_kind};
 ghost use Rattle.ans_model.specs.Verdict.Good.{IsGood};
+ghost use Rattle.ans_pen.specs.Pens.{StandsOn};
 ghost use Rattle.ans_why.specs.Taller.{IsTaller, IsFreeBetween, IsFreePiece};
-ghost use Rattle.ans_why.specs.Walks.{WalksOn};
 
-use crate::walk::{HOME, Walk};
+use crate::print::play_piece;
 use crate::watch::Watch;
 use ans_model::kind::Kind;
 use ans_model::size::Size;
 use ans_model::start::Start;
+use ans_pen::{HOME, Pen};
 use ans_tokens::{Piece, Pieces};
 
 /// Whether a token is no move up or down, or one that nothing stops, where the cursors of the low and
 /// the high start stand so.
 #[inline(always)]
-fn is_free(size: Size, low: &Walk, high: &Walk, kind: &Kind) -> bool
-    requires low { WalksOn size low.now }
-    requires high { WalksOn size high.now }
+fn is_free(size: Size, low: &Pen, high: &Pen, kind: &Kind) -> bool
+    requires low { StandsOn size low.now }
+    requires high { StandsOn size high.now }
     ensures { IsTrue result
         ↔ IsFreeBetween size low.now.cursor high.now.cursor (shown_kind kind.now) }
 {
@@ -35,9 +36,9 @@ fn is_free(size: Size, low: &Walk, high: &Walk, kind: &Kind) -> bool
 
 /// The same of a piece of a content.
 #[inline(always)]
-fn is_free_piece(size: Size, low: &Walk, high: &Walk, piece: &Piece<'_>) -> bool
-    requires low { WalksOn size low.now }
-    requires high { WalksOn size high.now }
+fn is_free_piece(size: Size, low: &Pen, high: &Pen, piece: &Piece<'_>) -> bool
+    requires low { StandsOn size low.now }
+    requires high { StandsOn size high.now }
     ensures { IsTrue result ↔ IsFreePiece size low.now.cursor high.now.cursor piece.now }
 {
     match piece {
@@ -54,8 +55,8 @@ pub fn is_taller(size: Size, start: Start, content: &[u8]) -> bool
     requires good { IsGood size start content.now }
     ensures { IsTrue result ↔ IsTaller size start content.now }
 {
-    let mut low = Walk::of(&Watch::low(size, start, HOME));
-    let mut high = Walk::of(&Watch::high(size, start, HOME));
+    let mut low = Watch::low(size, start, HOME).pen;
+    let mut high = Watch::high(size, start, HOME).pen;
     let mut pieces = Pieces::new(content);
     'pieces: loop {
         match pieces.next() {
@@ -63,8 +64,8 @@ pub fn is_taller(size: Size, start: Start, content: &[u8]) -> bool
                 if !is_free_piece(size, &low, &high, &piece) {
                     return false;
                 }
-                low.piece(size, &piece);
-                high.piece(size, &piece);
+                play_piece(&mut low, size, &piece);
+                play_piece(&mut high, size, &piece);
             }
             Ok(None) => return true,
             Err(_) => return false,

@@ -101,10 +101,10 @@ impl TwoWatches {
     /// Whether a byte that is printed next has a fault: the cursors differ, or stand in the spare
     /// row.
     fn decides(&self, size: Size) -> bool
-        ensures { IsTrue result ↔ (self.now.low.cursor ≢ self.now.high.cursor)
-            ⊎ (self.now.low.cursor.row ≡ size.lines) }
+        ensures { IsTrue result ↔ (self.now.low.pen.cursor ≢ self.now.high.pen.cursor)
+            ⊎ (self.now.low.pen.cursor.row ≡ size.lines) }
     {
-        self.low.cursor != self.high.cursor || self.low.cursor.row == size.lines()
+        self.low.pen.cursor != self.high.pen.cursor || self.low.pen.cursor.row == size.lines()
     }
 
     /// The blanks of a tab that has a fault, up to the one that decides it.
@@ -118,7 +118,7 @@ impl TwoWatches {
             → AreWatched size class at tokens self.old
             → AreWatched size class at (then_blanks tokens fault.blanks_before) self.new }
     {
-        let most = tab_blanks(self.low.cursor.column);
+        let most = tab_blanks(self.low.pen.cursor.column);
         for _ in 0..most {
             if self.decides(size) {
                 return;

@@ -1,23 +1,22 @@
 //! A play of which one cell of the screen is kept.
 
-ghost use Rattle.std.specs.Prelude.{◌≡◌, ◌<◌};
+ghost use Rattle.std.specs.Prelude.{◌≡◌};
 ghost use Rattle.ans_model.specs.Screen.State.{State, FitsScreen, IsOnScreen};
 ghost use Rattle.ans_model.specs.Screen.StartClass.{start_with, low_start, high_start, cleared};
-ghost use Rattle.ans_model.specs.Screen.Step.{blank_cell, printed, advanced, line_feed, step};
-ghost use Rattle.ans_model.specs.Sequence.TokenKind.{Glyph, LineFeed, Clear, EraseLine, Tab};
+ghost use Rattle.ans_model.specs.Screen.Step.{blank_cell, printed, step};
+ghost use Rattle.ans_model.specs.Sequence.TokenKind.{Glyph, Clear, EraseLine, Tab};
 ghost use Rattle.ans_model.specs.Inside.ShownKind.{shown_kind};
-ghost use Rattle.ans_why.specs.Watched.{watched, uniform_state, StandsOn, WritesAbove};
+ghost use Rattle.ans_pen.specs.Pens.{StandsOn};
+ghost use Rattle.ans_why.specs.Watched.{watched, uniform_state, WritesAbove};
 
-use ans_model::attribute::attribute_after_all;
 use ans_model::cell::{Cell, Position};
 use ans_model::kind::Kind;
 use ans_model::size::Size;
 use ans_model::start::Start;
 use ans_model::tab::tab_blanks;
+use ans_pen::{HOME, Pen};
 
 const BLANK: u8 = 0x20;
-
-const HOME: Position = Position { row: 0, column: 0 };
 
 /// A cell of the cleared screen.
 const CLEARED_CELL: Cell = Cell {
@@ -25,13 +24,10 @@ const CLEARED_CELL: Cell = Cell {
     attribute: 0x07,
 };
 
-/// What is watched of a state: both cursors, the attribute, whether wrap is on, and one cell.
+/// What is watched of a state: its pen, and one cell of its screen.
 #[derive(Debug, Clone, Copy, PartialEq, Eq)]
 pub struct Watch {
-    pub cursor: Position,
-    pub saved: Position,
-    pub attribute: u8,
-    pub wrap: bool,
+    pub pen: Pen,
     pub cell: Cell,
 }
 
@@ -50,17 +46,19 @@ impl Watch {
         requires corner { IsOnScreen size corner }
         ensures watch { result ≡ watched size at
             (start_with size start (uniform_state size byte corner wrap)) }
-        ensures stands { StandsOn size result }
+        ensures stands { StandsOn size result.pen }
     {
         Watch {
-            cursor: if start.cursor { HOME } else { corner },
-            saved: if start.saved { HOME } else { corner },
-            attribute: if start.colours {
-                CLEARED_CELL.attribute
-            } else {
-                byte
+            pen: Pen {
+                cursor: if start.cursor { HOME } else { corner },
+                saved: if start.saved { HOME } else { corner },
+                attribute: if start.colours {
+                    CLEARED_CELL.attribute
+                } else {
+                    byte
+                },
+                wrap: start.wrap || wrap,
             },
-            wrap: start.wrap || wrap,
             cell: if start.screen {
                 CLEARED_CELL
             } else {
@@ -76,7 +74,7 @@ impl Watch {
     pub fn low(size: Size, start: Start, at: Position) -> Watch
         requires at { IsOnScreen size at }
         ensures watch { result ≡ watched size at (low_start size start) }
-        ensures stands { StandsOn size result }
+        ensures stands { StandsOn size result.pen }
     {
         Watch::from_class(size, start, at, 0x00, HOME, false)
     }
@@ -85,7 +83,7 @@ impl Watch {
     pub fn high(size: Size, start: Start, at: Position) -> Watch
         requires at { IsOnScreen size at }
         ensures watch { result ≡ watched size at (high_start size start) }
-        ensures stands { StandsOn size result }
+        ensures stands { StandsOn size result.pen }
     {
         let last = Position {
             row: size.lines(),
@@ -98,31 +96,18 @@ impl Watch {
     pub fn cleared(size: Size, at: Position) -> Watch
         requires at { IsOnScreen size at }
         ensures watch { result ≡ watched size at (cleared size) }
-        ensures stands { StandsOn size result }
+        ensures stands { StandsOn size result.pen }
     {
         Watch::low(size, Start::CLEARED, at)
     }
 
     /// A blank of the current attribute.
     fn blank(&self) -> Cell
-        ensures { result ≡ blank_cell self.now.attribute }
+        ensures { result ≡ blank_cell self.now.pen.attribute }
     {
         Cell {
             byte: BLANK,
-            attribute: self.attribute,
-        }
-    }
-
-    /// One row down; the spare row is the last.
-    fn line_feed(&mut self, size: Size, at: Position)
-        requires at { IsOnScreen size at }
-        requires stands { StandsOn size self.old }
-        ensures stands { StandsOn size self.new }
-        ensures watch { (s : State) → self.old ≡ watched size at s → WritesAbove size s LineFeed
-            → self.new ≡ watched size at (line_feed size s) }
-    {
-        if self.cursor.row < size.lines() {
-            self.cursor.row += 1;
+            attribute: self.pen.attribute,
         }
     }
 
@@ -130,33 +115,16 @@ impl Watch {
     #[inline(always)]
     fn put(&mut self, size: Size, at: Position, byte: u8)
         requires at { IsOnScreen size at }
-        requires stands { StandsOn size self.old }
-        ensures stands { StandsOn size self.new }
+        requires stands { StandsOn size self.old.pen }
+        ensures stands { StandsOn size self.new.pen }
         ensures watch { (s : State) → self.old ≡ watched size at s → FitsScreen size s
             → self.new ≡ watched size at (printed size s byte) }
     {
-        if self.cursor == at {
+        if self.pen.cursor == at {
             self.cell = Cell {
                 byte,
-                attribute: self.attribute,
+                attribute: self.pen.attribute,
             };
-        }
-    }
-
-    /// The cursor goes on after a printed byte.
-    #[inline(always)]
-    fn advance(&mut self, size: Size, at: Position)
-        requires at { IsOnScreen size at }
-        requires stands { StandsOn size self.old }
-        ensures stands { StandsOn size self.new }
-        ensures watch { (s : State) → self.old ≡ watched size at s → s.cursor.row < size.lines
-            → self.new ≡ watched size at (advanced size s) }
-    {
-        if self.cursor.column + 1 < size.width() {
-            self.cursor.column += 1;
-        } else if self.wrap {
-            self.cursor.column = 0;
-            self.line_feed(size, at);
         }
     }
 
@@ -164,25 +132,25 @@ impl Watch {
     #[inline(always)]
     pub(crate) fn print(&mut self, size: Size, at: Position, byte: u8)
         requires at { IsOnScreen size at }
-        requires stands { StandsOn size self.old }
-        ensures stands { StandsOn size self.new }
+        requires stands { StandsOn size self.old.pen }
+        ensures stands { StandsOn size self.new.pen }
         ensures watch { (s : State) → self.old ≡ watched size at s → FitsScreen size s
             → WritesAbove size s (Glyph byte)
             → self.new ≡ watched size at (step size s (Glyph byte)) }
     {
         self.put(size, at, byte);
-        self.advance(size, at);
+        self.pen.advance(size);
     }
 
     /// Blanks from the cursor on, up to the next column that 8 divides.
     fn tab(&mut self, size: Size, at: Position)
         requires at { IsOnScreen size at }
-        requires stands { StandsOn size self.old }
-        ensures stands { StandsOn size self.new }
+        requires stands { StandsOn size self.old.pen }
+        ensures stands { StandsOn size self.new.pen }
         ensures watch { (s : State) → self.old ≡ watched size at s → FitsScreen size s
             → WritesAbove size s Tab → self.new ≡ watched size at (step size s Tab) }
     {
-        let blanks = tab_blanks(self.cursor.column);
+        let blanks = tab_blanks(self.pen.cursor.column);
         for _ in 0..blanks {
             self.print(size, at, BLANK);
         }
@@ -191,12 +159,12 @@ impl Watch {
     /// The cursor's cell and those right of it become blank.
     fn erase_line(&mut self, size: Size, at: Position)
         requires at { IsOnScreen size at }
-        requires stands { StandsOn size self.old }
-        ensures stands { StandsOn size self.new }
+        requires stands { StandsOn size self.old.pen }
+        ensures stands { StandsOn size self.new.pen }
         ensures watch { (s : State) → self.old ≡ watched size at s → FitsScreen size s
             → self.new ≡ watched size at (step size s EraseLine) }
     {
-        if at.row == self.cursor.row && self.cursor.column <= at.column {
+        if at.row == self.pen.cursor.row && self.pen.cursor.column <= at.column {
             self.cell = self.blank();
         }
     }
@@ -204,57 +172,31 @@ impl Watch {
     /// The whole screen becomes blank, and the cursor goes home.
     fn clear(&mut self, size: Size, at: Position)
         requires at { IsOnScreen size at }
-        requires stands { StandsOn size self.old }
-        ensures stands { StandsOn size self.new }
+        requires stands { StandsOn size self.old.pen }
+        ensures stands { StandsOn size self.new.pen }
         ensures watch { (s : State) → self.old ≡ watched size at s
             → self.new ≡ watched size at (step size s Clear) }
     {
         self.cell = self.blank();
-        self.cursor = HOME;
+        self.pen.cursor = HOME;
     }
 
     /// One token, by the table of steps. The watch of a state becomes that of the next one, unless
     /// the screen scrolls.
     pub fn step(&mut self, size: Size, at: Position, kind: &Kind)
         requires at { IsOnScreen size at }
-        requires stands { StandsOn size self.old }
-        ensures stands { StandsOn size self.new }
+        requires stands { StandsOn size self.old.pen }
+        ensures stands { StandsOn size self.new.pen }
         ensures watch { (s : State) → self.old ≡ watched size at s → FitsScreen size s
             → WritesAbove size s (shown_kind kind.now)
             → self.new ≡ watched size at (step size s (shown_kind kind.now)) }
     {
-        let last_row = size.lines();
-        let last_column = size.width() - 1;
         match kind {
             Kind::Glyph(byte) => self.print(size, at, *byte),
-            Kind::LineFeed => self.line_feed(size, at),
+            Kind::Tab => self.tab(size, at),
             Kind::Clear => self.clear(size, at),
             Kind::EraseLine => self.erase_line(size, at),
-            Kind::Up(n) => self.cursor.row = self.cursor.row.saturating_sub(*n as usize),
-            Kind::Down(n) => self.cursor.row = (self.cursor.row + *n as usize).min(last_row),
-            Kind::Forward(n) => {
-                self.cursor.column = (self.cursor.column + *n as usize).min(last_column)
-            }
-            Kind::Backward(n) => self.cursor.column = self
-                .cursor
-                .column
-                .saturating_sub(*n as usize),
-            Kind::Place(row, column) => {
-                self.cursor = Position {
-                    row: (*row as usize).saturating_sub(1).min(last_row),
-                    column: (*column as usize).saturating_sub(1).min(last_column),
-                }
-            }
-            Kind::BackSpace => self.cursor.column = self.cursor.column.saturating_sub(1),
-            Kind::CarriageReturn => self.cursor.column = 0,
-            Kind::Save => self.saved = self.cursor,
-            Kind::Restore => self.cursor = self.saved,
-            Kind::Colours(parameters) => {
-                self.attribute = attribute_after_all(self.attribute, parameters)
-            }
-            Kind::Wrap(on) => self.wrap = *on,
-            Kind::Tab => self.tab(size, at),
-            Kind::Bell | Kind::Mode | Kind::Keys | Kind::Ask => {}
+            _ => self.pen.step(size, kind),
         }
     }
 }

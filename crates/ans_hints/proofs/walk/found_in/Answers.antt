@@ -1,12 +1,12 @@
-use Rattle.std.proofs.Common.{◌≡◌, ℕ, ◌+◌, ◌-◌, ◌≤◌, length, take, drop, refl, sym, ap, ◌∙◌, arith, subst}
-use Rattle.std.proofs.lemmas.List.{length-drop, length-take}
+use Rattle.std.proofs.Common.{◌≡◌, ℕ, ◌+◌, ◌-◌, length, take, drop, refl, ap, ◌∙◌, arith, subst}
+use Rattle.std.proofs.lemmas.List.{length-drop}
 use Rattle.ans_model.specs.declared.kind.Kind.{Kind}
 use Rattle.ans_model.specs.Inside.ShownKind.{shown_kind}
 use Rattle.ans_tokens.specs.Pieces.{TakesPiece}
 use Rattle.ans_tokens.specs.declared.pieces.Piece.TheVariants as pieces
 use Rattle.ans_hints.specs.Walks.{IsAt}
 use Rattle.ans_hints.proofs.GlyphWalks.{rest_of}
-use Rattle.ans_hints.proofs.PieceWalks.{within_after, left_after, with_behind, glyphs_lead, token_leads, nothing_left}
+use Rattle.ans_hints.proofs.PieceWalks.{within_after, ends_within, left_after, with_behind, glyphs_lead, token_leads, nothing_left}
 use Rattle.ans_hints.proofs.PieceWalks.{never_refused, counts_within}
 use Rattle.ans_hints.proofs.walk.found_in.Goals as goal
 
@@ -39,41 +39,34 @@ pub glyphs-requires-clause-some : goal.glyphs-requires-clause-some
 glyphs-requires-clause-some c =
     let h = c.loop-text.invariant in
     let content = c.args.content.now in
-    let front = take c.args.end content in
     let text = c.in-Ok-Some-Glyphs.text in
     let taken : TakesPiece c.loop-text.pieces c.next.new.self (pieces.Glyphs text) =
     rw (c.in-Ok-Some-Glyphs.field-0-is, c.in-Ok-Some-Glyphs.field-0-0-is) at c.in-Ok-Some-Glyphs.ensures.piece in
     let long : length text.now ≡ length taken.text = ap length taken.stands.0 in
     let start = c.offset.result - length text.now in
-    let within : c.next.new.self.offset ≤ length front =
-    within_after front c.loop-text.pieces c.next.new.self _ h.within h.rest taken in
-    let all : c.next.new.self.offset ≤ length content = omega (arith, within, length-take c.args.end content) in
+    let all = ends_within content c.args.end c.loop-text.pieces c.next.new.self _ h.within h.rest taken in
     rw (rest_of content start) (omega (arith, c.offset.ensures, taken.offset, long, all, length-drop start content))
 
 pub slice_bounds-rest-count : goal.slice_bounds-rest-count
 slice_bounds-rest-count c =
     let h = c.loop-text.invariant in
-    let front = take c.args.end c.args.content.now in
-    let taken : TakesPiece c.loop-text.pieces c.next.new.self (pieces.Token c.in-Ok-Some-Token.token) =
-    rw (c.in-Ok-Some-Token.field-0-is, c.in-Ok-Some-Token.field-0-0-is) at c.in-Ok-Some-Token.ensures.piece in
     omega (
       arith,
       c.offset-in-Ok-Some-Token.ensures,
-      within_after front c.loop-text.pieces c.next.new.self _ h.within h.rest taken,
-      length-take c.args.end c.args.content.now,
+      ends_within c.args.content.now c.args.end c.loop-text.pieces c.next.new.self
+          (pieces.Token c.in-Ok-Some-Token.token) h.within h.rest
+          (rw (c.in-Ok-Some-Token.field-0-is, c.in-Ok-Some-Token.field-0-0-is) at c.in-Ok-Some-Token.ensures.piece),
     )
 
 pub slice_bounds-rest-start : goal.slice_bounds-rest-start
 slice_bounds-rest-start c =
     let h = c.loop-text.invariant in
-    let front = take c.args.end c.args.content.now in
-    let taken : TakesPiece c.loop-text.pieces c.next.new.self (pieces.Token c.in-Ok-Some-Token.token) =
-    rw (c.in-Ok-Some-Token.field-0-is, c.in-Ok-Some-Token.field-0-0-is) at c.in-Ok-Some-Token.ensures.piece in
     omega (
       arith,
       c.offset-in-Ok-Some-Token.ensures,
-      within_after front c.loop-text.pieces c.next.new.self _ h.within h.rest taken,
-      length-take c.args.end c.args.content.now,
+      ends_within c.args.content.now c.args.end c.loop-text.pieces c.next.new.self
+          (pieces.Token c.in-Ok-Some-Token.token) h.within h.rest
+          (rw (c.in-Ok-Some-Token.field-0-is, c.in-Ok-Some-Token.field-0-0-is) at c.in-Ok-Some-Token.ensures.piece),
     )
 
 pub loop-text-preserved : goal.loop-text-preserved

@@ -1,40 +1,31 @@
-use Rattle.std.proofs.Common.{refl, ap, ◌∙◌}
+use Rattle.std.proofs.Common.{refl, ap}
 use Rattle.ans_model.specs.Screen.State.{Size}
 use Rattle.ans_model.specs.Screen.StartClass.{low_start, high_start}
 use Rattle.ans_model.proofs.StartLemmas.{low_is_start, high_is_start}
 use Rattle.ans_tokens.specs.Pieces.{PiecesView}
 use Rattle.ans_tokens.proofs.PiecesRead.{no_fault}
-use Rattle.ans_why.specs.declared.walk.Walk.{Walk}
 use Rattle.ans_why.specs.declared.watch.Watch.{Watch}
 use Rattle.ans_why.proofs.TallerWalk.{walked_nothing, clean_with_piece, piece_is_short, walked_more, not_taller}
 use Rattle.ans_why.proofs.TallerWalk.{taller_at_end}
 use Rattle.ans_why.proofs.taller.is_taller.Goals as goal
 
--- the walk of a watch
-abbrev walk_of_watch : Watch → Walk
-walk_of_watch w = record { cursor = w.cursor; saved = w.saved; wrap = w.wrap }
-
 pub pieces-init : goal.pieces-init
 pieces-init c = record {
-  low = rw c.of-low.ensures (record { cursor = c.low.ensures.stands.cursor; saved = c.low.ensures.stands.saved });
-  high = rw c.of-high.ensures
-      (record { cursor = c.high.ensures.stands.cursor; saved = c.high.ensures.stands.saved });
-  so_far = walked_nothing c.args.size c.args.start c.args.content.now c.new-pieces.result.rest c.of-low.result
-      c.of-high.result c.requires.good c.requires.length (ap (λ (v : PiecesView). v.rest) c.new-pieces.ensures)
-      (c.of-low.ensures
-      ∙ ap walk_of_watch c.low.ensures.watch)
-      (c.of-high.ensures
-      ∙ ap walk_of_watch c.high.ensures.watch);
+  low = c.low.ensures.stands;
+  high = c.high.ensures.stands;
+  so_far = walked_nothing c.args.size c.args.start c.args.content.now c.new-pieces.result.rest c.low.result.pen
+      c.high.result.pen c.requires.good c.requires.length (ap (λ (v : PiecesView). v.rest) c.new-pieces.ensures)
+      (ap (λ (w : Watch). w.pen) c.low.ensures.watch) (ap (λ (w : Watch). w.pen) c.high.ensures.watch);
 }
 
-pub piece-requires-clause-length : goal.piece-requires-clause-length
-piece-requires-clause-length c =
+pub play_piece-requires-clause-length : goal.play_piece-requires-clause-length
+play_piece-requires-clause-length c =
     piece_is_short c.args.size c.args.start c.args.content.now c.pieces.pieces c.next.new.self c.pieces.low
     c.pieces.high c.pieces.invariant.so_far c.in-Ok-Some.piece
     (rw c.in-Ok-Some.field-0-is at c.in-Ok-Some.ensures.piece)
 
-pub piece-requires-in-Ok-Some-clause-length : goal.piece-requires-in-Ok-Some-clause-length
-piece-requires-in-Ok-Some-clause-length c =
+pub play_piece-requires-in-Ok-Some-clause-length : goal.play_piece-requires-in-Ok-Some-clause-length
+play_piece-requires-in-Ok-Some-clause-length c =
     piece_is_short c.args.size c.args.start c.args.content.now c.pieces.pieces c.next.new.self c.pieces.low
     c.pieces.high c.pieces.invariant.so_far c.in-Ok-Some.piece
     (rw c.in-Ok-Some.field-0-is at c.in-Ok-Some.ensures.piece)
@@ -57,12 +48,12 @@ pieces-preserved c =
     let clean = clean_with_piece z class c.args.content.now c.pieces.pieces c.next.new.self c.pieces.low c.pieces.high
     h c.in-Ok-Some.piece taken in
     record {
-      low = c.piece.ensures.on;
-      high = c.piece-in-Ok-Some.ensures.on;
+      low = c.play_piece.ensures.stands;
+      high = c.play_piece-in-Ok-Some.ensures.stands;
       so_far = walked_more z class c.args.content.now c.pieces.pieces c.next.new.self c.pieces.low c.pieces.high h
-          c.in-Ok-Some.piece taken c.piece.new.self c.piece-in-Ok-Some.new.self
-          (c.piece.ensures.walk class (low_start z class) h.played (low_is_start z class h.some) clean h.low_is)
-          (c.piece-in-Ok-Some.ensures.walk class (high_start z class) h.played (high_is_start z class h.some) clean
+          c.in-Ok-Some.piece taken c.play_piece.new.pen c.play_piece-in-Ok-Some.new.pen
+          (c.play_piece.ensures.pen class (low_start z class) h.played (low_is_start z class h.some) clean h.low_is)
+          (c.play_piece-in-Ok-Some.ensures.pen class (high_start z class) h.played (high_is_start z class h.some) clean
           h.high_is)
           (c.if-not-is_free_piece.ensures.0 refl);
     }

@@ -10,7 +10,7 @@ pub returns-clause-played : goal.returns-clause-played
 returns-clause-played c tokens h =
     let old : Descent = c.args.self.now in
     let order = c.requires.order in
-    let row : ℕ = min (old.walk.cursor.row + c.args.rows) old.most in
+    let row : ℕ = min (old.pen.cursor.row + c.args.rows) old.most in
     asks_enough old order tokens (Down c.args.rows ∷ []) h 0 (λ n le most clean. omega arith) _ row (omega arith)
     (record { width = refl; most = refl; enough = omega arith; met = omega arith; refused = inl refl })
     (omega (arith, c.min-row.ensures))

@@ -62,5 +62,5 @@ returns-in_default c =
       };
       played = λ tokens h.
           free_goes old order tokens h (shown_kind k) c.moved.new.self free
-          (λ n s e. c.moved.ensures.walk n s (free_moves_alike (shown_kind k) free) e);
+          (λ n s e. c.moved.ensures.pen n s (free_moves_alike (shown_kind k) free) e);
     }

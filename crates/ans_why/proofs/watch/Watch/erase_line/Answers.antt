@@ -7,8 +7,8 @@ use Rattle.ans_why.proofs.watch.Watch.erase_line.Goals as goal
 
 pub returns-else-at-self-clause-watch : goal.returns-else-at-self-clause-watch
 returns-else-at-self-clause-watch c s e fits =
-    let row = ap (λ (w : Watch). w.cursor.row) e in
-    let column = ap (λ (w : Watch). w.cursor.column) e in
+    let row = ap (λ (w : Watch). w.pen.cursor.row) e in
+    let column = ap (λ (w : Watch). w.pen.cursor.column) e in
     let outside : ¬ ((c.args.at.row ≡ s.cursor.row) × (s.cursor.column ≤ c.args.at.column)) =
     λ inside. elim c.else-at-self.branch [
       | else-at-self-via-then-at-self+else-self-at w ↦ omega (arith, row, column, inside.1)

@@ -5,6 +5,6 @@ use Rattle.ans_why.proofs.watch.Watch.put.Goals as goal
 
 pub returns-else-eq-clause-watch : goal.returns-else-eq-clause-watch
 returns-else-eq-clause-watch c s e fits =
-    let other : c.args.self.now.cursor ≢ c.args.at = search rules in
+    let other : c.args.self.now.pen.cursor ≢ c.args.at = search rules in
     e ∙ sym (printed_elsewhere c.args.size c.args.at s fits c.requires.at c.args.byte
-    (λ same. other (ap (λ (w : Watch). w.cursor) e ∙ same)))
+    (λ same. other (ap (λ (w : Watch). w.pen.cursor) e ∙ same)))

@@ -4,7 +4,8 @@ use Rattle.ans_model.specs.Screen.State.{State}
 use Rattle.ans_model.specs.Screen.Step.{put, tab_blanks}
 use Rattle.ans_why.specs.Watched.{watched}
 use Rattle.ans_why.specs.declared.watch.Watch.{Watch}
-use Rattle.ans_why.proofs.WatchedSteps.{one_blank_last, fits_after_blanks}
+use Rattle.ans_pen.proofs.PenSteps.{one_blank_last}
+use Rattle.ans_why.proofs.WatchedSteps.{fits_after_blanks}
 use Rattle.ans_why.proofs.watch.Watch.tab.Goals as goal
 
 pub loop-preserved : goal.loop-preserved
@@ -14,7 +15,7 @@ loop-preserved c = record {
       let z = c.args.size in
       let n = c.loop.counter in
       let here : State = fold (put z) s (replicate n blank) in
-      let column = ap (λ (w : Watch). tab_blanks w.cursor.column) e in
+      let column = ap (λ (w : Watch). tab_blanks w.pen.cursor.column) e in
       let lt : n < tab_blanks s.cursor.column = omega (arith, column, c.tab_blanks-blanks.ensures) in
       c.print.ensures.watch here (c.loop.invariant.watch s e fits above)
       (fits_after_blanks z s n (omega arith) fits) (above n lt)

@@ -1,17 +1,19 @@
 use Rattle.std.proofs.Common.{◌+◌, fold, replicate, arith, sym, ap, ◌∙◌}
+use Rattle.std.proofs.lemmas.List.{length-replicate}
 use Rattle.ans_model.specs.Bytes.{blank}
 use Rattle.ans_model.specs.Screen.State.{State, at}
 use Rattle.ans_model.specs.Screen.Step.{printed, put}
-use Rattle.ans_hints.specs.Pens.{pen_of}
-use Rattle.ans_hints.specs.declared.pen.Pen.{Pen}
-use Rattle.ans_hints.proofs.PenSteps.{one_blank_last, blanks_in_row}
-use Rattle.ans_hints.proofs.pen.Pen.blanks.Goals as goal
+use Rattle.ans_pen.specs.Pens.{pen_of}
+use Rattle.ans_pen.specs.declared.pen.Pen.{Pen}
+use Rattle.ans_pen.proofs.PenSteps.{one_blank_last, bytes_in_row}
+use Rattle.ans_pen.proofs.pen.Pen.blanks.Goals as goal
 
 pub returns-then-self-count-clause-pen : goal.returns-then-self-count-clause-pen
 returns-then-self-count-clause-pen c s e =
     let column = ap (λ (p : Pen). p.cursor.column) e in
     ap (λ (p : Pen). record p { cursor = at p.cursor.row (p.cursor.column + c.args.count) }) e
-    ∙ sym (blanks_in_row c.args.count c.args.size s (omega (arith, column)))
+    ∙ sym (bytes_in_row (replicate c.args.count blank) c.args.size s c.args.count (length-replicate c.args.count blank)
+    (omega (arith, column)))
 
 pub loop-preserved : goal.loop-preserved
 loop-preserved c = record {

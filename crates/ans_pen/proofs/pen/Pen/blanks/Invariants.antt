@@ -2,8 +2,8 @@ use Rattle.std.proofs.Common.{◌≡◌, fold, replicate}
 use Rattle.ans_model.specs.Bytes.{blank}
 use Rattle.ans_model.specs.Screen.State.{State}
 use Rattle.ans_model.specs.Screen.Step.{put}
-use Rattle.ans_hints.specs.Pens.{pen_of, StandsOn}
-use Rattle.ans_hints.proofs.pen.Pen.blanks.Given as goal
+use Rattle.ans_pen.specs.Pens.{pen_of, StandsOn}
+use Rattle.ans_pen.proofs.pen.Pen.blanks.Given as goal
 
 -- `counter` blanks are printed
 abbrev pub invariant-loop : goal.invariant-loop

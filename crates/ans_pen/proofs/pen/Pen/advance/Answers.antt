@@ -1,9 +1,9 @@
 use Rattle.std.proofs.Common.{◌≡◌, ◌+◌, ◌≤◌, true, arith, sym, ap, ◌∙◌}
 use Rattle.ans_model.specs.Screen.State.{at}
-use Rattle.ans_hints.specs.Pens.{pen_of}
-use Rattle.ans_hints.specs.declared.pen.Pen.{Pen}
-use Rattle.ans_hints.proofs.PenSteps.{wraps}
-use Rattle.ans_hints.proofs.pen.Pen.advance.Goals as goal
+use Rattle.ans_pen.specs.Pens.{pen_of}
+use Rattle.ans_pen.specs.declared.pen.Pen.{Pen}
+use Rattle.ans_pen.proofs.PenSteps.{wraps}
+use Rattle.ans_pen.proofs.pen.Pen.advance.Goals as goal
 
 pub returns-then-self-clause-pen : goal.returns-then-self-clause-pen
 returns-then-self-clause-pen c s e =
