@@ -109,6 +109,13 @@ fn play_on<G: Grid>(rt: &impl Abort, alloc: Global, row: &Row) -> Result<(), Fai
     Ok(())
 }
 
+/// Plays a content byte by byte over a grid.
+fn play_over<G: Screen>(rt: &impl Abort, grid: G, row: &Row) {
+    assert!(rt; 1 <= grid.width() && grid.width() <= 20);
+    assert!(rt; 2 <= grid.rows() && grid.rows() <= 11);
+    play_by(rt, Player::on(grid, row.start), row, 0, 1);
+}
+
 /// Plays a content byte by byte on memory that is lent and holds other bytes.
 fn play_on_lent(rt: &impl Abort, row: &Row) {
     assert!(rt; 1 <= row.width && row.width <= 20 && 1 <= row.lines && row.lines <= 10);
@@ -127,7 +134,7 @@ fn play_on_lent(rt: &impl Abort, row: &Row) {
         row.lines + 1,
         HalfCell::unknown(),
     ) {
-        Some(grid) => play_by(rt, Player::on(grid, row.start), row, 0, 1),
+        Some(grid) => play_over(rt, grid, row),
         None => panic!(rt; "no grid on memory that is large enough"),
     }
 }
