@@ -8,7 +8,7 @@ use ans_samples::rows::{
     BROKEN, BYTES, COLOURS, FORBIDDEN, MISPLACED, PARTS_KNOWN, PASSES_FROM_ANY,
     PASSES_FROM_CLEARED, Row, TABS, UNKNOWN_CELLS, WITHOUT_MEANING,
 };
-use ans_screen::{Grid, HalfCell, PlainGrid, PlaneGrid, Screen};
+use ans_screen::{Grid, HalfCell, LentGrid, LentRow, PlainGrid, PlaneGrid, Screen};
 use std::alloc::Global;
 use std::process::Abort;
 use std::test::Fail;
@@ -109,8 +109,38 @@ fn play_on<G: Grid>(rt: &impl Abort, alloc: Global, row: &Row) -> Result<(), Fai
     Ok(())
 }
 
-/// Plays each content over both grids: whole, in two pieces at every cut, byte by byte, and on a grid
-/// that is there already.
+/// Plays a content byte by byte over a grid.
+fn play_over<G: Screen>(rt: &impl Abort, grid: G, row: &Row) {
+    assert!(rt; 1 <= grid.width() && grid.width() <= 20);
+    assert!(rt; 2 <= grid.rows() && grid.rows() <= 11);
+    play_by(rt, Player::on(grid, row.start), row, 0, 1);
+}
+
+/// Plays a content byte by byte on memory that is lent and holds other bytes.
+fn play_on_lent(rt: &impl Abort, row: &Row) {
+    assert!(rt; 1 <= row.width && row.width <= 20 && 1 <= row.lines && row.lines <= 10);
+    let used = LentRow {
+        round: 1,
+        known: 1,
+        first: 0,
+        end: row.width,
+    };
+    let mut held = [used; 11];
+    let mut bytes = [0xEE; 880];
+    match LentGrid::on(
+        &mut held,
+        &mut bytes,
+        row.width,
+        row.lines + 1,
+        HalfCell::unknown(),
+    ) {
+        Some(grid) => play_over(rt, grid, row),
+        None => panic!(rt; "no grid on memory that is large enough"),
+    }
+}
+
+/// Plays each content over both grids: whole, in two pieces at every cut, byte by byte, on a grid that
+/// is there already, and on memory that is lent.
 fn play_all(rt: &impl Abort, alloc: Global, rows: &[Row]) -> Result<(), Fail> {
     for row in rows {
         let all = row.content.len();
@@ -123,6 +153,7 @@ fn play_all(rt: &impl Abort, alloc: Global, rows: &[Row]) -> Result<(), Fail> {
         play::<PlaneGrid>(rt, alloc, row, 0, 1)?;
         play_on::<PlainGrid>(rt, alloc, row)?;
         play_on::<PlaneGrid>(rt, alloc, row)?;
+        play_on_lent(rt, row);
     }
     Ok(())
 }

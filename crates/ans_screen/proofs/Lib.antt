@@ -7,4 +7,5 @@ pub mod Places
 pub mod RowCells
 pub mod Widened
 pub mod RowEdits
+pub mod RowWrites
 pub mod RowReads

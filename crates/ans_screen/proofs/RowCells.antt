@@ -8,8 +8,8 @@ use Rattle.ans_screen.specs.RowCells.{CellState, Stale, row_cell, cell_at, cells
 use Rattle.ans_screen.specs.RowCells.{state_in, cell_in_grid, cells_of_grid, states_of, byte_cell, never_written}
 use Rattle.ans_screen.specs.RowCells.{SameBytes}
 use Rattle.ans_screen.specs.declared.cell.HalfCell.{HalfCell}
-use Rattle.ans_screen.specs.declared.plane_grid.Row.{Row}
-use Rattle.ans_screen.specs.declared.plane_grid.PlaneGrid.{PlaneGrid}
+use Rattle.ans_screen.specs.declared.row_planes.Row.{Row}
+use Rattle.ans_screen.specs.RowCells.{Planes}
 use Rattle.ans_screen.proofs.Places.{same_from_index}
 
 pub get_rows : (w rows : ℕ) (states : ℕ → CellState) (blank : HalfCell) (gs ks bs vs : List ℕ) (i : ℕ) (d : HalfCell)
@@ -19,10 +19,10 @@ get_rows w rows states blank gs ks bs vs i d lt =
     get_or-map-range_with_len (cell_at states blank gs ks bs vs) 0 (w * rows) i i d lt (omega arith)
 
 -- the same of a grid
-pub get_cell : (g : PlaneGrid) (i : ℕ) (d : HalfCell) → i < g.width * g.rows
+pub get_cell : (g : Planes) (i : ℕ) (d : HalfCell) → i < g.width * g.rows
     → get_or (cells_of_grid g) i d ≡ cell_in_grid g i
 get_cell g i d lt =
-    get_rows g.width g.rows (states_of g) g.blank g.glyphs.items g.glyphs_known g.bits_known g.values.items i d lt
+    get_rows g.width g.rows (states_of g) g.blank g.glyphs g.glyphs_known g.bits_known g.values i d lt
 
 -- the same bytes in the same state are the same cell
 pub same_cell : (s t : CellState) (blank : HalfCell) (g k b v g' k' b' v' : ℕ) → s ≡ t → g' ≡ g → k' ≡ k
@@ -31,15 +31,15 @@ pub same_cell : (s t : CellState) (blank : HalfCell) (g k b v g' k' b' v' : ℕ)
 same_cell s t blank g k b v g' k' b' v' es eg ek eb ev = rw (es, eg, ek, eb, ev) refl
 
 -- and in two grids of the same blank
-pub same_byte_cell : (s : CellState) (g h : PlaneGrid) (i : ℕ) → h.blank ≡ g.blank → SameBytes g h i
+pub same_byte_cell : (s : CellState) (g h : Planes) (i : ℕ) → h.blank ≡ g.blank → SameBytes g h i
     → byte_cell s h i ≡ byte_cell s g i
 same_byte_cell s g h i e same =
-    ap (λ (x : HalfCell). row_cell s x (get_or h.glyphs.items i 0) (get_or h.glyphs_known i 0)
-    (get_or h.bits_known i 0) (get_or h.values.items i 0)) e
+    ap (λ (x : HalfCell). row_cell s x (get_or h.glyphs i 0) (get_or h.glyphs_known i 0)
+    (get_or h.bits_known i 0) (get_or h.values i 0)) e
     ∙ same_cell s s g.blank _ _ _ _ _ _ _ _ refl same.glyph same.glyph_known same.bits_known same.value
 
 -- a cell, by its state
-pub cell_in_state : (g : PlaneGrid) (s : CellState) (i : ℕ) → states_of g i ≡ s → cell_in_grid g i ≡ byte_cell s g i
+pub cell_in_state : (g : Planes) (s : CellState) (i : ℕ) → states_of g i ≡ s → cell_in_grid g i ≡ byte_cell s g i
 cell_in_state g s i e = ap (λ t. byte_cell t g i) e
 
 -- ---- the state of a cell
@@ -64,10 +64,10 @@ off_held round row i out = elim (eqb_tells row.round round) [
 ]
 
 -- a cell of a row, by what is read of the row
-pub state_here : (g : PlaneGrid) (row i : ℕ) (r : Row) → i / g.width ≡ row → r ≡ get_or g.held.items row never_written
+pub state_here : (g : Planes) (row i : ℕ) (r : Row) → i / g.width ≡ row → r ≡ get_or g.held row never_written
     → states_of g i ≡ state_in g.round r i
 state_here g row i r at read =
-    ap (λ (n : ℕ). state_in g.round (get_or g.held.items n never_written) i) at
+    ap (λ (n : ℕ). state_in g.round (get_or g.held n never_written) i) at
     ∙ ap (λ (h : Row). state_in g.round h i) (sym read)
 
 -- ---- the same cells in other states

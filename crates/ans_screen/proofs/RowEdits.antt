@@ -10,11 +10,11 @@ use Rattle.std.proofs.lemmas.List.{same_lists, drop_all, append-nil}
 use Rattle.ans_screen.specs.GridEdits.{written}
 use Rattle.ans_screen.specs.CellPlanes.{cell_of}
 use Rattle.ans_screen.specs.RowCells.{CellState, Known, Mixed, row_cell, state_of, state_at, cell_at, cells_of_rows}
-use Rattle.ans_screen.specs.RowCells.{cells_of_grid, states_of, length_rows, never_written}
+use Rattle.ans_screen.specs.RowCells.{SameRows, cells_of_grid, states_of, length_rows, never_written}
 use Rattle.ans_model.specs.Screen.Step.{filled}
 use Rattle.ans_screen.specs.declared.cell.HalfCell.{HalfCell}
-use Rattle.ans_screen.specs.declared.plane_grid.Row.{Row}
-use Rattle.ans_screen.specs.declared.plane_grid.PlaneGrid.{PlaneGrid}
+use Rattle.ans_screen.specs.declared.row_planes.Row.{Row}
+use Rattle.ans_screen.specs.RowCells.{Planes}
 use Rattle.ans_screen.proofs.Places.{keeps_all, keeps_written, keeps_filled, filled_within, filled_run, written_at}
 use Rattle.ans_screen.proofs.Places.{map-replicate, get_or-map_within, Keeps, is_written}
 use Rattle.ans_screen.proofs.Places.{row_below}
@@ -41,14 +41,19 @@ run_changed w rows from to states blank gs ks bs vs gs' ks' bs' vs' new end room
     ∙ sym (get_rows w rows states blank gs ks bs vs i d within)))
     (λ j d lt. get_rows w rows states blank gs' ks' bs' vs' (from + j) d (omega arith) ∙ inside j d lt)
 
+-- the cells of a grid whose planes alone were written
+pub cells_by : (g n : Planes) → SameRows g n
+    → cells_of_grid n ≡ cells_of_rows g.width g.rows (states_of g) g.blank n.glyphs n.glyphs_known n.bits_known n.values
+cells_by g n same = rw (same.width, same.rows, same.round, same.blank, same.held) refl
+
 -- What is known of cells side by side is written too, or by their state all of it is known.
-abbrev pub AreMarked : PlaneGrid → Bool → List ℕ → List ℕ → ℕ → ℕ → ℕ → ℕ → Type 0
+abbrev pub AreMarked : Planes → Bool → List ℕ → List ℕ → ℕ → ℕ → ℕ → ℕ → Type 0
 AreMarked g known ks bs from to k b =
     ((known ≡ false) × (ks ≡ filled g.glyphs_known from to k) × (bs ≡ filled g.bits_known from to b))
     ⊎ ((known ≡ true) × (ks ≡ g.glyphs_known) × (bs ≡ g.bits_known) × (k ≡ 0xFF) × (b ≡ 0xFF))
 
-module _ (g : PlaneGrid) (from to : ℕ) (known : Bool) (gs ks bs vs : List ℕ) (k b v : ℕ)
-    (le : from ≤ to) (room : to ≤ g.width * g.rows) (values : vs ≡ filled g.values.items from to v)
+module _ (g : Planes) (from to : ℕ) (known : Bool) (gs ks bs vs : List ℕ) (k b v : ℕ)
+    (le : from ≤ to) (room : to ≤ g.width * g.rows) (values : vs ≡ filled g.values from to v)
     (marks : AreMarked g known ks bs from to k b)
     (held : (i : ℕ) → from ≤ i → i < to → states_of g i ≡ state_of known) where
   -- the planes of what is known are as they were elsewhere
@@ -65,7 +70,7 @@ module _ (g : PlaneGrid) (from to : ℕ) (known : Bool) (gs ks bs vs : List ℕ)
   cell_shown : (i x : ℕ) → from ≤ i → i < to → get_or gs i 0 ≡ x → cell_at (states_of g) g.blank gs ks bs vs i
       ≡ cell_of x k b v
   cell_shown i x after before glyph =
-      let value = filled_within g.values.items vs from to v i values (omega (arith, g.whole_values)) after before in
+      let value = filled_within g.values vs from to v i values (omega (arith, g.whole_values)) after before in
       elim marks [
         | inl m ↦ same_cell (states_of g i) Mixed g.blank x k b v _ _ _ _ (held i after before ∙ ap state_of m.0) glyph
             (filled_within g.glyphs_known ks from to k i m.1 (omega (arith, g.whole_glyphs_known)) after before)
@@ -75,29 +80,29 @@ module _ (g : PlaneGrid) (from to : ℕ) (known : Bool) (gs ks bs vs : List ℕ)
       ]
 
   -- a run is written to cells that are held
-  pub run_shown : (run : List ℕ) → to ≡ from + length run → gs ≡ written g.glyphs.items from run
+  pub run_shown : (run : List ℕ) → to ≡ from + length run → gs ≡ written g.glyphs from run
       → cells_of_rows g.width g.rows (states_of g) g.blank gs ks bs vs
       ≡ written (cells_of_grid g) from (map (λ (x : ℕ). cell_of x k b v) run)
   run_shown run end glyphs =
       let new = map (λ (x : ℕ). cell_of x k b v) run in
       let len : length new ≡ length run = length-map run (λ (x : ℕ). cell_of x k b v) in
-      run_changed g.width g.rows from to (states_of g) g.blank g.glyphs.items g.glyphs_known g.bits_known
-      g.values.items gs ks bs vs new (omega arith) room
-      (keeps_written g.glyphs.items gs from to run glyphs end (omega (arith, g.whole_glyphs)))
+      run_changed g.width g.rows from to (states_of g) g.blank g.glyphs g.glyphs_known g.bits_known
+      g.values gs ks bs vs new (omega arith) room
+      (keeps_written g.glyphs gs from to run glyphs end (omega (arith, g.whole_glyphs)))
       keeps_marks.0 keeps_marks.1
-      (keeps_filled g.values.items vs from to v values le (omega (arith, g.whole_values)))
+      (keeps_filled g.values vs from to v values le (omega (arith, g.whole_values)))
       (λ j d lt.
       cell_shown (from + j) (get_or run j 0) (omega arith) (omega arith)
       (ap (λ (xs : List ℕ). get_or xs (from + j) 0) glyphs
-      ∙ written_at g.glyphs.items from run j 0 (omega (arith, g.whole_glyphs)) (omega arith))
+      ∙ written_at g.glyphs from run j 0 (omega (arith, g.whole_glyphs)) (omega arith))
       ∙ sym (get_or-map_within (λ (x : ℕ). cell_of x k b v) run j 0 d (omega arith)))
 
   -- cells that are held are filled
-  pub fill_shown : (x : ℕ) (c : HalfCell) → gs ≡ filled g.glyphs.items from to x → cell_of x k b v ≡ c
+  pub fill_shown : (x : ℕ) (c : HalfCell) → gs ≡ filled g.glyphs from to x → cell_of x k b v ≡ c
       → cells_of_rows g.width g.rows (states_of g) g.blank gs ks bs vs ≡ filled (cells_of_grid g) from to c
   fill_shown x c glyphs is =
       let len : length (replicate (to - from) x) ≡ to - from = length-replicate (to - from) x in
-      run_shown (replicate (to - from) x) (omega arith) (glyphs ∙ filled_run g.glyphs.items from to x le)
+      run_shown (replicate (to - from) x) (omega arith) (glyphs ∙ filled_run g.glyphs from to x le)
       ∙ (ap (λ xs. written (cells_of_grid g) from xs) (map-replicate (λ (y : ℕ). cell_of y k b v) (to - from) x)
       ∙ (sym (filled_run (cells_of_grid g) from to (cell_of x k b v) le)
       ∙ ap (λ (d : HalfCell). filled (cells_of_grid g) from to d) is))

@@ -1,7 +1,7 @@
 -- Cells read, looked through and copied of planes with a state for each row.
 use Rattle.std.proofs.Common.{◌≡◌, ℕ, ◌+◌, ◌-◌, ◌*◌, ◌≤◌, ◌<◌, false, List, map, length}
 use Rattle.std.proofs.Common.{get_or, ap, sym, ◌∙◌, arith, Option, Some, None}
-use Rattle.std.proofs.Common.{bit_and, take, drop, ◌++◌, replicate, inl, inr}
+use Rattle.std.proofs.Common.{unwrap_or, bit_and, take, drop, ◌++◌, replicate, inl, inr}
 use Rattle.std.specs.List.{position, slice_get}
 use Rattle.std.proofs.lemmas.List.{get_or_default, get_or-drop, length-drop}
 use Rattle.std.proofs.lemmas.List.{get_or-take, length-take-le, length-map}
@@ -9,17 +9,18 @@ use Rattle.std.proofs.lemmas.List.{same_lists}
 use Rattle.std.proofs.lemmas.Bool.{cases_lt}
 use Rattle.std.proofs.lemmas.List.{length-replicate, get_or-replicate}
 use Rattle.std.specs.Int.Bits.{and_zero_r}
+use Rattle.std.proofs.lemmas.Nat.{and_mask}
 use Rattle.std.proofs.Math.Seq.{drop-drop}
 use borrow.Rule.Slice.PartMut.{put_mid}
 use Rattle.ans_screen.specs.GridEdits.{written}
 use Rattle.std.proofs.lemmas.Option.{slice_get-get_or}
-use Rattle.ans_screen.specs.HalfCells.{attribute_byte}
+use Rattle.ans_screen.specs.HalfCells.{attribute_byte, glyph_byte}
 use Rattle.ans_screen.specs.GridEdits.{is_unknown, first_unknown}
-use Rattle.ans_screen.specs.CellPlanes.{cell_of, AreKnown, IsFirstGap}
-use Rattle.ans_screen.specs.RowCells.{Stale, Mixed, cell_in_grid, cells_of_grid, states_of, length_grid, AreKnownCells}
+use Rattle.ans_screen.specs.CellPlanes.{glyph_of, cell_of, AreKnown, IsFirstGap}
+use Rattle.ans_screen.specs.RowCells.{Stale, Known, Mixed, cell_in_grid, cells_of_grid, states_of, length_grid, AreKnownCells}
 use Rattle.ans_screen.specs.RowCells.{IsFirstUnknown, IsCopied, IsHeldRow}
-use Rattle.ans_screen.specs.declared.plane_grid.Row.{Row}
-use Rattle.ans_screen.specs.declared.plane_grid.PlaneGrid.{PlaneGrid}
+use Rattle.ans_screen.specs.declared.row_planes.Row.{Row}
+use Rattle.ans_screen.specs.RowCells.{Planes}
 use Rattle.ans_screen.proofs.FirstGap.{known_cell, unknown_cell, known_next, position_none, position_some}
 use Rattle.std.proofs.lemmas.List.Sums.{position_or_len_is}
 use Rattle.ans_screen.specs.declared.cell.HalfCell.{HalfCell}
@@ -27,7 +28,7 @@ use Rattle.ans_screen.proofs.Places.{get_or-map_within, IsPart, written_before, 
 use Rattle.ans_screen.proofs.Places.{length-written, row_end}
 use Rattle.ans_screen.proofs.RowCells.{get_cell, cell_in_state}
 
-module _ (g : PlaneGrid) where
+module _ (g : Planes) where
   -- what is read is cell i
   pub read_cell : {i : ℕ} {x : HalfCell} → i < g.width * g.rows → x ≡ cell_in_grid g i
       → slice_get (cells_of_grid g) i ≡ Some x
@@ -47,8 +48,8 @@ module _ (g : PlaneGrid) where
       let b = ap (λ (n : ℕ). get_or g.bits_known n 0) (sym at)
       ∙ (sym (hb.same (i - from) (omega arith)) ∙ here.1) in
       ap is_unknown (cell_in_state g Mixed i (mixed i le lt))
-      ∙ known_cell (get_or g.glyphs.items i 0) (get_or g.glyphs_known i 0) (get_or g.bits_known i 0)
-      (get_or g.values.items i 0) k b
+      ∙ known_cell (get_or g.glyphs i 0) (get_or g.glyphs_known i 0) (get_or g.bits_known i 0)
+      (get_or g.values i 0) k b
 
   pub gap_some : (ks bs : List ℕ) (from to i : ℕ) → ((i : ℕ) → from ≤ i → i < to → states_of g i ≡ Mixed)
       → IsPart g.glyphs_known from to ks → IsPart g.bits_known from to bs → IsFirstGap ks bs (to - from) (Some i)
@@ -63,8 +64,8 @@ module _ (g : PlaneGrid) where
             (record { same = λ j below. hb.same j (omega arith) })
             (let n : from + i - from ≡ i = omega arith in rw n found.1),
         ap is_unknown (cell_in_state g Mixed (from + i) (mixed (from + i) (omega arith) (omega arith)))
-            ∙ unknown_cell (get_or g.glyphs.items (from + i) 0) (get_or g.glyphs_known (from + i) 0)
-            (get_or g.bits_known (from + i) 0) (get_or g.values.items (from + i) 0)
+            ∙ unknown_cell (get_or g.glyphs (from + i) 0) (get_or g.glyphs_known (from + i) 0)
+            (get_or g.bits_known (from + i) 0) (get_or g.values (from + i) 0)
             (λ ek eb. found.2 (known_next ks bs i found.1 (hk.same i lt ∙ ek) (hb.same i lt ∙ eb))),
       )
 
@@ -106,10 +107,45 @@ module _ (g : PlaneGrid) where
   pub no_bits : (i n : ℕ) → states_of g i ≡ Mixed → g.bits_known ≡ replicate n 0 → i < n
       → attribute_byte (cell_in_grid g i) ≡ 0
   no_bits i n mixed e lt =
-      let value : ℕ = get_or g.values.items i 0 in
+      let value : ℕ = get_or g.values i 0 in
       let none : get_or g.bits_known i 0 ≡ 0 =
       ap (λ (xs : List ℕ). get_or xs i 0) e ∙ get_or-replicate n i 0 0 lt in
       ap attribute_byte (cell_in_state g Mixed i mixed) ∙ (ap (λ (b : ℕ). bit_and value b) none ∙ and_zero_r value)
+
+  pub no_glyphs : (i n : ℕ) → states_of g i ≡ Mixed → g.glyphs_known ≡ replicate n 0 → i < n
+      → glyph_byte (cell_in_grid g i) ≡ 0
+  no_glyphs i n mixed e lt =
+      let glyph : ℕ = get_or g.glyphs i 0 in
+      let none : get_or g.glyphs_known i 0 ≡ 0 =
+      ap (λ (xs : List ℕ). get_or xs i 0) e ∙ get_or-replicate n i 0 0 lt in
+      ap glyph_byte (cell_in_state g Mixed i mixed) ∙ ap (λ (k : ℕ). unwrap_or (glyph_of glyph k) 0) none
+
+  -- what is read of a cell by its planes
+  pub known_glyph : (i : ℕ) → states_of g i ≡ Known → glyph_byte (cell_in_grid g i) ≡ get_or g.glyphs i 0
+  known_glyph i e = ap glyph_byte (cell_in_state g Known i e)
+
+  pub mixed_glyph : (i : ℕ) → states_of g i ≡ Mixed
+      → glyph_byte (cell_in_grid g i) ≡ unwrap_or (glyph_of (get_or g.glyphs i 0) (get_or g.glyphs_known i 0)) 0
+  mixed_glyph i e = ap glyph_byte (cell_in_state g Mixed i e)
+
+  pub known_value : (i : ℕ) → states_of g i ≡ Known
+      → attribute_byte (cell_in_grid g i) ≡ bit_and (get_or g.values i 0) 0xFF
+  known_value i e = ap attribute_byte (cell_in_state g Known i e)
+
+  pub mixed_value : (i : ℕ) → states_of g i ≡ Mixed
+      → attribute_byte (cell_in_grid g i) ≡ bit_and (get_or g.values i 0) (get_or g.bits_known i 0)
+  mixed_value i e = ap attribute_byte (cell_in_state g Mixed i e)
+
+-- all bits of a byte
+pub whole_byte : (x : ℕ) → x < 256 → bit_and x 0xFF ≡ x
+whole_byte x lt = and_mask x 8 ∙ omega arith
+
+-- how long a part of a plane is
+pub part_long : (xs part : List ℕ) (from to : ℕ) → part ≡ take (to - from) (drop from xs) → from ≤ to → to ≤ length xs
+    → length part ≡ to - from
+part_long xs part from to e le room =
+    let rest = length-drop from xs in
+    ap length e ∙ length-take-le (to - from) (drop from xs) (omega arith)
 
 -- a part of a list that is written
 put_is_written : (a k : ℕ) (xs ys : List ℕ) → k ≡ length ys → put_mid a k xs ys ≡ written xs a ys
@@ -117,7 +153,7 @@ put_is_written a k xs ys e =
     ap (λ (zs : List ℕ). take a xs ++ (ys ++ zs)) (drop-drop k a xs ∙ ap (λ (n : ℕ). drop (a + n) xs) e)
 
 -- what is copied of a row is what its cells have there
-module _ (g : PlaneGrid) (part : HalfCell → ℕ) (row : ℕ) (held : Row) (holds : IsHeldRow g row held)
+module _ (g : Planes) (part : HalfCell → ℕ) (row : ℕ) (held : Row) (holds : IsHeldRow g row held)
     (lt : row < g.rows) (old copied inner : List ℕ) (blank from : ℕ) (is : blank ≡ part g.blank)
     (at_start : from ≡ row * g.width) (long : length old ≡ g.width) (filled : copied ≡ replicate (length old) blank)
     (len : length inner ≡ held.end - held.first)

@@ -3,3 +3,4 @@ pub mod HalfCells
 pub mod GridEdits
 pub mod CellPlanes
 pub mod RowCells
+pub mod LentRows

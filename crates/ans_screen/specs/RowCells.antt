@@ -1,13 +1,12 @@
 -- Half-known cells in four byte planes, of which the rows hold what was written to them in this round.
-use Rattle.std.specs.Prelude.{◌≡◌, ℕ, ◌+◌, ◌*◌, ◌/◌, ◌<◌, ◌≤◌, ◌==◌, Bool, true, false, IsTrue, List, length, map}
+use Rattle.std.specs.Prelude.{◌≡◌, ℕ, ◌+◌, ◌*◌, ◌/◌, ◌^◌, ◌<◌, ◌≤◌, ◌==◌, Bool, true, false, IsTrue, List, length, map, set}
 use Rattle.std.specs.Prelude.{slice_index, slice_index_or, nat_lt, if◌then◌else◌, Option, MatchOption, ◌⊎◌}
-use Rattle.std.specs.List.{range_with_len}
+use Rattle.std.specs.List.{range_with_len, All}
 use Rattle.std.proofs.lemmas.List.FromFn.{length-map-range_with_len}
 use Rattle.ans_screen.specs.GridEdits.{is_unknown}
 use Rattle.ans_screen.specs.CellPlanes.{cell_of}
 use Rattle.ans_screen.specs.declared.cell.HalfCell.{HalfCell}
-use Rattle.ans_screen.specs.declared.plane_grid.PlaneGrid.{PlaneGrid}
-use Rattle.ans_screen.specs.declared.plane_grid.Row.{Row}
+use Rattle.ans_screen.specs.declared.row_planes.Row.{Row}
 
 -- how a cell stands in the planes: not at all, in the two of glyphs and of values, or in all four
 pub data CellState : Type 0 where
@@ -30,6 +29,10 @@ state_of false = Mixed
 -- a row that was never written
 abbrev pub never_written : Row
 never_written = record { round = 0; known = true; first = 0; end = 0 }
+
+-- what a row holds in a round
+abbrev pub held_row : ℕ → Bool → ℕ → ℕ → Row
+held_row round known first end = record { round = round; known = known; first = first; end = end }
 
 -- a row that holds no cell in a round: what it holds begins and ends at a place
 abbrev pub holds_none : ℕ → ℕ → Row
@@ -63,41 +66,90 @@ pub length_rows : (w rows : ℕ) (states : ℕ → CellState) (blank : HalfCell)
 length_rows w rows states blank gs ks bs vs =
     length-map-range_with_len (cell_at states blank gs ks bs vs) 0 (w * rows)
 
+-- What a grid of planes is made of. A plane has a byte for each cell: the glyph, FFh where it is known, the bits of
+-- the attribute that are known, and its value.
+pub record Planes : Type 0 where
+  pub width : ℕ
+  pub rows : ℕ
+  pub blank : HalfCell
+  pub round : ℕ
+  pub held : List Row
+  pub glyphs : List ℕ
+  pub glyphs_known : List ℕ
+  pub bits_known : List ℕ
+  pub values : List ℕ
+  pub some_width : 1 ≤ width
+  pub indexed : width * rows < 2 ^ 64
+  pub whole_held : length held ≡ rows
+  pub no_later_round : All (λ (row : Row). row.round ≤ round) held
+  pub whole_glyphs : length glyphs ≡ width * rows
+  pub whole_glyphs_known : length glyphs_known ≡ width * rows
+  pub whole_bits_known : length bits_known ≡ width * rows
+  pub whole_values : length values ≡ width * rows
+
 -- the states of a grid's cells
-abbrev pub states_of : PlaneGrid → ℕ → CellState
-states_of g = state_at g.width g.round g.held.items
+abbrev pub states_of : Planes → ℕ → CellState
+states_of g = state_at g.width g.round g.held
 
 -- all cells of a grid
-abbrev pub cells_of_grid : PlaneGrid → List HalfCell
+abbrev pub cells_of_grid : Planes → List HalfCell
 cells_of_grid g =
-    cells_of_rows g.width g.rows (states_of g) g.blank g.glyphs.items g.glyphs_known g.bits_known
-    g.values.items
+    cells_of_rows g.width g.rows (states_of g) g.blank g.glyphs g.glyphs_known g.bits_known
+    g.values
 
 -- cell i of a grid
-abbrev pub cell_in_grid : PlaneGrid → ℕ → HalfCell
-cell_in_grid g = cell_at (states_of g) g.blank g.glyphs.items g.glyphs_known g.bits_known g.values.items
+abbrev pub cell_in_grid : Planes → ℕ → HalfCell
+cell_in_grid g = cell_at (states_of g) g.blank g.glyphs g.glyphs_known g.bits_known g.values
 
 -- a cell for each row and column of a grid
-pub length_grid : (g : PlaneGrid) → length (cells_of_grid g) ≡ g.width * g.rows
+pub length_grid : (g : Planes) → length (cells_of_grid g) ≡ g.width * g.rows
 length_grid g =
-    length_rows g.width g.rows (states_of g) g.blank g.glyphs.items g.glyphs_known g.bits_known g.values.items
+    length_rows g.width g.rows (states_of g) g.blank g.glyphs g.glyphs_known g.bits_known g.values
 
 -- both grids have the same cells in the same rows
-pub record ShowsSame (old new : PlaneGrid) : Type 0 where
+pub record ShowsSame (old new : Planes) : Type 0 where
   pub cells : cells_of_grid new ≡ cells_of_grid old
   pub width : new.width ≡ old.width
   pub rows : new.rows ≡ old.rows
 
 -- the grids differ in bytes of the planes alone
-pub record SameRows (old new : PlaneGrid) : Type 0 where
+pub record SameRows (old new : Planes) : Type 0 where
   pub held : new.held ≡ old.held
   pub round : new.round ≡ old.round
   pub blank : new.blank ≡ old.blank
   pub width : new.width ≡ old.width
   pub rows : new.rows ≡ old.rows
 
+-- the bytes of the glyphs and the values are the same
+pub record SameShown (old new : Planes) : Type 0 where
+  pub glyphs : new.glyphs ≡ old.glyphs
+  pub values : new.values ≡ old.values
+
+-- the bytes of what is known are the same
+pub record SameKnown (old new : Planes) : Type 0 where
+  pub glyphs_known : new.glyphs_known ≡ old.glyphs_known
+  pub bits_known : new.bits_known ≡ old.bits_known
+
+-- only what one row holds differs
+pub record HasRow (old new : Planes) (i : ℕ) (row : Row) : Type 0 where
+  pub held : new.held ≡ set old.held i row
+  pub round : new.round ≡ old.round
+  pub blank : new.blank ≡ old.blank
+  pub width : new.width ≡ old.width
+  pub rows : new.rows ≡ old.rows
+  pub shown : SameShown old new
+  pub known : SameKnown old new
+
+-- all is the same but for the round and the blank
+pub record BeginsRound (old new : Planes) (r : ℕ) (cell : HalfCell) : Type 0 where
+  pub held : new.held ≡ old.held
+  pub round : new.round ≡ r
+  pub blank : new.blank ≡ cell
+  pub width : new.width ≡ old.width
+  pub rows : new.rows ≡ old.rows
+
 -- this is what a row of the grid holds
-pub record IsHeldRow (g : PlaneGrid) (row : ℕ) (held : Row) : Type 0 where
+pub record IsHeldRow (g : Planes) (row : ℕ) (held : Row) : Type 0 where
   pub round : held.round ≡ g.round
   pub start : row * g.width ≤ held.first
   pub ordered : held.first ≤ held.end
@@ -107,7 +159,7 @@ pub record IsHeldRow (g : PlaneGrid) (row : ℕ) (held : Row) : Type 0 where
   pub after : (i : ℕ) → held.end ≤ i → i < row * g.width + g.width → states_of g i ≡ Stale
 
 -- this part of n cells side by side from cell `from` on is copied
-abbrev pub IsCopied : (HalfCell → ℕ) → PlaneGrid → ℕ → ℕ → List ℕ → Type 0
+abbrev pub IsCopied : (HalfCell → ℕ) → Planes → ℕ → ℕ → List ℕ → Type 0
 IsCopied part g from n copied = (k : ℕ) → k < n → slice_index copied k ≡ part (cell_in_grid g (from + k))
 
 -- of the cells from `from` up to and without `to` each is known
@@ -121,26 +173,26 @@ IsFirstUnknown cell from to result =
     (λ i. (from ≤ i) × (i < to) × AreKnownCells cell from i × IsTrue (is_unknown (cell i)))
 
 -- the four bytes of cell i are the same in both grids
-pub record SameBytes (old new : PlaneGrid) (i : ℕ) : Type 0 where
-  pub glyph : slice_index new.glyphs.items i ≡ slice_index old.glyphs.items i
+pub record SameBytes (old new : Planes) (i : ℕ) : Type 0 where
+  pub glyph : slice_index new.glyphs i ≡ slice_index old.glyphs i
   pub glyph_known : slice_index new.glyphs_known i ≡ slice_index old.glyphs_known i
   pub bits_known : slice_index new.bits_known i ≡ slice_index old.bits_known i
-  pub value : slice_index new.values.items i ≡ slice_index old.values.items i
+  pub value : slice_index new.values i ≡ slice_index old.values i
 
 -- the cell that the bytes of cell i stand for in this state
-abbrev pub byte_cell : CellState → PlaneGrid → ℕ → HalfCell
+abbrev pub byte_cell : CellState → Planes → ℕ → HalfCell
 byte_cell state g i =
-    row_cell state g.blank (slice_index g.glyphs.items i) (slice_index g.glyphs_known i)
-    (slice_index g.bits_known i) (slice_index g.values.items i)
+    row_cell state g.blank (slice_index g.glyphs i) (slice_index g.glyphs_known i)
+    (slice_index g.bits_known i) (slice_index g.values i)
 
 -- from `from` up to and without `to` the bytes of each cell stand for the blank in this state, and the others are as
 -- they were
-pub record HasBlanks (state : CellState) (old new : PlaneGrid) (from to : ℕ) : Type 0 where
+pub record HasBlanks (state : CellState) (old new : Planes) (from to : ℕ) : Type 0 where
   pub inside : (i : ℕ) → from ≤ i → i < to → byte_cell state new i ≡ new.blank
   pub outside : (i : ℕ) → (i < from) ⊎ (to ≤ i) → SameBytes old new i
 
 -- the bytes of the cells that are held stand for the same cells now, by two planes or by four
-pub record IsMarked (held : Row) (known : Bool) (old new : PlaneGrid) : Type 0 where
+pub record IsMarked (held : Row) (known : Bool) (old new : Planes) : Type 0 where
   pub inside : (i : ℕ) → held.first ≤ i → i < held.end
       → byte_cell (state_of known) new i ≡ byte_cell (state_of held.known) old i
   pub outside : (i : ℕ) → (i < held.first) ⊎ (held.end ≤ i) → SameBytes old new i

@@ -1,11 +1,10 @@
 //! A plane of bytes whose memory is not touched before the first write.
 
-ghost use Rattle.std.specs.Prelude.{◌≡◌, ◌-◌, ◌<◌, ◌≤◌, [], length, replicate, slice_index, slice_range};
+ghost use Rattle.std.specs.Prelude.{◌≡◌, ◌<◌, ◌≤◌, [], length, replicate, slice_index, slice_range};
 ghost use Rattle.std.specs.Prelude.{vec_capacity, IfOk, MatchOption};
 ghost use Rattle.ans_model.specs.Screen.Step.{filled};
-ghost use Rattle.ans_screen.specs.CellPlanes.{IsFirstGap};
 
-use crate::planes::{fill_plane, first_gap};
+use crate::planes::fill_plane;
 use std::alloc::{AllocError, Global};
 use std::marker::Model;
 
@@ -85,25 +84,5 @@ impl LazyPlane {
         } else {
             None
         }
-    }
-}
-
-/// The least `i` such that cell `from + i` stands below `to` and is not known.
-pub(crate) fn first_gap_from(
-    glyphs_known: &LazyPlane,
-    bits_known: &LazyPlane,
-    from: usize,
-    to: usize,
-) -> Option<usize>
-    requires ordered { from ≤ to }
-    requires glyphs_known { to ≤ length glyphs_known.now }
-    requires bits_known { to ≤ length bits_known.now }
-    ensures { IsFirstGap (slice_range glyphs_known.now from to) (slice_range bits_known.now from to)
-        (to - from) result }
-{
-    match (glyphs_known.part(from, to), bits_known.part(from, to)) {
-        (Some(glyphs_known), Some(bits_known)) => first_gap(glyphs_known, bits_known, to - from),
-        _ if from < to => Some(0),
-        _ => None,
     }
 }

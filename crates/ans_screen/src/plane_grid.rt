@@ -1,32 +1,21 @@
-//! A grid of byte planes whose rows are held only once they are written.
+//! A grid of byte planes that owns its memory.
 
-ghost use Rattle.std.specs.Prelude.{◌≡◌, ◌*◌, ◌^◌, ◌<◌, ◌≤◌, length};
+ghost use Rattle.std.specs.Prelude.{◌≡◌, ◌*◌, ◌^◌, ◌<◌, ◌≤◌, replicate, IfOk, length};
 ghost use Rattle.std.specs.List.{All};
+ghost use Rattle.ans_model.specs.Bytes.{most_columns};
+ghost use Rattle.ans_screen.specs.GridEdits.{most_rows};
+ghost use Rattle.ans_screen.specs.RowCells.{cells_of_grid, length_grid};
 
-mod cells;
-mod copies;
-mod rows;
-
+use crate::attr::Attr;
 use crate::cell::HalfCell;
+use crate::grid::Grid;
 use crate::lazy_plane::LazyPlane;
+use crate::planes::{fill_plane, write_planes};
+use crate::row_planes::{Row, RowPlanes, cells};
+use std::alloc::{AllocError, Global};
 
-/// A row as it was last written.
-#[derive(Clone, Copy)]
-pub(crate) struct Row {
-    /// The round of that write. In a later round the row holds no cell.
-    pub(crate) round: u32,
-    /// Whether all cells that are held are known: then only the planes of glyphs and of values count.
-    pub(crate) known: bool,
-    /// The first cell that is held, by its index in the grid.
-    pub(crate) first: usize,
-    /// The cell behind the last one that is held.
-    pub(crate) end: usize,
-}
-
-/// Cell `i` is byte `i` of each plane where its row holds it, and else the blank. A fill of the whole
-/// grid begins a new round, in which no row holds a cell, so it writes neither planes nor rows. A write
-/// to a row writes no more of it than what lies between the cells that are held, and of a known row
-/// half the planes are neither written nor read. The memory of that half is not touched before a row
+/// Cell `i` is byte `i` of each of four planes where its row holds it, and else the blank. A fill of
+/// the whole grid writes neither planes nor rows. The memory of two planes is not touched before a row
 /// is written of which not all is known.
 #[derive(Drop)]
 pub struct PlaneGrid {
@@ -49,4 +38,234 @@ pub struct PlaneGrid {
     ghost whole_glyphs_known: { length glyphs_known ≡ width * rows },
     ghost whole_bits_known: { length bits_known ≡ width * rows },
     ghost whole_values: { length values.items ≡ width * rows },
+}
+
+impl PlaneGrid {
+    /// A grid of equal cells in a round. A grid begins in round 1.
+    pub(crate) fn in_round(
+        alloc: Global,
+        width: usize,
+        rows: usize,
+        cell: HalfCell,
+        round: u32,
+    ) -> Result<Self, AllocError>
+        requires some_width { 1 ≤ width }
+        requires width { width ≤ most_columns }
+        requires rows { rows ≤ most_rows }
+        requires some_round { 1 ≤ round }
+        ensures width { IfOk result (λ g. g.width ≡ width) }
+        ensures rows { IfOk result (λ g. g.rows ≡ rows) }
+        ensures cells { IfOk result (λ g. cells_of_grid (⟦<PlaneGrid as RowPlanes>⟧.planes_of g) ≡ replicate (width * rows) cell) }
+    {
+        let count = width * rows;
+        let never = Row {
+            round: 0,
+            known: true,
+            first: 0,
+            end: 0,
+        };
+        let held = vec![in alloc; never; rows]?;
+        let glyphs = vec![in alloc; 0x00; count]?;
+        let glyphs_known = LazyPlane::new(alloc, count)?;
+        let bits_known = LazyPlane::new(alloc, count)?;
+        let values = vec![in alloc; 0x00; count]?;
+        Ok(PlaneGrid {
+            width,
+            rows,
+            blank: cell,
+            round,
+            held,
+            glyphs,
+            glyphs_known,
+            bits_known,
+            values,
+        })
+    }
+}
+
+impl RowPlanes for PlaneGrid {
+    ghost planes_of = { λ g. record {
+      width = g.width;
+      rows = g.rows;
+      blank = g.blank;
+      round = g.round;
+      held = g.held.items;
+      glyphs = g.glyphs.items;
+      glyphs_known = g.glyphs_known;
+      bits_known = g.bits_known;
+      values = g.values.items;
+      some_width = g.some_width;
+      indexed = g.indexed;
+      whole_held = g.whole_held;
+      no_later_round = g.no_later_round;
+      whole_glyphs = g.whole_glyphs;
+      whole_glyphs_known = g.whole_glyphs_known;
+      whole_bits_known = g.whole_bits_known;
+      whole_values = g.whole_values;
+    } };
+
+    #[inline(always)]
+    fn width(&self) -> usize {
+        self.width
+    }
+
+    #[inline(always)]
+    fn rows(&self) -> usize {
+        self.rows
+    }
+
+    #[inline(always)]
+    fn blank(&self) -> HalfCell {
+        self.blank
+    }
+
+    #[inline(always)]
+    fn round(&self) -> u32 {
+        self.round
+    }
+
+    #[inline(always)]
+    fn row(&self, row: usize) -> Row {
+        self.held[row]
+    }
+
+    #[inline(always)]
+    fn hold(&mut self, row: usize, known: bool, first: usize, end: usize) {
+        self.held[row] = Row {
+            round: self.round,
+            known,
+            first,
+            end,
+        };
+    }
+
+    #[cold]
+    #[inline(never)]
+    fn set_back(&mut self) {
+        self.held.fill(Row {
+            round: 0,
+            known: true,
+            first: 0,
+            end: 0,
+        });
+        self.round = 0;
+    }
+
+    #[inline(always)]
+    fn begin_round(&mut self, round: u32, blank: HalfCell) {
+        self.round = round;
+        self.blank = blank;
+    }
+
+    #[inline(always)]
+    fn shown(&self, i: usize) -> (u8, u8) {
+        (self.glyphs[i], self.values[i])
+    }
+
+    fn known(&self, i: usize) -> (u8, u8) {
+        (self.glyphs_known.byte(i), self.bits_known.byte(i))
+    }
+
+    fn glyphs(&self, from: usize, to: usize) -> &[u8] {
+        &self.glyphs[from..to]
+    }
+
+    fn values(&self, from: usize, to: usize) -> &[u8] {
+        &self.values[from..to]
+    }
+
+    fn glyphs_known(&self, from: usize, to: usize) -> Option<&[u8]> {
+        self.glyphs_known.part(from, to)
+    }
+
+    fn bits_known(&self, from: usize, to: usize) -> Option<&[u8]> {
+        self.bits_known.part(from, to)
+    }
+
+    #[inline(always)]
+    fn fill_shown(&mut self, from: usize, to: usize, glyph: u8, value: u8) {
+        fill_plane(&mut self.glyphs, from, to, glyph);
+        fill_plane(&mut self.values, from, to, value);
+    }
+
+    #[inline(always)]
+    fn fill_known(&mut self, from: usize, to: usize, glyph_known: u8, bits_known: u8) {
+        self.glyphs_known.fill(from, to, glyph_known);
+        self.bits_known.fill(from, to, bits_known);
+    }
+
+    #[inline(always)]
+    fn write_shown(&mut self, from: usize, bytes: &[u8], count: usize, value: u8) {
+        write_planes(
+            &mut self.glyphs,
+            &mut self.values,
+            from,
+            bytes,
+            count,
+            value,
+        );
+    }
+}
+
+impl Grid for PlaneGrid {
+    ghost width_of = { λ g. g.width };
+
+    ghost rows_of = { λ g. g.rows };
+
+    ghost cells_of = { λ g. cells_of_grid (⟦<PlaneGrid as RowPlanes>⟧.planes_of g) };
+
+    fn new(alloc: Global, width: usize, rows: usize, cell: HalfCell) -> Result<Self, AllocError> {
+        PlaneGrid::in_round(alloc, width, rows, cell, 1)
+    }
+
+    fn width(&self) -> usize {
+        RowPlanes::width(self)
+    }
+
+    fn rows(&self) -> usize {
+        RowPlanes::rows(self)
+    }
+
+    fn get(&self, i: usize) -> HalfCell {
+        cells::get(self, i)
+    }
+
+    fn put(&mut self, i: usize, cell: HalfCell) {
+        cells::put(self, i, cell);
+    }
+
+    fn fill(&mut self, from: usize, to: usize, cell: HalfCell) {
+        cells::fill(self, from, to, cell);
+    }
+
+    fn first_unknown(&self, to: usize) -> Option<usize> {
+        cells::first_unknown(self, to)
+    }
+
+    #[inline(always)]
+    fn fill_row(&mut self, row: usize, from: usize, to: usize, cell: HalfCell) {
+        cells::fill_row(self, row, from, to, cell);
+    }
+
+    #[inline(always)]
+    fn clear(&mut self, cell: HalfCell) {
+        cells::clear(self, cell);
+    }
+
+    #[inline(always)]
+    fn write_run(&mut self, row: usize, column: usize, bytes: &[u8], count: usize, attr: Attr) {
+        cells::write_run(self, row, column, bytes, count, attr);
+    }
+
+    fn copy_glyphs(&self, row: usize, glyphs: &mut [u8]) {
+        cells::copy_glyphs(self, row, glyphs);
+    }
+
+    fn copy_attributes(&self, row: usize, values: &mut [u8]) {
+        cells::copy_attributes(self, row, values);
+    }
+
+    ghost whole = { λ g. length_grid (⟦<PlaneGrid as RowPlanes>⟧.planes_of g) };
+
+    ghost indexed = { λ g. g.indexed };
 }

@@ -107,11 +107,11 @@ fn blend_at(bytes: &mut [u8], from: usize, new: u8x16, count: usize)
 /// Makes the bytes from `from` up to and without `to` this one. A short fill is a blend, since a
 /// call that fills memory costs more than it.
 #[inline(always)]
-pub(crate) fn fill_plane(plane: &mut Vec<u8>, from: usize, to: usize, byte: u8)
+pub(crate) fn fill_bytes(plane: &mut [u8], from: usize, to: usize, byte: u8)
     requires ordered { from ≤ to }
-    requires within { to ≤ length plane.old.items }
-    ensures items { plane.new.items ≡ filled plane.old.items from to byte }
-    ensures len { vec_len plane.new ≡ vec_len plane.old }
+    requires within { to ≤ length plane.old }
+    ensures items { plane.new ≡ filled plane.old from to byte }
+    ensures len { length plane.new ≡ length plane.old }
 {
     if to - from <= 16 && plane.len() - from >= 16 {
         blend_at(plane, from, u8x16::splat(byte), to - from);
@@ -120,9 +120,48 @@ pub(crate) fn fill_plane(plane: &mut Vec<u8>, from: usize, to: usize, byte: u8)
     }
 }
 
+/// The same of a vector.
+#[inline(always)]
+pub(crate) fn fill_plane(plane: &mut Vec<u8>, from: usize, to: usize, byte: u8)
+    requires ordered { from ≤ to }
+    requires within { to ≤ length plane.old.items }
+    ensures items { plane.new.items ≡ filled plane.old.items from to byte }
+    ensures len { vec_len plane.new ≡ vec_len plane.old }
+{
+    fill_bytes(plane, from, to, byte);
+}
+
 /// Writes the first `count` bytes side by side to the glyphs from byte `from` on, and a value to the
 /// same places of the values. A short run is two blends, since a call that copies memory costs more
 /// than they do.
+#[inline(always)]
+pub(crate) fn write_bytes(
+    glyphs: &mut [u8],
+    values: &mut [u8],
+    from: usize,
+    bytes: &[u8],
+    count: usize,
+    value: u8,
+)
+    requires count { count ≤ length bytes.now }
+    requires within { from + count ≤ length glyphs.old }
+    requires level { length values.old ≡ length glyphs.old }
+    ensures glyphs { glyphs.new ≡ written glyphs.old from (take count bytes.now) }
+    ensures glyphs_len { length glyphs.new ≡ length glyphs.old }
+    ensures values { values.new ≡ filled values.old from (from + count) value }
+    ensures values_len { length values.new ≡ length values.old }
+{
+    // in one branch, so that the compiler can make one mask for both
+    if count <= 16 && bytes.len() >= 16 && glyphs.len() - from >= 16 {
+        blend_at(glyphs, from, u8x16::from_slice(bytes), count);
+        blend_at(values, from, u8x16::splat(value), count);
+    } else {
+        glyphs[from..from + count].copy_from_slice(&bytes[..count]);
+        values[from..from + count].fill(value);
+    }
+}
+
+/// The same of vectors.
 #[inline(always)]
 pub(crate) fn write_planes(
     glyphs: &mut Vec<u8>,
@@ -140,14 +179,7 @@ pub(crate) fn write_planes(
     ensures values { values.new.items ≡ filled values.old.items from (from + count) value }
     ensures values_len { vec_len values.new ≡ vec_len values.old }
 {
-    // in one branch, so that the compiler can make one mask for both
-    if count <= 16 && bytes.len() >= 16 && glyphs.len() - from >= 16 {
-        blend_at(glyphs, from, u8x16::from_slice(bytes), count);
-        blend_at(values, from, u8x16::splat(value), count);
-    } else {
-        glyphs[from..from + count].copy_from_slice(&bytes[..count]);
-        values[from..from + count].fill(value);
-    }
+    write_bytes(glyphs, values, from, bytes, count, value);
 }
 
 #[inline(always)]

@@ -2,7 +2,7 @@
 
 ghost use Rattle.std.specs.Prelude.{◌≡◌, ◌+◌, ◌<◌, ◌≤◌, length};
 
-use crate::{Attr, Grid, HalfCell, PlainGrid, PlaneGrid};
+use crate::{Attr, Grid, HalfCell, LentGrid, LentRow, PlainGrid, PlaneGrid, Screen};
 use std::alloc::Global;
 use std::process::Abort;
 use std::test::Fail;
@@ -94,15 +94,27 @@ fn compare_grids(
 {
     let mut planes = PlaneGrid::new(alloc, 65, 1, HalfCell::known(b'.', 0x07))?;
     let mut plain = PlainGrid::new(alloc, 65, 1, HalfCell::known(b'.', 0x07))?;
-    planes.put(place, *unknown);
-    plain.put(place, *unknown);
+    Grid::put(&mut planes, place, *unknown);
+    Grid::put(&mut plain, place, *unknown);
     let expected = if place < front { Some(place) } else { None };
-    assert_eq!(rt; plain.first_unknown(front), expected, "{place} of {front}");
-    assert_eq!(rt; planes.first_unknown(front), expected, "{place} of {front}");
-    planes.fill(0, front, HalfCell::known(b'x', 0x1F));
-    plain.fill(0, front, HalfCell::known(b'x', 0x1F));
+    assert_eq!(rt;
+        Grid::first_unknown(&plain, front),
+        expected,
+        "{place} of {front}"
+    );
+    assert_eq!(rt;
+        Grid::first_unknown(&planes, front),
+        expected,
+        "{place} of {front}"
+    );
+    Grid::fill(&mut planes, 0, front, HalfCell::known(b'x', 0x1F));
+    Grid::fill(&mut plain, 0, front, HalfCell::known(b'x', 0x1F));
     for i in 0..65 {
-        assert_eq!(rt; planes.get(i), plain.get(i), "{i}, {place} of {front}");
+        assert_eq!(rt;
+            Grid::get(&planes, i),
+            Grid::get(&plain, i),
+            "{i}, {place} of {front}"
+        );
     }
     Ok(())
 }
@@ -178,7 +190,7 @@ enum Edit {
 }
 
 /// Makes the edit, and says whether it lies within the grid.
-fn apply<G: Grid>(grid: &mut G, edit: &Edit) -> bool
+fn apply<G: Screen>(grid: &mut G, edit: &Edit) -> bool
     requires width { G.width_of grid.old ≡ 33 }
     requires rows { G.rows_of grid.old ≡ 3 }
     ensures width { G.width_of grid.new ≡ 33 }
@@ -216,7 +228,7 @@ fn apply<G: Grid>(grid: &mut G, edit: &Edit) -> bool
 }
 
 /// A row of 33 cells, copied from both grids.
-fn compare_copies<A: Grid, B: Grid>(rt: &impl Abort, grid: &A, model: &B, row: usize)
+fn compare_copies<A: Screen, B: Screen>(rt: &impl Abort, grid: &A, model: &B, row: usize)
     requires grid_width { A.width_of grid.now ≡ 33 }
     requires grid_row { row < A.rows_of grid.now }
     requires model_width { B.width_of model.now ≡ 33 }
@@ -233,7 +245,7 @@ fn compare_copies<A: Grid, B: Grid>(rt: &impl Abort, grid: &A, model: &B, row: u
 }
 
 /// All that two grids answer.
-fn compare_answers<A: Grid, B: Grid>(rt: &impl Abort, grid: &A, model: &B)
+fn compare_answers<A: Screen, B: Screen>(rt: &impl Abort, grid: &A, model: &B)
     requires grid_width { A.width_of grid.now ≡ 33 }
     requires grid_rows { A.rows_of grid.now ≡ 3 }
     requires model_width { B.width_of model.now ≡ 33 }
@@ -250,7 +262,7 @@ fn compare_answers<A: Grid, B: Grid>(rt: &impl Abort, grid: &A, model: &B)
 }
 
 /// The same edits of two grids, which answer the same after each.
-fn edit_both<A: Grid, B: Grid, const N: usize>(
+fn edit_both<A: Screen, B: Screen, const N: usize>(
     rt: &impl Abort,
     grid: &mut A,
     model: &mut B,
@@ -269,7 +281,18 @@ fn edit_both<A: Grid, B: Grid, const N: usize>(
     }
 }
 
-/// The same, of a plain grid and two grids of planes, of which one is near its last round.
+/// A record that holds what no grid wrote.
+fn used_row() -> LentRow {
+    LentRow {
+        round: 1,
+        known: 7,
+        first: 0,
+        end: 99,
+    }
+}
+
+/// The same, of a plain grid, two grids of planes, of which one is near its last round, and one on
+/// memory that is lent.
 fn compare_edits<const N: usize>(
     rt: &impl Abort,
     alloc: Global,
@@ -280,6 +303,13 @@ fn compare_edits<const N: usize>(
         let mut planes = PlaneGrid::in_round(alloc, 33, 3, cell_of(start), round)?;
         let mut plain = PlainGrid::new(alloc, 33, 3, cell_of(start))?;
         edit_both(rt, &mut planes, &mut plain, edits);
+    }
+    let mut held = [used_row(); 4];
+    let mut bytes = [0xEE; 400];
+    let mut plain = PlainGrid::new(alloc, 33, 3, cell_of(start))?;
+    match LentGrid::on(&mut held, &mut bytes, 33, 3, cell_of(start)) {
+        Some(mut lent) => edit_both(rt, &mut lent, &mut plain, edits),
+        None => panic!(rt; "no grid on memory that is large enough"),
     }
     Ok(())
 }
@@ -390,4 +420,32 @@ fn parts_of_rows_are_held(rt: HostRuntime) -> Result<(), Fail> {
         write_parts(&rt, rt.alloc(), half, half)?;
     }
     Ok(())
+}
+
+#[test]
+fn memory_too_small_is_refused(rt: HostRuntime) {
+    let rows = [
+        (33, 3, 3, 396, true),
+        (33, 3, 2, 396, false),
+        (33, 3, 3, 395, false),
+        (0, 3, 3, 396, false),
+        (33, 0, 3, 396, false),
+        (1025, 1, 3, 396, false),
+        (1, 8194, 3, 396, false),
+        (99, 1, 1, 396, true),
+    ];
+    let mut held = [used_row(); 3];
+    let mut bytes = [0xEE; 396];
+    for (width, lines, records, count, is_grid) in rows {
+        assert!(rt; records <= 3 && count <= 396);
+        let cell = HalfCell::known(b'x', 0x1F);
+        let grid = LentGrid::on(
+            &mut held[..records],
+            &mut bytes[..count],
+            width,
+            lines,
+            cell,
+        );
+        assert_eq!(rt; grid.is_some(), is_grid, "{width} x {lines}");
+    }
 }

@@ -4,5 +4,5 @@ use Rattle.ans_screen.proofs.tests.edit_both.Given as goal
 -- both grids have 3 rows of 33 cells
 abbrev pub invariant-loop-edit : goal.invariant-loop-edit
 invariant-loop-edit g l =
-    (g.A.Grid.width_of l.grid ≡ 33) × (g.A.Grid.rows_of l.grid ≡ 3)
-    × (g.B.Grid.width_of l.model ≡ 33) × (g.B.Grid.rows_of l.model ≡ 3)
+    (g.A.Screen.width_of l.grid ≡ 33) × (g.A.Screen.rows_of l.grid ≡ 3)
+    × (g.B.Screen.width_of l.model ≡ 33) × (g.B.Screen.rows_of l.model ≡ 3)

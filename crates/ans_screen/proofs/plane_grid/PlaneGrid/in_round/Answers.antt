@@ -2,7 +2,7 @@ use Rattle.std.proofs.Common.{rules, ◌≡◌, ◌<◌, replicate, arith}
 use Rattle.std.proofs.lemmas.List.{length-replicate}
 use Rattle.std.proofs.lemmas.List.Elements.{All-replicate}
 use Rattle.ans_screen.specs.RowCells.{never_written}
-use Rattle.ans_screen.specs.declared.plane_grid.Row.{Row}
+use Rattle.ans_screen.specs.declared.row_planes.Row.{Row}
 use Rattle.ans_screen.proofs.RowEdits.{all_blank}
 use Rattle.ans_screen.proofs.plane_grid.PlaneGrid.in_round.Goals as goal
 

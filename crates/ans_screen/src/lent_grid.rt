@@ -1,0 +1,269 @@
+//! A grid of byte planes on memory that its owner lends.
+
+ghost use Rattle.std.specs.Prelude.{◌≡◌, ◌↔◌, ◌+◌, ◌*◌, ◌^◌, ◌<◌, ◌≤◌, replicate, length, map, IfSome, IsTrue, is_some};
+ghost use Rattle.std.specs.List.{All};
+ghost use Rattle.ans_screen.specs.LentRows.{row_of, rows_whole, rows_of_rounds, HasRoom};
+ghost use Rattle.ans_screen.specs.RowCells.{never_written, cells_of_grid, length_grid};
+
+use crate::attr::Attr;
+use crate::cell::HalfCell;
+use crate::lent_row::LentRow;
+use crate::planes::{fill_bytes, write_bytes};
+use crate::row_planes::{Row, RowPlanes, cells};
+use crate::screen::Screen;
+
+/// Cell `i` is byte `i` of each of four planes where its row holds it, and else the blank. A fill of
+/// the whole grid writes neither planes nor rows.
+#[derive(Drop)]
+pub struct LentGrid<'a> {
+    width: usize,
+    rows: usize,
+    blank: HalfCell,
+    round: u32,
+    held: &'a mut [LentRow],
+    glyphs: &'a mut [u8],
+    // FFh where the glyph is known, else 00h
+    glyphs_known: &'a mut [u8],
+    // the bits of the attribute that are known
+    bits_known: &'a mut [u8],
+    values: &'a mut [u8],
+    ghost some_width: { 1 ≤ width },
+    ghost indexed: { width * rows < 2 ^ 64 },
+    ghost whole_held: { length held.now ≡ rows },
+    ghost no_later_round: { All (λ row. row.round ≤ round) held.now },
+    ghost whole_glyphs: { length glyphs.now ≡ width * rows },
+    ghost whole_glyphs_known: { length glyphs_known.now ≡ width * rows },
+    ghost whole_bits_known: { length bits_known.now ≡ width * rows },
+    ghost whole_values: { length values.now ≡ width * rows },
+}
+
+impl<'a> LentGrid<'a> {
+    /// A grid of equal cells on memory that is lent: a record for each row, and four bytes for each
+    /// cell. It is `None` where the width is not 1 to 1024 columns, where there are not 1 to 8193 rows,
+    /// or where fewer than `rows` records or fewer than `4 * width * rows` bytes are lent. What the
+    /// memory held is gone; more of it than is needed stays as it is. No memory is asked for.
+    pub fn on(
+        held: &'a mut [LentRow],
+        bytes: &'a mut [u8],
+        width: usize,
+        rows: usize,
+        cell: HalfCell,
+    ) -> Option<LentGrid<'a>>
+        ensures room { IsTrue (is_some result) ↔ HasRoom width rows (length held.old) (length bytes.old) }
+        ensures width { IfSome result (λ g. ⟦<LentGrid<'a> as Screen>⟧.width_of g ≡ width) }
+        ensures rows { IfSome result (λ g. ⟦<LentGrid<'a> as Screen>⟧.rows_of g ≡ rows) }
+        ensures cells { IfSome result (λ g. ⟦<LentGrid<'a> as Screen>⟧.cells_of g ≡ replicate (width * rows) cell) }
+    {
+        if width < 1 || width > 1024 || rows < 1 || rows > 8193 {
+            return None;
+        }
+        if held.len() < rows || bytes.len() < 4 * (width * rows) {
+            return None;
+        }
+        Some(LentGrid::cut(held, bytes, width, rows, cell))
+    }
+
+    /// The same, where there is room.
+    fn cut(
+        held: &'a mut [LentRow],
+        bytes: &'a mut [u8],
+        width: usize,
+        rows: usize,
+        cell: HalfCell,
+    ) -> LentGrid<'a>
+        requires { HasRoom width rows (length held.old) (length bytes.old) }
+        ensures width { result.width ≡ width }
+        ensures rows { result.rows ≡ rows }
+        ensures cells { cells_of_grid (⟦<LentGrid<'a> as RowPlanes>⟧.planes_of result) ≡ replicate (width * rows) cell }
+    {
+        let count = width * rows;
+        let (held, _) = held.split_at_mut(rows);
+        let (glyphs, bytes) = bytes.split_at_mut(count);
+        let (glyphs_known, bytes) = bytes.split_at_mut(count);
+        let (bits_known, bytes) = bytes.split_at_mut(count);
+        let (values, _) = bytes.split_at_mut(count);
+        held.fill(LentRow::new());
+        LentGrid {
+            width,
+            rows,
+            blank: cell,
+            round: 1,
+            held,
+            glyphs,
+            glyphs_known,
+            bits_known,
+            values,
+        }
+    }
+}
+
+impl<'a> RowPlanes for LentGrid<'a> {
+    ghost planes_of = { λ g. record {
+      width = g.width;
+      rows = g.rows;
+      blank = g.blank;
+      round = g.round;
+      held = map row_of g.held.now;
+      glyphs = g.glyphs.now;
+      glyphs_known = g.glyphs_known.now;
+      bits_known = g.bits_known.now;
+      values = g.values.now;
+      some_width = g.some_width;
+      indexed = g.indexed;
+      whole_held = rows_whole g.held.now g.rows g.whole_held;
+      no_later_round = rows_of_rounds g.held.now g.round g.no_later_round;
+      whole_glyphs = g.whole_glyphs;
+      whole_glyphs_known = g.whole_glyphs_known;
+      whole_bits_known = g.whole_bits_known;
+      whole_values = g.whole_values;
+    } };
+
+    #[inline(always)]
+    fn width(&self) -> usize {
+        self.width
+    }
+
+    #[inline(always)]
+    fn rows(&self) -> usize {
+        self.rows
+    }
+
+    #[inline(always)]
+    fn blank(&self) -> HalfCell {
+        self.blank
+    }
+
+    #[inline(always)]
+    fn round(&self) -> u32 {
+        self.round
+    }
+
+    #[inline(always)]
+    fn row(&self, row: usize) -> Row {
+        self.held[row].row()
+    }
+
+    #[inline(always)]
+    fn hold(&mut self, row: usize, known: bool, first: usize, end: usize) {
+        self.held[row] = LentRow::of(Row {
+            round: self.round,
+            known,
+            first,
+            end,
+        });
+    }
+
+    #[cold]
+    #[inline(never)]
+    fn set_back(&mut self) {
+        self.held.fill(LentRow::new());
+        self.round = 0;
+    }
+
+    #[inline(always)]
+    fn begin_round(&mut self, round: u32, blank: HalfCell) {
+        self.round = round;
+        self.blank = blank;
+    }
+
+    #[inline(always)]
+    fn shown(&self, i: usize) -> (u8, u8) {
+        (self.glyphs[i], self.values[i])
+    }
+
+    fn known(&self, i: usize) -> (u8, u8) {
+        (self.glyphs_known[i], self.bits_known[i])
+    }
+
+    fn glyphs(&self, from: usize, to: usize) -> &[u8] {
+        &self.glyphs[from..to]
+    }
+
+    fn values(&self, from: usize, to: usize) -> &[u8] {
+        &self.values[from..to]
+    }
+
+    fn glyphs_known(&self, from: usize, to: usize) -> Option<&[u8]> {
+        Some(&self.glyphs_known[from..to])
+    }
+
+    fn bits_known(&self, from: usize, to: usize) -> Option<&[u8]> {
+        Some(&self.bits_known[from..to])
+    }
+
+    #[inline(always)]
+    fn fill_shown(&mut self, from: usize, to: usize, glyph: u8, value: u8) {
+        fill_bytes(self.glyphs, from, to, glyph);
+        fill_bytes(self.values, from, to, value);
+    }
+
+    #[inline(always)]
+    fn fill_known(&mut self, from: usize, to: usize, glyph_known: u8, bits_known: u8) {
+        fill_bytes(self.glyphs_known, from, to, glyph_known);
+        fill_bytes(self.bits_known, from, to, bits_known);
+    }
+
+    #[inline(always)]
+    fn write_shown(&mut self, from: usize, bytes: &[u8], count: usize, value: u8) {
+        write_bytes(self.glyphs, self.values, from, bytes, count, value);
+    }
+}
+
+impl<'a> Screen for LentGrid<'a> {
+    ghost width_of = { λ g. g.width };
+
+    ghost rows_of = { λ g. g.rows };
+
+    ghost cells_of = { λ g. cells_of_grid (⟦<LentGrid<'a> as RowPlanes>⟧.planes_of g) };
+
+    fn width(&self) -> usize {
+        RowPlanes::width(self)
+    }
+
+    fn rows(&self) -> usize {
+        RowPlanes::rows(self)
+    }
+
+    fn get(&self, i: usize) -> HalfCell {
+        cells::get(self, i)
+    }
+
+    fn put(&mut self, i: usize, cell: HalfCell) {
+        cells::put(self, i, cell);
+    }
+
+    fn fill(&mut self, from: usize, to: usize, cell: HalfCell) {
+        cells::fill(self, from, to, cell);
+    }
+
+    fn first_unknown(&self, to: usize) -> Option<usize> {
+        cells::first_unknown(self, to)
+    }
+
+    #[inline(always)]
+    fn fill_row(&mut self, row: usize, from: usize, to: usize, cell: HalfCell) {
+        cells::fill_row(self, row, from, to, cell);
+    }
+
+    #[inline(always)]
+    fn clear(&mut self, cell: HalfCell) {
+        cells::clear(self, cell);
+    }
+
+    #[inline(always)]
+    fn write_run(&mut self, row: usize, column: usize, bytes: &[u8], count: usize, attr: Attr) {
+        cells::write_run(self, row, column, bytes, count, attr);
+    }
+
+    fn copy_glyphs(&self, row: usize, glyphs: &mut [u8]) {
+        cells::copy_glyphs(self, row, glyphs);
+    }
+
+    fn copy_attributes(&self, row: usize, values: &mut [u8]) {
+        cells::copy_attributes(self, row, values);
+    }
+
+    ghost whole = { λ g. length_grid (⟦<LentGrid<'a> as RowPlanes>⟧.planes_of g) };
+
+    ghost indexed = { λ g. g.indexed };
+}
