@@ -1,75 +1,10 @@
 //! From the words, over inputs in memory, to the ending and what is printed.
 
-ghost use Rattle.std.specs.Prelude.{⊤};
-
+use super::shelf::{Shelf, Stored, answer_once};
 use super::{HI_REPORT, plain_file};
-use ans_check::{Ending, Inputs, RunError, answer};
+use ans_check::{Ending, RunError, answer};
 use ans_report::Tried;
 use ans_samples::{FailingOnce, Failure, Narrow};
-use std::io;
-use std::process::Abort;
-
-/// One file, by its name, and standard input.
-#[derive(Clone, Copy)]
-struct Folder<'a> {
-    name: &'a str,
-    file: &'a [u8],
-    standard: &'a [u8],
-}
-
-impl<'a> Inputs for Folder<'a> {
-    type Reader = &'a [u8];
-
-    ghost is_file = { λ _ _ _. ⊤ };
-
-    ghost is_standard = { λ _ _. ⊤ };
-
-    ghost is_missing = { λ _ _. ⊤ };
-
-    fn file(self, name: &str) -> io::Result<&'a [u8]> {
-        if name == self.name {
-            Ok(self.file)
-        } else {
-            Err(io::Error::from(io::ErrorKind::NotFound))
-        }
-    }
-
-    fn standard(self) -> &'a [u8] {
-        self.standard
-    }
-}
-
-/// What became of some words.
-#[derive(Drop)]
-struct Answered {
-    ending: Ending,
-    output: Narrow,
-    errors: Narrow,
-}
-
-/// Answers words over a folder, on devices with this much room. Where memory was refused they are
-/// answered once more.
-fn answer_once(
-    rt: &(impl Abort + AllocGlobal),
-    words: &[&str],
-    folder: Folder<'_>,
-    rooms: (usize, usize),
-) -> Answered {
-    for _ in 0..2 {
-        let mut output = Tried::new(Narrow::new(rooms.0));
-        let mut errors = Tried::new(Narrow::new(rooms.1));
-        let ending = answer(rt.alloc(), words, folder, &mut output, &mut errors);
-        if ending != Ending::Run(Err(RunError::Memory)) && ending != Ending::UnreadableWords {
-            return Answered {
-                ending,
-                output: output.into_inner(),
-                errors: errors.into_inner(),
-            };
-        }
-        assert_eq!(rt; output.calls(), 0);
-    }
-    panic!(rt; "memory was refused twice");
-}
 
 const REFUSAL: &[u8] = b"verdict: refused\nat 3: F1 no SAUCE record\n";
 
@@ -106,21 +41,20 @@ static ANSWERS: [(&[&str], u8, &[u8], &[u8]); 8] = [
     ),
 ];
 
-/// A folder with this file alone, and no record on standard input.
-fn folder_of(file: &[u8]) -> Folder<'_> {
-    Folder {
-        name: "hi.ans",
-        file,
-        standard: b"abc",
+/// These files, and no record on standard input.
+fn shelf_of<'a>(files: &'a [(&'a str, Stored<'a>)]) -> Shelf<'a> {
+    Shelf {
+        files,
+        standard: Stored::Bytes(b"abc"),
     }
 }
 
 #[test]
 fn words_are_answered(rt: HostRuntime) {
     let file = plain_file(&rt, b"Hi", 2, 1);
-    let folder = folder_of(file.as_slice());
+    let files = [("hi.ans", Stored::Bytes(file.as_slice()))];
     for (words, status, output, errors) in &ANSWERS {
-        let answered = answer_once(&rt, words, folder, (4096, 4096));
+        let answered = answer_once(&rt, words, shelf_of(&files), (4096, 4096));
         assert_eq!(rt; answered.ending.status(), *status);
         assert_eq!(rt; answered.output.held(), *output);
         assert_eq!(rt; answered.errors.held(), *errors);
@@ -139,10 +73,9 @@ static HELP: [(&[&str], &[u8]); 2] = [
     ),
 ];
 
-const NOTHING: Folder<'_> = Folder {
-    name: "",
-    file: b"",
-    standard: b"",
+const NOTHING: Shelf<'_> = Shelf {
+    files: &[],
+    standard: Stored::Bytes(b""),
 };
 
 #[test]
@@ -195,10 +128,10 @@ fn rejected_words_are_told_on_the_errors(rt: HostRuntime) {
 #[test]
 fn an_output_that_fails_is_told(rt: HostRuntime) {
     let file = plain_file(&rt, b"Hi", 2, 1);
-    let folder = folder_of(file.as_slice());
+    let files = [("hi.ans", Stored::Bytes(file.as_slice()))];
     let words = ANSWERS[0].0;
     for room in 0..HI_REPORT.len() {
-        let answered = answer_once(&rt, words, folder, (room, 4096));
+        let answered = answer_once(&rt, words, shelf_of(&files), (room, 4096));
         assert!(rt; answered.ending == Ending::Run(Err(RunError::Write)));
         assert_eq!(rt; answered.output.held(), &HI_REPORT[..room]);
         let said: &[u8] = b"anscheck: cannot write the report\n";

@@ -1,122 +1,35 @@
 //! Tables of files in memory.
 
-ghost use Rattle.std.specs.Prelude.{⊤};
-
+use super::shelf::{Shelf, Stored, answer_on, answer_once, may_have_met_refusal};
 use super::{file_of, plain_file};
-use ans_check::{Ending, Inputs, RunError, answer};
-use ans_report::Tried;
-use ans_samples::Narrow;
-use std::io::{self, Read};
+use ans_check::{Ending, RunError};
+use ans_samples::{FailingOnce, Narrow};
 use std::process::Abort;
 
-/// What a file has.
-#[derive(Clone, Copy)]
-enum Stored<'a> {
-    Bytes(&'a [u8]),
-    /// Its reading fails.
-    Broken,
-}
-
-impl Read for Stored<'_> {
-    fn read(&mut self, buf: &mut [u8]) -> io::Result<usize> {
-        match self {
-            Stored::Bytes(bytes) => bytes.read(buf),
-            Stored::Broken => Err(io::Error::from(io::ErrorKind::Other)),
-        }
-    }
-}
-
-/// Files by their names, and standard input.
-#[derive(Clone, Copy)]
-struct Shelf<'a> {
-    files: &'a [(&'a str, Stored<'a>)],
-    standard: Stored<'a>,
-}
-
-impl<'a> Inputs for Shelf<'a> {
-    type Reader = Stored<'a>;
-
-    ghost is_file = { λ _ _ _. ⊤ };
-
-    ghost is_standard = { λ _ _. ⊤ };
-
-    ghost is_missing = { λ _ _. ⊤ };
-
-    fn file(self, name: &str) -> io::Result<Stored<'a>> {
-        for (held, stored) in self.files {
-            if *held == name {
-                return Ok(*stored);
-            }
-        }
-        Err(io::Error::from(io::ErrorKind::NotFound))
-    }
-
-    fn standard(self) -> Stored<'a> {
-        self.standard
-    }
-}
-
-/// What became of some words.
-#[derive(Drop)]
-struct Answered {
-    ending: Ending,
-    output: Narrow,
-    errors: Narrow,
-}
-
-/// Answers words over a shelf, on a device with this much room. Where memory was refused they are
-/// answered once more.
-fn answer_once(
-    rt: &(impl Abort + AllocGlobal),
-    words: &[&str],
-    shelf: Shelf<'_>,
-    room: usize,
-) -> Answered {
-    let mut output = Tried::new(Narrow::new(room));
-    let mut errors = Tried::new(Narrow::new(4096));
-    let ending = answer(rt.alloc(), words, shelf, &mut output, &mut errors);
-    let output = output.into_inner();
-    if ending == Ending::UnreadableWords
-        || ending == Ending::Run(Err(RunError::Memory))
-        || has_memory_row(output.held())
-    {
-        let mut output = Tried::new(Narrow::new(room));
-        let mut errors = Tried::new(Narrow::new(4096));
-        let ending = answer(rt.alloc(), words, shelf, &mut output, &mut errors);
-        return Answered {
-            ending,
-            output: output.into_inner(),
-            errors: errors.into_inner(),
-        };
-    }
-    Answered {
-        ending,
-        output,
-        errors: errors.into_inner(),
-    }
-}
-
-/// Whether memory ran out for a file.
-fn has_memory_row(text: &[u8]) -> bool {
-    let row = b"error\t\t\tout of memory\t";
-    let object = b"{\"fault\":\"out of memory\"";
-    text.windows(row.len())
-        .any(|window| window == row.as_slice())
-        || text
-            .windows(object.len())
-            .any(|window| window == object.as_slice())
-}
-
 /// Whether a text is these pieces, one after the other.
-fn is_made_of(text: &[u8], pieces: &[&str]) -> bool {
+pub(super) fn is_made_of(text: &[u8], pieces: &[&str]) -> bool {
+    text.len() == length_of(pieces) && is_front_of(text, pieces)
+}
+
+/// Whether a text is what these pieces, one after the other, begin with.
+fn is_front_of(text: &[u8], pieces: &[&str]) -> bool {
     let mut rest = text;
     for piece in pieces {
         match rest.strip_prefix(piece.as_bytes()) {
             Some(more) => rest = more,
-            None => return false,
+            None => return piece.as_bytes().starts_with(rest),
         }
     }
     rest.is_empty()
+}
+
+/// How long these pieces are together.
+fn length_of(pieces: &[&str]) -> usize {
+    let mut length = 0usize;
+    for piece in pieces {
+        length = length.saturating_add(piece.len());
+    }
+    length
 }
 
 /// Asserts what a table of a shelf writes and says, and its status.
@@ -128,7 +41,7 @@ fn expect_table(
     said: &str,
     status: u8,
 ) {
-    let answered = answer_once(rt, words, shelf, 4096);
+    let answered = answer_once(rt, words, shelf, (4096, 4096));
     assert!(rt; is_made_of(answered.output.held(), table));
     assert_eq!(rt; answered.errors.held(), said.as_bytes());
     assert_eq!(rt; answered.ending.status(), status);
@@ -146,24 +59,33 @@ macro_rules! error_row {
     };
 }
 
-const HI_ROW: &str =
+pub(super) const HI_ROW: &str =
     "pass\tcursor colours\tyes\t\t\t\t\t2\t1\t2\t\tno\t\t\t\t19960101\t\t\t\thi.ans\n";
 
-const LOW_ROW: &str = "refused\t\t\tF20\t3\t2\t1\t80\t1\t4\t\tno\t\t\t\t19960101\t\t\t\tlow.ans\n";
+pub(super) const LOW_ROW: &str =
+    "refused\t\t\tF20\t3\t2\t1\t80\t1\t4\t\tno\t\t\t\t19960101\t\t\t\tlow.ans\n";
 
-const ABC_ROW: &str = "refused\t\t\tF1\t3\t\t\t\t\t\t\t\t\t\t\t\t\t\t\tabc\n";
+pub(super) const ABC_ROW: &str = "refused\t\t\tF1\t3\t\t\t\t\t\t\t\t\t\t\t\t\t\t\tabc\n";
 
-const HI_OBJECT: &str = "{\"author\":\"\",\"comments\":[],\"content\":2,\"date\":\"19960101\",\
+const EMPTY_ROW: &str = "refused\t\t\tF1\t0\t\t\t\t\t\t\t\t\t\t\t\t\t\t\tempty\n";
+
+pub(super) const HI_OBJECT: &str =
+    "{\"author\":\"\",\"comments\":[],\"content\":2,\"date\":\"19960101\",\
     \"file\":\"hi.ans\",\"font\":\"\",\"group\":\"\",\"ice\":false,\"lines\":1,\
     \"needs\":[\"cursor\",\"colours\"],\"notes\":[],\"taller\":true,\"title\":\"\",\
     \"verdict\":\"pass\",\"width\":2}\n";
 
-const LOW_OBJECT: &str = "{\"at\":3,\"author\":\"\",\"column\":1,\"comments\":[],\"content\":4,\
+pub(super) const LOW_OBJECT: &str =
+    "{\"at\":3,\"author\":\"\",\"column\":1,\"comments\":[],\"content\":4,\
     \"date\":\"19960101\",\"fault\":\"F20\",\"file\":\"low.ans\",\"font\":\"\",\"group\":\"\",\
     \"ice\":false,\"lines\":1,\"notes\":[],\"row\":2,\"title\":\"\",\"verdict\":\"refused\",\
     \"width\":80}\n";
 
-const ABC_OBJECT: &str = "{\"at\":3,\"fault\":\"F1\",\"file\":\"abc\",\"verdict\":\"refused\"}\n";
+pub(super) const ABC_OBJECT: &str =
+    "{\"at\":3,\"fault\":\"F1\",\"file\":\"abc\",\"verdict\":\"refused\"}\n";
+
+const EMPTY_OBJECT: &str =
+    "{\"at\":0,\"fault\":\"F1\",\"file\":\"empty\",\"verdict\":\"refused\"}\n";
 
 /// The object of a file that was not read.
 macro_rules! error_object {
@@ -172,8 +94,20 @@ macro_rules! error_object {
     };
 }
 
+pub(super) const GONE_ROW: &str = error_row!("cannot open the file", "gone");
+
+pub(super) const TORN_ROW: &str = error_row!("cannot read the file", "torn");
+
+pub(super) const LONG_ROW: &str = error_row!("file above 16777216 bytes", "long");
+
+pub(super) const GONE_OBJECT: &str = error_object!("cannot open the file", "gone");
+
+pub(super) const TORN_OBJECT: &str = error_object!("cannot read the file", "torn");
+
+pub(super) const LONG_OBJECT: &str = error_object!("file above 16777216 bytes", "long");
+
 /// Words behind `anscheck table`, what standard input gives, the table, what is said, and the status.
-static TABLES: [(&[&str], Stored<'static>, &[&str], &str, u8); 15] = [
+static TABLES: [(&[&str], Stored<'static>, &[&str], &str, u8); 19] = [
     (
         &["anscheck", "table", "hi.ans"],
         Stored::Bytes(b"abc\0"),
@@ -191,7 +125,7 @@ static TABLES: [(&[&str], Stored<'static>, &[&str], &str, u8); 15] = [
             "--no-header",
             "hi.ans",
         ],
-        Stored::Broken,
+        Stored::Torn(b""),
         &[HI_ROW, LOW_ROW, ABC_ROW, HI_ROW],
         "anscheck: 4 files: 2 pass, 2 refused, 0 not read\n",
         1,
@@ -207,11 +141,11 @@ static TABLES: [(&[&str], Stored<'static>, &[&str], &str, u8); 15] = [
             "low.ans",
             "",
         ],
-        Stored::Broken,
+        Stored::Torn(b""),
         &[
             HI_ROW,
-            error_row!("cannot open the file", "gone"),
-            error_row!("cannot read the file", "torn"),
+            GONE_ROW,
+            TORN_ROW,
             LOW_ROW,
             error_row!("cannot open the file", ""),
         ],
@@ -263,8 +197,8 @@ static TABLES: [(&[&str], Stored<'static>, &[&str], &str, u8); 15] = [
             HI_OBJECT,
             LOW_OBJECT,
             ABC_OBJECT,
-            error_object!("cannot read the file", "torn"),
-            error_object!("cannot open the file", "gone"),
+            TORN_OBJECT,
+            GONE_OBJECT,
             HI_OBJECT,
         ],
         "anscheck: 6 files: 2 pass, 2 refused, 2 not read\n",
@@ -272,7 +206,7 @@ static TABLES: [(&[&str], Stored<'static>, &[&str], &str, u8); 15] = [
     ),
     (
         &["anscheck", "table", "--json", "--no-header", "abc"],
-        Stored::Broken,
+        Stored::Torn(b""),
         &[ABC_OBJECT],
         "anscheck: 1 file: 0 pass, 1 refused, 0 not read\n",
         1,
@@ -302,9 +236,53 @@ static TABLES: [(&[&str], Stored<'static>, &[&str], &str, u8); 15] = [
     ),
     (
         &["anscheck", "table"],
-        Stored::Broken,
+        Stored::Torn(b""),
         &[HEADER],
         "anscheck: cannot read the names\n",
+        2,
+    ),
+    (
+        &["anscheck", "table", "--no-header"],
+        Stored::Torn(b"hi.ans\0abc"),
+        &[HI_ROW],
+        "anscheck: cannot read the names\n",
+        2,
+    ),
+    (
+        &["anscheck", "table", "--json"],
+        Stored::Torn(b"abc\0hi.ans\0"),
+        &[ABC_OBJECT, HI_OBJECT],
+        "anscheck: cannot read the names\n",
+        2,
+    ),
+    (
+        &[
+            "anscheck",
+            "table",
+            "--no-header",
+            "empty",
+            "half",
+            "hi.ans",
+        ],
+        Stored::Torn(b""),
+        &[
+            EMPTY_ROW,
+            error_row!("cannot read the file", "half"),
+            HI_ROW,
+        ],
+        "anscheck: 3 files: 1 pass, 1 refused, 1 not read\n",
+        2,
+    ),
+    (
+        &["anscheck", "table", "--json", "empty", "half", "", "hi.ans"],
+        Stored::Torn(b""),
+        &[
+            EMPTY_OBJECT,
+            error_object!("cannot read the file", "half"),
+            error_object!("cannot open the file", ""),
+            HI_OBJECT,
+        ],
+        "anscheck: 4 files: 1 pass, 1 refused, 2 not read\n",
         2,
     ),
     (
@@ -331,7 +309,9 @@ fn tables_are_written(rt: HostRuntime) {
         ("hi.ans", Stored::Bytes(hi.as_slice())),
         ("low.ans", Stored::Bytes(low.as_slice())),
         ("abc", Stored::Bytes(b"abc")),
-        ("torn", Stored::Broken),
+        ("empty", Stored::Bytes(b"")),
+        ("torn", Stored::Torn(b"")),
+        ("half", Stored::Torn(b"SAUCE")),
     ];
     for (words, standard, table, said, status) in &TABLES {
         let shelf = Shelf {
@@ -373,35 +353,27 @@ static RECORDS: [(&[(usize, &[u8])], &str); 5] = [
     ),
 ];
 
+/// Asserts what a table of a shelf writes.
+fn expect_output(
+    rt: &(impl Abort + AllocGlobal),
+    words: &[&str],
+    shelf: Shelf<'_>,
+    table: &[&str],
+) {
+    let answered = answer_once(rt, words, shelf, (4096, 4096));
+    assert!(rt; is_made_of(answered.output.held(), table));
+}
+
 #[test]
 fn records_are_shown(rt: HostRuntime) {
     for (edits, columns) in &RECORDS {
         let file = file_of(&rt, b"Hi\x1a", edits);
         let shelf = Shelf {
             files: &[("f", Stored::Bytes(file.as_slice()))],
-            standard: Stored::Broken,
+            standard: Stored::Torn(b""),
         };
-        let answered = answer_once(&rt, &["anscheck", "table", "--no-header", "f"], shelf, 4096);
-        assert!(rt; is_made_of(answered.output.held(), &[columns, "\tf\n"]));
-    }
-}
-
-#[test]
-fn a_table_that_is_cut_off_is_an_error(rt: HostRuntime) {
-    let hi = plain_file(&rt, b"Hi", 2, 1);
-    let shelf = Shelf {
-        files: &[("hi.ans", Stored::Bytes(hi.as_slice()))],
-        standard: Stored::Bytes(b"hi.ans\0hi.ans\0"),
-    };
-    let whole = answer_once(&rt, &["anscheck", "table"], shelf, 4096);
-    assert!(rt; is_made_of(whole.output.held(), &[HEADER, HI_ROW, HI_ROW]));
-    for room in [0, 1, 50, 130, 150, 200] {
-        let answered = answer_once(&rt, &["anscheck", "table"], shelf, room);
-        assert!(rt; answered.ending == Ending::Run(Err(RunError::Write)));
-        assert_eq!(rt; answered.output.held().len(), room);
-        assert!(rt; whole.output.held().starts_with(answered.output.held()));
-        let said: &[u8] = b"anscheck: cannot write the report\n";
-        assert_eq!(rt; answered.errors.held(), said);
+        let words = &["anscheck", "table", "--no-header", "f"];
+        expect_output(&rt, words, shelf, &[columns, "\tf\n"]);
     }
 }
 
@@ -446,28 +418,94 @@ fn records_are_shown_in_objects(rt: HostRuntime) {
         let file = file_of(&rt, front, edits);
         let shelf = Shelf {
             files: &[("f", Stored::Bytes(file.as_slice()))],
-            standard: Stored::Broken,
+            standard: Stored::Torn(b""),
         };
-        let answered = answer_once(&rt, &["anscheck", "table", "--json", "f"], shelf, 4096);
-        assert!(rt; is_made_of(answered.output.held(), &[object]));
+        expect_output(&rt, &["anscheck", "table", "--json", "f"], shelf, &[object]);
+    }
+}
+
+/// Words for a table in each form, of the names on standard input, and the table of `hi.ans`, `gone`
+/// and `abc`.
+static FORMS: [(&[&str], &[&str]); 3] = [
+    (&["anscheck", "table"], &[HEADER, HI_ROW, GONE_ROW, ABC_ROW]),
+    (
+        &["anscheck", "table", "--no-header"],
+        &[HI_ROW, GONE_ROW, ABC_ROW],
+    ),
+    (
+        &["anscheck", "table", "--json"],
+        &[HI_OBJECT, GONE_OBJECT, ABC_OBJECT],
+    ),
+];
+
+/// The files of [`FORMS`], of which `hi.ans` is this one, and their names.
+fn shelf_of<'a>(files: &'a [(&'a str, Stored<'a>)]) -> Shelf<'a> {
+    Shelf {
+        files,
+        standard: Stored::Bytes(b"hi.ans\0gone\0abc"),
     }
 }
 
 #[test]
-fn objects_that_are_cut_off_are_an_error(rt: HostRuntime) {
+fn a_table_that_is_cut_off_is_an_error(rt: HostRuntime) {
     let hi = plain_file(&rt, b"Hi", 2, 1);
-    let shelf = Shelf {
-        files: &[("hi.ans", Stored::Bytes(hi.as_slice()))],
-        standard: Stored::Bytes(b"hi.ans\0gone\0"),
-    };
-    let words = &["anscheck", "table", "--json"];
-    let whole = answer_once(&rt, words, shelf, 4096);
-    let gone = error_object!("cannot open the file", "gone");
-    assert!(rt; is_made_of(whole.output.held(), &[HI_OBJECT, gone]));
-    for room in 0..whole.output.held().len() {
-        let answered = answer_once(&rt, words, shelf, room);
-        assert!(rt; answered.ending == Ending::Run(Err(RunError::Write)));
-        assert_eq!(rt; answered.output.held().len(), room);
-        assert!(rt; whole.output.held().starts_with(answered.output.held()));
+    let files = [
+        ("hi.ans", Stored::Bytes(hi.as_slice())),
+        ("abc", Stored::Bytes(b"abc")),
+    ];
+    let said: &[u8] = b"anscheck: cannot write the report\n";
+    for (words, table) in &FORMS {
+        for room in 0..length_of(table) {
+            let answered = answer_once(&rt, words, shelf_of(&files), (room, 4096));
+            assert!(rt; answered.ending == Ending::Run(Err(RunError::Write)));
+            assert_eq!(rt; answered.output.held().len(), room);
+            assert!(rt; is_front_of(answered.output.held(), table));
+            assert_eq!(rt; answered.errors.held(), said);
+        }
+        let counts = "anscheck: 3 files: 1 pass, 1 refused, 1 not read\n";
+        expect_table(&rt, words, shelf_of(&files), table, counts, 2);
+    }
+}
+
+/// Asserts that a table ends at the one write that fails, behind so many bytes.
+fn expect_end_at_write(
+    rt: &(impl Abort + AllocGlobal),
+    words: &[&str],
+    shelf: Shelf<'_>,
+    table: &[&str],
+    taken: usize,
+) {
+    let errors = Narrow::new(4096);
+    let (mut ending, mut device, _) = answer_on(
+        rt,
+        words,
+        shelf,
+        FailingOnce::after(taken),
+        errors,
+    );
+    if may_have_met_refusal(ending, device.device().held()) {
+        let errors = Narrow::new(4096);
+        (ending, device, _) = answer_on(rt, words, shelf, FailingOnce::after(taken), errors);
+    }
+    assert!(rt;
+        ending == Ending::Run(Err(RunError::Write)),
+        "after {taken}"
+    );
+    assert_eq!(rt; device.calls(), (taken as u64).saturating_add(1));
+    assert_eq!(rt; device.device().held().len(), taken);
+    assert!(rt; is_front_of(device.device().held(), table));
+}
+
+#[test]
+fn a_device_that_fails_once_is_not_asked_again(rt: HostRuntime) {
+    let hi = plain_file(&rt, b"Hi", 2, 1);
+    let files = [
+        ("hi.ans", Stored::Bytes(hi.as_slice())),
+        ("abc", Stored::Bytes(b"abc")),
+    ];
+    for (words, table) in &FORMS {
+        for taken in 0..length_of(table) {
+            expect_end_at_write(&rt, words, shelf_of(&files), table, taken);
+        }
     }
 }

@@ -1,0 +1,163 @@
+//! Files in memory by their names, and what the program answers over them.
+
+ghost use Rattle.std.specs.Prelude.{⊤};
+
+use ans_check::{Ending, Inputs, RunError, answer};
+use ans_report::Tried;
+use ans_samples::Narrow;
+use std::io::{self, Read, Write};
+use std::process::Abort;
+
+/// What a file has.
+#[derive(Clone, Copy)]
+pub(super) enum Stored<'a> {
+    Bytes(&'a [u8]),
+    /// Its reading fails after these bytes.
+    Torn(&'a [u8]),
+    /// What is left of a text, and then so many times the whole of it.
+    Repeated {
+        rest: &'a [u8],
+        text: &'a [u8],
+        left: usize,
+    },
+}
+
+impl<'a> Stored<'a> {
+    /// So many times this text.
+    pub(super) fn repeated(text: &'a [u8], times: usize) -> Stored<'a> {
+        Stored::Repeated {
+            rest: b"",
+            text,
+            left: times,
+        }
+    }
+}
+
+impl Read for Stored<'_> {
+    fn read(&mut self, buf: &mut [u8]) -> io::Result<usize> {
+        match self {
+            Stored::Bytes(bytes) => bytes.read(buf),
+            Stored::Torn(bytes) => {
+                if bytes.is_empty() {
+                    return Err(io::Error::from(io::ErrorKind::Other));
+                }
+                bytes.read(buf)
+            }
+            Stored::Repeated { rest, text, left } => {
+                if rest.is_empty() && *left > 0 {
+                    *rest = *text;
+                    *left -= 1;
+                }
+                rest.read(buf)
+            }
+        }
+    }
+}
+
+/// Files by their names, and standard input.
+#[derive(Clone, Copy)]
+pub(super) struct Shelf<'a> {
+    pub files: &'a [(&'a str, Stored<'a>)],
+    pub standard: Stored<'a>,
+}
+
+impl<'a> Inputs for Shelf<'a> {
+    type Reader = Stored<'a>;
+
+    ghost is_file = { λ _ _ _. ⊤ };
+
+    ghost is_standard = { λ _ _. ⊤ };
+
+    ghost is_missing = { λ _ _. ⊤ };
+
+    fn file(self, name: &str) -> io::Result<Stored<'a>> {
+        for (held, stored) in self.files {
+            if *held == name {
+                return Ok(*stored);
+            }
+        }
+        Err(io::Error::from(io::ErrorKind::NotFound))
+    }
+
+    fn standard(self) -> Stored<'a> {
+        self.standard
+    }
+}
+
+/// Answers words over a shelf, on these devices. Returns the ending and the devices.
+pub(super) fn answer_on<W: Write + Drop>(
+    rt: &(impl Abort + AllocGlobal),
+    words: &[&str],
+    shelf: Shelf<'_>,
+    output: W,
+    errors: Narrow,
+) -> (Ending, W, Narrow) {
+    let mut output = Tried::new(output);
+    let mut errors = Tried::new(errors);
+    let ending = answer(rt.alloc(), words, shelf, &mut output, &mut errors);
+    (ending, output.into_inner(), errors.into_inner())
+}
+
+/// What became of some words.
+#[derive(Drop)]
+pub(super) struct Answered {
+    pub ending: Ending,
+    pub output: Narrow,
+    pub errors: Narrow,
+}
+
+/// Answers words over a shelf, on devices with this much room. Where memory may have been refused they
+/// are answered once more.
+pub(super) fn answer_once(
+    rt: &(impl Abort + AllocGlobal),
+    words: &[&str],
+    shelf: Shelf<'_>,
+    (room, error_room): (usize, usize),
+) -> Answered {
+    let (ending, output, errors) = answer_on(
+        rt,
+        words,
+        shelf,
+        Narrow::new(room),
+        Narrow::new(error_room),
+    );
+    if !may_have_met_refusal(ending, output.held()) {
+        return Answered {
+            ending,
+            output,
+            errors,
+        };
+    }
+    let (ending, output, errors) = answer_on(
+        rt,
+        words,
+        shelf,
+        Narrow::new(room),
+        Narrow::new(error_room),
+    );
+    Answered {
+        ending,
+        output,
+        errors,
+    }
+}
+
+/// Whether memory may have been refused, by the ending and by what was written: a row that says so may
+/// be cut off.
+pub(super) fn may_have_met_refusal(ending: Ending, written: &[u8]) -> bool {
+    ending == Ending::UnreadableWords
+        || ending == Ending::Run(Err(RunError::Memory))
+        || written.split(|byte| *byte == b'\n').any(is_of_memory)
+}
+
+/// Whether a line begins as the row of a file does for which memory ran out.
+fn is_of_memory(line: &[u8]) -> bool {
+    !line.is_empty()
+        && (begins_alike(line, b"error\t\t\tout of memory\t")
+            || begins_alike(line, b"{\"fault\":\"out of memory\""))
+}
+
+/// Whether one of two texts begins with the other.
+fn begins_alike(first: &[u8], second: &[u8]) -> bool {
+    first.starts_with(second) || second.starts_with(first)
+}
