@@ -1,5 +1,5 @@
 -- What plays from some classes say of the parts that a content needs.
-use Rattle.std.proofs.Common.{◌≡◌, ℕ, Bool, true, false, List, Option, Some, None, refl, sym}
+use Rattle.std.proofs.Common.{◌≡◌, ℕ, Bool, true, false, List, Option, Some, None, refl}
 use Rattle.std.specs.Prelude.{◌↔◌, ◌&&◌, IsTrue, is_some}
 use Rattle.std.proofs.lemmas.Bool.{and_parts}
 use Rattle.ans_model.specs.Screen.State.{Size}

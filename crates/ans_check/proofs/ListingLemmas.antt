@@ -1,7 +1,7 @@
 -- Names by the first that 00h ends.
-use Rattle.std.proofs.Common.{◌≡◌, ◌∙◌, ℕ, ◌+◌, ◌≤◌, ◌<◌, ◌==◌, ◌&&◌, Bool, true, false, not, cond, List, [], ◌∷◌, ◌++◌}
+use Rattle.std.proofs.Common.{◌≡◌, ◌∙◌, ℕ, ◌+◌, ◌≤◌, ◌<◌, Bool, true, false, not, cond, List, [], ◌∷◌, ◌++◌}
 use Rattle.std.proofs.Common.{◌-◌, length, take, drop, get_or, Option, Some, None, refl, sym, ap, arith}
-use Rattle.std.specs.Prelude.{IfNone, nat_lt, if◌then◌else◌}
+use Rattle.std.specs.Prelude.{IfNone, nat_lt}
 use Rattle.std.specs.List.{position, position_or_len, slice_split}
 use Rattle.std.proofs.lemmas.Bool.Decides.{nat_tests}
 use Rattle.std.proofs.lemmas.List.{drop-drop, length-drop, take_rest}
@@ -63,11 +63,6 @@ if_none None P p = p
 if_none (Some x) P p = tt
 
 -- ---- names
--- where nothing follows, one name is left or none
-pub last_named : (whole : Bool) (rest : List ℕ) → slice_split is_zero rest ≡ rest ∷ []
-    → names_in whole rest ≡ (if whole && not (length rest == 0) then rest ∷ [] else [])
-last_named whole rest one = ap (named_by whole) one
-
 -- a name that is ended is the first of all
 pub name_named : (whole : Bool) (bytes name more : List ℕ) → IsFirstName bytes name more
     → names_in whole bytes ≡ name ∷ names_in whole more

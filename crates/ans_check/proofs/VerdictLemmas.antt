@@ -1,8 +1,7 @@
 -- What a split and a play say of a file.
 use Rattle.std.proofs.Common.{◌≡◌, ℕ, Bool, true, false, List, [], ◌∷◌, subst, inl, inr, ◌⊎◌, Some, None, ap₂}
-use Rattle.std.proofs.Common.{if◌then◌else◌, not, refl, sym, true≢false}
-use Rattle.std.specs.Prelude.{IfSome, IsSome, Result, Ok, Err, IfOk, IfErr, IsTrue, ◌↔◌}
-use Rattle.std.specs.Result.{is_ok}
+use Rattle.std.proofs.Common.{if◌then◌else◌, refl}
+use Rattle.std.specs.Prelude.{IfSome, IsSome, Result, Ok, Err, IfOk, IfErr}
 use Rattle.std.specs.List.{AllByRecursion}
 use Rattle.ans_model.specs.File.Layout.{FileParts, content}
 use Rattle.ans_model.specs.File.Refusals.{Accepts, Refusal, fault_at, first_refusal, file_refusals, record_fault}

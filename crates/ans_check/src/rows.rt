@@ -6,7 +6,6 @@ ghost use Rattle.ans_options.specs.CommandLine.{texts_of};
 ghost use Rattle.ans_write.specs.Tried.{has_failed, inner_of};
 ghost use Rattle.ans_write.specs.Writes.{WritesText};
 ghost use Rattle.ans_table.specs.Findings.{IsFindingOf, outcome_of};
-ghost use Rattle.ans_table.specs.RowText.{row_line};
 ghost use Rattle.ans_check.specs.FileNeeds.{IsNeedsOf};
 ghost use Rattle.ans_options.specs.declared.command.TableForm.{TableForm};
 ghost use Rattle.ans_check.specs.Table.{IsFound, MayBeFoundIn, WritesRow, WritesRows, WritesTable, header, row_in};
@@ -62,48 +61,7 @@ fn unread(error: RunError) -> Unread
     }
 }
 
-/// Writes a row as a JSON object.
-fn write_object<W: Write>(
-    alloc: Global,
-    output: &mut Tried<W>,
-    name: &[u8],
-    finding: &Finding<'_>,
-) -> Result<(), RunError>
-    requires { has_failed output.old ≡ false }
-    ensures device { IsErrOf result RunError.Write ↔ IsTrue (has_failed output.new) }
-    ensures errors { IfErr result (λ e. (e ≡ RunError.Memory) ⊎ (e ≡ RunError.Write)) }
-    ensures works { OnOk result (has_failed output.new ≡ false) }
-    ensures row { WritesText (W.contents (inner_of output.old)) (W.contents (inner_of output.new))
-        result (row_in TableForm.Json name.now finding.now) }
-{
-    let Ok(row) = json_row(alloc, name, finding) else {
-        return Err(RunError::Memory);
-    };
-    match write_line(output, row.as_bytes()) {
-        Ok(()) => Ok(()),
-        Err(WriteFault) => Err(RunError::Write),
-    }
-}
-
-/// Writes a row of columns.
-fn write_columns<W: Write>(
-    output: &mut Tried<W>,
-    name: &[u8],
-    finding: &Finding<'_>,
-) -> Result<(), RunError>
-    requires { has_failed output.old ≡ false }
-    ensures device { IsErrOf result RunError.Write ↔ IsTrue (has_failed output.new) }
-    ensures errors { IfErr result (λ e. (e ≡ RunError.Memory) ⊎ (e ≡ RunError.Write)) }
-    ensures works { OnOk result (has_failed output.new ≡ false) }
-    ensures row { WritesText (W.contents (inner_of output.old)) (W.contents (inner_of output.new))
-        result (row_line name.now finding.now) }
-{
-    match write_row(output, name, finding) {
-        Ok(()) => Ok(()),
-        Err(WriteFault) => Err(RunError::Write),
-    }
-}
-
+/// Writes a row.
 fn write_in<W: Write>(
     alloc: Global,
     form: TableForm,
@@ -118,10 +76,18 @@ fn write_in<W: Write>(
     ensures row { WritesText (W.contents (inner_of output.old)) (W.contents (inner_of output.new))
         result (row_in form name.now finding.now) }
 {
-    match form {
-        TableForm::Headed => write_columns(output, name, finding),
-        TableForm::Bare => write_columns(output, name, finding),
-        TableForm::Json => write_object(alloc, output, name, finding),
+    let written = match form {
+        TableForm::Headed | TableForm::Bare => write_row(output, name, finding),
+        TableForm::Json => {
+            let Ok(row) = json_row(alloc, name, finding) else {
+                return Err(RunError::Memory);
+            };
+            write_line(output, row.as_bytes())
+        }
+    };
+    match written {
+        Ok(()) => Ok(()),
+        Err(WriteFault) => Err(RunError::Write),
     }
 }
 
