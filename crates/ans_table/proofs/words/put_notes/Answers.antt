@@ -9,4 +9,5 @@ returns g c =
     let notes = c.args.notes.now in
     let later : take (length notes - 1) (drop 1 notes) ≡ drop 1 notes = take_rest notes 1 in
     Puts-same (sym (notes_text_is notes _ c.in-len1-up.len_at_least))
-    (Puts-then (rw (c.as_bytes.ensures.value, c.note_number.ensures) at c.put.ensures) (rw later at c.put_later_notes.ensures))
+    (Puts-then (rw (c.as_bytes.ensures.value, c.note_number.ensures) at c.put.ensures)
+    (rw later at c.put_later_notes.ensures))
