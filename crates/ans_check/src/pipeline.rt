@@ -234,8 +234,8 @@ fn run_command<W: Write>(
 /// what should show its picture reports that as a check does. Where the record or the layout is
 /// refused, F1 to F8, the two lines of the refusal are written instead. A table is of files by their
 /// names, and [`table`](crate::table) writes it; of the one input here what it needs is written. `Ok`
-/// says whether the file passes: its content is found good, its record is accepted, all of its content is read as tokens,
-/// or its content is good from the cleared start, so that it is known what it needs.
+/// says whether the file passes: its content is found good, its record is accepted, all of its content
+/// is read as tokens, or its content is good from the cleared start, so that it is known what it needs.
 ///
 /// `Read` comes exactly where the reader failed in the call, `Write` exactly where the writer did,
 /// and `TooLong` as soon as more than 16,777,216 bytes were read. `Memory` comes where memory runs

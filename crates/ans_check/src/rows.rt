@@ -202,9 +202,9 @@ fn tell_header<W: Write>(form: TableForm, output: &mut Tried<W>) -> Result<(), R
 }
 
 /// Writes the table of the files of these names: the line of the columns' names where the form asks for
-/// it, and then a row for each name, in their order and in the form. A row is written, and the writer is asked to hand it
-/// on, before the next file is opened. A file that cannot be opened or read, or that is too long, has a
-/// row too, and so has one for which memory runs out. Returns how many files came out how.
+/// it, and then a row for each name, in their order and in the form. A row is written, and the writer is
+/// asked to hand it on, before the next file is opened. A file that cannot be opened or read, or that is
+/// too long, has a row too, and so has one for which memory runs out. Returns how many files came out how.
 ///
 /// At `Err` a prefix of the table was written. `Err(Write)` comes exactly where the device failed in the
 /// call, and `Err(Memory)` where memory for the text of a JSON row ran out; no other error comes.

@@ -84,7 +84,8 @@ static COLOURS: [Row; 8] = rows! {
     9 x 1, b"\x1b[5ma" =>
         "hint: a character blinks, once, at 4: for bright backgrounds set the non-blink flag\n";
     9 x 1, b"\x1b[38;5;208mA" =>
-        "hint: a sequence has a colour of later terminals (38, 48, 90 to 97 or 100 to 107), once, at 0\nhint: a character blinks, once, at 11: for bright backgrounds set the non-blink flag\n";
+        "hint: a sequence has a colour of later terminals (38, 48, 90 to 97 or 100 to 107), once, at 0\n\
+        hint: a character blinks, once, at 11: for bright backgrounds set the non-blink flag\n";
 };
 
 static EMPTY_ROWS: [Row; 11] = rows! {

@@ -171,8 +171,8 @@ named_start rows = record {
   wrap = holds_flag (codes "known-wrap") rows;
 }
 
--- Whether all parts are known. A picture is shown from the cleared start unless a flag says otherwise, which names a part
--- or is `--any`; another command asks for it by `--cleared`.
+-- Whether all parts are known. A picture is shown from the cleared start unless a flag says otherwise, which names a
+-- part or is `--any`; another command asks for it by `--cleared`.
 abbrev pub asks_for_cleared : Command → List Row → Bool
 asks_for_cleared (Show form) rows = not (list_any (λ flag. holds_flag flag rows) (codes "any" ∷ part_flags))
 asks_for_cleared _ rows = holds_flag (codes "cleared") rows
