@@ -13,7 +13,7 @@ pub enum RunError {
     /// The input has more than 16,777,216 bytes.
     #[error("{}", self.text())]
     TooLong,
-    /// Memory ran out for the file or its screen.
+    /// Memory ran out for the file, for its screen, or for the text of a row as a JSON object.
     #[error("{}", self.text())]
     Memory,
     /// The writer failed.

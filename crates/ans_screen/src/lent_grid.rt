@@ -40,8 +40,8 @@ pub struct LentGrid<'a> {
 impl<'a> LentGrid<'a> {
     /// A grid of equal cells on memory that is lent: a record for each row, and four bytes for each
     /// cell. It is `None` where the width is not 1 to 1024 columns, where there are not 1 to 8193 rows,
-    /// or where fewer than `rows` records or fewer than `4 * width * rows` bytes are lent. What the
-    /// memory held is gone; more of it than is needed stays as it is. No memory is asked for.
+    /// or where fewer than `rows` records or fewer than `4 * width * rows` bytes are lent. Nothing of
+    /// what the memory held is shown. What it holds afterwards is not stated. No memory is asked for.
     pub fn on(
         held: &'a mut [LentRow],
         bytes: &'a mut [u8],

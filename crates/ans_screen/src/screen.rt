@@ -12,8 +12,7 @@ use crate::cell::HalfCell;
 use crate::grid::Grid;
 
 /// Cells in row order, wherever their memory comes from: cell `i` stands in row `i / width` and column
-/// `i % width`, counted from 0. Every [`Grid`] is one, and so is a type that no call makes from
-/// nothing.
+/// `i % width`, counted from 0. Every [`Grid`] is one, and so is a grid whose memory is lent.
 pub trait Screen: Sized + Drop {
     ghost width_of: { Self → ℕ };
 
