@@ -1,6 +1,6 @@
 -- The table of many files.
 use Rattle.std.specs.Prelude.{◌≡◌, ℕ, ◌+◌, ◌<◌, List, [], ◌++◌, length, map, All, Option, Result, IfOk, IfSome}
-use Rattle.std.specs.Prelude.{⊤}
+use Rattle.std.specs.Prelude.{⊤, ◌⊎◌}
 use Rattle.std.specs.List.{flat_map}
 use Rattle.ans_model.specs.Text.FaultText.{line_of}
 use Rattle.std.specs.Prelude.{IsTrue}
@@ -30,6 +30,10 @@ use Rattle.ans_check.specs.declared.errors.RunError.TheVariants as error
 abbrev pub MayBeFoundIn : List ℕ → Finding → Type 0
 MayBeFoundIn file (Unread why.Memory) = ⊤
 MayBeFoundIn file finding = IsFindingOf file finding
+
+-- What may end a table in this form: a failed write, or want of memory for the text of a JSON object.
+abbrev pub MayEndTable : TableForm → RunError → Type 0
+MayEndTable form e = (e ≡ error.Write) ⊎ ((e ≡ error.Memory) × (form ≡ Json))
 
 -- why a file was not read, by what its reading came to
 abbrev pub unread_of : RunError → unread.Unread

@@ -1,6 +1,6 @@
 //! The table of many files.
 
-ghost use Rattle.std.specs.Prelude.{◌≡◌, ◌≢◌, ◌↔◌, ◌≤◌, ◌⊎◌, false, length, IsTrue, IsErrOf, IfErr, IfOk, OnOk, map};
+ghost use Rattle.std.specs.Prelude.{◌≡◌, ◌≢◌, ◌↔◌, ◌≤◌, false, length, IsTrue, IsErrOf, IfErr, IfOk, OnOk, map};
 ghost use Rattle.ans_model.specs.Bytes.{longest_file};
 ghost use Rattle.ans_options.specs.CommandLine.{texts_of};
 ghost use Rattle.ans_write.specs.Tried.{has_failed, inner_of};
@@ -9,7 +9,7 @@ ghost use Rattle.ans_table.specs.Findings.{IsFindingOf, outcome_of};
 ghost use Rattle.ans_check.specs.FileNeeds.{IsNeedsOf};
 ghost use Rattle.ans_options.specs.declared.command.TableForm.{TableForm};
 ghost use Rattle.ans_check.specs.Table.{IsFound, MayBeFoundIn, WritesRow, WritesRows, WritesTable, header, row_in};
-ghost use Rattle.ans_check.specs.Table.{unread_of};
+ghost use Rattle.ans_check.specs.Table.{MayEndTable, unread_of};
 
 use crate::errors::RunError;
 use crate::inputs::Inputs;
@@ -71,7 +71,7 @@ fn write_in<W: Write>(
 ) -> Result<(), RunError>
     requires { has_failed output.old ≡ false }
     ensures device { IsErrOf result RunError.Write ↔ IsTrue (has_failed output.new) }
-    ensures errors { IfErr result (λ e. (e ≡ RunError.Memory) ⊎ (e ≡ RunError.Write)) }
+    ensures errors { IfErr result (MayEndTable form) }
     ensures works { OnOk result (has_failed output.new ≡ false) }
     ensures row { WritesText (W.contents (inner_of output.old)) (W.contents (inner_of output.new))
         result (row_in form name.now finding.now) }
@@ -101,7 +101,7 @@ fn tell<W: Write>(
 ) -> Result<Outcome, RunError>
     requires { has_failed output.old ≡ false }
     ensures device { IsErrOf result RunError.Write ↔ IsTrue (has_failed output.new) }
-    ensures errors { IfErr result (λ e. (e ≡ RunError.Memory) ⊎ (e ≡ RunError.Write)) }
+    ensures errors { IfErr result (MayEndTable form) }
     ensures works { OnOk result (has_failed output.new ≡ false) }
     ensures row { WritesText (W.contents (inner_of output.old)) (W.contents (inner_of output.new))
         result (row_in form name.now finding.now) }
@@ -124,7 +124,7 @@ fn tell_file<I: Inputs, W: Write>(
 ) -> Result<Outcome, RunError>
     requires { has_failed output.old ≡ false }
     ensures device { IsErrOf result RunError.Write ↔ IsTrue (has_failed output.new) }
-    ensures errors { IfErr result (λ e. (e ≡ RunError.Memory) ⊎ (e ≡ RunError.Write)) }
+    ensures errors { IfErr result (MayEndTable form) }
     ensures works { OnOk result (has_failed output.new ≡ false) }
     ensures row { WritesRow W.contents (IsFound I.Reader.remaining (I.is_file inputs) (I.is_missing inputs))
         form name.now output.old output.new result }
@@ -170,7 +170,7 @@ fn tell_files<I: Inputs, W: Write>(
 ) -> Result<Counts, RunError>
     requires { has_failed output.old ≡ false }
     ensures device { IsErrOf result RunError.Write ↔ IsTrue (has_failed output.new) }
-    ensures errors { IfErr result (λ e. (e ≡ RunError.Memory) ⊎ (e ≡ RunError.Write)) }
+    ensures errors { IfErr result (MayEndTable form) }
     ensures rows { WritesRows W.contents (IsFound I.Reader.remaining (I.is_file inputs) (I.is_missing inputs))
         form (texts_of names.now) output.old output.new result }
 {
@@ -186,7 +186,7 @@ fn tell_files<I: Inputs, W: Write>(
 fn tell_header<W: Write>(form: TableForm, output: &mut Tried<W>) -> Result<(), RunError>
     requires { has_failed output.old ≡ false }
     ensures device { IsErrOf result RunError.Write ↔ IsTrue (has_failed output.new) }
-    ensures errors { IfErr result (λ e. (e ≡ RunError.Memory) ⊎ (e ≡ RunError.Write)) }
+    ensures errors { IfErr result (λ e. e ≡ RunError.Write) }
     ensures works { OnOk result (has_failed output.new ≡ false) }
     ensures bytes { WritesText (W.contents (inner_of output.old)) (W.contents (inner_of output.new))
         result (header form) }
@@ -217,7 +217,7 @@ pub fn table<I: Inputs, W: Write>(
 ) -> Result<Counts, RunError>
     requires { has_failed output.old ≡ false }
     ensures device { IsErrOf result RunError.Write ↔ IsTrue (has_failed output.new) }
-    ensures errors { IfErr result (λ e. (e ≡ RunError.Memory) ⊎ (e ≡ RunError.Write)) }
+    ensures errors { IfErr result (MayEndTable form) }
     ensures table { WritesTable W.contents (IsFound I.Reader.remaining (I.is_file inputs) (I.is_missing inputs))
         form (texts_of names.now) output.old output.new result }
 {

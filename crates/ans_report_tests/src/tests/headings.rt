@@ -1,13 +1,33 @@
 //! The lines of a report before its verdict, class by class.
 use crate::tests::{SOME_KNOWN, parts_of};
 use ans_model::start::Start;
-use ans_report::{Report, write_report};
+use ans_report::{Report, Tried, WriteFault, write_report};
 use ans_samples::sample_file;
-use ans_sauce::{Cause, Fault};
+use ans_sauce::{Cause, Fault, Parts};
 use ans_screen::PlainGrid;
 use ans_trials::writes;
+use std::io::Write;
 use std::process::Abort;
 use std::test::Fail;
+
+/// Writes that content of the file scrolls, played from the starts of a class.
+fn write_refused<W: Write>(
+    rt: &impl Abort,
+    device: &mut Tried<W>,
+    parts: &Parts<'_>,
+    start: Start,
+) -> Result<(), WriteFault> {
+    assert!(rt; !device.failed());
+    let report: Report<'_, PlainGrid> = Report::Refused {
+        parts: Some(parts),
+        start,
+        fault: Fault {
+            offset: 1,
+            cause: Cause::Scrolls,
+        },
+    };
+    write_report(device, &report)
+}
 
 /// Asserts what the heading of a refusal calls the class of starts.
 fn expect_name(
@@ -20,20 +40,11 @@ fn expect_name(
     let text = format!(in rt.alloc();
         "size: 2 x 1\nstart: {name}\ncontent: 2 bytes\nverdict: refused\nat 1: F21 scrolls\n"
     )?;
-    let fault = Fault {
-        offset: 1,
-        cause: Cause::Scrolls,
-    };
-    let report: Report<'_, PlainGrid> = Report::Refused {
-        parts: Some(&parts),
-        start,
-        fault,
-    };
     assert!(rt;
-        writes(text.as_bytes(), |device| {
-            assert!(rt; !device.failed());
-            write_report(device, &report)
-        })
+        writes(
+            text.as_bytes(),
+            |device| write_refused(rt, device, &parts, start)
+        )
     );
     Ok(())
 }
