@@ -50,7 +50,8 @@ use Rattle.ans_check.specs.declared.exit_status.Ending.TheVariants.{Run, Help, U
 use Rattle.ans_check.specs.Run.{run_error_text}
 use Rattle.std.specs.Prelude.{Ok, Err}
 use Rattle.ans_judge.specs.CleanTexts.{IsCleanText, IsColouredText, is_for_terminal}
-use Rattle.ans_judge.proofs.CleanLines.{fault_line_clean, note_line_clean, refusal_clean, size_clean, needed_parts_clean}
+use Rattle.ans_judge.proofs.CleanLines.{fault_line_clean, note_line_clean, refusal_clean, size_clean}
+use Rattle.ans_judge.proofs.CleanLines.{needed_parts_clean}
 use Rattle.ans_judge.proofs.CleanLines.{heading_clean, OfBytes, parts_are_bytes, field_is_bytes, trimmed_is_bytes}
 use Rattle.ans_judge.proofs.CleanLines.{named_clean, field_clean}
 use Rattle.ans_judge.proofs.CleanWhy.{why_clean}
@@ -83,13 +84,15 @@ picture_clean : (picture : Picture) → All IsByteCell picture.cells → IsClean
 picture_clean picture h =
     clean_append (line_of (codes "picture:")) (flat_map picture_line (rows_of picture))
     (plain_text (line_of (codes "picture:")) refl)
-    (of_rows IsCleanText clean_nil clean_append picture_line picture_line_clean picture.size.width picture.size.lines picture.cells h)
+    (of_rows IsCleanText clean_nil clean_append picture_line picture_line_clean picture.size.width picture.size.lines
+    picture.cells h)
 
 cells_clean : (picture : Picture) → All IsByteCell picture.cells → IsCleanText (cells_text picture)
 cells_clean picture h =
     clean_append (line_of (codes "cells:")) (flat_map cells_line (rows_of picture))
     (plain_text (line_of (codes "cells:")) refl)
-    (of_rows IsCleanText clean_nil clean_append cells_line cells_line_clean picture.size.width picture.size.lines picture.cells h)
+    (of_rows IsCleanText clean_nil clean_append cells_line cells_line_clean picture.size.width picture.size.lines
+    picture.cells h)
 
 pass_clean : (heading : Heading) (picture : Picture) (with_cells : Bool) → All IsByteCell picture.cells
     → IsCleanText (report_text heading (Passed picture with_cells))

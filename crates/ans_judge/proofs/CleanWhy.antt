@@ -52,13 +52,15 @@ use Rattle.ans_explain.specs.declared.why.Why.{Why}
 use Rattle.ans_explain.specs.declared.why.Why.TheVariants.{NoContent, Refused, Passes}
 use Rattle.ans_judge.specs.CleanTexts.{IsCleanText}
 use Rattle.ans_judge.proofs.CleanLines.{all_left, all_right, fault_line_clean, refusal_clean, size_clean}
-use Rattle.ans_judge.proofs.CleanLines.{needed_parts_clean, parts_are_bytes, field_is_bytes, trimmed_is_bytes, named_clean}
+use Rattle.ans_judge.proofs.CleanLines.{needed_parts_clean, parts_are_bytes, field_is_bytes, trimmed_is_bytes}
+use Rattle.ans_judge.proofs.CleanLines.{named_clean}
 use Rattle.ans_judge.proofs.CleanPieces.{clean_nil, clean_append, clean_if, plain_text, clean_line, clean_decimal}
 use Rattle.ans_judge.proofs.CleanPieces.{clean_hex_byte, clean_shown}
 
 -- ---- bytes of a file
 
-content_is_bytes : (file : List ℕ) (parts : Parts) → IsSplit file parts → All IsByte file → All IsByte (content_of parts)
+content_is_bytes : (file : List ℕ) (parts : Parts) → IsSplit file parts → All IsByte file → All IsByte
+    (content_of parts)
 content_is_bytes file parts split bytes =
     subst (λ (v : List ℕ). All IsByte v) (sym split.shows.content)
     (All-take IsByte _ split.apart.body (parts_are_bytes file split.apart split.accepts bytes).body)
@@ -124,7 +126,8 @@ place_clean p =
     clean_append (codes "row ") (decimal p.row ++ (codes ", column " ++ decimal p.column))
     (plain_text (codes "row ") refl)
     (clean_append (decimal p.row) (codes ", column " ++ decimal p.column) (clean_decimal p.row)
-    (clean_append (codes ", column ") (decimal p.column) (plain_text (codes ", column ") refl) (clean_decimal p.column)))
+    (clean_append (codes ", column ") (decimal p.column) (plain_text (codes ", column ") refl)
+    (clean_decimal p.column)))
 
 cell_clean : (c : Cell) → IsByteCell c → IsCleanText (cell_text c)
 cell_clean c h =
@@ -348,7 +351,8 @@ pass_clean file parts pass bytes split h =
     (clean_append (codes "needs:") (needed_parts pass.needs) (plain_text (codes "needs:") refl)
     (needed_parts_clean pass.needs)))
     (clean_append taller relied
-    (named_clean (codes "taller") (answer_text pass.taller) (plain_text (codes "taller") refl) (answer_clean pass.taller))
+    (named_clean (codes "taller") (answer_text pass.taller) (plain_text (codes "taller") refl)
+    (answer_clean pass.taller))
     (clean_append (reliance_lines pass.reliance) hints
     (relied_clean _ (size_of parts) (length file) (content_of parts) pass.reliance
     (content_is_bytes file parts split bytes) h.relies)

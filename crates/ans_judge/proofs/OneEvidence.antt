@@ -85,7 +85,8 @@ module _ (z : Size) (class : Start) (content : List ℕ) where
   one_cells row column low high other_low other_high h g =
       let tokens : h.tokens ≡ g.tokens = one_reading content h.tokens g.tokens h.reads g.reads in
       let position : h.position ≡ g.position =
-      same_position h.position g.position (omega (arith, h.row_is, g.row_is)) (omega (arith, h.column_is, g.column_is)) in (
+      same_position h.position g.position (omega (arith, h.row_is, g.row_is)) (omega
+      (arith, h.column_is, g.column_is)) in (
         same_Some low other_low
             (sym h.low_is
             ∙ ap₂ (λ (ts : List TokenKind) (p : Position). cell_at z (low_final z class ts).screen p) tokens position
@@ -96,7 +97,8 @@ module _ (z : Size) (class : Start) (content : List ℕ) where
             ∙ g.high_is),
       )
 
-  one_named : (cause : Cause) (low high other_low other_high : Cell) → ShowsNamed z class content cause (Some (low, high))
+  one_named : (cause : Cause) (low high other_low other_high : Cell)
+      → ShowsNamed z class content cause (Some (low, high))
       → ShowsNamed z class content cause (Some (other_low, other_high)) → (low ≡ other_low) × (high ≡ other_high)
   one_named (UnknownCell row column) low high other_low other_high h g =
       one_cells row column low high other_low other_high h g

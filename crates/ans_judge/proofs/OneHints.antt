@@ -101,7 +101,8 @@ of_meaning : (raw : Raw) → RefusesInReading (meaning raw)
 of_meaning raw =
     err_or (not (has_a_meaning raw)) UnknownSequence _ unknown_sequence
     (err_or (is_marked raw.mark && not (is_one_of (codes "hl") raw.letter)) UnknownSequence _ unknown_sequence
-    (err_or (list_any is_quoted raw.members && not (is_one_of (codes "p") raw.letter)) WrongParameters _ wrong_parameters
+    (err_or (list_any is_quoted raw.members && not (is_one_of (codes "p") raw.letter)) WrongParameters _
+    wrong_parameters
     (of_look_up (table raw) raw.letter (of_table raw))))
 
 refused_in_reading : (text : List ℕ) (cause : Cause) → IsRefused text cause → IsOfReading cause
