@@ -47,7 +47,8 @@ module _ (z : Size) (count : ℕ) (bytes : List ℕ) (walk : Walk) (last : State
             ∙ ap (λ (n : ℕ). found_in_glyphs z h.state (offset + i) n (get_or bytes i 0 ∷ drop (i + 1) bytes) h.found)
             left ∙ ap (λ (n : ℕ). found_in_glyphs z (step z h.state (Glyph (get_or bytes i 0))) n (count - (i + 1))
             (drop (i + 1) bytes)
-            (found_with z h.state (offset + i) (Glyph (get_or bytes i 0)) (drop (i + 1) bytes) h.found)) there) ∙ h.end_is;
+            (found_with z h.state (offset + i) (Glyph (get_or bytes i 0)) (drop
+            (i + 1) bytes) h.found)) there) ∙ h.end_is;
       }
 
 -- all are walked over

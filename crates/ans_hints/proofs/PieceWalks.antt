@@ -1,7 +1,8 @@
 -- A walk over the pieces of a content.
 use Rattle.std.proofs.Common.{◌≡◌, ℕ, ◌≤◌, List, [], ◌∷◌, ◌++◌, length, map, take, drop, refl, sym, ap, arith}
 use Rattle.std.proofs.Common.{◌∙◌, subst, append_assoc, length-append, Bor}
-use Rattle.std.proofs.lemmas.List.{take_at, drop_at, drop-drop, length-drop, take-append-drop, drop-append-le, length-take}
+use Rattle.std.proofs.lemmas.List.{take_at, drop_at, drop-drop, length-drop, take-append-drop, drop-append-le}
+use Rattle.std.proofs.lemmas.List.{length-take}
 use Rattle.ans_model.specs.Sequence.TokenKind as token
 use Rattle.ans_model.specs.Sequence.TokenKind.{TokenKind}
 use Rattle.ans_model.specs.Sequence.Reads.{Reads, ReadsAs}

@@ -1,12 +1,12 @@
 -- The cells of planes with a state for each row, through runs and fills.
 use Rattle.std.proofs.Common.{◌≡◌, ℕ, ◌+◌, ◌-◌, ◌*◌, ◌/◌, ◌≤◌, ◌<◌, Bool, true, false, List, map, length}
 use Rattle.std.proofs.Common.{get_or, replicate, refl, ap, sym, ◌∙◌, arith, inl, inr, ◌⊎◌}
-use Rattle.std.proofs.Common.{drop, take, [], ◌++◌, append_assoc, All}
+use Rattle.std.proofs.Common.{drop, take, ◌++◌, append_assoc, All}
 use Rattle.std.proofs.Math.Seq.{take-append_seam, drop-append-add}
 use Rattle.std.proofs.lemmas.List.{length-append, length-take, drop-drop, replicate-append-replicate}
 use Rattle.std.proofs.lemmas.List.Elements.{All-get_or}
 use Rattle.std.proofs.lemmas.List.{length-replicate, get_or-replicate, length-map}
-use Rattle.std.proofs.lemmas.List.{same_lists, drop_all, append-nil}
+use Rattle.std.proofs.lemmas.List.{same_lists}
 use Rattle.ans_screen.specs.GridEdits.{written}
 use Rattle.ans_screen.specs.CellPlanes.{cell_of}
 use Rattle.ans_screen.specs.RowCells.{CellState, Known, Mixed, row_cell, state_of, state_at, cell_at, cells_of_rows}
@@ -125,13 +125,6 @@ all_blank w rows round held blank gs ks bs vs some whole older =
     ∙ (ap (λ t. row_cell t blank (get_or gs i 0) (get_or ks i 0) (get_or bs i 0) (get_or vs i 0))
     (off_round round row i (λ e. omega arith))
     ∙ sym (get_or-replicate (w * rows) i blank d within)))
-
--- a fill of the whole of a list
-pub filled_whole : {A : Type 0} (xs : List A) (n : ℕ) (x : A) → length xs ≡ n → filled xs 0 n x ≡ replicate n x
-filled_whole xs n x len =
-    let count : n - 0 ≡ n = omega arith in
-    let none : drop n xs ≡ [] = drop_all n xs (omega arith) in
-    rw (count, none) (append-nil (replicate n x))
 
 -- a fill that goes on where another ended
 pub filled_on : {A : Type 0} (xs : List A) (from mid to : ℕ) (x : A) → from ≤ mid → mid ≤ to → to ≤ length xs

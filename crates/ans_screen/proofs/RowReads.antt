@@ -17,7 +17,8 @@ use Rattle.std.proofs.lemmas.Option.{slice_get-get_or}
 use Rattle.ans_screen.specs.HalfCells.{attribute_byte, glyph_byte}
 use Rattle.ans_screen.specs.GridEdits.{is_unknown, first_unknown}
 use Rattle.ans_screen.specs.CellPlanes.{glyph_of, cell_of, AreKnown, IsFirstGap}
-use Rattle.ans_screen.specs.RowCells.{Stale, Known, Mixed, cell_in_grid, cells_of_grid, states_of, length_grid, AreKnownCells}
+use Rattle.ans_screen.specs.RowCells.{Stale, Known, Mixed, cell_in_grid, cells_of_grid, states_of, length_grid}
+use Rattle.ans_screen.specs.RowCells.{AreKnownCells}
 use Rattle.ans_screen.specs.RowCells.{IsFirstUnknown, IsCopied, IsHeldRow}
 use Rattle.ans_screen.specs.declared.row_planes.Row.{Row}
 use Rattle.ans_screen.specs.RowCells.{Planes}

@@ -5,7 +5,8 @@ use Rattle.std.proofs.lemmas.Bool.Decides.{nat_tests}
 use Rattle.ans_model.specs.Screen.Step.{filled}
 use Rattle.ans_screen.specs.HalfCells.{is_known}
 use Rattle.ans_screen.specs.CellPlanes.{cell_of}
-use Rattle.ans_screen.specs.RowCells.{Planes, Known, Mixed, state_of, byte_cell, IsMarked, HasBlanks, SameRows, SameShown}
+use Rattle.ans_screen.specs.RowCells.{Planes, Known, Mixed, state_of, byte_cell, IsMarked, HasBlanks, SameRows}
+use Rattle.ans_screen.specs.RowCells.{SameShown}
 use Rattle.ans_screen.specs.declared.row_planes.Row.{Row}
 use Rattle.ans_screen.proofs.Places.{keeps_all, keeps_filled, filled_within, Keeps}
 use Rattle.ans_screen.proofs.RowCells.{same_cell}

@@ -151,7 +151,8 @@ cell_more form last i bytes attributes front broken after whole lt same is_broke
     let shown = character_in form b in
     let rest = cells_in form a (cells_from bytes attributes (i + 1)) in
     let here : cells_from bytes attributes i ≡ cell b a ∷ cells_from bytes attributes (i + 1) =
-    ap₂ (λ (u v : List ℕ). zip2 cell u v) (drop_more bytes i 0 lt) (drop_more attributes i 0 (omega (arith, lt, same))) in
+    ap₂ (λ (u v : List ℕ). zip2 cell u v) (drop_more bytes i 0 lt) (drop_more attributes i 0 (omega
+    (arith, lt, same))) in
     ap (λ (v : List ℕ). v ++ rest) (is_after ∙ ap (λ (v : List ℕ). v ++ shown) is_broken)
     ∙ append_assoc (front ++ gap) shown rest ∙ append_assoc front gap (shown ++ rest)
     ∙ ap (λ (cs : List Cell). front ++ cells_in form last cs) (sym here) ∙ so_far

@@ -17,8 +17,13 @@ pub returns-clause-ok : goal.returns-clause-ok
 returns-clause-ok c =
     let met = rows_met c.args.matches.now c.in-Some.name.now (rows_of (found_of c.in-Some.found.now))
     c.in-Some.ensures.name c.in-Some.ensures.rows in
-    asks_for _ c.in-Some.name.now (rows_of (found_of c.in-Some.found.now)) _ _ met
-    (search rules, c.options_of.ensures.form, c.options_of.ensures.start, c.options_of.ensures.cells, c.in_ok-file.ensures.ok)
+    asks_for _ c.in-Some.name.now (rows_of (found_of c.in-Some.found.now)) _ _ met (
+      search rules,
+      c.options_of.ensures.form,
+      c.options_of.ensures.start,
+      c.options_of.ensures.cells,
+      c.in_ok-file.ensures.ok,
+    )
 
 pub returns-in_err-file-clause-memory : goal.returns-in_err-file-clause-memory
 returns-in_err-file-clause-memory c =

@@ -7,6 +7,7 @@ pub returns : goal.returns
 returns g c =
     let cells = c.args.cells.now in
     Puts-then
-    (Puts-same (take_rest cells (length c.run_end.result.now) ∙ ap (λ (k : ℕ). drop k cells) (ap length c.run_end.ensures))
+    (Puts-same (take_rest cells (length c.run_end.result.now) ∙ ap (λ (k : ℕ). drop k cells)
+    (ap length c.run_end.ensures))
     c.put.ensures)
     (Puts-same c.line_end.ensures c.put-2.ensures)

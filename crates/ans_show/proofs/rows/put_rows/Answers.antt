@@ -12,7 +12,8 @@ loop-row-init g c = record { room = search rules; puts = Puts-nothing c.args.out
 pub returns-then-has_failed : goal.returns-then-has_failed
 returns-then-has_failed g c =
     let failed : device_failed c.loop-row.out ≡ true = search rules in
-    Puts-all (line_in c.args.tables.now.form) (rows_of c.args.picture.now) c.loop-row.row failed c.loop-row.invariant.puts
+    Puts-all (line_in c.args.tables.now.form) (rows_of c.args.picture.now) c.loop-row.row failed
+    c.loop-row.invariant.puts
 
 pub loop-row-preserved : goal.loop-row-preserved
 loop-row-preserved g c =

@@ -6,6 +6,8 @@ use Rattle.ans_screen.proofs.row_planes.cells.copy_attributes.Goals as goal
 pub returns : goal.returns
 returns o c =
     let filled : c.fill.new.self ≡ replicate (length c.args.values.now) c.attribute_byte.result = search rules in
-    row_copied (o.P.RowPlanes.planes_of c.args.grid.now) attribute_byte c.args.row c.held_row-held.result c.held_row-held.ensures c.requires.row
-    c.args.values.now _ _ _ _ (c.attribute_byte.ensures ∙ ap attribute_byte c.blank.ensures) c.row_start-start.ensures.start c.requires.width filled
+    row_copied (o.P.RowPlanes.planes_of c.args.grid.now) attribute_byte c.args.row c.held_row-held.result
+    c.held_row-held.ensures c.requires.row
+    c.args.values.now _ _ _ _ (c.attribute_byte.ensures ∙ ap attribute_byte c.blank.ensures)
+    c.row_start-start.ensures.start c.requires.width filled
     (omega (arith, c.copy_held_attributes.auto.values)) (λ k lt. c.copy_held_attributes.ensures k (omega (arith, lt)))

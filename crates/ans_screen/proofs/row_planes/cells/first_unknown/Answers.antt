@@ -7,14 +7,22 @@ use Rattle.ans_screen.proofs.row_planes.cells.first_unknown.Goals as goal
 
 pub returns-then-start-to : goal.returns-then-start-to
 returns-then-start-to o c =
-    first_of_grid (o.P.RowPlanes.planes_of c.args.grid.now) c.args.to None (omega (arith, length_grid (o.P.RowPlanes.planes_of c.args.grid.now)))
+    first_of_grid (o.P.RowPlanes.planes_of c.args.grid.now) c.args.to None (omega (
+      arith,
+      length_grid
+          (o.P.RowPlanes.planes_of c.args.grid.now),
+    ))
     (λ i start lt. c.loop-row.invariant i (omega arith) lt)
 
 pub returns-in-Some : goal.returns-in-Some
 returns-in-Some o c =
     let found = c.in-Some.ensures in
     let start = c.row_start-start.ensures.start in
-    first_of_grid (o.P.RowPlanes.planes_of c.args.grid.now) c.args.to (Some c.in-Some.i) (omega (arith, length_grid (o.P.RowPlanes.planes_of c.args.grid.now))) (
+    first_of_grid (o.P.RowPlanes.planes_of c.args.grid.now) c.args.to (Some c.in-Some.i) (omega (
+      arith,
+      length_grid
+          (o.P.RowPlanes.planes_of c.args.grid.now),
+    )) (
       omega arith,
       omega (arith, found.1, c.min.ensures),
       λ i first lt. elim (cases_lt i c.row_start-start.result) [

@@ -5,4 +5,5 @@ use Rattle.ans_screen.proofs.row_planes.cells.put.Goals as goal
 
 pub returns-clause-cells : goal.returns-clause-cells
 returns-clause-cells o c =
-    c.fill_part.ensures.cells ∙ filled_one (cells_of_grid (o.P.RowPlanes.planes_of c.args.grid.now)) c.args.i c.args.cell c.requires
+    c.fill_part.ensures.cells ∙ filled_one (cells_of_grid (o.P.RowPlanes.planes_of c.args.grid.now)) c.args.i
+    c.args.cell c.requires

@@ -9,7 +9,8 @@ pub copy_from_slice-requires : goal.copy_from_slice-requires
 copy_from_slice-requires o c =
     let g = o.P.RowPlanes.planes_of c.args.grid.now in
     let room = row_end g.width c.args.row g.rows c.requires.row in
-    let long = part_long g.values c.values.result.now c.args.held.first c.args.held.end c.values.ensures c.requires.held.ordered
+    let long = part_long g.values c.values.result.now c.args.held.first c.args.held.end c.values.ensures
+    c.requires.held.ordered
     (omega (arith, g.whole_values, c.requires.held.stop)) in
     omega (arith, long)
 

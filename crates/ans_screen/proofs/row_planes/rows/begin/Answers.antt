@@ -5,10 +5,14 @@ use Rattle.ans_screen.proofs.row_planes.rows.begin.Goals as goal
 use Rattle.ans_screen.proofs.row_planes.rows.begin.Given.{Over}
 use Rattle.ans_screen.proofs.row_planes.rows.begin.Goals.{After-write_blank}
 
-begins : (o : Over) (c : After-write_blank o) → IsWidened (o.P.RowPlanes.planes_of c.args.grid.now) (o.P.RowPlanes.planes_of c.args.grid.now) (o.P.RowPlanes.planes_of c.args.grid.now) (o.P.RowPlanes.planes_of c.write_blank.new.grid)
-    c.args.row c.args.from c.min-stop.result (holds_none (o.P.RowPlanes.planes_of c.args.grid.now).round c.args.from) c.args.known
+begins : (o : Over) (c : After-write_blank o) → IsWidened (o.P.RowPlanes.planes_of c.args.grid.now)
+    (o.P.RowPlanes.planes_of c.args.grid.now) (o.P.RowPlanes.planes_of c.args.grid.now)
+    (o.P.RowPlanes.planes_of c.write_blank.new.grid)
+    c.args.row c.args.from c.min-stop.result (holds_none (o.P.RowPlanes.planes_of c.args.grid.now).round c.args.from)
+    c.args.known
 begins o c =
-    begun (o.P.RowPlanes.planes_of c.args.grid.now) (o.P.RowPlanes.planes_of c.write_blank.new.grid) c.args.row c.args.from c.min-stop.result c.args.known
+    begun (o.P.RowPlanes.planes_of c.args.grid.now) (o.P.RowPlanes.planes_of c.write_blank.new.grid) c.args.row
+    c.args.from c.min-stop.result c.args.known
     (omega (arith, (o.P.RowPlanes.planes_of c.args.grid.now).whole_held))
     c.requires.empty (omega (arith, c.min-stop.ensures, c.row_start-start.ensures.start)) c.write_blank.ensures.blanks
     c.write_blank.ensures.same

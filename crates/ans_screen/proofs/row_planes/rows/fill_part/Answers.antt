@@ -10,12 +10,14 @@ use Rattle.ans_screen.proofs.row_planes.rows.fill_part.Given.{Over}
 use Rattle.ans_screen.proofs.row_planes.rows.fill_part.Goals.{After-fill_shown}
 
 -- the cells, whichever way the other two planes stand for them
-filled_so : (o : Over) (c : After-fill_shown o) (n : Planes) → SameRows (o.P.RowPlanes.planes_of c.open-known.new.grid) n
+filled_so : (o : Over) (c : After-fill_shown o) (n : Planes) → SameRows
+    (o.P.RowPlanes.planes_of c.open-known.new.grid) n
     → n.glyphs ≡ (o.P.RowPlanes.planes_of c.fill_shown.new.self).glyphs
     → n.values ≡ (o.P.RowPlanes.planes_of c.fill_shown.new.self).values
     → AreMarked (o.P.RowPlanes.planes_of c.open-known.new.grid) c.open-known.result n.glyphs_known n.bits_known
     c.args.from c.args.to c.bytes_of-bytes.result.glyph_known c.bytes_of-bytes.result.bits_known
-    → cells_of_grid n ≡ filled (cells_of_grid (o.P.RowPlanes.planes_of c.args.grid.now)) c.args.from c.args.to c.args.cell
+    → cells_of_grid n ≡ filled (cells_of_grid (o.P.RowPlanes.planes_of c.args.grid.now)) c.args.from c.args.to
+    c.args.cell
 filled_so o c n same glyphs values marks =
     let old = o.P.RowPlanes.planes_of c.args.grid.now in
     let g = o.P.RowPlanes.planes_of c.open-known.new.grid in
@@ -25,7 +27,8 @@ filled_so o c n same glyphs values marks =
     let within : c.args.to ≤ old.width * old.rows = omega arith in
     let room : c.args.to ≤ g.width * g.rows = rw (opened.same.width, opened.same.rows) within in
     cells_by g n same
-    ∙ (fill_shown g c.args.from c.args.to c.open-known.result n.glyphs n.glyphs_known n.bits_known n.values x.glyph_known
+    ∙ (fill_shown g c.args.from c.args.to c.open-known.result n.glyphs n.glyphs_known n.bits_known n.values
+    x.glyph_known
     x.bits_known x.value c.requires.ordered room (values ∙ c.fill_shown.ensures.values) marks opened.held x.glyph
     c.args.cell (glyphs ∙ c.fill_shown.ensures.glyphs) c.bytes_of-bytes.ensures
     ∙ ap (λ (cells : List HalfCell). filled cells c.args.from c.args.to c.args.cell) opened.same.cells)

@@ -7,7 +7,8 @@ use Rattle.ans_screen.proofs.row_planes.rows.first_unknown_held.Given.{Over}
 use Rattle.ans_screen.proofs.row_planes.rows.first_unknown_held.Goals.{After-first_gap_from}
 
 -- all four planes count for the cells
-mixed : (o : Over) (c : After-first_gap_from o) (i : ℕ) → c.args.from ≤ i → i < c.args.to → states_of (o.P.RowPlanes.planes_of c.args.grid.now) i ≡ Mixed
+mixed : (o : Over) (c : After-first_gap_from o) (i : ℕ) → c.args.from ≤ i → i < c.args.to → states_of
+    (o.P.RowPlanes.planes_of c.args.grid.now) i ≡ Mixed
 mixed o c i le lt = c.requires.held i le lt ∙ ap state_of c.if-known.false
 
 pub returns-in-Some : goal.returns-in-Some

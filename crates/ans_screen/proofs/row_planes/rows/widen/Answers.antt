@@ -1,12 +1,15 @@
 use Rattle.std.proofs.Common.{arith, ◌∙◌}
-use Rattle.ans_screen.proofs.Widened.{IsWidened, widened_cells, widened_frame, widened_inside, none_held, row_written, states_written}
+use Rattle.ans_screen.proofs.Widened.{IsWidened, widened_cells, widened_frame, widened_inside, none_held, row_written}
+use Rattle.ans_screen.proofs.Widened.{states_written}
 use Rattle.ans_screen.proofs.row_planes.rows.widen.Goals as goal
 use Rattle.ans_screen.proofs.row_planes.rows.widen.Given.{Over}
 use Rattle.ans_screen.proofs.row_planes.rows.widen.Goals.{After-write_blank-2}
 
 -- what is held of the row is marked, and the blank is written before and behind it
-widened : (o : Over) (c : After-write_blank-2 o) → IsWidened (o.P.RowPlanes.planes_of c.args.grid.now) (o.P.RowPlanes.planes_of c.mark_known.new.grid) (o.P.RowPlanes.planes_of c.write_blank.new.grid)
-    (o.P.RowPlanes.planes_of c.write_blank-2.new.grid) c.args.row c.args.from c.stop_ahead-stop.result c.held_row-held.result c.if-held-2.known
+widened : (o : Over) (c : After-write_blank-2 o) → IsWidened (o.P.RowPlanes.planes_of c.args.grid.now)
+    (o.P.RowPlanes.planes_of c.mark_known.new.grid) (o.P.RowPlanes.planes_of c.write_blank.new.grid)
+    (o.P.RowPlanes.planes_of c.write_blank-2.new.grid) c.args.row c.args.from c.stop_ahead-stop.result
+    c.held_row-held.result c.if-held-2.known
 widened o c = record {
   row_there = omega (arith, (o.P.RowPlanes.planes_of c.args.grid.now).whole_held);
   holds = c.held_row-held.ensures;
@@ -22,7 +25,8 @@ widened o c = record {
 
 pub begin-requires-clause-empty : goal.begin-requires-clause-empty
 begin-requires-clause-empty o c =
-    none_held (o.P.RowPlanes.planes_of c.args.grid.now) c.args.row c.args.from c.held_row-held.result c.held_row-held.ensures (omega arith)
+    none_held (o.P.RowPlanes.planes_of c.args.grid.now) c.args.row c.args.from c.held_row-held.result
+    c.held_row-held.ensures (omega arith)
     c.requires.start (omega arith)
 
 pub returns-clause-same : goal.returns-clause-same
