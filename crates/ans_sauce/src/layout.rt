@@ -2,7 +2,8 @@
 ghost use Rattle.std.specs.Prelude.{◌≡◌, ◌≤◌, not, length, is_some, IsFalse, IfOk, IfErr, IfSome, IfNone, Some};
 ghost use Rattle.std.specs.List.{position};
 ghost use Rattle.ans_model.specs.File.Layout.{content, after_content, is_end_mark};
-ghost use Rattle.ans_model.specs.File.Refusals.{has_record, has_block, block_size, fault_at, first_refusal, record_fault};
+ghost use Rattle.ans_model.specs.File.Refusals.{has_record, has_block, block_size, fault_at};
+ghost use Rattle.ans_model.specs.File.Refusals.{first_refusal, record_fault};
 ghost use Rattle.ans_sauce.specs.RecordBytes.{bytes_of};
 ghost use Rattle.ans_sauce.specs.Split.{IsSplit, EndsInRecord, IsCut, PassesRecord, record_refusals};
 

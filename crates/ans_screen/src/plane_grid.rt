@@ -55,7 +55,8 @@ impl PlaneGrid {
         requires some_round { 1 ≤ round }
         ensures width { IfOk result (λ g. g.width ≡ width) }
         ensures rows { IfOk result (λ g. g.rows ≡ rows) }
-        ensures cells { IfOk result (λ g. cells_of_grid (⟦<PlaneGrid as RowPlanes>⟧.planes_of g) ≡ replicate (width * rows) cell) }
+        ensures cells { IfOk result (λ g. cells_of_grid (⟦<PlaneGrid as RowPlanes>⟧.planes_of g)
+            ≡ replicate (width * rows) cell) }
     {
         let count = width * rows;
         let never = Row {

@@ -216,7 +216,8 @@ pub(crate) fn fill_part<P: RowPlanes>(
 pub(crate) fn fill_rows<P: RowPlanes>(grid: &mut P, from: usize, to: usize, cell: &HalfCell)
     requires ordered { from < to }
     requires within { to ≤ (P.planes_of grid.old).width * (P.planes_of grid.old).rows }
-    ensures cells { cells_of_grid (P.planes_of grid.new) ≡ filled (cells_of_grid (P.planes_of grid.old)) from to cell.now }
+    ensures cells { cells_of_grid (P.planes_of grid.new)
+        ≡ filled (cells_of_grid (P.planes_of grid.old)) from to cell.now }
     ensures width { (P.planes_of grid.new).width ≡ (P.planes_of grid.old).width }
     ensures rows { (P.planes_of grid.new).rows ≡ (P.planes_of grid.old).rows }
 {
