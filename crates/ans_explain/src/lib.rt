@@ -8,4 +8,4 @@ mod why_text;
 
 pub use blamed::bytes_to_blame;
 pub use why::{Pass, Refusal, Reliance, Shown, Why};
-pub use why_text::write_why;
+pub use why_text::{put_why, write_why};

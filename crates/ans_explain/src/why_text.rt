@@ -249,7 +249,8 @@ fn put_found<W: Write>(out: &mut Outbox<'_, W>, found: &Found<'_>)
     }
 }
 
-fn put_why<W: Write>(out: &mut Outbox<'_, W>, why: &Why<'_>)
+/// Puts what `why` says of a file, as [`write_why`] writes it.
+pub fn put_why<W: Write>(out: &mut Outbox<'_, W>, why: &Why<'_>)
     ensures { Puts W.contents out.old out.new (why_text why.now) }
 {
     match why {

@@ -29,6 +29,6 @@ pub use heading::note_text;
 pub use lines::{put_named_line, put_number_line, put_size_line};
 pub use message::write_message;
 pub use needs_text::{Needs, put_needed_parts, write_needs};
-pub use record_text::write_record;
+pub use record_text::{put_record, write_record};
 pub use report::{Report, write_refusal, write_report};
 pub use tokens_text::write_tokens;

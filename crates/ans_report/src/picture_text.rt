@@ -14,7 +14,7 @@ use ans_model::limits::MAX_WIDTH;
 use ans_model::start::Start;
 use ans_play::Picture;
 use ans_sauce::Parts;
-use ans_screen::Grid;
+use ans_screen::Screen;
 use ans_write::{Outbox, Tables};
 use std::io::Write;
 
@@ -28,7 +28,7 @@ pub(crate) enum Shown {
 /// How many bytes a row has at most: four for each column.
 const ROW: usize = 4 * MAX_WIDTH;
 
-fn put_character_row<W: Write, G: Grid>(
+fn put_character_row<W: Write, G: Screen>(
     out: &mut Outbox<'_, W>,
     picture: &Picture<G>,
     row: usize,
@@ -46,7 +46,7 @@ fn put_character_row<W: Write, G: Grid>(
     out.put(b"\n");
 }
 
-fn put_digit_row<W: Write, G: Grid>(
+fn put_digit_row<W: Write, G: Screen>(
     out: &mut Outbox<'_, W>,
     picture: &Picture<G>,
     row: usize,
@@ -68,7 +68,7 @@ fn put_digit_row<W: Write, G: Grid>(
     out.put(b"\n");
 }
 
-fn put_row<W: Write, G: Grid>(
+fn put_row<W: Write, G: Screen>(
     out: &mut Outbox<'_, W>,
     picture: &Picture<G>,
     row: usize,
@@ -84,7 +84,7 @@ fn put_row<W: Write, G: Grid>(
     }
 }
 
-fn put_rows<W: Write, G: Grid>(out: &mut Outbox<'_, W>, picture: &Picture<G>, shown: Shown)
+fn put_rows<W: Write, G: Screen>(out: &mut Outbox<'_, W>, picture: &Picture<G>, shown: Shown)
     ensures text { Puts W.contents out.old out.new
         (flat_map (line_text shown) (rows_of picture.now)) }
     ensures whole { IsPictureOf picture.now.size picture.now }
@@ -98,7 +98,7 @@ fn put_rows<W: Write, G: Grid>(out: &mut Outbox<'_, W>, picture: &Picture<G>, sh
     }
 }
 
-fn put_cells<W: Write, G: Grid>(out: &mut Outbox<'_, W>, picture: &Picture<G>, cells: bool)
+fn put_cells<W: Write, G: Screen>(out: &mut Outbox<'_, W>, picture: &Picture<G>, cells: bool)
     ensures { Puts W.contents out.old out.new (if cells then cells_text picture.now else []) }
 {
     if !cells {
@@ -108,7 +108,7 @@ fn put_cells<W: Write, G: Grid>(out: &mut Outbox<'_, W>, picture: &Picture<G>, c
     put_rows(out, picture, Shown::Digits);
 }
 
-pub(crate) fn put_pass<W: Write, G: Grid>(
+pub(crate) fn put_pass<W: Write, G: Screen>(
     out: &mut Outbox<'_, W>,
     parts: &Parts<'_>,
     start: Start,

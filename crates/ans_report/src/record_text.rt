@@ -36,7 +36,8 @@ fn put_comments<W: Write>(out: &mut Outbox<'_, W>, parts: &Parts<'_>)
     }
 }
 
-fn put_record<W: Write>(out: &mut Outbox<'_, W>, parts: &Parts<'_>)
+/// Puts what a file's record says, as [`write_record`] writes it.
+pub fn put_record<W: Write>(out: &mut Outbox<'_, W>, parts: &Parts<'_>)
     ensures { Puts W.contents out.old out.new (parts_text parts.now) }
 {
     let sauce = parts.sauce();

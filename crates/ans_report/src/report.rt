@@ -14,13 +14,13 @@ use crate::picture_text::put_pass;
 use ans_model::start::Start;
 use ans_play::Picture;
 use ans_sauce::{Fault, Parts};
-use ans_screen::Grid;
+use ans_screen::Screen;
 use ans_write::{Outbox, Tried, WriteFault};
 use std::io::Write;
 
 /// What a report says of a file.
 #[derive(Drop)]
-pub enum Report<'a, G: Grid> {
+pub enum Report<'a, G: Screen> {
     /// The content plays well from every start of the class, and shows the picture. `cells` asks for
     /// the byte and the attribute of each cell too.
     Pass {
@@ -55,7 +55,7 @@ pub(crate) fn put_refused<W: Write>(
     }
 }
 
-fn put_report<W: Write, G: Grid>(out: &mut Outbox<'_, W>, r: &Report<'_, G>)
+fn put_report<W: Write, G: Screen>(out: &mut Outbox<'_, W>, r: &Report<'_, G>)
     ensures text { Puts W.contents out.old out.new (report_bytes r.now) }
     ensures cells_back { TellsCells r.now }
 {
@@ -82,7 +82,7 @@ fn put_report<W: Write, G: Grid>(out: &mut Outbox<'_, W>, r: &Report<'_, G>)
 ///
 /// `Err` comes exactly where the device failed in the call, and then a prefix of the text was
 /// written.
-pub fn write_report<W: Write, G: Grid>(
+pub fn write_report<W: Write, G: Screen>(
     w: &mut Tried<W>,
     r: &Report<'_, G>,
 ) -> Result<(), WriteFault>

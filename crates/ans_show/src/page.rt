@@ -14,7 +14,7 @@ use crate::look::{background, blinks, foreground};
 use crate::rows::put_rows;
 use crate::short_text::ShortText;
 use ans_play::Picture;
-use ans_screen::Grid;
+use ans_screen::Screen;
 use ans_write::{Outbox, Tried, WriteFault};
 use std::io::Write;
 
@@ -110,7 +110,7 @@ fn put_title<W: Write>(out: &mut Outbox<'_, W>, title: &[u8], tables: &FormTable
     }
 }
 
-fn put_page<W: Write, G: Grid>(
+fn put_page<W: Write, G: Screen>(
     out: &mut Outbox<'_, W>,
     picture: &Picture<G>,
     title: &[u8],
@@ -135,7 +135,7 @@ fn put_page<W: Write, G: Grid>(
 /// `Err` comes exactly where the device failed in the call, and then a prefix of the page was
 /// written.
 #[inline(never)]
-pub fn write_page<W: Write, G: Grid>(
+pub fn write_page<W: Write, G: Screen>(
     w: &mut Tried<W>,
     picture: &Picture<G>,
     title: &[u8],

@@ -10,7 +10,7 @@ use crate::form::{Form, line_end, run_end};
 use crate::form_tables::{CELL, FormTables};
 use ans_model::limits::MAX_WIDTH;
 use ans_play::Picture;
-use ans_screen::Grid;
+use ans_screen::Screen;
 use ans_write::Outbox;
 use std::io::Write;
 
@@ -28,7 +28,7 @@ fn put_cells<W: Write>(out: &mut Outbox<'_, W>, cells: &[u8], form: Form)
 }
 
 /// Puts the line of a row. `text` is room for its cells.
-fn put_row<W: Write, G: Grid>(
+fn put_row<W: Write, G: Screen>(
     out: &mut Outbox<'_, W>,
     picture: &Picture<G>,
     row: usize,
@@ -52,7 +52,7 @@ fn put_row<W: Write, G: Grid>(
     put_cells(out, &text[..end], tables.form);
 }
 
-pub(crate) fn put_rows<W: Write, G: Grid>(
+pub(crate) fn put_rows<W: Write, G: Screen>(
     out: &mut Outbox<'_, W>,
     picture: &Picture<G>,
     tables: &FormTables,

@@ -13,7 +13,7 @@ use crate::look::{background, blinks, foreground};
 use crate::rows::put_rows;
 use crate::short_text::ShortText;
 use ans_play::Picture;
-use ans_screen::Grid;
+use ans_screen::Screen;
 use ans_write::{Outbox, Tried, WriteFault};
 use std::io::Write;
 
@@ -118,7 +118,7 @@ pub(crate) fn colours(attribute: u8, non_blink: bool, vga: bool) -> ShortText
 /// `Err` comes exactly where the device failed in the call, and then a prefix of the text was
 /// written.
 #[inline(never)]
-pub fn write_terminal<W: Write, G: Grid>(
+pub fn write_terminal<W: Write, G: Screen>(
     w: &mut Tried<W>,
     picture: &Picture<G>,
     non_blink: bool,

@@ -1,6 +1,6 @@
 //! Texts on their way to a device.
 ghost use Rattle.std.specs.Prelude.{◌≡◌, ◌↔◌, [], false, decimal, IsTrue, IsErr, OnOk};
-ghost use Rattle.ans_write.specs.Puts.{Puts, device_of, device_failed, waiting_of};
+ghost use Rattle.ans_write.specs.Puts.{HandsOn, Puts, device_of, device_failed, waiting_of};
 
 use crate::tried::Tried;
 use arrayvec::ArrayVec;
@@ -42,7 +42,7 @@ impl<'a, W: Write> Outbox<'a, W> {
     }
 
     fn flush(&mut self)
-        ensures puts { Puts W.contents self.old self.new [] }
+        ensures handed { HandsOn W.contents self.old self.new [] }
         ensures empty { device_failed self.new ≡ false → waiting_of self.new ≡ [] }
     {
         if self.has_failed() {
@@ -50,6 +50,13 @@ impl<'a, W: Write> Outbox<'a, W> {
         }
         let _ = self.device.write_all(self.waiting.as_slice());
         self.waiting.clear();
+    }
+
+    /// The text that waits to be written.
+    pub fn waiting(&self) -> &[u8]
+        ensures { result.now ≡ waiting_of self.now }
+    {
+        self.waiting.as_slice()
     }
 
     /// Puts a text behind what waits. Where there is no room for it, what waits is written first.
@@ -65,7 +72,7 @@ impl<'a, W: Write> Outbox<'a, W> {
     /// Puts a text for which there is no room among what waits.
     #[inline(never)]
     fn put_after_a_flush(&mut self, text: &[u8])
-        ensures { Puts W.contents self.old self.new text.now }
+        ensures { HandsOn W.contents self.old self.new text.now }
     {
         self.flush();
         if self.has_failed() {
@@ -90,7 +97,7 @@ impl<'a, W: Write> Outbox<'a, W> {
     /// prefix of what was put was written.
     pub fn finish(&mut self) -> Result<(), WriteFault>
         ensures device { IsErr result ↔ IsTrue (device_failed self.new) }
-        ensures puts { Puts W.contents self.old self.new [] }
+        ensures handed { HandsOn W.contents self.old self.new [] }
         ensures empty { OnOk result (waiting_of self.new ≡ []) }
     {
         self.flush();

@@ -5,5 +5,5 @@ use Rattle.ans_report.proofs.report.write_report.Goals as goal
 pub returns-clause-bytes : goal.returns-clause-bytes
 returns-clause-bytes g c =
     let written = WritesText-finished c.args.w.now c.finish.result c.new-out.ensures.unchanged c.new-out.ensures.empty
-    c.put_report.ensures.text c.finish.ensures.puts c.finish.ensures.device c.finish.ensures.empty in
+    c.put_report.ensures.text c.finish.ensures.handed c.finish.ensures.device c.finish.ensures.empty in
     search (rules, written)

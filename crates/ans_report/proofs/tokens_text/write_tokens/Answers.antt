@@ -8,7 +8,7 @@ returns-in_err-finish-clause-prefix g c =
     let (fault, text, is_text, begun) =
     tokens_begun c.args.w.now c.args.content.now c.put_tokens-fault.result c.new-out.ensures.unchanged
     c.new-out.ensures.empty c.put_tokens-fault.ensures
-    c.finish.ensures.puts in
+    c.finish.ensures.handed in
     IfErr-always c.from_residual.result (fault, text, is_text, search (rules, begun))
 
 pub returns-clause-text : goal.returns-clause-text
@@ -18,5 +18,5 @@ returns-clause-text g c =
     let (text, is_text, appended) =
     tokens_written c.args.w.now c.args.content.now c.put_tokens-fault.result c.new-out.ensures.unchanged
     c.new-out.ensures.empty c.put_tokens-fault.ensures
-    c.finish.ensures.puts works empty in
+    c.finish.ensures.handed works empty in
     (text, is_text, search (rules, appended))

@@ -6,5 +6,5 @@ pub returns-clause-bytes : goal.returns-clause-bytes
 returns-clause-bytes g c =
     let written =
     WritesText-finished c.args.writer.now c.finish.result c.new-out.ensures.unchanged c.new-out.ensures.empty
-    c.put_counts.ensures c.finish.ensures.puts c.finish.ensures.device c.finish.ensures.empty in
+    c.put_counts.ensures c.finish.ensures.handed c.finish.ensures.device c.finish.ensures.empty in
     search (rules, written)
