@@ -1,7 +1,7 @@
 -- What plays from some classes say of the parts that a content needs.
 use Rattle.std.proofs.Common.{◌≡◌, ℕ, Bool, true, false, List, Option, Some, None, refl}
-use Rattle.std.specs.Prelude.{◌↔◌, ◌&&◌, IsTrue, is_some}
-use Rattle.std.proofs.lemmas.Bool.{and_parts}
+use Rattle.std.specs.Prelude.{◌↔◌, is_some}
+use Rattle.std.proofs.Math.Bool.{and-true, and-false}
 use Rattle.ans_model.specs.Screen.State.{Size}
 use Rattle.ans_model.specs.Screen.StartClass.{Covers, both_known}
 use Rattle.ans_model.specs.Verdict.Good.{IsGood}
@@ -30,49 +30,13 @@ unknown_without class Saved = refl
 unknown_without class Colours = refl
 unknown_without class Wrap = refl
 
-kept : (b : Bool) → IsTrue (b && true) → IsTrue b
-kept b k = (and_parts b true k).0
-
-dropped : (b : Bool) → IsTrue (b && false) → IsTrue false
-dropped b k = (and_parts b false k).1
-
--- what a class and that of all other parts both know, the class knows without the part
-covers_without : (c : Start) (part : Part) → Covers (both_known c (all_but part)) (with_part part false c)
-covers_without c Screen = record {
-  screen = dropped c.screen;
-  cursor = kept c.cursor;
-  saved = kept c.saved;
-  colours = kept c.colours;
-  wrap = kept c.wrap;
-}
-covers_without c Cursor = record {
-  screen = kept c.screen;
-  cursor = dropped c.cursor;
-  saved = kept c.saved;
-  colours = kept c.colours;
-  wrap = kept c.wrap;
-}
-covers_without c Saved = record {
-  screen = kept c.screen;
-  cursor = kept c.cursor;
-  saved = dropped c.saved;
-  colours = kept c.colours;
-  wrap = kept c.wrap;
-}
-covers_without c Colours = record {
-  screen = kept c.screen;
-  cursor = kept c.cursor;
-  saved = kept c.saved;
-  colours = dropped c.colours;
-  wrap = kept c.wrap;
-}
-covers_without c Wrap = record {
-  screen = kept c.screen;
-  cursor = kept c.cursor;
-  saved = kept c.saved;
-  colours = kept c.colours;
-  wrap = dropped c.wrap;
-}
+-- what a class and that of all other parts both know is the class without the part
+both_without : (c : Start) (part : Part) → both_known c (all_but part) ≡ with_part part false c
+both_without c Screen = simp (and-true, and-false)
+both_without c Cursor = simp (and-true, and-false)
+both_without c Saved = simp (and-true, and-false)
+both_without c Colours = simp (and-true, and-false)
+both_without c Wrap = simp (and-true, and-false)
 
 -- ---- a content
 module _ (z : Size) (content : List ℕ) where
@@ -89,7 +53,7 @@ module _ (z : Size) (content : List ℕ) where
       → (true ≡ false) ↔ IsGood z (all_but part) content
   needed_there c part good not = (
     λ e. absurd (cc),
-    λ g. absurd (not (covered _ _ (covers_without c part) (good_from_both z c (all_but part) content good g))),
+    λ g. absurd (not (rw both_without at (good_from_both z c (all_but part) content good g))),
   )
 
   -- so where the class without the part covers one for which it is not good

@@ -1,5 +1,6 @@
 pub mod PlayLemmas
 pub mod VerdictLemmas
+pub mod RoomLemmas
 pub mod ReportLemmas
 pub mod ReportedLemmas
 pub mod ServedLemmas

@@ -41,15 +41,6 @@ use Rattle.ans_check.specs.Table.{row_names, rows_in}
 use Rattle.ans_check.specs.Table.{unread_of}
 
 -- ---- files
--- a content is no longer than its file
-pub content_within : (file : List ℕ) (parts : Parts) → IsSplit file parts → length file ≤ longest_file
-    → length (content_of parts) ≤ longest_file
-content_within file parts h within =
-    let body = h.apart.body in
-    let size = ap length h.accepts.laid.whole ∙ length-append body _ in
-    let front : length (content body) ≤ length body = simp length-take (omega arith) in
-    rw h.shows.content (omega (arith, within, size, front))
-
 module _ {R : Type 0} (remaining : R → Option (List ℕ)) (is_file : Text → R → Type 0) (is_missing : Text → Type 0)
     (name : Text) (reader after : Tried R) where
   -- what is found in a file that was read

@@ -1,8 +1,10 @@
 -- What a split and a play say of a file.
-use Rattle.std.proofs.Common.{◌≡◌, ℕ, Bool, true, false, List, [], ◌∷◌, subst, inl, inr, ◌⊎◌, Some, None, ap₂}
+use Rattle.std.proofs.Common.{◌≡◌, ◌∙◌, ◌≤◌, ap, arith, length, length-append, ℕ, Bool, true, false, List, [], ◌∷◌, subst, inl, inr, ◌⊎◌, Some, None, ap₂}
 use Rattle.std.proofs.Common.{if◌then◌else◌, refl}
 use Rattle.std.specs.Prelude.{IfSome, IsSome, Result, Ok, Err, IfOk, IfErr}
 use Rattle.std.specs.List.{AllByRecursion}
+use Rattle.std.proofs.lemmas.List.{length-take}
+use Rattle.ans_model.specs.Bytes.{longest_file}
 use Rattle.ans_model.specs.File.Layout.{FileParts, content}
 use Rattle.ans_model.specs.File.Refusals.{Accepts, Refusal, fault_at, first_refusal, file_refusals, record_fault}
 use Rattle.ans_model.specs.Verdict.Certain.{IsCertain}
@@ -60,6 +62,18 @@ found_of_file : (file : List ℕ) (parts : Parts) (s : IsSplit file parts) (P : 
     → (Accepts file s.apart → P (stated_size s.apart) (content s.apart.body) → Found s.apart)
     → P (parts_size parts) (content_of parts) → (apart : FileParts) × ShowsParts apart parts × Found apart
 found_of_file file parts s P Found found h = (s.apart, s.shows, found s.accepts (so_of_file file parts s P h))
+
+-- a content is no longer than its file
+pub content_no_longer : (file : List ℕ) (parts : Parts) → IsSplit file parts → length (content_of parts) ≤ length file
+content_no_longer file parts h =
+    let body = h.apart.body in
+    let size = ap length h.accepts.laid.whole ∙ length-append body _ in
+    let front : length (content body) ≤ length body = simp length-take (omega arith) in
+    rw h.shows.content (omega (arith, size, front))
+
+pub content_within : (file : List ℕ) (parts : Parts) → IsSplit file parts → length file ≤ longest_file
+    → length (content_of parts) ≤ longest_file
+content_within file parts h within = omega (arith, within, content_no_longer file parts h)
 
 -- where the parts' content is good, the file passes
 pub passes : (file : List ℕ) (start : Start) (parts : Parts) (p : Picture) → IsSplit file parts

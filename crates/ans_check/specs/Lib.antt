@@ -2,6 +2,8 @@ pub use Rattle.ans_options.specs.CommandLine
 pub mod Run
 pub mod Ending
 pub mod FileVerdict
+pub mod ScreenRoom
+pub mod LentScreen
 pub mod StartParts
 pub mod FileNeeds
 pub mod CommandText

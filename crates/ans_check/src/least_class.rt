@@ -6,16 +6,16 @@ ghost use Rattle.ans_model.specs.Verdict.Good.{IsGood};
 ghost use Rattle.ans_model.specs.Verdict.Needs.{IsFoundByParts, IsLeast};
 ghost use Rattle.ans_sauce.specs.Parts.{content_of};
 ghost use Rattle.ans_check.specs.FileVerdict.{Deserves, parts_size};
+ghost use Rattle.ans_check.specs.ScreenRoom.{TakesRoom};
 ghost use Rattle.ans_check.specs.StartParts.{EndsFrom, Passes, all_but, knows, with_part};
 
 use crate::part::Part;
-use crate::verdict::fault_from;
+use crate::screens::Screens;
 use ans_model::fault::{Cause, Fault};
 use ans_model::start::Start;
 use ans_sauce::Parts;
-use ans_screen::Grid;
 use memchr::memmem;
-use std::alloc::{AllocError, Global};
+use std::alloc::AllocError;
 
 /// The class that a content needs, and its fault from all starts, where it needs anything.
 #[derive(Clone, Copy)]
@@ -54,20 +54,21 @@ fn likely_parts(content: &[u8], fault: Fault) -> &'static [Part] {
 
 /// Looks for a part that makes a difference: with it known too, the content passes or has another
 /// fault.
-fn part_that_mends<G: Grid>(
-    alloc: Global,
+fn part_that_mends<S: Screens>(
+    screens: &mut S,
     parts: &Parts<'_>,
     class: Start,
     fault: Fault,
 ) -> Result<Option<Mended>, AllocError>
     requires { length (content_of parts.now) ≤ longest_file }
     ensures unknown { IfOk result (λ found. IfSome found (λ m. knows class m.part ≡ false)) }
+    ensures room { TakesRoom S.has_room S.may_lack (parts_size parts.now) screens.old screens.new result }
     ensures end { IfOk result (λ found. IfSome found (λ m.
         EndsFrom (parts_size parts.now) (content_of parts.now) (with_part m.part true class) m.fault)) }
 {
     for part in likely_parts(parts.content(), fault) {
         if !part.is_known_in(class) {
-            let next = fault_from::<G>(alloc, parts, part.made_known(true, class))?;
+            let next = screens.fault_from(parts, part.made_known(true, class))?;
             if next != Some(fault) {
                 return Ok(Some(Mended {
                     part: *part,
@@ -82,20 +83,21 @@ fn part_that_mends<G: Grid>(
 /// Finds a class from which the content passes: from all starts it has this fault, and as long as it
 /// has one, the part is made known that mends it. Where no part does so by itself, it is the class of
 /// the cleared start.
-fn passing_class<G: Grid>(
-    alloc: Global,
+fn passing_class<S: Screens>(
+    screens: &mut S,
     parts: &Parts<'_>,
     fault_from_any: Fault,
 ) -> Result<Passing, AllocError>
     requires length { length (content_of parts.now) ≤ longest_file }
     requires good { IsGood (parts_size parts.now) all_known (content_of parts.now) }
     requires fault { Deserves (parts_size parts.now) none_known (content_of parts.now) fault_from_any }
-    ensures { IfOk result (Passes (parts_size parts.now) (content_of parts.now)) }
+    ensures room { TakesRoom S.has_room S.may_lack (parts_size parts.now) screens.old screens.new result }
+    ensures passes { IfOk result (Passes (parts_size parts.now) (content_of parts.now)) }
 {
     let mut class = Start::ANY;
     let mut fault = fault_from_any;
     for _ in 0..5 {
-        let Some(mended) = part_that_mends::<G>(alloc, parts, class, fault)? else {
+        let Some(mended) = part_that_mends(screens, parts, class, fault)? else {
             break;
         };
         let wider = mended.part.made_known(true, class);
@@ -119,15 +121,16 @@ fn passing_class<G: Grid>(
 }
 
 /// Whether the content needs a part, by a class from which it passes.
-fn needs_part<G: Grid>(
-    alloc: Global,
+fn needs_part<S: Screens>(
+    screens: &mut S,
     parts: &Parts<'_>,
     passing: &Passing,
     part: Part,
 ) -> Result<bool, AllocError>
     requires length { length (content_of parts.now) ≤ longest_file }
     requires passes { Passes (parts_size parts.now) (content_of parts.now) passing.now }
-    ensures { IfOk result (λ needed. (needed ≡ false)
+    ensures room { TakesRoom S.has_room S.may_lack (parts_size parts.now) screens.old screens.new result }
+    ensures needed { IfOk result (λ needed. (needed ≡ false)
         ↔ IsGood (parts_size parts.now) (all_but part) (content_of parts.now)) }
 {
     if !part.is_known_in(passing.class) {
@@ -137,26 +140,27 @@ fn needs_part<G: Grid>(
     if without.covers(passing.refused) {
         return Ok(true);
     }
-    let fault = fault_from::<G>(alloc, parts, without)?;
+    let fault = screens.fault_from(parts, without)?;
     Ok(fault.is_some())
 }
 
 /// The class of the parts that the content cannot do without, where it passes from a class.
-fn class_by_parts<G: Grid>(
-    alloc: Global,
+fn class_by_parts<S: Screens>(
+    screens: &mut S,
     parts: &Parts<'_>,
     passing: &Passing,
 ) -> Result<Start, AllocError>
     requires length { length (content_of parts.now) ≤ longest_file }
     requires passes { Passes (parts_size parts.now) (content_of parts.now) passing.now }
-    ensures { IfOk result (IsFoundByParts (parts_size parts.now) (content_of parts.now)) }
+    ensures room { TakesRoom S.has_room S.may_lack (parts_size parts.now) screens.old screens.new result }
+    ensures found { IfOk result (IsFoundByParts (parts_size parts.now) (content_of parts.now)) }
 {
     Ok(Start {
-        screen: needs_part::<G>(alloc, parts, passing, Part::Screen)?,
-        cursor: needs_part::<G>(alloc, parts, passing, Part::Cursor)?,
-        saved: needs_part::<G>(alloc, parts, passing, Part::Saved)?,
-        colours: needs_part::<G>(alloc, parts, passing, Part::Colours)?,
-        wrap: needs_part::<G>(alloc, parts, passing, Part::Wrap)?,
+        screen: needs_part(screens, parts, passing, Part::Screen)?,
+        cursor: needs_part(screens, parts, passing, Part::Cursor)?,
+        saved: needs_part(screens, parts, passing, Part::Saved)?,
+        colours: needs_part(screens, parts, passing, Part::Colours)?,
+        wrap: needs_part(screens, parts, passing, Part::Wrap)?,
     })
 }
 
@@ -164,23 +168,27 @@ fn class_by_parts<G: Grid>(
 /// starts first. Where that fails, a class from which it passes is looked for by the faults, and then
 /// each part of that class is tried: the content is played without it.
 ///
-/// Fails where memory runs out.
-pub(crate) fn least_class<G: Grid>(alloc: Global, parts: &Parts<'_>) -> Result<Least, AllocError>
+/// Fails where there is no room for a screen.
+pub(crate) fn least_class<S: Screens>(
+    screens: &mut S,
+    parts: &Parts<'_>,
+) -> Result<Least, AllocError>
     requires length { length (content_of parts.now) ≤ longest_file }
     requires good { IsGood (parts_size parts.now) all_known (content_of parts.now) }
+    ensures room { TakesRoom S.has_room S.may_lack (parts_size parts.now) screens.old screens.new result }
     ensures least { IfOk result (λ l. IsLeast (parts_size parts.now) (content_of parts.now) l.class) }
     ensures nothing { IfOk result (λ l. IfNone l.fault (l.class ≡ none_known)) }
     ensures fault { IfOk result (λ l. IfSome l.fault (λ f. (l.class ≢ none_known)
         × Deserves (parts_size parts.now) none_known (content_of parts.now) f)) }
 {
-    let Some(fault) = fault_from::<G>(alloc, parts, Start::ANY)? else {
+    let Some(fault) = screens.fault_from(parts, Start::ANY)? else {
         return Ok(Least {
             class: Start::ANY,
             fault: None,
         });
     };
-    let passing = passing_class::<G>(alloc, parts, fault)?;
-    let class = class_by_parts::<G>(alloc, parts, &passing)?;
+    let passing = passing_class(screens, parts, fault)?;
+    let class = class_by_parts(screens, parts, &passing)?;
     Ok(Least {
         class,
         fault: Some(fault),

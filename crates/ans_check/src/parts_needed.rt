@@ -5,9 +5,10 @@ ghost use Rattle.ans_model.specs.File.Refusals.{record_fault};
 ghost use Rattle.ans_model.specs.Screen.StartClass.{all_known};
 ghost use Rattle.ans_check.specs.FileNeeds.{IsNeedsOf, needs_fault};
 ghost use Rattle.ans_check.specs.FileVerdict.{IsGoodFile};
+ghost use Rattle.ans_check.specs.ScreenRoom.{AnswersWithin};
 
 use crate::least_class::least_class;
-use crate::verdict::play;
+use crate::screens::{NewScreens, Screens};
 use ans_model::start::Start;
 use ans_report::Needs;
 use ans_sauce::split;
@@ -27,13 +28,26 @@ pub fn needs<G: Grid>(alloc: Global, file: &[u8]) -> Result<Needs<'_>, AllocErro
     ensures offset { IfOk result (λ n. IfSome (needs_fault n) (λ f. f.offset ≤ length file.now)) }
     ensures memory { IsSome (record_fault file.now) → IsOk result }
 {
+    needs_on(&mut NewScreens::<G>::new(alloc), file)
+}
+
+/// The same, on screens from elsewhere. `Err` says that there is no room for the screen that the file's
+/// record states.
+pub fn needs_on<'a, S: Screens>(screens: &mut S, file: &'a [u8]) -> Result<Needs<'a>, AllocError>
+    requires { length file.now ≤ longest_file }
+    ensures needs { IfOk result (IsNeedsOf file.now) }
+    ensures exact { IfOk result (λ n. IsGoodFile file.now all_known → needs_fault n ≡ None) }
+    ensures offset { IfOk result (λ n. IfSome (needs_fault n) (λ f. f.offset ≤ length file.now)) }
+    ensures memory { IsSome (record_fault file.now) → IsOk result }
+    ensures room { AnswersWithin S.has_room S.may_lack file.now screens.old result }
+{
     let parts = match split(file) {
         Ok(parts) => parts,
         Err(fault) => return Ok(Needs::Refused(None, fault)),
     };
-    if let Err(fault) = play::<G>(alloc, &parts, Start::CLEARED)? {
+    if let Some(fault) = screens.fault_from(&parts, Start::CLEARED)? {
         return Ok(Needs::Refused(Some(parts), fault));
     }
-    let least = least_class::<G>(alloc, &parts)?;
+    let least = least_class(screens, &parts)?;
     Ok(Needs::Least(parts, least.class))
 }

@@ -14,10 +14,11 @@ ghost use Rattle.ans_check.specs.Reported.{IsReported};
 ghost use Rattle.ans_check.specs.Served.{Serves};
 
 use crate::errors::RunError;
-use crate::parts_needed::needs;
+use crate::parts_needed::needs_on;
 use crate::reading::read_all;
+use crate::screens::KeptScreens;
 use crate::verdict::{Verdict, check};
-use crate::why_of::why_of;
+use crate::why::why_on;
 use ans_explain::{Why, write_why};
 use ans_model::start::Start;
 use ans_options::{Command, Form, Options};
@@ -27,13 +28,13 @@ use ans_report::{
     write_tokens,
 };
 use ans_sauce::{Parts, split};
-use ans_screen::{Grid, PlaneGrid};
+use ans_screen::{PlaneGrid, Screen};
 use ans_show::{write_page, write_terminal};
 use std::alloc::Global;
 use std::io::{Read, Write};
 
 /// The report that tells a verdict.
-fn report_of<'a, G: Grid>(verdict: &'a Verdict<'a, G>, start: Start, cells: bool) -> Report<'a, G>
+fn report_of<'a, G: Screen>(verdict: &'a Verdict<'a, G>, start: Start, cells: bool) -> Report<'a, G>
     ensures { IsReportOf verdict.now start cells result }
 {
     match verdict {
@@ -52,7 +53,7 @@ fn report_of<'a, G: Grid>(verdict: &'a Verdict<'a, G>, start: Start, cells: bool
 }
 
 /// Whether a verdict is a pass.
-fn is_pass<G: Grid>(verdict: &Verdict<'_, G>) -> bool
+fn is_pass<G: Screen>(verdict: &Verdict<'_, G>) -> bool
     ensures { result ≡ not (is_some (fault_of verdict.now)) }
 {
     matches!(verdict, Verdict::Pass(_, _))
@@ -89,7 +90,7 @@ fn report<W: Write>(
 }
 
 /// Writes a picture in colour, with the title of its record and by its non-blink flag.
-fn write_picture<W: Write, G: Grid>(
+fn write_picture<W: Write, G: Screen>(
     writer: &mut Tried<W>,
     picture: &Picture<G>,
     parts: &Parts<'_>,
@@ -178,7 +179,7 @@ fn tell_needs<W: Write>(alloc: Global, writer: &mut Tried<W>, file: &[u8]) -> Re
     ensures reported { IsReported W.contents (ReportsNeeds file.now) writer.old writer.new result }
     ensures memory { IsSome (record_fault file.now) → IfErr result (λ e. e ≡ RunError.Write) }
 {
-    let Ok(found) = needs::<PlaneGrid>(alloc, file) else {
+    let Ok(found) = needs_on(&mut KeptScreens::new(alloc), file) else {
         return Err(RunError::Memory);
     };
     let written = write_needs(writer, &found);
@@ -200,7 +201,7 @@ fn tell_why<W: Write>(alloc: Global, writer: &mut Tried<W>, file: &[u8]) -> Resu
     ensures reported { IsReported W.contents (ReportsWhy file.now) writer.old writer.new result }
     ensures memory { IsSome (record_fault file.now) → IfErr result (λ e. e ≡ RunError.Write) }
 {
-    let Ok(why) = why_of::<PlaneGrid>(alloc, file) else {
+    let Ok(why) = why_on(&mut KeptScreens::new(alloc), file) else {
         return Err(RunError::Memory);
     };
     let written = write_why(writer, &why);

@@ -13,11 +13,11 @@ ghost use Rattle.ans_check.specs.Table.{MayEndTable, unread_of};
 
 use crate::errors::RunError;
 use crate::inputs::Inputs;
-use crate::parts_needed::needs;
+use crate::parts_needed::needs_on;
 use crate::reading::read_all;
+use crate::screens::KeptScreens;
 use ans_options::TableForm;
 use ans_report::{Needs, Tried, WriteFault};
-use ans_screen::PlaneGrid;
 use ans_table::{Counts, Finding, Outcome, Unread, json_row, write_header, write_line, write_row};
 use std::alloc::{AllocError, Global};
 use std::io::Write;
@@ -38,11 +38,11 @@ fn finding_by<'a>(file: &'a [u8], found: Needs<'a>) -> Finding<'a>
 }
 
 /// What a row tells of a file that was read.
-fn finding_in(alloc: Global, file: &[u8]) -> Finding<'_>
+fn finding_in<'a>(screens: &mut KeptScreens, file: &'a [u8]) -> Finding<'a>
     requires { length file.now ≤ longest_file }
     ensures { MayBeFoundIn file.now result }
 {
-    match needs::<PlaneGrid>(alloc, file) {
+    match needs_on(screens, file) {
         Ok(found) => finding_by(file, found),
         Err(AllocError) => Finding::Unread(Unread::Memory),
     }
@@ -117,6 +117,7 @@ fn tell<W: Write>(
 /// Reads a file, and writes its row.
 fn tell_file<I: Inputs, W: Write>(
     alloc: Global,
+    screens: &mut KeptScreens,
     inputs: I,
     name: &[u8],
     form: TableForm,
@@ -154,7 +155,7 @@ fn tell_file<I: Inputs, W: Write>(
             form,
             output,
             name,
-            &finding_in(alloc, file.as_slice()),
+            &finding_in(screens, file.as_slice()),
         ),
         Err(error) => tell(alloc, form, output, name, &Finding::Unread(unread(error))),
     }
@@ -175,8 +176,9 @@ fn tell_files<I: Inputs, W: Write>(
         form (texts_of names.now) output.old output.new result }
 {
     let mut counts = Counts::NONE;
+    let mut screens = KeptScreens::new(alloc);
     for name in names {
-        let outcome = tell_file(alloc, inputs, name, form, output)?;
+        let outcome = tell_file(alloc, &mut screens, inputs, name, form, output)?;
         counts.add(outcome);
     }
     Ok(counts)

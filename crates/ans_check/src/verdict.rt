@@ -1,5 +1,5 @@
 //! What the checker finds of a file.
-ghost use Rattle.std.specs.Prelude.{◌≡◌, ◌≤◌, length, [], None, IsOk, IsSome, IfOk, IfErr, IfSome};
+ghost use Rattle.std.specs.Prelude.{◌≡◌, ◌+◌, ◌≤◌, length, [], None, IsOk, IsSome, IfOk, IfErr, IfSome};
 ghost use Rattle.ans_model.specs.Bytes.{longest_file};
 ghost use Rattle.ans_model.specs.declared.start.Start.{Start};
 ghost use Rattle.ans_model.specs.Verdict.Good.{GoodWith};
@@ -7,22 +7,22 @@ ghost use Rattle.ans_model.specs.Screen.StartClass.{all_known};
 ghost use Rattle.ans_model.specs.Verdict.Certain.{IsCertain};
 ghost use Rattle.ans_model.specs.File.Refusals.{record_fault};
 ghost use Rattle.ans_play.specs.Stands.{Stands};
-ghost use Rattle.ans_sauce.specs.Parts.{content_of};
+ghost use Rattle.ans_sauce.specs.Parts.{content_of, width_of, lines_of};
 ghost use Rattle.ans_check.specs.FileVerdict.{Deserves, IsVerdictOn, IsGoodFile, fault_of, parts_size};
 ghost use Rattle.ans_check.specs.StartParts.{EndsFrom};
 
 use ans_model::start::Start;
 use ans_play::{Picture, Player};
 use ans_sauce::{Fault, Parts, split};
-use ans_screen::Grid;
+use ans_screen::{Grid, HalfCell, Screen};
 use std::alloc::{AllocError, Global};
 
 /// How many bytes of the content are fed at once.
-const PIECE: usize = 4096;
+const PIECE: usize = 65_536;
 
 /// What the checker finds of a file.
 #[derive(Drop)]
-pub enum Verdict<'a, G: Grid> {
+pub enum Verdict<'a, G: Screen> {
     /// The content plays well from every start of the class, and shows the picture.
     Pass(Parts<'a>, Picture<G>),
     /// The file is refused. There are no parts where its record or its layout is.
@@ -30,7 +30,7 @@ pub enum Verdict<'a, G: Grid> {
 }
 
 /// Plays the content in pieces, on a player to which nothing is fed yet.
-fn play_content<G: Grid>(mut player: Player<G>, content: &[u8]) -> Result<Picture<G>, Fault>
+fn play_content<G: Screen>(mut player: Player<G>, content: &[u8]) -> Result<Picture<G>, Fault>
     requires length { length content.now ≤ longest_file }
     requires unfed { player.fed ≡ 0 }
     requires no_fault { player.fault ≡ None }
@@ -44,7 +44,32 @@ fn play_content<G: Grid>(mut player: Player<G>, content: &[u8]) -> Result<Pictur
     player.finish()
 }
 
-/// Plays the parts' content from the starts of a class, up to its first fault.
+/// Plays a file's content from the starts of a class, up to its first fault, on a screen that is there
+/// already. The screen has the columns that the record states, and one row more than its lines; what it
+/// shows counts for nothing. No memory is asked for.
+pub fn play_on<G: Screen>(screen: G, parts: &Parts<'_>, start: Start) -> Result<Picture<G>, Fault>
+    requires length { length (content_of parts.now) ≤ longest_file }
+    requires width { G.width_of screen ≡ width_of parts.now }
+    requires rows { G.rows_of screen ≡ lines_of parts.now + 1 }
+    ensures good { IfOk result (GoodWith (parts_size parts.now) start (content_of parts.now)) }
+    ensures refused { IfErr result (Deserves (parts_size parts.now) start (content_of parts.now)) }
+{
+    let _width = parts.width();
+    let _lines = parts.lines();
+    play_content(Player::on(screen, start), parts.content())
+}
+
+/// The first fault, or else the last one, of such a play, if it has any.
+pub(crate) fn fault_on<G: Screen>(screen: G, parts: &Parts<'_>, start: Start) -> Option<Fault>
+    requires length { length (content_of parts.now) ≤ longest_file }
+    requires width { G.width_of screen ≡ width_of parts.now }
+    requires rows { G.rows_of screen ≡ lines_of parts.now + 1 }
+    ensures { EndsFrom (parts_size parts.now) (content_of parts.now) start result }
+{
+    play_on(screen, parts, start).err()
+}
+
+/// Plays the parts' content on a new screen.
 ///
 /// Fails where memory runs out.
 pub(crate) fn play<G: Grid>(
@@ -58,24 +83,8 @@ pub(crate) fn play<G: Grid>(
     ensures refused { IfOk result (λ end. IfErr end
         (Deserves (parts_size parts.now) start (content_of parts.now))) }
 {
-    let player = Player::new(alloc, parts.width(), parts.lines(), start)?;
-    Ok(play_content(player, parts.content()))
-}
-
-/// The first fault, or else the last one, that the parts' content has from the starts of a class, if it
-/// has any.
-///
-/// Fails where memory runs out.
-pub(crate) fn fault_from<G: Grid>(
-    alloc: Global,
-    parts: &Parts<'_>,
-    start: Start,
-) -> Result<Option<Fault>, AllocError>
-    requires { length (content_of parts.now) ≤ longest_file }
-    ensures { IfOk result (EndsFrom (parts_size parts.now) (content_of parts.now) start) }
-{
-    let end = play::<G>(alloc, parts, start)?;
-    Ok(end.err())
+    let screen = G::new(alloc, parts.width(), parts.lines() + 1, HalfCell::unknown())?;
+    Ok(play_on(screen, parts, start))
 }
 
 /// Checks a file of at most 16,777,216 bytes: the record first, and then the play of its content from

@@ -3,31 +3,32 @@ ghost use Rattle.std.specs.Prelude.{◌≤◌, length, IsOk, IsSome, IfOk};
 ghost use Rattle.ans_model.specs.Bytes.{longest_file};
 ghost use Rattle.ans_model.specs.File.Refusals.{record_fault};
 ghost use Rattle.ans_explain.specs.Explained.{IsTrueOf};
+ghost use Rattle.ans_check.specs.ScreenRoom.{AnswersWithin};
 
 use crate::least_class::least_class;
-use crate::verdict::play;
+use crate::screens::Screens;
 use ans_explain::Why;
 use ans_model::start::Start;
 use ans_sauce::split;
-use ans_screen::Grid;
-use std::alloc::{AllocError, Global};
+use std::alloc::AllocError;
 
 /// Finds what there is to say of a file of at most 16,777,216 bytes: why it is refused, or what it
 /// needs, as `needs` finds that, and its fault from all starts where it needs anything.
 ///
-/// Fails where memory runs out; a file that is refused for its record or its layout takes none.
-pub(crate) fn why_of<G: Grid>(alloc: Global, file: &[u8]) -> Result<Why<'_>, AllocError>
+/// `Err` says that there is no room for the screen that the file's record states.
+pub fn why_on<'a, S: Screens>(screens: &mut S, file: &'a [u8]) -> Result<Why<'a>, AllocError>
     requires { length file.now ≤ longest_file }
     ensures why { IfOk result (IsTrueOf file.now) }
     ensures memory { IsSome (record_fault file.now) → IsOk result }
+    ensures room { AnswersWithin S.has_room S.may_lack file.now screens.old result }
 {
     let parts = match split(file) {
         Ok(parts) => parts,
         Err(fault) => return Ok(Why::of_record(file, fault)),
     };
-    if let Err(fault) = play::<G>(alloc, &parts, Start::CLEARED)? {
+    if let Some(fault) = screens.fault_from(&parts, Start::CLEARED)? {
         return Ok(Why::of_refusal(parts, fault));
     }
-    let least = least_class::<G>(alloc, &parts)?;
+    let least = least_class(screens, &parts)?;
     Ok(Why::of_pass(parts, file.len(), least.class, least.fault))
 }

@@ -36,7 +36,7 @@ impl From<clap::Error> for WordsError {
 }
 
 /// What `--version` prints after the program's name: its version, and the kit that proved it.
-const VERSION: &str = "0.1.0 (rattle-kit-13b)";
+const VERSION: &str = "0.1.0 (rattle-kit-13f)";
 
 /// A text, and behind it the exit statuses.
 macro_rules! with_exit_statuses {

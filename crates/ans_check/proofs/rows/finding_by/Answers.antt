@@ -1,5 +1,5 @@
 use Rattle.ans_check.proofs.WhyLemmas.{deserved_of_parts, least_of_parts, least_is_split, refused_is_split}
-use Rattle.ans_check.proofs.TableLemmas.{content_within}
+use Rattle.ans_check.proofs.VerdictLemmas.{content_within}
 use Rattle.ans_check.proofs.rows.finding_by.Goals as goal
 
 pub of_refusal-requires-clause-length : goal.of_refusal-requires-clause-length

@@ -1,9 +1,11 @@
-use Rattle.ans_check.proofs.VerdictLemmas.{no_refusal}
+use Rattle.std.proofs.Common.{refl, rules}
+use Rattle.ans_check.proofs.RoomLemmas.{takes_err, takes_then, within_file}
+use Rattle.ans_check.proofs.VerdictLemmas.{content_within, no_refusal}
 use Rattle.ans_check.proofs.WhyLemmas.{some_told}
-use Rattle.ans_check.proofs.why_of.why_of.Goals as goal
+use Rattle.ans_check.proofs.why.why_on.Goals as goal
 
 pub least_class-requires-clause-good : goal.least_class-requires-clause-good
-least_class-requires-clause-good g c = (c.in_default.field-0, rw c.in_default.is at c.in_ok-fault.ensures.good)
+least_class-requires-clause-good g c = rw c.in_default.is at c.in_ok-fault.ensures.fault
 
 pub of_pass-requires-clause-fault : goal.of_pass-requires-clause-fault
 of_pass-requires-clause-fault g c =
@@ -14,3 +16,19 @@ returns-in_err-fault-clause-memory g c some = absurd (no_refusal c.args.file.now
 
 pub returns-in_err-least-clause-memory : goal.returns-in_err-least-clause-memory
 returns-in_err-least-clause-memory g c some = absurd (no_refusal c.args.file.now c.in-Ok.parts c.in-Ok.ensures.ok some)
+
+pub returns-in_err-fault-clause-room : goal.returns-in_err-fault-clause-room
+returns-in_err-fault-clause-room g c =
+    within_file c.args.file.now c.in-Ok.parts c.in-Ok.ensures.ok
+    (takes_err c.in_err-fault.ensures.room refl (search rules))
+
+pub returns-in_err-least-clause-room : goal.returns-in_err-least-clause-room
+returns-in_err-least-clause-room g c =
+    within_file c.args.file.now c.in-Ok.parts c.in-Ok.ensures.ok
+    (takes_err (takes_then c.fault_from.ensures.room.keeps c.in_err-least.ensures.room) refl (search rules))
+
+pub of_refusal-requires-clause-length : goal.of_refusal-requires-clause-length
+of_refusal-requires-clause-length g c = content_within c.args.file.now c.in-Ok.parts c.in-Ok.ensures.ok c.requires
+
+pub least_class-requires-clause-length : goal.least_class-requires-clause-length
+least_class-requires-clause-length g c = content_within c.args.file.now c.in-Ok.parts c.in-Ok.ensures.ok c.requires
