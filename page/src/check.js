@@ -1,0 +1,209 @@
+// The page: what is chosen goes to the checker, and what it says is shown.
+
+const element = (id) => document.getElementById(id);
+const TEXT_ROWS = 500;
+const STATUS_PERIOD = 1000;
+
+const moduleBytes = Uint8Array.from(atob(element("module").textContent), (character) => character.charCodeAt(0));
+const lessMotion = matchMedia("(prefers-reduced-motion: reduce)");
+
+const isKnown = () => typeof Worker === "function" && typeof WebAssembly === "object" && WebAssembly.validate(moduleBytes);
+
+const checks = new Checks(moduleBytes, element("worker").textContent);
+const pictureView = new PictureView(element("view"), element("space"), element("canvas"));
+const drawingTable = new DrawingTable(element("headings"), element("rows"), (drawing) => showDrawing(drawing));
+
+/** What is shown now: the last choice of drawings, and the last drawing. Answers for earlier ones are left aside. */
+let choice = 0;
+let shown = 0;
+let busy = 0;
+
+function say(text) {
+  element("status").textContent = text;
+}
+
+function lineElement(line) {
+  const item = document.createElement("li");
+  const place = placeIn(line);
+  if (!place) {
+    item.textContent = line;
+    return item;
+  }
+  const button = document.createElement("button");
+  button.type = "button";
+  button.textContent = line;
+  button.title = "Show this place in the picture";
+  button.addEventListener("click", () => goToMark(place));
+  item.append(button);
+  return item;
+}
+
+function goToMark(place) {
+  if (element("picture-part").hidden) return;
+  element("view").scrollIntoView({ block: "nearest" });
+  element("view").focus({ preventScroll: true });
+  pictureView.goTo(place);
+}
+
+function showAdvice(why) {
+  const fault = faultOf(why);
+  element("advice").hidden = !fault;
+  if (!fault) return;
+  element("meaning").textContent = `What F${fault.number} means: ${MEANINGS[fault.number]}`;
+  element("mend").textContent = `To mend it: ${MENDS[fault.number]}`;
+}
+
+function noteOn({ columns, lines, upTo }, marks) {
+  const size = `${columns} x ${lines}`;
+  const part = upTo === undefined ? "" : `, up to byte ${upTo.toLocaleString("en")}, where it is refused`;
+  const places = marks.map(({ row, column }) => `row ${row}${row > lines ? " (below the last line)" : ""}, column ${column}`);
+  const marked = places.length === 0 ? "" : ` Marked: ${[...new Set(places)].join("; ")}.`;
+  return `${size}${part}.${marked}`;
+}
+
+function showPicture(name, { picture, why, record }) {
+  element("picture-part").hidden = !picture;
+  pictureView.clear();
+  if (!picture) return;
+  picture.brightBackgrounds = parseInt(valueOf(record, "flags"), 16) % 2 === 1;
+  const marks = placesOf(why);
+  const note = noteOn(picture, marks);
+  element("picture-note").textContent = note;
+  element("canvas").setAttribute("aria-label", `Picture of ${name}, ${note}`);
+  element("blink-part").hidden = !picture.blinks || picture.brightBackgrounds;
+  element("text-part").open = false;
+  element("text").textContent = "";
+  pictureView.show(picture, marks);
+  if (picture.upTo !== undefined && marks.length > 0) pictureView.goTo(marks[0]);
+}
+
+function showText() {
+  const { picture } = pictureView;
+  if (!element("text-part").open || !picture) return;
+  element("text-note").textContent = picture.lines > TEXT_ROWS ? `The first ${TEXT_ROWS} of ${picture.lines} rows.` : "";
+  element("text").textContent = pictureView.rowsAsText(TEXT_ROWS);
+}
+
+function showResult(drawing, result) {
+  element("drawing").hidden = false;
+  element("name").textContent = drawing.path;
+  element("verdict").textContent = sentenceOf(result);
+  element("verdict").dataset.answer = result.answer;
+  element("why").replaceChildren(...linesOf(result.why).map(lineElement));
+  const record = linesOf(result.record);
+  element("record").replaceChildren(...(record.length > 0 ? record : ["none that is accepted"]).map(lineElement));
+  showAdvice(result.why);
+  showPicture(drawing.path, result);
+  element("name").focus({ preventScroll: true });
+  element("name").scrollIntoView({ block: "start" });
+  say(`${drawing.path}: ${sentenceOf(result)}`);
+}
+
+async function busyWith(work) {
+  busy++;
+  element("stop").hidden = false;
+  try {
+    return await work;
+  } finally {
+    busy--;
+    element("stop").hidden = busy === 0;
+  }
+}
+
+async function showDrawing(drawing) {
+  const mine = ++shown;
+  say(`${drawing.path} is checked.`);
+  const result = await busyWith(checks.study(drawing.file, true));
+  if (mine === shown) showResult(drawing, result);
+}
+
+function counted(done, total) {
+  const count = (verdict) => drawingTable.rows.filter((row) => row.verdict === verdict).length;
+  const missing = count("no answer");
+  return `${done} of ${total} checked: ${count("pass")} pass, ${count("refused")} refused${missing ? `, ${missing} without an answer` : ""}.`;
+}
+
+async function showFolder(drawings, others) {
+  const mine = choice;
+  drawingTable.clear();
+  element("drawings").hidden = false;
+  element("drawing").hidden = true;
+  element("drawings-heading").textContent = `${drawings.length} drawings`;
+  const left = others > 0 ? ` ${others} other files were left out.` : "";
+  let done = 0;
+  let told = 0;
+  await busyWith(Promise.all(drawings.map(async (drawing) => {
+    const result = await checks.study(drawing.file, false);
+    if (mine !== choice) return;
+    drawingTable.add(rowOf(drawing.path, result), drawing);
+    done++;
+    if (Date.now() - told < STATUS_PERIOD) return;
+    told = Date.now();
+    say(counted(done, drawings.length));
+  })));
+  if (mine !== choice) return;
+  drawingTable.sort();
+  say(counted(done, drawings.length) + left);
+}
+
+function take({ drawings, others }) {
+  checks.stop();
+  choice++;
+  shown++;
+  element("drawings").hidden = true;
+  if (drawings.length === 0) return say("There is no drawing among these files: their names end in .ans.");
+  return drawings.length === 1 ? showDrawing(drawings[0]) : showFolder(drawings, others);
+}
+
+function save() {
+  const address = URL.createObjectURL(new Blob(["\ufeff", csvOf(drawingTable.rows)], { type: "text/csv" }));
+  const link = document.createElement("a");
+  link.href = address;
+  link.download = "drawings.csv";
+  link.click();
+  setTimeout(() => URL.revokeObjectURL(address), STATUS_PERIOD);
+}
+
+function takeDrops() {
+  const zone = element("choose");
+  document.addEventListener("dragover", (event) => {
+    event.preventDefault();
+    zone.classList.add("over");
+  });
+  document.addEventListener("dragleave", (event) => {
+    if (!event.relatedTarget) zone.classList.remove("over");
+  });
+  document.addEventListener("drop", async (event) => {
+    event.preventDefault();
+    zone.classList.remove("over");
+    take(await drawingsDropped(event.dataTransfer).catch(() => ({ drawings: [], others: 0 })));
+  });
+}
+
+function takeChoices(button, input) {
+  button.addEventListener("click", () => input.click());
+  input.addEventListener("change", () => {
+    if (input.files.length > 0) take(drawingsChosen(input));
+    input.value = "";
+  });
+}
+
+function begin() {
+  if (!isKnown()) {
+    element("too-old").hidden = false;
+    element("choose").hidden = true;
+    return;
+  }
+  takeDrops();
+  takeChoices(element("choose-files"), element("files"));
+  takeChoices(element("choose-folder"), element("folder"));
+  element("stop").addEventListener("click", () => checks.stop());
+  element("save").addEventListener("click", save);
+  element("zoom").addEventListener("change", () => pictureView.setZoom(element("zoom").value));
+  element("blink").checked = !lessMotion.matches;
+  element("blink").addEventListener("change", () => pictureView.setBlinking(element("blink").checked));
+  pictureView.setBlinking(element("blink").checked);
+  element("text-part").addEventListener("toggle", showText);
+}
+
+begin();

@@ -1,0 +1,163 @@
+// The picture on a canvas that is as large as what can be seen of it; the part that is looked at is painted.
+
+const CELL_WIDTH = 8;
+const CELL_ASPECT = 2;
+const SMALLEST_CELL = 3;
+const BLINK_PERIOD = 500;
+const BLINK_BIT = 0x80;
+const MARK_LINES = [[7, "#000"], [5, "#fff"], [2, "#d0006f"]];
+
+const isBlank = (glyph) => glyph === 0 || glyph === 0x20 || glyph === 0xff;
+
+class PictureView {
+  constructor(view, space, canvas) {
+    this.view = view;
+    this.space = space;
+    this.canvas = canvas;
+    this.picture = null;
+    this.marks = [];
+    this.zoom = "fit";
+    this.blinks = true;
+    this.isOff = false;
+    view.addEventListener("scroll", () => this.repaint());
+    new ResizeObserver(() => this.layOut()).observe(view);
+    setInterval(() => this.turnBlink(), BLINK_PERIOD);
+  }
+
+  /** Marks are rows and columns, counted from 1. The row below the last one is there if a mark stands in it. */
+  show(picture, marks) {
+    this.picture = picture;
+    this.marks = marks;
+    this.rows = marks.some(({ row }) => row > picture.lines) ? picture.lines + 1 : picture.lines;
+    this.layOut();
+    this.view.scrollTo(0, 0);
+  }
+
+  clear() {
+    this.picture = null;
+  }
+
+  setZoom(zoom) {
+    this.zoom = zoom;
+    this.layOut();
+  }
+
+  setBlinking(blinks) {
+    this.blinks = blinks;
+    this.isOff = false;
+    this.repaint();
+  }
+
+  turnBlink() {
+    if (!this.picture?.blinks || this.picture.brightBackgrounds) return;
+    this.isOff = this.blinks && !this.isOff;
+    this.repaint();
+  }
+
+  /** Scrolls so that a mark stands in the middle. */
+  goTo({ row, column }) {
+    this.view.scrollTo({
+      left: (column - 0.5) * this.cellWidth / this.ratio - this.view.clientWidth / 2,
+      top: (row - 0.5) * this.cellHeight / this.ratio - this.view.clientHeight / 2,
+    });
+  }
+
+  /** A cell has a whole number of the screen's dots, so that neighbours touch and nothing is blurred. */
+  measure() {
+    this.ratio = window.devicePixelRatio || 1;
+    const usual = CELL_WIDTH * this.ratio;
+    const fitting = Math.floor(this.view.clientWidth * this.ratio / this.picture.columns);
+    const wanted = this.zoom === "fit" ? Math.min(usual, fitting) : usual * Number(this.zoom);
+    this.cellWidth = Math.max(SMALLEST_CELL, Math.round(wanted));
+    this.cellHeight = this.cellWidth * CELL_ASPECT;
+  }
+
+  layOut() {
+    if (!this.picture || this.view.clientWidth === 0) return;
+    this.measure();
+    if (this.sheets?.width !== this.cellWidth) this.sheets = new GlyphSheets(this.cellWidth, this.cellHeight);
+    const width = this.picture.columns * this.cellWidth;
+    const height = this.rows * this.cellHeight;
+    this.space.style.width = `${width / this.ratio}px`;
+    this.space.style.height = `${height / this.ratio}px`;
+    this.canvas.width = Math.min(width, Math.ceil(this.view.clientWidth * this.ratio));
+    this.canvas.height = Math.min(height, Math.ceil(this.view.clientHeight * this.ratio));
+    this.canvas.style.width = `${this.canvas.width / this.ratio}px`;
+    this.canvas.style.height = `${this.canvas.height / this.ratio}px`;
+    this.paint();
+  }
+
+  repaint() {
+    this.frame ??= requestAnimationFrame(() => {
+      this.frame = null;
+      if (this.picture) this.paint();
+    });
+  }
+
+  paint() {
+    const left = Math.min(Math.round(this.view.scrollLeft * this.ratio), this.picture.columns * this.cellWidth - this.canvas.width);
+    const top = Math.min(Math.round(this.view.scrollTop * this.ratio), this.rows * this.cellHeight - this.canvas.height);
+    const context = this.canvas.getContext("2d", { alpha: false });
+    context.setTransform(1, 0, 0, 1, -left, -top);
+    const firstRow = Math.floor(top / this.cellHeight);
+    const endRow = Math.min(this.rows, Math.ceil((top + this.canvas.height) / this.cellHeight));
+    const firstColumn = Math.floor(left / this.cellWidth);
+    const endColumn = Math.min(this.picture.columns, Math.ceil((left + this.canvas.width) / this.cellWidth));
+    for (let row = firstRow; row < endRow; row++) {
+      if (row < this.picture.lines) this.paintRow(context, row, firstColumn, endColumn);
+      else this.paintSpareRow(context, row);
+    }
+    for (const mark of this.marks) this.paintMark(context, mark);
+  }
+
+  coloursOf(attribute) {
+    const background = attribute >> 4 & (this.picture.brightBackgrounds ? 15 : 7);
+    const isHidden = this.isOff && !this.picture.brightBackgrounds && attribute & BLINK_BIT;
+    return { background, foreground: isHidden ? background : attribute & 15 };
+  }
+
+  paintRow(context, row, firstColumn, endColumn) {
+    const { columns, glyphs, attributes } = this.picture;
+    const top = row * this.cellHeight;
+    for (let column = firstColumn; column < endColumn; column++) {
+      const cell = row * columns + column;
+      const { background, foreground } = this.coloursOf(attributes[cell]);
+      const left = column * this.cellWidth;
+      context.fillStyle = COLOURS[background];
+      context.fillRect(left, top, this.cellWidth, this.cellHeight);
+      if (!isBlank(glyphs[cell]) && foreground !== background) this.sheets.paint(context, glyphs[cell], foreground, left, top);
+    }
+  }
+
+  paintSpareRow(context, row) {
+    context.fillStyle = "#333";
+    context.fillRect(0, row * this.cellHeight, this.picture.columns * this.cellWidth, this.cellHeight);
+  }
+
+  paintMark(context, { row, column }) {
+    const left = (column - 1) * this.cellWidth;
+    const top = (row - 1) * this.cellHeight;
+    const width = this.picture.columns * this.cellWidth;
+    for (const [thick, colour] of MARK_LINES) {
+      context.strokeStyle = colour;
+      context.lineWidth = thick;
+      context.strokeRect(left - 2, top - 2, this.cellWidth + 4, this.cellHeight + 4);
+    }
+    for (const [thick, colour] of MARK_LINES.slice(1)) {
+      context.fillStyle = colour;
+      context.fillRect(0, top - 1 - thick / 4, width, thick / 2);
+      context.fillRect(0, top + this.cellHeight + 1 - thick / 4, width, thick / 2);
+    }
+  }
+
+  /** The rows as text, as a report has them. */
+  rowsAsText(count) {
+    const { columns, lines, glyphs } = this.picture;
+    const rows = [];
+    for (let row = 0; row < Math.min(lines, count); row++) {
+      const characters = Array.from(glyphs.subarray(row * columns, (row + 1) * columns), (glyph) => CODE_PAGE_437[glyph]);
+      rows.push(characters.join(""));
+    }
+    return rows.join("\n");
+  }
+}

@@ -1,0 +1,89 @@
+"""Builds the stand-in for the checker's module: the answers of the command line program to the drawings that are tried."""
+import pathlib
+import re
+import struct
+import subprocess
+
+HERE = pathlib.Path(__file__).resolve().parent
+EXPORTS = ("ans_size", "ans_check", "ans_needs", "ans_why", "ans_record", "ans_version", "__heap_base")
+PARTS = ("screen", "cursor", "saved", "colours", "wrap")
+RECORD, COMMENT_COUNT = 128, 104
+
+
+def said(program, words, path):
+    """What the program prints, and its status."""
+    run = subprocess.run([program, *words, path], capture_output=True, check=False)
+    return run.stdout, run.returncode
+
+
+def fault_in(text):
+    """The numbers of the fault in a report."""
+    at, number, rest = re.search(r"^at (\d+): F(\d+) (.*)$", text, re.MULTILINE).groups()
+    row, column = re.search(r"\(row (\d+), column (\d+)\)|$", rest).groups()
+    return int(number), int(row or 0), int(column or 0), int(at)
+
+
+def shortened(file, length):
+    """The content's first bytes with the same record, as the page asks about them."""
+    record = bytearray(file[-RECORD:])
+    record[COMMENT_COUNT] = 0
+    return file[:length] + b"\x1a" + bytes(record)
+
+
+def cells_in(report):
+    """The cells of a report, or nothing."""
+    return bytes.fromhex(report.partition("cells:\n")[2].replace("\n", "")) if "verdict: pass\n" in report else b""
+
+
+def literal(data):
+    """Bytes as a string of C."""
+    return '"' + "".join(f"\\{byte:03o}" for byte in data) + '"'
+
+
+def answer(program, path, file):
+    """The stored answers about one file, and the shortened file that the page asks about next."""
+    why, why_status = said(program, ["why"], path)
+    record, record_status = said(program, ["sauce"], path)
+    report = said(program, ["check", "--cleared", "--cells"], path)[0].decode()
+    passes = "verdict: pass\n" in report
+    fault = (0, 0, 0, 0) if passes else fault_in(report)
+    size = re.search(r"^size: (\d+) x (\d+)$", report, re.MULTILINE)
+    columns, lines = map(int, size.groups()) if size else (0, 0)
+    needs = re.search(r"^needs: (.*)$", why.decode(), re.MULTILINE)
+    parts = sum(1 << bit for bit, part in enumerate(PARTS) if needs and part in needs[1].split())
+    numbers = ", ".join(map(str, (0 if size else 1, 0 if passes else 1, why_status, record_status, columns, lines, parts)))
+    faults = ", ".join("{" + ", ".join(map(str, (0, 0, 0, 0) if size and which == 0 else fault)) + "}" for which in (0, 1))
+    cells = f"(const uint8_t *){literal(cells_in(report))}"
+    row = (f"{{(const uint8_t *){literal(file)}, {len(file)}, {numbers}, {faults}, {cells}, "
+           f"{literal(why)}, {literal(record)}, {len(why)}, {len(record)}}},")
+    return row, shortened(file, fault[3]) if size and not passes else None
+
+
+def largest():
+    """A file of the largest size, and its made-up answers."""
+    record = b"SAUCE00" + b" " * 75 + b"19960101" + bytes(4) + b"\x01\x01" + struct.pack("<HH", 1024, 8192)
+    file = b"largest\x1a" + record.ljust(RECORD, b"\0")
+    why, text = b"size: 1024 x 8192\nverdict: pass\nneeds: nothing\n", b"title: Largest\nsize: 1024 x 8192\nflags: 00\n"
+    row = (f"{{(const uint8_t *){literal(file)}, {len(file)}, 0, 0, 0, 0, 1024, 8192, 0, {{0}}, {{0}}, 0, "
+           f"{literal(why)}, {literal(text)}, {len(why)}, {len(text)}}},")
+    return file, row
+
+
+def build(program, paths, header, folder):
+    """Builds the module in a folder, and the drawing of the largest size beside it."""
+    rows, seen = [], set()
+    for path in paths:
+        file = pathlib.Path(path).read_bytes()
+        while file is not None and file not in seen:
+            seen.add(file)
+            (folder / "short.ans").write_bytes(file)
+            row, file = answer(program, folder / "short.ans", file)
+            rows.append(row)
+    file, row = largest()
+    (folder / "largest.ans").write_bytes(file)
+    (folder / "answers.h").write_text("static const struct stored answers[] = {\n" + "\n".join([*rows, row]) + "\n};\n")
+    module = folder / "stand_in.wasm"
+    subprocess.run(["clang", "--target=wasm64-unknown-unknown", "-std=c11", "-Wall", "-O2", "-nostdlib", "-ffreestanding",
+                    "-Wno-pointer-sign", f"-I{header}", f"-I{folder}", "-Wl,--no-entry",
+                    *(f"-Wl,--export={name}" for name in EXPORTS), "-o", module, HERE / "stand_in.c"], check=True)
+    return module
