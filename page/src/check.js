@@ -151,7 +151,7 @@ function take({ drawings, others }) {
   choice++;
   shown++;
   element("drawings").hidden = true;
-  if (drawings.length === 0) return say("There is no drawing among these files: their names end in .ans.");
+  if (drawings.length === 0) return say("There is no drawing here whose name ends in .ans.");
   return drawings.length === 1 ? showDrawing(drawings[0]) : showFolder(drawings, others);
 }
 
@@ -176,7 +176,11 @@ function takeDrops() {
   document.addEventListener("drop", async (event) => {
     event.preventDefault();
     zone.classList.remove("over");
-    take(await drawingsDropped(event.dataTransfer).catch(() => ({ drawings: [], others: 0 })));
+    try {
+      take(await drawingsDropped(event.dataTransfer));
+    } catch {
+      say("What was dropped cannot be read.");
+    }
   });
 }
 

@@ -11,7 +11,7 @@ import urllib.request
 from websocket import WebSocket
 
 START_SECONDS = 60
-KEYS = {"Enter": ("\r", 13, "\ue007"), "Tab": ("", 9, "\ue004"), " ": (" ", 32, " "), "End": ("", 35, "\ue010")}
+KEYS = {"Enter": ("\r", 13, "\ue006"), "Tab": ("", 9, "\ue004"), " ": (" ", 32, " "), "End": ("", 35, "\ue010")}
 
 
 class Browser:
@@ -67,7 +67,8 @@ class Browser:
 class Chromium(Browser):
     """Chromium, by the DevTools protocol."""
 
-    def __init__(self, program="chromium"):
+    def __init__(self, is_dark=False, program="chromium"):
+        self.is_dark = is_dark
         profile = tempfile.mkdtemp()
         super().__init__(program, [
             "--headless=new", "--no-sandbox", "--disable-gpu", "--no-first-run", "--remote-debugging-port=0",
@@ -118,11 +119,11 @@ class Chromium(Browser):
         self.call("Input.dispatchTouchEvent", type="touchStart", touchPoints=[{"x": x, "y": y}])
         self.call("Input.dispatchTouchEvent", type="touchEnd", touchPoints=[])
 
-    def look(self, width, height, is_dark, is_touch=False):
+    def look(self, width, height, is_touch=False):
         self.call("Emulation.setDeviceMetricsOverride", width=width, height=height, deviceScaleFactor=1, mobile=is_touch)
         self.call("Emulation.setTouchEmulationEnabled", enabled=is_touch)
         self.call("Emulation.setEmulatedMedia", features=[
-            {"name": "prefers-color-scheme", "value": "dark" if is_dark else "light"},
+            {"name": "prefers-color-scheme", "value": "dark" if self.is_dark else "light"},
             {"name": "prefers-reduced-motion", "value": "reduce"}])
 
     def take_picture(self, path):
@@ -154,9 +155,10 @@ class Firefox(Browser):
         "dom.w3c_touch_events.enabled": 1,
     }
 
-    def __init__(self, program="firefox-esr"):
+    def __init__(self, is_dark=False, program="firefox-esr"):
         profile = tempfile.mkdtemp()
-        lines = [f"user_pref({json.dumps(key)}, {json.dumps(value)});" for key, value in self.PREFERENCES.items()]
+        preferences = {**self.PREFERENCES, "layout.css.prefers-color-scheme.content-override": 0 if is_dark else 1}
+        lines = [f"user_pref({json.dumps(key)}, {json.dumps(value)});" for key, value in preferences.items()]
         pathlib.Path(profile, "user.js").write_text("\n".join(lines))
         super().__init__(program, ["--headless", "--no-remote", "--remote-debugging-port", "0", "--profile", profile,
                                    "about:blank"], profile)
@@ -165,7 +167,8 @@ class Firefox(Browser):
         self.socket = WebSocket(f"ws://{server['ws_host']}:{server['ws_port']}/session")
         found = self.call("session.new", capabilities={})["capabilities"]
         self.name = f"{found['browserName']}/{found['browserVersion']}"
-        self.context = self.call("browsingContext.getTree")["contexts"][0]["context"]
+        # The first tab has no focus.
+        self.context = self.call("browsingContext.create", type="tab", background=False)["context"]
         self.call("session.subscribe", events=["log.entryAdded", "network.beforeRequestSent"])
 
     def before(self, script):
@@ -196,14 +199,8 @@ class Firefox(Browser):
         self.act("pointer", [{"type": "pointerMove", "x": int(x), "y": int(y)}, {"type": "pointerDown", "button": 0},
                              {"type": "pointerUp", "button": 0}], parameters={"pointerType": "touch"})
 
-    def look(self, width, height, is_dark, is_touch=False):
+    def look(self, width, height, is_touch=False):
         self.call("browsingContext.setViewport", context=self.context, viewport={"width": width, "height": height})
-        if is_dark is not None:
-            self.set_dark(is_dark)
-
-    def set_dark(self, is_dark):
-        """Firefox has no command for it in every version."""
-        self.call("emulation.setForcedColorsModeThemeOverride", contexts=[self.context], theme="dark" if is_dark else "light")
 
     def take_picture(self, path):
         data = self.call("browsingContext.captureScreenshot", context=self.context)["data"]

@@ -1,0 +1,341 @@
+#!/usr/bin/env python3
+"""Tries the page in Chromium and Firefox beside the command line program.
+
+    python3 page/try.py PROGRAM [--page PAGE] [--stand-in HEADER] [--pictures FOLDER] [--browser NAME] [DRAWING ..]
+
+PROGRAM is the built `anscheck`. Each drawing of conformance/ and crates/anscheck/data, and each that is named, is given
+to the page. Compared are the lines of why, the record, the cells of the picture, its text, and the colours that are
+painted: `N drawings, 0 differ`. Then come the table, the keyboard, touch, files that cannot be read or take too long,
+and a browser that is too old. The status is 1 where something differs.
+
+PAGE is page/check.html where it is not named. With --stand-in no module is needed but `clang` and `lld` for wasm64: the
+page is made anew with one that has the stored answers of PROGRAM. HEADER is the folder of ans.h. With --pictures
+pictures of the page are written to FOLDER: light, dark, and 360 points wide.
+"""
+import argparse
+import pathlib
+import shutil
+import subprocess
+import sys
+import tempfile
+
+HERE = pathlib.Path(__file__).resolve().parent
+TOP = HERE.parent
+sys.path.insert(0, str(HERE / "try"))
+
+import browsers  # noqa: E402
+import stand_in  # noqa: E402
+
+BROWSERS = {"chromium": browsers.Chromium, "firefox": browsers.Firefox}
+DATA = TOP / "crates" / "anscheck" / "data"
+COLOURS = [0x000000, 0x0000aa, 0x00aa00, 0x00aaaa, 0xaa0000, 0xaa00aa, 0xaa5500, 0xaaaaaa,
+           0x555555, 0x5555ff, 0x55ff55, 0x55ffff, 0xff5555, 0xff55ff, 0xffff55, 0xffffff]
+LONGEST_PAUSE = 1000
+CELL_DOTS = 128
+DOTS = {0x00: 0, 0x20: 0, 0xff: 0, 0xb0: 32, 0xb1: 64, 0xb2: 96, 0xdb: 128, 0xdc: 64, 0xdd: 64, 0xde: 64, 0xdf: 64}
+
+SHOWN = """({
+  why: [...element("why").children].map((line) => line.textContent + "\\n").join(""),
+  record: [...element("record").children].map((line) => line.textContent + "\\n").join(""),
+  picture: element("picture-part").hidden ? null : {
+    columns: pictureView.picture.columns, lines: pictureView.picture.lines, upTo: pictureView.picture.upTo,
+    cells: [...pictureView.picture.glyphs].map((glyph, cell) => [glyph, pictureView.picture.attributes[cell]]),
+    text: pictureView.rowsAsText(pictureView.picture.lines),
+  },
+})"""
+
+# Of each cell the two colours that most of its dots have, and how many have them.
+PAINTED = """(() => {
+  element("zoom").value = "1";
+  element("zoom").dispatchEvent(new Event("change"));
+  const { picture, canvas, view } = pictureView;
+  const copy = new OffscreenCanvas(canvas.width, canvas.height);
+  const context = copy.getContext("2d", { willReadFrequently: true });
+  pictureView.marks = [];
+  const cells = [];
+  for (let row = 0; row < picture.lines; row++) {
+    view.scrollTop = row * 16;
+    pictureView.paint();
+    context.drawImage(canvas, 0, 0);
+    const dots = context.getImageData(0, row * 16 - Math.round(view.scrollTop), canvas.width, 16).data;
+    for (let column = 0; column < Math.min(picture.columns, canvas.width >> 3); column++) {
+      const counts = new Map();
+      for (let dot = 0; dot < 128; dot++) {
+        const at = 4 * ((dot >> 3) * canvas.width + column * 8 + (dot & 7));
+        const colour = dots[at] << 16 | dots[at + 1] << 8 | dots[at + 2];
+        counts.set(colour, (counts.get(colour) ?? 0) + 1);
+      }
+      cells.push([...counts].sort((one, other) => other[1] - one[1]).slice(0, 2));
+    }
+  }
+  return cells;
+})()"""
+
+
+class Tries:
+    """What was tried, and what differs."""
+
+    def __init__(self, name):
+        self.name = name
+        self.differences = 0
+
+    def want(self, what, told, expected=True):
+        """Compares, and prints a difference."""
+        if told == expected:
+            return True
+        self.differences += 1
+        print(f"{self.name}: {what}: {str(told)[:300]!r}, expected {str(expected)[:300]!r}")
+        return False
+
+
+def said(program, words, path):
+    """What the program prints, and its status."""
+    run = subprocess.run([program, *words, path], capture_output=True, check=False)
+    return run.stdout.decode(), run.returncode
+
+
+def expected(program, path):
+    """What the program says of a drawing, in the form of SHOWN."""
+    record, record_status = said(program, ["sauce"], path)
+    told = {"why": said(program, ["why"], path)[0], "record": "none that is accepted\n" if record_status else record}
+    report = said(program, ["check", "--cleared", "--cells"], path)[0]
+    up_to = None
+    if "verdict: refused" in report and "size: " in report:
+        up_to = stand_in.fault_in(report)[3]
+        with tempfile.NamedTemporaryFile(suffix=".ans") as short:
+            short.write(stand_in.shortened(path.read_bytes(), up_to))
+            short.flush()
+            report = said(program, ["check", "--cleared", "--cells"], short.name)[0]
+    told["picture"] = picture_in(report, up_to)
+    return told
+
+
+def picture_in(report, up_to):
+    """The picture of a report."""
+    if "verdict: pass\n" not in report:
+        return None
+    size = report.partition("size: ")[2].partition("\n")[0].split(" x ")
+    data = stand_in.cells_in(report)
+    told = {"columns": int(size[0]), "lines": int(size[1]), "cells": [list(data[at:at + 2]) for at in range(0, len(data), 2)],
+            "text": report.partition("picture:\n")[2].partition("\ncells:\n")[0]}
+    return told if up_to is None else {**told, "upTo": up_to}
+
+
+def looks_as(cell, painted, is_bright):
+    """Whether the colours of a cell are those of its byte and its attribute."""
+    glyph, attribute = cell
+    background = COLOURS[attribute >> 4 & (15 if is_bright else 7)]
+    foreground = COLOURS[attribute & 15]
+    counts = dict(painted)
+    if foreground == background or glyph in DOTS:
+        dots = 0 if foreground == background else DOTS[glyph]
+        wanted = {background: CELL_DOTS - dots, foreground: dots} if dots else {background: CELL_DOTS}
+        return counts == {colour: count for colour, count in wanted.items() if count}
+    return counts.get(background, 0) > 0 and len(counts) == 2
+
+
+def show(browser, paths, input_name="files"):
+    """Gives drawings to the page, and waits until it is done."""
+    browser.value("(element('name').textContent = '', element('status').textContent = '')")
+    browser.choose(input_name, paths)
+    browser.wait("busy === 0 && element('status').textContent !== ''")
+
+
+def compare(browser, tries, program, paths):
+    """Gives each drawing to the page."""
+    different = 0
+    for path in paths:
+        show(browser, [path])
+        shown, wanted = browser.value(SHOWN), expected(program, path)
+        same = tries.want(f"{path.name}: name", browser.value("element('name').textContent"), path.name)
+        for key in ("why", "record"):
+            same &= tries.want(f"{path.name}: {key}", shown[key], wanted[key])
+        trimmed = [None if each is None else {**each, "text": [row.rstrip() for row in each["text"].split("\n")]}
+                   for each in (shown["picture"], wanted["picture"])]
+        same &= tries.want(f"{path.name}: picture", *trimmed)
+        if same and shown["picture"]:
+            painted = browser.value(PAINTED)
+            is_bright = int(shown["record"].partition("flags: ")[2][:2], 16) % 2 == 1
+            wrong = [number for number, (cell, dots) in enumerate(zip(shown["picture"]["cells"], painted))
+                     if not looks_as(cell, dots, is_bright)]
+            same &= tries.want(f"{path.name}: cells whose colours differ", [
+                (number, shown["picture"]["cells"][number], painted[number]) for number in wrong[:3]], [])
+            same &= tries.want(f"{path.name}: painted cells", len(painted), len(shown["picture"]["cells"]))
+        different += not same
+    print(f"{tries.name}: {len(paths)} drawings, {different} differ")
+
+
+def column(browser, key):
+    """A column of the table as it stands."""
+    return browser.value(f"drawingTable.rows.map((row) => row.element.children[COLUMNS.findIndex((each) => each.key === '{key}')].textContent)")
+
+
+def try_table(browser, tries, program, paths):
+    """Many drawings: the rows, their order, the CSV, and a drawing that is chosen by the keyboard."""
+    show(browser, paths)
+    tries.want("rows", len(column(browser, "name")), len(paths))
+    wanted = {path.name: said(program, ["check", "--cleared"], path)[1] for path in paths}
+    verdicts = dict(zip(column(browser, "name"), column(browser, "verdict")))
+    tries.want("verdicts", verdicts, {name: "refused" if status else "pass" for name, status in wanted.items()})
+    for key in ("name", "verdict"):
+        browser.value(f"document.querySelector('[data-key={key}] button').focus()")
+        browser.press("Enter")
+        tries.want(f"sorted by {key}", column(browser, key), sorted(column(browser, key)))
+        tries.want("aria-sort", browser.value(f"document.querySelector('[data-key={key}]').ariaSort"), "ascending")
+        browser.press("Enter")
+        tries.want(f"sorted by {key}, downwards", column(browser, key), sorted(column(browser, key), reverse=True))
+    tries.want("lines of the CSV", browser.value("csvOf(drawingTable.rows).split('\\r\\n').length"), len(paths) + 2)
+    tries.want("a value that would calculate", browser.value("csvValue('=1,\"2')"), "\"'=1,\"\"2\"")
+    first = column(browser, "name")[0]
+    browser.value("document.querySelector('#rows button').focus()")
+    browser.press("Enter")
+    browser.wait("busy === 0 && element('name').textContent !== ''")
+    tries.want("the drawing that was chosen", browser.value("element('name').textContent"), first)
+    tries.want("what has the focus", browser.value("document.activeElement.id"), "name")
+
+
+def try_bad_files(browser, tries, folder, is_stand_in):
+    """Files that are no drawings, and answers that do not come."""
+    empty, long = folder / "empty.ans", folder / "long.ans"
+    empty.write_bytes(b"")
+    with open(long, "wb") as file:
+        file.truncate((1 << 24) + 1)
+    show(browser, [long])
+    tries.want("too long", browser.value("element('verdict').textContent"), "It is longer than 16,777,216 bytes, and was not checked.")
+    if not is_stand_in:
+        return
+    (folder / "traps.ans").write_bytes(b"traps")
+    (folder / "never.ans").write_bytes(b"never ends")
+    show(browser, [folder / "traps.ans"])
+    tries.want("a trap", "started anew" in browser.value("element('verdict').textContent"))
+    browser.value("checks.longestWait = 1000")
+    show(browser, [folder / "never.ans"])
+    tries.want("no answer", "in time" in browser.value("element('verdict').textContent"))
+    browser.value("checks.longestWait = LONGEST_WAIT")
+    browser.choose("files", [folder / "never.ans"])
+    browser.wait("!element('stop').hidden")
+    browser.value("element('stop').click()")
+    browser.wait("busy === 0")
+    tries.want("what was stopped", browser.value("element('verdict').textContent"), "The check was ended.")
+    show(browser, [DATA / "hi.ans"])
+    tries.want("the next one", browser.value("element('verdict').dataset.answer"), "pass")
+
+
+def try_largest(browser, tries, path):
+    """The largest size: the page answers while it is checked, and paints a part at a time."""
+    browser.value("(window.beats = 0, window.longest = 0, window.last = performance.now(), window.pulse = setInterval(() => {"
+                  "const now = performance.now(); beats++; longest = Math.max(longest, now - last); last = now; }, 10), 0)")
+    show(browser, [path])
+    lines = browser.value("pictureView.picture?.lines")
+    tries.want("lines of the largest", lines, 8192)
+    tries.want("a small canvas", browser.value("element('canvas').width <= innerWidth && element('canvas').height <= innerHeight"))
+    browser.value("new Promise((done) => { element('view').scrollTop = 1e6; setTimeout(done, 300); })")
+    longest = browser.value("(clearInterval(pulse), Math.round(longest))")
+    tries.want(f"a pause of {longest} ms", longest < LONGEST_PAUSE)
+
+
+def try_touch_and_drop(browser, tries, folder):
+    """A touch on a line that names a place, and a folder that is dropped."""
+    browser.look(360, 700, is_touch=True)
+    show(browser, [DATA / "harbour.ans"])
+    tries.want("nothing wider than the page", browser.value("document.documentElement.scrollWidth <= innerWidth"))
+    browser.value("document.querySelector('#why li:nth-child(8) button').scrollIntoView({ block: 'center' })")
+    box = browser.value("(({ x, y, width, height }) => [x + width / 2, y + height / 2])(document.querySelector('#why li:nth-child(8) button').getBoundingClientRect())")
+    browser.tap(*box)
+    browser.wait("document.activeElement.id === 'view'", 10)
+    browser.look(1000, 900)
+    if not hasattr(browser, "drop"):
+        return
+    inner = folder / "pack" / "inner"
+    inner.mkdir(parents=True)
+    for name in ("hi.ans", "box.ans", "rows.ans"):
+        shutil.copy(DATA / name, inner / name.upper())
+    (folder / "pack" / "readme.txt").write_text("no drawing")
+    browser.value("(scrollTo(0, 0), element('status').textContent = '')")
+    browser.drop([folder / "pack"], 200, 200)
+    browser.wait("busy === 0 && element('status').textContent.includes('left out')")
+    tries.want("names of a folder", sorted(column(browser, "name")), ["pack/inner/BOX.ANS", "pack/inner/HI.ANS", "pack/inner/ROWS.ANS"])
+
+
+def try_old_browser(kind, tries, address):
+    """A browser without 64-bit memory is told at once."""
+    browser = kind()
+    try:
+        browser.before("WebAssembly.validate = () => false;")
+        browser.open(address)
+        tries.want("the warning", browser.value("!element('too-old').hidden && element('choose').hidden"))
+    finally:
+        browser.close()
+
+
+def take_pictures(kind, address, folder, paths):
+    """Pictures of the page, light and dark, wide and narrow."""
+    for is_dark in (False, True):
+        browser = kind(is_dark)
+        try:
+            for width in (1200, 360):
+                browser.look(width, 900, is_touch=width == 360)
+                browser.open(address)
+                name = f"{kind.__name__.lower()}-{'dark' if is_dark else 'light'}-{width}"
+                browser.take_picture(folder / f"{name}-empty.png")
+                for drawing in ("harbour", "rows"):
+                    show(browser, [DATA / f"{drawing}.ans"])
+                    browser.take_picture(folder / f"{name}-{drawing}.png")
+                    browser.value("element('picture-heading').scrollIntoView()")
+                    browser.take_picture(folder / f"{name}-{drawing}-picture.png")
+                show(browser, paths)
+                browser.value("scrollTo(0, 0)")
+                browser.take_picture(folder / f"{name}-table.png")
+        finally:
+            browser.close()
+
+
+def try_in(kind, page, program, paths, is_stand_in, folder):
+    """All tries in one browser."""
+    browser = kind()
+    tries = Tries(browser.name)
+    try:
+        browser.look(1000, 900)
+        browser.open(page.as_uri())
+        compare(browser, tries, program, paths)
+        try_table(browser, tries, program, paths[::9])
+        try_bad_files(browser, tries, folder, is_stand_in)
+        try_largest(browser, tries, folder / "largest.ans")
+        try_touch_and_drop(browser, tries, folder / browser.name.replace("/", "-"))
+        tries.want("complaints and requests", browser.complaints(), [])
+    finally:
+        browser.close()
+    try_old_browser(kind, tries, page.as_uri())
+    print(f"{tries.name}: {tries.differences} differences")
+    return tries.differences
+
+
+def main():
+    """Tries each browser."""
+    words = argparse.ArgumentParser(usage=__doc__.partition("\n\n")[2])
+    words.add_argument("program")
+    words.add_argument("--page", type=pathlib.Path, default=HERE / "check.html")
+    words.add_argument("--stand-in", type=pathlib.Path)
+    words.add_argument("--pictures", type=pathlib.Path)
+    words.add_argument("--browser", choices=BROWSERS)
+    words.add_argument("drawings", type=pathlib.Path, nargs="*")
+    given = words.parse_intermixed_args()
+    paths = sorted((TOP / "conformance" / "files").glob("*.ans")) + sorted(DATA.glob("*.ans")) + given.drawings
+    kinds = [BROWSERS[given.browser]] if given.browser else list(BROWSERS.values())
+    with tempfile.TemporaryDirectory() as name:
+        folder, page = pathlib.Path(name), given.page.resolve()
+        (folder / "largest.ans").write_bytes(stand_in.largest()[0])
+        if given.stand_in:
+            page = folder / "check.html"
+            module = stand_in.build(given.program, paths, given.stand_in, folder)
+            subprocess.run([sys.executable, HERE / "make.py", module, page], check=True)
+        different = sum(try_in(kind, page, given.program, paths, bool(given.stand_in), folder) for kind in kinds)
+        if given.pictures:
+            given.pictures.mkdir(parents=True, exist_ok=True)
+            for kind in kinds:
+                take_pictures(kind, page.as_uri(), given.pictures.resolve(), paths[::9])
+    sys.exit(different > 0)
+
+
+if __name__ == "__main__":
+    main()
