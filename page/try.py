@@ -49,9 +49,10 @@ PAINTED = """(() => {
   element("zoom").value = "1";
   element("zoom").dispatchEvent(new Event("change"));
   const { picture, canvas, view } = pictureView;
+  pictureView.marks = [];
+  pictureView.layOut();
   const copy = new OffscreenCanvas(canvas.width, canvas.height);
   const context = copy.getContext("2d", { willReadFrequently: true });
-  pictureView.marks = [];
   const cells = [];
   for (let row = 0; row < picture.lines; row++) {
     view.scrollTop = row * 16;
@@ -178,10 +179,10 @@ def try_table(browser, tries, program, paths):
     verdicts = dict(zip(column(browser, "name"), column(browser, "verdict")))
     tries.want("verdicts", verdicts, {name: "refused" if status else "pass" for name, status in wanted.items()})
     for key in ("name", "verdict"):
-        browser.value(f"document.querySelector('[data-key={key}] button').focus()")
+        browser.value(f"document.querySelector('thead [data-key={key}] button').focus()")
         browser.press("Enter")
         tries.want(f"sorted by {key}", column(browser, key), sorted(column(browser, key)))
-        tries.want("aria-sort", browser.value(f"document.querySelector('[data-key={key}]').ariaSort"), "ascending")
+        tries.want("aria-sort", browser.value(f"document.querySelector('thead [data-key={key}]').ariaSort"), "ascending")
         browser.press("Enter")
         tries.want(f"sorted by {key}, downwards", column(browser, key), sorted(column(browser, key), reverse=True))
     tries.want("lines of the CSV", browser.value("csvOf(drawingTable.rows).split('\\r\\n').length"), len(paths) + 2)

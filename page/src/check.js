@@ -9,7 +9,9 @@ const lessMotion = matchMedia("(prefers-reduced-motion: reduce)");
 
 const isKnown = () => typeof Worker === "function" && typeof WebAssembly === "object" && WebAssembly.validate(moduleBytes);
 
-const checks = new Checks(moduleBytes, element("worker").textContent);
+const checks = new Checks(moduleBytes, element("worker").textContent, (version) => {
+  element("version").textContent = `anscheck ${version}`;
+});
 const pictureView = new PictureView(element("view"), element("space"), element("canvas"));
 const drawingTable = new DrawingTable(element("headings"), element("rows"), (drawing) => showDrawing(drawing));
 
@@ -45,12 +47,15 @@ function goToMark(place) {
   pictureView.goTo(place);
 }
 
-function showAdvice(why) {
+function showAdvice({ answer, why }) {
   const fault = faultOf(why);
   element("advice").hidden = !fault;
   if (!fault) return;
-  element("meaning").textContent = `What F${fault.number} means: ${MEANINGS[fault.number]}`;
-  element("mend").textContent = `To mend it: ${MENDS[fault.number]}`;
+  const passes = answer === "pass";
+  const mend = passes ? valueOf(why, "mend") : MENDS[fault.number];
+  element("meaning").textContent = `${passes ? "From other starts it has the fault" : "About"} F${fault.number}: ${MEANINGS[fault.number]}`;
+  element("mend").textContent = passes ? `To pass from every start, ${mend}, without the blanks.` : `To mend it: ${mend}`;
+  element("mend").hidden = !mend;
 }
 
 function noteOn({ columns, lines, upTo }, marks) {
@@ -92,7 +97,7 @@ function showResult(drawing, result) {
   element("why").replaceChildren(...linesOf(result.why).map(lineElement));
   const record = linesOf(result.record);
   element("record").replaceChildren(...(record.length > 0 ? record : ["none that is accepted"]).map(lineElement));
-  showAdvice(result.why);
+  showAdvice(result);
   showPicture(drawing.path, result);
   element("name").focus({ preventScroll: true });
   element("name").scrollIntoView({ block: "start" });
@@ -198,6 +203,7 @@ function begin() {
     element("choose").hidden = true;
     return;
   }
+  checks.start();
   takeDrops();
   takeChoices(element("choose-files"), element("files"));
   takeChoices(element("choose-folder"), element("folder"));

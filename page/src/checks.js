@@ -3,7 +3,8 @@
 const LONGEST_WAIT = 30000;
 
 class Checks {
-  constructor(moduleBytes, workerText) {
+  constructor(moduleBytes, workerText, onVersion) {
+    this.onVersion = onVersion;
     this.moduleBytes = moduleBytes;
     this.workerAddress = URL.createObjectURL(new Blob([workerText], { type: "text/javascript" }));
     this.longestWait = LONGEST_WAIT;
@@ -58,6 +59,7 @@ class Checks {
   }
 
   answered(result) {
+    if (result.version) this.onVersion(result.version);
     if (!this.running || result.number !== this.running.number) return;
     clearTimeout(this.timer);
     const job = this.running;

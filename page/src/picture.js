@@ -3,8 +3,11 @@
 const CELL_WIDTH = 8;
 const CELL_ASPECT = 2;
 const SMALLEST_CELL = 3;
+const BORDERS = 2;
+const MARGIN = 6;
 const BLINK_PERIOD = 500;
 const BLINK_BIT = 0x80;
+const MARGIN_COLOUR = "#333";
 const MARK_LINES = [[7, "#000"], [5, "#fff"], [2, "#d0006f"]];
 
 const isBlank = (glyph) => glyph === 0 || glyph === 0x20 || glyph === 0xff;
@@ -20,11 +23,11 @@ class PictureView {
     this.blinks = true;
     this.isOff = false;
     view.addEventListener("scroll", () => this.repaint());
-    new ResizeObserver(() => this.layOut()).observe(view);
+    new ResizeObserver(() => this.layOut()).observe(view.parentElement);
     setInterval(() => this.turnBlink(), BLINK_PERIOD);
   }
 
-  /** Marks are rows and columns, counted from 1. The row below the last one is there if a mark stands in it. */
+  /** Marks are rows and columns, counted from 1. A margin shows those at the edge, and the row below the last one is there if a mark stands in it. */
   show(picture, marks) {
     this.picture = picture;
     this.marks = marks;
@@ -63,25 +66,29 @@ class PictureView {
   }
 
   /** A cell has a whole number of the screen's dots, so that neighbours touch and nothing is blurred. */
-  measure() {
-    this.ratio = window.devicePixelRatio || 1;
+  setCellWidth(available) {
     const usual = CELL_WIDTH * this.ratio;
-    const fitting = Math.floor(this.view.clientWidth * this.ratio / this.picture.columns);
+    const fitting = Math.floor((available * this.ratio - 2 * this.margin) / this.picture.columns);
     const wanted = this.zoom === "fit" ? Math.min(usual, fitting) : usual * Number(this.zoom);
     this.cellWidth = Math.max(SMALLEST_CELL, Math.round(wanted));
     this.cellHeight = this.cellWidth * CELL_ASPECT;
+    this.width = this.picture.columns * this.cellWidth + 2 * this.margin;
+    this.height = this.rows * this.cellHeight + 2 * this.margin;
+    this.space.style.width = `${this.width / this.ratio}px`;
+    this.space.style.height = `${this.height / this.ratio}px`;
   }
 
   layOut() {
-    if (!this.picture || this.view.clientWidth === 0) return;
-    this.measure();
+    const available = this.view.parentElement.clientWidth - BORDERS;
+    if (!this.picture || available <= 0) return;
+    this.ratio = window.devicePixelRatio || 1;
+    this.margin = this.marks.length > 0 ? Math.round(MARGIN * this.ratio) : 0;
+    this.setCellWidth(available);
+    // A bar to scroll a high picture takes some of the width.
+    if (this.zoom === "fit" && this.view.scrollWidth > this.view.clientWidth) this.setCellWidth(this.view.clientWidth);
     if (this.sheets?.width !== this.cellWidth) this.sheets = new GlyphSheets(this.cellWidth, this.cellHeight);
-    const width = this.picture.columns * this.cellWidth;
-    const height = this.rows * this.cellHeight;
-    this.space.style.width = `${width / this.ratio}px`;
-    this.space.style.height = `${height / this.ratio}px`;
-    this.canvas.width = Math.min(width, Math.ceil(this.view.clientWidth * this.ratio));
-    this.canvas.height = Math.min(height, Math.ceil(this.view.clientHeight * this.ratio));
+    this.canvas.width = Math.min(this.width, Math.ceil(this.view.clientWidth * this.ratio));
+    this.canvas.height = Math.min(this.height, Math.ceil(this.view.clientHeight * this.ratio));
     this.canvas.style.width = `${this.canvas.width / this.ratio}px`;
     this.canvas.style.height = `${this.canvas.height / this.ratio}px`;
     this.paint();
@@ -94,19 +101,25 @@ class PictureView {
     });
   }
 
+  /** Where the canvas lies on the picture. */
+  corner() {
+    const left = Math.min(Math.round(this.view.scrollLeft * this.ratio), this.width - this.canvas.width);
+    const top = Math.min(Math.round(this.view.scrollTop * this.ratio), this.height - this.canvas.height);
+    return { left: left - this.margin, top: top - this.margin };
+  }
+
   paint() {
-    const left = Math.min(Math.round(this.view.scrollLeft * this.ratio), this.picture.columns * this.cellWidth - this.canvas.width);
-    const top = Math.min(Math.round(this.view.scrollTop * this.ratio), this.rows * this.cellHeight - this.canvas.height);
+    const { left, top } = this.corner();
     const context = this.canvas.getContext("2d", { alpha: false });
-    context.setTransform(1, 0, 0, 1, -left, -top);
-    const firstRow = Math.floor(top / this.cellHeight);
+    context.resetTransform();
+    context.fillStyle = MARGIN_COLOUR;
+    context.fillRect(0, 0, this.canvas.width, this.canvas.height);
+    context.translate(-left, -top);
+    const firstRow = Math.max(0, Math.floor(top / this.cellHeight));
     const endRow = Math.min(this.rows, Math.ceil((top + this.canvas.height) / this.cellHeight));
-    const firstColumn = Math.floor(left / this.cellWidth);
+    const firstColumn = Math.max(0, Math.floor(left / this.cellWidth));
     const endColumn = Math.min(this.picture.columns, Math.ceil((left + this.canvas.width) / this.cellWidth));
-    for (let row = firstRow; row < endRow; row++) {
-      if (row < this.picture.lines) this.paintRow(context, row, firstColumn, endColumn);
-      else this.paintSpareRow(context, row);
-    }
+    for (let row = firstRow; row < Math.min(endRow, this.picture.lines); row++) this.paintRow(context, row, firstColumn, endColumn);
     for (const mark of this.marks) this.paintMark(context, mark);
   }
 
@@ -127,11 +140,6 @@ class PictureView {
       context.fillRect(left, top, this.cellWidth, this.cellHeight);
       if (!isBlank(glyphs[cell]) && foreground !== background) this.sheets.paint(context, glyphs[cell], foreground, left, top);
     }
-  }
-
-  paintSpareRow(context, row) {
-    context.fillStyle = "#333";
-    context.fillRect(0, row * this.cellHeight, this.picture.columns * this.cellWidth, this.cellHeight);
   }
 
   paintMark(context, { row, column }) {

@@ -1,6 +1,7 @@
 // The table of a folder: it sorts by its headings, and is saved as CSV.
 
 const COLUMNS = [
+  { key: "name", heading: "Name" },
   { key: "verdict", heading: "Verdict" },
   { key: "needs", heading: "Needs" },
   { key: "fault", heading: "Fault" },
@@ -8,7 +9,6 @@ const COLUMNS = [
   { key: "title", heading: "Title" },
   { key: "author", heading: "Author" },
   { key: "size", heading: "Size" },
-  { key: "name", heading: "Name" },
 ];
 
 const natural = new Intl.Collator("en", { numeric: true });
@@ -71,6 +71,7 @@ class DrawingTable {
     for (const { key } of COLUMNS) {
       const cell = document.createElement(key === "name" ? "th" : "td");
       if (key === "name") cell.scope = "row";
+      cell.dataset.key = key;
       cell.append(key === "name" ? this.makeChoice(row) : values[key]);
       element.append(cell);
     }

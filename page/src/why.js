@@ -46,7 +46,7 @@ const listed = (words) => words.length < 2 ? words.join("") : `${words.slice(0, 
 function sentenceOf({ answer, why }) {
   if (FAILURES[answer]) return FAILURES[answer];
   const fault = faultOf(why);
-  if (answer === "refused") return `Refused: ${fault.text}, at byte ${fault.at.toLocaleString("en")}.`;
+  if (answer === "refused") return `Refused at byte ${fault.at.toLocaleString("en")}: F${fault.number} ${fault.text}.`;
   const needs = valueOf(why, "needs").split(" ");
   if (needs[0] === "nothing") return "Passes: it shows the same picture from every start.";
   return `Passes, if it finds ${listed(needs.map((part) => NEEDS[part]))}.`;

@@ -51,6 +51,8 @@ function studied(file, wantsPicture) {
 onmessage = ({ data }) => {
   if (data.module) {
     module = new WebAssembly.Module(data.module);
+    checker = new Checker(module);
+    postMessage({ version: checker.version().text });
     return;
   }
   const result = studied(new Uint8Array(data.file), data.wantsPicture);
