@@ -38,7 +38,8 @@ SHOWN = """({
   why: [...element("why").children].map((line) => line.textContent + "\\n").join(""),
   record: [...element("record").children].map((line) => line.textContent + "\\n").join(""),
   picture: element("picture-part").hidden ? null : {
-    columns: pictureView.picture.columns, lines: pictureView.picture.lines, upTo: pictureView.picture.upTo,
+    columns: pictureView.picture.columns, lines: pictureView.picture.lines,
+    upTo: pictureView.picture.upTo, moreLines: pictureView.picture.moreLines,
     cells: [...pictureView.picture.glyphs].map((glyph, cell) => [glyph, pictureView.picture.attributes[cell]]),
     text: pictureView.rowsAsText(pictureView.picture.lines),
   },
@@ -99,27 +100,26 @@ def expected(program, path):
     """What the program says of a drawing, in the form of SHOWN."""
     record, record_status = said(program, ["sauce"], path)
     told = {"why": said(program, ["why"], path)[0], "record": "none that is accepted\n" if record_status else record}
-    report = said(program, ["check", "--cleared", "--cells"], path)[0]
-    up_to = None
+    report, change = said(program, ["check", "--cleared", "--cells"], path)[0], {}
     if "verdict: refused" in report and "size: " in report:
-        up_to = stand_in.fault_in(report)[3]
-        with tempfile.NamedTemporaryFile(suffix=".ans") as short:
-            short.write(stand_in.shortened(path.read_bytes(), up_to))
-            short.flush()
-            report = said(program, ["check", "--cleared", "--cells"], short.name)[0]
-    told["picture"] = picture_in(report, up_to)
+        file, change = stand_in.changed(path.read_bytes(), told["why"], stand_in.fault_in(report)[3])
+        with tempfile.NamedTemporaryFile(suffix=".ans") as copy:
+            copy.write(file)
+            copy.flush()
+            report = said(program, ["check", "--cleared", "--cells"], copy.name)[0]
+    told["picture"] = picture_in(report, change)
     return told
 
 
-def picture_in(report, up_to):
+def picture_in(report, change):
     """The picture of a report."""
     if "verdict: pass\n" not in report:
         return None
-    size = report.partition("size: ")[2].partition("\n")[0].split(" x ")
+    columns, lines = map(int, report.partition("size: ")[2].partition("\n")[0].split(" x "))
     data = stand_in.cells_in(report)
-    told = {"columns": int(size[0]), "lines": int(size[1]), "cells": [list(data[at:at + 2]) for at in range(0, len(data), 2)],
-            "text": report.partition("picture:\n")[2].partition("\ncells:\n")[0]}
-    return told if up_to is None else {**told, "upTo": up_to}
+    cells = [list(data[at:at + 2]) for at in range(0, len(data), 2)]
+    return {"columns": columns, "lines": lines, "cells": cells,
+            "text": report.partition("picture:\n")[2].partition("\ncells:\n")[0], **change}
 
 
 def looks_as(cell, painted, is_bright):
@@ -222,6 +222,26 @@ def try_bad_files(browser, tries, folder, is_stand_in):
     tries.want("the next one", browser.value("element('verdict').dataset.answer"), "pass")
 
 
+def hostile_contents():
+    """Contents of almost the greatest length that make a player work."""
+    room = (1 << 24) - 129
+    for name, part in (("clears", b"\x1b[2J"), ("erases", b"\x1b[K"), ("tabs", b"\r\t"), ("moves", b"\x1b[8191;1HA\x1b[1;1HA"),
+                       ("colours", b"\x1b[0;1;5;33;44m"), ("words", b"\x1b[" + b";" * 15 + b"m"), ("letters", b"A\r")):
+        yield name, b"\x1b[0m\x1b[2J" + part * ((room - 8) // len(part))
+
+
+def try_hostile(browser, tries, folder):
+    """Each ends with an answer or a message."""
+    record = stand_in.largest()[0][-128:]
+    for name, content in hostile_contents():
+        path = folder / f"{name}.ans"
+        path.write_bytes(content + b"\x1a" + record)
+        show(browser, [path])
+        tries.want(f"{name}: a sentence", browser.value("element('verdict').textContent !== ''"))
+        print(f"{tries.name}: {name}: {browser.value('element(`verdict`).textContent')}")
+        path.unlink()
+
+
 def try_largest(browser, tries, path):
     """The largest size: the page answers while it is checked, and paints a part at a time."""
     browser.value("(window.beats = 0, window.longest = 0, window.last = performance.now(), window.pulse = setInterval(() => {"
@@ -302,8 +322,11 @@ def try_in(kind, page, program, paths, is_stand_in, folder):
         try_table(browser, tries, program, paths[::9])
         try_bad_files(browser, tries, folder, is_stand_in)
         try_largest(browser, tries, folder / "largest.ans")
+        if not is_stand_in:
+            try_hostile(browser, tries, folder)
         try_touch_and_drop(browser, tries, folder / browser.name.replace("/", "-"))
         tries.want("complaints and requests", browser.complaints(), [])
+        tries.want("a request of the page", browser.value("fetch('data:,').then(() => 'answered', () => 'refused')"), "refused")
     finally:
         browser.close()
     try_old_browser(kind, tries, page.as_uri())

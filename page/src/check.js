@@ -58,28 +58,35 @@ function showAdvice({ answer, why }) {
   element("mend").hidden = !mend;
 }
 
-function noteOn({ columns, lines, upTo }, marks) {
-  const size = `${columns} x ${lines}`;
-  const part = upTo === undefined ? "" : `, up to byte ${upTo.toLocaleString("en")}, where it is refused`;
-  const places = marks.map(({ row, column }) => `row ${row}${row > lines ? " (below the last line)" : ""}, column ${column}`);
-  const marked = places.length === 0 ? "" : ` Marked: ${[...new Set(places)].join("; ")}.`;
-  return `${size}${part}.${marked}`;
+/** What the picture is, where it is not that of the file as it stands. */
+function partShown({ lines, upTo, moreLines }, stated) {
+  if (upTo !== undefined) return `What stands before byte ${upTo.toLocaleString("en")}, on ${stated}.`;
+  if (moreLines !== undefined) return `As it is with ${lines} lines. The record states ${stated}.`;
+  return `${stated}.`;
 }
 
-function showPicture(name, { picture, why, record }) {
+function noteOn(picture, why) {
+  const stated = valueOf(why, "size");
+  const places = placesOf(why).map(({ row, column }) => (
+    `row ${row}${row > Number(stated.split(" ").at(-1)) ? " (below the last line)" : ""}, column ${column}`));
+  const marked = places.length === 0 ? "" : ` Marked: ${[...new Set(places)].join("; ")}.`;
+  return partShown(picture, stated) + marked;
+}
+
+function showPicture(name, { answer, picture, why, record }) {
   element("picture-part").hidden = !picture;
   pictureView.clear();
   if (!picture) return;
   picture.brightBackgrounds = parseInt(valueOf(record, "flags"), 16) % 2 === 1;
   const marks = placesOf(why);
-  const note = noteOn(picture, marks);
+  const note = noteOn(picture, why);
   element("picture-note").textContent = note;
   element("canvas").setAttribute("aria-label", `Picture of ${name}, ${note}`);
   element("blink-part").hidden = !picture.blinks || picture.brightBackgrounds;
   element("text-part").open = false;
   element("text").textContent = "";
   pictureView.show(picture, marks);
-  if (picture.upTo !== undefined && marks.length > 0) pictureView.goTo(marks[0]);
+  if (answer === "refused" && marks.length > 0) pictureView.goTo(marks[0]);
 }
 
 function showText() {

@@ -1,7 +1,10 @@
 // The characters of code page 437: blocks, shades and box lines are painted here, the others are the browser's own.
 
-const COLOURS = ["#000", "#00a", "#0a0", "#0aa", "#a00", "#a0a", "#a50", "#aaa",
-  "#555", "#55f", "#5f5", "#5ff", "#f55", "#f5f", "#ff5", "#fff"];
+const COLOURS = [0x000000, 0x0000aa, 0x00aa00, 0x00aaaa, 0xaa0000, 0xaa00aa, 0xaa5500, 0xaaaaaa,
+  0x555555, 0x5555ff, 0x55ff55, 0x55ffff, 0xff5555, 0xff55ff, 0xffff55, 0xffffff];
+
+/** A colour as the four bytes of a dot: red, green, blue, and that nothing shines through. */
+const dotOf = (colour) => 0xff << 24 | (colour & 0xff) << 16 | colour & 0xff00 | colour >> 16;
 
 const CODE_PAGE_437 = [
   ..." ☺☻♥♦♣♠•◘○◙♂♀♪♫☼►◄↕‼¶§▬↨↑↓→←∟↔▲▼",
@@ -100,39 +103,27 @@ function paintGlyph(context, glyph, width, height) {
   else paintLetter(context, glyph, width, height);
 }
 
-/** All characters in each colour, painted once for a size of the cells. */
-class GlyphSheets {
-  constructor(width, height) {
-    this.width = width;
-    this.height = height;
-    this.sheets = new Map();
+/** How much of each dot the characters cover, from 0 to 255, for cells of a size: character after character, row after row. */
+function glyphCoverage(width, height) {
+  const canvas = new OffscreenCanvas(width, height);
+  const context = canvas.getContext("2d", { willReadFrequently: true });
+  const coverage = new Uint8Array(256 * width * height);
+  for (let glyph = 0; glyph < 256; glyph++) {
+    context.clearRect(0, 0, width, height);
+    paintGlyph(context, glyph, width, height);
+    const { data } = context.getImageData(0, 0, width, height);
+    for (let dot = 0; dot < width * height; dot++) coverage[glyph * width * height + dot] = data[4 * dot + 3];
   }
+  return coverage;
+}
 
-  sheetOf(colour) {
-    if (!this.sheets.has(colour)) this.sheets.set(colour, this.painted(colour));
-    return this.sheets.get(colour);
+/** A colour that covers a part of another, both as the four bytes of a dot. */
+function mixed(colour, ground, part) {
+  let result = 0xff << 24;
+  for (let shift = 0; shift < 24; shift += 8) {
+    const over = colour >>> shift & 255;
+    const under = ground >>> shift & 255;
+    result |= Math.round(under + (over - under) * part / 255) << shift;
   }
-
-  painted(colour) {
-    const sheet = document.createElement("canvas");
-    sheet.width = this.width * 16;
-    sheet.height = this.height * 16;
-    const context = sheet.getContext("2d");
-    context.fillStyle = COLOURS[colour];
-    for (let glyph = 0; glyph < 256; glyph++) {
-      context.save();
-      context.translate((glyph & 15) * this.width, (glyph >> 4) * this.height);
-      context.beginPath();
-      context.rect(0, 0, this.width, this.height);
-      context.clip();
-      paintGlyph(context, glyph, this.width, this.height);
-      context.restore();
-    }
-    return sheet;
-  }
-
-  paint(context, glyph, colour, left, top) {
-    const { width, height } = this;
-    context.drawImage(this.sheetOf(colour), (glyph & 15) * width, (glyph >> 4) * height, width, height, left, top, width, height);
-  }
+  return result;
 }

@@ -7,10 +7,8 @@ const BORDERS = 2;
 const MARGIN = 6;
 const BLINK_PERIOD = 500;
 const BLINK_BIT = 0x80;
-const MARGIN_COLOUR = "#333";
+const MARGIN_COLOUR = 0x333333;
 const MARK_LINES = [[7, "#000"], [5, "#fff"], [2, "#d0006f"]];
-
-const isBlank = (glyph) => glyph === 0 || glyph === 0x20 || glyph === 0xff;
 
 class PictureView {
   constructor(view, space, canvas) {
@@ -83,15 +81,21 @@ class PictureView {
     if (!this.picture || available <= 0) return;
     this.ratio = window.devicePixelRatio || 1;
     this.margin = this.marks.length > 0 ? Math.round(MARGIN * this.ratio) : 0;
+    this.resizeCanvas(0, 0);
     this.setCellWidth(available);
     // A bar to scroll a high picture takes some of the width.
     if (this.zoom === "fit" && this.view.scrollWidth > this.view.clientWidth) this.setCellWidth(this.view.clientWidth);
-    if (this.sheets?.width !== this.cellWidth) this.sheets = new GlyphSheets(this.cellWidth, this.cellHeight);
-    this.canvas.width = Math.min(this.width, Math.ceil(this.view.clientWidth * this.ratio));
-    this.canvas.height = Math.min(this.height, Math.ceil(this.view.clientHeight * this.ratio));
-    this.canvas.style.width = `${this.canvas.width / this.ratio}px`;
-    this.canvas.style.height = `${this.canvas.height / this.ratio}px`;
+    if (this.coverage?.length !== 256 * this.cellWidth * this.cellHeight) this.coverage = glyphCoverage(this.cellWidth, this.cellHeight);
+    this.resizeCanvas(Math.min(this.width, Math.ceil(this.view.clientWidth * this.ratio)),
+      Math.min(this.height, Math.ceil(this.view.clientHeight * this.ratio)));
     this.paint();
+  }
+
+  resizeCanvas(width, height) {
+    this.canvas.width = width;
+    this.canvas.height = height;
+    this.canvas.style.width = `${width / this.ratio}px`;
+    this.canvas.style.height = `${height / this.ratio}px`;
   }
 
   repaint() {
@@ -109,37 +113,50 @@ class PictureView {
   }
 
   paint() {
-    const { left, top } = this.corner();
+    const corner = this.corner();
     const context = this.canvas.getContext("2d", { alpha: false });
     context.resetTransform();
-    context.fillStyle = MARGIN_COLOUR;
-    context.fillRect(0, 0, this.canvas.width, this.canvas.height);
-    context.translate(-left, -top);
-    const firstRow = Math.max(0, Math.floor(top / this.cellHeight));
-    const endRow = Math.min(this.rows, Math.ceil((top + this.canvas.height) / this.cellHeight));
-    const firstColumn = Math.max(0, Math.floor(left / this.cellWidth));
-    const endColumn = Math.min(this.picture.columns, Math.ceil((left + this.canvas.width) / this.cellWidth));
-    for (let row = firstRow; row < Math.min(endRow, this.picture.lines); row++) this.paintRow(context, row, firstColumn, endColumn);
+    context.putImageData(this.cellsFrom(corner), 0, 0);
+    context.translate(-corner.left, -corner.top);
     for (const mark of this.marks) this.paintMark(context, mark);
   }
 
-  coloursOf(attribute) {
-    const background = attribute >> 4 & (this.picture.brightBackgrounds ? 15 : 7);
-    const isHidden = this.isOff && !this.picture.brightBackgrounds && attribute & BLINK_BIT;
-    return { background, foreground: isHidden ? background : attribute & 15 };
+  /** The dots of the part that is looked at. */
+  cellsFrom({ left, top }) {
+    const { width, height } = this.canvas;
+    const image = new ImageData(width, height);
+    const dots = new Uint32Array(image.data.buffer).fill(dotOf(MARGIN_COLOUR));
+    const colours = Array.from({ length: 256 }, (_, attribute) => this.coloursOf(attribute));
+    const first = Math.max(0, -top);
+    const end = Math.min(height, this.picture.lines * this.cellHeight - top);
+    for (let y = first; y < end; y++) this.paintDots(dots.subarray(y * width, (y + 1) * width), left, top + y, colours);
+    return image;
   }
 
-  paintRow(context, row, firstColumn, endColumn) {
+  /** One row of dots, each of which lies in a cell. */
+  paintDots(dots, left, down, colours) {
     const { columns, glyphs, attributes } = this.picture;
-    const top = row * this.cellHeight;
-    for (let column = firstColumn; column < endColumn; column++) {
+    const { cellWidth, cellHeight, coverage } = this;
+    const row = Math.floor(down / cellHeight);
+    const inCell = down % cellHeight;
+    const end = Math.min(dots.length, columns * cellWidth - left);
+    for (let x = Math.max(0, -left); x < end;) {
+      const column = Math.floor((left + x) / cellWidth);
       const cell = row * columns + column;
-      const { background, foreground } = this.coloursOf(attributes[cell]);
-      const left = column * this.cellWidth;
-      context.fillStyle = COLOURS[background];
-      context.fillRect(left, top, this.cellWidth, this.cellHeight);
-      if (!isBlank(glyphs[cell]) && foreground !== background) this.sheets.paint(context, glyphs[cell], foreground, left, top);
+      const { background, foreground } = colours[attributes[cell]];
+      const cellEnd = Math.min(end, (column + 1) * cellWidth - left);
+      let at = (glyphs[cell] * cellHeight + inCell) * cellWidth + left + x - column * cellWidth;
+      for (; x < cellEnd; x++, at++) {
+        const part = coverage[at];
+        dots[x] = part === 0 ? background : part === 255 ? foreground : mixed(foreground, background, part);
+      }
     }
+  }
+
+  coloursOf(attribute) {
+    const background = COLOURS[attribute >> 4 & (this.picture.brightBackgrounds ? 15 : 7)];
+    const isHidden = this.isOff && !this.picture.brightBackgrounds && attribute & BLINK_BIT;
+    return { background: dotOf(background), foreground: dotOf(isHidden ? background : COLOURS[attribute & 15]) };
   }
 
   paintMark(context, { row, column }) {

@@ -1,6 +1,7 @@
 // Answers what the page asks about one drawing after the other. It runs in a worker, behind ans.js.
 
 const RECORD_BYTES = 128;
+const LINES = 98;
 const COMMENT_COUNT = 104;
 const END_MARK = 0x1a;
 const BLINK = 0x80;
@@ -19,13 +20,25 @@ function shortened(file, length) {
   return short;
 }
 
-/** The picture from the cleared screen. Of a content that is refused, the picture that stands before the fault. */
-function pictureOf(file) {
+/** The same file with another number of lines in its record. */
+function withLines(file, lines) {
+  const changed = file.slice();
+  new DataView(changed.buffer).setUint16(changed.length - RECORD_BYTES + LINES, lines, true);
+  return changed;
+}
+
+/**
+ * The picture from the cleared screen. Of a content that is refused, the picture with as many lines as `why` says would
+ * do, and else what stands before the fault. Both come of a check of a changed copy.
+ */
+function pictureOf(file, why) {
   const whole = checker.check(CLEARED);
   if (whole.answer === "pass") return whole;
-  checker.open(shortened(file, whole.fault.offset));
-  const front = checker.check(CLEARED);
-  return front.answer === "pass" ? { ...front, upTo: whole.fault.offset } : null;
+  const lines = Number(/^lines: (\d+)$/m.exec(why)?.[1]);
+  checker.open(lines ? withLines(file, lines) : shortened(file, whole.fault.offset));
+  const changed = checker.check(CLEARED);
+  if (changed.answer !== "pass") return null;
+  return lines ? { ...changed, moreLines: lines } : { ...changed, upTo: whole.fault.offset };
 }
 
 function study(file, wantsPicture) {
@@ -33,7 +46,7 @@ function study(file, wantsPicture) {
   const why = checker.why();
   const record = checker.record();
   const hasPicture = wantsPicture && checker.size().answer === "pass";
-  const picture = hasPicture ? pictureOf(file) : null;
+  const picture = hasPicture ? pictureOf(file, why.text) : null;
   if (picture) picture.blinks = picture.attributes.some((attribute) => attribute >= BLINK);
   return { answer: why.answer, why: why.text, record: record.answer === "pass" ? record.text : "", picture };
 }

@@ -7,7 +7,7 @@ import subprocess
 HERE = pathlib.Path(__file__).resolve().parent
 EXPORTS = ("ans_size", "ans_check", "ans_needs", "ans_why", "ans_record", "ans_version", "__heap_base")
 PARTS = ("screen", "cursor", "saved", "colours", "wrap")
-RECORD, COMMENT_COUNT = 128, 104
+RECORD, LINES, COMMENT_COUNT = 128, 98, 104
 
 
 def said(program, words, path):
@@ -30,6 +30,20 @@ def shortened(file, length):
     return file[:length] + b"\x1a" + bytes(record)
 
 
+def with_lines(file, lines):
+    """The same file with another number of lines in its record."""
+    at = len(file) - RECORD + LINES
+    return file[:at] + struct.pack("<H", lines) + file[at + 2:]
+
+
+def changed(file, why, offset):
+    """The file of which the page shows the picture, where this one is refused; and what the page calls it."""
+    lines = re.search(r"^lines: (\d+)$", why, re.MULTILINE)
+    if lines:
+        return with_lines(file, int(lines[1])), {"moreLines": int(lines[1])}
+    return shortened(file, offset), {"upTo": offset}
+
+
 def cells_in(report):
     """The cells of a report, or nothing."""
     return bytes.fromhex(report.partition("cells:\n")[2].replace("\n", "")) if "verdict: pass\n" in report else b""
@@ -41,7 +55,7 @@ def literal(data):
 
 
 def answer(program, path, file):
-    """The stored answers about one file, and the shortened file that the page asks about next."""
+    """The stored answers about one file, and the changed file that the page asks about next."""
     why, why_status = said(program, ["why"], path)
     record, record_status = said(program, ["sauce"], path)
     report = said(program, ["check", "--cleared", "--cells"], path)[0].decode()
@@ -56,7 +70,7 @@ def answer(program, path, file):
     cells = f"(const uint8_t *){literal(cells_in(report))}"
     row = (f"{{(const uint8_t *){literal(file)}, {len(file)}, {numbers}, {faults}, {cells}, "
            f"{literal(why)}, {literal(record)}, {len(why)}, {len(record)}}},")
-    return row, shortened(file, fault[3]) if size and not passes else None
+    return row, changed(file, why.decode(), fault[3])[0] if size and not passes else None
 
 
 def largest():
