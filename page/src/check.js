@@ -68,7 +68,7 @@ function partShown({ lines, upTo, moreLines }, stated) {
 function noteOn(picture, why) {
   const stated = valueOf(why, "size");
   const places = placesOf(why).map(({ row, column }) => (
-    `row ${row}${row > Number(stated.split(" ").at(-1)) ? " (below the last line)" : ""}, column ${column}`));
+    `row ${row}${row > Number(stated.split(" ").at(-1)) ? " (below the stated lines)" : ""}, column ${column}`));
   const marked = places.length === 0 ? "" : ` Marked: ${[...new Set(places)].join("; ")}.`;
   return partShown(picture, stated) + marked;
 }

@@ -74,6 +74,10 @@ class PictureView {
     this.height = this.rows * this.cellHeight + 2 * this.margin;
     this.space.style.width = `${this.width / this.ratio}px`;
     this.space.style.height = `${this.height / this.ratio}px`;
+    // Beside the picture there is room for the bar that scrolls it, if there is one.
+    this.view.style.width = "";
+    const bar = this.view.offsetWidth - this.view.clientWidth - BORDERS;
+    this.view.style.width = `${this.width / this.ratio + bar + BORDERS}px`;
   }
 
   layOut() {
