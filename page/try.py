@@ -15,9 +15,11 @@ pictures of the page are written to FOLDER: light, dark, and 360 points wide.
 import argparse
 import pathlib
 import shutil
+import struct
 import subprocess
 import sys
 import tempfile
+import unicodedata
 
 HERE = pathlib.Path(__file__).resolve().parent
 TOP = HERE.parent
@@ -31,8 +33,7 @@ DATA = TOP / "crates" / "anscheck" / "data"
 COLOURS = [0x000000, 0x0000aa, 0x00aa00, 0x00aaaa, 0xaa0000, 0xaa00aa, 0xaa5500, 0xaaaaaa,
            0x555555, 0x5555ff, 0x55ff55, 0x55ffff, 0xff5555, 0xff55ff, 0xffff55, 0xffffff]
 LONGEST_PAUSE = 1000
-CELL_DOTS = 128
-DOTS = {0x00: 0, 0x20: 0, 0xff: 0, 0xb0: 32, 0xb1: 64, 0xb2: 96, 0xdb: 128, 0xdc: 64, 0xdd: 64, 0xde: 64, 0xdf: 64}
+SHADES = {0xb0: 32, 0xb1: 64, 0xb2: 96}
 
 SHOWN = """({
   why: [...element("why").children].map((line) => line.textContent + "\\n").join(""),
@@ -45,7 +46,22 @@ SHOWN = """({
   },
 })"""
 
-# Of each cell the two colours that most of its dots have, and how many have them.
+# In how many ways a cell in the second row is painted within a second and a half.
+BLINKS = """(async () => {
+  const seen = new Set();
+  const copy = new OffscreenCanvas(8, 16).getContext("2d", { willReadFrequently: true });
+  pictureView.setZoom("1");
+  pictureView.setBlinking(true);
+  for (let time = 0; time < 15; time++) {
+    copy.drawImage(pictureView.canvas, -160, -16);
+    seen.add(copy.getImageData(0, 0, 8, 16).data.join());
+    await new Promise((done) => setTimeout(done, 100));
+  }
+  pictureView.setBlinking(false);
+  return seen.size;
+})()"""
+
+# Of each cell all dots, as numbers of its colours.
 PAINTED = """(() => {
   element("zoom").value = "1";
   element("zoom").dispatchEvent(new Event("change"));
@@ -61,13 +77,15 @@ PAINTED = """(() => {
     context.drawImage(canvas, 0, 0);
     const dots = context.getImageData(0, row * 16 - Math.round(view.scrollTop), canvas.width, 16).data;
     for (let column = 0; column < Math.min(picture.columns, canvas.width >> 3); column++) {
-      const counts = new Map();
+      const colours = [];
+      const numbers = [];
       for (let dot = 0; dot < 128; dot++) {
         const at = 4 * ((dot >> 3) * canvas.width + column * 8 + (dot & 7));
         const colour = dots[at] << 16 | dots[at + 1] << 8 | dots[at + 2];
-        counts.set(colour, (counts.get(colour) ?? 0) + 1);
+        if (!colours.includes(colour)) colours.push(colour);
+        numbers.push(colours.indexOf(colour));
       }
-      cells.push([...counts].sort((one, other) => other[1] - one[1]).slice(0, 2));
+      cells.push([colours, numbers]);
     }
   }
   return cells;
@@ -122,17 +140,54 @@ def picture_in(report, change):
             "text": report.partition("picture:\n")[2].partition("\ncells:\n")[0], **change}
 
 
+def block_dots(glyph):
+    """Which dots of a blank or a block are covered, row by row; or nothing for other characters."""
+    parts = {0xdb: (0, 0, 8, 16), 0xdc: (0, 8, 8, 16), 0xdd: (0, 0, 4, 16), 0xde: (4, 0, 8, 16), 0xdf: (0, 0, 8, 8)}
+    left, top, right, bottom = parts.get(glyph, (0, 0, 0, 0))
+    if glyph not in parts and glyph not in (0x00, 0x20, 0xff):
+        return None
+    return [left <= x < right and top <= y < bottom for y in range(16) for x in range(8)]
+
+
+def box_strands(glyph):
+    """How many strands of a box line reach each edge, by the name of its character."""
+    name = unicodedata.name(bytes([glyph]).decode("cp437")) if glyph > 0x7f else ""
+    if not name.startswith("BOX DRAWINGS "):
+        return None
+    words = name.split()[2:]
+    weights = {"LIGHT": 1, "SINGLE": 1, "DOUBLE": 2}
+    edges = {"UP": "t", "DOWN": "b", "LEFT": "l", "RIGHT": "r", "VERTICAL": "tb", "HORIZONTAL": "lr"}
+    strands = dict.fromkeys("tblr", 0)
+    for part in " ".join(words).split(" AND "):
+        direction, weight = (next((w for w in part.split() if w in table), None) for table in (edges, weights))
+        for edge in edges[direction]:
+            strands[edge] = weights[weight or words[0]]
+    return strands
+
+
+def edge_dots(covered):
+    """How many covered dots lie at each edge."""
+    rows = [covered[8 * y:8 * y + 8] for y in range(16)]
+    return {"t": sum(rows[0]), "b": sum(rows[15]), "l": sum(row[0] for row in rows), "r": sum(row[7] for row in rows)}
+
+
 def looks_as(cell, painted, is_bright):
-    """Whether the colours of a cell are those of its byte and its attribute."""
+    """Whether the dots of a cell are those of its byte and its attribute."""
     glyph, attribute = cell
+    colours, numbers = painted
     background = COLOURS[attribute >> 4 & (15 if is_bright else 7)]
     foreground = COLOURS[attribute & 15]
-    counts = dict(painted)
-    if foreground == background or glyph in DOTS:
-        dots = 0 if foreground == background else DOTS[glyph]
-        wanted = {background: CELL_DOTS - dots, foreground: dots} if dots else {background: CELL_DOTS}
-        return counts == {colour: count for colour, count in wanted.items() if count}
-    return counts.get(background, 0) > 0 and len(counts) == 2
+    dots = [colours[number] for number in numbers]
+    if foreground == background:
+        return set(dots) == {background}
+    covered = [dot == foreground for dot in dots]
+    if block_dots(glyph) is not None:
+        return covered == block_dots(glyph) and set(dots) <= {foreground, background}
+    if glyph in SHADES:
+        return sum(covered) == SHADES[glyph] and set(dots) == {foreground, background}
+    if box_strands(glyph):
+        return edge_dots(covered) == box_strands(glyph) and set(dots) == {foreground, background}
+    return background in dots and len(colours) > 1
 
 
 def show(browser, paths, input_name="files"):
@@ -220,6 +275,38 @@ def try_bad_files(browser, tries, folder, is_stand_in):
     tries.want("what was stopped", browser.value("element('verdict').textContent"), "The check was ended.")
     show(browser, [DATA / "hi.ans"])
     tries.want("the next one", browser.value("element('verdict').dataset.answer"), "pass")
+
+
+def drawing(content, columns, lines, flags=0, title=b"", comments=()):
+    """A file with its record."""
+    record = (b"SAUCE00" + title.ljust(35) + b" " * 40 + b"19960101" + struct.pack("<I", len(content)) + b"\x01\x01"
+              + struct.pack("<HHHHBB", columns, lines, 0, 0, len(comments), flags) + bytes(22))
+    block = b"COMNT" + b"".join(each.ljust(64) for each in comments) if comments else b""
+    return content + b"\x1a" + block + record
+
+
+def make_drawings(folder):
+    """Drawings for what no sample shows: all characters, all attributes, both meanings of bit 7, texts with marks."""
+    printed = [byte for byte in range(256) if byte not in (0x07, 0x08, 0x09, 0x0a, 0x0d, 0x1a, 0x1b)]
+    characters = b"\x1b[0m\x1b[2J" + b"".join(bytes([byte]) + (b"\r\n" if at % 32 == 31 else b"") for at, byte in enumerate(printed))
+    attributes = b"\x1b[0m\x1b[2J" + b"".join(
+        b"\x1b[0;%d;%d%s%sm\xb1\xdc" % (30 + front, 40 + back, b";1" * bright, b";5" * blink)
+        for back in range(8) for blink in (0, 1) for bright in (0, 1) for front in range(8))
+    made = {
+        "characters": drawing(characters, 40, 8), "blink": drawing(attributes, 32, 17), "bright": drawing(attributes, 32, 17, 1),
+        "texts": drawing(b"Hi", 2, 1, 0, b"=1+1, \"<b>&\x03", (b"<script>", b"a comment")), "early": drawing(b"\r\n" * 3 + b"Hi", 2, 2),
+        "name <b>&": drawing(b"\x1b[0m\x1b[2JHi", 2, 1),
+    }
+    for name, file in made.items():
+        (folder / f"{name}.ans").write_bytes(file)
+    return [folder / f"{name}.ans" for name in made]
+
+
+def try_blink(browser, tries, folder):
+    """Bit 7 blinks, or is the background's bright bit."""
+    for name, count in (("blink", 2), ("bright", 1)):
+        show(browser, [folder / f"{name}.ans"])
+        tries.want(f"{name}: how a cell is painted", browser.value(BLINKS), count)
 
 
 def hostile_contents():
@@ -319,6 +406,7 @@ def try_in(kind, page, program, paths, is_stand_in, folder):
         browser.look(1000, 900)
         browser.open(page.as_uri())
         compare(browser, tries, program, paths)
+        try_blink(browser, tries, folder)
         try_table(browser, tries, program, paths[::9])
         try_bad_files(browser, tries, folder, is_stand_in)
         try_largest(browser, tries, folder / "largest.ans")
@@ -349,6 +437,7 @@ def main():
     with tempfile.TemporaryDirectory() as name:
         folder, page = pathlib.Path(name), given.page.resolve()
         (folder / "largest.ans").write_bytes(stand_in.largest()[0])
+        paths += make_drawings(folder)
         if given.stand_in:
             page = folder / "check.html"
             module = stand_in.build(given.program, paths, given.stand_in, folder)

@@ -41,6 +41,14 @@ static int has_room(const struct stored *it, size_t rows_len, size_t bytes_len) 
     return it->size_answer || (rows_len >= it->lines + 1 && bytes_len >= 4 * (cells_of(it) + it->columns));
 }
 
+/* Writes the lent arrays, which must not overlap. */
+static void use(struct ans_row *rows, size_t rows_len, uint8_t *bytes, size_t bytes_len) {
+    for (size_t i = 0; i < bytes_len; i++) bytes[i] = 0xAA;
+    for (size_t i = 0; i < rows_len; i++) rows[i] = (struct ans_row){~0u, ~0u, ~(size_t)0, ~(size_t)0};
+    for (size_t i = 0; i < bytes_len; i++)
+        if (bytes[i] != 0xAA) __builtin_trap();
+}
+
 static uint32_t write(const char *from, size_t n, uint8_t *text, size_t text_len, size_t *length, uint32_t answer) {
     *length = n;
     if (text_len < n) return ANS_NO_ROOM;
@@ -68,8 +76,8 @@ uint32_t ans_check(const uint8_t *file, size_t file_len, uint32_t known, struct 
     const struct stored *it = find(file, file_len);
     if (known != ANS_CLEARED) __builtin_trap();
     if (!has_room(it, rows_len, bytes_len) || glyphs_len < cells_of(it) || attributes_len < cells_of(it)) return ANS_NO_ROOM;
-    for (size_t i = 0; i < bytes_len; i++) bytes[i] = 0xAA;
-    for (size_t i = 0; i < rows_len; i++) rows[i] = (struct ans_row){~0u, ~0u, ~(size_t)0, ~(size_t)0};
+    use(rows, rows_len, bytes, bytes_len);
+    if (!is_same(it->file, file, file_len)) __builtin_trap();
     if (it->check_answer != ANS_PASS) {
         *fault = it->check_fault;
         return it->check_answer;
@@ -85,6 +93,7 @@ uint32_t ans_needs(const uint8_t *file, size_t file_len, struct ans_row *rows, s
                    uint8_t *bytes, size_t bytes_len, uint32_t *parts, struct ans_fault *fault) {
     const struct stored *it = find(file, file_len);
     if (!has_room(it, rows_len, bytes_len)) return ANS_NO_ROOM;
+    use(rows, rows_len, bytes, bytes_len);
     if (it->check_answer == ANS_PASS) *parts = it->parts;
     else *fault = it->size_answer == ANS_PASS ? it->check_fault : it->size_fault;
     return it->check_answer;
@@ -94,6 +103,7 @@ uint32_t ans_why(const uint8_t *file, size_t file_len, struct ans_row *rows, siz
                  uint8_t *bytes, size_t bytes_len, uint8_t *text, size_t text_len, size_t *length) {
     const struct stored *it = find(file, file_len);
     if (!has_room(it, rows_len, bytes_len)) return ANS_NO_ROOM;
+    use(rows, rows_len, bytes, bytes_len);
     return write(it->why, it->why_len, text, text_len, length, it->why_answer);
 }
 
