@@ -141,9 +141,10 @@ async function showFolder(drawings, others) {
   element("drawings").hidden = false;
   element("drawing").hidden = true;
   element("drawings-heading").textContent = `${drawings.length} drawings`;
-  const left = others > 0 ? ` ${others} other files were left out.` : "";
+  const left = others > 0 ? ` ${others} other ${others === 1 ? "file was" : "files were"} left out.` : "";
   let done = 0;
-  let told = 0;
+  let told = Date.now();
+  say(`${drawings.length} drawings are checked.`);
   await busyWith(Promise.all(drawings.map(async (drawing) => {
     const result = await checks.study(drawing.file, false);
     if (mine !== choice) return;

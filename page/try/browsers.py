@@ -14,11 +14,18 @@ START_SECONDS = 60
 KEYS = {"Enter": ("\r", 13, "\ue006"), "Tab": ("", 9, "\ue004"), " ": (" ", 32, " "), "End": ("", 35, "\ue010")}
 
 
+def downloads_of(profile):
+    """Where a browser with this profile puts what is saved."""
+    return pathlib.Path(profile, "saved")
+
+
 class Browser:
     """What both have in common: a process, a profile of its own, and numbered commands."""
 
     def __init__(self, program, words, profile):
         self.profile = profile
+        self.downloads = downloads_of(profile)
+        self.downloads.mkdir()
         self.number = 0
         self.events = []
         self.process = subprocess.Popen([program, *words], stdout=subprocess.DEVNULL, stderr=subprocess.DEVNULL)
@@ -80,6 +87,7 @@ class Chromium(Browser):
         self.socket = WebSocket(pages[0]["webSocketDebuggerUrl"])
         for domain in ("Page", "Runtime", "Network", "Log", "DOM"):
             self.call(f"{domain}.enable")
+        self.call("Browser.setDownloadBehavior", behavior="allow", downloadPath=str(self.downloads))
         self.name = self.call("Browser.getVersion")["product"]
 
     def before(self, script):
@@ -157,7 +165,9 @@ class Firefox(Browser):
 
     def __init__(self, is_dark=False, program="firefox-esr"):
         profile = tempfile.mkdtemp()
-        preferences = {**self.PREFERENCES, "layout.css.prefers-color-scheme.content-override": 0 if is_dark else 1}
+        preferences = {**self.PREFERENCES, "layout.css.prefers-color-scheme.content-override": 0 if is_dark else 1,
+                       "browser.download.folderList": 2, "browser.download.alwaysOpenPanel": False,
+                       "browser.download.dir": str(downloads_of(profile))}
         lines = [f"user_pref({json.dumps(key)}, {json.dumps(value)});" for key, value in preferences.items()]
         pathlib.Path(profile, "user.js").write_text("\n".join(lines))
         super().__init__(program, ["--headless", "--no-remote", "--remote-debugging-port", "0", "--profile", profile,
