@@ -4,7 +4,7 @@
     python3 page/make.py MODULE [OUT]
 
 MODULE is what page/build.sh built. OUT is page/check.html where it is not named. The policy in the page names the
-hashes of its style and its script, so that it runs no others.
+hashes of its style and its scripts, so that it runs no others.
 """
 import base64
 import hashlib
@@ -54,10 +54,10 @@ def hash_of(text):
     return "'sha256-" + base64.b64encode(hashlib.sha256(text.encode()).digest()).decode() + "'"
 
 
-def policy(style, code):
+def policy(style, *scripts):
     """Nothing is loaded, and nothing is run but what stands in the page."""
     return "; ".join((
-        "default-src 'none'", f"script-src {hash_of(code)} 'wasm-unsafe-eval'", f"style-src {hash_of(style)}",
+        "default-src 'none'", f"script-src {' '.join(map(hash_of, scripts))} 'wasm-unsafe-eval'", f"style-src {hash_of(style)}",
         "worker-src blob:", "img-src data:", "base-uri 'none'", "form-action 'none'",
     ))
 
@@ -68,9 +68,9 @@ def main():
         sys.exit(__doc__)
     module = base64.b64encode(pathlib.Path(sys.argv[1]).read_bytes()).decode()
     out = pathlib.Path(sys.argv[2]) if len(sys.argv) == 3 else HERE / "check.html"
-    style, code = source("check.css"), script()
+    style, code, last = source("check.css"), script(), source("last.js")
     parts = {
-        "POLICY": policy(style, code), "STYLE": style, "SCRIPT": code, "MODULE": module,
+        "POLICY": policy(style, code, last), "STYLE": style, "SCRIPT": code, "LAST": last, "MODULE": module,
         "WORKER": "\n".join(map(source, WORKER)),
     }
     page = re.sub("@([A-Z]+)@", lambda part: parts[part[1]], source_of_page())

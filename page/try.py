@@ -382,14 +382,15 @@ def try_touch_and_drop(browser, tries, folder):
 
 
 def try_old_browser(kind, tries, address):
-    """A browser without 64-bit memory is told at once."""
-    browser = kind()
-    try:
-        browser.before("WebAssembly.validate = () => false;")
-        browser.open(address)
-        tries.want("the warning", browser.value("!element('too-old').hidden && element('choose').hidden"))
-    finally:
-        browser.close()
+    """A browser without 64-bit memory, or one in which the script fails, is told at once."""
+    for change in ("WebAssembly.validate = () => false;", "delete window.ResizeObserver;"):
+        browser = kind()
+        try:
+            browser.before(change)
+            browser.open(address)
+            tries.want(f"{change} the warning", browser.value("!document.getElementById('too-old').hidden && document.getElementById('choose').hidden"))
+        finally:
+            browser.close()
 
 
 def take_pictures(kind, address, folder, paths):

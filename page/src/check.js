@@ -205,12 +205,9 @@ function takeChoices(button, input) {
   });
 }
 
+/** Where it does not come to its end, last.js says that the browser is too old. */
 function begin() {
-  if (!isKnown()) {
-    element("too-old").hidden = false;
-    element("choose").hidden = true;
-    return;
-  }
+  if (!isKnown()) return;
   checks.start();
   takeDrops();
   takeChoices(element("choose-files"), element("files"));
@@ -222,6 +219,7 @@ function begin() {
   element("blink").addEventListener("change", () => pictureView.setBlinking(element("blink").checked));
   pictureView.setBlinking(element("blink").checked);
   element("text-part").addEventListener("toggle", showText);
+  document.documentElement.dataset.begun = "";
 }
 
 begin();
