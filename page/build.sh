@@ -8,7 +8,8 @@ case $1 in /*) module=$1 ;; *) module=$PWD/$1 ;; esac
 top=$(cd "$(dirname "$0")/.." && pwd)
 copy=$(mktemp -d)
 trap 'rm -rf "$copy"' EXIT
-mkdir "$copy/crates" "$copy/.git"
+mkdir "$copy/crates"
+touch "$copy/.git"
 cp -a "$top/crates.txt" "$top/HANDLES" "$copy/"
 for crate in $(sed -n 's/^\([a-z_]*\)[ :].*/\1/p' "$top/crates.txt"); do cp -a "$top/crates/$crate" "$copy/crates/"; done
 sed -i 's/^ans_c staticlib:/ans_c wasm64 stack=262144:/' "$copy/crates.txt"

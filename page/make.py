@@ -7,6 +7,7 @@ MODULE is what page/build.sh built. OUT is page/check.html where it is not named
 hashes of its style and its scripts, so that it runs no others.
 """
 import base64
+import gzip
 import hashlib
 import json
 import pathlib
@@ -66,7 +67,7 @@ def main():
     """Writes the page."""
     if len(sys.argv) not in (2, 3):
         sys.exit(__doc__)
-    module = base64.b64encode(pathlib.Path(sys.argv[1]).read_bytes()).decode()
+    module = base64.b64encode(gzip.compress(pathlib.Path(sys.argv[1]).read_bytes(), mtime=0)).decode()
     out = pathlib.Path(sys.argv[2]) if len(sys.argv) == 3 else HERE / "check.html"
     style, code, last = source("check.css"), script(), source("last.js")
     parts = {

@@ -4,12 +4,14 @@ const element = (id) => document.getElementById(id);
 const TEXT_ROWS = 500;
 const STATUS_PERIOD = 1000;
 
-const moduleBytes = Uint8Array.from(atob(element("module").textContent), (character) => character.charCodeAt(0));
+const packedModule = Uint8Array.from(atob(element("module").textContent), (character) => character.charCodeAt(0));
+// A module of nothing but one memory with 64-bit addresses.
+const WIDE_MEMORY = Uint8Array.of(0x00, 0x61, 0x73, 0x6d, 1, 0, 0, 0, 5, 3, 1, 4, 1);
 const lessMotion = matchMedia("(prefers-reduced-motion: reduce)");
 
-const isKnown = () => typeof Worker === "function" && typeof WebAssembly === "object" && WebAssembly.validate(moduleBytes);
+const isKnown = () => typeof Worker === "function" && typeof WebAssembly === "object" && WebAssembly.validate(WIDE_MEMORY);
 
-const checks = new Checks(moduleBytes, element("worker").textContent, (version) => {
+const checks = new Checks(packedModule, element("worker").textContent, (version) => {
   element("version").textContent = `anscheck ${version}`;
 });
 const pictureView = new PictureView(element("view"), element("space"), element("canvas"));
@@ -101,7 +103,7 @@ function showResult(drawing, result) {
   element("name").textContent = drawing.path;
   element("verdict").textContent = sentenceOf(result);
   element("verdict").dataset.answer = result.answer;
-  element("why").replaceChildren(...linesOf(result.why).map(lineElement));
+  element("why").replaceChildren(...(result.error ? [result.error] : linesOf(result.why)).map(lineElement));
   const record = linesOf(result.record);
   element("record").replaceChildren(...(record.length > 0 ? record : ["none that is accepted"]).map(lineElement));
   showAdvice(result);

@@ -3,9 +3,9 @@
 const LONGEST_WAIT = 30000;
 
 class Checks {
-  constructor(moduleBytes, workerText, onVersion) {
+  constructor(packedModule, workerText, onVersion) {
     this.onVersion = onVersion;
-    this.moduleBytes = moduleBytes;
+    this.packedModule = packedModule;
     this.workerAddress = URL.createObjectURL(new Blob([workerText], { type: "text/javascript" }));
     this.longestWait = LONGEST_WAIT;
     this.waiting = [];
@@ -42,7 +42,7 @@ class Checks {
       event.preventDefault();
       this.end({ answer: "stopped", error: event.message });
     };
-    this.worker.postMessage({ module: this.moduleBytes });
+    this.worker.postMessage({ packedModule: this.packedModule });
   }
 
   async next() {

@@ -6,6 +6,7 @@ const COMMENT_COUNT = 104;
 const END_MARK = 0x1a;
 const BLINK = 0x80;
 
+let begun = null;
 let module = null;
 let checker = null;
 
@@ -51,8 +52,19 @@ function study(file, wantsPicture) {
   return { answer: why.answer, why: why.text, record: record.answer === "pass" ? record.text : "", picture };
 }
 
-function studied(file, wantsPicture) {
+async function unpacked(bytes) {
+  return new Response(new Blob([bytes]).stream().pipeThrough(new DecompressionStream("gzip"))).arrayBuffer();
+}
+
+async function begin(packedModule) {
+  module = await WebAssembly.compile(await unpacked(packedModule));
+  checker = new Checker(module);
+  postMessage({ version: checker.version().text });
+}
+
+async function studied(file, wantsPicture) {
   try {
+    await begun;
     checker ??= new Checker(module);
     return study(file, wantsPicture);
   } catch (error) {
@@ -61,14 +73,12 @@ function studied(file, wantsPicture) {
   }
 }
 
-onmessage = ({ data }) => {
-  if (data.module) {
-    module = new WebAssembly.Module(data.module);
-    checker = new Checker(module);
-    postMessage({ version: checker.version().text });
+onmessage = async ({ data }) => {
+  if (data.packedModule) {
+    begun = begin(data.packedModule);
     return;
   }
-  const result = studied(new Uint8Array(data.file), data.wantsPicture);
+  const result = await studied(new Uint8Array(data.file), data.wantsPicture);
   const arrays = result.picture ? [result.picture.glyphs.buffer, result.picture.attributes.buffer] : [];
   postMessage({ number: data.number, ...result }, arrays);
 };
