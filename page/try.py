@@ -332,7 +332,7 @@ def hostile_contents():
 
 def try_hostile(browser, tries, folder):
     """Each ends with an answer or a message."""
-    record = stand_in.largest()[0][-128:]
+    record = stand_in.largest()[-128:]
     for name, content in hostile_contents():
         path = folder / f"{name}.ans"
         path.write_bytes(content + b"\x1a" + record)
@@ -453,7 +453,7 @@ def main():
     kinds = [BROWSERS[given.browser]] if given.browser else list(BROWSERS.values())
     with tempfile.TemporaryDirectory() as name:
         folder, page = pathlib.Path(name), given.page.resolve()
-        (folder / "largest.ans").write_bytes(stand_in.largest()[0])
+        (folder / "largest.ans").write_bytes(stand_in.largest())
         paths += make_drawings(folder)
         if given.stand_in:
             page = folder / "check.html"

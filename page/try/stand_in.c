@@ -31,7 +31,8 @@ static const struct stored *find(const uint8_t *file, size_t file_len) {
     for (volatile int never = begins(file, file_len, "never ends"); never;) {}
     if (begins(file, file_len, "traps")) __builtin_trap();
     for (size_t i = 0; i < sizeof answers / sizeof answers[0]; i++)
-        if (answers[i].file_len == file_len && is_same(answers[i].file, file, file_len)) return &answers[i];
+        if (!answers[i].cells && begins(file, file_len, "largest")) return &answers[i];
+        else if (answers[i].file_len == file_len && is_same(answers[i].file, file, file_len)) return &answers[i];
     __builtin_trap();
 }
 
@@ -77,7 +78,7 @@ uint32_t ans_check(const uint8_t *file, size_t file_len, uint32_t known, struct 
     if (known != ANS_CLEARED) __builtin_trap();
     if (!has_room(it, rows_len, bytes_len) || glyphs_len < cells_of(it) || attributes_len < cells_of(it)) return ANS_NO_ROOM;
     use(rows, rows_len, bytes, bytes_len);
-    if (!is_same(it->file, file, file_len)) __builtin_trap();
+    if (it->cells && !is_same(it->file, file, file_len)) __builtin_trap();
     if (it->check_answer != ANS_PASS) {
         *fault = it->check_fault;
         return it->check_answer;

@@ -74,17 +74,20 @@ def answer(program, path, file):
 
 
 def largest():
-    """A file of the largest size, and its made-up answers."""
+    """A file that fills a screen of the largest size."""
     record = b"SAUCE00" + b" " * 75 + b"19960101" + bytes(4) + b"\x01\x01" + struct.pack("<HH", 1024, 8192)
-    file = b"largest\x1a" + record.ljust(RECORD, b"\0")
-    why, text = b"size: 1024 x 8192\nverdict: pass\nneeds: nothing\n", b"title: Largest\nsize: 1024 x 8192\nflags: 00\n"
-    row = (f"{{(const uint8_t *){literal(file)}, {len(file)}, 0, 0, 0, 0, 1024, 8192, 0, {{0}}, {{0}}, 0, "
-           f"{literal(why)}, {literal(text)}, {len(why)}, {len(text)}}},")
-    return file, row
+    return b"largest".ljust(1024 * 8192) + b"\x1a" + record.ljust(RECORD, b"\0")
+
+
+def answer_to_largest():
+    """Made-up answers to that file; its picture is made up too."""
+    why, record = b"size: 1024 x 8192\nverdict: pass\nneeds: nothing\n", b"title: Largest\nsize: 1024 x 8192\nflags: 00\n"
+    return (f"{{0, 0, 0, 0, 0, 0, 1024, 8192, 0, {{0}}, {{0}}, 0, "
+            f"{literal(why)}, {literal(record)}, {len(why)}, {len(record)}}},")
 
 
 def build(program, paths, header, folder):
-    """Builds the module in a folder, and the drawing of the largest size beside it."""
+    """Builds the module in a folder."""
     rows, seen = [], set()
     for path in paths:
         file = pathlib.Path(path).read_bytes()
@@ -93,9 +96,8 @@ def build(program, paths, header, folder):
             (folder / "short.ans").write_bytes(file)
             row, file = answer(program, folder / "short.ans", file)
             rows.append(row)
-    file, row = largest()
-    (folder / "largest.ans").write_bytes(file)
-    (folder / "answers.h").write_text("static const struct stored answers[] = {\n" + "\n".join([*rows, row]) + "\n};\n")
+    rows.append(answer_to_largest())
+    (folder / "answers.h").write_text("static const struct stored answers[] = {\n" + "\n".join(rows) + "\n};\n")
     module = folder / "stand_in.wasm"
     subprocess.run(["clang", "--target=wasm64-unknown-unknown", "-std=c11", "-Wall", "-O2", "-nostdlib", "-ffreestanding",
                     "-Wno-pointer-sign", f"-I{header}", f"-I{folder}", "-Wl,--no-entry",
