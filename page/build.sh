@@ -11,7 +11,9 @@ trap 'rm -rf "$copy"' EXIT
 mkdir "$copy/crates"
 touch "$copy/.git"
 cp -a "$top/crates.txt" "$top/HANDLES" "$copy/"
-for crate in $(sed -n 's/^\([a-z_]*\)[ :].*/\1/p' "$top/crates.txt"); do cp -a "$top/crates/$crate" "$copy/crates/"; done
+for crate in $(sed -n 's/^\([a-z_]*\)[ :].*/\1/p' "$top/crates.txt"); do
+    cp -a "$top/crates/$crate" "$copy/crates/"
+done
 sed -i 's/^ans_c staticlib:/ans_c wasm64 stack=262144:/' "$copy/crates.txt"
 grep -q '^ans_c wasm64 ' "$copy/crates.txt" || { echo "build.sh: crates.txt has no ans_c staticlib" >&2; exit 1; }
 cd "$copy/crates/ans_c"

@@ -58,8 +58,8 @@ def hash_of(text):
 def policy(style, *scripts):
     """Nothing is loaded, and nothing is run but what stands in the page."""
     return "; ".join((
-        "default-src 'none'", f"script-src {' '.join(map(hash_of, scripts))} 'wasm-unsafe-eval'", f"style-src {hash_of(style)}",
-        "worker-src blob:", "img-src data:", "base-uri 'none'", "form-action 'none'",
+        "default-src 'none'", f"script-src {' '.join(map(hash_of, scripts))} 'wasm-unsafe-eval'",
+        f"style-src {hash_of(style)}", "worker-src blob:", "img-src data:", "base-uri 'none'", "form-action 'none'",
     ))
 
 

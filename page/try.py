@@ -225,7 +225,7 @@ def compare(browser, tries, program, paths):
 
 def column(browser, key):
     """A column of the table as it stands."""
-    return browser.value(f"drawingTable.rows.map((row) => row.element.children[COLUMNS.findIndex((each) => each.key === '{key}')].textContent)")
+    return browser.value(f"[...document.querySelectorAll('tbody [data-key={key}]')].map((cell) => cell.textContent)")
 
 
 def try_table(browser, tries, program, paths):
@@ -239,7 +239,8 @@ def try_table(browser, tries, program, paths):
         browser.value(f"document.querySelector('thead [data-key={key}] button').focus()")
         browser.press("Enter")
         tries.want(f"sorted by {key}", column(browser, key), sorted(column(browser, key)))
-        tries.want("aria-sort", browser.value(f"document.querySelector('thead [data-key={key}]').ariaSort"), "ascending")
+        order = browser.value(f"document.querySelector('thead [data-key={key}]').ariaSort")
+        tries.want("aria-sort", order, "ascending")
         browser.press("Enter")
         tries.want(f"sorted by {key}, downwards", column(browser, key), sorted(column(browser, key), reverse=True))
     tries.want("a value that would calculate", browser.value("csvValue('=1,\"2')"), "\"'=1,\"\"2\"")
@@ -269,7 +270,8 @@ def try_bad_files(browser, tries, folder, is_stand_in):
     with open(long, "wb") as file:
         file.truncate((1 << 24) + 1)
     show(browser, [long])
-    tries.want("too long", browser.value("element('verdict').textContent"), "It is longer than 16,777,216 bytes, and was not checked.")
+    tries.want("too long", browser.value("element('verdict').textContent"),
+               "It is longer than 16,777,216 bytes, and was not checked.")
     if not is_stand_in:
         return
     (folder / "traps.ans").write_bytes(b"traps")
@@ -300,13 +302,16 @@ def drawing(content, columns, lines, flags=0, title=b"", comments=()):
 def make_drawings(folder):
     """Drawings for what no sample shows: all characters, all attributes, both meanings of bit 7, texts with marks."""
     printed = [byte for byte in range(256) if byte not in (0x07, 0x08, 0x09, 0x0a, 0x0d, 0x1a, 0x1b)]
-    characters = b"\x1b[0m\x1b[2J" + b"".join(bytes([byte]) + (b"\r\n" if at % 32 == 31 else b"") for at, byte in enumerate(printed))
+    characters = b"\x1b[0m\x1b[2J" + b"".join(
+        bytes([byte]) + (b"\r\n" if at % 32 == 31 else b"") for at, byte in enumerate(printed))
     attributes = b"\x1b[0m\x1b[2J" + b"".join(
         b"\x1b[0;%d;%d%s%sm\xb1\xdc" % (30 + front, 40 + back, b";1" * bright, b";5" * blink)
         for back in range(8) for blink in (0, 1) for bright in (0, 1) for front in range(8))
     made = {
-        "characters": drawing(characters, 40, 8), "blink": drawing(attributes, 32, 17), "bright": drawing(attributes, 32, 17, 1),
-        "texts": drawing(b"Hi", 2, 1, 0, b"=1+1, \"<b>&\x03", (b"<script>", b"a comment")), "early": drawing(b"\r\n" * 3 + b"Hi", 2, 2),
+        "characters": drawing(characters, 40, 8),
+        "blink": drawing(attributes, 32, 17), "bright": drawing(attributes, 32, 17, 1),
+        "texts": drawing(b"Hi", 2, 1, 0, b"=1+1, \"<b>&\x03", (b"<script>", b"a comment")),
+        "early": drawing(b"\r\n" * 3 + b"Hi", 2, 2),
         "comments": drawing(b"\x1b[2JHi\x1b[Mx", 2, 1, 0, b"", (b"one", b"two")),
         "name <b>&": drawing(b"\x1b[0m\x1b[2JHi", 2, 1),
     }
@@ -325,7 +330,8 @@ def try_blink(browser, tries, folder):
 def hostile_contents():
     """Contents of almost the greatest length that make a player work."""
     room = (1 << 24) - 129
-    for name, part in (("clears", b"\x1b[2J"), ("erases", b"\x1b[K"), ("tabs", b"\r\t"), ("moves", b"\x1b[8191;1HA\x1b[1;1HA"),
+    for name, part in (("clears", b"\x1b[2J"), ("erases", b"\x1b[K"), ("tabs", b"\r\t"),
+                       ("moves", b"\x1b[255;1HA\x1b[1;1HA"),
                        ("colours", b"\x1b[0;1;5;33;44m"), ("words", b"\x1b[" + b";" * 15 + b"m"), ("letters", b"A\r")):
         yield name, b"\x1b[0m\x1b[2J" + part * ((room - 8) // len(part))
 
@@ -344,12 +350,13 @@ def try_hostile(browser, tries, folder):
 
 def try_largest(browser, tries, path):
     """The largest size: the page answers while it is checked, and paints a part at a time."""
-    browser.value("(window.beats = 0, window.longest = 0, window.last = performance.now(), window.pulse = setInterval(() => {"
-                  "const now = performance.now(); beats++; longest = Math.max(longest, now - last); last = now; }, 10), 0)")
+    browser.value("(window.longest = 0, window.last = performance.now(), window.pulse = setInterval(() => {"
+                  "const now = performance.now(); longest = Math.max(longest, now - last); last = now; }, 10), 0)")
     show(browser, [path])
     lines = browser.value("pictureView.picture?.lines")
     tries.want("lines of the largest", lines, 8192)
-    tries.want("a small canvas", browser.value("element('canvas').width <= innerWidth && element('canvas').height <= innerHeight"))
+    tries.want("a small canvas", browser.value(
+        "element('canvas').width <= innerWidth && element('canvas').height <= innerHeight"))
     browser.value("new Promise((done) => { element('view').scrollTop = 1e6; setTimeout(done, 300); })")
     longest = browser.value("(clearInterval(pulse), Math.round(longest))")
     tries.want(f"a pause of {longest} ms", longest < LONGEST_PAUSE)
@@ -361,7 +368,8 @@ def try_touch_and_drop(browser, tries, folder):
     show(browser, [DATA / "harbour.ans"])
     tries.want("nothing wider than the page", browser.value("document.documentElement.scrollWidth <= innerWidth"))
     browser.value("document.querySelector('#why li:nth-child(8) button').scrollIntoView({ block: 'center' })")
-    box = browser.value("(({ x, y, width, height }) => [x + width / 2, y + height / 2])(document.querySelector('#why li:nth-child(8) button').getBoundingClientRect())")
+    box = browser.value("(({ x, y, width, height }) => [x + width / 2, y + height / 2])("
+                        "document.querySelector('#why li:nth-child(8) button').getBoundingClientRect())")
     browser.tap(*box)
     browser.wait("document.activeElement.id === 'view'", 10)
     browser.look(1000, 900)
@@ -388,7 +396,8 @@ def try_old_browser(kind, tries, address):
         try:
             browser.before(change)
             browser.open(address)
-            tries.want(f"{change} the warning", browser.value("!document.getElementById('too-old').hidden && document.getElementById('choose').hidden"))
+            tries.want(f"{change} the warning", browser.value(
+                "!document.getElementById('too-old').hidden && document.getElementById('choose').hidden"))
         finally:
             browser.close()
 
@@ -431,7 +440,8 @@ def try_in(kind, page, program, paths, is_stand_in, folder):
             try_hostile(browser, tries, folder)
         try_touch_and_drop(browser, tries, folder / browser.name.replace("/", "-"))
         tries.want("complaints and requests", browser.complaints(), [])
-        tries.want("a request of the page", browser.value("fetch('data:,').then(() => 'answered', () => 'refused')"), "refused")
+        asked = browser.value("fetch('data:,').then(() => 'answered', () => 'refused')")
+        tries.want("a request of the page", asked, "refused")
     finally:
         browser.close()
     try_old_browser(kind, tries, page.as_uri())

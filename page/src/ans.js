@@ -84,7 +84,8 @@ class Checker {
   /** What an export writes as text. A second call has the room that the first one asks for. */
   text(name, words) {
     const told = this.textIn(name, words, FIRST_TEXT_ROOM);
-    const whole = told.answer === "no room" && told.length > FIRST_TEXT_ROOM ? this.textIn(name, words, told.length) : told;
+    const isLonger = told.answer === "no room" && told.length > FIRST_TEXT_ROOM;
+    const whole = isLonger ? this.textIn(name, words, told.length) : told;
     if (whole.answer === "no room") throw new Error(`${name} has too little room`);
     return whole;
   }
@@ -118,7 +119,13 @@ class Checker {
   readSize() {
     const view = new DataView(this.exports.memory.buffer, Number(this.sizes), SIZE_BYTES);
     const wide = (at) => Number(view.getBigUint64(at, true));
-    return { columns: view.getUint32(0, true), lines: view.getUint32(4, true), rows: wide(8), bytes: wide(16), cells: wide(24) };
+    return {
+      columns: view.getUint32(0, true),
+      lines: view.getUint32(4, true),
+      rows: wide(8),
+      bytes: wide(16),
+      cells: wide(24),
+    };
   }
 
   /** Room in the module's memory until `use` has ended. */

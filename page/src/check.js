@@ -9,7 +9,8 @@ const packedModule = Uint8Array.from(atob(element("module").textContent), (chara
 const WIDE_MEMORY = Uint8Array.of(0x00, 0x61, 0x73, 0x6d, 1, 0, 0, 0, 5, 3, 1, 4, 1);
 const lessMotion = matchMedia("(prefers-reduced-motion: reduce)");
 
-const isKnown = () => typeof Worker === "function" && typeof WebAssembly === "object" && WebAssembly.validate(WIDE_MEMORY);
+const isKnown = () => (
+  typeof Worker === "function" && typeof WebAssembly === "object" && WebAssembly.validate(WIDE_MEMORY));
 
 const checks = new Checks(packedModule, element("worker").textContent, (version) => {
   element("version").textContent = `anscheck ${version}`;
@@ -55,8 +56,10 @@ function showAdvice({ answer, why }) {
   if (!fault) return;
   const passes = answer === "pass";
   const mend = passes ? valueOf(why, "mend") : MENDS[fault.number];
-  element("meaning").textContent = `${passes ? "From other starts it has the fault" : "About"} F${fault.number}: ${MEANINGS[fault.number]}`;
-  element("mend").textContent = passes ? `To pass from every start, ${mend}, without the blanks.` : `To mend it: ${mend}`;
+  const about = passes ? "From other starts it has the fault" : "About";
+  element("meaning").textContent = `${about} F${fault.number}: ${MEANINGS[fault.number]}`;
+  const advice = passes ? `To pass from every start, ${mend}, without the blanks.` : `To mend it: ${mend}`;
+  element("mend").textContent = advice;
   element("mend").hidden = !mend;
 }
 
@@ -94,7 +97,8 @@ function showPicture(name, { answer, picture, why, record }) {
 function showText() {
   const { picture } = pictureView;
   if (!element("text-part").open || !picture) return;
-  element("text-note").textContent = picture.lines > TEXT_ROWS ? `The first ${TEXT_ROWS} of ${picture.lines} rows.` : "";
+  const isLong = picture.lines > TEXT_ROWS;
+  element("text-note").textContent = isLong ? `The first ${TEXT_ROWS} of ${picture.lines} rows.` : "";
   element("text").textContent = pictureView.rowsAsText(TEXT_ROWS);
 }
 
@@ -134,7 +138,8 @@ async function showDrawing(drawing) {
 function counted(done, total) {
   const count = (verdict) => drawingTable.rows.filter((row) => row.verdict === verdict).length;
   const missing = count("no answer");
-  return `${done} of ${total} checked: ${count("pass")} pass, ${count("refused")} refused${missing ? `, ${missing} without an answer` : ""}.`;
+  const without = missing > 0 ? `, ${missing} without an answer` : "";
+  return `${done} of ${total} checked: ${count("pass")} pass, ${count("refused")} refused${without}.`;
 }
 
 async function showFolder(drawings, others) {

@@ -49,7 +49,10 @@ async function drawingsDropped(transfer) {
   // After the first wait the list of what is dropped is empty, so all are asked at once.
   const items = [...transfer.items].filter(({ kind }) => kind === "file");
   const found = await Promise.all(items.map(chosenFromItem));
-  return { drawings: found.flatMap(({ drawings }) => drawings), others: found.reduce((sum, { others }) => sum + others, 0) };
+  return {
+    drawings: found.flatMap(({ drawings }) => drawings),
+    others: found.reduce((sum, { others }) => sum + others, 0),
+  };
 }
 
 function drawingsChosen(input) {

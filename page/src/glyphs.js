@@ -14,7 +14,11 @@ const CODE_PAGE_437 = [
 ];
 
 // A cell has 8 times 16 dots. Each shade has two rows of dots, which alternate.
-const SHADES = { 0xb0: { rows: [0x11, 0x44], part: 0.25 }, 0xb1: { rows: [0x55, 0xaa], part: 0.5 }, 0xb2: { rows: [0xdd, 0x77], part: 0.75 } };
+const SHADES = {
+  0xb0: { rows: [0x11, 0x44], part: 0.25 },
+  0xb1: { rows: [0x55, 0xaa], part: 0.5 },
+  0xb2: { rows: [0xdd, 0x77], part: 0.75 },
+};
 const DOTS_WIDE = 8;
 const DOTS_HIGH = 16;
 
@@ -103,7 +107,7 @@ function paintGlyph(context, glyph, width, height) {
   else paintLetter(context, glyph, width, height);
 }
 
-/** How much of each dot the characters cover, from 0 to 255, for cells of a size: character after character, row after row. */
+/** How much of each dot the characters cover, from 0 to 255: character after character, row after row. */
 function glyphCoverage(width, height) {
   const canvas = new OffscreenCanvas(width, height);
   const context = canvas.getContext("2d", { willReadFrequently: true });

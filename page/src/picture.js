@@ -25,7 +25,10 @@ class PictureView {
     setInterval(() => this.turnBlink(), BLINK_PERIOD);
   }
 
-  /** Marks are rows and columns, counted from 1. A margin shows those at the edge, and the row below the last one is there if a mark stands in it. */
+  /**
+   * Marks are rows and columns, counted from 1. A margin shows those at the edge, and the row below the last one is
+   * there if a mark stands in it.
+   */
   show(picture, marks) {
     this.picture = picture;
     this.marks = marks;
@@ -89,7 +92,9 @@ class PictureView {
     this.setCellWidth(available);
     // A bar to scroll a high picture takes some of the width.
     if (this.zoom === "fit" && this.view.scrollWidth > this.view.clientWidth) this.setCellWidth(this.view.clientWidth);
-    if (this.coverage?.length !== 256 * this.cellWidth * this.cellHeight) this.coverage = glyphCoverage(this.cellWidth, this.cellHeight);
+    if (this.coverage?.length !== 256 * this.cellWidth * this.cellHeight) {
+      this.coverage = glyphCoverage(this.cellWidth, this.cellHeight);
+    }
     this.resizeCanvas(Math.min(this.width, Math.ceil(this.view.clientWidth * this.ratio)),
       Math.min(this.height, Math.ceil(this.view.clientHeight * this.ratio)));
     this.paint();
@@ -184,8 +189,8 @@ class PictureView {
     const { columns, lines, glyphs } = this.picture;
     const rows = [];
     for (let row = 0; row < Math.min(lines, count); row++) {
-      const characters = Array.from(glyphs.subarray(row * columns, (row + 1) * columns), (glyph) => CODE_PAGE_437[glyph]);
-      rows.push(characters.join(""));
+      const bytes = glyphs.subarray(row * columns, (row + 1) * columns);
+      rows.push(Array.from(bytes, (glyph) => CODE_PAGE_437[glyph]).join(""));
     }
     return rows.join("\n");
   }

@@ -23,7 +23,7 @@ function sorted(rows, key, isDescending) {
   return [...rows].sort((one, other) => order(one, other) || natural.compare(one.name, other.name));
 }
 
-/** A value in quotes where CSV wants them. A spreadsheet would calculate what begins with one of = + - @, so a ' goes before it. */
+/** A value in quotes where CSV wants them. A spreadsheet would calculate what begins with = + - @: a ' goes before. */
 function csvValue(value) {
   const plain = /^[=+\-@\t\r]/.test(value) ? `'${value}` : value;
   return /[",\r\n]/.test(plain) ? `"${plain.replaceAll('"', '""')}"` : plain;

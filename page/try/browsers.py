@@ -128,7 +128,8 @@ class Chromium(Browser):
         self.call("Input.dispatchTouchEvent", type="touchEnd", touchPoints=[])
 
     def look(self, width, height, is_touch=False):
-        self.call("Emulation.setDeviceMetricsOverride", width=width, height=height, deviceScaleFactor=1, mobile=is_touch)
+        self.call("Emulation.setDeviceMetricsOverride", width=width, height=height, deviceScaleFactor=1,
+                  mobile=is_touch)
         self.call("Emulation.setTouchEmulationEnabled", enabled=is_touch)
         self.call("Emulation.setEmulatedMedia", features=[
             {"name": "prefers-color-scheme", "value": "dark" if self.is_dark else "light"},
@@ -158,8 +159,9 @@ class Firefox(Browser):
     """Firefox, by WebDriver BiDi."""
 
     PREFERENCES = {
-        "ui.prefersReducedMotion": 1, "browser.shell.checkDefaultBrowser": False, "datareporting.policy.dataSubmissionEnabled": False,
-        "app.update.enabled": False, "toolkit.telemetry.reportingpolicy.firstRun": False, "gfx.color_management.mode": 0,
+        "ui.prefersReducedMotion": 1, "gfx.color_management.mode": 0, "browser.shell.checkDefaultBrowser": False,
+        "datareporting.policy.dataSubmissionEnabled": False, "app.update.enabled": False,
+        "toolkit.telemetry.reportingpolicy.firstRun": False,
         "dom.w3c_touch_events.enabled": 1,
     }
 
@@ -188,18 +190,21 @@ class Firefox(Browser):
         self.call("browsingContext.navigate", context=self.context, url=address, wait="complete")
 
     def text_of(self, expression):
-        result = self.call("script.evaluate", expression=expression, awaitPromise=True, target={"context": self.context})
+        result = self.call("script.evaluate", expression=expression, awaitPromise=True,
+                           target={"context": self.context})
         if result["type"] != "success":
             raise RuntimeError(f"{expression}: {result['exceptionDetails']['text']}")
         return result["result"]["value"]
 
     def choose(self, identity, paths):
-        found = self.call("browsingContext.locateNodes", context=self.context, locator={"type": "css", "value": f"#{identity}"})
+        found = self.call("browsingContext.locateNodes", context=self.context,
+                          locator={"type": "css", "value": f"#{identity}"})
         self.call("input.setFiles", context=self.context, element={"sharedId": found["nodes"][0]["sharedId"]},
                   files=[str(path) for path in paths])
 
     def act(self, kind, actions, **more):
-        self.call("input.performActions", context=self.context, actions=[{"type": kind, "id": kind, "actions": actions, **more}])
+        self.call("input.performActions", context=self.context,
+                  actions=[{"type": kind, "id": kind, "actions": actions, **more}])
 
     def press(self, key):
         value = KEYS[key][2]

@@ -65,7 +65,8 @@ uint32_t ans_size(const uint8_t *file, size_t file_len, struct ans_size *size, s
     if (file_len > LONGEST_FILE) return ANS_TOO_LONG;
     const struct stored *it = find(file, file_len);
     if (it->size_answer == ANS_PASS)
-        *size = (struct ans_size){it->columns, it->lines, it->lines + 1, 4 * (cells_of(it) + it->columns), cells_of(it)};
+        *size = (struct ans_size){it->columns, it->lines, it->lines + 1,
+                                  4 * (cells_of(it) + it->columns), cells_of(it)};
     else
         *fault = it->size_fault;
     return it->size_answer;
@@ -76,7 +77,8 @@ uint32_t ans_check(const uint8_t *file, size_t file_len, uint32_t known, struct 
                    uint8_t *attributes, size_t attributes_len, struct ans_fault *fault) {
     const struct stored *it = find(file, file_len);
     if (known != ANS_CLEARED) __builtin_trap();
-    if (!has_room(it, rows_len, bytes_len) || glyphs_len < cells_of(it) || attributes_len < cells_of(it)) return ANS_NO_ROOM;
+    if (!has_room(it, rows_len, bytes_len)) return ANS_NO_ROOM;
+    if (glyphs_len < cells_of(it) || attributes_len < cells_of(it)) return ANS_NO_ROOM;
     use(rows, rows_len, bytes, bytes_len);
     if (it->cells && !is_same(it->file, file, file_len)) __builtin_trap();
     if (it->check_answer != ANS_PASS) {

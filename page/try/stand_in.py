@@ -1,4 +1,4 @@
-"""Builds the stand-in for the checker's module: the answers of the command line program to the drawings that are tried."""
+"""Builds the stand-in for the checker's module: the answers of the program to the drawings that are tried."""
 import pathlib
 import re
 import struct
@@ -65,8 +65,9 @@ def answer(program, path, file):
     columns, lines = map(int, size.groups()) if size else (0, 0)
     needs = re.search(r"^needs: (.*)$", why.decode(), re.MULTILINE)
     parts = sum(1 << bit for bit, part in enumerate(PARTS) if needs and part in needs[1].split())
-    numbers = ", ".join(map(str, (0 if size else 1, 0 if passes else 1, why_status, record_status, columns, lines, parts)))
-    faults = ", ".join("{" + ", ".join(map(str, (0, 0, 0, 0) if size and which == 0 else fault)) + "}" for which in (0, 1))
+    answers = (0 if size else 1, 0 if passes else 1, why_status, record_status, columns, lines, parts)
+    numbers = ", ".join(map(str, answers))
+    faults = ", ".join("{" + ", ".join(map(str, each)) + "}" for each in ((0, 0, 0, 0) if size else fault, fault))
     cells = f"(const uint8_t *){literal(cells_in(report))}"
     row = (f"{{(const uint8_t *){literal(file)}, {len(file)}, {numbers}, {faults}, {cells}, "
            f"{literal(why)}, {literal(record)}, {len(why)}, {len(record)}}},")
@@ -81,7 +82,8 @@ def largest():
 
 def answer_to_largest():
     """Made-up answers to that file; its picture is made up too."""
-    why, record = b"size: 1024 x 8192\nverdict: pass\nneeds: nothing\n", b"title: Largest\nsize: 1024 x 8192\nflags: 00\n"
+    why = b"size: 1024 x 8192\nverdict: pass\nneeds: nothing\n"
+    record = b"title: Largest\nsize: 1024 x 8192\nflags: 00\n"
     return (f"{{0, 0, 0, 0, 0, 0, 1024, 8192, 0, {{0}}, {{0}}, 0, "
             f"{literal(why)}, {literal(record)}, {len(why)}, {len(record)}}},")
 
@@ -99,7 +101,7 @@ def build(program, paths, header, folder):
     rows.append(answer_to_largest())
     (folder / "answers.h").write_text("static const struct stored answers[] = {\n" + "\n".join(rows) + "\n};\n")
     module = folder / "stand_in.wasm"
-    subprocess.run(["clang", "--target=wasm64-unknown-unknown", "-std=c11", "-Wall", "-O2", "-nostdlib", "-ffreestanding",
-                    "-Wno-pointer-sign", f"-I{header}", f"-I{folder}", "-Wl,--no-entry",
+    subprocess.run(["clang", "--target=wasm64-unknown-unknown", "-std=c11", "-Wall", "-O2", "-nostdlib",
+                    "-ffreestanding", "-Wno-pointer-sign", f"-I{header}", f"-I{folder}", "-Wl,--no-entry",
                     *(f"-Wl,--export={name}" for name in EXPORTS), "-o", module, HERE / "stand_in.c"], check=True)
     return module
