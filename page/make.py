@@ -1,0 +1,88 @@
+#!/usr/bin/env python3
+"""Makes page/check.html, one file with the module and all sources inside.
+
+    python3 page/make.py MODULE [OUT]
+
+MODULE is what page/build.sh built. OUT is page/check.html where it is not named. The policy in the page names the
+hashes of its style and its scripts, so that it runs no others.
+"""
+import base64
+import gzip
+import hashlib
+import json
+import pathlib
+import re
+import sys
+
+HERE = pathlib.Path(__file__).resolve().parent
+SOURCES = HERE / "src"
+FAULTS = HERE.parent / "docs" / "FAULTS.md"
+WORKER = ["ans.js", "worker.js"]
+SCRIPT = ["glyphs.js", "picture.js", "why.js", "mends.js", "table.js", "folders.js", "checks.js", "check.js"]
+FAULT = re.compile(r"^## F(\d+) [^\n]*\n\n(.*?)\n\n", re.DOTALL | re.MULTILINE)
+LINK = re.compile(r"\[([^]]*)\]\([^)]*\)")
+
+
+def source(name):
+    """The text of a source, which stands inside of an element."""
+    text = (SOURCES / name).read_text(encoding="utf-8")
+    if "</script" in text or "</style" in text:
+        sys.exit(f"{name}: it would end its element")
+    return text
+
+
+def plain(paragraph):
+    """A paragraph of the page on faults without its marks, and without a last sentence that leads to an example."""
+    text = re.sub(r"[`*]", "", LINK.sub(r"\1", " ".join(paragraph.split())))
+    return re.sub(r"(?<=\.) [^.]*:$", "", text)
+
+
+def meanings():
+    """What each fault means: the first paragraph below its heading."""
+    found = FAULT.findall(FAULTS.read_text(encoding="utf-8"))
+    return {int(number): plain(paragraph) for number, paragraph in found}
+
+
+def script():
+    """The page's script, with the limit and the meanings before it."""
+    limit = re.search(r"^const LONGEST_FILE = .*$", source("ans.js"), re.MULTILINE)[0]
+    told = json.dumps(meanings(), ensure_ascii=False).replace("<", "\\u003c")
+    return "\n".join(['"use strict";', limit, f"const MEANINGS = {told};", *map(source, SCRIPT)])
+
+
+def hash_of(text):
+    """How a policy names a script or a style."""
+    return "'sha256-" + base64.b64encode(hashlib.sha256(text.encode()).digest()).decode() + "'"
+
+
+def policy(style, *scripts):
+    """Nothing is loaded, and nothing is run but what stands in the page."""
+    return "; ".join((
+        "default-src 'none'", f"script-src {' '.join(map(hash_of, scripts))} 'wasm-unsafe-eval'",
+        f"style-src {hash_of(style)}", "worker-src blob:", "img-src data:", "base-uri 'none'", "form-action 'none'",
+    ))
+
+
+def main():
+    """Writes the page."""
+    if len(sys.argv) not in (2, 3):
+        sys.exit(__doc__)
+    module = base64.b64encode(gzip.compress(pathlib.Path(sys.argv[1]).read_bytes(), mtime=0)).decode()
+    out = pathlib.Path(sys.argv[2]) if len(sys.argv) == 3 else HERE / "check.html"
+    style, code, last = source("check.css"), script(), source("last.js")
+    parts = {
+        "POLICY": policy(style, code, last), "STYLE": style, "SCRIPT": code, "LAST": last, "MODULE": module,
+        "WORKER": "\n".join(map(source, WORKER)),
+    }
+    page = re.sub("@([A-Z]+)@", lambda part: parts[part[1]], source_of_page())
+    out.write_text(page, encoding="utf-8", newline="\n")
+    print(f"{out}: {len(page.encode())} bytes")
+
+
+def source_of_page():
+    """The page without its parts."""
+    return (SOURCES / "check.html").read_text(encoding="utf-8")
+
+
+if __name__ == "__main__":
+    main()

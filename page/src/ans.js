@@ -1,0 +1,166 @@
+"use strict";
+// The checker's module, as ans.h describes its exports. It has 64-bit memory, so pointers and lengths are BigInt.
+
+const PARTS = { screen: 1, cursor: 2, saved: 4, colours: 8, wrap: 16 };
+const CLEARED = 31;
+const LONGEST_FILE = 16777216;
+const ANSWERS = { 0: "pass", 1: "refused", 3: "too long", 4: "no room" };
+
+const FAULT_BYTES = 24;
+const SIZE_BYTES = 32;
+const LENGTH_BYTES = 8;
+const ROW_BYTES = 24;
+const ALIGNMENT = 16;
+const MEMORY_PAGE = 65536;
+const FIRST_TEXT_ROOM = 65536;
+
+/** One instance of the module. After a trap it is dead, and a new one has to be made. */
+class Checker {
+  constructor(module) {
+    this.exports = new WebAssembly.Instance(module).exports;
+    this.open(new Uint8Array(0));
+  }
+
+  /** Lays a file where all later calls find it. What the module itself keeps lies below `__heap_base`. */
+  open(file) {
+    this.end = Number(this.exports.__heap_base.value);
+    this.fault = this.take(FAULT_BYTES);
+    this.sizes = this.take(SIZE_BYTES);
+    this.length = this.take(LENGTH_BYTES);
+    this.file = this.array(file.length);
+    this.bytesOf(this.file).set(file);
+    this.sizeAnswer = this.exports.ans_size(...this.file, this.sizes, this.fault);
+    const size = this.sizeAnswer === 0 ? this.readSize() : { columns: 0, lines: 0, rows: 0, bytes: 0, cells: 0 };
+    this.pictureSize = size;
+    this.screen = [this.take(size.rows * ROW_BYTES), BigInt(size.rows), ...this.array(size.bytes)];
+  }
+
+  /** The size of the picture, or why there is none. */
+  size() {
+    return this.answered(this.sizeAnswer, () => this.pictureSize);
+  }
+
+  /** The picture from the starts of a class, which is a sum of PARTS. */
+  check(known) {
+    return this.borrowing(() => {
+      const { columns, lines, cells } = this.pictureSize;
+      const glyphs = this.array(cells);
+      const attributes = this.array(cells);
+      const code = this.exports.ans_check(...this.file, known, ...this.screen, ...glyphs, ...attributes, this.fault);
+      return this.answered(code, () => (
+        { columns, lines, glyphs: this.bytesOf(glyphs).slice(), attributes: this.bytesOf(attributes).slice() }));
+    });
+  }
+
+  /** The parts of the start that the drawing needs, as a sum of PARTS. */
+  needs() {
+    return this.borrowing(() => {
+      const parts = this.take(LENGTH_BYTES);
+      const code = this.exports.ans_needs(...this.file, ...this.screen, parts, this.fault);
+      return this.answered(code, () => ({ parts: this.view().getUint32(Number(parts), true) }));
+    });
+  }
+
+  why() {
+    return this.text("ans_why", [...this.file, ...this.screen]);
+  }
+
+  record() {
+    return this.text("ans_record", this.file);
+  }
+
+  faultText(number) {
+    return this.text("ans_fault_text", [number]);
+  }
+
+  noteText(number) {
+    return this.text("ans_note_text", [number]);
+  }
+
+  version() {
+    return this.text("ans_version", []);
+  }
+
+  /** What an export writes as text. A second call has the room that the first one asks for. */
+  text(name, words) {
+    const told = this.textIn(name, words, FIRST_TEXT_ROOM);
+    const isLonger = told.answer === "no room" && told.length > FIRST_TEXT_ROOM;
+    const whole = isLonger ? this.textIn(name, words, told.length) : told;
+    if (whole.answer === "no room") throw new Error(`${name} has too little room`);
+    return whole;
+  }
+
+  textIn(name, words, room) {
+    return this.borrowing(() => {
+      const text = this.array(room);
+      this.view().setBigUint64(Number(this.length), 0n, true);
+      const answer = ANSWERS[this.exports[name](...words, ...text, this.length)];
+      const length = Number(this.view().getBigUint64(Number(this.length), true));
+      return { answer, length, text: new TextDecoder().decode(this.bytesOf(text).subarray(0, length)) };
+    });
+  }
+
+  answered(code, passed) {
+    const answer = ANSWERS[code];
+    if (answer === "pass") return { answer, ...passed() };
+    return answer === "refused" ? { answer, fault: this.readFault() } : { answer };
+  }
+
+  readFault() {
+    const view = new DataView(this.exports.memory.buffer, Number(this.fault), FAULT_BYTES);
+    return {
+      number: view.getUint32(0, true),
+      row: view.getUint32(4, true),
+      column: view.getUint32(8, true),
+      offset: Number(view.getBigUint64(16, true)),
+    };
+  }
+
+  readSize() {
+    const view = new DataView(this.exports.memory.buffer, Number(this.sizes), SIZE_BYTES);
+    const wide = (at) => Number(view.getBigUint64(at, true));
+    return {
+      columns: view.getUint32(0, true),
+      lines: view.getUint32(4, true),
+      rows: wide(8),
+      bytes: wide(16),
+      cells: wide(24),
+    };
+  }
+
+  /** Room in the module's memory until `use` has ended. */
+  borrowing(use) {
+    const end = this.end;
+    try {
+      return use();
+    } finally {
+      this.end = end;
+    }
+  }
+
+  /** A pointer and a length, as an export takes an array. */
+  array(length) {
+    return [this.take(length), BigInt(length)];
+  }
+
+  take(size) {
+    const at = Math.ceil(this.end / ALIGNMENT) * ALIGNMENT;
+    this.end = at + size;
+    const missing = this.end - this.exports.memory.buffer.byteLength;
+    if (missing > 0) this.grow(Math.ceil(missing / MEMORY_PAGE));
+    return BigInt(at);
+  }
+
+  /** Growing detaches each view of the memory, so none is kept. */
+  grow(pages) {
+    this.exports.memory.grow(BigInt(pages));
+  }
+
+  bytesOf([at, length]) {
+    return new Uint8Array(this.exports.memory.buffer, Number(at), Number(length));
+  }
+
+  view() {
+    return new DataView(this.exports.memory.buffer);
+  }
+}

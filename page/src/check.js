@@ -1,0 +1,232 @@
+// The page: what is chosen goes to the checker, and what it says is shown.
+
+const element = (id) => document.getElementById(id);
+const TEXT_ROWS = 500;
+const STATUS_PERIOD = 1000;
+
+const packedModule = Uint8Array.from(atob(element("module").textContent), (character) => character.charCodeAt(0));
+// A module of nothing but one memory with 64-bit addresses.
+const WIDE_MEMORY = Uint8Array.of(0x00, 0x61, 0x73, 0x6d, 1, 0, 0, 0, 5, 3, 1, 4, 1);
+const lessMotion = matchMedia("(prefers-reduced-motion: reduce)");
+
+const isKnown = () => (
+  typeof Worker === "function" && typeof WebAssembly === "object" && WebAssembly.validate(WIDE_MEMORY));
+
+const checks = new Checks(packedModule, element("worker").textContent, (version) => {
+  element("version").textContent = `anscheck ${version}`;
+});
+const pictureView = new PictureView(element("view"), element("space"), element("canvas"));
+const drawingTable = new DrawingTable(element("headings"), element("rows"), (drawing) => showDrawing(drawing));
+
+/** What is shown now: the last choice of drawings, and the last drawing. Answers for earlier ones are left aside. */
+let choice = 0;
+let shown = 0;
+let busy = 0;
+
+function say(text) {
+  element("status").textContent = text;
+}
+
+function lineElement(line) {
+  const item = document.createElement("li");
+  const place = placeIn(line);
+  if (!place) {
+    item.textContent = line;
+    return item;
+  }
+  const button = document.createElement("button");
+  button.type = "button";
+  button.textContent = line;
+  button.title = "Show this place in the picture";
+  button.addEventListener("click", () => goToMark(place));
+  item.append(button);
+  return item;
+}
+
+function goToMark(place) {
+  if (element("picture-part").hidden) return;
+  element("view").scrollIntoView({ block: "nearest" });
+  element("view").focus({ preventScroll: true });
+  pictureView.goTo(place);
+}
+
+function showAdvice({ answer, why }) {
+  const fault = faultOf(why);
+  element("advice").hidden = !fault;
+  if (!fault) return;
+  const passes = answer === "pass";
+  const mend = passes ? valueOf(why, "mend") : MENDS[fault.number];
+  const about = passes ? "From other starts it has the fault" : "About";
+  element("meaning").textContent = `${about} F${fault.number}: ${MEANINGS[fault.number]}`;
+  const advice = passes ? `To pass from every start, ${mend}, without the blanks.` : `To mend it: ${mend}`;
+  element("mend").textContent = advice;
+  element("mend").hidden = !mend;
+}
+
+/** What the picture is, where it is not that of the file as it stands. */
+function partShown({ lines, upTo, moreLines }, stated) {
+  if (upTo !== undefined) return `What stands before byte ${upTo.toLocaleString("en")}, on ${stated}.`;
+  if (moreLines !== undefined) return `As it is with ${lines} lines. The record states ${stated}.`;
+  return `${stated}.`;
+}
+
+function noteOn(picture, why) {
+  const stated = valueOf(why, "size");
+  const places = placesOf(why).map(({ row, column }) => (
+    `row ${row}${row > Number(stated.split(" ").at(-1)) ? " (below the stated lines)" : ""}, column ${column}`));
+  const marked = places.length === 0 ? "" : ` Marked: ${[...new Set(places)].join("; ")}.`;
+  return partShown(picture, stated) + marked;
+}
+
+function showPicture(name, { answer, picture, why, record }) {
+  element("picture-part").hidden = !picture;
+  pictureView.clear();
+  if (!picture) return;
+  picture.brightBackgrounds = parseInt(valueOf(record, "flags"), 16) % 2 === 1;
+  const marks = placesOf(why);
+  const note = noteOn(picture, why);
+  element("picture-note").textContent = note;
+  element("canvas").setAttribute("aria-label", `Picture of ${name}, ${note}`);
+  element("blink-part").hidden = !picture.blinks || picture.brightBackgrounds;
+  element("text-part").open = false;
+  element("text").textContent = "";
+  pictureView.show(picture, marks);
+  if (answer === "refused" && marks.length > 0) pictureView.goTo(marks[0]);
+}
+
+function showText() {
+  const { picture } = pictureView;
+  if (!element("text-part").open || !picture) return;
+  const isLong = picture.lines > TEXT_ROWS;
+  element("text-note").textContent = isLong ? `The first ${TEXT_ROWS} of ${picture.lines} rows.` : "";
+  element("text").textContent = pictureView.rowsAsText(TEXT_ROWS);
+}
+
+function showResult(drawing, result) {
+  element("drawing").hidden = false;
+  element("name").textContent = drawing.path;
+  element("verdict").textContent = sentenceOf(result);
+  element("verdict").dataset.answer = result.answer;
+  element("why").replaceChildren(...(result.error ? [result.error] : linesOf(result.why)).map(lineElement));
+  const record = linesOf(result.record);
+  element("record").replaceChildren(...(record.length > 0 ? record : ["none that is accepted"]).map(lineElement));
+  showAdvice(result);
+  showPicture(drawing.path, result);
+  element("name").focus({ preventScroll: true });
+  element("name").scrollIntoView({ block: "start" });
+  say(`${drawing.path}: ${sentenceOf(result)}`);
+}
+
+async function busyWith(work) {
+  busy++;
+  element("stop").hidden = false;
+  try {
+    return await work;
+  } finally {
+    busy--;
+    element("stop").hidden = busy === 0;
+  }
+}
+
+async function showDrawing(drawing) {
+  const mine = ++shown;
+  say(`${drawing.path} is checked.`);
+  const result = await busyWith(checks.study(drawing.file, true));
+  if (mine === shown) showResult(drawing, result);
+}
+
+function counted(done, total) {
+  const count = (verdict) => drawingTable.rows.filter((row) => row.verdict === verdict).length;
+  const missing = count("no answer");
+  const without = missing > 0 ? `, ${missing} without an answer` : "";
+  return `${done} of ${total} checked: ${count("pass")} pass, ${count("refused")} refused${without}.`;
+}
+
+async function showFolder(drawings, others) {
+  const mine = choice;
+  drawingTable.clear();
+  element("drawings").hidden = false;
+  element("drawing").hidden = true;
+  element("drawings-heading").textContent = `${drawings.length} drawings`;
+  const left = others > 0 ? ` ${others} other ${others === 1 ? "file was" : "files were"} left out.` : "";
+  let done = 0;
+  let told = Date.now();
+  say(`${drawings.length} drawings are checked.`);
+  await busyWith(Promise.all(drawings.map(async (drawing) => {
+    const result = await checks.study(drawing.file, false);
+    if (mine !== choice) return;
+    drawingTable.add(rowOf(drawing.path, result), drawing);
+    done++;
+    if (Date.now() - told < STATUS_PERIOD) return;
+    told = Date.now();
+    say(counted(done, drawings.length));
+  })));
+  if (mine !== choice) return;
+  drawingTable.sort();
+  say(counted(done, drawings.length) + left);
+}
+
+function take({ drawings, others }) {
+  checks.stop();
+  choice++;
+  shown++;
+  element("drawings").hidden = true;
+  if (drawings.length === 0) return say("There is no drawing here whose name ends in .ans.");
+  return drawings.length === 1 ? showDrawing(drawings[0]) : showFolder(drawings, others);
+}
+
+function save() {
+  const address = URL.createObjectURL(new Blob(["\ufeff", csvOf(drawingTable.rows)], { type: "text/csv" }));
+  const link = document.createElement("a");
+  link.href = address;
+  link.download = "drawings.csv";
+  link.click();
+  setTimeout(() => URL.revokeObjectURL(address), STATUS_PERIOD);
+}
+
+function takeDrops() {
+  const zone = element("choose");
+  document.addEventListener("dragover", (event) => {
+    event.preventDefault();
+    zone.classList.add("over");
+  });
+  document.addEventListener("dragleave", (event) => {
+    if (!event.relatedTarget) zone.classList.remove("over");
+  });
+  document.addEventListener("drop", async (event) => {
+    event.preventDefault();
+    zone.classList.remove("over");
+    try {
+      take(await drawingsDropped(event.dataTransfer));
+    } catch {
+      say("What was dropped cannot be read.");
+    }
+  });
+}
+
+function takeChoices(button, input) {
+  button.addEventListener("click", () => input.click());
+  input.addEventListener("change", () => {
+    if (input.files.length > 0) take(drawingsChosen(input));
+    input.value = "";
+  });
+}
+
+/** Where it does not come to its end, last.js says that the browser is too old. */
+function begin() {
+  if (!isKnown()) return;
+  checks.start();
+  takeDrops();
+  takeChoices(element("choose-files"), element("files"));
+  takeChoices(element("choose-folder"), element("folder"));
+  element("stop").addEventListener("click", () => checks.stop());
+  element("save").addEventListener("click", save);
+  element("zoom").addEventListener("change", () => pictureView.setZoom(element("zoom").value));
+  element("blink").checked = !lessMotion.matches;
+  element("blink").addEventListener("change", () => pictureView.setBlinking(element("blink").checked));
+  pictureView.setBlinking(element("blink").checked);
+  element("text-part").addEventListener("toggle", showText);
+  document.documentElement.dataset.begun = "";
+}
+
+begin();

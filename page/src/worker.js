@@ -1,0 +1,84 @@
+// Answers what the page asks about one drawing after the other. It runs in a worker, behind ans.js.
+
+const RECORD_BYTES = 128;
+const LINES = 98;
+const COMMENT_COUNT = 104;
+const END_MARK = 0x1a;
+const BLINK = 0x80;
+
+let begun = null;
+let module = null;
+let checker = null;
+
+/** A file of the content's first bytes, with the same record, but without comments. */
+function shortened(file, length) {
+  const record = file.slice(file.length - RECORD_BYTES);
+  record[COMMENT_COUNT] = 0;
+  const short = new Uint8Array(length + 1 + RECORD_BYTES);
+  short.set(file.subarray(0, length));
+  short[length] = END_MARK;
+  short.set(record, length + 1);
+  return short;
+}
+
+/** The same file with another number of lines in its record. */
+function withLines(file, lines) {
+  const changed = file.slice();
+  new DataView(changed.buffer).setUint16(changed.length - RECORD_BYTES + LINES, lines, true);
+  return changed;
+}
+
+/**
+ * The picture from the cleared screen. Of a content that is refused, the picture with as many lines as `why` says would
+ * do, and else what stands before the fault. Both come of a check of a changed copy.
+ */
+function pictureOf(file, why) {
+  const whole = checker.check(CLEARED);
+  if (whole.answer === "pass") return whole;
+  const lines = Number(/^lines: (\d+)$/m.exec(why)?.[1]);
+  checker.open(lines ? withLines(file, lines) : shortened(file, whole.fault.offset));
+  const changed = checker.check(CLEARED);
+  if (changed.answer !== "pass") return null;
+  return lines ? { ...changed, moreLines: lines } : { ...changed, upTo: whole.fault.offset };
+}
+
+function study(file, wantsPicture) {
+  checker.open(file);
+  const why = checker.why();
+  const record = checker.record();
+  const hasPicture = wantsPicture && checker.size().answer === "pass";
+  const picture = hasPicture ? pictureOf(file, why.text) : null;
+  if (picture) picture.blinks = picture.attributes.some((attribute) => attribute >= BLINK);
+  return { answer: why.answer, why: why.text, record: record.answer === "pass" ? record.text : "", picture };
+}
+
+async function unpacked(bytes) {
+  return new Response(new Blob([bytes]).stream().pipeThrough(new DecompressionStream("gzip"))).arrayBuffer();
+}
+
+async function begin(packedModule) {
+  module = await WebAssembly.compile(await unpacked(packedModule));
+  checker = new Checker(module);
+  postMessage({ version: checker.version().text });
+}
+
+async function studied(file, wantsPicture) {
+  try {
+    await begun;
+    checker ??= new Checker(module);
+    return study(file, wantsPicture);
+  } catch (error) {
+    checker = null;
+    return { answer: "stopped", why: "", record: "", picture: null, error: String(error) };
+  }
+}
+
+onmessage = async ({ data }) => {
+  if (data.packedModule) {
+    begun = begin(data.packedModule);
+    return;
+  }
+  const result = await studied(new Uint8Array(data.file), data.wantsPicture);
+  const arrays = result.picture ? [result.picture.glyphs.buffer, result.picture.attributes.buffer] : [];
+  postMessage({ number: data.number, ...result }, arrays);
+};
