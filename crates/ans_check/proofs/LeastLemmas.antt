@@ -1,5 +1,5 @@
 -- What plays from some classes say of the parts that a content needs.
-use Rattle.std.proofs.Common.{◌≡◌, ℕ, Bool, true, false, List, Option, Some, None, refl}
+use Rattle.std.proofs.Common.{◌≡◌, ℕ, true, false, List, Option, Some, None, refl}
 use Rattle.std.specs.Prelude.{◌↔◌, is_some}
 use Rattle.std.proofs.Math.Bool.{and-true, and-false}
 use Rattle.ans_model.specs.Screen.State.{Size}

@@ -14,10 +14,6 @@ use Rattle.std.proofs.lemmas.Grind.{flat_map-append}
 use Rattle.clap.specs.Words.{Text}
 use Rattle.ans_options.specs.declared.command.TableForm.{TableForm}
 use Rattle.ans_model.specs.Bytes.{longest_file}
-use Rattle.ans_model.specs.File.Layout.{content}
-use Rattle.ans_sauce.specs.declared.parts.Parts.{Parts}
-use Rattle.ans_sauce.specs.Parts.{content_of}
-use Rattle.ans_sauce.specs.Split.{IsSplit}
 use Rattle.ans_table.specs.declared.counts.Counts.{Counts}
 use Rattle.ans_table.specs.declared.counts.Outcome.{Outcome}
 use Rattle.ans_table.specs.declared.finding.Finding.{Finding}

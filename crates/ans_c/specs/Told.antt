@@ -1,0 +1,93 @@
+-- What a caller in C is told of a file.
+use Rattle.std.specs.Prelude.{◌≡◌, ◌≢◌, ◌⊎◌, ℕ, ◌+◌, ◌*◌, ◌<◌, ◌≤◌, min, Bool, true, false, List, length, map, take, Some}
+use Rattle.ans_model.specs.File.Layout.{FileParts}
+use Rattle.ans_model.specs.File.Refusals.{Accepts, record_fault}
+use Rattle.ans_model.specs.Screen.State.{Size}
+use Rattle.ans_model.specs.Verdict.Good.{Picture, GoodWith}
+use Rattle.ans_model.specs.declared.cell.Cell.{Cell}
+use Rattle.ans_model.specs.declared.fault.Fault.{Fault}
+use Rattle.ans_model.specs.declared.start.Start.{Start}
+use Rattle.ans_check.specs.FileNeeds.{NeedsClass}
+use Rattle.ans_check.specs.FileVerdict.{Deserves, Passes, IsRefusedFor, IsGoodFile, stated_size}
+use Rattle.ans_check.specs.LentScreen.{HasScreen}
+use Rattle.ans_c.specs.Numbers.{IsSizeOf, TellsFault, class_of}
+use Rattle.ans_c.specs.declared.numbers.PictureSize.{PictureSize}
+use Rattle.ans_c.specs.declared.numbers.TheConstants.{PASS, REFUSED, NO_ROOM}
+use Rattle.ans_c.specs.declared.numbers.ToldFault.{ToldFault}
+
+-- the file is accepted, and its size is told
+pub record TellsSize (file : List ℕ) (told : PictureSize) : Type 0 where
+  pub apart : FileParts
+  pub accepts : Accepts file apart
+  pub size : IsSizeOf (stated_size apart) told
+
+-- the file's record or its layout has a fault, which is told
+pub record TellsRecordFault (file : List ℕ) (told : ToldFault) : Type 0 where
+  pub fault : Fault
+  pub fault_is : record_fault file ≡ Some fault
+  pub tells : TellsFault told fault
+
+-- These begin with the glyphs and the attributes of the picture, row by row.
+pub record HoldsPicture (picture : Picture) (glyphs attributes : List ℕ) : Type 0 where
+  pub glyphs_are : take (length picture.cells) glyphs ≡ map (λ (c : Cell). c.byte) picture.cells
+  pub attributes_are : take (length picture.cells) attributes ≡ map (λ (c : Cell). c.attribute) picture.cells
+
+-- from every start of the class the content plays well, and shows this picture
+pub record TellsPass (file : List ℕ) (start : Start) (glyphs attributes : List ℕ) : Type 0 where
+  pub apart : FileParts
+  pub picture : Picture
+  pub passes : Passes file start apart picture
+  pub holds : HoldsPicture picture glyphs attributes
+
+-- the file is not good, and the fault that it deserves is told
+pub record TellsRefusal (file : List ℕ) (start : Start) (told : ToldFault) : Type 0 where
+  pub fault : Fault
+  pub tells : TellsFault told fault
+  pub not_good : ¬ IsGoodFile file start
+  pub deserved : ((apart : FileParts) × IsRefusedFor file start apart fault) ⊎ (record_fault file ≡ Some fault)
+
+-- the file passes for exactly the classes that know each part that these bits name
+pub record TellsNeeds (file : List ℕ) (bits : ℕ) : Type 0 where
+  pub apart : FileParts
+  pub needs : NeedsClass file apart (class_of bits)
+
+-- the file is accepted, and there are fewer rows or bytes than its play wants
+pub record LacksScreen (file : List ℕ) (rows bytes : ℕ) : Type 0 where
+  pub apart : FileParts
+  pub accepts : Accepts file apart
+  pub lacks : ¬ HasScreen (stated_size apart) rows bytes
+
+-- the file is accepted, and there is room for fewer glyphs or attributes than its picture has cells
+pub record LacksCells (file : List ℕ) (glyphs attributes : ℕ) : Type 0 where
+  pub apart : FileParts
+  pub accepts : Accepts file apart
+  pub lacks : min glyphs attributes < (stated_size apart).width * (stated_size apart).lines
+
+-- the longest text that is told
+abbrev pub longest_text : ℕ
+longest_text = 65536
+
+-- The text stands at the front of the buffer, and its length is told. Where the buffer is too small for it, its length
+-- is told alone; a text above the longest one has the length of one byte more.
+pub record HandsOver (text : List ℕ) (code : ℕ) (room : ℕ) (result told : ℕ) (buffer : List ℕ) : Type 0 where
+  pub fits : result ≢ NO_ROOM → (result ≡ code) × (told ≡ length text) × (take told buffer ≡ text)
+  pub no_room : result ≡ NO_ROOM → (told ≡ min (length text) (longest_text + 1)) × (min room longest_text < length text)
+
+-- what is answered where a file passes, or does not
+abbrev pub code_of : Bool → ℕ
+code_of true = PASS
+code_of false = REFUSED
+
+-- Whether the file passes and the text that is handed over are what there is to report.
+pub record HandsReport (reports : Bool → List ℕ → Type 0) (room result told : ℕ) (buffer : List ℕ) : Type 0 where
+  pub passed : Bool
+  pub text : List ℕ
+  pub reported : reports passed text
+  pub handed : HandsOver text (code_of passed) room result told buffer
+
+-- what is told of a play of the content from the starts of a class
+pub record TellsPlay (z : Size) (start : Start) (content : List ℕ) (result : ℕ) (glyphs attributes : List ℕ)
+    (told : ToldFault) : Type 0 where
+  pub pass : result ≡ PASS → (picture : Picture) × GoodWith z start content picture × HoldsPicture picture glyphs attributes
+  pub refused : result ≡ REFUSED → (fault : Fault) × Deserves z start content fault × TellsFault told fault
+  pub codes : result ≤ REFUSED

@@ -1,0 +1,197 @@
+//! What is told in numbers.
+
+ghost use Rattle.std.specs.Prelude.{◌≡◌, ◌≢◌, if◌then◌else◌, IfSome, IsNone};
+ghost use Rattle.ans_model.specs.declared.fault.Cause.{Cause};
+ghost use Rattle.ans_model.specs.declared.note.Note.{Note};
+ghost use Rattle.ans_check.specs.FileVerdict.{parts_size};
+ghost use Rattle.ans_c.specs.Numbers.{cause_number, class_of, note_number, IsSizeOf, TellsFault};
+
+use ans_model::fault::{Cause, Fault};
+use ans_model::note::Note;
+use ans_model::start::Start;
+use ans_sauce::Parts;
+
+/// The file passes; of a call that judges nothing, it is answered.
+pub const PASS: u32 = 0;
+
+/// The file is refused, and the fault is told.
+pub const REFUSED: u32 = 1;
+
+/// The file has more than 16,777,216 bytes.
+pub const TOO_LONG: u32 = 3;
+
+/// An array has no room for what it is lent for.
+pub const NO_ROOM: u32 = 4;
+
+/// Why a file is refused.
+#[repr(C)]
+#[derive(Clone, Copy)]
+pub struct ToldFault {
+    /// n for the fault Fn.
+    pub number: u32,
+    /// For F25 the row and the column of the cell, counted from 1, and else 0.
+    pub row: u32,
+    pub column: u32,
+    /// In bytes from the file's start.
+    pub offset: usize,
+}
+
+/// The size of a file's picture, and what is to be lent for a check of it.
+#[repr(C)]
+#[derive(Clone, Copy)]
+pub struct PictureSize {
+    pub columns: u32,
+    pub lines: u32,
+    /// How many records of rows: one for each line, and one more.
+    pub rows: usize,
+    /// How many bytes: four for each column of each row.
+    pub bytes: usize,
+    /// How many bytes for the glyphs of the picture, and as many for its attributes.
+    pub cells: usize,
+}
+
+/// The class of starts that these bits name: 1 the screen, 2 the cursor, 4 the saved cursor, 8 the
+/// colours, 16 wrap. Other bits count for nothing.
+pub(crate) fn class_of(known: u32) -> Start
+    ensures { result ≡ class_of known }
+{
+    Start {
+        screen: known & 1 != 0,
+        cursor: known & 2 != 0,
+        saved: known & 4 != 0,
+        colours: known & 8 != 0,
+        wrap: known & 16 != 0,
+    }
+}
+
+/// A bit where it is to be set, and else 0.
+fn bit(set: bool, value: u32) -> u32
+    ensures { result ≡ (if set then value else 0) }
+{
+    if set { value } else { 0 }
+}
+
+/// The bits that name a class.
+pub(crate) fn bits_of(class: Start) -> u32
+    ensures { class_of result ≡ class }
+{
+    bit(class.screen, 1)
+        | bit(class.cursor, 2)
+        | bit(class.saved, 4)
+        | bit(class.colours, 8)
+        | bit(class.wrap, 16)
+}
+
+/// The number of a cause.
+fn cause_number(cause: &Cause) -> u32
+    ensures { result ≡ cause_number cause.now }
+{
+    match cause {
+        Cause::NoRecord => 1,
+        Cause::WrongVersion => 2,
+        Cause::WrongKind => 3,
+        Cause::CommentsMissing => 4,
+        Cause::LinesUnstated => 5,
+        Cause::WidthTooLarge => 6,
+        Cause::LinesTooLarge => 7,
+        Cause::BytesAfterEndMark => 8,
+        Cause::BrokenSequence => 9,
+        Cause::NumberTooLarge => 10,
+        Cause::TooManyParameters => 11,
+        Cause::EndInSequence => 12,
+        Cause::UnknownSequence => 13,
+        Cause::WrongParameters => 14,
+        Cause::KeyReassigned => 15,
+        Cause::ScreenMode => 16,
+        Cause::ReportAsked => 17,
+        Cause::OutsideScreen => 19,
+        Cause::PrintBelow => 20,
+        Cause::Scrolls => 21,
+        Cause::PrintUnknownPlace => 22,
+        Cause::EraseUnknownPlace => 23,
+        Cause::MayScroll => 24,
+        Cause::UnknownCell { row: _, col: _ } => 25,
+    }
+}
+
+/// A cause of a number.
+pub(crate) fn cause_of(number: u32) -> Option<Cause>
+    ensures some { IfSome result (λ cause. cause_number cause ≡ number) }
+    ensures none { IsNone result → (cause : Cause) → cause_number cause ≢ number }
+{
+    Some(match number {
+        1 => Cause::NoRecord,
+        2 => Cause::WrongVersion,
+        3 => Cause::WrongKind,
+        4 => Cause::CommentsMissing,
+        5 => Cause::LinesUnstated,
+        6 => Cause::WidthTooLarge,
+        7 => Cause::LinesTooLarge,
+        8 => Cause::BytesAfterEndMark,
+        9 => Cause::BrokenSequence,
+        10 => Cause::NumberTooLarge,
+        11 => Cause::TooManyParameters,
+        12 => Cause::EndInSequence,
+        13 => Cause::UnknownSequence,
+        14 => Cause::WrongParameters,
+        15 => Cause::KeyReassigned,
+        16 => Cause::ScreenMode,
+        17 => Cause::ReportAsked,
+        19 => Cause::OutsideScreen,
+        20 => Cause::PrintBelow,
+        21 => Cause::Scrolls,
+        22 => Cause::PrintUnknownPlace,
+        23 => Cause::EraseUnknownPlace,
+        24 => Cause::MayScroll,
+        25 => Cause::UnknownCell { row: 1, col: 1 },
+        _ => return None,
+    })
+}
+
+/// The note of a number.
+pub(crate) fn note_of(number: u32) -> Option<Note>
+    ensures some { IfSome result (λ note. note_number note ≡ number) }
+    ensures none { IsNone result → (note : Note) → note_number note ≢ number }
+{
+    Some(match number {
+        1 => Note::WidthAssumed,
+        2 => Note::NoEndMark,
+        3 => Note::SizeDiffers,
+        4 => Note::OddDate,
+        5 => Note::FlagBits,
+        6 => Note::FlagPair,
+        _ => return None,
+    })
+}
+
+/// A fault in numbers.
+pub(crate) fn told(fault: &Fault) -> ToldFault
+    ensures { TellsFault result fault.now }
+{
+    let (row, column) = match fault.cause {
+        Cause::UnknownCell { row, col } => (u32::from(row), u32::from(col)),
+        _ => (0, 0),
+    };
+    ToldFault {
+        number: cause_number(&fault.cause),
+        row,
+        column,
+        offset: fault.offset,
+    }
+}
+
+/// The size that a file's record states, and what a check wants.
+pub(crate) fn size_of(parts: &Parts<'_>) -> PictureSize
+    ensures { IsSizeOf (parts_size parts.now) result }
+{
+    let columns = parts.width();
+    let lines = parts.lines();
+    let rows = lines + 1;
+    PictureSize {
+        columns: columns as u32,
+        lines: lines as u32,
+        rows,
+        bytes: 4 * (columns * rows),
+        cells: columns * lines,
+    }
+}

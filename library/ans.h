@@ -1,0 +1,107 @@
+/* ans.h: the proved checker of ANSI art files (.ANS), for C and C++.
+ *
+ * Link libans_c.a, which wants memcpy, memmove and memset and nothing else. No call asks for memory, keeps anything, or
+ * calls back; calls share nothing, so threads may call at the same time. A call takes up to 100 KiB of stack.
+ *
+ * What the checker promises of an answer holds where the caller keeps this:
+ * - A pointer and the length after it are one array, which is there during the call, and may be read; an array that is
+ *   not const may be written too. A null pointer goes with the length 0 alone.
+ * - No array, structure or number that is written overlaps another argument.
+ */
+#ifndef ANS_H
+#define ANS_H
+
+#include <stddef.h>
+#include <stdint.h>
+
+#ifdef __cplusplus
+extern "C" {
+#endif
+
+/* The longest file that is checked, in bytes. */
+#define ANS_LONGEST_FILE 16777216
+
+/* Room for any text of ans_why and ans_record. */
+#define ANS_LONGEST_TEXT 65536
+
+/* What a call answers. ANS_NO_MEMORY comes from ans_easy.h alone. */
+enum {
+    ANS_PASS = 0,
+    ANS_REFUSED = 1,
+    ANS_NO_MEMORY = 2,
+    ANS_TOO_LONG = 3, /* the file has more than ANS_LONGEST_FILE bytes */
+    ANS_NO_ROOM = 4   /* an array is too small */
+};
+
+/* Parts of the start, added up. A part that is known is as on a cleared screen: blank cells, white on black; the cursor
+ * and the saved cursor at the top left; the colours white on black; wrap on. */
+enum {
+    ANS_SCREEN = 1,
+    ANS_CURSOR = 2,
+    ANS_SAVED = 4,
+    ANS_COLOURS = 8,
+    ANS_WRAP = 16,
+    ANS_CLEARED = 31
+};
+
+/* Why a file is refused: n for the fault Fn, and its offset in bytes from the file's start. For F25 the row and the
+ * column of the cell, counted from 1, and else 0. */
+struct ans_fault {
+    uint32_t number, row, column;
+    size_t offset;
+};
+
+/* A row of a screen, in memory that is lent. What it holds before and after a call does not matter. */
+struct ans_row {
+    uint32_t round, known;
+    size_t first, end;
+};
+
+/* The size of a file's picture, and what is to be lent for a check: so many rows, bytes, and cells. */
+struct ans_size {
+    uint32_t columns, lines;
+    size_t rows, bytes, cells;
+};
+
+/* The size that a file's record states: 1 to 1024 columns and 1 to 8192 lines, with lines + 1 rows,
+ * 4 * columns * (lines + 1) bytes and columns * lines cells.
+ * ANS_PASS: `size` is set. ANS_REFUSED: the record or the layout is refused, F1 to F8, and `fault` is set. ANS_TOO_LONG. */
+uint32_t ans_size(const uint8_t *file, size_t file_len, struct ans_size *size, struct ans_fault *fault);
+
+/* Checks a file from every start whose `known` parts are known.
+ * ANS_PASS: the content shows one picture from all of them. Its bytes, of code page 437, and its attributes stand at the
+ * front of `glyphs` and of `attributes`, row by row. ANS_REFUSED: `fault` is set. ANS_TOO_LONG. ANS_NO_ROOM: there are
+ * fewer rows, bytes, glyphs or attributes than ans_size tells; the last two want as many as there are cells. */
+uint32_t ans_check(const uint8_t *file, size_t file_len, uint32_t known, struct ans_row *rows, size_t rows_len,
+                   uint8_t *bytes, size_t bytes_len, uint8_t *glyphs, size_t glyphs_len, uint8_t *attributes,
+                   size_t attributes_len, struct ans_fault *fault);
+
+/* What a file relies on.
+ * ANS_PASS: it passes from the cleared start, and exactly where each part in `parts` is known. ANS_REFUSED: it does not
+ * pass even from the cleared start, and `fault` is set. ANS_TOO_LONG. ANS_NO_ROOM: fewer rows or bytes than ans_size tells. */
+uint32_t ans_needs(const uint8_t *file, size_t file_len, struct ans_row *rows, size_t rows_len, uint8_t *bytes,
+                   size_t bytes_len, uint32_t *parts, struct ans_fault *fault);
+
+/* The text of `anscheck why`, in UTF-8: where and why a file is refused, or what it relies on and how it is mended.
+ * ANS_PASS, ANS_REFUSED: as the file passes from the cleared start; the text stands at the front of `text`, and `length`
+ * says how many bytes it has. ANS_TOO_LONG, and `length` is 0. ANS_NO_ROOM: there are too few rows or bytes, and `length`
+ * is 0; or `text` has fewer bytes than `length` then says. */
+uint32_t ans_why(const uint8_t *file, size_t file_len, struct ans_row *rows, size_t rows_len, uint8_t *bytes,
+                 size_t bytes_len, uint8_t *text, size_t text_len, size_t *length);
+
+/* The text of `anscheck sauce`, in UTF-8: what a file's record says, ANS_PASS, or why it is refused, ANS_REFUSED. Else the
+ * answers are those of ans_why. */
+uint32_t ans_record(const uint8_t *file, size_t file_len, uint8_t *text, size_t text_len, size_t *length);
+
+/* The text of the fault Fn ("F21 scrolls") and of the note Nn. ANS_REFUSED: there is none of this number. ANS_NO_ROOM:
+ * `text` has fewer bytes than `length` then says. */
+uint32_t ans_fault_text(uint32_t number, uint8_t *text, size_t text_len, size_t *length);
+uint32_t ans_note_text(uint32_t number, uint8_t *text, size_t text_len, size_t *length);
+
+/* The version of the checker ("0.1.0"). */
+uint32_t ans_version(uint8_t *text, size_t text_len, size_t *length);
+
+#ifdef __cplusplus
+}
+#endif
+#endif

@@ -1,0 +1,68 @@
+/* ans_easy.h: the checker with memory from malloc, for those who want one call. The functions stand here whole; they
+ * are not proved, and only hand memory to those of ans.h, which are. */
+#ifndef ANS_EASY_H
+#define ANS_EASY_H
+
+#include "ans.h"
+#include <stdlib.h>
+
+/* A picture: columns times lines bytes of code page 437, and as many attributes, row by row. */
+struct ans_picture {
+    uint32_t columns, lines;
+    uint8_t *glyphs, *attributes;
+};
+
+static inline void ans_free_picture(struct ans_picture *picture) {
+    free(picture->glyphs);
+    picture->glyphs = picture->attributes = NULL;
+}
+
+/* Checks a file as ans_check does. ANS_PASS: `picture` is set, and is freed by ans_free_picture. ANS_NO_MEMORY: malloc
+ * gave none. In every other case there is nothing to free. */
+static inline uint32_t ans_check_easily(const uint8_t *file, size_t file_len, uint32_t known, struct ans_picture *picture,
+                                        struct ans_fault *fault) {
+    struct ans_size size;
+    struct ans_row *rows;
+    uint8_t *bytes, *cells;
+    uint32_t answer = ans_size(file, file_len, &size, fault);
+    if (answer != ANS_PASS)
+        return answer;
+    rows = (struct ans_row *)malloc(size.rows * sizeof *rows);
+    bytes = (uint8_t *)malloc(size.bytes);
+    cells = (uint8_t *)malloc(2 * size.cells);
+    answer = ANS_NO_MEMORY;
+    if (rows && bytes && cells)
+        answer = ans_check(file, file_len, known, rows, size.rows, bytes, size.bytes, cells, size.cells,
+                           cells + size.cells, size.cells, fault);
+    free(rows);
+    free(bytes);
+    if (answer != ANS_PASS) {
+        free(cells);
+        return answer;
+    }
+    picture->columns = size.columns;
+    picture->lines = size.lines;
+    picture->glyphs = cells;
+    picture->attributes = cells + size.cells;
+    return ANS_PASS;
+}
+
+/* What a file relies on, as ans_needs tells it, or ANS_NO_MEMORY. */
+static inline uint32_t ans_needs_easily(const uint8_t *file, size_t file_len, uint32_t *parts, struct ans_fault *fault) {
+    struct ans_size size;
+    struct ans_row *rows;
+    uint8_t *bytes;
+    uint32_t answer = ans_size(file, file_len, &size, fault);
+    if (answer != ANS_PASS)
+        return answer;
+    rows = (struct ans_row *)malloc(size.rows * sizeof *rows);
+    bytes = (uint8_t *)malloc(size.bytes);
+    answer = ANS_NO_MEMORY;
+    if (rows && bytes)
+        answer = ans_needs(file, file_len, rows, size.rows, bytes, size.bytes, parts, fault);
+    free(rows);
+    free(bytes);
+    return answer;
+}
+
+#endif
