@@ -120,8 +120,13 @@ waits_no_more : {W : Type 0} {contents : W → Option (List ℕ)} (a b : Outbox 
     → device_failed b ≡ false → length b.waiting.items ≤ length a.waiting.items + length x
 waits_no_more a b x p works =
     let h = p.hands_on in
-    omega (arith, ap length (h.waits works), ap length h.whole, length-append h.taken h.rest,
-    length-append a.waiting.items x)
+    omega (
+      arith,
+      ap length (h.waits works),
+      ap length h.whole,
+      length-append h.taken h.rest,
+      length-append a.waiting.items x,
+    )
 
 -- one text was put after another
 pub Puts-then : {W : Type 0} {contents : W → Option (List ℕ)} {a b c : Outbox W} {x y : List ℕ} → Puts contents a b x
