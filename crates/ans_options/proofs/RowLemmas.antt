@@ -1,6 +1,6 @@
 -- The matches of a command's arguments hold what those are called: of no other id have they a row.
 use Rattle.std.proofs.Common.{◌≡◌, ℕ, zero, suc, Bool, true, false, List, [], ◌∷◌, ◌++◌, Option, Some, None, refl}
-use Rattle.std.proofs.Common.{◌∙◌, ◌+◌, ◌&&◌, ◌||◌, not, cond, length, drop, min, is_some}
+use Rattle.std.proofs.Common.{◌∙◌, ◌+◌, ◌&&◌, ◌||◌, not, cond, length, drop, min, is_some, ap}
 use Rattle.std.specs.Prelude.{IfSome, find, fold, if◌then◌else◌, option_and_then, slice_get, encode_utf8, codes}
 use Rattle.std.specs.List.{list_any}
 use Rattle.std.specs.Option.{option_map_or}
@@ -49,35 +49,28 @@ pub nor : (a b : Bool) → a ≡ false → b ≡ false → (a || b) ≡ false
 nor true b e f = cc
 nor false b e f = f
 
--- a flag that has no row is not held
-pub unheld : (id : Text) (rows : List Row) → Lacks id rows → holds_flag id rows ≡ false
-unheld id [] lacks = refl
-unheld id (r ∷ rows) lacks =
+-- of an id that has no row none is found
+not_found : (id : Text) (rows : List Row) → Lacks id rows → find (λ x. bytes_eq x.id id) rows ≡ None
+not_found id [] lacks = refl
+not_found id (r ∷ rows) lacks =
     let parts = neither (bytes_eq r.id id) (has_row id rows) lacks in
-    go (bytes_eq r.id id) parts.0 (unheld id rows parts.1)
+    go (bytes_eq r.id id) parts.0 (not_found id rows parts.1)
   where
-    test : Option Row → Bool
-    test o = option_map_or (λ t. bytes_eq t (codes "true")) (option_and_then row_text o) false
-
-    go : (b : Bool) → b ≡ false → test (find (λ x. bytes_eq x.id id) rows) ≡ false
-        → test (cond b (Some r) (find (λ x. bytes_eq x.id id) rows)) ≡ false
+    go : (b : Bool) → b ≡ false → find (λ x. bytes_eq x.id id) rows ≡ None
+        → cond b (Some r) (find (λ x. bytes_eq x.id id) rows) ≡ None
     go true e rest = cc
     go false e rest = rest
+
+-- so a flag that has no row is not held
+pub unheld : (id : Text) (rows : List Row) → Lacks id rows → holds_flag id rows ≡ false
+unheld id rows lacks =
+    ap (λ (o : Option Row). option_map_or (λ t. bytes_eq t (codes "true")) (option_and_then row_text o) false)
+    (not_found id rows lacks)
 
 -- and an argument that has no row has no value
 pub unfound : (id : Text) (rows : List Row) → Lacks id rows → first_of id rows ≡ None
-unfound id [] lacks = refl
-unfound id (r ∷ rows) lacks =
-    let parts = neither (bytes_eq r.id id) (has_row id rows) lacks in
-    go (bytes_eq r.id id) parts.0 (unfound id rows parts.1)
-  where
-    first : Option Row → Option Text
-    first o = option_and_then (λ x. slice_get x.values 0) o
-
-    go : (b : Bool) → b ≡ false → first (find (λ x. bytes_eq x.id id) rows) ≡ None
-        → first (cond b (Some r) (find (λ x. bytes_eq x.id id) rows)) ≡ None
-    go true e rest = cc
-    go false e rest = rest
+unfound id rows lacks =
+    ap (λ (o : Option Row). option_and_then (λ x. slice_get x.values 0) o) (not_found id rows lacks)
 
 -- ---- the rows of one use
 

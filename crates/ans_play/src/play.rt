@@ -181,14 +181,17 @@ impl<G: Screen> Play<G> {
         ensures played { PlaysWholeTokens self.old (take result bytes.now) self.new }
         ensures none { result ≡ 0 → self.new ≡ self.old }
     {
-        match bytes[0] {
-            ESCAPE => self.fast_sequence(bytes),
-            // no glyph, so no run
-            0x07 | 0x08 | b'\t' | b'\n' | b'\r' => self.fast_byte(bytes),
-            _ => match self.print_run(bytes) {
-                0 => self.fast_byte(bytes),
-                count => count,
-            },
+        let first = bytes[0];
+        if first == ESCAPE {
+            return self.fast_sequence(bytes);
+        }
+        // no glyph, so no run
+        if first < 0x20 && matches!(first, 0x07 | 0x08 | b'\t' | b'\n' | b'\r') {
+            return self.fast_byte(bytes);
+        }
+        match self.print_run(bytes) {
+            0 => self.fast_byte(bytes),
+            count => count,
         }
     }
 

@@ -189,7 +189,7 @@ impl RowPlanes for PlaneGrid {
         fill_plane(&mut self.values, from, to, value);
     }
 
-    #[inline(always)]
+    #[inline(never)]
     fn fill_known(&mut self, from: usize, to: usize, glyph_known: u8, bits_known: u8) {
         self.glyphs_known.fill(from, to, glyph_known);
         self.bits_known.fill(from, to, bits_known);

@@ -131,9 +131,7 @@ module _ (z : Size) (size : IsSize z) (lines : ℕ) (taller : z.lines ≤ lines)
   alike_starts t h = record {
     cursor = alike_at_first class.cursor t.cursor h.cursor;
     saved = alike_at_first class.saved t.saved h.saved;
-    wrap = refl;
-    low_wrap = refl;
-    high_wrap = refl;
+    wrap = (refl, refl, refl);
     attribute = refl;
     screen = λ k lt. sym (slice_get-take (cell_count z) t.screen k (omega (arith, lt, lines_are_cells)));
   }

@@ -133,9 +133,7 @@ module _ (z : Size) (lines : ℕ) (taller : z.lines ≤ lines) (some_columns : 0
   pub record AreAlikeStates (t s low high : State) : Type 0 where
     pub cursor : AreAlike t.cursor s.cursor low.cursor high.cursor
     pub saved : AreAlike t.saved s.saved low.saved high.saved
-    pub wrap : t.wrap ≡ s.wrap
-    pub low_wrap : low.wrap ≡ s.wrap
-    pub high_wrap : high.wrap ≡ s.wrap
+    pub wrap : (t.wrap ≡ s.wrap) × (low.wrap ≡ s.wrap) × (high.wrap ≡ s.wrap)
     pub attribute : t.attribute ≡ s.attribute
     pub screen : Agree (z.lines * z.width) t.screen s.screen
 
@@ -161,15 +159,13 @@ module _ (z : Size) (lines : ℕ) (taller : z.lines ≤ lines) (some_columns : 0
       rw (put_is tall t byte t_above, put_is z s byte above, put_is z low byte low_above, put_is z high byte high_above)
       (record {
         cursor = inl (
-          ap₂ (next z) one.0 h.wrap,
-          ap₂ (next z) one.1 h.low_wrap,
-          ap₂ (next z) one.2 h.high_wrap,
+          ap₂ (next z) one.0 h.wrap.0,
+          ap₂ (next z) one.1 h.wrap.1,
+          ap₂ (next z) one.2 h.wrap.2,
           next_row z s.cursor s.wrap above,
         );
         saved = h.saved;
         wrap = h.wrap;
-        low_wrap = h.low_wrap;
-        high_wrap = h.high_wrap;
         attribute = h.attribute;
         screen = rw (one.0, h.attribute) (agree_set (z.lines * z.width) t.screen s.screen (index z s.cursor)
             (cell byte s.attribute) (rw (sym (ap (index z) one.0)) (rw ft.cells (index-lt tall t.cursor ft.cursor)))
@@ -213,8 +209,6 @@ module _ (z : Size) (lines : ℕ) (taller : z.lines ≤ lines) (some_columns : 0
             cursor = inl (ap down one.0, ap down one.1, ap down one.2, omega (arith, above));
             saved = h.saved;
             wrap = h.wrap;
-            low_wrap = h.low_wrap;
-            high_wrap = h.high_wrap;
             attribute = h.attribute;
             screen = h.screen;
           })
@@ -242,8 +236,6 @@ module _ (z : Size) (lines : ℕ) (taller : z.lines ≤ lines) (some_columns : 0
     cursor = home_is_one;
     saved = h.saved;
     wrap = h.wrap;
-    low_wrap = h.low_wrap;
-    high_wrap = h.high_wrap;
     attribute = h.attribute;
     screen = rw h.attribute (agree_replicate (z.lines * z.width) (cell_count tall) (cell_count z)
         (blank_cell s.attribute) (cells_of lines taller) (cells_of z.lines (omega arith)));
@@ -257,8 +249,6 @@ module _ (z : Size) (lines : ℕ) (taller : z.lines ≤ lines) (some_columns : 0
         cursor = h.cursor;
         saved = h.saved;
         wrap = h.wrap;
-        low_wrap = h.low_wrap;
-        high_wrap = h.high_wrap;
         attribute = h.attribute;
         screen = rw (one.0, h.attribute) (agree_filled (z.lines * z.width) t.screen s.screen (index z s.cursor)
             (next_row_start z s.cursor) (blank_cell s.attribute) (index-le_row_end z s.cursor fs.cursor)
@@ -269,8 +259,6 @@ module _ (z : Size) (lines : ℕ) (taller : z.lines ≤ lines) (some_columns : 0
     cursor = h.cursor;
     saved = h.cursor;
     wrap = h.wrap;
-    low_wrap = h.low_wrap;
-    high_wrap = h.high_wrap;
     attribute = h.attribute;
     screen = h.screen;
   }
@@ -278,8 +266,6 @@ module _ (z : Size) (lines : ℕ) (taller : z.lines ≤ lines) (some_columns : 0
     cursor = h.saved;
     saved = h.saved;
     wrap = h.wrap;
-    low_wrap = h.low_wrap;
-    high_wrap = h.high_wrap;
     attribute = h.attribute;
     screen = h.screen;
   }
@@ -287,17 +273,13 @@ module _ (z : Size) (lines : ℕ) (taller : z.lines ≤ lines) (some_columns : 0
     cursor = h.cursor;
     saved = h.saved;
     wrap = h.wrap;
-    low_wrap = h.low_wrap;
-    high_wrap = h.high_wrap;
     attribute = ap (λ (a : ℕ). attribute_after_all a numbers) h.attribute;
     screen = h.screen;
   }
   alike_step t s low high (Wrap on) room ft fs h = record {
     cursor = h.cursor;
     saved = h.saved;
-    wrap = refl;
-    low_wrap = refl;
-    high_wrap = refl;
+    wrap = (refl, refl, refl);
     attribute = h.attribute;
     screen = h.screen;
   }
@@ -305,8 +287,6 @@ module _ (z : Size) (lines : ℕ) (taller : z.lines ≤ lines) (some_columns : 0
     cursor = alike_move token t.cursor s.cursor low.cursor high.cursor room h.cursor;
     saved = h.saved;
     wrap = h.wrap;
-    low_wrap = h.low_wrap;
-    high_wrap = h.high_wrap;
     attribute = h.attribute;
     screen = h.screen;
   }

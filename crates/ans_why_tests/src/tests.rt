@@ -1,8 +1,9 @@
 //! Small contents, and what the plays from the low and the high start show of their faults.
 
-ghost use Rattle.std.specs.Prelude.{◌≡◌, ◌≤◌, IfOk, length};
+ghost use Rattle.std.specs.Prelude.{◌≡◌, ◌≤◌, IfOk, IfSome, None, length};
 ghost use Rattle.ans_model.specs.Bytes.{longest_file, most_columns, most_lines};
 ghost use Rattle.ans_model.specs.Screen.State.{sized};
+ghost use Rattle.ans_model.specs.Verdict.Good.{IsGood};
 ghost use Rattle.ans_why.specs.Evidence.{IsDeserved};
 
 mod lines;
@@ -19,13 +20,19 @@ use std::alloc::Global;
 use std::process::Abort;
 use std::test::Fail;
 
-/// A content on a small screen, its fault, and where the two cursors stand before it: their rows and
-/// columns, counted from 0.
-struct Stand {
+/// A content on a small screen, from the starts of a class.
+#[derive(Clone, Copy)]
+struct Played {
     start: Start,
     width: usize,
     lines: usize,
     content: &'static [u8],
+}
+
+/// A content, its fault, and where the two cursors stand before it: their rows and columns, counted
+/// from 0.
+struct Stand {
+    played: Played,
     fault: Fault,
     low: (usize, usize),
     high: (usize, usize),
@@ -34,10 +41,7 @@ struct Stand {
 /// A content that leaves a cell unknown: its row and column, counted from 1, and the byte and the
 /// attribute in both plays.
 struct Left {
-    start: Start,
-    width: usize,
-    lines: usize,
-    content: &'static [u8],
+    played: Played,
     named: (u16, u16),
     low: (u8, u8),
     high: (u8, u8),
@@ -55,14 +59,17 @@ macro_rules! start {
     };
 }
 
+macro_rules! played {
+    ($($start:ident)+ $width:literal x $lines:literal, $content:literal) => {
+        Played { start: start!($($start)+), width: $width, lines: $lines, content: $content }
+    };
+}
+
 macro_rules! stands {
     ($($($start:ident)+ $width:literal x $lines:literal, $content:literal =>
         $offset:literal $cause:ident, $low:expr, $high:expr;)*) => {
         [$(Stand {
-            start: start!($($start)+),
-            width: $width,
-            lines: $lines,
-            content: $content,
+            played: played!($($start)+ $width x $lines, $content),
             fault: Fault { offset: $offset, cause: Cause::$cause },
             low: $low,
             high: $high,
@@ -74,10 +81,7 @@ macro_rules! left {
     ($($($start:ident)+ $width:literal x $lines:literal, $content:literal =>
         $named:expr, $low:expr, $high:expr;)*) => {
         [$(Left {
-            start: start!($($start)+),
-            width: $width,
-            lines: $lines,
-            content: $content,
+            played: played!($($start)+ $width x $lines, $content),
             named: $named,
             low: $low,
             high: $high,
@@ -134,29 +138,47 @@ static LEFT: [Left; 13] = left! {
     all but colours 2 x 2, b"\x1b[2;2HA" => (2, 2), (b'A', 0x00), (b'A', 0xFF);
 };
 
-/// The fault of a content, as the play finds it.
+/// The fault of a content, if the play finds one.
 fn fault_of(
-    rt: &impl Abort,
     alloc: Global,
     width: usize,
     lines: usize,
     start: Start,
     content: &[u8],
-) -> Result<Fault, Fail>
+) -> Result<Option<Fault>, Fail>
     requires some_columns { 1 ≤ width }
     requires columns { width ≤ most_columns }
     requires some_lines { 1 ≤ lines }
     requires lines { lines ≤ most_lines }
     requires length { length content.now ≤ longest_file }
-    ensures { IfOk result (IsDeserved (sized width lines) start content.now) }
+    ensures fault { IfOk result (λ found. IfSome found (IsDeserved (sized width lines) start content.now)) }
+    ensures good { IfOk result (λ found. found ≡ None → IsGood (sized width lines) start content.now) }
 {
     let mut player = Player::<PlainGrid>::new(alloc, width, lines, start)?;
     if let Err(fault) = player.feed(content) {
-        return Ok(fault);
+        return Ok(Some(fault));
     }
-    match player.finish() {
-        Ok(_) => panic!(rt; "a picture where a fault was expected, in {content:?}"),
-        Err(fault) => Ok(fault),
+    let Err(fault) = player.finish() else {
+        return Ok(None);
+    };
+    Ok(Some(fault))
+}
+
+/// The size of the screen that a content is played on, and the fault that it has.
+fn faulty(rt: &impl Abort, alloc: Global, played: Played) -> Result<(Size, Fault), Fail>
+    ensures length { length played.content.now ≤ longest_file }
+    ensures deserved { IfOk result (λ r. IsDeserved r.0 played.start played.content.now r.1) }
+{
+    let Played {
+        start,
+        width,
+        lines,
+        content,
+    } = played;
+    assert!(rt; 1 <= width && width <= 20 && 1 <= lines && lines <= 10 && content.len() < 200);
+    match fault_of(alloc, width, lines, start, content)? {
+        Some(fault) => Ok((Size::new(width, lines), fault)),
+        None => panic!(rt; "no fault, in {content:?}"),
     }
 }
 
@@ -164,23 +186,15 @@ fn fault_of(
 fn cursors_before_faults(rt: HostRuntime) -> Result<(), Fail> {
     for row in &STANDS {
         let Stand {
-            start,
-            width,
-            lines,
-            content,
+            played,
             fault,
             low,
             high,
         } = *row;
-        assert!(rt; 1 <= width && width <= 20 && 1 <= lines && lines <= 10 && content.len() < 200);
-        let found = fault_of(&rt, rt.alloc(), width, lines, start, content)?;
+        let content = played.content;
+        let (size, found) = faulty(&rt, rt.alloc(), played)?;
         assert_eq!(rt; found, fault, "in {content:?}");
-        let (low_cursor, high_cursor) = cursors_before(
-            Size::new(width, lines),
-            start,
-            content,
-            found,
-        );
+        let (low_cursor, high_cursor) = cursors_before(size, played.start, content, found);
         assert_eq!(rt; (low_cursor.row, low_cursor.column), low, "in {content:?}");
         assert_eq!(rt;
             (high_cursor.row, high_cursor.column),
@@ -195,24 +209,16 @@ fn cursors_before_faults(rt: HostRuntime) -> Result<(), Fail> {
 fn cells_of_faults(rt: HostRuntime) -> Result<(), Fail> {
     for row in &LEFT {
         let Left {
-            start,
-            width,
-            lines,
-            content,
-            named,
+            played,
+            named: (row, col),
             low,
             high,
         } = *row;
-        assert!(rt; 1 <= width && width <= 20 && 1 <= lines && lines <= 10 && content.len() < 200);
-        let found = fault_of(&rt, rt.alloc(), width, lines, start, content)?;
-        let (row, col) = named;
-        assert_eq!(rt;
-            found.cause,
-            Cause::UnknownCell { row, col },
-            "in {content:?}"
-        );
-        let size = Size::new(width, lines);
-        match cells_of_fault(size, start, content, found) {
+        let content = played.content;
+        let (size, found) = faulty(&rt, rt.alloc(), played)?;
+        let named = Cause::UnknownCell { row, col };
+        assert_eq!(rt; found.cause, named, "in {content:?}");
+        match cells_of_fault(size, played.start, content, found) {
             Some((low_cell, high_cell)) => {
                 assert_eq!(rt; (low_cell.byte, low_cell.attribute), low, "in {content:?}");
                 assert_eq!(rt;

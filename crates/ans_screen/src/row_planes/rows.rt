@@ -170,12 +170,11 @@ pub(crate) fn open<P: RowPlanes>(
     ensures held { (i : ℕ) → from ≤ i → i < to → states_of (P.planes_of grid.new) i ≡ state_of result }
     ensures known { result ≡ true → known ≡ true }
 {
-    let known = known && grid.blank().is_known();
     let held = grid.row(row);
     if holds(grid, held, from, to) && (known || !held.known) {
         held.known
     } else {
-        widen(grid, row, from, to, known)
+        widen(grid, row, from, to, known && grid.blank().is_known())
     }
 }
 

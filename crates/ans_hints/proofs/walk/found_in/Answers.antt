@@ -1,4 +1,4 @@
-use Rattle.std.proofs.Common.{◌≡◌, ℕ, ◌+◌, ◌-◌, length, take, drop, refl, ap, ◌∙◌, arith, subst}
+use Rattle.std.proofs.Common.{◌≡◌, ℕ, ◌+◌, ◌-◌, ◌≤◌, length, take, drop, refl, ap, ◌∙◌, arith, subst}
 use Rattle.std.proofs.lemmas.List.{length-drop}
 use Rattle.ans_model.specs.declared.kind.Kind.{Kind}
 use Rattle.ans_model.specs.Inside.ShownKind.{shown_kind}
@@ -10,6 +10,7 @@ use Rattle.ans_hints.proofs.PieceWalks.{within_after, ends_within, left_after, w
 use Rattle.ans_hints.proofs.PieceWalks.{nothing_left}
 use Rattle.ans_hints.proofs.PieceWalks.{never_refused, counts_within}
 use Rattle.ans_hints.proofs.walk.found_in.Goals as goal
+use Rattle.ans_hints.proofs.walk.found_in.Goals.{After-offset-in-Ok-Some-Token}
 
 pub loop-text-preserved-in-Ok-Some-Glyphs : goal.loop-text-preserved-in-Ok-Some-Glyphs
 loop-text-preserved-in-Ok-Some-Glyphs c =
@@ -48,8 +49,9 @@ glyphs-requires-clause-some c =
     let all = ends_within content c.args.end c.loop-text.pieces c.next.new.self _ h.within h.rest taken in
     rw (rest_of content start) (omega (arith, c.offset.ensures, taken.offset, long, all, length-drop start content))
 
-pub slice_bounds-rest-count : goal.slice_bounds-rest-count
-slice_bounds-rest-count c =
+-- a token ends within the content
+token_ends : (c : After-offset-in-Ok-Some-Token) → c.offset-in-Ok-Some-Token.result ≤ length c.args.content.now
+token_ends c =
     let h = c.loop-text.invariant in
     omega (
       arith,
@@ -59,16 +61,11 @@ slice_bounds-rest-count c =
           (rw (c.in-Ok-Some-Token.field-0-is, c.in-Ok-Some-Token.field-0-0-is) at c.in-Ok-Some-Token.ensures.piece),
     )
 
+pub slice_bounds-rest-count : goal.slice_bounds-rest-count
+slice_bounds-rest-count c = omega (arith, token_ends (goal.at.slice_bounds-rest-count c).After-offset-in-Ok-Some-Token)
+
 pub slice_bounds-rest-start : goal.slice_bounds-rest-start
-slice_bounds-rest-start c =
-    let h = c.loop-text.invariant in
-    omega (
-      arith,
-      c.offset-in-Ok-Some-Token.ensures,
-      ends_within c.args.content.now c.args.end c.loop-text.pieces c.next.new.self
-          (pieces.Token c.in-Ok-Some-Token.token) h.within h.rest
-          (rw (c.in-Ok-Some-Token.field-0-is, c.in-Ok-Some-Token.field-0-0-is) at c.in-Ok-Some-Token.ensures.piece),
-    )
+slice_bounds-rest-start c = omega (arith, token_ends (goal.at.slice_bounds-rest-start c).After-offset-in-Ok-Some-Token)
 
 pub loop-text-preserved : goal.loop-text-preserved
 loop-text-preserved c =
