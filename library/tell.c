@@ -50,8 +50,10 @@ static void tell_why(size_t file_len) {
     ans_size(file, file_len, &size, &fault);
     struct ans_row *rows = (struct ans_row *)malloc(size.rows * sizeof *rows + 1);
     uint8_t *bytes = (uint8_t *)malloc(size.bytes + 1);
-    if (rows && bytes)
-        tell_text("why", ans_why(file, file_len, rows, size.rows, bytes, size.bytes, text, sizeof text, &length), length);
+    if (rows && bytes) {
+        uint32_t answer = ans_why(file, file_len, rows, size.rows, bytes, size.bytes, text, sizeof text, &length);
+        tell_text("why", answer, length);
+    }
     free(rows);
     free(bytes);
 }
@@ -63,7 +65,8 @@ int main(int argc, char **argv) {
         return 2;
     size_t file_len = fread(file, 1, sizeof file, input);
     fclose(input);
-    tell_text("version", ans_version(text, sizeof text, &length), length);
+    uint32_t answer = ans_version(text, sizeof text, &length);
+    tell_text("version", answer, length);
     printf("\n");
     tell_check(file_len, 0);
     tell_check(file_len, ANS_SCREEN | ANS_CURSOR);
@@ -71,7 +74,7 @@ int main(int argc, char **argv) {
     tell_needs(file_len);
     tell_why(file_len);
     length = 0;
-    uint32_t answer = ans_record(file, file_len, text, sizeof text, &length);
+    answer = ans_record(file, file_len, text, sizeof text, &length);
     tell_text("record", answer, length);
     return 0;
 }
