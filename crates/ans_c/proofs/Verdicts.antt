@@ -84,7 +84,8 @@ cells_lacking file parts glyphs attributes s lacks = record {
 -- where plays on memory that is lent lack room
 pub lent_lacking : (file : List ℕ) (screens : LentScreens) (rows bytes : ℕ) → row_count screens ≡ rows
     → byte_count screens ≡ bytes
-    → ((apart : FileParts) × Accepts file apart × ¬ HasScreen (stated_size apart) (row_count screens) (byte_count screens))
+    → ((apart : FileParts) × Accepts file apart
+    × ¬ HasScreen (stated_size apart) (row_count screens) (byte_count screens))
     → LacksScreen file rows bytes
 lent_lacking file screens rows bytes all_rows all_bytes (apart, accepts, lacks) = record {
   apart = apart;

@@ -1,5 +1,6 @@
 -- What a caller in C is told of a file.
-use Rattle.std.specs.Prelude.{◌≡◌, ◌≢◌, ◌⊎◌, ℕ, ◌+◌, ◌*◌, ◌<◌, ◌≤◌, min, Bool, true, false, List, length, map, take, Some}
+use Rattle.std.specs.Prelude.{◌≡◌, ◌≢◌, ◌⊎◌, ℕ, ◌+◌, ◌*◌, ◌<◌, ◌≤◌, min, Bool, true, false, List, length, map, take}
+use Rattle.std.specs.Prelude.{Some}
 use Rattle.ans_model.specs.File.Layout.{FileParts}
 use Rattle.ans_model.specs.File.Refusals.{Accepts, record_fault}
 use Rattle.ans_model.specs.Screen.State.{Size}
@@ -88,6 +89,7 @@ pub record HandsReport (reports : Bool → List ℕ → Type 0) (room result tol
 -- what is told of a play of the content from the starts of a class
 pub record TellsPlay (z : Size) (start : Start) (content : List ℕ) (result : ℕ) (glyphs attributes : List ℕ)
     (told : ToldFault) : Type 0 where
-  pub pass : result ≡ PASS → (picture : Picture) × GoodWith z start content picture × HoldsPicture picture glyphs attributes
+  pub pass : result ≡ PASS
+      → (picture : Picture) × GoodWith z start content picture × HoldsPicture picture glyphs attributes
   pub refused : result ≡ REFUSED → (fault : Fault) × Deserves z start content fault × TellsFault told fault
   pub codes : result ≤ REFUSED

@@ -124,7 +124,8 @@ pub extern "C" fn ans_why(
 /// layout is refused. The answers are those of `ans_why`; it wants no rows and bytes.
 #[unsafe(no_mangle)]
 pub extern "C" fn ans_record(file: &[u8], text: &mut [u8], told: &mut usize) -> u32
-    ensures handed { result ≢ TOO_LONG → HandsReport (ReportsSauce file.now) (length text.old) result told.new text.new }
+    ensures handed { result ≢ TOO_LONG
+        → HandsReport (ReportsSauce file.now) (length text.old) result told.new text.new }
     ensures too_long { (result ≡ TOO_LONG) ↔ (longest_file < length file.now) }
     ensures silent { result ≡ TOO_LONG → told.new ≡ 0 }
     ensures codes { (result ≤ NO_ROOM) × (result ≢ 2) }
