@@ -2,57 +2,12 @@
 use Rattle.std.specs.Prelude.{◌≡◌, ℕ, ◌+◌, ◌*◌, Bool, not, ◌==◌, bit_and}
 use Rattle.ans_model.specs.Screen.State.{Size}
 use Rattle.ans_model.specs.declared.fault.Cause.{Cause}
-use Rattle.ans_model.specs.declared.fault.Cause.TheVariants.{NoRecord, WrongVersion, WrongKind, CommentsMissing}
-use Rattle.ans_model.specs.declared.fault.Cause.TheVariants.{LinesUnstated, WidthTooLarge, LinesTooLarge}
-use Rattle.ans_model.specs.declared.fault.Cause.TheVariants.{BytesAfterEndMark, BrokenSequence, NumberTooLarge}
-use Rattle.ans_model.specs.declared.fault.Cause.TheVariants.{TooManyParameters, EndInSequence, UnknownSequence}
-use Rattle.ans_model.specs.declared.fault.Cause.TheVariants.{WrongParameters, KeyReassigned, ScreenMode, ReportAsked}
-use Rattle.ans_model.specs.declared.fault.Cause.TheVariants.{OutsideScreen, PrintBelow, Scrolls}
-use Rattle.ans_model.specs.declared.fault.Cause.TheVariants.{PrintUnknownPlace, EraseUnknownPlace, MayScroll}
 use Rattle.ans_model.specs.declared.fault.Cause.TheVariants.{UnknownCell}
 use Rattle.ans_model.specs.declared.fault.Fault.{Fault}
-use Rattle.ans_model.specs.declared.note.Note.{Note}
-use Rattle.ans_model.specs.declared.note.Note.TheVariants.{WidthAssumed, NoEndMark, SizeDiffers, OddDate, FlagBits}
-use Rattle.ans_model.specs.declared.note.Note.TheVariants.{FlagPair}
 use Rattle.ans_model.specs.declared.start.Start.{Start}
+use Rattle.ans_model.specs.Text.FaultText.{cause_number}
 use Rattle.ans_c.specs.declared.numbers.PictureSize.{PictureSize}
 use Rattle.ans_c.specs.declared.numbers.ToldFault.{ToldFault}
-
--- the number of a cause: n for the fault Fn
-abbrev pub cause_number : Cause → ℕ
-cause_number NoRecord = 1
-cause_number WrongVersion = 2
-cause_number WrongKind = 3
-cause_number CommentsMissing = 4
-cause_number LinesUnstated = 5
-cause_number WidthTooLarge = 6
-cause_number LinesTooLarge = 7
-cause_number BytesAfterEndMark = 8
-cause_number BrokenSequence = 9
-cause_number NumberTooLarge = 10
-cause_number TooManyParameters = 11
-cause_number EndInSequence = 12
-cause_number UnknownSequence = 13
-cause_number WrongParameters = 14
-cause_number KeyReassigned = 15
-cause_number ScreenMode = 16
-cause_number ReportAsked = 17
-cause_number OutsideScreen = 19
-cause_number PrintBelow = 20
-cause_number Scrolls = 21
-cause_number PrintUnknownPlace = 22
-cause_number EraseUnknownPlace = 23
-cause_number MayScroll = 24
-cause_number (UnknownCell row col) = 25
-
--- the number of a note: n for Nn
-abbrev pub note_number : Note → ℕ
-note_number WidthAssumed = 1
-note_number NoEndMark = 2
-note_number SizeDiffers = 3
-note_number OddDate = 4
-note_number FlagBits = 5
-note_number FlagPair = 6
 
 -- the row and the column of an unknown cell, counted from 1; 0 for any other cause
 abbrev pub cell_row : Cause → ℕ

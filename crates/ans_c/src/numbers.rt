@@ -4,7 +4,8 @@ ghost use Rattle.std.specs.Prelude.{◌≡◌, ◌≢◌, if◌then◌else◌, I
 ghost use Rattle.ans_model.specs.declared.fault.Cause.{Cause};
 ghost use Rattle.ans_model.specs.declared.note.Note.{Note};
 ghost use Rattle.ans_check.specs.FileVerdict.{parts_size};
-ghost use Rattle.ans_c.specs.Numbers.{cause_number, class_of, note_number, IsSizeOf, TellsFault};
+ghost use Rattle.ans_model.specs.Text.FaultText.{cause_number, note_number};
+ghost use Rattle.ans_c.specs.Numbers.{class_of, IsSizeOf, TellsFault};
 
 use ans_model::fault::{Cause, Fault};
 use ans_model::note::Note;

@@ -12,12 +12,12 @@ use Rattle.ans_model.specs.Screen.State.{Size, sized}
 use Rattle.ans_model.specs.Verdict.Good.{Picture, GoodWith, IsGood}
 use Rattle.ans_model.specs.Verdict.FirstFault.{IsFirstFault}
 use Rattle.ans_model.specs.Verdict.LastFault.{IsLastFault}
-use Rattle.ans_model.specs.Screen.StartClass.{Covers, none_known, all_but_screen, all_but_cursor, all_but_saved}
+use Rattle.ans_model.specs.Screen.StartClass.{none_known, all_but_screen, all_but_cursor, all_but_saved}
 use Rattle.ans_model.specs.Screen.StartClass.{all_but_colours, all_but_wrap}
 use Rattle.ans_model.specs.Verdict.Needs.{IsLeast, IsFoundByParts}
 use Rattle.ans_model.specs.declared.fault.Fault.{Fault}
 use Rattle.ans_model.specs.declared.start.Start.{Start}
-use Rattle.ans_model.proofs.ClassLemmas.{covers_good}
+use Rattle.ans_model.proofs.ClassLemmas.{covers_good, none_known_covers}
 use Rattle.ans_model.proofs.OneAnswer.{good_or_first, good_or_last}
 use Rattle.ans_model.proofs.AcceptedFiles.{one_layout, no_fault}
 use Rattle.ans_sauce.specs.declared.parts.Parts.{Parts}
@@ -156,14 +156,5 @@ nothing_needed z content good = record {
   wrap = (λ e. without all_but_wrap, λ g. refl);
 }
   where
-    covers : (class : Start) → Covers none_known class
-    covers class = record {
-      screen = λ k. absurd (cc k);
-      cursor = λ k. absurd (cc k);
-      saved = λ k. absurd (cc k);
-      colours = λ k. absurd (cc k);
-      wrap = λ k. absurd (cc k);
-    }
-
     without : (class : Start) → IsGood z class content
-    without class = (good.0, covers_good z none_known class content good.0 (covers class) good.1)
+    without class = (good.0, covers_good z none_known class content good.0 (none_known_covers class) good.1)

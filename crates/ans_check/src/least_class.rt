@@ -14,7 +14,7 @@ use crate::screens::Screens;
 use ans_model::fault::{Cause, Fault};
 use ans_model::start::Start;
 use ans_sauce::Parts;
-use memchr::memmem;
+use memchr::arch::all::twoway::Finder;
 use std::alloc::AllocError;
 
 /// The class that a content needs, and its fault from all starts, where it needs anything.
@@ -38,12 +38,15 @@ pub(crate) struct Mended {
     pub(crate) fault: Option<Fault>,
 }
 
+/// `ESC[2J`
+const CLEAR: &[u8] = b"\x1b[2J";
+
 /// The parts that may be missing where a content has this fault, the likeliest first. They decide
 /// how many plays it takes to find the class, and not which class that is. Where the screen was
 /// cleared before, its cells are in the current colours, and the cursor was at home.
 fn likely_parts(content: &[u8], fault: Fault) -> &'static [Part] {
     let before = content.get(..fault.offset).unwrap_or(content);
-    let is_cleared = memmem::find(before, b"\x1b[2J").is_some();
+    let is_cleared = Finder::new(CLEAR).find(before, CLEAR).is_some();
     match (fault.cause, is_cleared) {
         (Cause::UnknownCell { .. }, false) => &[Part::Screen, Part::Colours],
         (Cause::UnknownCell { .. }, true) => &[Part::Colours, Part::Screen],

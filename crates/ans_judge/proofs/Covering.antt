@@ -6,14 +6,13 @@ use Rattle.ans_model.specs.declared.cell.Cell.{Cell}
 use Rattle.ans_model.specs.declared.cell.Position.{Position}
 use Rattle.ans_model.specs.Screen.State.{Size, IsSize, at, cell, cell_count}
 use Rattle.ans_model.specs.Screen.Step.{blank_cell}
-use Rattle.ans_model.specs.Screen.StartClass.{none_known, all_known, Covers, cleared, IsStart, low_start, high_start}
+use Rattle.ans_model.specs.Screen.StartClass.{Covers, cleared, IsStart, low_start, high_start}
 use Rattle.ans_model.specs.declared.start.Start.{Start}
 use Rattle.ans_model.proofs.ClassLemmas.{covers_starts}
 use Rattle.ans_model.proofs.PositionLemmas.{index-lt}
 use Rattle.ans_model.proofs.Slices.{slice_get-replicate}
 use Rattle.ans_model.proofs.StartLemmas.{low_is_start, high_is_start}
 use Rattle.ans_judge.specs.Starts.{HasStartsOf}
-use Rattle.ans_why.proofs.TallerScreens.{covered_by_all}
 
 -- a part that has its cleared value, and would else have another, is known
 known_by_value : {A : Type 0} (known : Bool) (x y : A) → (y ≡ x → ⊥) → (if known then x else y) ≡ x → IsTrue known
@@ -95,15 +94,3 @@ covers_both_ways a b h g =
     (same_truth a.screen b.screen h.screen g.screen) (same_truth a.cursor b.cursor h.cursor g.cursor)
     (same_truth a.saved b.saved h.saved g.saved) (same_truth a.colours b.colours h.colours g.colours)
     (same_truth a.wrap b.wrap h.wrap g.wrap)
-
-pub none_known_covers : (a : Start) → Covers none_known a
-none_known_covers a = record {
-  screen = λ k. absurd (cc k);
-  cursor = λ k. absurd (cc k);
-  saved = λ k. absurd (cc k);
-  colours = λ k. absurd (cc k);
-  wrap = λ k. absurd (cc k);
-}
-
-pub covers_all_known : (a : Start) → Covers a all_known
-covers_all_known = covered_by_all

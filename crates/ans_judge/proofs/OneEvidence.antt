@@ -46,15 +46,16 @@ module _ (z : Size) (class : Start) (content : List ℕ) where
   one_before : (fault : Fault) (p q : List TokenKind) → StandsBefore z class content fault p
       → StandsBefore z class content fault q → p ≡ q
   one_before fault p q h g =
-      let front : h.front ≡ g.front =
-      sym (front_is content h.front h.rest fault.offset h.whole h.offset)
-      ∙ front_is content g.front g.rest fault.offset g.whole g.offset in
+      let (r, s) = (h.read, g.read) in
+      let front : r.front ≡ s.front =
+      sym (front_is content r.front h.rest fault.offset r.whole r.offset_is)
+      ∙ front_is content s.front g.rest fault.offset s.whole s.offset_is in
       let rest : h.rest ≡ g.rest =
-      sym (rest_is content h.front h.rest fault.offset h.whole h.offset)
-      ∙ rest_is content g.front g.rest fault.offset g.whole g.offset in
+      sym (rest_is content r.front h.rest fault.offset r.whole r.offset_is)
+      ∙ rest_is content s.front g.rest fault.offset s.whole s.offset_is in
       let tokens : h.tokens ≡ g.tokens =
-      one_reading h.front h.tokens g.tokens h.reads
-      (subst (λ (v : List ℕ). Reads v g.tokens) (sym front) g.reads) in
+      one_reading r.front h.tokens g.tokens r.reads
+      (subst (λ (v : List ℕ). Reads v g.tokens) (sym front) s.reads) in
       one_played h.tokens (begins_with_tab h.rest) fault.cause p q h.before
       (subst₂ (λ (ts : List TokenKind) (v : List ℕ). IsPlayedBefore z class ts (begins_with_tab v) fault.cause q)
       (sym tokens) (sym rest) g.before)

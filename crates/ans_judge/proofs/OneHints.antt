@@ -1,8 +1,8 @@
 -- The hints of a content are one, and so is where they end in a refused one.
-use Rattle.std.proofs.Common.{◌≡◌, inl, inr, ℕ, ◌+◌, Bool, true, false, List, [], ◌∷◌, ◌++◌, length, take, refl, sym}
-use Rattle.std.proofs.Common.{ap, ◌∙◌, subst, Result, Err, codes}
-use Rattle.std.specs.Prelude.{◌&&◌, not, MatchResult, if◌then◌else◌, ⊤}
-use Rattle.std.specs.List.{AllZip, AllByRecursion, concat, list_any}
+use Rattle.std.proofs.Common.{◌≡◌, inl, inr, ℕ, ◌+◌, Bool, List, [], ◌∷◌, ◌++◌, length, take, refl, sym}
+use Rattle.std.proofs.Common.{ap, ◌∙◌, subst}
+use Rattle.std.specs.Prelude.{⊤}
+use Rattle.std.specs.List.{AllZip, concat}
 use Rattle.std.proofs.Math.Seq.{take-append-add, take-append_seam}
 use Rattle.std.proofs.lemmas.List.{append-nil}
 use Rattle.std.proofs.lemmas.List.Folds.{concat-append}
@@ -17,17 +17,14 @@ use Rattle.ans_model.specs.declared.start.Start.{Start}
 use Rattle.ans_model.specs.Screen.State.{Size, State, cell_at}
 use Rattle.ans_model.specs.Screen.StartClass.{all_known}
 use Rattle.ans_model.specs.Screen.Step.{final}
-use Rattle.ans_model.specs.Sequence.Meaning.{is_marked, is_quoted, move, place, only_if, Entry, table, is_one_of}
-use Rattle.ans_model.specs.Sequence.Meaning.{look_up, has_a_meaning, meaning}
 use Rattle.ans_model.specs.Sequence.Reads.{SpellsToken, Reads}
-use Rattle.ans_model.specs.Sequence.Spelling.{Member, Raw}
-use Rattle.ans_model.specs.Sequence.TokenKind.{TokenKind, Glyph, LineFeed, EraseLine, Tab, Place, Mode, Keys, Ask, Up}
-use Rattle.ans_model.specs.Sequence.TokenKind.{Down, Forward, Backward, Clear, Save, Restore}
+use Rattle.ans_model.specs.Sequence.TokenKind.{TokenKind, Glyph, LineFeed, EraseLine, Tab, Place, Mode, Keys, Ask}
 use Rattle.ans_model.specs.Verdict.FirstFault.{IsRefused, IsToBlame, IsFirstFault}
 use Rattle.ans_model.specs.Verdict.LastFault.{EndsInSequence, LeavesUnknown}
 use Rattle.ans_model.specs.Verdict.TokenFault.{HasStaticFault, HasPrintFault, HasFaultAfter, HasFault}
 use Rattle.ans_model.specs.Verdict.TokenFault.{then_blanks}
 use Rattle.ans_model.proofs.OneCause.{cleared_is_one}
+use Rattle.ans_model.proofs.Reading.{IsOfMeaning, means_well}
 use Rattle.ans_hints.specs.Hints.{AreHints}
 use Rattle.ans_hints.specs.declared.hints.Hints.{Hints}
 use Rattle.ans_explain.specs.Blamed.{AreToBlame}
@@ -37,76 +34,13 @@ use Rattle.ans_judge.proofs.OneBlamed.{front_is}
 -- ---- what the reading refuses is of the reading
 
 -- what is refused for its meaning is F13 or F14
-abbrev RefusesInReading : Result TokenKind Cause → Type 0
-RefusesInReading means = MatchResult means (λ t. ⊤) IsOfReading
-
-unknown_sequence : IsOfReading UnknownSequence
-unknown_sequence = inr (inr (inr (inr (inl refl))))
-
-wrong_parameters : IsOfReading WrongParameters
-wrong_parameters = inr (inr (inr (inr (inr refl))))
-
-err_or : (b : Bool) (c : Cause) (r : Result TokenKind Cause) → IsOfReading c → RefusesInReading r
-    → RefusesInReading (if b then Err c else r)
-err_or true c r h g = h
-err_or false c r h g = g
-
-of_only_if : (b : Bool) (t : TokenKind) → RefusesInReading (only_if b t)
-of_only_if true t = tt
-of_only_if false t = wrong_parameters
-
-of_move : (by : ℕ → TokenKind) (ms : List Member) → RefusesInReading (move by ms)
-of_move by [] = tt
-of_move by (m ∷ []) = tt
-of_move by (m ∷ n ∷ ms) = wrong_parameters
-
-of_place : (ms : List Member) → RefusesInReading (place ms)
-of_place [] = tt
-of_place (m ∷ []) = tt
-of_place (m ∷ n ∷ []) = tt
-of_place (m ∷ n ∷ o ∷ ms) = wrong_parameters
-
-of_look_up : (es : List Entry) (letter : ℕ) → AllByRecursion (λ e. RefusesInReading e.means) es
-    → RefusesInReading (look_up es letter)
-of_look_up [] letter h = unknown_sequence
-of_look_up (e ∷ es) letter h = here (is_one_of e.letters letter) h.0 (of_look_up es letter h.1)
-  where
-    here : (b : Bool) → RefusesInReading e.means → RefusesInReading (look_up es letter)
-        → RefusesInReading (if b then e.means else look_up es letter)
-    here true m more = m
-    here false m more = more
-
--- one more
-also : {A B : Type 0} → A → B → A × B
-also a b = (a, b)
-
-of_table : (raw : Raw) → AllByRecursion (λ e. RefusesInReading e.means) (table raw)
-of_table raw =
-    also (of_move Up raw.members)
-    (also (of_move Down raw.members)
-    (also (of_move Forward raw.members)
-    (also (of_move Backward raw.members)
-    (also (of_place raw.members)
-    (also (of_only_if _ Clear)
-    (also (of_only_if _ EraseLine)
-    (also (of_only_if _ Save)
-    (also (of_only_if _ Restore)
-    (also tt
-    (also tt
-    (also tt
-    (also tt
-    (also (of_only_if _ Ask) tt)))))))))))))
-
-of_meaning : (raw : Raw) → RefusesInReading (meaning raw)
-of_meaning raw =
-    err_or (not (has_a_meaning raw)) UnknownSequence _ unknown_sequence
-    (err_or (is_marked raw.mark && not (is_one_of (codes "hl") raw.letter)) UnknownSequence _ unknown_sequence
-    (err_or (list_any is_quoted raw.members && not (is_one_of (codes "p") raw.letter)) WrongParameters _
-    wrong_parameters
-    (of_look_up (table raw) raw.letter (of_table raw))))
+of_meaning : (cause : Cause) → IsOfMeaning cause → IsOfReading cause
+of_meaning UnknownSequence h = inr (inr (inr (inr (inl refl))))
+of_meaning WrongParameters h = inr (inr (inr (inr (inr refl))))
+of_meaning _ h = absurd h
 
 refused_in_reading : (text : List ℕ) (cause : Cause) → IsRefused text cause → IsOfReading cause
-refused_in_reading text cause (inl h) = rw h.means at (of_meaning h.raw)
+refused_in_reading text cause (inl h) = of_meaning cause (rw h.means at (means_well h.raw))
 refused_in_reading text cause (inr h) = elim h.why [
   | inl broken ↦ inl broken.1
   | inr others ↦ elim others [ inl large ↦ inr (inl large.2) | inr many ↦ inr (inr (inl many.2)) ]

@@ -6,7 +6,7 @@ use Rattle.std.proofs.lemmas.Bool.{ltb-true, and_parts}
 use Rattle.ans_model.specs.declared.note.Note.TheVariants.{WidthAssumed, NoEndMark, SizeDiffers, OddDate, FlagBits}
 use Rattle.ans_model.specs.declared.note.Note.TheVariants.{FlagPair}
 use Rattle.ans_model.specs.File.NoteConditions.{note_if, notes}
-use Rattle.ans_laws.specs.FileLaws.{note_number}
+use Rattle.ans_model.specs.Text.FaultText.{note_number}
 
 -- each number is less than the next
 abbrev rises : List ℕ → Bool

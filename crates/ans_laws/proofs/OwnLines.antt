@@ -22,7 +22,7 @@ use Rattle.ans_model.specs.declared.fault.Cause.TheVariants.{UnknownCell}
 use Rattle.ans_model.specs.declared.note.Note.{Note}
 use Rattle.ans_model.specs.declared.note.Note.TheVariants.{WidthAssumed, NoEndMark, SizeDiffers, OddDate, FlagBits}
 use Rattle.ans_model.specs.declared.note.Note.TheVariants.{FlagPair}
-use Rattle.ans_model.specs.Text.FaultText.{fault_text, position_text, fault_line, note_line}
+use Rattle.ans_model.specs.Text.FaultText.{cause_number, fault_text, position_text, fault_line, note_line}
 use Rattle.ans_laws.specs.LineLaws.{FitsTypes, PositionFitsTypes, IsUnknownCell}
 use Rattle.ans_model.proofs.OneAnswer.{same_fault}
 use Rattle.ans_model.proofs.Spelling.{tail_of, one_run_before_stop}
@@ -46,39 +46,13 @@ one_number_in_front m n c d x y hm hn hc hd e =
     (decimal_injective m n hm hn h.0, h.2)
 
 -- ---- causes
-abbrev fault_number : Cause → ℕ
-fault_number NoRecord = 1
-fault_number WrongVersion = 2
-fault_number WrongKind = 3
-fault_number CommentsMissing = 4
-fault_number LinesUnstated = 5
-fault_number WidthTooLarge = 6
-fault_number LinesTooLarge = 7
-fault_number BytesAfterEndMark = 8
-fault_number BrokenSequence = 9
-fault_number NumberTooLarge = 10
-fault_number TooManyParameters = 11
-fault_number EndInSequence = 12
-fault_number UnknownSequence = 13
-fault_number WrongParameters = 14
-fault_number KeyReassigned = 15
-fault_number ScreenMode = 16
-fault_number ReportAsked = 17
-fault_number OutsideScreen = 19
-fault_number PrintBelow = 20
-fault_number Scrolls = 21
-fault_number PrintUnknownPlace = 22
-fault_number EraseUnknownPlace = 23
-fault_number MayScroll = 24
-fault_number (UnknownCell row col) = 25
-
 -- the number that a text goes on with after n
 abbrev number_on : ℕ → List ℕ → ℕ
 number_on n [] = n
 number_on n (b ∷ bs) = if is_ascii_digit b then number_on (10 * n + (b - 0x30)) bs else n
 
 -- a fault's text begins with a letter and its number
-text_number : (c : Cause) (x : List ℕ) → number_on 0 (drop 1 (fault_text c ++ x)) ≡ fault_number c
+text_number : (c : Cause) (x : List ℕ) → number_on 0 (drop 1 (fault_text c ++ x)) ≡ cause_number c
 text_number (UnknownCell row col) x = refl
 text_number c x = refl
 
@@ -111,11 +85,11 @@ cause_of n =
 
 -- a cause is its number's, or an unknown cell
 record IsPlain (c : Cause) : Type 0 where
-  low : fault_number c < 25
-  same : cause_of (fault_number c) ≡ c
+  low : cause_number c < 25
+  same : cause_of (cause_number c) ≡ c
 
 -- a cause that its number gives back
-is_plain : (c : Cause) → fault_number c < 25 → cause_of (fault_number c) ≡ c → IsPlain c ⊎ IsUnknownCell c
+is_plain : (c : Cause) → cause_number c < 25 → cause_of (cause_number c) ≡ c → IsPlain c ⊎ IsUnknownCell c
 is_plain c l e = inl (record { low = l; same = e })
 
 -- each cause but that of an unknown cell is given back by its number
@@ -124,17 +98,17 @@ plain_or_unknown_cell (UnknownCell row col) = inr (row, col, refl)
 plain_or_unknown_cell c = is_plain c (omega arith) refl
 
 -- causes of one number are one, or both of unknown cells
-text_cases : (c d : Cause) → fault_number c ≡ fault_number d → IsPlain c ⊎ IsUnknownCell c
+text_cases : (c d : Cause) → cause_number c ≡ cause_number d → IsPlain c ⊎ IsUnknownCell c
     → IsPlain d ⊎ IsUnknownCell d → (c ≡ d) ⊎ (IsUnknownCell c × IsUnknownCell d)
 text_cases c d e (inl p) (inl q) = inl (sym p.same ∙ ap cause_of e ∙ q.same)
-text_cases c d e (inl p) (inr q) = absurd (omega (arith, p.low, e ∙ ap fault_number q.2))
-text_cases c d e (inr p) (inl q) = absurd (omega (arith, q.low, sym e ∙ ap fault_number p.2))
+text_cases c d e (inl p) (inr q) = absurd (omega (arith, p.low, e ∙ ap cause_number q.2))
+text_cases c d e (inr p) (inl q) = absurd (omega (arith, q.low, sym e ∙ ap cause_number p.2))
 text_cases c d e (inr p) (inr q) = inr (p, q)
 
 -- the text of a fault tells its cause
 pub text_tells_cause : (c d : Cause) → fault_text c ≡ fault_text d → (c ≡ d) ⊎ (IsUnknownCell c × IsUnknownCell d)
 text_tells_cause c d e =
-    let same : fault_number c ≡ fault_number d = sym (text_number c [])
+    let same : cause_number c ≡ cause_number d = sym (text_number c [])
     ∙ ap (λ (v : List ℕ). number_on 0 (drop 1 (v ++ []))) e ∙ text_number d [] in
     text_cases c d same (plain_or_unknown_cell c) (plain_or_unknown_cell d)
 
@@ -142,7 +116,7 @@ text_tells_cause c d e =
 abbrev whole_text : Cause → List ℕ
 whole_text c = fault_text c ++ position_text c
 
-same_number : (c d : Cause) → whole_text c ≡ whole_text d → fault_number c ≡ fault_number d
+same_number : (c d : Cause) → whole_text c ≡ whole_text d → cause_number c ≡ cause_number d
 same_number c d e = sym (text_number c (position_text c)) ∙ ap (λ (v : List ℕ). number_on 0 (drop 1 v)) e
     ∙ text_number d (position_text d)
 

@@ -6,7 +6,8 @@ ghost use Rattle.ans_model.specs.declared.fault.Fault.{Fault};
 ghost use Rattle.ans_model.specs.File.Layout.{FileParts, Laid};
 ghost use Rattle.ans_model.specs.File.Refusals.{Accepts, file_refusals, record_fault};
 ghost use Rattle.ans_model.specs.File.NoteConditions.{notes};
-ghost use Rattle.ans_laws.specs.FileLaws.{IsFirstThatApplies, note_number};
+ghost use Rattle.ans_model.specs.Text.FaultText.{note_number};
+ghost use Rattle.ans_laws.specs.FileLaws.{IsFirstThatApplies};
 
 /// A file is accepted exactly where no refusal applies to it, and is laid out in one way.
 pub fn accepted_or_refused()

@@ -6,12 +6,22 @@ use Rattle.ans_model.specs.Sequence.TokenKind.{TokenKind}
 use Rattle.ans_model.specs.Verdict.TokenFault.{then_blanks}
 use Rattle.ans_model.specs.Verdict.Good.{Picture, GoodWith, PrintsWell, PlaysWell}
 use Rattle.ans_model.specs.Screen.StartClass.{Covers, IsStart, all_but_screen, all_but_cursor, all_but_saved}
-use Rattle.ans_model.specs.Screen.StartClass.{all_but_colours, all_but_wrap}
+use Rattle.ans_model.specs.Screen.StartClass.{all_but_colours, all_but_wrap, all_known, none_known}
 use Rattle.ans_model.specs.declared.start.Start.{Start}
 
 -- a class covers itself
 pub covers_itself : (a : Start) → Covers a a
 covers_itself a = record { screen = λ k. k; cursor = λ k. k; saved = λ k. k; colours = λ k. k; wrap = λ k. k }
+
+-- the class of every start covers each class
+pub none_known_covers : (a : Start) → Covers none_known a
+none_known_covers a = record { screen = λ k. absurd (cc k); cursor = λ k. absurd (cc k); saved = λ k. absurd (cc k);
+  colours = λ k. absurd (cc k); wrap = λ k. absurd (cc k) }
+
+-- each class covers that of the cleared start alone
+pub covers_all_known : (a : Start) → Covers a all_known
+covers_all_known a = record { screen = λ k. refl; cursor = λ k. refl; saved = λ k. refl; colours = λ k. refl;
+  wrap = λ k. refl }
 
 -- the starts of a class are starts of each class that covers it
 pub covers_starts : (z : Size) (a b : Start) (s : State) → Covers a b → IsStart z b s → IsStart z a s

@@ -1,21 +1,47 @@
 -- Where tokens are clean, none prints or scrolls in the spare row, and each prints at one position.
 use Rattle.std.proofs.Common.{◌≡◌, inl, inr, ℕ, zero, suc, ◌%◌, ◌<◌, ap, ◌∙◌}
-use Rattle.std.proofs.Common.{arith, List, take, Some, subst, lit<}
+use Rattle.std.proofs.Common.{arith, List, [], ◌++◌, take, Some, subst, lit<, sym}
 use Rattle.std.proofs.lemmas.List.{append-nil}
 use Rattle.std.proofs.Math.Nat.{mod-lt}
 use Rattle.std.specs.Prelude.{slice_get}
 use Rattle.std.proofs.lemmas.Bool.{cases_eq, cases_lt}
 use Rattle.ans_model.specs.Sequence.TokenKind.{TokenKind, Glyph, LineFeed, Tab}
+use Rattle.ans_model.specs.Sequence.Reads.{IsReadUpTo}
 use Rattle.ans_model.specs.Screen.State.{Size}
 use Rattle.ans_model.specs.declared.cell.Position.{Position}
+use Rattle.ans_model.specs.declared.fault.Fault.{Fault}
 use Rattle.ans_model.specs.declared.fault.Cause.{Cause}
 use Rattle.ans_model.specs.declared.fault.Cause.TheVariants.{PrintBelow, Scrolls, PrintUnknownPlace, MayScroll}
 use Rattle.ans_model.specs.Screen.Step.{final, tab_blanks}
 use Rattle.ans_model.specs.declared.start.Start.{Start}
 use Rattle.ans_model.specs.Verdict.TokenFault.{FromEvery, SamePosition, PositionsDiffer, IsInSpareRow, HasFault}
 use Rattle.ans_model.specs.Verdict.TokenFault.{IsClean, HasPrintFault, HasTabFault, FromSome, then_blanks, TabGoesOn}
+use Rattle.ans_model.specs.Verdict.FirstFault.{IsFirstFault}
 use Rattle.ans_model.specs.Verdict.Good.{PrintsWell}
+use Rattle.ans_model.specs.Verdict.LastFault.{EndsInSequence, LeavesUnknown}
 use Rattle.ans_model.proofs.PositionLemmas.{position_eq}
+
+-- ---- what stands before a fault
+module _ (z : Size) (class : Start) (bytes : List ℕ) (fault : Fault) where
+  pub read_before_first : (h : IsFirstFault z class bytes fault)
+      → IsReadUpTo bytes fault.offset h.tokens (h.text ++ h.rest)
+  read_before_first h = record { front = h.front; whole = h.whole; offset_is = h.offset; reads = h.reads }
+
+  pub read_before_sequence : (h : EndsInSequence z class bytes fault) → IsReadUpTo bytes fault.offset h.tokens h.text
+  read_before_sequence h = record {
+    front = h.front;
+    whole = h.whole;
+    offset_is = ap (λ (f : Fault). f.offset) h.fault_is;
+    reads = h.reads;
+  }
+
+  pub read_to_the_end : (h : LeavesUnknown z class bytes fault) → IsReadUpTo bytes fault.offset h.tokens []
+  read_to_the_end h = record {
+    front = bytes;
+    whole = sym (append-nil bytes);
+    offset_is = ap (λ (f : Fault). f.offset) h.fault_is;
+    reads = h.reads;
+  }
 
 -- ---- printed bytes
 -- where a printed byte has no fault, it is printed well

@@ -27,7 +27,7 @@ use Rattle.ans_model.specs.Verdict.LastFault.{LeavesUnknown, IsLastFault}
 use Rattle.ans_model.specs.Verdict.Good.{Picture, Shows, PrintsWell, PlaysWell, GoodWith, IsGood}
 use Rattle.ans_model.proofs.Reading.{one_token_in_front, token_nonempty, refused_no_token, refused_nonempty}
 use Rattle.ans_model.proofs.Reading.{one_reading, nothing_not_unfinished}
-use Rattle.ans_model.proofs.Reading.{unfinished_no_token, means_well}
+use Rattle.ans_model.proofs.Reading.{unfinished_no_token, means_well, meaning_certain}
 use Rattle.ans_model.proofs.Refusing.{one_cause_of_refused, unfinished_not_refused}
 use Rattle.ans_model.proofs.PositionLemmas.{same_position}
 use Rattle.ans_model.proofs.OneCause.{one_cause, certain_cause, cleared_is_one}
@@ -355,7 +355,7 @@ why_certain text byte c (inr (inr h)) = rw h.2 tt
 
 -- what the reading refuses is certain
 pub refused_certain : (text : List ℕ) (c : Cause) → IsRefused text c → IsCertain c
-refused_certain text c (inl h) = rw h.means at (means_well h.raw)
+refused_certain text c (inl h) = meaning_certain c (rw h.means at (means_well h.raw))
 refused_certain text c (inr h) = why_certain text h.byte c h.why
 
 -- from the cleared start a first fault is certain

@@ -2,7 +2,7 @@
 use Rattle.std.proofs.Common.{◌≡◌, ◌≢◌, ◌⊎◌, inl, inr, ℕ, Bool, true, false, not, ◌&&◌, ◌==◌, All, Result, codes}
 use Rattle.std.proofs.Common.{List, [], ◌∷◌, ◌++◌, length, refl, ap, ap₂, sym, ◌∙◌, arith, append_assoc}
 use Rattle.std.proofs.Common.{length-append, Ok, Err}
-use Rattle.std.specs.Prelude.{MatchResult, if◌then◌else◌}
+use Rattle.std.specs.Prelude.{MatchResult, if◌then◌else◌, ⊤}
 use Rattle.std.proofs.lemmas.List.{append-nil}
 use Rattle.std.proofs.lemmas.List.Elements.{All-nil, All-cons}
 use Rattle.std.specs.List.{AllZip, AllByRecursion, concat, list_any}
@@ -208,12 +208,18 @@ byte_token_prints b h =
     (by_test (b == 0x0A) LineFeed _ tt
     (by_test (b == 0x0D) CarriageReturn (Glyph b) tt h))))
 
--- what a sequence means prints a byte if anything, and what it is refused for is certain
+-- the causes for which a sequence has no meaning
+abbrev pub IsOfMeaning : Cause → Type 0
+IsOfMeaning UnknownSequence = ⊤
+IsOfMeaning WrongParameters = ⊤
+IsOfMeaning _ = ⊥
+
+-- what a sequence means prints a byte if anything, and what it is refused for is its meaning
 abbrev pub MeansWell : Result TokenKind Cause → Type 0
-MeansWell means = MatchResult means PrintsByte IsCertain
+MeansWell means = MatchResult means PrintsByte IsOfMeaning
 
 -- a test that refuses keeps what is proved
-err_or : (b : Bool) (c : Cause) (r : Result TokenKind Cause) → IsCertain c → MeansWell r
+err_or : (b : Bool) (c : Cause) (r : Result TokenKind Cause) → IsOfMeaning c → MeansWell r
     → MeansWell (if b then Err c else r)
 err_or true c r g h = g
 err_or false c r g h = h
@@ -275,6 +281,12 @@ means_well raw =
     (err_or (is_marked raw.mark && not (is_one_of (codes "hl") raw.letter)) UnknownSequence _ tt
     (err_or (list_any is_quoted raw.members && not (is_one_of (codes "p") raw.letter)) WrongParameters _ tt
     (look_up_well (table raw) raw.letter (table_well raw))))
+
+-- what is refused for its meaning is certain
+pub meaning_certain : (c : Cause) → IsOfMeaning c → IsCertain c
+meaning_certain UnknownSequence h = tt
+meaning_certain WrongParameters h = tt
+meaning_certain _ h = absurd h
 
 -- what a token prints is a byte
 pub token_prints : (t : TokenKind) (text : List ℕ) → SpellsToken t text → PrintsByte t

@@ -4,7 +4,7 @@ use Rattle.std.proofs.Common.{List, [], ◌∷◌, ◌++◌, length, take, get_o
 use Rattle.std.proofs.Common.{arith, subst}
 use Rattle.std.specs.Prelude.{slice_get}
 use Rattle.std.proofs.lemmas.Bool.{cases_eq}
-use Rattle.std.proofs.lemmas.List.{append-nil, take_more, take_all}
+use Rattle.std.proofs.lemmas.List.{take_more, take_all}
 use Rattle.std.proofs.lemmas.List.Elements.{All-get_or}
 use Rattle.std.proofs.lemmas.Option.{slice_get-get_or}
 use Rattle.ans_model.specs.Sequence.TokenKind.{TokenKind, PrintsByte, Glyph, LineFeed, EraseLine, Bell, Tab}
@@ -30,6 +30,7 @@ use Rattle.ans_model.proofs.OneCause.{static_is_certain}
 use Rattle.ans_model.proofs.OneAnswer.{refused_certain}
 use Rattle.ans_model.proofs.PositionLemmas.{index-lt_stated}
 use Rattle.ans_model.proofs.Reading.{reads_bytes}
+use Rattle.ans_model.proofs.CleanLemmas.{read_before_first, read_before_sequence, read_to_the_end}
 use Rattle.ans_screen.specs.HalfCells.{is_known}
 use Rattle.ans_screen.specs.declared.cell.HalfCell.{HalfCell}
 use Rattle.ans_play.specs.Between.{IsBetween}
@@ -297,35 +298,26 @@ module _ (z : Size) (class : Start) (bytes : List ℕ) (fault : Fault) where
   -- of the first fault the two plays show the cause
   pub first_shown : IsFirstFault z class bytes fault → IsShownByTwoStarts z class bytes fault
   first_shown h = record {
-    front = h.front;
-    rest = h.text ++ h.rest;
-    whole = h.whole;
-    offset = h.offset;
     tokens = h.tokens;
-    reads = h.reads;
+    rest = h.text ++ h.rest;
+    before = read_before_first z class bytes fault h;
     shown = blame_shown h h.faulty;
   }
 
   -- and of the last
   pub last_shown : IsLastFault z class bytes fault → IsShownByTwoStarts z class bytes fault
   last_shown (inl h) = record {
-    front = h.front;
-    rest = h.text;
-    whole = h.whole;
-    offset = ap (λ (f : Fault). f.offset) h.fault_is;
     tokens = h.tokens;
-    reads = h.reads;
+    rest = h.text;
+    before = read_before_sequence z class bytes fault h;
     shown = rw h.fault_is tt;
   }
   last_shown (inr h) =
       let known = known_after_clean z class h.size.some_columns h.tokens (reads_bytes bytes h.tokens h.reads) h.clean in
       record {
-        front = bytes;
-        rest = [];
-        whole = sym (append-nil bytes);
-        offset = ap (λ (f : Fault). f.offset) h.fault_is;
         tokens = h.tokens;
-        reads = h.reads;
+        rest = [];
+        before = read_to_the_end z class bytes fault h;
         shown = rw h.fault_is
             (first_difference z class h.tokens h.size.some_columns known.0 known.1 h.position h.first);
       }

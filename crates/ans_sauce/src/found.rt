@@ -9,7 +9,7 @@ ghost use Rattle.ans_sauce.specs.Found.{IsFound, IsLastRecord, after_end_mark};
 use crate::layout::{block_size, cut_content, cut_record};
 use crate::record::Record;
 use ans_model::fault::{Cause, Fault};
-use memchr::memmem;
+use memchr::arch::all::twoway::FinderRev;
 
 /// What stands in a file where its record or its layout is refused: the field's value, and for F1 and
 /// F8 whether a record of version 00 stands where it does not count.
@@ -34,12 +34,15 @@ pub enum Found<'a> {
     AfterEndMark { count: usize, record: bool },
 }
 
+/// How a record of version 00 begins.
+const IDENTIFIER: &[u8] = b"SAUCE00";
+
 /// The last place at which `SAUCE00` and 121 more bytes stand.
 fn last_record_place(bytes: &[u8]) -> Option<usize>
     ensures { IsLastRecord bytes.now result }
 {
     let end = bytes.len().checked_sub(121)?;
-    memmem::rfind(&bytes[..end], b"SAUCE00")
+    FinderRev::new(IDENTIFIER).rfind(&bytes[..end], IDENTIFIER)
 }
 
 /// F1

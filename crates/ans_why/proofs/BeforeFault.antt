@@ -1,16 +1,17 @@
 -- What stands before a fault that is deserved: clean tokens, and a tab's fault where the rest begins with a tab.
-use Rattle.std.proofs.Common.{◌≡◌, ◌⊎◌, inl, inr, ℕ, Bool, true, false, List, [], ◌∷◌, ◌++◌, length, refl, sym, ap}
+use Rattle.std.proofs.Common.{◌≡◌, ◌⊎◌, inl, inr, ℕ, Bool, true, false, List, [], ◌∷◌, ◌++◌, refl, sym, ap}
 use Rattle.std.proofs.Common.{arith, subst, lit<}
 use Rattle.std.proofs.lemmas.Bool.{eqb-true}
 use Rattle.std.proofs.lemmas.List.{append-nil}
 use Rattle.ans_model.specs.Sequence.TokenKind.{TokenKind, Tab}
-use Rattle.ans_model.specs.Sequence.Reads.{SpellsToken, Reads}
+use Rattle.ans_model.specs.Sequence.Reads.{IsReadUpTo, SpellsToken}
 use Rattle.ans_model.specs.Screen.State.{Size, IsSize}
 use Rattle.ans_model.specs.declared.cell.Position.{Position}
 use Rattle.ans_model.specs.declared.fault.Fault.{Fault}
 use Rattle.ans_model.specs.declared.start.Start.{Start}
 use Rattle.ans_model.specs.Verdict.TokenFault.{HasFault, HasTabFault, IsClean, then_blanks}
 use Rattle.ans_model.specs.Verdict.FirstFault.{IsToBlame, IsRefused}
+use Rattle.ans_model.proofs.CleanLemmas.{read_before_first, read_before_sequence, read_to_the_end}
 use Rattle.ans_model.proofs.Reading.{one_token_in_front, refused_no_token, unfinished_first}
 use Rattle.ans_model.proofs.Spelling.{first_or}
 use Rattle.ans_why.specs.Watched.{AreWatched}
@@ -21,12 +22,9 @@ use Rattle.ans_why.specs.declared.two_watches.TwoWatches.{TwoWatches}
 -- the content before the fault is read as clean tokens
 pub record IsBefore (z : Size) (class : Start) (content : List ℕ) (fault : Fault) : Type 0 where
   pub size : IsSize z
-  pub front : List ℕ
-  pub rest : List ℕ
-  pub whole : content ≡ front ++ rest
-  pub offset : fault.offset ≡ length front
   pub tokens : List TokenKind
-  pub reads : Reads front tokens
+  pub rest : List ℕ
+  pub read : IsReadUpTo content fault.offset tokens rest
   pub clean : IsClean z class tokens
   pub tab : begins_with_tab rest ≡ true → HasTabFault z class tokens fault.cause
 
@@ -65,23 +63,17 @@ module _ (z : Size) (class : Start) (content : List ℕ) (fault : Fault) where
   pub stands_before : IsDeserved z class content fault → IsBefore z class content fault
   stands_before (inl h) = record {
     size = h.size;
-    front = h.front;
-    rest = h.text ++ h.rest;
-    whole = h.whole;
-    offset = h.offset;
     tokens = h.tokens;
-    reads = h.reads;
+    rest = h.text ++ h.rest;
+    read = read_before_first z class content fault h;
     clean = h.clean;
     tab = tab_blamed h.tokens h.text h.rest h.faulty;
   }
   stands_before (inr (inl h)) = record {
     size = h.size;
-    front = h.front;
-    rest = h.text;
-    whole = h.whole;
-    offset = ap (λ (f : Fault). f.offset) h.fault_is;
     tokens = h.tokens;
-    reads = h.reads;
+    rest = h.text;
+    read = read_before_sequence z class content fault h;
     clean = h.clean;
     tab = λ e.
         let (more, first) = tab_first h.text e in
@@ -91,12 +83,9 @@ module _ (z : Size) (class : Start) (content : List ℕ) (fault : Fault) where
   }
   stands_before (inr (inr h)) = record {
     size = h.size;
-    front = content;
-    rest = [];
-    whole = sym (append-nil content);
-    offset = ap (λ (f : Fault). f.offset) h.fault_is;
     tokens = h.tokens;
-    reads = h.reads;
+    rest = [];
+    read = read_to_the_end z class content fault h;
     clean = h.clean;
     tab = λ e. absurd (cc);
   }
@@ -110,15 +99,7 @@ module _ (z : Size) (class : Start) (content : List ℕ) (fault : Fault) (b : Is
       → ShowsCursors z class content fault w.low.pen.cursor w.high.pen.cursor
   shows_after played before watches = record {
     played = played;
-    stands = record {
-      front = b.front;
-      rest = b.rest;
-      whole = b.whole;
-      offset = b.offset;
-      tokens = b.tokens;
-      reads = b.reads;
-      before = before;
-    };
+    stands = record { tokens = b.tokens; rest = b.rest; read = b.read; before = before };
     low_is = ap (λ (v : Watch). v.pen.cursor) watches.low;
     high_is = ap (λ (v : Watch). v.pen.cursor) watches.high;
   }

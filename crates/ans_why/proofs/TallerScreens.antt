@@ -22,7 +22,7 @@ use Rattle.ans_model.specs.Screen.StartClass.{Covers, IsStart, all_known}
 use Rattle.ans_model.specs.Verdict.Good.{PlaysWell, PrintsWell}
 use Rattle.ans_model.specs.Verdict.TokenFault.{FromSome, HasStaticFault, IsInSpareRow, SamePosition, TabGoesOn}
 use Rattle.ans_model.specs.Verdict.TokenFault.{then_blanks}
-use Rattle.ans_model.proofs.ClassLemmas.{covers_itself}
+use Rattle.ans_model.proofs.ClassLemmas.{covers_all_known, covers_itself}
 use Rattle.ans_model.proofs.PositionLemmas.{index-lt_stated}
 use Rattle.ans_model.proofs.Reading.{one_reading}
 use Rattle.ans_model.proofs.Slices.{slice_get-take}
@@ -31,16 +31,6 @@ use Rattle.ans_model.proofs.WellFormed.{fits_after_tokens}
 use Rattle.ans_why.specs.Taller.{MovesFreely, TallerShowsTheSame}
 use Rattle.ans_why.proofs.TallerSteps.{tall, AreAlike, AreAlikeStates, IsRoomFor, alike_blanks, alike_step}
 use Rattle.ans_why.proofs.TallerSteps.{one_where_same_row}
-
--- all that is known covers each class
-pub covered_by_all : (class : Start) → Covers class all_known
-covered_by_all class = record {
-  screen = λ k. refl;
-  cursor = λ k. refl;
-  saved = λ k. refl;
-  colours = λ k. refl;
-  wrap = λ k. refl;
-}
 
 -- ---- the starts that a start of a taller screen is compared with
 module _ (z : Size) where
@@ -142,7 +132,7 @@ module _ (z : Size) (size : IsSize z) (lines : ℕ) (taller : z.lines ≤ lines)
   -- ---- the plays
   module _ (tokens : List TokenKind) (plays : PlaysWell z class tokens) (free : MovesFreely z class tokens) where
     middle_is_start : (t : State) → IsStart large class t → IsStart z class (middle_of t)
-    middle_is_start t h = in_row_is_start all_known 0 t (omega arith) (covered_by_all class) h
+    middle_is_start t h = in_row_is_start all_known 0 t (omega arith) (covers_all_known class) h
 
     low_is_one : (t : State) → IsStart large class t → IsStart z class (low_of t)
     low_is_one t h = in_row_is_start class 0 t (omega arith) (covers_itself class) h

@@ -1,9 +1,9 @@
 -- What the plays from the low and the high start show of a fault: where their cursors stand before its token, and the
 -- cell in which they differ.
-use Rattle.std.specs.Prelude.{◌≡◌, ◌⊎◌, ℕ, ◌+◌, Bool, true, false, ◌==◌, List, [], ◌∷◌, ◌++◌, length, Option}
+use Rattle.std.specs.Prelude.{◌≡◌, ◌⊎◌, ℕ, ◌+◌, Bool, true, false, ◌==◌, List, [], ◌∷◌, Option}
 use Rattle.std.specs.Prelude.{None, Some, ⊤}
 use Rattle.ans_model.specs.Sequence.TokenKind.{TokenKind}
-use Rattle.ans_model.specs.Sequence.Reads.{Reads}
+use Rattle.ans_model.specs.Sequence.Reads.{IsReadUpTo, Reads}
 use Rattle.ans_model.specs.Screen.State.{Size, cell_at}
 use Rattle.ans_model.specs.declared.cell.Cell.{Cell}
 use Rattle.ans_model.specs.declared.cell.Position.{Position}
@@ -34,12 +34,9 @@ IsPlayedBefore z class tokens true cause played =
 -- the bytes before the fault's offset are read as tokens, and these are played before it
 pub record StandsBefore (z : Size) (class : Start) (content : List ℕ) (fault : Fault)
     (played : List TokenKind) : Type 0 where
-  pub front : List ℕ
-  pub rest : List ℕ
-  pub whole : content ≡ front ++ rest
-  pub offset : fault.offset ≡ length front
   pub tokens : List TokenKind
-  pub reads : Reads front tokens
+  pub rest : List ℕ
+  pub read : IsReadUpTo content fault.offset tokens rest
   pub before : IsPlayedBefore z class tokens (begins_with_tab rest) fault.cause played
 
 -- before the fault the cursors of the two plays stand at these positions

@@ -1,11 +1,12 @@
 //! A reader or writer that counts its calls and remembers whether one failed.
-ghost use Rattle.std.specs.Prelude.{◌≡◌, ◌+◌, ◌-◌, ◌^◌, ◌<◌, ◌≤◌, ◌↔◌, false, min, length, IsTrue};
-ghost use Rattle.std.specs.Prelude.{IsErr, IfOk, MatchResult};
+ghost use Rattle.std.specs.Prelude.{◌≡◌, ◌+◌, ◌-◌, ◌<◌, ◌≤◌, ◌↔◌, false, min, length, IsTrue};
+ghost use Rattle.std.specs.Prelude.{IsErr, IfOk};
 ghost use Rattle.std.specs.Io.{ReadsAtMost};
 ghost use Rattle.std.specs.Io.KnownBytes.{Keeps, ReadConsumes, WriteAppends};
 ghost use Rattle.ans_write.specs.Tried.{has_failed, call_count, inner_of};
 
 use std::io::{Read, Write};
+use std::mem;
 
 /// A reader or writer, whether it has failed, and how many calls of it were made.
 #[derive(Debug, Drop)]
@@ -108,7 +109,9 @@ impl<W: Write> Tried<W> {
         self.calls = self.calls.saturating_add(1);
         match self.inner.write(bytes) {
             Ok(n) if n > 0 => Ok(n),
-            _ => {
+            // not freed, so that a device in memory needs no heap; a device fails once at most
+            failure => {
+                mem::forget(failure);
                 self.failed = true;
                 Err(DeviceFault)
             }

@@ -1,5 +1,5 @@
 -- The tokens that bytes are read as.
-use Rattle.std.specs.Prelude.{◌≡◌, ◌≢◌, ◌⊎◌, ℕ, ◌==◌, List, [], ◌∷◌, Ok, if◌then◌else◌}
+use Rattle.std.specs.Prelude.{◌≡◌, ◌≢◌, ◌⊎◌, ℕ, ◌==◌, List, [], ◌∷◌, ◌++◌, length, Ok, if◌then◌else◌}
 use Rattle.std.specs.List.{AllZip, concat}
 use Rattle.ans_model.specs.Bytes.{IsByte, escape}
 use Rattle.ans_model.specs.Sequence.TokenKind.{TokenKind, Glyph, Bell, BackSpace, Tab, LineFeed, CarriageReturn}
@@ -42,3 +42,10 @@ pub record ReadsAs (bytes : List ℕ) (tokens : List TokenKind) (texts : List (L
 -- The bytes are read as these tokens.
 abbrev pub Reads : List ℕ → List TokenKind → Type 0
 Reads bytes tokens = (texts : List (List ℕ)) × ReadsAs bytes tokens texts
+
+-- the bytes before an offset are read as these tokens, and this is the rest
+pub record IsReadUpTo (bytes : List ℕ) (offset : ℕ) (tokens : List TokenKind) (rest : List ℕ) : Type 0 where
+  pub front : List ℕ
+  pub whole : bytes ≡ front ++ rest
+  pub offset_is : offset ≡ length front
+  pub reads : Reads front tokens

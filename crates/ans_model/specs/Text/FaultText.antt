@@ -45,6 +45,33 @@ fault_text EraseUnknownPlace = codes "F23 erase at an unknown place"
 fault_text MayScroll = codes "F24 may scroll"
 fault_text (UnknownCell row col) = codes "F25 cell stays unknown"
 
+-- the number of a cause: n for the fault Fn
+abbrev pub cause_number : Cause → ℕ
+cause_number NoRecord = 1
+cause_number WrongVersion = 2
+cause_number WrongKind = 3
+cause_number CommentsMissing = 4
+cause_number LinesUnstated = 5
+cause_number WidthTooLarge = 6
+cause_number LinesTooLarge = 7
+cause_number BytesAfterEndMark = 8
+cause_number BrokenSequence = 9
+cause_number NumberTooLarge = 10
+cause_number TooManyParameters = 11
+cause_number EndInSequence = 12
+cause_number UnknownSequence = 13
+cause_number WrongParameters = 14
+cause_number KeyReassigned = 15
+cause_number ScreenMode = 16
+cause_number ReportAsked = 17
+cause_number OutsideScreen = 19
+cause_number PrintBelow = 20
+cause_number Scrolls = 21
+cause_number PrintUnknownPlace = 22
+cause_number EraseUnknownPlace = 23
+cause_number MayScroll = 24
+cause_number (UnknownCell row col) = 25
+
 -- the position of an unknown cell, row and column counted from 1
 abbrev pub position_text : Cause → List ℕ
 position_text (UnknownCell row column) =
@@ -65,6 +92,15 @@ note_text SizeDiffers = codes "file size differs from the content"
 note_text OddDate = codes "date is not eight digits"
 note_text FlagBits = codes "flag bits 5 to 7 are not zero"
 note_text FlagPair = codes "a flag pair is 11"
+
+-- the number of a note: n for Nn
+abbrev pub note_number : Note → ℕ
+note_number WidthAssumed = 1
+note_number NoEndMark = 2
+note_number SizeDiffers = 3
+note_number OddDate = 4
+note_number FlagBits = 5
+note_number FlagPair = 6
 
 -- the line of a note
 abbrev pub note_line : Note → List ℕ

@@ -1,12 +1,12 @@
 -- What the plays from the low and the high start show of a fault that comes of starts that differ.
-use Rattle.std.specs.Prelude.{◌≡◌, ◌≢◌, ◌⊎◌, ℕ, ◌+◌, List, ◌++◌, length, ⊤}
+use Rattle.std.specs.Prelude.{◌≡◌, ◌≢◌, ◌⊎◌, ℕ, ◌+◌, List, ◌++◌, ⊤}
 use Rattle.ans_model.specs.Sequence.TokenKind.{TokenKind, Tab}
 use Rattle.ans_model.specs.declared.fault.Fault.{Fault}
 use Rattle.ans_model.specs.declared.fault.Cause.{Cause}
 use Rattle.ans_model.specs.declared.fault.Cause.TheVariants.{PrintUnknownPlace, EraseUnknownPlace, MayScroll}
 use Rattle.ans_model.specs.declared.fault.Cause.TheVariants.{UnknownCell}
 use Rattle.ans_model.specs.declared.cell.Position.{Position}
-use Rattle.ans_model.specs.Sequence.Reads.{SpellsToken, Reads}
+use Rattle.ans_model.specs.Sequence.Reads.{SpellsToken, IsReadUpTo}
 use Rattle.ans_model.specs.Screen.State.{Size, State, IsStated, cell_at}
 use Rattle.ans_model.specs.Screen.Step.{final}
 use Rattle.ans_model.specs.Screen.StartClass.{low_start, high_start}
@@ -64,10 +64,7 @@ TwoStartsShow z class tokens rest _ = ⊤
 
 -- the bytes up to the fault's offset are read as tokens, after which the two plays show its cause
 pub record IsShownByTwoStarts (z : Size) (class : Start) (bytes : List ℕ) (fault : Fault) : Type 0 where
-  pub front : List ℕ
-  pub rest : List ℕ
-  pub whole : bytes ≡ front ++ rest
-  pub offset : fault.offset ≡ length front
   pub tokens : List TokenKind
-  pub reads : Reads front tokens
+  pub rest : List ℕ
+  pub before : IsReadUpTo bytes fault.offset tokens rest
   pub shown : TwoStartsShow z class tokens rest fault.cause

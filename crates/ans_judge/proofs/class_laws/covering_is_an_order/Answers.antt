@@ -1,4 +1,4 @@
-use Rattle.ans_model.proofs.ClassLemmas.{covers_itself}
+use Rattle.ans_model.proofs.ClassLemmas.{covers_all_known, covers_itself, none_known_covers}
 use Rattle.ans_judge.proofs.Covering as covering
 use Rattle.ans_judge.proofs.class_laws.covering_is_an_order.Goals as goal
 
@@ -12,7 +12,7 @@ pub returns-clause-antisymmetric : goal.returns-clause-antisymmetric
 returns-clause-antisymmetric c = covering.covers_both_ways
 
 pub returns-clause-first : goal.returns-clause-first
-returns-clause-first c = covering.none_known_covers
+returns-clause-first c = none_known_covers
 
 pub returns-clause-last : goal.returns-clause-last
-returns-clause-last c = covering.covers_all_known
+returns-clause-last c = covers_all_known
