@@ -6,7 +6,7 @@ use Rattle.std.specs.List.{AllByRecursion}
 use Rattle.std.proofs.lemmas.List.{length-take}
 use Rattle.ans_model.specs.Bytes.{longest_file}
 use Rattle.ans_model.specs.File.Layout.{FileParts, content}
-use Rattle.ans_model.specs.File.Refusals.{Accepts, Refusal, fault_at, first_refusal, file_refusals, record_fault}
+use Rattle.ans_model.specs.File.Refusals.{Refusal, fault_at, first_refusal, file_refusals, record_fault}
 use Rattle.ans_model.specs.Verdict.Certain.{IsCertain}
 use Rattle.ans_model.specs.Screen.State.{Size, sized}
 use Rattle.ans_model.specs.Verdict.Good.{Picture, GoodWith, IsGood}
@@ -56,13 +56,6 @@ so_of_file file parts s P h =
     subst (λ (v : Size). P v (content s.apart.body)) (ap₂ sized s.shows.width s.shows.lines)
     (subst (P (parts_size parts)) s.shows.content h)
 
--- a file that is split is accepted so, and what is found of its parts' content is found of it
-found_of_file : (file : List ℕ) (parts : Parts) (s : IsSplit file parts) (P : Size → List ℕ → Type 0)
-    (Found : FileParts → Type 0)
-    → (Accepts file s.apart → P (stated_size s.apart) (content s.apart.body) → Found s.apart)
-    → P (parts_size parts) (content_of parts) → (apart : FileParts) × ShowsParts apart parts × Found apart
-found_of_file file parts s P Found found h = (s.apart, s.shows, found s.accepts (so_of_file file parts s P h))
-
 -- a content is no longer than its file
 pub content_no_longer : (file : List ℕ) (parts : Parts) → IsSplit file parts → length (content_of parts) ≤ length file
 content_no_longer file parts h =
@@ -75,29 +68,26 @@ pub content_within : (file : List ℕ) (parts : Parts) → IsSplit file parts �
     → length (content_of parts) ≤ longest_file
 content_within file parts h within = omega (arith, within, content_no_longer file parts h)
 
--- where the parts' content is good, the file passes
-pub passes : (file : List ℕ) (start : Start) (parts : Parts) (p : Picture) → IsSplit file parts
-    → GoodWith (parts_size parts) start (content_of parts) p
-    → (apart : FileParts) × ShowsParts apart parts × Passes file start apart p
-passes file start parts p s =
-    found_of_file file parts s (λ z bytes. GoodWith z start bytes p) (λ apart. Passes file start apart p)
-    (λ accepts good. record { accepts = accepts; good = good })
+-- ---- what is found of the parts' content is found of the file
+module _ (file : List ℕ) (start : Start) (parts : Parts) (s : IsSplit file parts) where
+  pub passes : (p : Picture) → GoodWith (parts_size parts) start (content_of parts) p
+      → (apart : FileParts) × ShowsParts apart parts × Passes file start apart p
+  passes p h =
+      let good = so_of_file file parts s (λ z bytes. GoodWith z start bytes p) h in
+      (s.apart, s.shows, record { accepts = s.accepts; good = good })
 
--- where it deserves a fault, the file is refused for it
-pub refuses : (file : List ℕ) (start : Start) (parts : Parts) (f : Fault) → IsSplit file parts
-    → Deserves (parts_size parts) start (content_of parts) f
-    → (apart : FileParts) × ShowsParts apart parts × IsRefusedFor file start apart f
-refuses file start parts f s =
-    found_of_file file parts s (λ z bytes. Deserves z start bytes f) (λ apart. IsRefusedFor file start apart f)
-    (λ accepts deserved. record { accepts = accepts; deserved = deserved })
+  pub refuses : (f : Fault) → Deserves (parts_size parts) start (content_of parts) f
+      → (apart : FileParts) × ShowsParts apart parts × IsRefusedFor file start apart f
+  refuses f h =
+      (s.apart, s.shows,
+      record { accepts = s.accepts; deserved = so_of_file file parts s (λ z bytes. Deserves z start bytes f) h })
 
--- where a class is least for it, it is so for the file's
-pub needs_class : (file : List ℕ) (parts : Parts) (class : Start) → IsSplit file parts
-    → IsLeast (parts_size parts) (content_of parts) class
-    → (apart : FileParts) × ShowsParts apart parts × NeedsClass file apart class
-needs_class file parts class s =
-    found_of_file file parts s (λ z bytes. IsLeast z bytes class) (λ apart. NeedsClass file apart class)
-    (λ accepts least. record { accepts = accepts; least = least })
+  pub needs_class : IsLeast (parts_size parts) (content_of parts) start
+      → (apart : FileParts) × ShowsParts apart parts × NeedsClass file apart start
+  needs_class h = (s.apart, s.shows, record {
+    accepts = s.accepts;
+    least = so_of_file file parts s (λ z bytes. IsLeast z bytes start) h;
+  })
 
 -- a good content deserves no fault
 pub not_good : (z : Size) (start : Start) (bytes : List ℕ) (f : Fault) → Deserves z start bytes f

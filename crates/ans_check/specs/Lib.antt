@@ -6,6 +6,7 @@ pub mod ScreenRoom
 pub mod LentScreen
 pub mod StartParts
 pub mod FileNeeds
+pub mod FilePlayed
 pub mod CommandText
 pub mod Reported
 pub mod Served

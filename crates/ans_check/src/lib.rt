@@ -23,6 +23,7 @@ mod listing;
 mod part;
 mod parts_needed;
 mod pipeline;
+mod played;
 mod reading;
 mod rows;
 mod screens;

@@ -32,27 +32,14 @@ impl Part {
     pub(crate) fn made_known(self, known: bool, class: Start) -> Start
         ensures { result ≡ with_part self known class }
     {
+        let mut made = class;
         match self {
-            Part::Screen => Start {
-                screen: known,
-                ..class
-            },
-            Part::Cursor => Start {
-                cursor: known,
-                ..class
-            },
-            Part::Saved => Start {
-                saved: known,
-                ..class
-            },
-            Part::Colours => Start {
-                colours: known,
-                ..class
-            },
-            Part::Wrap => Start {
-                wrap: known,
-                ..class
-            },
+            Part::Screen => made.screen = known,
+            Part::Cursor => made.cursor = known,
+            Part::Saved => made.saved = known,
+            Part::Colours => made.colours = known,
+            Part::Wrap => made.wrap = known,
         }
+        made
     }
 }

@@ -7,11 +7,9 @@ ghost use Rattle.ans_check.specs.FileNeeds.{IsNeedsOf, needs_fault};
 ghost use Rattle.ans_check.specs.FileVerdict.{IsGoodFile};
 ghost use Rattle.ans_check.specs.ScreenRoom.{AnswersWithin};
 
-use crate::least_class::least_class;
+use crate::played::{Played, play_file};
 use crate::screens::{NewScreens, Screens};
-use ans_model::start::Start;
 use ans_report::Needs;
-use ans_sauce::split;
 use ans_screen::Grid;
 use std::alloc::{AllocError, Global};
 
@@ -41,13 +39,9 @@ pub fn needs_on<'a, S: Screens>(screens: &mut S, file: &'a [u8]) -> Result<Needs
     ensures memory { IsSome (record_fault file.now) → IsOk result }
     ensures room { AnswersWithin S.has_room S.may_lack file.now screens.old result }
 {
-    let parts = match split(file) {
-        Ok(parts) => parts,
-        Err(fault) => return Ok(Needs::Refused(None, fault)),
-    };
-    if let Some(fault) = screens.fault_from(&parts, Start::CLEARED)? {
-        return Ok(Needs::Refused(Some(parts), fault));
-    }
-    let least = least_class(screens, &parts)?;
-    Ok(Needs::Least(parts, least.class))
+    Ok(match play_file(screens, file)? {
+        Played::NoContent(fault) => Needs::Refused(None, fault),
+        Played::Refused(parts, fault) => Needs::Refused(Some(parts), fault),
+        Played::Passes(parts, least) => Needs::Least(parts, least.class),
+    })
 }

@@ -5,11 +5,9 @@ ghost use Rattle.ans_model.specs.File.Refusals.{record_fault};
 ghost use Rattle.ans_explain.specs.Explained.{IsTrueOf};
 ghost use Rattle.ans_check.specs.ScreenRoom.{AnswersWithin};
 
-use crate::least_class::least_class;
+use crate::played::{Played, play_file};
 use crate::screens::Screens;
 use ans_explain::Why;
-use ans_model::start::Start;
-use ans_sauce::split;
 use std::alloc::AllocError;
 
 /// Finds what there is to say of a file of at most 16,777,216 bytes: why it is refused, or what it
@@ -22,13 +20,11 @@ pub fn why_on<'a, S: Screens>(screens: &mut S, file: &'a [u8]) -> Result<Why<'a>
     ensures memory { IsSome (record_fault file.now) → IsOk result }
     ensures room { AnswersWithin S.has_room S.may_lack file.now screens.old result }
 {
-    let parts = match split(file) {
-        Ok(parts) => parts,
-        Err(fault) => return Ok(Why::of_record(file, fault)),
-    };
-    if let Some(fault) = screens.fault_from(&parts, Start::CLEARED)? {
-        return Ok(Why::of_refusal(parts, fault));
-    }
-    let least = least_class(screens, &parts)?;
-    Ok(Why::of_pass(parts, file.len(), least.class, least.fault))
+    Ok(match play_file(screens, file)? {
+        Played::NoContent(fault) => Why::of_record(file, fault),
+        Played::Refused(parts, fault) => Why::of_refusal(parts, fault),
+        Played::Passes(parts, least) => {
+            Why::of_pass(parts, file.len(), least.class, least.fault)
+        }
+    })
 }

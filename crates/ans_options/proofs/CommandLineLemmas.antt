@@ -116,29 +116,17 @@ name_met e = ap (λ (q : Text × List Row). q.0) (sym e)
 pub command_found : (words : List Text) (sub : Option (Text × List Row)) → subcommand_of anscheck words ≡ sub
     → IsSome sub → IsSomeAnd sub IsCommand
 command_found words None e some = cc
-command_found words (Some p) e some =
-    elim ((program_met words p e).1) [
-      | inl why ↦ (Why, name_met why)
-      | inr behind ↦ elim behind [
-        | inl needs ↦ (Needs, name_met needs)
-        | inr others ↦ elim others [
-          | inl check ↦ (Check, name_met check)
-          | inr more ↦ elim more [
-            | inl show ↦ (Show Terminal, name_met show)
-            | inr later ↦ elim later [
-              | inl sauce ↦ (Sauce, name_met sauce)
-              | inr last ↦ elim last [
-                | inl tokens ↦ (Tokens, name_met tokens)
-                | inr end ↦ elim end [
-                  | inl table ↦ (Table Headed, name_met table)
-                  | inr never ↦ absurd never
-                ]
-              ]
-            ]
-          ]
-        ]
-      ]
-    ]
+command_found words (Some p) e some = let (w, met) = program_met words p e in command_of w met
+  where
+    command_of : (w : List Text) → MetIn p w (built anscheck).subs → IsCommand p
+    command_of w (inl why) = (Why, name_met why)
+    command_of w (inr (inl needs)) = (Needs, name_met needs)
+    command_of w (inr (inr (inl check))) = (Check, name_met check)
+    command_of w (inr (inr (inr (inl show)))) = (Show Terminal, name_met show)
+    command_of w (inr (inr (inr (inr (inl sauce))))) = (Sauce, name_met sauce)
+    command_of w (inr (inr (inr (inr (inr (inl tokens)))))) = (Tokens, name_met tokens)
+    command_of w (inr (inr (inr (inr (inr (inr (inl table))))))) = (Table Headed, name_met table)
+    command_of w (inr (inr (inr (inr (inr (inr (inr never))))))) = absurd never
 
 -- the third of the facts that make a command plain
 no_globals : (groups external globals rest : Bool) → (groups && (not external && (not globals && rest))) ≡ true

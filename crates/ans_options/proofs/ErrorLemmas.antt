@@ -1,7 +1,7 @@
 -- What an error of the words tells.
-use Rattle.std.proofs.Common.{◌≡◌, [], ◌∷◌, Option, Some, None, inl, inr, option_map, refl}
-use Rattle.clap.specs.Words.{Kinds}
-use Rattle.ans_options.specs.CommandLine.{HasKindAmong, RanOutOfMemory}
+use Rattle.std.proofs.Common.{◌≡◌, List, [], ◌∷◌, Option, Some, None, inl, inr, option_map, refl}
+use Rattle.clap.specs.Words.{Kinds, Text}
+use Rattle.ans_options.specs.CommandLine.{HasKindAmong, IsErrorOf, RanOutOfMemory}
 use Rattle.ans_options.specs.declared.command_line.WordsError.{WordsError}
 use Rattle.ans_options.specs.declared.command_line.WordsError.TheVariants.{Clap, Memory}
 
@@ -9,6 +9,10 @@ use Rattle.ans_options.specs.declared.command_line.WordsError.TheVariants.{Clap,
 pub none_mapped : {X Y : Type 0} (f : X → Y) (o : Option X) → option_map f o ≡ None → o ≡ None
 none_mapped f None e = refl
 none_mapped f (Some x) e = cc
+
+-- want of memory may come of any words
+pub out_of_memory : (words : List Text) (e : WordsError) → e ≡ Memory → IsErrorOf words e
+out_of_memory words e is = rw is (record { refuses = λ taken. tt; faultless = λ none. tt; kinds = tt })
 
 -- an error of no kind is want of memory
 pub ran_out : (kinds : Kinds) (e : WordsError) → HasKindAmong kinds e → kinds ≡ [] → RanOutOfMemory e

@@ -6,7 +6,7 @@ use Rattle.std.specs.Borrow.{Bor}
 use Rattle.std.specs.Option.{option_map_or}
 use Rattle.std.specs.Str.{bytes_eq}
 use Rattle.clap.specs.Words.{App, Row, Rule, Text, all_of, first_of, kind_of, one_of, new_app, new_rule, subcommand_of}
-use Rattle.clap.specs.Words.{HasKind, IsAmong, Kinds, fault_of, with_rule, with_subcommand}
+use Rattle.clap.specs.Words.{HasKind, IsAmong, Kinds, fault_of, takes, with_rule, with_subcommand}
 use Rattle.clap.specs.declared.builder.ArgAction.TheVariants.{Append, SetTrue}
 use Rattle.clap.specs.declared.error.ErrorKind.TheVariants.{DisplayHelp, DisplayVersion, OutOfMemory}
 use Rattle.clap.specs.declared.error.ErrorKind.{ErrorKind}
@@ -236,6 +236,12 @@ RanOutOfMemory words_error.Memory = ⊤
 abbrev pub HasKindAmong : Kinds → WordsError → Type 0
 HasKindAmong kinds (words_error.Clap e) = HasKind kinds e
 HasKindAmong kinds words_error.Memory = ⊤
+
+-- What an error of these words tells: want of memory alone where they have no fault, and else one of their kinds too.
+pub record IsErrorOf (words : List Text) (e : WordsError) : Type 0 where
+  pub refuses : takes anscheck (words_meant words) ≡ true → RanOutOfMemory e
+  pub faultless : faults_of words ≡ [] → RanOutOfMemory e
+  pub kinds : HasKindAmong (faults_of words) e
 
 -- the kind is the only one, or is none of them
 abbrev pub IsAloneOrNotAtAll : ErrorKind → Kinds → Type 0

@@ -5,7 +5,7 @@ ghost use Rattle.clap.specs.Words.{all_of, app_of, first_of, found_of, rows_of, 
 ghost use Rattle.clap.specs.Words.{fault_of, subcommand_of};
 ghost use Rattle.ans_model.specs.Screen.StartClass.{none_known};
 ghost use Rattle.ans_options.specs.CommandLine.{AreOptionsOf, AsksFor, IsCommand, IsInFormAsked, IsNoCommand};
-ghost use Rattle.ans_options.specs.CommandLine.{HasKindAmong, RanOutOfMemory, start_asked, flag_rule};
+ghost use Rattle.ans_options.specs.CommandLine.{HasKindAmong, IsErrorOf, RanOutOfMemory, start_asked, flag_rule};
 ghost use Rattle.ans_options.specs.CommandLine.{faults_of, form_asked, help_on, named_start, takes_flags, with_flags};
 ghost use Rattle.ans_options.specs.CommandLine.{words_meant, anscheck, check_app, command_name, file_app};
 ghost use Rattle.ans_options.specs.CommandLine.{asks_for_cleared, holds_flag, show_app, texts_of};
@@ -25,6 +25,14 @@ pub enum WordsError {
     Clap(clap::Error),
     /// Memory ran out for the words or for the file's name.
     Memory,
+}
+
+/// What the words ask for: the options, and the name of the file, or the names for a table.
+#[derive(Drop)]
+struct Asked {
+    options: Options,
+    file: Option<String>,
+    files: Vec<String>,
 }
 
 impl From<clap::Error> for WordsError {
@@ -357,25 +365,6 @@ fn options_of(command: Command, matches: &ArgMatches<'_>) -> Options
     }
 }
 
-fn read_matches(
-    alloc: Global,
-    matches: &ArgMatches<'_>,
-) -> Result<(Options, Option<String>), WordsError>
-    requires { IsSomeAnd (subcommand_rows_of matches.now) IsCommand }
-    ensures memory { IfErr result (λ e. e ≡ WordsError.Memory) }
-    ensures ok { IfOk result (λ r. IsSomeAnd (subcommand_rows_of matches.now)
-        (λ p. AsksFor p r.0 (option_map string_bytes r.1))) }
-{
-    let Some((name, found)) = matches.subcommand() else {
-        unreachable!()
-    };
-    let Some(command) = command_named(name) else {
-        unreachable!()
-    };
-    let file = file_of(alloc, found)?;
-    Ok((options_of(command, found), file))
-}
-
 fn texts_owned(alloc: Global, texts: &[&str]) -> Result<Vec<String>, AllocError>
     ensures { IfOk result (λ v. map string_bytes v.items ≡ texts_of texts.now) }
 {
@@ -399,16 +388,27 @@ fn files_of(alloc: Global, matches: &ArgMatches<'_>) -> Result<Vec<String>, Word
     }
 }
 
-fn read_names(alloc: Global, matches: &ArgMatches<'_>) -> Result<Vec<String>, WordsError>
-    requires { IsSome (subcommand_rows_of matches.now) }
+fn read_matches(alloc: Global, matches: &ArgMatches<'_>) -> Result<Asked, WordsError>
+    requires { IsSomeAnd (subcommand_rows_of matches.now) IsCommand }
     ensures memory { IfErr result (λ e. e ≡ WordsError.Memory) }
-    ensures ok { IfOk result (λ v. IsSomeAnd (subcommand_rows_of matches.now)
-        (λ p. map string_bytes v.items ≡ files_of p.1)) }
+    ensures ok { IfOk result (λ a. IsSomeAnd (subcommand_rows_of matches.now)
+        (λ p. AsksFor p a.options (option_map string_bytes a.file))) }
+    ensures names { IfOk result (λ a. IsSomeAnd (subcommand_rows_of matches.now)
+        (λ p. map string_bytes a.files.items ≡ files_of p.1)) }
 {
-    let Some((_, found)) = matches.subcommand() else {
+    let Some((name, found)) = matches.subcommand() else {
         unreachable!()
     };
-    files_of(alloc, found)
+    let Some(command) = command_named(name) else {
+        unreachable!()
+    };
+    let file = file_of(alloc, found)?;
+    let files = files_of(alloc, found)?;
+    Ok(Asked {
+        options: options_of(command, found),
+        file,
+        files,
+    })
 }
 
 fn words_for_help<'a>(
@@ -453,6 +453,21 @@ fn matches_of<'a>(alloc: Global, meant: &'a [&'a str]) -> Result<ArgMatches<'a>,
     Ok(program.try_get_matches_from(meant)?)
 }
 
+/// What the words ask for.
+fn read_words(alloc: Global, words: &[&str]) -> Result<Asked, WordsError>
+    ensures ok { IfOk result (λ a.
+        AreOptionsOf (texts_of words.now) a.options (option_map string_bytes a.file)) }
+    ensures names { IfOk result (λ a. AreNamesOf (texts_of words.now) (map string_bytes a.files.items)) }
+    ensures accepted { IfOk result (λ a. faults_of (texts_of words.now) ≡ []) }
+    ensures errors { IfErr result (IsErrorOf (texts_of words.now)) }
+{
+    let Ok(meant) = words_meant(alloc, words) else {
+        return Err(WordsError::Memory);
+    };
+    let matches = matches_of(alloc, meant.as_slice())?;
+    read_matches(alloc, &matches)
+}
+
 /// Reads the options and the file from the program's words, its own name first:
 /// `anscheck why [FILE]`, `anscheck needs [FILE]`, `anscheck check` or `anscheck show` with its flags and `[FILE]`,
 /// `anscheck sauce [FILE]`, `anscheck tokens [FILE]`, or `anscheck table` with its flags and `[FILE]..`.
@@ -475,18 +490,15 @@ pub fn options(alloc: Global, words: &[&str]) -> Result<(Options, Option<String>
     ensures flagless { IfOk result (λ r. takes_flags r.0.command ≡ false → r.0.start ≡ none_known) }
     ensures cells { IfOk result (λ r. r.0.command ≢ Command.Check → r.0.cells ≡ false) }
     ensures nameless { IfOk result (λ r. is_table r.0.command ≡ true → r.1 ≡ None) }
-    ensures refuses { IfErr result (λ e.
-        takes anscheck (words_meant (texts_of words.now)) ≡ true → RanOutOfMemory e) }
     ensures accepted { IfOk result (λ r. faults_of (texts_of words.now) ≡ []) }
-    ensures faultless { IfErr result (λ e.
-        faults_of (texts_of words.now) ≡ [] → RanOutOfMemory e) }
-    ensures kinds { IfErr result (HasKindAmong (faults_of (texts_of words.now))) }
+    ensures errors { IfErr result (IsErrorOf (texts_of words.now)) }
 {
-    let Ok(meant) = words_meant(alloc, words) else {
-        return Err(WordsError::Memory);
-    };
-    let matches = matches_of(alloc, meant.as_slice())?;
-    read_matches(alloc, &matches)
+    let Asked {
+        options,
+        file,
+        files: _,
+    } = read_words(alloc, words)?;
+    Ok((options, file))
 }
 
 /// Reads the names of the files from the program's words for a table, its own name first, as
@@ -496,16 +508,9 @@ pub fn options(alloc: Global, words: &[&str]) -> Result<(Options, Option<String>
 /// Fails as [`options`] does.
 pub fn table_names(alloc: Global, words: &[&str]) -> Result<Vec<String>, WordsError>
     ensures ok { IfOk result (λ v. AreNamesOf (texts_of words.now) (map string_bytes v.items)) }
-    ensures refuses { IfErr result (λ e.
-        takes anscheck (words_meant (texts_of words.now)) ≡ true → RanOutOfMemory e) }
     ensures accepted { IfOk result (λ v. faults_of (texts_of words.now) ≡ []) }
-    ensures faultless { IfErr result (λ e.
-        faults_of (texts_of words.now) ≡ [] → RanOutOfMemory e) }
-    ensures kinds { IfErr result (HasKindAmong (faults_of (texts_of words.now))) }
+    ensures errors { IfErr result (IsErrorOf (texts_of words.now)) }
 {
-    let Ok(meant) = words_meant(alloc, words) else {
-        return Err(WordsError::Memory);
-    };
-    let matches = matches_of(alloc, meant.as_slice())?;
-    read_names(alloc, &matches)
+    let asked = read_words(alloc, words)?;
+    Ok(asked.files)
 }

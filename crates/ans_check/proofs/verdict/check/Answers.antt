@@ -18,16 +18,16 @@ returns-in_err-end-clause-memory g c some = absurd (no_refusal c.args.file.now c
 
 pub returns-in-Ok-end-clause-verdict : goal.returns-in-Ok-end-clause-verdict
 returns-in-Ok-end-clause-verdict g c =
-    passes c.args.file.now c.args.start c.in-Ok.parts c.in-Ok-end.picture c.in-Ok.ensures.ok
+    passes c.args.file.now c.args.start c.in-Ok.parts c.in-Ok.ensures.ok c.in-Ok-end.picture
     (rw c.in-Ok-end.is at c.in_ok-end.ensures.good)
 
 pub returns-in-Err-end-clause-verdict : goal.returns-in-Err-end-clause-verdict
 returns-in-Err-end-clause-verdict g c =
-    refuses c.args.file.now c.args.start c.in-Ok.parts c.in-Err-end.fault c.in-Ok.ensures.ok
+    refuses c.args.file.now c.args.start c.in-Ok.parts c.in-Ok.ensures.ok c.in-Err-end.fault
     (rw c.in-Err-end.is at c.in_ok-end.ensures.refused)
 
 pub returns-in-Err-end-clause-exact : goal.returns-in-Err-end-clause-exact
 returns-in-Err-end-clause-exact g c good =
-    let refused = refuses c.args.file.now c.args.start c.in-Ok.parts c.in-Err-end.fault c.in-Ok.ensures.ok
+    let refused = refuses c.args.file.now c.args.start c.in-Ok.parts c.in-Ok.ensures.ok c.in-Err-end.fault
     (rw c.in-Err-end.is at c.in_ok-end.ensures.refused) in
     absurd (refused_not_good c.args.file.now c.args.start refused.0 c.in-Err-end.fault refused.2 good)
