@@ -223,31 +223,6 @@ fn serve_table<I: Inputs, W: Write>(
     serve_names(alloc, inputs, files, form, output)
 }
 
-/// Serves the options on the input that the words name.
-fn serve_named<I: Inputs, W: Write>(
-    alloc: Global,
-    words: &[&str],
-    inputs: I,
-    options: &Options,
-    name: &Option<String>,
-    output: &mut Tried<W>,
-) -> Ending
-    requires prints { has_failed output.old ≡ false }
-    requires asked { AreOptionsOf (texts_of words.now) options.now (option_map string_bytes name.now) }
-    requires faultless { faults_of (texts_of words.now) ≡ [] }
-    requires one { is_table options.now.command ≡ false }
-    ensures ends { EndsSo I.Reader.remaining W.contents (I.is_file inputs) (I.is_standard inputs)
-        (I.is_missing inputs) (texts_of words.now) output.old output.new result }
-    ensures ran { result ≢ Ending.Usage }
-    ensures write { result ≡ Ending.Run (Err RunError.Write) ↔ IsTrue (has_failed output.new) }
-{
-    let Some(input) = input_named(inputs, name) else {
-        return Ending::UnopenedFile;
-    };
-    let mut reader = Tried::new(input);
-    Ending::Run(serve(alloc, &mut reader, output, options))
-}
-
 /// Serves the options: a table of many files, or one command on one input.
 fn serve_options<I: Inputs, W: Write>(
     alloc: Global,
@@ -265,10 +240,14 @@ fn serve_options<I: Inputs, W: Write>(
     ensures ran { result ≢ Ending.Usage }
     ensures write { result ≡ Ending.Run (Err RunError.Write) ↔ IsTrue (has_failed output.new) }
 {
-    match options.command {
-        Command::Table(form) => serve_table(alloc, words, inputs, form, output),
-        _ => serve_named(alloc, words, inputs, options, name, output),
+    if let Command::Table(form) = options.command {
+        return serve_table(alloc, words, inputs, form, output);
     }
+    let Some(input) = input_named(inputs, name) else {
+        return Ending::UnopenedFile;
+    };
+    let mut reader = Tried::new(input);
+    Ending::Run(serve(alloc, &mut reader, output, options))
 }
 
 /// Answers the words, and leaves the ending's message to the caller.

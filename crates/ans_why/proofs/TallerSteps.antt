@@ -137,6 +137,12 @@ module _ (z : Size) (lines : ℕ) (taller : z.lines ≤ lines) (some_columns : 0
     pub attribute : t.attribute ≡ s.attribute
     pub screen : Agree (z.lines * z.width) t.screen s.screen
 
+  alike : {t s low high : State} → AreAlike t.cursor s.cursor low.cursor high.cursor
+      → AreAlike t.saved s.saved low.saved high.saved
+      → (t.wrap ≡ s.wrap) × (low.wrap ≡ s.wrap) × (high.wrap ≡ s.wrap) → t.attribute ≡ s.attribute
+      → Agree (z.lines * z.width) t.screen s.screen → AreAlikeStates t s low high
+  alike c v w a x = record { cursor = c; saved = v; wrap = w; attribute = a; screen = x }
+
   -- what a token needs
   abbrev pub IsRoomFor : TokenKind → State → State → State → Type 0
   IsRoomFor LineFeed s low high = (s.cursor.row < z.lines) × (high.cursor.row ≢ z.lines)
@@ -255,38 +261,10 @@ module _ (z : Size) (lines : ℕ) (taller : z.lines ≤ lines) (some_columns : 0
             (rw (sym (ap (next_row_start z) one.0)) (rw ft.cells (row_end_le tall t.cursor ft.cursor)))
             (rw fs.cells (row_end_le z s.cursor fs.cursor)) h.screen);
       }
-  alike_step t s low high Save room ft fs h = record {
-    cursor = h.cursor;
-    saved = h.cursor;
-    wrap = h.wrap;
-    attribute = h.attribute;
-    screen = h.screen;
-  }
-  alike_step t s low high Restore room ft fs h = record {
-    cursor = h.saved;
-    saved = h.saved;
-    wrap = h.wrap;
-    attribute = h.attribute;
-    screen = h.screen;
-  }
-  alike_step t s low high (Colours numbers) room ft fs h = record {
-    cursor = h.cursor;
-    saved = h.saved;
-    wrap = h.wrap;
-    attribute = ap (λ (a : ℕ). attribute_after_all a numbers) h.attribute;
-    screen = h.screen;
-  }
-  alike_step t s low high (Wrap on) room ft fs h = record {
-    cursor = h.cursor;
-    saved = h.saved;
-    wrap = (refl, refl, refl);
-    attribute = h.attribute;
-    screen = h.screen;
-  }
-  alike_step t s low high token room ft fs h = record {
-    cursor = alike_move token t.cursor s.cursor low.cursor high.cursor room h.cursor;
-    saved = h.saved;
-    wrap = h.wrap;
-    attribute = h.attribute;
-    screen = h.screen;
-  }
+  alike_step t s low high Save room ft fs h = alike h.cursor h.cursor h.wrap h.attribute h.screen
+  alike_step t s low high Restore room ft fs h = alike h.saved h.saved h.wrap h.attribute h.screen
+  alike_step t s low high (Colours numbers) room ft fs h =
+      alike h.cursor h.saved h.wrap (ap (λ (a : ℕ). attribute_after_all a numbers) h.attribute) h.screen
+  alike_step t s low high (Wrap on) room ft fs h = alike h.cursor h.saved (refl, refl, refl) h.attribute h.screen
+  alike_step t s low high token room ft fs h =
+      alike (alike_move token t.cursor s.cursor low.cursor high.cursor room h.cursor) h.saved h.wrap h.attribute h.screen

@@ -18,10 +18,13 @@ use ans_pen::{HOME, Pen};
 
 const BLANK: u8 = 0x20;
 
+/// White on black, the attribute of the cleared start.
+const WHITE: u8 = 0x07;
+
 /// A cell of the cleared screen.
 const CLEARED_CELL: Cell = Cell {
     byte: BLANK,
-    attribute: 0x07,
+    attribute: WHITE,
 };
 
 /// What is watched of a state: its pen, and one cell of its screen.
@@ -52,11 +55,7 @@ impl Watch {
             pen: Pen {
                 cursor: if start.cursor { HOME } else { corner },
                 saved: if start.saved { HOME } else { corner },
-                attribute: if start.colours {
-                    CLEARED_CELL.attribute
-                } else {
-                    byte
-                },
+                attribute: if start.colours { WHITE } else { byte },
                 wrap: start.wrap || wrap,
             },
             cell: if start.screen {

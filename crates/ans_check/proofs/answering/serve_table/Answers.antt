@@ -10,14 +10,8 @@ returns-then-is_empty-clause-ends g c =
     let size = ap length c.as_slice-files.ensures.value in
     let mapped = length-map items string_bytes in
     let none : length items ≤ 0 = grind (arith, c.is_empty.ensures, c.if-is_empty.true, size) in
-    inl (
-      map string_bytes items,
-      c.in-Ok.ensures.ok,
-      ends_by_input g.I.Reader.Read.remaining g.W.Write.contents (g.I.Inputs.is_standard c.args.inputs)
-          (IsFound g.I.Reader.Read.remaining (g.I.Inputs.is_file c.args.inputs) (g.I.Inputs.is_missing c.args.inputs))
-          c.args.form (map string_bytes items) c.args.output.now c.serve_input.new.output c.serve_input.result
-          (omega (arith, none, mapped)) c.serve_input.ensures.ends,
-    )
+    inl (map string_bytes items, c.in-Ok.ensures.ok, ends_by_input _ _ _ _ _ _ _ _ _ (omega (arith, none, mapped))
+    c.serve_input.ensures.ends)
 
 pub returns-clause-ends : goal.returns-clause-ends
 returns-clause-ends g c =
@@ -25,11 +19,5 @@ returns-clause-ends g c =
     let size = ap length c.as_slice-files.ensures.value in
     let mapped = length-map items string_bytes in
     let some : 1 ≤ length items = grind (arith, c.is_empty.ensures, c.if-is_empty.false, size) in
-    inl (
-      map string_bytes items,
-      c.in-Ok.ensures.ok,
-      ends_by_names g.I.Reader.Read.remaining g.W.Write.contents (g.I.Inputs.is_standard c.args.inputs)
-          (IsFound g.I.Reader.Read.remaining (g.I.Inputs.is_file c.args.inputs) (g.I.Inputs.is_missing c.args.inputs))
-          c.args.form (map string_bytes items) c.args.output.now c.serve_names.new.output c.serve_names.result
-          (omega (arith, some, mapped)) (rw c.as_slice-files.ensures.value at c.serve_names.ensures.ends),
-    )
+    inl (map string_bytes items, c.in-Ok.ensures.ok, ends_by_names _ _ _ _ _ _ _ _ _ (omega (arith, some, mapped))
+    (rw c.as_slice-files.ensures.value at c.serve_names.ensures.ends))

@@ -1,7 +1,7 @@
 use Rattle.std.proofs.Common.{refl, sym, subst, inl}
 use Rattle.std.specs.Prelude.{option_map, string_bytes}
 use Rattle.ans_check.specs.Answer.{IsNamed}
-use Rattle.ans_check.proofs.answering.serve_named.Goals as goal
+use Rattle.ans_check.proofs.answering.serve_options.Goals as goal
 
 pub returns-clause-ends : goal.returns-clause-ends
 returns-clause-ends g c = inl (record {
