@@ -51,16 +51,11 @@ glyph_clean b h =
 
 page_character_clean : (b : ℕ) → IsByte b → IsCleanText (page_character b)
 page_character_clean b h =
-    let shown = encode_utf8 (glyph_text b) in
-    let apos = if b == 0x27 then codes "&apos;" else shown in
-    let quot = if b == 0x22 then codes "&quot;" else apos in
-    let gt = if b == 0x3E then codes "&gt;" else quot in
-    let lt = if b == 0x3C then codes "&lt;" else gt in
-    clean_if (b == 0x26) (codes "&amp;") lt (plain_text (codes "&amp;") refl)
-    (clean_if (b == 0x3C) (codes "&lt;") gt (plain_text (codes "&lt;") refl)
-    (clean_if (b == 0x3E) (codes "&gt;") quot (plain_text (codes "&gt;") refl)
-    (clean_if (b == 0x22) (codes "&quot;") apos (plain_text (codes "&quot;") refl)
-    (clean_if (b == 0x27) (codes "&apos;") shown (plain_text (codes "&apos;") refl) (glyph_clean b h)))))
+    clean_if (b == 0x26) _ _ (plain_text (codes "&amp;") refl)
+    (clean_if (b == 0x3C) _ _ (plain_text (codes "&lt;") refl)
+    (clean_if (b == 0x3E) _ _ (plain_text (codes "&gt;") refl)
+    (clean_if (b == 0x22) _ _ (plain_text (codes "&quot;") refl)
+    (clean_if (b == 0x27) _ _ (plain_text (codes "&apos;") refl) (glyph_clean b h)))))
 
 page_bytes_clean : (bytes : List ℕ) → All IsByte bytes → IsCleanText (page_bytes bytes)
 page_bytes_clean bytes h = of_each IsCleanText clean_nil clean_append IsByte page_character bytes h page_character_clean

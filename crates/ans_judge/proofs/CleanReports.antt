@@ -80,19 +80,21 @@ digits_clean (c ∷ row) h =
 cells_line_clean : (row : List Cell) → All IsByteCell row → IsCleanText (cells_line row)
 cells_line_clean row h = clean_line (flat_map cell_digits row) (digits_clean row h)
 
+-- a line, and a line for each row
+rows_clean : (first : List ℕ) (line : List Cell → List ℕ) → IsCleanText first
+    → ((row : List Cell) → All IsByteCell row → IsCleanText (line row))
+    → (picture : Picture) → All IsByteCell picture.cells → IsCleanText (first ++ flat_map line (rows_of picture))
+rows_clean first line clean each picture h =
+    clean_append first (flat_map line (rows_of picture)) clean
+    (of_rows IsCleanText clean_nil clean_append line each picture.size.width picture.size.lines picture.cells h)
+
 picture_clean : (picture : Picture) → All IsByteCell picture.cells → IsCleanText (picture_text picture)
-picture_clean picture h =
-    clean_append (line_of (codes "picture:")) (flat_map picture_line (rows_of picture))
-    (plain_text (line_of (codes "picture:")) refl)
-    (of_rows IsCleanText clean_nil clean_append picture_line picture_line_clean picture.size.width picture.size.lines
-    picture.cells h)
+picture_clean =
+    let title = line_of (codes "picture:") in rows_clean title picture_line (plain_text title refl) picture_line_clean
 
 cells_clean : (picture : Picture) → All IsByteCell picture.cells → IsCleanText (cells_text picture)
-cells_clean picture h =
-    clean_append (line_of (codes "cells:")) (flat_map cells_line (rows_of picture))
-    (plain_text (line_of (codes "cells:")) refl)
-    (of_rows IsCleanText clean_nil clean_append cells_line cells_line_clean picture.size.width picture.size.lines
-    picture.cells h)
+cells_clean =
+    let title = line_of (codes "cells:") in rows_clean title cells_line (plain_text title refl) cells_line_clean
 
 pass_clean : (heading : Heading) (picture : Picture) (with_cells : Bool) → All IsByteCell picture.cells
     → IsCleanText (report_text heading (Passed picture with_cells))

@@ -87,18 +87,12 @@ blamed_is_bytes z class content fault text bytes (inr (inr (h, is))) =
 
 quoted_byte_clean : (byte : ℕ) → IsByte byte → IsCleanText (quoted_byte byte)
 quoted_byte_clean byte h =
-    let shown = shown_bytes (byte ∷ []) in
-    let escape = if byte == 0x1B then codes "<ESC>" else shown in
-    let return = if byte == 0x0D then codes "<CR>" else escape in
-    let feed = if byte == 0x0A then codes "<LF>" else return in
-    let tab = if byte == 0x09 then codes "<TAB>" else feed in
-    let back = if byte == 0x08 then codes "<BS>" else tab in
-    clean_if (byte == 0x07) (codes "<BEL>") back (plain_text (codes "<BEL>") refl)
-    (clean_if (byte == 0x08) (codes "<BS>") tab (plain_text (codes "<BS>") refl)
-    (clean_if (byte == 0x09) (codes "<TAB>") feed (plain_text (codes "<TAB>") refl)
-    (clean_if (byte == 0x0A) (codes "<LF>") return (plain_text (codes "<LF>") refl)
-    (clean_if (byte == 0x0D) (codes "<CR>") escape (plain_text (codes "<CR>") refl)
-    (clean_if (byte == 0x1B) (codes "<ESC>") shown (plain_text (codes "<ESC>") refl)
+    clean_if (byte == 0x07) _ _ (plain_text (codes "<BEL>") refl)
+    (clean_if (byte == 0x08) _ _ (plain_text (codes "<BS>") refl)
+    (clean_if (byte == 0x09) _ _ (plain_text (codes "<TAB>") refl)
+    (clean_if (byte == 0x0A) _ _ (plain_text (codes "<LF>") refl)
+    (clean_if (byte == 0x0D) _ _ (plain_text (codes "<CR>") refl)
+    (clean_if (byte == 0x1B) _ _ (plain_text (codes "<ESC>") refl)
     (clean_shown (byte ∷ []) (All-cons IsByte byte [] h (All-nil IsByte))))))))
 
 quoted_bytes_clean : (bytes : List ℕ) → All IsByte bytes → IsCleanText (flat_map quoted_byte bytes)

@@ -303,12 +303,15 @@ module _ (file : List ℕ) where
       ap₂ (λ (v : Fault) (t : List ℕ). refusal_text v ++ t) (sym same)
       (one_found file f.cause x y h.1 (subst (λ (v : Fault). IsFound file y v.cause) same k.1))
 
+  same_file : (a b : Parts) → IsSplit file a → IsSplit file b
+      → (record_of b ≡ record_of a) × (content_of b ≡ content_of a)
+  same_file a b split other = (one_record file b a other split, one_content file b a other split)
+
   both_refused : (a b : Parts) (r s : Refusal) → IsTrueOf file (Refused a r) → IsTrueOf file (Refused b s)
       → why_text (Refused a r) ≡ why_text (Refused b s)
   unfolding refusal_said
   both_refused a b r s (split, h) (other, g) =
-      let sauce : record_of b ≡ record_of a = one_record file b a other split in
-      let bytes : content_of b ≡ content_of a = one_content file b a other split in
+      let (sauce, bytes) = same_file a b split other in
       one_refusal (record_of a) (content_of a) r s (refusal_of a r h)
       (subst₂ (λ (v w : List ℕ). RefusalOf v w s) sauce bytes (refusal_of b s g))
       ∙ ap (λ (v : List ℕ). refusal_said v s.fault s.bytes.now s.cursor s.lines s.hints) (sym sauce)
@@ -317,8 +320,7 @@ module _ (file : List ℕ) where
       → why_text (Passes a p) ≡ why_text (Passes b q)
   unfolding pass_said
   both_pass a b p q (split, h) (other, g) =
-      let sauce : record_of b ≡ record_of a = one_record file b a other split in
-      let bytes : content_of b ≡ content_of a = one_content file b a other split in
+      let (sauce, bytes) = same_file a b split other in
       one_pass (length file) (record_of a) (content_of a) p q (pass_of (length file) a p h)
       (subst₂ (λ (v w : List ℕ). PassOf (length file) v w q) sauce bytes (pass_of (length file) b q g))
       ∙ ap (λ (v : List ℕ). pass_said v q.needs q.taller (reliance_lines q.reliance) q.hints) (sym sauce)

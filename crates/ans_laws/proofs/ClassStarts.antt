@@ -3,7 +3,8 @@ use Rattle.std.proofs.Common.{◌||◌, refl, sym, subst, Bool, true, false}
 use Rattle.std.specs.Prelude.{◌&&◌, IsTrue}
 use Rattle.std.proofs.lemmas.Bool.{and_parts}
 use Rattle.ans_model.specs.Screen.State.{State}
-use Rattle.ans_model.specs.Screen.StartClass.{all_known, IsStart}
+use Rattle.ans_model.specs.Screen.StartClass.{Covers, all_known, IsStart}
+use Rattle.ans_model.specs.declared.start.Start.{Start}
 use Rattle.ans_laws.specs.StartLaws.{NoneKnownIsEvery, AllKnownIsOne}
 use Rattle.ans_laws.specs.StartLaws.{BothKnownIsGreatest, known_in_either}
 use Rattle.ans_laws.specs.StartLaws.{KnownPartsTogether}
@@ -36,6 +37,27 @@ known_right : (a b : Bool) → IsTrue b → IsTrue (a || b)
 known_right true b e = refl
 known_right false b e = e
 
+-- the class of what two classes know of each part, by one rule
+abbrev class_by : (Bool → Bool → Bool) → Start → Start → Start
+class_by rule a b = record {
+  screen = rule a.screen b.screen;
+  cursor = rule a.cursor b.cursor;
+  saved = rule a.saved b.saved;
+  colours = rule a.colours b.colours;
+  wrap = rule a.wrap b.wrap;
+}
+
+-- a class covers one that knows all that it knows, and maybe more
+covers_more : (more : Bool → Bool → Bool) → ((x y : Bool) → IsTrue x → IsTrue (more x y)) → (a b : Start)
+    → Covers a (class_by more a b)
+covers_more more known a b = record {
+  screen = known a.screen b.screen;
+  cursor = known a.cursor b.cursor;
+  saved = known a.saved b.saved;
+  colours = known a.colours b.colours;
+  wrap = known a.wrap b.wrap;
+}
+
 -- what follows from either of two parts follows from both together
 from_either : {P : Type 0} (a b : Bool) → (IsTrue a → P) → (IsTrue b → P) → IsTrue (a || b) → P
 from_either true b p q e = p refl
@@ -45,20 +67,8 @@ from_either false b p q e = q e
 pub known_parts_together : KnownPartsTogether
 known_parts_together z a b s = (
   λ start. (
-    covers_starts z a (known_in_either a b) s (record {
-      screen = known_left a.screen b.screen;
-      cursor = known_left a.cursor b.cursor;
-      saved = known_left a.saved b.saved;
-      colours = known_left a.colours b.colours;
-      wrap = known_left a.wrap b.wrap;
-    }) start,
-    covers_starts z b (known_in_either a b) s (record {
-      screen = known_right a.screen b.screen;
-      cursor = known_right a.cursor b.cursor;
-      saved = known_right a.saved b.saved;
-      colours = known_right a.colours b.colours;
-      wrap = known_right a.wrap b.wrap;
-    }) start,
+    covers_starts z a (known_in_either a b) s (covers_more (λ x y. x || y) known_left a b) start,
+    covers_starts z b (known_in_either a b) s (covers_more (λ y x. x || y) (λ y x. known_right x y) b a) start,
   ),
   λ both. record {
     well_formed = both.0.well_formed;
@@ -70,6 +80,17 @@ known_parts_together z a b s = (
   },
 )
 
+-- what covers one that knows no more covers the class too
+covers_less : (less : Bool → Bool → Bool) → ((x y : Bool) → IsTrue (less x y) → IsTrue x) → (a b c : Start)
+    → Covers c (class_by less a b) → Covers c a
+covers_less less known a b c covers = record {
+  screen = λ k. known a.screen b.screen (covers.screen k);
+  cursor = λ k. known a.cursor b.cursor (covers.cursor k);
+  saved = λ k. known a.saved b.saved (covers.saved k);
+  colours = λ k. known a.colours b.colours (covers.colours k);
+  wrap = λ k. known a.wrap b.wrap (covers.wrap k);
+}
+
 -- a truth that implies two implies both at once
 and_then : (p a b : Bool) → (IsTrue p → IsTrue a) → (IsTrue p → IsTrue b) → IsTrue p → IsTrue (a && b)
 and_then p a b first second known = rw (first known, second known) refl
@@ -78,20 +99,8 @@ and_then p a b first second known = rw (first known, second known) refl
 pub both_known_is_greatest : BothKnownIsGreatest
 both_known_is_greatest a b c = (
   λ covers. (
-    record {
-      screen = λ k. (and_parts a.screen b.screen (covers.screen k)).0;
-      cursor = λ k. (and_parts a.cursor b.cursor (covers.cursor k)).0;
-      saved = λ k. (and_parts a.saved b.saved (covers.saved k)).0;
-      colours = λ k. (and_parts a.colours b.colours (covers.colours k)).0;
-      wrap = λ k. (and_parts a.wrap b.wrap (covers.wrap k)).0;
-    },
-    record {
-      screen = λ k. (and_parts a.screen b.screen (covers.screen k)).1;
-      cursor = λ k. (and_parts a.cursor b.cursor (covers.cursor k)).1;
-      saved = λ k. (and_parts a.saved b.saved (covers.saved k)).1;
-      colours = λ k. (and_parts a.colours b.colours (covers.colours k)).1;
-      wrap = λ k. (and_parts a.wrap b.wrap (covers.wrap k)).1;
-    },
+    covers_less (λ x y. x && y) (λ x y e. (and_parts x y e).0) a b c covers,
+    covers_less (λ y x. x && y) (λ y x e. (and_parts x y e).1) b a c covers,
   ),
   λ (first, second). record {
     screen = and_then c.screen a.screen b.screen first.screen second.screen;

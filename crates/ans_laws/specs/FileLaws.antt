@@ -12,4 +12,3 @@ pub record IsFirstThatApplies (refusals : List Refusal) (fault : Fault) : Type 0
   pub none_earlier : All (λ r. IsFalse r.applies) earlier
   pub applies : IsTrue refusal.applies
   pub fault_is : fault ≡ fault_at refusal.offset refusal.cause
-

@@ -10,7 +10,9 @@ use Rattle.ans_model.specs.Screen.State.{Size}
 use Rattle.ans_model.specs.Verdict.Good.{Picture}
 use Rattle.ans_model.specs.Text.ReportText.{Heading}
 use Rattle.ans_model.specs.File.Layout.{comment_block}
-use Rattle.ans_model.specs.File.Refusals.{record_fault}
+use Rattle.ans_model.specs.File.Refusals.{fault_at, record_fault}
+use Rattle.ans_model.specs.Text.TokensText.{TokensText}
+use Rattle.ans_model.specs.declared.fault.Cause.{Cause}
 use Rattle.ans_model.specs.File.NoteConditions.{notes}
 
 -- ---- records
@@ -101,6 +103,11 @@ picture_with size cells = record { size = size; cells = cells }
 -- ESC and a text
 abbrev pub esc : List ℕ → List ℕ
 esc text = escape ∷ text
+
+-- the content begins with a sequence that is refused so, and its text is that line alone
+abbrev pub IsRefusedAs : List ℕ → Cause → List ℕ → Type 0
+IsRefusedAs sequence cause said =
+    TokensText (esc sequence) (Some (fault_at 0 cause)) (codes "at 0: " ++ (said ++ codes "\n"))
 
 -- colours, a glyph, and an unfinished sequence
 abbrev pub cut_content : List ℕ

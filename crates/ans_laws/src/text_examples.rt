@@ -18,7 +18,6 @@ ghost use Rattle.ans_model.specs.declared.note.Note.TheVariants.{FlagBits, FlagP
 ghost use Rattle.ans_model.specs.Screen.StartClass.{none_known, all_known};
 ghost use Rattle.ans_model.specs.File.Record.{stated_width};
 ghost use Rattle.ans_model.specs.File.Layout.{content, comment_block, file_parts};
-ghost use Rattle.ans_model.specs.File.NoteConditions.{notes};
 ghost use Rattle.ans_model.specs.File.Refusals.{fault_at, record_fault};
 ghost use Rattle.ans_model.specs.Screen.State.{sized, cell};
 ghost use Rattle.ans_model.specs.Sequence.Spelling.{IsUnfinished};
@@ -33,7 +32,7 @@ ghost use Rattle.ans_model.specs.Text.NeedsText.{needs_text};
 ghost use Rattle.ans_model.specs.Text.RecordText.{record_text};
 ghost use Rattle.ans_model.specs.Text.TokensText.{TokensText};
 ghost use Rattle.ans_laws.specs.TextExamples.{plain, record_with, fault_with, heading_with, picture_with};
-ghost use Rattle.ans_laws.specs.TextExamples.{hi, sample_record, sample_comment, IsAccepted};
+ghost use Rattle.ans_laws.specs.TextExamples.{hi, sample_record, sample_comment, IsAccepted, IsRefusedAs};
 ghost use Rattle.ans_laws.specs.TextExamples.{IsAcceptedWith, esc, cut_content, short_forms, other_kinds};
 ghost use Rattle.ans_laws.specs.TextExamples.{needs_heading_with};
 
@@ -270,29 +269,16 @@ pub fn token_texts()
 
 /// The texts of contents that are refused in their first sequence.
 pub fn refused_token_texts()
-    ensures number_above_the_limit { TokensText (esc (codes "[256C"))
-        (Some (fault_at 0 NumberTooLarge))
-        (codes "at 0: F10 number above 255\n") }
-    ensures no_bracket { TokensText (esc (codes "(B")) (Some (fault_at 0 BrokenSequence))
-        (codes "at 0: F9 broken sequence\n") }
-    ensures blank_after_a_number { TokensText (esc (codes "[0;0 D"))
-        (Some (fault_at 0 BrokenSequence))
-        (codes "at 0: F9 broken sequence\n") }
-    ensures seventeen_parameters { TokensText (esc (codes "[" ++ replicate 16 0x3B ++ codes "m"))
-        (Some (fault_at 0 TooManyParameters))
-        (codes "at 0: F11 more than 16 parameters\n") }
-    ensures unknown_letter { TokensText (esc (codes "[2t")) (Some (fault_at 0 UnknownSequence))
-        (codes "at 0: F13 unknown sequence\n") }
-    ensures mark_before_n { TokensText (esc (codes "[?6n")) (Some (fault_at 0 UnknownSequence))
-        (codes "at 0: F13 unknown sequence\n") }
-    ensures clear_without_a_number { TokensText (esc (codes "[J"))
-        (Some (fault_at 0 WrongParameters))
-        (codes "at 0: F14 wrong parameters\n") }
-    ensures erase_by_one { TokensText (esc (codes "[1K")) (Some (fault_at 0 WrongParameters))
-        (codes "at 0: F14 wrong parameters\n") }
-    ensures string_before_m { TokensText (esc (codes "[\"x\"m"))
-        (Some (fault_at 0 WrongParameters))
-        (codes "at 0: F14 wrong parameters\n") }
+    ensures number_above_the_limit { IsRefusedAs (codes "[256C") NumberTooLarge (codes "F10 number above 255") }
+    ensures no_bracket { IsRefusedAs (codes "(B") BrokenSequence (codes "F9 broken sequence") }
+    ensures blank_after_a_number { IsRefusedAs (codes "[0;0 D") BrokenSequence (codes "F9 broken sequence") }
+    ensures seventeen_parameters { IsRefusedAs (codes "[" ++ replicate 16 0x3B ++ codes "m") TooManyParameters
+        (codes "F11 more than 16 parameters") }
+    ensures unknown_letter { IsRefusedAs (codes "[2t") UnknownSequence (codes "F13 unknown sequence") }
+    ensures mark_before_n { IsRefusedAs (codes "[?6n") UnknownSequence (codes "F13 unknown sequence") }
+    ensures clear_without_a_number { IsRefusedAs (codes "[J") WrongParameters (codes "F14 wrong parameters") }
+    ensures erase_by_one { IsRefusedAs (codes "[1K") WrongParameters (codes "F14 wrong parameters") }
+    ensures string_before_m { IsRefusedAs (codes "[\"x\"m") WrongParameters (codes "F14 wrong parameters") }
 {}
 
 /// The texts of reports and refusals.

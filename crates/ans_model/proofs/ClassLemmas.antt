@@ -15,13 +15,23 @@ covers_itself a = record { screen = λ k. k; cursor = λ k. k; saved = λ k. k; 
 
 -- the class of every start covers each class
 pub none_known_covers : (a : Start) → Covers none_known a
-none_known_covers a = record { screen = λ k. absurd (cc k); cursor = λ k. absurd (cc k); saved = λ k. absurd (cc k);
-  colours = λ k. absurd (cc k); wrap = λ k. absurd (cc k) }
+none_known_covers a = record {
+  screen = λ k. absurd (cc k);
+  cursor = λ k. absurd (cc k);
+  saved = λ k. absurd (cc k);
+  colours = λ k. absurd (cc k);
+  wrap = λ k. absurd (cc k);
+}
 
 -- each class covers that of the cleared start alone
 pub covers_all_known : (a : Start) → Covers a all_known
-covers_all_known a = record { screen = λ k. refl; cursor = λ k. refl; saved = λ k. refl; colours = λ k. refl;
-  wrap = λ k. refl }
+covers_all_known a = record {
+  screen = λ k. refl;
+  cursor = λ k. refl;
+  saved = λ k. refl;
+  colours = λ k. refl;
+  wrap = λ k. refl;
+}
 
 -- the starts of a class are starts of each class that covers it
 pub covers_starts : (z : Size) (a b : Start) (s : State) → Covers a b → IsStart z b s → IsStart z a s
