@@ -1,8 +1,7 @@
 -- Files and contents of the examples.
-use Rattle.std.specs.Prelude.{◌≡◌, ℕ, List, [], ◌∷◌, ◌++◌, codes, replicate, Option, Some, None}
+use Rattle.std.specs.Prelude.{◌≡◌, ℕ, List, [], ◌∷◌, ◌++◌, codes, replicate, Some, None}
 use Rattle.std.specs.Int.{to_le_bytes, w16, w32}
 use Rattle.ans_model.specs.Bytes.{escape, blank, end_mark}
-use Rattle.ans_model.specs.declared.fault.Fault.{Fault}
 use Rattle.ans_model.specs.declared.note.Note.{Note}
 use Rattle.ans_model.specs.declared.start.Start.{Start}
 use Rattle.ans_model.specs.declared.cell.Cell.{Cell}
@@ -71,9 +70,9 @@ sample_record =
 abbrev pub sample_comment : List ℕ
 sample_comment = padded_with 59 (codes "hello")
 
--- what refuses the file of a body and a record
-abbrev pub fault_with : List ℕ → Fields → Option Fault
-fault_with body f = record_fault (body ++ record_with f)
+-- the file of a body and a record is refused for this, at this offset
+abbrev pub IsRefusedAt : List ℕ → Fields → ℕ → Cause → Type 0
+IsRefusedAt body f offset cause = record_fault (body ++ record_with f) ≡ Some (fault_at offset cause)
 
 -- The file of a body, comments and a record is accepted, with these notes.
 abbrev pub IsAcceptedWith : List ℕ → List ℕ → Fields → List Note → Type 0

@@ -31,7 +31,7 @@ ghost use Rattle.ans_model.specs.Text.ReportText.{RefusedFor};
 ghost use Rattle.ans_model.specs.Text.NeedsText.{needs_text};
 ghost use Rattle.ans_model.specs.Text.RecordText.{record_text};
 ghost use Rattle.ans_model.specs.Text.TokensText.{TokensText};
-ghost use Rattle.ans_laws.specs.TextExamples.{plain, record_with, fault_with, heading_with, picture_with};
+ghost use Rattle.ans_laws.specs.TextExamples.{plain, record_with, heading_with, picture_with, IsRefusedAt};
 ghost use Rattle.ans_laws.specs.TextExamples.{hi, sample_record, sample_comment, IsAccepted, IsRefusedAs};
 ghost use Rattle.ans_laws.specs.TextExamples.{IsAcceptedWith, esc, cut_content, short_forms, other_kinds};
 ghost use Rattle.ans_laws.specs.TextExamples.{needs_heading_with};
@@ -40,47 +40,30 @@ ghost use Rattle.ans_laws.specs.TextExamples.{needs_heading_with};
 pub fn refused_files()
     ensures too_short { record_fault (replicate 127 0) ≡ Some (fault_at 127 NoRecord) }
     ensures nothing { record_fault [] ≡ Some (fault_at 0 NoRecord) }
-    ensures other_id { fault_with hi (record plain { id = codes "SAUCX" })
-        ≡ Some (fault_at 131 NoRecord) }
-    ensures other_version { fault_with hi (record plain { version = codes "01" })
-        ≡ Some (fault_at 8 WrongVersion) }
-    ensures other_file_type { fault_with hi (record plain { file_type = 2 })
-        ≡ Some (fault_at 97 WrongKind) }
-    ensures other_data_type { fault_with hi (record plain { data_type = 2 })
-        ≡ Some (fault_at 97 WrongKind) }
-    ensures no_comment_block { fault_with hi (record plain { comments = 1 })
-        ≡ Some (fault_at 107 CommentsMissing) }
-    ensures room_but_no_comment_block { fault_with (replicate 68 0x61 ++ end_mark ∷ [])
-        (record plain { comments = 1; file_size = 68 })
-        ≡ Some (fault_at 173 CommentsMissing) }
-    ensures other_comment_id { fault_with (hi ++ codes "COMNX" ++ replicate 64 0x20)
-        (record plain { comments = 1 })
-        ≡ Some (fault_at 176 CommentsMissing) }
-    ensures no_lines { fault_with hi (record plain { lines = 0 })
-        ≡ Some (fault_at 101 LinesUnstated) }
-    ensures width_above_the_limit { fault_with hi (record plain { width = 1025 })
-        ≡ Some (fault_at 99 WidthTooLarge) }
-    ensures lines_above_the_limit { fault_with hi (record plain { lines = 8193 })
-        ≡ Some (fault_at 101 LinesTooLarge) }
-    ensures byte_after_the_end_mark { fault_with (0x61 ∷ end_mark ∷ 0x62 ∷ end_mark ∷ []) plain
-        ≡ Some (fault_at 2 BytesAfterEndMark) }
+    ensures other_id { IsRefusedAt hi (record plain { id = codes "SAUCX" }) 131 NoRecord }
+    ensures other_version { IsRefusedAt hi (record plain { version = codes "01" }) 8 WrongVersion }
+    ensures other_file_type { IsRefusedAt hi (record plain { file_type = 2 }) 97 WrongKind }
+    ensures other_data_type { IsRefusedAt hi (record plain { data_type = 2 }) 97 WrongKind }
+    ensures no_comment_block { IsRefusedAt hi (record plain { comments = 1 }) 107 CommentsMissing }
+    ensures room_but_no_comment_block { IsRefusedAt (replicate 68 0x61 ++ end_mark ∷ [])
+        (record plain { comments = 1; file_size = 68 }) 173 CommentsMissing }
+    ensures other_comment_id { IsRefusedAt (hi ++ codes "COMNX" ++ replicate 64 0x20)
+        (record plain { comments = 1 }) 176 CommentsMissing }
+    ensures no_lines { IsRefusedAt hi (record plain { lines = 0 }) 101 LinesUnstated }
+    ensures width_above_the_limit { IsRefusedAt hi (record plain { width = 1025 }) 99 WidthTooLarge }
+    ensures lines_above_the_limit { IsRefusedAt hi (record plain { lines = 8193 }) 101 LinesTooLarge }
+    ensures byte_after_the_end_mark { IsRefusedAt (0x61 ∷ end_mark ∷ 0x62 ∷ end_mark ∷ []) plain 2 BytesAfterEndMark }
 {}
 
 /// Files with two things to refuse get the first.
 pub fn files_refused_twice()
-    ensures version_before_kind { fault_with hi
-        (record plain { version = codes "01"; file_type = 2 })
-        ≡ Some (fault_at 8 WrongVersion) }
-    ensures kind_before_comments { fault_with hi (record plain { file_type = 2; comments = 1 })
-        ≡ Some (fault_at 97 WrongKind) }
-    ensures comments_before_lines { fault_with hi (record plain { comments = 1; lines = 0 })
-        ≡ Some (fault_at 107 CommentsMissing) }
-    ensures no_lines_before_width { fault_with hi (record plain { width = 1025; lines = 0 })
-        ≡ Some (fault_at 101 LinesUnstated) }
-    ensures width_before_lines { fault_with hi (record plain { width = 1025; lines = 8193 })
-        ≡ Some (fault_at 99 WidthTooLarge) }
-    ensures lines_before_bytes { fault_with (hi ++ 0x61 ∷ []) (record plain { lines = 8193 })
-        ≡ Some (fault_at 102 LinesTooLarge) }
+    ensures version_before_kind { IsRefusedAt hi
+        (record plain { version = codes "01"; file_type = 2 }) 8 WrongVersion }
+    ensures kind_before_comments { IsRefusedAt hi (record plain { file_type = 2; comments = 1 }) 97 WrongKind }
+    ensures comments_before_lines { IsRefusedAt hi (record plain { comments = 1; lines = 0 }) 107 CommentsMissing }
+    ensures no_lines_before_width { IsRefusedAt hi (record plain { width = 1025; lines = 0 }) 101 LinesUnstated }
+    ensures width_before_lines { IsRefusedAt hi (record plain { width = 1025; lines = 8193 }) 99 WidthTooLarge }
+    ensures lines_before_bytes { IsRefusedAt (hi ++ 0x61 ∷ []) (record plain { lines = 8193 }) 102 LinesTooLarge }
 {}
 
 /// Files that are accepted, and their notes.
