@@ -75,6 +75,15 @@ pub within_answer : {S T E : Type 0} {has_room may_lack : S → Size → Type 0}
     → AnswersWithin {E = E} has_room may_lack file a (Ok v)
 within_answer file = record { room = λ apart accepts h. refl; want = λ e. absurd (cc e) }
 
+-- want of room is handed on, whatever the answer would have been
+pub within_err : {S T U E D : Type 0} {has_room may_lack : S → Size → Type 0} {a : S} {r : Result T E} {lost : Result U D}
+    (file : List ℕ) → AnswersWithin has_room may_lack file a r → IsErr r → IsErr lost
+    → AnswersWithin has_room may_lack file a lost
+within_err {r = r} file p is told = record {
+  room = λ apart accepts h. absurd (not_both r (p.room apart accepts h) is);
+  want = λ _. p.want is;
+}
+
 -- the room that plays of a file's parts take is that which the file's record states
 pub within_file : {S T E : Type 0} {has_room may_lack : S → Size → Type 0} {a b : S} {r : Result T E} (file : List ℕ)
     (parts : Parts)

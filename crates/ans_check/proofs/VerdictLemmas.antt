@@ -78,16 +78,22 @@ module _ (file : List ℕ) (start : Start) (parts : Parts) (s : IsSplit file par
 
   pub refuses : (f : Fault) → Deserves (parts_size parts) start (content_of parts) f
       → (apart : FileParts) × ShowsParts apart parts × IsRefusedFor file start apart f
-  refuses f h =
-      (s.apart, s.shows,
-      record { accepts = s.accepts; deserved = so_of_file file parts s (λ z bytes. Deserves z start bytes f) h })
+  refuses f h = (
+    s.apart,
+    s.shows,
+    record { accepts = s.accepts; deserved = so_of_file file parts s (λ z bytes. Deserves z start bytes f) h },
+  )
 
   pub needs_class : IsLeast (parts_size parts) (content_of parts) start
       → (apart : FileParts) × ShowsParts apart parts × NeedsClass file apart start
-  needs_class h = (s.apart, s.shows, record {
-    accepts = s.accepts;
-    least = so_of_file file parts s (λ z bytes. IsLeast z bytes start) h;
-  })
+  needs_class h = (
+    s.apart,
+    s.shows,
+    record {
+      accepts = s.accepts;
+      least = so_of_file file parts s (λ z bytes. IsLeast z bytes start) h;
+    },
+  )
 
 -- a good content deserves no fault
 pub not_good : (z : Size) (start : Start) (bytes : List ℕ) (f : Fault) → Deserves z start bytes f

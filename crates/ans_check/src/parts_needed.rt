@@ -39,9 +39,9 @@ pub fn needs_on<'a, S: Screens>(screens: &mut S, file: &'a [u8]) -> Result<Needs
     ensures memory { IsSome (record_fault file.now) → IsOk result }
     ensures room { AnswersWithin S.has_room S.may_lack file.now screens.old result }
 {
-    Ok(match play_file(screens, file)? {
-        Played::NoContent(fault) => Needs::Refused(None, fault),
-        Played::Refused(parts, fault) => Needs::Refused(Some(parts), fault),
-        Played::Passes(parts, least) => Needs::Least(parts, least.class),
-    })
+    match play_file(screens, file)? {
+        Played::NoContent(fault) => Ok(Needs::Refused(None, fault)),
+        Played::Refused(parts, fault) => Ok(Needs::Refused(Some(parts), fault)),
+        Played::Passes(parts, least) => Ok(Needs::Least(parts, least.class)),
+    }
 }

@@ -13,7 +13,7 @@ use ans_sauce::{Parts, split};
 use std::alloc::AllocError;
 
 /// What the plays of a file come to.
-#[derive(Clone, Copy)]
+#[derive(Drop)]
 pub(crate) enum Played<'a> {
     /// The record or the layout is refused, and nothing is played.
     NoContent(Fault),

@@ -20,11 +20,12 @@ pub fn why_on<'a, S: Screens>(screens: &mut S, file: &'a [u8]) -> Result<Why<'a>
     ensures memory { IsSome (record_fault file.now) → IsOk result }
     ensures room { AnswersWithin S.has_room S.may_lack file.now screens.old result }
 {
-    Ok(match play_file(screens, file)? {
-        Played::NoContent(fault) => Why::of_record(file, fault),
-        Played::Refused(parts, fault) => Why::of_refusal(parts, fault),
+    match play_file(screens, file)? {
+        Played::NoContent(fault) => Ok(Why::of_record(file, fault)),
+        Played::Refused(parts, fault) => Ok(Why::of_refusal(parts, fault)),
         Played::Passes(parts, least) => {
-            Why::of_pass(parts, file.len(), least.class, least.fault)
+            let length = file.len();
+            Ok(Why::of_pass(parts, length, least.class, least.fault))
         }
-    })
+    }
 }

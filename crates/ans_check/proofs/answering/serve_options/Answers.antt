@@ -1,4 +1,4 @@
-use Rattle.std.proofs.Common.{refl, sym, subst, inl}
+use Rattle.std.proofs.Common.{refl, rules, sym, subst, inl}
 use Rattle.std.specs.Prelude.{option_map, string_bytes}
 use Rattle.ans_check.specs.Answer.{IsNamed}
 use Rattle.ans_check.proofs.answering.serve_options.Goals as goal
@@ -8,7 +8,7 @@ returns-clause-ends g c = inl (record {
   options = c.args.options.now;
   file = option_map string_bytes c.args.name.now;
   asked = c.requires.asked;
-  one = c.requires.one;
+  one = search rules;
   faultless = c.requires.faultless;
   reader = c.new-reader.result;
   reader_after = c.serve.new.reader;
