@@ -46,7 +46,8 @@ module _ (z : Size) (class : Start) (content : List ℕ) where
   one_before : (fault : Fault) (p q : List TokenKind) → StandsBefore z class content fault p
       → StandsBefore z class content fault q → p ≡ q
   one_before fault p q h g =
-      let (r, s) = (h.read, g.read) in
+      let r = h.read in
+      let s = g.read in
       let front : r.front ≡ s.front =
       sym (front_is content r.front h.rest fault.offset r.whole r.offset_is)
       ∙ front_is content s.front g.rest fault.offset s.whole s.offset_is in

@@ -16,7 +16,7 @@ use Rattle.ans_model.specs.Verdict.Good.{Picture, GoodWith}
 use Rattle.ans_model.specs.Verdict.FirstFault.{IsFirstFault}
 use Rattle.ans_model.specs.Verdict.LastFault.{IsLastFault}
 use Rattle.ans_model.proofs.AcceptedFiles.{no_fault, one_layout}
-use Rattle.ans_model.proofs.ClassLemmas.{covers_itself}
+use Rattle.ans_model.proofs.ClassLemmas.{covers_all_known, covers_itself}
 use Rattle.ans_model.proofs.OneAnswer.{one_first_fault, one_last_fault, first_or_last}
 use Rattle.ans_laws.proofs.OneTokensText.{one_fault_of_tokens, one_text_of_tokens}
 use Rattle.ans_options.specs.declared.command.Command.TheVariants.{Why, Check, Show, Sauce, Tokens, Needs, Table}
@@ -29,7 +29,7 @@ use Rattle.ans_check.specs.CommandText.{ReportsRecordFault, ReportsSauce, Report
 use Rattle.ans_check.specs.FileVerdict.{Passes}
 use Rattle.ans_check.specs.FileNeeds.{NeedsClass}
 use Rattle.ans_check.specs.FileVerdict.{Deserves, IsGoodFile, IsRefusedFor, stated_size}
-use Rattle.ans_judge.proofs.Covering.{covers_all_known, covers_both_ways}
+use Rattle.ans_judge.proofs.Covering.{covers_both_ways}
 use Rattle.ans_judge.proofs.NeedsAndChecks.{good_where_covered}
 use Rattle.ans_judge.proofs.OneWhy.{one_why}
 use Rattle.ans_play.proofs.OneEnd.{one_picture}

@@ -20,7 +20,7 @@ use Rattle.ans_model.specs.Text.ReportText.{refusal_text, size_text}
 use Rattle.ans_model.specs.Verdict.Good.{IsGood}
 use Rattle.ans_model.specs.Verdict.Needs.{IsLeast}
 use Rattle.ans_model.proofs.AcceptedFiles.{no_fault, one_layout}
-use Rattle.ans_model.proofs.ClassLemmas.{covers_itself}
+use Rattle.ans_model.proofs.ClassLemmas.{covers_all_known, covers_itself}
 use Rattle.ans_model.proofs.OneAnswer.{good_or_first, good_or_last, first_or_last, one_first_fault, one_last_fault}
 use Rattle.ans_sauce.specs.declared.parts.Parts.{Parts}
 use Rattle.ans_sauce.specs.declared.found.Found.{Found}
@@ -45,7 +45,7 @@ use Rattle.ans_explain.specs.declared.why.Shown.{Shown}
 use Rattle.ans_explain.specs.declared.why.Why.{Why}
 use Rattle.ans_explain.specs.declared.why.Why.TheVariants.{NoContent, Refused, Passes}
 use Rattle.ans_check.specs.CommandText.{is_of_pass}
-use Rattle.ans_judge.proofs.Covering.{covers_all_known, covers_both_ways, same_truth}
+use Rattle.ans_judge.proofs.Covering.{covers_both_ways, same_truth}
 use Rattle.ans_judge.proofs.OneBlamed.{one_blamed}
 use Rattle.ans_judge.proofs.OneEvidence.{one_places, one_shown}
 use Rattle.ans_judge.proofs.OneFound.{one_found}
