@@ -33,7 +33,7 @@ pub refusal_told : (file : List ℕ) (start : Start) (parts : Parts) (fault : Fa
     → IsSplit file parts → Deserves (parts_size parts) start (content_of parts) fault → TellsFault told fault
     → TellsRefusal file start told
 refusal_told file start parts fault told split found tells =
-    let r = refuses file start parts fault split found in
+    let r = refuses file start parts split fault found in
     record {
       fault = fault;
       tells = tells;
@@ -45,7 +45,7 @@ pub pass_told : (file : List ℕ) (start : Start) (parts : Parts) (p : Picture) 
     → IsSplit file parts → GoodWith (parts_size parts) start (content_of parts) p → HoldsPicture p glyphs attributes
     → TellsPass file start glyphs attributes
 pass_told file start parts p glyphs attributes split good holds =
-    let r = passes file start parts p split good in
+    let r = passes file start parts split p good in
     record { apart = r.0; picture = p; passes = r.2; holds = holds }
 
 -- what is refused even from the cleared start

@@ -29,11 +29,6 @@ takes_then p q = record {
   want = λ e. p.lacked (q.want e);
 }
 
--- an answer at last
-pub takes_ok : {S T E : Type 0} {has_room may_lack : S → Size → Type 0} {z : Size} {a b : S} {v : T}
-    → KeepsRoom has_room may_lack z a b → TakesRoom {E = E} has_room may_lack z a b (Ok v)
-takes_ok p = record { keeps = p; room = λ h. refl; want = λ e. absurd (cc e) }
-
 not_both : {T E : Type 0} (r : Result T E) → IsOk r → IsErr r → ⊥
 not_both (Ok v) ok err = cc
 not_both (Err e) ok err = cc
@@ -69,11 +64,6 @@ takes_lent r z old new rows bytes exact = record {
   room = λ h. exact.1 h;
   want = λ err h. not_both r (exact.1 h) err;
 }
-
--- an answer needs no room
-pub within_answer : {S T E : Type 0} {has_room may_lack : S → Size → Type 0} {a : S} {v : T} (file : List ℕ)
-    → AnswersWithin {E = E} has_room may_lack file a (Ok v)
-within_answer file = record { room = λ apart accepts h. refl; want = λ e. absurd (cc e) }
 
 -- want of room is handed on, whatever the answer would have been
 pub within_err : {S T U E D : Type 0} {has_room may_lack : S → Size → Type 0} {a : S} {r : Result T E} {lost : Result U D}

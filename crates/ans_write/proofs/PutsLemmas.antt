@@ -155,14 +155,6 @@ Puts-same {W} {contents} {a} {b} same p =
     let P : List ℕ → Type 0 = λ t. Puts contents a b t in
     subst P same p
 
--- text was added to what waits
-pub Puts-gathered : {W : Type 0} {contents : W → Option (List ℕ)} (a b : Outbox W) (x : List ℕ) → b.device ≡ a.device
-    → b.waiting.items ≡ a.waiting.items ++ x → Puts contents a b x
-Puts-gathered {W} {contents} a b x same gathered = record {
-  hands_on = HandsOn-gathered a b x same gathered;
-  spares = λ works fits. rw same refl;
-}
-
 -- one more text of a list was put
 pub Puts-next : {W A : Type 0} {contents : W → Option (List ℕ)} {a b c : Outbox W} (f : A → List ℕ) (xs : List A)
     (i : ℕ) (d : A)
