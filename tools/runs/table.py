@@ -163,7 +163,7 @@ SAUCE_HELP = file_help("Print what a file's SAUCE record says", "sauce")
 WHY_HELP = file_help("Say why a drawing is refused, what it relies on, and how to mend it", "why")
 NEEDS_HELP = file_help("Print what a drawing relies on: screen, cursor, saved, colours, wrap", "needs")
 TOKENS_HELP = file_help("Print the bytes and the escape sequences of a file, one a line", "tokens")
-VERSION = b"anscheck 0.1.0 (rattle-kit-13f)\n"
+VERSION = b"anscheck 0.1.0 (rattle logic dac8208d650f15bf)\n"
 
 
 def mistake(what, usage):

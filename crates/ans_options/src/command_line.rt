@@ -43,8 +43,8 @@ impl From<clap::Error> for WordsError {
     }
 }
 
-/// What `--version` prints after the program's name: its version, and the kit that proved it.
-const VERSION: &str = "0.1.0 (rattle-kit-13f)";
+/// What `--version` prints after the program's name: its version, and the prover's logic.
+const VERSION: &str = "0.1.0 (rattle logic dac8208d650f15bf)";
 
 /// A text, and behind it the exit statuses.
 macro_rules! with_exit_statuses {
@@ -282,12 +282,10 @@ fn form_asked(matches: &ArgMatches<'_>) -> Form
 fn table_form_asked(matches: &ArgMatches<'_>) -> TableForm
     ensures { result ≡ table_form_asked (rows_of (found_of matches.now)) }
 {
-    if holds(matches, "json") {
-        TableForm::Json
-    } else if holds(matches, "no-header") {
-        TableForm::Bare
-    } else {
-        TableForm::Headed
+    match (holds(matches, "json"), holds(matches, "no-header")) {
+        (true, _) => TableForm::Json,
+        (false, true) => TableForm::Bare,
+        (false, false) => TableForm::Headed,
     }
 }
 
