@@ -1,10 +1,12 @@
 -- The row of a file as a JSON object. What is absent is left out. The names of an object stand in the order of their
 -- bytes, as those of its map do.
-use Rattle.std.specs.Prelude.{◌≡◌, ℕ, zero, suc, ◌+◌, ◌/◌, ◌%◌, ◌==◌, Bool, true, false, List, [], ◌∷◌, ◌++◌, length}
+use Rattle.std.specs.Prelude.{◌≡◌, ℕ, zero, suc, ◌+◌, ◌/◌, ◌%◌, ◌==◌, List, [], ◌∷◌, ◌++◌, length}
 use Rattle.std.specs.Prelude.{map}
-use Rattle.std.specs.Prelude.{Option, Some, None, Result, OnOk, codes, if◌then◌else◌}
+use Rattle.std.specs.Prelude.{Option, Some, None, Result, OnOk, String, codes, if◌then◌else◌}
+use Rattle.std.specs.declared.alloc.Global.{Global}
 use Rattle.serde_json.specs.Data.{Data, Members, unsigned, boolean, number, string, array, object, no_members, put}
-use Rattle.serde_json.specs.View.{items_of}
+use Rattle.serde_json.specs.View.{items_of, members_view}
+use Rattle.serde_json.specs.declared.value.Value.{Value}
 use Rattle.serde_json.specs.Written.{compact_text}
 use Rattle.ans_model.specs.declared.fault.Fault.{Fault}
 use Rattle.ans_model.specs.File.Record.{author_field, comment, comment_count, date_field, flags, font_field}
@@ -129,6 +131,10 @@ row_data name finding = object (with_values (row_values name finding) no_members
 abbrev pub json_text : List ℕ → Finding → List ℕ
 json_text name finding = compact_text (row_data name finding)
 
+-- the members of an object, as its map holds them
+abbrev pub Entries : Type 0
+Entries = List (String Global × Value)
+
 -- at `Ok` the members have these values too
-abbrev pub Adds : {T E : Type 0} → Members → Members → Result T E → List Named → Type 0
-Adds old new result values = OnOk result (new ≡ with_values values old)
+abbrev pub Adds : {T E : Type 0} → Entries → Entries → Result T E → List Named → Type 0
+Adds old new result values = OnOk result (members_view new ≡ with_values values (members_view old))

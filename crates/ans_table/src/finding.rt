@@ -130,18 +130,9 @@ impl<'a> Finding<'a> {
         ensures { result ≡ outcome_of self.now }
     {
         match self {
-            Finding::Pass {
-                parts: _,
-                needs: _,
-                taller: _,
-            } => Outcome::Pass,
-            Finding::Refused {
-                parts: _,
-                fault: _,
-                row: _,
-                column: _,
-            } => Outcome::Refused,
-            Finding::NoContent { fault: _, sauce: _ } => Outcome::Refused,
+            Finding::Pass { .. } => Outcome::Pass,
+            Finding::Refused { .. } => Outcome::Refused,
+            Finding::NoContent { .. } => Outcome::Refused,
             Finding::Unread(_) => Outcome::Unread,
         }
     }

@@ -28,18 +28,8 @@ pub(crate) fn sauce_of<'a>(finding: &Finding<'a>) -> Option<Record<'a>>
     ensures { option_map bytes_of result ≡ sauce_of finding.now }
 {
     match finding {
-        Finding::Pass {
-            parts,
-            needs: _,
-            taller: _,
-        } => Some(parts.sauce()),
-        Finding::Refused {
-            parts,
-            fault: _,
-            row: _,
-            column: _,
-        } => Some(parts.sauce()),
-        Finding::NoContent { fault: _, sauce } => *sauce,
+        Finding::Pass { parts, .. } | Finding::Refused { parts, .. } => Some(parts.sauce()),
+        Finding::NoContent { sauce, .. } => *sauce,
         Finding::Unread(_) => None,
     }
 }

@@ -1,8 +1,7 @@
-use Rattle.std.proofs.Common.{◌≡◌, ◌∙◌, ap, codes, option_map, sym}
+use Rattle.std.proofs.Common.{◌≡◌, ◌∙◌, ap, codes}
 use Rattle.serde_json.proofs.Views.{view-Object}
-use Rattle.serde_json.specs.Data.{no_members, object, put, string}
+use Rattle.serde_json.specs.Data.{object, put, string}
 use Rattle.serde_json.specs.View.{members_view}
-use Rattle.ans_sauce.specs.RecordBytes.{bytes_of}
 use Rattle.ans_table.specs.Findings.{sauce_of}
 use Rattle.ans_table.specs.JsonRow.{Named, content_values, record_values, verdict_values, with_values}
 use Rattle.ans_table.specs.NameText.{name_text}
