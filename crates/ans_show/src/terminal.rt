@@ -72,22 +72,16 @@ fn foreground_text(colour: usize, vga: bool) -> &'static [u8]
     requires { colour < 16 }
     ensures { result.now ≡ foreground_text vga colour }
 {
-    if vga {
-        VGA_FOREGROUNDS[colour]
-    } else {
-        FOREGROUNDS[colour]
-    }
+    let texts = if vga { &VGA_FOREGROUNDS } else { &FOREGROUNDS };
+    texts[colour]
 }
 
 fn background_text(colour: usize, vga: bool) -> &'static [u8]
     requires { colour < 16 }
     ensures { result.now ≡ background_text vga colour }
 {
-    if vga {
-        VGA_BACKGROUNDS[colour]
-    } else {
-        BACKGROUNDS[colour]
-    }
+    let texts = if vga { &VGA_BACKGROUNDS } else { &BACKGROUNDS };
+    texts[colour]
 }
 
 fn start_text(blinks: bool) -> &'static [u8]
