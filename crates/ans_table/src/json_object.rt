@@ -15,7 +15,6 @@ ghost use Rattle.ans_table.specs.Words.{note_number, part_names, texts_of};
 use crate::columns::{fault_number, stated_lines, stated_width};
 use crate::finding::Finding;
 use crate::name_text::put_name;
-use crate::row_text::sauce_of;
 use crate::words::{note_number, part_names};
 use ans_model::fault::Fault;
 use ans_model::note::Note;
@@ -27,6 +26,9 @@ use std::alloc::{AllocError, Global};
 
 /// The members of an object.
 type Members = Map<String, Value>;
+
+/// What adding to an object gives: `Err` where memory is refused.
+type Added = Result<(), AllocError>;
 
 /// The characters of bytes.
 fn shown_value(alloc: Global, bytes: &[u8]) -> Result<Value, AllocError>
@@ -94,25 +96,20 @@ fn comments_value(alloc: Global, parts: &Parts<'_>) -> Result<Value, AllocError>
     Ok(Value::Array(list))
 }
 
-fn put_text(members: &mut Members, alloc: Global, name: &str, text: &str) -> Result<(), AllocError>
+fn put_text(members: &mut Members, alloc: Global, name: &str, text: &str) -> Added
     ensures { Adds members.old.entries members.new.entries result
         ((name.now, string text.now) ∷ []) }
 {
     put(members, alloc, name, Value::try_from_str(alloc, text)?)
 }
 
-fn put_number(
-    members: &mut Members,
-    alloc: Global,
-    name: &str,
-    number: usize,
-) -> Result<(), AllocError>
+fn put_number(members: &mut Members, alloc: Global, name: &str, number: usize) -> Added
     ensures { Adds members.old.entries members.new.entries result ((name.now, count number) ∷ []) }
 {
     put(members, alloc, name, Value::from(number))
 }
 
-fn put_fault(members: &mut Members, alloc: Global, fault: &Fault) -> Result<(), AllocError>
+fn put_fault(members: &mut Members, alloc: Global, fault: &Fault) -> Added
     ensures { Adds members.old.entries members.new.entries result (fault_values fault.now) }
 {
     put_text(members, alloc, "verdict", "refused")?;
@@ -121,11 +118,7 @@ fn put_fault(members: &mut Members, alloc: Global, fault: &Fault) -> Result<(), 
 }
 
 /// The members from the verdict to the place of the fault.
-fn put_verdict(
-    members: &mut Members,
-    alloc: Global,
-    finding: &Finding<'_>,
-) -> Result<(), AllocError>
+fn put_verdict(members: &mut Members, alloc: Global, finding: &Finding<'_>) -> Added
     ensures { Adds members.old.entries members.new.entries result (verdict_values finding.now) }
 {
     match finding {
@@ -152,7 +145,7 @@ fn put_verdict(
     }
 }
 
-fn put_parts(members: &mut Members, alloc: Global, parts: &Parts<'_>) -> Result<(), AllocError>
+fn put_parts(members: &mut Members, alloc: Global, parts: &Parts<'_>) -> Added
     ensures { Adds members.old.entries members.new.entries result (parts_values parts.now) }
 {
     let notes = notes_value(alloc, parts.notes().as_slice())?;
@@ -162,11 +155,7 @@ fn put_parts(members: &mut Members, alloc: Global, parts: &Parts<'_>) -> Result<
 }
 
 /// The members of the content's length, the notes and the comments.
-fn put_content(
-    members: &mut Members,
-    alloc: Global,
-    finding: &Finding<'_>,
-) -> Result<(), AllocError>
+fn put_content(members: &mut Members, alloc: Global, finding: &Finding<'_>) -> Added
     ensures { Adds members.old.entries members.new.entries result (content_values finding.now) }
 {
     match finding {
@@ -178,7 +167,7 @@ fn put_content(
 }
 
 /// Bits 1 and 2 of the flags.
-fn put_spacing(members: &mut Members, alloc: Global, flags: u8) -> Result<(), AllocError>
+fn put_spacing(members: &mut Members, alloc: Global, flags: u8) -> Added
     ensures { Adds members.old.entries members.new.entries result (spacing_values flags) }
 {
     match flags / 2 % 4 {
@@ -189,7 +178,7 @@ fn put_spacing(members: &mut Members, alloc: Global, flags: u8) -> Result<(), Al
 }
 
 /// Bits 3 and 4 of the flags.
-fn put_aspect(members: &mut Members, alloc: Global, flags: u8) -> Result<(), AllocError>
+fn put_aspect(members: &mut Members, alloc: Global, flags: u8) -> Added
     ensures { Adds members.old.entries members.new.entries result (aspect_values flags) }
 {
     match flags / 8 % 4 {
@@ -199,7 +188,7 @@ fn put_aspect(members: &mut Members, alloc: Global, flags: u8) -> Result<(), All
     }
 }
 
-fn put_flags(members: &mut Members, alloc: Global, flags: u8) -> Result<(), AllocError>
+fn put_flags(members: &mut Members, alloc: Global, flags: u8) -> Added
     ensures { Adds members.old.entries members.new.entries result (flag_values flags) }
 {
     put(members, alloc, "ice", Value::Bool(flags % 2 == 1))?;
@@ -207,14 +196,14 @@ fn put_flags(members: &mut Members, alloc: Global, flags: u8) -> Result<(), Allo
     put_aspect(members, alloc, flags)
 }
 
-fn put_size(members: &mut Members, alloc: Global, sauce: &Record<'_>) -> Result<(), AllocError>
+fn put_size(members: &mut Members, alloc: Global, sauce: &Record<'_>) -> Added
     ensures { Adds members.old.entries members.new.entries result (size_values (bytes_of sauce.now)) }
 {
     put_number(members, alloc, "width", stated_width(sauce))?;
     put_number(members, alloc, "lines", stated_lines(sauce))
 }
 
-fn put_fields(members: &mut Members, alloc: Global, sauce: &Record<'_>) -> Result<(), AllocError>
+fn put_fields(members: &mut Members, alloc: Global, sauce: &Record<'_>) -> Added
     ensures { Adds members.old.entries members.new.entries result (field_values (bytes_of sauce.now)) }
 {
     put(members, alloc, "font", shown_value(alloc, sauce.font())?)?;
@@ -230,11 +219,7 @@ fn put_fields(members: &mut Members, alloc: Global, sauce: &Record<'_>) -> Resul
 }
 
 /// The members of the record, where there is one.
-fn put_record(
-    members: &mut Members,
-    alloc: Global,
-    sauce: Option<Record<'_>>,
-) -> Result<(), AllocError>
+fn put_record(members: &mut Members, alloc: Global, sauce: Option<Record<'_>>) -> Added
     ensures { Adds members.old.entries members.new.entries result (record_values (option_map bytes_of sauce.entry)) }
 {
     match sauce {
@@ -253,7 +238,7 @@ fn row_value(alloc: Global, name: &[u8], finding: &Finding<'_>) -> Result<Value,
     let mut members = Map::new(alloc);
     put_verdict(&mut members, alloc, finding)?;
     put_content(&mut members, alloc, finding)?;
-    put_record(&mut members, alloc, sauce_of(finding))?;
+    put_record(&mut members, alloc, finding.sauce())?;
     put(&mut members, alloc, "file", name_value(alloc, name)?)?;
     Ok(Value::Object(members))
 }
