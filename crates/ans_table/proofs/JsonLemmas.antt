@@ -22,7 +22,7 @@ use Rattle.ans_table.specs.declared.finding.Finding.TheVariants.{Pass, Refused, 
 use Rattle.ans_table.specs.Findings.{sauce_of}
 use Rattle.ans_table.specs.NameText.{name_text}
 use Rattle.ans_table.specs.JsonRow.{Adds, Entries, Named, aspect_values, comments_from, content_values, count}
-use Rattle.ans_table.specs.JsonRow.{fault_values, field_values, flag_values}
+use Rattle.ans_table.specs.JsonRow.{fault_values, field_values, flag_values, pair_values}
 use Rattle.ans_table.specs.JsonRow.{parts_values, record_values, row_data, row_values}
 use Rattle.ans_table.specs.JsonRow.{spacing_values, texts, verdict_values, with_values}
 
@@ -132,24 +132,20 @@ flat_if : (b : Bool) (vs ws : List Named) → AllFlat vs → AllFlat ws → AllF
 flat_if true vs ws h g = h
 flat_if false vs ws h g = g
 
-flat_one : (v : Named) → IsFlat v.1 → AllFlat (v ∷ [])
-flat_one v h = (h, tt)
+flat_pair : (pair : ℕ) (one two : Named) → IsFlat one.1 → IsFlat two.1 → AllFlat (pair_values pair one two)
+flat_pair pair one two h g =
+    flat_if (pair == 1) (one ∷ []) (if pair == 2 then two ∷ [] else []) (h, tt)
+    (flat_if (pair == 2) (two ∷ []) [] (g, tt) tt)
 
 flat_spacing : (bits : ℕ) → AllFlat (spacing_values bits)
 flat_spacing bits =
-    flat_if (bits / 2 % 4 == 1) ((codes "spacing", count 8) ∷ [])
-    (if bits / 2 % 4 == 2 then (codes "spacing", count 9) ∷ [] else [])
-    (flat_one (codes "spacing", count 8) (simple (count 8) refl (omega arith)))
-    (flat_if (bits / 2 % 4 == 2) ((codes "spacing", count 9) ∷ []) []
-    (flat_one (codes "spacing", count 9) (simple (count 9) refl (omega arith))) tt)
+    flat_pair (bits / 2 % 4) (codes "spacing", count 8) (codes "spacing", count 9)
+    (simple (count 8) refl (omega arith)) (simple (count 9) refl (omega arith))
 
 flat_aspect : (bits : ℕ) → AllFlat (aspect_values bits)
 flat_aspect bits =
-    flat_if (bits / 8 % 4 == 1) ((codes "aspect", string (codes "stretch")) ∷ [])
-    (if bits / 8 % 4 == 2 then (codes "aspect", string (codes "square")) ∷ [] else [])
-    (flat_one (codes "aspect", string (codes "stretch")) (simple (string (codes "stretch")) refl (omega arith)))
-    (flat_if (bits / 8 % 4 == 2) ((codes "aspect", string (codes "square")) ∷ []) []
-    (flat_one (codes "aspect", string (codes "square")) (simple (string (codes "square")) refl (omega arith))) tt)
+    flat_pair (bits / 8 % 4) (codes "aspect", string (codes "stretch")) (codes "aspect", string (codes "square"))
+    (simple (string (codes "stretch")) refl (omega arith)) (simple (string (codes "square")) refl (omega arith))
 
 flat_flags : (bits : ℕ) → AllFlat (flag_values bits)
 flat_flags bits = (

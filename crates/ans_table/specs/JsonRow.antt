@@ -76,19 +76,18 @@ content_values (Refused parts fault row column_number) = parts_values parts
 content_values (NoContent fault sauce) = []
 content_values (Unread reason) = []
 
+-- what a pair of bits says, where it says one of two things
+abbrev pub pair_values : ℕ → Named → Named → List Named
+pair_values pair one two = if pair == 1 then one ∷ [] else if pair == 2 then two ∷ [] else []
+
 -- bits 1 and 2 of the flags: letters of 8 or of 9 pixels, where they say which
 abbrev pub spacing_values : ℕ → List Named
-spacing_values flags = let pair = flags / 2 % 4 in
-    if pair == 1 then (codes "spacing", count 8) ∷ []
-    else if pair == 2 then (codes "spacing", count 9) ∷ []
-    else []
+spacing_values flags = pair_values (flags / 2 % 4) (codes "spacing", count 8) (codes "spacing", count 9)
 
 -- bits 3 and 4 of the flags: pixels to be stretched, or square ones, where they say which
 abbrev pub aspect_values : ℕ → List Named
-aspect_values flags = let pair = flags / 8 % 4 in
-    if pair == 1 then (codes "aspect", string (codes "stretch")) ∷ []
-    else if pair == 2 then (codes "aspect", string (codes "square")) ∷ []
-    else []
+aspect_values flags =
+    pair_values (flags / 8 % 4) (codes "aspect", string (codes "stretch")) (codes "aspect", string (codes "square"))
 
 -- whether bit 7 of an attribute is a bright background (bit 0), the spacing and the aspect
 abbrev pub flag_values : ℕ → List Named
