@@ -1,7 +1,7 @@
 -- Content without moves up and down plays on a taller screen as on the stated one.
 use Rattle.std.proofs.Common.{◌≡◌, ℕ, zero, suc, Bool, true, false, List, [], ◌∷◌, fold, refl, sym, ◌∙◌, Some}
 use Rattle.std.proofs.lemmas.Option.{same_Some}
-use Rattle.std.specs.Prelude.{◌↔◌, ◌||◌, not, IsTrue, slice_get}
+use Rattle.std.specs.Prelude.{slice_get}
 use Rattle.ans_model.specs.Sequence.TokenKind.{TokenKind, Up, Down}
 use Rattle.ans_model.specs.Screen.State.{Size}
 use Rattle.ans_model.specs.declared.start.Start.{Start}

@@ -69,22 +69,27 @@ fn put_bytes_line<W: Write>(out: &mut Outbox<'_, W>, bytes: &[u8])
     out.put(b"\n");
 }
 
+/// Puts two numbers, each behind a text.
+fn put_numbers<W: Write>(
+    out: &mut Outbox<'_, W>,
+    before: &[u8],
+    number: usize,
+    between: &[u8],
+    other: usize,
+)
+    ensures { Puts W.contents out.old out.new
+        (before.now ++ (decimal number ++ (between.now ++ decimal other))) }
+{
+    out.put(before);
+    out.put_decimal(number as u64);
+    out.put(between);
+    out.put_decimal(other as u64);
+}
+
 fn put_place<W: Write>(out: &mut Outbox<'_, W>, place: Place)
     ensures { Puts W.contents out.old out.new (place_text place) }
 {
-    out.put(b"row ");
-    out.put_decimal(place.row as u64);
-    out.put(b", column ");
-    out.put_decimal(place.column as u64);
-}
-
-fn put_place_line<W: Write>(out: &mut Outbox<'_, W>, name: &[u8], place: Place)
-    ensures { Puts W.contents out.old out.new (named_line name.now (place_text place)) }
-{
-    out.put(name);
-    out.put(b": ");
-    put_place(out, place);
-    out.put(b"\n");
+    put_numbers(out, b"row ", place.row, b", column ", place.column);
 }
 
 fn put_cell<W: Write>(out: &mut Outbox<'_, W>, cell: Cell)
@@ -96,28 +101,23 @@ fn put_cell<W: Write>(out: &mut Outbox<'_, W>, cell: Cell)
     out.put(&hex_byte(cell.attribute));
 }
 
-fn put_cell_line<W: Write>(out: &mut Outbox<'_, W>, name: &[u8], cell: Cell)
-    ensures { Puts W.contents out.old out.new (named_line name.now (cell_text cell)) }
-{
-    out.put(name);
-    out.put(b": ");
-    put_cell(out, cell);
-    out.put(b"\n");
-}
-
 fn put_shown<W: Write>(out: &mut Outbox<'_, W>, shown: Shown)
     ensures { Puts W.contents out.old out.new (shown_lines shown) }
 {
+    out.put(b"low start: ");
     match shown {
         Shown::Cursors { low, high } => {
-            put_place_line(out, b"low start", low);
-            put_place_line(out, b"high start", high);
+            put_place(out, low);
+            out.put(b"\nhigh start: ");
+            put_place(out, high);
         }
         Shown::Cells { low, high } => {
-            put_cell_line(out, b"low start", low);
-            put_cell_line(out, b"high start", high);
+            put_cell(out, low);
+            out.put(b"\nhigh start: ");
+            put_cell(out, high);
         }
     }
+    out.put(b"\n");
 }
 
 fn put_mend_line<W: Write>(out: &mut Outbox<'_, W>, mends: bool)
@@ -171,7 +171,9 @@ fn put_refused<W: Write>(out: &mut Outbox<'_, W>, parts: &Parts<'_>, refusal: &R
 {
     put_refusal(out, &refusal.fault);
     put_bytes_line(out, refusal.bytes);
-    put_place_line(out, b"cleared start", refusal.cursor);
+    out.put(b"cleared start: ");
+    put_place(out, refusal.cursor);
+    out.put(b"\n");
     put_lines_line(out, refusal.lines);
     let hints = Hints {
         empty_rows: 0,
@@ -193,20 +195,15 @@ fn put_count<W: Write>(out: &mut Outbox<'_, W>, count: u64, what: &[u8])
 fn put_record_found<W: Write>(out: &mut Outbox<'_, W>, offset: usize, behind: usize)
     ensures { Puts W.contents out.old out.new (found_line (found.Record offset behind)) }
 {
-    out.put(b"found: a record at ");
-    out.put_decimal(offset as u64);
-    out.put(b", and ");
-    out.put_decimal(behind as u64);
+    put_numbers(out, b"found: a record at ", offset, b", and ", behind);
     out.put(b" bytes behind it\n");
 }
 
 fn put_kind_found<W: Write>(out: &mut Outbox<'_, W>, data_type: u8, file_type: u8)
     ensures { Puts W.contents out.old out.new (found_line (found.Kind data_type file_type)) }
 {
-    out.put(b"found: data type ");
-    out.put_decimal(u64::from(data_type));
-    out.put(b", file type ");
-    out.put_decimal(u64::from(file_type));
+    let (kind, subkind) = (usize::from(data_type), usize::from(file_type));
+    put_numbers(out, b"found: data type ", kind, b", file type ", subkind);
     out.put(b"\n");
 }
 

@@ -5,7 +5,7 @@ use Rattle.std.specs.List.{concat}
 use Rattle.ans_model.specs.Sequence.TokenKind.{TokenKind, Glyph}
 use Rattle.ans_model.specs.Screen.State.{Size, State}
 use Rattle.ans_model.specs.Screen.Step.{step, final}
-use Rattle.ans_hints.specs.Places.{offset_if, places, times_of}
+use Rattle.ans_hints.specs.Places.{Condition, offset_if, places, times_of}
 use Rattle.ans_hints.specs.Conditions.{loose_line_feed, full_row, wide_character, later_colours, blinking_glyph}
 use Rattle.ans_hints.specs.Rows.{rows_with, rows_after}
 use Rattle.ans_hints.specs.RowMoves.{moved_with}
@@ -40,22 +40,6 @@ counted_if times true offset later = refl
 counted_if times false offset later = refl
 
 -- ---- a token
-abbrev found_of : Option Times → Option Times → Option Times → Option Times → Option Times → ℕ → Bool
-    → Found
-found_of loose full wide later blinking rows moves = record {
-  loose_line_feeds = loose;
-  full_rows = full;
-  wide_characters = wide;
-  later_colours = later;
-  blinking_glyphs = blinking;
-  rows = rows;
-  moves_rows = moves;
-}
-
-same_found : (a b c d e a' b' c' d' e' : Option Times) (rows : ℕ) (moves : Bool) → a ≡ a' → b ≡ b' → c ≡ c' → d ≡ d'
-    → e ≡ e' → found_of a b c d e rows moves ≡ found_of a' b' c' d' e' rows moves
-same_found a b c d e a' b' c' d' e' rows moves f g h i j = cc
-
 -- the token is found, and then the others
 pub found_next : (z : Size) (s : State) (offset : ℕ) (t : TokenKind) (tokens : List TokenKind) (text : List ℕ)
     (texts : List (List ℕ)) (behind : List ℕ) (found : Found)
@@ -63,17 +47,22 @@ pub found_next : (z : Size) (s : State) (offset : ℕ) (t : TokenKind) (tokens :
     ≡ found_after z (step z s t) (offset + length text) tokens texts behind
     (found_with z s offset t (concat texts ++ behind) found)
 found_next z s offset t tokens text texts behind found =
-    let rest = concat texts ++ behind in
+    let next = λ (holds : Condition) (at : ℕ) (times : Option Times).
+    counted_if times (holds z s t (concat texts ++ behind)) at
+    (places holds z (step z s t) (at + length text) tokens texts behind) in
     let on : (offset + 1) + length text ≡ (offset + length text) + 1 = omega arith in
-    same_found _ _ _ _ _ _ _ _ _ _ (rows_after z (step z s t) (rows_with z s found.rows t) tokens)
-    (fold moved_with (moved_with found.moves_rows t) tokens)
-    (counted_if found.loose_line_feeds (loose_line_feed z s t rest) offset _)
-    (counted_if found.full_rows (full_row z s t rest) (offset + 1) _
-    ∙ ap (λ (n : ℕ). fold once_more (counted found.full_rows (full_row z s t rest) (offset + 1))
-    (places full_row z (step z s t) n tokens texts behind)) on)
-    (counted_if found.wide_characters (wide_character z s t rest) offset _)
-    (counted_if found.later_colours (later_colours z s t rest) offset _)
-    (counted_if found.blinking_glyphs (blinking_glyph z s t rest) offset _)
+    let full : Option Times = counted found.full_rows (full_row z s t (concat texts ++ behind)) (offset + 1) in
+    let full_rows = next full_row (offset + 1) found.full_rows
+    ∙ ap (λ (n : ℕ). fold once_more full (places full_row z (step z s t) n tokens texts behind)) on in
+    λ i. record {
+      loose_line_feeds = next loose_line_feed offset found.loose_line_feeds i;
+      full_rows = full_rows i;
+      wide_characters = next wide_character offset found.wide_characters i;
+      later_colours = next later_colours offset found.later_colours i;
+      blinking_glyphs = next blinking_glyph offset found.blinking_glyphs i;
+      rows = rows_after z (step z s t) (rows_with z s found.rows t) tokens;
+      moves_rows = fold moved_with (moved_with found.moves_rows t) tokens;
+    }
 
 -- ---- glyphs
 -- the bytes, each alone

@@ -10,9 +10,9 @@ use Rattle.ans_model.specs.Sequence.TokenKind.{TokenKind, Glyph}
 use Rattle.ans_model.specs.Screen.State.{Size, State, at}
 use Rattle.ans_model.specs.Screen.Step.{put, step, final}
 use Rattle.ans_hints.specs.Conditions.{begins_with_wide}
-use Rattle.ans_hints.specs.Counted.{counted}
+use Rattle.ans_hints.specs.Counted.{counted, many_more}
 use Rattle.ans_hints.specs.FoundSoFar.{found_with}
-use Rattle.ans_hints.specs.InRow.{many_more, with_wide, found_in_row}
+use Rattle.ans_hints.specs.InRow.{with_wide, found_in_row}
 use Rattle.ans_pen.specs.Pens.{pen_of}
 use Rattle.ans_hints.specs.Walks.{Shows, found_in_glyphs}
 use Rattle.ans_hints.specs.declared.times.Times.{Times}
@@ -36,12 +36,6 @@ found_one z s offset byte rest found lt =
     rw (ne_eqb (s.cursor.column + 1) z.width (λ e. omega (arith, lt, e))) refl
 
 -- ---- glyphs
-one_time : (times : Option Times) (test : Bool) (offset : ℕ)
-    → counted times test offset ≡ (if test then many_more times 1 offset else times)
-one_time None true offset = refl
-one_time (Some times) true offset = refl
-one_time times false offset = refl
-
 one_time_more : (times : Option Times) (test : Bool) (offset n : ℕ)
     → (if test then many_more (counted times test offset) (suc n) (offset + 1) else counted times test offset)
     ≡ (if test then many_more times (suc (suc n)) offset else times)
@@ -60,13 +54,7 @@ pub row_found : (n : ℕ) (z : Size) (s : State) (offset : ℕ) (bytes : List �
     → s.cursor.column + suc n < z.width → suc n ≤ length bytes
     → found_in_glyphs z s offset (suc n) bytes found ≡ found_in_row s offset (suc n) bytes found
 row_found n z s offset [] found lt some = absurd (omega (arith, some))
-row_found zero z s offset (b ∷ bytes) found lt some =
-    found_one z s offset b bytes found (omega (arith, lt))
-    ∙ ap (λ (times : Option Times). record found {
-      wide_characters = counted found.wide_characters (begins_with_wide (b ∷ bytes)) offset;
-      blinking_glyphs = times;
-      rows = max found.rows (s.cursor.row + 1);
-    }) (one_time found.blinking_glyphs (nat_le 0x80 s.attribute) offset)
+row_found zero z s offset (b ∷ bytes) found lt some = found_one z s offset b bytes found (omega (arith, lt))
 row_found (suc n) z s offset (b ∷ bytes) found lt some =
     let one : s.cursor.column + 1 < z.width = omega (arith, lt) in
     let next : Found = record found {

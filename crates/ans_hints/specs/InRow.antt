@@ -1,15 +1,10 @@
 -- What is found in glyphs that stand in one row before its last column.
-use Rattle.std.specs.Prelude.{ℕ, zero, suc, ◌+◌, max, nat_le, List, [], ◌∷◌, Option, None, Some, if◌then◌else◌}
+use Rattle.std.specs.Prelude.{ℕ, zero, suc, ◌+◌, max, nat_le, List, [], ◌∷◌, Option, if◌then◌else◌}
 use Rattle.ans_model.specs.Screen.State.{State}
 use Rattle.ans_hints.specs.Conditions.{begins_with_wide}
-use Rattle.ans_hints.specs.Counted.{counted}
+use Rattle.ans_hints.specs.Counted.{counted, many_more}
 use Rattle.ans_hints.specs.declared.times.Times.{Times}
 use Rattle.ans_hints.specs.declared.found.Found.{Found}
-
--- as many times more as the number says, the first at this offset
-abbrev pub many_more : Option Times → ℕ → ℕ → Option Times
-many_more None many offset = Some (record { count = many; first = offset })
-many_more (Some times) many offset = Some (record { count = times.count + many; first = times.first })
 
 -- with the characters of UTF-8 that begin at the first bytes, as many as the number says
 abbrev pub with_wide : ℕ → ℕ → List ℕ → Option Times → Option Times

@@ -45,12 +45,11 @@ fn put_times_line<W: Write>(
 fn put_font_line<W: Write>(out: &mut Outbox<'_, W>, font: &[u8])
     ensures { Puts W.contents out.old out.new (font_line font.now) }
 {
-    if !has_other_code_page(font) {
-        return;
+    if has_other_code_page(font) {
+        out.put(b"hint: the font ");
+        put_characters(out, font);
+        out.put(b" is not one of code page 437, so other characters may show\n");
     }
-    out.put(b"hint: the font ");
-    put_characters(out, font);
-    out.put(b" is not one of code page 437, so other characters may show\n");
 }
 
 fn put_empty_rows_line<W: Write>(out: &mut Outbox<'_, W>, rows: usize)

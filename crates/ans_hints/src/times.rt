@@ -2,8 +2,7 @@
 
 ghost use Rattle.std.specs.Prelude.{◌≡◌, ◌+◌, ◌≤◌, if◌then◌else◌};
 ghost use Rattle.ans_model.specs.Bytes.{longest_file};
-ghost use Rattle.ans_hints.specs.Counted.{count_of, once_more, counted};
-ghost use Rattle.ans_hints.specs.InRow.{many_more};
+ghost use Rattle.ans_hints.specs.Counted.{count_of, counted, many_more};
 
 /// How many times something comes, at least one, and the offset of the first in bytes from the
 /// content's start.
@@ -11,6 +10,24 @@ ghost use Rattle.ans_hints.specs.InRow.{many_more};
 pub struct Times {
     pub count: usize,
     pub first: usize,
+}
+
+#[inline(never)]
+fn add(times: &mut Option<Times>, many: usize, offset: usize)
+    requires times { count_of times.old ≤ longest_file }
+    requires many { many ≤ longest_file }
+    ensures value { times.new ≡ many_more times.old many offset }
+    ensures within { count_of times.new ≡ count_of times.old + many }
+{
+    match times {
+        None => {
+            *times = Some(Times {
+                count: many,
+                first: offset,
+            })
+        }
+        Some(times) => times.count += many,
+    }
 }
 
 /// One time more where it comes at this offset.
@@ -21,24 +38,7 @@ pub(crate) fn count(times: &mut Option<Times>, comes: bool, offset: usize)
     ensures within { count_of times.new ≤ count_of times.old + 1 }
 {
     if comes {
-        count_once(times, offset);
-    }
-}
-
-#[inline(never)]
-fn count_once(times: &mut Option<Times>, offset: usize)
-    requires { count_of times.old ≤ longest_file }
-    ensures value { times.new ≡ once_more times.old offset }
-    ensures within { count_of times.new ≡ count_of times.old + 1 }
-{
-    match times {
-        None => {
-            *times = Some(Times {
-                count: 1,
-                first: offset,
-            })
-        }
-        Some(times) => times.count += 1,
+        add(times, 1, offset);
     }
 }
 
@@ -50,14 +50,6 @@ pub(crate) fn count_many(times: &mut Option<Times>, come: bool, many: usize, off
     ensures within { count_of times.new ≤ count_of times.old + many }
 {
     if come {
-        match times {
-            None => {
-                *times = Some(Times {
-                    count: many,
-                    first: offset,
-                })
-            }
-            Some(times) => times.count += many,
-        }
+        add(times, many, offset);
     }
 }

@@ -5,14 +5,12 @@ use Rattle.std.proofs.Common.{ap, ap₂, sym, length-append, ◌∙◌, arith, a
 use Rattle.std.proofs.lemmas.Fmt.{decimal_digit}
 use Rattle.std.proofs.lemmas.List.{take_more, take_at, drop_at, length-take-le, drop-append-le}
 use borrow.Rule.Slice.PartMut.{put_mid}
-use Rattle.ans_model.specs.Sequence.TokenKind.{Glyph}
 use Rattle.ans_model.specs.Text.Hexadecimal.{hex_byte}
-use Rattle.ans_model.specs.Text.TokensText.{token_line}
-use Rattle.ans_report.specs.TokenLines.{glyph_lines}
+use Rattle.ans_report.specs.TokenLines.{glyph_line, glyph_lines}
 
 -- the line of a glyph, by the digits of its offset
 pub glyph_line_is : (digits : List ℕ) (start number b : ℕ) → start ≤ length digits → drop start digits ≡ decimal number
-    → drop start (digits ++ (codes " 1 glyph " ++ (hex_byte b ++ codes "\n"))) ≡ token_line number (Glyph b) (b ∷ [])
+    → drop start (digits ++ (codes " 1 glyph " ++ (hex_byte b ++ codes "\n"))) ≡ glyph_line number b
 glyph_line_is digits start number b within shown =
     let rest = codes " 1 glyph " ++ (hex_byte b ++ codes "\n") in
     let one : decimal 1 ≡ codes "1" = decimal_digit 1 (omega arith) in
@@ -43,7 +41,7 @@ glyph_lines-append start [] ys =
     rw same refl
 glyph_lines-append start (x ∷ xs) ys =
     let at : (start + 1) + length xs ≡ start + length (x ∷ xs) = omega arith in
-    let line = token_line start (Glyph x) (x ∷ []) in
+    let line = glyph_line start x in
     ap (λ (v : List ℕ). line ++ v) (glyph_lines-append (start + 1) xs ys
     ∙ ap (λ (k : ℕ). glyph_lines (start + 1) xs ++ glyph_lines k ys) at)
     ∙ sym (append_assoc line (glyph_lines (start + 1) xs) (glyph_lines (start + length (x ∷ xs)) ys))
@@ -51,11 +49,10 @@ glyph_lines-append start (x ∷ xs) ys =
 -- one glyph more
 pub glyph_lines-more : (start : ℕ) (bytes : List ℕ) (i d : ℕ) → i < length bytes
     → glyph_lines start (take (i + 1) bytes)
-    ≡ glyph_lines start (take i bytes) ++ token_line (start + i) (Glyph (get_or bytes i d)) (get_or bytes i d ∷ [])
+    ≡ glyph_lines start (take i bytes) ++ glyph_line (start + i) (get_or bytes i d)
 glyph_lines-more start bytes i d lt =
     let b = get_or bytes i d in
     let size : start + length (take i bytes) ≡ start + i = omega (arith, length-take-le i bytes (omega arith)) in
     ap (glyph_lines start) (take_more bytes i d lt) ∙ glyph_lines-append start (take i bytes) (b ∷ [])
     ∙ ap (λ (k : ℕ). glyph_lines start (take i bytes) ++ glyph_lines k (b ∷ [])) size
-    ∙ ap (λ (v : List ℕ). glyph_lines start (take i bytes) ++ v)
-    (append-nil (token_line (start + i) (Glyph b) (b ∷ [])))
+    ∙ ap (λ (v : List ℕ). glyph_lines start (take i bytes) ++ v) (append-nil (glyph_line (start + i) b))

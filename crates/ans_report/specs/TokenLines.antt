@@ -7,7 +7,7 @@ use Rattle.ans_model.specs.Inside.ShownKind.{shown_kind}
 use Rattle.ans_model.specs.Text.FaultText.{line_of}
 use Rattle.ans_model.specs.Sequence.TokenKind.{TokenKind, Glyph, Up, Down, Forward, Backward, Place, Colours}
 use Rattle.ans_model.specs.Text.Hexadecimal.{hex_byte}
-use Rattle.ans_model.specs.Text.TokensText.{token_name, token_lines, TokensText}
+use Rattle.ans_model.specs.Text.TokensText.{token_line, token_name, token_lines, TokensText}
 use Rattle.ans_tokens.specs.Token.{kind_of, start_of, length_of}
 use Rattle.ans_tokens.specs.declared.token.Token.{Token}
 use Rattle.ans_tokens.specs.ScannerView.{ScannerView}
@@ -42,6 +42,10 @@ abbrev pub token_text : Token → List ℕ
 token_text t =
     line_of (decimal (start_of t)
     ++ (codes " " ++ (decimal (length_of t) ++ (codes " " ++ token_name (shown_kind (kind_of t))))))
+
+-- the line of a glyph that stands at this offset
+abbrev pub glyph_line : ℕ → ℕ → List ℕ
+glyph_line offset byte = token_line offset (Glyph byte) (byte ∷ [])
 
 -- the lines of glyphs, the first of which begins at start
 abbrev pub glyph_lines : ℕ → List ℕ → List ℕ

@@ -1,11 +1,9 @@
 //! The lines of glyphs.
-ghost use Rattle.std.specs.Prelude.{◌≡◌, ◌+◌, ◌≤◌, ◌++◌, ◌∷◌, [], length, codes};
+ghost use Rattle.std.specs.Prelude.{◌≡◌, ◌+◌, ◌≤◌, ◌++◌, length, codes};
 ghost use Rattle.ans_model.specs.Bytes.{longest_file};
-ghost use Rattle.ans_model.specs.Sequence.TokenKind.{Glyph};
 ghost use Rattle.ans_model.specs.Text.Hexadecimal.{hex_byte};
-ghost use Rattle.ans_model.specs.Text.TokensText.{token_line};
 ghost use Rattle.ans_write.specs.Puts.{Puts};
-ghost use Rattle.ans_report.specs.TokenLines.{glyph_lines};
+ghost use Rattle.ans_report.specs.TokenLines.{glyph_line, glyph_lines};
 
 use ans_write::{Counter, Outbox, hex_byte};
 use std::io::Write;
@@ -20,8 +18,7 @@ fn glyph_line(digits: &[u8; 8], byte: u8) -> [u8; 20]
 }
 
 fn put_glyph<W: Write>(out: &mut Outbox<'_, W>, offset: &Counter, byte: u8)
-    ensures { Puts W.contents out.old out.new
-        (token_line offset.now.number (Glyph byte) (byte ∷ [])) }
+    ensures { Puts W.contents out.old out.new (glyph_line offset.now.number byte) }
 {
     let line = glyph_line(&offset.digits, byte);
     out.put(&line[offset.start..]);

@@ -2,18 +2,11 @@
 ghost use Rattle.std.specs.Prelude.{◌≡◌, ◌↔◌, false, IsTrue, IsErr};
 ghost use Rattle.ans_write.specs.Tried.{has_failed, inner_of};
 ghost use Rattle.ans_write.specs.Writes.{WritesText};
-ghost use Rattle.ans_write.specs.Puts.{Puts};
 ghost use Rattle.ans_report.specs.Message.{message_line};
 
 use crate::lines::put_named_line;
 use ans_write::{Outbox, Tried, WriteFault};
 use std::io::Write;
-
-fn put_message<W: Write>(out: &mut Outbox<'_, W>, text: &str)
-    ensures { Puts W.contents out.old out.new (message_line text.now) }
-{
-    put_named_line(out, b"anscheck", text.as_bytes());
-}
 
 /// Writes the line that says on standard error why there is no answer: `anscheck: `, the text, and a
 /// line feed.
@@ -27,6 +20,6 @@ pub fn write_message<W: Write>(writer: &mut Tried<W>, text: &str) -> Result<(), 
         result (message_line text.now) }
 {
     let mut out = Outbox::new(writer);
-    put_message(&mut out, text);
+    put_named_line(&mut out, b"anscheck", text.as_bytes());
     out.finish()
 }

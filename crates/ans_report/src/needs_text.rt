@@ -45,15 +45,6 @@ fn put_least<W: Write>(out: &mut Outbox<'_, W>, parts: &Parts<'_>, class: Start)
     out.put(b"\n");
 }
 
-fn put_needs<W: Write>(out: &mut Outbox<'_, W>, needs: &Needs<'_>)
-    ensures { Puts W.contents out.old out.new (needs_bytes needs.now) }
-{
-    match needs {
-        Needs::Least(parts, class) => put_least(out, parts, *class),
-        Needs::Refused(parts, fault) => put_refused(out, parts.as_ref(), None, fault),
-    }
-}
-
 /// Writes what a content needs: the size, the content's length and the notes, and then `needs:` and
 /// the parts of the start that have to be known, or `nothing`; or the fault of a refusal. Without
 /// parts only the fault is written.
@@ -66,7 +57,10 @@ pub fn write_needs<W: Write>(w: &mut Tried<W>, needs: &Needs<'_>) -> Result<(), 
     ensures bytes { WritesText (W.contents (inner_of w.old)) (W.contents (inner_of w.new))
         result (needs_bytes needs.now) }
 {
-    let mut out = Outbox::new(w);
-    put_needs(&mut out, needs);
+    let out = &mut Outbox::new(w);
+    match needs {
+        Needs::Least(parts, class) => put_least(out, parts, *class),
+        Needs::Refused(parts, fault) => put_refused(out, parts.as_ref(), None, fault),
+    }
     out.finish()
 }

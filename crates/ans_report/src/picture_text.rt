@@ -1,12 +1,11 @@
 //! The lines of a picture and of its cells.
-ghost use Rattle.std.specs.Prelude.{◌≡◌, ◌<◌, [], if◌then◌else◌, Some};
+ghost use Rattle.std.specs.Prelude.{◌≡◌, ◌<◌, ◌≤◌, [], length, take, if◌then◌else◌, Some};
 ghost use Rattle.std.specs.List.{flat_map};
 ghost use Rattle.ans_model.specs.Verdict.Good.{IsPictureOf};
-ghost use Rattle.ans_model.specs.Text.ReportText.{Passed, rows_of, cells_text, report_text};
-ghost use Rattle.ans_model.specs.Text.ReportText.{picture_line, cells_line};
+ghost use Rattle.ans_model.specs.Text.ReportText.{Passed, cell_digits, cells_text, report_text, rows_of};
 ghost use Rattle.ans_write.specs.Puts.{Puts};
 ghost use Rattle.ans_report.specs.Headings.{heading_of};
-ghost use Rattle.ans_play.specs.Shown.{cells_of_row};
+ghost use Rattle.ans_play.specs.Shown.{bytes_of_row, cells_of_row};
 ghost use Rattle.ans_report.specs.Rows.{line_text};
 
 use crate::heading::put_heading;
@@ -28,44 +27,28 @@ pub(crate) enum Shown {
 /// How many bytes a row has at most: four for each column.
 const ROW: usize = 4 * MAX_WIDTH;
 
-fn put_character_row<W: Write, G: Screen>(
-    out: &mut Outbox<'_, W>,
+/// Writes the digits of a row to the start of a text, and returns where they end. `bytes` are the row's.
+fn write_digits<G: Screen>(
     picture: &Picture<G>,
     row: usize,
+    bytes: &[u8],
     tables: &Tables,
-)
-    requires { row < picture.now.size.lines }
-    ensures { Puts W.contents out.old out.new (picture_line (cells_of_row picture.now row)) }
-{
-    let mut bytes = [0; MAX_WIDTH];
-    let bytes = &mut bytes[..picture.width()];
-    picture.copy_glyphs(row, bytes);
-    let mut text = [0; ROW];
-    let end = tables.write_characters(bytes, &mut text);
-    out.put(&text[..end]);
-    out.put(b"\n");
-}
-
-fn put_digit_row<W: Write, G: Screen>(
-    out: &mut Outbox<'_, W>,
-    picture: &Picture<G>,
-    row: usize,
-    tables: &Tables,
-)
-    requires { row < picture.now.size.lines }
-    ensures { Puts W.contents out.old out.new (cells_line (cells_of_row picture.now row)) }
+    text: &mut [u8],
+) -> usize
+    requires row { row < picture.now.size.lines }
+    requires width { length bytes.now ≡ picture.now.size.width }
+    requires bytes { bytes.now ≡ bytes_of_row picture.now row }
+    requires room { 4096 ≤ length text.old }
+    ensures length { length text.new ≡ length text.old }
+    ensures within { result ≤ length text.new }
+    ensures text { take result text.new ≡ flat_map cell_digits (cells_of_row picture.now row) }
 {
     let width = picture.width();
-    let mut bytes = [0; MAX_WIDTH];
-    let bytes = &mut bytes[..width];
-    picture.copy_glyphs(row, bytes);
     let mut attributes = [0; MAX_WIDTH];
     let attributes = &mut attributes[..width];
     picture.copy_attributes(row, attributes);
-    let mut text = [0; ROW];
-    tables.write_digits(bytes, attributes, &mut text);
-    out.put(&text[..4 * width]);
-    out.put(b"\n");
+    tables.write_digits(bytes, attributes, text);
+    4 * width
 }
 
 fn put_row<W: Write, G: Screen>(
@@ -78,10 +61,16 @@ fn put_row<W: Write, G: Screen>(
     requires { row < picture.now.size.lines }
     ensures { Puts W.contents out.old out.new (line_text shown (cells_of_row picture.now row)) }
 {
-    match shown {
-        Shown::Characters => put_character_row(out, picture, row, tables),
-        Shown::Digits => put_digit_row(out, picture, row, tables),
-    }
+    let mut bytes = [0; MAX_WIDTH];
+    let bytes = &mut bytes[..picture.width()];
+    picture.copy_glyphs(row, bytes);
+    let mut text = [0; ROW];
+    let end = match shown {
+        Shown::Characters => tables.write_characters(bytes, &mut text),
+        Shown::Digits => write_digits(picture, row, bytes, tables, &mut text),
+    };
+    out.put(&text[..end]);
+    out.put(b"\n");
 }
 
 fn put_rows<W: Write, G: Screen>(out: &mut Outbox<'_, W>, picture: &Picture<G>, shown: Shown)

@@ -5,58 +5,55 @@ ghost use Rattle.std.specs.Simd.Lanes.{zip2};
 ghost use Rattle.ans_model.specs.Screen.State.{cell};
 ghost use Rattle.ans_write.specs.Puts.{Puts};
 ghost use Rattle.ans_write.specs.Tables.{byte_text};
-ghost use Rattle.ans_show.specs.FormTables.{spelling, ShowsIn, BreaksIn, cells_in};
+ghost use Rattle.ans_show.specs.FormTables.{IsTableOf, cells_in};
 ghost use Rattle.ans_show.specs.Forms.{break_in, character_in};
 ghost use Rattle.ans_show.specs.PageText.{page_character};
 ghost use Rattle.ans_show.specs.ShortTexts.{text_of};
 
 use crate::form::Form;
 use crate::page::span_break;
-use crate::short_text::{SHORT_TEXT, ShortText};
-use crate::shown_character::ShownCharacter;
+use crate::short_text::ShortText;
 use crate::terminal::colours;
 use ans_write::{Outbox, glyph_text};
 use std::io::Write;
 
-/// How many bytes are written for a cell at most.
-pub(crate) const CELL: usize = SHORT_TEXT + 8;
+/// How many bytes are written for a cell at most: 48 where a run begins, and 8 for a character.
+pub(crate) const CELL: usize = 48 + 8;
+
+/// What stands where a run begins.
+pub(crate) type Break = ShortText<48>;
+
+/// A character, or its name on a page.
+type Character = ShortText<8>;
 
 /// What no attribute is.
 const NO_ATTRIBUTE: usize = 256;
-
-/// Copies bytes to a text from `end` on, of which the first `count` are meant, and returns where
-/// these end. What is behind them is written over next.
-#[inline(always)]
-fn write_front(text: &mut [u8], end: usize, bytes: &[u8], count: usize) -> usize
-    requires meant { count ≤ length bytes.now }
-    requires room { end + length bytes.now ≤ length text.old }
-    ensures ends { result ≡ end + count }
-    ensures length { length text.new ≡ length text.old }
-    ensures text { take result text.new ≡ take end text.old ++ take count bytes.now }
-{
-    text[end..end + bytes.len()].copy_from_slice(bytes);
-    end + count
-}
 
 /// What is written where a run begins behind another, by its attribute, and the character of each
 /// byte.
 #[derive(Drop)]
 pub(crate) struct FormTables {
     pub(crate) form: Form,
-    pub(crate) breaks: [ShortText; 256],
-    pub(crate) characters: [ShownCharacter; 256],
-    ghost broken: { BreaksIn form breaks },
-    ghost shown: { ShowsIn form characters },
+    pub(crate) breaks: [Break; 256],
+    pub(crate) characters: [Character; 256],
+    ghost broken: { IsTableOf (break_in form) breaks },
+    ghost shown: { IsTableOf (character_in form) characters },
 }
 
 impl FormTables {
     pub(crate) fn new(form: Form) -> FormTables
         ensures { result.form ≡ form }
     {
+        let mut breaks = [run_break(form, 0); 256];
+        let mut characters = [character(form, 0); 256];
+        for byte in 0..256 {
+            breaks[byte] = run_break(form, byte as u8);
+            characters[byte] = character(form, byte as u8);
+        }
         FormTables {
             form,
-            breaks: break_table(form),
-            characters: character_table(form),
+            breaks,
+            characters,
         }
     }
 
@@ -73,8 +70,7 @@ impl FormTables {
         if last == attribute as usize {
             return end;
         }
-        let between = &self.breaks[attribute as usize];
-        write_front(text, end, &between.bytes, between.count)
+        self.breaks[attribute as usize].write_to(text, end)
     }
 
     /// Writes to a text from `end` on the character of a byte, and returns where that ends.
@@ -85,8 +81,7 @@ impl FormTables {
         ensures length { length text.new ≡ length text.old }
         ensures text { take result text.new ≡ take end text.old ++ character_in self.now.form byte }
     {
-        let character = &self.characters[byte as usize];
-        write_front(text, end, &character.bytes, character.count)
+        self.characters[byte as usize].write_to(text, end)
     }
 
     /// Writes the cells of a row to the start of a text, and returns where they end. Each run begins
@@ -120,25 +115,22 @@ impl FormTables {
     }
 }
 
-fn spelled(text: &[u8]) -> ShownCharacter
+fn spelled(text: &[u8]) -> Character
     requires { length text.now ≤ 8 }
-    ensures { spelling result ≡ text.now }
+    ensures { text_of result ≡ text.now }
 {
-    let mut bytes = [0; 8];
-    let count = text.len();
-    bytes[..count].copy_from_slice(text);
-    ShownCharacter { bytes, count }
+    Character::empty().then(text)
 }
 
-fn utf8_character(byte: u8) -> ShownCharacter
-    ensures { spelling result ≡ byte_text byte }
+fn utf8_character(byte: u8) -> Character
+    ensures { text_of result ≡ byte_text byte }
 {
     let mut buffer = [0; 4];
     spelled(glyph_text(byte).encode_utf8(&mut buffer).as_bytes())
 }
 
-fn page_character(byte: u8) -> ShownCharacter
-    ensures { spelling result ≡ page_character byte }
+fn page_character(byte: u8) -> Character
+    ensures { text_of result ≡ page_character byte }
 {
     match byte {
         b'&' => spelled(b"&amp;"),
@@ -150,8 +142,8 @@ fn page_character(byte: u8) -> ShownCharacter
     }
 }
 
-fn character(form: Form, byte: u8) -> ShownCharacter
-    ensures { spelling result ≡ character_in form byte }
+fn character(form: Form, byte: u8) -> Character
+    ensures { text_of result ≡ character_in form byte }
 {
     match form {
         Form::Terminal { .. } => utf8_character(byte),
@@ -159,31 +151,11 @@ fn character(form: Form, byte: u8) -> ShownCharacter
     }
 }
 
-fn character_table(form: Form) -> [ShownCharacter; 256]
-    ensures { ShowsIn form result }
-{
-    let mut table = [character(form, 0); 256];
-    for byte in 0..256 {
-        table[byte] = character(form, byte as u8);
-    }
-    table
-}
-
-fn run_break(form: Form, attribute: u8) -> ShortText
+fn run_break(form: Form, attribute: u8) -> Break
     ensures { text_of result ≡ break_in form attribute }
 {
     match form {
         Form::Terminal { vga, non_blink } => colours(attribute, non_blink, vga),
         Form::Page { non_blink } => span_break(attribute, non_blink),
     }
-}
-
-fn break_table(form: Form) -> [ShortText; 256]
-    ensures { BreaksIn form result }
-{
-    let mut table = [run_break(form, 0); 256];
-    for attribute in 0..256 {
-        table[attribute] = run_break(form, attribute as u8);
-    }
-    table
 }

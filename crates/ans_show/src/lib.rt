@@ -14,7 +14,6 @@ mod look;
 mod page;
 mod rows;
 mod short_text;
-mod shown_character;
 mod terminal;
 
 pub use page::write_page;

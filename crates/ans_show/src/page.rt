@@ -9,10 +9,9 @@ ghost use Rattle.ans_show.specs.ShortTexts.{text_of};
 ghost use Rattle.ans_show.specs.PageText.{span_text, page_title, page_style, page_text};
 
 use crate::form::Form;
-use crate::form_tables::FormTables;
+use crate::form_tables::{Break, FormTables};
 use crate::look::{background, blinks, foreground};
 use crate::rows::put_rows;
-use crate::short_text::ShortText;
 use ans_play::Picture;
 use ans_screen::Screen;
 use ans_write::{Outbox, Tried, WriteFault};
@@ -65,10 +64,10 @@ fn span_end(blinks: bool) -> &'static [u8]
 }
 
 /// The end of a span, and the tag after which cells look as this attribute says.
-pub(crate) fn span_break(attribute: u8, non_blink: bool) -> ShortText
+pub(crate) fn span_break(attribute: u8, non_blink: bool) -> Break
     ensures { text_of result ≡ codes "</span>" ++ span_text (look_of non_blink attribute) }
 {
-    ShortText::joined(
+    Break::joined(
         b"</span>",
         foreground_text(foreground(attribute, non_blink)),
         background_text(background(attribute, non_blink)),

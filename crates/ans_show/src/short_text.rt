@@ -1,43 +1,42 @@
 //! A short text.
-ghost use Rattle.std.specs.Prelude.{◌≡◌, ◌+◌, ◌≤◌, [], ◌++◌, length};
-
-/// How many bytes it has at most.
-pub(crate) const SHORT_TEXT: usize = 48;
+ghost use Rattle.std.specs.Prelude.{◌≡◌, ◌+◌, ◌≤◌, [], ◌++◌, length, take};
 
 /// A short text: the first `count` bytes. All of them are copied at once, without a loop.
 #[derive(Clone, Copy)]
-pub(crate) struct ShortText {
-    pub(crate) bytes: [u8; SHORT_TEXT],
+pub(crate) struct ShortText<const N: usize> {
+    pub(crate) bytes: [u8; N],
     pub(crate) count: usize,
-    ghost within: { count ≤ 48 },
+    ghost within: { count ≤ N },
 }
 
-impl ShortText {
+impl<const N: usize> ShortText<N> {
     ghost use Rattle.ans_show.specs.ShortTexts.{text_of};
 
-    fn empty() -> ShortText
+    /// No text.
+    pub(crate) fn empty() -> ShortText<N>
         ensures { text_of result ≡ [] }
     {
         ShortText {
-            bytes: [0; SHORT_TEXT],
+            bytes: [0; N],
             count: 0,
         }
     }
 
     /// This text and another behind it.
-    fn then(self, text: &[u8]) -> ShortText
-        requires { length (text_of self) + length text.now ≤ 48 }
-        ensures { text_of result ≡ text_of self ++ text.now }
+    pub(crate) fn then(self, text: &[u8]) -> ShortText<N>
+        requires { length (text_of self) + length text.now ≤ N }
+        ensures { text_of result ≡ text_of self.entry ++ text.now }
     {
         let mut bytes = self.bytes;
+        let room = &mut bytes[..];
         let count = self.count + text.len();
-        bytes[self.count..count].copy_from_slice(text);
+        room[self.count..count].copy_from_slice(text);
         ShortText { bytes, count }
     }
 
     /// Four texts, one behind the other.
-    pub(crate) fn joined(first: &[u8], second: &[u8], third: &[u8], fourth: &[u8]) -> ShortText
-        requires { length first.now + length second.now + length third.now + length fourth.now ≤ 48 }
+    pub(crate) fn joined(first: &[u8], second: &[u8], third: &[u8], fourth: &[u8]) -> ShortText<N>
+        requires { length first.now + length second.now + length third.now + length fourth.now ≤ N }
         ensures { text_of result ≡ first.now ++ (second.now ++ (third.now ++ fourth.now)) }
     {
         ShortText::empty()
@@ -45,5 +44,18 @@ impl ShortText {
             .then(second)
             .then(third)
             .then(fourth)
+    }
+
+    /// Writes this text to a longer one from `end` on, and returns where it ends there. What is behind
+    /// it is written over next.
+    #[inline(always)]
+    pub(crate) fn write_to(&self, text: &mut [u8], end: usize) -> usize
+        requires { end + N ≤ length text.old }
+        ensures within { result ≤ end + N }
+        ensures length { length text.new ≡ length text.old }
+        ensures text { take result text.new ≡ take end text.old ++ text_of self.now }
+    {
+        text[end..end + N].copy_from_slice(&self.bytes);
+        end + self.count
     }
 }

@@ -8,10 +8,9 @@ ghost use Rattle.ans_show.specs.ShortTexts.{text_of};
 ghost use Rattle.ans_show.specs.TerminalText.{parameter, foreground_text, background_text, colours_text, terminal_text};
 
 use crate::form::Form;
-use crate::form_tables::FormTables;
+use crate::form_tables::{Break, FormTables};
 use crate::look::{background, blinks, foreground};
 use crate::rows::put_rows;
-use crate::short_text::ShortText;
 use ans_play::Picture;
 use ans_screen::Screen;
 use ans_write::{Outbox, Tried, WriteFault};
@@ -73,22 +72,16 @@ fn foreground_text(colour: usize, vga: bool) -> &'static [u8]
     requires { colour < 16 }
     ensures { result.now ≡ foreground_text vga colour }
 {
-    if vga {
-        VGA_FOREGROUNDS[colour]
-    } else {
-        FOREGROUNDS[colour]
-    }
+    let texts = if vga { &VGA_FOREGROUNDS } else { &FOREGROUNDS };
+    texts[colour]
 }
 
 fn background_text(colour: usize, vga: bool) -> &'static [u8]
     requires { colour < 16 }
     ensures { result.now ≡ background_text vga colour }
 {
-    if vga {
-        VGA_BACKGROUNDS[colour]
-    } else {
-        BACKGROUNDS[colour]
-    }
+    let texts = if vga { &VGA_BACKGROUNDS } else { &BACKGROUNDS };
+    texts[colour]
 }
 
 fn start_text(blinks: bool) -> &'static [u8]
@@ -98,10 +91,10 @@ fn start_text(blinks: bool) -> &'static [u8]
 }
 
 /// The sequence after which cells look as this attribute says.
-pub(crate) fn colours(attribute: u8, non_blink: bool, vga: bool) -> ShortText
+pub(crate) fn colours(attribute: u8, non_blink: bool, vga: bool) -> Break
     ensures { text_of result ≡ colours_text vga (look_of non_blink attribute) }
 {
-    ShortText::joined(
+    Break::joined(
         start_text(blinks(attribute, non_blink)),
         foreground_text(foreground(attribute, non_blink), vga),
         background_text(background(attribute, non_blink), vga),

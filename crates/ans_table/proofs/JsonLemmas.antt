@@ -1,16 +1,16 @@
 -- The object of a row has no float, and nests lists in an object and nothing more.
 use Rattle.std.proofs.Common.{◌≡◌, ◌∙◌, ◌/◌, ◌%◌, ◌==◌, ◌≤◌, ◌<◌, ℕ, suc, ◌+◌, ◌-◌, Bool, true, false, ◌||◌, List, []}
 use Rattle.std.proofs.Common.{◌∷◌, ◌++◌, map}
-use Rattle.std.proofs.Common.{max, arith, refl, sym, ap, append_assoc, append-nil, Result, Ok, Err}
+use Rattle.std.proofs.Common.{arith, refl, sym, ap, append_assoc, append-nil, Result, Ok, Err}
 use Rattle.std.proofs.Common.{Ordering, Less, Equal, Greater, nat_cmp, Option, Some, None, codes}
 use Rattle.std.specs.Prelude.{⊤, if◌then◌else◌}
 use Rattle.std.proofs.lemmas.List.{map-append}
 use Rattle.std.specs.Ordering.{match_ordering}
 use Rattle.std.specs.Cmp.Lexicographic.{slice_cmp}
-use Rattle.serde_json.specs.Data.{Data, Items, Members, no_members, member, string, array, object, put}
+use Rattle.serde_json.specs.Data.{Data, Members, no_members, member, string, put}
 use Rattle.serde_json.specs.Data.{depth, items_depth, members_depth}
 use Rattle.serde_json.specs.Read.{max_depth}
-use Rattle.serde_json.specs.View.{items_of, view}
+use Rattle.serde_json.specs.View.{items_of, members_view, view}
 use Rattle.serde_json.specs.declared.value.Value.{Value}
 use Rattle.serde_json.specs.Written.{has_float, items_have_float, members_have_float}
 use Rattle.ans_model.specs.declared.fault.Fault.{Fault}
@@ -21,9 +21,9 @@ use Rattle.ans_table.specs.declared.finding.Finding.{Finding}
 use Rattle.ans_table.specs.declared.finding.Finding.TheVariants.{Pass, Refused, NoContent, Unread}
 use Rattle.ans_table.specs.Findings.{sauce_of}
 use Rattle.ans_table.specs.NameText.{name_text}
-use Rattle.ans_table.specs.JsonRow.{Adds, Named, aspect_values, comments_from, content_values, count, fault_values}
-use Rattle.ans_table.specs.JsonRow.{field_values, flag_values}
-use Rattle.ans_table.specs.JsonRow.{parts_values, record_values, row_data, row_values, sauce_values, size_values}
+use Rattle.ans_table.specs.JsonRow.{Adds, Entries, Named, aspect_values, comments_from, content_values, count}
+use Rattle.ans_table.specs.JsonRow.{fault_values, field_values, flag_values, pair_values}
+use Rattle.ans_table.specs.JsonRow.{parts_values, record_values, row_data, row_values}
 use Rattle.ans_table.specs.JsonRow.{spacing_values, texts, verdict_values, with_values}
 
 -- no float, and at most lists
@@ -132,24 +132,20 @@ flat_if : (b : Bool) (vs ws : List Named) → AllFlat vs → AllFlat ws → AllF
 flat_if true vs ws h g = h
 flat_if false vs ws h g = g
 
-flat_one : (v : Named) → IsFlat v.1 → AllFlat (v ∷ [])
-flat_one v h = (h, tt)
+flat_pair : (pair : ℕ) (one two : Named) → IsFlat one.1 → IsFlat two.1 → AllFlat (pair_values pair one two)
+flat_pair pair one two h g =
+    flat_if (pair == 1) (one ∷ []) (if pair == 2 then two ∷ [] else []) (h, tt)
+    (flat_if (pair == 2) (two ∷ []) [] (g, tt) tt)
 
 flat_spacing : (bits : ℕ) → AllFlat (spacing_values bits)
 flat_spacing bits =
-    flat_if (bits / 2 % 4 == 1) ((codes "spacing", count 8) ∷ [])
-    (if bits / 2 % 4 == 2 then (codes "spacing", count 9) ∷ [] else [])
-    (flat_one (codes "spacing", count 8) (simple (count 8) refl (omega arith)))
-    (flat_if (bits / 2 % 4 == 2) ((codes "spacing", count 9) ∷ []) []
-    (flat_one (codes "spacing", count 9) (simple (count 9) refl (omega arith))) tt)
+    flat_pair (bits / 2 % 4) (codes "spacing", count 8) (codes "spacing", count 9)
+    (simple (count 8) refl (omega arith)) (simple (count 9) refl (omega arith))
 
 flat_aspect : (bits : ℕ) → AllFlat (aspect_values bits)
 flat_aspect bits =
-    flat_if (bits / 8 % 4 == 1) ((codes "aspect", string (codes "stretch")) ∷ [])
-    (if bits / 8 % 4 == 2 then (codes "aspect", string (codes "square")) ∷ [] else [])
-    (flat_one (codes "aspect", string (codes "stretch")) (simple (string (codes "stretch")) refl (omega arith)))
-    (flat_if (bits / 8 % 4 == 2) ((codes "aspect", string (codes "square")) ∷ []) []
-    (flat_one (codes "aspect", string (codes "square")) (simple (string (codes "square")) refl (omega arith))) tt)
+    flat_pair (bits / 8 % 4) (codes "aspect", string (codes "stretch")) (codes "aspect", string (codes "square"))
+    (simple (string (codes "stretch")) refl (omega arith)) (simple (string (codes "square")) refl (omega arith))
 
 flat_flags : (bits : ℕ) → AllFlat (flag_values bits)
 flat_flags bits = (
@@ -204,12 +200,12 @@ pub with_append : (vs ws : List Named) (ms : Members) → with_values (vs ++ ws)
 with_append [] ws ms = refl
 with_append (v ∷ vs) ws ms = with_append vs ws (put v.0 v.1 ms)
 
-pub Adds-then : {T E : Type 0} (a b c : Members) (r : Result T E) (vs ws : List Named) → b ≡ with_values vs a
-    → Adds b c r ws → Adds a c r (vs ++ ws)
-Adds-then a b c (Ok x) vs ws e h = h ∙ ap (with_values ws) e ∙ sym (with_append vs ws a)
+pub Adds-then : {T E : Type 0} (a b c : Entries) (r : Result T E) (vs ws : List Named)
+    → members_view b ≡ with_values vs (members_view a) → Adds b c r ws → Adds a c r (vs ++ ws)
+Adds-then a b c (Ok x) vs ws e h = h ∙ ap (with_values ws) e ∙ sym (with_append vs ws (members_view a))
 Adds-then a b c (Err x) vs ws e h = tt
 
-pub Adds-same : {T E : Type 0} (a b : Members) (r : Result T E) {vs ws : List Named} → vs ≡ ws → Adds a b r vs
+pub Adds-same : {T E : Type 0} (a b : Entries) (r : Result T E) {vs ws : List Named} → vs ≡ ws → Adds a b r vs
     → Adds a b r ws
 Adds-same a b r e h = rw e at h
 

@@ -66,15 +66,17 @@ content_columns (Refused parts fault row column_number) = parts_columns parts
 content_columns (NoContent fault sauce) = tab ∷ tab ∷ []
 content_columns (Unread reason) = tab ∷ tab ∷ []
 
+-- what a pair of bits says, where it says one of two things
+abbrev pub pair_text : ℕ → List ℕ → List ℕ → List ℕ
+pair_text pair one two = if pair == 1 then one else if pair == 2 then two else []
+
 -- bits 1 and 2 of the flags: letters of 8 or of 9 pixels, where they say which
 abbrev pub spacing_text : ℕ → List ℕ
-spacing_text flags = let pair = flags / 2 % 4 in
-    if pair == 1 then codes "8" else if pair == 2 then codes "9" else []
+spacing_text flags = pair_text (flags / 2 % 4) (codes "8") (codes "9")
 
 -- bits 3 and 4 of the flags: pixels to be stretched, or square ones, where they say which
 abbrev pub aspect_text : ℕ → List ℕ
-aspect_text flags = let pair = flags / 8 % 4 in
-    if pair == 1 then codes "stretch" else if pair == 2 then codes "square" else []
+aspect_text flags = pair_text (flags / 8 % 4) (codes "stretch") (codes "square")
 
 -- whether bit 7 of an attribute is a bright background (bit 0), the spacing and the aspect
 abbrev pub flag_columns : ℕ → List ℕ

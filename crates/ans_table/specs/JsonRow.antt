@@ -1,10 +1,12 @@
 -- The row of a file as a JSON object. What is absent is left out. The names of an object stand in the order of their
 -- bytes, as those of its map do.
-use Rattle.std.specs.Prelude.{◌≡◌, ℕ, zero, suc, ◌+◌, ◌/◌, ◌%◌, ◌==◌, Bool, true, false, List, [], ◌∷◌, ◌++◌, length}
+use Rattle.std.specs.Prelude.{◌≡◌, ℕ, zero, suc, ◌+◌, ◌/◌, ◌%◌, ◌==◌, List, [], ◌∷◌, ◌++◌, length}
 use Rattle.std.specs.Prelude.{map}
-use Rattle.std.specs.Prelude.{Option, Some, None, Result, OnOk, codes, if◌then◌else◌}
+use Rattle.std.specs.Prelude.{Option, Some, None, Result, OnOk, String, codes, if◌then◌else◌}
+use Rattle.std.specs.declared.alloc.Global.{Global}
 use Rattle.serde_json.specs.Data.{Data, Members, unsigned, boolean, number, string, array, object, no_members, put}
-use Rattle.serde_json.specs.View.{items_of}
+use Rattle.serde_json.specs.View.{items_of, members_view}
+use Rattle.serde_json.specs.declared.value.Value.{Value}
 use Rattle.serde_json.specs.Written.{compact_text}
 use Rattle.ans_model.specs.declared.fault.Fault.{Fault}
 use Rattle.ans_model.specs.File.Record.{author_field, comment, comment_count, date_field, flags, font_field}
@@ -74,19 +76,18 @@ content_values (Refused parts fault row column_number) = parts_values parts
 content_values (NoContent fault sauce) = []
 content_values (Unread reason) = []
 
+-- what a pair of bits says, where it says one of two things
+abbrev pub pair_values : ℕ → Named → Named → List Named
+pair_values pair one two = if pair == 1 then one ∷ [] else if pair == 2 then two ∷ [] else []
+
 -- bits 1 and 2 of the flags: letters of 8 or of 9 pixels, where they say which
 abbrev pub spacing_values : ℕ → List Named
-spacing_values flags = let pair = flags / 2 % 4 in
-    if pair == 1 then (codes "spacing", count 8) ∷ []
-    else if pair == 2 then (codes "spacing", count 9) ∷ []
-    else []
+spacing_values flags = pair_values (flags / 2 % 4) (codes "spacing", count 8) (codes "spacing", count 9)
 
 -- bits 3 and 4 of the flags: pixels to be stretched, or square ones, where they say which
 abbrev pub aspect_values : ℕ → List Named
-aspect_values flags = let pair = flags / 8 % 4 in
-    if pair == 1 then (codes "aspect", string (codes "stretch")) ∷ []
-    else if pair == 2 then (codes "aspect", string (codes "square")) ∷ []
-    else []
+aspect_values flags =
+    pair_values (flags / 8 % 4) (codes "aspect", string (codes "stretch")) (codes "aspect", string (codes "square"))
 
 -- whether bit 7 of an attribute is a bright background (bit 0), the spacing and the aspect
 abbrev pub flag_values : ℕ → List Named
@@ -129,6 +130,10 @@ row_data name finding = object (with_values (row_values name finding) no_members
 abbrev pub json_text : List ℕ → Finding → List ℕ
 json_text name finding = compact_text (row_data name finding)
 
+-- the members of an object, as its map holds them
+abbrev pub Entries : Type 0
+Entries = List (String Global × Value)
+
 -- at `Ok` the members have these values too
-abbrev pub Adds : {T E : Type 0} → Members → Members → Result T E → List Named → Type 0
-Adds old new result values = OnOk result (new ≡ with_values values old)
+abbrev pub Adds : {T E : Type 0} → Entries → Entries → Result T E → List Named → Type 0
+Adds old new result values = OnOk result (members_view new ≡ with_values values (members_view old))

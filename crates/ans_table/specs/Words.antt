@@ -1,6 +1,6 @@
 -- The words of a column, with a blank between each two.
-use Rattle.std.specs.Prelude.{ℕ, Bool, List, [], ◌∷◌, ◌++◌, map, codes, ◌||◌, if◌then◌else◌}
-use Rattle.std.specs.List.{join_with_byte}
+use Rattle.std.specs.Prelude.{ℕ, Bool, List, [], ◌∷◌, map, codes, ◌||◌, if◌then◌else◌}
+use Rattle.std.specs.List.{flat_map, join_with_byte}
 use Rattle.std.specs.Borrow.{Bor}
 use Rattle.ans_model.specs.Bytes.{blank}
 use Rattle.ans_model.specs.declared.note.Note.{Note}
@@ -31,11 +31,9 @@ part_if known name = if known then name ∷ [] else []
 -- the names of the parts that are known, in their order
 abbrev pub part_names : Start → List (List ℕ)
 part_names s =
-    part_if s.screen (codes "screen")
-    ++ (part_if s.cursor (codes "cursor")
-    ++ (part_if s.saved (codes "saved")
-    ++ (part_if s.colours (codes "colours")
-    ++ part_if s.wrap (codes "wrap"))))
+    flat_map (λ (part : Bool × List ℕ). part_if part.0 part.1)
+    ((s.screen, codes "screen") ∷ (s.cursor, codes "cursor") ∷ (s.saved, codes "saved") ∷ (s.colours, codes "colours")
+    ∷ (s.wrap, codes "wrap") ∷ [])
 
 -- the parts that have to be known, or that it is none
 abbrev pub needs_text : Start → List ℕ

@@ -4,10 +4,9 @@ ghost use Rattle.std.specs.Prelude.{◌≡◌, option_map, decimal};
 ghost use Rattle.ans_model.specs.File.Record.{stated_lines, stated_width};
 ghost use Rattle.ans_sauce.specs.RecordBytes.{bytes_of};
 ghost use Rattle.ans_write.specs.Puts.{Puts};
-ghost use Rattle.ans_table.specs.Columns.{aspect_text, column, content_columns, escaped_byte, escaped_text};
-ghost use Rattle.ans_table.specs.Columns.{fault_columns};
-ghost use Rattle.ans_table.specs.Columns.{fault_number, field_columns, flag_columns, ice_text, parts_columns};
-ghost use Rattle.ans_table.specs.Columns.{record_columns, size_columns, spacing_text, stated_columns, verdict_columns};
+ghost use Rattle.ans_table.specs.Columns.{column, content_columns, escaped_byte, escaped_text, fault_columns};
+ghost use Rattle.ans_table.specs.Columns.{fault_number, field_columns, flag_columns, ice_text, pair_text};
+ghost use Rattle.ans_table.specs.Columns.{parts_columns, record_columns, size_columns, stated_columns, verdict_columns};
 
 use crate::finding::Finding;
 use crate::words::{put_needs, put_notes};
@@ -61,11 +60,7 @@ pub(crate) fn put_verdict<W: Write>(out: &mut Outbox<'_, W>, finding: &Finding<'
     ensures { Puts W.contents out.old out.new (verdict_columns finding.now) }
 {
     match finding {
-        Finding::Pass {
-            parts: _,
-            needs,
-            taller,
-        } => {
+        Finding::Pass { needs, taller, .. } => {
             out.put(b"pass\t");
             put_needs(out, *needs);
             out.put(b"\t");
@@ -73,16 +68,16 @@ pub(crate) fn put_verdict<W: Write>(out: &mut Outbox<'_, W>, finding: &Finding<'
             out.put(b"\t\t\t\t");
         }
         Finding::Refused {
-            parts: _,
             fault,
             row,
             column,
+            ..
         } => {
             put_fault(out, fault);
             put_number(out, *row);
             put_number(out, *column);
         }
-        Finding::NoContent { fault, sauce: _ } => {
+        Finding::NoContent { fault, .. } => {
             put_fault(out, fault);
             out.put(b"\t\t");
         }
@@ -140,40 +135,18 @@ pub(crate) fn put_content<W: Write>(out: &mut Outbox<'_, W>, finding: &Finding<'
     ensures { Puts W.contents out.old out.new (content_columns finding.now) }
 {
     match finding {
-        Finding::Pass {
-            parts,
-            needs: _,
-            taller: _,
-        } => put_parts(out, parts),
-        Finding::Refused {
-            parts,
-            fault: _,
-            row: _,
-            column: _,
-        } => put_parts(out, parts),
-        Finding::NoContent { fault: _, sauce: _ } => out.put(b"\t\t"),
-        Finding::Unread(_) => out.put(b"\t\t"),
+        Finding::Pass { parts, .. } | Finding::Refused { parts, .. } => put_parts(out, parts),
+        Finding::NoContent { .. } | Finding::Unread(_) => out.put(b"\t\t"),
     }
 }
 
-/// Bits 1 and 2 of the flags.
-fn spacing(flags: u8) -> &'static [u8]
-    ensures { result.now ≡ spacing_text flags }
+/// What a pair of bits of the flags says: nothing where it is 0 or 3.
+fn pair_text(pair: u8, one: &'static [u8], two: &'static [u8]) -> &'static [u8]
+    ensures { result.now ≡ pair_text pair one.now two.now }
 {
-    match flags / 2 % 4 {
-        1 => b"8",
-        2 => b"9",
-        _ => b"",
-    }
-}
-
-/// Bits 3 and 4 of the flags.
-fn aspect(flags: u8) -> &'static [u8]
-    ensures { result.now ≡ aspect_text flags }
-{
-    match flags / 8 % 4 {
-        1 => b"stretch",
-        2 => b"square",
+    match pair {
+        1 => one,
+        2 => two,
         _ => b"",
     }
 }
@@ -182,8 +155,8 @@ fn put_flags<W: Write>(out: &mut Outbox<'_, W>, flags: u8)
     ensures { Puts W.contents out.old out.new (flag_columns flags) }
 {
     put_column(out, answer(flags % 2 == 1));
-    put_column(out, spacing(flags));
-    put_column(out, aspect(flags));
+    put_column(out, pair_text(flags / 2 % 4, b"8", b"9"));
+    put_column(out, pair_text(flags / 8 % 4, b"stretch", b"square"));
 }
 
 fn put_escaped_byte<W: Write>(out: &mut Outbox<'_, W>, byte: u8)

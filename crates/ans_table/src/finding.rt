@@ -1,14 +1,15 @@
 //! What a row tells of a file.
 
-ghost use Rattle.std.specs.Prelude.{◌≡◌, ◌≤◌, ℕ, List, Some, length};
+ghost use Rattle.std.specs.Prelude.{◌≡◌, ◌≤◌, ℕ, List, Some, length, option_map};
 ghost use Rattle.ans_model.specs.Bytes.{longest_file};
 ghost use Rattle.ans_model.specs.File.Refusals.{record_fault};
 ghost use Rattle.ans_model.specs.Screen.StartClass.{all_known};
 ghost use Rattle.ans_model.specs.Verdict.Needs.{IsLeast};
 ghost use Rattle.ans_sauce.specs.Parts.{content_of};
+ghost use Rattle.ans_sauce.specs.RecordBytes.{bytes_of};
 ghost use Rattle.ans_sauce.specs.Split.{IsSplit};
 ghost use Rattle.ans_why.specs.Evidence.{IsDeserved};
-ghost use Rattle.ans_table.specs.Findings.{IsFindingOf, outcome_of, size_of, unread_text};
+ghost use Rattle.ans_table.specs.Findings.{IsFindingOf, outcome_of, sauce_of, size_of, unread_text};
 
 use crate::counts::Outcome;
 use ans_model::fault::Fault;
@@ -125,23 +126,25 @@ impl<'a> Finding<'a> {
         }
     }
 
+    /// The record of the file, where one was read.
+    pub(crate) fn sauce(&self) -> Option<Record<'a>>
+        ensures { option_map bytes_of result ≡ sauce_of self.now }
+    {
+        match self {
+            Finding::Pass { parts, .. } | Finding::Refused { parts, .. } => Some(parts.sauce()),
+            Finding::NoContent { sauce, .. } => *sauce,
+            Finding::Unread(_) => None,
+        }
+    }
+
     /// The outcome, by which files are counted.
     pub fn outcome(&self) -> Outcome
         ensures { result ≡ outcome_of self.now }
     {
         match self {
-            Finding::Pass {
-                parts: _,
-                needs: _,
-                taller: _,
-            } => Outcome::Pass,
-            Finding::Refused {
-                parts: _,
-                fault: _,
-                row: _,
-                column: _,
-            } => Outcome::Refused,
-            Finding::NoContent { fault: _, sauce: _ } => Outcome::Refused,
+            Finding::Pass { .. } => Outcome::Pass,
+            Finding::Refused { .. } => Outcome::Refused,
+            Finding::NoContent { .. } => Outcome::Refused,
             Finding::Unread(_) => Outcome::Unread,
         }
     }

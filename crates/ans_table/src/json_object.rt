@@ -1,12 +1,12 @@
 //! The row of a file as a JSON object.
 
-ghost use Rattle.std.specs.Prelude.{◌≡◌, Some, IfOk, map, option_map, string_bytes};
+ghost use Rattle.std.specs.Prelude.{◌≡◌, [], ◌∷◌, Some, IfOk, map, option_map, string_bytes};
 ghost use Rattle.serde_json.specs.Data.{string};
 ghost use Rattle.serde_json.specs.Read.{read};
-ghost use Rattle.serde_json.specs.View.{members_view, view};
+ghost use Rattle.serde_json.specs.View.{view};
 ghost use Rattle.ans_model.specs.Text.Characters.{shown_bytes};
 ghost use Rattle.ans_sauce.specs.RecordBytes.{bytes_of};
-ghost use Rattle.ans_table.specs.JsonRow.{Adds, aspect_values, comment_texts, content_values};
+ghost use Rattle.ans_table.specs.JsonRow.{Adds, aspect_values, comment_texts, content_values, count};
 ghost use Rattle.ans_table.specs.JsonRow.{fault_values, field_values, flag_values, json_text, parts_values};
 ghost use Rattle.ans_table.specs.JsonRow.{record_values, row_data, size_values, spacing_values, texts, verdict_values};
 ghost use Rattle.ans_table.specs.NameText.{name_text};
@@ -15,7 +15,6 @@ ghost use Rattle.ans_table.specs.Words.{note_number, part_names, texts_of};
 use crate::columns::{fault_number, stated_lines, stated_width};
 use crate::finding::Finding;
 use crate::name_text::put_name;
-use crate::row_text::sauce_of;
 use crate::words::{note_number, part_names};
 use ans_model::fault::Fault;
 use ans_model::note::Note;
@@ -27,6 +26,9 @@ use std::alloc::{AllocError, Global};
 
 /// The members of an object.
 type Members = Map<String, Value>;
+
+/// What adding to an object gives: `Err` where memory is refused.
+type Added = Result<(), AllocError>;
 
 /// The characters of bytes.
 fn shown_value(alloc: Global, bytes: &[u8]) -> Result<Value, AllocError>
@@ -94,126 +96,79 @@ fn comments_value(alloc: Global, parts: &Parts<'_>) -> Result<Value, AllocError>
     Ok(Value::Array(list))
 }
 
-fn put_fault(members: &mut Members, alloc: Global, fault: &Fault) -> Result<(), AllocError>
-    ensures { Adds (members_view members.old.entries) (members_view members.new.entries) result
-        (fault_values fault.now) }
+fn put_text(members: &mut Members, alloc: Global, name: &str, text: &str) -> Added
+    ensures { Adds members.old.entries members.new.entries result
+        ((name.now, string text.now) ∷ []) }
 {
-    put(
-        members,
-        alloc,
-        "verdict",
-        Value::try_from_str(alloc, "refused")?,
-    )?;
-    put(
-        members,
-        alloc,
-        "fault",
-        Value::try_from_str(alloc, fault_number(fault))?,
-    )?;
-    put(members, alloc, "at", Value::from(fault.offset))
+    put(members, alloc, name, Value::try_from_str(alloc, text)?)
+}
+
+fn put_number(members: &mut Members, alloc: Global, name: &str, number: usize) -> Added
+    ensures { Adds members.old.entries members.new.entries result ((name.now, count number) ∷ []) }
+{
+    put(members, alloc, name, Value::from(number))
+}
+
+fn put_fault(members: &mut Members, alloc: Global, fault: &Fault) -> Added
+    ensures { Adds members.old.entries members.new.entries result (fault_values fault.now) }
+{
+    put_text(members, alloc, "verdict", "refused")?;
+    put_text(members, alloc, "fault", fault_number(fault))?;
+    put_number(members, alloc, "at", fault.offset)
 }
 
 /// The members from the verdict to the place of the fault.
-fn put_verdict(
-    members: &mut Members,
-    alloc: Global,
-    finding: &Finding<'_>,
-) -> Result<(), AllocError>
-    ensures { Adds (members_view members.old.entries) (members_view members.new.entries) result
-        (verdict_values finding.now) }
+fn put_verdict(members: &mut Members, alloc: Global, finding: &Finding<'_>) -> Added
+    ensures { Adds members.old.entries members.new.entries result (verdict_values finding.now) }
 {
     match finding {
-        Finding::Pass {
-            parts: _,
-            needs,
-            taller,
-        } => {
-            put(
-                members,
-                alloc,
-                "verdict",
-                Value::try_from_str(alloc, "pass")?,
-            )?;
+        Finding::Pass { needs, taller, .. } => {
+            put_text(members, alloc, "verdict", "pass")?;
             put(members, alloc, "needs", needs_value(alloc, *needs)?)?;
             put(members, alloc, "taller", Value::Bool(*taller))
         }
         Finding::Refused {
-            parts: _,
             fault,
             row,
             column,
+            ..
         } => {
             put_fault(members, alloc, fault)?;
-            put(members, alloc, "row", Value::from(*row))?;
-            put(members, alloc, "column", Value::from(*column))
+            put_number(members, alloc, "row", *row)?;
+            put_number(members, alloc, "column", *column)
         }
-        Finding::NoContent { fault, sauce: _ } => put_fault(members, alloc, fault),
+        Finding::NoContent { fault, .. } => put_fault(members, alloc, fault),
         Finding::Unread(why) => {
-            put(
-                members,
-                alloc,
-                "verdict",
-                Value::try_from_str(alloc, "error")?,
-            )?;
-            put(
-                members,
-                alloc,
-                "fault",
-                Value::try_from_str(alloc, why.text())?,
-            )
+            put_text(members, alloc, "verdict", "error")?;
+            put_text(members, alloc, "fault", why.text())
         }
     }
 }
 
-fn put_parts(members: &mut Members, alloc: Global, parts: &Parts<'_>) -> Result<(), AllocError>
-    ensures { Adds (members_view members.old.entries) (members_view members.new.entries) result
-        (parts_values parts.now) }
+fn put_parts(members: &mut Members, alloc: Global, parts: &Parts<'_>) -> Added
+    ensures { Adds members.old.entries members.new.entries result (parts_values parts.now) }
 {
-    put(
-        members,
-        alloc,
-        "content",
-        Value::from(parts.content().len()),
-    )?;
-    put(
-        members,
-        alloc,
-        "notes",
-        notes_value(alloc, parts.notes().as_slice())?,
-    )?;
+    let notes = notes_value(alloc, parts.notes().as_slice())?;
+    put_number(members, alloc, "content", parts.content().len())?;
+    put(members, alloc, "notes", notes)?;
     put(members, alloc, "comments", comments_value(alloc, parts)?)
 }
 
 /// The members of the content's length, the notes and the comments.
-fn put_content(
-    members: &mut Members,
-    alloc: Global,
-    finding: &Finding<'_>,
-) -> Result<(), AllocError>
-    ensures { Adds (members_view members.old.entries) (members_view members.new.entries) result
-        (content_values finding.now) }
+fn put_content(members: &mut Members, alloc: Global, finding: &Finding<'_>) -> Added
+    ensures { Adds members.old.entries members.new.entries result (content_values finding.now) }
 {
     match finding {
-        Finding::Pass {
-            parts,
-            needs: _,
-            taller: _,
-        } => put_parts(members, alloc, parts),
-        Finding::Refused {
-            parts,
-            fault: _,
-            row: _,
-            column: _,
-        } => put_parts(members, alloc, parts),
-        Finding::NoContent { fault: _, sauce: _ } => Ok(()),
-        Finding::Unread(_) => Ok(()),
+        Finding::Pass { parts, .. } | Finding::Refused { parts, .. } => {
+            put_parts(members, alloc, parts)
+        }
+        Finding::NoContent { .. } | Finding::Unread(_) => Ok(()),
     }
 }
 
 /// Bits 1 and 2 of the flags.
-fn put_spacing(members: &mut Members, alloc: Global, flags: u8) -> Result<(), AllocError>
-    ensures { Adds (members_view members.old.entries) (members_view members.new.entries) result
-        (spacing_values flags) }
+fn put_spacing(members: &mut Members, alloc: Global, flags: u8) -> Added
+    ensures { Adds members.old.entries members.new.entries result (spacing_values flags) }
 {
     match flags / 2 % 4 {
         1 => put(members, alloc, "spacing", Value::from(8u64)),
@@ -223,47 +178,33 @@ fn put_spacing(members: &mut Members, alloc: Global, flags: u8) -> Result<(), Al
 }
 
 /// Bits 3 and 4 of the flags.
-fn put_aspect(members: &mut Members, alloc: Global, flags: u8) -> Result<(), AllocError>
-    ensures { Adds (members_view members.old.entries) (members_view members.new.entries) result
-        (aspect_values flags) }
+fn put_aspect(members: &mut Members, alloc: Global, flags: u8) -> Added
+    ensures { Adds members.old.entries members.new.entries result (aspect_values flags) }
 {
     match flags / 8 % 4 {
-        1 => put(
-            members,
-            alloc,
-            "aspect",
-            Value::try_from_str(alloc, "stretch")?,
-        ),
-        2 => put(
-            members,
-            alloc,
-            "aspect",
-            Value::try_from_str(alloc, "square")?,
-        ),
+        1 => put_text(members, alloc, "aspect", "stretch"),
+        2 => put_text(members, alloc, "aspect", "square"),
         _ => Ok(()),
     }
 }
 
-fn put_flags(members: &mut Members, alloc: Global, flags: u8) -> Result<(), AllocError>
-    ensures { Adds (members_view members.old.entries) (members_view members.new.entries) result
-        (flag_values flags) }
+fn put_flags(members: &mut Members, alloc: Global, flags: u8) -> Added
+    ensures { Adds members.old.entries members.new.entries result (flag_values flags) }
 {
     put(members, alloc, "ice", Value::Bool(flags % 2 == 1))?;
     put_spacing(members, alloc, flags)?;
     put_aspect(members, alloc, flags)
 }
 
-fn put_size(members: &mut Members, alloc: Global, sauce: &Record<'_>) -> Result<(), AllocError>
-    ensures { Adds (members_view members.old.entries) (members_view members.new.entries) result
-        (size_values (bytes_of sauce.now)) }
+fn put_size(members: &mut Members, alloc: Global, sauce: &Record<'_>) -> Added
+    ensures { Adds members.old.entries members.new.entries result (size_values (bytes_of sauce.now)) }
 {
-    put(members, alloc, "width", Value::from(stated_width(sauce)))?;
-    put(members, alloc, "lines", Value::from(stated_lines(sauce)))
+    put_number(members, alloc, "width", stated_width(sauce))?;
+    put_number(members, alloc, "lines", stated_lines(sauce))
 }
 
-fn put_fields(members: &mut Members, alloc: Global, sauce: &Record<'_>) -> Result<(), AllocError>
-    ensures { Adds (members_view members.old.entries) (members_view members.new.entries) result
-        (field_values (bytes_of sauce.now)) }
+fn put_fields(members: &mut Members, alloc: Global, sauce: &Record<'_>) -> Added
+    ensures { Adds members.old.entries members.new.entries result (field_values (bytes_of sauce.now)) }
 {
     put(members, alloc, "font", shown_value(alloc, sauce.font())?)?;
     put(members, alloc, "date", shown_value(alloc, sauce.date())?)?;
@@ -278,13 +219,8 @@ fn put_fields(members: &mut Members, alloc: Global, sauce: &Record<'_>) -> Resul
 }
 
 /// The members of the record, where there is one.
-fn put_record(
-    members: &mut Members,
-    alloc: Global,
-    sauce: Option<Record<'_>>,
-) -> Result<(), AllocError>
-    ensures { Adds (members_view members.old.entries) (members_view members.new.entries) result
-        (record_values (option_map bytes_of sauce.entry)) }
+fn put_record(members: &mut Members, alloc: Global, sauce: Option<Record<'_>>) -> Added
+    ensures { Adds members.old.entries members.new.entries result (record_values (option_map bytes_of sauce.entry)) }
 {
     match sauce {
         Some(sauce) => {
@@ -302,7 +238,7 @@ fn row_value(alloc: Global, name: &[u8], finding: &Finding<'_>) -> Result<Value,
     let mut members = Map::new(alloc);
     put_verdict(&mut members, alloc, finding)?;
     put_content(&mut members, alloc, finding)?;
-    put_record(&mut members, alloc, sauce_of(finding))?;
+    put_record(&mut members, alloc, finding.sauce())?;
     put(&mut members, alloc, "file", name_value(alloc, name)?)?;
     Ok(Value::Object(members))
 }

@@ -1,20 +1,17 @@
 //! The rows of a table.
 
-ghost use Rattle.std.specs.Prelude.{◌≡◌, ◌↔◌, false, option_map, IsTrue, IsErr};
+ghost use Rattle.std.specs.Prelude.{◌≡◌, ◌↔◌, false, IsTrue, IsErr};
 ghost use Rattle.std.specs.Str.{IsUtf8};
 ghost use Rattle.ans_model.specs.Text.FaultText.{line_of};
-ghost use Rattle.ans_sauce.specs.RecordBytes.{bytes_of};
 ghost use Rattle.ans_write.specs.Tried.{has_failed, inner_of};
 ghost use Rattle.ans_write.specs.Writes.{WritesText};
 ghost use Rattle.ans_write.specs.Puts.{Puts};
-ghost use Rattle.ans_table.specs.Findings.{sauce_of};
 ghost use Rattle.ans_table.specs.NameText.{name_text};
 ghost use Rattle.ans_table.specs.RowText.{header_line, row_line};
 
 use crate::columns::{put_content, put_record, put_stated_size, put_verdict};
 use crate::finding::Finding;
 use crate::name_text::put_name;
-use ans_sauce::Record;
 use ans_write::{Outbox, Tried, WriteFault};
 use std::io::Write;
 
@@ -23,32 +20,11 @@ const HEADER: &[u8] =
     b"verdict\tneeds\ttaller\tfault\tat\trow\tcolumn\twidth\tlines\tcontent\tnotes\t\
     ice\tspacing\taspect\tfont\tdate\ttitle\tauthor\tgroup\tfile\n";
 
-/// The record of the file, where one was read.
-pub(crate) fn sauce_of<'a>(finding: &Finding<'a>) -> Option<Record<'a>>
-    ensures { option_map bytes_of result ≡ sauce_of finding.now }
-{
-    match finding {
-        Finding::Pass {
-            parts,
-            needs: _,
-            taller: _,
-        } => Some(parts.sauce()),
-        Finding::Refused {
-            parts,
-            fault: _,
-            row: _,
-            column: _,
-        } => Some(parts.sauce()),
-        Finding::NoContent { fault: _, sauce } => *sauce,
-        Finding::Unread(_) => None,
-    }
-}
-
 fn put_row<W: Write>(out: &mut Outbox<'_, W>, name: &[u8], finding: &Finding<'_>)
     ensures puts { Puts W.contents out.old out.new (row_line name.now finding.now) }
     ensures utf8 { IsUtf8 (name_text name.now) }
 {
-    let sauce = sauce_of(finding);
+    let sauce = finding.sauce();
     put_verdict(out, finding);
     put_stated_size(out, sauce);
     put_content(out, finding);

@@ -1,5 +1,4 @@
-use Rattle.std.proofs.Common.{arith}
-use Rattle.ans_write.proofs.PutsLemmas.{Puts-next, Puts-every}
+use Rattle.ans_write.proofs.PutsLemmas.{Puts-next}
 use Rattle.ans_explain.specs.WhyText.{quoted_byte}
 use Rattle.ans_explain.proofs.why_text.put_quoted_bytes.Goals as goal
 
@@ -7,7 +6,3 @@ pub loop-byte-preserved : goal.loop-byte-preserved
 loop-byte-preserved g c =
     Puts-next quoted_byte c.args.bytes.now c.loop-byte.byte-index 0 c.loop-byte-test.true c.loop-byte.invariant
     c.put_quoted_byte.ensures
-
-pub returns : goal.returns
-returns g c =
-    Puts-every quoted_byte c.args.bytes.now c.loop-byte.byte-index (omega arith) c.loop-byte.invariant

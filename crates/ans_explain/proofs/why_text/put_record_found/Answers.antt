@@ -6,5 +6,4 @@ use Rattle.ans_explain.proofs.why_text.put_record_found.Goals as goal
 pub returns : goal.returns
 returns g c =
     Puts-same (found_record (decimal c.args.offset) (decimal c.args.behind))
-    (Puts-then c.put.ensures (Puts-then c.put_decimal.ensures
-    (Puts-then c.put-2.ensures (Puts-then c.put_decimal-2.ensures c.put-3.ensures))))
+    (Puts-then c.put_numbers.ensures c.put.ensures)

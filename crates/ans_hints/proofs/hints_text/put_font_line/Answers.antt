@@ -4,8 +4,8 @@ use Rattle.ans_hints.specs.Fonts.{has_other_code_page}
 use Rattle.ans_hints.proofs.HintLines.{font_line_is}
 use Rattle.ans_hints.proofs.hints_text.put_font_line.Goals as goal
 
-pub returns : goal.returns
-returns g c =
+pub returns-then-has_other_code_page : goal.returns-then-has_other_code_page
+returns-then-has_other_code_page g c =
     let other : has_other_code_page c.args.font.now ≡ true = search rules in
     Puts-same (font_line_is c.args.font.now other)
-    (Puts-then c.put.ensures (Puts-then c.put_characters.ensures c.put-2.ensures))
+    (Puts-then c.put.ensures (Puts-then c.put_characters.ensures c.put-then-has_other_code_page.ensures))

@@ -1,4 +1,4 @@
-use Rattle.std.proofs.Common.{◌≡◌, ℕ, ◌+◌, ◌-◌, ◌≤◌, length, take, drop, refl, ap, ◌∙◌, arith, subst}
+use Rattle.std.proofs.Common.{◌≡◌, ℕ, ◌+◌, ◌-◌, ◌≤◌, length, drop, refl, ap, ◌∙◌, arith, subst}
 use Rattle.std.proofs.lemmas.List.{length-drop}
 use Rattle.ans_model.specs.declared.kind.Kind.{Kind}
 use Rattle.ans_model.specs.Inside.ShownKind.{shown_kind}
@@ -15,25 +15,22 @@ use Rattle.ans_hints.proofs.walk.found_in.Goals.{After-offset-in-Ok-Some-Token}
 pub loop-text-preserved-in-Ok-Some-Glyphs : goal.loop-text-preserved-in-Ok-Some-Glyphs
 loop-text-preserved-in-Ok-Some-Glyphs c =
     let h = c.loop-text.invariant in
-    let old = c.loop-text.pieces in
-    let new = c.next.new.self in
-    let content = c.args.content.now in
-    let front = take c.args.end content in
-    let text = c.in-Ok-Some-Glyphs.text in
-    let taken : TakesPiece old new (pieces.Glyphs text) =
+    let taken : TakesPiece c.loop-text.pieces c.next.new.self (pieces.Glyphs c.in-Ok-Some-Glyphs.text) =
     rw (c.in-Ok-Some-Glyphs.field-0-is, c.in-Ok-Some-Glyphs.field-0-0-is) at c.in-Ok-Some-Glyphs.ensures.piece in
-    let long : length text.now ≡ length taken.text = ap length taken.stands.0 in
-    let start : c.offset.result - length text.now ≡ old.offset = omega (arith, c.offset.ensures, taken.offset, long) in
-    let end : (c.offset.result - length text.now) + length text.now ≡ new.offset =
-    omega (arith, start, taken.offset, long) in
+    let content = c.args.content.now in
+    let count = length c.in-Ok-Some-Glyphs.text.now in
+    let long : count ≡ length taken.text = ap length taken.stands.0 in
+    let start : c.offset.result - count ≡ c.loop-text.pieces.offset =
+    omega (arith, c.offset.ensures, taken.offset, long) in
+    let end : (c.offset.result - count) + count ≡ c.next.new.self.offset = omega (arith, start, taken.offset, long) in
     record {
       at = subst (λ (n : ℕ). IsAt c.args.size n c.glyphs.new.self) end c.glyphs.ensures.at;
-      rest = left_after front old new (pieces.Glyphs text) h.within h.rest taken;
-      within = within_after front old new (pieces.Glyphs text) h.within h.rest taken;
+      rest = left_after _ _ _ _ h.within h.rest taken;
+      within = within_after _ _ _ _ h.within h.rest taken;
       leads = λ tokens texts reads.
-          glyphs_lead c.args.size old new (drop c.args.end content) c.loop-text.walk c.glyphs.new.self _
-          (h.leads tokens texts reads) text (c.offset.result - length text.now) (length text.now) _ taken start refl
-          (rw start (rest_of content old.offset ∙ with_behind content c.args.end old.offset old.rest h.rest h.within))
+          glyphs_lead c.args.size _ _ (drop c.args.end content) c.loop-text.walk c.glyphs.new.self _
+          (h.leads tokens texts reads) c.in-Ok-Some-Glyphs.text (c.offset.result - count) count _ taken start refl
+          (rw start (rest_of content _ ∙ with_behind content c.args.end _ _ h.rest h.within))
           c.glyphs.ensures.goes_on;
     }
 
@@ -46,7 +43,7 @@ glyphs-requires-clause-some c =
     rw (c.in-Ok-Some-Glyphs.field-0-is, c.in-Ok-Some-Glyphs.field-0-0-is) at c.in-Ok-Some-Glyphs.ensures.piece in
     let long : length text.now ≡ length taken.text = ap length taken.stands.0 in
     let start = c.offset.result - length text.now in
-    let all = ends_within content c.args.end c.loop-text.pieces c.next.new.self _ h.within h.rest taken in
+    let all = ends_within content c.args.end _ _ _ h.within h.rest taken in
     rw (rest_of content start) (omega (arith, c.offset.ensures, taken.offset, long, all, length-drop start content))
 
 -- a token ends within the content
@@ -70,27 +67,24 @@ slice_bounds-rest-start c = omega (arith, token_ends (goal.at.slice_bounds-rest-
 pub loop-text-preserved : goal.loop-text-preserved
 loop-text-preserved c =
     let h = c.loop-text.invariant in
-    let old = c.loop-text.pieces in
-    let new = c.next.new.self in
-    let content = c.args.content.now in
-    let front = take c.args.end content in
     let token = c.in-Ok-Some-Token.token in
-    let taken : TakesPiece old new (pieces.Token token) =
+    let taken : TakesPiece c.loop-text.pieces c.next.new.self (pieces.Token token) =
     rw (c.in-Ok-Some-Token.field-0-is, c.in-Ok-Some-Token.field-0-0-is) at c.in-Ok-Some-Token.ensures.piece in
-    let start : c.start.result ≡ old.offset = c.start.ensures ∙ taken.stands.0 in
-    let left = left_after front old new (pieces.Token token) h.within h.rest taken in
-    let within = within_after front old new (pieces.Token token) h.within h.rest taken in
+    let start : c.start.result ≡ c.loop-text.pieces.offset = c.start.ensures ∙ taken.stands.0 in
+    let left = left_after _ _ _ _ h.within h.rest taken in
+    let within = within_after _ _ _ _ h.within h.rest taken in
+    let content = c.args.content.now in
     record {
-      at = counts_within c.args.size c.token.new.self (c.start.result + 1) new.offset
+      at = counts_within c.args.size c.token.new.self (c.start.result + 1) _
           (omega (arith, start, taken.offset, taken.some)) c.token.ensures.at;
       rest = left;
       within = within;
       leads = λ tokens texts reads.
-          token_leads c.args.size old new (drop c.args.end content) c.loop-text.walk c.token.new.self _
+          token_leads c.args.size _ _ (drop c.args.end content) c.loop-text.walk c.token.new.self _
           (h.leads tokens texts reads) token (shown_kind c.kind.result.now) c.start.result _ taken start
           (ap (λ (k : Kind). shown_kind k) c.kind.ensures)
-          (rw c.offset-in-Ok-Some-Token.ensures (rest_of content new.offset
-          ∙ with_behind content c.args.end new.offset new.rest left within)) c.token.ensures.goes_on;
+          (rw c.offset-in-Ok-Some-Token.ensures (rest_of content _ ∙ with_behind content c.args.end _ _ left within))
+          c.token.ensures.goes_on;
     }
 
 pub returns-in-Ok-None : goal.returns-in-Ok-None

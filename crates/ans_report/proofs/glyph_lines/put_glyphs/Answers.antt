@@ -1,7 +1,6 @@
-use Rattle.std.proofs.Common.{arith, ◌≡◌, ℕ, get_or, take, sym, ap, ◌∷◌, []}
+use Rattle.std.proofs.Common.{arith, ◌≡◌, ℕ, get_or, take, sym, ap}
 use Rattle.std.proofs.lemmas.List.{take_all}
-use Rattle.ans_model.specs.Sequence.TokenKind.{Glyph}
-use Rattle.ans_model.specs.Text.TokensText.{token_line}
+use Rattle.ans_report.specs.TokenLines.{glyph_line}
 use Rattle.ans_report.proofs.GlyphLines.{glyph_lines-more}
 use Rattle.ans_write.proofs.PutsLemmas.{Puts-nothing, Puts-same, Puts-then}
 use Rattle.ans_report.proofs.glyph_lines.put_glyphs.Goals as goal
@@ -14,7 +13,7 @@ loop-byte-preserved g c =
     let i = c.loop-byte.byte-index in
     let b = get_or c.args.bytes.now i 0 in
     let h = c.loop-byte.invariant in
-    let line = ap (λ (n : ℕ). token_line n (Glyph b) (b ∷ [])) h.number in
+    let line = ap (λ (n : ℕ). glyph_line n b) h.number in
     record {
       number = omega (arith, c.increment.ensures);
       so_far = Puts-same (sym (glyph_lines-more c.args.start c.args.bytes.now i 0 c.loop-byte-test.true))

@@ -1,10 +1,7 @@
-use Rattle.std.proofs.Common.{arith, rules, ◌≡◌, get_or}
+use Rattle.std.proofs.Common.{rules, ◌≡◌, get_or}
 use Rattle.ans_report.specs.TokenLines.{later_number}
-use Rattle.ans_write.proofs.PutsLemmas.{Puts-nothing, Puts-then, Puts-next, Puts-every}
+use Rattle.ans_write.proofs.PutsLemmas.{Puts-then, Puts-next}
 use Rattle.ans_report.proofs.tokens_text.put_later_numbers.Goals as goal
-
-pub loop-number-init : goal.loop-number-init
-loop-number-init g c = Puts-nothing c.args.out.now
 
 pub loop-number-preserved : goal.loop-number-preserved
 loop-number-preserved g c =
@@ -13,7 +10,3 @@ loop-number-preserved g c =
     let number : c.from.result ≡ get_or numbers i 0 = search rules in
     Puts-next later_number numbers i 0 c.loop-number-test.true c.loop-number.invariant
     (Puts-then c.put.ensures (rw number at c.put_decimal.ensures))
-
-pub returns : goal.returns
-returns g c =
-    Puts-every later_number c.args.numbers.now c.loop-number.number-index (omega arith) c.loop-number.invariant

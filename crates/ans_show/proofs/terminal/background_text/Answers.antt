@@ -3,11 +3,11 @@ use Rattle.std.specs.Fmt.{digits}
 use Rattle.ans_show.specs.TerminalText.{background_text}
 use Rattle.ans_show.proofs.Tables.{text_at}
 use Rattle.ans_show.proofs.terminal.background_text.Goals as goal
+use Rattle.ans_show.proofs.terminal.background_text.Goals.{then-vga, else-vga}
 
-pub returns-then-vga : goal.returns-then-vga
+pub returns : goal.returns
 unfolding digits
-returns-then-vga c = rw c.if-vga.true (search (rules, text_at (background_text true)))
-
-pub returns-else-vga : goal.returns-else-vga
-unfolding digits
-returns-else-vga c = rw c.if-vga.false (search (rules, text_at (background_text false)))
+returns c = elim c.if-vga.branch [
+  | then-vga w ↦ rw (w.texts-is, w.if-vga.true) (search (rules, text_at (background_text true)))
+  | else-vga w ↦ rw (w.texts-is, w.if-vga.false) (search (rules, text_at (background_text false)))
+]

@@ -1,8 +1,7 @@
-use Rattle.std.proofs.Common.{◌≡◌, ◌∙◌, ap, codes, option_map, sym}
+use Rattle.std.proofs.Common.{◌≡◌, ◌∙◌, ap, codes}
 use Rattle.serde_json.proofs.Views.{view-Object}
-use Rattle.serde_json.specs.Data.{no_members, object, put, string}
+use Rattle.serde_json.specs.Data.{object, put, string}
 use Rattle.serde_json.specs.View.{members_view}
-use Rattle.ans_sauce.specs.RecordBytes.{bytes_of}
 use Rattle.ans_table.specs.Findings.{sauce_of}
 use Rattle.ans_table.specs.JsonRow.{Named, content_values, record_values, verdict_values, with_values}
 use Rattle.ans_table.specs.NameText.{name_text}
@@ -15,7 +14,7 @@ returns c =
     let told = members_view c.put_record.new.members.entries in
     let before = members_view c.put_content.new.members.entries in
     let third : told ≡ with_values (record_values (sauce_of finding)) before =
-    rw c.sauce_of.ensures at c.in_ok-put_record.ensures in
+    rw c.sauce.ensures at c.in_ok-put_record.ensures in
     let file : Named = (codes "file", string (name_text c.args.name.now)) in
     let fourth : members_view c.put.new.map.entries ≡ put file.0 file.1 told =
     rw c.in_ok-name_value.ensures at c.in_ok-put.ensures.ok in

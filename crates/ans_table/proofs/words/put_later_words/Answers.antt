@@ -1,22 +1,15 @@
-use Rattle.std.proofs.Common.{arith, get_or, rules, ◌≡◌, ℕ, List, []}
+use Rattle.std.proofs.Common.{get_or, rules, ◌≡◌, ℕ, List, []}
 use Rattle.std.specs.Borrow.{Bor}
 use Rattle.ans_table.specs.Words.{later_view}
-use Rattle.ans_write.proofs.PutsLemmas.{Puts-nothing, Puts-then, Puts-next, Puts-every}
+use Rattle.ans_write.proofs.PutsLemmas.{Puts-then, Puts-next}
 use Rattle.ans_table.proofs.words.put_later_words.Goals as goal
 
 -- what stands past the end of a slice
 abbrev none : Bor (List ℕ)
 none = record { ref_ptr = (0, 0); now = [] }
 
-pub loop-word-init : goal.loop-word-init
-loop-word-init g c = Puts-nothing c.args.out.now
-
 pub loop-word-preserved : goal.loop-word-preserved
 loop-word-preserved g c =
     let word : c.as_bytes.result.now ≡ (get_or c.args.words.now c.loop-word.word-index none).now = search rules in
     Puts-next later_view c.args.words.now c.loop-word.word-index none c.loop-word-test.true c.loop-word.invariant
     (Puts-then c.put.ensures (rw word at c.put-in-loop-word.ensures))
-
-pub returns : goal.returns
-returns g c =
-    Puts-every later_view c.args.words.now c.loop-word.word-index (omega arith) c.loop-word.invariant

@@ -1,5 +1,5 @@
 use Rattle.ans_write.proofs.PutsLemmas.{Puts-then}
-use Rattle.ans_explain.proofs.why_text.put_place.Goals as goal
+use Rattle.ans_explain.proofs.why_text.put_numbers.Goals as goal
 
 pub returns : goal.returns
 returns g c =
