@@ -10,7 +10,7 @@ use Rattle.ans_model.specs.declared.fault.Cause.TheVariants.{BrokenSequence, Num
 use Rattle.ans_model.specs.declared.fault.Cause.TheVariants.{EndInSequence, UnknownSequence, WrongParameters}
 use Rattle.ans_model.specs.declared.fault.Cause.TheVariants.{OutsideScreen, PrintBelow, Scrolls}
 use Rattle.ans_model.specs.declared.start.Start.{Start}
-use Rattle.ans_model.specs.File.Record.{flags}
+use Rattle.ans_model.specs.File.Record.{flags, stated_lines, stated_width}
 use Rattle.ans_model.specs.File.Refusals.{record_fault}
 use Rattle.ans_model.specs.Sequence.TokenKind.{TokenKind}
 use Rattle.ans_model.specs.Sequence.Reads.{ReadsAs}
@@ -36,13 +36,21 @@ use Rattle.ans_explain.specs.declared.why.Reliance.{Reliance}
 use Rattle.ans_explain.specs.declared.why.Shown.{Shown}
 use Rattle.ans_explain.specs.declared.why.Shown.TheVariants.{Cursors, Cells}
 
--- the stated size
+-- the size that a record states
+abbrev pub size_by : List ℕ → Size
+size_by sauce = sized (stated_width sauce) (stated_lines sauce)
+
+-- the same by a program's parts
 abbrev pub size_of : Parts → Size
 size_of parts = sized (width_of parts) (lines_of parts)
 
 -- the non-blink flag: bit 0 of the flags
+abbrev pub non_blink_by : List ℕ → Bool
+non_blink_by sauce = flags sauce % 2 == 1
+
+-- the same by a program's parts
 abbrev pub non_blink : Parts → Bool
-non_blink parts = flags (record_of parts) % 2 == 1
+non_blink parts = non_blink_by (record_of parts)
 
 -- the place of a position: its row and its column, counted from 1
 abbrev pub place_of : Position → Place
@@ -75,14 +83,14 @@ pub record IsReliance (z : Size) (file_length : ℕ) (content : List ℕ) (r : R
   pub shown : IsShown z none_known content r.fault r.shown
   pub mends : IsTrue r.mends ↔ (file_length + 16 ≤ longest_file)
 
--- a content that passes from the cleared start
-pub record IsPass (file_length : ℕ) (parts : Parts) (pass : Pass) : Type 0 where
-  pub needs : IsLeast (size_of parts) (content_of parts) pass.needs
-  pub taller : IsTrue pass.taller ↔ IsTaller (size_of parts) pass.needs (content_of parts)
+-- a content that passes from the cleared start, and its record
+pub record IsPass (file_length : ℕ) (sauce content : List ℕ) (pass : Pass) : Type 0 where
+  pub needs : IsLeast (size_by sauce) content pass.needs
+  pub taller : IsTrue pass.taller ↔ IsTaller (size_by sauce) pass.needs content
   pub nothing : IfNone pass.reliance (pass.needs ≡ none_known)
   pub relies : IfSome pass.reliance (λ r. (pass.needs ≢ none_known)
-      × IsReliance (size_of parts) file_length (content_of parts) r)
-  pub hints : AreHintsOf (size_of parts) (non_blink parts) (content_of parts) [] pass.hints
+      × IsReliance (size_by sauce) file_length content r)
+  pub hints : AreHintsOf (size_by sauce) (non_blink_by sauce) content [] pass.hints
 
 -- F19 to F21, of which more lines may rid a content
 abbrev pub IsOfLines : Cause → Type 0
@@ -104,19 +112,19 @@ pub record EndsHints (fault : Fault) (bytes : List ℕ) (end : ℕ) : Type 0 whe
   pub reading : IsOfReading fault.cause → end ≡ fault.offset
   pub token : ¬ IsOfReading fault.cause → end ≡ fault.offset + length bytes
 
--- a content that is refused from the cleared start
-pub record IsRefusal (parts : Parts) (r : Refusal) : Type 0 where
-  pub deserved : IsDeserved (size_of parts) all_known (content_of parts) r.fault
-  pub bytes : AreToBlame (size_of parts) all_known (content_of parts) r.fault r.bytes.now
-  pub cursor : ShowsPlaces (size_of parts) all_known (content_of parts) r.fault r.cursor r.cursor
-  pub lines : AreLines (width_of parts) (content_of parts) r.fault.cause r.lines
+-- a content that is refused from the cleared start, and its record
+pub record IsRefusal (sauce content : List ℕ) (r : Refusal) : Type 0 where
+  pub deserved : IsDeserved (size_by sauce) all_known content r.fault
+  pub bytes : AreToBlame (size_by sauce) all_known content r.fault r.bytes.now
+  pub cursor : ShowsPlaces (size_by sauce) all_known content r.fault r.cursor r.cursor
+  pub lines : AreLines (stated_width sauce) content r.fault.cause r.lines
   pub hints_end : ℕ
   pub ends : EndsHints r.fault r.bytes.now hints_end
-  pub hints : AreHintsOf (size_of parts) (non_blink parts) (take hints_end (content_of parts))
-      (drop hints_end (content_of parts)) r.hints
+  pub hints : AreHintsOf (size_by sauce) (non_blink_by sauce) (take hints_end content) (drop hints_end content) r.hints
 
 -- what is said of the file is true of it
 abbrev pub IsTrueOf : List ℕ → Why → Type 0
 IsTrueOf file (NoContent fault found) = (record_fault file ≡ Some fault) × IsFound file found fault.cause
-IsTrueOf file (Refused parts refusal) = IsSplit file parts × IsRefusal parts refusal
-IsTrueOf file (Passes parts pass) = IsSplit file parts × IsPass (length file) parts pass
+IsTrueOf file (Refused parts refusal) = IsSplit file parts × IsRefusal (record_of parts) (content_of parts) refusal
+IsTrueOf file (Passes parts pass) =
+    IsSplit file parts × IsPass (length file) (record_of parts) (content_of parts) pass

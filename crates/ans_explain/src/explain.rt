@@ -6,7 +6,7 @@ ghost use Rattle.ans_model.specs.File.Refusals.{record_fault};
 ghost use Rattle.ans_model.specs.Screen.State.{IsOnScreen};
 ghost use Rattle.ans_model.specs.Screen.StartClass.{none_known, all_known};
 ghost use Rattle.ans_model.specs.Verdict.Needs.{IsLeast};
-ghost use Rattle.ans_sauce.specs.Parts.{content_of};
+ghost use Rattle.ans_sauce.specs.Parts.{content_of, record_of};
 ghost use Rattle.ans_sauce.specs.Split.{IsSplit};
 ghost use Rattle.ans_why.specs.Evidence.{IsDeserved};
 ghost use Rattle.ans_explain.specs.Blamed.{AreToBlame};
@@ -142,7 +142,7 @@ fn enough_lines(width: usize, content: &[u8], cause: &Cause) -> Option<u16>
 fn refusal<'a>(parts: &Parts<'a>, fault: Fault) -> Refusal<'a>
     requires length { length (content_of parts.now) ≤ longest_file }
     requires deserved { IsDeserved (size_of parts.now) all_known (content_of parts.now) fault }
-    ensures { IsRefusal parts.now result }
+    ensures { IsRefusal (record_of parts.now) (content_of parts.now) result }
 {
     let size = size_of(parts);
     let content = parts.content();
@@ -165,7 +165,7 @@ fn pass<'a>(parts: &Parts<'a>, file_length: usize, needs: Start, fault: Option<F
     requires nothing { IfNone fault (needs ≡ none_known) }
     requires fault { IfSome fault (λ f. (needs ≢ none_known)
         × IsDeserved (size_of parts.now) none_known (content_of parts.now) f) }
-    ensures { IsPass file_length parts.now result }
+    ensures { IsPass file_length (record_of parts.now) (content_of parts.now) result }
 {
     let size = size_of(parts);
     let content = parts.content();

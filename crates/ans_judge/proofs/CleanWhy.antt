@@ -332,7 +332,7 @@ size_line_clean parts =
     named_clean (codes "size") (size_text (size_of parts)) (plain_text (codes "size") refl) (size_clean (size_of parts))
 
 pass_clean : (file : List ℕ) (parts : Parts) (pass : Pass) → All IsByte file → IsSplit file parts
-    → IsPass (length file) parts pass → IsCleanText (pass_lines parts pass)
+    → IsPass (length file) (record_of parts) (content_of parts) pass → IsCleanText (pass_lines parts pass)
 pass_clean file parts pass bytes split h =
     let needs = codes "needs:" ++ needed_parts pass.needs in
     let hints = hints_text pass.hints (font_of parts) in
@@ -353,7 +353,7 @@ pass_clean file parts pass bytes split h =
     (hints_clean pass.hints (font_of parts) (font_is_bytes file parts split bytes)))))
 
 refused_clean : (file : List ℕ) (parts : Parts) (r : Refusal) → All IsByte file → IsSplit file parts
-    → IsRefusal parts r → IsCleanText (refusal_lines parts r)
+    → IsRefusal (record_of parts) (content_of parts) r → IsCleanText (refusal_lines parts r)
 refused_clean file parts r bytes split h =
     let shown : Hints = record r.hints { empty_rows = 0 } in
     let hints = hints_text shown (font_of parts) in

@@ -1,7 +1,7 @@
 -- What is true of a file has one text.
 use Rattle.std.proofs.Common.{◌≡◌, ◌≢◌, inl, inr, ℕ, Bool, List, [], ◌++◌, length, take, drop, codes, refl}
 use Rattle.std.proofs.Common.{sym, ap, ap₂, ◌∙◌, subst, subst₂, Option, Some, None}
-use Rattle.std.specs.Prelude.{◌↔◌, ◌==◌, ◌%◌, IsTrue, IfSome, IfNone}
+use Rattle.std.specs.Prelude.{◌↔◌, IsTrue, IfSome, IfNone}
 use Rattle.std.proofs.lemmas.Bool.{cases_lt}
 use Rattle.std.proofs.Common.{arith}
 use Rattle.std.proofs.lemmas.Option.{same_Some}
@@ -9,9 +9,9 @@ use Rattle.ans_model.specs.declared.fault.Cause.{Cause}
 use Rattle.ans_model.specs.declared.fault.Fault.{Fault}
 use Rattle.ans_model.specs.declared.start.Start.{Start}
 use Rattle.ans_model.specs.File.Layout.{FileParts, content}
-use Rattle.ans_model.specs.File.Record.{flags, font_field, stated_lines, stated_width, trimmed}
+use Rattle.ans_model.specs.File.Record.{font_field, stated_width, trimmed}
 use Rattle.ans_model.specs.File.Refusals.{record_fault}
-use Rattle.ans_model.specs.Screen.State.{Size, sized}
+use Rattle.ans_model.specs.Screen.State.{Size}
 use Rattle.ans_model.specs.Screen.StartClass.{all_known, none_known}
 use Rattle.ans_model.specs.Text.FaultText.{fault_line, line_of}
 use Rattle.ans_model.specs.Text.NeedsText.{needed_parts}
@@ -33,7 +33,7 @@ use Rattle.ans_why.specs.Taller.{IsTaller}
 use Rattle.ans_hints.specs.HintsText.{hints_text}
 use Rattle.ans_hints.specs.declared.hints.Hints.{Hints}
 use Rattle.ans_explain.specs.Blamed.{AreToBlame}
-use Rattle.ans_explain.specs.Explained.{AreHintsOf, AreLines, EndsHints, IsPass, IsRefusal, IsReliance, IsTrueOf}
+use Rattle.ans_explain.specs.Explained.{AreHintsOf, AreLines, EndsHints, IsPass, IsRefusal, IsReliance, IsTrueOf, non_blink_by, size_by}
 use Rattle.ans_explain.specs.Explained.{IsShown, ShowsPlaces}
 use Rattle.ans_explain.specs.WhyText.{answer_text, bytes_line, lines_line, mend_line, place_text}
 use Rattle.ans_explain.specs.WhyText.{reliance_lines, shown_lines, why_text}
@@ -57,12 +57,6 @@ one_test P p q h g = same_truth p q (λ k. g.1 (h.0 k)) (λ k. h.1 (g.0 k))
 
 -- ---- the parts of a file
 
-abbrev size_by : List ℕ → Size
-size_by sauce = sized (stated_width sauce) (stated_lines sauce)
-
-abbrev non_blink_by : List ℕ → Bool
-non_blink_by sauce = flags sauce % 2 == 1
-
 one_record : (file : List ℕ) (a b : Parts) → IsSplit file a → IsSplit file b → record_of a ≡ record_of b
 one_record file a b h g =
     h.shows.sauce
@@ -80,47 +74,6 @@ no_parts : (file : List ℕ) (fault : Fault) (parts : Parts) → record_fault fi
 no_parts file fault parts some split =
     let none : record_fault file ≡ None = no_fault file split.apart split.accepts in
     cc
-
--- ---- what is so of a content, whichever parts it is taken from
-
--- a refusal, by the record and the content
-record RefusalOf (sauce bytes : List ℕ) (r : Refusal) : Type 0 where
-  deserved : IsDeserved (size_by sauce) all_known bytes r.fault
-  blamed : AreToBlame (size_by sauce) all_known bytes r.fault r.bytes.now
-  cursor : ShowsPlaces (size_by sauce) all_known bytes r.fault r.cursor r.cursor
-  lines : AreLines (stated_width sauce) bytes r.fault.cause r.lines
-  end : ℕ
-  ends : EndsHints r.fault r.bytes.now end
-  hints : AreHintsOf (size_by sauce) (non_blink_by sauce) (take end bytes) (drop end bytes) r.hints
-
-refusal_of : (parts : Parts) (r : Refusal) → IsRefusal parts r → RefusalOf (record_of parts) (content_of parts) r
-refusal_of parts r h = record {
-  deserved = h.deserved;
-  blamed = h.bytes;
-  cursor = h.cursor;
-  lines = h.lines;
-  end = h.hints_end;
-  ends = h.ends;
-  hints = h.hints;
-}
-
--- a pass, by the record and the content
-record PassOf (file_length : ℕ) (sauce bytes : List ℕ) (p : Pass) : Type 0 where
-  needs : IsLeast (size_by sauce) bytes p.needs
-  taller : IsTrue p.taller ↔ IsTaller (size_by sauce) p.needs bytes
-  nothing : IfNone p.reliance (p.needs ≡ none_known)
-  relies : IfSome p.reliance (λ r. (p.needs ≢ none_known) × IsReliance (size_by sauce) file_length bytes r)
-  hints : AreHintsOf (size_by sauce) (non_blink_by sauce) bytes [] p.hints
-
-pass_of : (file_length : ℕ) (parts : Parts) (p : Pass) → IsPass file_length parts p
-    → PassOf file_length (record_of parts) (content_of parts) p
-pass_of file_length parts p h = record {
-  needs = h.needs;
-  taller = h.taller;
-  nothing = h.nothing;
-  relies = h.relies;
-  hints = h.hints;
-}
 
 -- ---- faults
 
@@ -173,14 +126,14 @@ same_refusal_said : (sauce : List ℕ) (f g : Fault) (a b : List ℕ) (p q : Pla
     → refusal_said sauce f a p m s ≡ refusal_said sauce g b q n t
 same_refusal_said sauce f g a b p q m n s t fault bytes cursor lines hints = cc
 
-module _ (sauce bytes : List ℕ) (r s : Refusal) (h : RefusalOf sauce bytes r) (g : RefusalOf sauce bytes s) where
+module _ (sauce bytes : List ℕ) (r s : Refusal) (h : IsRefusal sauce bytes r) (g : IsRefusal sauce bytes s) where
   same_fault : s.fault ≡ r.fault
   same_fault = one_fault (size_by sauce) all_known bytes s.fault r.fault g.deserved h.deserved
 
   same_bytes : r.bytes.now ≡ s.bytes.now
   same_bytes =
-      one_blamed (size_by sauce) all_known bytes r.fault r.bytes.now s.bytes.now h.blamed
-      (subst (λ (f : Fault). AreToBlame (size_by sauce) all_known bytes f s.bytes.now) same_fault g.blamed)
+      one_blamed (size_by sauce) all_known bytes r.fault r.bytes.now s.bytes.now h.bytes
+      (subst (λ (f : Fault). AreToBlame (size_by sauce) all_known bytes f s.bytes.now) same_fault g.bytes)
 
   same_cursor : r.cursor ≡ s.cursor
   same_cursor =
@@ -194,14 +147,14 @@ module _ (sauce bytes : List ℕ) (r s : Refusal) (h : RefusalOf sauce bytes r) 
 
   same_hints : r.hints ≡ s.hints
   same_hints =
-      let at = hints_end (size_by sauce) bytes r.fault r.bytes.now h.blamed in
-      let moved : EndsHints r.fault r.bytes.now g.end =
-      subst₂ (λ (f : Fault) (v : List ℕ). EndsHints f v g.end) same_fault (sym same_bytes) g.ends in
-      let end_is : g.end ≡ at.end = at.only g.end moved in
+      let at = hints_end (size_by sauce) bytes r.fault r.bytes.now h.bytes in
+      let moved : EndsHints r.fault r.bytes.now g.hints_end =
+      subst₂ (λ (f : Fault) (v : List ℕ). EndsHints f v g.hints_end) same_fault (sym same_bytes) g.ends in
+      let end_is : g.hints_end ≡ at.end = at.only g.hints_end moved in
       one_hints (size_by sauce) (non_blink_by sauce) (take at.end bytes) (drop at.end bytes) at.tokens r.hints s.hints
       at.reads
       (subst (λ (n : ℕ). AreHintsOf (size_by sauce) (non_blink_by sauce) (take n bytes) (drop n bytes) r.hints)
-      (at.only h.end h.ends) h.hints)
+      (at.only h.hints_end h.ends) h.hints)
       (subst (λ (n : ℕ). AreHintsOf (size_by sauce) (non_blink_by sauce) (take n bytes) (drop n bytes) s.hints) end_is
       g.hints)
 
@@ -261,8 +214,8 @@ same_pass_said : (sauce : List ℕ) (c d : Start) (p q : Bool) (a b : List ℕ) 
     → s ≡ t → pass_said sauce c p a s ≡ pass_said sauce d q b t
 same_pass_said sauce c d p q a b s t needs taller relied hints = cc
 
-module _ (file_length : ℕ) (sauce bytes : List ℕ) (p q : Pass) (h : PassOf file_length sauce bytes p)
-    (g : PassOf file_length sauce bytes q) where
+module _ (file_length : ℕ) (sauce bytes : List ℕ) (p q : Pass) (h : IsPass file_length sauce bytes p)
+    (g : IsPass file_length sauce bytes q) where
   same_needs : p.needs ≡ q.needs
   same_needs = one_class (size_by sauce) bytes p.needs q.needs h.needs g.needs
 
@@ -312,8 +265,8 @@ module _ (file : List ℕ) where
   unfolding refusal_said
   both_refused a b r s (split, h) (other, g) =
       let (sauce, bytes) = same_file a b split other in
-      one_refusal (record_of a) (content_of a) r s (refusal_of a r h)
-      (subst₂ (λ (v w : List ℕ). RefusalOf v w s) sauce bytes (refusal_of b s g))
+      one_refusal (record_of a) (content_of a) r s h
+      (subst₂ (λ (v w : List ℕ). IsRefusal v w s) sauce bytes g)
       ∙ ap (λ (v : List ℕ). refusal_said v s.fault s.bytes.now s.cursor s.lines s.hints) (sym sauce)
 
   both_pass : (a b : Parts) (p q : Pass) → IsTrueOf file (Passes a p) → IsTrueOf file (Passes b q)
@@ -321,17 +274,17 @@ module _ (file : List ℕ) where
   unfolding pass_said
   both_pass a b p q (split, h) (other, g) =
       let (sauce, bytes) = same_file a b split other in
-      one_pass (length file) (record_of a) (content_of a) p q (pass_of (length file) a p h)
-      (subst₂ (λ (v w : List ℕ). PassOf (length file) v w q) sauce bytes (pass_of (length file) b q g))
+      one_pass (length file) (record_of a) (content_of a) p q h
+      (subst₂ (λ (v w : List ℕ). IsPass (length file) v w q) sauce bytes g)
       ∙ ap (λ (v : List ℕ). pass_said v q.needs q.taller (reliance_lines q.reliance) q.hints) (sym sauce)
 
   -- a content is refused from the cleared start, or passes from there
   refused_or_passes : (a b : Parts) (r : Refusal) (p : Pass) → IsTrueOf file (Refused a r)
       → IsTrueOf file (Passes b p) → ⊥
   refused_or_passes a b r p (split, h) (other, g) =
-      let refused : RefusalOf (record_of b) (content_of b) r =
-      subst₂ (λ (v w : List ℕ). RefusalOf v w r) (one_record file a b split other) (one_content file a b split other)
-      (refusal_of a r h) in
+      let refused : IsRefusal (record_of b) (content_of b) r =
+      subst₂ (λ (v w : List ℕ). IsRefusal v w r) (one_record file a b split other) (one_content file a b split other)
+      h in
       good_deserves_none (size_by (record_of b)) all_known (content_of b) r.fault
       (least_is_good (size_by (record_of b)) (content_of b) p.needs g.needs) refused.deserved
 
