@@ -6,10 +6,10 @@ ghost use Rattle.ans_screen.specs.LentRows.{row_of, rows_whole, rows_of_rounds, 
 ghost use Rattle.ans_screen.specs.RowCells.{never_written, cells_of_grid, length_grid};
 
 use crate::attr::Attr;
-use crate::cell::HalfCell;
+use crate::cell::{HalfCell, Part};
 use crate::lent_row::LentRow;
 use crate::planes::{fill_bytes, write_bytes};
-use crate::row_planes::{Row, RowPlanes, cells};
+use crate::row_planes::{Row, RowPlanes, cells, copies};
 use crate::screen::Screen;
 
 /// Cell `i` is byte `i` of each of four planes where its row holds it, and else the blank. A fill of
@@ -175,20 +175,18 @@ impl<'a> RowPlanes for LentGrid<'a> {
         (self.glyphs_known[i], self.bits_known[i])
     }
 
-    fn glyphs(&self, from: usize, to: usize) -> &[u8] {
-        &self.glyphs[from..to]
+    fn shown_part(&self, part: Part, from: usize, to: usize) -> &[u8] {
+        match part {
+            Part::Glyph => &self.glyphs[from..to],
+            Part::Attribute => &self.values[from..to],
+        }
     }
 
-    fn values(&self, from: usize, to: usize) -> &[u8] {
-        &self.values[from..to]
-    }
-
-    fn glyphs_known(&self, from: usize, to: usize) -> Option<&[u8]> {
-        Some(&self.glyphs_known[from..to])
-    }
-
-    fn bits_known(&self, from: usize, to: usize) -> Option<&[u8]> {
-        Some(&self.bits_known[from..to])
+    fn known_part(&self, part: Part, from: usize, to: usize) -> Option<&[u8]> {
+        Some(match part {
+            Part::Glyph => &self.glyphs_known[from..to],
+            Part::Attribute => &self.bits_known[from..to],
+        })
     }
 
     #[inline(always)]
@@ -256,11 +254,11 @@ impl<'a> Screen for LentGrid<'a> {
     }
 
     fn copy_glyphs(&self, row: usize, glyphs: &mut [u8]) {
-        cells::copy_glyphs(self, row, glyphs);
+        copies::copy_part(self, row, Part::Glyph, glyphs);
     }
 
     fn copy_attributes(&self, row: usize, values: &mut [u8]) {
-        cells::copy_attributes(self, row, values);
+        copies::copy_part(self, row, Part::Attribute, values);
     }
 
     ghost whole = { λ g. length_grid (⟦<LentGrid<'a> as RowPlanes>⟧.planes_of g) };

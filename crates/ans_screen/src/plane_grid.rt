@@ -7,11 +7,11 @@ ghost use Rattle.ans_screen.specs.GridEdits.{most_rows};
 ghost use Rattle.ans_screen.specs.RowCells.{cells_of_grid, length_grid};
 
 use crate::attr::Attr;
-use crate::cell::HalfCell;
+use crate::cell::{HalfCell, Part};
 use crate::grid::Grid;
 use crate::lazy_plane::LazyPlane;
 use crate::planes::{fill_plane, write_planes};
-use crate::row_planes::{Row, RowPlanes, cells};
+use crate::row_planes::{Row, RowPlanes, cells, copies};
 use std::alloc::{AllocError, Global};
 
 /// Cell `i` is byte `i` of each of four planes where its row holds it, and else the blank. A fill of
@@ -167,20 +167,18 @@ impl RowPlanes for PlaneGrid {
         (self.glyphs_known.byte(i), self.bits_known.byte(i))
     }
 
-    fn glyphs(&self, from: usize, to: usize) -> &[u8] {
-        &self.glyphs[from..to]
+    fn shown_part(&self, part: Part, from: usize, to: usize) -> &[u8] {
+        match part {
+            Part::Glyph => &self.glyphs[from..to],
+            Part::Attribute => &self.values[from..to],
+        }
     }
 
-    fn values(&self, from: usize, to: usize) -> &[u8] {
-        &self.values[from..to]
-    }
-
-    fn glyphs_known(&self, from: usize, to: usize) -> Option<&[u8]> {
-        self.glyphs_known.part(from, to)
-    }
-
-    fn bits_known(&self, from: usize, to: usize) -> Option<&[u8]> {
-        self.bits_known.part(from, to)
+    fn known_part(&self, part: Part, from: usize, to: usize) -> Option<&[u8]> {
+        match part {
+            Part::Glyph => self.glyphs_known.part(from, to),
+            Part::Attribute => self.bits_known.part(from, to),
+        }
     }
 
     #[inline(always)]
@@ -259,11 +257,11 @@ impl Grid for PlaneGrid {
     }
 
     fn copy_glyphs(&self, row: usize, glyphs: &mut [u8]) {
-        cells::copy_glyphs(self, row, glyphs);
+        copies::copy_part(self, row, Part::Glyph, glyphs);
     }
 
     fn copy_attributes(&self, row: usize, values: &mut [u8]) {
-        cells::copy_attributes(self, row, values);
+        copies::copy_part(self, row, Part::Attribute, values);
     }
 
     ghost whole = { λ g. length_grid (⟦<PlaneGrid as RowPlanes>⟧.planes_of g) };

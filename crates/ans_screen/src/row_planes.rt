@@ -5,13 +5,13 @@ ghost use Rattle.std.specs.Prelude.{slice_index, slice_index_or, slice_range, Ma
 ghost use Rattle.ans_model.specs.Screen.Step.{filled};
 ghost use Rattle.ans_screen.specs.GridEdits.{written};
 ghost use Rattle.ans_screen.specs.RowCells.{Planes, SameRows, SameShown, SameKnown, HasRow, BeginsRound};
-ghost use Rattle.ans_screen.specs.RowCells.{never_written, held_row};
+ghost use Rattle.ans_screen.specs.RowCells.{never_written, held_row, shown_plane, known_plane};
 
 pub(crate) mod cells;
 pub(crate) mod copies;
 pub(crate) mod rows;
 
-use crate::cell::HalfCell;
+use crate::cell::{HalfCell, Part};
 
 /// A row as it was last written.
 #[derive(Clone, Copy)]
@@ -79,31 +79,19 @@ pub(crate) trait RowPlanes {
         ensures glyph { result.0 ≡ slice_index (planes_of self.now).glyphs_known i }
         ensures value { result.1 ≡ slice_index (planes_of self.now).bits_known i };
 
-    fn glyphs(&self, from: usize, to: usize) -> &[u8]
+    /// The bytes of a part.
+    fn shown_part(&self, part: Part, from: usize, to: usize) -> &[u8]
         requires ordered { from ≤ to }
         requires within { to ≤ (planes_of self.now).width * (planes_of self.now).rows }
-        ensures { result.now ≡ slice_range (planes_of self.now).glyphs from to };
+        ensures { result.now ≡ slice_range (shown_plane part (planes_of self.now)) from to };
 
-    fn values(&self, from: usize, to: usize) -> &[u8]
+    /// What is known of a part, or `None` where each byte of that plane is 00h.
+    fn known_part(&self, part: Part, from: usize, to: usize) -> Option<&[u8]>
         requires ordered { from ≤ to }
         requires within { to ≤ (planes_of self.now).width * (planes_of self.now).rows }
-        ensures { result.now ≡ slice_range (planes_of self.now).values from to };
-
-    /// Which glyphs are known, or `None` where each byte of that plane is 00h.
-    fn glyphs_known(&self, from: usize, to: usize) -> Option<&[u8]>
-        requires ordered { from ≤ to }
-        requires within { to ≤ (planes_of self.now).width * (planes_of self.now).rows }
-        ensures { MatchOption result ((planes_of self.now).glyphs_known
-            ≡ replicate (length (planes_of self.now).glyphs_known) 0)
-            (λ part. part.now ≡ slice_range (planes_of self.now).glyphs_known from to) };
-
-    /// The bits that are known, or `None` where each byte of that plane is 00h.
-    fn bits_known(&self, from: usize, to: usize) -> Option<&[u8]>
-        requires ordered { from ≤ to }
-        requires within { to ≤ (planes_of self.now).width * (planes_of self.now).rows }
-        ensures { MatchOption result ((planes_of self.now).bits_known
-            ≡ replicate (length (planes_of self.now).bits_known) 0)
-            (λ part. part.now ≡ slice_range (planes_of self.now).bits_known from to) };
+        ensures { MatchOption result (known_plane part (planes_of self.now)
+            ≡ replicate (length (known_plane part (planes_of self.now))) 0)
+            (λ known. known.now ≡ slice_range (known_plane part (planes_of self.now)) from to) };
 
     fn fill_shown(&mut self, from: usize, to: usize, glyph: u8, value: u8)
         requires ordered { from ≤ to }
