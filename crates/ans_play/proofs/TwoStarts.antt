@@ -24,7 +24,7 @@ use Rattle.ans_model.specs.Verdict.LastFault.{IsLastFault, SameCell, CellsDiffer
 use Rattle.ans_model.specs.Verdict.Certain.{IsCertain}
 use Rattle.ans_model.specs.Verdict.TwoStarts.{low_final, high_final, CursorsDiffer, OneIsInSpareRow, IsFirstDifference}
 use Rattle.ans_model.specs.Verdict.TwoStarts.{TwoStartsShow, IsShownByTwoStarts, CursorsDifferInTab}
-use Rattle.ans_model.specs.Sequence.Reads.{SpellsToken}
+use Rattle.ans_model.specs.Sequence.Reads.{Reads, SpellsToken}
 use Rattle.ans_model.proofs.StartLemmas.{low_is_start, high_is_start}
 use Rattle.ans_model.proofs.OneCause.{static_is_certain}
 use Rattle.ans_model.proofs.OneAnswer.{refused_certain}
@@ -294,38 +294,21 @@ module _ (z : Size) (class : Start) (bytes : List ℕ) (fault : Fault) where
   blame_shown h (inr r) = certain_shows z class h.tokens (h.text ++ h.rest) fault.cause
       (refused_certain h.text fault.cause r)
 
+  shown_at : (front rest : List ℕ) (ts : List TokenKind) → bytes ≡ front ++ rest → fault.offset ≡ length front
+      → Reads front ts → TwoStartsShow z class ts rest fault.cause → IsShownByTwoStarts z class bytes fault
+  shown_at front rest ts w o r s =
+      record { front = front; rest = rest; whole = w; offset = o; tokens = ts; reads = r; shown = s }
+
   -- of the first fault the two plays show the cause
   pub first_shown : IsFirstFault z class bytes fault → IsShownByTwoStarts z class bytes fault
-  first_shown h = record {
-    front = h.front;
-    rest = h.text ++ h.rest;
-    whole = h.whole;
-    offset = h.offset;
-    tokens = h.tokens;
-    reads = h.reads;
-    shown = blame_shown h h.faulty;
-  }
+  first_shown h =
+      shown_at h.front (h.text ++ h.rest) h.tokens h.whole h.offset h.reads (blame_shown h h.faulty)
 
   -- and of the last
   pub last_shown : IsLastFault z class bytes fault → IsShownByTwoStarts z class bytes fault
-  last_shown (inl h) = record {
-    front = h.front;
-    rest = h.text;
-    whole = h.whole;
-    offset = ap (λ (f : Fault). f.offset) h.fault_is;
-    tokens = h.tokens;
-    reads = h.reads;
-    shown = rw h.fault_is tt;
-  }
+  last_shown (inl h) =
+      shown_at h.front h.text h.tokens h.whole (ap (λ (f : Fault). f.offset) h.fault_is) h.reads (rw h.fault_is tt)
   last_shown (inr h) =
       let known = known_after_clean z class h.size.some_columns h.tokens (reads_bytes bytes h.tokens h.reads) h.clean in
-      record {
-        front = bytes;
-        rest = [];
-        whole = sym (append-nil bytes);
-        offset = ap (λ (f : Fault). f.offset) h.fault_is;
-        tokens = h.tokens;
-        reads = h.reads;
-        shown = rw h.fault_is
-            (first_difference z class h.tokens h.size.some_columns known.0 known.1 h.position h.first);
-      }
+      shown_at bytes [] h.tokens (sym (append-nil bytes)) (ap (λ (f : Fault). f.offset) h.fault_is) h.reads
+      (rw h.fault_is (first_difference z class h.tokens h.size.some_columns known.0 known.1 h.position h.first))
