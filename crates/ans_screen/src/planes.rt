@@ -12,7 +12,7 @@ use crate::cell::{HalfCell, Part};
 use std::simd::prelude::*;
 
 /// A cell's byte in each plane.
-#[derive(Clone, Copy)]
+#[derive(Drop)]
 pub(crate) struct CellBytes {
     pub(crate) glyph: u8,
     pub(crate) glyph_known: u8,

@@ -26,6 +26,28 @@ pub(crate) struct Row {
     pub(crate) end: usize,
 }
 
+impl Row {
+    /// A row that was never written.
+    pub(crate) fn never() -> Row
+        ensures { result ≡ never_written }
+    {
+        Row {
+            round: 0,
+            known: true,
+            first: 0,
+            end: 0,
+        }
+    }
+}
+
+/// How large a grid is, and what its cells are that no row holds.
+#[derive(Clone, Copy)]
+pub(crate) struct Frame {
+    pub(crate) width: usize,
+    pub(crate) rows: usize,
+    pub(crate) blank: HalfCell,
+}
+
 /// Cell `i` is byte `i` of each plane where its row holds it, and else the blank. A fill of the whole
 /// grid begins a new round, in which no row holds a cell, so it writes neither planes nor rows. A write
 /// to a row writes no more of it than what lies between the cells that are held, and of a known row
@@ -33,14 +55,31 @@ pub(crate) struct Row {
 pub(crate) trait RowPlanes {
     ghost planes_of: { Self → Planes };
 
+    fn frame(&self) -> &Frame
+        ensures width { result.now.width ≡ (planes_of self.now).width }
+        ensures rows { result.now.rows ≡ (planes_of self.now).rows }
+        ensures blank { result.now.blank ≡ (planes_of self.now).blank };
+
+    #[inline(always)]
     fn width(&self) -> usize
-        ensures { result ≡ (planes_of self.now).width };
+        ensures { result ≡ (planes_of self.now).width }
+    {
+        self.frame().width
+    }
 
+    #[inline(always)]
     fn rows(&self) -> usize
-        ensures { result ≡ (planes_of self.now).rows };
+        ensures { result ≡ (planes_of self.now).rows }
+    {
+        self.frame().rows
+    }
 
+    #[inline(always)]
     fn blank(&self) -> HalfCell
-        ensures { result ≡ (planes_of self.now).blank };
+        ensures { result ≡ (planes_of self.now).blank }
+    {
+        self.frame().blank
+    }
 
     fn round(&self) -> u32
         ensures { result ≡ (planes_of self.now).round };
