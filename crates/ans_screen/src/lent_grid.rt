@@ -200,11 +200,11 @@ impl<'a> Screen for LentGrid<'a> {
     ghost cells_of = { λ g. cells_of_grid (⟦<LentGrid<'a> as RowPlanes>⟧.planes_of g) };
 
     fn width(&self) -> usize {
-        RowPlanes::width(self)
+        self.frame.width
     }
 
     fn rows(&self) -> usize {
-        RowPlanes::rows(self)
+        self.frame.rows
     }
 
     fn get(&self, i: usize) -> HalfCell {

@@ -11,7 +11,7 @@ use crate::cell::{HalfCell, Part};
 use crate::grid::Grid;
 use crate::lazy_plane::LazyPlane;
 use crate::planes::{fill_plane, write_planes};
-use crate::row_planes::{Frame, Row, RowPlanes, cells, copies};
+use crate::row_planes::{Frame, NEVER, Row, RowPlanes, cells, copies};
 use std::alloc::{AllocError, Global};
 
 /// Cell `i` is byte `i` of each of four planes where its row holds it, and else the blank. A fill of
@@ -50,7 +50,7 @@ impl PlaneGrid {
             ≡ replicate (frame.width * frame.rows) frame.blank) }
     {
         let count = frame.width * frame.rows;
-        let held = vec![in alloc; Row::never(); frame.rows]?;
+        let held = vec![in alloc; NEVER; frame.rows]?;
         let glyphs = vec![in alloc; 0x00; count]?;
         let glyphs_known = LazyPlane::new(alloc, count)?;
         let bits_known = LazyPlane::new(alloc, count)?;
@@ -116,7 +116,7 @@ impl RowPlanes for PlaneGrid {
     #[cold]
     #[inline(never)]
     fn set_back(&mut self) {
-        self.held.fill(Row::never());
+        self.held.fill(NEVER);
         self.round = 0;
     }
 
@@ -191,11 +191,11 @@ impl Grid for PlaneGrid {
     }
 
     fn width(&self) -> usize {
-        RowPlanes::width(self)
+        self.frame.width
     }
 
     fn rows(&self) -> usize {
-        RowPlanes::rows(self)
+        self.frame.rows
     }
 
     fn get(&self, i: usize) -> HalfCell {

@@ -26,19 +26,13 @@ pub(crate) struct Row {
     pub(crate) end: usize,
 }
 
-impl Row {
-    /// A row that was never written.
-    pub(crate) fn never() -> Row
-        ensures { result ≡ never_written }
-    {
-        Row {
-            round: 0,
-            known: true,
-            first: 0,
-            end: 0,
-        }
-    }
-}
+/// A row that was never written.
+pub(crate) const NEVER: Row = Row {
+    round: 0,
+    known: true,
+    first: 0,
+    end: 0,
+};
 
 /// How large a grid is, and what its cells are that no row holds.
 #[derive(Clone, Copy)]
@@ -59,27 +53,6 @@ pub(crate) trait RowPlanes {
         ensures width { result.now.width ≡ (planes_of self.now).width }
         ensures rows { result.now.rows ≡ (planes_of self.now).rows }
         ensures blank { result.now.blank ≡ (planes_of self.now).blank };
-
-    #[inline(always)]
-    fn width(&self) -> usize
-        ensures { result ≡ (planes_of self.now).width }
-    {
-        self.frame().width
-    }
-
-    #[inline(always)]
-    fn rows(&self) -> usize
-        ensures { result ≡ (planes_of self.now).rows }
-    {
-        self.frame().rows
-    }
-
-    #[inline(always)]
-    fn blank(&self) -> HalfCell
-        ensures { result ≡ (planes_of self.now).blank }
-    {
-        self.frame().blank
-    }
 
     fn round(&self) -> u32
         ensures { result ≡ (planes_of self.now).round };

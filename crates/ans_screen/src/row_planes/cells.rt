@@ -17,10 +17,10 @@ pub(crate) fn get<P: RowPlanes>(grid: &P, i: usize) -> HalfCell
     requires { i < length (cells_of_grid (P.planes_of grid.now)) }
     ensures { slice_get (cells_of_grid (P.planes_of grid.now)) i ≡ Some result }
 {
-    let row = i / grid.width();
+    let row = i / grid.frame().width;
     let held = held_row(grid, row, row_start(grid, row));
     if i < held.first || held.end <= i {
-        return grid.blank();
+        return grid.frame().blank;
     }
     let (glyph, value) = grid.shown(i);
     if held.known {
@@ -44,8 +44,8 @@ pub(crate) fn put<P: RowPlanes>(grid: &mut P, i: usize, cell: HalfCell)
     ensures width { (P.planes_of grid.new).width ≡ (P.planes_of grid.old).width }
     ensures rows { (P.planes_of grid.new).rows ≡ (P.planes_of grid.old).rows }
 {
-    let row = i / grid.width();
-    let column = i % grid.width();
+    let row = i / grid.frame().width;
+    let column = i % grid.frame().width;
     fill_row(grid, row, column, column + 1, cell);
 }
 
@@ -58,7 +58,7 @@ pub(crate) fn fill<P: RowPlanes>(grid: &mut P, from: usize, to: usize, cell: Hal
     ensures width { (P.planes_of grid.new).width ≡ (P.planes_of grid.old).width }
     ensures rows { (P.planes_of grid.new).rows ≡ (P.planes_of grid.old).rows }
 {
-    if from == 0 && to == grid.width() * grid.rows() {
+    if from == 0 && to == grid.frame().width * grid.frame().rows {
         clear(grid, cell);
     } else if from < to {
         fill_rows(grid, from, to, &cell);
@@ -70,12 +70,12 @@ pub(crate) fn first_unknown<P: RowPlanes>(grid: &P, to: usize) -> Option<usize>
     requires { to ≤ length (cells_of_grid (P.planes_of grid.now)) }
     ensures { result ≡ first_unknown (cells_of_grid (P.planes_of grid.now)) to }
 {
-    for row in 0..grid.rows() {
+    for row in 0..grid.frame().rows {
         let start = row_start(grid, row);
         if start >= to {
             return None;
         }
-        if let Some(i) = first_unknown_of_row(grid, row, to.min(start + grid.width())) {
+        if let Some(i) = first_unknown_of_row(grid, row, to.min(start + grid.frame().width)) {
             return Some(i);
         }
     }
@@ -114,7 +114,7 @@ fn fill_rows<P: RowPlanes>(grid: &mut P, from: usize, to: usize, cell: &HalfCell
     ensures width { (P.planes_of grid.new).width ≡ (P.planes_of grid.old).width }
     ensures rows { (P.planes_of grid.new).rows ≡ (P.planes_of grid.old).rows }
 {
-    let columns = grid.width();
+    let columns = grid.frame().width;
     let last = (to - 1) / columns;
     for row in from / columns..last + 1 {
         let start = row_start(grid, row);

@@ -37,7 +37,7 @@ pub(crate) fn copy_part<P: RowPlanes>(grid: &P, row: usize, part: Part, copied: 
 {
     let start = row_start(grid, row);
     let held = held_row(grid, row, start);
-    copied.fill(grid.blank().byte(part));
+    copied.fill(grid.frame().blank.byte(part));
     let place = held.first - start..held.end - start;
     copy_held(grid, row, held, part, &mut copied[place]);
 }

@@ -20,7 +20,7 @@ pub(crate) fn row_start<P: RowPlanes>(grid: &P, row: usize) -> usize
     ensures start { result ≡ row * (P.planes_of grid.now).width }
     ensures end { result + (P.planes_of grid.now).width ≤ (P.planes_of grid.now).width * (P.planes_of grid.now).rows }
 {
-    row * grid.width()
+    row * grid.frame().width
 }
 
 /// The row as this round holds it. If it holds no cell, what it holds begins and ends at `at`.
@@ -46,7 +46,7 @@ pub(crate) fn held_row<P: RowPlanes>(grid: &P, row: usize, at: usize) -> Row
         };
     }
     let start = row_start(grid, row);
-    let stop = start + grid.width();
+    let stop = start + grid.frame().width;
     let first = first.max(start).min(stop);
     let end = end.max(first).min(stop);
     Row {
@@ -100,7 +100,7 @@ fn write_blank<P: RowPlanes>(grid: &mut P, from: usize, to: usize, known: bool)
     ensures same { SameRows (P.planes_of grid.old) (P.planes_of grid.new) }
 {
     if from < to {
-        let blank = bytes_of(grid.blank());
+        let blank = bytes_of(grid.frame().blank);
         fill_planes(grid, from, to, blank, known);
     }
 }
@@ -116,7 +116,7 @@ fn stop_ahead<P: RowPlanes>(grid: &P, row: usize, held: Row, to: usize) -> usize
 {
     let more = held.end.saturating_sub(held.first).max(AHEAD);
     to.saturating_add(more)
-        .min(row_start(grid, row) + grid.width())
+        .min(row_start(grid, row) + grid.frame().width)
 }
 
 /// Has a row that holds no cell hold those from `from` up to and without `to`, and 16 at least, as
@@ -135,7 +135,7 @@ fn begin<P: RowPlanes>(grid: &mut P, row: usize, from: usize, to: usize, known: 
     let start = row_start(grid, row);
     let stop = to
         .max(from.saturating_add(AHEAD + 1))
-        .min(start + grid.width());
+        .min(start + grid.frame().width);
     write_blank(grid, from, stop, known);
     grid.hold(row, known, from, stop);
 }
@@ -190,7 +190,7 @@ pub(crate) fn open<P: RowPlanes>(
     if holds(grid, held, from, to) && (known || !held.known) {
         held.known
     } else {
-        widen(grid, row, from, to, known && grid.blank().is_known())
+        widen(grid, row, from, to, known && grid.frame().blank.is_known())
     }
 }
 
@@ -212,13 +212,13 @@ pub(crate) fn first_unknown_of_row<P: RowPlanes>(grid: &P, row: usize, to: usize
     let held = held_row(grid, row, start);
     let first = held.first.min(to);
     let end = held.end.min(to);
-    if start < first && !grid.blank().is_known() {
+    if start < first && !grid.frame().blank.is_known() {
         return Some(start);
     }
     if let Some(i) = first_unknown_held(grid, first, end, held.known) {
         return Some(i);
     }
-    if end < to && !grid.blank().is_known() {
+    if end < to && !grid.frame().blank.is_known() {
         return Some(end);
     }
     None

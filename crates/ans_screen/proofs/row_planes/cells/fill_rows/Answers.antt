@@ -13,8 +13,8 @@ loop-row-preserved o c =
     let row = c.loop-row.row in
     let cell = c.args.cell.now in
     let before = c.loop-row.invariant in
-    let first_row = ap (λ (n : ℕ). c.args.from / n) c.width-columns.ensures in
-    let last_row = ap (λ (n : ℕ). (c.args.to - 1) / n) c.width-columns.ensures in
+    let first_row = ap (λ (n : ℕ). c.args.from / n) c.frame.ensures.width in
+    let last_row = ap (λ (n : ℕ). (c.args.to - 1) / n) c.frame.ensures.width in
     let between = row_between w c.args.from c.args.to row g.some_width c.requires.ordered (omega (arith, first_row))
     (omega (arith, last_row)) in
     let now = o.P.RowPlanes.planes_of c.loop-row.grid in

@@ -10,5 +10,5 @@ returns-clause-cells o c =
     let i = c.args.i in
     let place : i / g.width * g.width + i % g.width ≡ i = div-add-mod' i g.width in
     let next : i / g.width * g.width + (i % g.width + 1) ≡ i + 1 = omega arith in
-    rw (place, next) at (rw (c.width.ensures, c.width-2.ensures) at c.fill_row.ensures.cells)
+    rw (place, next) at (rw (c.frame.ensures.width, c.frame-2.ensures.width) at c.fill_row.ensures.cells)
     ∙ filled_one (cells_of_grid g) i c.args.cell c.requires

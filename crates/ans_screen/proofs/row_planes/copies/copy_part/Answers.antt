@@ -8,6 +8,6 @@ returns o c =
     let filled : c.fill.new.self ≡ replicate (length c.args.copied.now) c.byte.result = search rules in
     row_copied (o.P.RowPlanes.planes_of c.args.grid.now) (byte_of c.args.part) c.args.row c.held_row-held.result
     c.held_row-held.ensures c.requires.row
-    c.args.copied.now _ _ _ _ (c.byte.ensures ∙ ap (byte_of c.args.part) c.blank.ensures)
+    c.args.copied.now _ _ _ _ (c.byte.ensures ∙ ap (byte_of c.args.part) c.frame.ensures.blank)
     c.row_start-start.ensures.start c.requires.width filled
     (omega (arith, c.copy_held.auto.copied)) (λ k lt. c.copy_held.ensures k (omega (arith, lt)))

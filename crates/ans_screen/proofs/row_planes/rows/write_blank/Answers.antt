@@ -9,7 +9,7 @@ pub fill_planes-requires-clause-known : goal.fill_planes-requires-clause-known
 fill_planes-requires-clause-known o c = λ known.
     let x = c.bytes_of-blank.result in
     known_bytes x.glyph x.glyph_known x.bits_known x.value
-    (subst (λ (y : HalfCell). IsTrue (is_known y)) (sym (c.bytes_of-blank.ensures ∙ c.blank.ensures))
+    (subst (λ (y : HalfCell). IsTrue (is_known y)) (sym (c.bytes_of-blank.ensures ∙ c.frame.ensures.blank))
     (c.requires.known known))
 
 pub returns-then-from-to-clause-blanks : goal.returns-then-from-to-clause-blanks
@@ -17,4 +17,4 @@ returns-then-from-to-clause-blanks o c =
     let h = c.fill_planes.ensures in
     let x = c.bytes_of-blank.result in
     blanks_shown x.glyph_known x.bits_known x.value h.same (omega arith) c.requires.within h.values h.marks x.glyph
-    h.glyphs (c.bytes_of-blank.ensures ∙ c.blank.ensures)
+    h.glyphs (c.bytes_of-blank.ensures ∙ c.frame.ensures.blank)
