@@ -10,7 +10,8 @@ use Rattle.std.proofs.lemmas.List.{same_lists}
 use Rattle.ans_screen.specs.GridEdits.{written}
 use Rattle.ans_screen.specs.CellPlanes.{cell_of}
 use Rattle.ans_screen.specs.RowCells.{Known, Mixed, row_cell, byte_cell, state_of, state_at, cells_of_rows, AreMarked}
-use Rattle.ans_screen.specs.RowCells.{SameRows, SameBytes, HasBlanks, cells_of_grid, states_of, length_grid, length_rows, never_written}
+use Rattle.ans_screen.specs.RowCells.{SameRows, SameBytes, HasBlanks, cells_of_grid, states_of, length_grid}
+use Rattle.ans_screen.specs.RowCells.{length_rows, never_written}
 use Rattle.ans_model.specs.Screen.Step.{filled}
 use Rattle.ans_screen.specs.declared.cell.HalfCell.{HalfCell}
 use Rattle.ans_screen.specs.declared.row_planes.Row.{Row}

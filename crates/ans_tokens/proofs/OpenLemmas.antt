@@ -1,5 +1,6 @@
 -- What is unfinished, and what is refused, after each open part.
-use Rattle.std.proofs.Common.{◌≡◌, ◌≢◌, Ok, Err, inl, inr, ℕ, ◌<◌, List, [], ◌∷◌, ◌++◌, length, refl, arith, append_assoc}
+use Rattle.std.proofs.Common.{◌≡◌, ◌≢◌, Ok, Err, inl, inr, ℕ, ◌<◌, List, [], ◌∷◌, ◌++◌, length, refl, arith}
+use Rattle.std.proofs.Common.{append_assoc}
 use Rattle.ans_model.specs.Bytes.{escape, bracket}
 use Rattle.ans_model.specs.declared.fault.Cause.{Cause}
 use Rattle.ans_model.specs.declared.fault.Cause.TheVariants.{BrokenSequence}

@@ -32,8 +32,8 @@ pub record IsReadable (bytes : List ℕ) : Type 0 where
   pub reads : ReadsAs front tokens texts
   pub leaves : IsOpen left ⊎ IsRefusedFront left
 
-is_readable : {bytes : List ℕ} (front left : List ℕ) → bytes ≡ front ++ left → (ts : List TokenKind) (xs : List (List ℕ))
-    → ReadsAs front ts xs → IsOpen left ⊎ IsRefusedFront left → IsReadable bytes
+is_readable : {bytes : List ℕ} (front left : List ℕ) → bytes ≡ front ++ left → (ts : List TokenKind)
+    (xs : List (List ℕ)) → ReadsAs front ts xs → IsOpen left ⊎ IsRefusedFront left → IsReadable bytes
 is_readable front left e ts xs r l =
     record { front = front; left = left; whole = e; tokens = ts; texts = xs; reads = r; leaves = l }
 

@@ -11,7 +11,8 @@ pub returns-clause-cells : goal.returns-clause-cells
 returns-clause-cells c =
     let filled : c.fill.new.self ≡ replicate c.args.frame.rows never_lent = search rules in
     let older = All-replicate (λ (row : LentRow). row.round < 1) c.args.frame.rows never_lent (omega arith) in
-    all_blank c.args.frame.width c.args.frame.rows 1 (map row_of c.fill.new.self) c.args.frame.blank c.split_at_mut-glyphs.result.0.now
+    all_blank c.args.frame.width c.args.frame.rows 1 (map row_of c.fill.new.self) c.args.frame.blank
+    c.split_at_mut-glyphs.result.0.now
     c.split_at_mut-glyphs_known.result.0.now c.split_at_mut-bits_known.result.0.now c.split_at_mut-values.result.0.now
     c.requires.some_width
     (rows_whole c.fill.new.self c.args.frame.rows (rw filled (length-replicate c.args.frame.rows never_lent)))

@@ -34,8 +34,8 @@ written_so o c n same glyphs values marks =
     let attr : known_bits c.attr.inside.known (bit_and c.attr.inside.value c.attr.inside.known) ≡ c.args.attr =
     ap (λ (x : ℕ). known_bits c.attr.inside.known x) c.attr.invariant.within ∙ c.attr.view_is in
     rw c.row_start.ensures.start at
-    (run_shown 0xFF c.attr.inside.known c.attr.inside.value same (omega arith) room (values ∙ c.write_shown.ensures.values) marks opened.held run (omega arith)
-    (glyphs ∙ c.write_shown.ensures.glyphs)
+    (run_shown 0xFF c.attr.inside.known c.attr.inside.value same (omega arith) room
+    (values ∙ c.write_shown.ensures.values) marks opened.held run (omega arith) (glyphs ∙ c.write_shown.ensures.glyphs)
     ∙ (ap (λ (a : KnownBits). written (cells_of_grid g) from (printed_run a run)) attr
     ∙ ap (λ (cells : List HalfCell). written cells from (printed_run c.args.attr run)) opened.same.cells))
 

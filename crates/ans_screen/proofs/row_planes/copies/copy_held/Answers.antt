@@ -13,14 +13,16 @@ long o c =
     let g = o.P.RowPlanes.planes_of c.args.grid.now in
     let room = row_end g.width c.args.row g.rows c.requires.row in
     let part = part_long (shown_plane c.args.part g) c.shown_part-shown.result.now c.args.held.first c.args.held.end
-    c.shown_part-shown.ensures c.requires.held.ordered (omega (arith, whole_shown g c.args.part, c.requires.held.stop)) in
+    c.shown_part-shown.ensures c.requires.held.ordered
+    (omega (arith, whole_shown g c.args.part, c.requires.held.stop)) in
     omega (arith, part)
 
 pub copy_from_slice-requires : goal.copy_from_slice-requires
 copy_from_slice-requires o c = long o (goal.at.copy_from_slice-requires o c).After-shown_part-shown
 
 pub copy_known-requires-clause-shown : goal.copy_known-requires-clause-shown
-copy_known-requires-clause-shown o c = sym (long o (goal.at.copy_known-requires-clause-shown o c).After-shown_part-shown)
+copy_known-requires-clause-shown o c =
+    sym (long o (goal.at.copy_known-requires-clause-shown o c).After-shown_part-shown)
 
 pub copy_known-requires-clause-known : goal.copy_known-requires-clause-known
 copy_known-requires-clause-known o c =
