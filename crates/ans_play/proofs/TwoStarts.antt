@@ -24,7 +24,7 @@ use Rattle.ans_model.specs.Verdict.LastFault.{IsLastFault, SameCell, CellsDiffer
 use Rattle.ans_model.specs.Verdict.Certain.{IsCertain}
 use Rattle.ans_model.specs.Verdict.TwoStarts.{low_final, high_final, CursorsDiffer, OneIsInSpareRow, IsFirstDifference}
 use Rattle.ans_model.specs.Verdict.TwoStarts.{TwoStartsShow, IsShownByTwoStarts, CursorsDifferInTab}
-use Rattle.ans_model.specs.Sequence.Reads.{SpellsToken}
+use Rattle.ans_model.specs.Sequence.Reads.{Reads, SpellsToken}
 use Rattle.ans_model.proofs.StartLemmas.{low_is_start, high_is_start}
 use Rattle.ans_model.proofs.OneCause.{static_is_certain}
 use Rattle.ans_model.proofs.OneAnswer.{refused_certain}

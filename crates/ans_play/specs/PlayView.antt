@@ -12,10 +12,6 @@ pub record PlayView : Type 0 where
   pub scanner : ScannerView
   pub state : HalfState
 
--- the play of these three
-abbrev pub play_view : Size → ScannerView → HalfState → PlayView
-play_view size scanner state = record { size = size; scanner = scanner; state = state }
-
 -- what is known of the cell are bytes
 abbrev pub IsByteHalfCell : HalfCell → Type 0
 IsByteHalfCell c = IfSome c.glyph IsByte × IsByte c.attr.value
@@ -27,3 +23,7 @@ pub record IsPlayView (p : PlayView) : Type 0 where
   pub attribute : IsByte p.state.attribute.value
   pub cursor : IsSpanOnScreen p.size p.state.cursor
   pub saved : IsSpanOnScreen p.size p.state.saved
+
+-- the play of these three
+abbrev pub play_view : Size → ScannerView → HalfState → PlayView
+play_view size scanner state = record { size = size; scanner = scanner; state = state }

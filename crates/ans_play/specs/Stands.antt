@@ -114,6 +114,10 @@ IsDeserved old bytes fault =
     (class : Start) (s : List ℕ) → IsPlayed old.size class s old.scanner old.state →
     IsFirstFault old.size class (s ++ bytes) fault
 
+-- the play stops at a fault that is deserved, and keeps its size
+abbrev pub StopsAt : PlayView → List ℕ → PlayView → Fault → Type 0
+StopsAt old bytes new fault = (new.size ≡ old.size) × IsDeserved old bytes fault
+
 -- whatever bytes are played, they are good with the picture, or have the last fault
 abbrev pub EndsPlay : PlayView → Result Picture Fault → Type 0
 EndsPlay p result = (class : Start) (s : List ℕ) → IsPlayed p.size class s p.scanner p.state

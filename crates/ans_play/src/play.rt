@@ -91,7 +91,7 @@ impl<G: Screen> Play<G> {
     ghost use Rattle.ans_tokens.specs.Glyphs.{IsBetweenTokens};
     ghost use Rattle.ans_play.specs.Plays.{AreFree, IsLongestRun, Plays};
     ghost use Rattle.ans_play.specs.Stands.{IsNewPlay, GoesOn, PlaysWholeTokens, PlaysFront};
-    ghost use Rattle.ans_play.specs.Stands.{IsDeserved, EndsPlay};
+    ghost use Rattle.ans_play.specs.Stands.{IsDeserved, StopsAt, EndsPlay};
 
     /// A play of no bytes yet, from the starts of a class, on a grid of one row more than the lines.
     /// What the grid held is gone.
@@ -122,10 +122,8 @@ impl<G: Screen> Play<G> {
         requires some { 1 ≤ length bytes.now }
         requires room { self.old.scanner.offset + length bytes.now ≤ longest_file }
         ensures played { IfOk result (PlaysFront self.old bytes.now self.new) }
-        ensures stopped { IfErr result (λ fault. (self.new.size ≡ self.old.size)
-            × IsDeserved self.old bytes.now fault) }
-        ensures within { IfErr result
-            (λ fault. fault.offset ≤ self.old.scanner.offset + length bytes.now) }
+        ensures stopped { IfErr result (StopsAt self.old bytes.now self.new) }
+        ensures within { IfErr result (λ fault. fault.offset ≤ self.old.scanner.offset + length bytes.now) }
     {
         if !self.scanner.is_between_tokens() {
             return self.advance_slow(bytes);
@@ -140,10 +138,8 @@ impl<G: Screen> Play<G> {
         requires some { 1 ≤ length bytes.now }
         requires room { self.old.scanner.offset + length bytes.now ≤ longest_file }
         ensures played { IfOk result (PlaysFront self.old bytes.now self.new) }
-        ensures stopped { IfErr result (λ fault. (self.new.size ≡ self.old.size)
-            × IsDeserved self.old bytes.now fault) }
-        ensures within { IfErr result
-            (λ fault. fault.offset ≤ self.old.scanner.offset + length bytes.now) }
+        ensures stopped { IfErr result (StopsAt self.old bytes.now self.new) }
+        ensures within { IfErr result (λ fault. fault.offset ≤ self.old.scanner.offset + length bytes.now) }
     {
         self.slow_byte(bytes[0])?;
         Ok(1)

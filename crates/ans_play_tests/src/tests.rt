@@ -23,35 +23,38 @@ fn feed<G: Screen>(rt: &impl Abort, player: &mut Player<G>, piece: &[u8]) -> Res
 }
 
 fn assert_shows<G: Screen>(rt: &impl Abort, picture: &Picture<G>, bytes: &[u8], attributes: &[u8]) {
-    let width = picture.width();
-    let lines = picture.lines();
+    let (width, lines) = (picture.width(), picture.lines());
     assert!(rt; width <= 20 && lines <= 10);
     assert_eq!(rt; bytes.len(), width * lines);
     assert!(rt; attributes.is_empty() || attributes.len() == bytes.len());
     for row in 0..lines {
-        for col in 0..width {
-            let i = row * width + col;
-            assert!(rt; i < bytes.len());
-            assert_eq!(rt; picture.glyph(row, col), bytes[i]);
-            if let Some(attribute) = attributes.get(i) {
-                assert_eq!(rt; picture.attr(row, col), *attribute);
-            }
-        }
-        assert_copies(rt, picture, row);
+        assert_row(rt, picture, row, bytes, attributes);
     }
 }
 
-/// Asserts that the bytes and attributes copied of a row are its cells', read one by one.
-fn assert_copies<G: Screen>(rt: &impl Abort, picture: &Picture<G>, row: usize) {
+/// Asserts a row's bytes, and its attributes where these are compared, read one by one and copied.
+fn assert_row<G: Screen>(
+    rt: &impl Abort,
+    picture: &Picture<G>,
+    row: usize,
+    bytes: &[u8],
+    attributes: &[u8],
+) {
     let width = picture.width();
-    assert!(rt; row < picture.lines() && width <= 20);
-    let mut bytes = [0; 20];
-    let mut attributes = [0; 20];
-    picture.copy_glyphs(row, &mut bytes[..width]);
-    picture.copy_attributes(row, &mut attributes[..width]);
+    assert!(rt; row < picture.lines() && row <= 10 && width <= 20);
+    let mut glyphs = [0; 20];
+    let mut values = [0; 20];
+    picture.copy_glyphs(row, &mut glyphs[..width]);
+    picture.copy_attributes(row, &mut values[..width]);
     for col in 0..width {
-        assert_eq!(rt; bytes[col], picture.glyph(row, col));
-        assert_eq!(rt; attributes[col], picture.attr(row, col));
+        let i = row * width + col;
+        assert!(rt; i < bytes.len());
+        assert_eq!(rt; picture.glyph(row, col), bytes[i]);
+        assert_eq!(rt; glyphs[col], bytes[i]);
+        assert_eq!(rt; picture.attr(row, col), values[col]);
+        if let Some(attribute) = attributes.get(i) {
+            assert_eq!(rt; values[col], *attribute);
+        }
     }
 }
 

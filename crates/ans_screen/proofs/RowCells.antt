@@ -6,7 +6,7 @@ use Rattle.std.proofs.lemmas.List.FromFn.{get_or-map-range_with_len}
 use Rattle.std.proofs.lemmas.Bool.Decides.{eqb_tells}
 use Rattle.ans_screen.specs.RowCells.{CellState, Stale, row_cell, cell_at, cells_of_rows, state_of}
 use Rattle.ans_screen.specs.RowCells.{state_in, cell_in_grid, cells_of_grid, states_of, byte_cell, never_written}
-use Rattle.ans_screen.specs.RowCells.{SameBytes}
+use Rattle.ans_screen.specs.RowCells.{SameBytes, SameRows}
 use Rattle.ans_screen.specs.declared.cell.HalfCell.{HalfCell}
 use Rattle.ans_screen.specs.declared.row_planes.Row.{Row}
 use Rattle.ans_screen.specs.RowCells.{Planes}
@@ -41,6 +41,13 @@ same_byte_cell s g h i e same =
 -- a cell, by its state
 pub cell_in_state : (g : Planes) (s : CellState) (i : ℕ) → states_of g i ≡ s → cell_in_grid g i ≡ byte_cell s g i
 cell_in_state g s i e = ap (λ t. byte_cell t g i) e
+
+-- a cell of a grid whose planes alone were written
+pub cell_written : {g n : Planes} → SameRows g n → (s : CellState) (i : ℕ) (d : HalfCell) → i < g.width * g.rows
+    → states_of g i ≡ s → get_or (cells_of_grid n) i d ≡ byte_cell s n i
+cell_written {n = n} same s i d lt e =
+    get_cell n i d (rw (same.width, same.rows) lt)
+    ∙ cell_in_state n s i (rw (same.width, same.round, same.held) e)
 
 -- ---- the state of a cell
 pub in_held : (round : ℕ) (row : Row) (i : ℕ) → row.round ≡ round → row.first ≤ i → i < row.end

@@ -1,5 +1,5 @@
 -- The cells of planes with a state for each row, through runs and fills.
-use Rattle.std.proofs.Common.{◌≡◌, ℕ, ◌+◌, ◌-◌, ◌*◌, ◌/◌, ◌≤◌, ◌<◌, Bool, true, false, List, map, length}
+use Rattle.std.proofs.Common.{◌≡◌, ℕ, ◌+◌, ◌-◌, ◌*◌, ◌/◌, ◌≤◌, ◌<◌, Bool, List, map, length}
 use Rattle.std.proofs.Common.{get_or, replicate, refl, ap, sym, ◌∙◌, arith, inl, inr, ◌⊎◌}
 use Rattle.std.proofs.Common.{drop, take, ◌++◌, append_assoc, All}
 use Rattle.std.proofs.Math.Seq.{take-append_seam, drop-append-add}
@@ -9,8 +9,9 @@ use Rattle.std.proofs.lemmas.List.{length-replicate, get_or-replicate, length-ma
 use Rattle.std.proofs.lemmas.List.{same_lists}
 use Rattle.ans_screen.specs.GridEdits.{written}
 use Rattle.ans_screen.specs.CellPlanes.{cell_of}
-use Rattle.ans_screen.specs.RowCells.{CellState, Known, Mixed, row_cell, state_of, state_at, cell_at, cells_of_rows}
-use Rattle.ans_screen.specs.RowCells.{SameRows, cells_of_grid, states_of, length_rows, never_written}
+use Rattle.ans_screen.specs.RowCells.{Known, Mixed, row_cell, byte_cell, state_of, state_at, cells_of_rows, AreMarked}
+use Rattle.ans_screen.specs.RowCells.{SameRows, SameBytes, HasBlanks, cells_of_grid, states_of, length_grid}
+use Rattle.ans_screen.specs.RowCells.{length_rows, never_written}
 use Rattle.ans_model.specs.Screen.Step.{filled}
 use Rattle.ans_screen.specs.declared.cell.HalfCell.{HalfCell}
 use Rattle.ans_screen.specs.declared.row_planes.Row.{Row}
@@ -18,94 +19,95 @@ use Rattle.ans_screen.specs.RowCells.{Planes}
 use Rattle.ans_screen.proofs.Places.{keeps_all, keeps_written, keeps_filled, filled_within, filled_run, written_at}
 use Rattle.ans_screen.proofs.Places.{map-replicate, get_or-map_within, Keeps, is_written}
 use Rattle.ans_screen.proofs.Places.{row_below}
-use Rattle.ans_screen.proofs.RowCells.{get_rows, same_cell, off_round}
+use Rattle.ans_screen.proofs.RowCells.{get_rows, get_cell, cell_written, same_cell, same_byte_cell, off_round}
 
--- ---- cells side by side are written
-pub run_changed : (w rows from to : ℕ) (states : ℕ → CellState) (blank : HalfCell)
-    (gs ks bs vs gs' ks' bs' vs' : List ℕ) (new : List HalfCell) → to ≡ from + length new → to ≤ w * rows
-    → Keeps gs gs' from to → Keeps ks ks' from to → Keeps bs bs' from to → Keeps vs vs' from to
-    → ((j : ℕ) (d : HalfCell) → j < length new → cell_at states blank gs' ks' bs' vs' (from + j) ≡ get_or new j d)
-    → cells_of_rows w rows states blank gs' ks' bs' vs' ≡ written (cells_of_rows w rows states blank gs ks bs vs)
-    from new
-run_changed w rows from to states blank gs ks bs vs gs' ks' bs' vs' new end room hg hk hb hv inside =
-    let len = length_rows w rows states blank gs ks bs vs in
-    let len' = length_rows w rows states blank gs' ks' bs' vs' in
-    is_written (cells_of_rows w rows states blank gs ks bs vs) (cells_of_rows w rows states blank gs' ks' bs' vs') from
-    new (len' ∙ sym len) (omega arith)
-    (λ i d lt out.
-    let within : i < w * rows = omega arith in
-    let off : (i < from) ⊎ (to ≤ i) = elim out [ inl before ↦ inl before | inr past ↦ inr (omega arith) ] in
-    get_rows w rows states blank gs' ks' bs' vs' i d within
-    ∙ (same_cell _ _ blank _ _ _ _ _ _ _ _ refl (hg.outside i off) (hk.outside i off) (hb.outside i off)
-    (hv.outside i off)
-    ∙ sym (get_rows w rows states blank gs ks bs vs i d within)))
-    (λ j d lt. get_rows w rows states blank gs' ks' bs' vs' (from + j) d (omega arith) ∙ inside j d lt)
-
--- the cells of a grid whose planes alone were written
-pub cells_by : (g n : Planes) → SameRows g n
-    → cells_of_grid n ≡ cells_of_rows g.width g.rows (states_of g) g.blank n.glyphs n.glyphs_known n.bits_known n.values
-cells_by g n same = rw (same.width, same.rows, same.round, same.blank, same.held) refl
-
--- What is known of cells side by side is written too, or by their state all of it is known.
-abbrev pub AreMarked : Planes → Bool → List ℕ → List ℕ → ℕ → ℕ → ℕ → ℕ → Type 0
-AreMarked g known ks bs from to k b =
-    ((known ≡ false) × (ks ≡ filled g.glyphs_known from to k) × (bs ≡ filled g.bits_known from to b))
-    ⊎ ((known ≡ true) × (ks ≡ g.glyphs_known) × (bs ≡ g.bits_known) × (k ≡ 0xFF) × (b ≡ 0xFF))
-
-module _ (g : Planes) (from to : ℕ) (known : Bool) (gs ks bs vs : List ℕ) (k b v : ℕ)
-    (le : from ≤ to) (room : to ≤ g.width * g.rows) (values : vs ≡ filled g.values from to v)
-    (marks : AreMarked g known ks bs from to k b)
-    (held : (i : ℕ) → from ≤ i → i < to → states_of g i ≡ state_of known) where
+-- ---- cells side by side are written in the planes that count
+module _ {g n : Planes} {from to : ℕ} {known : Bool} (k b v : ℕ) (same : SameRows g n) (le : from ≤ to)
+    (room : to ≤ g.width * g.rows) (values : n.values ≡ filled g.values from to v)
+    (marks : AreMarked g n known from to k b) where
   -- the planes of what is known are as they were elsewhere
-  keeps_marks : Keeps g.glyphs_known ks from to × Keeps g.bits_known bs from to
-  keeps_marks = elim marks [
+  kept_marks : Keeps g.glyphs_known n.glyphs_known from to × Keeps g.bits_known n.bits_known from to
+  kept_marks = elim marks [
     | inl m ↦ (
-      keeps_filled g.glyphs_known ks from to k m.1 le (omega (arith, g.whole_glyphs_known)),
-      keeps_filled g.bits_known bs from to b m.2 le (omega (arith, g.whole_bits_known)),
+      keeps_filled g.glyphs_known n.glyphs_known from to k m.1 le (omega (arith, g.whole_glyphs_known)),
+      keeps_filled g.bits_known n.bits_known from to b m.2 le (omega (arith, g.whole_bits_known)),
     )
-    | inr m ↦ rw (m.1, m.2) (keeps_all g.glyphs_known from to, keeps_all g.bits_known from to)
+    | inr m ↦ rw (m.1.glyphs_known, m.1.bits_known)
+        (keeps_all g.glyphs_known from to, keeps_all g.bits_known from to)
   ]
 
+  -- and so are all bytes
+  kept : Keeps g.glyphs n.glyphs from to → (i : ℕ) → (i < from) ⊎ (to ≤ i) → SameBytes g n i
+  kept glyphs i out = record {
+    glyph = glyphs.outside i out;
+    glyph_known = kept_marks.0.outside i out;
+    bits_known = kept_marks.1.outside i out;
+    value = (keeps_filled g.values n.values from to v values le (omega (arith, g.whole_values))).outside i out;
+  }
+
   -- a cell that is written
-  cell_shown : (i x : ℕ) → from ≤ i → i < to → get_or gs i 0 ≡ x → cell_at (states_of g) g.blank gs ks bs vs i
-      ≡ cell_of x k b v
-  cell_shown i x after before glyph =
-      let value = filled_within g.values vs from to v i values (omega (arith, g.whole_values)) after before in
+  shown : (i x : ℕ) → from ≤ i → i < to → get_or n.glyphs i 0 ≡ x → byte_cell (state_of known) n i ≡ cell_of x k b v
+  shown i x after before glyph =
+      let value = filled_within g.values n.values from to v i values (omega (arith, g.whole_values)) after before in
       elim marks [
-        | inl m ↦ same_cell (states_of g i) Mixed g.blank x k b v _ _ _ _ (held i after before ∙ ap state_of m.0) glyph
-            (filled_within g.glyphs_known ks from to k i m.1 (omega (arith, g.whole_glyphs_known)) after before)
-            (filled_within g.bits_known bs from to b i m.2 (omega (arith, g.whole_bits_known)) after before) value
-        | inr m ↦ same_cell (states_of g i) Known g.blank x (get_or ks i 0) (get_or bs i 0) v _ _ _ _
-            (held i after before ∙ ap state_of m.0) glyph refl refl value ∙ rw (m.3, m.4) refl
+        | inl m ↦
+            ap (λ (t : Bool). byte_cell (state_of t) n i) m.0
+            ∙ same_cell Mixed Mixed n.blank x k b v _ _ _ _ refl glyph
+            (filled_within g.glyphs_known n.glyphs_known from to k i m.1 (omega (arith, g.whole_glyphs_known)) after
+            before)
+            (filled_within g.bits_known n.bits_known from to b i m.2 (omega (arith, g.whole_bits_known)) after before)
+            value
+        | inr m ↦
+            ap (λ (t : Bool). byte_cell (state_of t) n i) m.0
+            ∙ (same_cell Known Known n.blank x (get_or n.glyphs_known i 0) (get_or n.bits_known i 0) v _ _ _ _ refl
+            glyph refl refl value
+            ∙ rw (m.2, m.3) refl)
       ]
 
   -- a run is written to cells that are held
-  pub run_shown : (run : List ℕ) → to ≡ from + length run → gs ≡ written g.glyphs from run
-      → cells_of_rows g.width g.rows (states_of g) g.blank gs ks bs vs
-      ≡ written (cells_of_grid g) from (map (λ (x : ℕ). cell_of x k b v) run)
-  run_shown run end glyphs =
-      let new = map (λ (x : ℕ). cell_of x k b v) run in
-      let len : length new ≡ length run = length-map run (λ (x : ℕ). cell_of x k b v) in
-      run_changed g.width g.rows from to (states_of g) g.blank g.glyphs g.glyphs_known g.bits_known
-      g.values gs ks bs vs new (omega arith) room
-      (keeps_written g.glyphs gs from to run glyphs end (omega (arith, g.whole_glyphs)))
-      keeps_marks.0 keeps_marks.1
-      (keeps_filled g.values vs from to v values le (omega (arith, g.whole_values)))
+  pub run_shown : ((i : ℕ) → from ≤ i → i < to → states_of g i ≡ state_of known) → (run : List ℕ)
+      → to ≡ from + length run → n.glyphs ≡ written g.glyphs from run
+      → cells_of_grid n ≡ written (cells_of_grid g) from (map (λ (x : ℕ). cell_of x k b v) run)
+  run_shown held run end glyphs =
+      let cell = λ (x : ℕ). cell_of x k b v in
+      let len : length (map cell run) ≡ length run = length-map run cell in
+      let bytes = kept (keeps_written g.glyphs n.glyphs from to run glyphs end (omega (arith, g.whole_glyphs))) in
+      let size : n.width * n.rows ≡ g.width * g.rows = rw (same.width, same.rows) refl in
+      is_written (cells_of_grid g) (cells_of_grid n) from (map cell run) (omega (arith, length_grid g, length_grid n))
+      (omega (arith, length_grid g))
+      (λ i d lt out.
+      let within : i < g.width * g.rows = omega (arith, length_grid g) in
+      let off : (i < from) ⊎ (to ≤ i) = elim out [ inl before ↦ inl before | inr past ↦ inr (omega arith) ] in
+      cell_written same (states_of g i) i d within refl
+      ∙ (same_byte_cell (states_of g i) g n i same.blank (bytes i off) ∙ sym (get_cell g i d within)))
       (λ j d lt.
-      cell_shown (from + j) (get_or run j 0) (omega arith) (omega arith)
+      cell_written same (state_of known) (from + j) d (omega arith) (held (from + j) (omega arith) (omega arith))
+      ∙ (shown (from + j) (get_or run j 0) (omega arith) (omega arith)
       (ap (λ (xs : List ℕ). get_or xs (from + j) 0) glyphs
       ∙ written_at g.glyphs from run j 0 (omega (arith, g.whole_glyphs)) (omega arith))
-      ∙ sym (get_or-map_within (λ (x : ℕ). cell_of x k b v) run j 0 d (omega arith)))
+      ∙ sym (get_or-map_within cell run j 0 d (omega arith))))
 
   -- cells that are held are filled
-  pub fill_shown : (x : ℕ) (c : HalfCell) → gs ≡ filled g.glyphs from to x → cell_of x k b v ≡ c
-      → cells_of_rows g.width g.rows (states_of g) g.blank gs ks bs vs ≡ filled (cells_of_grid g) from to c
-  fill_shown x c glyphs is =
+  pub fill_shown : ((i : ℕ) → from ≤ i → i < to → states_of g i ≡ state_of known) → (x : ℕ) (c : HalfCell)
+      → n.glyphs ≡ filled g.glyphs from to x → cell_of x k b v ≡ c
+      → cells_of_grid n ≡ filled (cells_of_grid g) from to c
+  fill_shown held x c glyphs is =
       let len : length (replicate (to - from) x) ≡ to - from = length-replicate (to - from) x in
-      run_shown (replicate (to - from) x) (omega arith) (glyphs ∙ filled_run g.glyphs from to x le)
+      run_shown held (replicate (to - from) x) (omega arith) (glyphs ∙ filled_run g.glyphs from to x le)
       ∙ (ap (λ xs. written (cells_of_grid g) from xs) (map-replicate (λ (y : ℕ). cell_of y k b v) (to - from) x)
       ∙ (sym (filled_run (cells_of_grid g) from to (cell_of x k b v) le)
       ∙ ap (λ (d : HalfCell). filled (cells_of_grid g) from to d) is))
+
+  -- the blank is written, whether the cells are held or not
+  pub blanks_shown : (x : ℕ) → n.glyphs ≡ filled g.glyphs from to x → cell_of x k b v ≡ g.blank
+      → HasBlanks (state_of known) g n from to
+  blanks_shown x glyphs is = record {
+    inside = λ i after before.
+        shown i x after before (filled_within g.glyphs n.glyphs from to x i glyphs (omega (arith, g.whole_glyphs))
+        after before)
+        ∙ (is ∙ sym same.blank);
+    outside = kept (keeps_filled g.glyphs n.glyphs from to x glyphs le (omega (arith, g.whole_glyphs)));
+  }
 
 -- ---- no row holds a cell
 pub all_blank : (w rows round : ℕ) (held : List Row) (blank : HalfCell) (gs ks bs vs : List ℕ) → 0 < w

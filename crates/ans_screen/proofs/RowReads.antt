@@ -1,7 +1,7 @@
 -- Cells read, looked through and copied of planes with a state for each row.
 use Rattle.std.proofs.Common.{◌≡◌, ℕ, ◌+◌, ◌-◌, ◌*◌, ◌≤◌, ◌<◌, false, List, map, length}
 use Rattle.std.proofs.Common.{get_or, ap, sym, ◌∙◌, arith, Option, Some, None}
-use Rattle.std.proofs.Common.{unwrap_or, bit_and, take, drop, ◌++◌, replicate, inl, inr}
+use Rattle.std.proofs.Common.{take, drop, ◌++◌, replicate, inl, inr, refl}
 use Rattle.std.specs.List.{position, slice_get}
 use Rattle.std.proofs.lemmas.List.{get_or_default, get_or-drop, length-drop}
 use Rattle.std.proofs.lemmas.List.{get_or-take, length-take-le, length-map}
@@ -12,15 +12,17 @@ use Rattle.std.specs.Int.Bits.{and_zero_r}
 use Rattle.std.proofs.lemmas.Nat.{and_mask}
 use Rattle.std.proofs.Math.Seq.{drop-drop}
 use borrow.Rule.Slice.PartMut.{put_mid}
-use Rattle.ans_screen.specs.GridEdits.{written}
+use Rattle.ans_screen.specs.GridEdits.{written, row_cells}
 use Rattle.std.proofs.lemmas.Option.{slice_get-get_or}
-use Rattle.ans_screen.specs.HalfCells.{attribute_byte, glyph_byte}
+use Rattle.ans_screen.specs.HalfCells.{attribute_byte, glyph_byte, byte_of}
 use Rattle.ans_screen.specs.GridEdits.{is_unknown, first_unknown}
-use Rattle.ans_screen.specs.CellPlanes.{glyph_of, cell_of, AreKnown, IsFirstGap}
+use Rattle.ans_screen.specs.CellPlanes.{cell_of, known_byte, AreKnown, IsFirstGap}
 use Rattle.ans_screen.specs.RowCells.{Stale, Known, Mixed, cell_in_grid, cells_of_grid, states_of, length_grid}
-use Rattle.ans_screen.specs.RowCells.{AreKnownCells}
+use Rattle.ans_screen.specs.RowCells.{AreKnownCells, shown_plane, known_plane}
 use Rattle.ans_screen.specs.RowCells.{IsFirstUnknown, IsCopied, IsHeldRow}
 use Rattle.ans_screen.specs.declared.row_planes.Row.{Row}
+use Rattle.ans_screen.specs.declared.cell.Part.{Part}
+use Rattle.ans_screen.specs.declared.cell.Part.TheVariants.{Glyph, Attribute}
 use Rattle.ans_screen.specs.RowCells.{Planes}
 use Rattle.ans_screen.proofs.FirstGap.{known_cell, unknown_cell, known_next, position_none, position_some}
 use Rattle.std.proofs.lemmas.List.Sums.{position_or_len_is}
@@ -28,6 +30,10 @@ use Rattle.ans_screen.specs.declared.cell.HalfCell.{HalfCell}
 use Rattle.ans_screen.proofs.Places.{get_or-map_within, IsPart, written_before, written_at, written_behind}
 use Rattle.ans_screen.proofs.Places.{length-written, row_end}
 use Rattle.ans_screen.proofs.RowCells.{get_cell, cell_in_state}
+
+known_by_0 : (part : Part) (x : ℕ) → known_byte part x 0 ≡ 0
+known_by_0 Glyph x = refl
+known_by_0 Attribute x = and_zero_r x
 
 module _ (g : Planes) where
   -- what is read is cell i
@@ -104,42 +110,36 @@ module _ (g : Planes) where
           (omega (arith, len, found.1)))
 
   -- ---- cells of one row, copied
-  -- a mixed cell in a plane of no known bits
-  pub no_bits : (i n : ℕ) → states_of g i ≡ Mixed → g.bits_known ≡ replicate n 0 → i < n
-      → attribute_byte (cell_in_grid g i) ≡ 0
-  no_bits i n mixed e lt =
-      let value : ℕ = get_or g.values i 0 in
-      let none : get_or g.bits_known i 0 ≡ 0 =
+  -- what is read of a mixed cell by its planes
+  pub mixed_byte : (part : Part) (i : ℕ) → states_of g i ≡ Mixed
+      → byte_of part (cell_in_grid g i)
+      ≡ known_byte part (get_or (shown_plane part g) i 0) (get_or (known_plane part g) i 0)
+  mixed_byte Glyph i e = ap glyph_byte (cell_in_state g Mixed i e)
+  mixed_byte Attribute i e = ap attribute_byte (cell_in_state g Mixed i e)
+
+  -- of a mixed cell in a plane of which nothing is known
+  pub nothing_known : (part : Part) (i n : ℕ) → states_of g i ≡ Mixed → known_plane part g ≡ replicate n 0 → i < n
+      → byte_of part (cell_in_grid g i) ≡ 0
+  nothing_known part i n mixed e lt =
+      let none : get_or (known_plane part g) i 0 ≡ 0 =
       ap (λ (xs : List ℕ). get_or xs i 0) e ∙ get_or-replicate n i 0 0 lt in
-      ap attribute_byte (cell_in_state g Mixed i mixed) ∙ (ap (λ (b : ℕ). bit_and value b) none ∙ and_zero_r value)
+      mixed_byte part i mixed ∙ (ap (λ (k : ℕ). known_byte part (get_or (shown_plane part g) i 0) k) none
+      ∙ known_by_0 part (get_or (shown_plane part g) i 0))
 
-  pub no_glyphs : (i n : ℕ) → states_of g i ≡ Mixed → g.glyphs_known ≡ replicate n 0 → i < n
-      → glyph_byte (cell_in_grid g i) ≡ 0
-  no_glyphs i n mixed e lt =
-      let glyph : ℕ = get_or g.glyphs i 0 in
-      let none : get_or g.glyphs_known i 0 ≡ 0 =
-      ap (λ (xs : List ℕ). get_or xs i 0) e ∙ get_or-replicate n i 0 0 lt in
-      ap glyph_byte (cell_in_state g Mixed i mixed) ∙ ap (λ (k : ℕ). unwrap_or (glyph_of glyph k) 0) none
+  -- and of a known cell
+  pub known_byte_is : (part : Part) (i : ℕ) → states_of g i ≡ Known → get_or (shown_plane part g) i 0 < 256
+      → byte_of part (cell_in_grid g i) ≡ get_or (shown_plane part g) i 0
+  known_byte_is Glyph i e lt = ap glyph_byte (cell_in_state g Known i e)
+  known_byte_is Attribute i e lt =
+      ap attribute_byte (cell_in_state g Known i e) ∙ (and_mask (get_or g.values i 0) 8 ∙ omega arith)
 
-  -- what is read of a cell by its planes
-  pub known_glyph : (i : ℕ) → states_of g i ≡ Known → glyph_byte (cell_in_grid g i) ≡ get_or g.glyphs i 0
-  known_glyph i e = ap glyph_byte (cell_in_state g Known i e)
+  pub whole_shown : (part : Part) → length (shown_plane part g) ≡ g.width * g.rows
+  whole_shown Glyph = g.whole_glyphs
+  whole_shown Attribute = g.whole_values
 
-  pub mixed_glyph : (i : ℕ) → states_of g i ≡ Mixed
-      → glyph_byte (cell_in_grid g i) ≡ unwrap_or (glyph_of (get_or g.glyphs i 0) (get_or g.glyphs_known i 0)) 0
-  mixed_glyph i e = ap glyph_byte (cell_in_state g Mixed i e)
-
-  pub known_value : (i : ℕ) → states_of g i ≡ Known
-      → attribute_byte (cell_in_grid g i) ≡ bit_and (get_or g.values i 0) 0xFF
-  known_value i e = ap attribute_byte (cell_in_state g Known i e)
-
-  pub mixed_value : (i : ℕ) → states_of g i ≡ Mixed
-      → attribute_byte (cell_in_grid g i) ≡ bit_and (get_or g.values i 0) (get_or g.bits_known i 0)
-  mixed_value i e = ap attribute_byte (cell_in_state g Mixed i e)
-
--- all bits of a byte
-pub whole_byte : (x : ℕ) → x < 256 → bit_and x 0xFF ≡ x
-whole_byte x lt = and_mask x 8 ∙ omega arith
+  pub whole_known : (part : Part) → length (known_plane part g) ≡ g.width * g.rows
+  whole_known Glyph = g.whole_glyphs_known
+  whole_known Attribute = g.whole_bits_known
 
 -- how long a part of a plane is
 pub part_long : (xs part : List ℕ) (from to : ℕ) → part ≡ take (to - from) (drop from xs) → from ≤ to → to ≤ length xs
@@ -198,7 +198,7 @@ module _ (g : Planes) (part : HalfCell → ℕ) (row : ℕ) (held : Row) (holds 
     ]
   ]
 
-  pub row_copied : new ≡ map part (take g.width (drop (row * g.width) (cells_of_grid g)))
+  pub row_copied : new ≡ map part (row_cells g.width row (cells_of_grid g))
   row_copied =
       let cells = cells_of_grid g in
       let front = take g.width (drop (row * g.width) cells) in

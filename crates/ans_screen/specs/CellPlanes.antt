@@ -1,9 +1,11 @@
 -- Half-known cells in four bytes each: the glyph, whether it is known, the bits that are known, and their values.
 use Rattle.std.specs.Prelude.{◌≡◌, ℕ, ◌+◌, ◌<◌, ◌==◌, if◌then◌else◌, List, slice_index}
-use Rattle.std.specs.Prelude.{Option, Some, None, MatchOption, bit_and}
+use Rattle.std.specs.Prelude.{Option, Some, None, MatchOption, unwrap_or, bit_and}
 use Rattle.ans_screen.specs.KnownBits.{KnownBits, known_bits}
 use Rattle.ans_screen.specs.HalfCells.{half_cell}
 use Rattle.ans_screen.specs.declared.cell.HalfCell.{HalfCell}
+use Rattle.ans_screen.specs.declared.cell.Part.{Part}
+use Rattle.ans_screen.specs.declared.cell.Part.TheVariants.{Glyph, Attribute}
 
 -- a glyph, known where the other byte is FFh
 abbrev pub glyph_of : ℕ → ℕ → Option ℕ
@@ -16,6 +18,11 @@ bits_of known value = known_bits known (bit_and value known)
 -- the cell that four bytes stand for
 abbrev pub cell_of : ℕ → ℕ → ℕ → ℕ → HalfCell
 cell_of glyph glyph_known bits_known value = half_cell (glyph_of glyph glyph_known) (bits_of bits_known value)
+
+-- the byte of a part, or those bits of it, that are known
+abbrev pub known_byte : Part → ℕ → ℕ → ℕ
+known_byte Glyph shown known = unwrap_or (glyph_of shown known) 0
+known_byte Attribute shown known = bit_and shown known
 
 -- of the first n cells the glyph and all bits are known
 abbrev pub AreKnown : List ℕ → List ℕ → ℕ → Type 0

@@ -1,5 +1,5 @@
 -- A grid's cells: how many there may be, and edits of them.
-use Rattle.std.specs.Prelude.{ℕ, ◌+◌, Bool, not, List, ◌++◌, length, map, take, drop, Option}
+use Rattle.std.specs.Prelude.{ℕ, ◌+◌, ◌*◌, Bool, not, List, ◌++◌, length, map, take, drop, Option}
 use Rattle.std.specs.List.{position}
 use Rattle.ans_model.specs.Bytes.{most_lines}
 use Rattle.ans_screen.specs.KnownBits.{KnownBits}
@@ -9,6 +9,10 @@ use Rattle.ans_screen.specs.declared.cell.HalfCell.{HalfCell}
 -- the most rows of a grid: one more than the most lines
 abbrev pub most_rows : ℕ
 most_rows = most_lines + 1
+
+-- the cells of a row
+abbrev pub row_cells : ℕ → ℕ → List HalfCell → List HalfCell
+row_cells width row cells = take width (drop (row * width) cells)
 
 -- the elements from `from` on are `new`
 abbrev pub written : {A : Type 0} → List A → ℕ → List A → List A

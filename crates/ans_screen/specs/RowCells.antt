@@ -4,9 +4,12 @@ use Rattle.std.specs.Prelude.{map, set}
 use Rattle.std.specs.Prelude.{slice_index, slice_index_or, nat_lt, if◌then◌else◌, Option, MatchOption, ◌⊎◌}
 use Rattle.std.specs.List.{range_with_len, All}
 use Rattle.std.proofs.lemmas.List.FromFn.{length-map-range_with_len}
+use Rattle.ans_model.specs.Screen.Step.{filled}
 use Rattle.ans_screen.specs.GridEdits.{is_unknown}
 use Rattle.ans_screen.specs.CellPlanes.{cell_of}
 use Rattle.ans_screen.specs.declared.cell.HalfCell.{HalfCell}
+use Rattle.ans_screen.specs.declared.cell.Part.{Part}
+use Rattle.ans_screen.specs.declared.cell.Part.TheVariants.{Glyph, Attribute}
 use Rattle.ans_screen.specs.declared.row_planes.Row.{Row}
 
 -- how a cell stands in the planes: not at all, in the two of glyphs and of values, or in all four
@@ -88,6 +91,15 @@ pub record Planes : Type 0 where
   pub whole_bits_known : length bits_known ≡ width * rows
   pub whole_values : length values ≡ width * rows
 
+-- the plane of a part's bytes, and that of what is known of them
+abbrev pub shown_plane : Part → Planes → List ℕ
+shown_plane Glyph g = g.glyphs
+shown_plane Attribute g = g.values
+
+abbrev pub known_plane : Part → Planes → List ℕ
+known_plane Glyph g = g.glyphs_known
+known_plane Attribute g = g.bits_known
+
 -- the states of a grid's cells
 abbrev pub states_of : Planes → ℕ → CellState
 states_of g = state_at g.width g.round g.held
@@ -130,6 +142,20 @@ pub record SameShown (old new : Planes) : Type 0 where
 pub record SameKnown (old new : Planes) : Type 0 where
   pub glyphs_known : new.glyphs_known ≡ old.glyphs_known
   pub bits_known : new.bits_known ≡ old.bits_known
+
+-- What is known of the cells from `from` up to and without `to` is written, or by their state all of it is known.
+abbrev pub AreMarked : Planes → Planes → Bool → ℕ → ℕ → ℕ → ℕ → Type 0
+AreMarked old new known from to k b =
+    ((known ≡ false) × (new.glyphs_known ≡ filled old.glyphs_known from to k)
+    × (new.bits_known ≡ filled old.bits_known from to b))
+    ⊎ ((known ≡ true) × SameKnown old new × (k ≡ 0xFF) × (b ≡ 0xFF))
+
+-- four bytes are written to those cells, in the planes that count
+pub record AreFilled (old new : Planes) (known : Bool) (from to glyph glyph_known bits_known value : ℕ) : Type 0 where
+  pub glyphs : new.glyphs ≡ filled old.glyphs from to glyph
+  pub values : new.values ≡ filled old.values from to value
+  pub marks : AreMarked old new known from to glyph_known bits_known
+  pub same : SameRows old new
 
 -- only what one row holds differs
 pub record HasRow (old new : Planes) (i : ℕ) (row : Row) : Type 0 where

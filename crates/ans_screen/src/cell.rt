@@ -2,6 +2,13 @@
 
 use crate::attr::Attr;
 
+/// What is copied of a cell as a byte.
+#[derive(Clone, Copy)]
+pub(crate) enum Part {
+    Glyph,
+    Attribute,
+}
+
 /// A byte, where it is known, and what is known of its attribute.
 #[derive(Debug, Clone, Copy, PartialEq, Eq)]
 pub struct HalfCell {
@@ -12,7 +19,7 @@ pub struct HalfCell {
 impl HalfCell {
     ghost use Rattle.std.specs.Prelude.{◌≡◌, Some, None};
     ghost use Rattle.ans_screen.specs.KnownBits.{known_bits};
-    ghost use Rattle.ans_screen.specs.HalfCells.{half_cell, is_known, glyph_byte, attribute_byte};
+    ghost use Rattle.ans_screen.specs.HalfCells.{half_cell, is_known, glyph_byte, attribute_byte, byte_of};
 
     /// A byte and an attribute, both known.
     pub fn known(glyph: u8, attr: u8) -> HalfCell
@@ -53,5 +60,14 @@ impl HalfCell {
         ensures { result ≡ attribute_byte self }
     {
         self.attr.value
+    }
+
+    pub(crate) fn byte(self, part: Part) -> u8
+        ensures { result ≡ byte_of part self }
+    {
+        match part {
+            Part::Glyph => self.glyph_byte(),
+            Part::Attribute => self.attribute_byte(),
+        }
     }
 }

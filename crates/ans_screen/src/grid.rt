@@ -1,11 +1,11 @@
 //! Grids of half-known cells.
 
-ghost use Rattle.std.specs.Prelude.{◌≡◌, ℕ, ◌+◌, ◌*◌, ◌^◌, ◌<◌, ◌≤◌, List, length, map, take, drop, set};
+ghost use Rattle.std.specs.Prelude.{◌≡◌, ℕ, ◌+◌, ◌*◌, ◌^◌, ◌<◌, ◌≤◌, List, length, map, take, set};
 ghost use Rattle.std.specs.Prelude.{replicate, slice_get, Some, IfOk};
 ghost use Rattle.ans_model.specs.Bytes.{most_columns};
 ghost use Rattle.ans_model.specs.Screen.Step.{filled};
 ghost use Rattle.ans_screen.specs.declared.cell.HalfCell.{HalfCell};
-ghost use Rattle.ans_screen.specs.GridEdits.{most_rows, written, printed_run, first_unknown};
+ghost use Rattle.ans_screen.specs.GridEdits.{most_rows, row_cells, written, printed_run, first_unknown};
 ghost use Rattle.ans_screen.specs.HalfCells.{glyph_byte, attribute_byte};
 
 use crate::attr::Attr;
@@ -113,8 +113,7 @@ pub trait Grid: Sized + Drop {
     fn copy_glyphs(&self, row: usize, glyphs: &mut [u8])
         requires row { row < rows_of self.now }
         requires width { length glyphs.old ≡ width_of self.now }
-        ensures { glyphs.new
-            ≡ map glyph_byte (take (width_of self.now) (drop (row * width_of self.now) (cells_of self.now))) }
+        ensures { glyphs.new ≡ map glyph_byte (row_cells (width_of self.now) row (cells_of self.now)) }
     {
         let from = row * self.width();
         for i in 0..glyphs.len() {
@@ -126,8 +125,7 @@ pub trait Grid: Sized + Drop {
     fn copy_attributes(&self, row: usize, values: &mut [u8])
         requires row { row < rows_of self.now }
         requires width { length values.old ≡ width_of self.now }
-        ensures { values.new
-            ≡ map attribute_byte (take (width_of self.now) (drop (row * width_of self.now) (cells_of self.now))) }
+        ensures { values.new ≡ map attribute_byte (row_cells (width_of self.now) row (cells_of self.now)) }
     {
         let from = row * self.width();
         for i in 0..values.len() {

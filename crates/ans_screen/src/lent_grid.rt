@@ -6,19 +6,17 @@ ghost use Rattle.ans_screen.specs.LentRows.{row_of, rows_whole, rows_of_rounds, 
 ghost use Rattle.ans_screen.specs.RowCells.{never_written, cells_of_grid, length_grid};
 
 use crate::attr::Attr;
-use crate::cell::HalfCell;
+use crate::cell::{HalfCell, Part};
 use crate::lent_row::LentRow;
 use crate::planes::{fill_bytes, write_bytes};
-use crate::row_planes::{Row, RowPlanes, cells};
+use crate::row_planes::{Frame, Row, RowPlanes, cells, copies};
 use crate::screen::Screen;
 
 /// Cell `i` is byte `i` of each of four planes where its row holds it, and else the blank. A fill of
 /// the whole grid writes neither planes nor rows.
 #[derive(Drop)]
 pub struct LentGrid<'a> {
-    width: usize,
-    rows: usize,
-    blank: HalfCell,
+    frame: Frame,
     round: u32,
     held: &'a mut [LentRow],
     glyphs: &'a mut [u8],
@@ -27,14 +25,14 @@ pub struct LentGrid<'a> {
     // the bits of the attribute that are known
     bits_known: &'a mut [u8],
     values: &'a mut [u8],
-    ghost some_width: { 1 ≤ width },
-    ghost indexed: { width * rows < 2 ^ 64 },
-    ghost whole_held: { length held.now ≡ rows },
+    ghost some_width: { 1 ≤ frame.width },
+    ghost indexed: { frame.width * frame.rows < 2 ^ 64 },
+    ghost whole_held: { length held.now ≡ frame.rows },
     ghost no_later_round: { All (λ row. row.round ≤ round) held.now },
-    ghost whole_glyphs: { length glyphs.now ≡ width * rows },
-    ghost whole_glyphs_known: { length glyphs_known.now ≡ width * rows },
-    ghost whole_bits_known: { length bits_known.now ≡ width * rows },
-    ghost whole_values: { length values.now ≡ width * rows },
+    ghost whole_glyphs: { length glyphs.now ≡ frame.width * frame.rows },
+    ghost whole_glyphs_known: { length glyphs_known.now ≡ frame.width * frame.rows },
+    ghost whole_bits_known: { length bits_known.now ≡ frame.width * frame.rows },
+    ghost whole_values: { length values.now ≡ frame.width * frame.rows },
 }
 
 impl<'a> LentGrid<'a> {
@@ -60,33 +58,30 @@ impl<'a> LentGrid<'a> {
         if held.len() < rows || bytes.len() < 4 * (width * rows) {
             return None;
         }
-        Some(LentGrid::cut(held, bytes, width, rows, cell))
+        let frame = Frame {
+            width,
+            rows,
+            blank: cell,
+        };
+        Some(LentGrid::cut(held, bytes, frame))
     }
 
     /// The same, where there is room.
-    fn cut(
-        held: &'a mut [LentRow],
-        bytes: &'a mut [u8],
-        width: usize,
-        rows: usize,
-        cell: HalfCell,
-    ) -> LentGrid<'a>
-        requires { HasRoom width rows (length held.old) (length bytes.old) }
-        ensures width { result.width ≡ width }
-        ensures rows { result.rows ≡ rows }
-        ensures cells { cells_of_grid (⟦<LentGrid<'a> as RowPlanes>⟧.planes_of result) ≡ replicate (width * rows) cell }
+    fn cut(held: &'a mut [LentRow], bytes: &'a mut [u8], frame: Frame) -> LentGrid<'a>
+        requires { HasRoom frame.width frame.rows (length held.old) (length bytes.old) }
+        ensures frame { result.frame ≡ frame }
+        ensures cells { cells_of_grid (⟦<LentGrid<'a> as RowPlanes>⟧.planes_of result)
+            ≡ replicate (frame.width * frame.rows) frame.blank }
     {
-        let count = width * rows;
-        let (held, _) = held.split_at_mut(rows);
+        let count = frame.width * frame.rows;
+        let (held, _) = held.split_at_mut(frame.rows);
         let (glyphs, bytes) = bytes.split_at_mut(count);
         let (glyphs_known, bytes) = bytes.split_at_mut(count);
         let (bits_known, bytes) = bytes.split_at_mut(count);
         let (values, _) = bytes.split_at_mut(count);
         held.fill(LentRow::new());
         LentGrid {
-            width,
-            rows,
-            blank: cell,
+            frame,
             round: 1,
             held,
             glyphs,
@@ -99,9 +94,9 @@ impl<'a> LentGrid<'a> {
 
 impl<'a> RowPlanes for LentGrid<'a> {
     ghost planes_of = { λ g. record {
-      width = g.width;
-      rows = g.rows;
-      blank = g.blank;
+      width = g.frame.width;
+      rows = g.frame.rows;
+      blank = g.frame.blank;
       round = g.round;
       held = map row_of g.held.now;
       glyphs = g.glyphs.now;
@@ -110,7 +105,7 @@ impl<'a> RowPlanes for LentGrid<'a> {
       values = g.values.now;
       some_width = g.some_width;
       indexed = g.indexed;
-      whole_held = rows_whole g.held.now g.rows g.whole_held;
+      whole_held = rows_whole g.held.now g.frame.rows g.whole_held;
       no_later_round = rows_of_rounds g.held.now g.round g.no_later_round;
       whole_glyphs = g.whole_glyphs;
       whole_glyphs_known = g.whole_glyphs_known;
@@ -119,18 +114,8 @@ impl<'a> RowPlanes for LentGrid<'a> {
     } };
 
     #[inline(always)]
-    fn width(&self) -> usize {
-        self.width
-    }
-
-    #[inline(always)]
-    fn rows(&self) -> usize {
-        self.rows
-    }
-
-    #[inline(always)]
-    fn blank(&self) -> HalfCell {
-        self.blank
+    fn frame(&self) -> &Frame {
+        &self.frame
     }
 
     #[inline(always)]
@@ -163,7 +148,7 @@ impl<'a> RowPlanes for LentGrid<'a> {
     #[inline(always)]
     fn begin_round(&mut self, round: u32, blank: HalfCell) {
         self.round = round;
-        self.blank = blank;
+        self.frame.blank = blank;
     }
 
     #[inline(always)]
@@ -175,20 +160,18 @@ impl<'a> RowPlanes for LentGrid<'a> {
         (self.glyphs_known[i], self.bits_known[i])
     }
 
-    fn glyphs(&self, from: usize, to: usize) -> &[u8] {
-        &self.glyphs[from..to]
+    fn shown_part(&self, part: Part, from: usize, to: usize) -> &[u8] {
+        match part {
+            Part::Glyph => &self.glyphs[from..to],
+            Part::Attribute => &self.values[from..to],
+        }
     }
 
-    fn values(&self, from: usize, to: usize) -> &[u8] {
-        &self.values[from..to]
-    }
-
-    fn glyphs_known(&self, from: usize, to: usize) -> Option<&[u8]> {
-        Some(&self.glyphs_known[from..to])
-    }
-
-    fn bits_known(&self, from: usize, to: usize) -> Option<&[u8]> {
-        Some(&self.bits_known[from..to])
+    fn known_part(&self, part: Part, from: usize, to: usize) -> Option<&[u8]> {
+        Some(match part {
+            Part::Glyph => &self.glyphs_known[from..to],
+            Part::Attribute => &self.bits_known[from..to],
+        })
     }
 
     #[inline(always)]
@@ -210,18 +193,18 @@ impl<'a> RowPlanes for LentGrid<'a> {
 }
 
 impl<'a> Screen for LentGrid<'a> {
-    ghost width_of = { λ g. g.width };
+    ghost width_of = { λ g. g.frame.width };
 
-    ghost rows_of = { λ g. g.rows };
+    ghost rows_of = { λ g. g.frame.rows };
 
     ghost cells_of = { λ g. cells_of_grid (⟦<LentGrid<'a> as RowPlanes>⟧.planes_of g) };
 
     fn width(&self) -> usize {
-        RowPlanes::width(self)
+        self.frame.width
     }
 
     fn rows(&self) -> usize {
-        RowPlanes::rows(self)
+        self.frame.rows
     }
 
     fn get(&self, i: usize) -> HalfCell {
@@ -256,11 +239,11 @@ impl<'a> Screen for LentGrid<'a> {
     }
 
     fn copy_glyphs(&self, row: usize, glyphs: &mut [u8]) {
-        cells::copy_glyphs(self, row, glyphs);
+        copies::copy_part(self, row, Part::Glyph, glyphs);
     }
 
     fn copy_attributes(&self, row: usize, values: &mut [u8]) {
-        cells::copy_attributes(self, row, values);
+        copies::copy_part(self, row, Part::Attribute, values);
     }
 
     ghost whole = { λ g. length_grid (⟦<LentGrid<'a> as RowPlanes>⟧.planes_of g) };

@@ -7,11 +7,11 @@ ghost use Rattle.ans_screen.specs.GridEdits.{most_rows};
 ghost use Rattle.ans_screen.specs.RowCells.{cells_of_grid, length_grid};
 
 use crate::attr::Attr;
-use crate::cell::HalfCell;
+use crate::cell::{HalfCell, Part};
 use crate::grid::Grid;
 use crate::lazy_plane::LazyPlane;
 use crate::planes::{fill_plane, write_planes};
-use crate::row_planes::{Row, RowPlanes, cells};
+use crate::row_planes::{Frame, NEVER, Row, RowPlanes, cells, copies};
 use std::alloc::{AllocError, Global};
 
 /// Cell `i` is byte `i` of each of four planes where its row holds it, and else the blank. A fill of
@@ -19,9 +19,7 @@ use std::alloc::{AllocError, Global};
 /// is written of which not all is known.
 #[derive(Drop)]
 pub struct PlaneGrid {
-    width: usize,
-    rows: usize,
-    blank: HalfCell,
+    frame: Frame,
     round: u32,
     held: Vec<Row>,
     glyphs: Vec<u8>,
@@ -30,50 +28,35 @@ pub struct PlaneGrid {
     // the bits of the attribute that are known
     bits_known: LazyPlane,
     values: Vec<u8>,
-    ghost some_width: { 1 ≤ width },
-    ghost indexed: { width * rows < 2 ^ 64 },
-    ghost whole_held: { length held.items ≡ rows },
+    ghost some_width: { 1 ≤ frame.width },
+    ghost indexed: { frame.width * frame.rows < 2 ^ 64 },
+    ghost whole_held: { length held.items ≡ frame.rows },
     ghost no_later_round: { All (λ row. row.round ≤ round) held.items },
-    ghost whole_glyphs: { length glyphs.items ≡ width * rows },
-    ghost whole_glyphs_known: { length glyphs_known ≡ width * rows },
-    ghost whole_bits_known: { length bits_known ≡ width * rows },
-    ghost whole_values: { length values.items ≡ width * rows },
+    ghost whole_glyphs: { length glyphs.items ≡ frame.width * frame.rows },
+    ghost whole_glyphs_known: { length glyphs_known ≡ frame.width * frame.rows },
+    ghost whole_bits_known: { length bits_known ≡ frame.width * frame.rows },
+    ghost whole_values: { length values.items ≡ frame.width * frame.rows },
 }
 
 impl PlaneGrid {
-    /// A grid of equal cells in a round. A grid begins in round 1.
-    pub(crate) fn in_round(
-        alloc: Global,
-        width: usize,
-        rows: usize,
-        cell: HalfCell,
-        round: u32,
-    ) -> Result<Self, AllocError>
-        requires some_width { 1 ≤ width }
-        requires width { width ≤ most_columns }
-        requires rows { rows ≤ most_rows }
+    /// A grid of blank cells in a round. A grid begins in round 1.
+    pub(crate) fn in_round(alloc: Global, frame: Frame, round: u32) -> Result<Self, AllocError>
+        requires some_width { 1 ≤ frame.width }
+        requires width { frame.width ≤ most_columns }
+        requires rows { frame.rows ≤ most_rows }
         requires some_round { 1 ≤ round }
-        ensures width { IfOk result (λ g. g.width ≡ width) }
-        ensures rows { IfOk result (λ g. g.rows ≡ rows) }
+        ensures frame { IfOk result (λ g. g.frame ≡ frame) }
         ensures cells { IfOk result (λ g. cells_of_grid (⟦<PlaneGrid as RowPlanes>⟧.planes_of g)
-            ≡ replicate (width * rows) cell) }
+            ≡ replicate (frame.width * frame.rows) frame.blank) }
     {
-        let count = width * rows;
-        let never = Row {
-            round: 0,
-            known: true,
-            first: 0,
-            end: 0,
-        };
-        let held = vec![in alloc; never; rows]?;
+        let count = frame.width * frame.rows;
+        let held = vec![in alloc; NEVER; frame.rows]?;
         let glyphs = vec![in alloc; 0x00; count]?;
         let glyphs_known = LazyPlane::new(alloc, count)?;
         let bits_known = LazyPlane::new(alloc, count)?;
         let values = vec![in alloc; 0x00; count]?;
         Ok(PlaneGrid {
-            width,
-            rows,
-            blank: cell,
+            frame,
             round,
             held,
             glyphs,
@@ -86,9 +69,9 @@ impl PlaneGrid {
 
 impl RowPlanes for PlaneGrid {
     ghost planes_of = { λ g. record {
-      width = g.width;
-      rows = g.rows;
-      blank = g.blank;
+      width = g.frame.width;
+      rows = g.frame.rows;
+      blank = g.frame.blank;
       round = g.round;
       held = g.held.items;
       glyphs = g.glyphs.items;
@@ -106,18 +89,8 @@ impl RowPlanes for PlaneGrid {
     } };
 
     #[inline(always)]
-    fn width(&self) -> usize {
-        self.width
-    }
-
-    #[inline(always)]
-    fn rows(&self) -> usize {
-        self.rows
-    }
-
-    #[inline(always)]
-    fn blank(&self) -> HalfCell {
-        self.blank
+    fn frame(&self) -> &Frame {
+        &self.frame
     }
 
     #[inline(always)]
@@ -143,19 +116,14 @@ impl RowPlanes for PlaneGrid {
     #[cold]
     #[inline(never)]
     fn set_back(&mut self) {
-        self.held.fill(Row {
-            round: 0,
-            known: true,
-            first: 0,
-            end: 0,
-        });
+        self.held.fill(NEVER);
         self.round = 0;
     }
 
     #[inline(always)]
     fn begin_round(&mut self, round: u32, blank: HalfCell) {
         self.round = round;
-        self.blank = blank;
+        self.frame.blank = blank;
     }
 
     #[inline(always)]
@@ -167,20 +135,18 @@ impl RowPlanes for PlaneGrid {
         (self.glyphs_known.byte(i), self.bits_known.byte(i))
     }
 
-    fn glyphs(&self, from: usize, to: usize) -> &[u8] {
-        &self.glyphs[from..to]
+    fn shown_part(&self, part: Part, from: usize, to: usize) -> &[u8] {
+        match part {
+            Part::Glyph => &self.glyphs[from..to],
+            Part::Attribute => &self.values[from..to],
+        }
     }
 
-    fn values(&self, from: usize, to: usize) -> &[u8] {
-        &self.values[from..to]
-    }
-
-    fn glyphs_known(&self, from: usize, to: usize) -> Option<&[u8]> {
-        self.glyphs_known.part(from, to)
-    }
-
-    fn bits_known(&self, from: usize, to: usize) -> Option<&[u8]> {
-        self.bits_known.part(from, to)
+    fn known_part(&self, part: Part, from: usize, to: usize) -> Option<&[u8]> {
+        match part {
+            Part::Glyph => self.glyphs_known.part(from, to),
+            Part::Attribute => self.bits_known.part(from, to),
+        }
     }
 
     #[inline(always)]
@@ -209,22 +175,27 @@ impl RowPlanes for PlaneGrid {
 }
 
 impl Grid for PlaneGrid {
-    ghost width_of = { λ g. g.width };
+    ghost width_of = { λ g. g.frame.width };
 
-    ghost rows_of = { λ g. g.rows };
+    ghost rows_of = { λ g. g.frame.rows };
 
     ghost cells_of = { λ g. cells_of_grid (⟦<PlaneGrid as RowPlanes>⟧.planes_of g) };
 
     fn new(alloc: Global, width: usize, rows: usize, cell: HalfCell) -> Result<Self, AllocError> {
-        PlaneGrid::in_round(alloc, width, rows, cell, 1)
+        let frame = Frame {
+            width,
+            rows,
+            blank: cell,
+        };
+        PlaneGrid::in_round(alloc, frame, 1)
     }
 
     fn width(&self) -> usize {
-        RowPlanes::width(self)
+        self.frame.width
     }
 
     fn rows(&self) -> usize {
-        RowPlanes::rows(self)
+        self.frame.rows
     }
 
     fn get(&self, i: usize) -> HalfCell {
@@ -259,11 +230,11 @@ impl Grid for PlaneGrid {
     }
 
     fn copy_glyphs(&self, row: usize, glyphs: &mut [u8]) {
-        cells::copy_glyphs(self, row, glyphs);
+        copies::copy_part(self, row, Part::Glyph, glyphs);
     }
 
     fn copy_attributes(&self, row: usize, values: &mut [u8]) {
-        cells::copy_attributes(self, row, values);
+        copies::copy_part(self, row, Part::Attribute, values);
     }
 
     ghost whole = { λ g. length_grid (⟦<PlaneGrid as RowPlanes>⟧.planes_of g) };

@@ -4,15 +4,15 @@ ghost use Rattle.std.specs.Prelude.{◌≡◌, ◌↔◌, ◌+◌, ◌*◌, ◌�
 ghost use Rattle.std.specs.Prelude.{ℕ, ◌<◌, IsTrue, slice_index, unwrap_or, bit_and};
 ghost use Rattle.ans_model.specs.Screen.Step.{filled};
 ghost use Rattle.ans_screen.specs.GridEdits.{written};
-ghost use Rattle.ans_screen.specs.CellPlanes.{glyph_of, cell_of};
+ghost use Rattle.ans_screen.specs.CellPlanes.{glyph_of, cell_of, known_byte};
 ghost use Rattle.ans_screen.specs.CellPlanes.{AreKnown, IsFirstGap};
 
 use crate::attr::Attr;
-use crate::cell::HalfCell;
+use crate::cell::{HalfCell, Part};
 use std::simd::prelude::*;
 
 /// A cell's byte in each plane.
-#[derive(Clone, Copy)]
+#[derive(Drop)]
 pub(crate) struct CellBytes {
     pub(crate) glyph: u8,
     pub(crate) glyph_known: u8,
@@ -225,7 +225,7 @@ pub(crate) fn first_gap(glyphs_known: &[u8], bits_known: &[u8], to: usize) -> Op
 }
 
 /// Copies glyphs, with 0 for each that is not known.
-pub(crate) fn copy_known_glyphs(glyphs: &[u8], glyphs_known: &[u8], copied: &mut [u8])
+fn copy_known_glyphs(glyphs: &[u8], glyphs_known: &[u8], copied: &mut [u8])
     requires glyphs { length glyphs.now ≡ length copied.old }
     requires glyphs_known { length glyphs_known.now ≡ length copied.old }
     ensures { (k : ℕ) → k < length copied.old → slice_index copied.new k
@@ -241,7 +241,7 @@ pub(crate) fn copy_known_glyphs(glyphs: &[u8], glyphs_known: &[u8], copied: &mut
 }
 
 /// Copies values, with 0 for each bit that is not known.
-pub(crate) fn copy_known_bits(values: &[u8], bits_known: &[u8], copied: &mut [u8])
+fn copy_known_bits(values: &[u8], bits_known: &[u8], copied: &mut [u8])
     requires values { length values.now ≡ length copied.old }
     requires bits_known { length bits_known.now ≡ length copied.old }
     ensures { (k : ℕ) → k < length copied.old → slice_index copied.new k
@@ -249,5 +249,18 @@ pub(crate) fn copy_known_bits(values: &[u8], bits_known: &[u8], copied: &mut [u8
 {
     for i in 0..copied.len() {
         copied[i] = values[i] & bits_known[i];
+    }
+}
+
+/// Copies the bytes of a part, with 0 for what is not known of them.
+pub(crate) fn copy_known(part: Part, shown: &[u8], known: &[u8], copied: &mut [u8])
+    requires shown { length shown.now ≡ length copied.old }
+    requires known { length known.now ≡ length copied.old }
+    ensures { (k : ℕ) → k < length copied.old → slice_index copied.new k
+        ≡ known_byte part (slice_index shown.now k) (slice_index known.now k) }
+{
+    match part {
+        Part::Glyph => copy_known_glyphs(shown, known, copied),
+        Part::Attribute => copy_known_bits(shown, known, copied),
     }
 }

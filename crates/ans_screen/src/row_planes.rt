@@ -5,13 +5,13 @@ ghost use Rattle.std.specs.Prelude.{slice_index, slice_index_or, slice_range, Ma
 ghost use Rattle.ans_model.specs.Screen.Step.{filled};
 ghost use Rattle.ans_screen.specs.GridEdits.{written};
 ghost use Rattle.ans_screen.specs.RowCells.{Planes, SameRows, SameShown, SameKnown, HasRow, BeginsRound};
-ghost use Rattle.ans_screen.specs.RowCells.{never_written, held_row};
+ghost use Rattle.ans_screen.specs.RowCells.{never_written, held_row, shown_plane, known_plane};
 
 pub(crate) mod cells;
 pub(crate) mod copies;
 pub(crate) mod rows;
 
-use crate::cell::HalfCell;
+use crate::cell::{HalfCell, Part};
 
 /// A row as it was last written.
 #[derive(Clone, Copy)]
@@ -26,6 +26,22 @@ pub(crate) struct Row {
     pub(crate) end: usize,
 }
 
+/// A row that was never written.
+pub(crate) const NEVER: Row = Row {
+    round: 0,
+    known: true,
+    first: 0,
+    end: 0,
+};
+
+/// How large a grid is, and what its cells are that no row holds.
+#[derive(Clone, Copy)]
+pub(crate) struct Frame {
+    pub(crate) width: usize,
+    pub(crate) rows: usize,
+    pub(crate) blank: HalfCell,
+}
+
 /// Cell `i` is byte `i` of each plane where its row holds it, and else the blank. A fill of the whole
 /// grid begins a new round, in which no row holds a cell, so it writes neither planes nor rows. A write
 /// to a row writes no more of it than what lies between the cells that are held, and of a known row
@@ -33,14 +49,10 @@ pub(crate) struct Row {
 pub(crate) trait RowPlanes {
     ghost planes_of: { Self → Planes };
 
-    fn width(&self) -> usize
-        ensures { result ≡ (planes_of self.now).width };
-
-    fn rows(&self) -> usize
-        ensures { result ≡ (planes_of self.now).rows };
-
-    fn blank(&self) -> HalfCell
-        ensures { result ≡ (planes_of self.now).blank };
+    fn frame(&self) -> &Frame
+        ensures width { result.now.width ≡ (planes_of self.now).width }
+        ensures rows { result.now.rows ≡ (planes_of self.now).rows }
+        ensures blank { result.now.blank ≡ (planes_of self.now).blank };
 
     fn round(&self) -> u32
         ensures { result ≡ (planes_of self.now).round };
@@ -79,31 +91,19 @@ pub(crate) trait RowPlanes {
         ensures glyph { result.0 ≡ slice_index (planes_of self.now).glyphs_known i }
         ensures value { result.1 ≡ slice_index (planes_of self.now).bits_known i };
 
-    fn glyphs(&self, from: usize, to: usize) -> &[u8]
+    /// The bytes of a part.
+    fn shown_part(&self, part: Part, from: usize, to: usize) -> &[u8]
         requires ordered { from ≤ to }
         requires within { to ≤ (planes_of self.now).width * (planes_of self.now).rows }
-        ensures { result.now ≡ slice_range (planes_of self.now).glyphs from to };
+        ensures { result.now ≡ slice_range (shown_plane part (planes_of self.now)) from to };
 
-    fn values(&self, from: usize, to: usize) -> &[u8]
+    /// What is known of a part, or `None` where each byte of that plane is 00h.
+    fn known_part(&self, part: Part, from: usize, to: usize) -> Option<&[u8]>
         requires ordered { from ≤ to }
         requires within { to ≤ (planes_of self.now).width * (planes_of self.now).rows }
-        ensures { result.now ≡ slice_range (planes_of self.now).values from to };
-
-    /// Which glyphs are known, or `None` where each byte of that plane is 00h.
-    fn glyphs_known(&self, from: usize, to: usize) -> Option<&[u8]>
-        requires ordered { from ≤ to }
-        requires within { to ≤ (planes_of self.now).width * (planes_of self.now).rows }
-        ensures { MatchOption result ((planes_of self.now).glyphs_known
-            ≡ replicate (length (planes_of self.now).glyphs_known) 0)
-            (λ part. part.now ≡ slice_range (planes_of self.now).glyphs_known from to) };
-
-    /// The bits that are known, or `None` where each byte of that plane is 00h.
-    fn bits_known(&self, from: usize, to: usize) -> Option<&[u8]>
-        requires ordered { from ≤ to }
-        requires within { to ≤ (planes_of self.now).width * (planes_of self.now).rows }
-        ensures { MatchOption result ((planes_of self.now).bits_known
-            ≡ replicate (length (planes_of self.now).bits_known) 0)
-            (λ part. part.now ≡ slice_range (planes_of self.now).bits_known from to) };
+        ensures { MatchOption result (known_plane part (planes_of self.now)
+            ≡ replicate (length (known_plane part (planes_of self.now))) 0)
+            (λ known. known.now ≡ slice_range (known_plane part (planes_of self.now)) from to) };
 
     fn fill_shown(&mut self, from: usize, to: usize, glyph: u8, value: u8)
         requires ordered { from ≤ to }

@@ -1,10 +1,10 @@
 //! Half-known cells that stand somewhere already, so that no memory is asked for.
 
-ghost use Rattle.std.specs.Prelude.{◌≡◌, ℕ, ◌+◌, ◌*◌, ◌^◌, ◌<◌, ◌≤◌, List, length, map, take, drop, set};
+ghost use Rattle.std.specs.Prelude.{◌≡◌, ℕ, ◌+◌, ◌*◌, ◌^◌, ◌<◌, ◌≤◌, List, length, map, take, set};
 ghost use Rattle.std.specs.Prelude.{replicate, slice_get, Some};
 ghost use Rattle.ans_model.specs.Screen.Step.{filled};
 ghost use Rattle.ans_screen.specs.declared.cell.HalfCell.{HalfCell};
-ghost use Rattle.ans_screen.specs.GridEdits.{written, printed_run, first_unknown};
+ghost use Rattle.ans_screen.specs.GridEdits.{row_cells, written, printed_run, first_unknown};
 ghost use Rattle.ans_screen.specs.HalfCells.{glyph_byte, attribute_byte};
 
 use crate::attr::Attr;
@@ -84,15 +84,13 @@ pub trait Screen: Sized + Drop {
     fn copy_glyphs(&self, row: usize, glyphs: &mut [u8])
         requires row { row < rows_of self.now }
         requires width { length glyphs.old ≡ width_of self.now }
-        ensures { glyphs.new
-            ≡ map glyph_byte (take (width_of self.now) (drop (row * width_of self.now) (cells_of self.now))) };
+        ensures { glyphs.new ≡ map glyph_byte (row_cells (width_of self.now) row (cells_of self.now)) };
 
     /// Copies the attributes' values of a row, with 0 for each bit that is not known.
     fn copy_attributes(&self, row: usize, values: &mut [u8])
         requires row { row < rows_of self.now }
         requires width { length values.old ≡ width_of self.now }
-        ensures { values.new
-            ≡ map attribute_byte (take (width_of self.now) (drop (row * width_of self.now) (cells_of self.now))) };
+        ensures { values.new ≡ map attribute_byte (row_cells (width_of self.now) row (cells_of self.now)) };
 
     // a cell for each row and column
     ghost whole: { (g : Self) → length (cells_of g) ≡ width_of g * rows_of g };

@@ -2,6 +2,7 @@
 
 ghost use Rattle.std.specs.Prelude.{◌≡◌, ◌+◌, ◌<◌, ◌≤◌, length};
 
+use crate::row_planes::Frame;
 use crate::{Attr, Grid, HalfCell, LentGrid, LentRow, PlainGrid, PlaneGrid, Screen};
 use std::alloc::Global;
 use std::process::Abort;
@@ -300,7 +301,12 @@ fn compare_edits<const N: usize>(
     edits: &[Edit; N],
 ) -> Result<(), Fail> {
     for round in [1, u32::MAX - 2] {
-        let mut planes = PlaneGrid::in_round(alloc, 33, 3, cell_of(start), round)?;
+        let frame = Frame {
+            width: 33,
+            rows: 3,
+            blank: cell_of(start),
+        };
+        let mut planes = PlaneGrid::in_round(alloc, frame, round)?;
         let mut plain = PlainGrid::new(alloc, 33, 3, cell_of(start))?;
         edit_both(rt, &mut planes, &mut plain, edits);
     }

@@ -60,16 +60,20 @@ none_within bytes i value within d all v large n count h =
 -- ---- members and the letter
 -- The bytes begin with a member, the members after it, each after a `;`, and the letter. None is a string, and with
 -- those before them they are not too many.
+record AreMembers (done : ℕ) (member : Member) (later : List Member) (letter : ℕ) (rest bytes : List ℕ) : Type 0 where
+  rest_is : Rest member later letter rest bytes
+  is_letter : is_ascii_alphabetic letter ≡ true
+  no_string : list_any is_quoted (member ∷ later) ≡ false
+  in_limit : AllByRecursion IsInLimit (member ∷ later)
+  count : done + length (member ∷ later) ≤ most_parameters
+
+-- there are such members
 pub record LeavesMembers (done : ℕ) (bytes : List ℕ) : Type 0 where
-  pub member : Member
-  pub later : List Member
-  pub letter : ℕ
-  pub rest : List ℕ
-  pub rest_is : Rest member later letter rest bytes
-  pub is_letter : is_ascii_alphabetic letter ≡ true
-  pub no_string : list_any is_quoted (member ∷ later) ≡ false
-  pub in_limit : AllByRecursion IsInLimit (member ∷ later)
-  pub count : done + length (member ∷ later) ≤ most_parameters
+  member : Member
+  later : List Member
+  letter : ℕ
+  rest : List ℕ
+  are : AreMembers done member later letter rest bytes
 
 -- The bytes begin with the digits of a member, which may be none, and what ends it: the letter, or a `;` before the
 -- next member.
@@ -90,46 +94,41 @@ digits_of Omitted text q limit h = rw h (refl, omega arith)
 digits_of (Number n) text q limit h = (h.1, rw h.2 limit)
 digits_of (Quoted quote words) text q limit h = cc
 
-leaves : (done : ℕ) (m : Member) (later : List Member) (letter : ℕ) (rest bytes : List ℕ)
-    → Rest m later letter rest bytes → is_ascii_alphabetic letter ≡ true → list_any is_quoted (m ∷ later) ≡ false
-    → AllByRecursion IsInLimit (m ∷ later) → done + length (m ∷ later) ≤ most_parameters → LeavesMembers done bytes
-leaves done m later letter rest bytes h l q limit count = record {
-  member = m;
-  later = later;
-  letter = letter;
-  rest = rest;
-  rest_is = h;
-  is_letter = l;
-  no_string = q;
-  in_limit = limit;
-  count = count;
-}
+leaves : {done : ℕ} {m : Member} {later : List Member} {letter : ℕ} {rest bytes : List ℕ}
+    → AreMembers done m later letter rest bytes → LeavesMembers done bytes
+leaves {m = m} {later = later} {letter = letter} {rest = rest} h =
+    record { member = m; later = later; letter = letter; rest = rest; are = h }
 
 begins_member : (done : ℕ) (m : Member) (later : List Member) (letter : ℕ) (rest bytes : List ℕ)
-    → Rest m later letter rest bytes → is_ascii_alphabetic letter ≡ true → list_any is_quoted (m ∷ later) ≡ false
-    → AllByRecursion IsInLimit (m ∷ later) → done + length (m ∷ later) ≤ most_parameters → BeginsMember done bytes
-begins_member done m [] letter rest bytes h l q limit count =
-    let plain = or_parts (is_quoted m) (list_any is_quoted []) q in
-    let t = digits_of m h.0 plain.0 limit.0 h.1 in
+    → AreMembers done m later letter rest bytes → BeginsMember done bytes
+begins_member done m [] letter rest bytes h =
+    let t = digits_of m h.rest_is.0 (or_parts (is_quoted m) (list_any is_quoted []) h.no_string).0 h.in_limit.0
+    h.rest_is.1 in
     record {
-      text = h.0;
+      text = h.rest_is.0;
       stop = letter;
       after = rest;
-      whole = h.2;
+      whole = h.rest_is.2;
       digits = t.0;
       in_limit = t.1;
-      no_digit = stop_no_digit letter (letter_stops letter l);
-      next = inl l;
+      no_digit = stop_no_digit letter (letter_stops letter h.is_letter);
+      next = inl h.is_letter;
     }
-begins_member done m (n ∷ ms) letter rest bytes h l q limit count =
-    let plain = or_parts (is_quoted m) (list_any is_quoted (n ∷ ms)) q in
-    let t = digits_of m h.0 plain.0 limit.0 h.2 in
-    let left = leaves (done + 1) n ms letter rest h.1 h.3 l plain.1 limit.1 (omega (arith, count)) in
+begins_member done m (n ∷ ms) letter rest bytes h =
+    let plain = or_parts (is_quoted m) (list_any is_quoted (n ∷ ms)) h.no_string in
+    let t = digits_of m h.rest_is.0 plain.0 h.in_limit.0 h.rest_is.2 in
+    let left = leaves {done = done + 1} (record {
+      rest_is = h.rest_is.3;
+      is_letter = h.is_letter;
+      no_string = plain.1;
+      in_limit = h.in_limit.1;
+      count = omega (arith, h.count);
+    }) in
     record {
-      text = h.0;
+      text = h.rest_is.0;
       stop = semicolon;
-      after = h.1;
-      whole = h.4;
+      after = h.rest_is.1;
+      whole = h.rest_is.4;
       digits = t.0;
       in_limit = t.1;
       no_digit = stop_no_digit semicolon semicolon_stops;
@@ -137,8 +136,7 @@ begins_member done m (n ∷ ms) letter rest bytes h l q limit count =
     }
 
 begins : (done : ℕ) (bytes : List ℕ) → LeavesMembers done bytes → BeginsMember done bytes
-begins done bytes h =
-    begins_member done h.member h.later h.letter h.rest bytes h.rest_is h.is_letter h.no_string h.in_limit h.count
+begins done bytes h = begins_member done h.member h.later h.letter h.rest bytes h.are
 
 -- a number stands where a member begins
 number_front : (done : ℕ) (bytes : List ℕ) (h : BeginsMember done bytes)
@@ -211,16 +209,23 @@ none_at_other done bytes at value digits read ne other left =
 
 -- after the sixteenth member no more are left
 pub none_when_full : (done : ℕ) (bytes : List ℕ) → most_parameters ≤ done → ¬ LeavesMembers done bytes
-none_when_full done bytes full h = omega (arith, full, h.count)
+none_when_full done bytes full h = omega (arith, full, h.are.count)
 
 -- ---- a sequence
 leaves_tail : (ms : List Member) (letter : ℕ) (rest bytes : List ℕ) → Tail ms letter rest bytes
     → is_ascii_alphabetic letter ≡ true → list_any is_quoted ms ≡ false → AllByRecursion IsInLimit ms
     → length ms ≤ most_parameters → LeavesMembers 0 bytes
 leaves_tail [] letter rest bytes h l q limit count =
-    leaves 0 Omitted [] letter rest bytes ([], refl, h) l refl (tt, tt) (omega arith)
+    leaves {m = Omitted} {later = []} (record {
+      rest_is = ([], refl, h);
+      is_letter = l;
+      no_string = refl;
+      in_limit = (tt, tt);
+      count = omega arith;
+    })
 leaves_tail (m ∷ ms) letter rest bytes h l q limit count =
-    leaves 0 m ms letter rest bytes h.1 l q limit (omega (arith, count))
+    leaves {m = m} {later = ms}
+    (record { rest_is = h.1; is_letter = l; no_string = q; in_limit = limit; count = omega (arith, count) })
 
 -- the bytes before the first member
 begun_bytes : (mark : Mark) (bytes : List ℕ) (from : ℕ)

@@ -1,9 +1,13 @@
 -- What is unfinished, and what is refused, after each open part.
-use Rattle.std.proofs.Common.{◌≢◌, inl, inr, ℕ, ◌<◌, List, [], ◌∷◌, ◌++◌, length, refl, arith, append_assoc}
+use Rattle.std.proofs.Common.{◌≡◌, ◌≢◌, Ok, Err, inl, inr, ℕ, ◌<◌, List, [], ◌∷◌, ◌++◌, length, refl, arith}
+use Rattle.std.proofs.Common.{append_assoc}
 use Rattle.ans_model.specs.Bytes.{escape, bracket}
 use Rattle.ans_model.specs.declared.fault.Cause.{Cause}
 use Rattle.ans_model.specs.declared.fault.Cause.TheVariants.{BrokenSequence}
-use Rattle.ans_model.specs.Sequence.Spelling.{IsUnfinished, IsPrefixOfLoose, IsPrefixOfSpelling}
+use Rattle.ans_model.specs.Sequence.Spelling.{Raw, Spells, IsUnfinished, IsPrefixOfLoose, IsPrefixOfSpelling}
+use Rattle.ans_model.specs.Sequence.Meaning.{meaning}
+use Rattle.ans_model.specs.Sequence.Reads.{SpellsToken}
+use Rattle.ans_model.specs.Sequence.TokenKind.{TokenKind}
 use Rattle.ans_model.specs.Inside.OpenPart.{Part, SpellsPart}
 use Rattle.ans_model.specs.Verdict.FirstFault.{IsWhy, IsRefused}
 use Rattle.ans_model.proofs.Spelling.{head_of, tail_of}
@@ -64,3 +68,12 @@ broken part y b cause h none why = inr (record {
   not_prefix = none;
   why = why;
 })
+
+-- a sequence that is spelled is its token, or is refused for its meaning
+pub means_token : {raw : Raw} {token : TokenKind} {text : List ℕ} → Spells raw text → meaning raw ≡ Ok token
+    → SpellsToken token text
+means_token {raw = raw} s m = inr (record { raw = raw; spelled = s; means = m })
+
+pub means_none : {raw : Raw} {cause : Cause} {text : List ℕ} → Spells raw text → meaning raw ≡ Err cause
+    → IsRefused text cause
+means_none {raw = raw} s m = inl (record { raw = raw; spelled = s; means = m })

@@ -32,6 +32,11 @@ pub record IsReadable (bytes : List ℕ) : Type 0 where
   pub reads : ReadsAs front tokens texts
   pub leaves : IsOpen left ⊎ IsRefusedFront left
 
+is_readable : {bytes : List ℕ} (front left : List ℕ) → bytes ≡ front ++ left → (ts : List TokenKind)
+    (xs : List (List ℕ)) → ReadsAs front ts xs → IsOpen left ⊎ IsRefusedFront left → IsReadable bytes
+is_readable front left e ts xs r l =
+    record { front = front; left = left; whole = e; tokens = ts; texts = xs; reads = r; leaves = l }
+
 spells_more : (ts us : List TokenKind) (xs ys : List (List ℕ)) → AllZip SpellsToken ts xs → AllZip SpellsToken us ys
     → AllZip SpellsToken (ts ++ us) (xs ++ ys)
 spells_more [] us [] ys h k = k
@@ -175,12 +180,4 @@ pub readable : (bytes : List ℕ) → AllByRecursion IsByte bytes → IsReadable
 readable bytes h =
     let p = progress bytes in
     let r = progress_is bytes h in
-    record {
-      front = p.front;
-      left = p.left ++ p.rest;
-      whole = r.whole;
-      tokens = p.tokens;
-      texts = p.texts;
-      reads = r.reads;
-      leaves = leaves p.stands p.left p.rest r.stands;
-    }
+    is_readable p.front (p.left ++ p.rest) r.whole p.tokens p.texts r.reads (leaves p.stands p.left p.rest r.stands)

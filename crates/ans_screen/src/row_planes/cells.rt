@@ -4,25 +4,23 @@ ghost use Rattle.std.specs.Prelude.{◌≡◌, ◌+◌, ◌*◌, ◌^◌, ◌<�
 ghost use Rattle.std.specs.Prelude.{replicate, slice_get, Some};
 ghost use Rattle.ans_model.specs.Screen.Step.{filled};
 ghost use Rattle.ans_screen.specs.GridEdits.{written, printed_run, first_unknown};
-ghost use Rattle.ans_screen.specs.HalfCells.{glyph_byte, attribute_byte};
 ghost use Rattle.ans_screen.specs.RowCells.{cells_of_grid};
 
 use super::RowPlanes;
-use super::copies::{copy_held_attributes, copy_held_glyphs};
-use super::rows::{fill_part, fill_rows, first_unknown_of_row, held_row, open, row_start};
+use super::rows::{fill_planes, first_unknown_of_row, held_row, open, row_start};
 use crate::attr::Attr;
 use crate::cell::HalfCell;
-use crate::planes::{CellBytes, cell_of_bytes};
+use crate::planes::{CellBytes, bytes_of, cell_of_bytes};
 
 #[tactic(auto, using(crate::specs::RowCells::length_rows, crate::proofs::Places::row_below))]
 pub(crate) fn get<P: RowPlanes>(grid: &P, i: usize) -> HalfCell
     requires { i < length (cells_of_grid (P.planes_of grid.now)) }
     ensures { slice_get (cells_of_grid (P.planes_of grid.now)) i ≡ Some result }
 {
-    let row = i / grid.width();
+    let row = i / grid.frame().width;
     let held = held_row(grid, row, row_start(grid, row));
     if i < held.first || held.end <= i {
-        return grid.blank();
+        return grid.frame().blank;
     }
     let (glyph, value) = grid.shown(i);
     if held.known {
@@ -46,8 +44,9 @@ pub(crate) fn put<P: RowPlanes>(grid: &mut P, i: usize, cell: HalfCell)
     ensures width { (P.planes_of grid.new).width ≡ (P.planes_of grid.old).width }
     ensures rows { (P.planes_of grid.new).rows ≡ (P.planes_of grid.old).rows }
 {
-    let row = i / grid.width();
-    fill_part(grid, row, i, i + 1, cell);
+    let row = i / grid.frame().width;
+    let column = i % grid.frame().width;
+    fill_row(grid, row, column, column + 1, cell);
 }
 
 #[tactic(auto, using(crate::specs::RowCells::length_rows))]
@@ -59,7 +58,7 @@ pub(crate) fn fill<P: RowPlanes>(grid: &mut P, from: usize, to: usize, cell: Hal
     ensures width { (P.planes_of grid.new).width ≡ (P.planes_of grid.old).width }
     ensures rows { (P.planes_of grid.new).rows ≡ (P.planes_of grid.old).rows }
 {
-    if from == 0 && to == grid.width() * grid.rows() {
+    if from == 0 && to == grid.frame().width * grid.frame().rows {
         clear(grid, cell);
     } else if from < to {
         fill_rows(grid, from, to, &cell);
@@ -71,12 +70,12 @@ pub(crate) fn first_unknown<P: RowPlanes>(grid: &P, to: usize) -> Option<usize>
     requires { to ≤ length (cells_of_grid (P.planes_of grid.now)) }
     ensures { result ≡ first_unknown (cells_of_grid (P.planes_of grid.now)) to }
 {
-    for row in 0..grid.rows() {
+    for row in 0..grid.frame().rows {
         let start = row_start(grid, row);
         if start >= to {
             return None;
         }
-        if let Some(i) = first_unknown_of_row(grid, row, to.min(start + grid.width())) {
+        if let Some(i) = first_unknown_of_row(grid, row, to.min(start + grid.frame().width)) {
             return Some(i);
         }
     }
@@ -100,7 +99,28 @@ pub(crate) fn fill_row<P: RowPlanes>(
     ensures rows { (P.planes_of grid.new).rows ≡ (P.planes_of grid.old).rows }
 {
     let start = row_start(grid, row);
-    fill_part(grid, row, start + from, start + to, cell);
+    let bytes = bytes_of(cell);
+    let known = open(grid, row, start + from, start + to, bytes.is_known());
+    fill_planes(grid, start + from, start + to, bytes, known);
+}
+
+/// Makes the cells from `from` up to and without `to` this one, row by row.
+#[inline(never)]
+fn fill_rows<P: RowPlanes>(grid: &mut P, from: usize, to: usize, cell: &HalfCell)
+    requires ordered { from < to }
+    requires within { to ≤ (P.planes_of grid.old).width * (P.planes_of grid.old).rows }
+    ensures cells { cells_of_grid (P.planes_of grid.new)
+        ≡ filled (cells_of_grid (P.planes_of grid.old)) from to cell.now }
+    ensures width { (P.planes_of grid.new).width ≡ (P.planes_of grid.old).width }
+    ensures rows { (P.planes_of grid.new).rows ≡ (P.planes_of grid.old).rows }
+{
+    let columns = grid.frame().width;
+    let last = (to - 1) / columns;
+    for row in from / columns..last + 1 {
+        let start = row_start(grid, row);
+        let end = columns.min(to - start);
+        fill_row(grid, row, from.saturating_sub(start), end, *cell);
+    }
 }
 
 #[inline(always)]
@@ -153,38 +173,4 @@ pub(crate) fn write_run<P: RowPlanes>(
     if !known {
         grid.fill_known(from, from + count, 0xFF, attr.known);
     }
-}
-
-pub(crate) fn copy_glyphs<P: RowPlanes>(grid: &P, row: usize, glyphs: &mut [u8])
-    requires row { row < (P.planes_of grid.now).rows }
-    requires width { length glyphs.old ≡ (P.planes_of grid.now).width }
-    ensures { glyphs.new ≡ map glyph_byte (take (P.planes_of grid.now).width
-        (drop (row * (P.planes_of grid.now).width) (cells_of_grid (P.planes_of grid.now)))) }
-{
-    let start = row_start(grid, row);
-    let held = held_row(grid, row, start);
-    glyphs.fill(grid.blank().glyph_byte());
-    copy_held_glyphs(
-        grid,
-        row,
-        held,
-        &mut glyphs[held.first - start..held.end - start],
-    );
-}
-
-pub(crate) fn copy_attributes<P: RowPlanes>(grid: &P, row: usize, values: &mut [u8])
-    requires row { row < (P.planes_of grid.now).rows }
-    requires width { length values.old ≡ (P.planes_of grid.now).width }
-    ensures { values.new ≡ map attribute_byte (take (P.planes_of grid.now).width
-        (drop (row * (P.planes_of grid.now).width) (cells_of_grid (P.planes_of grid.now)))) }
-{
-    let start = row_start(grid, row);
-    let held = held_row(grid, row, start);
-    values.fill(grid.blank().attribute_byte());
-    copy_held_attributes(
-        grid,
-        row,
-        held,
-        &mut values[held.first - start..held.end - start],
-    );
 }

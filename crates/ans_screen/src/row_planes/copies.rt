@@ -1,44 +1,43 @@
-//! Glyphs and attributes copied from the rows of a grid of planes.
+//! A part of each cell copied from the rows of a grid of planes.
 
-ghost use Rattle.std.specs.Prelude.{◌≡◌, ◌+◌, ◌*◌, ◌<◌, ◌≤◌, length};
-ghost use Rattle.ans_screen.specs.HalfCells.{glyph_byte, attribute_byte};
-ghost use Rattle.ans_screen.specs.RowCells.{IsHeldRow, IsCopied};
+ghost use Rattle.std.specs.Prelude.{◌≡◌, ◌+◌, ◌<◌, length, map};
+ghost use Rattle.ans_screen.specs.GridEdits.{row_cells};
+ghost use Rattle.ans_screen.specs.HalfCells.{byte_of};
+ghost use Rattle.ans_screen.specs.RowCells.{cells_of_grid, IsHeldRow, IsCopied};
 
+use super::rows::{held_row, row_start};
 use super::{Row, RowPlanes};
-use crate::planes::{copy_known_bits, copy_known_glyphs};
+use crate::cell::Part;
+use crate::planes::copy_known;
 
-/// Copies the glyphs of the cells that a row holds.
-pub(crate) fn copy_held_glyphs<P: RowPlanes>(grid: &P, row: usize, held: Row, glyphs: &mut [u8])
+/// Copies a part of each cell that a row holds.
+fn copy_held<P: RowPlanes>(grid: &P, row: usize, held: Row, part: Part, copied: &mut [u8])
     requires row { row < (P.planes_of grid.now).rows }
     requires held { IsHeldRow (P.planes_of grid.now) row held }
-    requires all { held.first + length glyphs.old ≡ held.end }
-    ensures { IsCopied glyph_byte (P.planes_of grid.now) held.first (length glyphs.old) glyphs.new }
+    requires all { held.first + length copied.old ≡ held.end }
+    ensures { IsCopied (byte_of part) (P.planes_of grid.now) held.first (length copied.old) copied.new }
 {
-    let Row { first, end, .. } = held;
+    let shown = grid.shown_part(part, held.first, held.end);
     if held.known {
-        glyphs.copy_from_slice(grid.glyphs(first, end));
+        copied.copy_from_slice(shown);
     } else {
-        match grid.glyphs_known(first, end) {
-            Some(known) => copy_known_glyphs(grid.glyphs(first, end), known, glyphs),
-            None => glyphs.fill(0),
+        match grid.known_part(part, held.first, held.end) {
+            Some(known) => copy_known(part, shown, known, copied),
+            None => copied.fill(0),
         }
     }
 }
 
-/// Copies the attributes' values of the cells that a row holds.
-pub(crate) fn copy_held_attributes<P: RowPlanes>(grid: &P, row: usize, held: Row, values: &mut [u8])
+/// Copies a part of each cell of a row.
+pub(crate) fn copy_part<P: RowPlanes>(grid: &P, row: usize, part: Part, copied: &mut [u8])
     requires row { row < (P.planes_of grid.now).rows }
-    requires held { IsHeldRow (P.planes_of grid.now) row held }
-    requires all { held.first + length values.old ≡ held.end }
-    ensures { IsCopied attribute_byte (P.planes_of grid.now) held.first (length values.old) values.new }
+    requires width { length copied.old ≡ (P.planes_of grid.now).width }
+    ensures { copied.new ≡ map (byte_of part)
+        (row_cells (P.planes_of grid.now).width row (cells_of_grid (P.planes_of grid.now))) }
 {
-    let Row { first, end, .. } = held;
-    if held.known {
-        values.copy_from_slice(grid.values(first, end));
-    } else {
-        match grid.bits_known(first, end) {
-            Some(known) => copy_known_bits(grid.values(first, end), known, values),
-            None => values.fill(0),
-        }
-    }
+    let start = row_start(grid, row);
+    let held = held_row(grid, row, start);
+    copied.fill(grid.frame().blank.byte(part));
+    let place = held.first - start..held.end - start;
+    copy_held(grid, row, held, part, &mut copied[place]);
 }

@@ -1,15 +1,14 @@
 //! The rows of a grid of planes, and what the planes hold of them.
 
 ghost use Rattle.std.specs.Prelude.{◌≡◌, ◌+◌, ◌-◌, ◌*◌, ◌<◌, ◌≤◌, ℕ, true, IsTrue, slice_range};
-ghost use Rattle.ans_model.specs.Screen.Step.{filled};
 ghost use Rattle.ans_screen.specs.CellPlanes.{IsFirstGap};
 ghost use Rattle.ans_screen.specs.HalfCells.{is_known};
-ghost use Rattle.ans_screen.specs.RowCells.{cells_of_grid, cell_in_grid, states_of, state_of, holds_none, IsHeldRow};
+ghost use Rattle.ans_screen.specs.RowCells.{AreFilled, cell_in_grid, states_of, state_of, holds_none, IsHeldRow};
 ghost use Rattle.ans_screen.specs.RowCells.{SameRows, IsFirstUnknown, HasBlanks, IsMarked, ShowsSame};
 
 use super::{Row, RowPlanes};
-use crate::cell::HalfCell;
-use crate::planes::{bytes_of, first_gap};
+use crate::cell::{HalfCell, Part};
+use crate::planes::{CellBytes, bytes_of, first_gap};
 
 /// How many cells of a row are held at the least behind those that are written, since what is
 /// written next mostly stands there. With one cell written, one blend fills them.
@@ -21,7 +20,7 @@ pub(crate) fn row_start<P: RowPlanes>(grid: &P, row: usize) -> usize
     ensures start { result ≡ row * (P.planes_of grid.now).width }
     ensures end { result + (P.planes_of grid.now).width ≤ (P.planes_of grid.now).width * (P.planes_of grid.now).rows }
 {
-    row * grid.width()
+    row * grid.frame().width
 }
 
 /// The row as this round holds it. If it holds no cell, what it holds begins and ends at `at`.
@@ -47,7 +46,7 @@ pub(crate) fn held_row<P: RowPlanes>(grid: &P, row: usize, at: usize) -> Row
         };
     }
     let start = row_start(grid, row);
-    let stop = start + grid.width();
+    let stop = start + grid.frame().width;
     let first = first.max(start).min(stop);
     let end = end.max(first).min(stop);
     Row {
@@ -71,6 +70,27 @@ fn mark_known<P: RowPlanes>(grid: &mut P, held: Row, known: bool)
     }
 }
 
+/// Writes a cell's bytes to the cells from `from` up to and without `to`, in the planes that count.
+#[inline(always)]
+pub(crate) fn fill_planes<P: RowPlanes>(
+    grid: &mut P,
+    from: usize,
+    to: usize,
+    bytes: CellBytes,
+    known: bool,
+)
+    requires ordered { from ≤ to }
+    requires within { to ≤ (P.planes_of grid.old).width * (P.planes_of grid.old).rows }
+    requires known { known ≡ true → (bytes.glyph_known ≡ 0xFF) × (bytes.bits_known ≡ 0xFF) }
+    ensures { AreFilled (P.planes_of grid.old) (P.planes_of grid.new) known from to
+        bytes.glyph bytes.glyph_known bytes.bits_known bytes.value }
+{
+    grid.fill_shown(from, to, bytes.glyph, bytes.value);
+    if !known {
+        grid.fill_known(from, to, bytes.glyph_known, bytes.bits_known);
+    }
+}
+
 /// Writes the blank to the cells from `from` up to and without `to`, if there are any, in the
 /// planes that count.
 fn write_blank<P: RowPlanes>(grid: &mut P, from: usize, to: usize, known: bool)
@@ -79,13 +99,9 @@ fn write_blank<P: RowPlanes>(grid: &mut P, from: usize, to: usize, known: bool)
     ensures blanks { HasBlanks (state_of known) (P.planes_of grid.old) (P.planes_of grid.new) from to }
     ensures same { SameRows (P.planes_of grid.old) (P.planes_of grid.new) }
 {
-    if to <= from {
-        return;
-    }
-    let blank = bytes_of(grid.blank());
-    grid.fill_shown(from, to, blank.glyph, blank.value);
-    if !known {
-        grid.fill_known(from, to, blank.glyph_known, blank.bits_known);
+    if from < to {
+        let blank = bytes_of(grid.frame().blank);
+        fill_planes(grid, from, to, blank, known);
     }
 }
 
@@ -100,7 +116,7 @@ fn stop_ahead<P: RowPlanes>(grid: &P, row: usize, held: Row, to: usize) -> usize
 {
     let more = held.end.saturating_sub(held.first).max(AHEAD);
     to.saturating_add(more)
-        .min(row_start(grid, row) + grid.width())
+        .min(row_start(grid, row) + grid.frame().width)
 }
 
 /// Has a row that holds no cell hold those from `from` up to and without `to`, and 16 at least, as
@@ -119,7 +135,7 @@ fn begin<P: RowPlanes>(grid: &mut P, row: usize, from: usize, to: usize, known: 
     let start = row_start(grid, row);
     let stop = to
         .max(from.saturating_add(AHEAD + 1))
-        .min(start + grid.width());
+        .min(start + grid.frame().width);
     write_blank(grid, from, stop, known);
     grid.hold(row, known, from, stop);
 }
@@ -174,7 +190,7 @@ pub(crate) fn open<P: RowPlanes>(
     if holds(grid, held, from, to) && (known || !held.known) {
         held.known
     } else {
-        widen(grid, row, from, to, known && grid.blank().is_known())
+        widen(grid, row, from, to, known && grid.frame().blank.is_known())
     }
 }
 
@@ -183,50 +199,6 @@ fn holds<P: RowPlanes>(grid: &P, held: Row, from: usize, to: usize) -> bool
     ensures { IsTrue result → (held.round ≡ (P.planes_of grid.now).round) × (held.first ≤ from) × (to ≤ held.end) }
 {
     held.round == grid.round() && held.first <= from && to <= held.end
-}
-
-/// Makes the cells of a row from `from` up to and without `to` this one.
-#[inline(always)]
-pub(crate) fn fill_part<P: RowPlanes>(
-    grid: &mut P,
-    row: usize,
-    from: usize,
-    to: usize,
-    cell: HalfCell,
-)
-    requires row { row < (P.planes_of grid.old).rows }
-    requires ordered { from ≤ to }
-    requires start { row * (P.planes_of grid.old).width ≤ from }
-    requires end { to ≤ row * (P.planes_of grid.old).width + (P.planes_of grid.old).width }
-    ensures cells { cells_of_grid (P.planes_of grid.new) ≡ filled (cells_of_grid (P.planes_of grid.old)) from to cell }
-    ensures width { (P.planes_of grid.new).width ≡ (P.planes_of grid.old).width }
-    ensures rows { (P.planes_of grid.new).rows ≡ (P.planes_of grid.old).rows }
-{
-    let bytes = bytes_of(cell);
-    let known = open(grid, row, from, to, bytes.is_known());
-    grid.fill_shown(from, to, bytes.glyph, bytes.value);
-    if !known {
-        grid.fill_known(from, to, bytes.glyph_known, bytes.bits_known);
-    }
-}
-
-/// Makes the cells from `from` up to and without `to` this one, row by row.
-#[inline(never)]
-pub(crate) fn fill_rows<P: RowPlanes>(grid: &mut P, from: usize, to: usize, cell: &HalfCell)
-    requires ordered { from < to }
-    requires within { to ≤ (P.planes_of grid.old).width * (P.planes_of grid.old).rows }
-    ensures cells { cells_of_grid (P.planes_of grid.new)
-        ≡ filled (cells_of_grid (P.planes_of grid.old)) from to cell.now }
-    ensures width { (P.planes_of grid.new).width ≡ (P.planes_of grid.old).width }
-    ensures rows { (P.planes_of grid.new).rows ≡ (P.planes_of grid.old).rows }
-{
-    let columns = grid.width();
-    let last = (to - 1) / columns;
-    for row in from / columns..last + 1 {
-        let start = row_start(grid, row);
-        let end = to.min(start + columns);
-        fill_part(grid, row, from.max(start), end, *cell);
-    }
 }
 
 /// The first cell of a row before `to` that is not known.
@@ -240,13 +212,13 @@ pub(crate) fn first_unknown_of_row<P: RowPlanes>(grid: &P, row: usize, to: usize
     let held = held_row(grid, row, start);
     let first = held.first.min(to);
     let end = held.end.min(to);
-    if start < first && !grid.blank().is_known() {
+    if start < first && !grid.frame().blank.is_known() {
         return Some(start);
     }
     if let Some(i) = first_unknown_held(grid, first, end, held.known) {
         return Some(i);
     }
-    if end < to && !grid.blank().is_known() {
+    if end < to && !grid.frame().blank.is_known() {
         return Some(end);
     }
     None
@@ -259,7 +231,10 @@ fn first_gap_from<P: RowPlanes>(grid: &P, from: usize, to: usize) -> Option<usiz
     ensures { IsFirstGap (slice_range (P.planes_of grid.now).glyphs_known from to)
         (slice_range (P.planes_of grid.now).bits_known from to) (to - from) result }
 {
-    match (grid.glyphs_known(from, to), grid.bits_known(from, to)) {
+    match (
+        grid.known_part(Part::Glyph, from, to),
+        grid.known_part(Part::Attribute, from, to),
+    ) {
         (Some(glyphs_known), Some(bits_known)) => first_gap(glyphs_known, bits_known, to - from),
         _ if from < to => Some(0),
         _ => None,

@@ -75,8 +75,9 @@ fn told_of_bytes(
 }
 
 /// Asserts that after the content before them, the bytes begin with a token of this length that is
-/// taken whole, and that the scanner then goes on as after the token's bytes.
-fn assert_taken(
+/// taken whole, or with none where the length is 0, and that the scanner then answers to what comes
+/// as after the token's bytes.
+fn assert_whole(
     rt: &impl Abort,
     alloc: Global,
     before: &[u8],
@@ -87,32 +88,15 @@ fn assert_taken(
     let mut by_bytes = Scanner::new();
     assert_same(rt, alloc, &mut scanner, &mut by_bytes, before)?;
     let token = take_whole(rt, &mut scanner, bytes);
-    assert!(rt; token.is_some(), "{bytes:?} is declined");
+    assert_eq!(rt; token.is_some(), length > 0, "in {bytes:?}");
     let whole = told(alloc, &token)?;
     assert!(rt; length <= bytes.len());
     let last = told_of_bytes(rt, alloc, &mut by_bytes, &bytes[..length])?;
     assert_eq!(rt; whole.as_str(), last.as_str(), "in {bytes:?}");
     assert_eq!(rt; scanner.offset(), by_bytes.offset());
-    assert_eq!(rt; scanner.is_between_tokens(), by_bytes.is_between_tokens());
+    assert!(rt; scanner.is_between_tokens() && by_bytes.is_between_tokens());
+    assert_same(rt, alloc, &mut scanner, &mut by_bytes, &bytes[length..])?;
     assert_same(rt, alloc, &mut scanner, &mut by_bytes, b"!\x1b[1;2H\x1b[")
-}
-
-/// Asserts that after the content before them, the bytes are not taken whole, and that the scanner
-/// then answers to each as ever.
-fn assert_declined(
-    rt: &impl Abort,
-    alloc: Global,
-    before: &[u8],
-    bytes: &[u8],
-) -> Result<(), AllocError> {
-    let mut scanner = Scanner::new();
-    let mut by_bytes = Scanner::new();
-    assert_same(rt, alloc, &mut scanner, &mut by_bytes, before)?;
-    let token = take_whole(rt, &mut scanner, bytes);
-    assert!(rt; token.is_none(), "{bytes:?} is taken");
-    assert_eq!(rt; scanner.offset(), by_bytes.offset());
-    assert!(rt; scanner.is_between_tokens());
-    assert_same(rt, alloc, &mut scanner, &mut by_bytes, bytes)
 }
 
 /// Contents that end after a token.
@@ -164,8 +148,8 @@ fn common_sequences_are_taken(rt: HostRuntime) -> Result<(), Fail> {
     for (bytes, length) in TAKEN {
         assert!(rt; length <= bytes.len());
         for before in BEFORE {
-            assert_taken(&rt, rt.alloc(), before, bytes, length)?;
-            assert_taken(&rt, rt.alloc(), before, &bytes[..length], length)?;
+            assert_whole(&rt, rt.alloc(), before, bytes, length)?;
+            assert_whole(&rt, rt.alloc(), before, &bytes[..length], length)?;
         }
     }
     Ok(())
@@ -176,8 +160,8 @@ fn each_byte_outside_sequences_is_taken(rt: HostRuntime) -> Result<(), Fail> {
     for byte in 0..=u8::MAX {
         if byte != 0x1B {
             for before in BEFORE {
-                assert_taken(&rt, rt.alloc(), before, &[byte], 1)?;
-                assert_taken(&rt, rt.alloc(), before, &[byte, 0x1B, b'[', b'm'], 1)?;
+                assert_whole(&rt, rt.alloc(), before, &[byte], 1)?;
+                assert_whole(&rt, rt.alloc(), before, &[byte, 0x1B, b'[', b'm'], 1)?;
             }
         }
     }
@@ -218,7 +202,7 @@ const DECLINED: [&[u8]; 26] = [
 fn other_forms_are_declined(rt: HostRuntime) -> Result<(), Fail> {
     for bytes in DECLINED {
         for before in BEFORE {
-            assert_declined(&rt, rt.alloc(), before, bytes)?;
+            assert_whole(&rt, rt.alloc(), before, bytes, 0)?;
         }
     }
     Ok(())
@@ -230,9 +214,9 @@ fn cut_sequences_are_declined(rt: HostRuntime) -> Result<(), Fail> {
     let texts: [&[u8]; 4] = [b"\x1b[m", b"\x1b[12;5H", b"\x1b[?07;255h", b"\x1b[;;1m"];
     for text in texts {
         for cut in 0..text.len() {
-            assert_declined(&rt, rt.alloc(), b"a", &text[..cut])?;
+            assert_whole(&rt, rt.alloc(), b"a", &text[..cut], 0)?;
         }
-        assert_taken(&rt, rt.alloc(), b"a", text, text.len())?;
+        assert_whole(&rt, rt.alloc(), b"a", text, text.len())?;
     }
     Ok(())
 }
@@ -252,8 +236,8 @@ fn many_digits(alloc: Global, digit: u8, end: &[u8]) -> Result<Vec<u8>, AllocErr
 #[test]
 fn a_thousand_digits(rt: HostRuntime) -> Result<(), Fail> {
     let zeros = many_digits(rt.alloc(), b'0', b"5C")?;
-    assert_taken(&rt, rt.alloc(), b"a", &zeros, 1004)?;
+    assert_whole(&rt, rt.alloc(), b"a", &zeros, 1004)?;
     let nines = many_digits(rt.alloc(), b'9', b"C")?;
-    assert_declined(&rt, rt.alloc(), b"a", &nines)?;
+    assert_whole(&rt, rt.alloc(), b"a", &nines, 0)?;
     Ok(())
 }

@@ -1,32 +1,17 @@
-use Rattle.std.proofs.Common.{◌≡◌, ℕ, ◌*◌, ◌++◌, List, map, take, drop, set, arith, ap, sym, ◌∙◌}
-use Rattle.std.proofs.lemmas.Option.{get_or_from_slice_get}
+use Rattle.std.proofs.Common.{arith, ap, ℕ, ◌*◌}
 use Rattle.ans_screen.specs.HalfCells.{attribute_byte}
-use Rattle.ans_screen.proofs.Copies.{copied_from, copied_whole}
-use Rattle.ans_screen.proofs.Places.{row_end}
+use Rattle.ans_screen.proofs.Copies.{in_row, copied_in_row, copied_whole}
 use Rattle.ans_screen.proofs.grid.Grid.copy_attributes.Goals as goal
 
 pub get-requires : goal.get-requires
 get-requires g c =
-    let whole = g.met.Self.Grid.whole c.args.self.now in
-    let w = g.Self.Grid.width_of c.args.self.now in
-    let start : c.args.row * c.width.result ≡ c.args.row * w = ap (λ (n : ℕ). c.args.row * n) c.width.ensures in
-    omega (arith, whole, row_end w c.args.row (g.Self.Grid.rows_of c.args.self.now) c.requires.row, start)
+    in_row _ _ _ _ c.loop-i.i _ c.width.ensures (g.met.Self.Grid.whole c.args.self.now) c.requires.row (omega arith)
 
 pub loop-i-preserved : goal.loop-i-preserved
 loop-i-preserved g c =
-    let cells = g.Self.Grid.cells_of c.args.self.now in
-    let from = c.args.row * c.width.result in
-    let whole = g.met.Self.Grid.whole c.args.self.now in
-    let w = g.Self.Grid.width_of c.args.self.now in
-    let start : from ≡ c.args.row * w = ap (λ (n : ℕ). c.args.row * n) c.width.ensures in
-    let before : c.loop-i.values ≡ map attribute_byte (take c.loop-i.i (drop from cells))
-    ++ drop c.loop-i.i c.args.values.now =
-    c.loop-i.invariant in
-    ap (λ (zs : List ℕ). set zs c.loop-i.i c.attribute_byte.result) before
-    ∙ copied_from attribute_byte cells c.args.values.now from c.loop-i.i c.get.result c.attribute_byte.result
-    (sym (get_or_from_slice_get cells _ _ _ c.get.ensures)) c.attribute_byte.ensures
-    (omega (arith, whole, row_end w c.args.row (g.Self.Grid.rows_of c.args.self.now) c.requires.row, start))
-    (omega arith)
+    copied_in_row attribute_byte (g.Self.Grid.cells_of c.args.self.now) _ _ _ _ c.loop-i.i c.loop-i.values
+    c.args.values.now c.get.result _ c.width.ensures (g.met.Self.Grid.whole c.args.self.now) c.requires.row
+    c.requires.width (omega arith) c.loop-i.invariant c.get.ensures c.attribute_byte.ensures
 
 pub returns : goal.returns
 returns g c =

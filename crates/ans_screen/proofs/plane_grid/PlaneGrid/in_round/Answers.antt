@@ -8,9 +8,10 @@ use Rattle.ans_screen.proofs.plane_grid.PlaneGrid.in_round.Goals as goal
 
 pub returns-clause-cells : goal.returns-clause-cells
 returns-clause-cells c =
-    let held : c.in_ok-held.held.items ≡ replicate c.args.rows never_written = search rules in
+    let held : c.in_ok-held.held.items ≡ replicate c.args.frame.rows never_written = search rules in
     let P = λ (row : Row). row.round < c.args.round in
-    all_blank c.args.width c.args.rows c.args.round c.in_ok-held.held.items c.args.cell c.in_ok-glyphs.glyphs.items
+    all_blank c.args.frame.width c.args.frame.rows c.args.round c.in_ok-held.held.items c.args.frame.blank
+    c.in_ok-glyphs.glyphs.items
     c.in_ok-glyphs_known.glyphs_known c.in_ok-bits_known.bits_known c.in_ok-values.values.items c.requires.some_width
-    (rw held (length-replicate c.args.rows never_written))
-    (rw held (All-replicate P c.args.rows never_written (omega arith)))
+    (rw held (length-replicate c.args.frame.rows never_written))
+    (rw held (All-replicate P c.args.frame.rows never_written (omega arith)))

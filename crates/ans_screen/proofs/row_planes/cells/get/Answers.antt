@@ -9,9 +9,9 @@ pub returns-then-i-held : goal.returns-then-i-held
 returns-then-i-held o c =
     let g = o.P.RowPlanes.planes_of c.args.grid.now in
     let i = c.args.i in
-    let held = rw c.width.ensures at c.held_row-held.ensures in
+    let held = rw c.frame.ensures.width at c.held_row-held.ensures in
     let place = places_of g.width (i / g.width) i g.some_width refl in
-    read_cell g (omega (arith, length_grid g)) (c.blank.ensures
+    read_cell g (omega (arith, length_grid g)) (c.frame-then-i-held.ensures.blank
     ∙ sym (cell_in_state g Stale i (elim c.then-i-held.either [
       | inl before ↦ held.before i place.0 before
       | inr past ↦ held.after i past.1 place.1

@@ -4,9 +4,9 @@ use Rattle.std.proofs.lemmas.List.{length-take-le}
 use Rattle.ans_model.specs.Screen.Step.{filled}
 use Rattle.ans_screen.specs.KnownBits.{KnownBits, known_bits}
 use Rattle.ans_screen.specs.GridEdits.{written, printed_run}
-use Rattle.ans_screen.specs.RowCells.{Planes, SameRows, cells_of_grid}
+use Rattle.ans_screen.specs.RowCells.{Planes, SameRows, AreMarked, cells_of_grid}
 use Rattle.ans_screen.specs.declared.cell.HalfCell.{HalfCell}
-use Rattle.ans_screen.proofs.RowEdits.{AreMarked, run_shown, cells_by}
+use Rattle.ans_screen.proofs.RowEdits.{run_shown}
 use Rattle.ans_screen.proofs.Widened.{same_both}
 use Rattle.ans_screen.proofs.row_planes.cells.write_run.Goals as goal
 use Rattle.ans_screen.proofs.row_planes.cells.write_run.Given.{Over}
@@ -17,30 +17,27 @@ written_so : (o : Over) (c : After-write_shown o) (n : Planes)
     → SameRows (o.P.RowPlanes.planes_of c.open-known.new.grid) n
     → n.glyphs ≡ (o.P.RowPlanes.planes_of c.write_shown.new.self).glyphs
     → n.values ≡ (o.P.RowPlanes.planes_of c.write_shown.new.self).values
-    → AreMarked (o.P.RowPlanes.planes_of c.open-known.new.grid) c.open-known.result n.glyphs_known n.bits_known
+    → AreMarked (o.P.RowPlanes.planes_of c.open-known.new.grid) n c.open-known.result
     (c.row_start.result + c.args.column) (c.row_start.result + c.args.column + c.args.count) 0xFF c.attr.inside.known
     → cells_of_grid n
     ≡ written (cells_of_grid (o.P.RowPlanes.planes_of c.args.grid.now))
     (c.args.row * (o.P.RowPlanes.planes_of c.args.grid.now).width + c.args.column)
     (printed_run c.args.attr (take c.args.count c.args.bytes.now))
 written_so o c n same glyphs values marks =
-    let old = o.P.RowPlanes.planes_of c.args.grid.now in
     let g = o.P.RowPlanes.planes_of c.open-known.new.grid in
     let opened = c.open-known.ensures in
     let run = take c.args.count c.args.bytes.now in
     let long : length run ≡ c.args.count = length-take-le c.args.count c.args.bytes.now c.requires.count in
     let from = c.row_start.result + c.args.column in
-    let to = from + c.args.count in
-    let within : to ≤ old.width * old.rows = omega (arith, c.row_start.ensures.end) in
-    let room : to ≤ g.width * g.rows = rw (opened.same.width, opened.same.rows) within in
+    let room : from + c.args.count ≤ g.width * g.rows =
+    rw (opened.same.width, opened.same.rows) (omega (arith, c.row_start.ensures.end)) in
     let attr : known_bits c.attr.inside.known (bit_and c.attr.inside.value c.attr.inside.known) ≡ c.args.attr =
     ap (λ (x : ℕ). known_bits c.attr.inside.known x) c.attr.invariant.within ∙ c.attr.view_is in
-    rw c.row_start.ensures.start at (cells_by g n same
-    ∙ (run_shown g from to c.open-known.result n.glyphs n.glyphs_known n.bits_known n.values 0xFF c.attr.inside.known
-    c.attr.inside.value (omega arith) room (values ∙ c.write_shown.ensures.values) marks opened.held run (omega arith)
-    (glyphs ∙ c.write_shown.ensures.glyphs)
+    rw c.row_start.ensures.start at
+    (run_shown 0xFF c.attr.inside.known c.attr.inside.value same (omega arith) room
+    (values ∙ c.write_shown.ensures.values) marks opened.held run (omega arith) (glyphs ∙ c.write_shown.ensures.glyphs)
     ∙ (ap (λ (a : KnownBits). written (cells_of_grid g) from (printed_run a run)) attr
-    ∙ ap (λ (cells : List HalfCell). written cells from (printed_run c.args.attr run)) opened.same.cells)))
+    ∙ ap (λ (cells : List HalfCell). written cells from (printed_run c.args.attr run)) opened.same.cells))
 
 pub returns-then-not-known-clause-cells : goal.returns-then-not-known-clause-cells
 returns-then-not-known-clause-cells o c =
@@ -67,8 +64,7 @@ returns-else-not-known-clause-cells o c =
     (o.P.RowPlanes.planes_of c.write_shown.new.self) before.same refl refl
     (inr (
       c.if-not-known.false,
-      before.known.glyphs_known,
-      before.known.bits_known,
+      before.known,
       refl,
       attr ∙ eqb-true c.args.attr.known 0xFF (sym c.is_known.ensures ∙ whole),
     ))

@@ -1,10 +1,9 @@
-use Rattle.std.proofs.Common.{◌≡◌, inl, inr, refl, ◌∷◌, []}
+use Rattle.std.proofs.Common.{◌≡◌, refl, ◌∷◌, []}
 use Rattle.ans_model.specs.Bytes.{escape, bracket}
-use Rattle.ans_model.specs.Inside.OpenPart.{raw_of}
 use Rattle.ans_model.proofs.AfterPart.{part_unfinished}
 use Rattle.ans_tokens.specs.Unfinished.{empty_part}
 use Rattle.ans_tokens.proofs.OpenLemmas.{empty_part_spells, bracket_unfinished, escape_unfinished, escape_refused}
-use Rattle.ans_tokens.proofs.OpenLemmas.{broken}
+use Rattle.ans_tokens.proofs.OpenLemmas.{broken, means_token, means_none}
 use Rattle.ans_tokens.proofs.scanner.Open.take.Goals as goal
 
 pub returns-else-byte-ne-ESCAPE-clause-spelled : goal.returns-else-byte-ne-ESCAPE-clause-spelled
@@ -40,12 +39,10 @@ pub returns-in-Ok-clause-spelled : goal.returns-in-Ok-clause-spelled
 returns-in-Ok-clause-spelled c y held =
     let part = rw c.in-Sequence.is at held in
     let out = c.in-Letter.ensures part.0 y part.1 part.2 in
-    let means = c.in-Ok.ensures part.0 out.0 (out.1, out.2.loose.not_one_omitted) in
-    inr (record { raw = raw_of part.0 c.args.byte; spelled = out.2; means = means })
+    means_token out.2 (c.in-Ok.ensures part.0 out.0 (out.1, out.2.loose.not_one_omitted))
 
 pub returns-in-Err-clause-spelled : goal.returns-in-Err-clause-spelled
 returns-in-Err-clause-spelled c y held =
     let part = rw c.in-Sequence.is at held in
     let out = c.in-Letter.ensures part.0 y part.1 part.2 in
-    let means = c.in-Err.ensures part.0 out.0 (out.1, out.2.loose.not_one_omitted) in
-    inl (record { raw = raw_of part.0 c.args.byte; spelled = out.2; means = means })
+    means_none out.2 (c.in-Err.ensures part.0 out.0 (out.1, out.2.loose.not_one_omitted))

@@ -1,7 +1,7 @@
 use Rattle.std.proofs.Common.{◌≡◌, ◌*◌, min, max}
 use Rattle.ans_model.specs.Screen.Step.{filled}
 use Rattle.ans_screen.specs.RowCells.{cells_of_grid}
-use Rattle.ans_screen.proofs.row_planes.rows.fill_rows.Given as goal
+use Rattle.ans_screen.proofs.row_planes.cells.fill_rows.Given as goal
 
 -- the cells of the rows so far are filled
 abbrev pub invariant-loop-row : goal.invariant-loop-row
