@@ -106,7 +106,7 @@ fn expect_end_at_write(
             assert_eq!(rt; writer.calls(), fails_at);
             let device = writer.into_inner();
             assert_eq!(rt; device.calls(), fails_at);
-            assert_eq!(rt; device.device().held(), written);
+            assert_eq!(rt; device.device.held(), written);
             return;
         }
     }

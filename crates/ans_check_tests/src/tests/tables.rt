@@ -483,7 +483,7 @@ fn expect_end_at_write(
         FailingOnce::after(taken),
         errors,
     );
-    if may_have_met_refusal(ending, device.device().held()) {
+    if may_have_met_refusal(ending, device.device.held()) {
         let errors = Narrow::new(4096);
         (ending, device, _) = answer_on(rt, words, shelf, FailingOnce::after(taken), errors);
     }
@@ -492,8 +492,8 @@ fn expect_end_at_write(
         "after {taken}"
     );
     assert_eq!(rt; device.calls(), (taken as u64).saturating_add(1));
-    assert_eq!(rt; device.device().held().len(), taken);
-    assert!(rt; is_front_of(device.device().held(), table));
+    assert_eq!(rt; device.device.held().len(), taken);
+    assert!(rt; is_front_of(device.device.held(), table));
 }
 
 #[test]
