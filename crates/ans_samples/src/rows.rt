@@ -283,3 +283,20 @@ pub static MISPLACED: [Row; 8] = rows! {
     any(2 x 1, b"x\x1b[3") => refused(0, PrintUnknownPlace);
     cleared(2 x 1, b"\x1b[Bx") => refused(3, PrintBelow);
 };
+
+/// All tables, in their order.
+pub fn tables() -> [&'static [Row]; 11] {
+    [
+        &BYTES,
+        &TABS,
+        &PARTS_KNOWN,
+        &PASSES_FROM_ANY,
+        &PASSES_FROM_CLEARED,
+        &COLOURS,
+        &BROKEN,
+        &WITHOUT_MEANING,
+        &FORBIDDEN,
+        &UNKNOWN_CELLS,
+        &MISPLACED,
+    ]
+}
