@@ -217,7 +217,7 @@ static RECORDS: [(&[(usize, &[u8])], &str); 5] = [
     ),
 ];
 
-/// Asserts what the table of a file without a line of names is.
+/// Asserts the row, or the object, of a file that is made so.
 fn expect_row(
     rt: &(impl Abort + AllocGlobal),
     words: &[&str],
@@ -293,36 +293,26 @@ static FORMS: [(&[&str], &[&str]); 3] = words! {
 /// What standard input gives: the names of [`FORMS`].
 const NAMES: Stored<'_> = Bytes(b"hi.ans\0gone\0abc");
 
-/// Asserts that a table with so much room is cut off.
-fn expect_cut_off(
-    rt: &(impl Abort + AllocGlobal),
-    words: &[&str],
-    shelf: Shelf<'_>,
-    room: usize,
-    table: &[&str],
-) {
-    let answered = answer_once(rt, words, shelf, (room, 4096));
-    let said: &[u8] = b"anscheck: cannot write the report\n";
-    assert!(rt; answered.ending == Ending::Run(Err(RunError::Write)));
-    assert_eq!(rt; answered.output.held().len(), room);
-    assert!(rt; is_front_of(answered.output.held(), table));
-    assert_eq!(rt; answered.errors.held(), said);
-}
-
-/// Asserts that a table ends at the one write that fails, behind so many bytes, and does not ask the
-/// device again.
-fn expect_end_at_write(
+/// Asserts that a table ends where the device has room for so many bytes, and at the one write that
+/// fails behind as many. The device is not asked again.
+fn expect_front(
     rt: &(impl Abort + AllocGlobal),
     words: &[&str],
     shelf: Shelf<'_>,
     taken: usize,
     table: &[&str],
 ) {
+    let ended = Ending::Run(Err(RunError::Write));
+    let answered = answer_once(rt, words, shelf, (taken, 4096));
+    let said: &[u8] = b"anscheck: cannot write the report\n";
+    assert!(rt; answered.ending == ended);
+    assert_eq!(rt; answered.output.held().len(), taken);
+    assert!(rt; is_front_of(answered.output.held(), table));
+    assert_eq!(rt; answered.errors.held(), said);
     let mut answered = answer_on(rt, words, shelf, FailingOnce::after(taken), 4096);
     if may_have_met_refusal(answered.ending, answered.output.device.held()) {
         answered = answer_on(rt, words, shelf, FailingOnce::after(taken), 4096);
     }
-    let ended = Ending::Run(Err(RunError::Write));
     assert!(rt; answered.ending == ended, "after {taken}");
     assert_eq!(rt; answered.output.calls(), (taken as u64).saturating_add(1));
     assert_eq!(rt; answered.output.device.held().len(), taken);
@@ -337,8 +327,7 @@ fn expect_fronts(
     table: &[&str],
 ) {
     for taken in 0..length_of(table) {
-        expect_cut_off(rt, words, shelf, taken, table);
-        expect_end_at_write(rt, words, shelf, taken, table);
+        expect_front(rt, words, shelf, taken, table);
     }
 }
 
