@@ -25,8 +25,9 @@ CAUSES = ["NoRecord", "WrongVersion", "WrongKind", "CommentsMissing", "LinesUnst
           "OutsideScreen", "PrintBelow", "Scrolls", "PrintUnknownPlace", "EraseUnknownPlace", "MayScroll",
           "UnknownCell"]
 GROUP = re.compile(r"/// ([^\n]*)\npub static (\w+): \[Row; \d+\] = rows! \{\n(.*?)\n\};", re.DOTALL)
-ROW = re.compile(r'^ {4}(any|cleared|known [a-z ]+?) (\d+) x (\d+), (b"(?:[^"\\]|\\.)*")\s*=> (shows|refused)\((.*?)\);$',
-                 re.MULTILINE | re.DOTALL)
+ROW = re.compile(r'^ {4}(any|cleared|known [a-z ]+?)\((\d+) x (\d+), (b"(?:[^"\\]|\\.)*")\)'
+                 r'\s*=> (shows|refused)\((.*?)\);$', re.MULTILINE | re.DOTALL)
+SHOWN = re.compile(r'(b".*?")(?:, \[(.*)\])?', re.DOTALL)
 
 
 def ans_file(content, width, lines):
@@ -69,9 +70,9 @@ def is_told(told, word, rest):
         offset, cause, *place = re.findall(r"\w+", rest)
         cell = f" (row {place[0]}, column {place[1]})" if place else ""
         return told.startswith(f"at {offset}: F{CAUSES.index(cause) + 1} ") and told.endswith(cell + "\n")
-    literal, _, attributes = rest.rpartition(", [")
+    literal, attributes = SHOWN.fullmatch(rest).groups("")
     cells = bytes.fromhex(told.replace("\n", ""))
-    wanted = bytes(int(a, 0) for a in attributes.rstrip("]").split(",") if a.strip())
+    wanted = bytes(int(a, 0) for a in attributes.split(",") if a.strip())
     return cells[::2] == ast.literal_eval(literal) and wanted in (b"", cells[1::2])
 
 

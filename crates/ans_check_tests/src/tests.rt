@@ -3,6 +3,37 @@
 ghost use Rattle.std.specs.Prelude.{◌≡◌, false};
 ghost use Rattle.ans_write.specs.Tried.{has_failed};
 
+/// A table: files by their size and their content, and what is expected of each.
+macro_rules! files {
+    ($(file($width:literal x $lines:literal, $content:literal) => $($expected:expr),+;)*) => {
+        [$(($content, $width, $lines, $($expected),+)),*]
+    };
+}
+
+/// Whether files of this verdict pass.
+macro_rules! passes {
+    (pass) => {
+        true
+    };
+    (refused) => {
+        false
+    };
+}
+
+/// A table: files by their size and their content, their verdict, and the text that is written.
+macro_rules! texts {
+    ($(file($width:literal x $lines:literal, $content:literal) => $verdict:ident($text:literal);)*) => {
+        files! { $(file($width x $lines, $content) => passes!($verdict), $text;)* }
+    };
+}
+
+/// A table: the words behind `anscheck`, and what is expected of them.
+macro_rules! words {
+    ($($($word:literal)* => $($expected:expr),+;)*) => {
+        [$((&["anscheck", $($word),*], $($expected),+)),*]
+    };
+}
+
 mod answers;
 mod devices;
 mod endings;
@@ -44,6 +75,12 @@ const CLEARED: Options = Options {
     ..ANY
 };
 
+/// A check from the cleared screen that tells the cells.
+const CELLS: Options = Options {
+    cells: true,
+    ..CLEARED
+};
+
 /// The picture for a terminal, from the cleared screen.
 const SHOW: Options = Options {
     command: Command::Show(Form::Terminal),
@@ -57,6 +94,9 @@ const TOKENS: Options = asked!(Tokens);
 const NEEDS: Options = asked!(Needs);
 
 const WHY: Options = asked!(Why);
+
+/// What the commands but `why` may be asked.
+static COMMANDS: [Options; 7] = [ANY, CLEARED, CELLS, SHOW, SAUCE, TOKENS, NEEDS];
 
 /// The report of a check of `Hi` from the cleared screen.
 const HI_REPORT: &[u8] =
@@ -170,4 +210,15 @@ fn expect_run(
     let ran = run_once(rt, file, options, room);
     assert!(rt; ran.answer == expected);
     assert_eq!(rt; ran.writer.inner().held(), text);
+}
+
+/// A content, its width and lines, whether the file passes, and the text.
+type Text = (&'static [u8], u16, u16, bool, &'static [u8]);
+
+/// Asserts what is written of each file where one thing is asked.
+fn expect_texts(rt: &(impl Abort + AllocGlobal), asked: &Options, rows: &[Text]) {
+    for (content, width, lines, passes, text) in rows {
+        let file = plain_file(rt, content, *width, *lines);
+        expect_run(rt, file.as_slice(), asked, 256, Ok(*passes), text);
+    }
 }

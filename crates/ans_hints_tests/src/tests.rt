@@ -17,92 +17,102 @@ struct Row {
     text: &'static str,
 }
 
+/// The lines of hints, each with how often it comes and where, or with the lines that it speaks of.
+macro_rules! text {
+    (nothing) => { "" };
+    (loose $at:literal) => { concat!("hint: a line feed with no return beside it goes straight down, ", $at, "\n") };
+    (full $at:literal) => { concat!("hint: a full row and a line end take two rows, ", $at, "\n") };
+    (wide $at:literal) => { concat!("hint: a character is in UTF-8, ", $at, ": convert the text to code page 437\n") };
+    (later $at:literal) => {
+        concat!("hint: a sequence has a colour of later terminals (38, 48, 90 to 97 or 100 to 107), ", $at, "\n")
+    };
+    (blinks $at:literal) => {
+        concat!("hint: a character blinks, ", $at, ": for bright backgrounds set the non-blink flag\n")
+    };
+    (later $first:literal blinks $second:literal) => {
+        concat!(
+            "hint: a sequence has a colour of later terminals (38, 48, 90 to 97 or 100 to 107), ", $first, "\n\
+            hint: a character blinks, ", $second, ": for bright backgrounds set the non-blink flag\n"
+        )
+    };
+    (empty $lines:literal) => { concat!("hint: nothing is printed in the ", $lines, "\n") };
+}
+
 macro_rules! rows {
-    ($($width:literal x $lines:literal, $content:literal => $text:literal;)*) => {
+    ($(screen($width:literal x $lines:literal, $content:literal) => $($hint:ident $(($said:literal))?)+;)*) => {
         [$(Row {
             width: $width,
             lines: $lines,
             content: $content,
-            text: $text,
+            text: text!($($hint $($said)?)+),
         }),*]
     };
 }
 
 static LINE_FEEDS: [Row; 8] = rows! {
-    2 x 1, b"Hi" => "";
-    4 x 2, b"ab\r\ncd" => "";
-    4 x 2, b"ab\n\rcd" => "";
-    4 x 2, b"\nab" => "";
-    4 x 2, b"ab\ncd" => "hint: a line feed with no return beside it goes straight down, once, at 2\n";
-    4 x 1, b"ab\n" => "hint: a line feed with no return beside it goes straight down, once, at 2\n";
-    9 x 3, b"a\nb\nc" => "hint: a line feed with no return beside it goes straight down, 2 times, first at 1\n";
-    9 x 3, b"a\r\nb\n\x1b[D\nc" => "hint: a line feed with no return beside it goes straight down, once, at 4\n";
+    screen(2 x 1, b"Hi") => nothing;
+    screen(4 x 2, b"ab\r\ncd") => nothing;
+    screen(4 x 2, b"ab\n\rcd") => nothing;
+    screen(4 x 2, b"\nab") => nothing;
+    screen(4 x 2, b"ab\ncd") => loose("once, at 2");
+    screen(4 x 1, b"ab\n") => loose("once, at 2");
+    screen(9 x 3, b"a\nb\nc") => loose("2 times, first at 1");
+    screen(9 x 3, b"a\r\nb\n\x1b[D\nc") => loose("once, at 4");
 };
 
 static FULL_ROWS: [Row; 8] = rows! {
-    4 x 3, b"abcd\r\nab" => "hint: a full row and a line end take two rows, once, at 4\n";
-    4 x 3, b"abcd\nab" => "hint: a full row and a line end take two rows, once, at 4\n";
-    4 x 3, b"abcd\r\nabcd" => "hint: a full row and a line end take two rows, once, at 4\n";
-    4 x 5, b"abcd\r\nabcd\na\x1b[5;1Ha" => "hint: a full row and a line end take two rows, 2 times, first at 4\n";
-    4 x 2, b"abcd\rab" => "";
-    4 x 2, b"abc\r\nab" => "";
-    4 x 2, b"\x1b[?7labcd\r\nab" => "";
-    4 x 1, b"\x1b[1;4Hd\n" => "hint: a full row and a line end take two rows, once, at 7\n";
+    screen(4 x 3, b"abcd\r\nab") => full("once, at 4");
+    screen(4 x 3, b"abcd\nab") => full("once, at 4");
+    screen(4 x 3, b"abcd\r\nabcd") => full("once, at 4");
+    screen(4 x 5, b"abcd\r\nabcd\na\x1b[5;1Ha") => full("2 times, first at 4");
+    screen(4 x 2, b"abcd\rab") => nothing;
+    screen(4 x 2, b"abc\r\nab") => nothing;
+    screen(4 x 2, b"\x1b[?7labcd\r\nab") => nothing;
+    screen(4 x 1, b"\x1b[1;4Hd\n") => full("once, at 7");
 };
 
 static WIDE_CHARACTERS: [Row; 13] = rows! {
-    9 x 1, b"\xe2\x96\x88" =>
-        "hint: a character is in UTF-8, once, at 0: convert the text to code page 437\n";
-    9 x 1, b"a\xf0\x9f\x98\x80\xe2\x96\x88" =>
-        "hint: a character is in UTF-8, 2 times, first at 1: convert the text to code page 437\n";
-    9 x 1, b"\xed\x9f\xbf\xee\x80\x80\xf4\x8f" =>
-        "hint: a character is in UTF-8, 2 times, first at 0: convert the text to code page 437\n";
-    4 x 2, b"abc\xe2\x96\x88" =>
-        "hint: a character is in UTF-8, once, at 3: convert the text to code page 437\n";
-    9 x 1, b"\xc3\xa9" => "";
-    9 x 1, b"\xe0\x80\x80" => "";
-    9 x 1, b"\xed\xa0\x80" => "";
-    9 x 1, b"\xf0\x8f\xbf\xbf" => "";
-    9 x 1, b"\xf4\x90\x80\x80" => "";
-    9 x 1, b"\xe2\x96" => "";
-    9 x 1, b"\xf0\x9f\x98" => "";
-    9 x 1, b"\xe2\x96\x07\x88" => "";
-    9 x 1, b"\xe2\x1b[0m\x96\x88" => "";
+    screen(9 x 1, b"\xe2\x96\x88") => wide("once, at 0");
+    screen(9 x 1, b"a\xf0\x9f\x98\x80\xe2\x96\x88") => wide("2 times, first at 1");
+    screen(9 x 1, b"\xed\x9f\xbf\xee\x80\x80\xf4\x8f") => wide("2 times, first at 0");
+    screen(4 x 2, b"abc\xe2\x96\x88") => wide("once, at 3");
+    screen(9 x 1, b"\xc3\xa9") => nothing;
+    screen(9 x 1, b"\xe0\x80\x80") => nothing;
+    screen(9 x 1, b"\xed\xa0\x80") => nothing;
+    screen(9 x 1, b"\xf0\x8f\xbf\xbf") => nothing;
+    screen(9 x 1, b"\xf4\x90\x80\x80") => nothing;
+    screen(9 x 1, b"\xe2\x96") => nothing;
+    screen(9 x 1, b"\xf0\x9f\x98") => nothing;
+    screen(9 x 1, b"\xe2\x96\x07\x88") => nothing;
+    screen(9 x 1, b"\xe2\x1b[0m\x96\x88") => nothing;
 };
 
 static COLOURS: [Row; 8] = rows! {
-    9 x 1, b"\x1b[37;90mA\x1b[48m\x1b[107;38m" =>
-        "hint: a sequence has a colour of later terminals (38, 48, 90 to 97 or 100 to 107), 3 times, first at 0\n";
-    9 x 1, b"A\x1b[97;100m" =>
-        "hint: a sequence has a colour of later terminals (38, 48, 90 to 97 or 100 to 107), once, at 1\n";
-    9 x 1, b"A\x1b[37;39;47;49;89;98;99;108m" => "";
-    9 x 1, b"\x1b[5mab\x1b[0mc" =>
-        "hint: a character blinks, 2 times, first at 4: for bright backgrounds set the non-blink flag\n";
-    3 x 3, b"\x1b[5mabcdefg" =>
-        "hint: a character blinks, 7 times, first at 4: for bright backgrounds set the non-blink flag\n";
-    9 x 1, b"a\x1b[5m\t\x1b[K\x1b[0m" => "";
-    9 x 1, b"\x1b[5ma" =>
-        "hint: a character blinks, once, at 4: for bright backgrounds set the non-blink flag\n";
-    9 x 1, b"\x1b[38;5;208mA" =>
-        "hint: a sequence has a colour of later terminals (38, 48, 90 to 97 or 100 to 107), once, at 0\n\
-        hint: a character blinks, once, at 11: for bright backgrounds set the non-blink flag\n";
+    screen(9 x 1, b"\x1b[37;90mA\x1b[48m\x1b[107;38m") => later("3 times, first at 0");
+    screen(9 x 1, b"A\x1b[97;100m") => later("once, at 1");
+    screen(9 x 1, b"A\x1b[37;39;47;49;89;98;99;108m") => nothing;
+    screen(9 x 1, b"\x1b[5mab\x1b[0mc") => blinks("2 times, first at 4");
+    screen(3 x 3, b"\x1b[5mabcdefg") => blinks("7 times, first at 4");
+    screen(9 x 1, b"a\x1b[5m\t\x1b[K\x1b[0m") => nothing;
+    screen(9 x 1, b"\x1b[5ma") => blinks("once, at 4");
+    screen(9 x 1, b"\x1b[38;5;208mA") => later("once, at 0") blinks("once, at 11");
 };
 
 static EMPTY_ROWS: [Row; 11] = rows! {
-    4 x 3, b"" => "hint: nothing is printed in the last 3 lines\n";
-    4 x 3, b"a" => "hint: nothing is printed in the last 2 lines\n";
-    4 x 3, b"abcde" => "hint: nothing is printed in the last line\n";
-    4 x 3, b"\x1b[3;1Ha" => "";
-    4 x 3, b"\x1b[3;1Ha\x1b[2J" => "";
-    4 x 3, b"a\x1b[3;1H\x1b[K" => "hint: nothing is printed in the last 2 lines\n";
-    9 x 3, b"\t" => "hint: nothing is printed in the last 2 lines\n";
-    4 x 3, b"\t" => "hint: nothing is printed in the last line\n";
-    3 x 3, b"\t" => "";
-    9 x 3, b"\x1b[2;3H\x1b[s\x1b[1;1H\x1b[ua" => "hint: nothing is printed in the last line\n";
-    9 x 9, b"\x1b[4B\x1b[2A\x1b[3C\x1b[D\x08a" => "hint: nothing is printed in the last 6 lines\n";
+    screen(4 x 3, b"") => empty("last 3 lines");
+    screen(4 x 3, b"a") => empty("last 2 lines");
+    screen(4 x 3, b"abcde") => empty("last line");
+    screen(4 x 3, b"\x1b[3;1Ha") => nothing;
+    screen(4 x 3, b"\x1b[3;1Ha\x1b[2J") => nothing;
+    screen(4 x 3, b"a\x1b[3;1H\x1b[K") => empty("last 2 lines");
+    screen(9 x 3, b"\t") => empty("last 2 lines");
+    screen(4 x 3, b"\t") => empty("last line");
+    screen(3 x 3, b"\t") => nothing;
+    screen(9 x 3, b"\x1b[2;3H\x1b[s\x1b[1;1H\x1b[ua") => empty("last line");
+    screen(9 x 9, b"\x1b[4B\x1b[2A\x1b[3C\x1b[D\x08a") => empty("last 6 lines");
 };
 
-/// Asserts the lines of the hints of a content, and of a font.
+/// Asserts the lines of hints, and of a font.
 fn expect_hints(rt: &impl Abort, hints: Hints, font: &[u8], text: &str) {
     let mut device = Tried::new(Narrow::new(4096));
     let mut out = Outbox::new(&mut device);
@@ -111,21 +121,22 @@ fn expect_hints(rt: &impl Abort, hints: Hints, font: &[u8], text: &str) {
     assert_eq!(rt; device.inner().held(), text.as_bytes());
 }
 
+/// Asserts the lines of the hints of a content on a screen of this size, and of a font.
+fn expect_content(
+    rt: &impl Abort,
+    (width, lines): (usize, usize),
+    content: &[u8],
+    font: &[u8],
+    text: &str,
+) {
+    assert!(rt; 1 <= width && width <= 80 && 1 <= lines && lines <= 10 && content.len() < 300);
+    let hints = Hints::of(Size::new(width, lines), false, content, content.len());
+    expect_hints(rt, hints, font, text);
+}
+
 fn expect_rows(rt: &impl Abort, rows: &[Row]) {
     for row in rows {
-        let Row {
-            width,
-            lines,
-            content,
-            text,
-        } = *row;
-        assert!(rt; 1 <= width && width <= 20 && 1 <= lines && lines <= 10 && content.len() < 200);
-        expect_hints(
-            rt,
-            Hints::of(Size::new(width, lines), false, content, content.len()),
-            b"",
-            text,
-        );
+        expect_content(rt, (row.width, row.lines), row.content, b"", row.text);
     }
 }
 
@@ -147,20 +158,17 @@ fn full_rows_of_a_screen(rt: HostRuntime) {
         content[end] = b'\r';
         content[end + 1] = b'\n';
     }
-    expect_hints(
-        &rt,
-        Hints::of(Size::new(80, 5), false, &content, content.len()),
-        b"",
-        "hint: a full row and a line end take two rows, 3 times, first at 84\n",
-    );
+    let text = "hint: a full row and a line end take two rows, 3 times, first at 84\n";
+    expect_content(&rt, (80, 5), &content, b"", text);
 }
 
 #[test]
 fn all_hints_have_an_order(rt: HostRuntime) {
     let content = b"ab\n\x1b[96mc\xe2\x96\x88\x1b[5md\x1b[3;10He\r\n";
-    expect_hints(
+    expect_content(
         &rt,
-        Hints::of(Size::new(10, 6), false, content, content.len()),
+        (10, 6),
+        content,
         b"IBM VGA 866",
         "hint: a line feed with no return beside it goes straight down, once, at 2\n\
             hint: a full row and a line end take two rows, once, at 25\n\
@@ -172,33 +180,23 @@ fn all_hints_have_an_order(rt: HostRuntime) {
     );
 }
 
-/// Contents of which only the first bytes count, and what is said of these.
-static FRONTS: [(&[u8], usize, &str); 8] = [
-    (
-        b"ab\ncd\n",
-        3,
-        "hint: a line feed with no return beside it goes straight down, once, at 2\n",
-    ),
-    (b"ab\n\rcd", 3, ""),
-    (
-        b"abcd\r\n",
-        4,
-        "hint: a full row and a line end take two rows, once, at 4\n",
-    ),
-    (b"abcd\r\n", 3, ""),
-    (b"abcd\r", 4, ""),
-    (
-        b"\xe2\x96\x88",
-        1,
-        "hint: a character is in UTF-8, once, at 0: convert the text to code page 437\n",
-    ),
-    (b"a\xe2\x96", 2, ""),
-    (
-        b"a\xe2\x96\x88\xe2\x96\x88",
-        4,
-        "hint: a character is in UTF-8, once, at 1: convert the text to code page 437\n",
-    ),
-];
+macro_rules! fronts {
+    ($(front($end:literal, $content:literal) => $($hint:ident $(($said:literal))?)+;)*) => {
+        [$(($content, $end, text!($($hint $($said)?)+))),*]
+    };
+}
+
+/// Contents of which only the first bytes count, so many, and what is said of these.
+static FRONTS: [(&[u8], usize, &str); 8] = fronts! {
+    front(3, b"ab\ncd\n") => loose("once, at 2");
+    front(3, b"ab\n\rcd") => nothing;
+    front(4, b"abcd\r\n") => full("once, at 4");
+    front(3, b"abcd\r\n") => nothing;
+    front(4, b"abcd\r") => nothing;
+    front(1, b"\xe2\x96\x88") => wide("once, at 0");
+    front(2, b"a\xe2\x96") => nothing;
+    front(4, b"a\xe2\x96\x88\xe2\x96\x88") => wide("once, at 1");
+};
 
 #[test]
 fn what_stands_behind_tells_of_the_front(rt: HostRuntime) {
@@ -214,13 +212,8 @@ fn what_stands_behind_tells_of_the_front(rt: HostRuntime) {
 
 #[test]
 fn no_glyph_blinks_with_the_flag(rt: HostRuntime) {
-    let content = b"\x1b[5mab";
-    expect_hints(
-        &rt,
-        Hints::of(Size::new(2, 1), true, content, content.len()),
-        b"",
-        "",
-    );
+    let hints = Hints::of(Size::new(2, 1), true, b"\x1b[5mab", 6);
+    expect_hints(&rt, hints, b"", "");
 }
 
 #[test]
@@ -248,10 +241,7 @@ fn fonts_have_their_code_page(rt: HostRuntime) {
     for name in others {
         assert!(rt; has_other_code_page(name), "{name:?}");
     }
-    expect_hints(
-        &rt,
-        Hints::of(Size::new(2, 1), false, b"Hi", 2),
-        b"\x03 Topaz",
-        "hint: the font \u{2665} Topaz is not one of code page 437, so other characters may show\n",
-    );
+    let text =
+        "hint: the font \u{2665} Topaz is not one of code page 437, so other characters may show\n";
+    expect_content(&rt, (2, 1), b"Hi", b"\x03 Topaz", text);
 }

@@ -18,14 +18,18 @@ use std::process::Abort;
 /// The number of classes of starts.
 const CLASSES: u8 = 32;
 
+fn has_bit(number: u8, bit: u8) -> bool {
+    number & bit != 0
+}
+
 /// The class of a number below 32: each bit is a part that is known.
 fn class(number: u8) -> Start {
     Start {
-        screen: number & 1 != 0,
-        cursor: number & 2 != 0,
-        saved: number & 4 != 0,
-        colours: number & 8 != 0,
-        wrap: number & 16 != 0,
+        screen: has_bit(number, 1),
+        cursor: has_bit(number, 2),
+        saved: has_bit(number, 4),
+        colours: has_bit(number, 8),
+        wrap: has_bit(number, 16),
     }
 }
 

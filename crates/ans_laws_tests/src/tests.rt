@@ -11,10 +11,7 @@ use ans_model::fault::{Cause, Fault};
 use ans_model::limits::{MAX_FILE, MAX_LINES, MAX_WIDTH};
 use ans_model::start::Start;
 use ans_samples::rows::Expected::{Refused, Shows};
-use ans_samples::rows::{
-    BROKEN, BYTES, COLOURS, FORBIDDEN, MISPLACED, PARTS_KNOWN, PASSES_FROM_ANY,
-    PASSES_FROM_CLEARED, Row, TABS, UNKNOWN_CELLS, WITHOUT_MEANING,
-};
+use ans_samples::rows::{Row, tables};
 use std::alloc::{AllocError, Global};
 use std::process::Abort;
 
@@ -39,17 +36,23 @@ fn answer_to(
 fn assert_cells(rt: &impl Abort, cells: &[Cell], bytes: &[u8], attributes: &[u8]) {
     assert_eq!(rt; cells.len(), bytes.len());
     assert!(rt; attributes.is_empty() || attributes.len() == bytes.len());
-    for (cell, byte) in cells.iter().zip(bytes) {
-        assert_eq!(rt; cell.byte, *byte);
-    }
-    for (cell, attribute) in cells.iter().zip(attributes) {
-        assert_eq!(rt; cell.attribute, *attribute);
+    for i in 0..cells.len() {
+        assert_eq!(rt; cells[i].byte, bytes[i]);
+        if let Some(attribute) = attributes.get(i) {
+            assert_eq!(rt; cells[i].attribute, *attribute);
+        }
     }
 }
 
 /// Whether the cause is one of the content's end.
 fn is_of_the_end(cause: Cause) -> bool {
     matches!(cause, Cause::EndInSequence | Cause::UnknownCell { .. })
+}
+
+/// Asserts the fault of a content, and whether it is the last one.
+fn assert_fault(rt: &impl Abort, content: &[u8], fault: Fault, expected: Fault, is_last: bool) {
+    assert_eq!(rt; fault, expected, "in {content:?}");
+    assert_eq!(rt; is_of_the_end(fault.cause), is_last);
 }
 
 /// Asserts a row's answer.
@@ -68,12 +71,10 @@ fn expect_answer(rt: &impl Abort, alloc: Global, row: &Row) {
             assert_cells(rt, cells.as_slice(), bytes, attributes);
         }
         (Answer::First(fault), Refused(offset, cause)) => {
-            assert_eq!(rt; fault, Fault { offset, cause }, "in {content:?}");
-            assert!(rt; !is_of_the_end(cause));
+            assert_fault(rt, content, fault, Fault { offset, cause }, false);
         }
         (Answer::Last(fault), Refused(offset, cause)) => {
-            assert_eq!(rt; fault, Fault { offset, cause }, "in {content:?}");
-            assert!(rt; is_of_the_end(cause));
+            assert_fault(rt, content, fault, Fault { offset, cause }, true);
         }
         _ => panic!(rt; "a picture where a fault was expected, or the reverse, in {content:?}"),
     }
@@ -86,56 +87,8 @@ fn expect_answers(rt: &impl Abort, alloc: Global, rows: &[Row]) {
 }
 
 #[test]
-fn bytes_alone(rt: HostRuntime) {
-    expect_answers(&rt, rt.alloc(), &BYTES);
-}
-
-#[test]
-fn tabs(rt: HostRuntime) {
-    expect_answers(&rt, rt.alloc(), &TABS);
-}
-
-#[test]
-fn starts_of_known_parts(rt: HostRuntime) {
-    expect_answers(&rt, rt.alloc(), &PARTS_KNOWN);
-}
-
-#[test]
-fn pictures_from_any_start(rt: HostRuntime) {
-    expect_answers(&rt, rt.alloc(), &PASSES_FROM_ANY);
-}
-
-#[test]
-fn pictures_from_the_cleared_start(rt: HostRuntime) {
-    expect_answers(&rt, rt.alloc(), &PASSES_FROM_CLEARED);
-}
-
-#[test]
-fn pictures_in_colours(rt: HostRuntime) {
-    expect_answers(&rt, rt.alloc(), &COLOURS);
-}
-
-#[test]
-fn broken_sequences(rt: HostRuntime) {
-    expect_answers(&rt, rt.alloc(), &BROKEN);
-}
-
-#[test]
-fn sequences_without_a_meaning(rt: HostRuntime) {
-    expect_answers(&rt, rt.alloc(), &WITHOUT_MEANING);
-}
-
-#[test]
-fn sequences_that_are_not_allowed(rt: HostRuntime) {
-    expect_answers(&rt, rt.alloc(), &FORBIDDEN);
-}
-
-#[test]
-fn cells_that_stay_unknown(rt: HostRuntime) {
-    expect_answers(&rt, rt.alloc(), &UNKNOWN_CELLS);
-}
-
-#[test]
-fn misplaced_tokens(rt: HostRuntime) {
-    expect_answers(&rt, rt.alloc(), &MISPLACED);
+fn rows_are_answered(rt: HostRuntime) {
+    for rows in tables() {
+        expect_answers(&rt, rt.alloc(), rows);
+    }
 }

@@ -8,6 +8,13 @@ macro_rules! rows {
     };
 }
 
+/// A table: the words behind `anscheck`, and what is expected of them.
+macro_rules! words {
+    ($($($word:literal)* => $($expected:expr),+;)*) => {
+        rows! { $("anscheck" $($word)* => $($expected),+;)* }
+    };
+}
+
 mod command_line;
 mod faults;
 mod tables;

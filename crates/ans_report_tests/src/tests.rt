@@ -36,6 +36,14 @@ static SOME_KNOWN: [(Start, &str); 10] = [
     ),
 ];
 
+/// A file of 127 bytes is refused so, and this is all that is told of it.
+const NO_RECORD: Fault = Fault {
+    offset: 127,
+    cause: Cause::NoRecord,
+};
+
+const NO_RECORD_TOLD: &[u8] = b"verdict: refused\nat 127: F1 no SAUCE record\n";
+
 /// The parts of a sample.
 fn parts_of<'a>(rt: &impl Abort, file: &'a [u8]) -> Parts<'a> {
     match split(file) {

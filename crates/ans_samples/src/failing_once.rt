@@ -35,20 +35,23 @@ impl Failure {
 /// calls.
 #[derive(Clone, Copy, Drop)]
 pub struct FailingOnce<D> {
-    device: D,
-    failing_call: u64,
-    failure: Failure,
+    /// The device that the other calls go to.
+    pub device: D,
+    /// The number of the call that fails, counted from 1.
+    pub failing_call: u64,
+    /// How it fails.
+    pub failure: Failure,
     calls: u64,
 }
 
 impl<D> FailingOnce<D> {
-    ghost use Rattle.ans_samples.specs.FailingOnce.{device_of, calls_of, failing_call_of, failure_of};
+    ghost use Rattle.ans_samples.specs.FailingOnce.{calls_of};
 
     /// A device before its first call. The call of this number, counted from 1, will fail.
     pub fn new(device: D, failing_call: u64, failure: Failure) -> FailingOnce<D>
-        ensures device { device_of result ≡ device }
-        ensures failing_call { failing_call_of result ≡ failing_call }
-        ensures failure { failure_of result ≡ failure }
+        ensures device { result.device ≡ device }
+        ensures failing_call { result.failing_call ≡ failing_call }
+        ensures failure { result.failure ≡ failure }
         ensures calls { calls_of result ≡ 0 }
     {
         FailingOnce {
@@ -57,13 +60,6 @@ impl<D> FailingOnce<D> {
             failure,
             calls: 0,
         }
-    }
-
-    /// The device that the other calls go to.
-    pub fn device(&self) -> &D
-        ensures { result.now ≡ device_of self.now }
-    {
-        &self.device
     }
 
     /// How many calls were made of it. The count stays at the greatest `u64`.
@@ -85,14 +81,14 @@ impl<D> FailingOnce<D> {
 }
 
 impl FailingOnce<Narrow> {
-    ghost use Rattle.ans_samples.specs.FailingOnce.{device_of, calls_of, failing_call_of};
+    ghost use Rattle.ans_samples.specs.FailingOnce.{calls_of};
     ghost use Rattle.ans_samples.specs.Held.{held_of};
 
     /// A device that takes this many bytes, one a call, then fails once, and would then take more. The
     /// ways of failing take turns as the number grows.
     pub fn after(taken: usize) -> FailingOnce<Narrow>
-        ensures empty { held_of (device_of result) ≡ [] }
-        ensures failing_call { failing_call_of result ≡ min (taken + 1) u64.MAX }
+        ensures empty { held_of result.device ≡ [] }
+        ensures failing_call { result.failing_call ≡ min (taken + 1) u64.MAX }
         ensures calls { calls_of result ≡ 0 }
     {
         let failing_call = (taken as u64).saturating_add(1);
@@ -102,8 +98,7 @@ impl FailingOnce<Narrow> {
 
     /// Whether it took these bytes, then failed, and was not called again.
     pub fn stopped_after(&self, taken: &[u8]) -> bool
-        ensures { IsTrue result ↔ (held_of (device_of self.now) ≡ taken.now)
-            × (calls_of self.now ≡ failing_call_of self.now) }
+        ensures { IsTrue result ↔ (held_of self.now.device ≡ taken.now) × (calls_of self.now ≡ self.now.failing_call) }
     {
         self.device.held() == taken && self.calls == self.failing_call
     }

@@ -41,7 +41,7 @@ fn a_device_fails_at_one_call(rt: HostRuntime) {
         assert_eq!(rt; writer.write(b"a").ok(), Some(1));
         assert_eq!(rt; writer.write(b"b").unwrap_or(0), 0);
         assert_eq!(rt; writer.write(b"c").ok(), Some(1));
-        assert_eq!(rt; writer.device().held(), b"ac".as_slice());
+        assert_eq!(rt; writer.device.held(), b"ac".as_slice());
         assert_eq!(rt; writer.calls(), 3);
         let input: &[u8] = b"ab";
         let mut reader = FailingOnce::new(input, 2, failure);

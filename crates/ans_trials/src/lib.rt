@@ -27,7 +27,7 @@ where
 {
     let mut device = Tried::new(FailingOnce::after(text.len()));
     let written = write(&mut device);
-    if written.is_err() || device.failed() || device.inner().device().held() != text {
+    if written.is_err() || device.failed() || device.inner().device.held() != text {
         return false;
     }
     for taken in 0..text.len() {

@@ -182,53 +182,56 @@ fn faulty(rt: &impl Abort, alloc: Global, played: Played) -> Result<(Size, Fault
     }
 }
 
-#[test]
-fn cursors_before_faults(rt: HostRuntime) -> Result<(), Fail> {
-    for row in &STANDS {
-        let Stand {
-            played,
-            fault,
-            low,
-            high,
-        } = *row;
-        let content = played.content;
-        let (size, found) = faulty(&rt, rt.alloc(), played)?;
-        assert_eq!(rt; found, fault, "in {content:?}");
-        let (low_cursor, high_cursor) = cursors_before(size, played.start, content, found);
-        assert_eq!(rt; (low_cursor.row, low_cursor.column), low, "in {content:?}");
-        assert_eq!(rt;
-            (high_cursor.row, high_cursor.column),
-            high,
-            "in {content:?}"
-        );
+/// Asserts the fault of a content, and where the two cursors stand before it.
+fn expect_stand(rt: &impl Abort, alloc: Global, row: &Stand) -> Result<(), Fail> {
+    let Stand {
+        played,
+        fault,
+        low,
+        high,
+    } = *row;
+    let content = played.content;
+    let (size, found) = faulty(rt, alloc, played)?;
+    let (low_cursor, high_cursor) = cursors_before(size, played.start, content, found);
+    let stand = (
+        found,
+        (low_cursor.row, low_cursor.column),
+        (high_cursor.row, high_cursor.column),
+    );
+    assert!(rt; stand == (fault, low, high), "in {content:?}");
+    Ok(())
+}
+
+/// Asserts the cell that a content leaves unknown, and what it holds in both plays.
+fn expect_left(rt: &impl Abort, alloc: Global, row: &Left) -> Result<(), Fail> {
+    let Left {
+        played,
+        named: (row, col),
+        low,
+        high,
+    } = *row;
+    let content = played.content;
+    let (size, found) = faulty(rt, alloc, played)?;
+    let named = Cause::UnknownCell { row, col };
+    assert_eq!(rt; found.cause, named, "in {content:?}");
+    match cells_of_fault(size, played.start, content, found) {
+        Some((low_cell, high_cell)) => {
+            let low_found = (low_cell.byte, low_cell.attribute);
+            let high_found = (high_cell.byte, high_cell.attribute);
+            assert!(rt; (low_found, high_found) == (low, high), "in {content:?}");
+        }
+        None => panic!(rt; "no cell where one was named, in {content:?}"),
     }
     Ok(())
 }
 
 #[test]
-fn cells_of_faults(rt: HostRuntime) -> Result<(), Fail> {
+fn plays_show_their_faults(rt: HostRuntime) -> Result<(), Fail> {
+    for row in &STANDS {
+        expect_stand(&rt, rt.alloc(), row)?;
+    }
     for row in &LEFT {
-        let Left {
-            played,
-            named: (row, col),
-            low,
-            high,
-        } = *row;
-        let content = played.content;
-        let (size, found) = faulty(&rt, rt.alloc(), played)?;
-        let named = Cause::UnknownCell { row, col };
-        assert_eq!(rt; found.cause, named, "in {content:?}");
-        match cells_of_fault(size, played.start, content, found) {
-            Some((low_cell, high_cell)) => {
-                assert_eq!(rt; (low_cell.byte, low_cell.attribute), low, "in {content:?}");
-                assert_eq!(rt;
-                    (high_cell.byte, high_cell.attribute),
-                    high,
-                    "in {content:?}"
-                );
-            }
-            None => panic!(rt; "no cell where one was named, in {content:?}"),
-        }
+        expect_left(&rt, rt.alloc(), row)?;
     }
     Ok(())
 }

@@ -1,6 +1,6 @@
 //! Readers and writers that fail.
 use super::{
-    ANY, CLEARED, HI_RECORD, HI_REPORT, NEEDS, SAUCE, SHOW, TOKENS, expect_run, plain_file,
+    CLEARED, COMMANDS, HI_RECORD, HI_REPORT, NEEDS, SAUCE, SHOW, TOKENS, expect_run, plain_file,
     run_once,
 };
 use ans_check::{Options, RunError, run};
@@ -45,50 +45,7 @@ static TEXTS: [(Options, &[u8]); 5] = [
     (NEEDS, HI_NEEDS),
 ];
 
-#[test]
-fn a_writer_that_fails_has_a_prefix(rt: HostRuntime) {
-    let file = plain_file(&rt, b"Hi", 2, 1);
-    assert_eq!(rt; HI_REPORT.len(), 70);
-    for (asked, text) in &TEXTS {
-        for room in 0..text.len() {
-            let error = Err(RunError::Write);
-            expect_run(&rt, file.as_slice(), asked, room, error, &text[..room]);
-        }
-        expect_run(&rt, file.as_slice(), asked, text.len(), Ok(true), text);
-    }
-}
-
-#[test]
-fn a_writer_that_fails_has_a_prefix_of_a_refusal(rt: HostRuntime) {
-    let text: &[u8] = b"verdict: refused\nat 127: F1 no SAUCE record\n";
-    for asked in &[ANY, SHOW, SAUCE, TOKENS, NEEDS] {
-        for room in 0..text.len() {
-            let error = Err(RunError::Write);
-            expect_run(&rt, &[b'S'; 127], asked, room, error, &text[..room]);
-        }
-    }
-}
-
-#[test]
-fn a_reader_that_fails_leaves_nothing_written(rt: HostRuntime) {
-    let file = plain_file(&rt, b"Hi", 2, 1);
-    for asked in &[CLEARED, SHOW, SAUCE, TOKENS, NEEDS] {
-        for fails_at in 1..133u64 {
-            let input = Dripping {
-                left: file.as_slice(),
-                reads: 0,
-                fails_at,
-            };
-            let ran = run_once(&rt, input, asked, 256);
-            assert!(rt; ran.answer == Err(RunError::Read), "at {fails_at}");
-            assert_eq!(rt; ran.reader.calls(), fails_at);
-            assert_eq!(rt; ran.reader.inner().reads, fails_at);
-            assert_eq!(rt; ran.writer.calls(), 0);
-        }
-    }
-}
-
-/// Asserts that a run ends at the one write that fails, with a prefix of its text written.
+/// Asserts that a run ends at the one write that fails, behind so many bytes, with these written.
 fn expect_end_at_write(
     rt: &(impl Abort + AllocGlobal),
     file: &[u8],
@@ -106,20 +63,61 @@ fn expect_end_at_write(
             assert_eq!(rt; writer.calls(), fails_at);
             let device = writer.into_inner();
             assert_eq!(rt; device.calls(), fails_at);
-            assert_eq!(rt; device.device().held(), written);
+            assert_eq!(rt; device.device.held(), written);
             return;
         }
     }
     panic!(rt; "memory was refused twice");
 }
 
+/// Asserts that a writer which fails, for good or once, has a prefix of the text.
+fn expect_prefixes(rt: &(impl Abort + AllocGlobal), file: &[u8], asked: &Options, text: &[u8]) {
+    for room in 0..text.len() {
+        let written = &text[..room];
+        expect_run(rt, file, asked, room, Err(RunError::Write), written);
+        let fails_at = (room as u64).saturating_add(1);
+        expect_end_at_write(rt, file, asked, fails_at, written);
+    }
+}
+
 #[test]
-fn a_writer_that_fails_once_is_not_asked_again(rt: HostRuntime) {
+fn a_writer_that_fails_has_a_prefix(rt: HostRuntime) {
     let file = plain_file(&rt, b"Hi", 2, 1);
+    assert_eq!(rt; HI_REPORT.len(), 70);
     for (asked, text) in &TEXTS {
-        for written in 0..text.len() {
-            let fails_at = (written as u64).saturating_add(1);
-            expect_end_at_write(&rt, file.as_slice(), asked, fails_at, &text[..written]);
-        }
+        expect_prefixes(&rt, file.as_slice(), asked, text);
+        expect_run(&rt, file.as_slice(), asked, text.len(), Ok(true), text);
+    }
+}
+
+#[test]
+fn a_writer_that_fails_has_a_prefix_of_a_refusal(rt: HostRuntime) {
+    let text = b"verdict: refused\nat 127: F1 no SAUCE record\n";
+    for asked in &COMMANDS {
+        expect_prefixes(&rt, &[b'S'; 127], asked, text);
+    }
+}
+
+/// Asserts that nothing is written where the reader fails at a read, and that it is not asked again.
+fn expect_unread(rt: &(impl Abort + AllocGlobal), file: &[u8], asked: &Options) {
+    for fails_at in 1..133u64 {
+        let input = Dripping {
+            left: file,
+            reads: 0,
+            fails_at,
+        };
+        let ran = run_once(rt, input, asked, 256);
+        assert!(rt; ran.answer == Err(RunError::Read), "at {fails_at}");
+        assert_eq!(rt; ran.reader.calls(), fails_at);
+        assert_eq!(rt; ran.reader.inner().reads, fails_at);
+        assert_eq!(rt; ran.writer.calls(), 0);
+    }
+}
+
+#[test]
+fn a_reader_that_fails_leaves_nothing_written(rt: HostRuntime) {
+    let file = plain_file(&rt, b"Hi", 2, 1);
+    for asked in &COMMANDS {
+        expect_unread(&rt, file.as_slice(), asked);
     }
 }

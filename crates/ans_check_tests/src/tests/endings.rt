@@ -64,15 +64,15 @@ fn endings_have_their_statuses_and_texts(rt: HostRuntime) {
 
 /// Words that give no options, of each kind that the tests of `ans_options` meet, and how the program
 /// ends.
-static REFUSED_WORDS: [(&[&str], Ending); 7] = [
-    (&["anscheck", "--help"], Ending::Help),
-    (&["anscheck", "check", "--help"], Ending::Help),
-    (&["anscheck"], Ending::Usage),
-    (&["anscheck", "other"], Ending::Usage),
-    (&["anscheck", "check", "--bogus"], Ending::Usage),
-    (&["anscheck", "check", "f", "g"], Ending::Usage),
-    (&["anscheck", "check", "--cells", "--cells"], Ending::Usage),
-];
+static REFUSED_WORDS: [(&[&str], Ending); 7] = words! {
+    "--help" => Ending::Help;
+    "check" "--help" => Ending::Help;
+    => Ending::Usage;
+    "other" => Ending::Usage;
+    "check" "--bogus" => Ending::Usage;
+    "check" "f" "g" => Ending::Usage;
+    "check" "--cells" "--cells" => Ending::Usage;
+};
 
 /// How the program ends at words that give no options. Where memory was refused they are read once
 /// more.

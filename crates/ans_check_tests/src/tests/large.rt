@@ -158,19 +158,21 @@ fn assert_glyphs<G: Grid>(
     }
 }
 
-/// Asserts so of a file over both kinds of grid.
+/// Asserts so of a content on a screen of this size, over both kinds of grid.
 fn expect_glyphs(
     rt: &(impl Abort + AllocGlobal),
-    file: &[u8],
+    content: &[u8],
     start: Start,
-    size: (usize, usize),
+    (width, lines): (u16, u16),
     rows: &[usize],
     glyphs: &[(usize, usize, u8)],
 ) {
+    let file = file_of_size(rt, content, width, lines);
     assert!(rt; file.len() <= MAX_FILE);
-    let plain = check_file::<PlainGrid>(rt, file, start);
+    let size = (width as usize, lines as usize);
+    let plain = check_file::<PlainGrid>(rt, file.as_slice(), start);
     assert_glyphs(rt, &plain, size, rows, glyphs);
-    let planes = check_file::<PlaneGrid>(rt, file, start);
+    let planes = check_file::<PlaneGrid>(rt, file.as_slice(), start);
     assert_glyphs(rt, &planes, size, rows, glyphs);
 }
 
@@ -178,15 +180,7 @@ fn expect_glyphs(
 fn the_widest_screen_is_played(rt: HostRuntime) {
     let content = b"A\x1b[255C\x1b[255C\x1b[255C\x1b[255C\x1b[255CBC";
     let glyphs = [(0, 0, b'A'), (0, 1023, b'B'), (1, 0, b'C')];
-    let file = file_of_size(&rt, content, 1024, 2);
-    expect_glyphs(
-        &rt,
-        file.as_slice(),
-        Start::cleared(),
-        (1024, 2),
-        &[0, 1],
-        &glyphs,
-    );
+    expect_glyphs(&rt, content, Start::CLEARED, (1024, 2), &[0, 1], &glyphs);
 }
 
 #[test]
@@ -194,12 +188,11 @@ fn the_longest_screen_is_played(rt: HostRuntime) {
     let mut content = [b'\n'; 8192];
     content[0] = b'A';
     content[8191] = b'B';
-    let file = file_of_size(&rt, &content, 1, 8192);
     let glyphs = [(0, 0, b'A'), (8191, 0, b'B')];
     expect_glyphs(
         &rt,
-        file.as_slice(),
-        Start::cleared(),
+        &content,
+        Start::CLEARED,
         (1, 8192),
         &SOME_ROWS,
         &glyphs,
@@ -211,29 +204,15 @@ fn the_largest_screen_is_played(rt: HostRuntime) {
     let mut content = [b'\n'; 8223];
     content[0] = b'A';
     content[8192..].copy_from_slice(b"\x1b[255C\x1b[255C\x1b[255C\x1b[255C\x1b[255CB");
-    let file = file_of_size(&rt, &content, 1024, 8192);
     let glyphs = [(0, 0, b'A'), (8191, 1023, b'B')];
-    expect_glyphs(
-        &rt,
-        file.as_slice(),
-        Start::cleared(),
-        (1024, 8192),
-        &SOME_ROWS,
-        &glyphs,
-    );
+    let size = (1024, 8192);
+    expect_glyphs(&rt, &content, Start::CLEARED, size, &SOME_ROWS, &glyphs);
 }
 
 #[test]
 fn the_largest_screen_is_cleared_from_any_start(rt: HostRuntime) {
-    let file = file_of_size(&rt, b"\x1b[0m\x1b[2J", 1024, 8192);
-    expect_glyphs(
-        &rt,
-        file.as_slice(),
-        Start::any(),
-        (1024, 8192),
-        &SOME_ROWS,
-        &[],
-    );
+    let content = b"\x1b[0m\x1b[2J";
+    expect_glyphs(&rt, content, Start::ANY, (1024, 8192), &SOME_ROWS, &[]);
 }
 
 /// Asserts that a file passes over one kind of grid, with `a` up to a place of the last line of 80
@@ -287,8 +266,7 @@ fn long_sequences_are_read(rt: HostRuntime) {
     let mut content = [b'0'; 1004];
     content[..2].copy_from_slice(b"\x1b[");
     content[1002..].copy_from_slice(b"5C");
-    let file = file_of_size(&rt, &content, 2, 1);
-    expect_glyphs(&rt, file.as_slice(), Start::cleared(), (2, 1), &[0], &[]);
+    expect_glyphs(&rt, &content, Start::CLEARED, (2, 1), &[0], &[]);
     let mut content = [0x1b; 100_003];
     content[1] = b'[';
     content[2] = b'"';

@@ -1,13 +1,11 @@
 //! Tables of many names, and of files as long as they may be.
 
-use super::plain_file;
-use super::shelf::{Shelf, Stored, answer_on, answer_once};
+use super::shelf::{Drawings, Shelf, Stored, answer_on};
 use super::tables::{
     ABC_OBJECT, ABC_ROW, GONE_OBJECT, GONE_ROW, HI_OBJECT, HI_ROW, LONG_OBJECT, LONG_ROW,
-    LOW_OBJECT, LOW_ROW, TORN_OBJECT, TORN_ROW, is_made_of,
+    LOW_OBJECT, LOW_ROW, TORN_OBJECT, TORN_ROW, expect_table,
 };
 use ans_check::{Ending, RunError};
-use ans_samples::Narrow;
 use std::io::{self, Write};
 use std::process::Abort;
 
@@ -69,46 +67,19 @@ impl Write for Rows<'_> {
 /// Ten names, which come again and again.
 const NAMES: &[u8] = b"hi.ans\0low.ans\0abc\0torn\0gone\0gone\0gone\0gone\0gone\0gone\0";
 
-/// Words for a table without a line of names, ten names again and again, their
-/// rows, how many there are in all, and what is said.
-static MANY: [(&[&str], Stored<'static>, [&str; 10], usize, &str); 2] = [
-    (
-        &["anscheck", "table", "--no-header"],
-        Stored::Repeated {
-            rest: b"",
-            text: NAMES,
-            left: 1_000,
-        },
+/// Words for a table without a line of names, how often the ten names come, their rows, how many
+/// there are in all, and what is said.
+static MANY: [(&[&str], usize, [&str; 10], usize, &str); 2] = words! {
+    "table" "--no-header" => 1_000,
+        [HI_ROW, LOW_ROW, ABC_ROW, TORN_ROW, GONE_ROW, GONE_ROW, GONE_ROW, GONE_ROW, GONE_ROW, GONE_ROW],
+        10_000, "anscheck: 10000 files: 1000 pass, 2000 refused, 7000 not read\n";
+    "table" "--json" => 100,
         [
-            HI_ROW, LOW_ROW, ABC_ROW, TORN_ROW, GONE_ROW, GONE_ROW, GONE_ROW, GONE_ROW, GONE_ROW,
-            GONE_ROW,
+            HI_OBJECT, LOW_OBJECT, ABC_OBJECT, TORN_OBJECT, GONE_OBJECT, GONE_OBJECT, GONE_OBJECT, GONE_OBJECT,
+            GONE_OBJECT, GONE_OBJECT,
         ],
-        10_000,
-        "anscheck: 10000 files: 1000 pass, 2000 refused, 7000 not read\n",
-    ),
-    (
-        &["anscheck", "table", "--json"],
-        Stored::Repeated {
-            rest: b"",
-            text: NAMES,
-            left: 100,
-        },
-        [
-            HI_OBJECT,
-            LOW_OBJECT,
-            ABC_OBJECT,
-            TORN_OBJECT,
-            GONE_OBJECT,
-            GONE_OBJECT,
-            GONE_OBJECT,
-            GONE_OBJECT,
-            GONE_OBJECT,
-            GONE_OBJECT,
-        ],
-        1_000,
-        "anscheck: 1000 files: 100 pass, 200 refused, 700 not read\n",
-    ),
-];
+        1_000, "anscheck: 1000 files: 100 pass, 200 refused, 700 not read\n";
+};
 
 /// Asserts that a table has so many rows, these ones again and again, and what is said of it.
 /// Where memory was refused it is written once more.
@@ -120,39 +91,28 @@ fn expect_many(
     count: usize,
     said: &str,
 ) {
-    let (mut ending, mut output, mut errors) = answer_on(
-        rt,
-        words,
-        shelf,
-        Rows::new(rows),
-        Narrow::new(4096),
-    );
-    if ending == Ending::UnreadableWords
-        || ending == Ending::Run(Err(RunError::Memory))
-        || output.others > 0
+    let mut answered = answer_on(rt, words, shelf, Rows::new(rows), 4096);
+    if answered.ending == Ending::UnreadableWords
+        || answered.ending == Ending::Run(Err(RunError::Memory))
+        || answered.output.others > 0
     {
-        (ending, output, errors) = answer_on(rt, words, shelf, Rows::new(rows), Narrow::new(4096));
+        answered = answer_on(rt, words, shelf, Rows::new(rows), 4096);
     }
-    assert_eq!(rt; ending.status(), 2);
-    assert_eq!(rt; (output.whole, output.within, output.others), (count, 0, 0));
-    assert_eq!(rt; errors.held(), said.as_bytes());
+    let written = answered.output;
+    assert_eq!(rt; answered.ending.status(), 2);
+    assert_eq!(rt;
+        (written.whole, written.within, written.others),
+        (count, 0, 0)
+    );
+    assert_eq!(rt; answered.errors.held(), said.as_bytes());
 }
 
 #[test]
 fn many_files_have_their_rows(rt: HostRuntime) {
-    let hi = plain_file(&rt, b"Hi", 2, 1);
-    let low = plain_file(&rt, b"a\r\nb", 80, 1);
-    let files = [
-        ("hi.ans", Stored::Bytes(hi.as_slice())),
-        ("low.ans", Stored::Bytes(low.as_slice())),
-        ("abc", Stored::Bytes(b"abc")),
-        ("torn", Stored::Torn(b"")),
-    ];
-    for (words, standard, rows, count, said) in &MANY {
-        let shelf = Shelf {
-            files: &files,
-            standard: *standard,
-        };
+    let drawings = Drawings::new(&rt);
+    let files = drawings.files();
+    for (words, times, rows, count, said) in &MANY {
+        let shelf = Shelf::new(&files, Stored::repeated(NAMES, *times));
         expect_many(&rt, words, shelf, rows, *count, said);
     }
 }
@@ -164,16 +124,10 @@ const LARGEST_OBJECT: &str =
     "{\"at\":16777216,\"fault\":\"F1\",\"file\":\"largest\",\"verdict\":\"refused\"}\n";
 
 /// Words for a table of files as long as they may be, one byte longer, and short, and the table.
-static LONG: [(&[&str], &[&str]); 2] = [
-    (
-        &["anscheck", "table", "--no-header", "largest", "long", "abc"],
-        &[LARGEST_ROW, LONG_ROW, ABC_ROW],
-    ),
-    (
-        &["anscheck", "table", "--json", "largest", "long", "abc"],
-        &[LARGEST_OBJECT, LONG_OBJECT, ABC_OBJECT],
-    ),
-];
+static LONG: [(&[&str], &[&str]); 2] = words! {
+    "table" "--no-header" "largest" "long" "abc" => &[LARGEST_ROW, LONG_ROW, ABC_ROW];
+    "table" "--json" "largest" "long" "abc" => &[LARGEST_OBJECT, LONG_OBJECT, ABC_OBJECT];
+};
 
 /// 24,929 bytes 673 times are 16,777,217.
 #[test]
@@ -183,15 +137,9 @@ fn a_file_above_the_largest_is_not_read(rt: HostRuntime) {
         ("long", Stored::repeated(&[b'y'; 24_929], 673)),
         ("abc", Stored::Bytes(b"abc")),
     ];
-    let shelf = Shelf {
-        files: &files,
-        standard: Stored::Torn(b""),
-    };
-    let said: &[u8] = b"anscheck: 3 files: 0 pass, 2 refused, 1 not read\n";
+    let said = "anscheck: 3 files: 0 pass, 2 refused, 1 not read\n";
     for (words, table) in &LONG {
-        let answered = answer_once(&rt, words, shelf, (4096, 4096));
-        assert!(rt; is_made_of(answered.output.held(), table));
-        assert_eq!(rt; answered.errors.held(), said);
-        assert_eq!(rt; answered.ending.status(), 2);
+        let shelf = Shelf::new(&files, Stored::Torn(b""));
+        expect_table(&rt, words, shelf, table, said, 2);
     }
 }

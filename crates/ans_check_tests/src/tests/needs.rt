@@ -3,7 +3,7 @@
 ghost use Rattle.std.specs.Prelude.{◌≤◌, length};
 ghost use Rattle.ans_model.specs.Bytes.{longest_file};
 
-use super::{NEEDS, expect_run, file_of_size, plain_file};
+use super::{NEEDS, Text, expect_run, expect_texts, file_of_size, plain_file};
 use ans_check::{Needs, Start, needs};
 use ans_sauce::{Cause, Fault, MAX_FILE};
 use ans_screen::{Grid, PlainGrid, PlaneGrid};
@@ -17,64 +17,64 @@ type Row = (&'static [u8], u16, u16, &'static str);
 /// the cursor, after `ESC[u` at the saved one, after `ESC[1;1H` or `ESC[2J` at the top left. The
 /// screen is needed where a cell is left, the colours where none are set before a print or an
 /// erasure, and wrap where a print follows one in the last column.
-static EACH_CLASS: [Row; 32] = [
-    (b"\x1b[?7h\x1b[0m\x1b[2JHi", 2, 1, ""),
-    (b"", 1, 1, "screen"),
-    (b"\x1b[0mHi", 2, 1, "cursor"),
-    (b"\x1b[0m\x1b[uHi", 2, 1, "saved"),
-    (b"\x1b[2JHi", 2, 1, "colours"),
-    (b"\x1b[0m\x1b[2JHia", 2, 2, "wrap"),
-    (b"\x1b[0mH", 2, 1, "screen cursor"),
-    (b"\x1b[0m\x1b[uH", 2, 1, "screen saved"),
-    (b"\x1b[1;1HH", 2, 1, "screen colours"),
-    (b"\x1b[0m\x1b[1;1HHia", 2, 2, "screen wrap"),
-    (b"\x1b[0mH\x1b[uHi", 2, 1, "cursor saved"),
-    (b"Hi", 2, 1, "cursor colours"),
-    (b"\x1b[0mHiab", 2, 2, "cursor wrap"),
-    (b"\x1b[uHi", 2, 1, "saved colours"),
-    (b"\x1b[0m\x1b[uHiab", 2, 2, "saved wrap"),
-    (b"\x1b[2JHia", 2, 2, "colours wrap"),
-    (b"\x1b[0mH\x1b[uH", 2, 1, "screen cursor saved"),
-    (b"H", 2, 1, "screen cursor colours"),
-    (b"\x1b[0mHia", 2, 2, "screen cursor wrap"),
-    (b"\x1b[uH", 2, 1, "screen saved colours"),
-    (b"\x1b[0m\x1b[uHia", 2, 2, "screen saved wrap"),
-    (b"\x1b[1;1HHia", 2, 2, "screen colours wrap"),
-    (b"H\x1b[uHi", 2, 1, "cursor saved colours"),
-    (b"\x1b[0mH\x1b[uHiab", 2, 2, "cursor saved wrap"),
-    (b"Hiab", 2, 2, "cursor colours wrap"),
-    (b"\x1b[uHiab", 2, 2, "saved colours wrap"),
-    (b"H\x1b[uH", 2, 1, "screen cursor saved colours"),
-    (b"\x1b[0mH\x1b[uHia", 2, 2, "screen cursor saved wrap"),
-    (b"Hia", 2, 2, "screen cursor colours wrap"),
-    (b"\x1b[uHia", 2, 2, "screen saved colours wrap"),
-    (b"H\x1b[uHiab", 2, 2, "cursor saved colours wrap"),
-    (b"H\x1b[uHia", 2, 2, "screen cursor saved colours wrap"),
-];
+static EACH_CLASS: [Row; 32] = files! {
+    file(2 x 1, b"\x1b[?7h\x1b[0m\x1b[2JHi") => "";
+    file(1 x 1, b"") => "screen";
+    file(2 x 1, b"\x1b[0mHi") => "cursor";
+    file(2 x 1, b"\x1b[0m\x1b[uHi") => "saved";
+    file(2 x 1, b"\x1b[2JHi") => "colours";
+    file(2 x 2, b"\x1b[0m\x1b[2JHia") => "wrap";
+    file(2 x 1, b"\x1b[0mH") => "screen cursor";
+    file(2 x 1, b"\x1b[0m\x1b[uH") => "screen saved";
+    file(2 x 1, b"\x1b[1;1HH") => "screen colours";
+    file(2 x 2, b"\x1b[0m\x1b[1;1HHia") => "screen wrap";
+    file(2 x 1, b"\x1b[0mH\x1b[uHi") => "cursor saved";
+    file(2 x 1, b"Hi") => "cursor colours";
+    file(2 x 2, b"\x1b[0mHiab") => "cursor wrap";
+    file(2 x 1, b"\x1b[uHi") => "saved colours";
+    file(2 x 2, b"\x1b[0m\x1b[uHiab") => "saved wrap";
+    file(2 x 2, b"\x1b[2JHia") => "colours wrap";
+    file(2 x 1, b"\x1b[0mH\x1b[uH") => "screen cursor saved";
+    file(2 x 1, b"H") => "screen cursor colours";
+    file(2 x 2, b"\x1b[0mHia") => "screen cursor wrap";
+    file(2 x 1, b"\x1b[uH") => "screen saved colours";
+    file(2 x 2, b"\x1b[0m\x1b[uHia") => "screen saved wrap";
+    file(2 x 2, b"\x1b[1;1HHia") => "screen colours wrap";
+    file(2 x 1, b"H\x1b[uHi") => "cursor saved colours";
+    file(2 x 2, b"\x1b[0mH\x1b[uHiab") => "cursor saved wrap";
+    file(2 x 2, b"Hiab") => "cursor colours wrap";
+    file(2 x 2, b"\x1b[uHiab") => "saved colours wrap";
+    file(2 x 1, b"H\x1b[uH") => "screen cursor saved colours";
+    file(2 x 2, b"\x1b[0mH\x1b[uHia") => "screen cursor saved wrap";
+    file(2 x 2, b"Hia") => "screen cursor colours wrap";
+    file(2 x 2, b"\x1b[uHia") => "screen saved colours wrap";
+    file(2 x 2, b"H\x1b[uHiab") => "cursor saved colours wrap";
+    file(2 x 2, b"H\x1b[uHia") => "screen cursor saved colours wrap";
+};
 
 /// Contents that need a part for another reason, or do not need it.
-static OTHERS: [Row; 12] = [
+static OTHERS: [Row; 12] = files! {
     // An erasure, a line feed or a tab at the cursor.
-    (b"\x1b[0m\x1b[K", 2, 1, "cursor"),
-    (b"\n\x1b[0m\x1b[2J", 1, 1, "cursor"),
-    (b"\x1b[0m\t", 8, 1, "cursor"),
+    file(2 x 1, b"\x1b[0m\x1b[K") => "cursor";
+    file(1 x 1, b"\n\x1b[0m\x1b[2J") => "cursor";
+    file(8 x 1, b"\x1b[0m\t") => "cursor";
     // A cursor that the content saves itself.
-    (b"\x1b[0m\x1b[sH\x1b[uHi", 2, 1, "cursor"),
+    file(2 x 1, b"\x1b[0m\x1b[sH\x1b[uHi") => "cursor";
     // A cursor that is known after moves that end at the borders.
-    (b"\x1b[0m\x1b[9A\x1b[9DHi", 2, 1, ""),
+    file(2 x 1, b"\x1b[0m\x1b[9A\x1b[9DHi") => "";
     // Cells that are printed over.
-    (b"\x1b[1;1HHi\x1b[0m\x1b[1;1HHi", 2, 1, ""),
+    file(2 x 1, b"\x1b[1;1HHi\x1b[0m\x1b[1;1HHi") => "";
     // Colours that are set but for one bit, and colours that are set after the last print.
-    (b"\x1b[1;37;40m\x1b[2J", 1, 1, "colours"),
-    (b"\x1b[2J\x1b[0m", 1, 1, "colours"),
+    file(1 x 1, b"\x1b[1;37;40m\x1b[2J") => "colours";
+    file(1 x 1, b"\x1b[2J\x1b[0m") => "colours";
     // Wrap that is set off, and wrap that moves nothing but the last cursor.
-    (b"\x1b[?7l\x1b[0m\x1b[2JHia", 2, 2, ""),
-    (b"\x1b[0m\x1b[2JHi", 2, 1, ""),
+    file(2 x 2, b"\x1b[?7l\x1b[0m\x1b[2JHia") => "";
+    file(2 x 1, b"\x1b[0m\x1b[2JHi") => "";
     // Bytes after the end mark are no content.
-    (b"\x1b[0m\x1b[2J\x1a\x1a\x1a", 1, 1, ""),
+    file(1 x 1, b"\x1b[0m\x1b[2J\x1a\x1a\x1a") => "";
     // A screen that is left but for the cells of one line.
-    (b"\x1b[0m\x1b[2;1HHi", 2, 2, "screen"),
-];
+    file(2 x 2, b"\x1b[0m\x1b[2;1HHi") => "screen";
+};
 
 /// The class that knows the parts of these names.
 fn class_named(names: &str) -> Start {
@@ -129,14 +129,21 @@ fn parts_are_needed_for_other_reasons(rt: HostRuntime) {
     expect_needs(&rt, &OTHERS);
 }
 
+/// A content that is refused from each start, its width and lines, and its fault's offset and cause.
+type RefusedRow = (&'static [u8], u16, u16, usize, Cause);
+
+static REFUSED: [RefusedRow; 5] = files! {
+    file(2 x 1, b"Hi!") => 2, Cause::PrintBelow;
+    file(2 x 1, b"\x1b[6n") => 0, Cause::ReportAsked;
+    file(2 x 1, b"\n\n") => 1, Cause::Scrolls;
+    file(2 x 1, b"H\x1b[3") => 1, Cause::EndInSequence;
+    file(2 x 1, b"\x1b[2J\x1b[0m\x1b[9;9H") => 8, Cause::OutsideScreen;
+};
+
 /// Asserts the fault of a content for which nothing is enough, found over one kind of grid.
-fn expect_needs_fault<G: Grid>(
-    rt: &(impl Abort + AllocGlobal),
-    content: &[u8],
-    offset: usize,
-    cause: Cause,
-) {
-    let file = plain_file(rt, content, 2, 1);
+fn expect_needs_fault<G: Grid>(rt: &(impl Abort + AllocGlobal), row: &RefusedRow) {
+    let (content, width, lines, offset, cause) = *row;
+    let file = plain_file(rt, content, width, lines);
     assert!(rt; file.len() <= MAX_FILE);
     match &needs_of::<G>(rt, file.as_slice()) {
         Needs::Refused(Some(parts), fault) => {
@@ -149,16 +156,9 @@ fn expect_needs_fault<G: Grid>(
 
 #[test]
 fn content_that_fails_from_the_cleared_start_is_refused(rt: HostRuntime) {
-    let rows: [(&[u8], usize, Cause); 5] = [
-        (b"Hi!", 2, Cause::PrintBelow),
-        (b"\x1b[6n", 0, Cause::ReportAsked),
-        (b"\n\n", 1, Cause::Scrolls),
-        (b"H\x1b[3", 1, Cause::EndInSequence),
-        (b"\x1b[2J\x1b[0m\x1b[9;9H", 8, Cause::OutsideScreen),
-    ];
-    for (content, offset, cause) in rows {
-        expect_needs_fault::<PlainGrid>(&rt, content, offset, cause);
-        expect_needs_fault::<PlaneGrid>(&rt, content, offset, cause);
+    for row in &REFUSED {
+        expect_needs_fault::<PlainGrid>(&rt, row);
+        expect_needs_fault::<PlaneGrid>(&rt, row);
     }
 }
 
@@ -190,57 +190,20 @@ fn a_refused_record_has_no_parts(rt: HostRuntime) {
 }
 
 /// The content, its width and lines, whether it is known what it needs, and the text.
-static TEXTS: [(&[u8], u16, u16, bool, &[u8]); 6] = [
-    (
-        b"\x1b[?7h\x1b[0m\x1b[2JHi",
-        2,
-        1,
-        true,
-        b"size: 2 x 1\ncontent: 15 bytes\nneeds: nothing\n",
-    ),
-    (
-        b"Hi",
-        2,
-        1,
-        true,
-        b"size: 2 x 1\ncontent: 2 bytes\nneeds: cursor colours\n",
-    ),
-    (
-        b"H\x1b[uHia",
-        2,
-        2,
-        true,
-        b"size: 2 x 2\ncontent: 7 bytes\nneeds: screen cursor saved colours wrap\n",
-    ),
-    (
-        b"",
-        3,
-        2,
-        true,
-        b"size: 3 x 2\ncontent: 0 bytes\nneeds: screen\n",
-    ),
-    (
-        b"Hi!",
-        2,
-        1,
-        false,
-        b"size: 2 x 1\ncontent: 3 bytes\nverdict: refused\nat 2: F20 print below the stated lines\n",
-    ),
-    (
-        b"H\x1b[3",
-        2,
-        1,
-        false,
-        b"size: 2 x 1\ncontent: 4 bytes\nverdict: refused\nat 1: F12 content ends in a sequence\n",
-    ),
-];
+static TEXTS: [Text; 6] = texts! {
+    file(2 x 1, b"\x1b[?7h\x1b[0m\x1b[2JHi") => pass(b"size: 2 x 1\ncontent: 15 bytes\nneeds: nothing\n");
+    file(2 x 1, b"Hi") => pass(b"size: 2 x 1\ncontent: 2 bytes\nneeds: cursor colours\n");
+    file(2 x 2, b"H\x1b[uHia") => pass(b"size: 2 x 2\ncontent: 7 bytes\nneeds: screen cursor saved colours wrap\n");
+    file(3 x 2, b"") => pass(b"size: 3 x 2\ncontent: 0 bytes\nneeds: screen\n");
+    file(2 x 1, b"Hi!") =>
+        refused(b"size: 2 x 1\ncontent: 3 bytes\nverdict: refused\nat 2: F20 print below the stated lines\n");
+    file(2 x 1, b"H\x1b[3") =>
+        refused(b"size: 2 x 1\ncontent: 4 bytes\nverdict: refused\nat 1: F12 content ends in a sequence\n");
+};
 
 #[test]
 fn needs_are_told(rt: HostRuntime) {
-    for (content, width, lines, passes, text) in &TEXTS {
-        let file = plain_file(&rt, content, *width, *lines);
-        expect_run(&rt, file.as_slice(), &NEEDS, 256, Ok(*passes), text);
-    }
+    expect_texts(&rt, &NEEDS, &TEXTS);
 }
 
 #[test]

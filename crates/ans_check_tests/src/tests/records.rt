@@ -1,8 +1,5 @@
 //! The texts of records, and files with comments.
-use super::{
-    ANY, CLEARED, HI_RECORD, HI_REPORT, NEEDS, SAUCE, SHOW, TOKENS, expect_run, file_of, run_once,
-};
-use ans_check::Options;
+use super::{CLEARED, COMMANDS, HI_RECORD, HI_REPORT, SAUCE, expect_run, file_of, run_once};
 
 #[test]
 fn a_record_is_told(rt: HostRuntime) {
@@ -56,11 +53,7 @@ fn odd_records_are_told_with_their_notes(rt: HostRuntime) {
 #[test]
 fn a_refused_record_is_told_by_each_command(rt: HostRuntime) {
     let uncommented = file_of(&rt, b"Hi\x1a", &[(104, b"\x01")]);
-    let cells = Options {
-        cells: true,
-        ..CLEARED
-    };
-    for asked in [&ANY, &CLEARED, &cells, &SHOW, &SAUCE, &TOKENS, &NEEDS] {
+    for asked in &COMMANDS {
         let text: &[u8] = b"verdict: refused\nat 127: F1 no SAUCE record\n";
         expect_run(&rt, &[b'S'; 127], asked, 256, Ok(false), text);
         let text: &[u8] = b"verdict: refused\nat 107: F4 comment block missing\n";

@@ -2,6 +2,7 @@
 
 ghost use Rattle.std.specs.Prelude.{⊤};
 
+use super::plain_file;
 use ans_check::{Ending, Inputs, RunError, answer};
 use ans_report::Tried;
 use ans_samples::Narrow;
@@ -57,8 +58,14 @@ impl Read for Stored<'_> {
 /// Files by their names, and standard input.
 #[derive(Clone, Copy)]
 pub(super) struct Shelf<'a> {
-    pub files: &'a [(&'a str, Stored<'a>)],
-    pub standard: Stored<'a>,
+    files: &'a [(&'a str, Stored<'a>)],
+    standard: Stored<'a>,
+}
+
+impl<'a> Shelf<'a> {
+    pub(super) fn new(files: &'a [(&'a str, Stored<'a>)], standard: Stored<'a>) -> Shelf<'a> {
+        Shelf { files, standard }
+    }
 }
 
 impl<'a> Inputs for Shelf<'a> {
@@ -84,26 +91,58 @@ impl<'a> Inputs for Shelf<'a> {
     }
 }
 
-/// Answers words over a shelf, on these devices. Returns the ending and the devices.
+/// A drawing that passes from the cleared start, and one that is refused.
+#[derive(Drop)]
+pub(super) struct Drawings {
+    hi: Vec<u8>,
+    low: Vec<u8>,
+}
+
+impl Drawings {
+    pub(super) fn new(rt: &(impl Abort + AllocGlobal)) -> Drawings {
+        Drawings {
+            hi: plain_file(rt, b"Hi", 2, 1),
+            low: plain_file(rt, b"a\r\nb", 80, 1),
+        }
+    }
+
+    /// The drawings and files without a record, by their names.
+    pub(super) fn files(&self) -> [(&str, Stored<'_>); 6] {
+        [
+            ("hi.ans", Stored::Bytes(self.hi.as_slice())),
+            ("low.ans", Stored::Bytes(self.low.as_slice())),
+            ("abc", Stored::Bytes(b"abc")),
+            ("empty", Stored::Bytes(b"")),
+            ("torn", Stored::Torn(b"")),
+            ("half", Stored::Torn(b"SAUCE")),
+        ]
+    }
+}
+
+/// What became of some words.
+#[derive(Drop)]
+pub(super) struct Answered<W> {
+    pub ending: Ending,
+    pub output: W,
+    pub errors: Narrow,
+}
+
+/// Answers words over a shelf, on a device and one with so much room for errors.
 pub(super) fn answer_on<W: Write + Drop>(
     rt: &(impl Abort + AllocGlobal),
     words: &[&str],
     shelf: Shelf<'_>,
     output: W,
-    errors: Narrow,
-) -> (Ending, W, Narrow) {
+    error_room: usize,
+) -> Answered<W> {
     let mut output = Tried::new(output);
-    let mut errors = Tried::new(errors);
+    let mut errors = Tried::new(Narrow::new(error_room));
     let ending = answer(rt.alloc(), words, shelf, &mut output, &mut errors);
-    (ending, output.into_inner(), errors.into_inner())
-}
-
-/// What became of some words.
-#[derive(Drop)]
-pub(super) struct Answered {
-    pub ending: Ending,
-    pub output: Narrow,
-    pub errors: Narrow,
+    Answered {
+        ending,
+        output: output.into_inner(),
+        errors: errors.into_inner(),
+    }
 }
 
 /// Answers words over a shelf, on devices with this much room. Where memory may have been refused they
@@ -113,33 +152,12 @@ pub(super) fn answer_once(
     words: &[&str],
     shelf: Shelf<'_>,
     (room, error_room): (usize, usize),
-) -> Answered {
-    let (ending, output, errors) = answer_on(
-        rt,
-        words,
-        shelf,
-        Narrow::new(room),
-        Narrow::new(error_room),
-    );
-    if !may_have_met_refusal(ending, output.held()) {
-        return Answered {
-            ending,
-            output,
-            errors,
-        };
+) -> Answered<Narrow> {
+    let answered = answer_on(rt, words, shelf, Narrow::new(room), error_room);
+    if !may_have_met_refusal(answered.ending, answered.output.held()) {
+        return answered;
     }
-    let (ending, output, errors) = answer_on(
-        rt,
-        words,
-        shelf,
-        Narrow::new(room),
-        Narrow::new(error_room),
-    );
-    Answered {
-        ending,
-        output,
-        errors,
-    }
+    answer_on(rt, words, shelf, Narrow::new(room), error_room)
 }
 
 /// Whether memory may have been refused, by the ending and by what was written: a row that says so may

@@ -1,9 +1,10 @@
 //! Tables of files in memory.
 
-use super::shelf::{Shelf, Stored, answer_on, answer_once, may_have_met_refusal};
-use super::{file_of, plain_file};
+use super::file_of;
+use super::shelf::Stored::{self, Bytes, Torn};
+use super::shelf::{Drawings, Shelf, answer_on, answer_once, may_have_met_refusal};
 use ans_check::{Ending, RunError};
-use ans_samples::{FailingOnce, Narrow};
+use ans_samples::FailingOnce;
 use std::process::Abort;
 
 /// Whether a text is these pieces, one after the other.
@@ -33,7 +34,7 @@ fn length_of(pieces: &[&str]) -> usize {
 }
 
 /// Asserts what a table of a shelf writes and says, and its status.
-fn expect_table(
+pub(super) fn expect_table(
     rt: &(impl Abort + AllocGlobal),
     words: &[&str],
     shelf: Shelf<'_>,
@@ -106,218 +107,81 @@ pub(super) const TORN_OBJECT: &str = error_object!("cannot read the file", "torn
 
 pub(super) const LONG_OBJECT: &str = error_object!("file above 16777216 bytes", "long");
 
+/// A file whose name has control bytes, a backslash and, in the object, a quotation mark.
+const CONTROLS_ROW: &str = error_row!("cannot open the file", "a\\tb\\nc\\\\d\\x1b[m\\x7f");
+
+const CONTROLS_OBJECT: &str = error_object!(
+    "cannot open the file",
+    "a\\\\tb\\\\nc\\\\\\\\d\\\"\\\\x1b[m\\\\x7f"
+);
+
+/// A file whose name is not UTF-8.
+const WILD_ROW: &str = error_row!("name is not UTF-8", "\\x82\u{e9}\\xc2\\x9b\\xe2\\x82");
+
+const WILD_OBJECT: &str = error_object!(
+    "name is not UTF-8",
+    "\\\\x82\u{e9}\\\\xc2\\\\x9b\\\\xe2\\\\x82"
+);
+
 /// Words behind `anscheck table`, what standard input gives, the table, what is said, and the status.
-static TABLES: [(&[&str], Stored<'static>, &[&str], &str, u8); 19] = [
-    (
-        &["anscheck", "table", "hi.ans"],
-        Stored::Bytes(b"abc\0"),
-        &[HEADER, HI_ROW],
-        "anscheck: 1 file: 1 pass, 0 refused, 0 not read\n",
-        0,
-    ),
-    (
+static TABLES: [(&[&str], Stored<'static>, &[&str], &str, u8); 19] = words! {
+    "table" "hi.ans" => Bytes(b"abc\0"), &[HEADER, HI_ROW],
+        "anscheck: 1 file: 1 pass, 0 refused, 0 not read\n", 0;
+    "table" "hi.ans" "low.ans" "abc" "--no-header" "hi.ans" => Torn(b""), &[HI_ROW, LOW_ROW, ABC_ROW, HI_ROW],
+        "anscheck: 4 files: 2 pass, 2 refused, 0 not read\n", 1;
+    "table" "--no-header" "hi.ans" "gone" "torn" "low.ans" ""
+        => Torn(b""), &[HI_ROW, GONE_ROW, TORN_ROW, LOW_ROW, error_row!("cannot open the file", "")],
+        "anscheck: 5 files: 1 pass, 1 refused, 3 not read\n", 2;
+    "table" => Bytes(b""), &[HEADER],
+        "anscheck: 0 files: 0 pass, 0 refused, 0 not read\n", 0;
+    "table" "--no-header" => Bytes(b"hi.ans\0abc\0"), &[HI_ROW, ABC_ROW],
+        "anscheck: 2 files: 1 pass, 1 refused, 0 not read\n", 1;
+    "table" "--no-header" => Bytes(b"abc\0hi.ans"), &[ABC_ROW, HI_ROW],
+        "anscheck: 2 files: 1 pass, 1 refused, 0 not read\n", 1;
+    "table" "--no-header" => Bytes(b"\0hi.ans\0"), &[error_row!("cannot open the file", ""), HI_ROW],
+        "anscheck: 2 files: 1 pass, 0 refused, 1 not read\n", 2;
+    "table" "--no-header"
+        => Bytes(b"a\tb\nc\\d\x1b[m\x7f\0\x82\xc3\xa9\xc2\x9b\xe2\x82\0"), &[CONTROLS_ROW, WILD_ROW],
+        "anscheck: 2 files: 0 pass, 0 refused, 2 not read\n", 2;
+    "table" "--json"
+        => Bytes(b"hi.ans\0low.ans\0abc\0torn\0gone\0hi.ans"),
+        &[HI_OBJECT, LOW_OBJECT, ABC_OBJECT, TORN_OBJECT, GONE_OBJECT, HI_OBJECT],
+        "anscheck: 6 files: 2 pass, 2 refused, 2 not read\n", 2;
+    "table" "--json" "--no-header" "abc" => Torn(b""), &[ABC_OBJECT],
+        "anscheck: 1 file: 0 pass, 1 refused, 0 not read\n", 1;
+    "table" "--json" => Bytes(b""), &[],
+        "anscheck: 0 files: 0 pass, 0 refused, 0 not read\n", 0;
+    "table" "--json"
+        => Bytes(b"a\tb\nc\\d\"\x1b[m\x7f\0\x82\xc3\xa9\xc2\x9b\xe2\x82\0"), &[CONTROLS_OBJECT, WILD_OBJECT],
+        "anscheck: 2 files: 0 pass, 0 refused, 2 not read\n", 2;
+    "table" => Torn(b""), &[HEADER],
+        "anscheck: cannot read the names\n", 2;
+    "table" "--no-header" => Torn(b"hi.ans\0abc"), &[HI_ROW],
+        "anscheck: cannot read the names\n", 2;
+    "table" "--json" => Torn(b"abc\0hi.ans\0"), &[ABC_OBJECT, HI_OBJECT],
+        "anscheck: cannot read the names\n", 2;
+    "table" "--no-header" "empty" "half" "hi.ans"
+        => Torn(b""), &[EMPTY_ROW, error_row!("cannot read the file", "half"), HI_ROW],
+        "anscheck: 3 files: 1 pass, 1 refused, 1 not read\n", 2;
+    "table" "--json" "empty" "half" "" "hi.ans"
+        => Torn(b""),
         &[
-            "anscheck",
-            "table",
-            "hi.ans",
-            "low.ans",
-            "abc",
-            "--no-header",
-            "hi.ans",
-        ],
-        Stored::Torn(b""),
-        &[HI_ROW, LOW_ROW, ABC_ROW, HI_ROW],
-        "anscheck: 4 files: 2 pass, 2 refused, 0 not read\n",
-        1,
-    ),
-    (
-        &[
-            "anscheck",
-            "table",
-            "--no-header",
-            "hi.ans",
-            "gone",
-            "torn",
-            "low.ans",
-            "",
-        ],
-        Stored::Torn(b""),
-        &[
-            HI_ROW,
-            GONE_ROW,
-            TORN_ROW,
-            LOW_ROW,
-            error_row!("cannot open the file", ""),
-        ],
-        "anscheck: 5 files: 1 pass, 1 refused, 3 not read\n",
-        2,
-    ),
-    (
-        &["anscheck", "table"],
-        Stored::Bytes(b""),
-        &[HEADER],
-        "anscheck: 0 files: 0 pass, 0 refused, 0 not read\n",
-        0,
-    ),
-    (
-        &["anscheck", "table", "--no-header"],
-        Stored::Bytes(b"hi.ans\0abc\0"),
-        &[HI_ROW, ABC_ROW],
-        "anscheck: 2 files: 1 pass, 1 refused, 0 not read\n",
-        1,
-    ),
-    (
-        &["anscheck", "table", "--no-header"],
-        Stored::Bytes(b"abc\0hi.ans"),
-        &[ABC_ROW, HI_ROW],
-        "anscheck: 2 files: 1 pass, 1 refused, 0 not read\n",
-        1,
-    ),
-    (
-        &["anscheck", "table", "--no-header"],
-        Stored::Bytes(b"\0hi.ans\0"),
-        &[error_row!("cannot open the file", ""), HI_ROW],
-        "anscheck: 2 files: 1 pass, 0 refused, 1 not read\n",
-        2,
-    ),
-    (
-        &["anscheck", "table", "--no-header"],
-        Stored::Bytes(b"a\tb\nc\\d\x1b[m\x7f\0\x82\xc3\xa9\xc2\x9b\xe2\x82\0"),
-        &[
-            error_row!("cannot open the file", "a\\tb\\nc\\\\d\\x1b[m\\x7f"),
-            error_row!("name is not UTF-8", "\\x82\u{e9}\\xc2\\x9b\\xe2\\x82"),
-        ],
-        "anscheck: 2 files: 0 pass, 0 refused, 2 not read\n",
-        2,
-    ),
-    (
-        &["anscheck", "table", "--json"],
-        Stored::Bytes(b"hi.ans\0low.ans\0abc\0torn\0gone\0hi.ans"),
-        &[
-            HI_OBJECT,
-            LOW_OBJECT,
-            ABC_OBJECT,
-            TORN_OBJECT,
-            GONE_OBJECT,
+            EMPTY_OBJECT, error_object!("cannot read the file", "half"), error_object!("cannot open the file", ""),
             HI_OBJECT,
         ],
-        "anscheck: 6 files: 2 pass, 2 refused, 2 not read\n",
-        2,
-    ),
-    (
-        &["anscheck", "table", "--json", "--no-header", "abc"],
-        Stored::Torn(b""),
-        &[ABC_OBJECT],
-        "anscheck: 1 file: 0 pass, 1 refused, 0 not read\n",
-        1,
-    ),
-    (
-        &["anscheck", "table", "--json"],
-        Stored::Bytes(b""),
-        &[],
-        "anscheck: 0 files: 0 pass, 0 refused, 0 not read\n",
-        0,
-    ),
-    (
-        &["anscheck", "table", "--json"],
-        Stored::Bytes(b"a\tb\nc\\d\"\x1b[m\x7f\0\x82\xc3\xa9\xc2\x9b\xe2\x82\0"),
-        &[
-            error_object!(
-                "cannot open the file",
-                "a\\\\tb\\\\nc\\\\\\\\d\\\"\\\\x1b[m\\\\x7f"
-            ),
-            error_object!(
-                "name is not UTF-8",
-                "\\\\x82\u{e9}\\\\xc2\\\\x9b\\\\xe2\\\\x82"
-            ),
-        ],
-        "anscheck: 2 files: 0 pass, 0 refused, 2 not read\n",
-        2,
-    ),
-    (
-        &["anscheck", "table"],
-        Stored::Torn(b""),
-        &[HEADER],
-        "anscheck: cannot read the names\n",
-        2,
-    ),
-    (
-        &["anscheck", "table", "--no-header"],
-        Stored::Torn(b"hi.ans\0abc"),
-        &[HI_ROW],
-        "anscheck: cannot read the names\n",
-        2,
-    ),
-    (
-        &["anscheck", "table", "--json"],
-        Stored::Torn(b"abc\0hi.ans\0"),
-        &[ABC_OBJECT, HI_OBJECT],
-        "anscheck: cannot read the names\n",
-        2,
-    ),
-    (
-        &[
-            "anscheck",
-            "table",
-            "--no-header",
-            "empty",
-            "half",
-            "hi.ans",
-        ],
-        Stored::Torn(b""),
-        &[
-            EMPTY_ROW,
-            error_row!("cannot read the file", "half"),
-            HI_ROW,
-        ],
-        "anscheck: 3 files: 1 pass, 1 refused, 1 not read\n",
-        2,
-    ),
-    (
-        &["anscheck", "table", "--json", "empty", "half", "", "hi.ans"],
-        Stored::Torn(b""),
-        &[
-            EMPTY_OBJECT,
-            error_object!("cannot read the file", "half"),
-            error_object!("cannot open the file", ""),
-            HI_OBJECT,
-        ],
-        "anscheck: 4 files: 1 pass, 1 refused, 2 not read\n",
-        2,
-    ),
-    (
-        &["anscheck", "table", "hi.ans", "-"],
-        Stored::Bytes(b"hi.ans\0"),
-        &[],
-        "anscheck: - names no file of a table; without FILE, names are read\n",
-        2,
-    ),
-    (
-        &["anscheck", "table", "--no-header", "./-"],
-        Stored::Bytes(b"hi.ans\0"),
-        &[error_row!("cannot open the file", "./-")],
-        "anscheck: 1 file: 0 pass, 0 refused, 1 not read\n",
-        2,
-    ),
-];
+        "anscheck: 4 files: 1 pass, 1 refused, 2 not read\n", 2;
+    "table" "hi.ans" "-" => Bytes(b"hi.ans\0"), &[],
+        "anscheck: - names no file of a table; without FILE, names are read\n", 2;
+    "table" "--no-header" "./-" => Bytes(b"hi.ans\0"), &[error_row!("cannot open the file", "./-")],
+        "anscheck: 1 file: 0 pass, 0 refused, 1 not read\n", 2;
+};
 
 #[test]
 fn tables_are_written(rt: HostRuntime) {
-    let hi = plain_file(&rt, b"Hi", 2, 1);
-    let low = plain_file(&rt, b"a\r\nb", 80, 1);
-    let files = [
-        ("hi.ans", Stored::Bytes(hi.as_slice())),
-        ("low.ans", Stored::Bytes(low.as_slice())),
-        ("abc", Stored::Bytes(b"abc")),
-        ("empty", Stored::Bytes(b"")),
-        ("torn", Stored::Torn(b"")),
-        ("half", Stored::Torn(b"SAUCE")),
-    ];
+    let drawings = Drawings::new(&rt);
+    let files = drawings.files();
     for (words, standard, table, said, status) in &TABLES {
-        let shelf = Shelf {
-            files: &files,
-            standard: *standard,
-        };
+        let shelf = Shelf::new(&files, *standard);
         expect_table(&rt, words, shelf, table, said, *status);
     }
 }
@@ -353,27 +217,25 @@ static RECORDS: [(&[(usize, &[u8])], &str); 5] = [
     ),
 ];
 
-/// Asserts what a table of a shelf writes.
-fn expect_output(
+/// Asserts the row, or the object, of a file that is made so.
+fn expect_row(
     rt: &(impl Abort + AllocGlobal),
     words: &[&str],
-    shelf: Shelf<'_>,
-    table: &[&str],
+    front: &[u8],
+    edits: &[(usize, &[u8])],
+    row: &[&str],
 ) {
-    let answered = answer_once(rt, words, shelf, (4096, 4096));
-    assert!(rt; is_made_of(answered.output.held(), table));
+    let file = file_of(rt, front, edits);
+    let files = [("f", Bytes(file.as_slice()))];
+    let answered = answer_once(rt, words, Shelf::new(&files, Torn(b"")), (4096, 4096));
+    assert!(rt; is_made_of(answered.output.held(), row));
 }
 
 #[test]
 fn records_are_shown(rt: HostRuntime) {
     for (edits, columns) in &RECORDS {
-        let file = file_of(&rt, b"Hi\x1a", edits);
-        let shelf = Shelf {
-            files: &[("f", Stored::Bytes(file.as_slice()))],
-            standard: Stored::Torn(b""),
-        };
         let words = &["anscheck", "table", "--no-header", "f"];
-        expect_output(&rt, words, shelf, &[columns, "\tf\n"]);
+        expect_row(&rt, words, b"Hi\x1a", edits, &[columns, "\tf\n"]);
     }
 }
 
@@ -415,97 +277,67 @@ static OBJECTS: [(&[u8], &[(usize, &[u8])], &str); 4] = [
 #[test]
 fn records_are_shown_in_objects(rt: HostRuntime) {
     for (front, edits, object) in &OBJECTS {
-        let file = file_of(&rt, front, edits);
-        let shelf = Shelf {
-            files: &[("f", Stored::Bytes(file.as_slice()))],
-            standard: Stored::Torn(b""),
-        };
-        expect_output(&rt, &["anscheck", "table", "--json", "f"], shelf, &[object]);
+        let words = &["anscheck", "table", "--json", "f"];
+        expect_row(&rt, words, front, edits, &[object]);
     }
 }
 
 /// Words for a table in each form, of the names on standard input, and the table of `hi.ans`, `gone`
 /// and `abc`.
-static FORMS: [(&[&str], &[&str]); 3] = [
-    (&["anscheck", "table"], &[HEADER, HI_ROW, GONE_ROW, ABC_ROW]),
-    (
-        &["anscheck", "table", "--no-header"],
-        &[HI_ROW, GONE_ROW, ABC_ROW],
-    ),
-    (
-        &["anscheck", "table", "--json"],
-        &[HI_OBJECT, GONE_OBJECT, ABC_OBJECT],
-    ),
-];
+static FORMS: [(&[&str], &[&str]); 3] = words! {
+    "table" => &[HEADER, HI_ROW, GONE_ROW, ABC_ROW];
+    "table" "--no-header" => &[HI_ROW, GONE_ROW, ABC_ROW];
+    "table" "--json" => &[HI_OBJECT, GONE_OBJECT, ABC_OBJECT];
+};
 
-/// The files of [`FORMS`], of which `hi.ans` is this one, and their names.
-fn shelf_of<'a>(files: &'a [(&'a str, Stored<'a>)]) -> Shelf<'a> {
-    Shelf {
-        files,
-        standard: Stored::Bytes(b"hi.ans\0gone\0abc"),
+/// What standard input gives: the names of [`FORMS`].
+const NAMES: Stored<'_> = Bytes(b"hi.ans\0gone\0abc");
+
+/// Asserts that a table ends where the device has room for so many bytes, and at the one write that
+/// fails behind as many. The device is not asked again.
+fn expect_front(
+    rt: &(impl Abort + AllocGlobal),
+    words: &[&str],
+    shelf: Shelf<'_>,
+    taken: usize,
+    table: &[&str],
+) {
+    let ended = Ending::Run(Err(RunError::Write));
+    let answered = answer_once(rt, words, shelf, (taken, 4096));
+    let said: &[u8] = b"anscheck: cannot write the report\n";
+    assert!(rt; answered.ending == ended);
+    assert_eq!(rt; answered.output.held().len(), taken);
+    assert!(rt; is_front_of(answered.output.held(), table));
+    assert_eq!(rt; answered.errors.held(), said);
+    let mut answered = answer_on(rt, words, shelf, FailingOnce::after(taken), 4096);
+    if may_have_met_refusal(answered.ending, answered.output.device.held()) {
+        answered = answer_on(rt, words, shelf, FailingOnce::after(taken), 4096);
+    }
+    assert!(rt; answered.ending == ended, "after {taken}");
+    assert_eq!(rt; answered.output.calls(), (taken as u64).saturating_add(1));
+    assert_eq!(rt; answered.output.device.held().len(), taken);
+    assert!(rt; is_front_of(answered.output.device.held(), table));
+}
+
+/// Asserts so of a table at each byte that it has.
+fn expect_fronts(
+    rt: &(impl Abort + AllocGlobal),
+    words: &[&str],
+    shelf: Shelf<'_>,
+    table: &[&str],
+) {
+    for taken in 0..length_of(table) {
+        expect_front(rt, words, shelf, taken, table);
     }
 }
 
 #[test]
 fn a_table_that_is_cut_off_is_an_error(rt: HostRuntime) {
-    let hi = plain_file(&rt, b"Hi", 2, 1);
-    let files = [
-        ("hi.ans", Stored::Bytes(hi.as_slice())),
-        ("abc", Stored::Bytes(b"abc")),
-    ];
-    let said: &[u8] = b"anscheck: cannot write the report\n";
+    let drawings = Drawings::new(&rt);
+    let files = drawings.files();
     for (words, table) in &FORMS {
-        for room in 0..length_of(table) {
-            let answered = answer_once(&rt, words, shelf_of(&files), (room, 4096));
-            assert!(rt; answered.ending == Ending::Run(Err(RunError::Write)));
-            assert_eq!(rt; answered.output.held().len(), room);
-            assert!(rt; is_front_of(answered.output.held(), table));
-            assert_eq!(rt; answered.errors.held(), said);
-        }
         let counts = "anscheck: 3 files: 1 pass, 1 refused, 1 not read\n";
-        expect_table(&rt, words, shelf_of(&files), table, counts, 2);
-    }
-}
-
-/// Asserts that a table ends at the one write that fails, behind so many bytes.
-fn expect_end_at_write(
-    rt: &(impl Abort + AllocGlobal),
-    words: &[&str],
-    shelf: Shelf<'_>,
-    table: &[&str],
-    taken: usize,
-) {
-    let errors = Narrow::new(4096);
-    let (mut ending, mut device, _) = answer_on(
-        rt,
-        words,
-        shelf,
-        FailingOnce::after(taken),
-        errors,
-    );
-    if may_have_met_refusal(ending, device.device().held()) {
-        let errors = Narrow::new(4096);
-        (ending, device, _) = answer_on(rt, words, shelf, FailingOnce::after(taken), errors);
-    }
-    assert!(rt;
-        ending == Ending::Run(Err(RunError::Write)),
-        "after {taken}"
-    );
-    assert_eq!(rt; device.calls(), (taken as u64).saturating_add(1));
-    assert_eq!(rt; device.device().held().len(), taken);
-    assert!(rt; is_front_of(device.device().held(), table));
-}
-
-#[test]
-fn a_device_that_fails_once_is_not_asked_again(rt: HostRuntime) {
-    let hi = plain_file(&rt, b"Hi", 2, 1);
-    let files = [
-        ("hi.ans", Stored::Bytes(hi.as_slice())),
-        ("abc", Stored::Bytes(b"abc")),
-    ];
-    for (words, table) in &FORMS {
-        for taken in 0..length_of(table) {
-            expect_end_at_write(&rt, words, shelf_of(&files), table, taken);
-        }
+        expect_table(&rt, words, Shelf::new(&files, NAMES), table, counts, 2);
+        expect_fronts(&rt, words, Shelf::new(&files, NAMES), table);
     }
 }

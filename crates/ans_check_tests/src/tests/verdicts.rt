@@ -9,10 +9,7 @@ use ans_check::{Needs, Start, Verdict, check};
 use ans_play::Picture;
 use ans_samples::records::{ACCEPTED, AcceptedFile, REFUSED};
 use ans_samples::rows::Expected::{Refused, Shows};
-use ans_samples::rows::{
-    BROKEN, BYTES, COLOURS, FORBIDDEN, MISPLACED, PARTS_KNOWN, PASSES_FROM_ANY,
-    PASSES_FROM_CLEARED, Row, TABS, UNKNOWN_CELLS, WITHOUT_MEANING,
-};
+use ans_samples::rows::{Row, tables};
 use ans_sauce::{Cause, Fault, MAX_FILE, Parts};
 use ans_screen::{Grid, PlainGrid, PlaneGrid};
 use std::alloc::AllocError;
@@ -35,22 +32,17 @@ fn is_of_the_record(cause: Cause) -> bool {
 
 /// Asserts the picture's bytes in row order, and their attributes where these are compared.
 fn assert_shows<G: Grid>(rt: &impl Abort, picture: &Picture<G>, bytes: &[u8], attributes: &[u8]) {
-    let width = picture.width();
-    let lines = picture.lines();
-    assert!(rt; width <= 100 && lines <= 100);
+    let (width, lines) = (picture.width(), picture.lines());
+    assert!(rt; 0 < width && width <= 100 && lines <= 100);
     assert_eq!(rt; bytes.len(), width * lines);
     assert!(rt; attributes.is_empty() || attributes.len() == bytes.len());
-    for row in 0..lines {
-        for col in 0..width {
-            let i = row * width + col;
-            assert_eq!(rt;
-                Some(&picture.glyph(row, col)),
-                bytes.get(i),
-                "at {row}, {col}"
-            );
-            if let Some(attribute) = attributes.get(i) {
-                assert_eq!(rt; picture.attr(row, col), *attribute, "at {row}, {col}");
-            }
+    for (i, byte) in bytes.iter().enumerate() {
+        let (row, column) = (i / width, i % width);
+        assert!(rt; row < lines);
+        assert_eq!(rt; picture.glyph(row, column), *byte, "at {row}, {column}");
+        if let Some(attribute) = attributes.get(i) {
+            let found = picture.attr(row, column);
+            assert_eq!(rt; found, *attribute, "at {row}, {column}");
         }
     }
 }
@@ -149,58 +141,10 @@ fn expect_rows(rt: &(impl Abort + AllocGlobal), rows: &[Row]) {
 }
 
 #[test]
-fn bytes_alone(rt: HostRuntime) {
-    expect_rows(&rt, &BYTES);
-}
-
-#[test]
-fn tabs(rt: HostRuntime) {
-    expect_rows(&rt, &TABS);
-}
-
-#[test]
-fn starts_known_in_part(rt: HostRuntime) {
-    expect_rows(&rt, &PARTS_KNOWN);
-}
-
-#[test]
-fn pictures_from_any_start(rt: HostRuntime) {
-    expect_rows(&rt, &PASSES_FROM_ANY);
-}
-
-#[test]
-fn pictures_from_the_cleared_start(rt: HostRuntime) {
-    expect_rows(&rt, &PASSES_FROM_CLEARED);
-}
-
-#[test]
-fn pictures_in_colours(rt: HostRuntime) {
-    expect_rows(&rt, &COLOURS);
-}
-
-#[test]
-fn broken_sequences(rt: HostRuntime) {
-    expect_rows(&rt, &BROKEN);
-}
-
-#[test]
-fn sequences_without_a_meaning(rt: HostRuntime) {
-    expect_rows(&rt, &WITHOUT_MEANING);
-}
-
-#[test]
-fn sequences_that_are_not_allowed(rt: HostRuntime) {
-    expect_rows(&rt, &FORBIDDEN);
-}
-
-#[test]
-fn cells_that_stay_unknown(rt: HostRuntime) {
-    expect_rows(&rt, &UNKNOWN_CELLS);
-}
-
-#[test]
-fn misplaced_tokens(rt: HostRuntime) {
-    expect_rows(&rt, &MISPLACED);
+fn rows_have_their_verdicts(rt: HostRuntime) {
+    for rows in tables() {
+        expect_rows(&rt, rows);
+    }
 }
 
 #[test]

@@ -6,254 +6,127 @@ use std::process::Abort;
 type Row = (&'static [u8], u16, u16, &'static str);
 
 /// What is refused.
-static REFUSED: [Row; 18] = [
-    (
-        b"\x1b7",
-        2,
-        1,
-        "at 0: F9 broken sequence\nbytes: <ESC>7\ncleared start: row 1, column 1\n",
-    ),
-    (
-        b"\x1b[999D",
-        2,
-        1,
-        "at 0: F10 number above 255\nbytes: <ESC>[999\ncleared start: row 1, column 1\n",
-    ),
-    (
-        b"\x1b[0;0;0;0;0;0;0;0;0;0;0;0;0;0;0;0;0m",
-        2,
-        1,
-        "at 0: F11 more than 16 parameters\n\
+static REFUSED: [Row; 18] = files! {
+    file(2 x 1, b"\x1b7") => "at 0: F9 broken sequence\nbytes: <ESC>7\ncleared start: row 1, column 1\n";
+    file(2 x 1, b"\x1b[999D") => "at 0: F10 number above 255\nbytes: <ESC>[999\ncleared start: row 1, column 1\n";
+    file(2 x 1, b"\x1b[0;0;0;0;0;0;0;0;0;0;0;0;0;0;0;0;0m")
+        => "at 0: F11 more than 16 parameters\n\
         bytes: <ESC>[0;0;0;0;0;0;0;0;0;0;0;0;0;0;0; ..\n\
-        cleared start: row 1, column 1\n",
-    ),
-    (
-        b"Hi\x1b[12;3",
-        2,
-        1,
-        "at 2: F12 content ends in a sequence\nbytes: <ESC>[12;3\ncleared start: row 2, column 1\n",
-    ),
-    (
-        b"\x1b[?6n",
-        2,
-        1,
-        "at 0: F13 unknown sequence\nbytes: <ESC>[?6n\ncleared start: row 1, column 1\n",
-    ),
-    (
-        b"\x1b[1K",
-        2,
-        1,
-        "at 0: F14 wrong parameters\nbytes: <ESC>[1K\ncleared start: row 1, column 1\n",
-    ),
-    (
-        b"H\x1b[13;\"dir\";13p",
-        2,
-        1,
-        "at 1: F15 key reassigned\n\
+        cleared start: row 1, column 1\n";
+    file(2 x 1, b"Hi\x1b[12;3")
+        => "at 2: F12 content ends in a sequence\nbytes: <ESC>[12;3\ncleared start: row 2, column 1\n";
+    file(2 x 1, b"\x1b[?6n") => "at 0: F13 unknown sequence\nbytes: <ESC>[?6n\ncleared start: row 1, column 1\n";
+    file(2 x 1, b"\x1b[1K") => "at 0: F14 wrong parameters\nbytes: <ESC>[1K\ncleared start: row 1, column 1\n";
+    file(2 x 1, b"H\x1b[13;\"dir\";13p")
+        => "at 1: F15 key reassigned\n\
         bytes: <ESC>[13;\"dir\";13p\n\
-        cleared start: row 1, column 2\n",
-    ),
-    (
-        b"\x1b[?33h",
-        2,
-        1,
-        "at 0: F16 screen mode set\nbytes: <ESC>[?33h\ncleared start: row 1, column 1\n",
-    ),
-    (
-        b"\x1b[6n",
-        2,
-        1,
-        "at 0: F17 cursor report asked\nbytes: <ESC>[6n\ncleared start: row 1, column 1\n",
-    ),
-    (
-        b"\x1b[3;1H",
-        2,
-        1,
-        "at 0: F19 place outside the screen\n\
+        cleared start: row 1, column 2\n";
+    file(2 x 1, b"\x1b[?33h") => "at 0: F16 screen mode set\nbytes: <ESC>[?33h\ncleared start: row 1, column 1\n";
+    file(2 x 1, b"\x1b[6n") => "at 0: F17 cursor report asked\nbytes: <ESC>[6n\ncleared start: row 1, column 1\n";
+    file(2 x 1, b"\x1b[3;1H")
+        => "at 0: F19 place outside the screen\n\
         bytes: <ESC>[3;1H\n\
         cleared start: row 1, column 1\n\
-        lines: 2\n",
-    ),
-    (
-        b"\x1b[1;3H",
-        2,
-        1,
-        "at 0: F19 place outside the screen\nbytes: <ESC>[1;3H\ncleared start: row 1, column 1\n",
-    ),
-    (
-        b"Hi!",
-        2,
-        1,
-        "at 2: F20 print below the stated lines\n\
+        lines: 2\n";
+    file(2 x 1, b"\x1b[1;3H")
+        => "at 0: F19 place outside the screen\nbytes: <ESC>[1;3H\ncleared start: row 1, column 1\n";
+    file(2 x 1, b"Hi!")
+        => "at 2: F20 print below the stated lines\n\
         bytes: !\n\
         cleared start: row 2, column 1\n\
-        lines: 2\n",
-    ),
-    (
-        b"\t",
-        2,
-        1,
-        "at 0: F20 print below the stated lines\n\
+        lines: 2\n";
+    file(2 x 1, b"\t")
+        => "at 0: F20 print below the stated lines\n\
         bytes: <TAB>\n\
         cleared start: row 2, column 1\n\
-        lines: 4\n",
-    ),
-    (
-        b"Hi\r\n",
-        2,
-        1,
-        "at 3: F21 scrolls\n\
+        lines: 4\n";
+    file(2 x 1, b"Hi\r\n")
+        => "at 3: F21 scrolls\n\
         bytes: <LF>\n\
         cleared start: row 2, column 1\n\
         lines: 2\n\
-        hint: a full row and a line end take two rows, once, at 2\n",
-    ),
-    (
-        b"\n\n\x1b[6n",
-        2,
-        1,
-        "at 1: F21 scrolls\nbytes: <LF>\ncleared start: row 2, column 1\n",
-    ),
-    (
-        b"a\nb\x07\n",
-        3,
-        1,
-        "at 2: F20 print below the stated lines\n\
+        hint: a full row and a line end take two rows, once, at 2\n";
+    file(2 x 1, b"\n\n\x1b[6n") => "at 1: F21 scrolls\nbytes: <LF>\ncleared start: row 2, column 1\n";
+    file(3 x 1, b"a\nb\x07\n")
+        => "at 2: F20 print below the stated lines\n\
         bytes: b\n\
         cleared start: row 2, column 2\n\
         lines: 2\n\
-        hint: a line feed with no return beside it goes straight down, once, at 1\n",
-    ),
-    (
-        b"\xe2\x96\x84\xe2\x96\x84\x1b[",
-        8,
-        1,
-        "at 6: F12 content ends in a sequence\n\
+        hint: a line feed with no return beside it goes straight down, once, at 1\n";
+    file(8 x 1, b"\xe2\x96\x84\xe2\x96\x84\x1b[")
+        => "at 6: F12 content ends in a sequence\n\
         bytes: <ESC>[\n\
         cleared start: row 1, column 7\n\
-        hint: a character is in UTF-8, 2 times, first at 0: convert the text to code page 437\n",
-    ),
-    (
-        b"\x1b[38;5;48mA\x1b[0m\xdb\x1b[6n",
-        3,
-        1,
-        "at 16: F17 cursor report asked\n\
+        hint: a character is in UTF-8, 2 times, first at 0: convert the text to code page 437\n";
+    file(3 x 1, b"\x1b[38;5;48mA\x1b[0m\xdb\x1b[6n")
+        => "at 16: F17 cursor report asked\n\
         bytes: <ESC>[6n\n\
         cleared start: row 1, column 3\n\
         hint: a sequence has a colour of later terminals (38, 48, 90 to 97 or 100 to 107), once, at 0\n\
-        hint: a character blinks, once, at 10: for bright backgrounds set the non-blink flag\n",
-    ),
-];
+        hint: a character blinks, once, at 10: for bright backgrounds set the non-blink flag\n";
+};
 
 /// What passes from the cleared start.
-static PASSED: [Row; 11] = [
-    (
-        b"Hi",
-        2,
-        1,
-        "needs: cursor colours\n\
+static PASSED: [Row; 11] = files! {
+    file(2 x 1, b"Hi")
+        => "needs: cursor colours\n\
         taller: yes\n\
         at 0: F22 print at an unknown place\n\
         bytes: H\n\
         low start: row 1, column 1\n\
         high start: row 2, column 2\n\
-        mend: begin with ESC[?7h ESC[0m ESC[2J ESC[s\n",
-    ),
-    (
-        b"\x1b[0m\x1b[2J\t",
-        4,
-        3,
-        "needs: wrap\n\
+        mend: begin with ESC[?7h ESC[0m ESC[2J ESC[s\n";
+    file(4 x 3, b"\x1b[0m\x1b[2J\t")
+        => "needs: wrap\n\
         taller: yes\n\
         at 8: F22 print at an unknown place\n\
         bytes: <TAB>\n\
         low start: row 1, column 4\n\
         high start: row 2, column 1\n\
         mend: begin with ESC[?7h ESC[0m ESC[2J ESC[s\n\
-        hint: nothing is printed in the last line\n",
-    ),
-    (
-        b"\x1b[K",
-        2,
-        1,
-        "needs: cursor colours\n\
+        hint: nothing is printed in the last line\n";
+    file(2 x 1, b"\x1b[K")
+        => "needs: cursor colours\n\
         taller: yes\n\
         at 0: F23 erase at an unknown place\n\
         bytes: <ESC>[K\n\
         low start: row 1, column 1\n\
         high start: row 2, column 2\n\
         mend: begin with ESC[?7h ESC[0m ESC[2J ESC[s\n\
-        hint: nothing is printed in the last line\n",
-    ),
-    (
-        b"\n\x1b[0m\x1b[2J",
-        1,
-        2,
-        "needs: cursor\n\
+        hint: nothing is printed in the last line\n";
+    file(1 x 2, b"\n\x1b[0m\x1b[2J")
+        => "needs: cursor\n\
         taller: yes\n\
         at 0: F24 may scroll\n\
         bytes: <LF>\n\
         low start: row 1, column 1\n\
         high start: row 3, column 1\n\
         mend: begin with ESC[?7h ESC[0m ESC[2J ESC[s\n\
-        hint: nothing is printed in the last 2 lines\n",
-    ),
-    (
-        b"\x1b[2JHi",
-        2,
-        1,
-        "needs: colours\n\
+        hint: nothing is printed in the last 2 lines\n";
+    file(2 x 1, b"\x1b[2JHi")
+        => "needs: colours\n\
         taller: yes\n\
         at 6: F25 cell stays unknown (row 1, column 1)\n\
         low start: byte 48, attribute 00\n\
         high start: byte 48, attribute ff\n\
-        mend: begin with ESC[?7h ESC[0m ESC[2J ESC[s\n",
-    ),
-    (
-        b"\x1b[0m\x1b[1;1HH",
-        2,
-        1,
-        "needs: screen\n\
+        mend: begin with ESC[?7h ESC[0m ESC[2J ESC[s\n";
+    file(2 x 1, b"\x1b[0m\x1b[1;1HH")
+        => "needs: screen\n\
         taller: yes\n\
         at 11: F25 cell stays unknown (row 1, column 2)\n\
         low start: byte 00, attribute 00\n\
         high start: byte ff, attribute ff\n\
-        mend: begin with ESC[?7h ESC[0m ESC[2J ESC[s\n",
-    ),
-    (
-        b"\x1b[?7h\x1b[0m\x1b[2JHi",
-        2,
-        1,
-        "needs: nothing\ntaller: yes\n",
-    ),
-    (
-        b"\x1b[?7h\x1b[0m\x1b[255A\x1b[255DHi",
-        2,
-        1,
-        "needs: nothing\ntaller: no\n",
-    ),
-    (
-        b"\x1b[?7h\x1b[0m\x1b[2J\x1b[255B\x1b[1;1HHi",
-        2,
-        1,
-        "needs: nothing\ntaller: no\n",
-    ),
-    (
-        b"\x1b[?7h\x1b[0m\x1b[2J\x1b[1B\x1b[1AHi",
-        2,
-        1,
-        "needs: nothing\ntaller: yes\n",
-    ),
-    (
-        b"\x1b[?7h\x1b[0m\x1b[2J\x1b[5mHi",
-        2,
-        3,
-        "needs: nothing\n\
+        mend: begin with ESC[?7h ESC[0m ESC[2J ESC[s\n";
+    file(2 x 1, b"\x1b[?7h\x1b[0m\x1b[2JHi") => "needs: nothing\ntaller: yes\n";
+    file(2 x 1, b"\x1b[?7h\x1b[0m\x1b[255A\x1b[255DHi") => "needs: nothing\ntaller: no\n";
+    file(2 x 1, b"\x1b[?7h\x1b[0m\x1b[2J\x1b[255B\x1b[1;1HHi") => "needs: nothing\ntaller: no\n";
+    file(2 x 1, b"\x1b[?7h\x1b[0m\x1b[2J\x1b[1B\x1b[1AHi") => "needs: nothing\ntaller: yes\n";
+    file(2 x 3, b"\x1b[?7h\x1b[0m\x1b[2J\x1b[5mHi")
+        => "needs: nothing\n\
         taller: yes\n\
         hint: a character blinks, 2 times, first at 17: for bright backgrounds set the non-blink flag\n\
-        hint: nothing is printed in the last 2 lines\n",
-    ),
-];
+        hint: nothing is printed in the last 2 lines\n";
+};
 
 /// The whole text: the size, the verdict, and what is said.
 fn text_of(

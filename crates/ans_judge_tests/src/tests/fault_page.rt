@@ -4,91 +4,83 @@
 
 use super::file_of;
 use ans_check::{Command, Options, run};
-use ans_model::start::Start;
 use ans_report::Tried;
-use ans_samples::{Narrow, sample_file};
+use ans_samples::records::Edits;
+use ans_samples::{Narrow, sample_file, start};
 use std::alloc::{AllocError, Global};
 use std::process::Abort;
-use std::test::Fail;
 
 /// The most bytes that a text of the page has.
 const LONGEST_TEXT: usize = 256;
 
 /// What is asked about a file, whether it passes, and what is printed.
-#[derive(Debug, Clone, Copy)]
+#[derive(Clone, Copy)]
 struct Asked {
-    command: Command,
-    /// Whether the start is the cleared one, or any.
-    cleared: bool,
+    options: Options,
     passes: bool,
     text: &'static [u8],
 }
 
-macro_rules! asked {
-    (check cleared, passes, $text:literal) => {
-        Asked { command: Command::Check, cleared: true, passes: true, text: $text }
+macro_rules! command {
+    (check) => {
+        Command::Check
     };
-    (check cleared, refused, $text:literal) => {
-        Asked { command: Command::Check, cleared: true, passes: false, text: $text }
+    (why) => {
+        Command::Why
     };
-    (check any, passes, $text:literal) => {
-        Asked { command: Command::Check, cleared: false, passes: true, text: $text }
-    };
-    (check any, refused, $text:literal) => {
-        Asked { command: Command::Check, cleared: false, passes: false, text: $text }
-    };
-    (why any, refused, $text:literal) => {
-        Asked { command: Command::Why, cleared: false, passes: false, text: $text }
-    };
-    (needs any, passes, $text:literal) => {
-        Asked { command: Command::Needs, cleared: false, passes: true, text: $text }
+    (needs) => {
+        Command::Needs
     };
 }
 
-/// A content, then an end mark and the plain record of this size.
-#[derive(Debug, Clone, Copy)]
-struct ContentExample {
-    /// The heading below which it stands.
+macro_rules! asked {
+    ($command:ident $start:ident, passes, $text:literal) => {
+        Asked { passes: true, ..asked!($command $start, refused, $text) }
+    };
+    ($command:ident $start:ident, refused, $text:literal) => {
+        Asked {
+            options: Options { command: command!($command), start: start!($start), cells: false },
+            passes: false,
+            text: $text,
+        }
+    };
+}
+
+/// What a file is made of.
+#[derive(Clone, Copy)]
+enum Made {
+    /// A content, then an end mark and the plain record of this width and these lines.
+    Content(&'static [u8], usize, usize),
+    /// What stands before the record, the fields of the plain record that are changed, and what stands
+    /// after it.
+    File(&'static [u8], Edits, &'static [u8]),
+}
+
+/// A file, what is asked about it, and the heading below which it stands.
+#[derive(Clone, Copy)]
+struct Example {
     heading: &'static str,
-    content: &'static [u8],
-    width: usize,
-    lines: usize,
+    made: Made,
     asked: Asked,
 }
 
 macro_rules! contents {
     ($($heading:literal $command:ident $start:ident $width:literal x $lines:literal, $content:literal
         => $word:ident $text:literal;)*) => {
-        [$(ContentExample {
+        [$(Example {
             heading: $heading,
-            content: $content,
-            width: $width,
-            lines: $lines,
+            made: Made::Content($content, $width, $lines),
             asked: asked!($command $start, $word, $text),
         }),*]
     };
 }
 
-/// A file: what stands before its record, the fields of the plain record that are changed, and what
-/// stands after it.
-#[derive(Debug, Clone, Copy)]
-struct FileExample {
-    /// The heading below which it stands.
-    heading: &'static str,
-    front: &'static [u8],
-    edits: &'static [(usize, &'static [u8])],
-    after: &'static [u8],
-    asked: Asked,
-}
-
 macro_rules! files {
     ($($heading:literal $command:ident $start:ident $front:literal, [$($at:literal => $bytes:literal),*], $after:literal
         => $word:ident $text:literal;)*) => {
-        [$(FileExample {
+        [$(Example {
             heading: $heading,
-            front: $front,
-            edits: &[$(($at, $bytes)),*],
-            after: $after,
+            made: Made::File($front, &[$(($at, $bytes)),*], $after),
             asked: asked!($command $start, $word, $text),
         }),*]
     };
@@ -101,8 +93,8 @@ static WITHOUT_A_RECORD: (&str, &[u8], Asked) = (
     asked!(check cleared, refused, b"verdict: refused\nat 2: F1 no SAUCE record\n"),
 );
 
-/// Files whose record or layout is refused.
-static REFUSED_FILES: [FileExample; 9] = files! {
+/// Files whose record or layout is refused, and files that are accepted, with notes.
+static FILES: [Example; 16] = files! {
     "F1" check cleared b"Hi\x1a", [], b"\n" => refused b"verdict: refused\nat 132: F1 no SAUCE record\n";
     "F2" check cleared b"Hi\x1a", [5 => b"01"], b"" => refused b"verdict: refused\nat 8: F2 SAUCE version is not 00\n";
     "F3" check cleared b"Hi\x1a", [95 => b"\x02"], b"" => refused b"verdict: refused\nat 97: F3 not Character/ANSi\n";
@@ -122,10 +114,6 @@ static REFUSED_FILES: [FileExample; 9] = files! {
         \x00\x00\x00\x00\x00\x00\x00\x00\x00\x00\x00\x00\x00\x00\x00\x00\x00\x00\x00\x00\x00\x00\x1a",
         [], b"" => refused
         b"verdict: refused\nat 3: F8 bytes after the end mark\n";
-};
-
-/// Files that are accepted, with notes.
-static NOTED_FILES: [FileExample; 7] = files! {
     "N1" needs any b"Hi\x1a", [96 => b"\x00\x00"], b"" => passes
         b"size: 80 x 1\ncontent: 2 bytes\nnote: width 0 taken as 80\nneeds: screen cursor colours\n";
     "N2" check cleared b"Hi", [], b"" => passes
@@ -145,8 +133,9 @@ static NOTED_FILES: [FileExample; 7] = files! {
         b"size: 2 x 1\nstart: cleared\ncontent: 2 bytes\nnote: a flag pair is 11\nverdict: pass\npicture:\nHi\n";
 };
 
-/// Contents that are refused from every start.
-static CERTAIN: [ContentExample; 23] = contents! {
+/// Contents that are refused from every start, contents that are refused where something of the start
+/// is not known, and what they are mended to.
+static CONTENTS: [Example; 34] = contents! {
     "F9" check cleared 2 x 1, b"\x1b7" => refused
         b"size: 2 x 1\nstart: cleared\ncontent: 2 bytes\nverdict: refused\nat 0: F9 broken sequence\n";
     "F9" check cleared 2 x 1, b"\x1b[0;0 D" => refused
@@ -195,10 +184,6 @@ static CERTAIN: [ContentExample; 23] = contents! {
         b"size: 2 x 1\nstart: cleared\ncontent: 4 bytes\nverdict: refused\nat 3: F21 scrolls\n";
     "F21" check cleared 2 x 1, b"Hi" => passes
         b"size: 2 x 1\nstart: cleared\ncontent: 2 bytes\nverdict: pass\npicture:\nHi\n";
-};
-
-/// Contents that are refused where something of the start is not known, and what they are mended to.
-static UNKNOWN: [ContentExample; 11] = contents! {
     "F22" check any 2 x 1, b"Hi" => refused
         b"size: 2 x 1\nstart: any\ncontent: 2 bytes\nverdict: refused\nat 0: F22 print at an unknown place\n";
     "F22" check any 2 x 1, b"\x1b[?7h\x1b[0m\x1b[2JHi" => passes
@@ -228,42 +213,27 @@ static UNKNOWN: [ContentExample; 11] = contents! {
 
 /// Asserts what is printed of a file, and whether it passes.
 fn expect(rt: &impl Abort, alloc: Global, file: &[u8], heading: &str, asked: &Asked) {
-    let options = Options {
-        command: asked.command,
-        start: if asked.cleared {
-            Start::cleared()
-        } else {
-            Start::any()
-        },
-        cells: false,
-    };
     let mut reader = Tried::new(file);
     let mut writer = Tried::new(Narrow::new(LONGEST_TEXT));
-    let answer = run(alloc, &mut reader, &mut writer, &options);
+    let answer = run(alloc, &mut reader, &mut writer, &asked.options);
     assert!(rt; answer == Ok(asked.passes), "below {heading}");
     assert_eq!(rt; writer.inner().held(), asked.text, "below {heading}");
 }
 
-fn expect_contents(
-    rt: &impl Abort,
-    alloc: Global,
-    examples: &[ContentExample],
-) -> Result<(), AllocError> {
-    for example in examples {
-        let file = file_of(rt, alloc, example.content, example.width, example.lines)?;
-        expect(rt, alloc, &file, example.heading, &example.asked);
+fn file_made(rt: &impl Abort, alloc: Global, made: Made) -> Result<Vec<u8>, AllocError> {
+    match made {
+        Made::Content(content, width, lines) => file_of(rt, alloc, content, width, lines),
+        Made::File(front, edits, after) => {
+            let mut file = sample_file(alloc, front, edits)?;
+            file.extend_from_slice(after)?;
+            Ok(file)
+        }
     }
-    Ok(())
 }
 
-fn expect_files(
-    rt: &impl Abort,
-    alloc: Global,
-    examples: &[FileExample],
-) -> Result<(), AllocError> {
+fn expect_all(rt: &impl Abort, alloc: Global, examples: &[Example]) -> Result<(), AllocError> {
     for example in examples {
-        let mut file = sample_file(alloc, example.front, example.edits)?;
-        file.extend_from_slice(example.after)?;
+        let file = file_made(rt, alloc, example.made)?;
         expect(rt, alloc, &file, example.heading, &example.asked);
     }
     Ok(())
@@ -276,25 +246,11 @@ fn a_file_without_a_record(rt: HostRuntime) {
 }
 
 #[test]
-fn refused_records(rt: HostRuntime) -> Result<(), Fail> {
-    expect_files(&rt, rt.alloc(), &REFUSED_FILES)?;
-    Ok(())
+fn refused_and_noted_records(rt: HostRuntime) -> Result<(), AllocError> {
+    expect_all(&rt, rt.alloc(), &FILES)
 }
 
 #[test]
-fn noted_records(rt: HostRuntime) -> Result<(), Fail> {
-    expect_files(&rt, rt.alloc(), &NOTED_FILES)?;
-    Ok(())
-}
-
-#[test]
-fn faults_from_every_start(rt: HostRuntime) -> Result<(), Fail> {
-    expect_contents(&rt, rt.alloc(), &CERTAIN)?;
-    Ok(())
-}
-
-#[test]
-fn faults_that_depend_on_the_start(rt: HostRuntime) -> Result<(), Fail> {
-    expect_contents(&rt, rt.alloc(), &UNKNOWN)?;
-    Ok(())
+fn faults_of_contents(rt: HostRuntime) -> Result<(), AllocError> {
+    expect_all(&rt, rt.alloc(), &CONTENTS)
 }

@@ -1,5 +1,8 @@
 //! What the checker finds of bytes, compared with what the slow machine finds.
 
+ghost use Rattle.std.specs.Prelude.{◌≤◌, length};
+ghost use Rattle.ans_model.specs.Bytes.{longest_file, most_columns, most_lines};
+
 use super::file_of;
 use super::slow_machine::SlowMachine;
 use ans_check::{Verdict, check};
@@ -21,8 +24,17 @@ pub struct Screen {
     pub start: Start,
 }
 
-/// What the slow machine finds of bytes: the cells with which both screens begin, or a fault.
-type Finding<'a> = Result<&'a [Cell], Fault>;
+/// Asserts that a screen has a size that a record may state, and that bytes may be a content.
+fn assert_playable(rt: &impl Abort, width: usize, lines: usize, bytes: &[u8])
+    ensures some_columns { 1 ≤ width }
+    ensures columns { width ≤ most_columns }
+    ensures some_lines { 1 ≤ lines }
+    ensures lines { lines ≤ most_lines }
+    ensures length { length bytes.now ≤ longest_file }
+{
+    assert!(rt; 1 <= width && width <= MAX_WIDTH && 1 <= lines && lines <= MAX_LINES);
+    assert!(rt; bytes.len() <= MAX_FILE);
+}
 
 /// Asserts that a row of a picture, counted from 0, has the cells of that row.
 fn assert_row<G: Grid>(rt: &impl Abort, picture: &Picture<G>, row: usize, cells: &[Cell]) {
@@ -50,104 +62,94 @@ fn assert_shows<G: Grid>(rt: &impl Abort, screen: Screen, picture: &Picture<G>, 
     }
 }
 
-/// Asserts that a play ends as the slow machine finds.
-fn assert_end<G: Grid>(
-    rt: &impl Abort,
-    screen: Screen,
-    end: &Result<Picture<G>, Fault>,
-    finding: Finding<'_>,
-) {
-    match (end, finding) {
-        (Ok(picture), Ok(cells)) => assert_shows(rt, screen, picture, cells),
-        (Err(fault), Err(found)) => assert_eq!(rt; *fault, found, "on {screen:?}"),
-        (Ok(_), Err(found)) => panic!(rt; "a picture, and not {found:?}, on {screen:?}"),
-        (Err(fault), Ok(_)) => panic!(rt; "{fault:?}, and not a picture, on {screen:?}"),
-    }
-}
-
-/// Judges a check of a file of these bytes.
-fn judge_check<G: Grid>(
-    rt: &impl Abort,
-    alloc: Global,
-    screen: Screen,
-    bytes: &[u8],
-    finding: Finding<'_>,
-) -> Result<(), AllocError> {
-    let file = file_of(rt, alloc, bytes, screen.width, screen.lines)?;
-    assert!(rt; file.len() <= MAX_FILE);
-    let (parts, end) = match check::<G>(alloc, &file, screen.start)? {
-        Verdict::Pass(parts, picture) => (Some(parts), Ok(picture)),
-        Verdict::Refused(parts, fault) => (parts, Err(fault)),
-    };
-    let parts = parts.expect(rt, "the record is accepted");
-    assert_eq!(rt; parts.content(), bytes);
-    assert_eq!(rt; parts.width(), screen.width);
-    assert_eq!(rt; parts.lines(), screen.lines);
-    assert_end(rt, screen, &end, finding);
-    Ok(())
-}
-
-/// The end of a player to which the bytes are fed at once.
-fn end_of_player(
-    rt: &impl Abort,
-    alloc: Global,
-    screen: Screen,
-    bytes: &[u8],
-) -> Result<Result<Picture<PlaneGrid>, Fault>, AllocError> {
-    let Screen {
-        width,
-        lines,
-        start,
-    } = screen;
-    assert!(rt; 1 <= width && width <= MAX_WIDTH && 1 <= lines && lines <= MAX_LINES);
-    assert!(rt; bytes.len() <= MAX_FILE);
-    let mut player = Player::<PlaneGrid>::new(alloc, width, lines, start)?;
-    assert!(rt; player.fed() == 0);
-    let fed = player.feed(bytes);
-    let end = player.finish();
-    if let Err(fault) = fed {
-        assert_eq!(rt; end.err(), Some(fault));
-        return Ok(Err(fault));
-    }
-    Ok(end)
-}
-
 /// Whether the cause is one of the content's end.
 fn is_of_the_end(cause: Cause) -> bool {
     matches!(cause, Cause::EndInSequence | Cause::UnknownCell { .. })
 }
 
-/// Judges the plain answer to these bytes.
-fn judge_plain_answer(
-    rt: &impl Abort,
-    alloc: Global,
+/// Bytes, and what the slow machine finds of them: the cells with which both screens begin, or a fault.
+#[derive(Clone, Copy)]
+struct Judged<'a> {
     screen: Screen,
-    bytes: &[u8],
-    finding: Finding<'_>,
-) -> Result<(), AllocError> {
-    let Screen {
-        width,
-        lines,
-        start,
-    } = screen;
-    assert!(rt; 1 <= width && width <= MAX_WIDTH && 1 <= lines && lines <= MAX_LINES);
-    assert!(rt; bytes.len() <= MAX_FILE);
-    match (plain_answer(alloc, bytes, width, lines, start)?, finding) {
-        (Answer::Good(cells), Ok(found)) => {
-            assert_eq!(rt; cells.len(), width * lines);
-            assert_eq!(rt; Some(cells.as_slice()), found.get(..width * lines));
+    bytes: &'a [u8],
+    finding: Result<&'a [Cell], Fault>,
+}
+
+impl Judged<'_> {
+    /// Asserts that a play ends as the slow machine finds.
+    fn assert_end<G: Grid>(self, rt: &impl Abort, end: &Result<Picture<G>, Fault>) {
+        let screen = self.screen;
+        match (end, self.finding) {
+            (Ok(picture), Ok(cells)) => assert_shows(rt, screen, picture, cells),
+            (Err(fault), Err(found)) => assert_eq!(rt; *fault, found, "on {screen:?}"),
+            (Ok(_), Err(found)) => panic!(rt; "a picture, and not {found:?}, on {screen:?}"),
+            (Err(fault), Ok(_)) => panic!(rt; "{fault:?}, and not a picture, on {screen:?}"),
         }
-        (Answer::First(fault), Err(found)) => {
-            assert_eq!(rt; fault, found);
-            assert!(rt; !is_of_the_end(found.cause));
-        }
-        (Answer::Last(fault), Err(found)) => {
-            assert_eq!(rt; fault, found);
-            assert!(rt; is_of_the_end(found.cause));
-        }
-        _ => panic!(rt; "a picture where a fault is found, or the reverse, on {screen:?}"),
     }
-    Ok(())
+
+    /// Judges a check of a file of these bytes.
+    fn judge_check<G: Grid>(self, rt: &impl Abort, alloc: Global) -> Result<(), AllocError> {
+        let Judged { screen, bytes, .. } = self;
+        let file = file_of(rt, alloc, bytes, screen.width, screen.lines)?;
+        assert!(rt; file.len() <= MAX_FILE);
+        let (parts, end) = match check::<G>(alloc, &file, screen.start)? {
+            Verdict::Pass(parts, picture) => (Some(parts), Ok(picture)),
+            Verdict::Refused(parts, fault) => (parts, Err(fault)),
+        };
+        let parts = parts.expect(rt, "the record is accepted");
+        assert_eq!(rt; parts.content(), bytes);
+        assert_eq!(rt; parts.width(), screen.width);
+        assert_eq!(rt; parts.lines(), screen.lines);
+        self.assert_end(rt, &end);
+        Ok(())
+    }
+
+    /// The end of a player to which the bytes are fed at once.
+    fn end_of_player(
+        self,
+        rt: &impl Abort,
+        alloc: Global,
+    ) -> Result<Result<Picture<PlaneGrid>, Fault>, AllocError> {
+        let Screen {
+            width,
+            lines,
+            start,
+        } = self.screen;
+        assert_playable(rt, width, lines, self.bytes);
+        let mut player = Player::<PlaneGrid>::new(alloc, width, lines, start)?;
+        assert!(rt; player.fed() == 0);
+        let fed = player.feed(self.bytes);
+        let end = player.finish();
+        if let Err(fault) = fed {
+            assert_eq!(rt; end.err(), Some(fault));
+            return Ok(Err(fault));
+        }
+        Ok(end)
+    }
+
+    /// Judges the plain answer to these bytes.
+    fn judge_plain_answer(self, rt: &impl Abort, alloc: Global) -> Result<(), AllocError> {
+        let screen = self.screen;
+        let Screen { width, lines, .. } = screen;
+        assert_playable(rt, width, lines, self.bytes);
+        let answer = plain_answer(alloc, self.bytes, width, lines, screen.start)?;
+        match (answer, self.finding) {
+            (Answer::Good(cells), Ok(found)) => {
+                assert_eq!(rt; cells.len(), width * lines);
+                assert_eq!(rt; Some(cells.as_slice()), found.get(..width * lines));
+            }
+            (Answer::First(fault), Err(found)) => {
+                assert_eq!(rt; fault, found);
+                assert!(rt; !is_of_the_end(found.cause));
+            }
+            (Answer::Last(fault), Err(found)) => {
+                assert_eq!(rt; fault, found);
+                assert!(rt; is_of_the_end(found.cause));
+            }
+            _ => panic!(rt; "a picture where a fault is found, or the reverse, on {screen:?}"),
+        }
+        Ok(())
+    }
 }
 
 /// Judges all that is found of the bytes which the slow machine has played: by a check on both
@@ -159,10 +161,14 @@ pub fn judge(
     bytes: &[u8],
     plays: &SlowMachine,
 ) -> Result<(), AllocError> {
-    let finding = plays.finding(rt, bytes.len());
-    judge_check::<PlainGrid>(rt, alloc, screen, bytes, finding)?;
-    judge_check::<PlaneGrid>(rt, alloc, screen, bytes, finding)?;
-    let end = end_of_player(rt, alloc, screen, bytes)?;
-    assert_end(rt, screen, &end, finding);
-    judge_plain_answer(rt, alloc, screen, bytes, finding)
+    let judged = Judged {
+        screen,
+        bytes,
+        finding: plays.finding(rt, bytes.len()),
+    };
+    judged.judge_check::<PlainGrid>(rt, alloc)?;
+    judged.judge_check::<PlaneGrid>(rt, alloc)?;
+    let end = judged.end_of_player(rt, alloc)?;
+    judged.assert_end(rt, &end);
+    judged.judge_plain_answer(rt, alloc)
 }

@@ -1,8 +1,9 @@
 //! What no row of `ans_samples` shows. The rows are played on two machines in the tests of the plain
 //! answer, and none of them scrolls.
 
+use super::assert_cells;
 use ans_laws::machine::Machine;
-use ans_model::cell::{Cell, Position};
+use ans_model::cell::Position;
 use ans_model::kind::Kind;
 use ans_model::size::Size;
 use arrayvec::ArrayVec;
@@ -42,11 +43,6 @@ fn line_feeds_scroll(rt: HostRuntime) {
     machine.step(&Kind::Colours(red));
     machine.step(&Kind::LineFeed);
     print(&mut machine, b"x");
-    let bytes = b"cd  x ";
     let attributes = [0x07, 0x07, 0x07, 0x07, 0x47, 0x47];
-    assert_eq!(rt; machine.cells().len(), 6);
-    for (i, cell) in machine.cells().iter().enumerate().take(6) {
-        let (byte, attribute) = (bytes[i], attributes[i]);
-        assert_eq!(rt; *cell, Cell { byte, attribute }, "cell {i}");
-    }
+    assert_cells(&rt, machine.cells(), b"cd  x ", &attributes);
 }

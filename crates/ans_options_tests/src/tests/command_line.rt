@@ -49,45 +49,43 @@ static TAKEN: [(&[&str], Options, Option<&str>); 22] = rows! {
 };
 
 /// Words with flags that say what is known, and their options.
-static STARTS: [(&[&str], Options); 13] = rows! {
-    "anscheck" "check" "--known-screen" => asked!(Check known screen);
-    "anscheck" "check" "--known-cursor" => asked!(Check known cursor);
-    "anscheck" "check" "--known-saved" => asked!(Check known saved);
-    "anscheck" "check" "--known-colours" => asked!(Check known colours);
-    "anscheck" "check" "--known-wrap" => asked!(Check known wrap);
-    "anscheck" "check" "--known-cursor" "--known-colours" => asked!(Check known cursor colours);
-    "anscheck" "check" "--known-colours" "--known-cursor" => asked!(Check known cursor colours);
-    "anscheck" "check" "--known-wrap" "--known-screen" => asked!(Check known screen wrap);
-    "anscheck" "check" "--known-screen" "--known-cursor" "--known-saved" "--known-colours"
+static STARTS: [(&[&str], Options); 13] = words! {
+    "check" "--known-screen" => asked!(Check known screen);
+    "check" "--known-cursor" => asked!(Check known cursor);
+    "check" "--known-saved" => asked!(Check known saved);
+    "check" "--known-colours" => asked!(Check known colours);
+    "check" "--known-wrap" => asked!(Check known wrap);
+    "check" "--known-cursor" "--known-colours" => asked!(Check known cursor colours);
+    "check" "--known-colours" "--known-cursor" => asked!(Check known cursor colours);
+    "check" "--known-wrap" "--known-screen" => asked!(Check known screen wrap);
+    "check" "--known-screen" "--known-cursor" "--known-saved" "--known-colours"
         => asked!(Check known screen cursor saved colours);
-    "anscheck" "check" "--known-screen" "--known-cursor" "--known-saved" "--known-colours" "--known-wrap"
-        => asked!(Check cleared);
-    "anscheck" "check" "--cleared" => asked!(Check cleared);
-    "anscheck" "check" "--cleared" "--known-saved" => asked!(Check cleared);
-    "anscheck" "check" "--known-wrap" "--cleared" => asked!(Check cleared);
+    "check" "--known-screen" "--known-cursor" "--known-saved" "--known-colours" "--known-wrap" => asked!(Check cleared);
+    "check" "--cleared" => asked!(Check cleared);
+    "check" "--cleared" "--known-saved" => asked!(Check cleared);
+    "check" "--known-wrap" "--cleared" => asked!(Check cleared);
 };
 
 /// Words that ask for a picture, their options, and the file.
-static SHOWN: [(&[&str], Options, Option<&str>); 18] = rows! {
-    "anscheck" "show" => shown!(Terminal cleared), None;
-    "anscheck" "show" "f" => shown!(Terminal cleared), Some("f");
-    "anscheck" "show" "-" => shown!(Terminal cleared), Some("-");
-    "anscheck" "show" "--" "--html" => shown!(Terminal cleared), Some("--html");
-    "anscheck" "show" "--vga" "f" => shown!(Vga cleared), Some("f");
-    "anscheck" "show" "f" "--html" => shown!(Page cleared), Some("f");
-    "anscheck" "show" "--html" "--vga" => shown!(Page cleared), None;
-    "anscheck" "show" "--vga" "--html" "f" => shown!(Page cleared), Some("f");
-    "anscheck" "show" "--any" => shown!(Terminal any), None;
-    "anscheck" "show" "--any" "--vga" "f" => shown!(Vga any), Some("f");
-    "anscheck" "show" "--known-screen" => shown!(Terminal known screen), None;
-    "anscheck" "show" "--known-cursor" => shown!(Terminal known cursor), None;
-    "anscheck" "show" "--known-saved" => shown!(Terminal known saved), None;
-    "anscheck" "show" "--known-colours" => shown!(Terminal known colours), None;
-    "anscheck" "show" "--known-wrap" => shown!(Terminal known wrap), None;
-    "anscheck" "show" "--any" "--known-wrap" => shown!(Terminal known wrap), None;
-    "anscheck" "show" "--html" "--known-cursor" "f" "--known-screen" "--any"
-        => shown!(Page known screen cursor), Some("f");
-    "anscheck" "show" "--known-screen" "--known-cursor" "--known-saved" "--known-colours" "--known-wrap"
+static SHOWN: [(&[&str], Options, Option<&str>); 18] = words! {
+    "show" => shown!(Terminal cleared), None;
+    "show" "f" => shown!(Terminal cleared), Some("f");
+    "show" "-" => shown!(Terminal cleared), Some("-");
+    "show" "--" "--html" => shown!(Terminal cleared), Some("--html");
+    "show" "--vga" "f" => shown!(Vga cleared), Some("f");
+    "show" "f" "--html" => shown!(Page cleared), Some("f");
+    "show" "--html" "--vga" => shown!(Page cleared), None;
+    "show" "--vga" "--html" "f" => shown!(Page cleared), Some("f");
+    "show" "--any" => shown!(Terminal any), None;
+    "show" "--any" "--vga" "f" => shown!(Vga any), Some("f");
+    "show" "--known-screen" => shown!(Terminal known screen), None;
+    "show" "--known-cursor" => shown!(Terminal known cursor), None;
+    "show" "--known-saved" => shown!(Terminal known saved), None;
+    "show" "--known-colours" => shown!(Terminal known colours), None;
+    "show" "--known-wrap" => shown!(Terminal known wrap), None;
+    "show" "--any" "--known-wrap" => shown!(Terminal known wrap), None;
+    "show" "--html" "--known-cursor" "f" "--known-screen" "--any" => shown!(Page known screen cursor), Some("f");
+    "show" "--known-screen" "--known-cursor" "--known-saved" "--known-colours" "--known-wrap"
         => shown!(Terminal cleared), None;
 };
 

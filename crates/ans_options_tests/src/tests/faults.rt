@@ -20,74 +20,80 @@ fn expect_kind(rt: &(impl Abort + AllocGlobal), words: &[&str], kind: ErrorKind)
     }
 }
 
+/// Words, and of which kind `clap` says they are.
+pub(super) type Row = (&'static [&'static str], ErrorKind);
+
 /// Words that ask for help or for the version, and which.
-static REQUESTS: [(&[&str], ErrorKind); 20] = rows! {
-    "anscheck" "--help" => DisplayHelp;
-    "anscheck" "-h" => DisplayHelp;
-    "anscheck" "help" => DisplayHelp;
-    "anscheck" "needs" "--help" => DisplayHelp;
-    "anscheck" "check" "--help" => DisplayHelp;
-    "anscheck" "check" "-h" => DisplayHelp;
-    "anscheck" "check" "--cleared" "f" "--help" => DisplayHelp;
-    "anscheck" "show" "--help" => DisplayHelp;
-    "anscheck" "sauce" "--help" => DisplayHelp;
-    "anscheck" "tokens" "--help" => DisplayHelp;
-    "anscheck" "help" "why" => DisplayHelp;
-    "anscheck" "help" "needs" => DisplayHelp;
-    "anscheck" "help" "check" => DisplayHelp;
-    "anscheck" "help" "show" => DisplayHelp;
-    "anscheck" "help" "sauce" => DisplayHelp;
-    "anscheck" "help" "tokens" => DisplayHelp;
-    "anscheck" "--version" => DisplayVersion;
-    "anscheck" "-V" => DisplayVersion;
-    "anscheck" "-V" "check" => DisplayVersion;
-    "other" "--version" => DisplayVersion;
+static REQUESTS: [Row; 19] = words! {
+    "--help" => DisplayHelp;
+    "-h" => DisplayHelp;
+    "help" => DisplayHelp;
+    "needs" "--help" => DisplayHelp;
+    "check" "--help" => DisplayHelp;
+    "check" "-h" => DisplayHelp;
+    "check" "--cleared" "f" "--help" => DisplayHelp;
+    "show" "--help" => DisplayHelp;
+    "sauce" "--help" => DisplayHelp;
+    "tokens" "--help" => DisplayHelp;
+    "help" "why" => DisplayHelp;
+    "help" "needs" => DisplayHelp;
+    "help" "check" => DisplayHelp;
+    "help" "show" => DisplayHelp;
+    "help" "sauce" => DisplayHelp;
+    "help" "tokens" => DisplayHelp;
+    "--version" => DisplayVersion;
+    "-V" => DisplayVersion;
+    "-V" "check" => DisplayVersion;
 };
 
-/// Mistakes, and of which kind they are.
-static MISTAKES: [(&[&str], ErrorKind); 32] = rows! {
+/// Words without any behind the program's name, or without that name.
+static ALONE: [Row; 3] = rows! {
     => MissingSubcommand;
     "anscheck" => MissingSubcommand;
     "help" => MissingSubcommand;
-    "anscheck" "other" => InvalidSubcommand;
-    "anscheck" "need" => InvalidSubcommand;
-    "anscheck" "helps" => InvalidSubcommand;
-    "anscheck" "--" "help" => InvalidSubcommand;
-    "anscheck" "check" "--bogus" => UnknownArgument;
-    "anscheck" "check" "--version" => UnknownArgument;
-    "anscheck" "check" "-V" => UnknownArgument;
-    "anscheck" "check" "f" "g" => UnknownArgument;
-    "anscheck" "check" "help" "f" => UnknownArgument;
-    "anscheck" "check" "--cells" "--cells" => ArgumentConflict;
-    "anscheck" "check" "--known-wrap" "--known-wrap" => ArgumentConflict;
-    "anscheck" "check" "--known" => UnknownArgument;
-    "anscheck" "check" "--html" => UnknownArgument;
-    "anscheck" "check" "--any" => UnknownArgument;
-    "anscheck" "show" "--cells" => UnknownArgument;
-    "anscheck" "show" "--cleared" => UnknownArgument;
-    "anscheck" "show" "f" "g" => UnknownArgument;
-    "anscheck" "show" "--html" "--html" => ArgumentConflict;
-    "anscheck" "tokens" "--vga" => UnknownArgument;
-    "anscheck" "sauce" "--cleared" => UnknownArgument;
-    "anscheck" "sauce" "--known-screen" => UnknownArgument;
-    "anscheck" "tokens" "--known-cursor" => UnknownArgument;
-    "anscheck" "sauce" "--cells" => UnknownArgument;
-    "anscheck" "tokens" "--cells" => UnknownArgument;
-    "anscheck" "why" "--cleared" => UnknownArgument;
-    "anscheck" "needs" "--cells" => UnknownArgument;
-    "anscheck" "needs" "--cleared" => UnknownArgument;
-    "anscheck" "needs" "--known-wrap" => UnknownArgument;
-    "anscheck" "needs" "f" "g" => UnknownArgument;
+};
+
+/// Mistakes, and of which kind they are.
+static MISTAKES: [Row; 29] = words! {
+    "other" => InvalidSubcommand;
+    "need" => InvalidSubcommand;
+    "helps" => InvalidSubcommand;
+    "--" "help" => InvalidSubcommand;
+    "check" "--bogus" => UnknownArgument;
+    "check" "--version" => UnknownArgument;
+    "check" "-V" => UnknownArgument;
+    "check" "f" "g" => UnknownArgument;
+    "check" "help" "f" => UnknownArgument;
+    "check" "--cells" "--cells" => ArgumentConflict;
+    "check" "--known-wrap" "--known-wrap" => ArgumentConflict;
+    "check" "--known" => UnknownArgument;
+    "check" "--html" => UnknownArgument;
+    "check" "--any" => UnknownArgument;
+    "show" "--cells" => UnknownArgument;
+    "show" "--cleared" => UnknownArgument;
+    "show" "f" "g" => UnknownArgument;
+    "show" "--html" "--html" => ArgumentConflict;
+    "tokens" "--vga" => UnknownArgument;
+    "sauce" "--cleared" => UnknownArgument;
+    "sauce" "--known-screen" => UnknownArgument;
+    "tokens" "--known-cursor" => UnknownArgument;
+    "sauce" "--cells" => UnknownArgument;
+    "tokens" "--cells" => UnknownArgument;
+    "why" "--cleared" => UnknownArgument;
+    "needs" "--cells" => UnknownArgument;
+    "needs" "--cleared" => UnknownArgument;
+    "needs" "--known-wrap" => UnknownArgument;
+    "needs" "f" "g" => UnknownArgument;
 };
 
 macro_rules! after_help {
     ($($($word:literal)+ => $kind:ident;)*) => {
-        rows! { $("anscheck" "help" $($word)+ => $kind;)* }
+        words! { $("help" $($word)+ => $kind;)* }
     };
 }
 
 /// What may not follow `help`, and of which kind that mistake is.
-static HELP_MISTAKES: [(&[&str], ErrorKind); 12] = after_help! {
+static HELP_MISTAKES: [Row; 12] = after_help! {
     "nonsense" => InvalidSubcommand;
     "need" => InvalidSubcommand;
     "help" => InvalidSubcommand;
@@ -102,23 +108,26 @@ static HELP_MISTAKES: [(&[&str], ErrorKind); 12] = after_help! {
     "needs" "--help" => UnknownArgument;
 };
 
+/// Asserts so of each row.
+pub(super) fn expect_kinds(rt: &(impl Abort + AllocGlobal), rows: &[Row]) {
+    for (words, kind) in rows {
+        expect_kind(rt, words, *kind);
+    }
+}
+
 #[test]
 fn requests_are_told_from_mistakes(rt: HostRuntime) {
-    for (words, kind) in &REQUESTS {
-        expect_kind(&rt, words, *kind);
-    }
+    expect_kinds(&rt, &REQUESTS);
+    expect_kind(&rt, &["other", "--version"], DisplayVersion);
 }
 
 #[test]
 fn mistakes_have_their_kinds(rt: HostRuntime) {
-    for (words, kind) in &MISTAKES {
-        expect_kind(&rt, words, *kind);
-    }
+    expect_kinds(&rt, &ALONE);
+    expect_kinds(&rt, &MISTAKES);
 }
 
 #[test]
 fn help_takes_one_command(rt: HostRuntime) {
-    for (words, kind) in &HELP_MISTAKES {
-        expect_kind(&rt, words, *kind);
-    }
+    expect_kinds(&rt, &HELP_MISTAKES);
 }

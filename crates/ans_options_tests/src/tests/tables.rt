@@ -1,8 +1,9 @@
 //! The names and the form of a table.
+use super::faults::{Row, expect_kinds};
 use super::read_words;
-use ans_options::{Command, Options, TableForm, WordsError, table_names};
+use ans_options::{Command, Options, TableForm, table_names};
 use ans_samples::start;
-use clap::error::ErrorKind;
+use clap::error::ErrorKind::{ArgumentConflict, DisplayHelp, UnknownArgument};
 use std::process::Abort;
 
 /// The options of a table in a form.
@@ -13,66 +14,30 @@ macro_rules! table {
 }
 
 /// Words that ask for a table, their options, and the names.
-static TABLES: [(&[&str], Options, &[&str]); 12] = [
-    (&["anscheck", "table"], table!(Headed), &[]),
-    (&["anscheck", "table", "a"], table!(Headed), &["a"]),
-    (
-        &["anscheck", "table", "a", "b", "a"],
-        table!(Headed),
-        &["a", "b", "a"],
-    ),
-    (
-        &["anscheck", "table", "a", "--no-header", "b"],
-        table!(Bare),
-        &["a", "b"],
-    ),
-    (&["anscheck", "table", "--no-header"], table!(Bare), &[]),
-    (&["anscheck", "table", "--json"], table!(Json), &[]),
-    (
-        &["anscheck", "table", "--no-header", "a", "--json"],
-        table!(Json),
-        &["a"],
-    ),
-    (
-        &["anscheck", "table", "--", "--json"],
-        table!(Headed),
-        &["--json"],
-    ),
-    (
-        &["anscheck", "table", "--", "--no-header"],
-        table!(Headed),
-        &["--no-header"],
-    ),
-    (&["anscheck", "table", ""], table!(Headed), &[""]),
-    (
-        &["anscheck", "table", "a", "-"],
-        table!(Headed),
-        &["a", "-"],
-    ),
-    (&["anscheck", "table", "help"], table!(Headed), &["help"]),
-];
+static TABLES: [(&[&str], Options, &[&str]); 12] = words! {
+    "table" => table!(Headed), &[];
+    "table" "a" => table!(Headed), &["a"];
+    "table" "a" "b" "a" => table!(Headed), &["a", "b", "a"];
+    "table" "a" "--no-header" "b" => table!(Bare), &["a", "b"];
+    "table" "--no-header" => table!(Bare), &[];
+    "table" "--json" => table!(Json), &[];
+    "table" "--no-header" "a" "--json" => table!(Json), &["a"];
+    "table" "--" "--json" => table!(Headed), &["--json"];
+    "table" "--" "--no-header" => table!(Headed), &["--no-header"];
+    "table" "" => table!(Headed), &[""];
+    "table" "a" "-" => table!(Headed), &["a", "-"];
+    "table" "help" => table!(Headed), &["help"];
+};
 
 /// Words that are wrong, and the kind of the mistake.
-static FAULTS: [(&[&str], ErrorKind); 6] = [
-    (
-        &["anscheck", "table", "--cleared"],
-        ErrorKind::UnknownArgument,
-    ),
-    (
-        &["anscheck", "table", "--no-header", "--no-header"],
-        ErrorKind::ArgumentConflict,
-    ),
-    (
-        &["anscheck", "check", "--no-header"],
-        ErrorKind::UnknownArgument,
-    ),
-    (
-        &["anscheck", "table", "--json", "--json"],
-        ErrorKind::ArgumentConflict,
-    ),
-    (&["anscheck", "show", "--json"], ErrorKind::UnknownArgument),
-    (&["anscheck", "help", "table"], ErrorKind::DisplayHelp),
-];
+static FAULTS: [Row; 6] = words! {
+    "table" "--cleared" => UnknownArgument;
+    "table" "--no-header" "--no-header" => ArgumentConflict;
+    "check" "--no-header" => UnknownArgument;
+    "table" "--json" "--json" => ArgumentConflict;
+    "show" "--json" => UnknownArgument;
+    "help" "table" => DisplayHelp;
+};
 
 /// The names that words give. Where memory was refused they are read once more.
 fn names_of(rt: &(impl Abort + AllocGlobal), words: &[&str]) -> Vec<String> {
@@ -105,10 +70,5 @@ fn words_name_the_files_of_a_table(rt: HostRuntime) {
 
 #[test]
 fn wrong_words_of_a_table_have_their_kind(rt: HostRuntime) {
-    for (words, kind) in &FAULTS {
-        match read_words(&rt, words) {
-            Err(WordsError::Clap(error)) => assert!(rt; error.kind() == *kind),
-            _ => panic!(rt; "no error of clap's"),
-        }
-    }
+    expect_kinds(&rt, &FAULTS);
 }

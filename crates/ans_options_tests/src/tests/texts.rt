@@ -135,28 +135,27 @@ const TABLE_HELP: &str = "\
     \x20 2  A file could not be read, or the table could not be written\n";
 
 /// Words that ask for no help, and the text.
-static TEXTS: [(&[&str], &str); 10] = rows! {
-    "anscheck" "--version" => "anscheck 0.1.0 (rattle-kit-13f)\n";
-    "anscheck" "-V" => "anscheck 0.1.0 (rattle-kit-13f)\n";
-    "anscheck" "check" "--bogus" => mistake!(
+static TEXTS: [(&[&str], &str); 10] = words! {
+    "--version" => "anscheck 0.1.0 (rattle-kit-13f)\n";
+    "-V" => "anscheck 0.1.0 (rattle-kit-13f)\n";
+    "check" "--bogus" => mistake!(
         "unexpected argument '--bogus' found\n\n  tip: to pass '--bogus' as a value, use '-- --bogus'",
         "check [OPTIONS] [FILE]"
     );
-    "anscheck" "check" "f" "g" => mistake!("unexpected argument 'g' found", "check [OPTIONS] [FILE]");
-    "anscheck" => mistake!(
+    "check" "f" "g" => mistake!("unexpected argument 'g' found", "check [OPTIONS] [FILE]");
+    => mistake!(
         "'anscheck' requires a subcommand but one was not provided\n\
         \x20 [subcommands: why, needs, check, show, sauce, tokens, table]",
         "<COMMAND>"
     );
-    "anscheck" "other" => mistake!("unrecognized subcommand 'other'", "<COMMAND>");
-    "anscheck" "help" "nonsense" => mistake!("unrecognized subcommand 'nonsense'", "<COMMAND>");
-    "anscheck" "help" "chek" => mistake!(
+    "other" => mistake!("unrecognized subcommand 'other'", "<COMMAND>");
+    "help" "nonsense" => mistake!("unrecognized subcommand 'nonsense'", "<COMMAND>");
+    "help" "chek" => mistake!(
         "unrecognized subcommand 'chek'\n\n  tip: a similar subcommand exists: 'check'",
         "<COMMAND>"
     );
-    "anscheck" "help" "--cleared" => mistake!("unrecognized subcommand '--cleared'", "<COMMAND>");
-    "anscheck" "help" "check" "more"
-        => mistake!("unexpected argument 'more' found", "check [OPTIONS] [FILE]");
+    "help" "--cleared" => mistake!("unrecognized subcommand '--cleared'", "<COMMAND>");
+    "help" "check" "more" => mistake!("unexpected argument 'more' found", "check [OPTIONS] [FILE]");
 };
 
 /// What `clap` says of words. Where memory was refused it says it once more.

@@ -1,5 +1,5 @@
 //! What is written of contents' needs.
-use crate::tests::{SOME_KNOWN, parts_of};
+use crate::tests::{NO_RECORD, NO_RECORD_TOLD, SOME_KNOWN, parts_of};
 use ans_model::start::Start;
 use ans_report::{Needs, write_needs};
 use ans_samples::sample_file;
@@ -69,11 +69,5 @@ fn a_refusal_stands_in_place_of_the_needs(rt: HostRuntime) -> Result<(), Fail> {
 
 #[test]
 fn a_refused_record_is_told_alone(rt: HostRuntime) {
-    let fault = Fault {
-        offset: 127,
-        cause: Cause::NoRecord,
-    };
-    let needs = Needs::Refused(None, fault);
-    let text: &[u8] = b"verdict: refused\nat 127: F1 no SAUCE record\n";
-    expect_needs(&rt, &needs, text);
+    expect_needs(&rt, &Needs::Refused(None, NO_RECORD), NO_RECORD_TOLD);
 }

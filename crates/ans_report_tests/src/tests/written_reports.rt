@@ -1,10 +1,10 @@
 //! Reports on files, as they are written.
-use crate::tests::parts_of;
+use crate::tests::{NO_RECORD, NO_RECORD_TOLD, parts_of};
 use ans_model::start::Start;
 use ans_play::{Picture, Player};
 use ans_report::{Report, Tried, WriteFault, write_refusal, write_report};
 use ans_samples::{sample_file, start};
-use ans_sauce::{Cause, Fault, MAX_FILE, Parts};
+use ans_sauce::{Fault, MAX_FILE, Parts};
 use ans_screen::PlainGrid;
 use ans_trials::writes;
 use std::io::Write;
@@ -97,26 +97,21 @@ fn reports_show_the_picture_or_the_fault(rt: HostRuntime) -> Result<(), Fail> {
 
 #[test]
 fn a_refusal_without_parts_is_two_lines(rt: HostRuntime) {
-    let fault = Fault {
-        offset: 127,
-        cause: Cause::NoRecord,
-    };
-    let text: &[u8] = b"verdict: refused\nat 127: F1 no SAUCE record\n";
     assert!(rt;
-        writes(text, |device| {
+        writes(NO_RECORD_TOLD, |device| {
             assert!(rt; !device.failed());
             let report: Report<'_, PlainGrid> = Report::Refused {
                 parts: None,
                 start: Start::ANY,
-                fault,
+                fault: NO_RECORD,
             };
             write_report(device, &report)
         })
     );
     assert!(rt;
-        writes(text, |device| {
+        writes(NO_RECORD_TOLD, |device| {
             assert!(rt; !device.failed());
-            write_refusal(device, &fault)
+            write_refusal(device, &NO_RECORD)
         })
     );
 }

@@ -18,7 +18,7 @@ const FULL_ROWS: &[u8] = b"\x1b[0m\
     ";
 
 /// A content, the width, and the least number of lines with which it passes.
-const NEEDED: [(&[u8], usize, Option<u16>); 34] = [
+static NEEDED: [(&[u8], usize, Option<u16>); 34] = [
     (b"", 3, Some(1)),
     (b"Hi", 2, Some(1)),
     (b"abc", 2, Some(2)),
@@ -70,28 +70,34 @@ fn passes(
     Ok(fed && player.finish().is_ok())
 }
 
-#[test]
-fn lines_are_those_of_the_player(rt: HostRuntime) -> Result<(), Fail> {
-    for (content, width, lines) in NEEDED {
-        let most = lines.unwrap_or(260);
-        for n in 1..(most as usize).saturating_add(3) {
-            let enough = lines.is_some() && n >= most as usize;
-            assert_eq!(&rt;
-                passes(&rt, rt.alloc(), width, n, content)?,
-                enough,
-                "in {content:?}"
-            );
-        }
+/// Asserts how many lines a content needs, and that with fewer the player finds a fault and with more
+/// none.
+fn expect_lines(
+    rt: &impl Abort,
+    alloc: Global,
+    width: usize,
+    content: &[u8],
+    lines: Option<u16>,
+) -> Result<(), Fail> {
+    assert!(rt; 1 <= width && width <= 80 && content.len() < 1000);
+    assert_eq!(rt; least_lines(width, content), lines, "in {content:?}");
+    let most = lines.unwrap_or(260) as usize;
+    for n in 1..most.saturating_add(3) {
+        let enough = lines.is_some() && n >= most;
+        assert!(rt;
+            passes(rt, alloc, width, n, content)? == enough,
+            "in {content:?}"
+        );
     }
     Ok(())
 }
 
 #[test]
-fn contents_need_lines(rt: HostRuntime) {
-    for (content, width, lines) in NEEDED {
-        assert!(&rt; 1 <= width && width <= 80 && content.len() < 1000);
-        assert_eq!(&rt; least_lines(width, content), lines, "in {content:?}");
+fn contents_need_lines(rt: HostRuntime) -> Result<(), Fail> {
+    for (content, width, lines) in &NEEDED {
+        expect_lines(&rt, rt.alloc(), *width, content, *lines)?;
     }
+    Ok(())
 }
 
 /// Line feeds down to the last line that a record may state, and one more.

@@ -4,6 +4,8 @@ use super::fault_of;
 use ans_model::size::Size;
 use ans_model::start::Start;
 use ans_why::is_taller;
+use std::alloc::Global;
+use std::process::Abort;
 use std::test::Fail;
 
 const SCREEN_AND_CURSOR: Start = Start {
@@ -20,7 +22,7 @@ macro_rules! rows {
 
 /// A content that is good from each start of the class, the width and the lines, and whether it is
 /// taller.
-const GOOD: [(&[u8], Start, usize, usize, bool); 22] = rows! {
+static GOOD: [(&[u8], Start, usize, usize, bool); 22] = rows! {
     b"", Start::CLEARED, 2 x 1 => true;
     b"Hi", Start::CLEARED, 2 x 1 => true;
     b"a\r\nb\r\n", Start::CLEARED, 3 x 2 => true;
@@ -45,15 +47,25 @@ const GOOD: [(&[u8], Start, usize, usize, bool); 22] = rows! {
     b"\x1b[2;1H\x1b[s\x1b[H\x1b[u\x1b[1B\x1b[H", Start::CLEARED, 8 x 2 => true;
 };
 
+/// Asserts that a content is good, and whether it is taller.
+fn expect_taller(
+    rt: &impl Abort,
+    alloc: Global,
+    (content, start, width, lines, taller): (&[u8], Start, usize, usize, bool),
+) -> Result<(), Fail> {
+    assert!(rt; 1 <= width && width <= 80 && content.len() < 1000);
+    assert!(rt; 1 <= lines && lines <= 1000);
+    let fault = fault_of(alloc, width, lines, start, content)?;
+    assert_eq!(rt; fault, None, "in {content:?}");
+    let found = is_taller(Size::new(width, lines), start, content);
+    assert_eq!(rt; found, taller, "in {content:?}");
+    Ok(())
+}
+
 #[test]
 fn good_contents_are_taller_or_not(rt: HostRuntime) -> Result<(), Fail> {
-    for (content, start, width, lines, taller) in GOOD {
-        assert!(&rt; 1 <= width && width <= 80 && content.len() < 1000);
-        assert!(&rt; 1 <= lines && lines <= 1000);
-        let fault = fault_of(rt.alloc(), width, lines, start, content)?;
-        assert_eq!(&rt; fault, None, "in {content:?}");
-        let found = is_taller(Size::new(width, lines), start, content);
-        assert_eq!(&rt; found, taller, "in {content:?}");
+    for row in &GOOD {
+        expect_taller(&rt, rt.alloc(), *row)?;
     }
     Ok(())
 }
