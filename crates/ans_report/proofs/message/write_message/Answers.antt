@@ -5,6 +5,6 @@ use Rattle.ans_report.proofs.message.write_message.Goals as goal
 pub returns-clause-bytes : goal.returns-clause-bytes
 returns-clause-bytes g c =
     let written = WritesText-finished c.args.writer.now c.finish.result c.new-out.ensures.unchanged
-    c.new-out.ensures.empty (rw c.as_bytes.ensures.value at c.put_named_line.ensures) c.finish.ensures.handed c.finish.ensures.device
-    c.finish.ensures.empty in
+    c.new-out.ensures.empty (rw c.as_bytes.ensures.value at c.put_named_line.ensures) c.finish.ensures.handed
+    c.finish.ensures.device c.finish.ensures.empty in
     search (rules, written)

@@ -15,8 +15,8 @@ loop-byte-preserved c =
     record {
       breaks = length-set _ _ _ ∙ h.breaks;
       characters = length-set _ _ _ ∙ h.characters;
-      broken = text_more (λ (t : ShortText 48). text_of t) (break_in c.args.form) c.loop-byte.breaks i c.run_break.result breaks h.broken
-          c.run_break.ensures;
-      shown = text_more (λ (t : ShortText 8). text_of t) (character_in c.args.form) c.loop-byte.characters i c.character.result characters
-          h.shown c.character.ensures;
+      broken = text_more (λ (t : ShortText 48). text_of t) (break_in c.args.form) c.loop-byte.breaks i
+          c.run_break.result breaks h.broken c.run_break.ensures;
+      shown = text_more (λ (t : ShortText 8). text_of t) (character_in c.args.form) c.loop-byte.characters i
+          c.character.result characters h.shown c.character.ensures;
     }
