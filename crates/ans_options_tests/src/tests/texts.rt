@@ -136,8 +136,8 @@ const TABLE_HELP: &str = "\
 
 /// Words that ask for no help, and the text.
 static TEXTS: [(&[&str], &str); 10] = words! {
-    "--version" => "anscheck 0.1.0 (rattle-kit-13f)\n";
-    "-V" => "anscheck 0.1.0 (rattle-kit-13f)\n";
+    "--version" => "anscheck 0.1.0 (rattle logic dac8208d650f15bf)\n";
+    "-V" => "anscheck 0.1.0 (rattle logic dac8208d650f15bf)\n";
     "check" "--bogus" => mistake!(
         "unexpected argument '--bogus' found\n\n  tip: to pass '--bogus' as a value, use '-- --bogus'",
         "check [OPTIONS] [FILE]"
