@@ -66,8 +66,8 @@ takes_lent r z old new rows bytes exact = record {
 }
 
 -- want of room is handed on, whatever the answer would have been
-pub within_err : {S T U E D : Type 0} {has_room may_lack : S → Size → Type 0} {a : S} {r : Result T E} {lost : Result U D}
-    (file : List ℕ) → AnswersWithin has_room may_lack file a r → IsErr r → IsErr lost
+pub within_err : {S T U E D : Type 0} {has_room may_lack : S → Size → Type 0} {a : S} {r : Result T E}
+    {lost : Result U D} (file : List ℕ) → AnswersWithin has_room may_lack file a r → IsErr r → IsErr lost
     → AnswersWithin has_room may_lack file a lost
 within_err {r = r} file p is told = record {
   room = λ apart accepts h. absurd (not_both r (p.room apart accepts h) is);

@@ -1,6 +1,6 @@
 -- What a split and a play say of a file.
-use Rattle.std.proofs.Common.{◌≡◌, ◌∙◌, ◌≤◌, ap, arith, length, length-append, ℕ, Bool, true, false, List, [], ◌∷◌, subst, inl, inr, ◌⊎◌, Some, None, ap₂}
-use Rattle.std.proofs.Common.{if◌then◌else◌, refl}
+use Rattle.std.proofs.Common.{◌≡◌, ◌∙◌, ◌≤◌, ap, ap₂, arith, length, length-append, ℕ, Bool, true, false, List, []}
+use Rattle.std.proofs.Common.{◌∷◌, subst, inl, inr, ◌⊎◌, Some, None, if◌then◌else◌, refl}
 use Rattle.std.specs.Prelude.{IfSome, IsSome, Result, Ok, Err, IfOk, IfErr}
 use Rattle.std.specs.List.{AllByRecursion}
 use Rattle.std.proofs.lemmas.List.{length-take}

@@ -33,7 +33,8 @@ use Rattle.ans_why.specs.Taller.{IsTaller}
 use Rattle.ans_hints.specs.HintsText.{hints_text}
 use Rattle.ans_hints.specs.declared.hints.Hints.{Hints}
 use Rattle.ans_explain.specs.Blamed.{AreToBlame}
-use Rattle.ans_explain.specs.Explained.{AreHintsOf, AreLines, EndsHints, IsPass, IsRefusal, IsReliance, IsTrueOf, non_blink_by, size_by}
+use Rattle.ans_explain.specs.Explained.{AreHintsOf, AreLines, EndsHints, IsPass, IsRefusal, IsReliance, IsTrueOf}
+use Rattle.ans_explain.specs.Explained.{non_blink_by, size_by}
 use Rattle.ans_explain.specs.Explained.{IsShown, ShowsPlaces}
 use Rattle.ans_explain.specs.WhyText.{answer_text, bytes_line, lines_line, mend_line, place_text}
 use Rattle.ans_explain.specs.WhyText.{reliance_lines, shown_lines, why_text}

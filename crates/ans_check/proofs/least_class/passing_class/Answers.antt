@@ -21,6 +21,7 @@ loop-preserved g c =
     let content = content_of c.args.parts.now in
     record {
       refused = rw c.made_known-wider.ensures (not_good_by z content (with_part c.in-Some.mended.part true c.loop.class)
-          c.in-Some.mended.fault c.in-Some-fault.next (rw c.in-Some.is at c.in_ok-mended.ensures.end) c.in-Some-fault.is);
+          c.in-Some.mended.fault c.in-Some-fault.next (rw c.in-Some.is at c.in_ok-mended.ensures.end)
+          c.in-Some-fault.is);
       keeps = keeps_then c.loop.invariant.keeps c.in_ok-mended.ensures.room.keeps;
     }
