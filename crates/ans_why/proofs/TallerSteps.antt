@@ -267,4 +267,5 @@ module _ (z : Size) (lines : ℕ) (taller : z.lines ≤ lines) (some_columns : 0
       alike h.cursor h.saved h.wrap (ap (λ (a : ℕ). attribute_after_all a numbers) h.attribute) h.screen
   alike_step t s low high (Wrap on) room ft fs h = alike h.cursor h.saved (refl, refl, refl) h.attribute h.screen
   alike_step t s low high token room ft fs h =
-      alike (alike_move token t.cursor s.cursor low.cursor high.cursor room h.cursor) h.saved h.wrap h.attribute h.screen
+      alike (alike_move token t.cursor s.cursor low.cursor high.cursor room h.cursor) h.saved h.wrap h.attribute
+      h.screen

@@ -30,8 +30,8 @@ returns-clause-shows c =
       | then-begins_with_tab w ↦
           let tab : begins_with_tab b.rest ≡ true = sym told ∙ w.if-begins_with_tab.true in
           rw w.watches-is (shows_before_blank z class content f b (at 0 0) w.blanks.new.self tab
-          (w.blanks.ensures.watched class b.tokens f.cause (b.tab tab) (reads_bytes read.front b.tokens read.reads) b.clean
-          was))
+          (w.blanks.ensures.watched class b.tokens f.cause (b.tab tab) (reads_bytes read.front b.tokens read.reads)
+          b.clean was))
       | else-begins_with_tab w ↦
           let no_tab : begins_with_tab b.rest ≡ false = sym told ∙ w.if-begins_with_tab.false in
           rw w.watches-is (shows_before_token z class content f b (at 0 0) c.watch_tokens-watches.result no_tab was)
