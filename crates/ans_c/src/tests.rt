@@ -39,48 +39,45 @@ fn sizes_are_told(rt: HostRuntime) {
     assert_eq!(rt; (fault.number, fault.offset), (1, 2));
 }
 
+/// What is lent for a picture, beside its rows.
+#[derive(Drop)]
+struct Lent {
+    bytes: [u8; 16],
+    glyphs: [u8; 3],
+    attributes: [u8; 3],
+    fault: ToldFault,
+}
+
+impl Lent {
+    /// What `ans_check` answers about the drawing on these rows.
+    fn check(&mut self, known: u32, rows: &mut [LentRow]) -> u32 {
+        ans_check(
+            &drawing(),
+            known,
+            rows,
+            &mut self.bytes,
+            &mut self.glyphs,
+            &mut self.attributes,
+            &mut self.fault,
+        )
+    }
+}
+
 #[test]
 fn pictures_are_copied(rt: HostRuntime) {
-    let file = drawing();
     let mut rows = [LentRow::new(); 2];
-    let mut bytes = [0x55u8; 16];
-    let mut glyphs = [0u8; 3];
-    let mut attributes = [0u8; 3];
-    let mut fault = no_fault();
-    let answer = ans_check(
-        &file,
-        31,
-        &mut rows,
-        &mut bytes,
-        &mut glyphs,
-        &mut attributes,
-        &mut fault,
-    );
-    assert_eq!(rt; answer, PASS);
-    assert_eq!(rt; glyphs, *b"Hi\x00");
-    assert_eq!(rt; attributes, [7, 7, 0]);
-    let answer = ans_check(
-        &file,
-        0,
-        &mut rows,
-        &mut bytes,
-        &mut glyphs,
-        &mut attributes,
-        &mut fault,
-    );
-    assert_eq!(rt; answer, REFUSED);
-    assert_eq!(rt; (fault.number, fault.offset), (22, 0));
-    let mut one_row = [LentRow::new(); 1];
-    let answer = ans_check(
-        &file,
-        31,
-        &mut one_row,
-        &mut bytes,
-        &mut glyphs,
-        &mut attributes,
-        &mut fault,
-    );
-    assert_eq!(rt; answer, NO_ROOM);
+    let mut lent = Lent {
+        bytes: [0x55; 16],
+        glyphs: [0; 3],
+        attributes: [0; 3],
+        fault: no_fault(),
+    };
+    assert_eq!(rt; lent.check(31, &mut rows), PASS);
+    assert_eq!(rt; lent.glyphs, *b"Hi\x00");
+    assert_eq!(rt; lent.attributes, [7, 7, 0]);
+    assert_eq!(rt; lent.check(0, &mut rows), REFUSED);
+    assert_eq!(rt; (lent.fault.number, lent.fault.offset), (22, 0));
+    assert_eq!(rt; lent.check(31, &mut [LentRow::new(); 1]), NO_ROOM);
 }
 
 #[test]
