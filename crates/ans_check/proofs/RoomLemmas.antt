@@ -1,5 +1,5 @@
 -- The room that plays one after the other take.
-use Rattle.std.proofs.Common.{◌≡◌, ◌∙◌, ℕ, List, length, Ok, Err, ap, ap₂, refl, subst, sym}
+use Rattle.std.proofs.Common.{◌≡◌, ◌∙◌, ℕ, List, length, Ok, Err, ap, ap₂, subst, sym}
 use Rattle.std.specs.Prelude.{◌↔◌, Result, IsOk, IsErr}
 use Rattle.ans_model.specs.Screen.State.{Size, sized}
 use Rattle.ans_model.proofs.AcceptedFiles.{one_layout}

@@ -18,7 +18,7 @@ pub record IsLeastOf (parts : Parts) (l : Least) : Type 0 where
   pub nothing : IfNone l.fault (l.class ≡ none_known)
   pub fault : IfSome l.fault (λ f. (l.class ≢ none_known) × Deserves (parts_size parts) none_known (content_of parts) f)
 
--- this is true of the file
+-- what the plays come to is true of the file
 abbrev pub IsPlayedFile : List ℕ → Played → Type 0
 IsPlayedFile file (NoContent fault) = record_fault file ≡ Some fault
 IsPlayedFile file (Refused parts fault) =

@@ -3,7 +3,7 @@
 ghost use Rattle.std.specs.Prelude.{◌≡◌, ◌≢◌, ◌↔◌, [], Err, None, false, IsTrue, IfSome, IsSomeAnd};
 ghost use Rattle.std.specs.Prelude.{option_map, string_bytes, true, map, IfOk};
 ghost use Rattle.std.specs.List.{list_any};
-ghost use Rattle.ans_options.specs.CommandLine.{AreOptionsOf, faults_of, is_table, texts_of};
+ghost use Rattle.ans_options.specs.CommandLine.{AreOptionsOf, faults_of, texts_of};
 ghost use Rattle.ans_write.specs.Tried.{has_failed};
 ghost use Rattle.ans_check.specs.Answer.{EndsAfter, EndsSo, IsNamed, PrintsHelp, Says, Tells, names_standard};
 ghost use Rattle.ans_check.specs.Answer.{EndsListed, EndsNamed, EndsTable, EndsWritten, ending_of_table};

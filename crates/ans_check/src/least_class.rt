@@ -1,11 +1,12 @@
 //! The least class of starts from which a content passes, by few plays.
-ghost use Rattle.std.specs.Prelude.{◌≡◌, ◌≢◌, ◌↔◌, ◌≤◌, true, false, length, IfOk, IfNone, IfSome};
+ghost use Rattle.std.specs.Prelude.{◌≡◌, ◌↔◌, ◌≤◌, true, false, length, IfOk, IfSome};
 ghost use Rattle.ans_model.specs.Bytes.{longest_file};
 ghost use Rattle.ans_model.specs.Screen.StartClass.{all_known, none_known};
 ghost use Rattle.ans_model.specs.Verdict.Good.{IsGood};
-ghost use Rattle.ans_model.specs.Verdict.Needs.{IsFoundByParts, IsLeast};
+ghost use Rattle.ans_model.specs.Verdict.Needs.{IsFoundByParts};
 ghost use Rattle.ans_sauce.specs.Parts.{content_of};
 ghost use Rattle.ans_check.specs.FileVerdict.{Deserves, parts_size};
+ghost use Rattle.ans_check.specs.FilePlayed.{IsLeastOf};
 ghost use Rattle.ans_check.specs.ScreenRoom.{TakesRoom};
 ghost use Rattle.ans_check.specs.StartParts.{EndsFrom, Passes, all_but, knows, with_part};
 
@@ -179,10 +180,7 @@ pub(crate) fn least_class<S: Screens>(
     requires length { length (content_of parts.now) ≤ longest_file }
     requires good { IsGood (parts_size parts.now) all_known (content_of parts.now) }
     ensures room { TakesRoom S.has_room S.may_lack (parts_size parts.now) screens.old screens.new result }
-    ensures least { IfOk result (λ l. IsLeast (parts_size parts.now) (content_of parts.now) l.class) }
-    ensures nothing { IfOk result (λ l. IfNone l.fault (l.class ≡ none_known)) }
-    ensures fault { IfOk result (λ l. IfSome l.fault (λ f. (l.class ≢ none_known)
-        × Deserves (parts_size parts.now) none_known (content_of parts.now) f)) }
+    ensures least { IfOk result (IsLeastOf parts.now) }
 {
     let Some(fault) = screens.fault_from(parts, Start::ANY)? else {
         return Ok(Least {

@@ -23,7 +23,7 @@ pub(crate) enum Played<'a> {
     Passes(Parts<'a>, Least),
 }
 
-/// Plays a file's content from the cleared start, and where it passes from such classes as show what
+/// Plays a file's content from the cleared start and, where it passes, from the classes that show what
 /// it needs. `Err` says that there is no room for the screen that the file's record states.
 pub(crate) fn play_file<'a, S: Screens>(
     screens: &mut S,

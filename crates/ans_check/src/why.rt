@@ -24,8 +24,7 @@ pub fn why_on<'a, S: Screens>(screens: &mut S, file: &'a [u8]) -> Result<Why<'a>
         Played::NoContent(fault) => Ok(Why::of_record(file, fault)),
         Played::Refused(parts, fault) => Ok(Why::of_refusal(parts, fault)),
         Played::Passes(parts, least) => {
-            let length = file.len();
-            Ok(Why::of_pass(parts, length, least.class, least.fault))
+            Ok(Why::of_pass(parts, file.len(), least.class, least.fault))
         }
     }
 }

@@ -1,6 +1,6 @@
 -- The lines of `why`, by the pieces that are put.
 use Rattle.std.proofs.Common.{◌≡◌, ℕ, ◌≤◌, ◌<◌, List, [], ◌∷◌, ◌++◌, length, take, codes}
-use Rattle.std.proofs.Common.{ap, refl, sym, ◌∙◌, arith, append_assoc, append-nil}
+use Rattle.std.proofs.Common.{refl, sym, arith, append_assoc, append-nil}
 use Rattle.std.specs.List.{flat_map}
 use Rattle.std.proofs.lemmas.Bool.{lt-ltb, le-ltb}
 use Rattle.std.proofs.lemmas.List.{take_all}
@@ -8,19 +8,13 @@ use Rattle.ans_model.specs.Text.Characters.{shown_bytes}
 use Rattle.ans_model.specs.Text.RecordText.{named_line}
 use Rattle.ans_explain.specs.WhyText.{quoted_byte, quoted, bytes_line}
 
--- a line by its key, in one piece
+pub named_line_is : (name text : List ℕ) → name ++ (codes ": " ++ (text ++ codes "\n")) ≡ named_line name text
+named_line_is name text = simp append_assoc
+
+-- the same with the key in one piece
 pub keyed_line_is : (key name text : List ℕ) → key ≡ name ++ codes ": "
     → key ++ (text ++ codes "\n") ≡ named_line name text
 keyed_line_is key name text e = rw e (simp append_assoc)
-
--- the lines of both starts
-pub both_lines : (low high : List ℕ)
-    → codes "low start: " ++ ((low ++ (codes "\nhigh start: " ++ high)) ++ codes "\n")
-    ≡ named_line (codes "low start") low ++ named_line (codes "high start") high
-both_lines low high =
-    ap (λ (v : List ℕ). codes "low start: " ++ v)
-    (append_assoc low (codes "\nhigh start: " ++ high) (codes "\n")
-    ∙ sym (append_assoc low (codes "\n") (named_line (codes "high start") high)))
 
 -- ---- quoted bytes
 pub quoted_long : (bytes : List ℕ) → 32 < length bytes

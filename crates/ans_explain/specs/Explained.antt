@@ -37,20 +37,20 @@ use Rattle.ans_explain.specs.declared.why.Shown.{Shown}
 use Rattle.ans_explain.specs.declared.why.Shown.TheVariants.{Cursors, Cells}
 
 -- the size that a record states
-abbrev pub size_by : List ℕ → Size
-size_by sauce = sized (stated_width sauce) (stated_lines sauce)
+abbrev pub record_size : List ℕ → Size
+record_size sauce = sized (stated_width sauce) (stated_lines sauce)
 
--- the same by a program's parts
+-- the same of the parts that the program holds
 abbrev pub size_of : Parts → Size
 size_of parts = sized (width_of parts) (lines_of parts)
 
 -- the non-blink flag: bit 0 of the flags
-abbrev pub non_blink_by : List ℕ → Bool
-non_blink_by sauce = flags sauce % 2 == 1
+abbrev pub record_non_blink : List ℕ → Bool
+record_non_blink sauce = flags sauce % 2 == 1
 
--- the same by a program's parts
+-- the same of those parts
 abbrev pub non_blink : Parts → Bool
-non_blink parts = non_blink_by (record_of parts)
+non_blink parts = record_non_blink (record_of parts)
 
 -- the place of a position: its row and its column, counted from 1
 abbrev pub place_of : Position → Place
@@ -85,12 +85,12 @@ pub record IsReliance (z : Size) (file_length : ℕ) (content : List ℕ) (r : R
 
 -- a content that passes from the cleared start, and its record
 pub record IsPass (file_length : ℕ) (sauce content : List ℕ) (pass : Pass) : Type 0 where
-  pub needs : IsLeast (size_by sauce) content pass.needs
-  pub taller : IsTrue pass.taller ↔ IsTaller (size_by sauce) pass.needs content
+  pub needs : IsLeast (record_size sauce) content pass.needs
+  pub taller : IsTrue pass.taller ↔ IsTaller (record_size sauce) pass.needs content
   pub nothing : IfNone pass.reliance (pass.needs ≡ none_known)
   pub relies : IfSome pass.reliance (λ r. (pass.needs ≢ none_known)
-      × IsReliance (size_by sauce) file_length content r)
-  pub hints : AreHintsOf (size_by sauce) (non_blink_by sauce) content [] pass.hints
+      × IsReliance (record_size sauce) file_length content r)
+  pub hints : AreHintsOf (record_size sauce) (record_non_blink sauce) content [] pass.hints
 
 -- F19 to F21, of which more lines may rid a content
 abbrev pub IsOfLines : Cause → Type 0
@@ -114,13 +114,13 @@ pub record EndsHints (fault : Fault) (bytes : List ℕ) (end : ℕ) : Type 0 whe
 
 -- a content that is refused from the cleared start, and its record
 pub record IsRefusal (sauce content : List ℕ) (r : Refusal) : Type 0 where
-  pub deserved : IsDeserved (size_by sauce) all_known content r.fault
-  pub bytes : AreToBlame (size_by sauce) all_known content r.fault r.bytes.now
-  pub cursor : ShowsPlaces (size_by sauce) all_known content r.fault r.cursor r.cursor
+  pub deserved : IsDeserved (record_size sauce) all_known content r.fault
+  pub bytes : AreToBlame (record_size sauce) all_known content r.fault r.bytes.now
+  pub cursor : ShowsPlaces (record_size sauce) all_known content r.fault r.cursor r.cursor
   pub lines : AreLines (stated_width sauce) content r.fault.cause r.lines
   pub hints_end : ℕ
   pub ends : EndsHints r.fault r.bytes.now hints_end
-  pub hints : AreHintsOf (size_by sauce) (non_blink_by sauce) (take hints_end content) (drop hints_end content) r.hints
+  pub hints : AreHintsOf (record_size sauce) (record_non_blink sauce) (take hints_end content) (drop hints_end content) r.hints
 
 -- what is said of the file is true of it
 abbrev pub IsTrueOf : List ℕ → Why → Type 0

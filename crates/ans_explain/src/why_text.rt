@@ -92,6 +92,15 @@ fn put_place<W: Write>(out: &mut Outbox<'_, W>, place: Place)
     put_numbers(out, b"row ", place.row, b", column ", place.column);
 }
 
+fn put_place_line<W: Write>(out: &mut Outbox<'_, W>, name: &[u8], place: Place)
+    ensures { Puts W.contents out.old out.new (named_line name.now (place_text place)) }
+{
+    out.put(name);
+    out.put(b": ");
+    put_place(out, place);
+    out.put(b"\n");
+}
+
 fn put_cell<W: Write>(out: &mut Outbox<'_, W>, cell: Cell)
     ensures { Puts W.contents out.old out.new (cell_text cell) }
 {
@@ -101,23 +110,28 @@ fn put_cell<W: Write>(out: &mut Outbox<'_, W>, cell: Cell)
     out.put(&hex_byte(cell.attribute));
 }
 
+fn put_cell_line<W: Write>(out: &mut Outbox<'_, W>, name: &[u8], cell: Cell)
+    ensures { Puts W.contents out.old out.new (named_line name.now (cell_text cell)) }
+{
+    out.put(name);
+    out.put(b": ");
+    put_cell(out, cell);
+    out.put(b"\n");
+}
+
 fn put_shown<W: Write>(out: &mut Outbox<'_, W>, shown: Shown)
     ensures { Puts W.contents out.old out.new (shown_lines shown) }
 {
-    out.put(b"low start: ");
     match shown {
         Shown::Cursors { low, high } => {
-            put_place(out, low);
-            out.put(b"\nhigh start: ");
-            put_place(out, high);
+            put_place_line(out, b"low start", low);
+            put_place_line(out, b"high start", high);
         }
         Shown::Cells { low, high } => {
-            put_cell(out, low);
-            out.put(b"\nhigh start: ");
-            put_cell(out, high);
+            put_cell_line(out, b"low start", low);
+            put_cell_line(out, b"high start", high);
         }
     }
-    out.put(b"\n");
 }
 
 fn put_mend_line<W: Write>(out: &mut Outbox<'_, W>, mends: bool)
@@ -171,9 +185,7 @@ fn put_refused<W: Write>(out: &mut Outbox<'_, W>, parts: &Parts<'_>, refusal: &R
 {
     put_refusal(out, &refusal.fault);
     put_bytes_line(out, refusal.bytes);
-    out.put(b"cleared start: ");
-    put_place(out, refusal.cursor);
-    out.put(b"\n");
+    put_place_line(out, b"cleared start", refusal.cursor);
     put_lines_line(out, refusal.lines);
     let hints = Hints {
         empty_rows: 0,
@@ -202,8 +214,15 @@ fn put_record_found<W: Write>(out: &mut Outbox<'_, W>, offset: usize, behind: us
 fn put_kind_found<W: Write>(out: &mut Outbox<'_, W>, data_type: u8, file_type: u8)
     ensures { Puts W.contents out.old out.new (found_line (found.Kind data_type file_type)) }
 {
-    let (kind, subkind) = (usize::from(data_type), usize::from(file_type));
-    put_numbers(out, b"found: data type ", kind, b", file type ", subkind);
+    let data_type = usize::from(data_type);
+    let file_type = usize::from(file_type);
+    put_numbers(
+        out,
+        b"found: data type ",
+        data_type,
+        b", file type ",
+        file_type,
+    );
     out.put(b"\n");
 }
 

@@ -27,14 +27,6 @@ pub enum WordsError {
     Memory,
 }
 
-/// What the words ask for: the options, and the name of the file, or the names for a table.
-#[derive(Drop)]
-struct Asked {
-    options: Options,
-    file: Option<String>,
-    files: Vec<String>,
-}
-
 impl From<clap::Error> for WordsError {
     ghost from_gives = { λ e w. w ≡ Clap e };
 
@@ -282,10 +274,12 @@ fn form_asked(matches: &ArgMatches<'_>) -> Form
 fn table_form_asked(matches: &ArgMatches<'_>) -> TableForm
     ensures { result ≡ table_form_asked (rows_of (found_of matches.now)) }
 {
-    match (holds(matches, "json"), holds(matches, "no-header")) {
-        (true, _) => TableForm::Json,
-        (false, true) => TableForm::Bare,
-        (false, false) => TableForm::Headed,
+    if holds(matches, "json") {
+        TableForm::Json
+    } else if holds(matches, "no-header") {
+        TableForm::Bare
+    } else {
+        TableForm::Headed
     }
 }
 
@@ -384,6 +378,14 @@ fn files_of(alloc: Global, matches: &ArgMatches<'_>) -> Result<Vec<String>, Word
         Ok(files) => Ok(files),
         Err(AllocError) => Err(WordsError::Memory),
     }
+}
+
+/// What the words ask for: the options, and the name of the file, or the names for a table.
+#[derive(Drop)]
+struct Asked {
+    options: Options,
+    file: Option<String>,
+    files: Vec<String>,
 }
 
 fn read_matches(alloc: Global, matches: &ArgMatches<'_>) -> Result<Asked, WordsError>

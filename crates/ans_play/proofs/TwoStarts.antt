@@ -24,7 +24,7 @@ use Rattle.ans_model.specs.Verdict.LastFault.{IsLastFault, SameCell, CellsDiffer
 use Rattle.ans_model.specs.Verdict.Certain.{IsCertain}
 use Rattle.ans_model.specs.Verdict.TwoStarts.{low_final, high_final, CursorsDiffer, OneIsInSpareRow, IsFirstDifference}
 use Rattle.ans_model.specs.Verdict.TwoStarts.{TwoStartsShow, IsShownByTwoStarts, CursorsDifferInTab}
-use Rattle.ans_model.specs.Sequence.Reads.{Reads, SpellsToken}
+use Rattle.ans_model.specs.Sequence.Reads.{SpellsToken}
 use Rattle.ans_model.proofs.StartLemmas.{low_is_start, high_is_start}
 use Rattle.ans_model.proofs.OneCause.{static_is_certain}
 use Rattle.ans_model.proofs.OneAnswer.{refused_certain}
@@ -300,7 +300,7 @@ module _ (z : Size) (class : Start) (bytes : List ℕ) (fault : Fault) where
   first_shown h = record {
     tokens = h.tokens;
     rest = h.text ++ h.rest;
-    before = read_before_first z class bytes fault h;
+    read = read_before_first z class bytes fault h;
     shown = blame_shown h h.faulty;
   }
 
@@ -309,7 +309,7 @@ module _ (z : Size) (class : Start) (bytes : List ℕ) (fault : Fault) where
   last_shown (inl h) = record {
     tokens = h.tokens;
     rest = h.text;
-    before = read_before_sequence z class bytes fault h;
+    read = read_before_sequence z class bytes fault h;
     shown = rw h.fault_is tt;
   }
   last_shown (inr h) =
@@ -317,7 +317,7 @@ module _ (z : Size) (class : Start) (bytes : List ℕ) (fault : Fault) where
       record {
         tokens = h.tokens;
         rest = [];
-        before = read_to_the_end z class bytes fault h;
+        read = read_to_the_end z class bytes fault h;
         shown = rw h.fault_is
             (first_difference z class h.tokens h.size.some_columns known.0 known.1 h.position h.first);
       }

@@ -66,5 +66,5 @@ TwoStartsShow z class tokens rest _ = ⊤
 pub record IsShownByTwoStarts (z : Size) (class : Start) (bytes : List ℕ) (fault : Fault) : Type 0 where
   pub tokens : List TokenKind
   pub rest : List ℕ
-  pub before : IsReadUpTo bytes fault.offset tokens rest
+  pub read : IsReadUpTo bytes fault.offset tokens rest
   pub shown : TwoStartsShow z class tokens rest fault.cause

@@ -7,7 +7,7 @@ ghost use Rattle.ans_screen.specs.RowCells.{AreFilled, cell_in_grid, states_of, 
 ghost use Rattle.ans_screen.specs.RowCells.{SameRows, IsFirstUnknown, HasBlanks, IsMarked, ShowsSame};
 
 use super::{Row, RowPlanes};
-use crate::cell::{HalfCell, Part};
+use crate::cell::Part;
 use crate::planes::{CellBytes, bytes_of, first_gap};
 
 /// How many cells of a row are held at the least behind those that are written, since what is

@@ -1,4 +1,4 @@
-use Rattle.std.proofs.Common.{subst, sym}
+use Rattle.std.proofs.Common.{refl, subst, sym}
 use Rattle.ans_model.specs.Screen.StartClass.{Covers, none_known}
 use Rattle.ans_model.specs.Verdict.Needs.{IsLeast}
 use Rattle.ans_model.specs.declared.start.Start.{Start}
@@ -13,22 +13,26 @@ pub returns-in_default-clause-least : goal.returns-in_default-clause-least
 returns-in_default-clause-least g c =
     let z = parts_size c.args.parts.now in
     let content = content_of c.args.parts.now in
-    least_by_parts z content none_known c.requires.good (nothing_needed z content
-    (rw c.in_default.is at c.in_ok-fault.ensures.fault))
+    record {
+      least = least_by_parts z content none_known c.requires.good (nothing_needed z content
+          (rw c.in_default.is at c.in_ok-fault.ensures.fault));
+      nothing = refl;
+      fault = tt;
+    }
 
 pub returns-clause-least : goal.returns-clause-least
 returns-clause-least g c =
-    least_by_parts (parts_size c.args.parts.now) (content_of c.args.parts.now) c.in_ok-class.class c.requires.good
-    c.in_ok-class.ensures.found
-
-pub returns-clause-fault : goal.returns-clause-fault
-returns-clause-fault g c =
     let z = parts_size c.args.parts.now in
     let content = content_of c.args.parts.now in
     let deserves : Deserves z none_known content c.in-Some.fault = rw c.in-Some.is at c.in_ok-fault.ensures.fault in
     let least : IsLeast z content c.in_ok-class.class =
-    least_by_parts z content c.in_ok-class.class c.requires.good c.in_ok-class.ensures.found in (
-      λ e. not_good z none_known content c.in-Some.fault deserves
-          ((least none_known).1 (subst (λ (s : Start). Covers s none_known) (sym e) (covers_itself none_known))),
-      deserves,
-    )
+    least_by_parts z content c.in_ok-class.class c.requires.good c.in_ok-class.ensures.found in
+    record {
+      least = least;
+      nothing = tt;
+      fault = (
+        λ e. not_good z none_known content c.in-Some.fault deserves
+            ((least none_known).1 (subst (λ (s : Start). Covers s none_known) (sym e) (covers_itself none_known))),
+        deserves,
+      );
+    }

@@ -1,19 +1,13 @@
-use Rattle.std.proofs.Common.{ap, sym, ◌∙◌}
+use Rattle.std.proofs.Common.{sym, ap}
 use Rattle.ans_write.proofs.PutsLemmas.{Puts-same, Puts-then}
-use Rattle.ans_explain.specs.WhyText.{cell_text, place_text, shown_lines}
-use Rattle.ans_explain.proofs.WhyLines.{both_lines}
+use Rattle.ans_explain.specs.WhyText.{shown_lines}
 use Rattle.ans_explain.proofs.why_text.put_shown.Goals as goal
-use Rattle.ans_explain.proofs.why_text.put_shown.Goals.{in-Cursors, in-Cells}
 
-pub returns : goal.returns
-returns g c = elim c.match-shown.branch [
-  | in-Cursors w ↦
-      let both = Puts-then w.put_place.ensures (Puts-then w.put-in-Cursors.ensures w.put_place-in-Cursors.ensures) in
-      Puts-same (both_lines (place_text w.in-Cursors.low) (place_text w.in-Cursors.high)
-      ∙ sym (ap shown_lines w.in-Cursors.is))
-      (Puts-then c.put.ensures (Puts-then both (rw w.out-is at c.put-2.ensures)))
-  | in-Cells w ↦
-      let both = Puts-then w.put_cell.ensures (Puts-then w.put-in-Cells.ensures w.put_cell-in-Cells.ensures) in
-      Puts-same (both_lines (cell_text w.in-Cells.low) (cell_text w.in-Cells.high) ∙ sym (ap shown_lines w.in-Cells.is))
-      (Puts-then c.put.ensures (Puts-then both (rw w.out-is at c.put-2.ensures)))
-]
+pub returns-in-Cursors : goal.returns-in-Cursors
+returns-in-Cursors g c =
+    Puts-same (sym (ap shown_lines c.in-Cursors.is))
+    (Puts-then c.put_place_line.ensures c.put_place_line-in-Cursors.ensures)
+
+pub returns-in-Cells : goal.returns-in-Cells
+returns-in-Cells g c =
+    Puts-same (sym (ap shown_lines c.in-Cells.is)) (Puts-then c.put_cell_line.ensures c.put_cell_line-in-Cells.ensures)
