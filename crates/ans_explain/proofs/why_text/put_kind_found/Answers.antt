@@ -5,7 +5,7 @@ use Rattle.ans_explain.proofs.why_text.put_kind_found.Goals as goal
 
 pub returns : goal.returns
 returns g c =
-    let kind : c.from-kind.result ≡ c.args.data_type = search rules in
-    let subkind : c.from-subkind.result ≡ c.args.file_type = search rules in
+    let kind : c.from-data_type.result ≡ c.args.data_type = search rules in
+    let subkind : c.from-file_type.result ≡ c.args.file_type = search rules in
     Puts-same (found_kind (decimal c.args.data_type) (decimal c.args.file_type))
     (Puts-then (rw (kind, subkind) at c.put_numbers.ensures) c.put.ensures)
