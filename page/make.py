@@ -13,6 +13,7 @@ import json
 import pathlib
 import re
 import sys
+import textwrap
 
 HERE = pathlib.Path(__file__).resolve().parent
 SOURCES = HERE / "src"
@@ -67,7 +68,8 @@ def main():
     """Writes the page."""
     if len(sys.argv) not in (2, 3):
         sys.exit(__doc__)
-    module = base64.b64encode(gzip.compress(pathlib.Path(sys.argv[1]).read_bytes(), mtime=0)).decode()
+    packed = base64.b64encode(gzip.compress(pathlib.Path(sys.argv[1]).read_bytes(), mtime=0)).decode()
+    module = "\n".join(textwrap.wrap(packed, 120))
     out = pathlib.Path(sys.argv[2]) if len(sys.argv) == 3 else HERE / "check.html"
     style, code, last = source("check.css"), script(), source("last.js")
     parts = {

@@ -120,7 +120,8 @@ pub record IsRefusal (sauce content : List ℕ) (r : Refusal) : Type 0 where
   pub lines : AreLines (stated_width sauce) content r.fault.cause r.lines
   pub hints_end : ℕ
   pub ends : EndsHints r.fault r.bytes.now hints_end
-  pub hints : AreHintsOf (record_size sauce) (record_non_blink sauce) (take hints_end content) (drop hints_end content) r.hints
+  pub hints : AreHintsOf (record_size sauce) (record_non_blink sauce) (take hints_end content) (drop hints_end content)
+      r.hints
 
 -- what is said of the file is true of it
 abbrev pub IsTrueOf : List ℕ → Why → Type 0

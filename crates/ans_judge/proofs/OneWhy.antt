@@ -139,7 +139,8 @@ module _ (sauce bytes : List ℕ) (r s : Refusal) (h : IsRefusal sauce bytes r) 
   same_cursor : r.cursor ≡ s.cursor
   same_cursor =
       (one_places (record_size sauce) all_known bytes r.fault r.cursor r.cursor s.cursor s.cursor h.cursor
-      (subst (λ (f : Fault). ShowsPlaces (record_size sauce) all_known bytes f s.cursor s.cursor) same_fault g.cursor)).0
+      (subst (λ (f : Fault). ShowsPlaces (record_size sauce) all_known bytes f s.cursor s.cursor) same_fault
+      g.cursor)).0
 
   same_lines : r.lines ≡ s.lines
   same_lines =
@@ -152,11 +153,13 @@ module _ (sauce bytes : List ℕ) (r s : Refusal) (h : IsRefusal sauce bytes r) 
       let moved : EndsHints r.fault r.bytes.now g.hints_end =
       subst₂ (λ (f : Fault) (v : List ℕ). EndsHints f v g.hints_end) same_fault (sym same_bytes) g.ends in
       let end_is : g.hints_end ≡ at.end = at.only g.hints_end moved in
-      one_hints (record_size sauce) (record_non_blink sauce) (take at.end bytes) (drop at.end bytes) at.tokens r.hints s.hints
+      one_hints (record_size sauce) (record_non_blink sauce) (take at.end bytes) (drop at.end bytes) at.tokens r.hints
+      s.hints
       at.reads
       (subst (λ (n : ℕ). AreHintsOf (record_size sauce) (record_non_blink sauce) (take n bytes) (drop n bytes) r.hints)
       (at.only h.hints_end h.ends) h.hints)
-      (subst (λ (n : ℕ). AreHintsOf (record_size sauce) (record_non_blink sauce) (take n bytes) (drop n bytes) s.hints) end_is
+      (subst (λ (n : ℕ). AreHintsOf (record_size sauce) (record_non_blink sauce) (take n bytes) (drop n bytes) s.hints)
+      end_is
       g.hints)
 
   one_refusal : refusal_said sauce r.fault r.bytes.now r.cursor r.lines r.hints

@@ -237,8 +237,8 @@ abbrev pub HasKindAmong : Kinds → WordsError → Type 0
 HasKindAmong kinds (words_error.Clap e) = HasKind kinds e
 HasKindAmong kinds words_error.Memory = ⊤
 
--- What an error of these words tells: where clap takes them, or they have no fault, memory ran out; and else it may also
--- be of one of the kinds of their faults.
+-- What an error of these words tells: where clap takes them, or they have no fault, memory ran out; and else it may
+-- also be of one of the kinds of their faults.
 pub record IsErrorOf (words : List Text) (e : WordsError) : Type 0 where
   pub refuses : takes anscheck (words_meant words) ≡ true → RanOutOfMemory e
   pub faultless : faults_of words ≡ [] → RanOutOfMemory e
