@@ -24,7 +24,7 @@ CAUSES = ["NoRecord", "WrongVersion", "WrongKind", "CommentsMissing", "LinesUnst
           "EndInSequence", "UnknownSequence", "WrongParameters", "KeyReassigned", "ScreenMode", "ReportAsked", None,
           "OutsideScreen", "PrintBelow", "Scrolls", "PrintUnknownPlace", "EraseUnknownPlace", "MayScroll",
           "UnknownCell"]
-GROUP = re.compile(r"/// ([^\n]*)\npub static (\w+): \[Row; \d+\] = rows! \{\n(.*?)\n\};", re.DOTALL)
+GROUP = re.compile(r"/// ([^\n]*)\npub static (\w+): \[Row; (\d+)\] = rows! \{\n(.*?)\n\};", re.DOTALL)
 ROW = re.compile(r'^ {4}(any|cleared|known [a-z ]+?)\((\d+) x (\d+), (b"(?:[^"\\]|\\.)*")\)'
                  r'\s*=> (shows|refused)\((.*?)\);$', re.MULTILINE | re.DOTALL)
 SHOWN = re.compile(r'(b".*?")(?:, \[(.*)\])?', re.DOTALL)
@@ -54,9 +54,9 @@ def examples():
     """The group's title, the name, the class of starts, the size, the content and the word of each row."""
     with open(ROWS, encoding="utf-8") as file:
         text = file.read()
-    for title, group, rows in GROUP.findall(text):
+    for title, group, count, rows in GROUP.findall(text):
         found = ROW.findall(rows)
-        if len(found) != len(re.findall(r"=> (?:shows|refused)\(", rows)):
+        if len(found) != int(count):
             sys.exit(f"{group}: a row that cannot be read")
         for number, (start, width, lines, content, word, rest) in enumerate(found, 1):
             name = f"{group.lower().replace('_', '-')}-{number:02}"
