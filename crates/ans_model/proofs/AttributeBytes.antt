@@ -1,9 +1,11 @@
 -- An attribute stays a byte.
 use Rattle.std.proofs.Common.{◌≡◌, ℕ, ◌<◌, ◌^◌, Bool, true, false, refl, List, [], ◌∷◌, Option, Some, None, arith}
-use Rattle.std.specs.Prelude.{◌&&◌, ◌==◌, nat_lt, IfSome, bit_and, if◌then◌else◌}
+use Rattle.std.specs.Prelude.{◌&&◌, ◌==◌, ◌%◌, nat_lt, IfSome, MatchOption, bit_and, bit_or, if◌then◌else◌}
 use Rattle.std.specs.List.{list_all}
 use Rattle.std.proofs.lemmas.Bool.{ltb-true, and_parts}
 use Rattle.std.proofs.lemmas.Nat.{and_le_r, or_of_8}
+use Rattle.std.specs.Int.Bits.{or_zero_r}
+use Rattle.std.proofs.lemmas.Grind.{and_numeral}
 use Rattle.ans_model.specs.Screen.Attribute.{Rendition, renditions, rendition_of, attribute_by, attribute_after}
 use Rattle.ans_model.specs.Screen.Attribute.{attribute_after_all}
 
@@ -39,6 +41,19 @@ rendition_fits p = found_fits renditions p refl
 attribute_by_lt : (o : Option Rendition) (a : ℕ) → IfSome o IsByteRendition → a < 2 ^ 8 → attribute_by o a < 2 ^ 8
 attribute_by_lt None a f h = h
 attribute_by_lt (Some r) a f h = or_of_8 (bit_and a r.mask) r.set (omega (arith, and_le_r a r.mask, f.mask)) f.set
+
+-- a mask of all bits leaves a byte as it is
+pub all_kept : (a : ℕ) → a < 2 ^ 8 → bit_and a 0xFF ≡ a
+all_kept a h =
+    let e : bit_and a 255 ≡ a % 256 = and_numeral a 254 refl in
+    rw e (omega arith)
+
+-- an attribute by the mask and the set bits of a rendition, or by those that change nothing
+pub attribute_by_found : (o : Option Rendition) (a mask set : ℕ) → a < 2 ^ 8
+    → MatchOption o ((mask ≡ 0xFF) × (set ≡ 0x00)) (λ (r : Rendition). (mask ≡ r.mask) × (set ≡ r.set))
+    → bit_or (bit_and a mask) set ≡ attribute_by o a
+attribute_by_found None a mask set h (m, s) = rw (m, s, or_zero_r (bit_and a 255)) (all_kept a h)
+attribute_by_found (Some r) a mask set h (m, s) = rw (m, s) refl
 
 pub attribute_after_lt : (a p : ℕ) → a < 256 → attribute_after a p < 256
 attribute_after_lt a p h = attribute_by_lt (rendition_of renditions p) a (rendition_fits p) h

@@ -1,9 +1,7 @@
 //! What colour parameters do to an attribute.
 
-ghost use Rattle.std.specs.Prelude.{◌≡◌, Some, None, MatchOption, ◌+◌, ◌<◌, ◌^◌};
-ghost use Rattle.ans_model.specs.Screen.Attribute.{attribute_after, attribute_after_all, rendition};
-ghost use Rattle.ans_model.specs.Screen.Attribute.{rendition_of};
-ghost use Rattle.ans_model.specs.Screen.Attribute.{renditions};
+ghost use Rattle.std.specs.Prelude.{◌≡◌, MatchOption, ◌+◌, ◌<◌, ◌^◌};
+ghost use Rattle.ans_model.specs.Screen.Attribute.{attribute_after, attribute_after_all, rendition_of, renditions};
 
 /// The bits of an attribute that a parameter keeps, and those that it sets.
 #[derive(Debug, Clone, Copy, PartialEq, Eq)]
@@ -12,11 +10,12 @@ pub struct Rendition {
     pub set: u8,
 }
 
-/// What a parameter does (ANSI.SYS, Set Graphics Rendition; 4, 7 and 8 are the profile's).
-/// None where it changes nothing.
-pub fn rendition_of(parameter: u8) -> Option<Rendition>
-    ensures { MatchOption result (rendition_of renditions parameter ≡ None)
-        (λ r. rendition_of renditions parameter ≡ Some (rendition parameter r.mask r.set)) }
+/// What a parameter does (ANSI.SYS, Set Graphics Rendition; 4, 7 and 8 are the profile's). Where it
+/// changes nothing, all bits are kept and none is set: so nothing branches on it.
+pub fn rendition_of(parameter: u8) -> Rendition
+    ensures { MatchOption (rendition_of renditions parameter)
+        ((result.mask ≡ 0xFF) × (result.set ≡ 0x00))
+        (λ r. (result.mask ≡ r.mask) × (result.set ≡ r.set)) }
 {
     let (mask, set) = match parameter {
         0 => (0x00, 0x07),
@@ -41,19 +40,17 @@ pub fn rendition_of(parameter: u8) -> Option<Rendition>
         45 => (0x8F, 0x50),
         46 => (0x8F, 0x30),
         47 => (0x8F, 0x70),
-        _ => return None,
+        _ => (0xFF, 0x00),
     };
-    Some(Rendition { mask, set })
+    Rendition { mask, set }
 }
 
 /// An attribute after one parameter.
 pub fn attribute_after(old: u8, parameter: u8) -> u8
     ensures { result ≡ attribute_after old parameter }
 {
-    match rendition_of(parameter) {
-        Some(rendition) => old & rendition.mask | rendition.set,
-        None => old,
-    }
+    let Rendition { mask, set } = rendition_of(parameter);
+    old & mask | set
 }
 
 /// An attribute after parameters, one after the other.

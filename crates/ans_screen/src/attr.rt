@@ -52,12 +52,10 @@ impl Attr {
         ensures sound { AgreesAfter self parameter result }
         ensures exact { KnowsJust self parameter result }
     {
-        match rendition_of(parameter) {
-            Some(Rendition { mask, set }) => Attr {
-                known: self.known & mask | 0xFF ^ mask | set,
-                value: self.value & mask | set,
-            },
-            None => self,
+        let Rendition { mask, set } = rendition_of(parameter);
+        Attr {
+            known: self.known & mask | 0xFF ^ mask | set,
+            value: self.value & mask | set,
         }
     }
 

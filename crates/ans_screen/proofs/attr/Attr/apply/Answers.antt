@@ -1,18 +1,18 @@
-use Rattle.ans_screen.proofs.KnownAfter.{after_rendition, after_none}
+use Rattle.ans_screen.proofs.KnownAfter.{after_found}
 use Rattle.ans_screen.proofs.attr.Attr.apply.Goals as goal
 
-pub invariant_of-t-6 : goal.invariant_of-t-6
-invariant_of-t-6 c =
-    (after_rendition _ c.args.self c.args.parameter _ _ c.self.view_is c.self.invariant c.in-Some.ensures).known_bits
+pub invariant_of-result : goal.invariant_of-result
+invariant_of-result c =
+    (after_found _ c.args.self c.args.parameter _ _ c.self.view_is c.self.invariant c.rendition_of-mask.ensures).known_bits
 
-pub returns-in-Some-clause-sound : goal.returns-in-Some-clause-sound
-returns-in-Some-clause-sound c =
-    (after_rendition _ c.args.self c.args.parameter _ _ c.self.view_is c.self.invariant c.in-Some.ensures).sound
+pub returns-clause-bits : goal.returns-clause-bits
+returns-clause-bits c =
+    (after_found _ c.args.self c.args.parameter _ _ c.self.view_is c.self.invariant c.rendition_of-mask.ensures).bits
 
-pub returns-in-Some-clause-exact : goal.returns-in-Some-clause-exact
-returns-in-Some-clause-exact c =
-    (after_rendition _ c.args.self c.args.parameter _ _ c.self.view_is c.self.invariant c.in-Some.ensures).exact
+pub returns-clause-sound : goal.returns-clause-sound
+returns-clause-sound c =
+    (after_found _ c.args.self c.args.parameter _ _ c.self.view_is c.self.invariant c.rendition_of-mask.ensures).sound
 
-pub returns-in-None-clause-exact : goal.returns-in-None-clause-exact
-returns-in-None-clause-exact c =
-    (after_none _ c.args.self c.args.parameter c.self.view_is c.self.invariant c.in-None.ensures).exact
+pub returns-clause-exact : goal.returns-clause-exact
+returns-clause-exact c =
+    (after_found _ c.args.self c.args.parameter _ _ c.self.view_is c.self.invariant c.rendition_of-mask.ensures).exact
