@@ -17,12 +17,10 @@ use Rattle.ans_model.specs.Inside.OpenPart.{Current, Fresh, InNumber, InString, 
 use Rattle.ans_model.specs.Inside.OpenPart.{IsCurrentInLimit, SpellsDone, Part, LoosePart, SpellsPart, member_of}
 use Rattle.ans_model.specs.Inside.OpenPart.{lacks, members_of, raw_of, is_stop, may_follow}
 use Rattle.ans_model.proofs.Spelling.{head_of, tail_of, one_run_before_stop, stop_no_digit, stop_no_quote}
-use Rattle.ans_model.proofs.Spelling.{quote_no_digit}
-use Rattle.ans_model.proofs.Spelling.{letter_no_semicolon, begins, first_or, first_byte, no_common_first_byte}
-use Rattle.ans_model.proofs.Spelling.{one_quoted_text}
-use Rattle.ans_model.proofs.Spelling.{one_member_in_front, letter_stops, semicolon_stops, Rest, Tail}
-use Rattle.ans_model.proofs.Spelling.{digit_no_mark, quote_no_mark, begins_no_mark, tail_first, one_mark_in_front}
-use Rattle.ans_model.proofs.Spelling.{in_front}
+use Rattle.ans_model.proofs.Spelling.{quote_no_digit, letter_no_semicolon, begins, first_or, first_byte}
+use Rattle.ans_model.proofs.Spelling.{no_common_first_byte, one_quoted_text, one_member_in_front, letter_stops}
+use Rattle.ans_model.proofs.Spelling.{semicolon_stops, Rest, Tail, digit_no_mark, quote_no_mark, begins_no_mark}
+use Rattle.ans_model.proofs.Spelling.{tail_first, one_mark_in_front, in_front}
 
 -- a member, and what follows it
 pub record Next (member : Member) (bytes : List ℕ) : Type 0 where

@@ -1,8 +1,7 @@
 -- The offset of a refusal lies within the file or at its end.
 use Rattle.std.proofs.lemmas.Bool.{and_parts}
-use Rattle.std.proofs.Common.{◌≡◌, ℕ, ◌+◌, ◌-◌, ◌≤◌, Bool, true, false, not, nat_le, List, [], ◌∷◌, length}
-use Rattle.std.proofs.Common.{take, drop, codes, refl, arith, length-take, length-drop, Some}
-use Rattle.std.proofs.Common.{bytes_eq, if◌then◌else◌}
+use Rattle.std.proofs.Common.{◌≡◌, ℕ, ◌+◌, ◌-◌, ◌≤◌, Bool, true, false, not, nat_le, List, [], ◌∷◌, length, take, drop}
+use Rattle.std.proofs.Common.{codes, refl, arith, length-take, length-drop, Some, bytes_eq, if◌then◌else◌}
 use Rattle.std.specs.Prelude.{IfSome}
 use Rattle.std.specs.List.{AllByRecursion, position_or_len}
 use Rattle.std.proofs.lemmas.List.Sums.{prefix_len-le-length}

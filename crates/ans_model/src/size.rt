@@ -2,8 +2,7 @@
 
 ghost use Rattle.std.specs.Prelude.{◌≡◌, ◌≤◌};
 ghost use Rattle.ans_model.specs.Bytes.{most_columns, most_lines};
-ghost use Rattle.ans_model.specs.Screen.State.{sized};
-ghost use Rattle.ans_model.specs.Screen.State.{IsPlayableSize};
+ghost use Rattle.ans_model.specs.Screen.State.{sized, IsPlayableSize};
 
 use std::marker::Model;
 

@@ -7,17 +7,15 @@ use Rattle.ans_model.specs.Screen.State.{Size}
 use Rattle.ans_model.specs.declared.start.Start.{Start}
 use Rattle.ans_model.specs.Verdict.TokenFault.{HasFault}
 use Rattle.ans_model.specs.declared.fault.Cause.{Cause}
-use Rattle.ans_model.specs.declared.fault.Cause.TheVariants.{KeyReassigned, ScreenMode, ReportAsked}
-use Rattle.ans_model.specs.declared.fault.Cause.TheVariants.{OutsideScreen, Scrolls}
-use Rattle.ans_model.specs.declared.fault.Cause.TheVariants.{EraseUnknownPlace, MayScroll}
+use Rattle.ans_model.specs.declared.fault.Cause.TheVariants.{KeyReassigned, ScreenMode, ReportAsked, OutsideScreen}
+use Rattle.ans_model.specs.declared.fault.Cause.TheVariants.{Scrolls, EraseUnknownPlace, MayScroll}
 use Rattle.ans_play.specs.HalfState.{HalfState}
 use Rattle.ans_play.specs.HalfFault.{half_fault, is_one_position}
 use Rattle.ans_play.specs.Stands.{IsKnownAfter}
 use Rattle.std.proofs.lemmas.Option.{same_Some}
 use Rattle.ans_play.proofs.PrintFaults.{print_has_fault}
 use Rattle.ans_play.proofs.Tabs.{tab_has_fault}
-use Rattle.ans_play.proofs.Positions.{positions_differ, all_in_spare_row, some_in_spare_row}
-use Rattle.ans_play.proofs.Positions.{some_above}
+use Rattle.ans_play.proofs.Positions.{positions_differ, all_in_spare_row, some_in_spare_row, some_above}
 
 module _ (z : Size) (class : Start) (played : List TokenKind) (h : HalfState) (w : 0 < z.width)
     (st : IsKnownAfter z class played h) where

@@ -17,8 +17,7 @@ use Rattle.ans_model.specs.Screen.StartClass.{IsStart, low_start, high_start}
 use Rattle.ans_model.specs.declared.start.Start.{Start}
 use Rattle.ans_model.specs.Verdict.Good.{Picture, Shows, GoodWith}
 use Rattle.ans_model.specs.File.Refusals.{fault_at}
-use Rattle.ans_model.specs.Verdict.LastFault.{SameCell, CellsDiffer, IsBefore, IsFirstUnknown}
-use Rattle.ans_model.specs.Verdict.LastFault.{LeavesUnknown}
+use Rattle.ans_model.specs.Verdict.LastFault.{SameCell, CellsDiffer, IsBefore, IsFirstUnknown, LeavesUnknown}
 use Rattle.ans_model.specs.Verdict.LastFault.{IsLastFault}
 use Rattle.ans_model.specs.declared.fault.Fault.{Fault}
 use Rattle.ans_model.specs.declared.fault.Cause.TheVariants.{UnknownCell}
@@ -39,8 +38,7 @@ use Rattle.ans_play.specs.PlayView.{PlayView}
 use Rattle.ans_play.specs.PlayerView.{PlayerView, play_of}
 use Rattle.ans_play.specs.Stands.{IsKnownAfter, IsPlayed, Stands, EndsPlay, Finishes}
 use Rattle.ans_play.proofs.Zips.{AllZip-take}
-use Rattle.ans_play.proofs.KnownCells.{known_at, unknown_at, all_known, FirstUnknown, found_unknown}
-use Rattle.ans_play.proofs.KnownCells.{none_unknown}
+use Rattle.ans_play.proofs.KnownCells.{known_at, unknown_at, all_known, FirstUnknown, found_unknown, none_unknown}
 use Rattle.ans_play.proofs.PlaysWell.{plays_well}
 
 -- ---- positions in row order

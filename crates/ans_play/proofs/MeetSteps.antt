@@ -5,9 +5,8 @@ use Rattle.std.proofs.lemmas.Bool.{cases_lt, lt-ltb, le-ltb, eq-eqb}
 use Rattle.std.proofs.lemmas.Slice.Zip.{length-zip}
 use Rattle.std.proofs.lemmas.List.{length-map}
 use Rattle.ans_model.specs.Bytes.{blank}
-use Rattle.ans_model.specs.Sequence.TokenKind.{TokenKind, Glyph, BackSpace, LineFeed, CarriageReturn, Up, Down}
-use Rattle.ans_model.specs.Sequence.TokenKind.{Forward, Backward, Place, Clear, EraseLine, Save, Restore, Colours}
-use Rattle.ans_model.specs.Sequence.TokenKind.{Wrap, Tab}
+use Rattle.ans_model.specs.Sequence.TokenKind.{TokenKind, Glyph, BackSpace, LineFeed, CarriageReturn, Up, Down, Forward}
+use Rattle.ans_model.specs.Sequence.TokenKind.{Backward, Place, Clear, EraseLine, Save, Restore, Colours, Wrap, Tab}
 use Rattle.ans_model.specs.Screen.State.{Size, at, cell_count, index}
 use Rattle.ans_model.specs.Screen.Step.{filled, next_row_start}
 use Rattle.ans_model.specs.declared.cell.Position.{Position}

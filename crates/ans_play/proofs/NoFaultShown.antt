@@ -10,8 +10,7 @@ use Rattle.ans_model.specs.Screen.StartClass.{low_start}
 use Rattle.ans_model.specs.declared.start.Start.{Start}
 use Rattle.ans_model.specs.Verdict.TokenFault.{HasStaticFault, HasFaultAfter, HasFault}
 use Rattle.ans_model.specs.declared.fault.Cause.{Cause}
-use Rattle.ans_model.specs.declared.fault.Cause.TheVariants.{OutsideScreen, Scrolls}
-use Rattle.ans_model.specs.declared.fault.Cause.TheVariants.{EraseUnknownPlace, MayScroll}
+use Rattle.ans_model.specs.declared.fault.Cause.TheVariants.{OutsideScreen, Scrolls, EraseUnknownPlace, MayScroll}
 use Rattle.ans_model.proofs.StartLemmas.{low_is_start}
 use Rattle.ans_play.specs.HalfState.{HalfState}
 use Rattle.ans_play.specs.HalfFault.{half_fault, is_one_position}

@@ -12,8 +12,7 @@ use Rattle.ans_model.specs.Verdict.Good.{Picture, IsPictureOf}
 use Rattle.ans_model.specs.declared.cell.Cell.{Cell}
 use Rattle.ans_screen.specs.declared.cell.HalfCell.{HalfCell}
 use Rattle.ans_play.specs.PlayView.{IsByteHalfCell}
-use Rattle.ans_play.specs.Shown.{known_cell, stated_cells, picture_of, IsShown}
-use Rattle.ans_play.specs.Shown.{cells_of_row}
+use Rattle.ans_play.specs.Shown.{known_cell, stated_cells, picture_of, IsShown, cells_of_row}
 
 byte_or_0 : (o : Option ℕ) → IfSome o IsByte → IsByte (unwrap_or o 0)
 byte_or_0 None h = lit< tt

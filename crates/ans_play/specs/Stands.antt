@@ -1,7 +1,6 @@
 -- What a player says of the bytes that it was fed.
-use Rattle.std.specs.Prelude.{◌≡◌, ℕ, ◌+◌, ◌≤◌, List, [], ◌++◌, length, take, Some, None}
-use Rattle.std.specs.Prelude.{Result, Err, IsOk, IfOk, IfErr, OnOk}
-use Rattle.std.specs.Prelude.{MatchResult}
+use Rattle.std.specs.Prelude.{◌≡◌, ℕ, ◌+◌, ◌≤◌, List, [], ◌++◌, length, take, Some, None, Result, Err, IsOk, IfOk}
+use Rattle.std.specs.Prelude.{IfErr, OnOk, MatchResult}
 use Rattle.ans_model.specs.Sequence.TokenKind.{TokenKind}
 use Rattle.ans_model.specs.Screen.State.{Size, IsSize, IsWellFormed}
 use Rattle.ans_model.specs.Screen.Step.{final}

@@ -1,8 +1,7 @@
 //! The play of bytes over one half-known state.
 
-ghost use Rattle.std.specs.Prelude.{◌≡◌, ◌≢◌, ◌<◌, ◌≤◌, ◌+◌, ◌-◌, ◌*◌, ℕ, List, [], ◌∷◌, length};
-ghost use Rattle.std.specs.Prelude.{take, set, slice_index_or};
-ghost use Rattle.std.specs.Prelude.{IfOk, IfErr, OnOk};
+ghost use Rattle.std.specs.Prelude.{◌≡◌, ◌≢◌, ◌<◌, ◌≤◌, ◌+◌, ◌-◌, ◌*◌, ℕ, List, [], ◌∷◌, length, take, set};
+ghost use Rattle.std.specs.Prelude.{slice_index_or, IfOk, IfErr, OnOk};
 ghost use Rattle.ans_model.specs.Bytes.{most_columns, longest_file, escape};
 ghost use Rattle.ans_model.specs.Screen.State.{sized};
 ghost use Rattle.ans_model.specs.Sequence.TokenKind.{Glyph};

@@ -1,7 +1,6 @@
 //! The play of the content, which is fed in pieces.
 
-ghost use Rattle.std.specs.Prelude.{◌≡◌, ◌+◌, ◌-◌, ◌≤◌, ℕ, List, [], length};
-ghost use Rattle.std.specs.Prelude.{Some, None, IfOk, IfErr, OnOk};
+ghost use Rattle.std.specs.Prelude.{◌≡◌, ◌+◌, ◌-◌, ◌≤◌, ℕ, List, [], length, Some, None, IfOk, IfErr, OnOk};
 ghost use Rattle.ans_model.specs.Bytes.{most_columns, most_lines, longest_file};
 ghost use Rattle.ans_model.specs.Screen.State.{sized};
 ghost use Rattle.ans_screen.specs.GridEdits.{most_rows};

@@ -8,10 +8,9 @@ use Rattle.ans_model.specs.Bytes.{IsByte, escape, bracket, semicolon, largest_nu
 use Rattle.ans_model.specs.Sequence.TokenKind.{TokenKind}
 use Rattle.ans_model.specs.declared.fault.Cause.{Cause}
 use Rattle.ans_model.specs.declared.fault.Cause.TheVariants.{BrokenSequence, NumberTooLarge, TooManyParameters}
-use Rattle.ans_model.specs.Sequence.Spelling.{Member, Raw, Spells, is_quote, mark_bytes}
+use Rattle.ans_model.specs.Sequence.Spelling.{Member, Raw, Spells, is_quote, mark_bytes, IsPrefixOfLoose, IsUnfinished}
 use Rattle.ans_model.specs.declared.mark.Mark.{Mark}
 use Rattle.ans_model.specs.declared.mark.Mark.TheVariants.{Unmarked, Equals, Question}
-use Rattle.ans_model.specs.Sequence.Spelling.{IsPrefixOfLoose, IsUnfinished}
 use Rattle.ans_model.specs.Sequence.Meaning.{meaning}
 use Rattle.ans_model.specs.Sequence.Reads.{SpellsToken, kind_of_byte}
 use Rattle.ans_model.specs.Inside.OpenPart.{Current, Fresh, InNumber, InString, AfterString, SpellsCurrent, Part}

@@ -9,8 +9,7 @@ use Rattle.ans_model.specs.declared.fault.Cause.TheVariants.{UnknownSequence, Wr
 use Rattle.ans_model.specs.Sequence.Spelling.{Member, Omitted, Number, Quoted, Raw}
 use Rattle.ans_model.specs.declared.mark.Mark.{Mark}
 use Rattle.ans_model.specs.Sequence.Meaning.{Entry, is_marked, is_quoted, distance, colour_number, colours, table}
-use Rattle.ans_model.specs.Sequence.Meaning.{is_one_of}
-use Rattle.ans_model.specs.Sequence.Meaning.{look_up, has_a_meaning, meaning}
+use Rattle.ans_model.specs.Sequence.Meaning.{is_one_of, look_up, has_a_meaning, meaning}
 use Rattle.ans_tokens.specs.PlainSequence.{plain_members, plain_sequence}
 
 -- ---- members of numbers

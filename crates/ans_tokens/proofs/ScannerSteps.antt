@@ -7,17 +7,14 @@ use Rattle.std.proofs.lemmas.Int.Digits.{digits_value_push}
 use Rattle.std.specs.Char.{is_ascii_digit, is_ascii_alphabetic, digit_value}
 use Rattle.std.specs.Str.Parse.{digits_value}
 use Rattle.ans_model.specs.Bytes.{escape, bracket, semicolon, largest_number, most_parameters}
-use Rattle.ans_model.specs.Sequence.Spelling.{is_quote, mark_bytes, SpellsMember, Spells}
+use Rattle.ans_model.specs.Sequence.Spelling.{is_quote, mark_bytes, SpellsMember, Spells, IsPrefixOfLoose}
 use Rattle.ans_model.specs.declared.mark.Mark.{Mark}
 use Rattle.ans_model.specs.declared.mark.Mark.TheVariants.{Unmarked}
-use Rattle.ans_model.specs.Sequence.Spelling.{IsPrefixOfLoose}
 use Rattle.ans_model.specs.Sequence.Spelling.{IsPrefixOfSpelling}
 use Rattle.ans_model.specs.Inside.OpenPart.{Current, Fresh, InNumber, InString, AfterString, SpellsCurrent}
-use Rattle.ans_model.specs.Inside.OpenPart.{IsCurrentInLimit}
-use Rattle.ans_model.specs.Inside.OpenPart.{Part, LoosePart, SpellsPart, member_of, lacks, raw_of}
+use Rattle.ans_model.specs.Inside.OpenPart.{IsCurrentInLimit, Part, LoosePart, SpellsPart, member_of, lacks, raw_of}
 use Rattle.ans_model.proofs.AfterPart.{all_append, done_more, limit_append, limit_member, letter_completes_in_limit}
-use Rattle.ans_model.proofs.AfterPart.{spelled_with_lacking}
-use Rattle.ans_model.proofs.AfterPart.{refuses_number, refuses_count, part_loose}
+use Rattle.ans_model.proofs.AfterPart.{spelled_with_lacking, refuses_number, refuses_count, part_loose}
 use Rattle.ans_tokens.specs.Unfinished.{with_next}
 
 -- the part with this of its current member

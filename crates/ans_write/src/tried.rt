@@ -1,6 +1,5 @@
 //! A reader or writer that counts its calls and remembers whether one failed.
-ghost use Rattle.std.specs.Prelude.{◌≡◌, ◌+◌, ◌-◌, ◌<◌, ◌≤◌, ◌↔◌, false, min, length, IsTrue};
-ghost use Rattle.std.specs.Prelude.{IsErr, IfOk};
+ghost use Rattle.std.specs.Prelude.{◌≡◌, ◌+◌, ◌-◌, ◌<◌, ◌≤◌, ◌↔◌, false, min, length, IsTrue, IsErr, IfOk};
 ghost use Rattle.std.specs.Io.{ReadsAtMost};
 ghost use Rattle.std.specs.Io.KnownBytes.{Keeps, ReadConsumes, WriteAppends};
 ghost use Rattle.ans_write.specs.Tried.{has_failed, call_count, inner_of};

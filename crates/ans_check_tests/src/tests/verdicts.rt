@@ -30,8 +30,14 @@ fn is_of_the_record(cause: Cause) -> bool {
     )
 }
 
-/// Asserts the picture's bytes in row order, and their attributes where these are compared.
-fn assert_shows<G: Grid>(rt: &impl Abort, picture: &Picture<G>, bytes: &[u8], attributes: &[u8]) {
+/// Asserts the bytes of a file's picture in row order, and their attributes where these are compared.
+fn assert_shows<G: Grid>(
+    rt: &impl Abort,
+    file: &[u8],
+    picture: &Picture<G>,
+    bytes: &[u8],
+    attributes: &[u8],
+) {
     let (width, lines) = (picture.width(), picture.lines());
     assert!(rt; 0 < width && width <= 100 && lines <= 100);
     assert_eq!(rt; bytes.len(), width * lines);
@@ -39,10 +45,11 @@ fn assert_shows<G: Grid>(rt: &impl Abort, picture: &Picture<G>, bytes: &[u8], at
     for (i, byte) in bytes.iter().enumerate() {
         let (row, column) = (i / width, i % width);
         assert!(rt; row < lines);
-        assert_eq!(rt; picture.glyph(row, column), *byte, "at {row}, {column}");
+        let glyph = picture.glyph(row, column);
+        assert_eq!(rt; glyph, *byte, "at {row}, {column} of {file:?}");
         if let Some(attribute) = attributes.get(i) {
             let found = picture.attr(row, column);
-            assert_eq!(rt; found, *attribute, "at {row}, {column}");
+            assert_eq!(rt; found, *attribute, "at {row}, {column} of {file:?}");
         }
     }
 }
@@ -74,12 +81,16 @@ fn expect_verdict_on<G: Grid>(
         Verdict::Pass(parts, picture) => {
             assert_eq!(rt; picture.width(), parts.width());
             assert_eq!(rt; picture.lines(), parts.lines());
-            let (bytes, attributes) = expected.expect(rt, "a fault was expected");
-            assert_shows(rt, &picture, bytes, attributes);
+            let Ok((bytes, attributes)) = expected else {
+                panic!(rt; "no fault is found in {file:?}")
+            };
+            assert_shows(rt, file, &picture, bytes, attributes);
         }
         Verdict::Refused(parts, fault) => {
-            let (offset, cause) = expected.expect_err(rt, "a pass was expected");
-            assert_eq!(rt; fault, Fault { offset, cause });
+            let Err((offset, cause)) = expected else {
+                panic!(rt; "{fault:?} is found in {file:?}")
+            };
+            assert_eq!(rt; fault, Fault { offset, cause }, "in {file:?}");
             assert_eq!(rt; parts.is_none(), is_of_the_record(cause));
         }
     }

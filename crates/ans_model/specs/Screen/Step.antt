@@ -1,11 +1,9 @@
 -- What one token does to the state (ANSI.SYS), and what a list of tokens does.
-use Rattle.std.specs.Prelude.{ℕ, ◌+◌, ◌-◌, ◌*◌, ◌%◌, min, List, ◌++◌, fold, take, drop, set, replicate}
-use Rattle.std.specs.Prelude.{if◌then◌else◌}
+use Rattle.std.specs.Prelude.{ℕ, ◌+◌, ◌-◌, ◌*◌, ◌%◌, min, List, ◌++◌, fold, take, drop, set, replicate, if◌then◌else◌}
 use Rattle.std.specs.Prelude.{nat_lt, ◌==◌}
 use Rattle.ans_model.specs.Bytes.{blank}
-use Rattle.ans_model.specs.Sequence.TokenKind.{TokenKind, Glyph, BackSpace, LineFeed, CarriageReturn, Up, Down}
-use Rattle.ans_model.specs.Sequence.TokenKind.{Forward, Backward, Place, Clear, EraseLine, Save, Restore, Colours}
-use Rattle.ans_model.specs.Sequence.TokenKind.{Wrap, Tab}
+use Rattle.ans_model.specs.Sequence.TokenKind.{TokenKind, Glyph, BackSpace, LineFeed, CarriageReturn, Up, Down, Forward}
+use Rattle.ans_model.specs.Sequence.TokenKind.{Backward, Place, Clear, EraseLine, Save, Restore, Colours, Wrap, Tab}
 use Rattle.ans_model.specs.Screen.Attribute.{attribute_after_all}
 use Rattle.ans_model.specs.Screen.State.{Size, State, at, cell, cell_count, index}
 use Rattle.ans_model.specs.declared.cell.Cell.{Cell}

@@ -1,7 +1,6 @@
 use Rattle.std.proofs.Common.{◌≡◌, ℕ, ◌<◌, length, get_or}
 use Rattle.ans_write.specs.declared.utf8.Utf8Character.{Utf8Character}
-use Rattle.ans_write.specs.Tables.{byte_text}
-use Rattle.ans_write.specs.Tables.{spelling}
+use Rattle.ans_write.specs.Tables.{byte_text, spelling}
 use Rattle.ans_write.proofs.tables.character_table.Given as goal
 
 abbrev pub invariant-loop-byte : goal.invariant-loop-byte

@@ -1,7 +1,6 @@
 use Rattle.std.proofs.Common.{◌≡◌, take, refl, ◌∙◌, arith}
 use Rattle.ans_play.specs.Stands.{PlaysWholeTokens}
-use Rattle.ans_play.proofs.WholeTokens.{plays_further, taken_over}
-use Rattle.ans_play.proofs.WholeTokens.{plays_no_tokens}
+use Rattle.ans_play.proofs.WholeTokens.{plays_further, taken_over, plays_no_tokens}
 use Rattle.ans_play.proofs.play.Play.advance_fast.Goals.{else-loop-count-test, then-loop-count-test+in-0}
 use Rattle.ans_play.proofs.play.Play.advance_fast.Goals as goal
 

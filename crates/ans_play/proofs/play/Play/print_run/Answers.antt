@@ -3,8 +3,7 @@ use Rattle.std.proofs.lemmas.List.Elements.{All-from_get_or, All-take}
 use Rattle.ans_model.specs.Bytes.{IsByte}
 use Rattle.ans_screen.specs.GridEdits.{printed_run}
 use Rattle.ans_play.specs.PlayView.{IsByteHalfCell}
-use Rattle.ans_play.proofs.GlyphRuns.{is_run, printed_bytes, All-written, run_is_played}
-use Rattle.ans_play.proofs.GlyphRuns.{longest_run}
+use Rattle.ans_play.proofs.GlyphRuns.{is_run, printed_bytes, All-written, run_is_played, longest_run}
 use Rattle.ans_play.proofs.SpanLemmas.{span_on_screen}
 use Rattle.ans_play.proofs.WholeTokens.{plays_no_tokens}
 use Rattle.ans_play.proofs.play.Play.print_run.Goals as goal

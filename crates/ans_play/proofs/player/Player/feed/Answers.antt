@@ -1,8 +1,7 @@
 use Rattle.std.proofs.Common.{◌≡◌, ◌≤◌, ◌+◌, refl, sym, ap, ◌∙◌, length, None, arith, rules}
 use Rattle.ans_play.specs.PlayerView.{PlayerView, play_of}
 use Rattle.ans_play.specs.Stands.{GoesOn}
-use Rattle.ans_play.proofs.Feeding.{plays_more, plays_all, piece_deserved, feeds_all, feeds_fault}
-use Rattle.ans_play.proofs.Feeding.{feeds_again}
+use Rattle.ans_play.proofs.Feeding.{plays_more, plays_all, piece_deserved, feeds_all, feeds_fault, feeds_again}
 use Rattle.ans_play.proofs.Feeding.{plays_to_start}
 use Rattle.ans_play.proofs.player.Player.feed.Goals as goal
 
