@@ -49,27 +49,6 @@ state_in round row i =
     (if nat_lt i row.first then Stale else if nat_lt i row.end then state_of row.known else Stale)
     else Stale
 
--- the state of cell i, by its row
-abbrev pub state_at : ℕ → ℕ → List Row → ℕ → CellState
-state_at width round held i = state_in round (slice_index_or held (i / width) never_written) i
-
--- cell i, by the cells' states
-abbrev pub cell_at : (ℕ → CellState) → HalfCell → List ℕ → List ℕ → List ℕ → List ℕ → ℕ → HalfCell
-cell_at states blank glyphs glyphs_known bits_known values i =
-    row_cell (states i) blank (slice_index glyphs i) (slice_index glyphs_known i) (slice_index bits_known i)
-    (slice_index values i)
-
--- all cells
-abbrev pub cells_of_rows : ℕ → ℕ → (ℕ → CellState) → HalfCell → List ℕ → List ℕ → List ℕ → List ℕ → List HalfCell
-cells_of_rows width rows states blank glyphs glyphs_known bits_known values =
-    map (cell_at states blank glyphs glyphs_known bits_known values) (range_with_len 0 (width * rows))
-
--- a cell for each row and column
-pub length_rows : (w rows : ℕ) (states : ℕ → CellState) (blank : HalfCell) (gs ks bs vs : List ℕ)
-    → length (cells_of_rows w rows states blank gs ks bs vs) ≡ w * rows
-length_rows w rows states blank gs ks bs vs =
-    length-map-range_with_len (cell_at states blank gs ks bs vs) 0 (w * rows)
-
 -- What a grid of planes is made of. A plane has a byte for each cell: the glyph, FFh where it is known, the bits of
 -- the attribute that are known, and its value.
 pub record Planes : Type 0 where
@@ -100,24 +79,27 @@ abbrev pub known_plane : Part → Planes → List ℕ
 known_plane Glyph g = g.glyphs_known
 known_plane Attribute g = g.bits_known
 
--- the states of a grid's cells
+-- the state of cell i of a grid, by its row
 abbrev pub states_of : Planes → ℕ → CellState
-states_of g = state_at g.width g.round g.held
+states_of g i = state_in g.round (slice_index_or g.held (i / g.width) never_written) i
 
--- all cells of a grid
-abbrev pub cells_of_grid : Planes → List HalfCell
-cells_of_grid g =
-    cells_of_rows g.width g.rows (states_of g) g.blank g.glyphs g.glyphs_known g.bits_known
-    g.values
+-- the cell that the bytes of cell i stand for in a state
+abbrev pub byte_cell : CellState → Planes → ℕ → HalfCell
+byte_cell state g i =
+    row_cell state g.blank (slice_index g.glyphs i) (slice_index g.glyphs_known i)
+    (slice_index g.bits_known i) (slice_index g.values i)
 
 -- cell i of a grid
 abbrev pub cell_in_grid : Planes → ℕ → HalfCell
-cell_in_grid g = cell_at (states_of g) g.blank g.glyphs g.glyphs_known g.bits_known g.values
+cell_in_grid g i = byte_cell (states_of g i) g i
+
+-- all cells of a grid
+abbrev pub cells_of_grid : Planes → List HalfCell
+cells_of_grid g = map (cell_in_grid g) (range_with_len 0 (g.width * g.rows))
 
 -- a cell for each row and column of a grid
 pub length_grid : (g : Planes) → length (cells_of_grid g) ≡ g.width * g.rows
-length_grid g =
-    length_rows g.width g.rows (states_of g) g.blank g.glyphs g.glyphs_known g.bits_known g.values
+length_grid g = length-map-range_with_len (cell_in_grid g) 0 (g.width * g.rows)
 
 -- both grids have the same cells in the same rows
 pub record ShowsSame (old new : Planes) : Type 0 where
@@ -205,12 +187,6 @@ pub record SameBytes (old new : Planes) (i : ℕ) : Type 0 where
   pub glyph_known : slice_index new.glyphs_known i ≡ slice_index old.glyphs_known i
   pub bits_known : slice_index new.bits_known i ≡ slice_index old.bits_known i
   pub value : slice_index new.values i ≡ slice_index old.values i
-
--- the cell that the bytes of cell i stand for in this state
-abbrev pub byte_cell : CellState → Planes → ℕ → HalfCell
-byte_cell state g i =
-    row_cell state g.blank (slice_index g.glyphs i) (slice_index g.glyphs_known i)
-    (slice_index g.bits_known i) (slice_index g.values i)
 
 -- from `from` up to and without `to` the bytes of each cell stand for the blank in this state, and the others are as
 -- they were
