@@ -4,7 +4,7 @@ ghost use Rattle.std.specs.Prelude.{◌≡◌, ◌<◌, ◌≤◌, [], length, r
 ghost use Rattle.std.specs.Prelude.{vec_capacity, IfOk, MatchOption};
 ghost use Rattle.ans_model.specs.Screen.Step.{filled};
 
-use crate::planes::fill_plane;
+use crate::planes::fill_bytes;
 use std::alloc::{AllocError, Global};
 use std::marker::Model;
 
@@ -60,7 +60,7 @@ impl LazyPlane {
             hold(&mut self.bytes, self.zeros);
             self.zeros = 0;
         }
-        fill_plane(&mut self.bytes, from, to, byte);
+        fill_bytes(&mut self.bytes, from, to, byte);
     }
 
     #[inline(always)]

@@ -10,7 +10,7 @@ use crate::attr::Attr;
 use crate::cell::{HalfCell, Part};
 use crate::grid::Grid;
 use crate::lazy_plane::LazyPlane;
-use crate::planes::{fill_plane, write_planes};
+use crate::planes::{fill_bytes, write_bytes};
 use crate::row_planes::{Frame, NEVER, Row, RowPlanes, cells, copies};
 use std::alloc::{AllocError, Global};
 
@@ -151,8 +151,8 @@ impl RowPlanes for PlaneGrid {
 
     #[inline(always)]
     fn fill_shown(&mut self, from: usize, to: usize, glyph: u8, value: u8) {
-        fill_plane(&mut self.glyphs, from, to, glyph);
-        fill_plane(&mut self.values, from, to, value);
+        fill_bytes(&mut self.glyphs, from, to, glyph);
+        fill_bytes(&mut self.values, from, to, value);
     }
 
     #[inline(never)]
@@ -163,7 +163,7 @@ impl RowPlanes for PlaneGrid {
 
     #[inline(always)]
     fn write_shown(&mut self, from: usize, bytes: &[u8], count: usize, value: u8) {
-        write_planes(
+        write_bytes(
             &mut self.glyphs,
             &mut self.values,
             from,

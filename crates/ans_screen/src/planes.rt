@@ -1,6 +1,6 @@
 //! Planes of bytes, one a cell.
 
-ghost use Rattle.std.specs.Prelude.{◌≡◌, ◌↔◌, ◌+◌, ◌*◌, ◌≤◌, ◌++◌, length, take, drop, vec_len};
+ghost use Rattle.std.specs.Prelude.{◌≡◌, ◌↔◌, ◌+◌, ◌*◌, ◌≤◌, ◌++◌, length, take, drop};
 ghost use Rattle.std.specs.Prelude.{ℕ, ◌<◌, IsTrue, slice_index, unwrap_or, bit_and};
 ghost use Rattle.ans_model.specs.Screen.Step.{filled};
 ghost use Rattle.ans_screen.specs.GridEdits.{written};
@@ -120,17 +120,6 @@ pub(crate) fn fill_bytes(plane: &mut [u8], from: usize, to: usize, byte: u8)
     }
 }
 
-/// The same of a vector.
-#[inline(always)]
-pub(crate) fn fill_plane(plane: &mut Vec<u8>, from: usize, to: usize, byte: u8)
-    requires ordered { from ≤ to }
-    requires within { to ≤ length plane.old.items }
-    ensures items { plane.new.items ≡ filled plane.old.items from to byte }
-    ensures len { vec_len plane.new ≡ vec_len plane.old }
-{
-    fill_bytes(plane, from, to, byte);
-}
-
 /// Writes the first `count` bytes side by side to the glyphs from byte `from` on, and a value to the
 /// same places of the values. A short run is two blends, since a call that copies memory costs more
 /// than they do.
@@ -159,27 +148,6 @@ pub(crate) fn write_bytes(
         glyphs[from..from + count].copy_from_slice(&bytes[..count]);
         values[from..from + count].fill(value);
     }
-}
-
-/// The same of vectors.
-#[inline(always)]
-pub(crate) fn write_planes(
-    glyphs: &mut Vec<u8>,
-    values: &mut Vec<u8>,
-    from: usize,
-    bytes: &[u8],
-    count: usize,
-    value: u8,
-)
-    requires count { count ≤ length bytes.now }
-    requires within { from + count ≤ length glyphs.old.items }
-    requires level { length values.old.items ≡ length glyphs.old.items }
-    ensures glyphs { glyphs.new.items ≡ written glyphs.old.items from (take count bytes.now) }
-    ensures glyphs_len { vec_len glyphs.new ≡ vec_len glyphs.old }
-    ensures values { values.new.items ≡ filled values.old.items from (from + count) value }
-    ensures values_len { vec_len values.new ≡ vec_len values.old }
-{
-    write_bytes(glyphs, values, from, bytes, count, value);
 }
 
 #[inline(always)]
