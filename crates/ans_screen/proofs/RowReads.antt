@@ -21,8 +21,8 @@ use Rattle.ans_screen.specs.RowCells.{Stale, Known, Mixed, cell_in_grid, cells_o
 use Rattle.ans_screen.specs.RowCells.{AreKnownCells, shown_plane, known_plane}
 use Rattle.ans_screen.specs.RowCells.{IsFirstUnknown, IsCopied, IsHeldRow}
 use Rattle.ans_screen.specs.declared.row_planes.Row.{Row}
-use Rattle.ans_screen.specs.declared.cell.Part.{Part}
-use Rattle.ans_screen.specs.declared.cell.Part.TheVariants.{Glyph, Attribute}
+use Rattle.ans_screen.specs.declared.cell.CellByte.{CellByte}
+use Rattle.ans_screen.specs.declared.cell.CellByte.TheVariants.{Glyph, Attribute}
 use Rattle.ans_screen.specs.RowCells.{Planes}
 use Rattle.ans_screen.proofs.FirstGap.{known_cell, unknown_cell, known_next, position_none, position_some}
 use Rattle.std.proofs.lemmas.List.Sums.{position_or_len_is}
@@ -31,7 +31,7 @@ use Rattle.ans_screen.proofs.Places.{get_or-map_within, IsPart, written_before, 
 use Rattle.ans_screen.proofs.Places.{length-written, row_end}
 use Rattle.ans_screen.proofs.RowCells.{get_cell, cell_in_state}
 
-known_by_0 : (part : Part) (x : ℕ) → known_byte part x 0 ≡ 0
+known_by_0 : (which : CellByte) (x : ℕ) → known_byte which x 0 ≡ 0
 known_by_0 Glyph x = refl
 known_by_0 Attribute x = and_zero_r x
 
@@ -111,33 +111,33 @@ module _ (g : Planes) where
 
   -- ---- cells of one row, copied
   -- what is read of a mixed cell by its planes
-  pub mixed_byte : (part : Part) (i : ℕ) → states_of g i ≡ Mixed
-      → byte_of part (cell_in_grid g i)
-      ≡ known_byte part (get_or (shown_plane part g) i 0) (get_or (known_plane part g) i 0)
+  pub mixed_byte : (which : CellByte) (i : ℕ) → states_of g i ≡ Mixed
+      → byte_of which (cell_in_grid g i)
+      ≡ known_byte which (get_or (shown_plane which g) i 0) (get_or (known_plane which g) i 0)
   mixed_byte Glyph i e = ap glyph_byte (cell_in_state g Mixed i e)
   mixed_byte Attribute i e = ap attribute_byte (cell_in_state g Mixed i e)
 
   -- of a mixed cell in a plane of which nothing is known
-  pub nothing_known : (part : Part) (i n : ℕ) → states_of g i ≡ Mixed → known_plane part g ≡ replicate n 0 → i < n
-      → byte_of part (cell_in_grid g i) ≡ 0
-  nothing_known part i n mixed e lt =
-      let none : get_or (known_plane part g) i 0 ≡ 0 =
+  pub nothing_known : (which : CellByte) (i n : ℕ) → states_of g i ≡ Mixed → known_plane which g ≡ replicate n 0 → i < n
+      → byte_of which (cell_in_grid g i) ≡ 0
+  nothing_known which i n mixed e lt =
+      let none : get_or (known_plane which g) i 0 ≡ 0 =
       ap (λ (xs : List ℕ). get_or xs i 0) e ∙ get_or-replicate n i 0 0 lt in
-      mixed_byte part i mixed ∙ (ap (λ (k : ℕ). known_byte part (get_or (shown_plane part g) i 0) k) none
-      ∙ known_by_0 part (get_or (shown_plane part g) i 0))
+      mixed_byte which i mixed ∙ (ap (λ (k : ℕ). known_byte which (get_or (shown_plane which g) i 0) k) none
+      ∙ known_by_0 which (get_or (shown_plane which g) i 0))
 
   -- and of a known cell
-  pub known_byte_is : (part : Part) (i : ℕ) → states_of g i ≡ Known → get_or (shown_plane part g) i 0 < 256
-      → byte_of part (cell_in_grid g i) ≡ get_or (shown_plane part g) i 0
+  pub known_byte_is : (which : CellByte) (i : ℕ) → states_of g i ≡ Known → get_or (shown_plane which g) i 0 < 256
+      → byte_of which (cell_in_grid g i) ≡ get_or (shown_plane which g) i 0
   known_byte_is Glyph i e lt = ap glyph_byte (cell_in_state g Known i e)
   known_byte_is Attribute i e lt =
       ap attribute_byte (cell_in_state g Known i e) ∙ (and_mask (get_or g.values i 0) 8 ∙ omega arith)
 
-  pub whole_shown : (part : Part) → length (shown_plane part g) ≡ g.width * g.rows
+  pub whole_shown : (which : CellByte) → length (shown_plane which g) ≡ g.width * g.rows
   whole_shown Glyph = g.whole_glyphs
   whole_shown Attribute = g.whole_values
 
-  pub whole_known : (part : Part) → length (known_plane part g) ≡ g.width * g.rows
+  pub whole_known : (which : CellByte) → length (known_plane which g) ≡ g.width * g.rows
   whole_known Glyph = g.whole_glyphs_known
   whole_known Attribute = g.whole_bits_known
 
@@ -154,11 +154,11 @@ put_is_written a k xs ys e =
     ap (λ (zs : List ℕ). take a xs ++ (ys ++ zs)) (drop-drop k a xs ∙ ap (λ (n : ℕ). drop (a + n) xs) e)
 
 -- what is copied of a row is what its cells have there
-module _ (g : Planes) (part : HalfCell → ℕ) (row : ℕ) (held : Row) (holds : IsHeldRow g row held)
-    (lt : row < g.rows) (old copied inner : List ℕ) (blank from : ℕ) (is : blank ≡ part g.blank)
+module _ (g : Planes) (byte : HalfCell → ℕ) (row : ℕ) (held : Row) (holds : IsHeldRow g row held)
+    (lt : row < g.rows) (old copied inner : List ℕ) (blank from : ℕ) (is : blank ≡ byte g.blank)
     (at_start : from ≡ row * g.width) (long : length old ≡ g.width) (filled : copied ≡ replicate (length old) blank)
     (len : length inner ≡ held.end - held.first)
-    (inside : IsCopied part g held.first (held.end - held.first) inner) where
+    (inside : IsCopied byte g held.first (held.end - held.first) inner) where
   abbrev at : ℕ
   at = held.first - from
 
@@ -173,13 +173,13 @@ module _ (g : Planes) (part : HalfCell → ℕ) (row : ℕ) (held : Row) (holds 
 
   -- a cell that is not held
   blank_there : (k : ℕ) → k < g.width → states_of g (from + k) ≡ Stale
-      → get_or copied k 0 ≡ part (cell_in_grid g (from + k))
+      → get_or copied k 0 ≡ byte (cell_in_grid g (from + k))
   blank_there k within e =
       ap (λ (xs : List ℕ). get_or xs k 0) filled
       ∙ (get_or-replicate (length old) k blank 0 (omega arith)
-      ∙ (is ∙ ap part (sym (cell_in_state g Stale (from + k) e))))
+      ∙ (is ∙ ap byte (sym (cell_in_state g Stale (from + k) e))))
 
-  copied_each : IsCopied part g from g.width new
+  copied_each : IsCopied byte g from g.width new
   copied_each k within = ap (λ (xs : List ℕ). get_or xs k 0) new_is ∙ elim (cases_lt k at) [
     | inl early ↦
         written_before copied at inner k 0 (omega (arith, all, holds.stop, holds.ordered)) early
@@ -190,7 +190,7 @@ module _ (g : Planes) (part : HalfCell → ℕ) (row : ℕ) (held : Row) (holds 
           let cell : held.first + (k - at) ≡ from + k = omega (arith, holds.start) in
           ap (λ (n : ℕ). get_or (written copied at inner) n 0) (sym place)
           ∙ (written_at copied at inner (k - at) 0 (omega (arith, all, holds.stop, holds.ordered)) (omega (arith, len))
-          ∙ (inside (k - at) (omega arith) ∙ ap (λ (n : ℕ). part (cell_in_grid g n)) cell))
+          ∙ (inside (k - at) (omega arith) ∙ ap (λ (n : ℕ). byte (cell_in_grid g n)) cell))
       | inr past ↦
           written_behind copied at inner k 0 (omega (arith, all, holds.stop, holds.ordered))
           (omega (arith, len, holds.start, holds.ordered))
@@ -198,7 +198,7 @@ module _ (g : Planes) (part : HalfCell → ℕ) (row : ℕ) (held : Row) (holds 
     ]
   ]
 
-  pub row_copied : new ≡ map part (row_cells g.width row (cells_of_grid g))
+  pub row_copied : new ≡ map byte (row_cells g.width row (cells_of_grid g))
   row_copied =
       let cells = cells_of_grid g in
       let front = take g.width (drop (row * g.width) cells) in
@@ -206,15 +206,15 @@ module _ (g : Planes) (part : HalfCell → ℕ) (row : ℕ) (held : Row) (holds 
       let rest = length-drop (row * g.width) cells in
       let count : length front ≡ g.width =
       length-take-le g.width (drop (row * g.width) cells) (omega (arith, length_grid g)) in
-      let mapped = length-map front part in
+      let mapped = length-map front byte in
       let size : length new ≡ length copied = ap length new_is
       ∙ length-written copied at inner (omega (arith, len, all, holds.start, holds.stop, holds.ordered)) in
-      same_lists new (map part front) (omega (arith, all)) (λ k d below.
+      same_lists new (map byte front) (omega (arith, all)) (λ k d below.
       let within : k < g.width = omega (arith, all) in
       get_or_default new k d 0 below
       ∙ (copied_each k within
-      ∙ (ap (λ (n : ℕ). part (cell_in_grid g (n + k))) at_start
-      ∙ (ap part (sym (get_cell g (row * g.width + k) g.blank (omega arith)))
-      ∙ (ap part (sym (get_or-take g.width (drop (row * g.width) cells) k g.blank within
+      ∙ (ap (λ (n : ℕ). byte (cell_in_grid g (n + k))) at_start
+      ∙ (ap byte (sym (get_cell g (row * g.width + k) g.blank (omega arith)))
+      ∙ (ap byte (sym (get_or-take g.width (drop (row * g.width) cells) k g.blank within
       ∙ get_or-drop (row * g.width) cells k g.blank))
-      ∙ sym (get_or-map_within part front k g.blank d (omega arith)))))))
+      ∙ sym (get_or-map_within byte front k g.blank d (omega arith)))))))

@@ -40,5 +40,5 @@ marked_known g n held all le room shown ks bs =
     }
 
 -- what is known of a cell that is known
-pub known_bytes : (g k b v : ℕ) → IsTrue (is_known (cell_of g k b v)) → (k ≡ 0xFF) × (b ≡ 0xFF)
-known_bytes g k b v h = grind (arith, nat_tests)
+pub both_known : (g k b v : ℕ) → IsTrue (is_known (cell_of g k b v)) → (k ≡ 0xFF) × (b ≡ 0xFF)
+both_known g k b v h = grind (arith, nat_tests)

@@ -8,8 +8,8 @@ use Rattle.ans_model.specs.Screen.Step.{filled}
 use Rattle.ans_screen.specs.GridEdits.{is_unknown}
 use Rattle.ans_screen.specs.CellPlanes.{cell_of}
 use Rattle.ans_screen.specs.declared.cell.HalfCell.{HalfCell}
-use Rattle.ans_screen.specs.declared.cell.Part.{Part}
-use Rattle.ans_screen.specs.declared.cell.Part.TheVariants.{Glyph, Attribute}
+use Rattle.ans_screen.specs.declared.cell.CellByte.{CellByte}
+use Rattle.ans_screen.specs.declared.cell.CellByte.TheVariants.{Glyph, Attribute}
 use Rattle.ans_screen.specs.declared.row_planes.Row.{Row}
 
 -- how a cell stands in the planes: not at all, in the two of glyphs and of values, or in all four
@@ -70,12 +70,12 @@ pub record Planes : Type 0 where
   pub whole_bits_known : length bits_known ≡ width * rows
   pub whole_values : length values ≡ width * rows
 
--- the plane of a part's bytes, and that of what is known of them
-abbrev pub shown_plane : Part → Planes → List ℕ
+-- the plane of those bytes, and that of what is known of them
+abbrev pub shown_plane : CellByte → Planes → List ℕ
 shown_plane Glyph g = g.glyphs
 shown_plane Attribute g = g.values
 
-abbrev pub known_plane : Part → Planes → List ℕ
+abbrev pub known_plane : CellByte → Planes → List ℕ
 known_plane Glyph g = g.glyphs_known
 known_plane Attribute g = g.bits_known
 
@@ -167,9 +167,9 @@ pub record IsHeldRow (g : Planes) (row : ℕ) (held : Row) : Type 0 where
   pub before : (i : ℕ) → row * g.width ≤ i → i < held.first → states_of g i ≡ Stale
   pub after : (i : ℕ) → held.end ≤ i → i < row * g.width + g.width → states_of g i ≡ Stale
 
--- this part of n cells side by side from cell `from` on is copied
+-- this byte of n cells side by side from cell `from` on is copied
 abbrev pub IsCopied : (HalfCell → ℕ) → Planes → ℕ → ℕ → List ℕ → Type 0
-IsCopied part g from n copied = (k : ℕ) → k < n → slice_index copied k ≡ part (cell_in_grid g (from + k))
+IsCopied byte g from n copied = (k : ℕ) → k < n → slice_index copied k ≡ byte (cell_in_grid g (from + k))
 
 -- of the cells from `from` up to and without `to` each is known
 abbrev pub AreKnownCells : (ℕ → HalfCell) → ℕ → ℕ → Type 0

@@ -6,7 +6,7 @@ ghost use Rattle.ans_screen.specs.LentRows.{row_of, rows_whole, rows_of_rounds, 
 ghost use Rattle.ans_screen.specs.RowCells.{never_written, cells_of_grid, length_grid};
 
 use crate::attr::Attr;
-use crate::cell::{HalfCell, Part};
+use crate::cell::{CellByte, HalfCell};
 use crate::lent_row::LentRow;
 use crate::planes::{fill_bytes, write_bytes};
 use crate::row_planes::{Frame, Row, RowPlanes, cells, copies};
@@ -160,17 +160,17 @@ impl<'a> RowPlanes for LentGrid<'a> {
         (self.glyphs_known[i], self.bits_known[i])
     }
 
-    fn shown_part(&self, part: Part, from: usize, to: usize) -> &[u8] {
-        match part {
-            Part::Glyph => &self.glyphs[from..to],
-            Part::Attribute => &self.values[from..to],
+    fn shown_bytes(&self, which: CellByte, from: usize, to: usize) -> &[u8] {
+        match which {
+            CellByte::Glyph => &self.glyphs[from..to],
+            CellByte::Attribute => &self.values[from..to],
         }
     }
 
-    fn known_part(&self, part: Part, from: usize, to: usize) -> Option<&[u8]> {
-        Some(match part {
-            Part::Glyph => &self.glyphs_known[from..to],
-            Part::Attribute => &self.bits_known[from..to],
+    fn known_bytes(&self, which: CellByte, from: usize, to: usize) -> Option<&[u8]> {
+        Some(match which {
+            CellByte::Glyph => &self.glyphs_known[from..to],
+            CellByte::Attribute => &self.bits_known[from..to],
         })
     }
 
@@ -239,11 +239,11 @@ impl<'a> Screen for LentGrid<'a> {
     }
 
     fn copy_glyphs(&self, row: usize, glyphs: &mut [u8]) {
-        copies::copy_part(self, row, Part::Glyph, glyphs);
+        copies::copy_bytes(self, row, CellByte::Glyph, glyphs);
     }
 
     fn copy_attributes(&self, row: usize, values: &mut [u8]) {
-        copies::copy_part(self, row, Part::Attribute, values);
+        copies::copy_bytes(self, row, CellByte::Attribute, values);
     }
 
     ghost whole = { λ g. length_grid (⟦<LentGrid<'a> as RowPlanes>⟧.planes_of g) };

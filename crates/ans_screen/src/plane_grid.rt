@@ -7,7 +7,7 @@ ghost use Rattle.ans_screen.specs.GridEdits.{most_rows};
 ghost use Rattle.ans_screen.specs.RowCells.{cells_of_grid, length_grid};
 
 use crate::attr::Attr;
-use crate::cell::{HalfCell, Part};
+use crate::cell::{CellByte, HalfCell};
 use crate::grid::Grid;
 use crate::lazy_plane::LazyPlane;
 use crate::planes::{fill_bytes, write_bytes};
@@ -135,17 +135,17 @@ impl RowPlanes for PlaneGrid {
         (self.glyphs_known.byte(i), self.bits_known.byte(i))
     }
 
-    fn shown_part(&self, part: Part, from: usize, to: usize) -> &[u8] {
-        match part {
-            Part::Glyph => &self.glyphs[from..to],
-            Part::Attribute => &self.values[from..to],
+    fn shown_bytes(&self, which: CellByte, from: usize, to: usize) -> &[u8] {
+        match which {
+            CellByte::Glyph => &self.glyphs[from..to],
+            CellByte::Attribute => &self.values[from..to],
         }
     }
 
-    fn known_part(&self, part: Part, from: usize, to: usize) -> Option<&[u8]> {
-        match part {
-            Part::Glyph => self.glyphs_known.part(from, to),
-            Part::Attribute => self.bits_known.part(from, to),
+    fn known_bytes(&self, which: CellByte, from: usize, to: usize) -> Option<&[u8]> {
+        match which {
+            CellByte::Glyph => self.glyphs_known.part(from, to),
+            CellByte::Attribute => self.bits_known.part(from, to),
         }
     }
 
@@ -230,11 +230,11 @@ impl Grid for PlaneGrid {
     }
 
     fn copy_glyphs(&self, row: usize, glyphs: &mut [u8]) {
-        copies::copy_part(self, row, Part::Glyph, glyphs);
+        copies::copy_bytes(self, row, CellByte::Glyph, glyphs);
     }
 
     fn copy_attributes(&self, row: usize, values: &mut [u8]) {
-        copies::copy_part(self, row, Part::Attribute, values);
+        copies::copy_bytes(self, row, CellByte::Attribute, values);
     }
 
     ghost whole = { λ g. length_grid (⟦<PlaneGrid as RowPlanes>⟧.planes_of g) };

@@ -8,7 +8,7 @@ ghost use Rattle.ans_screen.specs.CellPlanes.{glyph_of, cell_of, known_byte};
 ghost use Rattle.ans_screen.specs.CellPlanes.{AreKnown, IsFirstGap};
 
 use crate::attr::Attr;
-use crate::cell::{HalfCell, Part};
+use crate::cell::{CellByte, HalfCell};
 use std::simd::prelude::*;
 
 /// A cell's byte in each plane.
@@ -220,15 +220,15 @@ fn copy_known_bits(values: &[u8], bits_known: &[u8], copied: &mut [u8])
     }
 }
 
-/// Copies the bytes of a part, with 0 for what is not known of them.
-pub(crate) fn copy_known(part: Part, shown: &[u8], known: &[u8], copied: &mut [u8])
+/// Copies glyphs or values, with 0 for what is not known of them.
+pub(crate) fn copy_known(which: CellByte, shown: &[u8], known: &[u8], copied: &mut [u8])
     requires shown { length shown.now ≡ length copied.old }
     requires known { length known.now ≡ length copied.old }
     ensures { (k : ℕ) → k < length copied.old → slice_index copied.new k
-        ≡ known_byte part (slice_index shown.now k) (slice_index known.now k) }
+        ≡ known_byte which (slice_index shown.now k) (slice_index known.now k) }
 {
-    match part {
-        Part::Glyph => copy_known_glyphs(shown, known, copied),
-        Part::Attribute => copy_known_bits(shown, known, copied),
+    match which {
+        CellByte::Glyph => copy_known_glyphs(shown, known, copied),
+        CellByte::Attribute => copy_known_bits(shown, known, copied),
     }
 }

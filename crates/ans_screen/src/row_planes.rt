@@ -11,7 +11,7 @@ pub(crate) mod cells;
 pub(crate) mod copies;
 pub(crate) mod rows;
 
-use crate::cell::{HalfCell, Part};
+use crate::cell::{CellByte, HalfCell};
 
 /// A row as it was last written.
 #[derive(Clone, Copy)]
@@ -91,19 +91,19 @@ pub(crate) trait RowPlanes {
         ensures glyph { result.0 ≡ slice_index (planes_of self.now).glyphs_known i }
         ensures value { result.1 ≡ slice_index (planes_of self.now).bits_known i };
 
-    /// The bytes of a part.
-    fn shown_part(&self, part: Part, from: usize, to: usize) -> &[u8]
+    /// The glyphs or the values.
+    fn shown_bytes(&self, which: CellByte, from: usize, to: usize) -> &[u8]
         requires ordered { from ≤ to }
         requires within { to ≤ (planes_of self.now).width * (planes_of self.now).rows }
-        ensures { result.now ≡ slice_range (shown_plane part (planes_of self.now)) from to };
+        ensures { result.now ≡ slice_range (shown_plane which (planes_of self.now)) from to };
 
-    /// What is known of a part, or `None` where each byte of that plane is 00h.
-    fn known_part(&self, part: Part, from: usize, to: usize) -> Option<&[u8]>
+    /// What is known of them, or `None` where each byte of that plane is 00h.
+    fn known_bytes(&self, which: CellByte, from: usize, to: usize) -> Option<&[u8]>
         requires ordered { from ≤ to }
         requires within { to ≤ (planes_of self.now).width * (planes_of self.now).rows }
-        ensures { MatchOption result (known_plane part (planes_of self.now)
-            ≡ replicate (length (known_plane part (planes_of self.now))) 0)
-            (λ known. known.now ≡ slice_range (known_plane part (planes_of self.now)) from to) };
+        ensures { MatchOption result (known_plane which (planes_of self.now)
+            ≡ replicate (length (known_plane which (planes_of self.now))) 0)
+            (λ known. known.now ≡ slice_range (known_plane which (planes_of self.now)) from to) };
 
     fn fill_shown(&mut self, from: usize, to: usize, glyph: u8, value: u8)
         requires ordered { from ≤ to }

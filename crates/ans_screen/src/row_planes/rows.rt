@@ -7,7 +7,7 @@ ghost use Rattle.ans_screen.specs.RowCells.{AreFilled, cell_in_grid, states_of, 
 ghost use Rattle.ans_screen.specs.RowCells.{SameRows, IsFirstUnknown, HasBlanks, IsMarked, ShowsSame};
 
 use super::{Row, RowPlanes};
-use crate::cell::Part;
+use crate::cell::CellByte;
 use crate::planes::{CellBytes, bytes_of, first_gap};
 
 /// How many cells of a row are held at the least behind those that are written, since what is
@@ -232,8 +232,8 @@ fn first_gap_from<P: RowPlanes>(grid: &P, from: usize, to: usize) -> Option<usiz
         (slice_range (P.planes_of grid.now).bits_known from to) (to - from) result }
 {
     match (
-        grid.known_part(Part::Glyph, from, to),
-        grid.known_part(Part::Attribute, from, to),
+        grid.known_bytes(CellByte::Glyph, from, to),
+        grid.known_bytes(CellByte::Attribute, from, to),
     ) {
         (Some(glyphs_known), Some(bits_known)) => first_gap(glyphs_known, bits_known, to - from),
         _ if from < to => Some(0),
