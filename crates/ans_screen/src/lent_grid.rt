@@ -211,10 +211,6 @@ impl<'a> Screen for LentGrid<'a> {
         cells::get(self, i)
     }
 
-    fn put(&mut self, i: usize, cell: HalfCell) {
-        cells::put(self, i, cell);
-    }
-
     fn fill(&mut self, from: usize, to: usize, cell: HalfCell) {
         cells::fill(self, from, to, cell);
     }
