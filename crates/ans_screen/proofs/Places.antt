@@ -216,16 +216,3 @@ row_between w from to row some lt le before =
     let above : from / w * w ≤ row * w = mul-le (from / w) w row w le (omega arith) in
     let below : row * w ≤ (to - 1) / w * w = mul-le row w ((to - 1) / w) w (omega arith) (omega arith) in
     (omega arith, omega arith)
-
--- the bytes of a plane from `from` up to and without `to`
-pub record IsPart (xs : List ℕ) (from to : ℕ) (part : List ℕ) : Type 0 where
-  pub same : (k : ℕ) → k < to - from → get_or part k 0 ≡ get_or xs (from + k) 0
-
-pub is_part : (xs : List ℕ) (from to : ℕ) (part : List ℕ) → part ≡ take (to - from) (drop from xs)
-    → IsPart xs from to part
-is_part xs from to part e = record {
-  same =
-      λ k lt.
-      ap (λ (ys : List ℕ). get_or ys k 0) e
-      ∙ (get_or-take (to - from) (drop from xs) k 0 lt ∙ get_or-drop from xs k 0);
-}

@@ -1,34 +1,28 @@
 -- Cells read, looked through and copied of planes with a state for each row.
-use Rattle.std.proofs.Common.{◌≡◌, ℕ, ◌+◌, ◌-◌, ◌*◌, ◌≤◌, ◌<◌, false, List, map, length}
-use Rattle.std.proofs.Common.{get_or, ap, sym, ◌∙◌, arith, Option, Some, None}
-use Rattle.std.proofs.Common.{take, drop, ◌++◌, replicate, inl, inr, refl}
-use Rattle.std.specs.List.{position, slice_get}
-use Rattle.std.proofs.lemmas.List.{get_or_default, get_or-drop, length-drop}
-use Rattle.std.proofs.lemmas.List.{get_or-take, length-take-le, length-map}
-use Rattle.std.proofs.lemmas.List.{same_lists}
-use Rattle.std.proofs.lemmas.Bool.{cases_lt}
-use Rattle.std.proofs.lemmas.List.{length-replicate, get_or-replicate}
+use Rattle.std.proofs.Common.{◌≡◌, ℕ, ◌+◌, ◌-◌, ◌*◌, ◌≤◌, ◌<◌, false, List, map, length, take, drop, ◌++◌, replicate}
+use Rattle.std.proofs.Common.{get_or, refl, ap, sym, ◌∙◌, arith, Option, Some, None, inl, inr}
 use Rattle.std.specs.Int.Bits.{and_zero_r}
-use Rattle.std.proofs.lemmas.Nat.{and_mask}
+use Rattle.std.specs.List.{between, position, slice_get}
 use Rattle.std.proofs.Math.Seq.{drop-drop}
-use borrow.Rule.Slice.PartMut.{put_mid}
-use Rattle.ans_screen.specs.GridEdits.{written, row_cells}
+use Rattle.std.proofs.lemmas.Bool.{cases_lt}
+use Rattle.std.proofs.lemmas.List.{get_or-take, get_or-replicate, length-take-le, length-replicate}
+use Rattle.std.proofs.lemmas.List.Edits.{get_or-between}
+use Rattle.std.proofs.lemmas.List.Sums.{position_or_len_is}
+use Rattle.std.proofs.lemmas.Nat.{and_mask}
 use Rattle.std.proofs.lemmas.Option.{slice_get-get_or}
+use borrow.Rule.Slice.PartMut.{put_mid}
+use Rattle.ans_screen.specs.GridEdits.{written, row_cells, is_unknown, first_unknown}
 use Rattle.ans_screen.specs.HalfCells.{attribute_byte, glyph_byte, byte_of}
-use Rattle.ans_screen.specs.GridEdits.{is_unknown, first_unknown}
-use Rattle.ans_screen.specs.CellPlanes.{cell_of, known_byte, AreKnown, IsFirstGap}
-use Rattle.ans_screen.specs.RowCells.{Stale, Known, Mixed, cell_in_grid, cells_of_grid, states_of, length_grid}
-use Rattle.ans_screen.specs.RowCells.{AreKnownCells, shown_plane, known_plane}
-use Rattle.ans_screen.specs.RowCells.{IsFirstUnknown, IsCopied, IsHeldRow}
-use Rattle.ans_screen.specs.declared.row_planes.Row.{Row}
+use Rattle.ans_screen.specs.CellPlanes.{known_byte, AreKnown, IsFirstGap}
+use Rattle.ans_screen.specs.RowCells.{Planes, Stale, Known, Mixed, cell_in_grid, cells_of_grid, states_of, length_grid}
+use Rattle.ans_screen.specs.RowCells.{shown_plane, known_plane, AreKnownCells, IsFirstUnknown, IsCopied, IsHeldRow}
 use Rattle.ans_screen.specs.declared.cell.CellByte.{CellByte}
 use Rattle.ans_screen.specs.declared.cell.CellByte.TheVariants.{Glyph, Attribute}
-use Rattle.ans_screen.specs.RowCells.{Planes}
-use Rattle.ans_screen.proofs.FirstGap.{known_cell, unknown_cell, known_next, position_none, position_some}
-use Rattle.std.proofs.lemmas.List.Sums.{position_or_len_is}
 use Rattle.ans_screen.specs.declared.cell.HalfCell.{HalfCell}
-use Rattle.ans_screen.proofs.Places.{get_or-map_within, IsPart, written_before, written_at, written_behind}
-use Rattle.ans_screen.proofs.Places.{length-written, row_end}
+use Rattle.ans_screen.specs.declared.row_planes.Row.{Row}
+use Rattle.ans_screen.proofs.Copies.{no_cell, row_copied}
+use Rattle.ans_screen.proofs.FirstGap.{unknown_cell, known_next, position_none, position_some}
+use Rattle.ans_screen.proofs.Places.{length-written, row_end, written_before, written_at, written_behind}
 use Rattle.ans_screen.proofs.RowCells.{get_cell, cell_in_state}
 
 known_by_0 : (which : CellByte) (x : ℕ) → known_byte which x 0 ≡ 0
@@ -44,36 +38,33 @@ module _ (g : Planes) where
       ∙ ap (λ (y : HalfCell). Some y) (get_cell g i x lt ∙ sym e)
 
   -- ---- the first unknown cell of mixed cells
-  pub gap_none : (ks bs : List ℕ) (from to : ℕ) → ((i : ℕ) → from ≤ i → i < to → states_of g i ≡ Mixed)
-      → IsPart g.glyphs_known from to ks → IsPart g.bits_known from to bs → AreKnown ks bs (to - from)
-      → AreKnownCells (cell_in_grid g) from to
-  gap_none ks bs from to mixed hk hb known i le lt =
+  pub gap_none : (from to n : ℕ) → n ≤ to - from → ((i : ℕ) → from ≤ i → i < to → states_of g i ≡ Mixed)
+      → AreKnown (between from to g.glyphs_known) (between from to g.bits_known) n
+      → AreKnownCells (cell_in_grid g) from (from + n)
+  gap_none from to n short mixed known i le lt =
       let at : from + (i - from) ≡ i = omega arith in
       let here = known (i - from) (omega arith) in
-      let k = ap (λ (n : ℕ). get_or g.glyphs_known n 0) (sym at)
-      ∙ (sym (hk.same (i - from) (omega arith)) ∙ here.0) in
-      let b = ap (λ (n : ℕ). get_or g.bits_known n 0) (sym at)
-      ∙ (sym (hb.same (i - from) (omega arith)) ∙ here.1) in
-      ap is_unknown (cell_in_state g Mixed i (mixed i le lt))
-      ∙ known_cell (get_or g.glyphs i 0) (get_or g.glyphs_known i 0) (get_or g.bits_known i 0)
-      (get_or g.values i 0) k b
+      let k : get_or g.glyphs_known i 0 ≡ 0xFF =
+      rw (← at) (sym (get_or-between g.glyphs_known from to (i - from) 0 (omega arith)) ∙ here.0) in
+      let b : get_or g.bits_known i 0 ≡ 0xFF =
+      rw (← at) (sym (get_or-between g.bits_known from to (i - from) 0 (omega arith)) ∙ here.1) in
+      ap is_unknown (cell_in_state g Mixed i (mixed i le (omega arith))) ∙ rw (k, b) refl
 
-  pub gap_some : (ks bs : List ℕ) (from to i : ℕ) → ((i : ℕ) → from ≤ i → i < to → states_of g i ≡ Mixed)
-      → IsPart g.glyphs_known from to ks → IsPart g.bits_known from to bs → IsFirstGap ks bs (to - from) (Some i)
+  pub gap_some : (from to i : ℕ) → ((i : ℕ) → from ≤ i → i < to → states_of g i ≡ Mixed)
+      → IsFirstGap (between from to g.glyphs_known) (between from to g.bits_known) (to - from) (Some i)
       → IsFirstUnknown (cell_in_grid g) from to (Some (from + i))
-  gap_some ks bs from to i mixed hk hb found =
-      let lt = found.0 in (
+  gap_some from to i mixed found =
+      let lt = found.0 in
+      let k = get_or-between g.glyphs_known from to i 0 (omega arith) in
+      let b = get_or-between g.bits_known from to i 0 (omega arith) in (
         omega arith,
         omega arith,
-        gap_none ks bs from (from + i)
-            (λ j le below. mixed j le (omega arith))
-            (record { same = λ j below. hk.same j (omega arith) })
-            (record { same = λ j below. hb.same j (omega arith) })
-            (let n : from + i - from ≡ i = omega arith in rw n found.1),
+        gap_none from to i (omega arith) mixed found.1,
         ap is_unknown (cell_in_state g Mixed (from + i) (mixed (from + i) (omega arith) (omega arith)))
             ∙ unknown_cell (get_or g.glyphs (from + i) 0) (get_or g.glyphs_known (from + i) 0)
             (get_or g.bits_known (from + i) 0) (get_or g.values (from + i) 0)
-            (λ ek eb. found.2 (known_next ks bs i found.1 (hk.same i lt ∙ ek) (hb.same i lt ∙ eb))),
+            (λ ek eb. found.2 (known_next (between from to g.glyphs_known) (between from to g.bits_known) i found.1
+            (k ∙ ek) (b ∙ eb))),
       )
 
   -- ---- the first of all cells
@@ -81,30 +72,27 @@ module _ (g : Planes) where
       → IsFirstUnknown (cell_in_grid g) 0 to result → result ≡ first_unknown (cells_of_grid g) to
   first_of_grid to result le first = of_result result first
     where
-      d : HalfCell
-      d = cell_of 0 0 0 0
-
       front : List HalfCell
       front = take to (cells_of_grid g)
 
       len : length front ≡ to
       len = length-take-le to (cells_of_grid g) (omega (arith, length_grid g))
 
-      at : (i : ℕ) → i < to → get_or front i d ≡ cell_in_grid g i
-      at i lt = get_or-take to (cells_of_grid g) i d lt ∙ get_cell g i d (omega arith)
+      at : (i : ℕ) → i < to → get_or front i no_cell ≡ cell_in_grid g i
+      at i lt = get_or-take to (cells_of_grid g) i no_cell lt ∙ get_cell g i no_cell (omega arith)
 
       below : (i : ℕ) → i ≤ to → AreKnownCells (cell_in_grid g) 0 i → (k : ℕ) → k < i
-          → is_unknown (get_or front k d) ≡ false
+          → is_unknown (get_or front k no_cell) ≡ false
       below i within known k lt = ap is_unknown (at k (omega arith)) ∙ known k (omega arith) lt
 
       of_result : (r : Option ℕ) → IsFirstUnknown (cell_in_grid g) 0 to r → r ≡ position is_unknown front
       of_result None known =
           sym (position_none is_unknown front
-          (position_or_len_is is_unknown front to d (omega (arith, len)) (below to (omega arith) known)
+          (position_or_len_is is_unknown front to no_cell (omega (arith, len)) (below to (omega arith) known)
           (λ past. absurd (omega (arith, len))) ∙ sym len))
       of_result (Some i) found =
           sym (position_some is_unknown front i
-          (position_or_len_is is_unknown front i d (omega (arith, len, found.1))
+          (position_or_len_is is_unknown front i no_cell (omega (arith, len, found.1))
           (below i (omega (arith, found.1)) found.2)
           (λ within. ap is_unknown (at i found.1) ∙ found.3))
           (omega (arith, len, found.1)))
@@ -140,13 +128,6 @@ module _ (g : Planes) where
   pub whole_known : (which : CellByte) → length (known_plane which g) ≡ g.width * g.rows
   whole_known Glyph = g.whole_glyphs_known
   whole_known Attribute = g.whole_bits_known
-
--- how long a part of a plane is
-pub part_long : (xs part : List ℕ) (from to : ℕ) → part ≡ take (to - from) (drop from xs) → from ≤ to → to ≤ length xs
-    → length part ≡ to - from
-part_long xs part from to e le room =
-    let rest = length-drop from xs in
-    ap length e ∙ length-take-le (to - from) (drop from xs) (omega arith)
 
 -- a part of a list that is written
 put_is_written : (a k : ℕ) (xs ys : List ℕ) → k ≡ length ys → put_mid a k xs ys ≡ written xs a ys
@@ -198,23 +179,11 @@ module _ (g : Planes) (byte : HalfCell → ℕ) (row : ℕ) (held : Row) (holds 
     ]
   ]
 
-  pub row_copied : new ≡ map byte (row_cells g.width row (cells_of_grid g))
-  row_copied =
-      let cells = cells_of_grid g in
-      let front = take g.width (drop (row * g.width) cells) in
+  pub held_copied : new ≡ map byte (row_cells g.width row (cells_of_grid g))
+  held_copied =
       let room = row_end g.width row g.rows lt in
-      let rest = length-drop (row * g.width) cells in
-      let count : length front ≡ g.width =
-      length-take-le g.width (drop (row * g.width) cells) (omega (arith, length_grid g)) in
-      let mapped = length-map front byte in
-      let size : length new ≡ length copied = ap length new_is
-      ∙ length-written copied at inner (omega (arith, len, all, holds.start, holds.stop, holds.ordered)) in
-      same_lists new (map byte front) (omega (arith, all)) (λ k d below.
-      let within : k < g.width = omega (arith, all) in
-      get_or_default new k d 0 below
-      ∙ (copied_each k within
-      ∙ (ap (λ (n : ℕ). byte (cell_in_grid g (n + k))) at_start
-      ∙ (ap byte (sym (get_cell g (row * g.width + k) g.blank (omega arith)))
-      ∙ (ap byte (sym (get_or-take g.width (drop (row * g.width) cells) k g.blank within
-      ∙ get_or-drop (row * g.width) cells k g.blank))
-      ∙ sym (get_or-map_within byte front k g.blank d (omega arith)))))))
+      row_copied byte (cells_of_grid g) g.width g.rows row from new (length_grid g) lt at_start
+      (ap length new_is
+      ∙ (length-written copied at inner (omega (arith, len, all, holds.start, holds.stop, holds.ordered))
+      ∙ (all ∙ long)))
+      (λ k within. copied_each k within ∙ ap byte (sym (get_cell g (from + k) no_cell (omega arith))))
