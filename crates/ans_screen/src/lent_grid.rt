@@ -1,9 +1,9 @@
 //! A grid of byte planes on memory that its owner lends.
 
-ghost use Rattle.std.specs.Prelude.{◌≡◌, ◌↔◌, ◌+◌, ◌*◌, ◌^◌, ◌<◌, ◌≤◌, replicate, length, map, IfSome, IsTrue, is_some};
+ghost use Rattle.std.specs.Prelude.{◌≡◌, ◌↔◌, ◌*◌, ◌^◌, ◌<◌, ◌≤◌, replicate, length, map, IfSome, IsTrue, is_some};
 ghost use Rattle.std.specs.List.{All};
 ghost use Rattle.ans_screen.specs.LentRows.{row_of, rows_whole, rows_of_rounds, HasRoom};
-ghost use Rattle.ans_screen.specs.RowCells.{never_written, cells_of_grid, length_grid};
+ghost use Rattle.ans_screen.specs.RowCells.{cells_of_grid, length_grid};
 
 use crate::attr::Attr;
 use crate::cell::{CellByte, HalfCell};
@@ -66,7 +66,6 @@ impl<'a> LentGrid<'a> {
         Some(LentGrid::cut(held, bytes, frame))
     }
 
-    /// The same, where there is room.
     fn cut(held: &'a mut [LentRow], bytes: &'a mut [u8], frame: Frame) -> LentGrid<'a>
         requires { HasRoom frame.width frame.rows (length held.old) (length bytes.old) }
         ensures frame { result.frame ≡ frame }

@@ -39,7 +39,7 @@ pub struct PlaneGrid {
 }
 
 impl PlaneGrid {
-    /// A grid of blank cells in a round. A grid begins in round 1.
+    /// A grid begins in round 1.
     pub(crate) fn in_round(alloc: Global, frame: Frame, round: u32) -> Result<Self, AllocError>
         requires some_width { 1 ≤ frame.width }
         requires width { frame.width ≤ most_columns }

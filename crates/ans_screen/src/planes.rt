@@ -79,7 +79,6 @@ pub(crate) fn cell_of_bytes(bytes: CellBytes) -> HalfCell
     }
 }
 
-/// Writes the first `count` of 16 lanes over the front of 16 bytes.
 #[inline(always)]
 fn blend(place: &mut [u8], new: u8x16, count: usize)
     requires lanes { length new ≡ 16 }
@@ -93,7 +92,6 @@ fn blend(place: &mut [u8], new: u8x16, count: usize)
     written.select(new, old).copy_to_slice(place);
 }
 
-/// Writes the first `count` of 16 lanes side by side from byte `from` on.
 #[inline(always)]
 fn blend_at(bytes: &mut [u8], from: usize, new: u8x16, count: usize)
     requires lanes { length new ≡ 16 }
@@ -104,8 +102,7 @@ fn blend_at(bytes: &mut [u8], from: usize, new: u8x16, count: usize)
     blend(&mut bytes[from..from + 16], new, count);
 }
 
-/// Makes the bytes from `from` up to and without `to` this one. A short fill is a blend, since a
-/// call that fills memory costs more than it.
+/// A short fill is a blend, since a call that fills memory costs more than it.
 #[inline(always)]
 pub(crate) fn fill_bytes(plane: &mut [u8], from: usize, to: usize, byte: u8)
     requires ordered { from ≤ to }
@@ -120,9 +117,7 @@ pub(crate) fn fill_bytes(plane: &mut [u8], from: usize, to: usize, byte: u8)
     }
 }
 
-/// Writes the first `count` bytes side by side to the glyphs from byte `from` on, and a value to the
-/// same places of the values. A short run is two blends, since a call that copies memory costs more
-/// than they do.
+/// A short run is two blends, since a call that copies memory costs more than they do.
 #[inline(always)]
 pub(crate) fn write_bytes(
     glyphs: &mut [u8],
@@ -192,7 +187,6 @@ pub(crate) fn first_gap(glyphs_known: &[u8], bits_known: &[u8], to: usize) -> Op
     None
 }
 
-/// Copies glyphs, with 0 for each that is not known.
 fn copy_known_glyphs(glyphs: &[u8], glyphs_known: &[u8], copied: &mut [u8])
     requires glyphs { length glyphs.now ≡ length copied.old }
     requires glyphs_known { length glyphs_known.now ≡ length copied.old }
@@ -208,7 +202,6 @@ fn copy_known_glyphs(glyphs: &[u8], glyphs_known: &[u8], copied: &mut [u8])
     }
 }
 
-/// Copies values, with 0 for each bit that is not known.
 fn copy_known_bits(values: &[u8], bits_known: &[u8], copied: &mut [u8])
     requires values { length values.now ≡ length copied.old }
     requires bits_known { length bits_known.now ≡ length copied.old }
@@ -220,7 +213,6 @@ fn copy_known_bits(values: &[u8], bits_known: &[u8], copied: &mut [u8])
     }
 }
 
-/// Copies glyphs or values, with 0 for what is not known of them.
 pub(crate) fn copy_known(which: CellByte, shown: &[u8], known: &[u8], copied: &mut [u8])
     requires shown { length shown.now ≡ length copied.old }
     requires known { length known.now ≡ length copied.old }

@@ -104,7 +104,6 @@ pub(crate) fn fill_row<P: RowPlanes>(
     fill_planes(grid, start + from, start + to, bytes, known);
 }
 
-/// Makes the cells from `from` up to and without `to` this one, row by row.
 #[inline(never)]
 fn fill_rows<P: RowPlanes>(grid: &mut P, from: usize, to: usize, cell: &HalfCell)
     requires ordered { from < to }
@@ -136,7 +135,6 @@ pub(crate) fn clear<P: RowPlanes>(grid: &mut P, cell: HalfCell)
     begin_next(grid, cell);
 }
 
-/// Begins the round after this one, in which each cell is the blank.
 #[inline(always)]
 fn begin_next<P: RowPlanes>(grid: &mut P, blank: HalfCell)
     requires { (P.planes_of grid.old).round + 1 < 2 ^ 32 }

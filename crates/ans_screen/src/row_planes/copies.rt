@@ -10,7 +10,6 @@ use super::{Row, RowPlanes};
 use crate::cell::CellByte;
 use crate::planes::copy_known;
 
-/// Copies that byte of each cell that a row holds.
 fn copy_held<P: RowPlanes>(grid: &P, row: usize, held: Row, which: CellByte, copied: &mut [u8])
     requires row { row < (P.planes_of grid.now).rows }
     requires held { IsHeldRow (P.planes_of grid.now) row held }
@@ -28,7 +27,6 @@ fn copy_held<P: RowPlanes>(grid: &P, row: usize, held: Row, which: CellByte, cop
     }
 }
 
-/// Copies that byte of each cell of a row.
 pub(crate) fn copy_bytes<P: RowPlanes>(grid: &P, row: usize, which: CellByte, copied: &mut [u8])
     requires row { row < (P.planes_of grid.now).rows }
     requires width { length copied.old ≡ (P.planes_of grid.now).width }

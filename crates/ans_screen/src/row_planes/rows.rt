@@ -70,7 +70,6 @@ fn mark_known<P: RowPlanes>(grid: &mut P, held: Row, known: bool)
     }
 }
 
-/// Writes a cell's bytes to the cells from `from` up to and without `to`, in the planes that count.
 #[inline(always)]
 pub(crate) fn fill_planes<P: RowPlanes>(
     grid: &mut P,
@@ -91,8 +90,6 @@ pub(crate) fn fill_planes<P: RowPlanes>(
     }
 }
 
-/// Writes the blank to the cells from `from` up to and without `to`, if there are any, in the
-/// planes that count.
 fn write_blank<P: RowPlanes>(grid: &mut P, from: usize, to: usize, known: bool)
     requires within { to ≤ (P.planes_of grid.old).width * (P.planes_of grid.old).rows }
     requires known { known ≡ true → IsTrue (is_known (P.planes_of grid.old).blank) }
@@ -201,7 +198,6 @@ fn holds<P: RowPlanes>(grid: &P, held: Row, from: usize, to: usize) -> bool
     held.round == grid.round() && held.first <= from && to <= held.end
 }
 
-/// The first cell of a row before `to` that is not known.
 pub(crate) fn first_unknown_of_row<P: RowPlanes>(grid: &P, row: usize, to: usize) -> Option<usize>
     requires row { row < (P.planes_of grid.now).rows }
     requires from { row * (P.planes_of grid.now).width ≤ to }
@@ -224,7 +220,6 @@ pub(crate) fn first_unknown_of_row<P: RowPlanes>(grid: &P, row: usize, to: usize
     None
 }
 
-/// The least `i` such that cell `from + i` stands below `to` and is not known by the planes.
 fn first_gap_from<P: RowPlanes>(grid: &P, from: usize, to: usize) -> Option<usize>
     requires ordered { from ≤ to }
     requires within { to ≤ (P.planes_of grid.now).width * (P.planes_of grid.now).rows }
@@ -241,7 +236,6 @@ fn first_gap_from<P: RowPlanes>(grid: &P, from: usize, to: usize) -> Option<usiz
     }
 }
 
-/// The first cell that is not known of those from `from` up to and without `to`, which are held.
 fn first_unknown_held<P: RowPlanes>(grid: &P, from: usize, to: usize, known: bool) -> Option<usize>
     requires ordered { from ≤ to }
     requires within { to ≤ (P.planes_of grid.now).width * (P.planes_of grid.now).rows }

@@ -15,5 +15,5 @@ loop-i-preserved g c =
 pub returns : goal.returns
 returns g c =
     row_copied attribute_byte (g.Self.Grid.cells_of c.args.self.now) _ _ c.args.row _ c.loop-i.values
-    (g.met.Self.Grid.whole c.args.self.now) c.requires.row (ap (λ (n : ℕ). c.args.row * n) c.width.ensures) (omega arith)
-    (λ k lt. c.loop-i.invariant k (omega arith))
+    (g.met.Self.Grid.whole c.args.self.now) c.requires.row (ap (λ (n : ℕ). c.args.row * n) c.width.ensures)
+    (omega arith) (λ k lt. c.loop-i.invariant k (omega arith))

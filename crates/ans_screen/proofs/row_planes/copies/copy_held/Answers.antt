@@ -1,4 +1,4 @@
-use Rattle.std.proofs.Common.{rules, ◌≡◌, ◌+◌, ℕ, length, replicate, get_or, List, arith, ap, sym, refl, ◌∙◌}
+use Rattle.std.proofs.Common.{rules, ◌≡◌, ◌+◌, ℕ, length, replicate, get_or, List, arith, ap, sym, ◌∙◌}
 use Rattle.std.proofs.lemmas.List.{get_or-replicate}
 use Rattle.std.proofs.lemmas.List.Edits.{get_or-between, length-between}
 use Rattle.ans_screen.specs.RowCells.{state_of, shown_plane, known_plane}
@@ -52,7 +52,8 @@ returns-in-Some o c = λ k lt.
     let state = c.requires.held.inside (first + k) (omega arith) (omega arith) ∙ ap state_of c.if-held.false in
     let at = get_or-between (shown_plane c.args.which g) first c.args.held.end k 0 (omega arith) in
     let known = get_or-between (known_plane c.args.which g) first c.args.held.end k 0 (omega arith) in
-    c.copy_known.ensures k lt ∙ rw (c.shown_bytes-shown.ensures, c.in-Some.ensures, at, known) refl ∙ sym (mixed_byte g c.args.which (first + k) state)
+    c.copy_known.ensures k lt
+    ∙ rw (c.shown_bytes-shown.ensures, c.in-Some.ensures, at, known) (sym (mixed_byte g c.args.which (first + k) state))
 
 pub returns-in-None : goal.returns-in-None
 returns-in-None o c = λ k lt.
