@@ -1,59 +1,52 @@
--- A loop that writes f of each element of one list over another.
-use Rattle.std.proofs.Common.{◌≡◌, ℕ, zero, suc, ◌+◌, ◌<◌, List, [], ◌∷◌, ◌++◌, take, drop, get_or, set, length, map}
-use Rattle.std.proofs.Common.{refl, ap, sym, ◌-◌, ◌*◌, ◌∙◌, arith, Some}
+-- Bytes of the cells of a row, copied one after the other.
+use Rattle.std.proofs.Common.{◌≡◌, ℕ, ◌+◌, ◌*◌, ◌<◌, List, take, drop, get_or, set, length, map, Some}
+use Rattle.std.proofs.Common.{ap, sym, ◌∙◌, arith}
 use Rattle.std.specs.Prelude.{slice_get}
-use Rattle.std.proofs.lemmas.List.{length-drop, get_or-drop, drop_all, append-nil}
+use Rattle.std.proofs.lemmas.List.{length-drop, length-map, length-take-le, get_or-drop, get_or-take, get_or_default}
+use Rattle.std.proofs.lemmas.List.{same_lists}
+use Rattle.std.proofs.lemmas.List.Edits.{fill_by_more}
 use Rattle.std.proofs.lemmas.Option.{get_or_from_slice_get}
-use Rattle.ans_screen.proofs.Places.{row_end}
+use Rattle.ans_screen.specs.CellPlanes.{cell_of}
+use Rattle.ans_screen.specs.GridEdits.{row_cells}
+use Rattle.ans_screen.specs.declared.cell.HalfCell.{HalfCell}
+use Rattle.ans_screen.proofs.Places.{row_end, get_or-map_within}
 
--- one more element is copied
-copied_next : {X Y : Type 0} (f : X → Y) (xs : List X) (zs : List Y) (i : ℕ) (d : X) → i < length xs → i < length zs
-    → set (map f (take i xs) ++ drop i zs) i (f (get_or xs i d)) ≡ map f (take (suc i) xs) ++ drop (suc i) zs
-copied_next f [] zs i d lx lz = let no : ⊥ = omega arith in absurd no
-copied_next f (x ∷ xs) [] i d lx lz = let no : ⊥ = omega arith in absurd no
-copied_next f (x ∷ xs) (z ∷ zs) zero d lx lz = refl
-copied_next f (x ∷ xs) (z ∷ zs) (suc i) d lx lz =
-    ap (λ ys. f x ∷ ys) (copied_next f xs zs i d (omega arith) (omega arith))
+-- what stands behind the last cell
+abbrev pub no_cell : HalfCell
+no_cell = cell_of 0 0 0 0
 
-pub copied_more : {X Y : Type 0} (f : X → Y) (xs : List X) (zs : List Y) (i : ℕ) (d : X) → i < length xs → i < length zs
-    → set (map f (take i xs) ++ drop i zs) i (f (get_or xs i d)) ≡ map f (take (i + 1) xs) ++ drop (i + 1) zs
-copied_more f xs zs i d lx lz =
-    let next : suc i ≡ i + 1 = omega arith in
-    copied_next f xs zs i d lx lz ∙ ap (λ (k : ℕ). map f (take k xs) ++ drop k zs) next
+-- this byte of n cells from `from` on is copied
+abbrev pub AreCopied : (HalfCell → ℕ) → List HalfCell → ℕ → ℕ → List ℕ → Type 0
+AreCopied byte cells from n copied = (k : ℕ) → k < n → get_or copied k 0 ≡ byte (get_or cells (from + k) no_cell)
 
--- the same, of the elements from `from` on, where x is read and y is written
-pub copied_from : {X Y : Type 0} (f : X → Y) (xs : List X) (zs : List Y) (from i : ℕ) (x : X) (y : Y)
-    → x ≡ get_or xs (from + i) x → y ≡ f x → from + i < length xs → i < length zs
-    → set (map f (take i (drop from xs)) ++ drop i zs) i y ≡ map f (take (i + 1) (drop from xs)) ++ drop (i + 1) zs
-copied_from f xs zs from i x y read written lx lz =
-    let rest : length (drop from xs) ≡ length xs - from = length-drop from xs in
-    let at : f (get_or (drop from xs) i x) ≡ f x = ap f (get_or-drop from xs i x ∙ sym read) in
-    ap (λ z. set (map f (take i (drop from xs)) ++ drop i zs) i z) (written ∙ sym at)
-    ∙ copied_more f (drop from xs) zs i x (omega arith) lz
+-- and of one more
+pub copied_more : (byte : HalfCell → ℕ) (cells : List HalfCell) (from i : ℕ) (old : List ℕ) (x : HalfCell) (y : ℕ)
+    → AreCopied byte cells from i old → i < length old → slice_get cells (from + i) ≡ Some x → y ≡ byte x
+    → AreCopied byte cells from (i + 1) (set old i y)
+copied_more byte cells from i old x y before within read is k lt =
+    let f = λ (j : ℕ). byte (get_or cells (from + j) no_cell) in
+    let here : y ≡ f i = is ∙ ap byte (sym (get_or_from_slice_get cells (from + i) x no_cell read)) in
+    ap (λ (z : ℕ). get_or (set old i z) k 0) here ∙ fill_by_more f old i 0 within before k lt
 
--- a place in a row of a grid, and one more of that row's cells copied
+-- a place in a row of a grid
 pub in_row : (w rows row width i len : ℕ) → width ≡ w → len ≡ w * rows → row < rows → i < w → row * width + i < len
 in_row w rows row width i len e whole lt within =
     let start : row * width ≡ row * w = ap (λ (n : ℕ). row * n) e in
     omega (arith, row_end w row rows lt)
 
-pub copied_in_row : {X : Type 0} (f : X → ℕ) (cells : List X) (w rows row width i : ℕ) (zs old : List ℕ) (x : X) (y : ℕ)
-    → width ≡ w → length cells ≡ w * rows → row < rows → length old ≡ w → i < w
-    → zs ≡ map f (take i (drop (row * width) cells)) ++ drop i old → slice_get cells (row * width + i) ≡ Some x
-    → y ≡ f x → set zs i y ≡ map f (take (i + 1) (drop (row * width) cells)) ++ drop (i + 1) old
-copied_in_row f cells w rows row width i zs old x y e whole lt long within before read is =
-    ap (λ (ys : List ℕ). set ys i y) before
-    ∙ copied_from f cells old (row * width) i x y (sym (get_or_from_slice_get cells _ _ _ read)) is
-    (in_row w rows row width i (length cells) e whole lt within) (omega arith)
-
--- all of them are copied
-pub copied_whole : {X Y : Type 0} (f : X → Y) (xs : List X) (from at n i : ℕ) (old new : List Y)
-    → new ≡ map f (take i (drop from xs)) ++ drop i old → i ≡ n → length old ≡ n → from ≡ at
-    → new ≡ map f (take n (drop at xs))
-copied_whole {Y = Y} f xs from at n i old new copied all long place =
-    let none : drop i old ≡ [] = drop_all i old (omega arith) in
-    copied
-    ∙ (ap (λ (ys : List Y). map f (take i (drop from xs)) ++ ys) none
-    ∙ (append-nil (map f (take i (drop from xs)))
-    ∙ (ap (λ (k : ℕ). map f (take k (drop from xs))) all
-    ∙ ap (λ (k : ℕ). map f (take n (drop k xs))) place)))
+-- a row of which each cell's byte is copied
+pub row_copied : (byte : HalfCell → ℕ) (cells : List HalfCell) (w rows row from : ℕ) (new : List ℕ)
+    → length cells ≡ w * rows → row < rows → from ≡ row * w → length new ≡ w → AreCopied byte cells from w new
+    → new ≡ map byte (row_cells w row cells)
+row_copied byte cells w rows row from new whole lt start long each =
+    let behind = drop (row * w) cells in
+    let front = take w behind in
+    let room = row_end w row rows lt in
+    let count : length front ≡ w = length-take-le w behind (omega (arith, length-drop (row * w) cells)) in
+    same_lists new (map byte front) (omega (arith, length-map front byte)) (λ k d below.
+    let within : k < w = omega arith in
+    get_or_default new k d 0 below
+    ∙ (each k within
+    ∙ (ap (λ (n : ℕ). byte (get_or cells (n + k) no_cell)) start
+    ∙ (ap byte (sym (get_or-take w behind k no_cell within ∙ get_or-drop (row * w) cells k no_cell))
+    ∙ sym (get_or-map_within byte front k no_cell d (omega arith))))))

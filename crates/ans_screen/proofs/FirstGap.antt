@@ -1,5 +1,5 @@
 -- The first cell that is not known, and the first gap in the planes of what is known.
-use Rattle.std.proofs.Common.{◌≡◌, ℕ, ◌+◌, ◌<◌, List, length, get_or, Some, None, Bool, true, false}
+use Rattle.std.proofs.Common.{◌≡◌, ℕ, ◌+◌, ◌<◌, List, length, get_or, Some, None, Bool, true}
 use Rattle.std.proofs.Common.{refl, ap, sym, ◌∙◌, arith, inl, inr}
 use Rattle.std.specs.List.{position, position_or_len}
 use Rattle.std.proofs.lemmas.Bool.Decides.{eqb_tells}
@@ -8,9 +8,6 @@ use Rattle.ans_screen.specs.GridEdits.{is_unknown}
 use Rattle.ans_screen.specs.CellPlanes.{cell_of, AreKnown}
 
 -- ---- one cell
-pub known_cell : (g k b v : ℕ) → k ≡ 0xFF → b ≡ 0xFF → is_unknown (cell_of g k b v) ≡ false
-known_cell g k b v ek eb = rw (ek, eb) refl
-
 pub unknown_cell : (g k b v : ℕ) → (k ≡ 0xFF → b ≡ 0xFF → ⊥) → is_unknown (cell_of g k b v) ≡ true
 unknown_cell g k b v gap = elim (eqb_tells k 0xFF) [
   | inr other ↦ rw other.0 refl

@@ -7,7 +7,8 @@ use Rattle.std.proofs.lemmas.Bool.{cases_lt}
 use Rattle.std.proofs.lemmas.List.{get_or-take, get_or-drop, get_or_append_left, get_or-append_right, length-append}
 use Rattle.std.proofs.lemmas.List.{length-take-le, length-drop, length-replicate, get_or-replicate, same_lists}
 use Rattle.std.proofs.lemmas.List.{set_split, take-append-drop, length-set, get_or-set_other, get_or-set_same}
-use Rattle.std.proofs.lemmas.List.FromFn.{length-map-range_with_len, get_or-map-range_with_len}
+use Rattle.std.proofs.lemmas.List.FromFn.{length-range_with_len, length-map-range_with_len, get_or-map-range_with_len}
+use Rattle.std.proofs.lemmas.Simd.{splat_is_map}
 use Rattle.std.proofs.lemmas.Nat.{div-mul-add, div-add-mod', mod_below, div_below, mul-le, row_fits_turned}
 use Rattle.ans_model.specs.Screen.Step.{filled}
 use Rattle.ans_screen.specs.GridEdits.{written}
@@ -122,6 +123,12 @@ module _ {A : Type 0} where
       get_or-map-range_with_len f 0 n k k d within (omega arith)
       ∙ (same k within ∙ sym (get_or-map-range_with_len h 0 n k k d within (omega arith))))
 
+  pub one_from_index : (f : ℕ → A) (n : ℕ) (x : A) → ((i : ℕ) → i < n → f i ≡ x)
+      → map f (range_with_len 0 n) ≡ replicate n x
+  one_from_index f n x one =
+      same_from_index f (λ (i : ℕ). x) n one
+      ∙ sym (splat_is_map (range_with_len 0 n) n x (length-range_with_len 0 n))
+
   pub get_or-map_within : {B : Type 0} (f : B → A) (xs : List B) (i : ℕ) (b : B) (d : A) → i < length xs
       → get_or (map f xs) i d ≡ f (get_or xs i b)
   get_or-map_within f [] i b d lt = absurd (omega arith)
@@ -209,16 +216,3 @@ row_between w from to row some lt le before =
     let above : from / w * w ≤ row * w = mul-le (from / w) w row w le (omega arith) in
     let below : row * w ≤ (to - 1) / w * w = mul-le row w ((to - 1) / w) w (omega arith) (omega arith) in
     (omega arith, omega arith)
-
--- the bytes of a plane from `from` up to and without `to`
-pub record IsPart (xs : List ℕ) (from to : ℕ) (part : List ℕ) : Type 0 where
-  pub same : (k : ℕ) → k < to - from → get_or part k 0 ≡ get_or xs (from + k) 0
-
-pub is_part : (xs : List ℕ) (from to : ℕ) (part : List ℕ) → part ≡ take (to - from) (drop from xs)
-    → IsPart xs from to part
-is_part xs from to part e = record {
-  same =
-      λ k lt.
-      ap (λ (ys : List ℕ). get_or ys k 0) e
-      ∙ (get_or-take (to - from) (drop from xs) k 0 lt ∙ get_or-drop from xs k 0);
-}

@@ -1,25 +1,22 @@
 -- The cells of planes with a state for each row, through runs and fills.
-use Rattle.std.proofs.Common.{◌≡◌, ℕ, ◌+◌, ◌-◌, ◌*◌, ◌/◌, ◌≤◌, ◌<◌, Bool, List, map, length}
+use Rattle.std.proofs.Common.{◌≡◌, ℕ, ◌+◌, ◌-◌, ◌*◌, ◌≤◌, ◌<◌, Bool, List, map, length}
 use Rattle.std.proofs.Common.{get_or, replicate, refl, ap, sym, ◌∙◌, arith, inl, inr, ◌⊎◌}
 use Rattle.std.proofs.Common.{drop, take, ◌++◌, append_assoc, All}
 use Rattle.std.proofs.Math.Seq.{take-append_seam, drop-append-add}
 use Rattle.std.proofs.lemmas.List.{length-append, length-take, drop-drop, replicate-append-replicate}
 use Rattle.std.proofs.lemmas.List.Elements.{All-get_or}
-use Rattle.std.proofs.lemmas.List.{length-replicate, get_or-replicate, length-map}
-use Rattle.std.proofs.lemmas.List.{same_lists}
+use Rattle.std.proofs.lemmas.Bool.{cases_lt}
+use Rattle.std.proofs.lemmas.List.{length-replicate, length-map, get_or_past}
 use Rattle.ans_screen.specs.GridEdits.{written}
 use Rattle.ans_screen.specs.CellPlanes.{cell_of}
-use Rattle.ans_screen.specs.RowCells.{Known, Mixed, row_cell, byte_cell, state_of, state_at, cells_of_rows, AreMarked}
-use Rattle.ans_screen.specs.RowCells.{SameRows, SameBytes, HasBlanks, cells_of_grid, states_of, length_grid}
-use Rattle.ans_screen.specs.RowCells.{length_rows, never_written}
+use Rattle.ans_screen.specs.RowCells.{Planes, Stale, byte_cell, state_of, state_in, states_of, cells_of_grid}
+use Rattle.ans_screen.specs.RowCells.{length_grid, never_written, AreMarked, SameRows, SameBytes, HasBlanks}
 use Rattle.ans_model.specs.Screen.Step.{filled}
 use Rattle.ans_screen.specs.declared.cell.HalfCell.{HalfCell}
 use Rattle.ans_screen.specs.declared.row_planes.Row.{Row}
-use Rattle.ans_screen.specs.RowCells.{Planes}
 use Rattle.ans_screen.proofs.Places.{keeps_all, keeps_written, keeps_filled, filled_within, filled_run, written_at}
 use Rattle.ans_screen.proofs.Places.{map-replicate, get_or-map_within, Keeps, is_written}
-use Rattle.ans_screen.proofs.Places.{row_below}
-use Rattle.ans_screen.proofs.RowCells.{get_rows, get_cell, cell_written, same_cell, same_byte_cell, off_round}
+use Rattle.ans_screen.proofs.RowCells.{get_cell, cell_written, same_byte_cell, off_round}
 
 -- ---- cells side by side are written in the planes that count
 module _ {g n : Planes} {from to : ℕ} {known : Bool} (k b v : ℕ) (same : SameRows g n) (le : from ≤ to)
@@ -51,17 +48,15 @@ module _ {g n : Planes} {from to : ℕ} {known : Bool} (k b v : ℕ) (same : Sam
       let value = filled_within g.values n.values from to v i values (omega (arith, g.whole_values)) after before in
       elim marks [
         | inl m ↦
-            ap (λ (t : Bool). byte_cell (state_of t) n i) m.0
-            ∙ same_cell Mixed Mixed n.blank x k b v _ _ _ _ refl glyph
-            (filled_within g.glyphs_known n.glyphs_known from to k i m.1 (omega (arith, g.whole_glyphs_known)) after
-            before)
-            (filled_within g.bits_known n.bits_known from to b i m.2 (omega (arith, g.whole_bits_known)) after before)
-            value
-        | inr m ↦
-            ap (λ (t : Bool). byte_cell (state_of t) n i) m.0
-            ∙ (same_cell Known Known n.blank x (get_or n.glyphs_known i 0) (get_or n.bits_known i 0) v _ _ _ _ refl
-            glyph refl refl value
-            ∙ rw (m.2, m.3) refl)
+            rw (
+              m.0,
+              glyph,
+              filled_within g.glyphs_known n.glyphs_known from to k i m.1 (omega (arith, g.whole_glyphs_known)) after
+                  before,
+              filled_within g.bits_known n.bits_known from to b i m.2 (omega (arith, g.whole_bits_known)) after before,
+              value,
+            ) refl
+        | inr m ↦ rw (m.0, glyph, m.2, m.3, value) refl
       ]
 
   -- a run is written to cells that are held
@@ -109,24 +104,15 @@ module _ {g n : Planes} {from to : ℕ} {known : Bool} (k b v : ℕ) (same : Sam
     outside = kept (keeps_filled g.glyphs n.glyphs from to x glyphs le (omega (arith, g.whole_glyphs)));
   }
 
--- ---- no row holds a cell
-pub all_blank : (w rows round : ℕ) (held : List Row) (blank : HalfCell) (gs ks bs vs : List ℕ) → 0 < w
-    → length held ≡ rows → All (λ row. row.round < round) held
-    → cells_of_rows w rows (state_at w round held) blank gs ks bs vs ≡ replicate (w * rows) blank
-all_blank w rows round held blank gs ks bs vs some whole older =
-    let st = state_at w round held in
-    let len = length_rows w rows st blank gs ks bs vs in
-    let long = length-replicate (w * rows) blank in
-    same_lists (cells_of_rows w rows st blank gs ks bs vs) (replicate (w * rows) blank) (omega arith) (λ i d lt.
-    let within : i < w * rows = omega arith in
-    let row = get_or held (i / w) never_written in
-    let below = row_below w rows i some within in
-    let before : row.round < round =
-    All-get_or (λ (r : Row). r.round < round) held (i / w) never_written (omega arith) older in
-    get_rows w rows st blank gs ks bs vs i d within
-    ∙ (ap (λ t. row_cell t blank (get_or gs i 0) (get_or ks i 0) (get_or bs i 0) (get_or vs i 0))
-    (off_round round row i (λ e. omega arith))
-    ∙ sym (get_or-replicate (w * rows) i blank d within)))
+-- ---- no row holds a cell, where each was last written before this round
+pub all_stale : (round : ℕ) (held : List Row) (row i : ℕ) → 0 < round → All (λ (r : Row). r.round < round) held
+    → state_in round (get_or held row never_written) i ≡ Stale
+all_stale round held row i some older =
+    let before : (get_or held row never_written).round < round = elim (cases_lt row (length held)) [
+      | inl within ↦ All-get_or (λ (r : Row). r.round < round) held row never_written within older
+      | inr past ↦ rw (get_or_past held row never_written past) some
+    ] in
+    off_round round (get_or held row never_written) i (λ e. omega arith)
 
 -- a fill that goes on where another ended
 pub filled_on : {A : Type 0} (xs : List A) (from mid to : ℕ) (x : A) → from ≤ mid → mid ≤ to → to ≤ length xs

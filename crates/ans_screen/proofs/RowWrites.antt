@@ -1,15 +1,14 @@
 -- The planes of cells side by side are filled.
-use Rattle.std.proofs.Common.{◌≡◌, ℕ, ◌*◌, ◌≤◌, Bool, true, false, List, get_or, refl, ap, sym, ◌∙◌, arith}
+use Rattle.std.proofs.Common.{◌≡◌, ℕ, ◌*◌, ◌≤◌, true, false, List, get_or, refl, ap, arith}
 use Rattle.std.proofs.Common.{IsTrue}
 use Rattle.std.proofs.lemmas.Bool.Decides.{nat_tests}
 use Rattle.ans_model.specs.Screen.Step.{filled}
 use Rattle.ans_screen.specs.HalfCells.{is_known}
 use Rattle.ans_screen.specs.CellPlanes.{cell_of}
-use Rattle.ans_screen.specs.RowCells.{Planes, Mixed, state_of, byte_cell, IsMarked}
+use Rattle.ans_screen.specs.RowCells.{Planes, IsMarked}
 use Rattle.ans_screen.specs.RowCells.{SameShown}
 use Rattle.ans_screen.specs.declared.row_planes.Row.{Row}
 use Rattle.ans_screen.proofs.Places.{keeps_filled, filled_within}
-use Rattle.ans_screen.proofs.RowCells.{same_cell}
 
 -- four planes say of the cells that are held what two did
 pub marked_known : (g n : Planes) (held : Row) → held.known ≡ true → held.first ≤ held.end
@@ -23,15 +22,15 @@ marked_known g n held all le room shown ks bs =
     (omega (arith, g.whole_bits_known)) in
     record {
       inside = λ i after before.
-          same_cell Mixed Mixed g.blank (get_or g.glyphs i 0) 0xFF 0xFF (get_or g.values i 0) (get_or n.glyphs i 0)
-          (get_or n.glyphs_known i 0) (get_or n.bits_known i 0) (get_or n.values i 0) refl
-          (ap (λ (xs : List ℕ). get_or xs i 0) shown.glyphs)
-          (filled_within g.glyphs_known n.glyphs_known held.first held.end 0xFF i ks
-          (omega (arith, g.whole_glyphs_known)) after before)
-          (filled_within g.bits_known n.bits_known held.first held.end 0xFF i bs (omega (arith, g.whole_bits_known))
-          after before)
-          (ap (λ (xs : List ℕ). get_or xs i 0) shown.values)
-          ∙ ap (λ (k : Bool). byte_cell (state_of k) g i) (sym all);
+          rw (
+            all,
+            ap (λ (xs : List ℕ). get_or xs i 0) shown.glyphs,
+            filled_within g.glyphs_known n.glyphs_known held.first held.end 0xFF i ks
+                (omega (arith, g.whole_glyphs_known)) after before,
+            filled_within g.bits_known n.bits_known held.first held.end 0xFF i bs (omega (arith, g.whole_bits_known))
+                after before,
+            ap (λ (xs : List ℕ). get_or xs i 0) shown.values,
+          ) refl;
       outside = λ i out. record {
         glyph = ap (λ (xs : List ℕ). get_or xs i 0) shown.glyphs;
         glyph_known = kept_glyphs.outside i out;
@@ -41,5 +40,5 @@ marked_known g n held all le room shown ks bs =
     }
 
 -- what is known of a cell that is known
-pub known_bytes : (g k b v : ℕ) → IsTrue (is_known (cell_of g k b v)) → (k ≡ 0xFF) × (b ≡ 0xFF)
-known_bytes g k b v h = grind (arith, nat_tests)
+pub both_known : (g k b v : ℕ) → IsTrue (is_known (cell_of g k b v)) → (k ≡ 0xFF) × (b ≡ 0xFF)
+both_known g k b v h = grind (arith, nat_tests)

@@ -4,8 +4,8 @@ use Rattle.std.specs.Prelude.{Option, Some, None, MatchOption, unwrap_or, bit_an
 use Rattle.ans_screen.specs.KnownBits.{KnownBits, known_bits}
 use Rattle.ans_screen.specs.HalfCells.{half_cell}
 use Rattle.ans_screen.specs.declared.cell.HalfCell.{HalfCell}
-use Rattle.ans_screen.specs.declared.cell.Part.{Part}
-use Rattle.ans_screen.specs.declared.cell.Part.TheVariants.{Glyph, Attribute}
+use Rattle.ans_screen.specs.declared.cell.CellByte.{CellByte}
+use Rattle.ans_screen.specs.declared.cell.CellByte.TheVariants.{Glyph, Attribute}
 
 -- a glyph, known where the other byte is FFh
 abbrev pub glyph_of : ℕ → ℕ → Option ℕ
@@ -19,8 +19,8 @@ bits_of known value = known_bits known (bit_and value known)
 abbrev pub cell_of : ℕ → ℕ → ℕ → ℕ → HalfCell
 cell_of glyph glyph_known bits_known value = half_cell (glyph_of glyph glyph_known) (bits_of bits_known value)
 
--- the byte of a part, or those bits of it, that are known
-abbrev pub known_byte : Part → ℕ → ℕ → ℕ
+-- the glyph, or those bits of the attribute, that are known
+abbrev pub known_byte : CellByte → ℕ → ℕ → ℕ
 known_byte Glyph shown known = unwrap_or (glyph_of shown known) 0
 known_byte Attribute shown known = bit_and shown known
 

@@ -2,8 +2,8 @@
 use Rattle.std.specs.Prelude.{ℕ, Bool, ◌&&◌, Option, Some, is_some, unwrap_or}
 use Rattle.ans_screen.specs.KnownBits.{KnownBits, is_whole}
 use Rattle.ans_screen.specs.declared.cell.HalfCell.{HalfCell}
-use Rattle.ans_screen.specs.declared.cell.Part.{Part}
-use Rattle.ans_screen.specs.declared.cell.Part.TheVariants.{Glyph, Attribute}
+use Rattle.ans_screen.specs.declared.cell.CellByte.{CellByte}
+use Rattle.ans_screen.specs.declared.cell.CellByte.TheVariants.{Glyph, Attribute}
 
 -- a byte, where it is known, and what is known of the attribute
 abbrev pub half_cell : Option ℕ → KnownBits → HalfCell
@@ -25,7 +25,7 @@ glyph_byte c = unwrap_or c.glyph 0
 abbrev pub attribute_byte : HalfCell → ℕ
 attribute_byte c = c.attr.value
 
--- the byte of a part
-abbrev pub byte_of : Part → HalfCell → ℕ
+-- the glyph's or the attribute's byte
+abbrev pub byte_of : CellByte → HalfCell → ℕ
 byte_of Glyph = glyph_byte
 byte_of Attribute = attribute_byte

@@ -8,8 +8,8 @@ use Rattle.ans_model.specs.Screen.Step.{filled}
 use Rattle.ans_screen.specs.GridEdits.{is_unknown}
 use Rattle.ans_screen.specs.CellPlanes.{cell_of}
 use Rattle.ans_screen.specs.declared.cell.HalfCell.{HalfCell}
-use Rattle.ans_screen.specs.declared.cell.Part.{Part}
-use Rattle.ans_screen.specs.declared.cell.Part.TheVariants.{Glyph, Attribute}
+use Rattle.ans_screen.specs.declared.cell.CellByte.{CellByte}
+use Rattle.ans_screen.specs.declared.cell.CellByte.TheVariants.{Glyph, Attribute}
 use Rattle.ans_screen.specs.declared.row_planes.Row.{Row}
 
 -- how a cell stands in the planes: not at all, in the two of glyphs and of values, or in all four
@@ -49,27 +49,6 @@ state_in round row i =
     (if nat_lt i row.first then Stale else if nat_lt i row.end then state_of row.known else Stale)
     else Stale
 
--- the state of cell i, by its row
-abbrev pub state_at : ℕ → ℕ → List Row → ℕ → CellState
-state_at width round held i = state_in round (slice_index_or held (i / width) never_written) i
-
--- cell i, by the cells' states
-abbrev pub cell_at : (ℕ → CellState) → HalfCell → List ℕ → List ℕ → List ℕ → List ℕ → ℕ → HalfCell
-cell_at states blank glyphs glyphs_known bits_known values i =
-    row_cell (states i) blank (slice_index glyphs i) (slice_index glyphs_known i) (slice_index bits_known i)
-    (slice_index values i)
-
--- all cells
-abbrev pub cells_of_rows : ℕ → ℕ → (ℕ → CellState) → HalfCell → List ℕ → List ℕ → List ℕ → List ℕ → List HalfCell
-cells_of_rows width rows states blank glyphs glyphs_known bits_known values =
-    map (cell_at states blank glyphs glyphs_known bits_known values) (range_with_len 0 (width * rows))
-
--- a cell for each row and column
-pub length_rows : (w rows : ℕ) (states : ℕ → CellState) (blank : HalfCell) (gs ks bs vs : List ℕ)
-    → length (cells_of_rows w rows states blank gs ks bs vs) ≡ w * rows
-length_rows w rows states blank gs ks bs vs =
-    length-map-range_with_len (cell_at states blank gs ks bs vs) 0 (w * rows)
-
 -- What a grid of planes is made of. A plane has a byte for each cell: the glyph, FFh where it is known, the bits of
 -- the attribute that are known, and its value.
 pub record Planes : Type 0 where
@@ -91,33 +70,36 @@ pub record Planes : Type 0 where
   pub whole_bits_known : length bits_known ≡ width * rows
   pub whole_values : length values ≡ width * rows
 
--- the plane of a part's bytes, and that of what is known of them
-abbrev pub shown_plane : Part → Planes → List ℕ
+-- the plane of those bytes, and that of what is known of them
+abbrev pub shown_plane : CellByte → Planes → List ℕ
 shown_plane Glyph g = g.glyphs
 shown_plane Attribute g = g.values
 
-abbrev pub known_plane : Part → Planes → List ℕ
+abbrev pub known_plane : CellByte → Planes → List ℕ
 known_plane Glyph g = g.glyphs_known
 known_plane Attribute g = g.bits_known
 
--- the states of a grid's cells
+-- the state of cell i of a grid, by its row
 abbrev pub states_of : Planes → ℕ → CellState
-states_of g = state_at g.width g.round g.held
+states_of g i = state_in g.round (slice_index_or g.held (i / g.width) never_written) i
 
--- all cells of a grid
-abbrev pub cells_of_grid : Planes → List HalfCell
-cells_of_grid g =
-    cells_of_rows g.width g.rows (states_of g) g.blank g.glyphs g.glyphs_known g.bits_known
-    g.values
+-- the cell that the bytes of cell i stand for in a state
+abbrev pub byte_cell : CellState → Planes → ℕ → HalfCell
+byte_cell state g i =
+    row_cell state g.blank (slice_index g.glyphs i) (slice_index g.glyphs_known i)
+    (slice_index g.bits_known i) (slice_index g.values i)
 
 -- cell i of a grid
 abbrev pub cell_in_grid : Planes → ℕ → HalfCell
-cell_in_grid g = cell_at (states_of g) g.blank g.glyphs g.glyphs_known g.bits_known g.values
+cell_in_grid g i = byte_cell (states_of g i) g i
+
+-- all cells of a grid
+abbrev pub cells_of_grid : Planes → List HalfCell
+cells_of_grid g = map (cell_in_grid g) (range_with_len 0 (g.width * g.rows))
 
 -- a cell for each row and column of a grid
 pub length_grid : (g : Planes) → length (cells_of_grid g) ≡ g.width * g.rows
-length_grid g =
-    length_rows g.width g.rows (states_of g) g.blank g.glyphs g.glyphs_known g.bits_known g.values
+length_grid g = length-map-range_with_len (cell_in_grid g) 0 (g.width * g.rows)
 
 -- both grids have the same cells in the same rows
 pub record ShowsSame (old new : Planes) : Type 0 where
@@ -185,9 +167,9 @@ pub record IsHeldRow (g : Planes) (row : ℕ) (held : Row) : Type 0 where
   pub before : (i : ℕ) → row * g.width ≤ i → i < held.first → states_of g i ≡ Stale
   pub after : (i : ℕ) → held.end ≤ i → i < row * g.width + g.width → states_of g i ≡ Stale
 
--- this part of n cells side by side from cell `from` on is copied
+-- this byte of n cells side by side from cell `from` on is copied
 abbrev pub IsCopied : (HalfCell → ℕ) → Planes → ℕ → ℕ → List ℕ → Type 0
-IsCopied part g from n copied = (k : ℕ) → k < n → slice_index copied k ≡ part (cell_in_grid g (from + k))
+IsCopied byte g from n copied = (k : ℕ) → k < n → slice_index copied k ≡ byte (cell_in_grid g (from + k))
 
 -- of the cells from `from` up to and without `to` each is known
 abbrev pub AreKnownCells : (ℕ → HalfCell) → ℕ → ℕ → Type 0
@@ -205,12 +187,6 @@ pub record SameBytes (old new : Planes) (i : ℕ) : Type 0 where
   pub glyph_known : slice_index new.glyphs_known i ≡ slice_index old.glyphs_known i
   pub bits_known : slice_index new.bits_known i ≡ slice_index old.bits_known i
   pub value : slice_index new.values i ≡ slice_index old.values i
-
--- the cell that the bytes of cell i stand for in this state
-abbrev pub byte_cell : CellState → Planes → ℕ → HalfCell
-byte_cell state g i =
-    row_cell state g.blank (slice_index g.glyphs i) (slice_index g.glyphs_known i)
-    (slice_index g.bits_known i) (slice_index g.values i)
 
 -- from `from` up to and without `to` the bytes of each cell stand for the blank in this state, and the others are as
 -- they were

@@ -4,7 +4,7 @@ use crate::attr::Attr;
 
 /// What is copied of a cell as a byte.
 #[derive(Clone, Copy)]
-pub(crate) enum Part {
+pub(crate) enum CellByte {
     Glyph,
     Attribute,
 }
@@ -62,12 +62,12 @@ impl HalfCell {
         self.attr.value
     }
 
-    pub(crate) fn byte(self, part: Part) -> u8
-        ensures { result ≡ byte_of part self }
+    pub(crate) fn byte(self, which: CellByte) -> u8
+        ensures { result ≡ byte_of which self }
     {
-        match part {
-            Part::Glyph => self.glyph_byte(),
-            Part::Attribute => self.attribute_byte(),
+        match which {
+            CellByte::Glyph => self.glyph_byte(),
+            CellByte::Attribute => self.attribute_byte(),
         }
     }
 }

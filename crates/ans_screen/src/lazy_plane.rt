@@ -4,7 +4,7 @@ ghost use Rattle.std.specs.Prelude.{◌≡◌, ◌<◌, ◌≤◌, [], length, r
 ghost use Rattle.std.specs.Prelude.{vec_capacity, IfOk, MatchOption};
 ghost use Rattle.ans_model.specs.Screen.Step.{filled};
 
-use crate::planes::fill_plane;
+use crate::planes::fill_bytes;
 use std::alloc::{AllocError, Global};
 use std::marker::Model;
 
@@ -27,7 +27,7 @@ impl Model for LazyPlane {
     ghost invariant = { λ p. (p.zeros ≤ vec_capacity p.bytes) × (0 < p.zeros → p.bytes.items ≡ []) };
 }
 
-/// Makes an empty vector this many bytes, each 00h. It has the room for them, so this cannot fail.
+/// The vector has the room, so this cannot fail.
 #[cold]
 #[inline(never)]
 fn hold(bytes: &mut Vec<u8>, zeros: usize)
@@ -39,7 +39,7 @@ fn hold(bytes: &mut Vec<u8>, zeros: usize)
 }
 
 impl LazyPlane {
-    /// A plane of this many bytes, each 00h. None of them is held.
+    /// None of the bytes is held.
     pub(crate) fn new(alloc: Global, size: usize) -> Result<LazyPlane, AllocError>
         ensures { IfOk result (λ plane. plane ≡ replicate size 0) }
     {
@@ -60,7 +60,7 @@ impl LazyPlane {
             hold(&mut self.bytes, self.zeros);
             self.zeros = 0;
         }
-        fill_plane(&mut self.bytes, from, to, byte);
+        fill_bytes(&mut self.bytes, from, to, byte);
     }
 
     #[inline(always)]
@@ -71,7 +71,6 @@ impl LazyPlane {
         if self.zeros == 0 { self.bytes[i] } else { 0x00 }
     }
 
-    /// The bytes from `from` up to and without `to`, or `None` where each byte of the plane is 00h.
     #[inline(always)]
     pub(crate) fn part(&self, from: usize, to: usize) -> Option<&[u8]>
         requires ordered { from ≤ to }

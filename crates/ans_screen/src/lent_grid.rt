@@ -1,12 +1,12 @@
 //! A grid of byte planes on memory that its owner lends.
 
-ghost use Rattle.std.specs.Prelude.{◌≡◌, ◌↔◌, ◌+◌, ◌*◌, ◌^◌, ◌<◌, ◌≤◌, replicate, length, map, IfSome, IsTrue, is_some};
+ghost use Rattle.std.specs.Prelude.{◌≡◌, ◌↔◌, ◌*◌, ◌^◌, ◌<◌, ◌≤◌, replicate, length, map, IfSome, IsTrue, is_some};
 ghost use Rattle.std.specs.List.{All};
 ghost use Rattle.ans_screen.specs.LentRows.{row_of, rows_whole, rows_of_rounds, HasRoom};
-ghost use Rattle.ans_screen.specs.RowCells.{never_written, cells_of_grid, length_grid};
+ghost use Rattle.ans_screen.specs.RowCells.{cells_of_grid, length_grid};
 
 use crate::attr::Attr;
-use crate::cell::{HalfCell, Part};
+use crate::cell::{CellByte, HalfCell};
 use crate::lent_row::LentRow;
 use crate::planes::{fill_bytes, write_bytes};
 use crate::row_planes::{Frame, Row, RowPlanes, cells, copies};
@@ -66,7 +66,6 @@ impl<'a> LentGrid<'a> {
         Some(LentGrid::cut(held, bytes, frame))
     }
 
-    /// The same, where there is room.
     fn cut(held: &'a mut [LentRow], bytes: &'a mut [u8], frame: Frame) -> LentGrid<'a>
         requires { HasRoom frame.width frame.rows (length held.old) (length bytes.old) }
         ensures frame { result.frame ≡ frame }
@@ -160,17 +159,17 @@ impl<'a> RowPlanes for LentGrid<'a> {
         (self.glyphs_known[i], self.bits_known[i])
     }
 
-    fn shown_part(&self, part: Part, from: usize, to: usize) -> &[u8] {
-        match part {
-            Part::Glyph => &self.glyphs[from..to],
-            Part::Attribute => &self.values[from..to],
+    fn shown_bytes(&self, which: CellByte, from: usize, to: usize) -> &[u8] {
+        match which {
+            CellByte::Glyph => &self.glyphs[from..to],
+            CellByte::Attribute => &self.values[from..to],
         }
     }
 
-    fn known_part(&self, part: Part, from: usize, to: usize) -> Option<&[u8]> {
-        Some(match part {
-            Part::Glyph => &self.glyphs_known[from..to],
-            Part::Attribute => &self.bits_known[from..to],
+    fn known_bytes(&self, which: CellByte, from: usize, to: usize) -> Option<&[u8]> {
+        Some(match which {
+            CellByte::Glyph => &self.glyphs_known[from..to],
+            CellByte::Attribute => &self.bits_known[from..to],
         })
     }
 
@@ -211,10 +210,6 @@ impl<'a> Screen for LentGrid<'a> {
         cells::get(self, i)
     }
 
-    fn put(&mut self, i: usize, cell: HalfCell) {
-        cells::put(self, i, cell);
-    }
-
     fn fill(&mut self, from: usize, to: usize, cell: HalfCell) {
         cells::fill(self, from, to, cell);
     }
@@ -239,11 +234,11 @@ impl<'a> Screen for LentGrid<'a> {
     }
 
     fn copy_glyphs(&self, row: usize, glyphs: &mut [u8]) {
-        copies::copy_part(self, row, Part::Glyph, glyphs);
+        copies::copy_bytes(self, row, CellByte::Glyph, glyphs);
     }
 
     fn copy_attributes(&self, row: usize, values: &mut [u8]) {
-        copies::copy_part(self, row, Part::Attribute, values);
+        copies::copy_bytes(self, row, CellByte::Attribute, values);
     }
 
     ghost whole = { λ g. length_grid (⟦<LentGrid<'a> as RowPlanes>⟧.planes_of g) };

@@ -7,10 +7,10 @@ ghost use Rattle.ans_screen.specs.GridEdits.{most_rows};
 ghost use Rattle.ans_screen.specs.RowCells.{cells_of_grid, length_grid};
 
 use crate::attr::Attr;
-use crate::cell::{HalfCell, Part};
+use crate::cell::{CellByte, HalfCell};
 use crate::grid::Grid;
 use crate::lazy_plane::LazyPlane;
-use crate::planes::{fill_plane, write_planes};
+use crate::planes::{fill_bytes, write_bytes};
 use crate::row_planes::{Frame, NEVER, Row, RowPlanes, cells, copies};
 use std::alloc::{AllocError, Global};
 
@@ -39,7 +39,7 @@ pub struct PlaneGrid {
 }
 
 impl PlaneGrid {
-    /// A grid of blank cells in a round. A grid begins in round 1.
+    /// A grid begins in round 1.
     pub(crate) fn in_round(alloc: Global, frame: Frame, round: u32) -> Result<Self, AllocError>
         requires some_width { 1 ≤ frame.width }
         requires width { frame.width ≤ most_columns }
@@ -135,24 +135,24 @@ impl RowPlanes for PlaneGrid {
         (self.glyphs_known.byte(i), self.bits_known.byte(i))
     }
 
-    fn shown_part(&self, part: Part, from: usize, to: usize) -> &[u8] {
-        match part {
-            Part::Glyph => &self.glyphs[from..to],
-            Part::Attribute => &self.values[from..to],
+    fn shown_bytes(&self, which: CellByte, from: usize, to: usize) -> &[u8] {
+        match which {
+            CellByte::Glyph => &self.glyphs[from..to],
+            CellByte::Attribute => &self.values[from..to],
         }
     }
 
-    fn known_part(&self, part: Part, from: usize, to: usize) -> Option<&[u8]> {
-        match part {
-            Part::Glyph => self.glyphs_known.part(from, to),
-            Part::Attribute => self.bits_known.part(from, to),
+    fn known_bytes(&self, which: CellByte, from: usize, to: usize) -> Option<&[u8]> {
+        match which {
+            CellByte::Glyph => self.glyphs_known.part(from, to),
+            CellByte::Attribute => self.bits_known.part(from, to),
         }
     }
 
     #[inline(always)]
     fn fill_shown(&mut self, from: usize, to: usize, glyph: u8, value: u8) {
-        fill_plane(&mut self.glyphs, from, to, glyph);
-        fill_plane(&mut self.values, from, to, value);
+        fill_bytes(&mut self.glyphs, from, to, glyph);
+        fill_bytes(&mut self.values, from, to, value);
     }
 
     #[inline(never)]
@@ -163,7 +163,7 @@ impl RowPlanes for PlaneGrid {
 
     #[inline(always)]
     fn write_shown(&mut self, from: usize, bytes: &[u8], count: usize, value: u8) {
-        write_planes(
+        write_bytes(
             &mut self.glyphs,
             &mut self.values,
             from,
@@ -230,11 +230,11 @@ impl Grid for PlaneGrid {
     }
 
     fn copy_glyphs(&self, row: usize, glyphs: &mut [u8]) {
-        copies::copy_part(self, row, Part::Glyph, glyphs);
+        copies::copy_bytes(self, row, CellByte::Glyph, glyphs);
     }
 
     fn copy_attributes(&self, row: usize, values: &mut [u8]) {
-        copies::copy_part(self, row, Part::Attribute, values);
+        copies::copy_bytes(self, row, CellByte::Attribute, values);
     }
 
     ghost whole = { λ g. length_grid (⟦<PlaneGrid as RowPlanes>⟧.planes_of g) };

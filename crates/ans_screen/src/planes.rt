@@ -1,6 +1,6 @@
 //! Planes of bytes, one a cell.
 
-ghost use Rattle.std.specs.Prelude.{◌≡◌, ◌↔◌, ◌+◌, ◌*◌, ◌≤◌, ◌++◌, length, take, drop, vec_len};
+ghost use Rattle.std.specs.Prelude.{◌≡◌, ◌↔◌, ◌+◌, ◌*◌, ◌≤◌, ◌++◌, length, take, drop};
 ghost use Rattle.std.specs.Prelude.{ℕ, ◌<◌, IsTrue, slice_index, unwrap_or, bit_and};
 ghost use Rattle.ans_model.specs.Screen.Step.{filled};
 ghost use Rattle.ans_screen.specs.GridEdits.{written};
@@ -8,7 +8,7 @@ ghost use Rattle.ans_screen.specs.CellPlanes.{glyph_of, cell_of, known_byte};
 ghost use Rattle.ans_screen.specs.CellPlanes.{AreKnown, IsFirstGap};
 
 use crate::attr::Attr;
-use crate::cell::{HalfCell, Part};
+use crate::cell::{CellByte, HalfCell};
 use std::simd::prelude::*;
 
 /// A cell's byte in each plane.
@@ -79,7 +79,6 @@ pub(crate) fn cell_of_bytes(bytes: CellBytes) -> HalfCell
     }
 }
 
-/// Writes the first `count` of 16 lanes over the front of 16 bytes.
 #[inline(always)]
 fn blend(place: &mut [u8], new: u8x16, count: usize)
     requires lanes { length new ≡ 16 }
@@ -93,7 +92,6 @@ fn blend(place: &mut [u8], new: u8x16, count: usize)
     written.select(new, old).copy_to_slice(place);
 }
 
-/// Writes the first `count` of 16 lanes side by side from byte `from` on.
 #[inline(always)]
 fn blend_at(bytes: &mut [u8], from: usize, new: u8x16, count: usize)
     requires lanes { length new ≡ 16 }
@@ -104,8 +102,7 @@ fn blend_at(bytes: &mut [u8], from: usize, new: u8x16, count: usize)
     blend(&mut bytes[from..from + 16], new, count);
 }
 
-/// Makes the bytes from `from` up to and without `to` this one. A short fill is a blend, since a
-/// call that fills memory costs more than it.
+/// A short fill is a blend, since a call that fills memory costs more than it.
 #[inline(always)]
 pub(crate) fn fill_bytes(plane: &mut [u8], from: usize, to: usize, byte: u8)
     requires ordered { from ≤ to }
@@ -120,20 +117,7 @@ pub(crate) fn fill_bytes(plane: &mut [u8], from: usize, to: usize, byte: u8)
     }
 }
 
-/// The same of a vector.
-#[inline(always)]
-pub(crate) fn fill_plane(plane: &mut Vec<u8>, from: usize, to: usize, byte: u8)
-    requires ordered { from ≤ to }
-    requires within { to ≤ length plane.old.items }
-    ensures items { plane.new.items ≡ filled plane.old.items from to byte }
-    ensures len { vec_len plane.new ≡ vec_len plane.old }
-{
-    fill_bytes(plane, from, to, byte);
-}
-
-/// Writes the first `count` bytes side by side to the glyphs from byte `from` on, and a value to the
-/// same places of the values. A short run is two blends, since a call that copies memory costs more
-/// than they do.
+/// A short run is two blends, since a call that copies memory costs more than they do.
 #[inline(always)]
 pub(crate) fn write_bytes(
     glyphs: &mut [u8],
@@ -159,27 +143,6 @@ pub(crate) fn write_bytes(
         glyphs[from..from + count].copy_from_slice(&bytes[..count]);
         values[from..from + count].fill(value);
     }
-}
-
-/// The same of vectors.
-#[inline(always)]
-pub(crate) fn write_planes(
-    glyphs: &mut Vec<u8>,
-    values: &mut Vec<u8>,
-    from: usize,
-    bytes: &[u8],
-    count: usize,
-    value: u8,
-)
-    requires count { count ≤ length bytes.now }
-    requires within { from + count ≤ length glyphs.old.items }
-    requires level { length values.old.items ≡ length glyphs.old.items }
-    ensures glyphs { glyphs.new.items ≡ written glyphs.old.items from (take count bytes.now) }
-    ensures glyphs_len { vec_len glyphs.new ≡ vec_len glyphs.old }
-    ensures values { values.new.items ≡ filled values.old.items from (from + count) value }
-    ensures values_len { vec_len values.new ≡ vec_len values.old }
-{
-    write_bytes(glyphs, values, from, bytes, count, value);
 }
 
 #[inline(always)]
@@ -224,7 +187,6 @@ pub(crate) fn first_gap(glyphs_known: &[u8], bits_known: &[u8], to: usize) -> Op
     None
 }
 
-/// Copies glyphs, with 0 for each that is not known.
 fn copy_known_glyphs(glyphs: &[u8], glyphs_known: &[u8], copied: &mut [u8])
     requires glyphs { length glyphs.now ≡ length copied.old }
     requires glyphs_known { length glyphs_known.now ≡ length copied.old }
@@ -240,7 +202,6 @@ fn copy_known_glyphs(glyphs: &[u8], glyphs_known: &[u8], copied: &mut [u8])
     }
 }
 
-/// Copies values, with 0 for each bit that is not known.
 fn copy_known_bits(values: &[u8], bits_known: &[u8], copied: &mut [u8])
     requires values { length values.now ≡ length copied.old }
     requires bits_known { length bits_known.now ≡ length copied.old }
@@ -252,15 +213,14 @@ fn copy_known_bits(values: &[u8], bits_known: &[u8], copied: &mut [u8])
     }
 }
 
-/// Copies the bytes of a part, with 0 for what is not known of them.
-pub(crate) fn copy_known(part: Part, shown: &[u8], known: &[u8], copied: &mut [u8])
+pub(crate) fn copy_known(which: CellByte, shown: &[u8], known: &[u8], copied: &mut [u8])
     requires shown { length shown.now ≡ length copied.old }
     requires known { length known.now ≡ length copied.old }
     ensures { (k : ℕ) → k < length copied.old → slice_index copied.new k
-        ≡ known_byte part (slice_index shown.now k) (slice_index known.now k) }
+        ≡ known_byte which (slice_index shown.now k) (slice_index known.now k) }
 {
-    match part {
-        Part::Glyph => copy_known_glyphs(shown, known, copied),
-        Part::Attribute => copy_known_bits(shown, known, copied),
+    match which {
+        CellByte::Glyph => copy_known_glyphs(shown, known, copied),
+        CellByte::Attribute => copy_known_bits(shown, known, copied),
     }
 }

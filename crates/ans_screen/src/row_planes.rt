@@ -11,7 +11,7 @@ pub(crate) mod cells;
 pub(crate) mod copies;
 pub(crate) mod rows;
 
-use crate::cell::{HalfCell, Part};
+use crate::cell::{CellByte, HalfCell};
 
 /// A row as it was last written.
 #[derive(Clone, Copy)]
@@ -62,7 +62,6 @@ pub(crate) trait RowPlanes {
         requires { row < (planes_of self.now).rows }
         ensures { result ≡ slice_index_or (planes_of self.now).held row never_written };
 
-    /// Says what a row holds in this round.
     fn hold(&mut self, row: usize, known: bool, first: usize, end: usize)
         requires { row < (planes_of self.old).rows }
         ensures { HasRow (planes_of self.old) (planes_of self.new) row
@@ -74,36 +73,31 @@ pub(crate) trait RowPlanes {
         ensures width { (planes_of self.new).width ≡ (planes_of self.old).width }
         ensures rows { (planes_of self.new).rows ≡ (planes_of self.old).rows };
 
-    /// Begins a round, which is no earlier one, with another blank.
     fn begin_round(&mut self, round: u32, blank: HalfCell)
         requires { (planes_of self.old).round ≤ round }
         ensures { BeginsRound (planes_of self.old) (planes_of self.new) round blank };
 
-    /// The glyph and the value of cell `i`.
     fn shown(&self, i: usize) -> (u8, u8)
         requires { i < (planes_of self.now).width * (planes_of self.now).rows }
         ensures glyph { result.0 ≡ slice_index (planes_of self.now).glyphs i }
         ensures value { result.1 ≡ slice_index (planes_of self.now).values i };
 
-    /// What is known of the glyph and of the value of cell `i`.
     fn known(&self, i: usize) -> (u8, u8)
         requires { i < (planes_of self.now).width * (planes_of self.now).rows }
         ensures glyph { result.0 ≡ slice_index (planes_of self.now).glyphs_known i }
         ensures value { result.1 ≡ slice_index (planes_of self.now).bits_known i };
 
-    /// The bytes of a part.
-    fn shown_part(&self, part: Part, from: usize, to: usize) -> &[u8]
+    fn shown_bytes(&self, which: CellByte, from: usize, to: usize) -> &[u8]
         requires ordered { from ≤ to }
         requires within { to ≤ (planes_of self.now).width * (planes_of self.now).rows }
-        ensures { result.now ≡ slice_range (shown_plane part (planes_of self.now)) from to };
+        ensures { result.now ≡ slice_range (shown_plane which (planes_of self.now)) from to };
 
-    /// What is known of a part, or `None` where each byte of that plane is 00h.
-    fn known_part(&self, part: Part, from: usize, to: usize) -> Option<&[u8]>
+    fn known_bytes(&self, which: CellByte, from: usize, to: usize) -> Option<&[u8]>
         requires ordered { from ≤ to }
         requires within { to ≤ (planes_of self.now).width * (planes_of self.now).rows }
-        ensures { MatchOption result (known_plane part (planes_of self.now)
-            ≡ replicate (length (known_plane part (planes_of self.now))) 0)
-            (λ known. known.now ≡ slice_range (known_plane part (planes_of self.now)) from to) };
+        ensures { MatchOption result (known_plane which (planes_of self.now)
+            ≡ replicate (length (known_plane which (planes_of self.now))) 0)
+            (λ known. known.now ≡ slice_range (known_plane which (planes_of self.now)) from to) };
 
     fn fill_shown(&mut self, from: usize, to: usize, glyph: u8, value: u8)
         requires ordered { from ≤ to }
@@ -123,8 +117,6 @@ pub(crate) trait RowPlanes {
         ensures shown { SameShown (planes_of self.old) (planes_of self.new) }
         ensures same { SameRows (planes_of self.old) (planes_of self.new) };
 
-    /// Writes the first `count` bytes to the glyphs from cell `from` on, and a value to the same places
-    /// of the values.
     fn write_shown(&mut self, from: usize, bytes: &[u8], count: usize, value: u8)
         requires count { count ≤ length bytes.now }
         requires within { from + count ≤ (planes_of self.old).width * (planes_of self.old).rows }

@@ -1,6 +1,6 @@
 //! Half-known cells that stand somewhere already, so that no memory is asked for.
 
-ghost use Rattle.std.specs.Prelude.{◌≡◌, ℕ, ◌+◌, ◌*◌, ◌^◌, ◌<◌, ◌≤◌, List, length, map, take, set};
+ghost use Rattle.std.specs.Prelude.{◌≡◌, ℕ, ◌+◌, ◌*◌, ◌^◌, ◌<◌, ◌≤◌, List, length, map, take};
 ghost use Rattle.std.specs.Prelude.{replicate, slice_get, Some};
 ghost use Rattle.ans_model.specs.Screen.Step.{filled};
 ghost use Rattle.ans_screen.specs.declared.cell.HalfCell.{HalfCell};
@@ -32,13 +32,6 @@ pub trait Screen: Sized + Drop {
     fn get(&self, i: usize) -> HalfCell
         requires { i < length (cells_of self.now) }
         ensures { slice_get (cells_of self.now) i ≡ Some result };
-
-    /// Makes cell `i` this one.
-    fn put(&mut self, i: usize, cell: HalfCell)
-        requires { i < length (cells_of self.old) }
-        ensures cells { cells_of self.new ≡ set (cells_of self.old) i cell }
-        ensures width { width_of self.new ≡ width_of self.old }
-        ensures rows { rows_of self.new ≡ rows_of self.old };
 
     /// Makes the cells from `from` up to and without `to` this one.
     fn fill(&mut self, from: usize, to: usize, cell: HalfCell)
@@ -116,10 +109,6 @@ impl<G: Grid> Screen for G {
 
     fn get(&self, i: usize) -> HalfCell {
         Grid::get(self, i)
-    }
-
-    fn put(&mut self, i: usize, cell: HalfCell) {
-        Grid::put(self, i, cell);
     }
 
     fn fill(&mut self, from: usize, to: usize, cell: HalfCell) {

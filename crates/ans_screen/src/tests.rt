@@ -186,7 +186,6 @@ enum Edit {
     Clear(Content),
     Fill(usize, usize, Content),
     FillRow(usize, usize, usize, Content),
-    Put(usize, Content),
     Run(usize, usize, usize, Content),
 }
 
@@ -210,12 +209,6 @@ fn apply<G: Screen>(grid: &mut G, edit: &Edit) -> bool
                 return false;
             }
             grid.fill_row(*row, *from, *to, cell_of(*content));
-        }
-        Edit::Put(i, content) => {
-            if *i >= 99 {
-                return false;
-            }
-            grid.put(*i, cell_of(*content));
         }
         Edit::Run(row, column, count, content) => {
             let bytes = b"the bytes of a run, more than it";
@@ -345,7 +338,7 @@ fn fills_of_each_length(rt: HostRuntime) -> Result<(), Fail> {
             let edits = [
                 Edit::Fill(from, from + count, Content::Letter),
                 Edit::Fill(99 - count, 99, Content::Unknown),
-                Edit::Put(98, Content::Letter),
+                Edit::Fill(98, 99, Content::Letter),
                 Edit::FillRow(1, from.min(count).min(33), from, Content::NoGlyph),
             ];
             compare_edits(&rt, rt.alloc(), Content::Blank, &edits)?;
@@ -365,12 +358,12 @@ fn clear_and_write(
     let edits = [
         Edit::Clear(blank),
         Edit::Run(0, 27, 6, Content::Letter),
-        Edit::Put(70, half),
+        Edit::Fill(70, 71, half),
         Edit::Clear(half),
         Edit::Run(0, 27, 6, Content::Letter),
         Edit::Clear(Content::Blank),
         Edit::Run(1, 7, 6, Content::Letter),
-        Edit::Put(41, half),
+        Edit::Fill(41, 42, half),
         Edit::Fill(66, 99, Content::Letter),
         Edit::Fill(70, 71, half),
         Edit::Run(2, 24, 9, Content::SomeBits),
@@ -398,19 +391,19 @@ fn write_parts(rt: &impl Abort, alloc: Global, blank: Content, half: Content) ->
     let edits = [
         Edit::Clear(blank),
         Edit::Run(1, 12, 3, Content::Letter),
-        Edit::Put(36, Content::Letter),
+        Edit::Fill(36, 37, Content::Letter),
         Edit::Run(1, 27, 2, half),
         Edit::Fill(50, 53, Content::Letter),
         Edit::Clear(blank),
-        Edit::Put(65, half),
-        Edit::Put(33, Content::Letter),
+        Edit::Fill(65, 66, half),
+        Edit::Fill(33, 34, Content::Letter),
         Edit::Clear(half),
-        Edit::Put(40, Content::Letter),
-        Edit::Put(40, half),
-        Edit::Put(42, Content::Letter),
-        Edit::Put(38, Content::Letter),
+        Edit::Fill(40, 41, Content::Letter),
+        Edit::Fill(40, 41, half),
+        Edit::Fill(42, 43, Content::Letter),
+        Edit::Fill(38, 39, Content::Letter),
         Edit::Clear(blank),
-        Edit::Put(49, Content::Letter),
+        Edit::Fill(49, 50, Content::Letter),
         Edit::Fill(44, 55, Content::Letter),
         Edit::Fill(60, 70, half),
     ];

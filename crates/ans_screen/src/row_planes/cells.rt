@@ -12,7 +12,7 @@ use crate::attr::Attr;
 use crate::cell::HalfCell;
 use crate::planes::{CellBytes, bytes_of, cell_of_bytes};
 
-#[tactic(auto, using(crate::specs::RowCells::length_rows, crate::proofs::Places::row_below))]
+#[tactic(auto, using(crate::specs::RowCells::length_grid, crate::proofs::Places::row_below))]
 pub(crate) fn get<P: RowPlanes>(grid: &P, i: usize) -> HalfCell
     requires { i < length (cells_of_grid (P.planes_of grid.now)) }
     ensures { slice_get (cells_of_grid (P.planes_of grid.now)) i ≡ Some result }
@@ -36,7 +36,7 @@ pub(crate) fn get<P: RowPlanes>(grid: &P, i: usize) -> HalfCell
     }
 }
 
-#[tactic(auto, using(crate::specs::RowCells::length_rows, crate::proofs::Places::row_below))]
+#[tactic(auto, using(crate::specs::RowCells::length_grid, crate::proofs::Places::row_below))]
 pub(crate) fn put<P: RowPlanes>(grid: &mut P, i: usize, cell: HalfCell)
     requires { i < length (cells_of_grid (P.planes_of grid.old)) }
     ensures cells { cells_of_grid (P.planes_of grid.new)
@@ -49,7 +49,7 @@ pub(crate) fn put<P: RowPlanes>(grid: &mut P, i: usize, cell: HalfCell)
     fill_row(grid, row, column, column + 1, cell);
 }
 
-#[tactic(auto, using(crate::specs::RowCells::length_rows))]
+#[tactic(auto, using(crate::specs::RowCells::length_grid))]
 pub(crate) fn fill<P: RowPlanes>(grid: &mut P, from: usize, to: usize, cell: HalfCell)
     requires ordered { from ≤ to }
     requires within { to ≤ length (cells_of_grid (P.planes_of grid.old)) }
@@ -65,7 +65,7 @@ pub(crate) fn fill<P: RowPlanes>(grid: &mut P, from: usize, to: usize, cell: Hal
     }
 }
 
-#[tactic(auto, using(crate::specs::RowCells::length_rows))]
+#[tactic(auto, using(crate::specs::RowCells::length_grid))]
 pub(crate) fn first_unknown<P: RowPlanes>(grid: &P, to: usize) -> Option<usize>
     requires { to ≤ length (cells_of_grid (P.planes_of grid.now)) }
     ensures { result ≡ first_unknown (cells_of_grid (P.planes_of grid.now)) to }
@@ -104,7 +104,6 @@ pub(crate) fn fill_row<P: RowPlanes>(
     fill_planes(grid, start + from, start + to, bytes, known);
 }
 
-/// Makes the cells from `from` up to and without `to` this one, row by row.
 #[inline(never)]
 fn fill_rows<P: RowPlanes>(grid: &mut P, from: usize, to: usize, cell: &HalfCell)
     requires ordered { from < to }
@@ -136,7 +135,6 @@ pub(crate) fn clear<P: RowPlanes>(grid: &mut P, cell: HalfCell)
     begin_next(grid, cell);
 }
 
-/// Begins the round after this one, in which each cell is the blank.
 #[inline(always)]
 fn begin_next<P: RowPlanes>(grid: &mut P, blank: HalfCell)
     requires { (P.planes_of grid.old).round + 1 < 2 ^ 32 }
@@ -150,7 +148,7 @@ fn begin_next<P: RowPlanes>(grid: &mut P, blank: HalfCell)
 }
 
 #[inline(always)]
-#[tactic(auto, using(crate::specs::RowCells::length_rows))]
+#[tactic(auto, using(crate::specs::RowCells::length_grid))]
 pub(crate) fn write_run<P: RowPlanes>(
     grid: &mut P,
     row: usize,

@@ -1,4 +1,4 @@
-//! A part of each cell copied from the rows of a grid of planes.
+//! A byte of each cell copied from the rows of a grid of planes.
 
 ghost use Rattle.std.specs.Prelude.{◌≡◌, ◌+◌, ◌<◌, length, map};
 ghost use Rattle.ans_screen.specs.GridEdits.{row_cells};
@@ -7,37 +7,35 @@ ghost use Rattle.ans_screen.specs.RowCells.{cells_of_grid, IsHeldRow, IsCopied};
 
 use super::rows::{held_row, row_start};
 use super::{Row, RowPlanes};
-use crate::cell::Part;
+use crate::cell::CellByte;
 use crate::planes::copy_known;
 
-/// Copies a part of each cell that a row holds.
-fn copy_held<P: RowPlanes>(grid: &P, row: usize, held: Row, part: Part, copied: &mut [u8])
+fn copy_held<P: RowPlanes>(grid: &P, row: usize, held: Row, which: CellByte, copied: &mut [u8])
     requires row { row < (P.planes_of grid.now).rows }
     requires held { IsHeldRow (P.planes_of grid.now) row held }
     requires all { held.first + length copied.old ≡ held.end }
-    ensures { IsCopied (byte_of part) (P.planes_of grid.now) held.first (length copied.old) copied.new }
+    ensures { IsCopied (byte_of which) (P.planes_of grid.now) held.first (length copied.old) copied.new }
 {
-    let shown = grid.shown_part(part, held.first, held.end);
+    let shown = grid.shown_bytes(which, held.first, held.end);
     if held.known {
         copied.copy_from_slice(shown);
     } else {
-        match grid.known_part(part, held.first, held.end) {
-            Some(known) => copy_known(part, shown, known, copied),
+        match grid.known_bytes(which, held.first, held.end) {
+            Some(known) => copy_known(which, shown, known, copied),
             None => copied.fill(0),
         }
     }
 }
 
-/// Copies a part of each cell of a row.
-pub(crate) fn copy_part<P: RowPlanes>(grid: &P, row: usize, part: Part, copied: &mut [u8])
+pub(crate) fn copy_bytes<P: RowPlanes>(grid: &P, row: usize, which: CellByte, copied: &mut [u8])
     requires row { row < (P.planes_of grid.now).rows }
     requires width { length copied.old ≡ (P.planes_of grid.now).width }
-    ensures { copied.new ≡ map (byte_of part)
+    ensures { copied.new ≡ map (byte_of which)
         (row_cells (P.planes_of grid.now).width row (cells_of_grid (P.planes_of grid.now))) }
 {
     let start = row_start(grid, row);
     let held = held_row(grid, row, start);
-    copied.fill(grid.frame().blank.byte(part));
+    copied.fill(grid.frame().blank.byte(which));
     let place = held.first - start..held.end - start;
-    copy_held(grid, row, held, part, &mut copied[place]);
+    copy_held(grid, row, held, which, &mut copied[place]);
 }

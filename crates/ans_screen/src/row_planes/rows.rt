@@ -7,7 +7,7 @@ ghost use Rattle.ans_screen.specs.RowCells.{AreFilled, cell_in_grid, states_of, 
 ghost use Rattle.ans_screen.specs.RowCells.{SameRows, IsFirstUnknown, HasBlanks, IsMarked, ShowsSame};
 
 use super::{Row, RowPlanes};
-use crate::cell::Part;
+use crate::cell::CellByte;
 use crate::planes::{CellBytes, bytes_of, first_gap};
 
 /// How many cells of a row are held at the least behind those that are written, since what is
@@ -70,7 +70,6 @@ fn mark_known<P: RowPlanes>(grid: &mut P, held: Row, known: bool)
     }
 }
 
-/// Writes a cell's bytes to the cells from `from` up to and without `to`, in the planes that count.
 #[inline(always)]
 pub(crate) fn fill_planes<P: RowPlanes>(
     grid: &mut P,
@@ -91,8 +90,6 @@ pub(crate) fn fill_planes<P: RowPlanes>(
     }
 }
 
-/// Writes the blank to the cells from `from` up to and without `to`, if there are any, in the
-/// planes that count.
 fn write_blank<P: RowPlanes>(grid: &mut P, from: usize, to: usize, known: bool)
     requires within { to ≤ (P.planes_of grid.old).width * (P.planes_of grid.old).rows }
     requires known { known ≡ true → IsTrue (is_known (P.planes_of grid.old).blank) }
@@ -201,7 +198,6 @@ fn holds<P: RowPlanes>(grid: &P, held: Row, from: usize, to: usize) -> bool
     held.round == grid.round() && held.first <= from && to <= held.end
 }
 
-/// The first cell of a row before `to` that is not known.
 pub(crate) fn first_unknown_of_row<P: RowPlanes>(grid: &P, row: usize, to: usize) -> Option<usize>
     requires row { row < (P.planes_of grid.now).rows }
     requires from { row * (P.planes_of grid.now).width ≤ to }
@@ -224,7 +220,6 @@ pub(crate) fn first_unknown_of_row<P: RowPlanes>(grid: &P, row: usize, to: usize
     None
 }
 
-/// The least `i` such that cell `from + i` stands below `to` and is not known by the planes.
 fn first_gap_from<P: RowPlanes>(grid: &P, from: usize, to: usize) -> Option<usize>
     requires ordered { from ≤ to }
     requires within { to ≤ (P.planes_of grid.now).width * (P.planes_of grid.now).rows }
@@ -232,8 +227,8 @@ fn first_gap_from<P: RowPlanes>(grid: &P, from: usize, to: usize) -> Option<usiz
         (slice_range (P.planes_of grid.now).bits_known from to) (to - from) result }
 {
     match (
-        grid.known_part(Part::Glyph, from, to),
-        grid.known_part(Part::Attribute, from, to),
+        grid.known_bytes(CellByte::Glyph, from, to),
+        grid.known_bytes(CellByte::Attribute, from, to),
     ) {
         (Some(glyphs_known), Some(bits_known)) => first_gap(glyphs_known, bits_known, to - from),
         _ if from < to => Some(0),
@@ -241,7 +236,6 @@ fn first_gap_from<P: RowPlanes>(grid: &P, from: usize, to: usize) -> Option<usiz
     }
 }
 
-/// The first cell that is not known of those from `from` up to and without `to`, which are held.
 fn first_unknown_held<P: RowPlanes>(grid: &P, from: usize, to: usize, known: bool) -> Option<usize>
     requires ordered { from ≤ to }
     requires within { to ≤ (P.planes_of grid.now).width * (P.planes_of grid.now).rows }

@@ -1,6 +1,6 @@
 use Rattle.std.proofs.Common.{arith, ap, ℕ, ◌*◌}
 use Rattle.ans_screen.specs.HalfCells.{glyph_byte}
-use Rattle.ans_screen.proofs.Copies.{in_row, copied_in_row, copied_whole}
+use Rattle.ans_screen.proofs.Copies.{in_row, copied_more, row_copied}
 use Rattle.ans_screen.proofs.grid.Grid.copy_glyphs.Goals as goal
 
 pub get-requires : goal.get-requires
@@ -9,12 +9,11 @@ get-requires g c =
 
 pub loop-i-preserved : goal.loop-i-preserved
 loop-i-preserved g c =
-    copied_in_row glyph_byte (g.Self.Grid.cells_of c.args.self.now) _ _ _ _ c.loop-i.i c.loop-i.glyphs
-    c.args.glyphs.now c.get.result _ c.width.ensures (g.met.Self.Grid.whole c.args.self.now) c.requires.row
-    c.requires.width (omega arith) c.loop-i.invariant c.get.ensures c.glyph_byte.ensures
+    copied_more glyph_byte (g.Self.Grid.cells_of c.args.self.now) _ c.loop-i.i c.loop-i.glyphs c.get.result _
+    c.loop-i.invariant (omega arith) c.get.ensures c.glyph_byte.ensures
 
 pub returns : goal.returns
 returns g c =
-    copied_whole glyph_byte (g.Self.Grid.cells_of c.args.self.now) (c.args.row * c.width.result) _ _ c.loop-i.i
-    c.args.glyphs.now c.loop-i.glyphs c.loop-i.invariant (omega arith) c.requires.width
-    (ap (λ (n : ℕ). c.args.row * n) c.width.ensures)
+    row_copied glyph_byte (g.Self.Grid.cells_of c.args.self.now) _ _ c.args.row _ c.loop-i.glyphs
+    (g.met.Self.Grid.whole c.args.self.now) c.requires.row (ap (λ (n : ℕ). c.args.row * n) c.width.ensures)
+    (omega arith) (λ k lt. c.loop-i.invariant k (omega arith))

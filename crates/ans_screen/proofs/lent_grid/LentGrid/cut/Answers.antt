@@ -1,19 +1,18 @@
-use Rattle.std.proofs.Common.{rules, ◌≡◌, ◌<◌, replicate, map, arith}
-use Rattle.std.proofs.lemmas.List.{length-replicate}
+use Rattle.std.proofs.Common.{rules, ◌≡◌, ◌<◌, ◌/◌, All, replicate, map, arith, refl}
 use Rattle.std.proofs.lemmas.List.Elements.{All-map, All-replicate}
-use Rattle.ans_screen.specs.LentRows.{row_of, rows_whole, never_lent}
+use Rattle.ans_screen.specs.LentRows.{row_of, never_lent}
 use Rattle.ans_screen.specs.declared.lent_row.LentRow.{LentRow}
 use Rattle.ans_screen.specs.declared.row_planes.Row.{Row}
-use Rattle.ans_screen.proofs.RowEdits.{all_blank}
+use Rattle.ans_screen.proofs.Places.{one_from_index}
+use Rattle.ans_screen.proofs.RowEdits.{all_stale}
 use Rattle.ans_screen.proofs.lent_grid.LentGrid.cut.Goals as goal
 
 pub returns-clause-cells : goal.returns-clause-cells
 returns-clause-cells c =
-    let filled : c.fill.new.self ≡ replicate c.args.frame.rows never_lent = search rules in
-    let older = All-replicate (λ (row : LentRow). row.round < 1) c.args.frame.rows never_lent (omega arith) in
-    all_blank c.args.frame.width c.args.frame.rows 1 (map row_of c.fill.new.self) c.args.frame.blank
-    c.split_at_mut-glyphs.result.0.now
-    c.split_at_mut-glyphs_known.result.0.now c.split_at_mut-bits_known.result.0.now c.split_at_mut-values.result.0.now
-    c.requires.some_width
-    (rows_whole c.fill.new.self c.args.frame.rows (rw filled (length-replicate c.args.frame.rows never_lent)))
-    (All-map (λ (row : Row). row.round < 1) row_of c.fill.new.self (rw filled older))
+    let held = c.fill.new.self in
+    let filled : held ≡ replicate c.args.frame.rows never_lent = search rules in
+    let older : All (λ (row : LentRow). row.round < 1) held =
+    rw filled (All-replicate (λ (row : LentRow). row.round < 1) c.args.frame.rows never_lent (omega arith)) in
+    one_from_index _ _ _ (λ i lt.
+    rw (all_stale 1 (map row_of held) (i / c.args.frame.width) i (omega arith)
+    (All-map (λ (row : Row). row.round < 1) row_of held older)) refl)

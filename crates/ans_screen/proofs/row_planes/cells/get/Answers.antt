@@ -1,8 +1,8 @@
-use Rattle.std.proofs.Common.{get_or, ◌*◌, ◌/◌, ◌<◌, ◌∙◌, arith, ap, refl, sym, inl, inr}
+use Rattle.std.proofs.Common.{◌*◌, ◌/◌, ◌<◌, ◌∙◌, arith, ap, refl, sym, inl, inr}
 use Rattle.ans_screen.specs.RowCells.{Stale, Known, Mixed, state_of, length_grid}
 use Rattle.ans_screen.proofs.Places.{places_of}
 use Rattle.ans_screen.proofs.RowReads.{read_cell}
-use Rattle.ans_screen.proofs.RowCells.{same_cell, cell_in_state}
+use Rattle.ans_screen.proofs.RowCells.{cell_in_state}
 use Rattle.ans_screen.proofs.row_planes.cells.get.Goals as goal
 
 pub returns-then-i-held : goal.returns-then-i-held
@@ -21,26 +21,23 @@ pub returns-then-held : goal.returns-then-held
 returns-then-held o c =
     let g = o.P.RowPlanes.planes_of c.args.grid.now in
     let i = c.args.i in
-    let x = c.shown-glyph.result in
     let within : i < g.width * g.rows = omega (arith, length_grid g) in
     let state = c.held_row-held.ensures.inside i (omega arith) (omega arith) ∙ ap state_of c.if-held.true in
     read_cell g within (c.cell_of_bytes.ensures ∙ (c.known.ensures
     ∙ sym (cell_in_state g Known i state
-    ∙ same_cell Known Known g.blank x.0 (get_or g.glyphs_known i 0) (get_or g.bits_known i 0) x.1 (get_or g.glyphs i 0)
-    (get_or g.glyphs_known i 0) (get_or g.bits_known i 0) (get_or g.values i 0) refl (sym c.shown-glyph.ensures.glyph)
-    refl refl (sym c.shown-glyph.ensures.value))))
+    ∙ rw (c.shown-glyph.ensures.glyph, c.shown-glyph.ensures.value) refl)))
 
 pub returns-else-held : goal.returns-else-held
 returns-else-held o c =
     let g = o.P.RowPlanes.planes_of c.args.grid.now in
     let i = c.args.i in
-    let x = c.shown-glyph.result in
-    let y = c.known-glyph_known.result in
     let within : i < g.width * g.rows = omega (arith, length_grid g) in
     let state = c.held_row-held.ensures.inside i (omega arith) (omega arith) ∙ ap state_of c.if-held.false in
     read_cell g within (c.cell_of_bytes-else-held.ensures
     ∙ sym (cell_in_state g Mixed i state
-    ∙ same_cell Mixed Mixed g.blank x.0 y.0 y.1 x.1 (get_or g.glyphs i 0) (get_or g.glyphs_known i 0)
-    (get_or g.bits_known i 0) (get_or g.values i 0) refl (sym c.shown-glyph.ensures.glyph)
-    (sym c.known-glyph_known.ensures.glyph) (sym c.known-glyph_known.ensures.value)
-    (sym c.shown-glyph.ensures.value)))
+    ∙ rw (
+      c.shown-glyph.ensures.glyph,
+      c.shown-glyph.ensures.value,
+      c.known-glyph_known.ensures.glyph,
+      c.known-glyph_known.ensures.value,
+    ) refl))

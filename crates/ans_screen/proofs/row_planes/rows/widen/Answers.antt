@@ -1,6 +1,6 @@
-use Rattle.std.proofs.Common.{arith, rules, ◌∙◌}
-use Rattle.ans_screen.proofs.Widened.{IsWidened, widened_cells, widened_frame, widened_inside, none_held, row_written}
-use Rattle.ans_screen.proofs.Widened.{states_written}
+use Rattle.std.proofs.Common.{arith, rules, refl}
+use Rattle.ans_screen.specs.RowCells.{held_row}
+use Rattle.ans_screen.proofs.Widened.{IsWidened, widened, widened_inside, none_held}
 use Rattle.ans_screen.proofs.row_planes.rows.widen.Goals as goal
 
 pub begin-requires-clause-empty : goal.begin-requires-clause-empty
@@ -11,11 +11,12 @@ begin-requires-clause-empty o c =
 
 pub returns : goal.returns
 returns o c =
-    let g = o.P.RowPlanes.planes_of c.args.grid.now in
-    let h : IsWidened g (o.P.RowPlanes.planes_of c.mark_known.new.grid) (o.P.RowPlanes.planes_of c.write_blank.new.grid)
-    (o.P.RowPlanes.planes_of c.write_blank-2.new.grid) c.args.row c.args.from c.stop_ahead-stop.result
-    c.held_row-held.result c.if-held-2.known = record {
-      row_there = omega (arith, g.whole_held);
+    let h : IsWidened (o.P.RowPlanes.planes_of c.args.grid.now) (o.P.RowPlanes.planes_of c.mark_known.new.grid)
+    (o.P.RowPlanes.planes_of c.write_blank.new.grid) (o.P.RowPlanes.planes_of c.write_blank-2.new.grid)
+    (o.P.RowPlanes.planes_of c.hold.new.self) c.args.row c.args.from c.stop_ahead-stop.result c.held_row-held.result
+    (held_row (o.P.RowPlanes.planes_of c.write_blank-2.new.grid).round c.if-held-2.known c.min.result
+    c.max.result) = record {
+      row_there = omega (arith, (o.P.RowPlanes.planes_of c.args.grid.now).whole_held);
       holds = c.held_row-held.ensures;
       start = c.requires.start;
       stop = c.stop_ahead-stop.ensures.within;
@@ -25,18 +26,13 @@ returns o c =
       marked = c.mark_known.ensures.same;
       fronted = c.write_blank.ensures.same;
       backed = c.write_blank-2.ensures.same;
+      has = c.hold.ensures;
+      round = refl;
+      first = c.min.ensures;
+      end = c.max.ensures;
     } in
-    let same = widened_frame h in
-    let has = c.hold.ensures in
     record {
-      same = record {
-        cells = row_written _ _ _ _ _ same has ∙ rw (same.round, c.min.ensures, c.max.ensures) (widened_cells h);
-        width = has.width ∙ same.width;
-        rows = has.rows ∙ same.rows;
-      };
-      held = λ i le lt.
-          states_written _ _ _ _ _ i same has
-          ∙ rw (same.round, c.min.ensures, c.max.ensures)
-          (widened_inside h i (omega arith) (omega (arith, c.stop_ahead-stop.ensures.from)));
+      same = widened h;
+      held = λ i le lt. widened_inside h i le (omega (arith, c.stop_ahead-stop.ensures.from));
       known = search rules;
     }

@@ -2,13 +2,13 @@ use Rattle.std.proofs.Common.{arith, ◌∙◌, sym, subst, IsTrue}
 use Rattle.ans_screen.specs.HalfCells.{is_known}
 use Rattle.ans_screen.specs.declared.cell.HalfCell.{HalfCell}
 use Rattle.ans_screen.proofs.RowEdits.{blanks_shown}
-use Rattle.ans_screen.proofs.RowWrites.{known_bytes}
+use Rattle.ans_screen.proofs.RowWrites.{both_known}
 use Rattle.ans_screen.proofs.row_planes.rows.write_blank.Goals as goal
 
 pub fill_planes-requires-clause-known : goal.fill_planes-requires-clause-known
 fill_planes-requires-clause-known o c = λ known.
     let x = c.bytes_of-blank.result in
-    known_bytes x.glyph x.glyph_known x.bits_known x.value
+    both_known x.glyph x.glyph_known x.bits_known x.value
     (subst (λ (y : HalfCell). IsTrue (is_known y)) (sym (c.bytes_of-blank.ensures ∙ c.frame.ensures.blank))
     (c.requires.known known))
 
