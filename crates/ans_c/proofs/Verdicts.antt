@@ -12,7 +12,8 @@ use Rattle.ans_sauce.specs.Parts.{content_of}
 use Rattle.ans_sauce.specs.Split.{IsSplit}
 use Rattle.ans_report.specs.declared.needs_text.Needs.TheVariants as needs
 use Rattle.ans_check.specs.FileNeeds.{IsNeedsOf}
-use Rattle.ans_check.specs.FileVerdict.{Deserves, parts_size, stated_size}
+use Rattle.ans_explain.specs.Explained.{size_of}
+use Rattle.ans_check.specs.FileVerdict.{Deserves, stated_size}
 use Rattle.ans_check.specs.LentScreen.{HasScreen, byte_count, row_count}
 use Rattle.ans_check.specs.declared.screens.LentScreens.{LentScreens}
 use Rattle.ans_check.proofs.VerdictLemmas.{passes, refuses, refused_not_good, record_not_good}
@@ -30,7 +31,7 @@ record_told file start fault told found tells = record {
 }
 
 pub refusal_told : (file : List ℕ) (start : Start) (parts : Parts) (fault : Fault) (told : ToldFault)
-    → IsSplit file parts → Deserves (parts_size parts) start (content_of parts) fault → TellsFault told fault
+    → IsSplit file parts → Deserves (size_of parts) start (content_of parts) fault → TellsFault told fault
     → TellsRefusal file start told
 refusal_told file start parts fault told split found tells =
     let r = refuses file start parts split fault found in
@@ -42,7 +43,7 @@ refusal_told file start parts fault told split found tells =
     }
 
 pub pass_told : (file : List ℕ) (start : Start) (parts : Parts) (p : Picture) (glyphs attributes : List ℕ)
-    → IsSplit file parts → GoodWith (parts_size parts) start (content_of parts) p → HoldsPicture p glyphs attributes
+    → IsSplit file parts → GoodWith (size_of parts) start (content_of parts) p → HoldsPicture p glyphs attributes
     → TellsPass file start glyphs attributes
 pass_told file start parts p glyphs attributes split good holds =
     let r = passes file start parts split p good in
@@ -60,12 +61,12 @@ needs_refused file (Some parts) fault told (apart, shows, refused) tells = recor
 }
 
 -- what is so of the parts' size is so of the file's
-size_of_file : (P : Size → Type 0) (file : List ℕ) (parts : Parts) (s : IsSplit file parts) → P (parts_size parts)
+size_of_file : (P : Size → Type 0) (file : List ℕ) (parts : Parts) (s : IsSplit file parts) → P (size_of parts)
     → P (stated_size s.apart)
 size_of_file P file parts s h = subst P (ap₂ sized s.shows.width s.shows.lines) h
 
 pub screen_lacking : (file : List ℕ) (parts : Parts) (rows bytes : ℕ) → IsSplit file parts
-    → ¬ HasScreen (parts_size parts) rows bytes → LacksScreen file rows bytes
+    → ¬ HasScreen (size_of parts) rows bytes → LacksScreen file rows bytes
 screen_lacking file parts rows bytes s lacks = record {
   apart = s.apart;
   accepts = s.accepts;
@@ -73,7 +74,7 @@ screen_lacking file parts rows bytes s lacks = record {
 }
 
 pub cells_lacking : (file : List ℕ) (parts : Parts) (glyphs attributes : ℕ) → IsSplit file parts
-    → min glyphs attributes < (parts_size parts).width * (parts_size parts).lines
+    → min glyphs attributes < (size_of parts).width * (size_of parts).lines
     → LacksCells file glyphs attributes
 cells_lacking file parts glyphs attributes s lacks = record {
   apart = s.apart;

@@ -4,7 +4,8 @@ ghost use Rattle.std.specs.Prelude.{◌≡◌, ◌≢◌, ◌↔◌, ◌⊎◌, 
 ghost use Rattle.ans_model.specs.Bytes.{longest_file};
 ghost use Rattle.ans_model.specs.Screen.StartClass.{all_known};
 ghost use Rattle.ans_sauce.specs.Parts.{content_of, width_of, lines_of};
-ghost use Rattle.ans_check.specs.FileVerdict.{Deserves, parts_size};
+ghost use Rattle.ans_explain.specs.Explained.{size_of};
+ghost use Rattle.ans_check.specs.FileVerdict.{Deserves};
 ghost use Rattle.ans_c.specs.Numbers.{TellsFault, class_of};
 ghost use Rattle.ans_c.specs.Told.{LacksCells, LacksScreen, TellsNeeds, TellsPass, TellsPlay, TellsRecordFault};
 ghost use Rattle.ans_c.specs.Told.{TellsRefusal, TellsSize};
@@ -60,7 +61,7 @@ fn tell_play<G: Screen>(
     requires rows { G.rows_of screen ≡ lines_of parts.now + 1 }
     requires glyphs { lines_of parts.now * width_of parts.now ≤ length glyphs.old }
     requires attributes { lines_of parts.now * width_of parts.now ≤ length attributes.old }
-    ensures { TellsPlay (parts_size parts.now) start (content_of parts.now) result glyphs.new attributes.new fault.new }
+    ensures { TellsPlay (size_of parts.now) start (content_of parts.now) result glyphs.new attributes.new fault.new }
 {
     match play_on(screen, parts, start) {
         Ok(picture) => {

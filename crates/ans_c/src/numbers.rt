@@ -3,7 +3,7 @@
 ghost use Rattle.std.specs.Prelude.{◌≡◌, ◌≢◌, if◌then◌else◌, IfSome, IsNone};
 ghost use Rattle.ans_model.specs.declared.fault.Cause.{Cause};
 ghost use Rattle.ans_model.specs.declared.note.Note.{Note};
-ghost use Rattle.ans_check.specs.FileVerdict.{parts_size};
+ghost use Rattle.ans_explain.specs.Explained.{size_of};
 ghost use Rattle.ans_model.specs.Text.FaultText.{cause_number, note_number};
 ghost use Rattle.ans_c.specs.Numbers.{class_of, IsSizeOf, TellsFault};
 
@@ -183,7 +183,7 @@ pub(crate) fn told(fault: &Fault) -> ToldFault
 
 /// The size that a file's record states, and what a check wants.
 pub(crate) fn size_of(parts: &Parts<'_>) -> PictureSize
-    ensures { IsSizeOf (parts_size parts.now) result }
+    ensures { IsSizeOf (size_of parts.now) result }
 {
     let columns = parts.width();
     let lines = parts.lines();

@@ -8,7 +8,7 @@ use Rattle.ans_write.specs.declared.tried.Tried.{Tried}
 use Rattle.clap.specs.Words.{Text}
 use Rattle.ans_options.specs.declared.command.TableForm.{TableForm}
 use Rattle.ans_table.specs.declared.finding.Finding.{Finding}
-use Rattle.ans_check.specs.Answer.{EndsBy, EndsListed, EndsNamed, Says, Tells}
+use Rattle.ans_check.specs.Answer.{EndsBy, EndsNamed, Says, Tells}
 use Rattle.ans_check.specs.Ending.{ending_message}
 use Rattle.ans_check.specs.declared.exit_status.Ending.{Ending}
 use Rattle.ans_check.specs.declared.exit_status.Ending.TheVariants.{Run, Help, Usage, UnreadableWords, UnopenedFile}
@@ -61,7 +61,7 @@ ends_by_names remaining contents is_standard found form (name ∷ more) output a
 pub ends_by_input : {R W : Type 0} (remaining : R → Option (List ℕ)) (contents : W → Option (List ℕ))
     (is_standard : R → Type 0) (found : Text → Finding → Type 0) (form : TableForm) (names : List Text)
     (output after : Tried W) (ending : Ending) → length names ≤ 0
-    → EndsListed remaining contents is_standard found form output after ending
+    → EndsBy remaining contents is_standard found form [] output after ending
     → EndsBy remaining contents is_standard found form names output after ending
 ends_by_input remaining contents is_standard found form [] output after ending none h = h
 ends_by_input remaining contents is_standard found form (name ∷ more) output after ending none h = absurd (omega arith)

@@ -5,7 +5,8 @@ use Rattle.ans_model.specs.Screen.State.{Size, sized}
 use Rattle.ans_model.proofs.AcceptedFiles.{one_layout}
 use Rattle.ans_sauce.specs.declared.parts.Parts.{Parts}
 use Rattle.ans_sauce.specs.Split.{IsSplit}
-use Rattle.ans_check.specs.FileVerdict.{parts_size, stated_size}
+use Rattle.ans_explain.specs.Explained.{size_of}
+use Rattle.ans_check.specs.FileVerdict.{stated_size}
 use Rattle.ans_check.specs.LentScreen.{HasScreen, byte_count, row_count}
 use Rattle.ans_check.specs.ScreenRoom.{AnswersWithin, KeepsRoom, TakesRoom}
 use Rattle.ans_check.specs.declared.screens.LentScreens.{LentScreens}
@@ -77,10 +78,10 @@ within_err {r = r} file p is told = record {
 -- the room that plays of a file's parts take is that which the file's record states
 pub within_file : {S T E : Type 0} {has_room may_lack : S → Size → Type 0} {a b : S} {r : Result T E} (file : List ℕ)
     (parts : Parts)
-    → IsSplit file parts → TakesRoom has_room may_lack (parts_size parts) a b r
+    → IsSplit file parts → TakesRoom has_room may_lack (size_of parts) a b r
     → AnswersWithin has_room may_lack file a r
 within_file {has_room = has_room} {may_lack = may_lack} {a = a} file parts s t =
-    let size : parts_size parts ≡ stated_size s.apart = ap₂ sized s.shows.width s.shows.lines in
+    let size : size_of parts ≡ stated_size s.apart = ap₂ sized s.shows.width s.shows.lines in
     record {
       room = λ apart accepts h.
           let same : apart ≡ s.apart = one_layout file apart s.apart accepts.laid s.accepts.laid in

@@ -1,8 +1,7 @@
 -- Rows after rows, and the text before them.
 use Rattle.std.proofs.Common.{◌≡◌, ◌∙◌, ℕ, ◌+◌, ◌≤◌, List, [], ◌∷◌, ◌++◌, length, take, All}
 use Rattle.std.proofs.Common.{Option, Some, None, Result, Ok, Err, refl, sym, ap, subst, arith}
-use Rattle.std.proofs.Common.{append-nil}
-use Rattle.std.proofs.Common.{length-append, ◌<◌, drop, get_or}
+use Rattle.std.proofs.Common.{append-nil, length-append, ◌<◌, drop, get_or, map}
 use Rattle.std.specs.Borrow.{Bor}
 use Rattle.std.specs.Io.KnownBytes.{Appends}
 use Rattle.std.proofs.KnownBytes.{Appends-nil, Appends-trans}
@@ -32,9 +31,7 @@ use Rattle.ans_check.specs.Run.{HasRead}
 use Rattle.ans_write.specs.Tried.{call_count, has_failed, inner_of}
 use Rattle.ans_write.specs.Writes.{AppendsPrefix}
 use Rattle.ans_write.specs.declared.tried.Tried.{Tried}
-use Rattle.ans_check.specs.Table.{IsFound, MayBeFoundIn, WritesAfter, WritesRow, WritesRows, outcomes, row_in}
-use Rattle.ans_check.specs.Table.{row_names, rows_in}
-use Rattle.ans_check.specs.Table.{unread_of}
+use Rattle.ans_check.specs.Table.{IsFound, MayBeFoundIn, WritesRow, WritesTable, row_in, rows_in, unread_of}
 
 -- ---- files
 module _ {R : Type 0} (remaining : R → Option (List ℕ)) (is_file : Text → R → Type 0) (is_missing : Text → Type 0)
@@ -116,6 +113,12 @@ one_row name finding = record { name = name; finding = finding }
 one_text : (form : TableForm) (name : Text) (finding : Finding)
     → rows_in form (one_row name finding ∷ []) ≡ row_in form name finding
 one_text form name finding = append-nil (row_in form name finding)
+
+abbrev row_names : List Row → List Text
+row_names rows = map (λ row. row.name) rows
+
+abbrev outcomes : List Row → List Outcome
+outcomes rows = map (λ row. outcome_of row.finding) rows
 
 module _ {W : Type 0} (contents : W → Option (List ℕ)) (found : Text → Finding → Type 0) (form : TableForm)
     (names : List (Bor Text)) where
@@ -206,7 +209,7 @@ module _ {W : Type 0} (contents : W → Option (List ℕ)) (found : Text → Fin
     -- the device failed at one more
     pub cut_off : (after : Tried W) (fault : RunError)
         → WritesRow contents found form (get_or names i d).now between after (Err fault)
-        → WritesRows contents found form (texts_of names) output after (Err fault)
+        → WritesTable contents found form [] (texts_of names) output after (Err fault)
     cut_off after fault w = record {
       rows = next w.finding w.is_found;
       each = next_each w.finding w.is_found;
@@ -223,7 +226,7 @@ module _ {W : Type 0} (contents : W → Option (List ℕ)) (found : Text → Fin
 
   -- all were written
   pub all_told : (i : ℕ) (output after : Tried W) (counts : Counts) → TellsFirst i output after counts
-      → length names ≤ i → WritesRows contents found form (texts_of names) output after (Ok counts)
+      → length names ≤ i → WritesTable contents found form [] (texts_of names) output after (Ok counts)
   all_told i output after counts h all = record {
     rows = h.rows;
     each = h.each;
@@ -238,8 +241,8 @@ module _ {W : Type 0} (contents : W → Option (List ℕ)) (found : Text → Fin
     (text : List ℕ) (names : List Text) (output between after : Tried W) where
   pub rows_behind : (result : Result Counts RunError)
       → Appends (contents (inner_of output)) (contents (inner_of between)) text
-      → WritesRows contents found form names between after result
-      → WritesAfter contents found form text names output after result
+      → WritesTable contents found form [] names between after result
+      → WritesTable contents found form text names output after result
   rows_behind (Ok counts) h w = record {
     rows = w.rows;
     each = w.each;
@@ -260,7 +263,7 @@ module _ {W : Type 0} (contents : W → Option (List ℕ)) (found : Text → Fin
   -- the device failed at the text
   pub text_cut_off : (fault : RunError)
       → AppendsPrefix (contents (inner_of output)) (contents (inner_of after)) text
-      → WritesAfter contents found form text names output after (Err fault)
+      → WritesTable contents found form text names output after (Err fault)
   text_cut_off fault h = record {
     rows = [];
     each = All-nil (λ (row : Row). found row.name row.finding);

@@ -24,7 +24,8 @@ use Rattle.ans_sauce.specs.declared.parts.Parts.{Parts}
 use Rattle.ans_sauce.specs.Parts.{ShowsParts, content_of}
 use Rattle.ans_sauce.specs.Split.{IsSplit}
 use Rattle.ans_check.specs.FileNeeds.{NeedsClass}
-use Rattle.ans_check.specs.FileVerdict.{Deserves, Passes, IsRefusedFor, IsGoodFile, parts_size, stated_size}
+use Rattle.ans_explain.specs.Explained.{size_of}
+use Rattle.ans_check.specs.FileVerdict.{Deserves, Passes, IsRefusedFor, IsGoodFile, stated_size}
 
 -- what is so of a play is so of equal sizes, starts and contents
 pub so_of_same : (P : Size → Start → List ℕ → Type 0) (a b : Size) (from start : Start) (played content : List ℕ)
@@ -51,10 +52,10 @@ err_of_parts {T} {a} {b} {from} {start} {played} {content} (Err f) P size same t
 
 -- what is so of the parts' size and content is so of the file's
 so_of_file : (file : List ℕ) (parts : Parts) (s : IsSplit file parts) (P : Size → List ℕ → Type 0)
-    → P (parts_size parts) (content_of parts) → P (stated_size s.apart) (content s.apart.body)
+    → P (size_of parts) (content_of parts) → P (stated_size s.apart) (content s.apart.body)
 so_of_file file parts s P h =
     subst (λ (v : Size). P v (content s.apart.body)) (ap₂ sized s.shows.width s.shows.lines)
-    (subst (P (parts_size parts)) s.shows.content h)
+    (subst (P (size_of parts)) s.shows.content h)
 
 -- a content is no longer than its file
 pub content_no_longer : (file : List ℕ) (parts : Parts) → IsSplit file parts → length (content_of parts) ≤ length file
@@ -70,13 +71,13 @@ content_within file parts h within = omega (arith, within, content_no_longer fil
 
 -- ---- what is found of the parts' content is found of the file
 module _ (file : List ℕ) (start : Start) (parts : Parts) (s : IsSplit file parts) where
-  pub passes : (p : Picture) → GoodWith (parts_size parts) start (content_of parts) p
+  pub passes : (p : Picture) → GoodWith (size_of parts) start (content_of parts) p
       → (apart : FileParts) × ShowsParts apart parts × Passes file start apart p
   passes p h =
       let good = so_of_file file parts s (λ z bytes. GoodWith z start bytes p) h in
       (s.apart, s.shows, record { accepts = s.accepts; good = good })
 
-  pub refuses : (f : Fault) → Deserves (parts_size parts) start (content_of parts) f
+  pub refuses : (f : Fault) → Deserves (size_of parts) start (content_of parts) f
       → (apart : FileParts) × ShowsParts apart parts × IsRefusedFor file start apart f
   refuses f h = (
     s.apart,
@@ -84,7 +85,7 @@ module _ (file : List ℕ) (start : Start) (parts : Parts) (s : IsSplit file par
     record { accepts = s.accepts; deserved = so_of_file file parts s (λ z bytes. Deserves z start bytes f) h },
   )
 
-  pub needs_class : IsLeast (parts_size parts) (content_of parts) start
+  pub needs_class : IsLeast (size_of parts) (content_of parts) start
       → (apart : FileParts) × ShowsParts apart parts × NeedsClass file apart start
   needs_class h = (
     s.apart,

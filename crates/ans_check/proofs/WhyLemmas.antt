@@ -12,7 +12,8 @@ use Rattle.ans_sauce.specs.Split.{IsSplit}
 use Rattle.ans_report.specs.declared.needs_text.Needs.TheVariants as needs
 use Rattle.ans_why.specs.Evidence.{IsDeserved}
 use Rattle.ans_check.specs.FileNeeds.{IsNeedsOf}
-use Rattle.ans_check.specs.FileVerdict.{parts_size, stated_size}
+use Rattle.ans_explain.specs.Explained.{size_of}
+use Rattle.ans_check.specs.FileVerdict.{stated_size}
 
 -- what is so of a fault, where there is one, is so of it in other words
 pub some_told : {P Q : Fault → Type 0} (o : Option Fault) → ((f : Fault) → P f → Q f) → IfSome o P → IfSome o Q
@@ -21,7 +22,7 @@ some_told (Some f) told h = told f h
 
 -- ---- parts
 pub least_of_parts : (file : List ℕ) (parts : Parts) (class : Start) → IsNeedsOf file (needs.Least parts class)
-    → IsLeast (parts_size parts) (content_of parts) class
+    → IsLeast (size_of parts) (content_of parts) class
 least_of_parts file parts class (apart, shows, least) =
     subst (λ (v : Size). IsLeast v (content_of parts) class) (sym (ap₂ sized shows.width shows.lines))
     (subst (λ (v : List ℕ). IsLeast (stated_size apart) v class) (sym shows.content) least.least)
@@ -31,7 +32,7 @@ pub least_is_split : (file : List ℕ) (parts : Parts) (class : Start) → IsNee
 least_is_split file parts class (apart, shows, least) = record { apart = apart; accepts = least.accepts; shows = shows }
 
 pub deserved_of_parts : (file : List ℕ) (parts : Parts) (f : Fault) → IsNeedsOf file (needs.Refused (Some parts) f)
-    → IsDeserved (parts_size parts) all_known (content_of parts) f
+    → IsDeserved (size_of parts) all_known (content_of parts) f
 deserved_of_parts file parts f (apart, shows, refused) =
     subst (λ (v : Size). IsDeserved v all_known (content_of parts) f) (sym (ap₂ sized shows.width shows.lines))
     (subst (λ (v : List ℕ). IsDeserved (stated_size apart) all_known v f) (sym shows.content)

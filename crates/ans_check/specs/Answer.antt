@@ -19,14 +19,13 @@ use Rattle.ans_write.specs.declared.tried.Tried.{Tried}
 use Rattle.ans_check.specs.Ending.{ending_message, ending_of_words}
 use Rattle.ans_check.specs.Listing.{IsListing, bytes_of, is_whole, names_in}
 use Rattle.ans_check.specs.Served.{Serves}
-use Rattle.ans_check.specs.Table.{IsFound, WritesTable}
+use Rattle.ans_check.specs.Table.{IsFound, WritesTable, header}
 use Rattle.ans_check.specs.declared.listing.Listing.{Listing}
 use Rattle.ans_check.specs.declared.errors.RunError.{RunError}
 use Rattle.ans_check.specs.declared.errors.RunError.TheVariants as error
 use Rattle.ans_check.specs.declared.exit_status.Ending.{Ending}
 use Rattle.ans_check.specs.declared.exit_status.Ending.TheVariants.{Run, Help, Usage, UnreadableWords, UnopenedFile}
-use Rattle.ans_check.specs.declared.exit_status.Ending.TheVariants.{Table}
-use Rattle.ans_check.specs.declared.exit_status.Ending.TheVariants.{NamedInput, UnreadNames}
+use Rattle.ans_check.specs.declared.exit_status.Ending.TheVariants.{Table, NamedInput, UnreadNames}
 
 -- `-` names standard input
 abbrev pub names_standard : Text → Bool
@@ -77,7 +76,7 @@ ending_of_table whole (Err fault) = Run (Err fault)
 abbrev pub EndsWritten : {W : Type 0} → (W → Option (List ℕ)) → (Text → Finding → Type 0) → TableForm → Bool
     → List Text → Tried W → Tried W → Ending → Type 0
 EndsWritten contents found form whole names output output_after ending =
-    ((result : Result Counts RunError) × WritesTable contents found form names output output_after result
+    ((result : Result Counts RunError) × WritesTable contents found form (header form) names output output_after result
     × (ending ≡ ending_of_table whole result))
     ⊎ ((ending ≡ Run (Err error.Memory)) × (output_after ≡ output))
 
@@ -100,18 +99,13 @@ pub record EndsAfterListing {R W : Type 0} (remaining : R → Option (List ℕ))
   pub ends : EndsWritten contents found form (is_whole listing) (names_in (is_whole listing) (bytes_of listing))
       output output_after ending
 
--- The table of the files whose names stand on standard input; or there was no memory for their names.
-abbrev pub EndsListed : {R W : Type 0} → (R → Option (List ℕ)) → (W → Option (List ℕ)) → (R → Type 0)
-    → (Text → Finding → Type 0) → TableForm → Tried W → Tried W → Ending → Type 0
-EndsListed remaining contents is_standard found form output output_after ending =
-    EndsAfterListing remaining contents is_standard found form output output_after ending
-    ⊎ ((ending ≡ Run (Err error.Memory)) × (output_after ≡ output))
-
--- the table by the names that the words give: where they give none, by those on standard input
+-- The table by the names that the words give: where they give none, by those on standard input, unless there was no
+-- memory for these.
 abbrev pub EndsBy : {R W : Type 0} → (R → Option (List ℕ)) → (W → Option (List ℕ)) → (R → Type 0)
     → (Text → Finding → Type 0) → TableForm → List Text → Tried W → Tried W → Ending → Type 0
 EndsBy remaining contents is_standard found form [] output output_after ending =
-    EndsListed remaining contents is_standard found form output output_after ending
+    EndsAfterListing remaining contents is_standard found form output output_after ending
+    ⊎ ((ending ≡ Run (Err error.Memory)) × (output_after ≡ output))
 EndsBy remaining contents is_standard found form (name ∷ more) output output_after ending =
     EndsNamed contents found form (name ∷ more) output output_after ending
 

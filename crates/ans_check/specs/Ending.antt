@@ -8,8 +8,7 @@ use Rattle.ans_options.specs.declared.command_line.WordsError.TheVariants as wor
 use Rattle.ans_table.specs.Counting.{counts_status}
 use Rattle.ans_check.specs.declared.exit_status.Ending.{Ending}
 use Rattle.ans_check.specs.declared.exit_status.Ending.TheVariants.{Run, Help, Usage, UnreadableWords, UnopenedFile}
-use Rattle.ans_check.specs.declared.exit_status.Ending.TheVariants.{Table}
-use Rattle.ans_check.specs.declared.exit_status.Ending.TheVariants.{NamedInput, UnreadNames}
+use Rattle.ans_check.specs.declared.exit_status.Ending.TheVariants.{Table, NamedInput, UnreadNames}
 use Rattle.ans_check.specs.Run.{run_error_text, status_of}
 
 -- the exit status of each ending

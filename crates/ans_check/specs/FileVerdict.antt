@@ -1,19 +1,17 @@
 -- What a verdict says of a file.
-use Rattle.std.specs.Prelude.{◌≡◌, ◌⊎◌, ℕ, ◌≤◌, List, length, Option, Some, None}
+use Rattle.std.specs.Prelude.{◌≡◌, ℕ, ◌≤◌, List, length, Option, Some, None}
 use Rattle.ans_model.specs.File.Record.{stated_width, stated_lines}
 use Rattle.ans_model.specs.File.Layout.{FileParts, content}
 use Rattle.ans_model.specs.File.Refusals.{Accepts, record_fault}
 use Rattle.ans_model.specs.Screen.State.{Size, sized}
 use Rattle.ans_model.specs.Screen.StartClass.{all_known}
 use Rattle.ans_model.specs.Verdict.Good.{Picture, GoodWith}
-use Rattle.ans_model.specs.Verdict.FirstFault.{IsFirstFault}
-use Rattle.ans_model.specs.Verdict.LastFault.{IsLastFault}
 use Rattle.ans_model.specs.Verdict.Certain.{IsCertain}
 use Rattle.ans_model.specs.Verdict.TwoStarts.{IsShownByTwoStarts}
 use Rattle.ans_model.specs.declared.fault.Fault.{Fault}
 use Rattle.ans_model.specs.declared.start.Start.{Start}
-use Rattle.ans_sauce.specs.Parts.{ShowsParts, width_of, lines_of}
-use Rattle.ans_sauce.specs.declared.parts.Parts.{Parts}
+use Rattle.ans_sauce.specs.Parts.{ShowsParts}
+use Rattle.ans_why.specs.Evidence.{IsDeserved}
 use Rattle.ans_check.specs.declared.verdict.Verdict.{Verdict}
 use Rattle.ans_check.specs.declared.verdict.Verdict.TheVariants.{Pass, Refused}
 
@@ -21,14 +19,10 @@ use Rattle.ans_check.specs.declared.verdict.Verdict.TheVariants.{Pass, Refused}
 abbrev pub stated_size : FileParts → Size
 stated_size apart = sized (stated_width apart.record_bytes) (stated_lines apart.record_bytes)
 
--- the same by a program's parts
-abbrev pub parts_size : Parts → Size
-parts_size parts = sized (width_of parts) (lines_of parts)
-
 -- The fault is the content's first; where no token has one, it is the last. From the cleared start it is certain. Where
 -- it depends on the start, the plays from the low and the high start of the class show it.
 pub record Deserves (z : Size) (start : Start) (bytes : List ℕ) (fault : Fault) : Type 0 where
-  pub deserved : IsFirstFault z start bytes fault ⊎ IsLastFault z start bytes fault
+  pub deserved : IsDeserved z start bytes fault
   pub certain : start ≡ all_known → IsCertain fault.cause
   pub shown : IsShownByTwoStarts z start bytes fault
   pub offset : fault.offset ≤ length bytes

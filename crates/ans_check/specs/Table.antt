@@ -1,14 +1,13 @@
 -- The table of many files.
-use Rattle.std.specs.Prelude.{◌≡◌, ℕ, ◌+◌, ◌<◌, List, [], ◌++◌, length, map, All, Option, Result, IfOk, IfSome}
-use Rattle.std.specs.Prelude.{⊤, ◌⊎◌}
+use Rattle.std.specs.Prelude.{◌≡◌, ℕ, ◌+◌, ◌<◌, List, [], ◌++◌, length, map, All, Option, Result, IfOk, IfSome, ⊤, ◌⊎◌}
+use Rattle.std.specs.Prelude.{IsTrue}
 use Rattle.std.specs.List.{flat_map}
 use Rattle.ans_model.specs.Text.FaultText.{line_of}
-use Rattle.std.specs.Prelude.{IsTrue}
 use Rattle.std.specs.Str.{IsUtf8}
 use Rattle.clap.specs.Words.{Text}
 use Rattle.ans_model.specs.Bytes.{longest_file}
 use Rattle.ans_options.specs.declared.command.TableForm.{TableForm}
-use Rattle.ans_options.specs.declared.command.TableForm.TheVariants.{Headed, Bare, Json}
+use Rattle.ans_options.specs.declared.command.TableForm.TheVariants.{Headed, Json}
 use Rattle.ans_table.specs.declared.counts.Counts.{Counts}
 use Rattle.ans_table.specs.declared.counts.Outcome.{Outcome}
 use Rattle.ans_table.specs.declared.finding.Finding.{Finding}
@@ -70,9 +69,8 @@ IsFound remaining is_file is_missing name finding = IsRead remaining (is_file na
 
 -- a row in a form: columns, or a JSON object
 abbrev pub row_in : TableForm → Text → Finding → List ℕ
-row_in Headed name finding = row_line name finding
-row_in Bare name finding = row_line name finding
 row_in Json name finding = line_of (json_text name finding)
+row_in _ name finding = row_line name finding
 
 -- the rows in a form, in their order
 abbrev pub rows_in : TableForm → List Row → List ℕ
@@ -86,39 +84,20 @@ pub record WritesRow {W : Type 0} (contents : W → Option (List ℕ)) (found : 
   pub row : WritesText (contents (inner_of output)) (contents (inner_of output_after)) result (row_in form name finding)
   pub outcome : IfOk result (λ o. o ≡ outcome_of finding)
 
--- how the files of rows came out
-abbrev pub outcomes : List Row → List Outcome
-outcomes rows = map (λ row. outcome_of row.finding) rows
+-- the line of the columns' names, where the form asks for it
+abbrev pub header : TableForm → List ℕ
+header Headed = header_line
+header _ = []
 
--- the names of the files of rows
-abbrev pub row_names : List Row → List Text
-row_names rows = map (λ row. row.name) rows
-
--- The text was written before the rows of files: at `Ok` of all that are named, and else of the first, with a prefix of
+-- The head was written before the rows of files: at `Ok` of all that are named, and else of the first, with a prefix of
 -- the whole. Each row tells what is found of its file.
-pub record WritesAfter {W : Type 0} (contents : W → Option (List ℕ)) (found : Text → Finding → Type 0)
-    (form : TableForm) (text : List ℕ) (names : List Text) (output output_after : Tried W)
+pub record WritesTable {W : Type 0} (contents : W → Option (List ℕ)) (found : Text → Finding → Type 0)
+    (form : TableForm) (head : List ℕ) (names : List Text) (output output_after : Tried W)
     (result : Result Counts RunError) : Type 0 where
   pub rows : List Row
   pub each : All (λ row. found row.name row.finding) rows
   pub written : WritesText (contents (inner_of output)) (contents (inner_of output_after)) result
-      (text ++ rows_in form rows)
+      (head ++ rows_in form rows)
   pub later : List Text
-  pub named : names ≡ row_names rows ++ later
-  pub all : IfOk result (λ counts. (later ≡ []) × (counts ≡ counts_of (outcomes rows)))
-
-abbrev pub WritesRows : {W : Type 0} → (W → Option (List ℕ)) → (Text → Finding → Type 0) → TableForm → List Text
-    → Tried W → Tried W → Result Counts RunError → Type 0
-WritesRows contents found form names output output_after result =
-    WritesAfter contents found form [] names output output_after result
-
--- the line of the columns' names, where the form asks for it
-abbrev pub header : TableForm → List ℕ
-header Headed = header_line
-header Bare = []
-header Json = []
-
-abbrev pub WritesTable : {W : Type 0} → (W → Option (List ℕ)) → (Text → Finding → Type 0) → TableForm → List Text
-    → Tried W → Tried W → Result Counts RunError → Type 0
-WritesTable contents found form names output output_after result =
-    WritesAfter contents found form (header form) names output output_after result
+  pub named : names ≡ map (λ row. row.name) rows ++ later
+  pub all : IfOk result (λ counts. (later ≡ []) × (counts ≡ counts_of (map (λ row. outcome_of row.finding) rows)))

@@ -6,7 +6,7 @@ ghost use Rattle.std.specs.List.{list_any};
 ghost use Rattle.ans_options.specs.CommandLine.{AreOptionsOf, faults_of, texts_of};
 ghost use Rattle.ans_write.specs.Tried.{has_failed};
 ghost use Rattle.ans_check.specs.Answer.{EndsAfter, EndsSo, IsNamed, PrintsHelp, Says, Tells, names_standard};
-ghost use Rattle.ans_check.specs.Answer.{EndsListed, EndsNamed, EndsTable, EndsWritten, ending_of_table};
+ghost use Rattle.ans_check.specs.Answer.{EndsBy, EndsNamed, EndsTable, EndsWritten, ending_of_table};
 ghost use Rattle.ans_check.specs.Ending.{ending_of_words};
 ghost use Rattle.ans_check.specs.Listing.{bytes_of, is_whole, names_in};
 ghost use Rattle.ans_check.specs.Table.{IsFound};
@@ -187,8 +187,8 @@ fn serve_input<I: Inputs, W: Write>(
     output: &mut Tried<W>,
 ) -> Ending
     requires { has_failed output.old ≡ false }
-    ensures ends { EndsListed I.Reader.remaining W.contents (I.is_standard inputs)
-        (IsFound I.Reader.remaining (I.is_file inputs) (I.is_missing inputs)) form output.old output.new result }
+    ensures ends { EndsBy I.Reader.remaining W.contents (I.is_standard inputs)
+        (IsFound I.Reader.remaining (I.is_file inputs) (I.is_missing inputs)) form [] output.old output.new result }
     ensures write { result ≡ Ending.Run (Err RunError.Write) ↔ IsTrue (has_failed output.new) }
 {
     let mut reader = Tried::new(inputs.standard());

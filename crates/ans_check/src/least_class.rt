@@ -5,7 +5,8 @@ ghost use Rattle.ans_model.specs.Screen.StartClass.{all_known, none_known};
 ghost use Rattle.ans_model.specs.Verdict.Good.{IsGood};
 ghost use Rattle.ans_model.specs.Verdict.Needs.{IsFoundByParts};
 ghost use Rattle.ans_sauce.specs.Parts.{content_of};
-ghost use Rattle.ans_check.specs.FileVerdict.{Deserves, parts_size};
+ghost use Rattle.ans_explain.specs.Explained.{size_of};
+ghost use Rattle.ans_check.specs.FileVerdict.{Deserves};
 ghost use Rattle.ans_check.specs.FilePlayed.{IsLeastOf};
 ghost use Rattle.ans_check.specs.ScreenRoom.{TakesRoom};
 ghost use Rattle.ans_check.specs.StartParts.{EndsFrom, Passes, all_but, knows, with_part};
@@ -66,9 +67,9 @@ fn part_that_mends<S: Screens>(
 ) -> Result<Option<Mended>, AllocError>
     requires { length (content_of parts.now) ≤ longest_file }
     ensures unknown { IfOk result (λ found. IfSome found (λ m. knows class m.part ≡ false)) }
-    ensures room { TakesRoom S.has_room S.may_lack (parts_size parts.now) screens.old screens.new result }
+    ensures room { TakesRoom S.has_room S.may_lack (size_of parts.now) screens.old screens.new result }
     ensures end { IfOk result (λ found. IfSome found (λ m.
-        EndsFrom (parts_size parts.now) (content_of parts.now) (with_part m.part true class) m.fault)) }
+        EndsFrom (size_of parts.now) (content_of parts.now) (with_part m.part true class) m.fault)) }
 {
     for part in likely_parts(parts.content(), fault) {
         if !part.is_known_in(class) {
@@ -93,10 +94,10 @@ fn passing_class<S: Screens>(
     fault_from_any: Fault,
 ) -> Result<Passing, AllocError>
     requires length { length (content_of parts.now) ≤ longest_file }
-    requires good { IsGood (parts_size parts.now) all_known (content_of parts.now) }
-    requires fault { Deserves (parts_size parts.now) none_known (content_of parts.now) fault_from_any }
-    ensures room { TakesRoom S.has_room S.may_lack (parts_size parts.now) screens.old screens.new result }
-    ensures passes { IfOk result (Passes (parts_size parts.now) (content_of parts.now)) }
+    requires good { IsGood (size_of parts.now) all_known (content_of parts.now) }
+    requires fault { Deserves (size_of parts.now) none_known (content_of parts.now) fault_from_any }
+    ensures room { TakesRoom S.has_room S.may_lack (size_of parts.now) screens.old screens.new result }
+    ensures passes { IfOk result (Passes (size_of parts.now) (content_of parts.now)) }
 {
     let mut class = Start::ANY;
     let mut fault = fault_from_any;
@@ -132,10 +133,10 @@ fn needs_part<S: Screens>(
     part: Part,
 ) -> Result<bool, AllocError>
     requires length { length (content_of parts.now) ≤ longest_file }
-    requires passes { Passes (parts_size parts.now) (content_of parts.now) passing.now }
-    ensures room { TakesRoom S.has_room S.may_lack (parts_size parts.now) screens.old screens.new result }
+    requires passes { Passes (size_of parts.now) (content_of parts.now) passing.now }
+    ensures room { TakesRoom S.has_room S.may_lack (size_of parts.now) screens.old screens.new result }
     ensures needed { IfOk result (λ needed. (needed ≡ false)
-        ↔ IsGood (parts_size parts.now) (all_but part) (content_of parts.now)) }
+        ↔ IsGood (size_of parts.now) (all_but part) (content_of parts.now)) }
 {
     if !part.is_known_in(passing.class) {
         return Ok(false);
@@ -155,9 +156,9 @@ fn class_by_parts<S: Screens>(
     passing: &Passing,
 ) -> Result<Start, AllocError>
     requires length { length (content_of parts.now) ≤ longest_file }
-    requires passes { Passes (parts_size parts.now) (content_of parts.now) passing.now }
-    ensures room { TakesRoom S.has_room S.may_lack (parts_size parts.now) screens.old screens.new result }
-    ensures found { IfOk result (IsFoundByParts (parts_size parts.now) (content_of parts.now)) }
+    requires passes { Passes (size_of parts.now) (content_of parts.now) passing.now }
+    ensures room { TakesRoom S.has_room S.may_lack (size_of parts.now) screens.old screens.new result }
+    ensures found { IfOk result (IsFoundByParts (size_of parts.now) (content_of parts.now)) }
 {
     Ok(Start {
         screen: needs_part(screens, parts, passing, Part::Screen)?,
@@ -178,8 +179,8 @@ pub(crate) fn least_class<S: Screens>(
     parts: &Parts<'_>,
 ) -> Result<Least, AllocError>
     requires length { length (content_of parts.now) ≤ longest_file }
-    requires good { IsGood (parts_size parts.now) all_known (content_of parts.now) }
-    ensures room { TakesRoom S.has_room S.may_lack (parts_size parts.now) screens.old screens.new result }
+    requires good { IsGood (size_of parts.now) all_known (content_of parts.now) }
+    ensures room { TakesRoom S.has_room S.may_lack (size_of parts.now) screens.old screens.new result }
     ensures least { IfOk result (IsLeastOf parts.now) }
 {
     let Some(fault) = screens.fault_from(parts, Start::ANY)? else {

@@ -1,6 +1,6 @@
 //! The table of many files.
 
-ghost use Rattle.std.specs.Prelude.{◌≡◌, ◌≢◌, ◌↔◌, ◌≤◌, false, length, IsTrue, IsErrOf, IfErr, IfOk, OnOk, map};
+ghost use Rattle.std.specs.Prelude.{◌≡◌, ◌≢◌, ◌↔◌, ◌≤◌, false, length, IsTrue, IsErrOf, IfErr, IfOk, OnOk, map, []};
 ghost use Rattle.ans_model.specs.Bytes.{longest_file};
 ghost use Rattle.ans_options.specs.CommandLine.{texts_of};
 ghost use Rattle.ans_write.specs.Tried.{has_failed, inner_of};
@@ -8,7 +8,7 @@ ghost use Rattle.ans_write.specs.Writes.{WritesText};
 ghost use Rattle.ans_table.specs.Findings.{IsFindingOf, outcome_of};
 ghost use Rattle.ans_check.specs.FileNeeds.{IsNeedsOf};
 ghost use Rattle.ans_options.specs.declared.command.TableForm.{TableForm};
-ghost use Rattle.ans_check.specs.Table.{IsFound, MayBeFoundIn, WritesRow, WritesRows, WritesTable, header, row_in};
+ghost use Rattle.ans_check.specs.Table.{IsFound, MayBeFoundIn, WritesRow, WritesTable, header, row_in};
 ghost use Rattle.ans_check.specs.Table.{MayEndTable, unread_of};
 
 use crate::errors::RunError;
@@ -172,8 +172,8 @@ fn tell_files<I: Inputs, W: Write>(
     requires { has_failed output.old ≡ false }
     ensures device { IsErrOf result RunError.Write ↔ IsTrue (has_failed output.new) }
     ensures errors { IfErr result (MayEndTable form) }
-    ensures rows { WritesRows W.contents (IsFound I.Reader.remaining (I.is_file inputs) (I.is_missing inputs))
-        form (texts_of names.now) output.old output.new result }
+    ensures rows { WritesTable W.contents (IsFound I.Reader.remaining (I.is_file inputs) (I.is_missing inputs))
+        form [] (texts_of names.now) output.old output.new result }
 {
     let mut counts = Counts::NONE;
     let mut screens = KeptScreens::new(alloc);
@@ -221,7 +221,7 @@ pub fn table<I: Inputs, W: Write>(
     ensures device { IsErrOf result RunError.Write ↔ IsTrue (has_failed output.new) }
     ensures errors { IfErr result (MayEndTable form) }
     ensures table { WritesTable W.contents (IsFound I.Reader.remaining (I.is_file inputs) (I.is_missing inputs))
-        form (texts_of names.now) output.old output.new result }
+        form (header form) (texts_of names.now) output.old output.new result }
 {
     tell_header(form, output)?;
     tell_files(alloc, inputs, names, form, output)

@@ -5,7 +5,7 @@ ghost use Rattle.ans_model.specs.Bytes.{longest_file, most_columns};
 ghost use Rattle.ans_model.specs.Screen.State.{Size};
 ghost use Rattle.ans_sauce.specs.Parts.{content_of};
 ghost use Rattle.ans_screen.specs.GridEdits.{most_rows};
-ghost use Rattle.ans_check.specs.FileVerdict.{parts_size};
+ghost use Rattle.ans_explain.specs.Explained.{size_of};
 ghost use Rattle.ans_check.specs.LentScreen.{HasScreen, byte_count, row_count};
 ghost use Rattle.ans_check.specs.ScreenRoom.{TakesRoom};
 ghost use Rattle.ans_check.specs.StartParts.{EndsFrom};
@@ -29,8 +29,8 @@ pub trait Screens {
     /// it has any. `Err` says that there is no room for its screen.
     fn fault_from(&mut self, parts: &Parts<'_>, start: Start) -> Result<Option<Fault>, AllocError>
         requires { length (content_of parts.now) ≤ longest_file }
-        ensures fault { IfOk result (EndsFrom (parts_size parts.now) (content_of parts.now) start) }
-        ensures room { TakesRoom has_room may_lack (parts_size parts.now) self.old self.new result };
+        ensures fault { IfOk result (EndsFrom (size_of parts.now) (content_of parts.now) start) }
+        ensures room { TakesRoom has_room may_lack (size_of parts.now) self.old self.new result };
 }
 
 /// A new screen for each play.
@@ -94,8 +94,8 @@ fn fault_on_lent(
     start: Start,
 ) -> Result<Option<Fault>, AllocError>
     requires { length (content_of parts.now) ≤ longest_file }
-    ensures fault { IfOk result (EndsFrom (parts_size parts.now) (content_of parts.now) start) }
-    ensures room { IsOk result ↔ HasScreen (parts_size parts.now) (length rows.old) (length bytes.old) }
+    ensures fault { IfOk result (EndsFrom (size_of parts.now) (content_of parts.now) start) }
+    ensures room { IsOk result ↔ HasScreen (size_of parts.now) (length rows.old) (length bytes.old) }
 {
     let screen = LentGrid::on(
         rows,

@@ -8,7 +8,8 @@ ghost use Rattle.ans_model.specs.Verdict.Certain.{IsCertain};
 ghost use Rattle.ans_model.specs.File.Refusals.{record_fault};
 ghost use Rattle.ans_play.specs.Stands.{Stands};
 ghost use Rattle.ans_sauce.specs.Parts.{content_of, width_of, lines_of};
-ghost use Rattle.ans_check.specs.FileVerdict.{Deserves, IsVerdictOn, IsGoodFile, fault_of, parts_size};
+ghost use Rattle.ans_explain.specs.Explained.{size_of};
+ghost use Rattle.ans_check.specs.FileVerdict.{Deserves, IsVerdictOn, IsGoodFile, fault_of};
 ghost use Rattle.ans_check.specs.StartParts.{EndsFrom};
 
 use ans_model::start::Start;
@@ -51,8 +52,8 @@ pub fn play_on<G: Screen>(screen: G, parts: &Parts<'_>, start: Start) -> Result<
     requires length { length (content_of parts.now) ≤ longest_file }
     requires width { G.width_of screen ≡ width_of parts.now }
     requires rows { G.rows_of screen ≡ lines_of parts.now + 1 }
-    ensures good { IfOk result (GoodWith (parts_size parts.now) start (content_of parts.now)) }
-    ensures refused { IfErr result (Deserves (parts_size parts.now) start (content_of parts.now)) }
+    ensures good { IfOk result (GoodWith (size_of parts.now) start (content_of parts.now)) }
+    ensures refused { IfErr result (Deserves (size_of parts.now) start (content_of parts.now)) }
 {
     let _width = parts.width();
     let _lines = parts.lines();
@@ -64,7 +65,7 @@ pub(crate) fn fault_on<G: Screen>(screen: G, parts: &Parts<'_>, start: Start) ->
     requires length { length (content_of parts.now) ≤ longest_file }
     requires width { G.width_of screen ≡ width_of parts.now }
     requires rows { G.rows_of screen ≡ lines_of parts.now + 1 }
-    ensures { EndsFrom (parts_size parts.now) (content_of parts.now) start result }
+    ensures { EndsFrom (size_of parts.now) (content_of parts.now) start result }
 {
     play_on(screen, parts, start).err()
 }
@@ -79,9 +80,9 @@ pub(crate) fn play<G: Grid>(
 ) -> Result<Result<Picture<G>, Fault>, AllocError>
     requires { length (content_of parts.now) ≤ longest_file }
     ensures good { IfOk result (λ end. IfOk end
-        (GoodWith (parts_size parts.now) start (content_of parts.now))) }
+        (GoodWith (size_of parts.now) start (content_of parts.now))) }
     ensures refused { IfOk result (λ end. IfErr end
-        (Deserves (parts_size parts.now) start (content_of parts.now))) }
+        (Deserves (size_of parts.now) start (content_of parts.now))) }
 {
     let screen = G::new(alloc, parts.width(), parts.lines() + 1, HalfCell::unknown())?;
     Ok(play_on(screen, parts, start))

@@ -1,6 +1,5 @@
 -- What is said of a file is true of it.
-use Rattle.std.specs.Prelude.{◌≡◌, ◌≢◌, ◌⊎◌, ℕ, ◌+◌, ◌≤◌, ◌↔◌, Bool, ◌==◌, ◌%◌, IsTrue, List, []}
-use Rattle.std.specs.Prelude.{length, take, drop}
+use Rattle.std.specs.Prelude.{◌≡◌, ◌≢◌, ◌⊎◌, ℕ, ◌+◌, ◌≤◌, ◌↔◌, Bool, ◌==◌, ◌%◌, IsTrue, List, [], length, take, drop}
 use Rattle.std.specs.Prelude.{Option, Some, None, IfSome, IfNone}
 use Rattle.ans_model.specs.Bytes.{longest_file, most_lines}
 use Rattle.ans_model.specs.declared.cell.Position.{Position}

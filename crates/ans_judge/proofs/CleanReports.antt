@@ -39,7 +39,8 @@ use Rattle.ans_options.specs.declared.command.Options.{Options}
 use Rattle.ans_report.specs.Message.{message_line}
 use Rattle.ans_check.specs.CommandText.{Reports, ReportsBy, ReportsCheck, ReportsNeeds}
 use Rattle.ans_check.specs.CommandText.{ReportsPicture, ReportsRecordFault, ReportsSauce, ReportsShow, ReportsTokens}
-use Rattle.ans_check.specs.CommandText.{heading, is_non_blink}
+use Rattle.ans_check.specs.CommandText.{heading}
+use Rattle.ans_explain.specs.Explained.{record_non_blink}
 use Rattle.ans_show.specs.TerminalText.{terminal_text}
 use Rattle.ans_check.specs.Ending.{ending_message}
 use Rattle.ans_check.specs.declared.errors.RunError.{RunError}
@@ -288,16 +289,16 @@ page_report_clean file start text bytes h =
     let title = trimmed (title_field sauce) in
     let of_bytes = (parts_are_bytes file h.apart h.passes.accepts bytes).sauce in
     subst IsCleanText (sym h.text_is)
-    (page_clean (is_non_blink sauce) title h.picture
+    (page_clean (record_non_blink sauce) title h.picture
     (trimmed_is_bytes (title_field sauce) (field_is_bytes 7 35 sauce of_bytes))
     h.passes.good.shows.is_picture.bytes)
 
 terminal_report_coloured : (file : List ℕ) (start : Start) (form : Form) (vga : Bool) (text : List ℕ)
     → (h : ReportsPicture file start form text)
-    → text ≡ terminal_text vga (is_non_blink h.apart.record_bytes) h.picture → IsColouredText text
+    → text ≡ terminal_text vga (record_non_blink h.apart.record_bytes) h.picture → IsColouredText text
 terminal_report_coloured file start form vga text h is =
     subst IsColouredText (sym is)
-    (terminal_coloured vga (is_non_blink h.apart.record_bytes) h.picture h.passes.good.shows.is_picture.bytes)
+    (terminal_coloured vga (record_non_blink h.apart.record_bytes) h.picture h.passes.good.shows.is_picture.bytes)
 
 -- a picture as a page, and any refusal
 show_clean : (file : List ℕ) (start : Start) (form : Form) (passed : Bool) (text : List ℕ) → All IsByte file

@@ -10,7 +10,7 @@ use Rattle.ans_model.specs.declared.cell.Position.{Position}
 use Rattle.ans_model.specs.Screen.Step.{step, scrolled, line_feed, printed}
 use Rattle.ans_model.specs.Screen.Step.{blank_cell}
 use Rattle.ans_laws.specs.StepLaws.{OnlyScreenAndCursor}
-use Rattle.ans_laws.specs.StepLaws.{ClearsScreen, ErasesLine}
+use Rattle.ans_laws.specs.StepLaws.{IsCleared, IsLineErased}
 use Rattle.ans_laws.specs.StepLaws.{NextPosition, GlyphPrints, GlyphScrolls, LineFeedMovesDown, IsScrolled}
 use Rattle.ans_laws.specs.StepLaws.{LineFeedScrolls, IsPrinted, IsPrintedAndScrolled}
 use Rattle.ans_laws.specs.MoveLaws.{IsLastColumn}
@@ -23,7 +23,7 @@ use Rattle.ans_model.proofs.ChangedCells.{printed_cell, cell_beside_printed, era
 same_others : (s t : State) → t.saved ≡ s.saved → t.attribute ≡ s.attribute → t.wrap ≡ s.wrap → OnlyScreenAndCursor s t
 same_others s t e f g = record { saved = e; attribute = f; wrap = g }
 
-pub clears_screen : ClearsScreen
+pub clears_screen : (z : Size) (s : State) → IsCleared z s (step z s Clear)
 clears_screen z s = record {
   blank = λ p on. slice_get-replicate (cell_count z) (blank_cell s.attribute) (index z p) (index-lt z p on);
   home = refl;
@@ -31,7 +31,7 @@ clears_screen z s = record {
 }
 
 -- ---- an erased line
-pub erases_line : ErasesLine
+pub erases_line : (z : Size) (s : State) → IsWellFormed z s → IsLineErased z s (step z s EraseLine)
 erases_line z s h = record {
   erased = λ p on inside. erased_cell z s h.fits p on inside.0 inside.1;
   kept = λ p on outside. cell_beside_erased z s h.fits p on outside;

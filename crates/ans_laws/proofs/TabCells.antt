@@ -14,7 +14,7 @@ use Rattle.ans_model.specs.Screen.State.{Size, State, FitsScreen, IsOnScreen, at
 use Rattle.ans_model.specs.Screen.Step.{blank_cell, filled, next_row_start, line_feed, printed, put}
 use Rattle.ans_model.specs.Screen.Step.{tab_blanks, step}
 use Rattle.ans_laws.specs.MoveLaws.{IsLastColumn}
-use Rattle.ans_laws.specs.StepLaws.{OnlyScreenAndCursor, TabPrintsBlanks, TabBlanksCells, IsAfterTab, tab_end}
+use Rattle.ans_laws.specs.StepLaws.{OnlyScreenAndCursor, PrintsBlanks, TabBlanksCells, IsAfterTab, tab_end}
 use Rattle.ans_laws.specs.StepLaws.{IsTabbed, FullTabScrolls, ScrollsAt, PrintScrolls, screen_in_place}
 use Rattle.ans_model.proofs.FilledLemmas.{filled_none, filled_from_set, filled_before, filled_within, filled_after}
 use Rattle.ans_model.proofs.PositionLemmas.{index-lt, index-lt_stated, row_start, row_end_le}
@@ -23,7 +23,7 @@ use Rattle.ans_model.proofs.TabLemmas.{blanks_are_glyphs}
 use Rattle.ans_model.proofs.WellFormed.{fits_after_put}
 
 -- a tab is the play of its blanks: one to eight, up to a column that 8 divides
-pub tab_prints_blanks : TabPrintsBlanks
+pub tab_prints_blanks : (z : Size) (s : State) → (count : ℕ) × PrintsBlanks z s count
 tab_prints_blanks z s =
     let column : ℕ = s.cursor.column in
     let below : column % 8 < 8 = mod-lt column (lit< tt) in

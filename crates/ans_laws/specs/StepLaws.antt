@@ -58,10 +58,6 @@ pub record IsCleared (z : Size) (s t : State) : Type 0 where
   pub home : t.cursor ≡ at 0 0
   pub others : OnlyScreenAndCursor s t
 
--- Clear does so.
-abbrev pub ClearsScreen : Type 0
-ClearsScreen = (z : Size) (s : State) → IsCleared z s (step z s Clear)
-
 -- the position is in the cursor's row, at the cursor or right of it
 abbrev pub IsErased : Position → Position → Type 0
 IsErased cursor p = (p.row ≡ cursor.row) × (cursor.column ≤ p.column)
@@ -73,10 +69,6 @@ pub record IsLineErased (z : Size) (s t : State) : Type 0 where
   pub kept : (p : Position) → IsOnScreen z p → ¬ IsErased s.cursor p → cell_at z t.screen p ≡ cell_at z s.screen p
   pub cursor : t.cursor ≡ s.cursor
   pub others : OnlyScreenAndCursor s t
-
--- EraseLine does so.
-abbrev pub ErasesLine : Type 0
-ErasesLine = (z : Size) (s : State) → IsWellFormed z s → IsLineErased z s (step z s EraseLine)
 
 -- the position is directly above the other
 abbrev pub IsAbove : Position → Position → Type 0
@@ -126,10 +118,6 @@ pub record PrintsBlanks (z : Size) (s : State) (count : ℕ) : Type 0 where
   pub most : count ≤ 8
   pub to_stop : (stop : ℕ) × (s.cursor.column + count ≡ 8 * stop)
   pub played : step z s Tab ≡ final z s (replicate count (Glyph blank))
-
--- Each Tab is such a play.
-abbrev pub TabPrintsBlanks : Type 0
-TabPrintsBlanks = (z : Size) (s : State) → (count : ℕ) × PrintsBlanks z s count
 
 -- the index after the last cell that a tab blanks: it goes on in the rows below where wrap is on, and else it stops at
 -- the row's end

@@ -1,12 +1,10 @@
 -- Files and contents of the examples.
-use Rattle.std.specs.Prelude.{◌≡◌, ℕ, List, [], ◌∷◌, ◌++◌, codes, replicate, Some, None}
+use Rattle.std.specs.Prelude.{◌≡◌, ℕ, List, [], ◌∷◌, ◌++◌, codes, replicate, Option, Some, None}
 use Rattle.std.specs.Int.{to_le_bytes, w16, w32}
 use Rattle.ans_model.specs.Bytes.{escape, blank, end_mark}
 use Rattle.ans_model.specs.declared.note.Note.{Note}
 use Rattle.ans_model.specs.declared.start.Start.{Start}
-use Rattle.ans_model.specs.declared.cell.Cell.{Cell}
 use Rattle.ans_model.specs.Screen.State.{Size}
-use Rattle.ans_model.specs.Verdict.Good.{Picture}
 use Rattle.ans_model.specs.Text.ReportText.{Heading}
 use Rattle.ans_model.specs.File.Layout.{comment_block}
 use Rattle.ans_model.specs.File.Refusals.{fault_at, record_fault}
@@ -75,28 +73,16 @@ abbrev pub IsRefusedAt : List ℕ → Fields → ℕ → Cause → Type 0
 IsRefusedAt body f offset cause = record_fault (body ++ record_with f) ≡ Some (fault_at offset cause)
 
 -- The file of a body, comments and a record is accepted, with these notes.
-abbrev pub IsAcceptedWith : List ℕ → List ℕ → Fields → List Note → Type 0
-IsAcceptedWith body comment_bytes f expected =
+abbrev pub IsAccepted : List ℕ → List ℕ → Fields → List Note → Type 0
+IsAccepted body comment_bytes f expected =
     (record_fault (body ++ comment_block f.comments comment_bytes ++ record_with f) ≡ None)
     × (notes body (record_with f) ≡ expected)
 
--- The same of a file without comments.
-abbrev pub IsAccepted : List ℕ → Fields → List Note → Type 0
-IsAccepted body f expected = IsAcceptedWith body [] f expected
-
 -- ---- reports
-abbrev pub heading_with : Size → Start → ℕ → List Note → Heading
+-- a heading; that of a text of what a content needs names no start
+abbrev pub heading_with : Size → Option Start → ℕ → List Note → Heading
 heading_with size start content_length expected =
-    record { size = size; start = Some start; content_length = content_length; notes = expected }
-
--- the same of a text of what a content needs, which names no start
-abbrev pub needs_heading_with : Size → ℕ → List Note → Heading
-needs_heading_with size content_length expected =
-    record { size = size; start = None; content_length = content_length; notes = expected }
-
--- a picture of this size and these cells
-abbrev pub picture_with : Size → List Cell → Picture
-picture_with size cells = record { size = size; cells = cells }
+    record { size = size; start = start; content_length = content_length; notes = expected }
 
 -- ---- contents
 -- ESC and a text

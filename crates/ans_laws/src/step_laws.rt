@@ -1,12 +1,14 @@
 //! Laws of the machine: what each line of the table of steps changes and what it leaves.
 
-ghost use Rattle.ans_model.specs.Screen.State.{Size, State};
+ghost use Rattle.std.specs.Prelude.{ℕ};
+ghost use Rattle.ans_model.specs.Sequence.TokenKind.{Clear, EraseLine};
+ghost use Rattle.ans_model.specs.Screen.State.{Size, State, IsWellFormed};
+ghost use Rattle.ans_model.specs.Screen.Step.{step};
 ghost use Rattle.ans_laws.specs.MoveLaws.{DownUndoesUp, ForwardUndoesBackward, MovesChangeCursor, MovesGoWhereTheySay};
-ghost use Rattle.ans_laws.specs.StepLaws.{CleanNeverScrolls, ClearsScreen, ColoursChangeAttribute, ErasesLine};
-ghost use Rattle.ans_laws.specs.StepLaws.{FullTabScrolls, GlyphPrints, GlyphScrolls, GoodNeverScrolls};
-ghost use Rattle.ans_laws.specs.StepLaws.{IdleChangesNothing, LineFeedMovesDown, LineFeedScrolls, OnePositionAnIndex};
-ghost use Rattle.ans_laws.specs.StepLaws.{SavesCursor, StepsAreWellFormed, TabBlanksCells, TabPrintsBlanks};
-ghost use Rattle.ans_laws.specs.StepLaws.{WrapChangesWrap};
+ghost use Rattle.ans_laws.specs.StepLaws.{CleanNeverScrolls, ColoursChangeAttribute, FullTabScrolls, GlyphPrints};
+ghost use Rattle.ans_laws.specs.StepLaws.{GlyphScrolls, GoodNeverScrolls, IdleChangesNothing, IsCleared, IsLineErased};
+ghost use Rattle.ans_laws.specs.StepLaws.{LineFeedMovesDown, LineFeedScrolls, OnePositionAnIndex, PrintsBlanks};
+ghost use Rattle.ans_laws.specs.StepLaws.{SavesCursor, StepsAreWellFormed, TabBlanksCells, WrapChangesWrap};
 
 /// Two positions of the screen have two indices.
 pub fn positions_have_indices()
@@ -39,8 +41,8 @@ pub fn settings_change_one_part()
 
 /// Clear blanks each cell; EraseLine those of the cursor's row from the cursor on.
 pub fn erasures_blank_cells()
-    ensures clear { ClearsScreen }
-    ensures line { ErasesLine }
+    ensures clear { (z : Size) (s : State) → IsCleared z s (step z s Clear) }
+    ensures line { (z : Size) (s : State) → IsWellFormed z s → IsLineErased z s (step z s EraseLine) }
 {}
 
 /// A Glyph changes the cursor's cell, and the cursor goes on. Where it wraps in the spare row, the
@@ -53,7 +55,7 @@ pub fn glyphs_print()
 /// A Tab is the play of its blanks: they change the cells from the cursor on, and the cursor then
 /// stands after them. Where wrap is on and they reach the end of the spare row, the screen scrolls.
 pub fn tabs_print_blanks()
-    ensures blanks { TabPrintsBlanks }
+    ensures blanks { (z : Size) (s : State) → (count : ℕ) × PrintsBlanks z s count }
     ensures cells { TabBlanksCells }
     ensures scrolls { FullTabScrolls }
 {}

@@ -31,10 +31,10 @@ ghost use Rattle.ans_model.specs.Text.ReportText.{RefusedFor};
 ghost use Rattle.ans_model.specs.Text.NeedsText.{needs_text};
 ghost use Rattle.ans_model.specs.Text.RecordText.{record_text};
 ghost use Rattle.ans_model.specs.Text.TokensText.{TokensText};
-ghost use Rattle.ans_laws.specs.TextExamples.{plain, record_with, heading_with, picture_with, IsRefusedAt};
+ghost use Rattle.ans_laws.specs.Answers.{picture};
+ghost use Rattle.ans_laws.specs.TextExamples.{plain, record_with, heading_with, IsRefusedAt};
 ghost use Rattle.ans_laws.specs.TextExamples.{hi, sample_record, sample_comment, IsAccepted, IsRefusedAs};
-ghost use Rattle.ans_laws.specs.TextExamples.{IsAcceptedWith, esc, cut_content, short_forms, other_kinds};
-ghost use Rattle.ans_laws.specs.TextExamples.{needs_heading_with};
+ghost use Rattle.ans_laws.specs.TextExamples.{esc, cut_content, short_forms, other_kinds};
 
 /// Files that are refused, each for one thing.
 pub fn refused_files()
@@ -68,37 +68,37 @@ pub fn files_refused_twice()
 
 /// Files that are accepted, and their notes.
 pub fn accepted_files()
-    ensures plain_one { IsAccepted hi plain [] }
-    ensures two_end_marks { IsAccepted (hi ++ end_mark ∷ []) plain [] }
+    ensures plain_one { IsAccepted hi [] plain [] }
+    ensures two_end_marks { IsAccepted (hi ++ end_mark ∷ []) [] plain [] }
     ensures content_before_two_end_marks { content (hi ++ end_mark ∷ []) ≡ codes "Hi" }
-    ensures no_width { IsAccepted hi (record plain { width = 0 }) (WidthAssumed ∷ []) }
+    ensures no_width { IsAccepted hi [] (record plain { width = 0 }) (WidthAssumed ∷ []) }
     ensures width_assumed { stated_width (record_with (record plain { width = 0 })) ≡ 80 }
-    ensures no_end_mark { IsAccepted (codes "Hi") plain (NoEndMark ∷ []) }
-    ensures record_alone { IsAccepted [] (record plain { file_size = 0 }) (NoEndMark ∷ []) }
-    ensures most_comments { IsAcceptedWith hi (replicate 16320 0x41)
+    ensures no_end_mark { IsAccepted (codes "Hi") [] plain (NoEndMark ∷ []) }
+    ensures record_alone { IsAccepted [] [] (record plain { file_size = 0 }) (NoEndMark ∷ []) }
+    ensures most_comments { IsAccepted hi (replicate 16320 0x41)
         (record plain { comments = 255 }) [] }
-    ensures end_marks_in_a_comment { IsAcceptedWith hi (replicate 64 end_mark)
+    ensures end_marks_in_a_comment { IsAccepted hi (replicate 64 end_mark)
         (record plain { comments = 1 }) [] }
-    ensures four_notes { IsAccepted hi
+    ensures four_notes { IsAccepted hi []
         (record plain { date = replicate 8 0x20; flags = 0xFE; file_size = 9 })
         (SizeDiffers ∷ OddDate ∷ FlagBits ∷ FlagPair ∷ []) }
-    ensures end_mark_counted { IsAccepted hi (record plain { file_size = 3 }) [] }
-    ensures size_two_more { IsAccepted hi (record plain { file_size = 4 }) (SizeDiffers ∷ []) }
-    ensures size_with_a_high_byte { IsAccepted hi (record plain { file_size = 65538 })
+    ensures end_mark_counted { IsAccepted hi [] (record plain { file_size = 3 }) [] }
+    ensures size_two_more { IsAccepted hi [] (record plain { file_size = 4 }) (SizeDiffers ∷ []) }
+    ensures size_with_a_high_byte { IsAccepted hi [] (record plain { file_size = 65538 })
         (SizeDiffers ∷ []) }
-    ensures letter_in_the_date { IsAccepted hi (record plain { date = codes "1996010a" })
+    ensures letter_in_the_date { IsAccepted hi [] (record plain { date = codes "1996010a" })
         (OddDate ∷ []) }
-    ensures blank_in_the_date { IsAccepted hi (record plain { date = codes "1996010 " })
+    ensures blank_in_the_date { IsAccepted hi [] (record plain { date = codes "1996010 " })
         (OddDate ∷ []) }
-    ensures flag_bit_5 { IsAccepted hi (record plain { flags = 0x20 }) (FlagBits ∷ []) }
-    ensures flag_bit_6 { IsAccepted hi (record plain { flags = 0x40 }) (FlagBits ∷ []) }
-    ensures flag_bit_7 { IsAccepted hi (record plain { flags = 0x80 }) (FlagBits ∷ []) }
-    ensures spacing_of_both { IsAccepted hi (record plain { flags = 0x06 }) (FlagPair ∷ []) }
-    ensures ratio_of_both { IsAccepted hi (record plain { flags = 0x18 }) (FlagPair ∷ []) }
-    ensures ratio_one_spacing_two { IsAccepted hi (record plain { flags = 0x0D }) [] }
-    ensures ratio_two_spacing_two { IsAccepted hi (record plain { flags = 0x15 }) [] }
-    ensures spacing_one { IsAccepted hi (record plain { flags = 0x02 }) [] }
-    ensures ratio_two { IsAccepted hi (record plain { flags = 0x10 }) [] }
+    ensures flag_bit_5 { IsAccepted hi [] (record plain { flags = 0x20 }) (FlagBits ∷ []) }
+    ensures flag_bit_6 { IsAccepted hi [] (record plain { flags = 0x40 }) (FlagBits ∷ []) }
+    ensures flag_bit_7 { IsAccepted hi [] (record plain { flags = 0x80 }) (FlagBits ∷ []) }
+    ensures spacing_of_both { IsAccepted hi [] (record plain { flags = 0x06 }) (FlagPair ∷ []) }
+    ensures ratio_of_both { IsAccepted hi [] (record plain { flags = 0x18 }) (FlagPair ∷ []) }
+    ensures ratio_one_spacing_two { IsAccepted hi [] (record plain { flags = 0x0D }) [] }
+    ensures ratio_two_spacing_two { IsAccepted hi [] (record plain { flags = 0x15 }) [] }
+    ensures spacing_one { IsAccepted hi [] (record plain { flags = 0x02 }) [] }
+    ensures ratio_two { IsAccepted hi [] (record plain { flags = 0x10 }) [] }
 {}
 
 /// The bytes of the plain file.
@@ -266,22 +266,22 @@ pub fn refused_token_texts()
 
 /// The texts of reports and refusals.
 pub fn report_texts()
-    ensures pass_from_any { report_text (heading_with (sized 2 1) none_known 15 [])
-        (Passed (picture_with (sized 2 1) (cell 0x48 0x07 ∷ cell 0x69 0x07 ∷ [])) false)
+    ensures pass_from_any { report_text (heading_with (sized 2 1) (Some none_known) 15 [])
+        (Passed (picture (sized 2 1) (cell 0x48 0x07 ∷ cell 0x69 0x07 ∷ [])) false)
         ≡ codes "size: 2 x 1\nstart: any\ncontent: 15 bytes\nverdict: pass\npicture:\nHi\n" }
-    ensures pass_with_cells { report_text (heading_with (sized 2 1) all_known 2 [])
-        (Passed (picture_with (sized 2 1) (cell 0x48 0x07 ∷ cell 0x69 0x07 ∷ [])) true)
+    ensures pass_with_cells { report_text (heading_with (sized 2 1) (Some all_known) 2 [])
+        (Passed (picture (sized 2 1) (cell 0x48 0x07 ∷ cell 0x69 0x07 ∷ [])) true)
         ≡ codes "size: 2 x 1\nstart: cleared\ncontent: 2 bytes\nverdict: pass\n"
         ++ codes "picture:\nHi\ncells:\n48076907\n" }
-    ensures blank_picture { report_text (heading_with (sized 1 1) all_known 0 [])
-        (Passed (picture_with (sized 1 1) (cell 0x20 0x07 ∷ [])) false)
+    ensures blank_picture { report_text (heading_with (sized 1 1) (Some all_known) 0 [])
+        (Passed (picture (sized 1 1) (cell 0x20 0x07 ∷ [])) false)
         ≡ codes "size: 1 x 1\nstart: cleared\ncontent: 0 bytes\nverdict: pass\npicture:\n \n" }
-    ensures two_lines { report_text (heading_with (sized 2 2) all_known 10 [])
-        (Passed (picture_with (sized 2 2)
+    ensures two_lines { report_text (heading_with (sized 2 2) (Some all_known) 10 [])
+        (Passed (picture (sized 2 2)
         (cell 0x61 0x07 ∷ cell 0x62 0x07 ∷ cell 0x20 0x07 ∷ cell 0x20 0x07 ∷ [])) true)
         ≡ codes "size: 2 x 2\nstart: cleared\ncontent: 10 bytes\nverdict: pass\n"
         ++ codes "picture:\nab\n  \ncells:\n61076207\n20072007\n" }
-    ensures refusal_from_any { report_text (heading_with (sized 2 1) none_known 2 [])
+    ensures refusal_from_any { report_text (heading_with (sized 2 1) (Some none_known) 2 [])
         (RefusedFor (fault_at 0 PrintUnknownPlace))
         ≡ codes "size: 2 x 1\nstart: any\ncontent: 2 bytes\nverdict: refused\n"
         ++ codes "at 0: F22 print at an unknown place\n" }
@@ -294,37 +294,37 @@ pub fn report_texts()
 /// The line of a start of which some parts are known names them in their order.
 pub fn start_lines()
     ensures two_parts { heading_text
-        (heading_with (sized 2 1) (record none_known { cursor = true; colours = true }) 2 [])
+        (heading_with (sized 2 1) (Some (record none_known { cursor = true; colours = true })) 2 [])
         ≡ codes "size: 2 x 1\nstart: known cursor colours\ncontent: 2 bytes\n" }
     ensures all_but_wrap { heading_text
-        (heading_with (sized 1 1) (record all_known { wrap = false }) 0 [])
+        (heading_with (sized 1 1) (Some (record all_known { wrap = false })) 0 [])
         ≡ codes "size: 1 x 1\nstart: known screen cursor saved colours\ncontent: 0 bytes\n" }
     ensures screen_alone { heading_text
-        (heading_with (sized 1 1) (record none_known { screen = true }) 0 [])
+        (heading_with (sized 1 1) (Some (record none_known { screen = true })) 0 [])
         ≡ codes "size: 1 x 1\nstart: known screen\ncontent: 0 bytes\n" }
     ensures saved_alone { heading_text
-        (heading_with (sized 1 1) (record none_known { saved = true }) 0 [])
+        (heading_with (sized 1 1) (Some (record none_known { saved = true })) 0 [])
         ≡ codes "size: 1 x 1\nstart: known saved\ncontent: 0 bytes\n" }
     ensures wrap_alone { heading_text
-        (heading_with (sized 1 1) (record none_known { wrap = true }) 0 [])
+        (heading_with (sized 1 1) (Some (record none_known { wrap = true })) 0 [])
         ≡ codes "size: 1 x 1\nstart: known wrap\ncontent: 0 bytes\n" }
 {}
 
 /// The texts of what contents need.
 pub fn needs_texts()
-    ensures two_parts { needs_text (needs_heading_with (sized 80 34) 6427 [])
+    ensures two_parts { needs_text (heading_with (sized 80 34) None 6427 [])
         (record none_known { screen = true; cursor = true })
         ≡ codes "size: 80 x 34\ncontent: 6427 bytes\nneeds: screen cursor\n" }
-    ensures each_part { needs_text (needs_heading_with (sized 2 1) 2 []) all_known
+    ensures each_part { needs_text (heading_with (sized 2 1) None 2 []) all_known
         ≡ codes "size: 2 x 1\ncontent: 2 bytes\nneeds: screen cursor saved colours wrap\n" }
     ensures last_part_with_a_note { needs_text
-        (needs_heading_with (sized 80 1) 2 (NoEndMark ∷ []))
+        (heading_with (sized 80 1) None 2 (NoEndMark ∷ []))
         (record none_known { wrap = true })
         ≡ codes "size: 80 x 1\ncontent: 2 bytes\n"
         ++ codes "note: no end mark after the content\nneeds: wrap\n" }
-    ensures no_part { needs_text (needs_heading_with (sized 2 1) 15 []) none_known
+    ensures no_part { needs_text (heading_with (sized 2 1) None 15 []) none_known
         ≡ codes "size: 2 x 1\ncontent: 15 bytes\nneeds: nothing\n" }
-    ensures refusal { report_text (needs_heading_with (sized 2 1) 3 [])
+    ensures refusal { report_text (heading_with (sized 2 1) None 3 [])
         (RefusedFor (fault_at 2 PrintBelow))
         ≡ codes "size: 2 x 1\ncontent: 3 bytes\nverdict: refused\n"
         ++ codes "at 2: F20 print below the stated lines\n" }
@@ -333,13 +333,13 @@ pub fn needs_texts()
 /// The texts of notes, of glyphs and of cells.
 pub fn heading_and_cell_texts()
     ensures four_notes { heading_text
-        (heading_with (sized 2 1) all_known 2 (SizeDiffers ∷ OddDate ∷ FlagBits ∷ FlagPair ∷ []))
+        (heading_with (sized 2 1) (Some all_known) 2 (SizeDiffers ∷ OddDate ∷ FlagBits ∷ FlagPair ∷ []))
         ≡ codes "size: 2 x 1\nstart: cleared\ncontent: 2 bytes\n"
         ++ codes "note: file size differs from the content\n"
         ++ codes "note: date is not eight digits\n"
         ++ codes "note: flag bits 5 to 7 are not zero\nnote: a flag pair is 11\n" }
     ensures two_notes { heading_text
-        (heading_with (sized 80 1) none_known 2 (WidthAssumed ∷ NoEndMark ∷ []))
+        (heading_with (sized 80 1) (Some none_known) 2 (WidthAssumed ∷ NoEndMark ∷ []))
         ≡ codes "size: 80 x 1\nstart: any\ncontent: 2 bytes\n"
         ++ codes "note: width 0 taken as 80\nnote: no end mark after the content\n" }
     ensures full_block { shown_bytes (0xDB ∷ 0x00 ∷ []) ≡ 0xE2 ∷ 0x96 ∷ 0x88 ∷ 0x20 ∷ [] }

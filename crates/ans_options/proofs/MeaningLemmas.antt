@@ -3,6 +3,7 @@ use Rattle.std.proofs.Common.{◌≡◌, ◌≤◌, ◌<◌, false, List, [], �
 use Rattle.std.proofs.Common.{arith, codes, refl, slice_index_or}
 use Rattle.std.specs.Prelude.{IfNone, is_some}
 use Rattle.std.specs.Borrow.{Bor}
+use Rattle.std.specs.List.{list_any}
 use Rattle.std.specs.Str.{bytes_eq}
 use Rattle.std.proofs.lemmas.Slice.Eq.{bytes_eq-Decides}
 use Rattle.clap.specs.Words.{Text}
@@ -10,14 +11,14 @@ use Rattle.ans_options.specs.declared.command.Command.{Command}
 use Rattle.ans_options.specs.declared.command.Command.TheVariants.{Why, Check, Show, Sauce, Tokens, Needs, Table}
 use Rattle.ans_options.specs.declared.command.Form.TheVariants.{Terminal}
 use Rattle.ans_options.specs.declared.command.TableForm.TheVariants.{Headed}
-use Rattle.ans_options.specs.CommandLine.{IsNoCommand, help_on, is_command_name, texts_of, words_meant}
+use Rattle.ans_options.specs.CommandLine.{IsNoCommand, command_names, help_on, texts_of, words_meant}
 use Rattle.ans_options.proofs.CommandLineLemmas.{not_true}
 
 unequal : (name other : Text) → (name ≡ other → ⊥) → bytes_eq name other ≡ false
 unequal name other h = not_true _ (λ same. h ((bytes_eq-Decides name other).0 same))
 
 -- a name that no command has is not among theirs
-pub no_command_name : (name : Text) → IsNoCommand name → is_command_name name ≡ false
+pub no_command_name : (name : Text) → IsNoCommand name → list_any (bytes_eq name) command_names ≡ false
 no_command_name name h =
     rw (
       unequal name (codes "why") (h Why),

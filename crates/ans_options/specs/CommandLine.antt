@@ -55,22 +55,6 @@ check_app = with_flags (with_flags (file_app (codes "check")) part_flags) (codes
 abbrev pub show_app : App
 show_app = with_flags (with_flags (file_app (codes "show")) (codes "html" ∷ codes "vga" ∷ codes "any" ∷ [])) part_flags
 
--- `sauce [FILE]`
-abbrev pub sauce_app : App
-sauce_app = file_app (codes "sauce")
-
--- `tokens [FILE]`
-abbrev pub tokens_app : App
-tokens_app = file_app (codes "tokens")
-
--- `needs [FILE]`
-abbrev pub needs_app : App
-needs_app = file_app (codes "needs")
-
--- `why [FILE]`
-abbrev pub why_app : App
-why_app = file_app (codes "why")
-
 -- `[FILE]..`
 abbrev pub files_rule : Rule
 files_rule = record (new_rule (codes "files")) { value_names = 1; action = Some Append }
@@ -85,18 +69,11 @@ abbrev pub anscheck_top : App
 anscheck_top = let a = new_app (codes "anscheck") in
     record a { top = record a.top { has_version = true; subcommand_required = true; disable_help_subcommand = true } }
 
--- the program's command line
+-- the program's command line: its subcommands, in the order of the help
 abbrev pub anscheck : App
-anscheck =
-    with_subcommand
-    (with_subcommand
-    (with_subcommand
-    (with_subcommand
-    (with_subcommand (with_subcommand (with_subcommand anscheck_top why_app.top) needs_app.top) check_app.top)
-    show_app.top)
-    sauce_app.top)
-    tokens_app.top)
-    table_app.top
+anscheck = fold (λ app sub. with_subcommand app sub.top) anscheck_top
+    (file_app (codes "why") ∷ file_app (codes "needs") ∷ check_app ∷ show_app ∷ file_app (codes "sauce")
+    ∷ file_app (codes "tokens") ∷ table_app ∷ [])
 
 -- the subcommand of each command
 abbrev pub command_name : Command → Text
@@ -128,10 +105,6 @@ abbrev pub command_names : List Text
 command_names = codes "why" ∷ codes "needs" ∷ codes "check" ∷ codes "show" ∷ codes "sauce" ∷ codes "tokens"
     ∷ codes "table" ∷ []
 
--- one of the commands has this name
-abbrev pub is_command_name : Text → Bool
-is_command_name name = list_any (bytes_eq name) command_names
-
 -- What stands for `help COMMAND`: `COMMAND --help`. A word after it is a mistake. To have clap name it, the command
 -- gets its own name as the FILE, behind `--`, and then the word, which is one too many. For `table` no word is one too
 -- many, so there the word stands behind `--` alone, where the program takes none.
@@ -144,7 +117,8 @@ help_on_command name (word ∷ more) =
 -- mistake. To have clap name it, it stands behind `--`, where the program takes no word.
 abbrev pub help_on : List Text → List Text
 help_on [] = codes "--help" ∷ []
-help_on (name ∷ more) = if is_command_name name then help_on_command name more else codes "--" ∷ name ∷ []
+help_on (name ∷ more) =
+    if list_any (bytes_eq name) command_names then help_on_command name more else codes "--" ∷ name ∷ []
 
 -- What the words mean, as words for clap: where `help` comes first after the program's name, what stands for it, and
 -- else the words themselves.

@@ -1,14 +1,12 @@
 -- The object of a row has no float, and nests lists in an object and nothing more.
 use Rattle.std.proofs.Common.{◌≡◌, ◌∙◌, ◌/◌, ◌%◌, ◌==◌, ◌≤◌, ◌<◌, ℕ, suc, ◌+◌, ◌-◌, Bool, true, false, ◌||◌, List, []}
-use Rattle.std.proofs.Common.{◌∷◌, ◌++◌, map}
-use Rattle.std.proofs.Common.{arith, refl, sym, ap, append_assoc, append-nil, Result, Ok, Err}
-use Rattle.std.proofs.Common.{Ordering, Less, Equal, Greater, nat_cmp, Option, Some, None, codes}
+use Rattle.std.proofs.Common.{◌∷◌, ◌++◌, map, arith, refl, sym, ap, append_assoc, append-nil, Result, Ok, Err, Ordering}
+use Rattle.std.proofs.Common.{Less, Equal, Greater, nat_cmp, Option, Some, None, codes}
 use Rattle.std.specs.Prelude.{⊤, if◌then◌else◌}
 use Rattle.std.proofs.lemmas.List.{map-append}
 use Rattle.std.specs.Ordering.{match_ordering}
 use Rattle.std.specs.Cmp.Lexicographic.{slice_cmp}
-use Rattle.serde_json.specs.Data.{Data, Members, no_members, member, string, put}
-use Rattle.serde_json.specs.Data.{depth, items_depth, members_depth}
+use Rattle.serde_json.specs.Data.{Data, Members, no_members, member, string, put, depth, items_depth, members_depth}
 use Rattle.serde_json.specs.Read.{max_depth}
 use Rattle.serde_json.specs.View.{items_of, members_view, view}
 use Rattle.serde_json.specs.declared.value.Value.{Value}
@@ -21,10 +19,10 @@ use Rattle.ans_table.specs.declared.finding.Finding.{Finding}
 use Rattle.ans_table.specs.declared.finding.Finding.TheVariants.{Pass, Refused, NoContent, Unread}
 use Rattle.ans_table.specs.Findings.{sauce_of}
 use Rattle.ans_table.specs.NameText.{name_text}
+use Rattle.ans_table.specs.Columns.{by_pair}
 use Rattle.ans_table.specs.JsonRow.{Adds, Entries, Named, aspect_values, comments_from, content_values, count}
-use Rattle.ans_table.specs.JsonRow.{fault_values, field_values, flag_values, pair_values}
-use Rattle.ans_table.specs.JsonRow.{parts_values, record_values, row_data, row_values}
-use Rattle.ans_table.specs.JsonRow.{spacing_values, texts, verdict_values, with_values}
+use Rattle.ans_table.specs.JsonRow.{fault_values, field_values, flag_values, parts_values, record_values, row_data}
+use Rattle.ans_table.specs.JsonRow.{row_values, spacing_values, texts, verdict_values, with_values}
 
 -- no float, and at most lists
 record IsFlat (d : Data) : Type 0 where
@@ -132,20 +130,21 @@ flat_if : (b : Bool) (vs ws : List Named) → AllFlat vs → AllFlat ws → AllF
 flat_if true vs ws h g = h
 flat_if false vs ws h g = g
 
-flat_pair : (pair : ℕ) (one two : Named) → IsFlat one.1 → IsFlat two.1 → AllFlat (pair_values pair one two)
+flat_pair : (pair : ℕ) (one two : List Named) → AllFlat one → AllFlat two → AllFlat (by_pair pair one two)
 flat_pair pair one two h g =
-    flat_if (pair == 1) (one ∷ []) (if pair == 2 then two ∷ [] else []) (h, tt)
-    (flat_if (pair == 2) (two ∷ []) [] (g, tt) tt)
+    flat_if (pair == 1) one (if pair == 2 then two else []) h (flat_if (pair == 2) two [] g tt)
 
 flat_spacing : (bits : ℕ) → AllFlat (spacing_values bits)
 flat_spacing bits =
-    flat_pair (bits / 2 % 4) (codes "spacing", count 8) (codes "spacing", count 9)
-    (simple (count 8) refl (omega arith)) (simple (count 9) refl (omega arith))
+    flat_pair (bits / 2 % 4) ((codes "spacing", count 8) ∷ []) ((codes "spacing", count 9) ∷ [])
+    (simple (count 8) refl (omega arith), tt) (simple (count 9) refl (omega arith), tt)
 
 flat_aspect : (bits : ℕ) → AllFlat (aspect_values bits)
 flat_aspect bits =
-    flat_pair (bits / 8 % 4) (codes "aspect", string (codes "stretch")) (codes "aspect", string (codes "square"))
-    (simple (string (codes "stretch")) refl (omega arith)) (simple (string (codes "square")) refl (omega arith))
+    flat_pair (bits / 8 % 4) ((codes "aspect", string (codes "stretch")) ∷ [])
+    ((codes "aspect", string (codes "square")) ∷ [])
+    (simple (string (codes "stretch")) refl (omega arith), tt)
+    (simple (string (codes "square")) refl (omega arith), tt)
 
 flat_flags : (bits : ℕ) → AllFlat (flag_values bits)
 flat_flags bits = (

@@ -49,11 +49,8 @@ verdict_columns (Unread reason) =
     column (codes "error") ++ (tab ∷ tab ∷ (column (unread_text reason) ++ tab ∷ tab ∷ tab ∷ []))
 
 -- the width in columns and the number of lines; a width of 0 is 80
-abbrev pub size_columns : List ℕ → List ℕ
-size_columns sauce = column (decimal (stated_width sauce)) ++ column (decimal (stated_lines sauce))
-
 abbrev pub stated_columns : Option (List ℕ) → List ℕ
-stated_columns (Some sauce) = size_columns sauce
+stated_columns (Some sauce) = column (decimal (stated_width sauce)) ++ column (decimal (stated_lines sauce))
 stated_columns None = tab ∷ tab ∷ []
 
 -- the length of the content in bytes, and the notes
@@ -67,21 +64,16 @@ content_columns (NoContent fault sauce) = tab ∷ tab ∷ []
 content_columns (Unread reason) = tab ∷ tab ∷ []
 
 -- what a pair of bits says, where it says one of two things
-abbrev pub pair_text : ℕ → List ℕ → List ℕ → List ℕ
-pair_text pair one two = if pair == 1 then one else if pair == 2 then two else []
+abbrev pub by_pair : {A : Type 0} → ℕ → List A → List A → List A
+by_pair pair one two = if pair == 1 then one else if pair == 2 then two else []
 
--- bits 1 and 2 of the flags: letters of 8 or of 9 pixels, where they say which
-abbrev pub spacing_text : ℕ → List ℕ
-spacing_text flags = pair_text (flags / 2 % 4) (codes "8") (codes "9")
-
--- bits 3 and 4 of the flags: pixels to be stretched, or square ones, where they say which
-abbrev pub aspect_text : ℕ → List ℕ
-aspect_text flags = pair_text (flags / 8 % 4) (codes "stretch") (codes "square")
-
--- whether bit 7 of an attribute is a bright background (bit 0), the spacing and the aspect
+-- Whether bit 7 of an attribute is a bright background (bit 0); letters of 8 or of 9 pixels (bits 1 and 2); pixels to
+-- be stretched, or square ones (bits 3 and 4).
 abbrev pub flag_columns : ℕ → List ℕ
 flag_columns flags =
-    column (ice_text (flags % 2 == 1)) ++ (column (spacing_text flags) ++ column (aspect_text flags))
+    column (ice_text (flags % 2 == 1))
+    ++ (column (by_pair (flags / 2 % 4) (codes "8") (codes "9"))
+    ++ column (by_pair (flags / 8 % 4) (codes "stretch") (codes "square")))
 
 -- a byte of a text by its character; a backslash is `\\`
 abbrev pub escaped_byte : ℕ → List ℕ

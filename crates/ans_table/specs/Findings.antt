@@ -1,6 +1,5 @@
 -- What is true of a file of which a row tells.
-use Rattle.std.specs.Prelude.{◌≡◌, ◌↔◌, ℕ, ◌+◌, ◌-◌, IsTrue, IsFalse, List, length, drop, codes, Option, Some}
-use Rattle.std.specs.Prelude.{None}
+use Rattle.std.specs.Prelude.{◌≡◌, ◌↔◌, ℕ, ◌+◌, ◌-◌, IsTrue, IsFalse, List, length, drop, codes, Option, Some, None}
 use Rattle.std.specs.Prelude.{option_map}
 use Rattle.ans_model.specs.declared.cell.Position.{Position}
 use Rattle.ans_model.specs.declared.fault.Fault.{Fault}

@@ -1,8 +1,7 @@
 -- The row of a file as a JSON object. What is absent is left out. The names of an object stand in the order of their
 -- bytes, as those of its map do.
-use Rattle.std.specs.Prelude.{◌≡◌, ℕ, zero, suc, ◌+◌, ◌/◌, ◌%◌, ◌==◌, List, [], ◌∷◌, ◌++◌, length}
-use Rattle.std.specs.Prelude.{map}
-use Rattle.std.specs.Prelude.{Option, Some, None, Result, OnOk, String, codes, if◌then◌else◌}
+use Rattle.std.specs.Prelude.{◌≡◌, ℕ, zero, suc, ◌+◌, ◌/◌, ◌%◌, ◌==◌, List, [], ◌∷◌, ◌++◌, length, map, Option, Some}
+use Rattle.std.specs.Prelude.{None, Result, OnOk, String, codes}
 use Rattle.std.specs.declared.alloc.Global.{Global}
 use Rattle.serde_json.specs.Data.{Data, Members, unsigned, boolean, number, string, array, object, no_members, put}
 use Rattle.serde_json.specs.View.{items_of, members_view}
@@ -10,14 +9,13 @@ use Rattle.serde_json.specs.declared.value.Value.{Value}
 use Rattle.serde_json.specs.Written.{compact_text}
 use Rattle.ans_model.specs.declared.fault.Fault.{Fault}
 use Rattle.ans_model.specs.File.Record.{author_field, comment, comment_count, date_field, flags, font_field}
-use Rattle.ans_model.specs.File.Record.{group_field}
-use Rattle.ans_model.specs.File.Record.{stated_lines, stated_width, title_field, trimmed}
+use Rattle.ans_model.specs.File.Record.{group_field, stated_lines, stated_width, title_field, trimmed}
 use Rattle.ans_model.specs.Text.Characters.{shown_bytes}
 use Rattle.ans_sauce.specs.declared.parts.Parts.{Parts}
 use Rattle.ans_sauce.specs.Parts.{comments_of, content_of, notes_of, record_of}
 use Rattle.ans_table.specs.declared.finding.Finding.{Finding}
 use Rattle.ans_table.specs.declared.finding.Finding.TheVariants.{Pass, Refused, NoContent, Unread}
-use Rattle.ans_table.specs.Columns.{fault_number}
+use Rattle.ans_table.specs.Columns.{by_pair, fault_number}
 use Rattle.ans_table.specs.Findings.{sauce_of, unread_text}
 use Rattle.ans_table.specs.NameText.{name_text}
 use Rattle.ans_table.specs.Words.{note_number, part_names}
@@ -76,18 +74,15 @@ content_values (Refused parts fault row column_number) = parts_values parts
 content_values (NoContent fault sauce) = []
 content_values (Unread reason) = []
 
--- what a pair of bits says, where it says one of two things
-abbrev pub pair_values : ℕ → Named → Named → List Named
-pair_values pair one two = if pair == 1 then one ∷ [] else if pair == 2 then two ∷ [] else []
-
 -- bits 1 and 2 of the flags: letters of 8 or of 9 pixels, where they say which
 abbrev pub spacing_values : ℕ → List Named
-spacing_values flags = pair_values (flags / 2 % 4) (codes "spacing", count 8) (codes "spacing", count 9)
+spacing_values flags = by_pair (flags / 2 % 4) ((codes "spacing", count 8) ∷ []) ((codes "spacing", count 9) ∷ [])
 
 -- bits 3 and 4 of the flags: pixels to be stretched, or square ones, where they say which
 abbrev pub aspect_values : ℕ → List Named
 aspect_values flags =
-    pair_values (flags / 8 % 4) (codes "aspect", string (codes "stretch")) (codes "aspect", string (codes "square"))
+    by_pair (flags / 8 % 4) ((codes "aspect", string (codes "stretch")) ∷ [])
+    ((codes "aspect", string (codes "square")) ∷ [])
 
 -- whether bit 7 of an attribute is a bright background (bit 0), the spacing and the aspect
 abbrev pub flag_values : ℕ → List Named
@@ -109,11 +104,8 @@ field_values sauce =
     ∷ (codes "group", field_value (group_field sauce)) ∷ []
 
 -- what the record says
-abbrev pub sauce_values : List ℕ → List Named
-sauce_values sauce = size_values sauce ++ (flag_values (flags sauce) ++ field_values sauce)
-
 abbrev pub record_values : Option (List ℕ) → List Named
-record_values (Some sauce) = sauce_values sauce
+record_values (Some sauce) = size_values sauce ++ (flag_values (flags sauce) ++ field_values sauce)
 record_values None = []
 
 -- all that is known of a file of this name

@@ -1,12 +1,12 @@
 //! The columns of a row.
 
-ghost use Rattle.std.specs.Prelude.{◌≡◌, option_map, decimal};
+ghost use Rattle.std.specs.Prelude.{◌≡◌, Some, option_map, decimal};
 ghost use Rattle.ans_model.specs.File.Record.{stated_lines, stated_width};
 ghost use Rattle.ans_sauce.specs.RecordBytes.{bytes_of};
 ghost use Rattle.ans_write.specs.Puts.{Puts};
-ghost use Rattle.ans_table.specs.Columns.{column, content_columns, escaped_byte, escaped_text, fault_columns};
-ghost use Rattle.ans_table.specs.Columns.{fault_number, field_columns, flag_columns, ice_text, pair_text};
-ghost use Rattle.ans_table.specs.Columns.{parts_columns, record_columns, size_columns, stated_columns, verdict_columns};
+ghost use Rattle.ans_table.specs.Columns.{by_pair, column, content_columns, escaped_byte, escaped_text};
+ghost use Rattle.ans_table.specs.Columns.{fault_columns, fault_number, field_columns, flag_columns, ice_text};
+ghost use Rattle.ans_table.specs.Columns.{parts_columns, record_columns, stated_columns, verdict_columns};
 
 use crate::finding::Finding;
 use crate::words::{put_needs, put_notes};
@@ -106,7 +106,7 @@ pub(crate) fn stated_lines(sauce: &Record<'_>) -> usize
 }
 
 fn put_size<W: Write>(out: &mut Outbox<'_, W>, sauce: &Record<'_>)
-    ensures { Puts W.contents out.old out.new (size_columns (bytes_of sauce.now)) }
+    ensures { Puts W.contents out.old out.new (stated_columns (Some (bytes_of sauce.now))) }
 {
     put_number(out, stated_width(sauce));
     put_number(out, stated_lines(sauce));
@@ -142,7 +142,7 @@ pub(crate) fn put_content<W: Write>(out: &mut Outbox<'_, W>, finding: &Finding<'
 
 /// What a pair of bits of the flags says: nothing where it is 0 or 3.
 fn pair_text(pair: u8, one: &'static [u8], two: &'static [u8]) -> &'static [u8]
-    ensures { result.now ≡ pair_text pair one.now two.now }
+    ensures { result.now ≡ by_pair pair one.now two.now }
 {
     match pair {
         1 => one,

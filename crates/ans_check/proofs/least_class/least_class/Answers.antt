@@ -5,13 +5,14 @@ use Rattle.ans_model.specs.declared.start.Start.{Start}
 use Rattle.ans_model.proofs.ClassLemmas.{covers_itself}
 use Rattle.ans_play.proofs.LeastClass.{least_by_parts}
 use Rattle.ans_sauce.specs.Parts.{content_of}
-use Rattle.ans_check.specs.FileVerdict.{Deserves, parts_size}
+use Rattle.ans_explain.specs.Explained.{size_of}
+use Rattle.ans_check.specs.FileVerdict.{Deserves}
 use Rattle.ans_check.proofs.VerdictLemmas.{nothing_needed, not_good}
 use Rattle.ans_check.proofs.least_class.least_class.Goals as goal
 
 pub returns-in_default-clause-least : goal.returns-in_default-clause-least
 returns-in_default-clause-least g c =
-    let z = parts_size c.args.parts.now in
+    let z = size_of c.args.parts.now in
     let content = content_of c.args.parts.now in
     record {
       least = least_by_parts z content none_known c.requires.good (nothing_needed z content
@@ -22,7 +23,7 @@ returns-in_default-clause-least g c =
 
 pub returns-clause-least : goal.returns-clause-least
 returns-clause-least g c =
-    let z = parts_size c.args.parts.now in
+    let z = size_of c.args.parts.now in
     let content = content_of c.args.parts.now in
     let deserves : Deserves z none_known content c.in-Some.fault = rw c.in-Some.is at c.in_ok-fault.ensures.fault in
     let least : IsLeast z content c.in_ok-class.class =

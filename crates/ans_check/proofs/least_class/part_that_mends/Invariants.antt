@@ -1,7 +1,7 @@
-use Rattle.ans_check.specs.FileVerdict.{parts_size}
+use Rattle.ans_explain.specs.Explained.{size_of}
 use Rattle.ans_check.specs.ScreenRoom.{KeepsRoom}
 use Rattle.ans_check.proofs.least_class.part_that_mends.Given as goal
 
 abbrev pub invariant-loop-part : goal.invariant-loop-part
 invariant-loop-part g l =
-    KeepsRoom g.S.Screens.has_room g.S.Screens.may_lack (parts_size l.parts) l.fn.screens l.screens
+    KeepsRoom g.S.Screens.has_room g.S.Screens.may_lack (size_of l.parts) l.fn.screens l.screens

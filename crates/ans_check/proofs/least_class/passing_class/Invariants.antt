@@ -1,11 +1,11 @@
 use Rattle.ans_model.specs.Verdict.Good.{IsGood}
 use Rattle.ans_sauce.specs.Parts.{content_of}
-use Rattle.ans_check.specs.FileVerdict.{parts_size}
+use Rattle.ans_explain.specs.Explained.{size_of}
 use Rattle.ans_check.specs.ScreenRoom.{KeepsRoom}
 use Rattle.ans_check.proofs.least_class.passing_class.Given as goal
 
 abbrev pub invariant-loop : goal.invariant-loop
 invariant-loop g l = record {
-  refused : IsGood (parts_size l.parts) l.class (content_of l.parts) → ⊥;
-  keeps : KeepsRoom g.S.Screens.has_room g.S.Screens.may_lack (parts_size l.parts) l.fn.screens l.screens;
+  refused : IsGood (size_of l.parts) l.class (content_of l.parts) → ⊥;
+  keeps : KeepsRoom g.S.Screens.has_room g.S.Screens.may_lack (size_of l.parts) l.fn.screens l.screens;
 }
