@@ -8,11 +8,10 @@ use Rattle.ans_model.specs.Verdict.Good.{Picture, GoodWith}
 use Rattle.ans_model.specs.declared.fault.Fault.{Fault}
 use Rattle.ans_model.specs.declared.start.Start.{Start}
 use Rattle.ans_sauce.specs.declared.parts.Parts.{Parts}
-use Rattle.ans_sauce.specs.Parts.{content_of}
+use Rattle.ans_sauce.specs.Parts.{content_of, size_of}
 use Rattle.ans_sauce.specs.Split.{IsSplit}
 use Rattle.ans_report.specs.declared.needs_text.Needs.TheVariants as needs
 use Rattle.ans_check.specs.FileNeeds.{IsNeedsOf}
-use Rattle.ans_explain.specs.Explained.{size_of}
 use Rattle.ans_check.specs.FileVerdict.{Deserves, stated_size}
 use Rattle.ans_check.specs.LentScreen.{HasScreen, byte_count, row_count}
 use Rattle.ans_check.specs.declared.screens.LentScreens.{LentScreens}

@@ -3,8 +3,7 @@
 ghost use Rattle.std.specs.Prelude.{◌≡◌, ◌≢◌, ◌↔◌, ◌⊎◌, ◌+◌, ◌*◌, ◌<◌, ◌≤◌, length};
 ghost use Rattle.ans_model.specs.Bytes.{longest_file};
 ghost use Rattle.ans_model.specs.Screen.StartClass.{all_known};
-ghost use Rattle.ans_sauce.specs.Parts.{content_of, width_of, lines_of};
-ghost use Rattle.ans_explain.specs.Explained.{size_of};
+ghost use Rattle.ans_sauce.specs.Parts.{content_of, width_of, lines_of, size_of};
 ghost use Rattle.ans_check.specs.FileVerdict.{Deserves};
 ghost use Rattle.ans_c.specs.Numbers.{TellsFault, class_of};
 ghost use Rattle.ans_c.specs.Told.{LacksCells, LacksScreen, TellsNeeds, TellsPass, TellsPlay, TellsRecordFault};

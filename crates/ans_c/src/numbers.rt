@@ -3,7 +3,7 @@
 ghost use Rattle.std.specs.Prelude.{◌≡◌, ◌≢◌, if◌then◌else◌, IfSome, IsNone};
 ghost use Rattle.ans_model.specs.declared.fault.Cause.{Cause};
 ghost use Rattle.ans_model.specs.declared.note.Note.{Note};
-ghost use Rattle.ans_explain.specs.Explained.{size_of};
+ghost use Rattle.ans_sauce.specs.Parts.{size_of};
 ghost use Rattle.ans_model.specs.Text.FaultText.{cause_number, note_number};
 ghost use Rattle.ans_c.specs.Numbers.{class_of, IsSizeOf, TellsFault};
 

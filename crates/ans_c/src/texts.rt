@@ -2,13 +2,12 @@
 
 ghost use Rattle.std.specs.Prelude.{◌≡◌, ◌≢◌, ◌↔◌, ◌⊎◌, ◌<◌, ◌≤◌, List, ℕ, [], Some, false, length, codes};
 ghost use Rattle.ans_model.specs.Bytes.{longest_file};
-ghost use Rattle.ans_model.specs.Text.FaultText.{fault_text, note_text};
+ghost use Rattle.ans_model.specs.Text.FaultText.{fault_text, note_text, cause_number, note_number};
 ghost use Rattle.ans_write.specs.Puts.{Puts, device_failed, waiting_of};
 ghost use Rattle.ans_write.specs.declared.outbox.Outbox.{Outbox};
 ghost use Rattle.ans_check.specs.CommandText.{ReportsSauce, ReportsWhy, is_of_pass};
 ghost use Rattle.ans_model.specs.declared.fault.Cause.{Cause};
 ghost use Rattle.ans_model.specs.declared.note.Note.{Note};
-ghost use Rattle.ans_model.specs.Text.FaultText.{cause_number, note_number};
 ghost use Rattle.ans_c.specs.Told.{HandsOver, HandsReport, LacksScreen, code_of};
 
 use crate::numbers::{NO_ROOM, PASS, REFUSED, TOO_LONG, cause_of, note_of};

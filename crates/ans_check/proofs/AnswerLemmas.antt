@@ -12,8 +12,7 @@ use Rattle.ans_check.specs.Answer.{EndsBy, EndsNamed, Says, Tells}
 use Rattle.ans_check.specs.Ending.{ending_message}
 use Rattle.ans_check.specs.declared.exit_status.Ending.{Ending}
 use Rattle.ans_check.specs.declared.exit_status.Ending.TheVariants.{Run, Help, Usage, UnreadableWords, UnopenedFile}
-use Rattle.ans_check.specs.declared.exit_status.Ending.TheVariants.{Table}
-use Rattle.ans_check.specs.declared.exit_status.Ending.TheVariants.{NamedInput, UnreadNames}
+use Rattle.ans_check.specs.declared.exit_status.Ending.TheVariants.{Table, NamedInput, UnreadNames}
 
 -- what was written by its result is what was written by whether the device has failed
 pub written_unless : {T E : Type 0} (old new : Option (List ℕ)) (r : Result T E) (failed : Bool) (text : List ℕ)

@@ -5,7 +5,7 @@ use Rattle.ans_model.specs.Screen.State.{Size, sized}
 use Rattle.ans_model.proofs.AcceptedFiles.{one_layout}
 use Rattle.ans_sauce.specs.declared.parts.Parts.{Parts}
 use Rattle.ans_sauce.specs.Split.{IsSplit}
-use Rattle.ans_explain.specs.Explained.{size_of}
+use Rattle.ans_sauce.specs.Parts.{size_of}
 use Rattle.ans_check.specs.FileVerdict.{stated_size}
 use Rattle.ans_check.specs.LentScreen.{HasScreen, byte_count, row_count}
 use Rattle.ans_check.specs.ScreenRoom.{AnswersWithin, KeepsRoom, TakesRoom}

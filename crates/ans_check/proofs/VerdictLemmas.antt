@@ -21,10 +21,9 @@ use Rattle.ans_model.proofs.ClassLemmas.{covers_good, none_known_covers}
 use Rattle.ans_model.proofs.OneAnswer.{good_or_first, good_or_last}
 use Rattle.ans_model.proofs.AcceptedFiles.{one_layout, no_fault}
 use Rattle.ans_sauce.specs.declared.parts.Parts.{Parts}
-use Rattle.ans_sauce.specs.Parts.{ShowsParts, content_of}
+use Rattle.ans_sauce.specs.Parts.{ShowsParts, content_of, size_of}
 use Rattle.ans_sauce.specs.Split.{IsSplit}
 use Rattle.ans_check.specs.FileNeeds.{NeedsClass}
-use Rattle.ans_explain.specs.Explained.{size_of}
 use Rattle.ans_check.specs.FileVerdict.{Deserves, Passes, IsRefusedFor, IsGoodFile, stated_size}
 
 -- what is so of a play is so of equal sizes, starts and contents

@@ -7,12 +7,11 @@ use Rattle.ans_model.specs.Screen.State.{Size, sized}
 use Rattle.ans_model.specs.Screen.StartClass.{all_known}
 use Rattle.ans_model.specs.Verdict.Needs.{IsLeast}
 use Rattle.ans_sauce.specs.declared.parts.Parts.{Parts}
-use Rattle.ans_sauce.specs.Parts.{content_of}
+use Rattle.ans_sauce.specs.Parts.{content_of, size_of}
 use Rattle.ans_sauce.specs.Split.{IsSplit}
 use Rattle.ans_report.specs.declared.needs_text.Needs.TheVariants as needs
-use Rattle.ans_why.specs.Evidence.{IsDeserved}
+use Rattle.ans_model.specs.Verdict.LastFault.{IsDeserved}
 use Rattle.ans_check.specs.FileNeeds.{IsNeedsOf}
-use Rattle.ans_explain.specs.Explained.{size_of}
 use Rattle.ans_check.specs.FileVerdict.{stated_size}
 
 -- what is so of a fault, where there is one, is so of it in other words

@@ -2,7 +2,7 @@
 use Rattle.std.specs.Prelude.{◌≡◌, ◌⊎◌, ℕ, Bool, true, false, List, length, Option, Some, None}
 use Rattle.ans_model.specs.File.Layout.{FileParts, content}
 use Rattle.ans_model.specs.File.NoteConditions.{notes}
-use Rattle.ans_model.specs.File.Record.{title_field, trimmed}
+use Rattle.ans_model.specs.File.Record.{title_field, trimmed, is_non_blink}
 use Rattle.ans_model.specs.File.Refusals.{Accepts, record_fault}
 use Rattle.ans_model.specs.Verdict.Good.{Picture}
 use Rattle.ans_model.specs.Text.RecordText.{record_text}
@@ -22,7 +22,7 @@ use Rattle.ans_options.specs.declared.command.Form.TheVariants.{Terminal, Vga, P
 use Rattle.ans_options.specs.declared.command.Options.{Options}
 use Rattle.ans_show.specs.PageText.{page_text}
 use Rattle.ans_show.specs.TerminalText.{terminal_text}
-use Rattle.ans_explain.specs.Explained.{IsTrueOf, record_non_blink}
+use Rattle.ans_explain.specs.Explained.{IsTrueOf}
 use Rattle.ans_explain.specs.WhyText.{why_text}
 use Rattle.ans_explain.specs.declared.why.Why as why
 use Rattle.ans_explain.specs.declared.why.Why.TheVariants as said
@@ -72,10 +72,10 @@ ReportsCheck file start cells false text = ReportsRefusal file start (Some start
 
 -- the picture in each form, with the record's title and by its non-blink flag
 abbrev pub shown_text : Form → List ℕ → Picture → List ℕ
-shown_text Terminal record_bytes picture = terminal_text false (record_non_blink record_bytes) picture
-shown_text Vga record_bytes picture = terminal_text true (record_non_blink record_bytes) picture
+shown_text Terminal record_bytes picture = terminal_text false (is_non_blink record_bytes) picture
+shown_text Vga record_bytes picture = terminal_text true (is_non_blink record_bytes) picture
 shown_text Page record_bytes picture =
-    page_text (record_non_blink record_bytes) (trimmed (title_field record_bytes)) picture
+    page_text (is_non_blink record_bytes) (trimmed (title_field record_bytes)) picture
 
 -- the file passes, and the text is its picture in this form
 pub record ReportsPicture (file : List ℕ) (start : Start) (form : Form) (text : List ℕ) : Type 0 where

@@ -4,9 +4,8 @@ use Rattle.ans_model.specs.File.Refusals.{record_fault}
 use Rattle.ans_model.specs.Screen.StartClass.{all_known, none_known}
 use Rattle.ans_model.specs.Verdict.Needs.{IsLeast}
 use Rattle.ans_sauce.specs.declared.parts.Parts.{Parts}
-use Rattle.ans_sauce.specs.Parts.{content_of}
+use Rattle.ans_sauce.specs.Parts.{content_of, size_of}
 use Rattle.ans_sauce.specs.Split.{IsSplit}
-use Rattle.ans_explain.specs.Explained.{size_of}
 use Rattle.ans_check.specs.FileVerdict.{Deserves}
 use Rattle.ans_check.specs.declared.least_class.Least.{Least}
 use Rattle.ans_check.specs.declared.played.Played.{Played}

@@ -11,7 +11,7 @@ use Rattle.ans_model.specs.Verdict.TwoStarts.{IsShownByTwoStarts}
 use Rattle.ans_model.specs.declared.fault.Fault.{Fault}
 use Rattle.ans_model.specs.declared.start.Start.{Start}
 use Rattle.ans_sauce.specs.Parts.{ShowsParts}
-use Rattle.ans_why.specs.Evidence.{IsDeserved}
+use Rattle.ans_model.specs.Verdict.LastFault.{IsDeserved}
 use Rattle.ans_check.specs.declared.verdict.Verdict.{Verdict}
 use Rattle.ans_check.specs.declared.verdict.Verdict.TheVariants.{Pass, Refused}
 

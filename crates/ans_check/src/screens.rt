@@ -3,9 +3,8 @@
 ghost use Rattle.std.specs.Prelude.{◌≡◌, ◌↔◌, ◌+◌, ◌*◌, ◌≤◌, ⊤, length, IfOk, IsOk, OnOk};
 ghost use Rattle.ans_model.specs.Bytes.{longest_file, most_columns};
 ghost use Rattle.ans_model.specs.Screen.State.{Size};
-ghost use Rattle.ans_sauce.specs.Parts.{content_of};
+ghost use Rattle.ans_sauce.specs.Parts.{content_of, size_of};
 ghost use Rattle.ans_screen.specs.GridEdits.{most_rows};
-ghost use Rattle.ans_explain.specs.Explained.{size_of};
 ghost use Rattle.ans_check.specs.LentScreen.{HasScreen, byte_count, row_count};
 ghost use Rattle.ans_check.specs.ScreenRoom.{TakesRoom};
 ghost use Rattle.ans_check.specs.StartParts.{EndsFrom};

@@ -7,8 +7,7 @@ ghost use Rattle.ans_model.specs.Screen.StartClass.{all_known};
 ghost use Rattle.ans_model.specs.Verdict.Certain.{IsCertain};
 ghost use Rattle.ans_model.specs.File.Refusals.{record_fault};
 ghost use Rattle.ans_play.specs.Stands.{Stands};
-ghost use Rattle.ans_sauce.specs.Parts.{content_of, width_of, lines_of};
-ghost use Rattle.ans_explain.specs.Explained.{size_of};
+ghost use Rattle.ans_sauce.specs.Parts.{content_of, width_of, lines_of, size_of};
 ghost use Rattle.ans_check.specs.FileVerdict.{Deserves, IsVerdictOn, IsGoodFile, fault_of};
 ghost use Rattle.ans_check.specs.StartParts.{EndsFrom};
 

@@ -1,7 +1,6 @@
 -- What is read first at a fault is what is to blame for it.
-use Rattle.std.proofs.Common.{◌≡◌, ◌⊎◌, inl, inr, ℕ, ◌+◌, ◌≤◌, ◌<◌, List, [], ◌∷◌, ◌++◌, length, take, drop}
-use Rattle.std.proofs.Common.{get_or, refl}
-use Rattle.std.proofs.Common.{sym, ap, ◌∙◌, arith, subst, None}
+use Rattle.std.proofs.Common.{◌≡◌, ◌⊎◌, inl, inr, ℕ, ◌+◌, ◌≤◌, ◌<◌, List, [], ◌∷◌, ◌++◌, length, take, drop, get_or}
+use Rattle.std.proofs.Common.{refl, sym, ap, ◌∙◌, arith, subst, None}
 use Rattle.std.proofs.Math.Seq.{drop-append_seam, drop-length}
 use Rattle.std.proofs.lemmas.List.{take_all, take_more, take-append-drop}
 use Rattle.ans_model.specs.declared.fault.Fault.{Fault}
@@ -12,7 +11,7 @@ use Rattle.ans_model.specs.Sequence.Reads.{SpellsToken}
 use Rattle.ans_model.specs.Inside.ShownKind.{shown_kind}
 use Rattle.ans_model.specs.Sequence.Spelling.{IsUnfinished}
 use Rattle.ans_model.specs.Verdict.FirstFault.{IsFirstFault, IsRefused}
-use Rattle.ans_model.specs.Verdict.LastFault.{EndsInSequence, LeavesUnknown}
+use Rattle.ans_model.specs.Verdict.LastFault.{EndsInSequence, LeavesUnknown, IsDeserved}
 use Rattle.ans_model.proofs.Reading.{one_token_in_front, token_nonempty, unfinished_no_token, refused_no_token}
 use Rattle.ans_model.proofs.Reading.{refused_nonempty}
 use Rattle.ans_model.proofs.Refusing.{unfinished_not_refused, one_cause_of_refused}
@@ -20,7 +19,6 @@ use Rattle.ans_tokens.specs.ScannerView.{ScannerView, Holds, StaysUnfinished, En
 use Rattle.ans_tokens.specs.Token.{kind_of}
 use Rattle.ans_tokens.specs.declared.token.Token.{Token}
 use Rattle.ans_tokens.proofs.EachByte.{kept_open, open_ends}
-use Rattle.ans_why.specs.Evidence.{IsDeserved}
 use Rattle.ans_explain.specs.Blamed.{AreToBlame, BeginsWithToken, BeginsWithRefused, IsAllOf, IsReadFirst}
 
 -- ---- reading

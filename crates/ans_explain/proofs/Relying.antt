@@ -5,7 +5,7 @@ use Rattle.ans_model.specs.declared.fault.Fault.{Fault}
 use Rattle.ans_model.specs.declared.start.Start.{Start}
 use Rattle.ans_model.specs.Screen.State.{Size}
 use Rattle.ans_model.specs.Screen.StartClass.{none_known}
-use Rattle.ans_why.specs.Evidence.{IsDeserved}
+use Rattle.ans_model.specs.Verdict.LastFault.{IsDeserved}
 use Rattle.ans_explain.specs.Explained.{IsReliance}
 use Rattle.ans_explain.specs.declared.why.Reliance.{Reliance}
 

@@ -20,7 +20,8 @@ use Rattle.ans_sauce.specs.declared.parts.Parts.{Parts}
 use Rattle.ans_sauce.specs.Parts.{content_of, record_of, width_of, lines_of}
 use Rattle.ans_sauce.specs.Split.{IsSplit}
 use Rattle.ans_sauce.specs.Found.{IsFound}
-use Rattle.ans_why.specs.Evidence.{IsDeserved, ShowsCursors, ShowsNamed}
+use Rattle.ans_model.specs.Verdict.LastFault.{IsDeserved}
+use Rattle.ans_why.specs.Evidence.{ShowsCursors, ShowsNamed}
 use Rattle.ans_why.specs.Lines.{IsGoodOn, IsLeastLines}
 use Rattle.ans_why.specs.Taller.{IsTaller}
 use Rattle.ans_hints.specs.Hints.{AreHints}
@@ -39,17 +40,9 @@ use Rattle.ans_explain.specs.declared.why.Shown.TheVariants.{Cursors, Cells}
 abbrev pub record_size : List ℕ → Size
 record_size sauce = sized (stated_width sauce) (stated_lines sauce)
 
--- the same of the parts that the program holds
-abbrev pub size_of : Parts → Size
-size_of parts = sized (width_of parts) (lines_of parts)
-
--- the non-blink flag: bit 0 of the flags
-abbrev pub record_non_blink : List ℕ → Bool
-record_non_blink sauce = flags sauce % 2 == 1
-
--- the same of those parts
+-- the non-blink flag of the parts' record
 abbrev pub non_blink : Parts → Bool
-non_blink parts = record_non_blink (record_of parts)
+non_blink parts = is_non_blink (record_of parts)
 
 -- the place of a position: its row and its column, counted from 1
 abbrev pub place_of : Position → Place
@@ -89,7 +82,7 @@ pub record IsPass (file_length : ℕ) (sauce content : List ℕ) (pass : Pass) :
   pub nothing : IfNone pass.reliance (pass.needs ≡ none_known)
   pub relies : IfSome pass.reliance (λ r. (pass.needs ≢ none_known)
       × IsReliance (record_size sauce) file_length content r)
-  pub hints : AreHintsOf (record_size sauce) (record_non_blink sauce) content [] pass.hints
+  pub hints : AreHintsOf (record_size sauce) (is_non_blink sauce) content [] pass.hints
 
 -- F19 to F21, of which more lines may rid a content
 abbrev pub IsOfLines : Cause → Type 0
@@ -119,7 +112,7 @@ pub record IsRefusal (sauce content : List ℕ) (r : Refusal) : Type 0 where
   pub lines : AreLines (stated_width sauce) content r.fault.cause r.lines
   pub hints_end : ℕ
   pub ends : EndsHints r.fault r.bytes.now hints_end
-  pub hints : AreHintsOf (record_size sauce) (record_non_blink sauce) (take hints_end content) (drop hints_end content)
+  pub hints : AreHintsOf (record_size sauce) (is_non_blink sauce) (take hints_end content) (drop hints_end content)
       r.hints
 
 -- what is said of the file is true of it

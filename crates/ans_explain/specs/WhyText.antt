@@ -13,7 +13,7 @@ use Rattle.ans_model.specs.Text.ReportText.{size_text, refusal_text}
 use Rattle.ans_sauce.specs.declared.found.Found.{Found}
 use Rattle.ans_sauce.specs.declared.found.Found.TheVariants as found
 use Rattle.ans_sauce.specs.declared.parts.Parts.{Parts}
-use Rattle.ans_sauce.specs.Parts.{record_of}
+use Rattle.ans_sauce.specs.Parts.{record_of, size_of}
 use Rattle.ans_hints.specs.HintsText.{hints_text}
 use Rattle.ans_explain.specs.declared.why.Why.{Why}
 use Rattle.ans_explain.specs.declared.why.Why.TheVariants.{NoContent, Refused, Passes}
@@ -23,7 +23,6 @@ use Rattle.ans_explain.specs.declared.why.Refusal.{Refusal}
 use Rattle.ans_explain.specs.declared.why.Reliance.{Reliance}
 use Rattle.ans_explain.specs.declared.why.Shown.{Shown}
 use Rattle.ans_explain.specs.declared.why.Shown.TheVariants.{Cursors, Cells}
-use Rattle.ans_explain.specs.Explained.{size_of}
 
 -- a control byte of ANSI.SYS by its name, and another byte by its character
 abbrev pub quoted_byte : ℕ → List ℕ

@@ -1,7 +1,7 @@
 //! The bytes to blame for a fault of a content.
 ghost use Rattle.std.specs.Prelude.{◌≡◌, ◌≤◌, List, ℕ, length};
 ghost use Rattle.ans_model.specs.Bytes.{longest_file};
-ghost use Rattle.ans_why.specs.Evidence.{IsDeserved};
+ghost use Rattle.ans_model.specs.Verdict.LastFault.{IsDeserved};
 ghost use Rattle.ans_explain.specs.Blamed.{AreToBlame, IsReadFirst};
 
 use ans_model::fault::Fault;

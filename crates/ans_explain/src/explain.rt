@@ -6,11 +6,11 @@ ghost use Rattle.ans_model.specs.File.Refusals.{record_fault};
 ghost use Rattle.ans_model.specs.Screen.State.{IsOnScreen};
 ghost use Rattle.ans_model.specs.Screen.StartClass.{none_known, all_known};
 ghost use Rattle.ans_model.specs.Verdict.Needs.{IsLeast};
-ghost use Rattle.ans_sauce.specs.Parts.{content_of, record_of};
+ghost use Rattle.ans_sauce.specs.Parts.{content_of, record_of, size_of};
 ghost use Rattle.ans_sauce.specs.Split.{IsSplit};
-ghost use Rattle.ans_why.specs.Evidence.{IsDeserved};
+ghost use Rattle.ans_model.specs.Verdict.LastFault.{IsDeserved};
 ghost use Rattle.ans_explain.specs.Blamed.{AreToBlame};
-ghost use Rattle.ans_explain.specs.Explained.{size_of, non_blink, place_of, IsShown, AreHintsOf, IsReliance, IsPass};
+ghost use Rattle.ans_explain.specs.Explained.{non_blink, place_of, IsShown, AreHintsOf, IsReliance, IsPass};
 ghost use Rattle.ans_explain.specs.Explained.{IsOfReading, AreLines, EndsHints, IsRefusal, IsTrueOf};
 
 use crate::blamed::bytes_to_blame;

@@ -9,8 +9,7 @@ ghost use Rattle.ans_write.specs.Writes.{WritesText};
 ghost use Rattle.ans_write.specs.Puts.{Puts};
 ghost use Rattle.ans_explain.specs.WhyText.{quoted_byte, quoted, bytes_line, place_text, cell_text, shown_lines};
 ghost use Rattle.ans_explain.specs.WhyText.{mend_line, reliance_lines, answer_text, lines_line, after_end_mark_text};
-ghost use Rattle.ans_explain.specs.WhyText.{found_line};
-ghost use Rattle.ans_explain.specs.WhyText.{pass_lines, refusal_lines, why_text};
+ghost use Rattle.ans_explain.specs.WhyText.{found_line, pass_lines, refusal_lines, why_text};
 
 use crate::why::{Pass, Place, Refusal, Reliance, Shown, Why};
 use ans_hints::{Hints, put_hints};

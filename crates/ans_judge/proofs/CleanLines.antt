@@ -3,8 +3,7 @@ use Rattle.std.proofs.Common.{◌≡◌, ℕ, ◌*◌, Bool, true, false, refl, 
 use Rattle.std.proofs.Common.{arith, List, [], ◌∷◌, ◌++◌, length, drop, codes, Option, Some, None, All}
 use Rattle.std.specs.Prelude.{◌==◌, ◌&&◌, ◌||◌, if◌then◌else◌, decimal, flat_map}
 use Rattle.std.proofs.lemmas.Bool.Decides.{nat_tests}
-use Rattle.std.proofs.lemmas.List.Elements.{All-head, All-tail, All-nil, All-cons, All-take}
-use Rattle.std.proofs.lemmas.List.Elements.{All-drop}
+use Rattle.std.proofs.lemmas.List.Elements.{All-head, All-tail, All-nil, All-cons, All-take, All-drop}
 use Rattle.ans_model.specs.declared.fault.Fault.{Fault}
 use Rattle.ans_model.specs.declared.fault.Cause.{Cause}
 use Rattle.ans_model.specs.declared.fault.Cause.TheVariants.{UnknownCell}
@@ -13,19 +12,15 @@ use Rattle.ans_model.specs.declared.note.Note.TheVariants.{WidthAssumed}
 use Rattle.ans_model.specs.declared.start.Start.{Start}
 use Rattle.ans_model.specs.Bytes.{IsByte}
 use Rattle.ans_model.specs.File.Layout.{FileParts, comment_block}
-use Rattle.ans_model.specs.File.Record.{field}
-use Rattle.ans_model.specs.File.Record.{comment_count}
-use Rattle.ans_model.specs.File.Record.{trimmed}
+use Rattle.ans_model.specs.File.Record.{field, comment_count, trimmed}
 use Rattle.ans_model.specs.File.Refusals.{Accepts}
 use Rattle.ans_model.specs.Screen.State.{Size}
 use Rattle.ans_model.specs.Text.Characters.{shown_bytes}
 use Rattle.ans_model.specs.Text.FaultText.{line_of, fault_text, position_text, fault_line, note_line}
 use Rattle.ans_model.specs.Text.NeedsText.{needed_parts}
 use Rattle.ans_model.specs.Text.RecordText.{named_line, field_line}
-use Rattle.ans_model.specs.Text.ReportText.{Heading, known_part, known_parts, start_name}
-use Rattle.ans_model.specs.Text.ReportText.{size_text, start_line}
-use Rattle.ans_model.specs.Text.ReportText.{heading_text}
-use Rattle.ans_model.specs.Text.ReportText.{refusal_text}
+use Rattle.ans_model.specs.Text.ReportText.{Heading, known_part, known_parts, start_name, size_text, start_line}
+use Rattle.ans_model.specs.Text.ReportText.{heading_text, refusal_text}
 use Rattle.ans_judge.specs.CleanTexts.{IsCleanText}
 use Rattle.ans_judge.proofs.CleanPieces.{clean_nil, clean_append, clean_if, clean_flat_map, plain_text, clean_line}
 use Rattle.ans_judge.proofs.CleanPieces.{clean_decimal, clean_shown}

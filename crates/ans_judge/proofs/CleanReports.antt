@@ -2,10 +2,9 @@
 use Rattle.std.proofs.Common.{◌≡◌, inl, inr, ℕ, zero, suc, ◌+◌, ◌*◌, ◌≤◌, Bool, true, false, refl, sym, ap, subst}
 use Rattle.std.proofs.Common.{arith, List, [], ◌∷◌, ◌++◌, length, map, take, drop, codes, Option, Some, None, All}
 use Rattle.std.proofs.Common.{unwrap_or}
-use Rattle.std.specs.Prelude.{◌&&◌, if◌then◌else◌, decimal, flat_map}
+use Rattle.std.specs.Prelude.{◌&&◌, if◌then◌else◌, decimal, flat_map, Ok, Err}
 use Rattle.std.proofs.lemmas.List.{length-take}
-use Rattle.std.proofs.lemmas.List.Elements.{All-head, All-tail, All-map, All-weaker, All-take}
-use Rattle.std.proofs.lemmas.List.Elements.{All-drop}
+use Rattle.std.proofs.lemmas.List.Elements.{All-head, All-tail, All-map, All-weaker, All-take, All-drop}
 use Rattle.ans_model.specs.declared.cell.Cell.{Cell}
 use Rattle.ans_model.specs.declared.fault.Fault.{Fault}
 use Rattle.ans_model.specs.declared.start.Start.{Start}
@@ -13,8 +12,8 @@ use Rattle.ans_model.specs.Bytes.{IsByte}
 use Rattle.ans_model.specs.File.Layout.{FileParts, content}
 use Rattle.ans_model.specs.File.NoteConditions.{notes}
 use Rattle.ans_model.specs.File.Record.{number, field, title_field, author_field, group_field, date_field, file_size}
-use Rattle.ans_model.specs.File.Record.{comment_count, flags, font_field, stated_width, stated_lines}
-use Rattle.ans_model.specs.File.Record.{trimmed, comment}
+use Rattle.ans_model.specs.File.Record.{comment_count, flags, font_field, stated_width, stated_lines, trimmed, comment}
+use Rattle.ans_model.specs.File.Record.{is_non_blink}
 use Rattle.ans_model.specs.Screen.State.{IsByteCell, sized}
 use Rattle.ans_model.specs.Sequence.TokenKind.{TokenKind, PrintsByte, Glyph, Bell, BackSpace, LineFeed, CarriageReturn}
 use Rattle.ans_model.specs.Sequence.TokenKind.{Tab, Up, Down, Forward, Backward, Place, Clear, EraseLine, Save}
@@ -24,10 +23,9 @@ use Rattle.ans_model.specs.Text.FaultText.{line_of, note_line}
 use Rattle.ans_model.specs.Text.Hexadecimal.{hex_byte}
 use Rattle.ans_model.specs.Text.NeedsText.{needed_parts}
 use Rattle.ans_model.specs.Text.RecordText.{named_line, field_line, comment_lines, record_text}
-use Rattle.ans_model.specs.Text.ReportText.{Heading, Passed, RefusedFor}
-use Rattle.ans_model.specs.Text.ReportText.{size_text}
-use Rattle.ans_model.specs.Text.ReportText.{heading_text, rows_of, picture_line, cell_digits, cells_line}
-use Rattle.ans_model.specs.Text.ReportText.{picture_text, cells_text, refusal_text, verdict_text, report_text}
+use Rattle.ans_model.specs.Text.ReportText.{Heading, Passed, RefusedFor, size_text, heading_text, rows_of, picture_line}
+use Rattle.ans_model.specs.Text.ReportText.{cell_digits, cells_line, picture_text, cells_text, refusal_text}
+use Rattle.ans_model.specs.Text.ReportText.{verdict_text, report_text}
 use Rattle.ans_model.specs.Text.TokensText.{token_name, token_line, token_lines, fault_end, TokensText}
 use Rattle.ans_model.specs.Verdict.Good.{Picture}
 use Rattle.ans_model.proofs.Reading.{reads_bytes}
@@ -37,10 +35,8 @@ use Rattle.ans_options.specs.declared.command.Form.{Form}
 use Rattle.ans_options.specs.declared.command.Form.TheVariants.{Terminal, Vga, Page}
 use Rattle.ans_options.specs.declared.command.Options.{Options}
 use Rattle.ans_report.specs.Message.{message_line}
-use Rattle.ans_check.specs.CommandText.{Reports, ReportsBy, ReportsCheck, ReportsNeeds}
-use Rattle.ans_check.specs.CommandText.{ReportsPicture, ReportsRecordFault, ReportsSauce, ReportsShow, ReportsTokens}
-use Rattle.ans_check.specs.CommandText.{heading}
-use Rattle.ans_explain.specs.Explained.{record_non_blink}
+use Rattle.ans_check.specs.CommandText.{Reports, ReportsBy, ReportsCheck, ReportsNeeds, ReportsPicture}
+use Rattle.ans_check.specs.CommandText.{ReportsRecordFault, ReportsSauce, ReportsShow, ReportsTokens, heading}
 use Rattle.ans_show.specs.TerminalText.{terminal_text}
 use Rattle.ans_check.specs.Ending.{ending_message}
 use Rattle.ans_check.specs.declared.errors.RunError.{RunError}
@@ -49,12 +45,10 @@ use Rattle.ans_check.specs.declared.exit_status.Ending.{Ending}
 use Rattle.ans_check.specs.declared.exit_status.Ending.TheVariants as ended
 use Rattle.ans_check.specs.declared.exit_status.Ending.TheVariants.{Run, Help, Usage, UnreadableWords, UnopenedFile}
 use Rattle.ans_check.specs.Run.{run_error_text}
-use Rattle.std.specs.Prelude.{Ok, Err}
 use Rattle.ans_judge.specs.CleanTexts.{IsCleanText, IsColouredText, is_for_terminal}
 use Rattle.ans_judge.proofs.CleanLines.{fault_line_clean, note_line_clean, refusal_clean, size_clean}
-use Rattle.ans_judge.proofs.CleanLines.{needed_parts_clean}
-use Rattle.ans_judge.proofs.CleanLines.{heading_clean, OfBytes, parts_are_bytes, field_is_bytes, trimmed_is_bytes}
-use Rattle.ans_judge.proofs.CleanLines.{named_clean, field_clean}
+use Rattle.ans_judge.proofs.CleanLines.{needed_parts_clean, heading_clean, OfBytes, parts_are_bytes, field_is_bytes}
+use Rattle.ans_judge.proofs.CleanLines.{trimmed_is_bytes, named_clean, field_clean}
 use Rattle.ans_judge.proofs.CleanWhy.{why_clean}
 use Rattle.ans_judge.proofs.CleanPictures.{coloured_where_clean, of_rows, page_clean, terminal_coloured}
 use Rattle.ans_judge.proofs.CleanPieces.{clean_nil, clean_append, clean_if, clean_flat_map, plain_text, clean_line}
@@ -289,16 +283,16 @@ page_report_clean file start text bytes h =
     let title = trimmed (title_field sauce) in
     let of_bytes = (parts_are_bytes file h.apart h.passes.accepts bytes).sauce in
     subst IsCleanText (sym h.text_is)
-    (page_clean (record_non_blink sauce) title h.picture
+    (page_clean (is_non_blink sauce) title h.picture
     (trimmed_is_bytes (title_field sauce) (field_is_bytes 7 35 sauce of_bytes))
     h.passes.good.shows.is_picture.bytes)
 
 terminal_report_coloured : (file : List ℕ) (start : Start) (form : Form) (vga : Bool) (text : List ℕ)
     → (h : ReportsPicture file start form text)
-    → text ≡ terminal_text vga (record_non_blink h.apart.record_bytes) h.picture → IsColouredText text
+    → text ≡ terminal_text vga (is_non_blink h.apart.record_bytes) h.picture → IsColouredText text
 terminal_report_coloured file start form vga text h is =
     subst IsColouredText (sym is)
-    (terminal_coloured vga (record_non_blink h.apart.record_bytes) h.picture h.passes.good.shows.is_picture.bytes)
+    (terminal_coloured vga (is_non_blink h.apart.record_bytes) h.picture h.passes.good.shows.is_picture.bytes)
 
 -- a picture as a page, and any refusal
 show_clean : (file : List ℕ) (start : Start) (form : Form) (passed : Bool) (text : List ℕ) → All IsByte file

@@ -30,15 +30,16 @@ use Rattle.ans_sauce.specs.declared.found.Found.{Found}
 use Rattle.ans_sauce.specs.declared.found.Found.TheVariants as found
 use Rattle.ans_sauce.specs.declared.parts.Parts.{Parts}
 use Rattle.ans_sauce.specs.Found.{IsFound, record_in}
-use Rattle.ans_sauce.specs.Parts.{content_of, record_of}
+use Rattle.ans_sauce.specs.Parts.{content_of, record_of, size_of}
 use Rattle.ans_sauce.specs.Split.{IsSplit}
-use Rattle.ans_why.specs.Evidence.{IsDeserved, ShowsNamed}
+use Rattle.ans_model.specs.Verdict.LastFault.{IsDeserved}
+use Rattle.ans_why.specs.Evidence.{ShowsNamed}
 use Rattle.ans_hints.specs.Fonts.{has_other_code_page}
 use Rattle.ans_hints.specs.HintsText.{hint_line, times_text, times_line, font_line, empty_rows_line, hints_text}
 use Rattle.ans_hints.specs.declared.hints.Hints.{Hints}
 use Rattle.ans_hints.specs.declared.times.Times.{Times}
 use Rattle.ans_explain.specs.Blamed.{AreToBlame}
-use Rattle.ans_explain.specs.Explained.{size_of, IsShown, IsReliance, IsPass, IsRefusal, IsTrueOf}
+use Rattle.ans_explain.specs.Explained.{IsShown, IsReliance, IsPass, IsRefusal, IsTrueOf}
 use Rattle.ans_explain.specs.WhyText.{quoted_byte, quoted, bytes_line, place_text, cell_text, shown_lines, mend_line}
 use Rattle.ans_explain.specs.WhyText.{reliance_lines, answer_text, lines_line, after_end_mark_text, found_line}
 use Rattle.ans_explain.specs.WhyText.{size_line, font_of, pass_lines, refusal_lines, why_text}

@@ -1,6 +1,5 @@
 -- The hints of a content are one, and so is where they end in a refused one.
-use Rattle.std.proofs.Common.{◌≡◌, inl, inr, ℕ, ◌+◌, Bool, List, [], ◌∷◌, ◌++◌, length, take, refl, sym}
-use Rattle.std.proofs.Common.{ap, ◌∙◌, subst}
+use Rattle.std.proofs.Common.{◌≡◌, inl, inr, ℕ, ◌+◌, Bool, List, [], ◌∷◌, ◌++◌, length, take, refl, sym, ap, ◌∙◌, subst}
 use Rattle.std.specs.Prelude.{⊤}
 use Rattle.std.specs.List.{AllZip, concat}
 use Rattle.std.proofs.Math.Seq.{take-append-add, take-append_seam}
@@ -21,8 +20,7 @@ use Rattle.ans_model.specs.Sequence.Reads.{SpellsToken, Reads}
 use Rattle.ans_model.specs.Sequence.TokenKind.{TokenKind, Glyph, LineFeed, EraseLine, Tab, Place, Mode, Keys, Ask}
 use Rattle.ans_model.specs.Verdict.FirstFault.{IsRefused, IsToBlame, IsFirstFault}
 use Rattle.ans_model.specs.Verdict.LastFault.{EndsInSequence, LeavesUnknown}
-use Rattle.ans_model.specs.Verdict.TokenFault.{HasStaticFault, HasPrintFault, HasFaultAfter, HasFault}
-use Rattle.ans_model.specs.Verdict.TokenFault.{then_blanks}
+use Rattle.ans_model.specs.Verdict.TokenFault.{HasStaticFault, HasPrintFault, HasFaultAfter, HasFault, then_blanks}
 use Rattle.ans_model.proofs.OneCause.{cleared_is_one}
 use Rattle.ans_model.proofs.Reading.{IsOfMeaning, means_well}
 use Rattle.ans_hints.specs.Hints.{AreHints}

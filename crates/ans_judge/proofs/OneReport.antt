@@ -26,9 +26,8 @@ use Rattle.ans_options.specs.declared.command.Options.{Options}
 use Rattle.ans_check.specs.CommandText.{Reports, ReportsBy, ReportsCheck, ReportsContent, ReportsFault, ReportsLeast}
 use Rattle.ans_check.specs.CommandText.{ReportsNeeds, ReportsPass, ReportsPicture, ReportsShow, ReportsWhy}
 use Rattle.ans_check.specs.CommandText.{ReportsRecordFault, ReportsSauce, ReportsTokens, heading, shown_text}
-use Rattle.ans_check.specs.FileVerdict.{Passes}
+use Rattle.ans_check.specs.FileVerdict.{Passes, Deserves, IsGoodFile, IsRefusedFor, stated_size}
 use Rattle.ans_check.specs.FileNeeds.{NeedsClass}
-use Rattle.ans_check.specs.FileVerdict.{Deserves, IsGoodFile, IsRefusedFor, stated_size}
 use Rattle.ans_judge.proofs.Covering.{covers_both_ways}
 use Rattle.ans_judge.proofs.NeedsAndChecks.{good_where_covered}
 use Rattle.ans_judge.proofs.OneWhy.{one_why}

@@ -1,15 +1,14 @@
 -- What is true of a file has one text.
-use Rattle.std.proofs.Common.{◌≡◌, ◌≢◌, inl, inr, ℕ, Bool, List, [], ◌++◌, length, take, drop, codes, refl}
-use Rattle.std.proofs.Common.{sym, ap, ap₂, ◌∙◌, subst, subst₂, Option, Some, None}
+use Rattle.std.proofs.Common.{◌≡◌, ◌≢◌, inl, inr, ℕ, Bool, List, [], ◌++◌, length, take, drop, codes, refl, sym, ap}
+use Rattle.std.proofs.Common.{ap₂, ◌∙◌, subst, subst₂, Option, Some, None, arith}
 use Rattle.std.specs.Prelude.{◌↔◌, IsTrue, IfSome, IfNone}
 use Rattle.std.proofs.lemmas.Bool.{cases_lt}
-use Rattle.std.proofs.Common.{arith}
 use Rattle.std.proofs.lemmas.Option.{same_Some}
 use Rattle.ans_model.specs.declared.fault.Cause.{Cause}
 use Rattle.ans_model.specs.declared.fault.Fault.{Fault}
 use Rattle.ans_model.specs.declared.start.Start.{Start}
 use Rattle.ans_model.specs.File.Layout.{FileParts, content}
-use Rattle.ans_model.specs.File.Record.{font_field, stated_width, trimmed}
+use Rattle.ans_model.specs.File.Record.{font_field, stated_width, trimmed, is_non_blink}
 use Rattle.ans_model.specs.File.Refusals.{record_fault}
 use Rattle.ans_model.specs.Screen.State.{Size}
 use Rattle.ans_model.specs.Screen.StartClass.{all_known, none_known}
@@ -27,15 +26,14 @@ use Rattle.ans_sauce.specs.declared.found.Found.{Found}
 use Rattle.ans_sauce.specs.Found.{IsFound}
 use Rattle.ans_sauce.specs.Parts.{content_of, record_of}
 use Rattle.ans_sauce.specs.Split.{IsSplit}
-use Rattle.ans_why.specs.Evidence.{IsDeserved}
+use Rattle.ans_model.specs.Verdict.LastFault.{IsDeserved}
 use Rattle.ans_why.specs.Lines.{IsLeastLines}
 use Rattle.ans_why.specs.Taller.{IsTaller}
 use Rattle.ans_hints.specs.HintsText.{hints_text}
 use Rattle.ans_hints.specs.declared.hints.Hints.{Hints}
 use Rattle.ans_explain.specs.Blamed.{AreToBlame}
 use Rattle.ans_explain.specs.Explained.{AreHintsOf, AreLines, EndsHints, IsPass, IsRefusal, IsReliance, IsTrueOf}
-use Rattle.ans_explain.specs.Explained.{record_non_blink, record_size}
-use Rattle.ans_explain.specs.Explained.{IsShown, ShowsPlaces}
+use Rattle.ans_explain.specs.Explained.{record_size, IsShown, ShowsPlaces}
 use Rattle.ans_explain.specs.WhyText.{answer_text, bytes_line, lines_line, mend_line, place_text}
 use Rattle.ans_explain.specs.WhyText.{reliance_lines, shown_lines, why_text}
 use Rattle.ans_explain.specs.declared.why.Pass.{Pass}
@@ -153,12 +151,12 @@ module _ (sauce bytes : List ℕ) (r s : Refusal) (h : IsRefusal sauce bytes r) 
       let moved : EndsHints r.fault r.bytes.now g.hints_end =
       subst₂ (λ (f : Fault) (v : List ℕ). EndsHints f v g.hints_end) same_fault (sym same_bytes) g.ends in
       let end_is : g.hints_end ≡ at.end = at.only g.hints_end moved in
-      one_hints (record_size sauce) (record_non_blink sauce) (take at.end bytes) (drop at.end bytes) at.tokens r.hints
+      one_hints (record_size sauce) (is_non_blink sauce) (take at.end bytes) (drop at.end bytes) at.tokens r.hints
       s.hints
       at.reads
-      (subst (λ (n : ℕ). AreHintsOf (record_size sauce) (record_non_blink sauce) (take n bytes) (drop n bytes) r.hints)
+      (subst (λ (n : ℕ). AreHintsOf (record_size sauce) (is_non_blink sauce) (take n bytes) (drop n bytes) r.hints)
       (at.only h.hints_end h.ends) h.hints)
-      (subst (λ (n : ℕ). AreHintsOf (record_size sauce) (record_non_blink sauce) (take n bytes) (drop n bytes) s.hints)
+      (subst (λ (n : ℕ). AreHintsOf (record_size sauce) (is_non_blink sauce) (take n bytes) (drop n bytes) s.hints)
       end_is
       g.hints)
 
@@ -237,7 +235,7 @@ module _ (file_length : ℕ) (sauce bytes : List ℕ) (p q : Pass) (h : IsPass f
   same_pass_hints : p.hints ≡ q.hints
   same_pass_hints =
       let good : IsGood (record_size sauce) all_known bytes = least_is_good (record_size sauce) bytes p.needs h.needs in
-      one_hints (record_size sauce) (record_non_blink sauce) bytes [] good.1.tokens p.hints q.hints good.1.reads h.hints
+      one_hints (record_size sauce) (is_non_blink sauce) bytes [] good.1.tokens p.hints q.hints good.1.reads h.hints
       g.hints
 
   one_pass : pass_said sauce p.needs p.taller (reliance_lines p.reliance) p.hints

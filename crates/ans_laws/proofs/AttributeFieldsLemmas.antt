@@ -5,8 +5,7 @@ use Rattle.std.specs.Prelude.{IsFalse, ◌&&◌, ◌==◌}
 use Rattle.std.specs.List.{list_all}
 use Rattle.std.proofs.lemmas.Bool.{eqb-true, cases_eq, and_parts, ne_eqb}
 use Rattle.ans_model.specs.Screen.Attribute.{Rendition, renditions, rendition_of, attribute_by, attribute_after}
-use Rattle.ans_laws.specs.AttributeLaws.{foreground, bright, background, blink, HasFields}
-use Rattle.ans_laws.specs.AttributeLaws.{is_colour_parameter}
+use Rattle.ans_laws.specs.AttributeLaws.{foreground, bright, background, blink, HasFields, is_colour_parameter}
 
 -- the test holds of each number below n
 abbrev pub all_below : ℕ → (ℕ → Bool) → Bool

@@ -5,8 +5,7 @@ use Rattle.std.proofs.lemmas.Bool.{and_parts}
 use Rattle.ans_model.specs.Screen.State.{State}
 use Rattle.ans_model.specs.Screen.StartClass.{Covers, all_known, IsStart}
 use Rattle.ans_model.specs.declared.start.Start.{Start}
-use Rattle.ans_laws.specs.StartLaws.{NoneKnownIsEvery, AllKnownIsOne}
-use Rattle.ans_laws.specs.StartLaws.{BothKnownIsGreatest, known_in_either}
+use Rattle.ans_laws.specs.StartLaws.{NoneKnownIsEvery, AllKnownIsOne, BothKnownIsGreatest, known_in_either}
 use Rattle.ans_laws.specs.StartLaws.{KnownPartsTogether}
 use Rattle.ans_model.proofs.OneCause.{is_cleared}
 use Rattle.ans_model.proofs.StartLemmas.{low_is_start}

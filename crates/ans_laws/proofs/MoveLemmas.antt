@@ -1,8 +1,7 @@
 -- Where the moves take the cursor.
 use Rattle.std.proofs.Common.{◌≡◌, inl, inr, ℕ, ◌+◌, ◌-◌, ◌<◌, ◌≤◌, min, refl, ap, arith}
 use Rattle.std.proofs.lemmas.Bool.{cases_lt}
-use Rattle.ans_model.specs.Sequence.TokenKind.{BackSpace, CarriageReturn, Up, Down, Forward, Backward, Place}
-use Rattle.ans_model.specs.Sequence.TokenKind.{Restore}
+use Rattle.ans_model.specs.Sequence.TokenKind.{BackSpace, CarriageReturn, Up, Down, Forward, Backward, Place, Restore}
 use Rattle.ans_model.specs.Screen.State.{State}
 use Rattle.ans_model.specs.declared.cell.Position.{Position}
 use Rattle.ans_model.specs.Screen.Step.{step}

@@ -16,9 +16,8 @@ use Rattle.ans_model.specs.declared.fault.Cause.TheVariants.{LinesUnstated, Widt
 use Rattle.ans_model.specs.declared.fault.Cause.TheVariants.{BytesAfterEndMark, BrokenSequence, NumberTooLarge}
 use Rattle.ans_model.specs.declared.fault.Cause.TheVariants.{TooManyParameters, EndInSequence, UnknownSequence}
 use Rattle.ans_model.specs.declared.fault.Cause.TheVariants.{WrongParameters, KeyReassigned, ScreenMode, ReportAsked}
-use Rattle.ans_model.specs.declared.fault.Cause.TheVariants.{OutsideScreen, PrintBelow, Scrolls}
-use Rattle.ans_model.specs.declared.fault.Cause.TheVariants.{PrintUnknownPlace, EraseUnknownPlace, MayScroll}
-use Rattle.ans_model.specs.declared.fault.Cause.TheVariants.{UnknownCell}
+use Rattle.ans_model.specs.declared.fault.Cause.TheVariants.{OutsideScreen, PrintBelow, Scrolls, PrintUnknownPlace}
+use Rattle.ans_model.specs.declared.fault.Cause.TheVariants.{EraseUnknownPlace, MayScroll, UnknownCell}
 use Rattle.ans_model.specs.declared.note.Note.{Note}
 use Rattle.ans_model.specs.declared.note.Note.TheVariants.{WidthAssumed, NoEndMark, SizeDiffers, OddDate, FlagBits}
 use Rattle.ans_model.specs.declared.note.Note.TheVariants.{FlagPair}

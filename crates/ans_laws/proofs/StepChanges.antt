@@ -7,15 +7,12 @@ use Rattle.std.proofs.lemmas.List.{length-drop, length-set}
 use Rattle.ans_model.specs.Sequence.TokenKind.{Clear, EraseLine}
 use Rattle.ans_model.specs.Screen.State.{Size, State, IsWellFormed, at, cell, cell_at, cell_count, index}
 use Rattle.ans_model.specs.declared.cell.Position.{Position}
-use Rattle.ans_model.specs.Screen.Step.{step, scrolled, line_feed, printed}
-use Rattle.ans_model.specs.Screen.Step.{blank_cell}
-use Rattle.ans_laws.specs.StepLaws.{OnlyScreenAndCursor}
-use Rattle.ans_laws.specs.StepLaws.{IsCleared, IsLineErased}
-use Rattle.ans_laws.specs.StepLaws.{NextPosition, GlyphPrints, GlyphScrolls, LineFeedMovesDown, IsScrolled}
-use Rattle.ans_laws.specs.StepLaws.{LineFeedScrolls, IsPrinted, IsPrintedAndScrolled}
+use Rattle.ans_model.specs.Screen.Step.{step, scrolled, line_feed, printed, blank_cell}
+use Rattle.ans_laws.specs.StepLaws.{OnlyScreenAndCursor, IsCleared, IsLineErased, NextPosition, GlyphPrints}
+use Rattle.ans_laws.specs.StepLaws.{GlyphScrolls, LineFeedMovesDown, IsScrolled, LineFeedScrolls, IsPrinted}
+use Rattle.ans_laws.specs.StepLaws.{IsPrintedAndScrolled}
 use Rattle.ans_laws.specs.MoveLaws.{IsLastColumn}
-use Rattle.ans_model.proofs.Slices.{slice_get-append_left, slice_get-append_right}
-use Rattle.ans_model.proofs.Slices.{slice_get-drop, slice_get-replicate}
+use Rattle.ans_model.proofs.Slices.{slice_get-append_left, slice_get-append_right, slice_get-drop, slice_get-replicate}
 use Rattle.ans_model.proofs.PositionLemmas.{same_position, row_le, index-lt}
 use Rattle.ans_model.proofs.StepLemmas.{line_feed_is}
 use Rattle.ans_model.proofs.ChangedCells.{printed_cell, cell_beside_printed, erased_cell, cell_beside_erased}

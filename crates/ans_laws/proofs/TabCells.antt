@@ -1,7 +1,6 @@
 -- Which cells a tab changes, and when it scrolls.
 use Rattle.std.proofs.Common.{◌≡◌, inl, inr, ℕ, zero, suc, fold, ◌+◌, ◌-◌, ◌*◌, ◌/◌, ◌%◌, ◌<◌, ◌≤◌, min, Bool, true}
-use Rattle.std.proofs.Common.{false, refl, sym, ap, ◌∙◌, arith, List, length, set}
-use Rattle.std.proofs.Common.{replicate, Some, lit<}
+use Rattle.std.proofs.Common.{false, refl, sym, ap, ◌∙◌, arith, List, length, set, replicate, Some, lit<}
 use Rattle.std.specs.Prelude.{if◌then◌else◌}
 use Rattle.std.proofs.Math.Nat.{mod-lt, div-add-mod}
 use Rattle.std.proofs.lemmas.Bool.{cases_Bool, cases_lt, lt-ltb, le-ltb}
@@ -11,8 +10,7 @@ use Rattle.ans_model.specs.Sequence.TokenKind.{Tab}
 use Rattle.ans_model.specs.declared.cell.Cell.{Cell}
 use Rattle.ans_model.specs.declared.cell.Position.{Position}
 use Rattle.ans_model.specs.Screen.State.{Size, State, FitsScreen, IsOnScreen, at, cell_at, cell_count, index}
-use Rattle.ans_model.specs.Screen.Step.{blank_cell, filled, next_row_start, line_feed, printed, put}
-use Rattle.ans_model.specs.Screen.Step.{tab_blanks, step}
+use Rattle.ans_model.specs.Screen.Step.{blank_cell, filled, next_row_start, line_feed, printed, put, tab_blanks, step}
 use Rattle.ans_laws.specs.MoveLaws.{IsLastColumn}
 use Rattle.ans_laws.specs.StepLaws.{OnlyScreenAndCursor, PrintsBlanks, TabBlanksCells, IsAfterTab, tab_end}
 use Rattle.ans_laws.specs.StepLaws.{IsTabbed, FullTabScrolls, ScrollsAt, PrintScrolls, screen_in_place}

@@ -16,8 +16,7 @@ use Rattle.ans_model.specs.File.NoteConditions.{notes}
 use Rattle.ans_model.specs.Text.Hexadecimal.{hex_byte}
 use Rattle.ans_model.specs.Text.FaultText.{line_of, fault_text, position_text, fault_line, note_text, note_line}
 use Rattle.ans_model.specs.Text.ReportText.{Heading, ReportVerdict, Passed, RefusedFor, size_text, heading_text}
-use Rattle.ans_model.specs.Text.ReportText.{rows_of}
-use Rattle.ans_model.specs.Text.ReportText.{picture_line, cell_digits, cells_line, picture_text, cells_text}
+use Rattle.ans_model.specs.Text.ReportText.{rows_of, picture_line, cell_digits, cells_line, picture_text, cells_text}
 use Rattle.ans_model.specs.Text.ReportText.{refusal_text, verdict_text, report_text}
 use Rattle.ans_model.specs.Text.RecordText.{named_line, field_line, comment_lines, record_text}
 use Rattle.ans_model.specs.Text.TokensText.{token_name, token_line, token_lines, fault_end, TokensText}

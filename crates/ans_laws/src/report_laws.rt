@@ -10,14 +10,11 @@ ghost use Rattle.ans_model.specs.Screen.State.{Size};
 ghost use Rattle.ans_model.specs.Verdict.Good.{Picture, IsPictureOf};
 ghost use Rattle.ans_model.specs.Text.Characters.{glyph_text};
 ghost use Rattle.ans_model.specs.Text.FaultText.{fault_text, fault_line, note_line};
-ghost use Rattle.ans_model.specs.Text.ReportText.{Heading, ReportVerdict, cells_line, rows_of};
-ghost use Rattle.ans_model.specs.Text.ReportText.{picture_back};
-ghost use Rattle.ans_model.specs.Text.ReportText.{report_text};
-ghost use Rattle.ans_model.specs.Text.ReportText.{refusal_text};
+ghost use Rattle.ans_model.specs.Text.ReportText.{Heading, ReportVerdict, cells_line, rows_of, picture_back};
+ghost use Rattle.ans_model.specs.Text.ReportText.{report_text, refusal_text};
 ghost use Rattle.ans_model.specs.Text.RecordText.{record_text};
 ghost use Rattle.ans_model.specs.Text.TokensText.{TokensText};
-ghost use Rattle.ans_laws.specs.LineLaws.{FitsTypes, IsUnknownCell, EndsInLineFeed};
-ghost use Rattle.ans_laws.specs.LineLaws.{IsEmptyOrEndsInLineFeed};
+ghost use Rattle.ans_laws.specs.LineLaws.{FitsTypes, IsUnknownCell, EndsInLineFeed, IsEmptyOrEndsInLineFeed};
 
 /// The cells of a picture are read back from their digits.
 pub fn cells_read_back()

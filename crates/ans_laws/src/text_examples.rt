@@ -2,10 +2,8 @@
 
 ghost use Rattle.std.specs.Prelude.{◌≡◌, ◌++◌, [], ◌∷◌, codes, replicate, true, false, Some, None};
 ghost use Rattle.ans_model.specs.Bytes.{end_mark};
-ghost use Rattle.ans_model.specs.Sequence.TokenKind.{Bell, BackSpace, LineFeed, CarriageReturn};
-ghost use Rattle.ans_model.specs.Sequence.TokenKind.{Glyph, Up, Down};
-ghost use Rattle.ans_model.specs.Sequence.TokenKind.{Forward, Backward, Place, Clear, EraseLine};
-ghost use Rattle.ans_model.specs.Sequence.TokenKind.{Save, Restore};
+ghost use Rattle.ans_model.specs.Sequence.TokenKind.{Bell, BackSpace, LineFeed, CarriageReturn, Glyph, Up, Down};
+ghost use Rattle.ans_model.specs.Sequence.TokenKind.{Forward, Backward, Place, Clear, EraseLine, Save, Restore};
 ghost use Rattle.ans_model.specs.Sequence.TokenKind.{Colours, Wrap, Mode, Keys, Ask, Tab};
 ghost use Rattle.ans_model.specs.declared.fault.Cause.TheVariants.{NoRecord, WrongVersion, WrongKind};
 ghost use Rattle.ans_model.specs.declared.fault.Cause.TheVariants.{CommentsMissing, LinesUnstated, WidthTooLarge};
@@ -25,8 +23,7 @@ ghost use Rattle.ans_model.specs.Sequence.Reads.{SpellsToken};
 ghost use Rattle.ans_model.specs.Verdict.FirstFault.{IsRefused};
 ghost use Rattle.ans_model.specs.Text.Characters.{shown_bytes};
 ghost use Rattle.ans_model.specs.Text.FaultText.{fault_line};
-ghost use Rattle.ans_model.specs.Text.ReportText.{heading_text, report_text, refusal_text};
-ghost use Rattle.ans_model.specs.Text.ReportText.{cells_line, Passed};
+ghost use Rattle.ans_model.specs.Text.ReportText.{heading_text, report_text, refusal_text, cells_line, Passed};
 ghost use Rattle.ans_model.specs.Text.ReportText.{RefusedFor};
 ghost use Rattle.ans_model.specs.Text.NeedsText.{needs_text};
 ghost use Rattle.ans_model.specs.Text.RecordText.{record_text};

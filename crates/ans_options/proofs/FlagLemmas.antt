@@ -1,7 +1,6 @@
 -- An argument that a command does not take has no row in its matches. So without flags nothing is known of the start.
-use Rattle.std.proofs.Common.{◌≡◌, ◌≢◌, ◌∙◌, Bool, ◌&&◌, ◌||◌, true, false, true≢false, List, []}
-use Rattle.std.proofs.Common.{◌∷◌, Option, Some, None, refl, sym, subst}
-use Rattle.std.proofs.Common.{inl, inr, codes}
+use Rattle.std.proofs.Common.{◌≡◌, ◌≢◌, ◌∙◌, Bool, ◌&&◌, ◌||◌, true, false, true≢false, List, [], ◌∷◌, Option, Some}
+use Rattle.std.proofs.Common.{None, refl, sym, subst, inl, inr, codes}
 use Rattle.std.specs.Prelude.{IsSomeAnd, if◌then◌else◌}
 use Rattle.std.specs.List.{list_any}
 use Rattle.std.specs.Str.{bytes_eq}

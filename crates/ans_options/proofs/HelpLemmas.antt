@@ -1,7 +1,6 @@
 -- Where help may be the fault of the program's words, it is the only kind there; and so is the version.
 use Rattle.std.proofs.Common.{◌≡◌, ◌⊎◌, inl, inr, ℕ, zero, suc, ◌+◌, Bool, true, false, not, ◌&&◌, ◌||◌, ◌==◌, refl}
-use Rattle.std.proofs.Common.{sym}
-use Rattle.std.proofs.Common.{ap, List, [], ◌∷◌, length, drop, Option, Some, None, codes}
+use Rattle.std.proofs.Common.{sym, ap, List, [], ◌∷◌, length, drop, Option, Some, None, codes}
 use Rattle.std.specs.Prelude.{if◌then◌else◌, find, is_some, slice_get, encode_utf8, min, nat_lt}
 use Rattle.std.specs.List.{list_any}
 use Rattle.std.specs.Option.{option_map_or}
@@ -12,10 +11,9 @@ use Rattle.clap.specs.Matches.{count_text}
 use Rattle.clap.specs.Takes.{is_given}
 use Rattle.clap.specs.Values.{refused_kind}
 use Rattle.clap.specs.ValueTests.{accepts}
-use Rattle.clap.specs.Faults.{action_fault, bundle_step_fault, check_fault, count_fault}
-use Rattle.clap.specs.Faults.{default_fault, defaults_fault, entered_fault, flag_word_fault, flags_fault}
-use Rattle.clap.specs.Faults.{level_fault, long_fault, option_fault, other_fault}
-use Rattle.clap.specs.Faults.{positional_fault, react_fault, set_fault, settle_fault, short_fault}
+use Rattle.clap.specs.Faults.{action_fault, bundle_step_fault, check_fault, count_fault, default_fault, defaults_fault}
+use Rattle.clap.specs.Faults.{entered_fault, flag_word_fault, flags_fault, level_fault, long_fault, option_fault}
+use Rattle.clap.specs.Faults.{other_fault, positional_fault, react_fault, set_fault, settle_fault, short_fault}
 use Rattle.clap.specs.Faults.{step_fault, stray_fault, turn_fault, use_fault, walk_fault, word_fault}
 use Rattle.clap.specs.Kinds.{check_kinds, or_else, range_kinds, request_kinds, value_kinds, values_kinds}
 use Rattle.clap.specs.Lexer.{long_of, short_of}

@@ -8,15 +8,13 @@ use Rattle.std.specs.Str.{bytes_eq, chars}
 use Rattle.std.proofs.lemmas.List.Folds.{list_any-append}
 use Rattle.clap.specs.Lexer.{long_of, short_of}
 use Rattle.clap.specs.Matches.{count_text}
-use Rattle.clap.specs.Walk.{Held, Names, Outcome, Row, Rule, Step, Text, Waiting, Walk, done, idle, next, option}
-use Rattle.clap.specs.Walk.{plain, positional, refused, subcommand, trailing, value, waits}
-use Rattle.clap.specs.Walk.{action_of, after_flag, after_step, arg_by_id}
-use Rattle.clap.specs.Walk.{arg_by_index, arg_by_long, arg_by_short, at_row}
-use Rattle.clap.specs.Walk.{attached_value, bundle, bundle_met, bundle_step, count_of, counted, default_rows}
-use Rattle.clap.specs.Walk.{flag_met, has_long, has_row, has_short, is_pending, long_met, long_or_other, long_word}
-use Rattle.clap.specs.Walk.{more_values, new_count, nothing_held, option_met, option_word, plain_word, positional_held}
-use Rattle.clap.specs.Walk.{reacted, reading_by, row_text, rows_after, settled, first_of, settled_rows, short_met}
-use Rattle.clap.specs.Walk.{short_or_plain}
+use Rattle.clap.specs.Walk.{Held, Names, Outcome, Row, Rule, Step, Text, Waiting, Walk, done, idle, next, option, plain}
+use Rattle.clap.specs.Walk.{positional, refused, subcommand, trailing, value, waits, action_of, after_flag, after_step}
+use Rattle.clap.specs.Walk.{arg_by_id, arg_by_index, arg_by_long, arg_by_short, at_row, attached_value, bundle}
+use Rattle.clap.specs.Walk.{bundle_met, bundle_step, count_of, counted, default_rows, flag_met, has_long, has_row}
+use Rattle.clap.specs.Walk.{has_short, is_pending, long_met, long_or_other, long_word, more_values, new_count}
+use Rattle.clap.specs.Walk.{nothing_held, option_met, option_word, plain_word, positional_held, reacted, reading_by}
+use Rattle.clap.specs.Walk.{row_text, rows_after, settled, first_of, settled_rows, short_met, short_or_plain}
 use Rattle.clap.specs.Walk.{short_word, subcommand_met, subcommand_or_other, takes_several, takes_values, to_positional}
 use Rattle.clap.specs.Walk.{used, used_as, used_by_id, values_or_missing, walk, walk_from, walked, walked_from}
 use Rattle.clap.specs.Walk.{with_count, with_default, with_values, without, word_met}

@@ -1,7 +1,6 @@
 -- The lines of glyphs, one after another.
-use Rattle.std.proofs.Common.{◌≡◌, ℕ, ◌+◌, ◌<◌, ◌≤◌, List, [], ◌∷◌, ◌++◌, length, take, drop, get_or}
-use Rattle.std.proofs.Common.{codes, decimal, refl}
-use Rattle.std.proofs.Common.{ap, ap₂, sym, length-append, ◌∙◌, arith, append_assoc, append-nil}
+use Rattle.std.proofs.Common.{◌≡◌, ℕ, ◌+◌, ◌<◌, ◌≤◌, List, [], ◌∷◌, ◌++◌, length, take, drop, get_or, codes, decimal}
+use Rattle.std.proofs.Common.{refl, ap, ap₂, sym, length-append, ◌∙◌, arith, append_assoc, append-nil}
 use Rattle.std.proofs.lemmas.Fmt.{decimal_digit}
 use Rattle.std.proofs.lemmas.List.{take_more, take_at, drop_at, length-take-le, drop-append-le}
 use borrow.Rule.Slice.PartMut.{put_mid}

@@ -4,6 +4,7 @@ use Rattle.ans_model.specs.declared.note.Note.{Note}
 use Rattle.ans_model.specs.File.Record.{stated_width, stated_lines}
 use Rattle.ans_model.specs.File.Layout.{FileParts, content}
 use Rattle.ans_model.specs.File.NoteConditions.{notes}
+use Rattle.ans_model.specs.Screen.State.{Size, sized}
 use Rattle.ans_sauce.specs.declared.parts.Parts.{Parts}
 use Rattle.ans_sauce.specs.RecordBytes.{bytes_of}
 
@@ -26,6 +27,10 @@ width_of parts = stated_width (record_of parts)
 -- `parts.lines()`
 abbrev pub lines_of : Parts → ℕ
 lines_of parts = stated_lines (record_of parts)
+
+-- the size of the screen that they state
+abbrev pub size_of : Parts → Size
+size_of parts = sized (width_of parts) (lines_of parts)
 
 -- `parts.notes()`
 abbrev pub notes_of : Parts → List Note

@@ -1,7 +1,6 @@
 -- The cells of planes with a state for each row, through runs and fills.
-use Rattle.std.proofs.Common.{◌≡◌, ℕ, ◌+◌, ◌-◌, ◌*◌, ◌≤◌, ◌<◌, Bool, List, map, length}
-use Rattle.std.proofs.Common.{get_or, replicate, refl, ap, sym, ◌∙◌, arith, inl, inr, ◌⊎◌}
-use Rattle.std.proofs.Common.{drop, take, ◌++◌, append_assoc, All}
+use Rattle.std.proofs.Common.{◌≡◌, ℕ, ◌+◌, ◌-◌, ◌*◌, ◌≤◌, ◌<◌, Bool, List, map, length, get_or, replicate, refl, ap}
+use Rattle.std.proofs.Common.{sym, ◌∙◌, arith, inl, inr, ◌⊎◌, drop, take, ◌++◌, append_assoc, All}
 use Rattle.std.proofs.Math.Seq.{take-append_seam, drop-append-add}
 use Rattle.std.proofs.lemmas.List.{length-append, length-take, drop-drop, replicate-append-replicate}
 use Rattle.std.proofs.lemmas.List.Elements.{All-get_or}

@@ -1,12 +1,10 @@
 -- The planes of cells side by side are filled.
-use Rattle.std.proofs.Common.{◌≡◌, ℕ, ◌*◌, ◌≤◌, true, false, List, get_or, refl, ap, arith}
-use Rattle.std.proofs.Common.{IsTrue}
+use Rattle.std.proofs.Common.{◌≡◌, ℕ, ◌*◌, ◌≤◌, true, false, List, get_or, refl, ap, arith, IsTrue}
 use Rattle.std.proofs.lemmas.Bool.Decides.{nat_tests}
 use Rattle.ans_model.specs.Screen.Step.{filled}
 use Rattle.ans_screen.specs.HalfCells.{is_known}
 use Rattle.ans_screen.specs.CellPlanes.{cell_of}
-use Rattle.ans_screen.specs.RowCells.{Planes, IsMarked}
-use Rattle.ans_screen.specs.RowCells.{SameShown}
+use Rattle.ans_screen.specs.RowCells.{Planes, IsMarked, SameShown}
 use Rattle.ans_screen.specs.declared.row_planes.Row.{Row}
 use Rattle.ans_screen.proofs.Places.{keeps_filled, filled_within}
 

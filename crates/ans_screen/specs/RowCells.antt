@@ -1,7 +1,6 @@
 -- Half-known cells in four byte planes, of which the rows hold what was written to them in this round.
-use Rattle.std.specs.Prelude.{◌≡◌, ℕ, ◌+◌, ◌*◌, ◌/◌, ◌^◌, ◌<◌, ◌≤◌, ◌==◌, Bool, true, false, IsTrue, List, length}
-use Rattle.std.specs.Prelude.{map, set}
-use Rattle.std.specs.Prelude.{slice_index, slice_index_or, nat_lt, if◌then◌else◌, Option, MatchOption, ◌⊎◌}
+use Rattle.std.specs.Prelude.{◌≡◌, ℕ, ◌+◌, ◌*◌, ◌/◌, ◌^◌, ◌<◌, ◌≤◌, ◌==◌, Bool, true, false, IsTrue, List, length, map}
+use Rattle.std.specs.Prelude.{set, slice_index, slice_index_or, nat_lt, if◌then◌else◌, Option, MatchOption, ◌⊎◌}
 use Rattle.std.specs.List.{range_with_len, All}
 use Rattle.std.proofs.lemmas.List.FromFn.{length-map-range_with_len}
 use Rattle.ans_model.specs.Screen.Step.{filled}

@@ -4,8 +4,7 @@ ghost use Rattle.std.specs.Prelude.{◌≡◌, ◌↔◌, ◌+◌, ◌*◌, ◌�
 ghost use Rattle.std.specs.Prelude.{ℕ, ◌<◌, IsTrue, slice_index, unwrap_or, bit_and};
 ghost use Rattle.ans_model.specs.Screen.Step.{filled};
 ghost use Rattle.ans_screen.specs.GridEdits.{written};
-ghost use Rattle.ans_screen.specs.CellPlanes.{glyph_of, cell_of, known_byte};
-ghost use Rattle.ans_screen.specs.CellPlanes.{AreKnown, IsFirstGap};
+ghost use Rattle.ans_screen.specs.CellPlanes.{glyph_of, cell_of, known_byte, AreKnown, IsFirstGap};
 
 use crate::attr::Attr;
 use crate::cell::{CellByte, HalfCell};

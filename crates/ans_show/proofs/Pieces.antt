@@ -1,6 +1,5 @@
 -- Texts by their pieces.
-use Rattle.std.proofs.Common.{◌≡◌, ℕ, List, [], ◌∷◌, length, refl, arith}
-use Rattle.std.proofs.Common.{◌<◌}
+use Rattle.std.proofs.Common.{◌≡◌, ℕ, List, [], ◌∷◌, length, refl, arith, ◌<◌}
 use Rattle.std.specs.Prelude.{flat_map}
 use Rattle.ans_show.specs.declared.form.Form.{Form}
 use Rattle.ans_show.specs.declared.form.Form.TheVariants.{Terminal, Page}

@@ -1,7 +1,6 @@
 -- Words with a blank between each two, by the first and the later ones.
 use Rattle.std.proofs.Common.{◌≡◌, ◌∙◌, ℕ, ◌≤◌, Bool, true, false, ◌||◌, List, [], ◌∷◌, ◌++◌, length, drop, map, ap}
-use Rattle.std.proofs.Common.{sym, refl}
-use Rattle.std.proofs.Common.{arith, append-nil, get_or, codes}
+use Rattle.std.proofs.Common.{sym, refl, arith, append-nil, get_or, codes}
 use Rattle.std.specs.Prelude.{if◌then◌else◌}
 use Rattle.std.specs.List.{flat_map}
 use Rattle.std.specs.Borrow.{Bor}

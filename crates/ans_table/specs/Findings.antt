@@ -11,7 +11,8 @@ use Rattle.ans_sauce.specs.declared.parts.Parts.{Parts}
 use Rattle.ans_sauce.specs.Parts.{content_of, record_of, width_of, lines_of}
 use Rattle.ans_sauce.specs.RecordBytes.{bytes_of}
 use Rattle.ans_sauce.specs.Split.{IsSplit}
-use Rattle.ans_why.specs.Evidence.{IsDeserved, ShowsCursors}
+use Rattle.ans_model.specs.Verdict.LastFault.{IsDeserved}
+use Rattle.ans_why.specs.Evidence.{ShowsCursors}
 use Rattle.ans_why.specs.Taller.{IsTaller}
 use Rattle.ans_table.specs.declared.counts.Outcome.{Outcome}
 use Rattle.ans_table.specs.declared.counts.Outcome.TheVariants as outcome
@@ -19,10 +20,6 @@ use Rattle.ans_table.specs.declared.finding.Finding.{Finding}
 use Rattle.ans_table.specs.declared.finding.Finding.TheVariants.{Pass, Refused, NoContent, Unread}
 use Rattle.ans_table.specs.declared.finding.Unread as unread
 use Rattle.ans_table.specs.declared.finding.Unread.TheVariants as why
-
--- the stated size
-abbrev pub size_of : Parts → Size
-size_of parts = sized (width_of parts) (lines_of parts)
 
 -- before the fault the cursor stands in this row and this column, counted from 1, in the play from the cleared start
 pub record StandsAt (z : Size) (content : List ℕ) (fault : Fault) (row column : ℕ) : Type 0 where

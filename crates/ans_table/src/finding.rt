@@ -5,11 +5,11 @@ ghost use Rattle.ans_model.specs.Bytes.{longest_file};
 ghost use Rattle.ans_model.specs.File.Refusals.{record_fault};
 ghost use Rattle.ans_model.specs.Screen.StartClass.{all_known};
 ghost use Rattle.ans_model.specs.Verdict.Needs.{IsLeast};
-ghost use Rattle.ans_sauce.specs.Parts.{content_of};
+ghost use Rattle.ans_sauce.specs.Parts.{content_of, size_of};
 ghost use Rattle.ans_sauce.specs.RecordBytes.{bytes_of};
 ghost use Rattle.ans_sauce.specs.Split.{IsSplit};
-ghost use Rattle.ans_why.specs.Evidence.{IsDeserved};
-ghost use Rattle.ans_table.specs.Findings.{IsFindingOf, outcome_of, sauce_of, size_of, unread_text};
+ghost use Rattle.ans_model.specs.Verdict.LastFault.{IsDeserved};
+ghost use Rattle.ans_table.specs.Findings.{IsFindingOf, outcome_of, sauce_of, unread_text};
 
 use crate::counts::Outcome;
 use ans_model::fault::Fault;

@@ -15,7 +15,8 @@ use Rattle.ans_model.proofs.CleanLemmas.{read_before_first, read_before_sequence
 use Rattle.ans_model.proofs.Reading.{one_token_in_front, refused_no_token, unfinished_first}
 use Rattle.ans_model.proofs.Spelling.{first_or}
 use Rattle.ans_why.specs.Watched.{AreWatched}
-use Rattle.ans_why.specs.Evidence.{IsDeserved, IsPlayedBefore, ShowsCursors, begins_with_tab}
+use Rattle.ans_model.specs.Verdict.LastFault.{IsDeserved}
+use Rattle.ans_why.specs.Evidence.{IsPlayedBefore, ShowsCursors, begins_with_tab}
 use Rattle.ans_why.specs.declared.watch.Watch.{Watch}
 use Rattle.ans_why.specs.declared.two_watches.TwoWatches.{TwoWatches}
 

@@ -1,6 +1,5 @@
 -- From the cleared start tokens are clean where each has room.
-use Rattle.std.proofs.Common.{◌≡◌, inl, inr, ℕ, zero, suc, ◌+◌, ◌<◌, List, [], ◌∷◌, ◌++◌, ap}
-use Rattle.std.proofs.Common.{arith, subst}
+use Rattle.std.proofs.Common.{◌≡◌, inl, inr, ℕ, zero, suc, ◌+◌, ◌<◌, List, [], ◌∷◌, ◌++◌, ap, arith, subst}
 use Rattle.ans_model.specs.declared.fault.Cause.{Cause}
 use Rattle.ans_model.specs.declared.fault.Cause.TheVariants.{PrintUnknownPlace, PrintBelow, EraseUnknownPlace, Scrolls}
 use Rattle.ans_model.specs.declared.fault.Cause.TheVariants.{MayScroll}

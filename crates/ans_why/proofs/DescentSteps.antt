@@ -16,8 +16,7 @@ use Rattle.ans_model.proofs.StartLemmas.{low_is_start}
 use Rattle.ans_model.proofs.StepLemmas.{line_feed_is}
 use Rattle.ans_pen.specs.Pens.{pen_of}
 use Rattle.ans_why.specs.Runs.{run_end}
-use Rattle.ans_why.specs.Descent.{AsksForNothing, IsWalked, IsDescent, IsNeverClean, IsInOrder}
-use Rattle.ans_why.specs.Descent.{PrintsRun}
+use Rattle.ans_why.specs.Descent.{AsksForNothing, IsWalked, IsDescent, IsNeverClean, IsInOrder, PrintsRun}
 use Rattle.ans_why.specs.Watched.{WritesAbove}
 use Rattle.ans_pen.specs.declared.pen.Pen.{Pen}
 use Rattle.ans_why.specs.declared.descent.Descent.{Descent}

@@ -14,13 +14,11 @@ use Rattle.ans_model.specs.File.NoteConditions.{note_if, notes, ratio_flags, spa
 use Rattle.ans_model.specs.declared.note.Note.{Note}
 use Rattle.ans_model.specs.declared.note.Note.TheVariants.{WidthAssumed, NoEndMark, SizeDiffers, OddDate, FlagBits}
 use Rattle.ans_model.specs.declared.note.Note.TheVariants.{FlagPair}
-use Rattle.ans_model.specs.File.Record.{date_field, field, file_size, flags}
-use Rattle.ans_model.specs.File.Record.{number, tinfo}
+use Rattle.ans_model.specs.File.Record.{date_field, field, file_size, flags, number, tinfo}
 use Rattle.ans_model.specs.File.Refusals.{Accepts}
 use Rattle.ans_model.specs.Screen.State.{sized}
 use Rattle.ans_why.specs.Mend.{mending}
-use Rattle.ans_why.specs.MendedFile.{MendedFilePasses, bytes_of, four_bytes, mended_parts, size_of}
-use Rattle.ans_why.specs.MendedFile.{with_file_size}
+use Rattle.ans_why.specs.MendedFile.{MendedFilePasses, bytes_of, four_bytes, mended_parts, size_of, with_file_size}
 use Rattle.ans_why.proofs.Mended.{makes_good}
 
 -- ---- the record

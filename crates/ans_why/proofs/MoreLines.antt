@@ -14,10 +14,9 @@ use Rattle.ans_model.specs.declared.fault.Cause.TheVariants.{OutsideScreen}
 use Rattle.ans_model.specs.Sequence.TokenKind.{TokenKind, Glyph, Bell, BackSpace, LineFeed, CarriageReturn, Tab}
 use Rattle.ans_model.specs.Sequence.TokenKind.{Up, Down, Forward, Backward, Place, Clear, EraseLine, Save, Restore}
 use Rattle.ans_model.specs.Sequence.TokenKind.{Colours, Wrap, PrintsByte}
-use Rattle.ans_model.specs.Screen.State.{Size, State, IsByteCell, IsWellFormed, at, cell_at, index, sized}
+use Rattle.ans_model.specs.Screen.State.{Size, State, IsByteCell, IsWellFormed, at, cell_at, index, sized, FitsScreen}
 use Rattle.ans_model.specs.Screen.Step.{destination, final, line_feed, put, step, tab_blanks}
 use Rattle.ans_model.specs.Screen.StartClass.{IsStart, cleared, all_known}
-use Rattle.ans_model.specs.Screen.State.{FitsScreen}
 use Rattle.ans_model.specs.Verdict.Good.{Picture, PlaysWell, PrintsWell, Shows}
 use Rattle.ans_model.specs.Verdict.TokenFault.{FromEvery, HasStaticFault, IsInSpareRow, SamePosition, then_blanks}
 use Rattle.ans_model.proofs.OneCause.{cleared_is_one}

@@ -9,10 +9,10 @@ use Rattle.ans_model.specs.declared.fault.Fault.{Fault}
 use Rattle.ans_model.specs.declared.start.Start.{Start}
 use Rattle.ans_model.specs.Verdict.TokenFault.{HasFault, HasFaultAfter}
 use Rattle.ans_model.specs.Verdict.FirstFault.{IsFirstFault}
-use Rattle.ans_model.specs.Verdict.LastFault.{IsLastFault}
+use Rattle.ans_model.specs.Verdict.LastFault.{IsLastFault, IsDeserved}
 use Rattle.ans_model.proofs.OneAnswer.{refused_certain}
 use Rattle.ans_model.proofs.OneCause.{static_is_certain}
-use Rattle.ans_why.specs.Evidence.{IsDeserved, ShowsNamed}
+use Rattle.ans_why.specs.Evidence.{ShowsNamed}
 
 module _ (z : Size) (class : Start) (row column : ℕ) where
   -- no token has such a fault

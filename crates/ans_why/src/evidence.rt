@@ -11,9 +11,9 @@ ghost use Rattle.ans_model.specs.Sequence.Reads.{Reads};
 ghost use Rattle.ans_model.specs.Screen.State.{IsOnScreen};
 ghost use Rattle.ans_model.specs.declared.fault.Cause.TheVariants.{UnknownCell};
 ghost use Rattle.ans_model.specs.Verdict.TokenFault.{IsClean};
-ghost use Rattle.ans_model.specs.Verdict.LastFault.{IsLastFault};
+ghost use Rattle.ans_model.specs.Verdict.LastFault.{IsLastFault, IsDeserved};
 ghost use Rattle.ans_why.specs.Watched.{AreWatched, BothStandOn};
-ghost use Rattle.ans_why.specs.Evidence.{IsDeserved, ShowsCursors, ShowsCells, ShowsNamed, begins_with_tab};
+ghost use Rattle.ans_why.specs.Evidence.{ShowsCursors, ShowsCells, ShowsNamed, begins_with_tab};
 
 use crate::two_watches::TwoWatches;
 use ans_model::cell::{Cell, Position};

@@ -4,7 +4,7 @@ ghost use Rattle.std.specs.Prelude.{◌≡◌, ◌≤◌, IfOk, IfSome, None, le
 ghost use Rattle.ans_model.specs.Bytes.{longest_file, most_columns, most_lines};
 ghost use Rattle.ans_model.specs.Screen.State.{sized};
 ghost use Rattle.ans_model.specs.Verdict.Good.{IsGood};
-ghost use Rattle.ans_why.specs.Evidence.{IsDeserved};
+ghost use Rattle.ans_model.specs.Verdict.LastFault.{IsDeserved};
 
 mod lines;
 mod taller;

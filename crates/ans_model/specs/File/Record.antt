@@ -1,5 +1,5 @@
 -- The fields of a SAUCE record (SAUCE 00.5, record layout).
-use Rattle.std.specs.Prelude.{ℕ, ◌+◌, ◌-◌, ◌*◌, Bool, ◌||◌, ◌==◌, List, [], ◌∷◌, length, take, drop, if◌then◌else◌}
+use Rattle.std.specs.Prelude.{ℕ, ◌+◌, ◌-◌, ◌*◌, ◌%◌, Bool, ◌||◌, ◌==◌, List, [], ◌∷◌, length, take, drop, if◌then◌else◌}
 use Rattle.std.specs.List.{suffix_len}
 use Rattle.ans_model.specs.Bytes.{blank}
 
@@ -55,6 +55,10 @@ comment_count record_bytes = number (field 104 1 record_bytes)
 -- TFlags, for this type the ANSiFlags
 abbrev pub flags : List ℕ → ℕ
 flags record_bytes = number (field 105 1 record_bytes)
+
+-- bit 0 of the flags, non-blink: bit 7 of an attribute is a bright background, and no blink
+abbrev pub is_non_blink : List ℕ → Bool
+is_non_blink record_bytes = flags record_bytes % 2 == 1
 
 -- TInfoS, for this type the font's name
 abbrev pub font_field : List ℕ → List ℕ

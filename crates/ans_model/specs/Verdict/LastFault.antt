@@ -12,6 +12,7 @@ use Rattle.ans_model.specs.Screen.Step.{final}
 use Rattle.ans_model.specs.Screen.StartClass.{IsStart}
 use Rattle.ans_model.specs.declared.start.Start.{Start}
 use Rattle.ans_model.specs.Verdict.TokenFault.{IsClean}
+use Rattle.ans_model.specs.Verdict.FirstFault.{IsFirstFault}
 
 -- in the end the cell at this position is the same from every start
 abbrev pub SameCell : Size → Start → List TokenKind → Position → Type 0
@@ -60,3 +61,7 @@ pub record LeavesUnknown (z : Size) (class : Start) (bytes : List ℕ) (fault : 
 -- The fault is that at the end of the bytes.
 abbrev pub IsLastFault : Size → Start → List ℕ → Fault → Type 0
 IsLastFault z class bytes fault = EndsInSequence z class bytes fault ⊎ LeavesUnknown z class bytes fault
+
+-- the bytes have this fault, as their first or as their last
+abbrev pub IsDeserved : Size → Start → List ℕ → Fault → Type 0
+IsDeserved z class bytes fault = IsFirstFault z class bytes fault ⊎ IsLastFault z class bytes fault

@@ -1,7 +1,6 @@
 //! A grid of planes read and written by its cells.
 
-ghost use Rattle.std.specs.Prelude.{◌≡◌, ◌+◌, ◌*◌, ◌^◌, ◌<◌, ◌≤◌, length, take, set};
-ghost use Rattle.std.specs.Prelude.{replicate, slice_get, Some};
+ghost use Rattle.std.specs.Prelude.{◌≡◌, ◌+◌, ◌*◌, ◌^◌, ◌<◌, ◌≤◌, length, take, set, replicate, slice_get, Some};
 ghost use Rattle.ans_model.specs.Screen.Step.{filled};
 ghost use Rattle.ans_screen.specs.GridEdits.{written, printed_run, first_unknown};
 ghost use Rattle.ans_screen.specs.RowCells.{cells_of_grid};

@@ -4,8 +4,7 @@ use Rattle.ans_model.specs.Verdict.Needs.{IsLeast}
 use Rattle.ans_model.specs.declared.start.Start.{Start}
 use Rattle.ans_model.proofs.ClassLemmas.{covers_itself}
 use Rattle.ans_play.proofs.LeastClass.{least_by_parts}
-use Rattle.ans_sauce.specs.Parts.{content_of}
-use Rattle.ans_explain.specs.Explained.{size_of}
+use Rattle.ans_sauce.specs.Parts.{content_of, size_of}
 use Rattle.ans_check.specs.FileVerdict.{Deserves}
 use Rattle.ans_check.proofs.VerdictLemmas.{nothing_needed, not_good}
 use Rattle.ans_check.proofs.least_class.least_class.Goals as goal

@@ -1,5 +1,4 @@
-use Rattle.ans_sauce.specs.Parts.{content_of}
-use Rattle.ans_explain.specs.Explained.{size_of}
+use Rattle.ans_sauce.specs.Parts.{content_of, size_of}
 use Rattle.ans_check.proofs.LeastLemmas.{unknown_unneeded, surely_needed, needed_by_play}
 use Rattle.ans_check.proofs.least_class.needs_part.Goals as goal
 

@@ -1,4 +1,4 @@
-use Rattle.ans_explain.specs.Explained.{size_of}
+use Rattle.ans_sauce.specs.Parts.{size_of}
 use Rattle.ans_check.specs.ScreenRoom.{KeepsRoom}
 use Rattle.ans_check.proofs.least_class.part_that_mends.Given as goal
 

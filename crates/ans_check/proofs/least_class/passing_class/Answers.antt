@@ -1,7 +1,6 @@
 use Rattle.std.proofs.Common.{true}
 use Rattle.ans_model.specs.Screen.StartClass.{none_known}
-use Rattle.ans_sauce.specs.Parts.{content_of}
-use Rattle.ans_explain.specs.Explained.{size_of}
+use Rattle.ans_sauce.specs.Parts.{content_of, size_of}
 use Rattle.ans_check.specs.StartParts.{with_part}
 use Rattle.ans_check.proofs.LeastLemmas.{not_good_by}
 use Rattle.ans_check.proofs.RoomLemmas.{keeps_itself, keeps_then}

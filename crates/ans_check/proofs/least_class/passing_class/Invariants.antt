@@ -1,6 +1,5 @@
 use Rattle.ans_model.specs.Verdict.Good.{IsGood}
-use Rattle.ans_sauce.specs.Parts.{content_of}
-use Rattle.ans_explain.specs.Explained.{size_of}
+use Rattle.ans_sauce.specs.Parts.{content_of, size_of}
 use Rattle.ans_check.specs.ScreenRoom.{KeepsRoom}
 use Rattle.ans_check.proofs.least_class.passing_class.Given as goal
 

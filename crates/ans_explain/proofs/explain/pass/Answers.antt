@@ -1,8 +1,8 @@
 use Rattle.std.proofs.Common.{[], refl}
 use Rattle.ans_model.specs.Screen.StartClass.{Covers}
 use Rattle.ans_model.specs.Verdict.Good.{IsGood}
-use Rattle.ans_explain.specs.Explained.{size_of, non_blink, AreHintsOf}
-use Rattle.ans_sauce.specs.Parts.{content_of}
+use Rattle.ans_sauce.specs.Parts.{size_of, content_of}
+use Rattle.ans_explain.specs.Explained.{non_blink, AreHintsOf}
 use Rattle.ans_explain.proofs.AllHints.{hints_of_all}
 use Rattle.ans_explain.proofs.NoMoves.{taller_without_moves}
 use Rattle.ans_explain.proofs.Relying.{nothing_relied, relied}

@@ -7,8 +7,7 @@ use Rattle.ans_tokens.specs.declared.pieces.Piece.TheVariants as pieces
 use Rattle.ans_hints.specs.Walks.{IsAt}
 use Rattle.ans_hints.proofs.GlyphWalks.{rest_of}
 use Rattle.ans_hints.proofs.PieceWalks.{within_after, ends_within, left_after, with_behind, glyphs_lead, token_leads}
-use Rattle.ans_hints.proofs.PieceWalks.{nothing_left}
-use Rattle.ans_hints.proofs.PieceWalks.{never_refused, counts_within}
+use Rattle.ans_hints.proofs.PieceWalks.{nothing_left, never_refused, counts_within}
 use Rattle.ans_hints.proofs.walk.found_in.Goals as goal
 use Rattle.ans_hints.proofs.walk.found_in.Goals.{After-offset-in-Ok-Some-Token}
 

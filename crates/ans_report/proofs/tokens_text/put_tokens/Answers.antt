@@ -1,6 +1,5 @@
-use Rattle.std.proofs.Common.{rules, arith, ◌≡◌, ◌+◌, ◌-◌, ◌++◌, [], true, take, drop, get_or}
-use Rattle.std.proofs.Common.{refl, ap}
-use Rattle.std.proofs.Common.{ℕ, suc, List, subst, sym}
+use Rattle.std.proofs.Common.{rules, arith, ◌≡◌, ◌+◌, ◌-◌, ◌++◌, [], true, take, drop, get_or, refl, ap, ℕ, suc, List}
+use Rattle.std.proofs.Common.{subst, sym}
 use Rattle.std.specs.Prelude.{None, Some}
 use Rattle.std.specs.List.{AllByRecursion}
 use Rattle.std.proofs.Math.Seq.{split_at}

@@ -1,5 +1,4 @@
-use Rattle.std.proofs.Common.{◌≡◌, ◌∙◌, ◌+◌, ℕ, List, ◌++◌, All, ap, append_assoc, arith}
-use Rattle.std.proofs.Common.{drop, get_or, subst, sym}
+use Rattle.std.proofs.Common.{◌≡◌, ◌∙◌, ◌+◌, ℕ, List, ◌++◌, All, ap, append_assoc, arith, drop, get_or, subst, sym}
 use Rattle.std.proofs.lemmas.List.{drop-drop, get_or-drop, take_all, take_rest}
 use Rattle.std.proofs.lemmas.List.Elements.{All-more}
 use Rattle.ans_model.specs.Bytes.{IsByte}

@@ -3,7 +3,8 @@ use Rattle.ans_screen.proofs.attr.Attr.apply.Goals as goal
 
 pub invariant_of-result : goal.invariant_of-result
 invariant_of-result c =
-    (after_found _ c.args.self c.args.parameter _ _ c.self.view_is c.self.invariant c.rendition_of-mask.ensures).known_bits
+    let after = after_found _ c.args.self c.args.parameter _ _ c.self.view_is c.self.invariant
+    c.rendition_of-mask.ensures in after.known_bits
 
 pub returns-clause-bits : goal.returns-clause-bits
 returns-clause-bits c =

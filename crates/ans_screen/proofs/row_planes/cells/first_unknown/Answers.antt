@@ -1,5 +1,4 @@
-use Rattle.std.proofs.Common.{◌≡◌, ℕ, ◌*◌, ◌≤◌, arith, ap}
-use Rattle.std.proofs.Common.{Some, None, inl, inr}
+use Rattle.std.proofs.Common.{◌≡◌, ℕ, ◌*◌, ◌≤◌, arith, ap, Some, None, inl, inr}
 use Rattle.std.proofs.lemmas.Bool.{cases_lt}
 use Rattle.ans_screen.specs.RowCells.{length_grid}
 use Rattle.ans_screen.proofs.RowReads.{first_of_grid}
