@@ -1,17 +1,19 @@
 -- The elements of a list after some of them are written, and a list that is made of a function of the index.
-use Rattle.std.proofs.Common.{◌≡◌, ℕ, zero, suc, ◌+◌, ◌-◌, ◌*◌, ◌/◌, ◌≤◌, ◌<◌, List, [], ◌∷◌, ◌++◌, take, drop, set}
-use Rattle.std.proofs.Common.{map, ◌%◌, ◌≢◌}
-use Rattle.std.proofs.Common.{replicate, length, get_or, refl, ap, sym, ◌∙◌, arith, inl, inr, ◌⊎◌, append_assoc}
+use Rattle.std.proofs.Common.{◌≡◌, ℕ, zero, suc, ◌+◌, ◌-◌, ◌*◌, ◌/◌, ◌%◌, ◌≤◌, ◌<◌, ◌⊎◌, inl, inr, refl, ap, sym, ◌∙◌}
+use Rattle.std.proofs.Common.{List, [], ◌∷◌, ◌++◌, take, drop, set, map, replicate, length, get_or, append_assoc, arith}
 use Rattle.std.specs.List.{range_with_len}
 use Rattle.std.proofs.lemmas.Bool.{cases_lt}
-use Rattle.std.proofs.lemmas.List.{get_or-take, get_or-drop, get_or_append_left, get_or-append_right, length-append}
-use Rattle.std.proofs.lemmas.List.{length-take-le, length-drop, length-replicate, get_or-replicate, same_lists}
-use Rattle.std.proofs.lemmas.List.{set_split, take-append-drop, length-set, get_or-set_other, get_or-set_same}
+use Rattle.std.proofs.lemmas.List.{length-append, length-replicate, get_or-replicate, replicate-append-replicate}
+use Rattle.std.proofs.lemmas.List.{drop-drop, same_lists, set_split, take-append-drop}
+use Rattle.std.proofs.lemmas.List.Edits.{paste_all, paste-paste}
 use Rattle.std.proofs.lemmas.List.FromFn.{length-range_with_len, length-map-range_with_len, get_or-map-range_with_len}
-use Rattle.std.proofs.lemmas.Simd.{splat_is_map}
 use Rattle.std.proofs.lemmas.Nat.{div-mul-add, div-add-mod', mod_below, div_below, mul-le, row_fits_turned}
+use Rattle.std.proofs.lemmas.Simd.{splat_is_map, length-put_chunk, put_chunk_is}
+use Rattle.std.proofs.lemmas.Simd.{get_or-put_chunk_below, get_or-put_chunk_at, get_or-put_chunk_above}
 use Rattle.ans_model.specs.Screen.Step.{filled}
 use Rattle.ans_screen.specs.GridEdits.{written}
+use lib.Lanes.{put_chunk}
+use lib.Seq.{paste}
 
 -- what is filled is written with equal elements
 pub filled_is_written : {A : Type 0} (xs : List A) (from n : ℕ) (x : A)
@@ -22,39 +24,32 @@ filled_is_written xs from n x =
     rw (count, len) (append_assoc (take from xs) (replicate n x) (drop (from + n) xs))
 
 module _ {A : Type 0} where
-  -- ---- a list after a part is written
+  -- ---- a list after a part is written, which is a store of a chunk
+  stored : (xs : List A) (from : ℕ) (new : List A) → from + length new ≤ length xs
+      → written xs from new ≡ put_chunk from xs new
+  stored xs from new room =
+      ap (λ (ys : List A). take from xs ++ (new ++ ys)) (sym (drop-drop (length new) from xs))
+      ∙ sym (put_chunk_is from xs new room)
+
   pub length-written : (xs : List A) (from : ℕ) (new : List A) → from + length new ≤ length xs
       → length (written xs from new) ≡ length xs
-  length-written xs from new room =
-      let front : length (take from xs) ≡ from = length-take-le from xs (omega arith) in
-      let back = length-drop (from + length new) xs in
-      length-append (take from xs) (new ++ drop (from + length new) xs)
-      ∙ omega (arith, length-append new (drop (from + length new) xs))
+  length-written xs from new room = ap length (stored xs from new room) ∙ length-put_chunk from xs new
 
-  pub written_before : (xs : List A) (from : ℕ) (new : List A) (i : ℕ) (d : A) → from ≤ length xs → i < from
-      → get_or (written xs from new) i d ≡ get_or xs i d
-  written_before xs from new i d le lt =
-      let front : length (take from xs) ≡ from = length-take-le from xs le in
-      get_or_append_left (take from xs) (new ++ drop (from + length new) xs) d i (omega arith)
-      ∙ get_or-take from xs i d lt
+  pub written_before : (xs : List A) (from : ℕ) (new : List A) (i : ℕ) (d : A) → from + length new ≤ length xs
+      → i < from → get_or (written xs from new) i d ≡ get_or xs i d
+  written_before xs from new i d room lt =
+      ap (λ (ys : List A). get_or ys i d) (stored xs from new room) ∙ get_or-put_chunk_below from xs new i d lt
 
-  pub written_at : (xs : List A) (from : ℕ) (new : List A) (j : ℕ) (d : A) → from ≤ length xs → j < length new
-      → get_or (written xs from new) (from + j) d ≡ get_or new j d
-  written_at xs from new j d le lt =
-      let front : length (take from xs) ≡ from = length-take-le from xs le in
-      let at : from + j - from ≡ j = omega arith in
-      get_or-append_right (take from xs) (new ++ drop (from + length new) xs) from (from + j) d front (omega arith)
-      ∙ (ap (λ (n : ℕ). get_or (new ++ drop (from + length new) xs) n d) at
-      ∙ get_or_append_left new (drop (from + length new) xs) d j lt)
+  pub written_at : (xs : List A) (from : ℕ) (new : List A) (j : ℕ) (d : A) → from + length new ≤ length xs
+      → j < length new → get_or (written xs from new) (from + j) d ≡ get_or new j d
+  written_at xs from new j d room lt =
+      ap (λ (ys : List A). get_or ys (from + j) d) (stored xs from new room)
+      ∙ get_or-put_chunk_at from xs new j d lt room
 
-  pub written_behind : (xs : List A) (from : ℕ) (new : List A) (i : ℕ) (d : A) → from ≤ length xs
+  pub written_behind : (xs : List A) (from : ℕ) (new : List A) (i : ℕ) (d : A) → from + length new ≤ length xs
       → from + length new ≤ i → get_or (written xs from new) i d ≡ get_or xs i d
-  written_behind xs from new i d le past =
-      let front : length (take from xs) ≡ from = length-take-le from xs le in
-      let at : from + length new + (i - from - length new) ≡ i = omega arith in
-      get_or-append_right (take from xs) (new ++ drop (from + length new) xs) from i d front (omega arith)
-      ∙ (get_or-append_right new (drop (from + length new) xs) (length new) (i - from) d refl (omega arith)
-      ∙ (get_or-drop (from + length new) xs (i - from - length new) d ∙ ap (λ (n : ℕ). get_or xs n d) at))
+  written_behind xs from new i d room past =
+      ap (λ (ys : List A). get_or ys i d) (stored xs from new room) ∙ get_or-put_chunk_above from xs new i d past
 
   -- a list of which a part is new, and the rest as it was
   pub is_written : (xs ys : List A) (from : ℕ) (new : List A) → length ys ≡ length xs
@@ -83,34 +78,29 @@ module _ {A : Type 0} where
       let at : from + 0 ≡ from = omega arith in
       ap (λ (n : ℕ). take from xs ++ drop n xs) at ∙ take-append-drop from xs
 
+  -- what is written goes on where another part ended
+  pub written_on : (xs : List A) (from : ℕ) (new more : List A) → from ≤ length xs
+      → written (written xs from new) (from + length new) more ≡ written xs from (new ++ more)
+  written_on xs from new more le =
+      sym (paste_all (written xs from new) (from + length new) more (length more) refl)
+      ∙ (ap (λ (ys : List A). paste ys (from + length new) more (length more))
+      (sym (paste_all xs from new (length new) refl))
+      ∙ (paste-paste xs from new more (length new) (length more) refl refl le
+      ∙ (paste_all xs from (new ++ more) (length new + length more) (sym (length-append new more))
+      ∙ ap (λ (n : ℕ). take from xs ++ ((new ++ more) ++ drop (from + n) xs)) (sym (length-append new more)))))
+
+  written_one : (xs : List A) (i : ℕ) (x : A) → i < length xs → written xs i (x ∷ []) ≡ set xs i x
+  written_one xs i x lt =
+      let next : i + 1 ≡ suc i = omega arith in
+      ap (λ (n : ℕ). take i xs ++ (x ∷ drop n xs)) next ∙ sym (set_split xs i x lt)
+
   -- one more element is written behind
   pub written_more : (xs : List A) (from n : ℕ) (new : List A) (x : A) → length new ≡ n → from + n < length xs
       → set (written xs from new) (from + n) x ≡ written xs from (new ++ x ∷ [])
   written_more xs from n new x len room =
-      let longer : length (new ++ x ∷ []) ≡ n + 1 = length-append new (x ∷ []) ∙ omega arith in
-      let size = length-written xs from new (omega arith) in
-      is_written xs (set (written xs from new) (from + n) x) from (new ++ x ∷ [])
-      (length-set (written xs from new) (from + n) x ∙ size) (omega arith)
-      (λ i d lt out.
-      let other : i ≢ from + n = elim out [ inl before ↦ omega arith | inr past ↦ omega arith ] in
-      get_or-set_other (written xs from new) (from + n) i x d other ∙ elim out [
-        | inl before ↦ written_before xs from new i d (omega arith) before
-        | inr past ↦ written_behind xs from new i d (omega arith) (omega arith)
-      ])
-      (λ j d lt. elim (cases_lt j n) [
-        | inl earlier ↦
-            get_or-set_other (written xs from new) (from + n) (from + j) x d (omega arith)
-            ∙ (written_at xs from new j d (omega arith) (omega arith)
-            ∙ sym (get_or_append_left new (x ∷ []) d j (omega arith)))
-        | inr later ↦
-            let at : j ≡ n = omega arith in
-            let none : n - n ≡ 0 = omega arith in
-            ap (λ (k : ℕ). get_or (set (written xs from new) (from + n) x) (from + k) d) at
-            ∙ (get_or-set_same (written xs from new) (from + n) x d (omega arith)
-            ∙ sym (ap (λ (k : ℕ). get_or (new ++ x ∷ []) k d) at
-            ∙ (get_or-append_right new (x ∷ []) n n d len (omega arith)
-            ∙ ap (λ (k : ℕ). get_or (x ∷ []) k d) none)))
-      ])
+      sym (written_one (written xs from new) (from + n) x (omega (arith, length-written xs from new (omega arith))))
+      ∙ (ap (λ (k : ℕ). written (written xs from new) (from + k) (x ∷ [])) (sym len)
+      ∙ written_on xs from new (x ∷ []) (omega arith))
 
   -- ---- a list that is made of a function of the index
   pub same_from_index : (f h : ℕ → A) (n : ℕ) → ((i : ℕ) → i < n → f i ≡ h i)
@@ -139,12 +129,32 @@ module _ {A : Type 0} where
   map-replicate f zero x = refl
   map-replicate f (suc n) x = ap (λ (ys : List A). f x ∷ ys) (map-replicate f n x)
 
+-- what is filled, as a run of equal elements
+pub filled_run : {A : Type 0} (xs : List A) (from to : ℕ) (x : A) → from ≤ to
+    → filled xs from to x ≡ written xs from (replicate (to - from) x)
+filled_run xs from to x le =
+    let end : from + (to - from) ≡ to = omega arith in
+    ap (λ (n : ℕ). filled xs from n x) (sym end) ∙ filled_is_written xs from (to - from) x
+
+-- a fill that goes on where another ended
+pub filled_on : {A : Type 0} (xs : List A) (from mid to : ℕ) (x : A) → from ≤ mid → mid ≤ to → to ≤ length xs
+    → filled (filled xs from mid x) mid to x ≡ filled xs from to x
+filled_on {A = A} xs from mid to x first second room =
+    let front = replicate (mid - from) x in
+    let behind = replicate (to - mid) x in
+    let at : from + length front ≡ mid = omega (arith, length-replicate (mid - from) x) in
+    let whole : mid - from + (to - mid) ≡ to - from = omega arith in
+    filled_run (filled xs from mid x) mid to x second
+    ∙ (ap (λ (ys : List A). written ys mid behind) (filled_run xs from mid x first)
+    ∙ (ap (λ (n : ℕ). written (written xs from front) n behind) (sym at)
+    ∙ (written_on xs from front behind (omega arith)
+    ∙ (ap (λ (ys : List A). written xs from ys)
+    (replicate-append-replicate (mid - from) (to - mid) x ∙ ap (λ (n : ℕ). replicate n x) whole)
+    ∙ sym (filled_run xs from to x (omega arith))))))
+
 -- a fill of one element
 pub filled_one : {A : Type 0} (xs : List A) (i : ℕ) (x : A) → i < length xs → filled xs i (i + 1) x ≡ set xs i x
-filled_one xs i x lt =
-    let next : i + 1 ≡ suc i = omega arith in
-    filled_is_written xs i 1 x
-    ∙ (ap (λ (n : ℕ). take i xs ++ (x ∷ drop n xs)) next ∙ sym (set_split xs i x lt))
+filled_one xs i x lt = filled_is_written xs i 1 x ∙ written_one xs i x lt
 
 -- ---- a plane that is as it was but from `from` up to and without `to`
 pub record Keeps (xs ys : List ℕ) (from to : ℕ) : Type 0 where
@@ -162,13 +172,6 @@ keeps_written xs ys from to new e end room = record {
         | inr past ↦ written_behind xs from new i 0 (omega arith) (omega arith)
       ];
 }
-
--- what is filled, as a run of equal elements
-pub filled_run : {A : Type 0} (xs : List A) (from to : ℕ) (x : A) → from ≤ to
-    → filled xs from to x ≡ written xs from (replicate (to - from) x)
-filled_run xs from to x le =
-    let end : from + (to - from) ≡ to = omega arith in
-    ap (λ (n : ℕ). filled xs from n x) (sym end) ∙ filled_is_written xs from (to - from) x
 
 pub keeps_filled : (xs ys : List ℕ) (from to x : ℕ) → ys ≡ filled xs from to x → from ≤ to → to ≤ length xs
     → Keeps xs ys from to

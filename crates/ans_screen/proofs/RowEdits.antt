@@ -1,8 +1,6 @@
 -- The cells of planes with a state for each row, through runs and fills.
 use Rattle.std.proofs.Common.{◌≡◌, ℕ, ◌+◌, ◌-◌, ◌*◌, ◌≤◌, ◌<◌, Bool, List, map, length, get_or, replicate, refl, ap}
-use Rattle.std.proofs.Common.{sym, ◌∙◌, arith, inl, inr, ◌⊎◌, drop, take, ◌++◌, append_assoc, All}
-use Rattle.std.proofs.Math.Seq.{take-append_seam, drop-append-add}
-use Rattle.std.proofs.lemmas.List.{length-append, length-take, drop-drop, replicate-append-replicate}
+use Rattle.std.proofs.Common.{sym, ◌∙◌, arith, inl, inr, ◌⊎◌, All}
 use Rattle.std.proofs.lemmas.List.Elements.{All-get_or}
 use Rattle.std.proofs.lemmas.Bool.{cases_lt}
 use Rattle.std.proofs.lemmas.List.{length-replicate, length-map, get_or_past}
@@ -112,26 +110,3 @@ all_stale round held row i some older =
       | inr past ↦ rw (get_or_past held row never_written past) some
     ] in
     off_round round (get_or held row never_written) i (λ e. omega arith)
-
--- a fill that goes on where another ended
-pub filled_on : {A : Type 0} (xs : List A) (from mid to : ℕ) (x : A) → from ≤ mid → mid ≤ to → to ≤ length xs
-    → filled (filled xs from mid x) mid to x ≡ filled xs from to x
-filled_on {A = A} xs from mid to x first second room =
-    let front : List A = take from xs ++ replicate (mid - from) x in
-    let len : length front ≡ mid = simp (length-append, length-take, length-replicate) (omega arith) in
-    let rest : length front + (to - mid) ≡ to = omega arith in
-    let behind : mid + (to - mid) ≡ to = omega arith in
-    let whole : mid - from + (to - mid) ≡ to - from = omega arith in
-    let kept : take mid (front ++ drop mid xs) ≡ front =
-    ap (λ (n : ℕ). take n (front ++ drop mid xs)) (sym len) ∙ take-append_seam front (drop mid xs) in
-    let back : drop to (front ++ drop mid xs) ≡ drop to xs =
-    ap (λ (n : ℕ). drop n (front ++ drop mid xs)) (sym rest)
-    ∙ (drop-append-add front (drop mid xs) (to - mid)
-    ∙ (drop-drop (to - mid) mid xs ∙ ap (λ (n : ℕ). drop n xs) behind)) in
-    let filling : front ++ replicate (to - mid) x ≡ take from xs ++ replicate (to - from) x =
-    append_assoc (take from xs) (replicate (mid - from) x) (replicate (to - mid) x)
-    ∙ ap (λ (ys : List A). take from xs ++ ys)
-    (replicate-append-replicate (mid - from) (to - mid) x ∙ ap (λ (n : ℕ). replicate n x) whole) in
-    ap (λ (ys : List A). (ys ++ replicate (to - mid) x) ++ drop to (front ++ drop mid xs)) kept
-    ∙ (ap (λ (ys : List A). ys ++ drop to (front ++ drop mid xs)) filling
-    ∙ ap (λ (ys : List A). (take from xs ++ replicate (to - from) x) ++ ys) back)

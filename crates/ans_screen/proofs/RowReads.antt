@@ -149,6 +149,9 @@ module _ (g : Planes) (byte : HalfCell → ℕ) (row : ℕ) (held : Row) (holds 
   all : length copied ≡ length old
   all = ap length filled ∙ length-replicate (length old) blank
 
+  fits : at + length inner ≤ length copied
+  fits = omega (arith, len, all, holds.start, holds.stop, holds.ordered)
+
   new_is : new ≡ written copied at inner
   new_is = put_is_written at (held.end - from - at) copied inner (omega (arith, len, holds.start, holds.ordered))
 
@@ -163,18 +166,17 @@ module _ (g : Planes) (byte : HalfCell → ℕ) (row : ℕ) (held : Row) (holds 
   copied_each : IsCopied byte g from g.width new
   copied_each k within = ap (λ (xs : List ℕ). get_or xs k 0) new_is ∙ elim (cases_lt k at) [
     | inl early ↦
-        written_before copied at inner k 0 (omega (arith, all, holds.stop, holds.ordered)) early
+        written_before copied at inner k 0 fits early
         ∙ blank_there k within (holds.before (from + k) (omega arith) (omega arith))
     | inr later ↦ elim (cases_lt k (held.end - from)) [
       | inl here ↦
           let place : at + (k - at) ≡ k = omega arith in
           let cell : held.first + (k - at) ≡ from + k = omega (arith, holds.start) in
           ap (λ (n : ℕ). get_or (written copied at inner) n 0) (sym place)
-          ∙ (written_at copied at inner (k - at) 0 (omega (arith, all, holds.stop, holds.ordered)) (omega (arith, len))
+          ∙ (written_at copied at inner (k - at) 0 fits (omega (arith, len))
           ∙ (inside (k - at) (omega arith) ∙ ap (λ (n : ℕ). byte (cell_in_grid g n)) cell))
       | inr past ↦
-          written_behind copied at inner k 0 (omega (arith, all, holds.stop, holds.ordered))
-          (omega (arith, len, holds.start, holds.ordered))
+          written_behind copied at inner k 0 fits (omega (arith, len, holds.start, holds.ordered))
           ∙ blank_there k within (holds.after (from + k) (omega arith) (omega arith))
     ]
   ]
@@ -183,7 +185,5 @@ module _ (g : Planes) (byte : HalfCell → ℕ) (row : ℕ) (held : Row) (holds 
   held_copied =
       let room = row_end g.width row g.rows lt in
       row_copied byte (cells_of_grid g) g.width g.rows row from new (length_grid g) lt at_start
-      (ap length new_is
-      ∙ (length-written copied at inner (omega (arith, len, all, holds.start, holds.stop, holds.ordered))
-      ∙ (all ∙ long)))
+      (ap length new_is ∙ (length-written copied at inner fits ∙ (all ∙ long)))
       (λ k within. copied_each k within ∙ ap byte (sym (get_cell g (from + k) no_cell (omega arith))))

@@ -2,8 +2,7 @@ use Rattle.std.proofs.Common.{◌≡◌, ◌*◌, ◌+◌, ◌-◌, ◌/◌, ℕ
 use Rattle.ans_model.specs.Screen.Step.{filled}
 use Rattle.ans_screen.specs.RowCells.{cells_of_grid, length_grid}
 use Rattle.ans_screen.specs.declared.cell.HalfCell.{HalfCell}
-use Rattle.ans_screen.proofs.Places.{row_between}
-use Rattle.ans_screen.proofs.RowEdits.{filled_on}
+use Rattle.ans_screen.proofs.Places.{filled_on, row_between}
 use Rattle.ans_screen.proofs.row_planes.cells.fill_rows.Goals as goal
 
 pub loop-row-preserved : goal.loop-row-preserved
