@@ -40,9 +40,9 @@ pub found_count : (count what : List ℕ) → codes "found: " ++ (count ++ (what
 found_count count what = simp append_assoc
 
 pub found_record : (offset behind : List ℕ)
-    → (codes "found: a record at " ++ (offset ++ (codes ", and " ++ behind))) ++ codes " bytes behind it\n"
+    → codes "found: a record at " ++ (offset ++ (codes ", and " ++ (behind ++ codes " behind it\n")))
     ≡ named_line (codes "found")
-    (codes "a record at " ++ (offset ++ (codes ", and " ++ (behind ++ codes " bytes behind it"))))
+    (codes "a record at " ++ (offset ++ (codes ", and " ++ (behind ++ codes " behind it"))))
 found_record offset behind = simp append_assoc
 
 pub found_kind : (kind subkind : List ℕ)

@@ -79,26 +79,31 @@ abbrev pub lines_line : Option ℕ → List ℕ
 lines_line None = []
 lines_line (Some n) = named_line (codes "lines") (decimal n)
 
+-- so many of a thing, as `1 byte` and `2 bytes`
+abbrev pub counted_text : ℕ → List ℕ → List ℕ
+counted_text count thing = decimal count ++ (codes " " ++ (thing ++ (if count == 1 then [] else codes "s")))
+
 -- what follows the end mark
 abbrev pub after_end_mark_text : Bool → List ℕ
-after_end_mark_text true = codes " bytes after the end mark, an older record among them"
-after_end_mark_text false = codes " bytes after the end mark, no record among them"
+after_end_mark_text true = codes " after the end mark, an older record among them"
+after_end_mark_text false = codes " after the end mark, no record among them"
 
 -- the line of what is found where a record or a layout is refused
 abbrev pub found_line : Found → List ℕ
 found_line found.NoRecord = []
 found_line (found.Record offset behind) =
     named_line (codes "found")
-    (codes "a record at " ++ (decimal offset ++ (codes ", and " ++ (decimal behind ++ codes " bytes behind it"))))
+    (codes "a record at "
+    ++ (decimal offset ++ (codes ", and " ++ (counted_text behind (codes "byte") ++ codes " behind it"))))
 found_line (found.Version bytes) = named_line (codes "found") (codes "version " ++ shown_bytes bytes.now)
 found_line (found.Kind kind subkind) =
     named_line (codes "found")
     (codes "data type " ++ (decimal kind ++ (codes ", file type " ++ decimal subkind)))
-found_line (found.Comments count) = named_line (codes "found") (decimal count ++ codes " comments stated")
-found_line (found.Lines lines) = named_line (codes "found") (decimal lines ++ codes " lines stated")
-found_line (found.Width width) = named_line (codes "found") (decimal width ++ codes " columns stated")
+found_line (found.Comments count) = named_line (codes "found") (counted_text count (codes "comment") ++ codes " stated")
+found_line (found.Lines lines) = named_line (codes "found") (counted_text lines (codes "line") ++ codes " stated")
+found_line (found.Width width) = named_line (codes "found") (counted_text width (codes "column") ++ codes " stated")
 found_line (found.AfterEndMark count has_record) =
-    named_line (codes "found") (decimal count ++ after_end_mark_text has_record)
+    named_line (codes "found") (counted_text count (codes "byte") ++ after_end_mark_text has_record)
 
 -- the size
 abbrev pub size_line : Parts → List ℕ

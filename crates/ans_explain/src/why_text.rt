@@ -1,5 +1,5 @@
 //! The text of `why`.
-ghost use Rattle.std.specs.Prelude.{◌≡◌, ◌↔◌, ◌++◌, false, codes, decimal, IsTrue, IsErr};
+ghost use Rattle.std.specs.Prelude.{◌≡◌, ◌↔◌, ◌++◌, ◌==◌, [], false, codes, decimal, if◌then◌else◌, IsTrue, IsErr};
 ghost use Rattle.std.specs.List.{flat_map};
 ghost use Rattle.ans_model.specs.Text.Characters.{shown_bytes};
 ghost use Rattle.ans_model.specs.Text.RecordText.{named_line};
@@ -9,7 +9,7 @@ ghost use Rattle.ans_write.specs.Writes.{WritesText};
 ghost use Rattle.ans_write.specs.Puts.{Puts};
 ghost use Rattle.ans_explain.specs.WhyText.{quoted_byte, quoted, bytes_line, place_text, cell_text, shown_lines};
 ghost use Rattle.ans_explain.specs.WhyText.{mend_line, reliance_lines, answer_text, lines_line, after_end_mark_text};
-ghost use Rattle.ans_explain.specs.WhyText.{found_line, pass_lines, refusal_lines, why_text};
+ghost use Rattle.ans_explain.specs.WhyText.{counted_text, found_line, pass_lines, refusal_lines, why_text};
 
 use crate::why::{Pass, Place, Refusal, Reliance, Shown, Why};
 use ans_hints::{Hints, put_hints};
@@ -193,12 +193,28 @@ fn put_refused<W: Write>(out: &mut Outbox<'_, W>, parts: &Parts<'_>, refusal: &R
     put_hints(out, &hints, parts.sauce().font());
 }
 
-fn put_count<W: Write>(out: &mut Outbox<'_, W>, count: u64, what: &[u8])
+fn plural(count: u64) -> &'static [u8]
+    ensures { result.now ≡ (if count == 1 then [] else codes "s") }
+{
+    if count == 1 { b"" } else { b"s" }
+}
+
+/// Puts so many of a thing, as `1 byte` and `2 bytes`.
+fn put_counted<W: Write>(out: &mut Outbox<'_, W>, count: u64, thing: &[u8])
+    ensures { Puts W.contents out.old out.new (counted_text count thing.now) }
+{
+    out.put_decimal(count);
+    out.put(b" ");
+    out.put(thing);
+    out.put(plural(count));
+}
+
+fn put_count<W: Write>(out: &mut Outbox<'_, W>, count: u64, thing: &[u8], what: &[u8])
     ensures { Puts W.contents out.old out.new
-        (named_line (codes "found") (decimal count ++ what.now)) }
+        (named_line (codes "found") (counted_text count thing.now ++ what.now)) }
 {
     out.put(b"found: ");
-    out.put_decimal(count);
+    put_counted(out, count, thing);
     out.put(what);
     out.put(b"\n");
 }
@@ -206,8 +222,11 @@ fn put_count<W: Write>(out: &mut Outbox<'_, W>, count: u64, what: &[u8])
 fn put_record_found<W: Write>(out: &mut Outbox<'_, W>, offset: usize, behind: usize)
     ensures { Puts W.contents out.old out.new (found_line (found.Record offset behind)) }
 {
-    put_numbers(out, b"found: a record at ", offset, b", and ", behind);
-    out.put(b" bytes behind it\n");
+    out.put(b"found: a record at ");
+    out.put_decimal(offset as u64);
+    out.put(b", and ");
+    put_counted(out, behind as u64, b"byte");
+    out.put(b" behind it\n");
 }
 
 fn put_kind_found<W: Write>(out: &mut Outbox<'_, W>, data_type: u8, file_type: u8)
@@ -238,9 +257,9 @@ fn after_end_mark(older: bool) -> &'static [u8]
     ensures { result.now ≡ after_end_mark_text older }
 {
     if older {
-        b" bytes after the end mark, an older record among them"
+        b" after the end mark, an older record among them"
     } else {
-        b" bytes after the end mark, no record among them"
+        b" after the end mark, no record among them"
     }
 }
 
@@ -255,11 +274,11 @@ fn put_found<W: Write>(out: &mut Outbox<'_, W>, found: &Found<'_>)
             data_type,
             file_type,
         } => put_kind_found(out, data_type, file_type),
-        Found::Comments(count) => put_count(out, u64::from(count), b" comments stated"),
-        Found::Lines(lines) => put_count(out, u64::from(lines), b" lines stated"),
-        Found::Width(width) => put_count(out, u64::from(width), b" columns stated"),
+        Found::Comments(count) => put_count(out, u64::from(count), b"comment", b" stated"),
+        Found::Lines(lines) => put_count(out, u64::from(lines), b"line", b" stated"),
+        Found::Width(width) => put_count(out, u64::from(width), b"column", b" stated"),
         Found::AfterEndMark { count, record } => {
-            put_count(out, count as u64, after_end_mark(record));
+            put_count(out, count as u64, b"byte", after_end_mark(record));
         }
     }
 }

@@ -41,8 +41,8 @@ use Rattle.ans_hints.specs.declared.times.Times.{Times}
 use Rattle.ans_explain.specs.Blamed.{AreToBlame}
 use Rattle.ans_explain.specs.Explained.{IsShown, IsReliance, IsPass, IsRefusal, IsTrueOf}
 use Rattle.ans_explain.specs.WhyText.{quoted_byte, quoted, bytes_line, place_text, cell_text, shown_lines, mend_line}
-use Rattle.ans_explain.specs.WhyText.{reliance_lines, answer_text, lines_line, after_end_mark_text, found_line}
-use Rattle.ans_explain.specs.WhyText.{size_line, font_of, pass_lines, refusal_lines, why_text}
+use Rattle.ans_explain.specs.WhyText.{reliance_lines, answer_text, lines_line, after_end_mark_text, counted_text}
+use Rattle.ans_explain.specs.WhyText.{found_line, size_line, font_of, pass_lines, refusal_lines, why_text}
 use Rattle.ans_explain.specs.declared.why.Pass.{Pass}
 use Rattle.ans_explain.specs.declared.why.Place.{Place}
 use Rattle.ans_explain.specs.declared.why.Refusal.{Refusal}
@@ -274,11 +274,26 @@ hints_clean hints font bytes =
 found_named : (text : List ℕ) → IsCleanText text → IsCleanText (named_line (codes "found") text)
 found_named text h = named_clean (codes "found") text (plain_text (codes "found") refl) h
 
--- a number, and what there are so many of
-counted_clean : (count : ℕ) (what : List ℕ) → IsCleanText what
-    → IsCleanText (named_line (codes "found") (decimal count ++ what))
-counted_clean count what h =
-    found_named (decimal count ++ what) (clean_append (decimal count) what (clean_decimal count) h)
+plural_clean : (one : Bool) → IsCleanText (if one then [] else codes "s")
+plural_clean true = clean_nil
+plural_clean false = plain_text (codes "s") refl
+
+-- so many of a thing, and then a text
+counted_clean : (count : ℕ) (thing what : List ℕ) → IsCleanText thing → IsCleanText what
+    → IsCleanText (counted_text count thing ++ what)
+counted_clean count thing what h g =
+    let many : List ℕ = if count == 1 then [] else codes "s" in
+    clean_append (counted_text count thing) what
+    (clean_append (decimal count) (codes " " ++ (thing ++ many)) (clean_decimal count)
+    (clean_append (codes " ") (thing ++ many) (plain_text (codes " ") refl)
+    (clean_append thing many h (plural_clean (count == 1)))))
+    g
+
+stated_clean : (count : ℕ) (thing : List ℕ) → IsCleanText thing
+    → IsCleanText (named_line (codes "found") (counted_text count thing ++ codes " stated"))
+stated_clean count thing h =
+    found_named (counted_text count thing ++ codes " stated")
+    (counted_clean count thing (codes " stated") h (plain_text (codes " stated") refl))
 
 after_end_mark_clean : (has_record : Bool) → IsCleanText (after_end_mark_text has_record)
 after_end_mark_clean true = plain_text (after_end_mark_text true) refl
@@ -288,13 +303,14 @@ found_clean : (file : List ℕ) (found : Found) (cause : Cause) → All IsByte f
     → IsCleanText (found_line found)
 found_clean file found.NoRecord cause bytes h = clean_nil
 found_clean file (found.Record offset behind) cause bytes h =
-    let after = codes ", and " ++ (decimal behind ++ codes " bytes behind it") in
+    let bytes_behind = counted_text behind (codes "byte") ++ codes " behind it" in
+    let after = codes ", and " ++ bytes_behind in
     found_named (codes "a record at " ++ (decimal offset ++ after))
     (clean_append (codes "a record at ") (decimal offset ++ after) (plain_text (codes "a record at ") refl)
     (clean_append (decimal offset) after (clean_decimal offset)
-    (clean_append (codes ", and ") (decimal behind ++ codes " bytes behind it") (plain_text (codes ", and ") refl)
-    (clean_append (decimal behind) (codes " bytes behind it") (clean_decimal behind)
-    (plain_text (codes " bytes behind it") refl)))))
+    (clean_append (codes ", and ") bytes_behind (plain_text (codes ", and ") refl)
+    (counted_clean behind (codes "byte") (codes " behind it") (plain_text (codes "byte") refl)
+    (plain_text (codes " behind it") refl)))))
 found_clean file (found.Version version) cause bytes h =
     let of_file : All IsByte version.now =
     subst (λ (v : List ℕ). All IsByte v) (sym h.1)
@@ -310,13 +326,15 @@ found_clean file (found.Kind kind subkind) cause bytes h =
     (clean_append (codes ", file type ") (decimal subkind) (plain_text (codes ", file type ") refl)
     (clean_decimal subkind))))
 found_clean file (found.Comments count) cause bytes h =
-    counted_clean count (codes " comments stated") (plain_text (codes " comments stated") refl)
+    stated_clean count (codes "comment") (plain_text (codes "comment") refl)
 found_clean file (found.Lines lines) cause bytes h =
-    counted_clean lines (codes " lines stated") (plain_text (codes " lines stated") refl)
+    stated_clean lines (codes "line") (plain_text (codes "line") refl)
 found_clean file (found.Width width) cause bytes h =
-    counted_clean width (codes " columns stated") (plain_text (codes " columns stated") refl)
+    stated_clean width (codes "column") (plain_text (codes "column") refl)
 found_clean file (found.AfterEndMark count has_record) cause bytes h =
-    counted_clean count (after_end_mark_text has_record) (after_end_mark_clean has_record)
+    found_named (counted_text count (codes "byte") ++ after_end_mark_text has_record)
+    (counted_clean count (codes "byte") (after_end_mark_text has_record) (plain_text (codes "byte") refl)
+    (after_end_mark_clean has_record))
 
 -- ---- the text
 

@@ -162,7 +162,7 @@ fn what_a_content_relies_on_is_explained(rt: HostRuntime) {
 }
 
 /// Where the record of `Hi` is changed, to what, and the text.
-static CHANGED: [(usize, &[u8], &str); 7] = [
+static CHANGED: [(usize, &[u8], &str); 8] = [
     (0, b"X", "verdict: refused\nat 131: F1 no SAUCE record\n"),
     (
         5,
@@ -173,6 +173,11 @@ static CHANGED: [(usize, &[u8], &str); 7] = [
         95,
         b"\x02",
         "verdict: refused\nat 97: F3 not Character/ANSi\nfound: data type 1, file type 2\n",
+    ),
+    (
+        104,
+        b"\x01",
+        "verdict: refused\nat 107: F4 comment block missing\nfound: 1 comment stated\n",
     ),
     (
         104,
@@ -209,7 +214,7 @@ fn bytes_after_the_end_mark_are_counted(rt: HostRuntime) {
     let file = file_of(&rt, b"Hi\x1ax", &[]);
     let text = b"verdict: refused\n\
         at 3: F8 bytes after the end mark\n\
-        found: 1 bytes after the end mark, no record among them\n";
+        found: 1 byte after the end mark, no record among them\n";
     expect_run(&rt, file.as_slice(), &WHY, 512, Ok(false), text);
 }
 
