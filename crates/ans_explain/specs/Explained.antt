@@ -1,6 +1,6 @@
 -- What is said of a file is true of it.
-use Rattle.std.specs.Prelude.{◌≡◌, ◌≢◌, ◌⊎◌, ℕ, ◌+◌, ◌≤◌, ◌↔◌, Bool, ◌==◌, ◌%◌, IsTrue, List, [], length, take, drop}
-use Rattle.std.specs.Prelude.{Option, Some, None, IfSome, IfNone}
+use Rattle.std.specs.Prelude.{◌≡◌, ◌≢◌, ◌⊎◌, ℕ, ◌+◌, ◌≤◌, ◌↔◌, Bool, IsTrue, List, [], length, take, drop, Option, Some}
+use Rattle.std.specs.Prelude.{None, IfSome, IfNone}
 use Rattle.ans_model.specs.Bytes.{longest_file, most_lines}
 use Rattle.ans_model.specs.declared.cell.Position.{Position}
 use Rattle.ans_model.specs.declared.fault.Fault.{Fault}
@@ -9,7 +9,7 @@ use Rattle.ans_model.specs.declared.fault.Cause.TheVariants.{BrokenSequence, Num
 use Rattle.ans_model.specs.declared.fault.Cause.TheVariants.{EndInSequence, UnknownSequence, WrongParameters}
 use Rattle.ans_model.specs.declared.fault.Cause.TheVariants.{OutsideScreen, PrintBelow, Scrolls}
 use Rattle.ans_model.specs.declared.start.Start.{Start}
-use Rattle.ans_model.specs.File.Record.{flags, stated_lines, stated_width}
+use Rattle.ans_model.specs.File.Record.{is_non_blink, stated_lines, stated_width}
 use Rattle.ans_model.specs.File.Refusals.{record_fault}
 use Rattle.ans_model.specs.Sequence.TokenKind.{TokenKind}
 use Rattle.ans_model.specs.Sequence.Reads.{ReadsAs}
@@ -17,7 +17,7 @@ use Rattle.ans_model.specs.Screen.State.{Size, sized}
 use Rattle.ans_model.specs.Screen.StartClass.{all_known, none_known}
 use Rattle.ans_model.specs.Verdict.Needs.{IsLeast}
 use Rattle.ans_sauce.specs.declared.parts.Parts.{Parts}
-use Rattle.ans_sauce.specs.Parts.{content_of, record_of, width_of, lines_of}
+use Rattle.ans_sauce.specs.Parts.{content_of, record_of}
 use Rattle.ans_sauce.specs.Split.{IsSplit}
 use Rattle.ans_sauce.specs.Found.{IsFound}
 use Rattle.ans_model.specs.Verdict.LastFault.{IsDeserved}

@@ -1,6 +1,6 @@
 -- What the plays from the low and the high start show of a fault: where their cursors stand before its token, and the
 -- cell in which they differ.
-use Rattle.std.specs.Prelude.{◌≡◌, ◌⊎◌, ℕ, ◌+◌, Bool, true, false, ◌==◌, List, [], ◌∷◌, Option, None, Some, ⊤}
+use Rattle.std.specs.Prelude.{◌≡◌, ℕ, ◌+◌, Bool, true, false, ◌==◌, List, [], ◌∷◌, Option, None, Some, ⊤}
 use Rattle.ans_model.specs.Sequence.TokenKind.{TokenKind}
 use Rattle.ans_model.specs.Sequence.Reads.{IsReadUpTo, Reads}
 use Rattle.ans_model.specs.Screen.State.{Size, cell_at}
@@ -11,7 +11,6 @@ use Rattle.ans_model.specs.declared.fault.Cause.TheVariants.{UnknownCell}
 use Rattle.ans_model.specs.declared.fault.Fault.{Fault}
 use Rattle.ans_model.specs.declared.start.Start.{Start}
 use Rattle.ans_model.specs.Verdict.TokenFault.{HasTabFault, then_blanks}
-use Rattle.ans_model.specs.Verdict.LastFault.{IsDeserved}
 use Rattle.ans_model.specs.Verdict.TwoStarts.{low_final, high_final}
 
 -- the bytes begin with a tab
