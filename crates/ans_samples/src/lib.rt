@@ -16,6 +16,3 @@ pub use ans_model::start::Start;
 pub use failing_once::{FailingOnce, Failure};
 pub use file::sample_file;
 pub use narrow::Narrow;
-
-#[cfg(test)]
-mod tests;

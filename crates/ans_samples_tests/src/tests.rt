@@ -1,6 +1,6 @@
 //! A sample file byte for byte, and devices until they fail.
 
-use crate::{FailingOnce, Failure, Narrow, sample_file};
+use ans_samples::{FailingOnce, Failure, Narrow, sample_file};
 use std::io::{Read, Write};
 use std::test::Fail;
 
