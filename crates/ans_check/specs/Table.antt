@@ -7,7 +7,7 @@ use Rattle.std.specs.Str.{IsUtf8}
 use Rattle.clap.specs.Words.{Text}
 use Rattle.ans_model.specs.Bytes.{longest_file}
 use Rattle.ans_options.specs.declared.command.TableForm.{TableForm}
-use Rattle.ans_options.specs.declared.command.TableForm.TheVariants.{Headed, Json}
+use Rattle.ans_options.specs.declared.command.TableForm.TheVariants.{Headed, Bare, Json}
 use Rattle.ans_table.specs.declared.counts.Counts.{Counts}
 use Rattle.ans_table.specs.declared.counts.Outcome.{Outcome}
 use Rattle.ans_table.specs.declared.finding.Finding.{Finding}
@@ -69,8 +69,9 @@ IsFound remaining is_file is_missing name finding = IsRead remaining (is_file na
 
 -- a row in a form: columns, or a JSON object
 abbrev pub row_in : TableForm → Text → Finding → List ℕ
+row_in Headed name finding = row_line name finding
+row_in Bare name finding = row_line name finding
 row_in Json name finding = line_of (json_text name finding)
-row_in _ name finding = row_line name finding
 
 -- the rows in a form, in their order
 abbrev pub rows_in : TableForm → List Row → List ℕ
@@ -87,7 +88,8 @@ pub record WritesRow {W : Type 0} (contents : W → Option (List ℕ)) (found : 
 -- the line of the columns' names, where the form asks for it
 abbrev pub header : TableForm → List ℕ
 header Headed = header_line
-header _ = []
+header Bare = []
+header Json = []
 
 -- The head was written before the rows of files: at `Ok` of all that are named, and else of the first, with a prefix of
 -- the whole. Each row tells what is found of its file.

@@ -68,7 +68,7 @@ abbrev pub by_pair : {A : Type 0} → ℕ → List A → List A → List A
 by_pair pair one two = if pair == 1 then one else if pair == 2 then two else []
 
 -- Whether bit 7 of an attribute is a bright background (bit 0); letters of 8 or of 9 pixels (bits 1 and 2); pixels to
--- be stretched, or square ones (bits 3 and 4).
+-- be stretched, or square ones (bits 3 and 4): the last two where they say which.
 abbrev pub flag_columns : ℕ → List ℕ
 flag_columns flags =
     column (ice_text (flags % 2 == 1))

@@ -218,6 +218,28 @@ fn bytes_after_the_end_mark_are_counted(rt: HostRuntime) {
     expect_run(&rt, file.as_slice(), &WHY, 512, Ok(false), text);
 }
 
+#[test]
+fn a_record_before_the_end_is_found(rt: HostRuntime) {
+    let file = file_of(&rt, b"Hi\x1a", &[]);
+    assert!(rt; file.len() == 131);
+    let mut longer = [b'\n'; 132];
+    longer[..131].copy_from_slice(file.as_slice());
+    let text = b"verdict: refused\n\
+        at 132: F1 no SAUCE record\n\
+        found: a record at 3, and 1 byte behind it\n";
+    expect_run(&rt, longer.as_slice(), &WHY, 512, Ok(false), text);
+}
+
+#[test]
+fn an_older_record_is_found(rt: HostRuntime) {
+    let older = file_of(&rt, b"Hi\x1a", &[]);
+    let file = file_of(&rt, older.as_slice(), &[]);
+    let text = b"verdict: refused\n\
+        at 3: F8 bytes after the end mark\n\
+        found: 128 bytes after the end mark, an older record among them\n";
+    expect_run(&rt, file.as_slice(), &WHY, 512, Ok(false), text);
+}
+
 /// A content for one cell, the record's flags and font, and what is said behind the size.
 static FONTS: [(&[u8], u8, &[u8], &[u8]); 2] = [
     (
