@@ -21,3 +21,21 @@ fn a_message_is_a_line(rt: HostRuntime) {
         );
     }
 }
+
+/// A try tells a line that is another, and a failure that is kept back.
+#[test]
+fn a_wrong_writing_is_told(rt: HostRuntime) {
+    assert!(rt;
+        !writes(b"anscheck: no\n", |device| {
+            assert!(rt; !device.failed());
+            write_message(device, "on")
+        })
+    );
+    assert!(rt;
+        !writes(b"anscheck: on\n", |device| {
+            assert!(rt; !device.failed());
+            let _ = write_message(device, "on");
+            Ok(())
+        })
+    );
+}
