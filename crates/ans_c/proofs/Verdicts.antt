@@ -1,8 +1,9 @@
 -- What is found of a file, as it is told.
 use Rattle.std.proofs.Common.{◌≡◌, ◌*◌, ◌<◌, min, ℕ, List, Option, Some, None, inl, inr, subst, ap₂}
+use Rattle.ans_model.specs.File.Record.{stated_size}
 use Rattle.ans_model.specs.File.Layout.{FileParts}
 use Rattle.ans_model.specs.File.Refusals.{Accepts, record_fault}
-use Rattle.ans_model.specs.Screen.State.{Size, sized}
+use Rattle.ans_model.specs.Screen.State.{Size}
 use Rattle.ans_model.specs.Screen.StartClass.{all_known}
 use Rattle.ans_model.specs.Verdict.Good.{Picture, GoodWith}
 use Rattle.ans_model.specs.declared.fault.Fault.{Fault}
@@ -12,7 +13,7 @@ use Rattle.ans_sauce.specs.Parts.{content_of, size_of}
 use Rattle.ans_sauce.specs.Split.{IsSplit}
 use Rattle.ans_report.specs.declared.needs_text.Needs.TheVariants as needs
 use Rattle.ans_check.specs.FileNeeds.{IsNeedsOf}
-use Rattle.ans_check.specs.FileVerdict.{Deserves, stated_size}
+use Rattle.ans_check.specs.FileVerdict.{Deserves}
 use Rattle.ans_check.specs.LentScreen.{HasScreen, byte_count, row_count}
 use Rattle.ans_check.specs.declared.screens.LentScreens.{LentScreens}
 use Rattle.ans_check.proofs.VerdictLemmas.{passes, refuses, refused_not_good, record_not_good}
@@ -61,8 +62,8 @@ needs_refused file (Some parts) fault told (apart, shows, refused) tells = recor
 
 -- what is so of the parts' size is so of the file's
 size_of_file : (P : Size → Type 0) (file : List ℕ) (parts : Parts) (s : IsSplit file parts) → P (size_of parts)
-    → P (stated_size s.apart)
-size_of_file P file parts s h = subst P (ap₂ sized s.shows.width s.shows.lines) h
+    → P (stated_size s.apart.record_bytes)
+size_of_file P file parts s h = subst P (ap stated_size s.shows.sauce) h
 
 pub screen_lacking : (file : List ℕ) (parts : Parts) (rows bytes : ℕ) → IsSplit file parts
     → ¬ HasScreen (size_of parts) rows bytes → LacksScreen file rows bytes
@@ -85,11 +86,11 @@ cells_lacking file parts glyphs attributes s lacks = record {
 pub lent_lacking : (file : List ℕ) (screens : LentScreens) (rows bytes : ℕ) → row_count screens ≡ rows
     → byte_count screens ≡ bytes
     → ((apart : FileParts) × Accepts file apart
-    × ¬ HasScreen (stated_size apart) (row_count screens) (byte_count screens))
+    × ¬ HasScreen (stated_size apart.record_bytes) (row_count screens) (byte_count screens))
     → LacksScreen file rows bytes
 lent_lacking file screens rows bytes all_rows all_bytes (apart, accepts, lacks) = record {
   apart = apart;
   accepts = accepts;
-  lacks = subst (λ (n : ℕ). ¬ HasScreen (stated_size apart) n bytes) all_rows
-      (subst (λ (n : ℕ). ¬ HasScreen (stated_size apart) (row_count screens) n) all_bytes lacks);
+  lacks = subst (λ (n : ℕ). ¬ HasScreen (stated_size apart.record_bytes) n bytes) all_rows
+      (subst (λ (n : ℕ). ¬ HasScreen (stated_size apart.record_bytes) (row_count screens) n) all_bytes lacks);
 }

@@ -1,6 +1,7 @@
 -- What a caller in C is told of a file.
 use Rattle.std.specs.Prelude.{◌≡◌, ◌≢◌, ◌⊎◌, ℕ, ◌+◌, ◌*◌, ◌<◌, ◌≤◌, min, Bool, true, false, List, length, map, take}
 use Rattle.std.specs.Prelude.{Some}
+use Rattle.ans_model.specs.File.Record.{stated_size}
 use Rattle.ans_model.specs.File.Layout.{FileParts}
 use Rattle.ans_model.specs.File.Refusals.{Accepts, record_fault}
 use Rattle.ans_model.specs.Screen.State.{Size}
@@ -9,7 +10,7 @@ use Rattle.ans_model.specs.declared.cell.Cell.{Cell}
 use Rattle.ans_model.specs.declared.fault.Fault.{Fault}
 use Rattle.ans_model.specs.declared.start.Start.{Start}
 use Rattle.ans_check.specs.FileNeeds.{NeedsClass}
-use Rattle.ans_check.specs.FileVerdict.{Deserves, Passes, IsRefusedFor, IsGoodFile, stated_size}
+use Rattle.ans_check.specs.FileVerdict.{Deserves, Passes, IsRefusedFor, IsGoodFile}
 use Rattle.ans_check.specs.LentScreen.{HasScreen}
 use Rattle.ans_c.specs.Numbers.{IsSizeOf, TellsFault, class_of}
 use Rattle.ans_c.specs.declared.numbers.PictureSize.{PictureSize}
@@ -20,7 +21,7 @@ use Rattle.ans_c.specs.declared.numbers.ToldFault.{ToldFault}
 pub record TellsSize (file : List ℕ) (told : PictureSize) : Type 0 where
   pub apart : FileParts
   pub accepts : Accepts file apart
-  pub size : IsSizeOf (stated_size apart) told
+  pub size : IsSizeOf (stated_size apart.record_bytes) told
 
 -- the file's record or its layout has a fault, which is told
 pub record TellsRecordFault (file : List ℕ) (told : ToldFault) : Type 0 where
@@ -56,13 +57,13 @@ pub record TellsNeeds (file : List ℕ) (bits : ℕ) : Type 0 where
 pub record LacksScreen (file : List ℕ) (rows bytes : ℕ) : Type 0 where
   pub apart : FileParts
   pub accepts : Accepts file apart
-  pub lacks : ¬ HasScreen (stated_size apart) rows bytes
+  pub lacks : ¬ HasScreen (stated_size apart.record_bytes) rows bytes
 
 -- the file is accepted, and there is room for fewer glyphs or attributes than its picture has cells
 pub record LacksCells (file : List ℕ) (glyphs attributes : ℕ) : Type 0 where
   pub apart : FileParts
   pub accepts : Accepts file apart
-  pub lacks : min glyphs attributes < (stated_size apart).width * (stated_size apart).lines
+  pub lacks : min glyphs attributes < (stated_size apart.record_bytes).width * (stated_size apart.record_bytes).lines
 
 -- the longest text that is told
 abbrev pub longest_text : ℕ

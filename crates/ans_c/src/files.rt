@@ -11,7 +11,7 @@ ghost use Rattle.ans_c.specs.Told.{TellsRefusal, TellsSize};
 
 use crate::cells::copy_cells;
 use crate::numbers::{
-    NO_ROOM, PASS, PictureSize, REFUSED, TOO_LONG, ToldFault, bits_of, class_of, size_of, told,
+    NO_ROOM, PASS, PictureSize, REFUSED, TOO_LONG, ToldFault, bits_of, class_of, told, told_size,
 };
 use ans_check::{LentScreens, needs_on, play_on};
 use ans_model::limits::MAX_FILE;
@@ -36,7 +36,7 @@ pub extern "C" fn ans_size(file: &[u8], size: &mut PictureSize, fault: &mut Told
     }
     match split(file) {
         Ok(parts) => {
-            *size = size_of(&parts);
+            *size = told_size(&parts);
             PASS
         }
         Err(found) => {

@@ -182,7 +182,7 @@ pub(crate) fn told(fault: &Fault) -> ToldFault
 }
 
 /// The size that a file's record states, and what a check wants.
-pub(crate) fn size_of(parts: &Parts<'_>) -> PictureSize
+pub(crate) fn told_size(parts: &Parts<'_>) -> PictureSize
     ensures { IsSizeOf (size_of parts.now) result }
 {
     let columns = parts.width();

@@ -10,11 +10,11 @@ use Rattle.ans_model.specs.Text.TokensText.{TokensText}
 use Rattle.ans_model.specs.Screen.StartClass.{all_known}
 use Rattle.ans_model.specs.Text.NeedsText.{needs_text}
 use Rattle.ans_model.specs.Text.ReportText.{Heading, Passed, RefusedFor, refusal_text, report_text}
-use Rattle.ans_model.specs.Screen.State.{sized}
+use Rattle.ans_model.specs.File.Record.{stated_size}
 use Rattle.ans_model.specs.declared.fault.Fault.{Fault}
 use Rattle.ans_model.specs.declared.start.Start.{Start}
 use Rattle.ans_sauce.specs.declared.parts.Parts.{Parts}
-use Rattle.ans_sauce.specs.Parts.{ShowsParts, content_of, width_of, lines_of, record_of}
+use Rattle.ans_sauce.specs.Parts.{ShowsParts, content_of, size_of, record_of}
 use Rattle.ans_sauce.specs.Split.{IsSplit}
 use Rattle.ans_report.specs.Headings.{heading_of}
 use Rattle.ans_report.specs.NeedsBytes.{needs_bytes}
@@ -38,7 +38,7 @@ use Rattle.ans_options.specs.declared.command.Form.{Form}
 -- the heading of a file's parts
 heading_is : (apart : FileParts) (parts : Parts) (start : Option Start) → ShowsParts apart parts
     → heading_of parts start ≡ heading apart start
-heading_is apart parts start h = rw (h.content, h.width, h.lines, h.notes)
+heading_is apart parts start h = rw (h.content, h.sauce, h.notes)
 
 -- a pass is reported by the heading of its parts, its picture and its cells
 pass_reported : (file : List ℕ) (start : Start) (cells : Bool) (apart : FileParts) (parts : Parts) (picture : Picture)
@@ -112,8 +112,8 @@ pub fitting : {G : Type 0} (file : List ℕ) (start : Start) (cells : Bool) (v :
     → IsReportOf v start cells r
     → IsVerdictOn file start v → IsFitting r
 fitting file start cells (Pass parts picture) (report.Pass told from shown asked) (p, s, i, c) h =
-    of_equals (λ (v : Parts) (see : Picture) (at : Start). see.size ≡ sized (width_of v) (lines_of v))
-    p i s (h.2.good.shows.is_picture.size ∙ sym (ap₂ sized h.1.width h.1.lines))
+    of_equals (λ (v : Parts) (see : Picture) (at : Start). see.size ≡ size_of v)
+    p i s (h.2.good.shows.is_picture.size ∙ sym (ap stated_size h.1.sauce))
 fitting file start cells (Refused parts f) (report.Refused told from fault) same h = tt
 fitting file start cells (Pass parts picture) (report.Refused told from fault) never h = absurd never
 fitting file start cells (Refused parts f) (report.Pass told from shown asked) never h = absurd never

@@ -1,12 +1,12 @@
 -- The room that plays one after the other take.
 use Rattle.std.proofs.Common.{◌≡◌, ◌∙◌, ℕ, List, length, Ok, Err, ap, ap₂, subst, sym}
 use Rattle.std.specs.Prelude.{◌↔◌, Result, IsOk, IsErr}
-use Rattle.ans_model.specs.Screen.State.{Size, sized}
+use Rattle.ans_model.specs.File.Record.{stated_size}
+use Rattle.ans_model.specs.Screen.State.{Size}
 use Rattle.ans_model.proofs.AcceptedFiles.{one_layout}
 use Rattle.ans_sauce.specs.declared.parts.Parts.{Parts}
 use Rattle.ans_sauce.specs.Split.{IsSplit}
 use Rattle.ans_sauce.specs.Parts.{size_of}
-use Rattle.ans_check.specs.FileVerdict.{stated_size}
 use Rattle.ans_check.specs.LentScreen.{HasScreen, byte_count, row_count}
 use Rattle.ans_check.specs.ScreenRoom.{AnswersWithin, KeepsRoom, TakesRoom}
 use Rattle.ans_check.specs.declared.screens.LentScreens.{LentScreens}
@@ -81,10 +81,10 @@ pub within_file : {S T E : Type 0} {has_room may_lack : S → Size → Type 0} {
     → IsSplit file parts → TakesRoom has_room may_lack (size_of parts) a b r
     → AnswersWithin has_room may_lack file a r
 within_file {has_room = has_room} {may_lack = may_lack} {a = a} file parts s t =
-    let size : size_of parts ≡ stated_size s.apart = ap₂ sized s.shows.width s.shows.lines in
+    let size : size_of parts ≡ stated_size s.apart.record_bytes = ap stated_size s.shows.sauce in
     record {
       room = λ apart accepts h.
           let same : apart ≡ s.apart = one_layout file apart s.apart accepts.laid s.accepts.laid in
-          t.room (subst (has_room a) (ap stated_size same ∙ sym size) h);
+          t.room (subst (has_room a) (ap (λ (v : FileParts). stated_size v.record_bytes) same ∙ sym size) h);
       want = λ e. (s.apart, s.accepts, subst (may_lack a) size (t.want e));
     }

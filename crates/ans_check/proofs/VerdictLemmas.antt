@@ -4,11 +4,12 @@ use Rattle.std.proofs.Common.{◌∷◌, subst, inl, inr, ◌⊎◌, Some, None,
 use Rattle.std.specs.Prelude.{IfSome, IsSome, Result, Ok, Err, IfOk, IfErr}
 use Rattle.std.specs.List.{AllByRecursion}
 use Rattle.std.proofs.lemmas.List.{length-take}
+use Rattle.ans_model.specs.File.Record.{stated_size}
 use Rattle.ans_model.specs.Bytes.{longest_file}
 use Rattle.ans_model.specs.File.Layout.{FileParts, content}
 use Rattle.ans_model.specs.File.Refusals.{Refusal, fault_at, first_refusal, file_refusals, record_fault}
 use Rattle.ans_model.specs.Verdict.Certain.{IsCertain}
-use Rattle.ans_model.specs.Screen.State.{Size, sized}
+use Rattle.ans_model.specs.Screen.State.{Size}
 use Rattle.ans_model.specs.Verdict.Good.{Picture, GoodWith, IsGood}
 use Rattle.ans_model.specs.Verdict.FirstFault.{IsFirstFault}
 use Rattle.ans_model.specs.Verdict.LastFault.{IsLastFault}
@@ -24,7 +25,7 @@ use Rattle.ans_sauce.specs.declared.parts.Parts.{Parts}
 use Rattle.ans_sauce.specs.Parts.{ShowsParts, content_of, size_of}
 use Rattle.ans_sauce.specs.Split.{IsSplit}
 use Rattle.ans_check.specs.FileNeeds.{NeedsClass}
-use Rattle.ans_check.specs.FileVerdict.{Deserves, Passes, IsRefusedFor, IsGoodFile, stated_size}
+use Rattle.ans_check.specs.FileVerdict.{Deserves, Passes, IsRefusedFor, IsGoodFile}
 
 -- what is so of a play is so of equal sizes, starts and contents
 pub so_of_same : (P : Size → Start → List ℕ → Type 0) (a b : Size) (from start : Start) (played content : List ℕ)
@@ -51,9 +52,9 @@ err_of_parts {T} {a} {b} {from} {start} {played} {content} (Err f) P size same t
 
 -- what is so of the parts' size and content is so of the file's
 so_of_file : (file : List ℕ) (parts : Parts) (s : IsSplit file parts) (P : Size → List ℕ → Type 0)
-    → P (size_of parts) (content_of parts) → P (stated_size s.apart) (content s.apart.body)
+    → P (size_of parts) (content_of parts) → P (stated_size s.apart.record_bytes) (content s.apart.body)
 so_of_file file parts s P h =
-    subst (λ (v : Size). P v (content s.apart.body)) (ap₂ sized s.shows.width s.shows.lines)
+    subst (λ (v : Size). P v (content s.apart.body)) (ap stated_size s.shows.sauce)
     (subst (P (size_of parts)) s.shows.content h)
 
 -- a content is no longer than its file
@@ -109,9 +110,9 @@ pub refused_not_good : (file : List ℕ) (start : Start) (apart : FileParts) (f 
     → IsRefusedFor file start apart f → IsGoodFile file start → ⊥
 refused_not_good file start apart f r good =
     let same : good.0 ≡ apart = one_layout file good.0 apart good.2.accepts.laid r.accepts.laid in
-    let here : IsGood (stated_size apart) start (content apart.body) =
-    subst (λ (a : FileParts). IsGood (stated_size a) start (content a.body)) same (good.1, good.2.good) in
-    not_good (stated_size apart) start (content apart.body) f r.deserved here
+    let here : IsGood (stated_size apart.record_bytes) start (content apart.body) =
+    subst (λ (a : FileParts). IsGood (stated_size a.record_bytes) start (content a.body)) same (good.1, good.2.good) in
+    not_good (stated_size apart.record_bytes) start (content apart.body) f r.deserved here
 
 -- a file whose record or layout is refused is not good
 pub record_not_good : (file : List ℕ) (start : Start) (f : Fault) → record_fault file ≡ Some f → IsGoodFile file start

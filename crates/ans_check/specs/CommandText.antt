@@ -2,7 +2,7 @@
 use Rattle.std.specs.Prelude.{◌≡◌, ◌⊎◌, ℕ, Bool, true, false, List, length, Option, Some, None}
 use Rattle.ans_model.specs.File.Layout.{FileParts, content}
 use Rattle.ans_model.specs.File.NoteConditions.{notes}
-use Rattle.ans_model.specs.File.Record.{title_field, trimmed, is_non_blink}
+use Rattle.ans_model.specs.File.Record.{title_field, trimmed, is_non_blink, stated_size}
 use Rattle.ans_model.specs.File.Refusals.{Accepts, record_fault}
 use Rattle.ans_model.specs.Verdict.Good.{Picture}
 use Rattle.ans_model.specs.Text.RecordText.{record_text}
@@ -29,12 +29,12 @@ use Rattle.ans_explain.specs.declared.why.Why.TheVariants as said
 use Rattle.ans_check.specs.declared.verdict.Verdict.{Verdict}
 use Rattle.ans_check.specs.declared.verdict.Verdict.TheVariants.{Pass, Refused}
 use Rattle.ans_check.specs.FileNeeds.{NeedsClass}
-use Rattle.ans_check.specs.FileVerdict.{Passes, IsRefusedFor, IsGoodFile, stated_size}
+use Rattle.ans_check.specs.FileVerdict.{Passes, IsRefusedFor, IsGoodFile}
 
 -- what is said of a file before its verdict or its needs, and the class of starts where one is named
 abbrev pub heading : FileParts → Option Start → Heading
 heading apart start = record {
-  size = stated_size apart;
+  size = stated_size apart.record_bytes;
   start = start;
   content_length = length (content apart.body);
   notes = notes apart.body apart.record_bytes;

@@ -1,9 +1,9 @@
 -- What a verdict says of a file.
 use Rattle.std.specs.Prelude.{◌≡◌, ℕ, ◌≤◌, List, length, Option, Some, None}
-use Rattle.ans_model.specs.File.Record.{stated_width, stated_lines}
+use Rattle.ans_model.specs.File.Record.{stated_size}
 use Rattle.ans_model.specs.File.Layout.{FileParts, content}
 use Rattle.ans_model.specs.File.Refusals.{Accepts, record_fault}
-use Rattle.ans_model.specs.Screen.State.{Size, sized}
+use Rattle.ans_model.specs.Screen.State.{Size}
 use Rattle.ans_model.specs.Screen.StartClass.{all_known}
 use Rattle.ans_model.specs.Verdict.Good.{Picture, GoodWith}
 use Rattle.ans_model.specs.Verdict.Certain.{IsCertain}
@@ -14,10 +14,6 @@ use Rattle.ans_sauce.specs.Parts.{ShowsParts}
 use Rattle.ans_model.specs.Verdict.LastFault.{IsDeserved}
 use Rattle.ans_check.specs.declared.verdict.Verdict.{Verdict}
 use Rattle.ans_check.specs.declared.verdict.Verdict.TheVariants.{Pass, Refused}
-
--- the size that a file's record states
-abbrev pub stated_size : FileParts → Size
-stated_size apart = sized (stated_width apart.record_bytes) (stated_lines apart.record_bytes)
 
 -- The fault is the content's first; where no token has one, it is the last. From the cleared start it is certain. Where
 -- it depends on the start, the plays from the low and the high start of the class show it.
@@ -30,12 +26,12 @@ pub record Deserves (z : Size) (start : Start) (bytes : List ℕ) (fault : Fault
 -- The file is accepted so, and from every start of the class its content plays well and shows the picture.
 pub record Passes (file : List ℕ) (start : Start) (apart : FileParts) (picture : Picture) : Type 0 where
   pub accepts : Accepts file apart
-  pub good : GoodWith (stated_size apart) start (content apart.body) picture
+  pub good : GoodWith (stated_size apart.record_bytes) start (content apart.body) picture
 
 -- the file is accepted so, and its content deserves the fault
 pub record IsRefusedFor (file : List ℕ) (start : Start) (apart : FileParts) (fault : Fault) : Type 0 where
   pub accepts : Accepts file apart
-  pub deserved : Deserves (stated_size apart) start (content apart.body) fault
+  pub deserved : Deserves (stated_size apart.record_bytes) start (content apart.body) fault
 
 -- the verdict is true of the file; without parts the fault is that of the record
 abbrev pub IsVerdictOn : {G : Type 0} → List ℕ → Start → Verdict G → Type 0

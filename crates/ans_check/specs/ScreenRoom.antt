@@ -1,9 +1,9 @@
 -- What a play takes of the room for its screen.
 use Rattle.std.specs.Prelude.{ℕ, List, IsOk, IsErr, Result}
+use Rattle.ans_model.specs.File.Record.{stated_size}
 use Rattle.ans_model.specs.File.Layout.{FileParts}
 use Rattle.ans_model.specs.File.Refusals.{Accepts}
 use Rattle.ans_model.specs.Screen.State.{Size}
-use Rattle.ans_check.specs.FileVerdict.{stated_size}
 
 -- There is no less room for a play of this size than before.
 pub record KeepsRoom {S : Type 0} (has_room may_lack : S → Size → Type 0) (z : Size) (old new : S) : Type 0 where
@@ -21,5 +21,5 @@ pub record TakesRoom {S T E : Type 0} (has_room may_lack : S → Size → Type 0
 -- there may be none alone.
 pub record AnswersWithin {S T E : Type 0} (has_room may_lack : S → Size → Type 0) (file : List ℕ) (screens : S)
     (result : Result T E) : Type 0 where
-  pub room : (apart : FileParts) → Accepts file apart → has_room screens (stated_size apart) → IsOk result
-  pub want : IsErr result → (apart : FileParts) × Accepts file apart × may_lack screens (stated_size apart)
+  pub room : (apart : FileParts) → Accepts file apart → has_room screens (stated_size apart.record_bytes) → IsOk result
+  pub want : IsErr result → (apart : FileParts) × Accepts file apart × may_lack screens (stated_size apart.record_bytes)

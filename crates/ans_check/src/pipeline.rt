@@ -102,7 +102,7 @@ fn write_picture<W: Write, G: Screen>(
         result (shown_text form (record_of parts.now) picture.now) }
 {
     let sauce = parts.sauce();
-    let non_blink = sauce.flags() % 2 == 1;
+    let non_blink = sauce.is_non_blink();
     match form {
         Form::Terminal => write_terminal(writer, picture, non_blink, false),
         Form::Vga => write_terminal(writer, picture, non_blink, true),

@@ -9,11 +9,11 @@ use Rattle.ans_model.specs.declared.fault.Cause.TheVariants.{BrokenSequence, Num
 use Rattle.ans_model.specs.declared.fault.Cause.TheVariants.{EndInSequence, UnknownSequence, WrongParameters}
 use Rattle.ans_model.specs.declared.fault.Cause.TheVariants.{OutsideScreen, PrintBelow, Scrolls}
 use Rattle.ans_model.specs.declared.start.Start.{Start}
-use Rattle.ans_model.specs.File.Record.{is_non_blink, stated_lines, stated_width}
+use Rattle.ans_model.specs.File.Record.{is_non_blink, stated_size}
 use Rattle.ans_model.specs.File.Refusals.{record_fault}
 use Rattle.ans_model.specs.Sequence.TokenKind.{TokenKind}
 use Rattle.ans_model.specs.Sequence.Reads.{ReadsAs}
-use Rattle.ans_model.specs.Screen.State.{Size, sized}
+use Rattle.ans_model.specs.Screen.State.{Size}
 use Rattle.ans_model.specs.Screen.StartClass.{all_known, none_known}
 use Rattle.ans_model.specs.Verdict.Needs.{IsLeast}
 use Rattle.ans_sauce.specs.declared.parts.Parts.{Parts}
@@ -35,14 +35,6 @@ use Rattle.ans_explain.specs.declared.why.Refusal.{Refusal}
 use Rattle.ans_explain.specs.declared.why.Reliance.{Reliance}
 use Rattle.ans_explain.specs.declared.why.Shown.{Shown}
 use Rattle.ans_explain.specs.declared.why.Shown.TheVariants.{Cursors, Cells}
-
--- the size that a record states
-abbrev pub record_size : List ℕ → Size
-record_size sauce = sized (stated_width sauce) (stated_lines sauce)
-
--- the non-blink flag of the parts' record
-abbrev pub non_blink : Parts → Bool
-non_blink parts = is_non_blink (record_of parts)
 
 -- the place of a position: its row and its column, counted from 1
 abbrev pub place_of : Position → Place
@@ -77,12 +69,12 @@ pub record IsReliance (z : Size) (file_length : ℕ) (content : List ℕ) (r : R
 
 -- a content that passes from the cleared start, and its record
 pub record IsPass (file_length : ℕ) (sauce content : List ℕ) (pass : Pass) : Type 0 where
-  pub needs : IsLeast (record_size sauce) content pass.needs
-  pub taller : IsTrue pass.taller ↔ IsTaller (record_size sauce) pass.needs content
+  pub needs : IsLeast (stated_size sauce) content pass.needs
+  pub taller : IsTrue pass.taller ↔ IsTaller (stated_size sauce) pass.needs content
   pub nothing : IfNone pass.reliance (pass.needs ≡ none_known)
   pub relies : IfSome pass.reliance (λ r. (pass.needs ≢ none_known)
-      × IsReliance (record_size sauce) file_length content r)
-  pub hints : AreHintsOf (record_size sauce) (is_non_blink sauce) content [] pass.hints
+      × IsReliance (stated_size sauce) file_length content r)
+  pub hints : AreHintsOf (stated_size sauce) (is_non_blink sauce) content [] pass.hints
 
 -- F19 to F21, of which more lines may rid a content
 abbrev pub IsOfLines : Cause → Type 0
@@ -106,13 +98,13 @@ pub record EndsHints (fault : Fault) (bytes : List ℕ) (end : ℕ) : Type 0 whe
 
 -- a content that is refused from the cleared start, and its record
 pub record IsRefusal (sauce content : List ℕ) (r : Refusal) : Type 0 where
-  pub deserved : IsDeserved (record_size sauce) all_known content r.fault
-  pub bytes : AreToBlame (record_size sauce) all_known content r.fault r.bytes.now
-  pub cursor : ShowsPlaces (record_size sauce) all_known content r.fault r.cursor r.cursor
+  pub deserved : IsDeserved (stated_size sauce) all_known content r.fault
+  pub bytes : AreToBlame (stated_size sauce) all_known content r.fault r.bytes.now
+  pub cursor : ShowsPlaces (stated_size sauce) all_known content r.fault r.cursor r.cursor
   pub lines : AreLines (stated_width sauce) content r.fault.cause r.lines
   pub hints_end : ℕ
   pub ends : EndsHints r.fault r.bytes.now hints_end
-  pub hints : AreHintsOf (record_size sauce) (is_non_blink sauce) (take hints_end content) (drop hints_end content)
+  pub hints : AreHintsOf (stated_size sauce) (is_non_blink sauce) (take hints_end content) (drop hints_end content)
       r.hints
 
 -- what is said of the file is true of it

@@ -85,8 +85,8 @@ counted_text count thing = decimal count ++ (codes " " ++ (thing ++ (if count ==
 
 -- what follows the end mark
 abbrev pub after_end_mark_text : Bool → List ℕ
-after_end_mark_text true = codes " after the end mark, an older record among them"
-after_end_mark_text false = codes " after the end mark, no record among them"
+after_end_mark_text true = codes " after the end mark, with an older record"
+after_end_mark_text false = codes " after the end mark, without a record"
 
 -- the line of what is found where a record or a layout is refused
 abbrev pub found_line : Found → List ℕ

@@ -10,7 +10,7 @@ ghost use Rattle.ans_sauce.specs.Parts.{content_of, record_of, size_of};
 ghost use Rattle.ans_sauce.specs.Split.{IsSplit};
 ghost use Rattle.ans_model.specs.Verdict.LastFault.{IsDeserved};
 ghost use Rattle.ans_explain.specs.Blamed.{AreToBlame};
-ghost use Rattle.ans_explain.specs.Explained.{non_blink, place_of, IsShown, AreHintsOf, IsReliance, IsPass};
+ghost use Rattle.ans_explain.specs.Explained.{place_of, IsShown, AreHintsOf, IsReliance, IsPass};
 ghost use Rattle.ans_explain.specs.Explained.{IsOfReading, AreLines, EndsHints, IsRefusal, IsTrueOf};
 
 use crate::blamed::bytes_to_blame;
@@ -35,18 +35,6 @@ fn place(size: Size, position: Position) -> Place
         row: position.row + 1,
         column: position.column + 1,
     }
-}
-
-fn size_of(parts: &Parts<'_>) -> Size
-    ensures { result ≡ size_of parts.now }
-{
-    Size::new(parts.width(), parts.lines())
-}
-
-fn non_blink(parts: &Parts<'_>) -> bool
-    ensures { result ≡ non_blink parts.now }
-{
-    parts.sauce().flags() % 2 == 1
 }
 
 /// What the plays from the low and the high of all starts show of a fault.
@@ -144,7 +132,7 @@ fn refusal<'a>(parts: &Parts<'a>, fault: Fault) -> Refusal<'a>
     requires deserved { IsDeserved (size_of parts.now) all_known (content_of parts.now) fault }
     ensures { IsRefusal (record_of parts.now) (content_of parts.now) result }
 {
-    let size = size_of(parts);
+    let size = parts.size();
     let content = parts.content();
     let bytes = bytes_to_blame(content, size, Start::CLEARED, fault);
     let (cursor, _) = cursors_before(size, Start::CLEARED, content, fault);
@@ -154,7 +142,7 @@ fn refusal<'a>(parts: &Parts<'a>, fault: Fault) -> Refusal<'a>
         bytes,
         cursor: place(size, cursor),
         lines: enough_lines(parts.width(), content, &fault.cause),
-        hints: Hints::of(size, non_blink(parts), content, end),
+        hints: Hints::of(size, parts.sauce().is_non_blink(), content, end),
     }
 }
 
@@ -167,9 +155,9 @@ fn pass<'a>(parts: &Parts<'a>, file_length: usize, needs: Start, fault: Option<F
         × IsDeserved (size_of parts.now) none_known (content_of parts.now) f) }
     ensures { IsPass file_length (record_of parts.now) (content_of parts.now) result }
 {
-    let size = size_of(parts);
+    let size = parts.size();
     let content = parts.content();
-    let hints = Hints::of(size, non_blink(parts), content, content.len());
+    let hints = Hints::of(size, parts.sauce().is_non_blink(), content, content.len());
     Pass {
         needs,
         taller: !hints.moves_rows || is_taller(size, needs, content),

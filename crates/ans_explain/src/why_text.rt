@@ -257,9 +257,9 @@ fn after_end_mark(older: bool) -> &'static [u8]
     ensures { result.now ≡ after_end_mark_text older }
 {
     if older {
-        b" after the end mark, an older record among them"
+        b" after the end mark, with an older record"
     } else {
-        b" after the end mark, no record among them"
+        b" after the end mark, without a record"
     }
 }
 

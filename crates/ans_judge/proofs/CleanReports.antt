@@ -12,9 +12,9 @@ use Rattle.ans_model.specs.Bytes.{IsByte}
 use Rattle.ans_model.specs.File.Layout.{FileParts, content}
 use Rattle.ans_model.specs.File.NoteConditions.{notes}
 use Rattle.ans_model.specs.File.Record.{number, field, title_field, author_field, group_field, date_field, file_size}
-use Rattle.ans_model.specs.File.Record.{comment_count, flags, font_field, stated_width, stated_lines, trimmed, comment}
+use Rattle.ans_model.specs.File.Record.{comment_count, flags, font_field, stated_size, trimmed, comment}
 use Rattle.ans_model.specs.File.Record.{is_non_blink}
-use Rattle.ans_model.specs.Screen.State.{IsByteCell, sized}
+use Rattle.ans_model.specs.Screen.State.{IsByteCell}
 use Rattle.ans_model.specs.Sequence.TokenKind.{TokenKind, PrintsByte, Glyph, Bell, BackSpace, LineFeed, CarriageReturn}
 use Rattle.ans_model.specs.Sequence.TokenKind.{Tab, Up, Down, Forward, Backward, Place, Clear, EraseLine, Save}
 use Rattle.ans_model.specs.Sequence.TokenKind.{Restore, Colours, Wrap, Mode, Keys, Ask}
@@ -153,8 +153,7 @@ record_clean apart h =
     let size = named_line (codes "file size") (decimal (file_size sauce)) ++ count in
     let font = field_line (codes "font") (font_field sauce) ++ size in
     let flagged = named_line (codes "flags") (hex_byte (flags sauce)) ++ font in
-    let stated = sized (stated_width sauce) (stated_lines sauce) in
-    let screen = named_line (codes "size") (size_text stated) ++ flagged in
+    let screen = named_line (codes "size") (size_text (stated_size sauce)) ++ flagged in
     let date = field_line (codes "date") (date_field sauce) ++ screen in
     let group = field_line (codes "group") (group_field sauce) ++ date in
     let author = field_line (codes "author") (author_field sauce) ++ group in
@@ -162,7 +161,7 @@ record_clean apart h =
     (field_then (codes "author") 42 20 sauce group (plain_text (codes "author") refl) h.sauce
     (field_then (codes "group") 62 20 sauce date (plain_text (codes "group") refl) h.sauce
     (field_then (codes "date") 82 8 sauce screen (plain_text (codes "date") refl) h.sauce
-    (named_then (codes "size") (size_text stated) flagged (plain_text (codes "size") refl) (size_clean stated)
+    (named_then (codes "size") (size_text (stated_size sauce)) flagged (plain_text (codes "size") refl) (size_clean (stated_size sauce))
     (named_then (codes "flags") (hex_byte (flags sauce)) font (plain_text (codes "flags") refl)
     (clean_hex_byte (flags sauce) (flags_are_a_byte sauce h.sauce))
     (field_then (codes "font") 106 22 sauce size (plain_text (codes "font") refl) h.sauce

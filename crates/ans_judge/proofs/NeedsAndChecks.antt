@@ -1,6 +1,7 @@
 -- What is needed is what checks find.
 use Rattle.std.proofs.Common.{◌≡◌, ◌↔◌, ℕ, Bool, true, false, List, refl, subst}
 use Rattle.std.specs.Prelude.{IsTrue}
+use Rattle.ans_model.specs.File.Record.{stated_size}
 use Rattle.ans_model.specs.declared.start.Start.{Start}
 use Rattle.ans_model.specs.File.Layout.{FileParts, content}
 use Rattle.ans_model.specs.File.Refusals.{Accepts}
@@ -10,14 +11,14 @@ use Rattle.ans_model.proofs.AcceptedFiles.{one_layout}
 use Rattle.ans_model.proofs.ClassLemmas.{covers_all_known, covers_good}
 use Rattle.ans_check.specs.CommandText.{ReportsCheck, ReportsNeeds}
 use Rattle.ans_check.specs.FileNeeds.{NeedsClass}
-use Rattle.ans_check.specs.FileVerdict.{IsGoodFile, stated_size}
+use Rattle.ans_check.specs.FileVerdict.{IsGoodFile}
 
 -- the content of a good file is good
 good_content : (file : List ℕ) (start : Start) (apart : FileParts) → Accepts file apart → IsGoodFile file start
-    → IsGood (stated_size apart) start (content apart.body)
+    → IsGood (stated_size apart.record_bytes) start (content apart.body)
 good_content file start apart accepts good =
     let same : good.0 ≡ apart = one_layout file good.0 apart good.2.accepts.laid accepts.laid in
-    subst (λ (a : FileParts). IsGood (stated_size a) start (content a.body)) same (good.1, good.2.good)
+    subst (λ (a : FileParts). IsGood (stated_size a.record_bytes) start (content a.body)) same (good.1, good.2.good)
 
 -- a file is good for the classes that know each part which it needs
 pub good_where_covered : (file : List ℕ) (apart : FileParts) (class start : Start) → NeedsClass file apart class
@@ -51,7 +52,7 @@ good_for_cleared file start good = (
   good.1,
   record {
     accepts = good.2.accepts;
-    good = covers_good (stated_size good.0) start all_known (content good.0.body) good.1 (covers_all_known start)
+    good = covers_good (stated_size good.0.record_bytes) start all_known (content good.0.body) good.1 (covers_all_known start)
         good.2.good;
   },
 )

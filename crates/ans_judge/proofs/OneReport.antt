@@ -2,6 +2,7 @@
 use Rattle.std.proofs.Common.{◌≡◌, ◌⊎◌, inl, inr, ℕ, Bool, true, false, List, ◌∙◌, ap, ap₂, refl, sym, subst, Option}
 use Rattle.std.proofs.Common.{Some, None}
 use Rattle.std.proofs.lemmas.Option.{same_Some}
+use Rattle.ans_model.specs.File.Record.{stated_size}
 use Rattle.ans_model.specs.declared.fault.Fault.{Fault}
 use Rattle.ans_model.specs.declared.start.Start.{Start}
 use Rattle.ans_model.specs.File.Layout.{FileParts, content}
@@ -26,7 +27,7 @@ use Rattle.ans_options.specs.declared.command.Options.{Options}
 use Rattle.ans_check.specs.CommandText.{Reports, ReportsBy, ReportsCheck, ReportsContent, ReportsFault, ReportsLeast}
 use Rattle.ans_check.specs.CommandText.{ReportsNeeds, ReportsPass, ReportsPicture, ReportsShow, ReportsWhy}
 use Rattle.ans_check.specs.CommandText.{ReportsRecordFault, ReportsSauce, ReportsTokens, heading, shown_text}
-use Rattle.ans_check.specs.FileVerdict.{Passes, Deserves, IsGoodFile, IsRefusedFor, stated_size}
+use Rattle.ans_check.specs.FileVerdict.{Passes, Deserves, IsGoodFile, IsRefusedFor}
 use Rattle.ans_check.specs.FileNeeds.{NeedsClass}
 use Rattle.ans_judge.proofs.Covering.{covers_both_ways}
 use Rattle.ans_judge.proofs.NeedsAndChecks.{good_where_covered}
@@ -74,10 +75,10 @@ module _ (z : Size) (start : Start) (bytes : List ℕ) (f g : Fault) where
 one_refusal : (file : List ℕ) (start : Start) (a b : FileParts) (f g : Fault) → IsRefusedFor file start a f
     → IsRefusedFor file start b g → f ≡ g
 one_refusal file start a b f g p q =
-    let moved : Deserves (stated_size b) start (content b.body) f =
-    subst (λ (v : FileParts). Deserves (stated_size v) start (content v.body) f)
+    let moved : Deserves (stated_size b.record_bytes) start (content b.body) f =
+    subst (λ (v : FileParts). Deserves (stated_size v.record_bytes) start (content v.body) f)
     (same_apart file a b p.accepts q.accepts) p.deserved in
-    same_fault (stated_size b) start (content b.body) f g moved.deserved q.deserved.deserved
+    same_fault (stated_size b.record_bytes) start (content b.body) f g moved.deserved q.deserved.deserved
 
 -- ---- checks
 
@@ -86,9 +87,9 @@ same_picture : (file : List ℕ) (start : Start) (a b : FileParts) (p q : Pictur
     → Passes file start b q → (a ≡ b) × (p ≡ q)
 same_picture file start a b p q h g =
     let apart : a ≡ b = same_apart file a b h.accepts g.accepts in
-    let moved : GoodWith (stated_size b) start (content b.body) p =
-    subst (λ (v : FileParts). GoodWith (stated_size v) start (content v.body) p) apart h.good in
-    (apart, one_picture (stated_size b) start start (content b.body) p q moved g.good)
+    let moved : GoodWith (stated_size b.record_bytes) start (content b.body) p =
+    subst (λ (v : FileParts). GoodWith (stated_size v.record_bytes) start (content v.body) p) apart h.good in
+    (apart, one_picture (stated_size b.record_bytes) start start (content b.body) p q moved g.good)
 
 one_pass : (file : List ℕ) (start : Start) (cells : Bool) (text other : List ℕ) → ReportsPass file start cells text
     → ReportsPass file start cells other → text ≡ other

@@ -8,7 +8,7 @@ use Rattle.ans_model.specs.declared.fault.Cause.{Cause}
 use Rattle.ans_model.specs.declared.fault.Fault.{Fault}
 use Rattle.ans_model.specs.declared.start.Start.{Start}
 use Rattle.ans_model.specs.File.Layout.{FileParts, content}
-use Rattle.ans_model.specs.File.Record.{font_field, stated_width, trimmed, is_non_blink}
+use Rattle.ans_model.specs.File.Record.{font_field, stated_width, trimmed, is_non_blink, stated_size}
 use Rattle.ans_model.specs.File.Refusals.{record_fault}
 use Rattle.ans_model.specs.Screen.State.{Size}
 use Rattle.ans_model.specs.Screen.StartClass.{all_known, none_known}
@@ -33,7 +33,7 @@ use Rattle.ans_hints.specs.HintsText.{hints_text}
 use Rattle.ans_hints.specs.declared.hints.Hints.{Hints}
 use Rattle.ans_explain.specs.Blamed.{AreToBlame}
 use Rattle.ans_explain.specs.Explained.{AreHintsOf, AreLines, EndsHints, IsPass, IsRefusal, IsReliance, IsTrueOf}
-use Rattle.ans_explain.specs.Explained.{record_size, IsShown, ShowsPlaces}
+use Rattle.ans_explain.specs.Explained.{IsShown, ShowsPlaces}
 use Rattle.ans_explain.specs.WhyText.{answer_text, bytes_line, lines_line, mend_line, place_text}
 use Rattle.ans_explain.specs.WhyText.{reliance_lines, shown_lines, why_text}
 use Rattle.ans_explain.specs.declared.why.Pass.{Pass}
@@ -114,7 +114,7 @@ module _ (width : ℕ) (bytes : List ℕ) (cause : Cause) where
 
 refusal_said : List ℕ → Fault → List ℕ → Place → Option ℕ → Hints → List ℕ
 refusal_said sauce fault bytes cursor lines hints =
-    named_line (codes "size") (size_text (record_size sauce))
+    named_line (codes "size") (size_text (stated_size sauce))
     ++ (refusal_text fault
     ++ (bytes_line bytes
     ++ (named_line (codes "cleared start") (place_text cursor)
@@ -127,17 +127,17 @@ same_refusal_said sauce f g a b p q m n s t fault bytes cursor lines hints = cc
 
 module _ (sauce bytes : List ℕ) (r s : Refusal) (h : IsRefusal sauce bytes r) (g : IsRefusal sauce bytes s) where
   same_fault : s.fault ≡ r.fault
-  same_fault = one_fault (record_size sauce) all_known bytes s.fault r.fault g.deserved h.deserved
+  same_fault = one_fault (stated_size sauce) all_known bytes s.fault r.fault g.deserved h.deserved
 
   same_bytes : r.bytes.now ≡ s.bytes.now
   same_bytes =
-      one_blamed (record_size sauce) all_known bytes r.fault r.bytes.now s.bytes.now h.bytes
-      (subst (λ (f : Fault). AreToBlame (record_size sauce) all_known bytes f s.bytes.now) same_fault g.bytes)
+      one_blamed (stated_size sauce) all_known bytes r.fault r.bytes.now s.bytes.now h.bytes
+      (subst (λ (f : Fault). AreToBlame (stated_size sauce) all_known bytes f s.bytes.now) same_fault g.bytes)
 
   same_cursor : r.cursor ≡ s.cursor
   same_cursor =
-      (one_places (record_size sauce) all_known bytes r.fault r.cursor r.cursor s.cursor s.cursor h.cursor
-      (subst (λ (f : Fault). ShowsPlaces (record_size sauce) all_known bytes f s.cursor s.cursor) same_fault
+      (one_places (stated_size sauce) all_known bytes r.fault r.cursor r.cursor s.cursor s.cursor h.cursor
+      (subst (λ (f : Fault). ShowsPlaces (stated_size sauce) all_known bytes f s.cursor s.cursor) same_fault
       g.cursor)).0
 
   same_lines : r.lines ≡ s.lines
@@ -147,16 +147,16 @@ module _ (sauce bytes : List ℕ) (r s : Refusal) (h : IsRefusal sauce bytes r) 
 
   same_hints : r.hints ≡ s.hints
   same_hints =
-      let at = hints_end (record_size sauce) bytes r.fault r.bytes.now h.bytes in
+      let at = hints_end (stated_size sauce) bytes r.fault r.bytes.now h.bytes in
       let moved : EndsHints r.fault r.bytes.now g.hints_end =
       subst₂ (λ (f : Fault) (v : List ℕ). EndsHints f v g.hints_end) same_fault (sym same_bytes) g.ends in
       let end_is : g.hints_end ≡ at.end = at.only g.hints_end moved in
-      one_hints (record_size sauce) (is_non_blink sauce) (take at.end bytes) (drop at.end bytes) at.tokens r.hints
+      one_hints (stated_size sauce) (is_non_blink sauce) (take at.end bytes) (drop at.end bytes) at.tokens r.hints
       s.hints
       at.reads
-      (subst (λ (n : ℕ). AreHintsOf (record_size sauce) (is_non_blink sauce) (take n bytes) (drop n bytes) r.hints)
+      (subst (λ (n : ℕ). AreHintsOf (stated_size sauce) (is_non_blink sauce) (take n bytes) (drop n bytes) r.hints)
       (at.only h.hints_end h.ends) h.hints)
-      (subst (λ (n : ℕ). AreHintsOf (record_size sauce) (is_non_blink sauce) (take n bytes) (drop n bytes) s.hints)
+      (subst (λ (n : ℕ). AreHintsOf (stated_size sauce) (is_non_blink sauce) (take n bytes) (drop n bytes) s.hints)
       end_is
       g.hints)
 
@@ -206,7 +206,7 @@ module _ (z : Size) (file_length : ℕ) (bytes : List ℕ) where
 
 pass_said : List ℕ → Start → Bool → List ℕ → Hints → List ℕ
 pass_said sauce needs taller relied hints =
-    named_line (codes "size") (size_text (record_size sauce))
+    named_line (codes "size") (size_text (stated_size sauce))
     ++ (line_of (codes "verdict: pass")
     ++ (line_of (codes "needs:" ++ needed_parts needs)
     ++ (named_line (codes "taller") (answer_text taller)
@@ -219,23 +219,23 @@ same_pass_said sauce c d p q a b s t needs taller relied hints = cc
 module _ (file_length : ℕ) (sauce bytes : List ℕ) (p q : Pass) (h : IsPass file_length sauce bytes p)
     (g : IsPass file_length sauce bytes q) where
   same_needs : p.needs ≡ q.needs
-  same_needs = one_class (record_size sauce) bytes p.needs q.needs h.needs g.needs
+  same_needs = one_class (stated_size sauce) bytes p.needs q.needs h.needs g.needs
 
   same_taller : p.taller ≡ q.taller
   same_taller =
-      one_test (IsTaller (record_size sauce) p.needs bytes) p.taller q.taller h.taller
-      (subst (λ (c : Start). IsTrue q.taller ↔ IsTaller (record_size sauce) c bytes) (sym same_needs) g.taller)
+      one_test (IsTaller (stated_size sauce) p.needs bytes) p.taller q.taller h.taller
+      (subst (λ (c : Start). IsTrue q.taller ↔ IsTaller (stated_size sauce) c bytes) (sym same_needs) g.taller)
 
   same_relied : reliance_lines p.reliance ≡ reliance_lines q.reliance
   same_relied =
-      one_relied (record_size sauce) file_length bytes p.needs p.reliance q.reliance (h.nothing, h.relies)
-      (subst (λ (c : Start). Relies (record_size sauce) file_length bytes c q.reliance) (sym same_needs)
+      one_relied (stated_size sauce) file_length bytes p.needs p.reliance q.reliance (h.nothing, h.relies)
+      (subst (λ (c : Start). Relies (stated_size sauce) file_length bytes c q.reliance) (sym same_needs)
       (g.nothing, g.relies))
 
   same_pass_hints : p.hints ≡ q.hints
   same_pass_hints =
-      let good : IsGood (record_size sauce) all_known bytes = least_is_good (record_size sauce) bytes p.needs h.needs in
-      one_hints (record_size sauce) (is_non_blink sauce) bytes [] good.1.tokens p.hints q.hints good.1.reads h.hints
+      let good : IsGood (stated_size sauce) all_known bytes = least_is_good (stated_size sauce) bytes p.needs h.needs in
+      one_hints (stated_size sauce) (is_non_blink sauce) bytes [] good.1.tokens p.hints q.hints good.1.reads h.hints
       g.hints
 
   one_pass : pass_said sauce p.needs p.taller (reliance_lines p.reliance) p.hints
@@ -287,8 +287,8 @@ module _ (file : List ℕ) where
       let refused : IsRefusal (record_of b) (content_of b) r =
       subst₂ (λ (v w : List ℕ). IsRefusal v w r) (one_record file a b split other) (one_content file a b split other)
       h in
-      good_deserves_none (record_size (record_of b)) all_known (content_of b) r.fault
-      (least_is_good (record_size (record_of b)) (content_of b) p.needs g.needs) refused.deserved
+      good_deserves_none (stated_size (record_of b)) all_known (content_of b) r.fault
+      (least_is_good (stated_size (record_of b)) (content_of b) p.needs g.needs) refused.deserved
 
   pub one_why : (a b : Why) → IsTrueOf file a → IsTrueOf file b → IsOneSaid a b
   one_why (NoContent f x) (NoContent g y) h k = (refl, both_no_content f g x y h k)

@@ -6,11 +6,10 @@ use Rattle.std.proofs.lemmas.List.{append-nil}
 use Rattle.ans_model.specs.declared.fault.Fault.{Fault}
 use Rattle.ans_model.specs.declared.note.Note.{Note}
 use Rattle.ans_model.specs.Sequence.TokenKind.{TokenKind}
-use Rattle.ans_model.specs.Screen.State.{sized}
 use Rattle.ans_model.specs.Verdict.Good.{Picture}
 use Rattle.ans_model.specs.Text.Characters.{shown_bytes}
 use Rattle.ans_model.specs.File.Record.{title_field, author_field, group_field, date_field, font_field, file_size}
-use Rattle.ans_model.specs.File.Record.{comment_count, flags, stated_width, stated_lines, comment}
+use Rattle.ans_model.specs.File.Record.{comment_count, flags, stated_size, comment}
 use Rattle.ans_model.specs.File.Layout.{FileParts}
 use Rattle.ans_model.specs.File.NoteConditions.{notes}
 use Rattle.ans_model.specs.Text.Hexadecimal.{hex_byte}
@@ -104,7 +103,7 @@ record_ends parts =
     let from_font = field_line (codes "font") (font_field record_bytes) ++ from_size in
     let from_flags = named_line (codes "flags") (hex_byte (flags record_bytes)) ++ from_font in
     let from_screen = named_line (codes "size")
-    (size_text (sized (stated_width record_bytes) (stated_lines record_bytes))) ++ from_flags in
+    (size_text (stated_size record_bytes)) ++ from_flags in
     let from_date = field_line (codes "date") (date_field record_bytes) ++ from_screen in
     let from_group = field_line (codes "group") (group_field record_bytes) ++ from_date in
     let from_author = field_line (codes "author") (author_field record_bytes) ++ from_group in
@@ -118,7 +117,7 @@ record_ends parts =
     (ends_append (field_line (codes "group") (group_field record_bytes)) from_date
     (ends_append (field_line (codes "date") (date_field record_bytes)) from_screen
     (ends_append
-    (named_line (codes "size") (size_text (sized (stated_width record_bytes) (stated_lines record_bytes)))) from_flags
+    (named_line (codes "size") (size_text (stated_size record_bytes))) from_flags
     (ends_append (named_line (codes "flags") (hex_byte (flags record_bytes))) from_font
     (ends_append (field_line (codes "font") (font_field record_bytes)) from_size
     (ends_append (named_line (codes "file size") (decimal (file_size record_bytes))) count last)))))))

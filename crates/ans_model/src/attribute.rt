@@ -3,16 +3,16 @@
 ghost use Rattle.std.specs.Prelude.{◌≡◌, MatchOption, ◌+◌, ◌<◌, ◌^◌};
 ghost use Rattle.ans_model.specs.Screen.Attribute.{attribute_after, attribute_after_all, rendition_of, renditions};
 
-/// The bits of an attribute that a parameter keeps, and those that it sets.
+/// What a parameter changes in an attribute: the bits of `mask` are kept, and those of `set` are set.
 #[derive(Debug, Clone, Copy, PartialEq, Eq)]
-pub struct Rendition {
+pub struct Change {
     pub mask: u8,
     pub set: u8,
 }
 
-/// What a parameter does (ANSI.SYS, Set Graphics Rendition; 4, 7 and 8 are the profile's). Where it
+/// What a parameter changes (ANSI.SYS, Set Graphics Rendition; 4, 7 and 8 are the profile's). Where it
 /// changes nothing, all bits are kept and none is set: so nothing branches on it.
-pub fn rendition_of(parameter: u8) -> Rendition
+pub fn change_of(parameter: u8) -> Change
     ensures { MatchOption (rendition_of renditions parameter)
         ((result.mask ≡ 0xFF) × (result.set ≡ 0x00))
         (λ r. (result.mask ≡ r.mask) × (result.set ≡ r.set)) }
@@ -42,14 +42,14 @@ pub fn rendition_of(parameter: u8) -> Rendition
         47 => (0x8F, 0x70),
         _ => (0xFF, 0x00),
     };
-    Rendition { mask, set }
+    Change { mask, set }
 }
 
 /// An attribute after one parameter.
 pub fn attribute_after(old: u8, parameter: u8) -> u8
     ensures { result ≡ attribute_after old parameter }
 {
-    let Rendition { mask, set } = rendition_of(parameter);
+    let Change { mask, set } = change_of(parameter);
     old & mask | set
 }
 

@@ -47,43 +47,47 @@ abbrev pub part_flags : List Text
 part_flags =
     codes "known-screen" ∷ codes "known-cursor" ∷ codes "known-saved" ∷ codes "known-colours" ∷ codes "known-wrap" ∷ []
 
--- `check`, its flags in the order of its help, and `[FILE]`
-abbrev pub check_app : App
-check_app = with_flags (with_flags (file_app (codes "check")) part_flags) (codes "cleared" ∷ codes "cells" ∷ [])
-
--- `show`, its flags in the order of its help, and `[FILE]`
-abbrev pub show_app : App
-show_app = with_flags (with_flags (file_app (codes "show")) (codes "html" ∷ codes "vga" ∷ codes "any" ∷ [])) part_flags
-
 -- `[FILE]..`
 abbrev pub files_rule : Rule
 files_rule = record (new_rule (codes "files")) { value_names = 1; action = Some Append }
 
--- `table`, its flags, and `[FILE]..`
-abbrev pub table_app : App
-table_app =
-    with_flags (with_rule (new_app (codes "table")) files_rule) (codes "json" ∷ codes "no-header" ∷ [])
+-- the name of each command
+abbrev pub command_name : Command → Text
+command_name Why = codes "why"
+command_name Needs = codes "needs"
+command_name Check = codes "check"
+command_name (Show form) = codes "show"
+command_name Sauce = codes "sauce"
+command_name Tokens = codes "tokens"
+command_name (Table form) = codes "table"
+
+-- a command's subcommand: its name, its flags in the order of its help, and `[FILE]` or `[FILE]..`
+abbrev pub command_app : Command → App
+command_app Check =
+    with_flags (with_flags (file_app (command_name Check)) part_flags) (codes "cleared" ∷ codes "cells" ∷ [])
+command_app (Show form) =
+    with_flags (with_flags (file_app (command_name (Show form))) (codes "html" ∷ codes "vga" ∷ codes "any" ∷ []))
+    part_flags
+command_app (Table form) =
+    with_flags (with_rule (new_app (command_name (Table form))) files_rule) (codes "json" ∷ codes "no-header" ∷ [])
+command_app command = file_app (command_name command)
+
+-- the commands, in the order of the help
+abbrev pub commands : List Command
+commands = Why ∷ Needs ∷ Check ∷ Show Terminal ∷ Sauce ∷ Tokens ∷ Table Headed ∷ []
+
+-- their names
+abbrev pub command_names : List Text
+command_names = map command_name commands
 
 -- `anscheck`, which has a version, wants a subcommand, and has no subcommand `help`
 abbrev pub anscheck_top : App
 anscheck_top = let a = new_app (codes "anscheck") in
     record a { top = record a.top { has_version = true; subcommand_required = true; disable_help_subcommand = true } }
 
--- the program's command line: its subcommands, in the order of the help
+-- the program's command line, with the subcommands of its commands
 abbrev pub anscheck : App
-anscheck = fold (λ app sub. with_subcommand app sub.top) anscheck_top
-    (file_app (codes "why") ∷ file_app (codes "needs") ∷ check_app ∷ show_app ∷ file_app (codes "sauce")
-    ∷ file_app (codes "tokens") ∷ table_app ∷ [])
-
--- the subcommand of each command
-abbrev pub command_name : Command → Text
-command_name Why = codes "why"
-command_name Check = codes "check"
-command_name (Show form) = codes "show"
-command_name Sauce = codes "sauce"
-command_name Tokens = codes "tokens"
-command_name Needs = codes "needs"
-command_name (Table form) = codes "table"
+anscheck = fold (λ app command. with_subcommand app (command_app command).top) anscheck_top commands
 
 -- whether a command writes a table of many files
 abbrev pub is_table : Command → Bool
@@ -99,11 +103,6 @@ takes_flags _ = false
 -- no command has this name
 abbrev pub IsNoCommand : Text → Type 0
 IsNoCommand name = (c : Command) → name ≢ command_name c
-
--- the names of the commands, in the order of the help
-abbrev pub command_names : List Text
-command_names = codes "why" ∷ codes "needs" ∷ codes "check" ∷ codes "show" ∷ codes "sauce" ∷ codes "tokens"
-    ∷ codes "table" ∷ []
 
 -- What stands for `help COMMAND`: `COMMAND --help`. A word after it is a mistake. To have clap name it, the command
 -- gets its own name as the FILE, behind `--`, and then the word, which is one too many. For `table` no word is one too
@@ -175,9 +174,9 @@ IsInFormAsked (Show form) rows = form ≡ form_asked rows
 IsInFormAsked (Table form) rows = form ≡ table_form_asked rows
 IsInFormAsked _ rows = ⊤
 
--- The subcommand is named as the command, and its matches say in which form a picture is shown and which parts of the
--- start are known. They hold `--cells` exactly where the cells are asked for, and the file exactly where one is given,
--- with that text.
+-- The subcommand is named as the command, and its matches say in which form a picture is shown or a table is written,
+-- and which parts of the start are known. They hold `--cells` exactly where the cells are asked for, and the file
+-- exactly where one is given, with that text.
 abbrev pub AsksFor : (Text × List Row) → Options → Option Text → Type 0
 AsksFor sub o file = (sub.0 ≡ command_name o.command)
     × IsInFormAsked o.command sub.1

@@ -7,9 +7,12 @@ ghost use Rattle.ans_model.specs.Screen.StartClass.{none_known};
 ghost use Rattle.ans_options.specs.CommandLine.{AreOptionsOf, AsksFor, IsCommand, IsInFormAsked, IsNoCommand};
 ghost use Rattle.ans_options.specs.CommandLine.{HasKindAmong, IsErrorOf, RanOutOfMemory, start_asked, flag_rule};
 ghost use Rattle.ans_options.specs.CommandLine.{faults_of, form_asked, help_on, named_start, takes_flags, with_flags};
-ghost use Rattle.ans_options.specs.CommandLine.{words_meant, anscheck, check_app, command_name, file_app};
-ghost use Rattle.ans_options.specs.CommandLine.{asks_for_cleared, holds_flag, show_app, texts_of};
-ghost use Rattle.ans_options.specs.CommandLine.{AreNamesOf, files_of, is_table, table_app, table_form_asked};
+ghost use Rattle.ans_options.specs.CommandLine.{words_meant, anscheck, command_app, command_name, file_app};
+ghost use Rattle.ans_options.specs.CommandLine.{asks_for_cleared, holds_flag, texts_of};
+ghost use Rattle.ans_options.specs.CommandLine.{AreNamesOf, files_of, is_table, table_form_asked};
+ghost use Rattle.ans_options.specs.declared.command.Command.TheVariants.{Check, Show, Table};
+ghost use Rattle.ans_options.specs.declared.command.Form.TheVariants.{Terminal};
+ghost use Rattle.ans_options.specs.declared.command.TableForm.TheVariants.{Headed};
 ghost use Rattle.ans_options.specs.declared.command_line.WordsError.TheVariants.{Clap};
 
 use crate::command::{Command, Form, Options, TableForm};
@@ -183,7 +186,7 @@ fn with_flags<'a>(
 }
 
 fn check_command<'a>(alloc: Global) -> Result<clap::Command<'a>, AllocError>
-    ensures { IfOk result (λ c. app_of c ≡ check_app) }
+    ensures { IfOk result (λ c. app_of c ≡ command_app Check) }
 {
     let command = file_command(alloc, "check", CHECK, COMMAND_END)?;
     let command = with_flags(alloc, command, &PART_FLAGS)?;
@@ -191,7 +194,7 @@ fn check_command<'a>(alloc: Global) -> Result<clap::Command<'a>, AllocError>
 }
 
 fn show_command<'a>(alloc: Global) -> Result<clap::Command<'a>, AllocError>
-    ensures { IfOk result (λ c. app_of c ≡ show_app) }
+    ensures { IfOk result (λ c. app_of c ≡ command_app (Show Terminal)) }
 {
     let command = file_command(alloc, "show", SHOW, SHOW_END)?;
     let command = with_flags(alloc, command, &SHOW_FLAGS)?;
@@ -199,7 +202,7 @@ fn show_command<'a>(alloc: Global) -> Result<clap::Command<'a>, AllocError>
 }
 
 fn table_command<'a>(alloc: Global) -> Result<clap::Command<'a>, AllocError>
-    ensures { IfOk result (λ c. app_of c ≡ table_app) }
+    ensures { IfOk result (λ c. app_of c ≡ command_app (Table Headed)) }
 {
     let files = Arg::new(alloc, "files")
         .value_name("FILE")

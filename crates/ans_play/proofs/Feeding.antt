@@ -28,7 +28,7 @@ use Rattle.ans_play.specs.HalfFault.{half_fault}
 use Rattle.ans_play.specs.PlayView.{PlayView}
 use Rattle.ans_play.specs.Plays.{PlaysToken, after_token}
 use Rattle.ans_play.specs.PlayerView.{PlayerView, play_of}
-use Rattle.ans_play.specs.Stands.{IsPlayed, Stands, SamePlay, IsFed, Feeds, GoesOn, PlaysFront, IsDeserved}
+use Rattle.ans_play.specs.Stands.{IsPlayed, Stands, SamePlay, IsFed, Feeds, GoesOn, PlaysFront, IsFirstAfter}
 use Rattle.ans_play.proofs.FaultShown.{token_has_fault}
 use Rattle.ans_play.proofs.NoFaultShown.{known_next, token_has_no_fault}
 use Rattle.ans_play.proofs.Clean.{clean_more}
@@ -102,7 +102,7 @@ plays_all old new piece i h end = rw (take_all i piece end) at h.goes_on
 
 -- what has a fault after bytes that are played
 deserved_after : (old mid : PlayView) (front rest : List ℕ) (fault : Fault) → GoesOn old front mid →
-    IsDeserved mid rest fault → IsDeserved old (front ++ rest) fault
+    IsFirstAfter mid rest fault → IsFirstAfter old (front ++ rest) fault
 deserved_after old mid front rest fault h d class s p =
     let before : IsPlayed mid.size class (s ++ front) mid.scanner mid.state = rw h.size (h.played class s p) in
     subst (λ (xs : List ℕ). IsFirstFault old.size class xs fault) (append_assoc s front rest)
@@ -110,9 +110,9 @@ deserved_after old mid front rest fault h d class s p =
 
 -- the fault of the rest is the piece's
 pub piece_deserved : (old mid : PlayView) (piece : List ℕ) (i : ℕ) (fault : Fault) → PlaysTo old piece i mid →
-    IsDeserved mid (take (length piece - i) (drop i piece)) fault → IsDeserved old piece fault
+    IsFirstAfter mid (take (length piece - i) (drop i piece)) fault → IsFirstAfter old piece fault
 piece_deserved old mid piece i fault h d =
-    subst (λ (xs : List ℕ). IsDeserved old xs fault) (take-append-drop i piece)
+    subst (λ (xs : List ℕ). IsFirstAfter old xs fault) (take-append-drop i piece)
     (deserved_after old mid (take i piece) (drop i piece) fault h.goes_on (rw take_rest at d))
 
 -- ---- a piece
@@ -169,7 +169,7 @@ feeds_all old new piece s h same fed st =
     }
 
 -- the piece has a fault
-pub feeds_fault : (old new : PlayerView) (piece s : List ℕ) (fault : Fault) → IsDeserved (play_of old) piece fault →
+pub feeds_fault : (old new : PlayerView) (piece s : List ℕ) (fault : Fault) → IsFirstAfter (play_of old) piece fault →
     SamePlay old new →
     old.fault ≡ None → new.fault ≡ Some fault → Stands old s → Feeds old s piece new (Err fault)
 feeds_fault old new piece s fault d same none is st =
@@ -199,7 +199,7 @@ first_within z class bytes fault h =
 module _ {old : PlayView} {scanner : ScannerView} {byte : ℕ} (same : scanner ≡ old.scanner) where
   -- the byte is refused
   pub byte_refused : {fault : Fault} → (scanner.fault ≡ None → RefusesByte scanner byte fault) →
-      (rest : List ℕ) → IsDeserved old (byte ∷ rest) fault
+      (rest : List ℕ) → IsFirstAfter old (byte ∷ rest) fault
   byte_refused {fault = fault} scans rest class s p =
       refused_byte s old.scanner p.so_far old.size class p.size p.clean byte rest fault
       ((rw same at scans) p.so_far.unrefused)
@@ -243,7 +243,7 @@ module _ {old : PlayView} {scanner : ScannerView} {byte : ℕ} (same : scanner �
 
     -- the byte ends a token, which is refused
     pub byte_deserved : (result : Result (Unit {0}) Fault) → PlaysToken before new token result →
-        IfErr result (λ fault. (new.size ≡ old.size) × ((rest : List ℕ) → IsDeserved old (byte ∷ rest) fault))
+        IfErr result (λ fault. (new.size ≡ old.size) × ((rest : List ℕ) → IsFirstAfter old (byte ∷ rest) fault))
     byte_deserved (Ok r) plays = tt
     byte_deserved (Err fault) plays =
         let shown = rw is at plays in (
@@ -279,7 +279,7 @@ byte_in_front old new (b ∷ bytes) some goes_on = record { some = omega arith; 
 
 -- the fault of the first byte is that of the bytes
 pub front_deserved : (old new : PlayView) (bytes : List ℕ) (fault : Fault) → 1 ≤ length bytes →
-    (new.size ≡ old.size) × ((rest : List ℕ) → IsDeserved old (get_or bytes 0 0 ∷ rest) fault) →
-    (new.size ≡ old.size) × IsDeserved old bytes fault
+    (new.size ≡ old.size) × ((rest : List ℕ) → IsFirstAfter old (get_or bytes 0 0 ∷ rest) fault) →
+    (new.size ≡ old.size) × IsFirstAfter old bytes fault
 front_deserved old new [] fault some _ = elim some [ ]
 front_deserved old new (b ∷ bytes) fault some (same, deserved) = (same, deserved bytes)

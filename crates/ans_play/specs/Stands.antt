@@ -107,15 +107,15 @@ pub record PlaysFront (old : PlayView) (bytes : List ℕ) (new : PlayView) (coun
   pub within : count ≤ length bytes
   pub played : GoesOn old (take count bytes) new
 
--- whatever bytes are played, with these after them they have the fault
-abbrev pub IsDeserved : PlayView → List ℕ → Fault → Type 0
-IsDeserved old bytes fault =
+-- whatever bytes are played, with these after them the fault is the first
+abbrev pub IsFirstAfter : PlayView → List ℕ → Fault → Type 0
+IsFirstAfter old bytes fault =
     (class : Start) (s : List ℕ) → IsPlayed old.size class s old.scanner old.state →
     IsFirstFault old.size class (s ++ bytes) fault
 
--- the play stops at a fault that is deserved, and keeps its size
+-- the play stops at the first fault of these bytes after it, and keeps its size
 abbrev pub StopsAt : PlayView → List ℕ → PlayView → Fault → Type 0
-StopsAt old bytes new fault = (new.size ≡ old.size) × IsDeserved old bytes fault
+StopsAt old bytes new fault = (new.size ≡ old.size) × IsFirstAfter old bytes fault
 
 -- whatever bytes are played, they are good with the picture, or have the last fault
 abbrev pub EndsPlay : PlayView → Result Picture Fault → Type 0

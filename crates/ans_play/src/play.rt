@@ -90,7 +90,7 @@ impl<G: Screen> Play<G> {
     ghost use Rattle.ans_tokens.specs.Glyphs.{IsBetweenTokens};
     ghost use Rattle.ans_play.specs.Plays.{AreFree, IsLongestRun, Plays};
     ghost use Rattle.ans_play.specs.Stands.{IsNewPlay, GoesOn, PlaysWholeTokens, PlaysFront};
-    ghost use Rattle.ans_play.specs.Stands.{IsDeserved, StopsAt, EndsPlay};
+    ghost use Rattle.ans_play.specs.Stands.{IsFirstAfter, StopsAt, EndsPlay};
 
     /// A play of no bytes yet, from the starts of a class, on a grid of one row more than the lines.
     /// What the grid held is gone.
@@ -276,7 +276,7 @@ impl<G: Screen> Play<G> {
         requires { self.old.scanner.offset < longest_file }
         ensures played { OnOk result (GoesOn self.old (byte ∷ []) self.new) }
         ensures stopped { IfErr result (λ fault. (self.new.size ≡ self.old.size)
-            × ((rest : List ℕ) → IsDeserved self.old (byte ∷ rest) fault)) }
+            × ((rest : List ℕ) → IsFirstAfter self.old (byte ∷ rest) fault)) }
         ensures within { IfErr result (λ fault. fault.offset ≤ self.old.scanner.offset + 1) }
     {
         match self.scanner.byte(byte)? {

@@ -3,19 +3,18 @@ use Rattle.std.specs.Prelude.{◌≡◌, ℕ, true, List, ◌++◌, codes, Optio
 use Rattle.std.specs.Option.{option_copied}
 use Rattle.ans_model.specs.declared.fault.Fault.{Fault}
 use Rattle.ans_model.specs.declared.start.Start.{Start}
-use Rattle.ans_model.specs.Screen.State.{sized}
 use Rattle.ans_model.specs.Text.ReportText.{Passed, RefusedFor, refusal_text, report_text, picture_back}
 use Rattle.ans_model.specs.Text.FaultText.{line_of}
 use Rattle.ans_model.specs.Verdict.Good.{Picture}
 use Rattle.ans_report.specs.declared.report.Report.{Report}
 use Rattle.ans_report.specs.declared.report.Report.TheVariants.{Pass, Refused}
 use Rattle.ans_sauce.specs.declared.parts.Parts.{Parts}
-use Rattle.ans_sauce.specs.Parts.{width_of, lines_of}
+use Rattle.ans_sauce.specs.Parts.{size_of}
 use Rattle.ans_report.specs.Headings.{heading_of}
 
 -- a picture has the size that the parts state
 abbrev pub IsFitting : {G : Type 0} → Report G → Type 0
-IsFitting (Pass parts start picture cells) = picture.now.size ≡ sized (width_of parts.now) (lines_of parts.now)
+IsFitting (Pass parts start picture cells) = picture.now.size ≡ size_of parts.now
 IsFitting (Refused parts start fault) = Unit {0}
 
 -- the text of a refusal; without parts it is that of the fault alone

@@ -1,9 +1,8 @@
 //! Lines that begin with a name.
 ghost use Rattle.std.specs.Prelude.{◌≡◌, codes, decimal};
-ghost use Rattle.ans_model.specs.Screen.State.{sized};
 ghost use Rattle.ans_model.specs.Text.ReportText.{size_text};
 ghost use Rattle.ans_model.specs.Text.RecordText.{named_line};
-ghost use Rattle.ans_sauce.specs.Parts.{width_of, lines_of};
+ghost use Rattle.ans_sauce.specs.Parts.{size_of};
 ghost use Rattle.ans_write.specs.Puts.{Puts};
 
 use ans_sauce::Parts;
@@ -33,7 +32,7 @@ pub fn put_number_line<W: Write>(out: &mut Outbox<'_, W>, name: &[u8], number: u
 /// Puts the line of the stated size, in columns and lines.
 pub fn put_size_line<W: Write>(out: &mut Outbox<'_, W>, parts: &Parts<'_>)
     ensures { Puts W.contents out.old out.new
-        (named_line (codes "size") (size_text (sized (width_of parts.now) (lines_of parts.now)))) }
+        (named_line (codes "size") (size_text (size_of parts.now))) }
 {
     out.put(b"size: ");
     out.put_decimal(parts.width() as u64);

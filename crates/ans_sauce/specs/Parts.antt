@@ -1,10 +1,10 @@
 -- What a file's parts show.
 use Rattle.std.specs.Prelude.{◌≡◌, ℕ, List}
 use Rattle.ans_model.specs.declared.note.Note.{Note}
-use Rattle.ans_model.specs.File.Record.{stated_width, stated_lines}
+use Rattle.ans_model.specs.File.Record.{stated_width, stated_lines, stated_size}
 use Rattle.ans_model.specs.File.Layout.{FileParts, content}
 use Rattle.ans_model.specs.File.NoteConditions.{notes}
-use Rattle.ans_model.specs.Screen.State.{Size, sized}
+use Rattle.ans_model.specs.Screen.State.{Size}
 use Rattle.ans_sauce.specs.declared.parts.Parts.{Parts}
 use Rattle.ans_sauce.specs.RecordBytes.{bytes_of}
 
@@ -28,9 +28,9 @@ width_of parts = stated_width (record_of parts)
 abbrev pub lines_of : Parts → ℕ
 lines_of parts = stated_lines (record_of parts)
 
--- the size of the screen that they state
+-- `parts.size()`
 abbrev pub size_of : Parts → Size
-size_of parts = sized (width_of parts) (lines_of parts)
+size_of parts = stated_size (record_of parts)
 
 -- `parts.notes()`
 abbrev pub notes_of : Parts → List Note
@@ -41,6 +41,4 @@ pub record ShowsParts (apart : FileParts) (parts : Parts) : Type 0 where
   pub content : content_of parts ≡ content apart.body
   pub comments : comments_of parts ≡ apart.comment_bytes
   pub sauce : record_of parts ≡ apart.record_bytes
-  pub width : width_of parts ≡ stated_width apart.record_bytes
-  pub lines : lines_of parts ≡ stated_lines apart.record_bytes
   pub notes : notes_of parts ≡ notes apart.body apart.record_bytes

@@ -6,6 +6,7 @@ ghost use Rattle.ans_model.specs.File.Record.{tinfo, comment_count, comment};
 use crate::padding::trimmed;
 use crate::record::Record;
 use ans_model::note::Note;
+use ans_model::size::Size;
 use arrayvec::ArrayVec;
 
 /// How many bytes a line of the comment block has.
@@ -27,7 +28,7 @@ pub struct Parts<'a> {
 
 impl<'a> Parts<'a> {
     ghost use Rattle.ans_sauce.specs.RecordBytes.{bytes_of};
-    ghost use Rattle.ans_sauce.specs.Parts.{content_of, comments_of, record_of, width_of, lines_of, notes_of};
+    ghost use Rattle.ans_sauce.specs.Parts.{content_of, comments_of, record_of, width_of, lines_of, size_of, notes_of};
 
     /// The bytes from the file's start up to the first end mark, the comment block or the record.
     pub fn content(&self) -> &'a [u8]
@@ -80,6 +81,13 @@ impl<'a> Parts<'a> {
         ensures in_limits { (1 ≤ result) × (result ≤ most_lines) }
     {
         self.sauce.lines()
+    }
+
+    /// The stated size of the screen.
+    pub fn size(&self) -> Size
+        ensures { result ≡ size_of self.now }
+    {
+        Size::new(self.width(), self.lines())
     }
 
     /// What is odd about the record: N1 to N6, in their order, each at most once.

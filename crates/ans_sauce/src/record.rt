@@ -2,8 +2,8 @@
 ghost use Rattle.std.specs.Prelude.{◌≡◌, ◌+◌, ◌≤◌, ◌<◌, ◌==◌, ◌&&◌, not, nat_lt, length, bytes_eq, codes};
 ghost use Rattle.ans_model.specs.Bytes.{most_columns, most_lines};
 ghost use Rattle.ans_model.specs.File.Record.{number, field, version_field, title_field, author_field, group_field};
-ghost use Rattle.ans_model.specs.File.Record.{date_field, font_field, file_size, data_type, file_type, tinfo};
-ghost use Rattle.ans_model.specs.File.Record.{comment_count, flags, stated_width, stated_lines, trimmed};
+ghost use Rattle.ans_model.specs.File.Record.{date_field, font_field, file_size, data_type, file_type, tinfo, stated_width, stated_lines, trimmed};
+ghost use Rattle.ans_model.specs.File.Record.{comment_count, flags, is_non_blink, letter_spacing, aspect_ratio};
 
 use crate::padding::trimmed;
 use ans_model::limits::{MAX_LINES, MAX_WIDTH};
@@ -116,12 +116,35 @@ impl<'a> Record<'a> {
         self.byte(COMMENT_COUNT)
     }
 
-    /// The flags (TFlags, for Character/ANSi the ANSiFlags): bit 0 is non-blink, bits 1 and 2 the
-    /// letter spacing, bits 3 and 4 the aspect ratio.
+    /// The flags (TFlags, for Character/ANSi the ANSiFlags).
     pub fn flags(&self) -> u8
         ensures { result ≡ flags (bytes_of self.now) }
     {
         self.byte(105)
+    }
+
+    /// Whether the flags' bit 0, non-blink, is set: bit 7 of an attribute is then a bright background,
+    /// and no blink.
+    pub fn is_non_blink(&self) -> bool
+        ensures { result ≡ is_non_blink (bytes_of self.now) }
+    {
+        self.flags() % 2 == 1
+    }
+
+    /// The flags' bits 1 and 2, the letter spacing: 1 for letters of 8 pixels, 2 for letters of 9, and 0
+    /// where nothing is said. 3 has no meaning.
+    pub fn letter_spacing(&self) -> u8
+        ensures { result ≡ letter_spacing (bytes_of self.now) }
+    {
+        self.flags() / 2 % 4
+    }
+
+    /// The flags' bits 3 and 4, the aspect ratio: 1 for pixels to be stretched, 2 for square ones, and 0
+    /// where nothing is said. 3 has no meaning.
+    pub fn aspect_ratio(&self) -> u8
+        ensures { result ≡ aspect_ratio (bytes_of self.now) }
+    {
+        self.flags() / 8 % 4
     }
 
     pub(crate) fn date_bytes(&self) -> &'a [u8]

@@ -5,6 +5,7 @@ use ans_model::fault::{Cause, Fault};
 use ans_samples::records::{ACCEPTED, REFUSED};
 use ans_samples::sample_file;
 use ans_sauce::{Found, find, split};
+use std::process::Abort;
 use std::test::Fail;
 
 #[test]
@@ -39,10 +40,20 @@ fn accepted_files_have_their_notes(rt: HostRuntime) -> Result<(), Fail> {
     for row in &ACCEPTED {
         let file = sample_file(rt.alloc(), row.front, row.edits)?;
         let parts = split(&file)?;
-        assert_eq!(rt; parts.content(), row.content, "{}", row.what);
-        assert_eq!(rt; parts.width(), row.width, "{}", row.what);
-        assert_eq!(rt; parts.lines(), row.lines, "{}", row.what);
-        assert_eq!(rt; parts.notes().as_slice(), row.notes, "{}", row.what);
+        let shown = (parts.content(), parts.notes().as_slice());
+        let stated = [
+            parts.width(),
+            parts.lines(),
+            parts.size().width(),
+            parts.size().lines(),
+        ];
+        assert_eq!(rt; shown, (row.content, row.notes), "{}", row.what);
+        assert_eq!(rt;
+            stated,
+            [row.width, row.lines, row.width, row.lines],
+            "{}",
+            row.what
+        );
     }
     Ok(())
 }
@@ -57,32 +68,39 @@ fn record_shows_its_fields(rt: HostRuntime) -> Result<(), Fail> {
             (7, b"Test"),
             (42, b"Ann\x00"),
             (100, b"\x34\x12\x00\xff"),
-            (104, b"\x01\x01IBM VGA"),
+            (104, b"\x01\x0dIBM VGA"),
         ],
     )?;
     let parts = split(&file)?;
     let sauce = parts.sauce();
-    assert_eq!(rt; sauce.title(), b"Test".as_slice());
-    assert_eq!(rt; sauce.author(), b"Ann".as_slice());
-    assert_eq!(rt; sauce.group(), b"".as_slice());
-    assert_eq!(rt; sauce.date(), b"19960101".as_slice());
-    assert_eq!(rt; sauce.font(), b"IBM VGA".as_slice());
-    assert_eq!(rt; sauce.file_size(), 2);
-    assert_eq!(rt; sauce.flags(), 1);
-    assert_eq!(rt; sauce.comment_count(), 1);
-    assert_eq!(rt;
-        [
-            sauce.tinfo(1),
-            sauce.tinfo(2),
-            sauce.tinfo(3),
-            sauce.tinfo(4)
-        ],
-        [2, 1, 0x1234, 0xFF00]
-    );
-    assert_eq!(rt; parts.content(), b"Hi".as_slice());
-    assert_eq!(rt; parts.comment(0), Some(b"hello".as_slice()));
-    assert_eq!(rt; parts.comment(1), None);
-    assert!(rt; parts.notes().is_empty());
+    let texts = [
+        (sauce.title(), b"Test".as_slice()),
+        (sauce.author(), b"Ann"),
+        (sauce.group(), b""),
+        (sauce.date(), b"19960101"),
+        (sauce.font(), b"IBM VGA"),
+        (parts.content(), b"Hi"),
+    ];
+    for (text, expected) in texts {
+        assert_eq!(rt; text, expected);
+    }
+    let numbers = [
+        (sauce.file_size(), 2),
+        (sauce.tinfo(1) as u32, 2),
+        (sauce.tinfo(2) as u32, 1),
+        (sauce.tinfo(3) as u32, 0x1234),
+        (sauce.tinfo(4) as u32, 0xFF00),
+        (sauce.comment_count() as u32, 1),
+        (sauce.flags() as u32, 0x0D),
+        (sauce.letter_spacing() as u32, 2),
+        (sauce.aspect_ratio() as u32, 1),
+    ];
+    for (number, expected) in numbers {
+        assert_eq!(rt; number, expected);
+    }
+    assert!(rt; sauce.is_non_blink() && parts.notes().is_empty());
+    let comments = [parts.comment(0), parts.comment(1)];
+    assert_eq!(rt; comments, [Some(b"hello".as_slice()), None]);
     Ok(())
 }
 
@@ -96,15 +114,27 @@ fn block_has_255_comments(rt: HostRuntime) -> Result<(), Fail> {
         front.extend_from_slice(&line)?;
     }
     let file = sample_file(rt.alloc(), &front, &[(104, b"\xff")])?;
-    assert_eq!(rt; file.len(), 16_456);
     let parts = split(&file)?;
-    assert_eq!(rt; parts.content(), b"Hi".as_slice());
-    assert_eq!(rt; parts.comments().len(), 64 * 255);
-    assert_eq!(rt; parts.comment(0), Some(b"\x00 .".as_slice()));
-    assert_eq!(rt; parts.comment(254), Some(b"\xfe .".as_slice()));
-    assert_eq!(rt; parts.comment(255), None);
-    assert_eq!(rt; parts.comment(usize::MAX), None);
+    let lengths = [file.len(), parts.content().len(), parts.comments().len()];
+    assert_eq!(rt; lengths, [16_456, 2, 64 * 255]);
+    let comments = [
+        (0, Some(b"\x00 .".as_slice())),
+        (254, Some(b"\xfe .")),
+        (255, None),
+        (usize::MAX, None),
+    ];
+    for (i, comment) in comments {
+        assert_eq!(rt; parts.comment(i), comment);
+    }
     Ok(())
+}
+
+/// Asserts that a file is refused, and what is found in it.
+fn expect_found(rt: &impl Abort, file: &[u8], found: Found<'_>) {
+    match split(file) {
+        Ok(_) => panic!(rt; "the sample is accepted"),
+        Err(fault) => assert_eq!(rt; find(file, fault), found),
+    }
 }
 
 /// A file, and what is found in it.
@@ -158,10 +188,7 @@ fn what_stands_in_place_of_a_record_is_found(rt: HostRuntime) -> Result<(), Fail
     ];
     for (front, edits, found) in rows {
         let file = sample_file(rt.alloc(), front, edits)?;
-        match split(&file) {
-            Ok(_) => panic!(rt; "the sample is accepted"),
-            Err(fault) => assert_eq!(rt; find(&file, fault), found),
-        }
+        expect_found(&rt, &file, found);
     }
     Ok(())
 }
@@ -171,22 +198,22 @@ fn records_before_the_end_are_found(rt: HostRuntime) -> Result<(), Fail> {
     let mut file = sample_file(rt.alloc(), b"Hi\x1a", &[])?;
     let twice = file.as_slice().to_vec(rt.alloc())?;
     file.extend_from_slice(b"\r\n")?;
-    let found = Found::Record {
-        offset: 3,
-        behind: 2,
-    };
-    match split(&file) {
-        Ok(_) => panic!(rt; "the sample is accepted"),
-        Err(fault) => assert_eq!(rt; find(&file, fault), found),
-    }
     let older = sample_file(rt.alloc(), &twice, &[])?;
-    let found = Found::AfterEndMark {
-        count: 128,
-        record: true,
-    };
-    match split(&older) {
-        Ok(_) => panic!(rt; "the sample is accepted"),
-        Err(fault) => assert_eq!(rt; find(&older, fault), found),
-    }
+    expect_found(
+        &rt,
+        &file,
+        Found::Record {
+            offset: 3,
+            behind: 2,
+        },
+    );
+    expect_found(
+        &rt,
+        &older,
+        Found::AfterEndMark {
+            count: 128,
+            record: true,
+        },
+    );
     Ok(())
 }

@@ -69,7 +69,7 @@ pub record Planes : Type 0 where
   pub whole_bits_known : length bits_known ≡ width * rows
   pub whole_values : length values ≡ width * rows
 
--- the plane of those bytes, and that of what is known of them
+-- the plane of a cell's glyphs or attributes, and below that of what is known of them
 abbrev pub shown_plane : CellByte → Planes → List ℕ
 shown_plane Glyph g = g.glyphs
 shown_plane Attribute g = g.values

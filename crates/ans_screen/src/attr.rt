@@ -2,7 +2,7 @@
 
 ghost use Rattle.std.specs.Prelude.{◌≡◌};
 
-use ans_model::attribute::{Rendition, rendition_of};
+use ans_model::attribute::{Change, change_of};
 use std::marker::Model;
 
 /// Some bits of an attribute. `value` has no bit outside `known`.
@@ -52,7 +52,7 @@ impl Attr {
         ensures sound { AgreesAfter self parameter result }
         ensures exact { KnowsJust self parameter result }
     {
-        let Rendition { mask, set } = rendition_of(parameter);
+        let Change { mask, set } = change_of(parameter);
         Attr {
             known: self.known & mask | 0xFF ^ mask | set,
             value: self.value & mask | set,

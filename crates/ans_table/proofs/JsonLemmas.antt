@@ -12,7 +12,7 @@ use Rattle.serde_json.specs.View.{items_of, members_view, view}
 use Rattle.serde_json.specs.declared.value.Value.{Value}
 use Rattle.serde_json.specs.Written.{has_float, items_have_float, members_have_float}
 use Rattle.ans_model.specs.declared.fault.Fault.{Fault}
-use Rattle.ans_model.specs.File.Record.{comment, flags}
+use Rattle.ans_model.specs.File.Record.{aspect_ratio, comment, letter_spacing}
 use Rattle.ans_model.specs.Text.Characters.{shown_bytes}
 use Rattle.ans_sauce.specs.declared.parts.Parts.{Parts}
 use Rattle.ans_table.specs.declared.finding.Finding.{Finding}
@@ -134,22 +134,22 @@ flat_pair : (pair : ℕ) (one two : List Named) → AllFlat one → AllFlat two 
 flat_pair pair one two h g =
     flat_if (pair == 1) one (if pair == 2 then two else []) h (flat_if (pair == 2) two [] g tt)
 
-flat_spacing : (bits : ℕ) → AllFlat (spacing_values bits)
-flat_spacing bits =
-    flat_pair (bits / 2 % 4) ((codes "spacing", count 8) ∷ []) ((codes "spacing", count 9) ∷ [])
+flat_spacing : (sauce : List ℕ) → AllFlat (spacing_values sauce)
+flat_spacing sauce =
+    flat_pair (letter_spacing sauce) ((codes "spacing", count 8) ∷ []) ((codes "spacing", count 9) ∷ [])
     (simple (count 8) refl (omega arith), tt) (simple (count 9) refl (omega arith), tt)
 
-flat_aspect : (bits : ℕ) → AllFlat (aspect_values bits)
-flat_aspect bits =
-    flat_pair (bits / 8 % 4) ((codes "aspect", string (codes "stretch")) ∷ [])
+flat_aspect : (sauce : List ℕ) → AllFlat (aspect_values sauce)
+flat_aspect sauce =
+    flat_pair (aspect_ratio sauce) ((codes "aspect", string (codes "stretch")) ∷ [])
     ((codes "aspect", string (codes "square")) ∷ [])
     (simple (string (codes "stretch")) refl (omega arith), tt)
     (simple (string (codes "square")) refl (omega arith), tt)
 
-flat_flags : (bits : ℕ) → AllFlat (flag_values bits)
-flat_flags bits = (
+flat_flags : (sauce : List ℕ) → AllFlat (flag_values sauce)
+flat_flags sauce = (
   simple _ refl (omega arith),
-  flat_append (spacing_values bits) (aspect_values bits) (flat_spacing bits) (flat_aspect bits),
+  flat_append (spacing_values sauce) (aspect_values sauce) (flat_spacing sauce) (flat_aspect sauce),
 )
 
 flat_fields : (sauce : List ℕ) → AllFlat (field_values sauce)
@@ -169,7 +169,7 @@ flat_record (Some sauce) = (
   simple _ refl (omega arith),
   (
     simple _ refl (omega arith),
-    flat_append (flag_values (flags sauce)) (field_values sauce) (flat_flags (flags sauce)) (flat_fields sauce),
+    flat_append (flag_values sauce) (field_values sauce) (flat_flags sauce) (flat_fields sauce),
   ),
 )
 flat_record None = tt

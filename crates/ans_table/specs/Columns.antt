@@ -1,12 +1,12 @@
 -- The columns of a row before the file's name, each with a tab behind it. A value that is absent is empty.
-use Rattle.std.specs.Prelude.{ℕ, ◌/◌, ◌%◌, ◌==◌, Bool, true, false, List, [], ◌∷◌, ◌++◌, length, codes, decimal}
+use Rattle.std.specs.Prelude.{ℕ, ◌==◌, Bool, true, false, List, [], ◌∷◌, ◌++◌, length, codes, decimal}
 use Rattle.std.specs.Prelude.{Option, Some, None, if◌then◌else◌}
 use Rattle.std.specs.List.{before_first, flat_map}
 use Rattle.ans_model.specs.Bytes.{blank}
 use Rattle.ans_model.specs.declared.fault.Cause.{Cause}
 use Rattle.ans_model.specs.declared.fault.Fault.{Fault}
-use Rattle.ans_model.specs.File.Record.{author_field, date_field, flags, font_field, group_field, stated_lines}
-use Rattle.ans_model.specs.File.Record.{stated_width, title_field, trimmed}
+use Rattle.ans_model.specs.File.Record.{aspect_ratio, author_field, date_field, font_field, group_field, is_non_blink}
+use Rattle.ans_model.specs.File.Record.{letter_spacing, stated_lines, stated_width, title_field, trimmed}
 use Rattle.ans_model.specs.Text.Characters.{shown_bytes}
 use Rattle.ans_model.specs.Text.FaultText.{fault_text}
 use Rattle.ans_sauce.specs.declared.parts.Parts.{Parts}
@@ -67,13 +67,13 @@ content_columns (Unread reason) = tab ∷ tab ∷ []
 abbrev pub by_pair : {A : Type 0} → ℕ → List A → List A → List A
 by_pair pair one two = if pair == 1 then one else if pair == 2 then two else []
 
--- Whether bit 7 of an attribute is a bright background (bit 0); letters of 8 or of 9 pixels (bits 1 and 2); pixels to
--- be stretched, or square ones (bits 3 and 4): the last two where they say which.
-abbrev pub flag_columns : ℕ → List ℕ
-flag_columns flags =
-    column (ice_text (flags % 2 == 1))
-    ++ (column (by_pair (flags / 2 % 4) (codes "8") (codes "9"))
-    ++ column (by_pair (flags / 8 % 4) (codes "stretch") (codes "square")))
+-- Whether bit 7 of an attribute is a bright background; letters of 8 or of 9 pixels; pixels to be stretched, or square
+-- ones: the last two where they say which.
+abbrev pub flag_columns : List ℕ → List ℕ
+flag_columns sauce =
+    column (ice_text (is_non_blink sauce))
+    ++ (column (by_pair (letter_spacing sauce) (codes "8") (codes "9"))
+    ++ column (by_pair (aspect_ratio sauce) (codes "stretch") (codes "square")))
 
 -- a byte of a text by its character; a backslash is `\\`
 abbrev pub escaped_byte : ℕ → List ℕ
@@ -95,5 +95,5 @@ field_columns sauce =
 
 -- the columns of the flags and of the texts
 abbrev pub record_columns : Option (List ℕ) → List ℕ
-record_columns (Some sauce) = flag_columns (flags sauce) ++ field_columns sauce
+record_columns (Some sauce) = flag_columns sauce ++ field_columns sauce
 record_columns None = tab ∷ tab ∷ tab ∷ tab ∷ tab ∷ tab ∷ tab ∷ tab ∷ []

@@ -1,6 +1,6 @@
 -- The row of a file as a JSON object. What is absent is left out. The names of an object stand in the order of their
 -- bytes, as those of its map do.
-use Rattle.std.specs.Prelude.{◌≡◌, ℕ, zero, suc, ◌+◌, ◌/◌, ◌%◌, ◌==◌, List, [], ◌∷◌, ◌++◌, length, map, Option, Some}
+use Rattle.std.specs.Prelude.{◌≡◌, ℕ, zero, suc, ◌+◌, List, [], ◌∷◌, ◌++◌, length, map, Option, Some}
 use Rattle.std.specs.Prelude.{None, Result, OnOk, String, codes}
 use Rattle.std.specs.declared.alloc.Global.{Global}
 use Rattle.serde_json.specs.Data.{Data, Members, unsigned, boolean, number, string, array, object, no_members, put}
@@ -8,8 +8,8 @@ use Rattle.serde_json.specs.View.{items_of, members_view}
 use Rattle.serde_json.specs.declared.value.Value.{Value}
 use Rattle.serde_json.specs.Written.{compact_text}
 use Rattle.ans_model.specs.declared.fault.Fault.{Fault}
-use Rattle.ans_model.specs.File.Record.{author_field, comment, comment_count, date_field, flags, font_field}
-use Rattle.ans_model.specs.File.Record.{group_field, stated_lines, stated_width, title_field, trimmed}
+use Rattle.ans_model.specs.File.Record.{aspect_ratio, author_field, comment, comment_count, date_field, font_field}
+use Rattle.ans_model.specs.File.Record.{group_field, is_non_blink, letter_spacing, stated_lines, stated_width, title_field, trimmed}
 use Rattle.ans_model.specs.Text.Characters.{shown_bytes}
 use Rattle.ans_sauce.specs.declared.parts.Parts.{Parts}
 use Rattle.ans_sauce.specs.Parts.{comments_of, content_of, notes_of, record_of}
@@ -74,19 +74,19 @@ content_values (Refused parts fault row column_number) = parts_values parts
 content_values (NoContent fault sauce) = []
 content_values (Unread reason) = []
 
--- bits 1 and 2 of the flags: letters of 8 or of 9 pixels, where they say which
-abbrev pub spacing_values : ℕ → List Named
-spacing_values flags = by_pair (flags / 2 % 4) ((codes "spacing", count 8) ∷ []) ((codes "spacing", count 9) ∷ [])
+-- letters of 8 or of 9 pixels, where the flags say which
+abbrev pub spacing_values : List ℕ → List Named
+spacing_values sauce = by_pair (letter_spacing sauce) ((codes "spacing", count 8) ∷ []) ((codes "spacing", count 9) ∷ [])
 
--- bits 3 and 4 of the flags: pixels to be stretched, or square ones, where they say which
-abbrev pub aspect_values : ℕ → List Named
-aspect_values flags =
-    by_pair (flags / 8 % 4) ((codes "aspect", string (codes "stretch")) ∷ [])
+-- pixels to be stretched, or square ones, where the flags say which
+abbrev pub aspect_values : List ℕ → List Named
+aspect_values sauce =
+    by_pair (aspect_ratio sauce) ((codes "aspect", string (codes "stretch")) ∷ [])
     ((codes "aspect", string (codes "square")) ∷ [])
 
--- whether bit 7 of an attribute is a bright background (bit 0), the spacing and the aspect
-abbrev pub flag_values : ℕ → List Named
-flag_values flags = (codes "ice", boolean (flags % 2 == 1)) ∷ (spacing_values flags ++ aspect_values flags)
+-- whether bit 7 of an attribute is a bright background, the spacing and the aspect
+abbrev pub flag_values : List ℕ → List Named
+flag_values sauce = (codes "ice", boolean (is_non_blink sauce)) ∷ (spacing_values sauce ++ aspect_values sauce)
 
 -- a field as it is shown
 abbrev pub field_value : List ℕ → Data
@@ -105,7 +105,7 @@ field_values sauce =
 
 -- what the record says
 abbrev pub record_values : Option (List ℕ) → List Named
-record_values (Some sauce) = size_values sauce ++ (flag_values (flags sauce) ++ field_values sauce)
+record_values (Some sauce) = size_values sauce ++ (flag_values sauce ++ field_values sauce)
 record_values None = []
 
 -- all that is known of a file of this name

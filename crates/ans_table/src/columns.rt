@@ -151,12 +151,12 @@ fn pair_text(pair: u8, one: &'static [u8], two: &'static [u8]) -> &'static [u8]
     }
 }
 
-fn put_flags<W: Write>(out: &mut Outbox<'_, W>, flags: u8)
-    ensures { Puts W.contents out.old out.new (flag_columns flags) }
+fn put_flags<W: Write>(out: &mut Outbox<'_, W>, sauce: &Record<'_>)
+    ensures { Puts W.contents out.old out.new (flag_columns (bytes_of sauce.now)) }
 {
-    put_column(out, answer(flags % 2 == 1));
-    put_column(out, pair_text(flags / 2 % 4, b"8", b"9"));
-    put_column(out, pair_text(flags / 8 % 4, b"stretch", b"square"));
+    put_column(out, answer(sauce.is_non_blink()));
+    put_column(out, pair_text(sauce.letter_spacing(), b"8", b"9"));
+    put_column(out, pair_text(sauce.aspect_ratio(), b"stretch", b"square"));
 }
 
 fn put_escaped_byte<W: Write>(out: &mut Outbox<'_, W>, byte: u8)
@@ -200,7 +200,7 @@ pub(crate) fn put_record<W: Write>(out: &mut Outbox<'_, W>, sauce: Option<Record
 {
     match sauce {
         Some(sauce) => {
-            put_flags(out, sauce.flags());
+            put_flags(out, &sauce);
             put_fields(out, &sauce);
         }
         None => out.put(b"\t\t\t\t\t\t\t\t"),

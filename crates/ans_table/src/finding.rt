@@ -75,12 +75,6 @@ pub enum Finding<'a> {
     Unread(Unread),
 }
 
-fn size_of(parts: &Parts<'_>) -> Size
-    ensures { result ≡ size_of parts.now }
-{
-    Size::new(parts.width(), parts.lines())
-}
-
 impl<'a> Finding<'a> {
     /// Of a file that is refused for its record or its layout.
     pub fn of_record(file: &'a [u8], fault: Fault) -> Finding<'a>
@@ -102,7 +96,7 @@ impl<'a> Finding<'a> {
         requires deserved { IsDeserved (size_of parts) all_known (content_of parts) fault }
         ensures { (file : List ℕ) → IsSplit file parts.entry → IsFindingOf file result }
     {
-        let size = size_of(&parts);
+        let size = parts.size();
         let (cursor, _) = cursors_before(size, Start::CLEARED, parts.content(), fault);
         Finding::Refused {
             parts,
@@ -118,7 +112,7 @@ impl<'a> Finding<'a> {
         requires needs { IsLeast (size_of parts) (content_of parts) needs }
         ensures { (file : List ℕ) → IsSplit file parts.entry → IsFindingOf file result }
     {
-        let taller = is_taller(size_of(&parts), needs, parts.content());
+        let taller = is_taller(parts.size(), needs, parts.content());
         Finding::Pass {
             parts,
             needs,

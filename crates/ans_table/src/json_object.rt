@@ -166,34 +166,32 @@ fn put_content(members: &mut Members, alloc: Global, finding: &Finding<'_>) -> A
     }
 }
 
-/// Bits 1 and 2 of the flags.
-fn put_spacing(members: &mut Members, alloc: Global, flags: u8) -> Added
-    ensures { Adds members.old.entries members.new.entries result (spacing_values flags) }
+fn put_spacing(members: &mut Members, alloc: Global, sauce: &Record<'_>) -> Added
+    ensures { Adds members.old.entries members.new.entries result (spacing_values (bytes_of sauce.now)) }
 {
-    match flags / 2 % 4 {
+    match sauce.letter_spacing() {
         1 => put(members, alloc, "spacing", Value::from(8u64)),
         2 => put(members, alloc, "spacing", Value::from(9u64)),
         _ => Ok(()),
     }
 }
 
-/// Bits 3 and 4 of the flags.
-fn put_aspect(members: &mut Members, alloc: Global, flags: u8) -> Added
-    ensures { Adds members.old.entries members.new.entries result (aspect_values flags) }
+fn put_aspect(members: &mut Members, alloc: Global, sauce: &Record<'_>) -> Added
+    ensures { Adds members.old.entries members.new.entries result (aspect_values (bytes_of sauce.now)) }
 {
-    match flags / 8 % 4 {
+    match sauce.aspect_ratio() {
         1 => put_text(members, alloc, "aspect", "stretch"),
         2 => put_text(members, alloc, "aspect", "square"),
         _ => Ok(()),
     }
 }
 
-fn put_flags(members: &mut Members, alloc: Global, flags: u8) -> Added
-    ensures { Adds members.old.entries members.new.entries result (flag_values flags) }
+fn put_flags(members: &mut Members, alloc: Global, sauce: &Record<'_>) -> Added
+    ensures { Adds members.old.entries members.new.entries result (flag_values (bytes_of sauce.now)) }
 {
-    put(members, alloc, "ice", Value::Bool(flags % 2 == 1))?;
-    put_spacing(members, alloc, flags)?;
-    put_aspect(members, alloc, flags)
+    put(members, alloc, "ice", Value::Bool(sauce.is_non_blink()))?;
+    put_spacing(members, alloc, sauce)?;
+    put_aspect(members, alloc, sauce)
 }
 
 fn put_size(members: &mut Members, alloc: Global, sauce: &Record<'_>) -> Added
@@ -225,7 +223,7 @@ fn put_record(members: &mut Members, alloc: Global, sauce: Option<Record<'_>>) -
     match sauce {
         Some(sauce) => {
             put_size(members, alloc, &sauce)?;
-            put_flags(members, alloc, sauce.flags())?;
+            put_flags(members, alloc, &sauce)?;
             put_fields(members, alloc, &sauce)
         }
         None => Ok(()),

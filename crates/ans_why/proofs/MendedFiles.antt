@@ -14,11 +14,11 @@ use Rattle.ans_model.specs.File.NoteConditions.{note_if, notes, ratio_flags, spa
 use Rattle.ans_model.specs.declared.note.Note.{Note}
 use Rattle.ans_model.specs.declared.note.Note.TheVariants.{WidthAssumed, NoEndMark, SizeDiffers, OddDate, FlagBits}
 use Rattle.ans_model.specs.declared.note.Note.TheVariants.{FlagPair}
-use Rattle.ans_model.specs.File.Record.{date_field, field, file_size, flags, number, tinfo}
+use Rattle.ans_model.specs.File.Record.{date_field, field, file_size, flags, number, stated_size, tinfo}
 use Rattle.ans_model.specs.File.Refusals.{Accepts}
 use Rattle.ans_model.specs.Screen.State.{sized}
 use Rattle.ans_why.specs.Mend.{mending}
-use Rattle.ans_why.specs.MendedFile.{MendedFilePasses, bytes_of, four_bytes, mended_parts, size_of, with_file_size}
+use Rattle.ans_why.specs.MendedFile.{MendedFilePasses, bytes_of, four_bytes, mended_parts, with_file_size}
 use Rattle.ans_why.proofs.Mended.{makes_good}
 
 -- ---- the record
@@ -133,7 +133,7 @@ module _ (file : List ℕ) (apart : FileParts) (accepts : Accepts file apart)
     clean_end = clean_end_behind apart.body ∙ accepts.clean_end;
   }
 
-  its_size : size_of mended ≡ size_of apart
+  its_size : stated_size mended.record_bytes ≡ stated_size apart.record_bytes
   its_size =
       ap₂ (λ (w l : ℕ). sized (if w == 0 then 80 else w) l) (same_number 96 2 (omega arith))
       (same_number 98 2 (omega arith))
@@ -183,5 +183,5 @@ mended_file_passes file apart picture accepts good room = record {
   accepts = mended_accepted file apart accepts room;
   size = its_size file apart accepts room;
   notes = its_notes file apart accepts room;
-  good = rw (content_behind apart.body) (makes_good (size_of apart) (content apart.body) picture good);
+  good = rw (content_behind apart.body) (makes_good (stated_size apart.record_bytes) (content apart.body) picture good);
 }

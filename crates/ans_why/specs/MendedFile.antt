@@ -2,9 +2,8 @@
 use Rattle.std.specs.Prelude.{◌≡◌, ℕ, ◌+◌, ◌<◌, ◌/◌, ◌%◌, List, [], ◌∷◌, ◌++◌, take, drop}
 use Rattle.ans_model.specs.File.Layout.{FileParts, comment_block, content, file_parts}
 use Rattle.ans_model.specs.File.NoteConditions.{notes}
-use Rattle.ans_model.specs.File.Record.{comment_count, file_size, stated_lines, stated_width}
+use Rattle.ans_model.specs.File.Record.{comment_count, file_size, stated_size}
 use Rattle.ans_model.specs.File.Refusals.{Accepts}
-use Rattle.ans_model.specs.Screen.State.{Size, sized}
 use Rattle.ans_model.specs.Screen.StartClass.{all_known, none_known}
 use Rattle.ans_model.specs.Verdict.Good.{Picture, GoodWith}
 use Rattle.ans_why.specs.Mend.{mending}
@@ -27,19 +26,15 @@ abbrev pub bytes_of : FileParts → List ℕ
 bytes_of apart = apart.body ++ (comment_block (comment_count apart.record_bytes) apart.comment_bytes
     ++ apart.record_bytes)
 
--- the size that a file's record states
-abbrev pub size_of : FileParts → Size
-size_of apart = sized (stated_width apart.record_bytes) (stated_lines apart.record_bytes)
-
 -- The mended file is accepted, has the same size and the same notes, and passes from every start with this picture.
 pub record IsMended (apart : FileParts) (picture : Picture) : Type 0 where
   pub accepts : Accepts (bytes_of (mended_parts apart)) (mended_parts apart)
-  pub size : size_of (mended_parts apart) ≡ size_of apart
+  pub size : stated_size (mended_parts apart).record_bytes ≡ stated_size apart.record_bytes
   pub notes : notes (mended_parts apart).body (mended_parts apart).record_bytes ≡ notes apart.body apart.record_bytes
-  pub good : GoodWith (size_of apart) none_known (content (mended_parts apart).body) picture
+  pub good : GoodWith (stated_size apart.record_bytes) none_known (content (mended_parts apart).body) picture
 
 -- An accepted file that passes from the cleared start is mended so, where there is room for 16 more in its FileSize.
 abbrev pub MendedFilePasses : Type 0
 MendedFilePasses = (file : List ℕ) (apart : FileParts) (picture : Picture) → Accepts file apart
-    → GoodWith (size_of apart) all_known (content apart.body) picture → file_size apart.record_bytes + 16 < 4294967296
+    → GoodWith (stated_size apart.record_bytes) all_known (content apart.body) picture → file_size apart.record_bytes + 16 < 4294967296
     → IsMended apart picture

@@ -214,7 +214,7 @@ fn bytes_after_the_end_mark_are_counted(rt: HostRuntime) {
     let file = file_of(&rt, b"Hi\x1ax", &[]);
     let text = b"verdict: refused\n\
         at 3: F8 bytes after the end mark\n\
-        found: 1 byte after the end mark, no record among them\n";
+        found: 1 byte after the end mark, without a record\n";
     expect_run(&rt, file.as_slice(), &WHY, 512, Ok(false), text);
 }
 
@@ -236,7 +236,7 @@ fn an_older_record_is_found(rt: HostRuntime) {
     let file = file_of(&rt, older.as_slice(), &[]);
     let text = b"verdict: refused\n\
         at 3: F8 bytes after the end mark\n\
-        found: 128 bytes after the end mark, an older record among them\n";
+        found: 128 bytes after the end mark, with an older record\n";
     expect_run(&rt, file.as_slice(), &WHY, 512, Ok(false), text);
 }
 

@@ -1,7 +1,8 @@
 -- The fields of a SAUCE record (SAUCE 00.5, record layout).
-use Rattle.std.specs.Prelude.{ℕ, ◌+◌, ◌-◌, ◌*◌, ◌%◌, Bool, ◌||◌, ◌==◌, List, [], ◌∷◌, length, take, drop, if◌then◌else◌}
+use Rattle.std.specs.Prelude.{ℕ, ◌+◌, ◌-◌, ◌*◌, ◌/◌, ◌%◌, Bool, ◌||◌, ◌==◌, List, [], ◌∷◌, length, take, drop, if◌then◌else◌}
 use Rattle.std.specs.List.{suffix_len}
 use Rattle.ans_model.specs.Bytes.{blank}
+use Rattle.ans_model.specs.Screen.State.{Size, sized}
 
 -- a number of several bytes, the least first: the sum of the bytes times 1, 256, and so on
 abbrev pub number : List ℕ → ℕ
@@ -60,6 +61,14 @@ flags record_bytes = number (field 105 1 record_bytes)
 abbrev pub is_non_blink : List ℕ → Bool
 is_non_blink record_bytes = flags record_bytes % 2 == 1
 
+-- bits 1 and 2 of the flags, the letter spacing
+abbrev pub letter_spacing : List ℕ → ℕ
+letter_spacing record_bytes = flags record_bytes / 2 % 4
+
+-- bits 3 and 4 of the flags, the aspect ratio
+abbrev pub aspect_ratio : List ℕ → ℕ
+aspect_ratio record_bytes = flags record_bytes / 8 % 4
+
 -- TInfoS, for this type the font's name
 abbrev pub font_field : List ℕ → List ℕ
 font_field = field 106 22
@@ -71,6 +80,10 @@ stated_width record_bytes = if tinfo 1 record_bytes == 0 then 80 else tinfo 1 re
 -- Character/ANSi, TInfo2: the number of lines
 abbrev pub stated_lines : List ℕ → ℕ
 stated_lines record_bytes = tinfo 2 record_bytes
+
+-- the stated size of the screen
+abbrev pub stated_size : List ℕ → Size
+stated_size record_bytes = sized (stated_width record_bytes) (stated_lines record_bytes)
 
 -- what a text is filled up with: blanks and zero bytes
 abbrev pub is_padding : ℕ → Bool

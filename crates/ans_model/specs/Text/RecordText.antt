@@ -2,10 +2,9 @@
 use Rattle.std.specs.Prelude.{ℕ, ◌+◌, zero, suc, List, [], ◌++◌, codes, decimal, flat_map}
 use Rattle.ans_model.specs.declared.note.Note.{Note}
 use Rattle.ans_model.specs.File.Record.{title_field, author_field, group_field, date_field, font_field, file_size}
-use Rattle.ans_model.specs.File.Record.{comment_count, flags, trimmed, stated_width, stated_lines, comment}
+use Rattle.ans_model.specs.File.Record.{comment_count, flags, trimmed, stated_size, comment}
 use Rattle.ans_model.specs.File.Layout.{FileParts}
 use Rattle.ans_model.specs.File.NoteConditions.{notes}
-use Rattle.ans_model.specs.Screen.State.{sized}
 use Rattle.ans_model.specs.Text.Characters.{shown_bytes}
 use Rattle.ans_model.specs.Text.Hexadecimal.{hex_byte}
 use Rattle.ans_model.specs.Text.FaultText.{line_of, note_line}
@@ -32,7 +31,7 @@ record_lines record_bytes comment_bytes notes =
     ++ (field_line (codes "author") (author_field record_bytes)
     ++ (field_line (codes "group") (group_field record_bytes)
     ++ (field_line (codes "date") (date_field record_bytes)
-    ++ (named_line (codes "size") (size_text (sized (stated_width record_bytes) (stated_lines record_bytes)))
+    ++ (named_line (codes "size") (size_text (stated_size record_bytes))
     ++ (named_line (codes "flags") (hex_byte (flags record_bytes))
     ++ (field_line (codes "font") (font_field record_bytes)
     ++ (named_line (codes "file size") (decimal (file_size record_bytes))

@@ -14,7 +14,7 @@ is_taller-requires-clause-good c =
     let needs = c.args.needs in
     let itself : Covers needs needs =
     record { screen = λ t. t; cursor = λ t. t; saved = λ t. t; colours = λ t. t; wrap = λ t. t } in
-    rw (c.content-content.ensures, c.size_of-size.ensures) ((c.requires.needs needs).1 itself)
+    rw (c.content-content.ensures, c.size.ensures) ((c.requires.needs needs).1 itself)
 
 pub returns : goal.returns
 returns c =
@@ -27,7 +27,7 @@ returns c =
     let good : IsGood z needs content = (c.requires.needs needs).1 itself in
     let hints : AreHintsOf z (non_blink parts) content [] c.of-hints.result =
     hints_of_all z (non_blink parts) content c.of-hints.result
-    (rw (c.content-content.ensures, c.size_of-size.ensures, c.non_blink.ensures) at c.of-hints.ensures) in
+    (rw (c.content-content.ensures, c.size.ensures, c.non_blink.ensures) at c.of-hints.ensures) in
     record {
       needs = c.requires.needs;
       taller = elim c.if-not-hints.branch [
@@ -38,11 +38,11 @@ returns c =
               λ t. rw w.if-not-hints.true refl,
             )
         | else-not-hints w ↦
-            rw w.result-is (rw (c.content-content.ensures, c.size_of-size.ensures) at w.is_taller.ensures)
+            rw w.result-is (rw (c.content-content.ensures, c.size.ensures) at w.is_taller.ensures)
       ];
       nothing = nothing_relied z c.args.file_length content needs c.args.fault c.reliance_of.result c.requires.nothing
           c.reliance_of.ensures.nothing;
       relies = relied z c.args.file_length content needs c.args.fault c.reliance_of.result c.requires.fault
-          (rw (c.content-content.ensures, c.size_of-size.ensures) at c.reliance_of.ensures.relies);
+          (rw (c.content-content.ensures, c.size.ensures) at c.reliance_of.ensures.relies);
       hints = hints;
     }

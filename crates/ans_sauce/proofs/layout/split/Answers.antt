@@ -39,8 +39,6 @@ returns-clause-ok c = record {
     content = c.cut_content.ensures.content;
     comments = refl;
     sauce = refl;
-    width = refl;
-    lines = refl;
     notes = c.notes_on.ensures;
   };
 }

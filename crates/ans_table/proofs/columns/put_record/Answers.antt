@@ -7,7 +7,7 @@ use Rattle.ans_table.proofs.columns.put_record.Goals as goal
 pub returns-in-Some : goal.returns-in-Some
 returns-in-Some g c =
     Puts-same (sym (ap (λ o. record_columns (option_map bytes_of o)) c.in-Some.is))
-    (Puts-then (rw c.flags.ensures at c.put_flags.ensures) c.put_fields.ensures)
+    (Puts-then c.put_flags.ensures c.put_fields.ensures)
 
 pub returns-in-None : goal.returns-in-None
 returns-in-None g c = Puts-same (sym (ap (λ o. record_columns (option_map bytes_of o)) c.in-None.is)) c.put.ensures

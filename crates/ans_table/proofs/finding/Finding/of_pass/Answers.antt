@@ -6,4 +6,4 @@ is_taller-taller-requires-clause-good c =
     let needs = c.args.needs in
     let itself : Covers needs needs =
     record { screen = λ t. t; cursor = λ t. t; saved = λ t. t; colours = λ t. t; wrap = λ t. t } in
-    rw (c.content.ensures, c.size_of.ensures) ((c.requires.needs needs).1 itself)
+    rw (c.content.ensures, c.size.ensures) ((c.requires.needs needs).1 itself)
