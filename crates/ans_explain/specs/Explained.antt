@@ -9,7 +9,7 @@ use Rattle.ans_model.specs.declared.fault.Cause.TheVariants.{BrokenSequence, Num
 use Rattle.ans_model.specs.declared.fault.Cause.TheVariants.{EndInSequence, UnknownSequence, WrongParameters}
 use Rattle.ans_model.specs.declared.fault.Cause.TheVariants.{OutsideScreen, PrintBelow, Scrolls}
 use Rattle.ans_model.specs.declared.start.Start.{Start}
-use Rattle.ans_model.specs.File.Record.{is_non_blink, stated_size}
+use Rattle.ans_model.specs.File.Record.{is_non_blink, stated_size, stated_width}
 use Rattle.ans_model.specs.File.Refusals.{record_fault}
 use Rattle.ans_model.specs.Sequence.TokenKind.{TokenKind}
 use Rattle.ans_model.specs.Sequence.Reads.{ReadsAs}

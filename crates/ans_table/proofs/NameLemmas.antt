@@ -137,14 +137,16 @@ shown_first b rest byte behind further = go (nat_lt b 0x80) (nat_lt 0 (wide_size
         → IsUtf8 (name_after 0 (b ∷ rest))
     go true wide e f =
         let lt : b < 0x80 = grind (arith, nat_tests) in
-        subst IsUtf8 (sym (ascii_first (b ∷ rest) (omega arith) lt)) (IsUtf8-append _ _ (ascii_utf8 b lt) behind)
+        subst IsUtf8 {x = ascii_shown b ++ name_after 0 rest} (sym (ascii_first (b ∷ rest) (omega arith) lt))
+        (IsUtf8-append _ _ (ascii_utf8 b lt) behind)
     go false true e f =
         let size = wide_size (b ∷ rest) in
         let some : 0 < size = grind (arith, nat_tests) in
         let (c, utf8, is) = wide_front (b ∷ rest) (omega arith) (grind (arith, nat_tests)) some in
-        subst IsUtf8 (sym is) (IsUtf8-append _ _ utf8 (further size some))
+        subst IsUtf8 {x = encode_utf8 c ++ name_after 0 (drop size (b ∷ rest))} (sym is)
+        (IsUtf8-append _ _ utf8 (further size some))
     go false false e f =
-        subst IsUtf8
+        subst IsUtf8 {x = byte_escape b ++ name_after 0 rest}
         (sym (escaped_first (b ∷ rest) (omega arith) (grind (arith, nat_tests)) (grind (arith, nat_tests))))
         (IsUtf8-append _ _ (escape_utf8 b byte) behind)
 
