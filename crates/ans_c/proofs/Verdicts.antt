@@ -1,5 +1,5 @@
 -- What is found of a file, as it is told.
-use Rattle.std.proofs.Common.{◌≡◌, ◌*◌, ◌<◌, min, ℕ, List, Option, Some, None, inl, inr, subst, ap₂}
+use Rattle.std.proofs.Common.{◌≡◌, ◌*◌, ◌<◌, min, ℕ, List, Option, Some, None, inl, inr, subst, ap}
 use Rattle.ans_model.specs.File.Record.{stated_size}
 use Rattle.ans_model.specs.File.Layout.{FileParts}
 use Rattle.ans_model.specs.File.Refusals.{Accepts, record_fault}

@@ -1,6 +1,7 @@
 -- The room that plays one after the other take.
-use Rattle.std.proofs.Common.{◌≡◌, ◌∙◌, ℕ, List, length, Ok, Err, ap, ap₂, subst, sym}
+use Rattle.std.proofs.Common.{◌≡◌, ◌∙◌, ℕ, List, length, Ok, Err, ap, subst, sym}
 use Rattle.std.specs.Prelude.{◌↔◌, Result, IsOk, IsErr}
+use Rattle.ans_model.specs.File.Layout.{FileParts}
 use Rattle.ans_model.specs.File.Record.{stated_size}
 use Rattle.ans_model.specs.Screen.State.{Size}
 use Rattle.ans_model.proofs.AcceptedFiles.{one_layout}

@@ -1,5 +1,5 @@
 -- What a split and a play say of a file.
-use Rattle.std.proofs.Common.{◌≡◌, ◌∙◌, ◌≤◌, ap, ap₂, arith, length, length-append, ℕ, Bool, true, false, List, []}
+use Rattle.std.proofs.Common.{◌≡◌, ◌∙◌, ◌≤◌, ap, arith, length, length-append, ℕ, Bool, true, false, List, []}
 use Rattle.std.proofs.Common.{◌∷◌, subst, inl, inr, ◌⊎◌, Some, None, if◌then◌else◌, refl}
 use Rattle.std.specs.Prelude.{IfSome, IsSome, Result, Ok, Err, IfOk, IfErr}
 use Rattle.std.specs.List.{AllByRecursion}

@@ -1,5 +1,5 @@
 -- What is said of a file, by what is found of it.
-use Rattle.std.proofs.Common.{ℕ, List, Option, Some, None, subst, sym, ap₂}
+use Rattle.std.proofs.Common.{ℕ, List, Option, Some, None, ap, subst, sym}
 use Rattle.std.specs.Prelude.{IfSome}
 use Rattle.ans_model.specs.File.Record.{stated_size}
 use Rattle.ans_model.specs.declared.fault.Fault.{Fault}

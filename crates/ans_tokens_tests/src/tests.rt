@@ -5,7 +5,7 @@ mod sequences;
 mod whole_tokens;
 
 use ans_model::limits::MAX_FILE;
-use ans_tokens::{Cause, Fault, Kind, Scanner, Token, count_glyphs};
+use ans_tokens::{Cause, Fault, Scanner, Token, count_glyphs};
 use std::alloc::{AllocError, Global};
 use std::process::Abort;
 use std::test::Fail;
@@ -21,25 +21,27 @@ fn scan(rt: &impl Abort, content: &[u8]) -> (usize, Option<Fault>) {
     let mut scanner = Scanner::new();
     let mut tokens = 0usize;
     for (i, byte) in content.iter().enumerate() {
-        assert_eq!(rt; scanner.offset(), i);
+        assert!(rt; scanner.offset() == i);
         match feed(rt, &mut scanner, *byte) {
             Ok(Some(token)) => {
                 tokens = tokens.wrapping_add(1);
-                assert_eq!(rt;
-                    token.start().checked_add(token.length()),
-                    Some(scanner.offset())
-                );
+                assert!(rt; token.start().checked_add(token.length()) == Some(scanner.offset()));
             }
             Ok(None) => {}
             Err(fault) => {
-                assert!(rt; feed(rt, &mut scanner, *byte).is_err_and(|again| again == fault));
-                assert_eq!(rt; scanner.end(), Err(fault));
-                assert_eq!(rt; scanner.offset(), i);
+                let again = feed(rt, &mut scanner, *byte).err();
+                assert_eq!(rt; [again, scanner.end().err()], [Some(fault), Some(fault)]);
+                assert!(rt; scanner.offset() == i);
                 return (tokens, Some(fault));
             }
         }
     }
     (tokens, scanner.end().err())
+}
+
+/// Asserts how many tokens the content holds, and which fault ends it.
+fn expect_scan(rt: &impl Abort, content: &[u8], tokens: usize, fault: Option<Fault>) {
+    assert_eq!(rt; scan(rt, content), (tokens, fault), "in {content:?}");
 }
 
 /// Contents that are refused: how many tokens stand before, the fault's offset and its cause.
@@ -89,8 +91,7 @@ const REFUSED: [(&[u8], usize, usize, Cause); 40] = [
 #[test]
 fn refusals_come_at_their_offsets(rt: HostRuntime) {
     for (content, tokens, offset, cause) in REFUSED {
-        let fault = Fault { offset, cause };
-        assert_eq!(rt; scan(&rt, content), (tokens, Some(fault)), "in {content:?}");
+        expect_scan(&rt, content, tokens, Some(Fault { offset, cause }));
     }
 }
 
@@ -114,65 +115,49 @@ const READ: [(&[u8], usize); 13] = [
 #[test]
 fn contents_are_read(rt: HostRuntime) {
     for (content, tokens) in READ {
-        assert_eq!(rt; scan(&rt, content), (tokens, None), "in {content:?}");
+        expect_scan(&rt, content, tokens, None);
     }
 }
 
-/// The last token of the content as its `Debug` text would name it, with its numbers.
+/// What the last token of the content is, as its `Debug` text.
 fn last_kind(rt: &impl Abort, alloc: Global, content: &[u8]) -> Result<String, AllocError> {
     let mut scanner = Scanner::new();
     let mut text = String::new(alloc);
     for byte in content {
         if let Ok(Some(token)) = feed(rt, &mut scanner, *byte) {
-            text = named(alloc, token.kind())?;
+            let kind = token.kind();
+            text = format!(in alloc; "{kind:?}")?;
         }
     }
     Ok(text)
 }
 
-fn named(alloc: Global, kind: &Kind) -> Result<String, AllocError> {
-    match kind {
-        Kind::Up(n) => format!(in alloc; "up {n}"),
-        Kind::Down(n) => format!(in alloc; "down {n}"),
-        Kind::Forward(n) => format!(in alloc; "forward {n}"),
-        Kind::Backward(n) => format!(in alloc; "backward {n}"),
-        Kind::Place(row, column) => format!(in alloc; "place {row};{column}"),
-        Kind::Colours(numbers) => {
-            let numbers = numbers.as_slice();
-            format!(in alloc; "colours {numbers:?}")
-        }
-        Kind::Wrap(on) => format!(in alloc; "wrap {on}"),
-        Kind::Glyph(byte) => format!(in alloc; "glyph {byte}"),
-        other => format!(in alloc; "{other:?}"),
-    }
-}
-
 /// What sequences mean: an omitted distance and 0 count as 1, an omitted colour as 0.
 const MEANT: [(&[u8], &str); 24] = [
-    (b"\x1b[A", "up 1"),
-    (b"\x1b[0B", "down 1"),
-    (b"\x1b[2C", "forward 2"),
-    (b"\x1b[000255D", "backward 255"),
-    (b"\x1b[H", "place 1;1"),
-    (b"\x1b[3H", "place 3;1"),
-    (b"\x1b[;3f", "place 1;3"),
-    (b"\x1b[2;0f", "place 2;1"),
+    (b"\x1b[A", "Up(1)"),
+    (b"\x1b[0B", "Down(1)"),
+    (b"\x1b[2C", "Forward(2)"),
+    (b"\x1b[000255D", "Backward(255)"),
+    (b"\x1b[H", "Place(1, 1)"),
+    (b"\x1b[3H", "Place(3, 1)"),
+    (b"\x1b[;3f", "Place(1, 3)"),
+    (b"\x1b[2;0f", "Place(2, 1)"),
     (b"\x1b[2J", "Clear"),
     (b"\x1b[K", "EraseLine"),
     (b"\x1b[0K", "EraseLine"),
     (b"\x1b[s", "Save"),
     (b"\x1b[u", "Restore"),
-    (b"\x1b[m", "colours [0]"),
-    (b"\x1b[1;m", "colours [1, 0]"),
-    (b"\x1b[;5;33m", "colours [0, 5, 33]"),
-    (b"\x1b[?7h", "wrap true"),
-    (b"\x1b[=7l", "wrap false"),
+    (b"\x1b[m", "Colours([0])"),
+    (b"\x1b[1;m", "Colours([1, 0])"),
+    (b"\x1b[;5;33m", "Colours([0, 5, 33])"),
+    (b"\x1b[?7h", "Wrap(true)"),
+    (b"\x1b[=7l", "Wrap(false)"),
     (b"\x1b[7h", "Mode"),
     (b"\x1b[?7;7h", "Mode"),
     (b"\x1b[?25l", "Mode"),
     (b"\x1b[13;\"dir\";13p", "Keys"),
     (b"\x1b[6n", "Ask"),
-    (b"\x1b[31mx", "glyph 120"),
+    (b"\x1b[31mx", "Glyph(120)"),
 ];
 
 #[test]
@@ -184,28 +169,29 @@ fn sequences_have_their_meanings(rt: HostRuntime) -> Result<(), Fail> {
     Ok(())
 }
 
-/// Bytes one after the other. Of each: whether it ends a token, the offset after it, whether the
-/// scanner then stands between two tokens, and the fault at an end there.
-const STEPS: [(u8, bool, usize, bool, Option<(usize, Cause)>); 5] = [
-    (0x1B, false, 1, false, Some((0, Cause::EndInSequence))),
-    (b'[', false, 2, false, Some((0, Cause::EndInSequence))),
-    (b'm', true, 3, true, None),
-    (0x1B, false, 4, false, Some((3, Cause::EndInSequence))),
-    (b'm', false, 4, false, Some((3, Cause::BrokenSequence))),
+/// What a byte leads to: whether it ends a token, the offset after it, whether the scanner then
+/// stands between two tokens, and the fault at an end there.
+type Step = (bool, usize, bool, Option<(usize, Cause)>);
+
+/// Bytes one after the other.
+const STEPS: [(u8, Step); 5] = [
+    (0x1B, (false, 1, false, Some((0, Cause::EndInSequence)))),
+    (b'[', (false, 2, false, Some((0, Cause::EndInSequence)))),
+    (b'm', (true, 3, true, None)),
+    (0x1B, (false, 4, false, Some((3, Cause::EndInSequence)))),
+    (b'm', (false, 4, false, Some((3, Cause::BrokenSequence)))),
 ];
 
 /// Feeds these bytes from an offset on.
 fn take_steps(rt: &impl Abort, scanner: &mut Scanner, from: usize) {
-    for (byte, ends, offset, between, fault) in STEPS {
-        let token = feed(rt, scanner, byte);
-        assert_eq!(rt; token.is_ok_and(|token| token.is_some()), ends);
-        assert_eq!(rt; scanner.offset().checked_sub(from), Some(offset));
-        assert_eq!(rt; scanner.is_between_tokens(), between);
-        let at_end = scanner.end().err();
-        assert_eq!(rt;
-            at_end.map(|at_end| (at_end.offset.wrapping_sub(from), at_end.cause)),
-            fault
-        );
+    for (byte, step) in STEPS {
+        let ends = matches!(feed(rt, scanner, byte), Ok(Some(_)));
+        let offset = scanner.offset().wrapping_sub(from);
+        let fault = match scanner.end() {
+            Ok(()) => None,
+            Err(fault) => Some((fault.offset.wrapping_sub(from), fault.cause)),
+        };
+        assert_eq!(rt; (ends, offset, scanner.is_between_tokens(), fault), step);
     }
 }
 
@@ -230,48 +216,46 @@ fn glyphs_are_taken_together(rt: HostRuntime) {
     let mut scanner = Scanner::new();
     for (bytes, count) in rows {
         assert!(rt; scanner.is_between_tokens() && scanner.offset() <= 4);
-        assert_eq!(rt; count_glyphs(bytes), count, "in {bytes:?}");
-        assert_eq!(rt; scanner.glyphs(bytes), count, "in {bytes:?}");
-        assert_eq!(rt; scanner.offset(), 4);
+        let found = [count_glyphs(bytes), scanner.glyphs(bytes), scanner.offset()];
+        assert_eq!(rt; found, [count, count, 4], "in {bytes:?}");
     }
     take_steps(&rt, &mut scanner, 4);
 }
 
 /// Long sequences: their first bytes, a byte and how often it follows, their last bytes, and the
-/// length of the token, or none where they are left open.
-const LONG: [(&[u8], u8, u32, &[u8], Option<usize>); 2] = [
-    (b"\x1b[\"", 0x1B, 100_000, b"", None),
-    (b"\x1b[", b'0', 1000, b"5C", Some(1004)),
+/// length of the token, or 0 where they are left open.
+const LONG: [(&[u8], u8, u32, &[u8], usize); 2] = [
+    (b"\x1b[\"", 0x1B, 100_000, b"", 0),
+    (b"\x1b[", b'0', 1000, b"5C", 1004),
 ];
 
-/// Feeds bytes, and returns the length of the token that the last one ends.
-fn feed_all(rt: &impl Abort, scanner: &mut Scanner, bytes: &[u8]) -> Option<usize> {
-    let mut length = None;
+/// Feeds bytes, and returns the token that the last one ends. The others end none.
+fn feed_all(rt: &impl Abort, scanner: &mut Scanner, bytes: &[u8]) -> Option<Token> {
+    let mut token = None;
     for byte in bytes {
-        assert_eq!(rt; length, None);
-        let token = feed(rt, scanner, *byte);
-        assert!(rt; token.is_ok());
-        length = token.ok().flatten().map(|token| token.length());
+        let answer = feed(rt, scanner, *byte);
+        assert!(rt; token.is_none() && answer.is_ok(), "in {bytes:?}");
+        token = answer.ok().flatten();
     }
-    length
+    token
 }
 
 #[test]
 fn long_sequences(rt: HostRuntime) {
     for (first, byte, count, last, length) in LONG {
         let mut scanner = Scanner::new();
-        assert_eq!(rt; feed_all(&rt, &mut scanner, first), None);
+        assert!(rt; feed_all(&rt, &mut scanner, first).is_none());
         for _ in 0..count {
-            assert_eq!(rt; feed_all(&rt, &mut scanner, &[byte]), None);
+            assert!(rt; feed_all(&rt, &mut scanner, &[byte]).is_none());
         }
-        assert_eq!(rt; feed_all(&rt, &mut scanner, last), length);
+        let found = match feed_all(&rt, &mut scanner, last) {
+            Some(token) => token.length(),
+            None => 0,
+        };
         let open = Fault {
             offset: 0,
             cause: Cause::EndInSequence,
         };
-        assert_eq!(rt;
-            scanner.end().is_err_and(|fault| fault == open),
-            length.is_none()
-        );
+        assert_eq!(rt; (found, scanner.end() == Err(open)), (length, length == 0));
     }
 }

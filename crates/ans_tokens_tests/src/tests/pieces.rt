@@ -1,32 +1,30 @@
 //! Contents piece by piece: runs of glyphs and tokens, and what ends them.
 
 use ans_tokens::{Cause, Fault, Piece, Pieces};
-use std::process::Abort;
 
 /// A piece of a content: the glyphs of a run, or where a token starts and how long it is.
-#[derive(Debug, Clone, Copy)]
-enum Part {
-    Run(&'static [u8]),
+#[derive(Debug, Clone, Copy, PartialEq)]
+enum Part<'a> {
+    Run(&'a [u8]),
     Other(usize, usize),
 }
 
 use Part::{Other, Run};
 
-/// Asserts that the piece is this one, and stands at this offset.
-fn assert_part(rt: &impl Abort, piece: Piece<'_>, offset: usize, part: Part, content: &[u8]) {
-    match (piece, part) {
-        (Piece::Glyphs(text), Run(bytes)) => assert_eq!(rt; text, bytes, "in {content:?}"),
-        (Piece::Token(token), Other(start, length)) => {
-            assert_eq!(rt; token.start(), start, "in {content:?}");
-            assert_eq!(rt; token.length(), length, "in {content:?}");
-            assert_eq!(rt; start, offset, "in {content:?}");
+/// The next piece, unless the content ends, it is refused, or a token starts elsewhere.
+fn next_part<'a>(pieces: &mut Pieces<'a>) -> Option<Part<'a>> {
+    let offset = pieces.offset();
+    match pieces.next() {
+        Ok(Some(Piece::Glyphs(text))) => Some(Run(text)),
+        Ok(Some(Piece::Token(token))) if token.start() == offset => {
+            Some(Other(offset, token.length()))
         }
-        _ => panic!(rt; "another piece than {part:?}, in {content:?}"),
+        _ => None,
     }
 }
 
 /// Contents that are read to their end.
-const READ: [(&[u8], &[Part]); 8] = [
+const READ: [(&[u8], &[Part<'static>]); 8] = [
     (b"", &[]),
     (b"Hi", &[Run(b"Hi")]),
     (
@@ -54,14 +52,12 @@ fn contents_are_read_in_pieces(rt: HostRuntime) {
     for (content, parts) in READ {
         let mut pieces = Pieces::new(content);
         for part in parts {
-            let offset = pieces.offset();
-            match pieces.next() {
-                Ok(Some(piece)) => assert_part(&rt, piece, offset, *part, content),
-                _ => panic!(&rt; "no piece in {content:?}"),
-            }
+            assert_eq!(rt; next_part(&mut pieces), Some(*part), "in {content:?}");
         }
-        assert!(&rt; matches!(pieces.next(), Ok(None)), "more in {content:?}");
-        assert_eq!(&rt; pieces.offset(), content.len(), "in {content:?}");
+        assert!(rt;
+            matches!(pieces.next(), Ok(None)) && pieces.offset() == content.len(),
+            "more in {content:?}"
+        );
     }
 }
 
@@ -81,16 +77,12 @@ const REFUSED: [(&[u8], usize, Cause); 8] = [
 fn refusals_take_nothing(rt: HostRuntime) {
     for (content, offset, cause) in REFUSED {
         let mut pieces = Pieces::new(content);
-        if offset > 0 {
-            assert!(&rt; matches!(pieces.next(), Ok(Some(_))), "in {content:?}");
-        }
-        for _ in 0..2 {
-            let fault = Fault { offset, cause };
-            match pieces.next() {
-                Err(found) => assert_eq!(&rt; found, fault, "in {content:?}"),
-                Ok(_) => panic!(&rt; "no fault in {content:?}"),
-            }
-            assert_eq!(&rt; pieces.offset(), offset, "in {content:?}");
-        }
+        let is_led = offset == 0 || matches!(pieces.next(), Ok(Some(_)));
+        let refusals = [
+            (pieces.next().err(), pieces.offset()),
+            (pieces.next().err(), pieces.offset()),
+        ];
+        let refusal = (Some(Fault { offset, cause }), offset);
+        assert_eq!(rt; (is_led, refusals), (true, [refusal; 2]), "in {content:?}");
     }
 }

@@ -28,9 +28,11 @@ fn numbers_and_letters_are_read(rt: HostRuntime) {
     for (bytes, numbers, letter, end) in READ {
         let mut found = ArrayVec::new();
         let read = read_sequence(bytes, &mut found).expect(&rt, "a sequence");
-        assert_eq!(rt; found.as_slice(), numbers, "in {bytes:?}");
-        assert_eq!(rt; read.byte, letter, "in {bytes:?}");
-        assert_eq!(rt; read.end, end, "in {bytes:?}");
+        assert_eq!(rt;
+            (found.as_slice(), read.byte, read.end),
+            (numbers, letter, end),
+            "in {bytes:?}"
+        );
     }
 }
 
@@ -65,35 +67,55 @@ fn others_are_not_read(rt: HostRuntime) {
 
 #[test]
 fn moves_take_one_number(rt: HostRuntime) {
-    assert_eq!(rt; distance(&[]), Ok(1));
-    assert_eq!(rt; distance(&[0]), Ok(1));
-    assert_eq!(rt; distance(&[255]), Ok(255));
-    assert_eq!(rt; distance(&[1, 1]), Err(Cause::WrongParameters));
+    let distances = [
+        distance(&[]),
+        distance(&[0]),
+        distance(&[255]),
+        distance(&[1, 1]),
+    ];
+    assert_eq!(rt;
+        distances,
+        [Ok(1), Ok(1), Ok(255), Err(Cause::WrongParameters)]
+    );
 }
 
 #[test]
 fn places_take_two_numbers(rt: HostRuntime) {
-    assert_eq!(rt; place(&[]), Ok((1, 1)));
-    assert_eq!(rt; place(&[3]), Ok((3, 1)));
-    assert_eq!(rt; place(&[0, 7]), Ok((1, 7)));
-    assert_eq!(rt; place(&[25, 80]), Ok((25, 80)));
-    assert_eq!(rt; place(&[1, 1, 1]), Err(Cause::WrongParameters));
+    let places = [
+        place(&[]),
+        place(&[3]),
+        place(&[0, 7]),
+        place(&[25, 80]),
+        place(&[1, 1, 1]),
+    ];
+    assert_eq!(rt;
+        places,
+        [
+            Ok((1, 1)),
+            Ok((3, 1)),
+            Ok((1, 7)),
+            Ok((25, 80)),
+            Err(Cause::WrongParameters)
+        ]
+    );
 }
 
 #[test]
 fn a_number_alone(rt: HostRuntime) {
-    assert!(rt; is_just(2, &[2]));
-    assert!(rt; !is_just(2, &[]));
-    assert!(rt; !is_just(2, &[0]));
-    assert!(rt; !is_just(2, &[2, 2]));
+    let alone = [
+        is_just(2, &[2]),
+        is_just(2, &[]),
+        is_just(2, &[0]),
+        is_just(2, &[2, 2]),
+    ];
+    assert!(rt; alone == [true, false, false, false]);
 }
 
 #[test]
 fn bytes_are_skipped(rt: HostRuntime) {
     let mut scanner = Scanner::new();
     scanner.skip(3);
-    assert_eq!(rt; scanner.offset(), 3);
+    let skipped = scanner.offset();
     let token = scanner.token(b"x").expect(&rt, "a token");
-    assert_eq!(rt; token.start(), 3);
-    assert_eq!(rt; scanner.offset(), 4);
+    assert_eq!(rt; [skipped, token.start(), scanner.offset()], [3, 3, 4]);
 }

@@ -1,37 +1,22 @@
 //! Tokens that are taken whole: each is the one that its bytes make one by one, and where the
 //! scanner declines, they still make what they make.
 
-use super::{feed, named};
+use super::{feed, feed_all};
 use ans_model::limits::MAX_FILE;
-use ans_tokens::{Scanner, Token};
+use ans_tokens::{Fault, Scanner, Token};
 use std::alloc::{AllocError, Global};
 use std::process::Abort;
 use std::test::Fail;
 
-/// What the token is, where it stands and how long it is.
-fn told(alloc: Global, token: &Option<Token>) -> Result<String, AllocError> {
-    match token {
-        Some(token) => {
-            let kind = named(alloc, token.kind())?;
-            let start = token.start();
-            let length = token.length();
-            format!(in alloc; "{kind} at {start}, {length} bytes")
-        }
-        None => format!(in alloc; "none"),
-    }
-}
-
-/// What the scanner answers to a byte.
-fn told_of_byte(
-    rt: &impl Abort,
+/// A scanner's answer, and where the scanner stands after it.
+fn told(
     alloc: Global,
-    scanner: &mut Scanner,
-    byte: u8,
+    answer: &Result<Option<Token>, Fault>,
+    scanner: &Scanner,
 ) -> Result<String, AllocError> {
-    match feed(rt, scanner, byte) {
-        Ok(token) => told(alloc, &token),
-        Err(fault) => format!(in alloc; "{fault:?}"),
-    }
+    let offset = scanner.offset();
+    let between = scanner.is_between_tokens();
+    format!(in alloc; "{answer:?}, then at {offset}, between tokens: {between}")
 }
 
 /// Takes the token that the bytes begin with, if it can be taken whole.
@@ -50,28 +35,11 @@ fn assert_same(
     bytes: &[u8],
 ) -> Result<(), AllocError> {
     for byte in bytes {
-        let answer = told_of_byte(rt, alloc, one, *byte)?;
-        let other_answer = told_of_byte(rt, alloc, other, *byte)?;
+        let answer = told(alloc, &feed(rt, one, *byte), one)?;
+        let other_answer = told(alloc, &feed(rt, other, *byte), other)?;
         assert_eq!(rt; answer.as_str(), other_answer.as_str(), "in {bytes:?}");
-        assert_eq!(rt; one.offset(), other.offset());
-        assert_eq!(rt; one.is_between_tokens(), other.is_between_tokens());
     }
     Ok(())
-}
-
-/// The token that the last of the bytes ends. The others end none.
-fn told_of_bytes(
-    rt: &impl Abort,
-    alloc: Global,
-    scanner: &mut Scanner,
-    bytes: &[u8],
-) -> Result<String, AllocError> {
-    let mut answer = format!(in alloc; "none")?;
-    for byte in bytes {
-        assert_eq!(rt; answer.as_str(), "none", "in {bytes:?}");
-        answer = told_of_byte(rt, alloc, scanner, *byte)?;
-    }
-    Ok(answer)
 }
 
 /// Asserts that after the content before them, the bytes begin with a token of this length that is
@@ -88,19 +56,33 @@ fn assert_whole(
     let mut by_bytes = Scanner::new();
     assert_same(rt, alloc, &mut scanner, &mut by_bytes, before)?;
     let token = take_whole(rt, &mut scanner, bytes);
-    assert_eq!(rt; token.is_some(), length > 0, "in {bytes:?}");
-    let whole = told(alloc, &token)?;
+    let is_taken = token.is_some();
     assert!(rt; length <= bytes.len());
-    let last = told_of_bytes(rt, alloc, &mut by_bytes, &bytes[..length])?;
-    assert_eq!(rt; whole.as_str(), last.as_str(), "in {bytes:?}");
-    assert_eq!(rt; scanner.offset(), by_bytes.offset());
-    assert!(rt; scanner.is_between_tokens() && by_bytes.is_between_tokens());
+    let last = feed_all(rt, &mut by_bytes, &bytes[..length]);
+    let whole = told(alloc, &Ok(token), &scanner)?;
+    let last = told(alloc, &Ok(last), &by_bytes)?;
+    assert_eq!(rt;
+        (is_taken, scanner.is_between_tokens(), whole.as_str()),
+        (length > 0, true, last.as_str()),
+        "in {bytes:?}"
+    );
     assert_same(rt, alloc, &mut scanner, &mut by_bytes, &bytes[length..])?;
     assert_same(rt, alloc, &mut scanner, &mut by_bytes, b"!\x1b[1;2H\x1b[")
 }
 
-/// Contents that end after a token.
-const BEFORE: [&[u8]; 3] = [b"", b"ab\r\n", b"a\x1b[0;1;37m\x1b[\"m\"p"];
+/// Asserts the same after nothing, and after contents that end after a token.
+fn assert_whole_after_tokens(
+    rt: &impl Abort,
+    alloc: Global,
+    bytes: &[u8],
+    length: usize,
+) -> Result<(), AllocError> {
+    let contents: [&[u8]; 3] = [b"", b"ab\r\n", b"a\x1b[0;1;37m\x1b[\"m\"p"];
+    for before in contents {
+        assert_whole(rt, alloc, before, bytes, length)?;
+    }
+    Ok(())
+}
 
 /// Bytes that begin with a whole token, and its length.
 const TAKEN: [(&[u8], usize); 37] = [
@@ -147,10 +129,8 @@ const TAKEN: [(&[u8], usize); 37] = [
 fn common_sequences_are_taken(rt: HostRuntime) -> Result<(), Fail> {
     for (bytes, length) in TAKEN {
         assert!(rt; length <= bytes.len());
-        for before in BEFORE {
-            assert_whole(&rt, rt.alloc(), before, bytes, length)?;
-            assert_whole(&rt, rt.alloc(), before, &bytes[..length], length)?;
-        }
+        assert_whole_after_tokens(&rt, rt.alloc(), bytes, length)?;
+        assert_whole_after_tokens(&rt, rt.alloc(), &bytes[..length], length)?;
     }
     Ok(())
 }
@@ -159,10 +139,8 @@ fn common_sequences_are_taken(rt: HostRuntime) -> Result<(), Fail> {
 fn each_byte_outside_sequences_is_taken(rt: HostRuntime) -> Result<(), Fail> {
     for byte in 0..=u8::MAX {
         if byte != 0x1B {
-            for before in BEFORE {
-                assert_whole(&rt, rt.alloc(), before, &[byte], 1)?;
-                assert_whole(&rt, rt.alloc(), before, &[byte, 0x1B, b'[', b'm'], 1)?;
-            }
+            assert_whole_after_tokens(&rt, rt.alloc(), &[byte], 1)?;
+            assert_whole_after_tokens(&rt, rt.alloc(), &[byte, 0x1B, b'[', b'm'], 1)?;
         }
     }
     Ok(())
@@ -201,9 +179,7 @@ const DECLINED: [&[u8]; 26] = [
 #[test]
 fn other_forms_are_declined(rt: HostRuntime) -> Result<(), Fail> {
     for bytes in DECLINED {
-        for before in BEFORE {
-            assert_whole(&rt, rt.alloc(), before, bytes, 0)?;
-        }
+        assert_whole_after_tokens(&rt, rt.alloc(), bytes, 0)?;
     }
     Ok(())
 }
@@ -221,23 +197,16 @@ fn cut_sequences_are_declined(rt: HostRuntime) -> Result<(), Fail> {
     Ok(())
 }
 
-/// `ESC [`, this digit a thousand times, and the end.
-fn many_digits(alloc: Global, digit: u8, end: &[u8]) -> Result<Vec<u8>, AllocError> {
-    let mut bytes = Vec::new(alloc);
-    bytes.push(0x1B)?;
-    bytes.push(b'[')?;
-    for _ in 0..1000 {
-        bytes.push(digit)?;
-    }
-    bytes.extend_from_slice(end)?;
-    Ok(bytes)
-}
-
+/// `ESC [`, a digit a thousand times, and the end.
 #[test]
 fn a_thousand_digits(rt: HostRuntime) -> Result<(), Fail> {
-    let zeros = many_digits(rt.alloc(), b'0', b"5C")?;
+    let mut zeros = [b'0'; 1004];
+    zeros[..2].copy_from_slice(b"\x1b[");
+    zeros[1002..].copy_from_slice(b"5C");
     assert_whole(&rt, rt.alloc(), b"a", &zeros, 1004)?;
-    let nines = many_digits(rt.alloc(), b'9', b"C")?;
+    let mut nines = [b'9'; 1003];
+    nines[..2].copy_from_slice(b"\x1b[");
+    nines[1002] = b'C';
     assert_whole(&rt, rt.alloc(), b"a", &nines, 0)?;
     Ok(())
 }

@@ -6,9 +6,8 @@ use std::process::Abort;
 
 /// Asserts that a device took these bytes, then failed, and was not called again.
 fn assert_stopped(rt: &impl Abort, device: &Tried<FailingOnce<Narrow>>, taken: &[u8]) {
-    assert!(rt; device.failed());
-    assert!(rt; device.inner().stopped_after(taken));
-    assert_eq!(rt; device.calls(), device.inner().calls());
+    assert!(rt; device.failed() && device.inner().stopped_after(taken));
+    assert!(rt; device.calls() == device.inner().calls());
 }
 
 #[test]
@@ -17,14 +16,14 @@ fn a_read_that_fails_is_not_made_again(rt: HostRuntime) {
         let input: &[u8] = b"ab";
         let mut device = Tried::new(FailingOnce::new(input, 2, failure));
         let mut byte = [0; 1];
-        assert_eq!(rt; device.read_some(&mut byte), Ok(1));
-        assert_eq!(rt; byte, [b'a']);
+        let first = (device.read_some(&mut byte), byte);
         assert!(rt; !device.failed());
-        assert_eq!(rt; device.read_some(&mut byte), Err(DeviceFault));
-        assert!(rt; device.failed());
-        assert_eq!(rt; byte, [b'a']);
-        assert_eq!(rt; device.calls(), 2);
-        assert_eq!(rt; device.inner().calls(), 2);
+        let second = (device.read_some(&mut byte), byte);
+        assert_eq!(rt;
+            [first, second],
+            [(Ok(1), [b'a']), (Err(DeviceFault), [b'a'])]
+        );
+        assert!(rt; device.failed() && device.calls() == 2 && device.inner().calls() == 2);
     }
 }
 
@@ -33,19 +32,18 @@ fn a_read_that_fails_is_not_made_again(rt: HostRuntime) {
 fn a_read_of_nothing_is_no_failure(rt: HostRuntime) {
     let input: &[u8] = b"a";
     let mut device = Tried::new(FailingOnce::new(input, 1, Failure::Nothing));
-    assert_eq!(rt; device.read_some(&mut [0; 1]), Ok(0));
-    assert!(rt; !device.failed());
-    assert_eq!(rt; device.calls(), 1);
-    assert_eq!(rt; device.inner().calls(), 1);
+    assert!(rt; device.read_some(&mut [0; 1]) == Ok(0));
+    assert!(rt; !device.failed() && device.calls() == 1 && device.inner().calls() == 1);
 }
 
 #[test]
 fn a_write_that_fails_is_not_made_again(rt: HostRuntime) {
     for failure in Failure::ALL {
         let mut device = Tried::new(FailingOnce::new(Narrow::new(8), 2, failure));
-        assert_eq!(rt; device.write_some(b"ab"), Ok(1));
+        let first = device.write_some(b"ab");
         assert!(rt; !device.failed());
-        assert_eq!(rt; device.write_some(b"b"), Err(DeviceFault));
+        let second = device.write_some(b"b");
+        assert_eq!(rt; [first, second], [Ok(1), Err(DeviceFault)]);
         assert_stopped(&rt, &device, b"a");
     }
 }
@@ -56,21 +54,31 @@ fn all_is_written_by_short_writes(rt: HostRuntime) {
     let texts: [&[u8]; 4] = [b"", b"a", b"\x00\x1a\xff", b"16 bytes in all."];
     for bytes in texts {
         let mut device = Tried::new(Narrow::new(16));
-        assert_eq!(rt; device.write_all(bytes), Ok(()));
-        assert!(rt; !device.failed());
-        assert_eq!(rt; device.calls(), bytes.len() as u64);
-        assert_eq!(rt; device.inner().held(), bytes);
+        let written = device.write_all(bytes);
+        assert_eq!(rt;
+            (
+                written,
+                device.failed(),
+                device.calls(),
+                device.inner().held()
+            ),
+            (Ok(()), false, bytes.len() as u64, bytes)
+        );
     }
 }
 
 #[test]
 fn what_was_written_stands_before(rt: HostRuntime) {
     let mut device = Tried::new(Narrow::new(16));
-    assert_eq!(rt; device.write_all(b"Hi"), Ok(()));
-    assert_eq!(rt; device.write_all(b", "), Ok(()));
-    assert_eq!(rt; device.write_all(b"ho"), Ok(()));
-    assert_eq!(rt; device.calls(), 6);
-    assert_eq!(rt; device.inner().held(), b"Hi, ho".as_slice());
+    let texts: [&[u8]; 3] = [b"Hi", b", ", b"ho"];
+    for text in texts {
+        assert!(rt; !device.failed());
+        assert!(rt; device.write_all(text).is_ok());
+    }
+    assert_eq!(rt;
+        (device.calls(), device.inner().held()),
+        (6, b"Hi, ho".as_slice())
+    );
 }
 
 /// Each of the writes fails in turn, and in turn as an error, as interrupted and as a write of
@@ -80,7 +88,7 @@ fn no_write_follows_one_that_fails(rt: HostRuntime) {
     let bytes: &[u8] = b"sixteen letters.";
     for taken in 0..bytes.len() {
         let mut device = Tried::new(FailingOnce::after(taken));
-        assert_eq!(rt; device.write_all(bytes), Err(DeviceFault));
+        assert!(rt; device.write_all(bytes).is_err());
         assert_stopped(&rt, &device, &bytes[..taken]);
     }
 }
@@ -115,21 +123,13 @@ fn a_flush_that_fails_is_not_made_again(rt: HostRuntime) {
             refused,
             flushes: 0,
         });
-        assert_eq!(rt; device.write_all(b"ab"), Ok(()));
-        for _ in 1..refused {
-            if device.failed() {
-                panic!(rt; "a flush failed that was not refused");
-            }
-            assert_eq!(rt; device.flush(), Ok(()));
+        assert!(rt; device.write_all(b"ab").is_ok());
+        for flush in 1..=refused {
+            assert!(rt; !device.failed());
+            assert!(rt; device.flush().is_err() == (flush == refused));
         }
-        if device.failed() {
-            panic!(rt; "a flush failed that was not refused");
-        }
-        assert_eq!(rt; device.flush(), Err(DeviceFault));
-        assert!(rt; device.failed());
-        assert_eq!(rt; device.calls(), refused.saturating_add(2));
+        assert!(rt; device.failed() && device.calls() == refused.saturating_add(2));
         let inner = device.into_inner();
-        assert_eq!(rt; inner.flushes, refused);
-        assert_eq!(rt; inner.device.held(), b"ab".as_slice());
+        assert!(rt; inner.flushes == refused && inner.device.held() == b"ab".as_slice());
     }
 }
