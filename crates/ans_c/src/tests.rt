@@ -1,5 +1,6 @@
 use super::*;
 use ans_screen::LentRow;
+use std::process::Abort;
 use std::test::Fail;
 
 /// Two letters on a screen of 2 x 1, as a file with a record.
@@ -32,11 +33,11 @@ fn sizes_are_told(rt: HostRuntime) {
     };
     let mut fault = no_fault();
     let file = drawing();
-    assert_eq!(rt; ans_size(&file, &mut size, &mut fault), PASS);
-    assert_eq!(rt; (size.columns, size.lines), (2, 1));
-    assert_eq!(rt; (size.rows, size.bytes, size.cells), (2, 16, 2));
-    assert_eq!(rt; ans_size(b"Hi", &mut size, &mut fault), REFUSED);
-    assert_eq!(rt; (fault.number, fault.offset), (1, 2));
+    let passed = ans_size(&file, &mut size, &mut fault);
+    let told = (size.columns, size.lines, size.rows, size.bytes, size.cells);
+    let refused = ans_size(b"Hi", &mut size, &mut fault);
+    assert_eq!(rt; (passed, told), (PASS, (2, 1, 2, 16, 2)));
+    assert_eq!(rt; (refused, fault.number, fault.offset), (REFUSED, 1, 2));
 }
 
 /// What is lent for a picture, beside its rows.
@@ -72,12 +73,13 @@ fn pictures_are_copied(rt: HostRuntime) {
         attributes: [0; 3],
         fault: no_fault(),
     };
-    assert_eq!(rt; lent.check(31, &mut rows), PASS);
-    assert_eq!(rt; lent.glyphs, *b"Hi\x00");
-    assert_eq!(rt; lent.attributes, [7, 7, 0]);
-    assert_eq!(rt; lent.check(0, &mut rows), REFUSED);
-    assert_eq!(rt; (lent.fault.number, lent.fault.offset), (22, 0));
-    assert_eq!(rt; lent.check(31, &mut [LentRow::new(); 1]), NO_ROOM);
+    let passed = lent.check(31, &mut rows);
+    let (glyphs, attributes) = (lent.glyphs, lent.attributes);
+    assert_eq!(rt; (passed, glyphs, attributes), (PASS, *b"Hi\x00", [7, 7, 0]));
+    let refused = lent.check(0, &mut rows);
+    let (number, offset) = (lent.fault.number, lent.fault.offset);
+    let short = lent.check(31, &mut [LentRow::new(); 1]);
+    assert_eq!(rt; (refused, number, offset, short), (REFUSED, 22, 0, NO_ROOM));
 }
 
 #[test]
@@ -88,20 +90,19 @@ fn needs_are_told(rt: HostRuntime) {
     let mut few_bytes = [0u8; 15];
     let mut parts = 0;
     let mut fault = no_fault();
+    let passed = ans_needs(&file, &mut rows, &mut bytes, &mut parts, &mut fault);
+    let told = parts;
+    let short = ans_needs(&file, &mut rows, &mut few_bytes, &mut parts, &mut fault);
+    let refused = ans_needs(b"", &mut rows, &mut bytes, &mut parts, &mut fault);
     assert_eq!(rt;
-        ans_needs(&file, &mut rows, &mut bytes, &mut parts, &mut fault),
-        PASS
+        ((passed, told), short, (refused, fault.number, fault.offset)),
+        ((PASS, 2 + 8), NO_ROOM, (REFUSED, 1, 0))
     );
-    assert_eq!(rt; parts, 2 + 8);
-    assert_eq!(rt;
-        ans_needs(&file, &mut rows, &mut few_bytes, &mut parts, &mut fault),
-        NO_ROOM
-    );
-    assert_eq!(rt;
-        ans_needs(b"", &mut rows, &mut bytes, &mut parts, &mut fault),
-        REFUSED
-    );
-    assert_eq!(rt; (fault.number, fault.offset), (1, 0));
+}
+
+/// Asserts what a call answers, and what the text that it hands over is.
+fn expect(rt: &impl Abort, answer: u32, told: Option<&[u8]>, expected: (u32, &[u8])) {
+    assert_eq!(rt; (answer, told), (expected.0, Some(expected.1)));
 }
 
 #[test]
@@ -112,42 +113,31 @@ fn texts_are_handed_over(rt: HostRuntime) -> Result<(), Fail> {
     let mut text = [0u8; 400];
     let mut short_text = [0u8; 9];
     let mut length = 0;
-    assert_eq!(rt;
-        ans_why(&file, &mut rows, &mut bytes, &mut text, &mut length),
-        PASS
-    );
-    let told = text.get(..length).ok_or("why")?;
     let why = b"size: 2 x 1\nverdict: pass\nneeds: cursor colours\ntaller: yes\n";
-    assert!(rt; told.starts_with(why));
-    let wanted = length;
-    assert_eq!(rt;
-        ans_why(&file, &mut rows, &mut bytes, &mut short_text, &mut length),
-        NO_ROOM
-    );
-    assert_eq!(rt; length, wanted);
-    assert_eq!(rt; ans_record(b"Hi", &mut text, &mut length), REFUSED);
-    let told = text.get(..length).ok_or("record")?;
-    assert_eq!(rt;
-        told,
-        b"verdict: refused\nat 2: F1 no SAUCE record\n".as_slice()
-    );
+    let passed = ans_why(&file, &mut rows, &mut bytes, &mut text, &mut length);
+    let told = text.get(..length).ok_or("why")?;
+    assert!(rt; passed == PASS && told.starts_with(why));
+    let whole = length;
+    let short = ans_why(&file, &mut rows, &mut bytes, &mut short_text, &mut length);
+    assert_eq!(rt; (short, length), (NO_ROOM, whole));
+    let answer = ans_record(b"Hi", &mut text, &mut length);
+    let record = b"verdict: refused\nat 2: F1 no SAUCE record\n";
+    expect(&rt, answer, text.get(..length), (REFUSED, record));
     Ok(())
 }
 
 #[test]
-fn names_are_handed_over(rt: HostRuntime) -> Result<(), Fail> {
+fn names_are_handed_over(rt: HostRuntime) {
     let mut text = [0u8; 40];
     let mut length = 0;
-    assert_eq!(rt; ans_fault_text(21, &mut text, &mut length), PASS);
-    let told = text.get(..length).ok_or("fault")?;
-    assert_eq!(rt; told, b"F21 scrolls".as_slice());
-    assert_eq!(rt; ans_fault_text(18, &mut text, &mut length), REFUSED);
-    assert_eq!(rt; ans_note_text(2, &mut text, &mut length), PASS);
-    let told = text.get(..length).ok_or("note")?;
-    assert_eq!(rt; told, b"no end mark after the content".as_slice());
-    assert_eq!(rt; ans_note_text(7, &mut text, &mut length), REFUSED);
-    assert_eq!(rt; ans_version(&mut text, &mut length), PASS);
-    let told = text.get(..length).ok_or("version")?;
-    assert_eq!(rt; told, b"0.1.0".as_slice());
-    Ok(())
+    let answer = ans_fault_text(21, &mut text, &mut length);
+    expect(&rt, answer, text.get(..length), (PASS, b"F21 scrolls"));
+    let no_fault = ans_fault_text(18, &mut text, &mut length);
+    let answer = ans_note_text(2, &mut text, &mut length);
+    let note = b"no end mark after the content";
+    expect(&rt, answer, text.get(..length), (PASS, note));
+    let no_note = ans_note_text(7, &mut text, &mut length);
+    assert_eq!(rt; (no_fault, no_note), (REFUSED, REFUSED));
+    let answer = ans_version(&mut text, &mut length);
+    expect(&rt, answer, text.get(..length), (PASS, b"0.1.0"));
 }

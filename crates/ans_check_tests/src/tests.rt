@@ -193,7 +193,7 @@ fn run_once<R: Read + Copy + Drop>(
                 writer,
             };
         }
-        assert_eq!(rt; writer.calls(), 0);
+        assert!(rt; writer.calls() == 0);
     }
     panic!(rt; "memory was refused twice");
 }
@@ -210,6 +210,14 @@ fn expect_run(
     let ran = run_once(rt, file, options, room);
     assert!(rt; ran.answer == expected);
     assert_eq!(rt; ran.writer.inner().held(), text);
+}
+
+/// Asserts that bytes begin so, and returns the others.
+fn behind<'a>(rt: &impl Abort, bytes: &'a [u8], front: &[u8]) -> &'a [u8] {
+    match bytes.strip_prefix(front) {
+        Some(rest) => rest,
+        None => panic!(rt; "another front"),
+    }
 }
 
 /// A content, its width and lines, whether the file passes, and the text.

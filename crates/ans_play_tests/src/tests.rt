@@ -4,18 +4,16 @@
 use ans_model::fault::{Cause, Fault};
 use ans_play::{Picture, Player, Start};
 use ans_samples::rows::Expected::{Refused, Shows};
-use ans_samples::rows::{
-    BROKEN, BYTES, COLOURS, FORBIDDEN, MISPLACED, PARTS_KNOWN, PASSES_FROM_ANY,
-    PASSES_FROM_CLEARED, Row, TABS, UNKNOWN_CELLS, WITHOUT_MEANING,
-};
+use ans_samples::rows::{Row, tables};
 use ans_screen::{Grid, HalfCell, LentGrid, LentRow, PlainGrid, PlaneGrid, Screen};
 use std::alloc::Global;
 use std::process::Abort;
 use std::test::Fail;
 
+/// Feeds a piece, whose bytes are counted where it has no fault.
 fn feed<G: Screen>(rt: &impl Abort, player: &mut Player<G>, piece: &[u8]) -> Result<(), Fault> {
     let fed = player.fed();
-    assert!(rt; fed <= 200 && piece.len() <= 200);
+    assert!(rt; fed <= 5000 && piece.len() <= 5000);
     let answer = player.feed(piece);
     let more = if answer.is_ok() { piece.len() } else { 0 };
     assert_eq!(rt; player.fed(), fed + more);
@@ -24,8 +22,7 @@ fn feed<G: Screen>(rt: &impl Abort, player: &mut Player<G>, piece: &[u8]) -> Res
 
 fn assert_shows<G: Screen>(rt: &impl Abort, picture: &Picture<G>, bytes: &[u8], attributes: &[u8]) {
     let (width, lines) = (picture.width(), picture.lines());
-    assert!(rt; width <= 20 && lines <= 10);
-    assert_eq!(rt; bytes.len(), width * lines);
+    assert!(rt; width <= 20 && lines <= 10 && bytes.len() == width * lines);
     assert!(rt; attributes.is_empty() || attributes.len() == bytes.len());
     for row in 0..lines {
         assert_row(rt, picture, row, bytes, attributes);
@@ -49,12 +46,11 @@ fn assert_row<G: Screen>(
     for col in 0..width {
         let i = row * width + col;
         assert!(rt; i < bytes.len());
-        assert_eq!(rt; picture.glyph(row, col), bytes[i]);
-        assert_eq!(rt; glyphs[col], bytes[i]);
-        assert_eq!(rt; picture.attr(row, col), values[col]);
-        if let Some(attribute) = attributes.get(i) {
-            assert_eq!(rt; values[col], *attribute);
-        }
+        let attribute = *attributes.get(i).unwrap_or(&values[col]);
+        let read = (picture.glyph(row, col), picture.attr(row, col));
+        let copied = (glyphs[col], values[col]);
+        let expected = (bytes[i], attribute);
+        assert_eq!(rt; (read, copied), (expected, expected), "in {bytes:?}");
     }
 }
 
@@ -72,18 +68,18 @@ fn play_by<G: Screen>(
     let mut met = feed(rt, &mut player, &content[..first]);
     for piece in content[first..].chunks(size) {
         let answer = feed(rt, &mut player, piece);
-        assert_eq!(rt; feed(rt, &mut player, b""), answer);
+        let again = feed(rt, &mut player, b"");
         if met.is_ok() {
             met = answer;
-        } else {
-            assert_eq!(rt; answer, met);
         }
+        assert_eq!(rt; (answer, again), (met, met));
     }
     match (player.finish(), row.expected) {
         (Ok(picture), Shows(bytes, attributes)) => assert_shows(rt, &picture, bytes, attributes),
         (Err(fault), Refused(offset, cause)) => {
-            assert_eq!(rt; fault, Fault { offset, cause }, "in {content:?}");
-            assert!(rt; met.is_ok() || met == Err(fault));
+            let met = met.err().unwrap_or(fault);
+            let expected = Fault { offset, cause };
+            assert_eq!(rt; (fault, met), (expected, expected), "in {content:?}");
         }
         _ => panic!(rt; "a picture where a fault was expected, or the reverse, in {content:?}"),
     }
@@ -114,8 +110,8 @@ fn play_on<G: Grid>(rt: &impl Abort, alloc: Global, row: &Row) -> Result<(), Fai
 
 /// Plays a content byte by byte over a grid.
 fn play_over<G: Screen>(rt: &impl Abort, grid: G, row: &Row) {
-    assert!(rt; 1 <= grid.width() && grid.width() <= 20);
-    assert!(rt; 2 <= grid.rows() && grid.rows() <= 11);
+    let (width, rows) = (grid.width(), grid.rows());
+    assert!(rt; 1 <= width && width <= 20 && 2 <= rows && rows <= 11);
     play_by(rt, Player::on(grid, row.start), row, 0, 1);
 }
 
@@ -162,58 +158,11 @@ fn play_all(rt: &impl Abort, alloc: Global, rows: &[Row]) -> Result<(), Fail> {
 }
 
 #[test]
-fn bytes_alone(rt: HostRuntime) -> Result<(), Fail> {
-    play_all(&rt, rt.alloc(), &BYTES)
-}
-
-#[test]
-fn tabs(rt: HostRuntime) -> Result<(), Fail> {
-    play_all(&rt, rt.alloc(), &TABS)
-}
-
-#[test]
-fn starts_of_known_parts(rt: HostRuntime) -> Result<(), Fail> {
-    play_all(&rt, rt.alloc(), &PARTS_KNOWN)
-}
-
-#[test]
-fn pictures_from_any_start(rt: HostRuntime) -> Result<(), Fail> {
-    play_all(&rt, rt.alloc(), &PASSES_FROM_ANY)
-}
-
-#[test]
-fn pictures_from_the_cleared_start(rt: HostRuntime) -> Result<(), Fail> {
-    play_all(&rt, rt.alloc(), &PASSES_FROM_CLEARED)
-}
-
-#[test]
-fn pictures_in_colours(rt: HostRuntime) -> Result<(), Fail> {
-    play_all(&rt, rt.alloc(), &COLOURS)
-}
-
-#[test]
-fn broken_sequences(rt: HostRuntime) -> Result<(), Fail> {
-    play_all(&rt, rt.alloc(), &BROKEN)
-}
-
-#[test]
-fn sequences_without_a_meaning(rt: HostRuntime) -> Result<(), Fail> {
-    play_all(&rt, rt.alloc(), &WITHOUT_MEANING)
-}
-
-#[test]
-fn sequences_that_are_not_allowed(rt: HostRuntime) -> Result<(), Fail> {
-    play_all(&rt, rt.alloc(), &FORBIDDEN)
-}
-
-#[test]
-fn cells_that_stay_unknown(rt: HostRuntime) -> Result<(), Fail> {
-    play_all(&rt, rt.alloc(), &UNKNOWN_CELLS)
-}
-
-#[test]
-fn misplaced_tokens(rt: HostRuntime) -> Result<(), Fail> {
-    play_all(&rt, rt.alloc(), &MISPLACED)
+fn rows_of_each_table(rt: HostRuntime) -> Result<(), Fail> {
+    for rows in tables() {
+        play_all(&rt, rt.alloc(), rows)?;
+    }
+    Ok(())
 }
 
 #[test]
@@ -223,13 +172,20 @@ fn answers_its_fault_again(rt: HostRuntime) -> Result<(), Fail> {
         offset: 2,
         cause: Cause::PrintBelow,
     };
-    assert_eq!(rt; feed(&rt, &mut player, b"H"), Ok(()));
-    assert_eq!(rt; feed(&rt, &mut player, b"i"), Ok(()));
-    assert_eq!(rt; player.fed(), 2);
-    assert_eq!(rt; feed(&rt, &mut player, b"!"), Err(fault));
-    assert_eq!(rt; feed(&rt, &mut player, b""), Err(fault));
-    assert_eq!(rt; player.fed(), 2);
-    assert_eq!(rt; player.finish().err(), Some(fault));
+    let played = (feed(&rt, &mut player, b"H"), feed(&rt, &mut player, b"i"));
+    let before = player.fed();
+    let refused = (feed(&rt, &mut player, b"!"), feed(&rt, &mut player, b""));
+    let after = player.fed();
+    assert_eq!(rt;
+        (played, before, refused, after, player.finish().err()),
+        (
+            (Ok(()), Ok(())),
+            2,
+            (Err(fault), Err(fault)),
+            2,
+            Some(fault)
+        )
+    );
     Ok(())
 }
 
@@ -237,8 +193,8 @@ fn answers_its_fault_again(rt: HostRuntime) -> Result<(), Fail> {
 fn expect_blanks(rt: &impl Abort, picture: &Picture<PlainGrid>, row: usize, from: usize) {
     assert!(rt; row < picture.lines());
     for col in from..picture.width() {
-        assert_eq!(rt; picture.glyph(row, col), b' ');
-        assert_eq!(rt; picture.attr(row, col), 0x07);
+        let cell = (picture.glyph(row, col), picture.attr(row, col));
+        assert_eq!(rt; cell, (b' ', 0x07));
     }
 }
 
@@ -247,16 +203,17 @@ fn play_letters(rt: &impl Abort, alloc: Global, content: &[u8], size: usize) -> 
     assert!(rt; 0 < size);
     let mut player = Player::<PlainGrid>::new(alloc, 80, 52, Start::cleared())?;
     for piece in content.chunks(size) {
-        let fed = player.fed();
-        assert!(rt; fed <= 5000 && piece.len() <= 5000);
-        assert_eq!(rt; player.feed(piece), Ok(()));
+        assert_eq!(rt; feed(rt, &mut player, piece), Ok(()));
     }
     match player.finish() {
         Ok(picture) => {
             assert!(rt; picture.width() == 80 && picture.lines() == 52);
-            assert_eq!(rt; picture.glyph(51, 14), b'a');
-            assert_eq!(rt; picture.glyph(51, 15), b'b');
-            assert_eq!(rt; picture.attr(51, 15), 0x0F);
+            let shown = (
+                picture.glyph(51, 14),
+                picture.glyph(51, 15),
+                picture.attr(51, 15),
+            );
+            assert_eq!(rt; shown, (b'a', b'b', 0x0F));
             expect_blanks(rt, &picture, 51, 16);
         }
         Err(fault) => panic!(rt; "refused: {fault:?}"),

@@ -20,9 +20,11 @@ fn parameters_make_bits_known(rt: HostRuntime) {
     ];
     for (parameter, known, value) in rows {
         attr = attr.apply(parameter);
-        assert_eq!(rt; attr.known, known, "known after {parameter}");
-        assert_eq!(rt; attr.value, value, "value after {parameter}");
-        assert_eq!(rt; attr.is_known(), known == 0xFF, "after {parameter}");
+        assert_eq!(rt;
+            (attr.known, attr.value, attr.is_known()),
+            (known, value, known == 0xFF),
+            "after {parameter}"
+        );
     }
 }
 
@@ -44,31 +46,41 @@ fn cells_are_known_whole(rt: HostRuntime) {
     }
 }
 
+/// Asserts the cells of a row of 33 from a column on, each by its byte and its attribute.
+fn expect_cells<G: Grid>(rt: &impl Abort, grid: &G, from: usize, cells: &[(u8, u8)])
+    requires width { G.width_of grid.now ≡ 33 }
+    requires rows { G.rows_of grid.now ≡ 1 }
+{
+    assert!(rt; from <= 33 && cells.len() <= 33 - from);
+    for i in 0..cells.len() {
+        let (glyph, value) = cells[i];
+        assert_eq!(rt; grid.get(from + i), HalfCell::known(glyph, value));
+    }
+}
+
 /// A grid of one row of 33 cells, through each of its calls.
 fn edit_a_row<G: Grid>(rt: &impl Abort, alloc: Global) -> Result<(), Fail> {
     let mut grid = G::new(alloc, 33, 1, HalfCell::known(b' ', 0x07))?;
-    assert_eq!(rt; grid.width(), 33);
-    assert_eq!(rt; grid.rows(), 1);
+    let size = (grid.width(), grid.rows());
     grid.put(32, HalfCell::unknown());
-    assert_eq!(rt; grid.first_unknown(33), Some(32));
-    assert_eq!(rt; grid.first_unknown(32), None);
+    let gaps = (grid.first_unknown(33), grid.first_unknown(32));
     grid.fill(31, 33, HalfCell::known(b'x', 0x1F));
-    assert_eq!(rt; grid.first_unknown(33), None);
-    assert_eq!(rt; grid.get(30), HalfCell::known(b' ', 0x07));
-    assert_eq!(rt; grid.get(31), HalfCell::known(b'x', 0x1F));
-    assert_eq!(rt; grid.get(32), HalfCell::known(b'x', 0x1F));
+    let whole = grid.first_unknown(33);
+    assert_eq!(rt; (size, gaps, whole), ((33, 1), (Some(32), None), None));
+    expect_cells(rt, &grid, 30, &[(b' ', 0x07), (b'x', 0x1F), (b'x', 0x1F)]);
     grid.write_run(0, 1, b"Hill", 2, Attr::whole(0x4E));
-    assert_eq!(rt; grid.get(0), HalfCell::known(b' ', 0x07));
-    assert_eq!(rt; grid.get(1), HalfCell::known(b'H', 0x4E));
-    assert_eq!(rt; grid.get(2), HalfCell::known(b'i', 0x4E));
-    assert_eq!(rt; grid.get(3), HalfCell::known(b' ', 0x07));
+    let written = [(b' ', 0x07), (b'H', 0x4E), (b'i', 0x4E), (b' ', 0x07)];
+    expect_cells(rt, &grid, 0, &written);
     grid.clear(HalfCell::known(b'.', 0x07));
     grid.fill_row(0, 1, 3, HalfCell::known(b'x', 0x1F));
-    let mut copied = [0; 33];
-    grid.copy_glyphs(0, &mut copied);
-    assert_eq!(rt; &copied[..4], b".xx.".as_slice());
-    grid.copy_attributes(0, &mut copied);
-    assert_eq!(rt; &copied[..4], [0x07, 0x1F, 0x1F, 0x07].as_slice());
+    let mut glyphs = [0; 33];
+    let mut values = [0; 33];
+    grid.copy_glyphs(0, &mut glyphs);
+    grid.copy_attributes(0, &mut values);
+    assert_eq!(rt;
+        (&glyphs[..4], &values[..4]),
+        (b".xx.".as_slice(), [0x07, 0x1F, 0x1F, 0x07].as_slice())
+    );
     Ok(())
 }
 
@@ -98,16 +110,11 @@ fn compare_grids(
     Grid::put(&mut planes, place, *unknown);
     Grid::put(&mut plain, place, *unknown);
     let expected = if place < front { Some(place) } else { None };
-    assert_eq!(rt;
+    let gaps = (
         Grid::first_unknown(&plain, front),
-        expected,
-        "{place} of {front}"
-    );
-    assert_eq!(rt;
         Grid::first_unknown(&planes, front),
-        expected,
-        "{place} of {front}"
     );
+    assert_eq!(rt; gaps, (expected, expected), "{place} of {front}");
     Grid::fill(&mut planes, 0, front, HalfCell::known(b'x', 0x1F));
     Grid::fill(&mut plain, 0, front, HalfCell::known(b'x', 0x1F));
     for i in 0..65 {
@@ -221,21 +228,16 @@ fn apply<G: Screen>(grid: &mut G, edit: &Edit) -> bool
     true
 }
 
-/// A row of 33 cells, copied from both grids.
-fn compare_copies<A: Screen, B: Screen>(rt: &impl Abort, grid: &A, model: &B, row: usize)
-    requires grid_width { A.width_of grid.now ≡ 33 }
-    requires grid_row { row < A.rows_of grid.now }
-    requires model_width { B.width_of model.now ≡ 33 }
-    requires model_row { row < B.rows_of model.now }
+/// A row of 33 cells, copied from a grid: its glyphs, and its attributes.
+fn copies_of<G: Screen>(grid: &G, row: usize) -> ([u8; 33], [u8; 33])
+    requires width { G.width_of grid.now ≡ 33 }
+    requires row { row < G.rows_of grid.now }
 {
-    let mut copied = [0xEE; 33];
-    let mut expected = [0xEE; 33];
-    grid.copy_glyphs(row, &mut copied);
-    model.copy_glyphs(row, &mut expected);
-    assert_eq!(rt; copied, expected, "glyphs of row {row}");
-    grid.copy_attributes(row, &mut copied);
-    model.copy_attributes(row, &mut expected);
-    assert_eq!(rt; copied, expected, "attributes of row {row}");
+    let mut glyphs = [0xEE; 33];
+    let mut values = [0xEE; 33];
+    grid.copy_glyphs(row, &mut glyphs);
+    grid.copy_attributes(row, &mut values);
+    (glyphs, values)
 }
 
 /// All that two grids answer.
@@ -246,12 +248,19 @@ fn compare_answers<A: Screen, B: Screen>(rt: &impl Abort, grid: &A, model: &B)
     requires model_rows { B.rows_of model.now ≡ 3 }
 {
     for i in 0..99 {
-        assert_eq!(rt; grid.get(i), model.get(i), "cell {i}");
-        assert_eq!(rt; grid.first_unknown(i), model.first_unknown(i), "to {i}");
+        assert_eq!(rt;
+            (grid.get(i), grid.first_unknown(i)),
+            (model.get(i), model.first_unknown(i)),
+            "cell {i}"
+        );
     }
-    assert_eq!(rt; grid.first_unknown(99), model.first_unknown(99));
     for row in 0..3 {
-        compare_copies(rt, grid, model, row);
+        let end = 33 * (row + 1);
+        assert_eq!(rt;
+            (copies_of(grid, row), grid.first_unknown(end)),
+            (copies_of(model, row), model.first_unknown(end)),
+            "row {row}"
+        );
     }
 }
 
@@ -269,8 +278,7 @@ fn edit_both<A: Screen, B: Screen, const N: usize>(
 {
     compare_answers(rt, grid, model);
     for edit in edits {
-        assert!(rt; apply(grid, edit), "{edit:?}");
-        assert!(rt; apply(model, edit), "{edit:?}");
+        assert!(rt; apply(grid, edit) && apply(model, edit), "{edit:?}");
         compare_answers(rt, grid, model);
     }
 }

@@ -9,7 +9,7 @@ use std::process::Abort;
 
 const REFUSAL: &[u8] = b"verdict: refused\nat 3: F1 no SAUCE record\n";
 
-const UNWRITTEN: &[u8] = b"anscheck: cannot write the report\n";
+pub(super) const UNWRITTEN: &[u8] = b"anscheck: cannot write the report\n";
 
 /// Words, the status, and what is printed on each stream, where `hi.ans` is a good file from the
 /// cleared start and standard input has three bytes.
@@ -27,6 +27,12 @@ static ANSWERS: [(&[&str], u8, &[u8], &[u8]); 8] = words! {
 /// What standard input gives: no record.
 const NO_RECORD: Stored<'_> = Stored::Bytes(b"abc");
 
+/// Asserts what is printed on each stream.
+fn expect_printed(rt: &impl Abort, answered: &Answered<Narrow>, output: &[u8], errors: &[u8]) {
+    let printed = (answered.output.held(), answered.errors.held());
+    assert_eq!(rt; printed, (output, errors));
+}
+
 #[test]
 fn words_are_answered(rt: HostRuntime) {
     let drawings = Drawings::new(&rt);
@@ -34,9 +40,8 @@ fn words_are_answered(rt: HostRuntime) {
     for (words, status, output, errors) in &ANSWERS {
         let shelf = Shelf::new(&files, NO_RECORD);
         let answered = answer_once(&rt, words, shelf, (4096, 4096));
-        assert_eq!(rt; answered.ending.status(), *status);
-        assert_eq!(rt; answered.output.held(), *output);
-        assert_eq!(rt; answered.errors.held(), *errors);
+        expect_printed(&rt, &answered, output, errors);
+        assert!(rt; answered.ending.status() == *status);
     }
 }
 
@@ -59,9 +64,8 @@ fn answer_alone(
 fn help_is_printed(rt: HostRuntime) {
     for (words, begin) in &HELP {
         let answered = answer_alone(&rt, words, (4096, 4096));
-        assert!(rt; answered.ending == Ending::Help);
         assert!(rt; answered.output.held().starts_with(begin));
-        assert!(rt; answered.errors.held().is_empty());
+        assert!(rt; answered.ending == Ending::Help && answered.errors.held().is_empty());
     }
 }
 
@@ -70,8 +74,7 @@ fn help_that_is_cut_off_is_an_error(rt: HostRuntime) {
     for room in [0, 1, 100] {
         let answered = answer_alone(&rt, &["anscheck", "--help"], (room, 4096));
         assert!(rt; answered.ending == Ending::Run(Err(RunError::Write)));
-        assert_eq!(rt; answered.output.held().len(), room);
-        assert_eq!(rt; answered.errors.held(), UNWRITTEN);
+        assert!(rt; answered.output.held().len() == room && answered.errors.held() == UNWRITTEN);
     }
 }
 
@@ -86,9 +89,8 @@ static REJECTED: [(&[&str], &[u8]); 3] = words! {
 fn rejected_words_are_told_on_the_errors(rt: HostRuntime) {
     for (words, begin) in &REJECTED {
         let answered = answer_alone(&rt, words, (4096, 4096));
-        assert!(rt; answered.ending == Ending::Usage);
-        assert!(rt; answered.output.held().is_empty());
         assert!(rt; answered.errors.held().starts_with(begin));
+        assert!(rt; answered.ending == Ending::Usage && answered.output.held().is_empty());
         // What fails on the errors changes no ending.
         let answered = answer_alone(&rt, words, (4096, 0));
         assert!(rt; answered.ending == Ending::Usage);
@@ -103,9 +105,8 @@ fn an_output_that_fails_is_told(rt: HostRuntime) {
     for room in 0..HI_REPORT.len() {
         let shelf = Shelf::new(&files, NO_RECORD);
         let answered = answer_once(&rt, &words, shelf, (room, 4096));
+        expect_printed(&rt, &answered, &HI_REPORT[..room], UNWRITTEN);
         assert!(rt; answered.ending == Ending::Run(Err(RunError::Write)));
-        assert_eq!(rt; answered.output.held(), &HI_REPORT[..room]);
-        assert_eq!(rt; answered.errors.held(), UNWRITTEN);
     }
 }
 
@@ -117,8 +118,8 @@ fn a_message_that_is_cut_off_changes_no_ending(rt: HostRuntime) {
     let said: &[u8] = b"anscheck: cannot open the file\n";
     for room in 0..said.len() {
         let answered = answer_alone(&rt, UNOPENED, (0, room));
+        expect_printed(&rt, &answered, b"", &said[..room]);
         assert!(rt; answered.ending == Ending::UnopenedFile);
-        assert_eq!(rt; answered.errors.held(), &said[..room]);
     }
 }
 

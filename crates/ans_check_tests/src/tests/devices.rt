@@ -59,11 +59,12 @@ fn expect_end_at_write(
         let mut writer = Tried::new(device);
         let answer = run(rt.alloc(), &mut reader, &mut writer, asked);
         if answer != Err(RunError::Memory) {
-            assert!(rt; answer == Err(RunError::Write), "at {fails_at}");
-            assert_eq!(rt; writer.calls(), fails_at);
+            let calls = writer.calls();
             let device = writer.into_inner();
-            assert_eq!(rt; device.calls(), fails_at);
-            assert_eq!(rt; device.device.held(), written);
+            assert_eq!(rt;
+                (answer, [calls, device.calls()], device.device.held()),
+                (Err(RunError::Write), [fails_at; 2], written)
+            );
             return;
         }
     }
@@ -83,7 +84,7 @@ fn expect_prefixes(rt: &(impl Abort + AllocGlobal), file: &[u8], asked: &Options
 #[test]
 fn a_writer_that_fails_has_a_prefix(rt: HostRuntime) {
     let file = plain_file(&rt, b"Hi", 2, 1);
-    assert_eq!(rt; HI_REPORT.len(), 70);
+    assert!(rt; HI_REPORT.len() == 70);
     for (asked, text) in &TEXTS {
         expect_prefixes(&rt, file.as_slice(), asked, text);
         expect_run(&rt, file.as_slice(), asked, text.len(), Ok(true), text);
@@ -107,10 +108,15 @@ fn expect_unread(rt: &(impl Abort + AllocGlobal), file: &[u8], asked: &Options) 
             fails_at,
         };
         let ran = run_once(rt, input, asked, 256);
-        assert!(rt; ran.answer == Err(RunError::Read), "at {fails_at}");
-        assert_eq!(rt; ran.reader.calls(), fails_at);
-        assert_eq!(rt; ran.reader.inner().reads, fails_at);
-        assert_eq!(rt; ran.writer.calls(), 0);
+        let calls = [
+            ran.reader.calls(),
+            ran.reader.inner().reads,
+            ran.writer.calls(),
+        ];
+        assert_eq!(rt;
+            (ran.answer, calls),
+            (Err(RunError::Read), [fails_at, fails_at, 0])
+        );
     }
 }
 

@@ -17,7 +17,7 @@ fn shown<D: Display>(rt: &(impl Abort + AllocGlobal), value: &D) -> String {
 }
 
 /// An ending, its exit status, and what it says.
-static ENDINGS: [(Ending, u8, Option<&str>); 9] = [
+static ENDINGS: [(Ending, u8, Option<&str>); 10] = [
     (Ending::Run(Ok(true)), 0, None),
     (Ending::Run(Ok(false)), 1, None),
     (
@@ -43,23 +43,22 @@ static ENDINGS: [(Ending, u8, Option<&str>); 9] = [
         2,
         Some("cannot read the command line"),
     ),
+    (Ending::UnopenedFile, 2, Some("cannot open the file")),
 ];
 
 #[test]
 fn endings_have_their_statuses_and_texts(rt: HostRuntime) {
     for (ending, expected, message) in &ENDINGS {
-        assert_eq!(rt; ending.status(), *expected);
-        assert!(rt; ending.message() == *message);
+        let end = (ending.status(), ending.message());
+        assert_eq!(rt; end, (*expected, *message));
         if let Ending::Run(answer) = ending {
-            assert_eq!(rt; status(answer), *expected);
+            assert!(rt; status(answer) == *expected);
         }
         if let Ending::Run(Err(error)) = ending {
             let text = shown(&rt, error);
             assert!(rt; Some(text.as_str()) == *message);
         }
     }
-    assert_eq!(rt; Ending::UnopenedFile.status(), 2);
-    assert!(rt; Ending::UnopenedFile.message() == Some("cannot open the file"));
 }
 
 /// Words that give no options, of each kind that the tests of `ans_options` meet, and how the program
@@ -97,11 +96,8 @@ fn words_without_options_have_their_endings(rt: HostRuntime) {
         assert_eq!(rt; ending_at(&rt, words), *ending);
     }
     let refused = WordsError::Clap(clap::Error::from(AllocError));
-    assert_eq!(rt; Ending::of_words(&refused), Ending::UnreadableWords);
-    assert_eq!(rt;
-        Ending::of_words(&WordsError::Memory),
-        Ending::UnreadableWords
-    );
+    assert!(rt; Ending::of_words(&refused) == Ending::UnreadableWords);
+    assert!(rt; Ending::of_words(&WordsError::Memory) == Ending::UnreadableWords);
 }
 
 /// A device with room for so many bytes, which may fail to hand on what it took.
@@ -154,6 +150,18 @@ pub(super) fn serve_once<R: Read + Copy + Drop>(
     panic!(rt; "memory was refused twice");
 }
 
+/// Asserts what serving an input into a device returns, and how much room is left.
+fn expect_served<R: Read + Copy + Drop>(
+    rt: &(impl Abort + AllocGlobal),
+    input: R,
+    output: Output,
+    expected: Result<bool, RunError>,
+    left: usize,
+) {
+    let served = serve_once(rt, input, output);
+    assert_eq!(rt; served, (expected, left));
+}
+
 /// The room, whether the device flushes, and what is returned for a report of 70 bytes, with the room
 /// that is left.
 static OUTPUTS: [(usize, bool, Result<bool, RunError>, usize); 6] = [
@@ -173,24 +181,21 @@ fn a_report_is_flushed(rt: HostRuntime) {
             room: *room,
             flushes: *flushes,
         };
-        let (answer, room_left) = serve_once(&rt, file.as_slice(), output);
-        assert!(rt; answer == *expected);
-        assert_eq!(rt; room_left, *left);
+        expect_served(&rt, file.as_slice(), output, *expected, *left);
     }
 }
 
 #[test]
 fn a_refusal_is_flushed(rt: HostRuntime) {
+    let refused = [b'S'; 127];
     let output = Output::with_room(100);
-    let (answer, left) = serve_once(&rt, [b'S'; 127].as_slice(), output);
-    assert!(rt; answer == Ok(false));
-    assert_eq!(rt; left, 56);
+    expect_served(&rt, refused.as_slice(), output, Ok(false), 56);
     let output = Output {
         flushes: false,
         ..output
     };
-    let (answer, _) = serve_once(&rt, [b'S'; 127].as_slice(), output);
-    assert!(rt; answer == Err(RunError::Write));
+    let failed = Err(RunError::Write);
+    expect_served(&rt, refused.as_slice(), output, failed, 56);
 }
 
 #[test]
@@ -198,11 +203,7 @@ fn errors_of_a_run_are_served(rt: HostRuntime) {
     let output = Output::with_room(100);
     let file = plain_file(&rt, b"Hi", 2, 1);
     let input = FailingOnce::new(file.as_slice(), 2, Failure::Error);
-    let (answer, left) = serve_once(&rt, input, output);
-    assert!(rt; answer == Err(RunError::Read));
-    assert_eq!(rt; left, 100);
+    expect_served(&rt, input, output, Err(RunError::Read), 100);
     let file = plain_file(&rt, b"", 80, 200);
-    let (answer, left) = serve_once(&rt, file.as_slice(), output);
-    assert!(rt; answer == Err(RunError::Write));
-    assert_eq!(rt; left, 0);
+    expect_served(&rt, file.as_slice(), output, Err(RunError::Write), 0);
 }

@@ -4,14 +4,15 @@ ghost use Rattle.std.specs.Prelude.{◌≤◌, length};
 ghost use Rattle.ans_model.specs.Bytes.{longest_file};
 
 use super::endings::{Output, serve_once};
-use super::verdicts::check_file;
+use super::verdicts::{check_file, expect_verdict};
 use super::{
-    ANY, CLEARED, NEEDS, SAUCE, TOKENS, expect_run, file_of, file_of_size, plain_file, run_once,
+    ANY, CLEARED, NEEDS, SAUCE, TOKENS, behind, expect_run, file_of, file_of_size, plain_file,
+    run_once,
 };
 use ans_check::{Options, RunError, Start, Verdict, run};
 use ans_report::Tried;
 use ans_samples::Narrow;
-use ans_sauce::{Cause, Fault, MAX_FILE};
+use ans_sauce::{Cause, MAX_FILE};
 use ans_screen::{Grid, PlainGrid, PlaneGrid};
 use std::io::{self, Read, Write};
 use std::process::Abort;
@@ -100,14 +101,11 @@ fn files_are_read_up_to_the_largest(rt: HostRuntime) {
     for (first, times, report) in &OVERPRINTED {
         let (answer, written) = run_overprinted(&rt, &[b'x'; 1000][..*first], *times);
         assert!(rt; answer == Ok(true), "with {first} bytes first");
-        assert!(rt; report.len() <= written.held().len());
-        let (begin, rest) = written.held().split_at(report.len());
-        assert_eq!(rt; begin, *report);
-        assert_eq!(rt; rest, rest_of_row.as_slice());
+        let rest = behind(&rt, written.held(), report);
+        assert!(rt; rest == rest_of_row.as_slice());
     }
     let (answer, written) = run_overprinted(&rt, &[b'x'; 893], 16_383);
-    assert!(rt; answer == Err(RunError::TooLong));
-    assert!(rt; written.held().is_empty());
+    assert!(rt; answer == Err(RunError::TooLong) && written.held().is_empty());
 }
 
 #[test]
@@ -147,13 +145,13 @@ fn assert_glyphs<G: Grid>(
     let Verdict::Pass(_, picture) = verdict else {
         panic!(rt; "a pass was expected");
     };
-    assert_eq!(rt; (picture.width(), picture.lines()), size);
+    assert!(rt; (picture.width(), picture.lines()) == size);
     for row in rows {
         assert!(rt; *row < picture.lines());
         for column in 0..picture.width() {
-            let expected = glyph_at(glyphs, *row, column);
-            assert_eq!(rt; picture.glyph(*row, column), expected, "at {row}, {column}");
-            assert_eq!(rt; picture.attr(*row, column), 0x07);
+            let cell = (picture.glyph(*row, column), picture.attr(*row, column));
+            let expected = (glyph_at(glyphs, *row, column), 0x07);
+            assert_eq!(rt; cell, expected, "at {row}, {column}");
         }
     }
 }
@@ -215,20 +213,22 @@ fn the_largest_screen_is_cleared_from_any_start(rt: HostRuntime) {
     expect_glyphs(&rt, content, Start::ANY, (1024, 8192), &SOME_ROWS, &[]);
 }
 
-/// Asserts that a file passes over one kind of grid, with `a` up to a place of the last line of 80
-/// columns and 52 lines, and a bright `b` there.
+/// Asserts that a file passes over one kind of grid, with the last `a` in the last line of 80 columns
+/// and 52 lines, a bright `b` behind it, and blanks up to the border.
 fn expect_bright_end<G: Grid>(rt: &(impl Abort + AllocGlobal), file: &[u8])
     requires { length file.now ≤ longest_file }
 {
     match check_file::<G>(rt, file, Start::cleared()) {
         Verdict::Pass(_, picture) => {
             assert!(rt; picture.width() == 80 && picture.lines() == 52);
-            assert_eq!(rt; picture.glyph(51, 14), b'a');
-            assert_eq!(rt; picture.glyph(51, 15), b'b');
-            assert_eq!(rt; picture.attr(51, 15), 0x0F);
-            for column in 16..80 {
-                assert_eq!(rt; picture.glyph(51, column), b' ');
-                assert_eq!(rt; picture.attr(51, column), 0x07);
+            for column in 14..80 {
+                let cell = (picture.glyph(51, column), picture.attr(51, column));
+                let expected = match column {
+                    14 => (b'a', 0x07),
+                    15 => (b'b', 0x0F),
+                    _ => (b' ', 0x07),
+                };
+                assert!(rt; cell == expected, "at {column}");
             }
         }
         Verdict::Refused(_, _) => panic!(rt; "a pass was expected"),
@@ -246,21 +246,6 @@ fn a_sequence_crosses_two_pieces(rt: HostRuntime) {
     expect_bright_end::<PlaneGrid>(&rt, file.as_slice());
 }
 
-/// Asserts that a file is refused over one kind of grid since its content ends in a sequence that
-/// begins with it.
-fn expect_open_sequence<G: Grid>(rt: &(impl Abort + AllocGlobal), file: &[u8])
-    requires { length file.now ≤ longest_file }
-{
-    let fault = Fault {
-        offset: 0,
-        cause: Cause::EndInSequence,
-    };
-    match check_file::<G>(rt, file, Start::cleared()) {
-        Verdict::Refused(_, found) => assert_eq!(rt; found, fault),
-        Verdict::Pass(_, _) => panic!(rt; "a refusal was expected"),
-    }
-}
-
 #[test]
 fn long_sequences_are_read(rt: HostRuntime) {
     let mut content = [b'0'; 1004];
@@ -271,9 +256,8 @@ fn long_sequences_are_read(rt: HostRuntime) {
     content[1] = b'[';
     content[2] = b'"';
     let file = file_of_size(&rt, &content, 2, 1);
-    assert!(rt; file.len() <= MAX_FILE);
-    expect_open_sequence::<PlainGrid>(&rt, file.as_slice());
-    expect_open_sequence::<PlaneGrid>(&rt, file.as_slice());
+    let fault = Err((0, Cause::EndInSequence));
+    expect_verdict(&rt, file.as_slice(), Start::cleared(), fault);
 }
 
 /// What stands before the picture in the report of the largest screen.
@@ -343,7 +327,7 @@ fn report_largest(rt: &(impl Abort + AllocGlobal), file: &[u8], asked: &Options)
             assert!(rt; answer == Ok(true));
             return writer.into_inner();
         }
-        assert_eq!(rt; writer.calls(), 0);
+        assert!(rt; writer.calls() == 0);
     }
     panic!(rt; "memory was refused twice");
 }
@@ -353,9 +337,8 @@ fn each_cell_of_the_largest_screen_is_reported(rt: HostRuntime) {
     let file = plain_file(&rt, b"\x1b[0m\x1b[2J", 1024, 8192);
     let asked = Options { cells: true, ..ANY };
     let written = report_largest(&rt, file.as_slice(), &asked);
-    assert_eq!(rt; written.others, 0);
     let length = LARGEST_HEADING.len() + LARGEST_PICTURE + 7 + LARGEST_CELLS;
-    assert_eq!(rt; written.taken, length);
+    assert_eq!(rt; [written.taken, written.others], [length, 0]);
 }
 
 #[test]
@@ -382,7 +365,6 @@ fn a_long_string_without_an_end_is_told(rt: HostRuntime) {
     let told: &[u8] = b"at 0: F12 content ends in a sequence\n";
     expect_run(&rt, file.as_slice(), &TOKENS, 256, Ok(false), told);
     let ran = run_once(&rt, file.as_slice(), &SAUCE, 256);
-    assert!(rt; ran.answer == Ok(true));
     let record: &[u8] = b"file size: 100003\ncomments: 0\n";
-    assert!(rt; ran.writer.inner().held().ends_with(record));
+    assert!(rt; ran.answer == Ok(true) && ran.writer.inner().held().ends_with(record));
 }

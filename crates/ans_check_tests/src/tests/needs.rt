@@ -102,31 +102,21 @@ fn expect_needs_on<G: Grid>(rt: &(impl Abort + AllocGlobal), rows: &[Row]) {
     for (content, width, lines, names) in rows {
         let file = plain_file(rt, content, *width, *lines);
         assert!(rt; file.len() <= MAX_FILE);
-        match needs_of::<G>(rt, file.as_slice()) {
-            Needs::Least(parts, class) => {
-                assert!(rt; class == class_named(names), "{names} at {content:?}");
-                assert_eq!(rt; parts.width(), *width as usize);
-                assert_eq!(rt; parts.lines(), *lines as usize);
-            }
-            Needs::Refused(_, _) => panic!(rt; "refused: {content:?}"),
-        }
+        let found = match &needs_of::<G>(rt, file.as_slice()) {
+            Needs::Least(parts, class) => Some((parts.width(), parts.lines(), *class)),
+            Needs::Refused(_, _) => None,
+        };
+        let expected = (*width as usize, *lines as usize, class_named(names));
+        assert!(rt; found == Some(expected), "{names} at {content:?}");
     }
 }
 
-/// Asserts what the contents need.
-fn expect_needs(rt: &(impl Abort + AllocGlobal), rows: &[Row]) {
-    expect_needs_on::<PlainGrid>(rt, rows);
-    expect_needs_on::<PlaneGrid>(rt, rows);
-}
-
 #[test]
-fn each_class_is_needed_by_a_content(rt: HostRuntime) {
-    expect_needs(&rt, &EACH_CLASS);
-}
-
-#[test]
-fn parts_are_needed_for_other_reasons(rt: HostRuntime) {
-    expect_needs(&rt, &OTHERS);
+fn contents_need_their_parts(rt: HostRuntime) {
+    for rows in [EACH_CLASS.as_slice(), OTHERS.as_slice()] {
+        expect_needs_on::<PlainGrid>(&rt, rows);
+        expect_needs_on::<PlaneGrid>(&rt, rows);
+    }
 }
 
 /// A content that is refused from each start, its width and lines, and its fault's offset and cause.
@@ -140,39 +130,34 @@ static REFUSED: [RefusedRow; 5] = files! {
     file(2 x 1, b"\x1b[2J\x1b[0m\x1b[9;9H") => 8, Cause::OutsideScreen;
 };
 
-/// Asserts the fault of a content for which nothing is enough, found over one kind of grid.
-fn expect_needs_fault<G: Grid>(rt: &(impl Abort + AllocGlobal), row: &RefusedRow) {
-    let (content, width, lines, offset, cause) = *row;
-    let file = plain_file(rt, content, width, lines);
+/// Asserts the fault of a file for which nothing is enough, found over one kind of grid, and the
+/// content of its parts, where it has any.
+fn expect_fault<G: Grid>(
+    rt: &(impl Abort + AllocGlobal),
+    file: &[u8],
+    content: Option<&[u8]>,
+    fault: Fault,
+) {
     assert!(rt; file.len() <= MAX_FILE);
-    match &needs_of::<G>(rt, file.as_slice()) {
-        Needs::Refused(Some(parts), fault) => {
-            assert_eq!(rt; *fault, Fault { offset, cause });
-            assert_eq!(rt; parts.content(), content);
+    match &needs_of::<G>(rt, file) {
+        Needs::Refused(parts, found) => {
+            let found_content = match parts {
+                Some(parts) => Some(parts.content()),
+                None => None,
+            };
+            assert_eq!(rt; (*found, found_content), (fault, content));
         }
-        _ => panic!(rt; "a fault of the content was expected"),
+        Needs::Least(_, _) => panic!(rt; "a fault was expected"),
     }
 }
 
 #[test]
 fn content_that_fails_from_the_cleared_start_is_refused(rt: HostRuntime) {
-    for row in &REFUSED {
-        expect_needs_fault::<PlainGrid>(&rt, row);
-        expect_needs_fault::<PlaneGrid>(&rt, row);
-    }
-}
-
-/// Asserts the fault of a file whose record or layout is refused, found over one kind of grid.
-fn expect_record_fault<G: Grid>(
-    rt: &(impl Abort + AllocGlobal),
-    file: &[u8],
-    offset: usize,
-    cause: Cause,
-) {
-    assert!(rt; file.len() <= MAX_FILE);
-    match &needs_of::<G>(rt, file) {
-        Needs::Refused(None, fault) => assert_eq!(rt; *fault, Fault { offset, cause }),
-        _ => panic!(rt; "a fault of the record was expected"),
+    for (content, width, lines, offset, cause) in REFUSED {
+        let file = plain_file(&rt, content, width, lines);
+        let fault = Fault { offset, cause };
+        expect_fault::<PlainGrid>(&rt, file.as_slice(), Some(content), fault);
+        expect_fault::<PlaneGrid>(&rt, file.as_slice(), Some(content), fault);
     }
 }
 
@@ -184,8 +169,9 @@ fn a_refused_record_has_no_parts(rt: HostRuntime) {
         (after_the_end.as_slice(), 3, Cause::BytesAfterEndMark),
     ];
     for (file, offset, cause) in rows {
-        expect_record_fault::<PlainGrid>(&rt, file, offset, cause);
-        expect_record_fault::<PlaneGrid>(&rt, file, offset, cause);
+        let fault = Fault { offset, cause };
+        expect_fault::<PlainGrid>(&rt, file, None, fault);
+        expect_fault::<PlaneGrid>(&rt, file, None, fault);
     }
 }
 

@@ -1,5 +1,5 @@
 //! Pictures in colour from end to end.
-use super::{Ran, SHOW, drawing, expect_run, run_once};
+use super::{Ran, SHOW, behind, drawing, expect_run, run_once};
 use ans_check::{Command, Form, Options, Start};
 use std::process::Abort;
 
@@ -67,14 +67,6 @@ const START: &[u8] = b"<!DOCTYPE html>\n<html lang=\"en\">\n<head>\n<meta charse
 /// What stands behind the picture.
 const END: &[u8] = b"\n</body>\n</html>\n";
 
-/// Asserts that bytes begin so, and returns the others.
-fn behind<'a>(rt: &impl Abort, bytes: &'a [u8], front: &[u8]) -> &'a [u8] {
-    match bytes.strip_prefix(front) {
-        Some(rest) => rest,
-        None => panic!(rt; "another front"),
-    }
-}
-
 /// Asserts that bytes end so, and returns the others.
 fn before<'a>(rt: &impl Abort, bytes: &'a [u8], end: &[u8]) -> &'a [u8] {
     match bytes.strip_suffix(end) {
@@ -92,7 +84,7 @@ fn a_page_has_the_title_and_the_picture(rt: HostRuntime) {
         let page = behind(&rt, writer.inner().held(), START);
         let style = before(&rt, behind(&rt, page, shown), END);
         let style = before(&rt, style, picture);
-        assert!(rt; style.starts_with(b"\n<style>\n"));
+        let style = behind(&rt, style, b"\n<style>\n");
         assert!(rt; style.ends_with(b"</style>\n</head>\n<body>\n"));
     }
 }

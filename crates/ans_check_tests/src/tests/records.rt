@@ -1,5 +1,7 @@
 //! The texts of records, and files with comments.
-use super::{CLEARED, COMMANDS, HI_RECORD, HI_REPORT, SAUCE, expect_run, file_of, run_once};
+use super::{
+    CLEARED, COMMANDS, HI_RECORD, HI_REPORT, SAUCE, behind, expect_run, file_of, run_once,
+};
 
 #[test]
 fn a_record_is_told(rt: HostRuntime) {
@@ -71,18 +73,13 @@ fn the_most_comments_are_told(rt: HostRuntime) {
         }
     }
     let file = file_of(&rt, &front, &[(104, b"\xff")]);
-    assert_eq!(rt; file.len(), 16_456);
+    assert!(rt; file.len() == 16_456);
     expect_run(&rt, file.as_slice(), &CLEARED, 256, Ok(true), HI_REPORT);
     let ran = run_once(&rt, file.as_slice(), &SAUCE, 4096);
-    assert!(rt; ran.answer == Ok(true));
-    let written = ran.writer.inner();
     let fields = &HI_RECORD[..HI_RECORD.len() - 2];
-    assert!(rt; fields.len() + 4 <= written.held().len());
-    let (first, rest) = written.held().split_at(fields.len());
-    assert_eq!(rt; first, fields);
-    let (count, comments) = rest.split_at(4);
-    assert!(rt; count == b"255\n".as_slice());
-    assert_eq!(rt; comments.len(), 255 * 15);
+    let count = behind(&rt, ran.writer.inner().held(), fields);
+    let comments = behind(&rt, count, b"255\n");
+    assert!(rt; ran.answer == Ok(true) && comments.len() == 255 * 15);
     for line in comments.chunks(15) {
         assert!(rt; line == b"comment: hello\n".as_slice());
     }

@@ -1,5 +1,6 @@
 //! Tables of files in memory.
 
+use super::answers::UNWRITTEN;
 use super::file_of;
 use super::shelf::Stored::{self, Bytes, Torn};
 use super::shelf::{Drawings, Shelf, answer_on, answer_once, may_have_met_refusal};
@@ -44,8 +45,8 @@ pub(super) fn expect_table(
 ) {
     let answered = answer_once(rt, words, shelf, (4096, 4096));
     assert!(rt; is_made_of(answered.output.held(), table));
-    assert_eq!(rt; answered.errors.held(), said.as_bytes());
-    assert_eq!(rt; answered.ending.status(), status);
+    let end = (answered.errors.held(), answered.ending.status());
+    assert_eq!(rt; end, (said.as_bytes(), status));
 }
 
 /// The line of the columns' names.
@@ -186,64 +187,54 @@ fn tables_are_written(rt: HostRuntime) {
     }
 }
 
-/// A record of 2 columns and 1 line with these bytes too.
-macro_rules! edits {
-    ($($edit:expr),*) => {
-        &[(90, b"\x02\0"), (96, b"\x02\0"), (98, b"\x01\0"), $($edit),*]
-    };
-}
+/// The words for the table of one file, what stands before its record, what the record has beside
+/// the plain one, and its row or its object.
+type Shown = (
+    &'static [&'static str],
+    &'static [u8],
+    &'static [(usize, &'static [u8])],
+    &'static str,
+);
 
-/// What a record has beside the plain one, and the row up to the name.
-static RECORDS: [(&[(usize, &[u8])], &str); 5] = [
-    (
-        edits![(105, b"\x0b"), (106, b"IBM VGA"), (7, b"a\\b \x01")],
-        "pass\tcursor colours\tyes\t\t\t\t\t2\t1\t2\t\tyes\t8\tstretch\tIBM VGA\t19960101\ta\\\\b \u{263a}\t\t",
-    ),
-    (
-        edits![(105, b"\xf4"), (82, b"1996x")],
-        "pass\tcursor colours\tyes\t\t\t\t\t2\t1\t2\tN4 N5\tno\t9\tsquare\t\t1996x101\t\t\t",
-    ),
-    (
-        edits![(105, b"\x06"), (96, b"\0"), (42, b"me"), (62, b"us")],
-        "pass\tscreen cursor colours\tyes\t\t\t\t\t80\t1\t2\tN1 N6\tno\t\t\t\t19960101\t\tme\tus",
-    ),
-    (
-        edits![(5, b"01"), (7, b"old")],
-        "refused\t\t\tF2\t8\t\t\t2\t1\t\t\tno\t\t\t\t19960101\told\t\t",
-    ),
-    (
-        edits![(98, b"\0\0")],
-        "refused\t\t\tF5\t101\t\t\t2\t0\t\t\tno\t\t\t\t19960101\t\t\t",
-    ),
-];
+const ROWS: &[&str] = &["anscheck", "table", "--no-header", "f"];
 
-/// Asserts the row, or the object, of a file that is made so.
-fn expect_row(
-    rt: &(impl Abort + AllocGlobal),
-    words: &[&str],
-    front: &[u8],
-    edits: &[(usize, &[u8])],
-    row: &[&str],
-) {
-    let file = file_of(rt, front, edits);
-    let files = [("f", Bytes(file.as_slice()))];
-    let answered = answer_once(rt, words, Shelf::new(&files, Torn(b"")), (4096, 4096));
-    assert!(rt; is_made_of(answered.output.held(), row));
-}
+const OBJECTS: &[&str] = &["anscheck", "table", "--json", "f"];
 
-#[test]
-fn records_are_shown(rt: HostRuntime) {
-    for (edits, columns) in &RECORDS {
-        let words = &["anscheck", "table", "--no-header", "f"];
-        expect_row(&rt, words, b"Hi\x1a", edits, &[columns, "\tf\n"]);
-    }
-}
-
-/// What stands before a record, what the record has beside the plain one, and the object.
-static OBJECTS: [(&[u8], &[(usize, &[u8])], &str); 4] = [
+static RECORDS: [Shown; 9] = [
     (
+        ROWS,
         b"Hi\x1a",
-        edits![(105, b"\x0b"), (106, b"IBM VGA"), (7, b"a\\b \x01")],
+        &[(105, b"\x0b"), (106, b"IBM VGA"), (7, b"a\\b \x01")],
+        "pass\tcursor colours\tyes\t\t\t\t\t2\t1\t2\t\tyes\t8\tstretch\tIBM VGA\t19960101\ta\\\\b \u{263a}\t\t\tf\n",
+    ),
+    (
+        ROWS,
+        b"Hi\x1a",
+        &[(105, b"\xf4"), (82, b"1996x")],
+        "pass\tcursor colours\tyes\t\t\t\t\t2\t1\t2\tN4 N5\tno\t9\tsquare\t\t1996x101\t\t\t\tf\n",
+    ),
+    (
+        ROWS,
+        b"Hi\x1a",
+        &[(105, b"\x06"), (96, b"\0"), (42, b"me"), (62, b"us")],
+        "pass\tscreen cursor colours\tyes\t\t\t\t\t80\t1\t2\tN1 N6\tno\t\t\t\t19960101\t\tme\tus\tf\n",
+    ),
+    (
+        ROWS,
+        b"Hi\x1a",
+        &[(5, b"01"), (7, b"old")],
+        "refused\t\t\tF2\t8\t\t\t2\t1\t\t\tno\t\t\t\t19960101\told\t\t\tf\n",
+    ),
+    (
+        ROWS,
+        b"Hi\x1a",
+        &[(98, b"\0\0")],
+        "refused\t\t\tF5\t101\t\t\t2\t0\t\t\tno\t\t\t\t19960101\t\t\t\tf\n",
+    ),
+    (
+        OBJECTS,
+        b"Hi\x1a",
+        &[(105, b"\x0b"), (106, b"IBM VGA"), (7, b"a\\b \x01")],
         "{\"aspect\":\"stretch\",\"author\":\"\",\"comments\":[],\"content\":2,\
         \"date\":\"19960101\",\"file\":\"f\",\"font\":\"IBM VGA\",\"group\":\"\",\
         \"ice\":true,\"lines\":1,\"needs\":[\"cursor\",\"colours\"],\"notes\":[],\
@@ -251,23 +242,26 @@ static OBJECTS: [(&[u8], &[(usize, &[u8])], &str); 4] = [
         \"verdict\":\"pass\",\"width\":2}\n",
     ),
     (
+        OBJECTS,
         b"Hi\x1aCOMNTone \"\\\x02\"                                                        ",
-        edits![(104, b"\x01"), (105, b"\xf4"), (82, b"1996x")],
+        &[(104, b"\x01"), (105, b"\xf4"), (82, b"1996x")],
         "{\"aspect\":\"square\",\"author\":\"\",\"comments\":[\"one \\\"\\\\\u{263b}\\\"\"],\
         \"content\":2,\"date\":\"1996x101\",\"file\":\"f\",\"font\":\"\",\"group\":\"\",\
         \"ice\":false,\"lines\":1,\"needs\":[\"cursor\",\"colours\"],\"notes\":[\"N4\",\"N5\"],\
         \"spacing\":9,\"taller\":true,\"title\":\"\",\"verdict\":\"pass\",\"width\":2}\n",
     ),
     (
+        OBJECTS,
         b"\x1b[?7h\x1b[0m\x1b[2J\x1a",
-        edits![(90, b"\x0d\0")],
+        &[(90, b"\x0d")],
         "{\"author\":\"\",\"comments\":[],\"content\":13,\"date\":\"19960101\",\"file\":\"f\",\
         \"font\":\"\",\"group\":\"\",\"ice\":false,\"lines\":1,\"needs\":[],\"notes\":[],\
         \"taller\":true,\"title\":\"\",\"verdict\":\"pass\",\"width\":2}\n",
     ),
     (
+        OBJECTS,
         b"Hi\x1a",
-        edits![(98, b"\0\0"), (7, b"old")],
+        &[(98, b"\0\0"), (7, b"old")],
         "{\"at\":101,\"author\":\"\",\"date\":\"19960101\",\"fault\":\"F5\",\"file\":\"f\",\
         \"font\":\"\",\"group\":\"\",\"ice\":false,\"lines\":0,\"title\":\"old\",\
         \"verdict\":\"refused\",\"width\":2}\n",
@@ -275,10 +269,12 @@ static OBJECTS: [(&[u8], &[(usize, &[u8])], &str); 4] = [
 ];
 
 #[test]
-fn records_are_shown_in_objects(rt: HostRuntime) {
-    for (front, edits, object) in &OBJECTS {
-        let words = &["anscheck", "table", "--json", "f"];
-        expect_row(&rt, words, front, edits, &[object]);
+fn records_are_shown(rt: HostRuntime) {
+    for (words, front, edits, text) in &RECORDS {
+        let file = file_of(&rt, front, edits);
+        let files = [("f", Bytes(file.as_slice()))];
+        let answered = answer_once(&rt, words, Shelf::new(&files, Torn(b"")), (4096, 4096));
+        assert!(rt; answered.output.held() == text.as_bytes());
     }
 }
 
@@ -293,6 +289,13 @@ static FORMS: [(&[&str], &[&str]); 3] = words! {
 /// What standard input gives: the names of [`FORMS`].
 const NAMES: Stored<'_> = Bytes(b"hi.ans\0gone\0abc");
 
+/// Whether a table ended at a write that failed, behind so many of its first bytes.
+fn is_cut_off(ending: Ending, written: &[u8], taken: usize, table: &[&str]) -> bool {
+    ending == Ending::Run(Err(RunError::Write))
+        && written.len() == taken
+        && is_front_of(written, table)
+}
+
 /// Asserts that a table ends where the device has room for so many bytes, and at the one write that
 /// fails behind as many. The device is not asked again.
 fn expect_front(
@@ -302,21 +305,21 @@ fn expect_front(
     taken: usize,
     table: &[&str],
 ) {
-    let ended = Ending::Run(Err(RunError::Write));
     let answered = answer_once(rt, words, shelf, (taken, 4096));
-    let said: &[u8] = b"anscheck: cannot write the report\n";
-    assert!(rt; answered.ending == ended);
-    assert_eq!(rt; answered.output.held().len(), taken);
-    assert!(rt; is_front_of(answered.output.held(), table));
-    assert_eq!(rt; answered.errors.held(), said);
+    let written = answered.output.held();
+    assert!(rt; is_cut_off(answered.ending, written, taken, table));
+    assert!(rt; answered.errors.held() == UNWRITTEN);
     let mut answered = answer_on(rt, words, shelf, FailingOnce::after(taken), 4096);
     if may_have_met_refusal(answered.ending, answered.output.device.held()) {
         answered = answer_on(rt, words, shelf, FailingOnce::after(taken), 4096);
     }
-    assert!(rt; answered.ending == ended, "after {taken}");
-    assert_eq!(rt; answered.output.calls(), (taken as u64).saturating_add(1));
-    assert_eq!(rt; answered.output.device.held().len(), taken);
-    assert!(rt; is_front_of(answered.output.device.held(), table));
+    let written = answered.output.device.held();
+    let calls = (taken as u64).saturating_add(1);
+    assert!(rt;
+        is_cut_off(answered.ending, written, taken, table),
+        "after {taken}"
+    );
+    assert!(rt; answered.output.calls() == calls);
 }
 
 /// Asserts so of a table at each byte that it has.

@@ -10,7 +10,7 @@ use ans_play::Picture;
 use ans_samples::records::{ACCEPTED, AcceptedFile, REFUSED};
 use ans_samples::rows::Expected::{Refused, Shows};
 use ans_samples::rows::{Row, tables};
-use ans_sauce::{Cause, Fault, MAX_FILE, Parts};
+use ans_sauce::{Cause, MAX_FILE, Parts};
 use ans_screen::{Grid, PlainGrid, PlaneGrid};
 use std::alloc::AllocError;
 use std::process::Abort;
@@ -40,17 +40,21 @@ fn assert_shows<G: Grid>(
 ) {
     let (width, lines) = (picture.width(), picture.lines());
     assert!(rt; 0 < width && width <= 100 && lines <= 100);
-    assert_eq!(rt; bytes.len(), width * lines);
+    assert!(rt; bytes.len() == width * lines);
     assert!(rt; attributes.is_empty() || attributes.len() == bytes.len());
     for (i, byte) in bytes.iter().enumerate() {
         let (row, column) = (i / width, i % width);
         assert!(rt; row < lines);
-        let glyph = picture.glyph(row, column);
-        assert_eq!(rt; glyph, *byte, "at {row}, {column} of {file:?}");
-        if let Some(attribute) = attributes.get(i) {
-            let found = picture.attr(row, column);
-            assert_eq!(rt; found, *attribute, "at {row}, {column} of {file:?}");
-        }
+        let (glyph, found) = (picture.glyph(row, column), picture.attr(row, column));
+        let attribute = match attributes.get(i) {
+            Some(attribute) => *attribute,
+            None => found,
+        };
+        assert_eq!(rt;
+            (glyph, found),
+            (*byte, attribute),
+            "at {row}, {column} of {file:?}"
+        );
     }
 }
 
@@ -79,25 +83,22 @@ fn expect_verdict_on<G: Grid>(
 {
     match check_file::<G>(rt, file, start) {
         Verdict::Pass(parts, picture) => {
-            assert_eq!(rt; picture.width(), parts.width());
-            assert_eq!(rt; picture.lines(), parts.lines());
+            assert!(rt; picture.width() == parts.width() && picture.lines() == parts.lines());
             let Ok((bytes, attributes)) = expected else {
                 panic!(rt; "no fault is found in {file:?}")
             };
             assert_shows(rt, file, &picture, bytes, attributes);
         }
         Verdict::Refused(parts, fault) => {
-            let Err((offset, cause)) = expected else {
-                panic!(rt; "{fault:?} is found in {file:?}")
-            };
-            assert_eq!(rt; fault, Fault { offset, cause }, "in {file:?}");
-            assert_eq!(rt; parts.is_none(), is_of_the_record(cause));
+            let found = Some((fault.offset, fault.cause));
+            assert_eq!(rt; found, expected.err(), "in {file:?}");
+            assert!(rt; parts.is_none() == is_of_the_record(fault.cause));
         }
     }
 }
 
 /// Asserts what a check answers, over both kinds of grid.
-fn expect_verdict(
+pub(super) fn expect_verdict(
     rt: &(impl Abort + AllocGlobal),
     file: &[u8],
     start: Start,
@@ -172,10 +173,9 @@ fn records_and_layouts_are_refused(rt: HostRuntime) {
 
 /// Asserts the content, the size and the notes of an accepted file.
 fn expect_parts(rt: &impl Abort, parts: &Parts<'_>, row: &AcceptedFile) {
-    assert_eq!(rt; parts.content(), row.content);
-    assert_eq!(rt; parts.width(), row.width);
-    assert_eq!(rt; parts.lines(), row.lines);
-    assert_eq!(rt; parts.notes().as_slice(), row.notes);
+    let shown = (parts.content(), parts.notes().as_slice());
+    assert_eq!(rt; shown, (row.content, row.notes));
+    assert!(rt; parts.width() == row.width && parts.lines() == row.lines);
 }
 
 #[test]
@@ -185,8 +185,9 @@ fn accepted_files_have_their_parts(rt: HostRuntime) {
         assert!(rt; file.len() <= MAX_FILE);
         let verdict = check_file::<PlaneGrid>(&rt, file.as_slice(), Start::cleared());
         match &verdict {
-            Verdict::Pass(parts, _) => expect_parts(&rt, parts, row),
-            Verdict::Refused(Some(parts), _) => expect_parts(&rt, parts, row),
+            Verdict::Pass(parts, _) | Verdict::Refused(Some(parts), _) => {
+                expect_parts(&rt, parts, row);
+            }
             Verdict::Refused(None, _) => panic!(rt; "the record is accepted"),
         }
     }
@@ -211,7 +212,7 @@ fn files_with_odd_ends_are_accepted(rt: HostRuntime) {
 #[test]
 fn each_proper_prefix_of_a_file_has_no_record(rt: HostRuntime) {
     let file = file_of(&rt, b"Hi\x1a", &[]);
-    assert_eq!(rt; file.len(), 131);
+    assert!(rt; file.len() == 131);
     for n in 0..131usize {
         expect_verdict(
             &rt,

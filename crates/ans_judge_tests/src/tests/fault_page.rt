@@ -216,8 +216,11 @@ fn expect(rt: &impl Abort, alloc: Global, file: &[u8], heading: &str, asked: &As
     let mut reader = Tried::new(file);
     let mut writer = Tried::new(Narrow::new(LONGEST_TEXT));
     let answer = run(alloc, &mut reader, &mut writer, &asked.options);
-    assert!(rt; answer == Ok(asked.passes), "below {heading}");
-    assert_eq!(rt; writer.inner().held(), asked.text, "below {heading}");
+    assert_eq!(rt;
+        (answer.ok(), writer.inner().held()),
+        (Some(asked.passes), asked.text),
+        "below {heading}"
+    );
 }
 
 fn file_made(rt: &impl Abort, alloc: Global, made: Made) -> Result<Vec<u8>, AllocError> {

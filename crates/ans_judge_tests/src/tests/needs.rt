@@ -62,24 +62,22 @@ fn judge_needs<G: Grid>(
 ) -> Result<(), AllocError> {
     let file = file_of(rt, alloc, bytes, row.width, row.lines)?;
     assert!(rt; file.len() <= MAX_FILE);
-    let found = needs::<G>(alloc, &file)?;
+    let told = match needs::<G>(alloc, &file)? {
+        Needs::Least(_, least) => Ok(least),
+        Needs::Refused(_, fault) => Err(fault),
+    };
     for number in 0..CLASSES {
         let start = class(number);
         let fault = faults[number as usize];
-        match &found {
-            Needs::Least(_, least) => assert_eq!(rt;
-                fault.is_none(),
-                knows_all_of(start, *least),
-                "{least:?} is needed by {bytes:?}, and {fault:?} found from {start:?}"
-            ),
-            Needs::Refused(_, cause) => {
-                assert!(rt; fault.is_some(), "good from {start:?}: {bytes:?}");
-                assert!(rt;
-                    number < CLASSES - 1 || fault == Some(*cause),
-                    "{fault:?} of {bytes:?}"
-                );
-            }
-        }
+        let agrees = match told {
+            Ok(least) => fault.is_none() == knows_all_of(start, least),
+            Err(_) if number < CLASSES - 1 => fault.is_some(),
+            Err(refused) => fault == Some(refused),
+        };
+        assert!(rt;
+            agrees,
+            "{told:?} told of {bytes:?}, and {fault:?} found from {start:?}"
+        );
     }
     Ok(())
 }

@@ -55,8 +55,8 @@ fn assert_row<G: Grid>(rt: &impl Abort, picture: &Picture<G>, row: usize, cells:
 
 /// Asserts that a picture has this size and these cells.
 fn assert_shows<G: Grid>(rt: &impl Abort, screen: Screen, picture: &Picture<G>, cells: &[Cell]) {
-    assert_eq!(rt; picture.width(), screen.width);
-    assert_eq!(rt; picture.lines(), screen.lines);
+    let size = (picture.width(), picture.lines());
+    assert_eq!(rt; size, (screen.width, screen.lines));
     for row in 0..screen.lines {
         assert_row(rt, picture, row, cells);
     }
@@ -81,9 +81,11 @@ impl Judged<'_> {
         let screen = self.screen;
         match (end, self.finding) {
             (Ok(picture), Ok(cells)) => assert_shows(rt, screen, picture, cells),
-            (Err(fault), Err(found)) => assert_eq!(rt; *fault, found, "on {screen:?}"),
-            (Ok(_), Err(found)) => panic!(rt; "a picture, and not {found:?}, on {screen:?}"),
-            (Err(fault), Ok(_)) => panic!(rt; "{fault:?}, and not a picture, on {screen:?}"),
+            (end, found) => assert_eq!(rt;
+                end.as_ref().err(),
+                found.as_ref().err(),
+                "on {screen:?}"
+            ),
         }
     }
 
@@ -97,9 +99,10 @@ impl Judged<'_> {
             Verdict::Refused(parts, fault) => (parts, Err(fault)),
         };
         let parts = parts.expect(rt, "the record is accepted");
-        assert_eq!(rt; parts.content(), bytes);
-        assert_eq!(rt; parts.width(), screen.width);
-        assert_eq!(rt; parts.lines(), screen.lines);
+        assert_eq!(rt;
+            (parts.content(), parts.width(), parts.lines()),
+            (bytes, screen.width, screen.lines)
+        );
         self.assert_end(rt, &end);
         Ok(())
     }
@@ -133,21 +136,17 @@ impl Judged<'_> {
         let Screen { width, lines, .. } = screen;
         assert_playable(rt, width, lines, self.bytes);
         let answer = plain_answer(alloc, self.bytes, width, lines, screen.start)?;
-        match (answer, self.finding) {
-            (Answer::Good(cells), Ok(found)) => {
-                assert_eq!(rt; cells.len(), width * lines);
-                assert_eq!(rt; Some(cells.as_slice()), found.get(..width * lines));
+        let (fault, is_last) = match answer {
+            Answer::Good(cells) => {
+                let found = self.finding.unwrap_or(&[]).get(..width * lines);
+                assert_eq!(rt; Some(cells.as_slice()), found, "on {screen:?}");
+                return Ok(());
             }
-            (Answer::First(fault), Err(found)) => {
-                assert_eq!(rt; fault, found);
-                assert!(rt; !is_of_the_end(found.cause));
-            }
-            (Answer::Last(fault), Err(found)) => {
-                assert_eq!(rt; fault, found);
-                assert!(rt; is_of_the_end(found.cause));
-            }
-            _ => panic!(rt; "a picture where a fault is found, or the reverse, on {screen:?}"),
-        }
+            Answer::First(fault) => (fault, false),
+            Answer::Last(fault) => (fault, true),
+        };
+        let found = (self.finding.err(), is_of_the_end(fault.cause));
+        assert_eq!(rt; (Some(fault), is_last), found, "on {screen:?}");
         Ok(())
     }
 }
