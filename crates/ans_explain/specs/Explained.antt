@@ -16,7 +16,6 @@ use Rattle.ans_model.specs.Sequence.Reads.{ReadsAs}
 use Rattle.ans_model.specs.Screen.State.{Size}
 use Rattle.ans_model.specs.Screen.StartClass.{all_known, none_known}
 use Rattle.ans_model.specs.Verdict.Needs.{IsLeast}
-use Rattle.ans_sauce.specs.declared.parts.Parts.{Parts}
 use Rattle.ans_sauce.specs.Parts.{content_of, record_of}
 use Rattle.ans_sauce.specs.Split.{IsSplit}
 use Rattle.ans_sauce.specs.Found.{IsFound}

@@ -1,5 +1,5 @@
 -- The object of a row has no float, and nests lists in an object and nothing more.
-use Rattle.std.proofs.Common.{◌≡◌, ◌∙◌, ◌/◌, ◌%◌, ◌==◌, ◌≤◌, ◌<◌, ℕ, suc, ◌+◌, ◌-◌, Bool, true, false, ◌||◌, List, []}
+use Rattle.std.proofs.Common.{◌≡◌, ◌∙◌, ◌==◌, ◌≤◌, ◌<◌, ℕ, suc, ◌+◌, ◌-◌, Bool, true, false, ◌||◌, List, []}
 use Rattle.std.proofs.Common.{◌∷◌, ◌++◌, map, arith, refl, sym, ap, append_assoc, append-nil, Result, Ok, Err, Ordering}
 use Rattle.std.proofs.Common.{Less, Equal, Greater, nat_cmp, Option, Some, None, codes}
 use Rattle.std.specs.Prelude.{⊤, if◌then◌else◌}
