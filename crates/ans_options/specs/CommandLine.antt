@@ -85,9 +85,13 @@ abbrev pub anscheck_top : App
 anscheck_top = let a = new_app (codes "anscheck") in
     record a { top = record a.top { has_version = true; subcommand_required = true; disable_help_subcommand = true } }
 
--- the program's command line, with the subcommands of its commands
+-- a program with the subcommands of more commands
+abbrev pub with_subcommands : App → List Command → App
+with_subcommands app more = fold (λ a command. with_subcommand a (command_app command).top) app more
+
+-- the program's command line
 abbrev pub anscheck : App
-anscheck = fold (λ app command. with_subcommand app (command_app command).top) anscheck_top commands
+anscheck = with_subcommands anscheck_top commands
 
 -- whether a command writes a table of many files
 abbrev pub is_table : Command → Bool

@@ -6,7 +6,7 @@ ghost use Rattle.clap.specs.Words.{fault_of, subcommand_of};
 ghost use Rattle.ans_model.specs.Screen.StartClass.{none_known};
 ghost use Rattle.ans_options.specs.CommandLine.{AreOptionsOf, AsksFor, IsCommand, IsInFormAsked, IsNoCommand};
 ghost use Rattle.ans_options.specs.CommandLine.{HasKindAmong, IsErrorOf, RanOutOfMemory, start_asked, flag_rule};
-ghost use Rattle.ans_options.specs.CommandLine.{faults_of, form_asked, help_on, named_start, takes_flags, with_flags};
+ghost use Rattle.ans_options.specs.CommandLine.{faults_of, form_asked, help_on, named_start, takes_flags, with_flags, with_subcommands};
 ghost use Rattle.ans_options.specs.CommandLine.{words_meant, anscheck, command_app, command_name, file_app};
 ghost use Rattle.ans_options.specs.CommandLine.{asks_for_cleared, holds_flag, texts_of};
 ghost use Rattle.ans_options.specs.CommandLine.{AreNamesOf, files_of, is_table, table_form_asked};
@@ -103,6 +103,17 @@ const SAUCE: &str = "Print what a file's SAUCE record says";
 const TOKENS: &str = "Print the bytes and the escape sequences of a file, one a line";
 
 const TABLE: &str = "Print one row for each file: its verdict, its needs, its record";
+
+/// The commands, in the order of the program's help.
+const COMMANDS: [Command; 7] = [
+    Command::Why,
+    Command::Needs,
+    Command::Check,
+    Command::Show(Form::Terminal),
+    Command::Sauce,
+    Command::Tokens,
+    Command::Table(TableForm::Headed),
+];
 
 /// The flags that name a part of the start, each with its help.
 const PART_FLAGS: [(&str, &str); 5] = [
@@ -215,29 +226,43 @@ fn table_command<'a>(alloc: Global) -> Result<clap::Command<'a>, AllocError>
     with_flags(alloc, command, &TABLE_FLAGS)
 }
 
+fn subcommand<'a>(alloc: Global, command: Command) -> Result<clap::Command<'a>, AllocError>
+    ensures { IfOk result (λ c. app_of c ≡ command_app command) }
+{
+    match command {
+        Command::Why => file_command(alloc, "why", WHY, COMMAND_END),
+        Command::Needs => file_command(alloc, "needs", NEEDS, COMMAND_END),
+        Command::Check => check_command(alloc),
+        Command::Show(_) => show_command(alloc),
+        Command::Sauce => file_command(alloc, "sauce", SAUCE, COMMAND_END),
+        Command::Tokens => file_command(alloc, "tokens", TOKENS, COMMAND_END),
+        Command::Table(_) => table_command(alloc),
+    }
+}
+
+fn with_subcommands<'a>(
+    alloc: Global,
+    mut program: clap::Command<'a>,
+    commands: &[Command],
+) -> Result<clap::Command<'a>, AllocError>
+    ensures { IfOk result (λ c. app_of c ≡ with_subcommands (app_of program.entry) commands.now) }
+{
+    for command in commands {
+        program = program.subcommand(subcommand(alloc, *command)?)?;
+    }
+    Ok(program)
+}
+
 fn program<'a>(alloc: Global) -> Result<clap::Command<'a>, AllocError>
     ensures { IfOk result (λ c. app_of c ≡ anscheck) }
 {
-    let why = file_command(alloc, "why", WHY, COMMAND_END)?;
-    let needs = file_command(alloc, "needs", NEEDS, COMMAND_END)?;
-    let check = check_command(alloc)?;
-    let show = show_command(alloc)?;
-    let sauce = file_command(alloc, "sauce", SAUCE, COMMAND_END)?;
-    let tokens = file_command(alloc, "tokens", TOKENS, COMMAND_END)?;
-    let table = table_command(alloc)?;
-    clap::Command::new(alloc, "anscheck")
+    let top = clap::Command::new(alloc, "anscheck")
         .version(VERSION)
         .about("Checks ANSI art files that end in a SAUCE record")
         .after_help(PROGRAM_END)
         .subcommand_required(true)
-        .disable_help_subcommand(true)
-        .subcommand(why)?
-        .subcommand(needs)?
-        .subcommand(check)?
-        .subcommand(show)?
-        .subcommand(sauce)?
-        .subcommand(tokens)?
-        .subcommand(table)
+        .disable_help_subcommand(true);
+    with_subcommands(alloc, top, &COMMANDS)
 }
 
 fn holds(matches: &ArgMatches<'_>, id: &str) -> bool
