@@ -7,6 +7,8 @@
  * - A pointer and the length after it are one array, which is there during the call, and may be read; an array that is
  *   not const may be written too. A null pointer goes with the length 0 alone.
  * - No array, structure or number that is written overlaps another argument.
+ *
+ * Of what a call may write, all that its answer does not say to be set holds anything afterwards.
  */
 #ifndef ANS_H
 #define ANS_H

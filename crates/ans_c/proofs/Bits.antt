@@ -1,5 +1,5 @@
 -- The bits that name a class.
-use Rattle.std.proofs.Common.{◌≡◌, ℕ, Bool, true, false, if◌then◌else◌, refl}
+use Rattle.std.proofs.Common.{◌≡◌, ◌<◌, ℕ, Bool, true, false, if◌then◌else◌, refl}
 use Rattle.std.specs.Prelude.{bit_or}
 use Rattle.ans_c.specs.Numbers.{class_of}
 
@@ -9,37 +9,38 @@ bits screen cursor saved colours wrap =
     (if colours then 8 else 0)) (if wrap then 16 else 0)
 
 pub class_named : (screen cursor saved colours wrap : Bool)
-    → class_of (bits screen cursor saved colours wrap)
-    ≡ record { screen = screen; cursor = cursor; saved = saved; colours = colours; wrap = wrap }
-class_named true true true true true = refl
-class_named true true true true false = refl
-class_named true true true false true = refl
-class_named true true true false false = refl
-class_named true true false true true = refl
-class_named true true false true false = refl
-class_named true true false false true = refl
-class_named true true false false false = refl
-class_named true false true true true = refl
-class_named true false true true false = refl
-class_named true false true false true = refl
-class_named true false true false false = refl
-class_named true false false true true = refl
-class_named true false false true false = refl
-class_named true false false false true = refl
-class_named true false false false false = refl
-class_named false true true true true = refl
-class_named false true true true false = refl
-class_named false true true false true = refl
-class_named false true true false false = refl
-class_named false true false true true = refl
-class_named false true false true false = refl
-class_named false true false false true = refl
-class_named false true false false false = refl
-class_named false false true true true = refl
-class_named false false true true false = refl
-class_named false false true false true = refl
-class_named false false true false false = refl
-class_named false false false true true = refl
-class_named false false false true false = refl
-class_named false false false false true = refl
-class_named false false false false false = refl
+    → (class_of (bits screen cursor saved colours wrap)
+    ≡ record { screen = screen; cursor = cursor; saved = saved; colours = colours; wrap = wrap })
+    × (bits screen cursor saved colours wrap < 32)
+class_named true true true true true = (refl, lit< tt)
+class_named true true true true false = (refl, lit< tt)
+class_named true true true false true = (refl, lit< tt)
+class_named true true true false false = (refl, lit< tt)
+class_named true true false true true = (refl, lit< tt)
+class_named true true false true false = (refl, lit< tt)
+class_named true true false false true = (refl, lit< tt)
+class_named true true false false false = (refl, lit< tt)
+class_named true false true true true = (refl, lit< tt)
+class_named true false true true false = (refl, lit< tt)
+class_named true false true false true = (refl, lit< tt)
+class_named true false true false false = (refl, lit< tt)
+class_named true false false true true = (refl, lit< tt)
+class_named true false false true false = (refl, lit< tt)
+class_named true false false false true = (refl, lit< tt)
+class_named true false false false false = (refl, lit< tt)
+class_named false true true true true = (refl, lit< tt)
+class_named false true true true false = (refl, lit< tt)
+class_named false true true false true = (refl, lit< tt)
+class_named false true true false false = (refl, lit< tt)
+class_named false true false true true = (refl, lit< tt)
+class_named false true false true false = (refl, lit< tt)
+class_named false true false false true = (refl, lit< tt)
+class_named false true false false false = (refl, lit< tt)
+class_named false false true true true = (refl, lit< tt)
+class_named false false true true false = (refl, lit< tt)
+class_named false false true false true = (refl, lit< tt)
+class_named false false true false false = (refl, lit< tt)
+class_named false false false true true = (refl, lit< tt)
+class_named false false false true false = (refl, lit< tt)
+class_named false false false false true = (refl, lit< tt)
+class_named false false false false false = (refl, lit< tt)

@@ -48,10 +48,11 @@ pub record TellsRefusal (file : List ℕ) (start : Start) (told : ToldFault) : T
   pub not_good : ¬ IsGoodFile file start
   pub deserved : ((apart : FileParts) × IsRefusedFor file start apart fault) ⊎ (record_fault file ≡ Some fault)
 
--- the file passes for exactly the classes that know each part that these bits name
+-- the file passes for exactly the classes that know each part that these bits name, and no other bit is set
 pub record TellsNeeds (file : List ℕ) (bits : ℕ) : Type 0 where
   pub apart : FileParts
   pub needs : NeedsClass file apart (class_of bits)
+  pub bits_of_parts : bits < 32
 
 -- the file is accepted, and there are fewer rows or bytes than its play wants
 pub record LacksScreen (file : List ℕ) (rows bytes : ℕ) : Type 0 where

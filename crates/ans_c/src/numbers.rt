@@ -74,7 +74,8 @@ fn bit(set: bool, value: u32) -> u32
 
 /// The bits that name a class.
 pub(crate) fn bits_of(class: Start) -> u32
-    ensures { class_of result ≡ class }
+    ensures class { class_of result ≡ class }
+    ensures bits { result < 32 }
 {
     bit(class.screen, 1)
         | bit(class.cursor, 2)

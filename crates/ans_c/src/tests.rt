@@ -119,7 +119,12 @@ fn texts_are_handed_over(rt: HostRuntime) -> Result<(), Fail> {
     assert!(rt; passed == PASS && told.starts_with(why));
     let whole = length;
     let short = ans_why(&file, &mut rows, &mut bytes, &mut short_text, &mut length);
-    assert_eq!(rt; (short, length), (NO_ROOM, whole));
+    let wanted = length;
+    let few_rows = ans_why(&file, &mut rows[..1], &mut bytes, &mut text, &mut length);
+    assert_eq!(rt;
+        ((short, wanted), (few_rows, length)),
+        ((NO_ROOM, whole), (NO_ROOM, 0))
+    );
     let answer = ans_record(b"Hi", &mut text, &mut length);
     let record = b"verdict: refused\nat 2: F1 no SAUCE record\n";
     expect(&rt, answer, text.get(..length), (REFUSED, record));

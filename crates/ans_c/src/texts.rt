@@ -100,7 +100,7 @@ pub extern "C" fn ans_why(
     told: &mut usize,
 ) -> u32
     ensures handed { result ≢ TOO_LONG → (HandsReport (ReportsWhy file.now) (length text.old) result told.new text.new
-        ⊎ ((result ≡ NO_ROOM) × LacksScreen file.now (length rows.old) (length bytes.old))) }
+        ⊎ ((result ≡ NO_ROOM) × (told.new ≡ 0) × LacksScreen file.now (length rows.old) (length bytes.old))) }
     ensures too_long { (result ≡ TOO_LONG) ↔ (longest_file < length file.now) }
     ensures silent { result ≡ TOO_LONG → told.new ≡ 0 }
     ensures codes { (result ≤ NO_ROOM) × (result ≢ 2) }
@@ -147,7 +147,8 @@ pub extern "C" fn ans_record(file: &[u8], text: &mut [u8], told: &mut usize) -> 
     }
 }
 
-/// Hands over the text of the fault Fn, `F21 scrolls`. `REFUSED`: there is no fault of this number.
+/// Hands over the text of the fault Fn, `F21 scrolls`, as `ans_why` does its own: `PASS`, or `NO_ROOM` where `text` is
+/// shorter. `REFUSED`: there is no fault of this number.
 #[unsafe(no_mangle)]
 pub extern "C" fn ans_fault_text(number: u32, text: &mut [u8], told: &mut usize) -> u32
     ensures text { result ≢ REFUSED → (cause : Cause) × (cause_number cause ≡ number)

@@ -1,6 +1,8 @@
 //! The checker from bytes to bytes, and how the program ends.
 //!
-//! [`check`] finds the verdict on a file and [`needs`] which parts of the start it needs. [`run`]
+//! [`check`] finds the verdict on a file and [`needs`] which parts of the start it needs. [`play_on`]
+//! plays on a screen that is there already; [`needs_on`] and [`why_on`] take theirs from [`Screens`],
+//! [`NewScreens`] or [`LentScreens`]. [`run`]
 //! reads a file and writes what a command tells of it, and [`serve`] also has the writer hand on what
 //! it holds back. [`answer`] goes from the program's words, over the [`Inputs`] that they can name,
 //! to the [`Ending`]: its exit status and what it says. [`table`] reads many files and writes a row for

@@ -40,6 +40,7 @@ pub struct NewScreens<G> {
 }
 
 impl<G: Grid> NewScreens<G> {
+    /// Screens that ask this allocator for memory. A play fails where that runs out.
     pub fn new(alloc: Global) -> NewScreens<G> {
         NewScreens {
             alloc,
@@ -67,6 +68,7 @@ pub struct LentScreens<'a> {
 }
 
 impl<'a> LentScreens<'a> {
+    /// Screens on these rows and bytes. A play fails where they are too few for its screen.
     pub fn new(rows: &'a mut [LentRow], bytes: &'a mut [u8]) -> LentScreens<'a>
         ensures rows { row_count result ≡ length rows.old }
         ensures bytes { byte_count result ≡ length bytes.old }

@@ -10,6 +10,7 @@ pub returns-in_default-clause-handed : goal.returns-in_default-clause-handed
 returns-in_default-clause-handed c = λ _.
     inr (
       refl,
+      refl,
       lent_lacking c.args.file.now c.new.result (length c.args.rows.now) (length c.args.bytes.now)
           c.new.ensures.rows c.new.ensures.bytes (c.why_on.ensures.room.want (ap is_err c.in_default.is)),
     )
