@@ -1,5 +1,5 @@
 -- The bits that name a class.
-use Rattle.std.proofs.Common.{◌≡◌, ◌<◌, ℕ, Bool, true, false, if◌then◌else◌, refl}
+use Rattle.std.proofs.Common.{◌≡◌, ◌<◌, ℕ, Bool, true, false, if◌then◌else◌, refl, lit<}
 use Rattle.std.specs.Prelude.{bit_or}
 use Rattle.ans_c.specs.Numbers.{class_of}
 
