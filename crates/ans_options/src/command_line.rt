@@ -26,7 +26,7 @@ pub enum WordsError {
     /// `clap` rejects them, or they ask for help or the version, or memory ran out while they were
     /// read.
     Clap(clap::Error),
-    /// Memory ran out for the words or for the file's name.
+    /// Memory ran out for the words, for the file's name, or for the names of a table's files.
     Memory,
 }
 

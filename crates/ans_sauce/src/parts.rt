@@ -83,7 +83,7 @@ impl<'a> Parts<'a> {
         self.sauce.lines()
     }
 
-    /// The stated size of the screen.
+    /// The stated size of the screen: its width in columns, 80 where the record states 0, and its lines.
     pub fn size(&self) -> Size
         ensures { result ≡ size_of self.now }
     {
