@@ -120,7 +120,8 @@ fn texts_are_handed_over(rt: HostRuntime) -> Result<(), Fail> {
     let whole = length;
     let short = ans_why(&file, &mut rows, &mut bytes, &mut short_text, &mut length);
     let wanted = length;
-    let few_rows = ans_why(&file, &mut rows[..1], &mut bytes, &mut text, &mut length);
+    let mut row = [LentRow::new(); 1];
+    let few_rows = ans_why(&file, &mut row, &mut bytes, &mut text, &mut length);
     assert_eq!(rt;
         ((short, wanted), (few_rows, length)),
         ((NO_ROOM, whole), (NO_ROOM, 0))
