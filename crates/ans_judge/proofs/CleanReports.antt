@@ -161,7 +161,8 @@ record_clean apart h =
     (field_then (codes "author") 42 20 sauce group (plain_text (codes "author") refl) h.sauce
     (field_then (codes "group") 62 20 sauce date (plain_text (codes "group") refl) h.sauce
     (field_then (codes "date") 82 8 sauce screen (plain_text (codes "date") refl) h.sauce
-    (named_then (codes "size") (size_text (stated_size sauce)) flagged (plain_text (codes "size") refl) (size_clean (stated_size sauce))
+    (named_then (codes "size") (size_text (stated_size sauce)) flagged (plain_text (codes "size") refl)
+    (size_clean (stated_size sauce))
     (named_then (codes "flags") (hex_byte (flags sauce)) font (plain_text (codes "flags") refl)
     (clean_hex_byte (flags sauce) (flags_are_a_byte sauce h.sauce))
     (field_then (codes "font") 106 22 sauce size (plain_text (codes "font") refl) h.sauce

@@ -52,7 +52,8 @@ good_for_cleared file start good = (
   good.1,
   record {
     accepts = good.2.accepts;
-    good = covers_good (stated_size good.0.record_bytes) start all_known (content good.0.body) good.1 (covers_all_known start)
+    good = covers_good (stated_size good.0.record_bytes) start all_known (content good.0.body) good.1
+        (covers_all_known start)
         good.2.good;
   },
 )
