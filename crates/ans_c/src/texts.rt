@@ -5,14 +5,14 @@ ghost use Rattle.ans_model.specs.Bytes.{longest_file};
 ghost use Rattle.ans_model.specs.Text.FaultText.{fault_text, note_text, cause_number, note_number};
 ghost use Rattle.ans_write.specs.Puts.{Puts, device_failed, waiting_of};
 ghost use Rattle.ans_write.specs.declared.outbox.Outbox.{Outbox};
-ghost use Rattle.ans_check.specs.CommandText.{ReportsSauce, ReportsWhy, is_of_pass};
+ghost use Rattle.ans_check.specs.CommandText.{ReportsSauce, ReportsWhy};
 ghost use Rattle.ans_model.specs.declared.fault.Cause.{Cause};
 ghost use Rattle.ans_model.specs.declared.note.Note.{Note};
 ghost use Rattle.ans_c.specs.Told.{HandsOver, HandsReport, LacksScreen, code_of};
 
 use crate::numbers::{NO_ROOM, PASS, REFUSED, TOO_LONG, cause_of, note_of};
 use ans_check::{LentScreens, why_on};
-use ans_explain::{Why, put_why};
+use ans_explain::put_why;
 use ans_model::fault::Fault;
 use ans_model::limits::MAX_FILE;
 use ans_report::{fault_text, note_text, put_record, put_refusal};
@@ -80,13 +80,6 @@ fn hand_over(out: &Outbox<'_, Nowhere>, passed: bool, buffer: &mut [u8], told: &
     hand(out.waiting(), code_of(passed), buffer, told)
 }
 
-/// Whether a file passes from the cleared start, by what is said of it.
-fn is_of_pass(why: &Why<'_>) -> bool
-    ensures { result ≡ is_of_pass why.now }
-{
-    matches!(why, Why::Passes { parts: _, pass: _ })
-}
-
 /// Hands over the text of `anscheck why`, in UTF-8, with as many rows and bytes as `ans_size` tells. `PASS`:
 /// the file passes from the cleared start. `REFUSED`: it does not. The text stands at the front of `text`,
 /// and `told` is how many bytes it has. `TOO_LONG`: the file is too long, and `told` is 0. `NO_ROOM`: there are too
@@ -116,7 +109,7 @@ pub extern "C" fn ans_why(
     let mut nowhere = Tried::new(Nowhere);
     let mut out = Outbox::new(&mut nowhere);
     put_why(&mut out, &why);
-    hand_over(&out, is_of_pass(&why), text, told)
+    hand_over(&out, why.is_of_pass(), text, told)
 }
 
 /// Hands over the text of `anscheck sauce`, in UTF-8: what the file's record says, or why its record or its

@@ -1,7 +1,10 @@
 -- Names by the first that 00h ends.
 use Rattle.std.proofs.Common.{◌≡◌, ◌∙◌, ℕ, ◌+◌, ◌≤◌, ◌<◌, Bool, true, false, not, cond, List, [], ◌∷◌, ◌++◌}
 use Rattle.std.proofs.Common.{◌-◌, length, take, drop, get_or, Option, Some, None, refl, sym, ap, arith}
-use Rattle.std.specs.Prelude.{IfNone, nat_lt}
+use Rattle.std.proofs.Common.{append-nil, subst}
+use Rattle.std.specs.Prelude.{◌↔◌, IfNone, nat_lt}
+use Rattle.std.specs.Io.KnownBytes.{Consumes}
+use Rattle.std.proofs.KnownBytes.{Consumes-trans}
 use Rattle.std.specs.List.{position, position_or_len, slice_split}
 use Rattle.std.proofs.lemmas.Bool.Decides.{nat_tests}
 use Rattle.std.proofs.lemmas.List.{drop-drop, length-drop, take_rest}
@@ -10,7 +13,7 @@ use Rattle.std.proofs.lemmas.List.Splits.{length-slice_split, slice_split_first,
 use Rattle.std.proofs.lemmas.List.Sums.{prefix_len_passes}
 use Rattle.std.specs.Borrow.{Bor}
 use Rattle.clap.specs.Words.{Text}
-use Rattle.ans_options.specs.CommandLine.{texts_of}
+use Rattle.ans_model.specs.Text.Words.{texts_of}
 use Rattle.ans_check.specs.Listing.{IsFirstName, is_zero, named_by, names_in}
 
 -- ---- the first byte 00h
@@ -80,3 +83,16 @@ pub one_name_more : (names : List (Bor Text)) (name : Bor Text) (more : List Tex
     → texts_of names ++ (name.now ∷ more) ≡ texts_of (names ++ name ∷ []) ++ more
 one_name_more [] name more = refl
 one_name_more (first ∷ names) name more = ap (λ (v : List Text). first.now ∷ v) (one_name_more names name more)
+
+-- ---- what an input gave
+-- where a call did not fail, the device works
+pub still_works : (b : Bool) → ((false ≡ true) ↔ (b ≡ true)) → b ≡ false
+still_works true same = sym (same.1 refl)
+still_works false same = refl
+
+-- a read that gave nothing leaves what was read
+pub none_more : (a b c : Option (List ℕ)) (bytes part : List ℕ) (n : ℕ) → Consumes a b bytes
+    → Consumes b c (take n part) → n ≡ 0 → Consumes a c bytes
+none_more a b c bytes part n before now none =
+    subst (Consumes a c) (append-nil bytes)
+    (Consumes-trans a b c bytes [] before (subst (λ (k : ℕ). Consumes b c (take k part)) none now))

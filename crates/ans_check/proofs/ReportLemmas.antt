@@ -29,8 +29,8 @@ use Rattle.ans_check.specs.FileNeeds.{NeedsClass, IsNeedsOf, needs_fault}
 use Rattle.ans_check.specs.FileVerdict.{Passes, IsRefusedFor, IsVerdictOn, IsGoodFile, fault_of}
 use Rattle.ans_check.specs.CommandText.{heading, ReportsPass, ReportsFault, ReportsRecordFault, ReportsCheck}
 use Rattle.ans_check.specs.CommandText.{ReportsLeast, ReportsNeeds, ReportsRecord, ReportsContent, ReportsTokens}
-use Rattle.ans_check.specs.CommandText.{IsReportOf, ReportsPicture, ReportsWhy, is_of_pass, shown_text}
-use Rattle.ans_explain.specs.Explained.{IsTrueOf}
+use Rattle.ans_check.specs.CommandText.{IsReportOf, ReportsPicture, ReportsWhy, shown_text}
+use Rattle.ans_explain.specs.Explained.{IsTrueOf, is_of_pass}
 use Rattle.ans_explain.specs.WhyText.{why_text}
 use Rattle.ans_explain.specs.declared.why.Why.{Why}
 use Rattle.ans_options.specs.declared.command.Form.{Form}

@@ -15,7 +15,7 @@ use Rattle.ans_model.specs.Bytes.{longest_file}
 use Rattle.ans_table.specs.declared.counts.Counts.{Counts}
 use Rattle.ans_table.specs.declared.counts.Outcome.{Outcome}
 use Rattle.ans_table.specs.declared.finding.Finding.{Finding}
-use Rattle.ans_options.specs.CommandLine.{texts_of}
+use Rattle.ans_model.specs.Text.Words.{texts_of}
 use Rattle.std.proofs.lemmas.List.Sums.{count_by-le-length}
 use Rattle.ans_table.specs.Counting.{counts_of, is_pass, is_refused, is_unread}
 use Rattle.ans_table.specs.Findings.{outcome_of}
@@ -30,7 +30,7 @@ use Rattle.ans_check.specs.Run.{HasRead}
 use Rattle.ans_write.specs.Tried.{call_count, has_failed, inner_of}
 use Rattle.ans_write.specs.Writes.{AppendsPrefix}
 use Rattle.ans_write.specs.declared.tried.Tried.{Tried}
-use Rattle.ans_check.specs.Table.{IsFound, MayBeFoundIn, WritesRow, WritesTable, row_in, rows_in, unread_of}
+use Rattle.ans_check.specs.Table.{MayBeFoundIn, WritesRow, WritesTable, row_in, rows_in, unread_of, IsFoundByName}
 
 -- ---- files
 module _ {R : Type 0} (remaining : R → Option (List ℕ)) (is_file : Text → R → Type 0) (is_missing : Text → Type 0)
@@ -38,7 +38,7 @@ module _ {R : Type 0} (remaining : R → Option (List ℕ)) (is_file : Text → 
   -- what is found in a file that was read
   pub found_in : (file : List ℕ) (finding : Finding) → is_file name (inner_of reader) → call_count reader ≡ 0
       → HasRead (remaining (inner_of reader)) (remaining (inner_of after)) file → MayBeFoundIn file finding
-      → IsFound remaining is_file is_missing name finding
+      → IsFoundByName remaining is_file is_missing name finding
   found_in file (Pass parts needs taller) input calls read is =
       record { reader = reader; reader_after = after; input = input; unread = calls; gave = (file, read, is) }
   found_in file (Refused parts fault row column) input calls read is =
@@ -57,7 +57,7 @@ module _ {R : Type 0} (remaining : R → Option (List ℕ)) (is_file : Text → 
       → IsErrOf {T = Vec ℕ Global} (Err e) error.Read ↔ IsTrue (has_failed after)
       → IfSome (remaining (inner_of reader)) (λ xs. IfSome (remaining (inner_of after)) (λ ys.
       IsErrOf {T = Vec ℕ Global} (Err e) error.TooLong ↔ (longest_file + length ys < length xs)))
-      → IsFound remaining is_file is_missing name (Unread (unread_of e))
+      → IsFoundByName remaining is_file is_missing name (Unread (unread_of e))
   not_read error.Read input calls other device long =
       record { reader = reader; reader_after = after; input = input; unread = calls; gave = device.0 refl }
   not_read error.TooLong input calls other device long =

@@ -17,9 +17,9 @@ use Rattle.ans_write.specs.Tried.{call_count, has_failed, inner_of}
 use Rattle.ans_write.specs.Writes.{AppendsUnless, Wrote, WrotePrefix}
 use Rattle.ans_write.specs.declared.tried.Tried.{Tried}
 use Rattle.ans_check.specs.Ending.{ending_message, ending_of_words}
-use Rattle.ans_check.specs.Listing.{IsListing, bytes_of, is_whole, names_in}
+use Rattle.ans_check.specs.Listing.{IsListing, is_whole, names_in, listed_bytes}
 use Rattle.ans_check.specs.Served.{Serves}
-use Rattle.ans_check.specs.Table.{IsFound, WritesTable, header}
+use Rattle.ans_check.specs.Table.{WritesTable, header, IsFoundByName}
 use Rattle.ans_check.specs.declared.listing.Listing.{Listing}
 use Rattle.ans_check.specs.declared.errors.RunError.{RunError}
 use Rattle.ans_check.specs.declared.errors.RunError.TheVariants as error
@@ -96,7 +96,7 @@ pub record EndsAfterListing {R W : Type 0} (remaining : R → Option (List ℕ))
   pub input : is_standard (inner_of reader)
   pub listing : Listing
   pub listed : IsListing remaining reader reader_after listing
-  pub ends : EndsWritten contents found form (is_whole listing) (names_in (is_whole listing) (bytes_of listing))
+  pub ends : EndsWritten contents found form (is_whole listing) (names_in (is_whole listing) (listed_bytes listing))
       output output_after ending
 
 -- The table by the names that the words give: where they give none, by those on standard input, unless there was no
@@ -166,7 +166,8 @@ abbrev pub EndsSo : {R W : Type 0} → (R → Option (List ℕ)) → (W → Opti
     → List Text → Tried W → Tried W → Ending → Type 0
 EndsSo remaining contents is_file is_standard is_missing words output output_after ending =
     EndsAsServed remaining contents is_file is_standard words output output_after ending
-    ⊎ EndsTabled remaining contents is_standard (IsFound remaining is_file is_missing) words output output_after ending
+    ⊎ EndsTabled remaining contents is_standard (IsFoundByName remaining is_file is_missing)
+    words output output_after ending
     ⊎ EndsUnopened is_missing words output output_after ending
     ⊎ EndsRefused contents words output output_after ending
 

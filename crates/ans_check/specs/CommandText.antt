@@ -22,10 +22,9 @@ use Rattle.ans_options.specs.declared.command.Form.TheVariants.{Terminal, Vga, P
 use Rattle.ans_options.specs.declared.command.Options.{Options}
 use Rattle.ans_show.specs.PageText.{page_text}
 use Rattle.ans_show.specs.TerminalText.{terminal_text}
-use Rattle.ans_explain.specs.Explained.{IsTrueOf}
+use Rattle.ans_explain.specs.Explained.{IsTrueOf, is_of_pass}
 use Rattle.ans_explain.specs.WhyText.{why_text}
 use Rattle.ans_explain.specs.declared.why.Why as why
-use Rattle.ans_explain.specs.declared.why.Why.TheVariants as said
 use Rattle.ans_check.specs.declared.verdict.Verdict.{Verdict}
 use Rattle.ans_check.specs.declared.verdict.Verdict.TheVariants.{Pass, Refused}
 use Rattle.ans_check.specs.FileNeeds.{NeedsClass}
@@ -122,11 +121,6 @@ pub record ReportsLeast (file text : List ℕ) : Type 0 where
 abbrev pub ReportsNeeds : List ℕ → Bool → List ℕ → Type 0
 ReportsNeeds file true text = ReportsLeast file text
 ReportsNeeds file false text = ReportsRefusal file all_known None text
-
--- what is said of a file that passes from the cleared start
-abbrev pub is_of_pass : why.Why → Bool
-is_of_pass (said.Passes parts pass) = true
-is_of_pass _ = false
 
 -- What is said is true of the file, and the text says it. The file passes where it passes from the cleared start.
 pub record ReportsWhy (file : List ℕ) (passed : Bool) (text : List ℕ) : Type 0 where

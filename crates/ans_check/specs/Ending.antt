@@ -6,6 +6,8 @@ use Rattle.clap.specs.declared.error.ErrorKind.TheVariants.{DisplayHelp, Display
 use Rattle.ans_options.specs.declared.command_line.WordsError.{WordsError}
 use Rattle.ans_options.specs.declared.command_line.WordsError.TheVariants as words_error
 use Rattle.ans_table.specs.Counting.{counts_status}
+use Rattle.ans_table.specs.Findings.{unread_text}
+use Rattle.ans_table.specs.declared.finding.Unread.TheVariants as why
 use Rattle.ans_check.specs.declared.exit_status.Ending.{Ending}
 use Rattle.ans_check.specs.declared.exit_status.Ending.TheVariants.{Run, Help, Usage, UnreadableWords, UnopenedFile}
 use Rattle.ans_check.specs.declared.exit_status.Ending.TheVariants.{Table, NamedInput, UnreadNames}
@@ -29,7 +31,7 @@ ending_message (Run (Err error)) = Some (run_error_text error)
 ending_message Help = None
 ending_message Usage = None
 ending_message UnreadableWords = Some (codes "cannot read the command line")
-ending_message UnopenedFile = Some (codes "cannot open the file")
+ending_message UnopenedFile = Some (unread_text why.Unopened)
 ending_message (Table counts) = None
 ending_message NamedInput = Some (codes "- names no file of a table; without FILE, names are read")
 ending_message UnreadNames = Some (codes "cannot read the names")

@@ -9,8 +9,8 @@ use Rattle.ans_write.specs.declared.tried.Tried.{Tried}
 use Rattle.ans_check.specs.declared.listing.Listing.{Listing}
 
 -- the bytes that were read
-abbrev pub bytes_of : Listing → List ℕ
-bytes_of listing = listing.bytes.items
+abbrev pub listed_bytes : Listing → List ℕ
+listed_bytes listing = listing.bytes.items
 
 -- whether the input was read to its end
 abbrev pub is_whole : Listing → Bool
@@ -39,7 +39,7 @@ names_in whole bytes = named_by whole (slice_split is_zero bytes)
 -- the input gave these bytes, and then its end, or it failed
 pub record IsListing {R : Type 0} (remaining : R → Option (List ℕ)) (reader reader_after : Tried R)
     (listing : Listing) : Type 0 where
-  pub read : Consumes (remaining (inner_of reader)) (remaining (inner_of reader_after)) (bytes_of listing)
+  pub read : Consumes (remaining (inner_of reader)) (remaining (inner_of reader_after)) (listed_bytes listing)
   pub end : MatchBool (is_whole listing)
       ((has_failed reader_after ≡ false) × IsAtEnd (remaining (inner_of reader_after)))
       (has_failed reader_after ≡ true)

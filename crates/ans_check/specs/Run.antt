@@ -2,14 +2,16 @@
 use Rattle.std.specs.Prelude.{◌≤◌, ℕ, Bool, true, false, List, Option, Result, Ok, Err, codes, length}
 use Rattle.std.specs.Io.KnownBytes.{Consumes, IsAtEnd}
 use Rattle.ans_model.specs.Bytes.{longest_file}
+use Rattle.ans_table.specs.Findings.{unread_text}
+use Rattle.ans_table.specs.declared.finding.Unread.TheVariants as why
 use Rattle.ans_check.specs.declared.errors.RunError.{RunError}
 use Rattle.ans_check.specs.declared.errors.RunError.TheVariants as error
 
 -- the text of each error
 abbrev pub run_error_text : RunError → List ℕ
-run_error_text error.Read = codes "cannot read the file"
-run_error_text error.TooLong = codes "file above 16777216 bytes"
-run_error_text error.Memory = codes "out of memory"
+run_error_text error.Read = unread_text why.ReadFailed
+run_error_text error.TooLong = unread_text why.TooLong
+run_error_text error.Memory = unread_text why.Memory
 run_error_text error.Write = codes "cannot write the report"
 
 -- the exit status of what a run returned

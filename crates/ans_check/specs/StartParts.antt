@@ -36,6 +36,6 @@ EndsFrom z content class None = IsGood z class content
 EndsFrom z content class (Some fault) = Deserves z class content fault
 
 -- the content is good for the one class, and not for the other
-pub record Passes (z : Size) (content : List ℕ) (p : Passing) : Type 0 where
+pub record IsPassing (z : Size) (content : List ℕ) (p : Passing) : Type 0 where
   pub good : IsGood z p.class content
   pub refused : ¬ IsGood z p.refused content

@@ -61,11 +61,11 @@ pub record IsRead {R : Type 0} (remaining : R → Option (List ℕ)) (is_file : 
   pub gave : Gave remaining reader reader_after finding
 
 -- What is found of the file of this name: that the name is no text, that the file cannot be opened, or what was read.
-abbrev pub IsFound : {R : Type 0} → (R → Option (List ℕ)) → (Text → R → Type 0) → (Text → Type 0) → Text → Finding
+abbrev pub IsFoundByName : {R : Type 0} → (R → Option (List ℕ)) → (Text → R → Type 0) → (Text → Type 0) → Text → Finding
     → Type 0
-IsFound remaining is_file is_missing name (Unread why.NameNotText) = ¬ IsUtf8 name
-IsFound remaining is_file is_missing name (Unread why.Unopened) = is_missing name
-IsFound remaining is_file is_missing name finding = IsRead remaining (is_file name) finding
+IsFoundByName remaining is_file is_missing name (Unread why.NameNotText) = ¬ IsUtf8 name
+IsFoundByName remaining is_file is_missing name (Unread why.Unopened) = is_missing name
+IsFoundByName remaining is_file is_missing name finding = IsRead remaining (is_file name) finding
 
 -- a row in a form: columns, or a JSON object
 abbrev pub row_in : TableForm → Text → Finding → List ℕ

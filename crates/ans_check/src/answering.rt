@@ -3,13 +3,14 @@
 ghost use Rattle.std.specs.Prelude.{◌≡◌, ◌≢◌, ◌↔◌, [], Err, None, false, IsTrue, IfSome, IsSomeAnd};
 ghost use Rattle.std.specs.Prelude.{option_map, string_bytes, true, map, IfOk};
 ghost use Rattle.std.specs.List.{list_any};
-ghost use Rattle.ans_options.specs.CommandLine.{AreOptionsOf, faults_of, texts_of};
+ghost use Rattle.ans_options.specs.CommandLine.{AreOptionsOf, faults_of};
+ghost use Rattle.ans_model.specs.Text.Words.{texts_of};
 ghost use Rattle.ans_write.specs.Tried.{has_failed};
 ghost use Rattle.ans_check.specs.Answer.{EndsAfter, EndsSo, IsNamed, PrintsHelp, Says, Tells, names_standard};
 ghost use Rattle.ans_check.specs.Answer.{EndsBy, EndsNamed, EndsTable, EndsWritten, ending_of_table};
 ghost use Rattle.ans_check.specs.Ending.{ending_of_words};
-ghost use Rattle.ans_check.specs.Listing.{bytes_of, is_whole, names_in};
-ghost use Rattle.ans_check.specs.Table.{IsFound};
+ghost use Rattle.ans_check.specs.Listing.{is_whole, names_in, listed_bytes};
+ghost use Rattle.ans_check.specs.Table.{IsFoundByName};
 
 use crate::errors::RunError;
 use crate::exit_status::Ending;
@@ -143,7 +144,7 @@ fn serve_names<I: Inputs, W: Write>(
     output: &mut Tried<W>,
 ) -> Ending
     requires { has_failed output.old ≡ false }
-    ensures ends { EndsNamed W.contents (IsFound I.Reader.remaining (I.is_file inputs) (I.is_missing inputs)) form
+    ensures ends { EndsNamed W.contents (IsFoundByName I.Reader.remaining (I.is_file inputs) (I.is_missing inputs)) form
         (map string_bytes names.now) output.old output.new result }
     ensures write { result ≡ Ending.Run (Err RunError.Write) ↔ IsTrue (has_failed output.new) }
 {
@@ -165,8 +166,9 @@ fn serve_listing<I: Inputs, W: Write>(
     output: &mut Tried<W>,
 ) -> Ending
     requires { has_failed output.old ≡ false }
-    ensures ends { EndsWritten W.contents (IsFound I.Reader.remaining (I.is_file inputs) (I.is_missing inputs)) form
-        (is_whole listing.now) (names_in (is_whole listing.now) (bytes_of listing.now)) output.old output.new result }
+    ensures ends { EndsWritten W.contents
+        (IsFoundByName I.Reader.remaining (I.is_file inputs) (I.is_missing inputs)) form (is_whole listing.now)
+        (names_in (is_whole listing.now) (listed_bytes listing.now)) output.old output.new result }
     ensures write { result ≡ Ending.Run (Err RunError.Write) ↔ IsTrue (has_failed output.new) }
 {
     let Ok(names) = listing.names(alloc) else {
@@ -188,7 +190,8 @@ fn serve_input<I: Inputs, W: Write>(
 ) -> Ending
     requires { has_failed output.old ≡ false }
     ensures ends { EndsBy I.Reader.remaining W.contents (I.is_standard inputs)
-        (IsFound I.Reader.remaining (I.is_file inputs) (I.is_missing inputs)) form [] output.old output.new result }
+        (IsFoundByName I.Reader.remaining (I.is_file inputs) (I.is_missing inputs)) form []
+        output.old output.new result }
     ensures write { result ≡ Ending.Run (Err RunError.Write) ↔ IsTrue (has_failed output.new) }
 {
     let mut reader = Tried::new(inputs.standard());
@@ -209,7 +212,7 @@ fn serve_table<I: Inputs, W: Write>(
     requires prints { has_failed output.old ≡ false }
     requires faultless { faults_of (texts_of words.now) ≡ [] }
     ensures ends { EndsTable I.Reader.remaining W.contents (I.is_standard inputs)
-        (IsFound I.Reader.remaining (I.is_file inputs) (I.is_missing inputs)) (texts_of words.now) form
+        (IsFoundByName I.Reader.remaining (I.is_file inputs) (I.is_missing inputs)) (texts_of words.now) form
         output.old output.new result }
     ensures write { result ≡ Ending.Run (Err RunError.Write) ↔ IsTrue (has_failed output.new) }
 {

@@ -2,6 +2,7 @@
 ghost use Rattle.std.specs.Prelude.{◌≡◌};
 ghost use Rattle.ans_check.specs.Run.{run_error_text};
 
+use ans_table::Unread;
 use thiserror::Error;
 
 /// Why a run has no answer.
@@ -27,9 +28,9 @@ impl RunError {
         ensures { result.now ≡ run_error_text self.now }
     {
         match self {
-            RunError::Read => "cannot read the file",
-            RunError::TooLong => "file above 16777216 bytes",
-            RunError::Memory => "out of memory",
+            RunError::Read => Unread::ReadFailed.text(),
+            RunError::TooLong => Unread::TooLong.text(),
+            RunError::Memory => Unread::Memory.text(),
             RunError::Write => "cannot write the report",
         }
     }

@@ -6,7 +6,7 @@ ghost use Rattle.ans_check.specs.Run.{status_of};
 
 use crate::errors::RunError;
 use ans_options::WordsError;
-use ans_table::Counts;
+use ans_table::{Counts, Unread};
 use clap::error::ErrorKind;
 
 /// The exit status of what a run returned: 0 where the file passes, 1 where it is refused, and 2
@@ -82,7 +82,7 @@ impl Ending {
             Ending::Run(Err(error)) => Some(error.text()),
             Ending::Run(Ok(_)) | Ending::Help | Ending::Usage | Ending::Table(_) => None,
             Ending::UnreadableWords => Some("cannot read the command line"),
-            Ending::UnopenedFile => Some("cannot open the file"),
+            Ending::UnopenedFile => Some(Unread::Unopened.text()),
             Ending::NamedInput => Some("- names no file of a table; without FILE, names are read"),
             Ending::UnreadNames => Some("cannot read the names"),
         }

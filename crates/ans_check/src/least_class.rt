@@ -8,7 +8,7 @@ ghost use Rattle.ans_sauce.specs.Parts.{content_of, size_of};
 ghost use Rattle.ans_check.specs.FileVerdict.{Deserves};
 ghost use Rattle.ans_check.specs.FilePlayed.{IsLeastOf};
 ghost use Rattle.ans_check.specs.ScreenRoom.{TakesRoom};
-ghost use Rattle.ans_check.specs.StartParts.{EndsFrom, Passes, all_but, knows, with_part};
+ghost use Rattle.ans_check.specs.StartParts.{EndsFrom, all_but, knows, with_part, IsPassing};
 
 use crate::part::Part;
 use crate::screens::Screens;
@@ -96,7 +96,7 @@ fn passing_class<S: Screens>(
     requires good { IsGood (size_of parts.now) all_known (content_of parts.now) }
     requires fault { Deserves (size_of parts.now) none_known (content_of parts.now) fault_from_any }
     ensures room { TakesRoom S.has_room S.may_lack (size_of parts.now) screens.old screens.new result }
-    ensures passes { IfOk result (Passes (size_of parts.now) (content_of parts.now)) }
+    ensures passes { IfOk result (IsPassing (size_of parts.now) (content_of parts.now)) }
 {
     let mut class = Start::ANY;
     let mut fault = fault_from_any;
@@ -132,7 +132,7 @@ fn needs_part<S: Screens>(
     part: Part,
 ) -> Result<bool, AllocError>
     requires length { length (content_of parts.now) ≤ longest_file }
-    requires passes { Passes (size_of parts.now) (content_of parts.now) passing.now }
+    requires passes { IsPassing (size_of parts.now) (content_of parts.now) passing.now }
     ensures room { TakesRoom S.has_room S.may_lack (size_of parts.now) screens.old screens.new result }
     ensures needed { IfOk result (λ needed. (needed ≡ false)
         ↔ IsGood (size_of parts.now) (all_but part) (content_of parts.now)) }
@@ -155,7 +155,7 @@ fn class_by_parts<S: Screens>(
     passing: &Passing,
 ) -> Result<Start, AllocError>
     requires length { length (content_of parts.now) ≤ longest_file }
-    requires passes { Passes (size_of parts.now) (content_of parts.now) passing.now }
+    requires passes { IsPassing (size_of parts.now) (content_of parts.now) passing.now }
     ensures room { TakesRoom S.has_room S.may_lack (size_of parts.now) screens.old screens.new result }
     ensures found { IfOk result (IsFoundByParts (size_of parts.now) (content_of parts.now)) }
 {

@@ -3,8 +3,8 @@
 ghost use Rattle.std.specs.Prelude.{◌≡◌, [], ◌∷◌, false, IfOk, IfSome, IfNone};
 ghost use Rattle.std.specs.List.{position, slice_split};
 ghost use Rattle.ans_write.specs.Tried.{has_failed, inner_of};
-ghost use Rattle.ans_options.specs.CommandLine.{texts_of};
-ghost use Rattle.ans_check.specs.Listing.{IsFirstName, IsListing, bytes_of, is_zero, is_whole, names_in};
+ghost use Rattle.ans_model.specs.Text.Words.{texts_of};
+ghost use Rattle.ans_check.specs.Listing.{IsFirstName, IsListing, is_zero, is_whole, names_in, listed_bytes};
 
 use ans_report::{DeviceFault, Tried};
 use std::alloc::{AllocError, Global};
@@ -68,7 +68,7 @@ impl Listing {
 
     /// The names, in their order. The last one need not be ended, unless the input failed.
     pub(crate) fn names(&self, alloc: Global) -> Result<Vec<&[u8]>, AllocError>
-        ensures { IfOk result (λ v. texts_of v.items ≡ names_in (is_whole self.now) (bytes_of self.now)) }
+        ensures { IfOk result (λ v. texts_of v.items ≡ names_in (is_whole self.now) (listed_bytes self.now)) }
     {
         let mut names = Vec::new(alloc);
         let mut rest = self.bytes.as_slice();

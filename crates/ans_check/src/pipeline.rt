@@ -7,7 +7,7 @@ ghost use Rattle.ans_sauce.specs.Parts.{record_of};
 ghost use Rattle.ans_write.specs.Tried.{has_failed, inner_of};
 ghost use Rattle.ans_write.specs.Writes.{WritesText};
 ghost use Rattle.ans_check.specs.CommandText.{Reports, ReportsCheck, ReportsNeeds, ReportsSauce, ReportsShow};
-ghost use Rattle.ans_check.specs.CommandText.{ReportsTokens, ReportsWhy, IsReportOf, is_of_pass, shown_text};
+ghost use Rattle.ans_check.specs.CommandText.{ReportsTokens, ReportsWhy, IsReportOf, shown_text};
 ghost use Rattle.ans_check.specs.FileNeeds.{needs_fault};
 ghost use Rattle.ans_check.specs.FileVerdict.{fault_of};
 ghost use Rattle.ans_check.specs.Reported.{IsReported};
@@ -19,7 +19,7 @@ use crate::reading::read_all;
 use crate::screens::KeptScreens;
 use crate::verdict::{Verdict, check};
 use crate::why::why_on;
-use ans_explain::{Why, write_why};
+use ans_explain::write_why;
 use ans_model::start::Start;
 use ans_options::{Command, Form, Options};
 use ans_play::Picture;
@@ -186,13 +186,6 @@ fn tell_needs<W: Write>(alloc: Global, writer: &mut Tried<W>, file: &[u8]) -> Re
     told(written, is_least(&found))
 }
 
-/// Whether a file passes from the cleared start, by what is said of it.
-fn is_of_pass(why: &Why<'_>) -> bool
-    ensures { result ≡ is_of_pass why.now }
-{
-    matches!(why, Why::Passes { parts: _, pass: _ })
-}
-
 /// Writes why a file is refused, or what it relies on. Returns whether it passes from the cleared
 /// start.
 fn tell_why<W: Write>(alloc: Global, writer: &mut Tried<W>, file: &[u8]) -> Result<bool, RunError>
@@ -205,7 +198,7 @@ fn tell_why<W: Write>(alloc: Global, writer: &mut Tried<W>, file: &[u8]) -> Resu
         return Err(RunError::Memory);
     };
     let written = write_why(writer, &why);
-    told(written, is_of_pass(&why))
+    told(written, why.is_of_pass())
 }
 
 /// Runs the chosen command on a file. Returns whether the file passes.

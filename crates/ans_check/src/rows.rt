@@ -2,13 +2,13 @@
 
 ghost use Rattle.std.specs.Prelude.{◌≡◌, ◌≢◌, ◌↔◌, ◌≤◌, false, length, IsTrue, IsErrOf, IfErr, IfOk, OnOk, map, []};
 ghost use Rattle.ans_model.specs.Bytes.{longest_file};
-ghost use Rattle.ans_options.specs.CommandLine.{texts_of};
+ghost use Rattle.ans_model.specs.Text.Words.{texts_of};
 ghost use Rattle.ans_write.specs.Tried.{has_failed, inner_of};
 ghost use Rattle.ans_write.specs.Writes.{WritesText};
 ghost use Rattle.ans_table.specs.Findings.{IsFindingOf, outcome_of};
 ghost use Rattle.ans_check.specs.FileNeeds.{IsNeedsOf};
 ghost use Rattle.ans_options.specs.declared.command.TableForm.{TableForm};
-ghost use Rattle.ans_check.specs.Table.{IsFound, MayBeFoundIn, WritesRow, WritesTable, header, row_in};
+ghost use Rattle.ans_check.specs.Table.{MayBeFoundIn, WritesRow, WritesTable, header, row_in, IsFoundByName};
 ghost use Rattle.ans_check.specs.Table.{MayEndTable, unread_of};
 
 use crate::errors::RunError;
@@ -127,7 +127,7 @@ fn tell_file<I: Inputs, W: Write>(
     ensures device { IsErrOf result RunError.Write ↔ IsTrue (has_failed output.new) }
     ensures errors { IfErr result (MayEndTable form) }
     ensures works { OnOk result (has_failed output.new ≡ false) }
-    ensures row { WritesRow W.contents (IsFound I.Reader.remaining (I.is_file inputs) (I.is_missing inputs))
+    ensures row { WritesRow W.contents (IsFoundByName I.Reader.remaining (I.is_file inputs) (I.is_missing inputs))
         form name.now output.old output.new result }
 {
     let Ok(text) = str::from_utf8(name) else {
@@ -172,7 +172,7 @@ fn tell_files<I: Inputs, W: Write>(
     requires { has_failed output.old ≡ false }
     ensures device { IsErrOf result RunError.Write ↔ IsTrue (has_failed output.new) }
     ensures errors { IfErr result (MayEndTable form) }
-    ensures rows { WritesTable W.contents (IsFound I.Reader.remaining (I.is_file inputs) (I.is_missing inputs))
+    ensures rows { WritesTable W.contents (IsFoundByName I.Reader.remaining (I.is_file inputs) (I.is_missing inputs))
         form [] (texts_of names.now) output.old output.new result }
 {
     let mut counts = Counts::NONE;
@@ -220,7 +220,7 @@ pub fn table<I: Inputs, W: Write>(
     requires { has_failed output.old ≡ false }
     ensures device { IsErrOf result RunError.Write ↔ IsTrue (has_failed output.new) }
     ensures errors { IfErr result (MayEndTable form) }
-    ensures table { WritesTable W.contents (IsFound I.Reader.remaining (I.is_file inputs) (I.is_missing inputs))
+    ensures table { WritesTable W.contents (IsFoundByName I.Reader.remaining (I.is_file inputs) (I.is_missing inputs))
         form (header form) (texts_of names.now) output.old output.new result }
 {
     tell_header(form, output)?;

@@ -1,7 +1,7 @@
 //! The program on the system that runs it.
 
 ghost use Rattle.std.specs.Prelude.{◌≡◌, true, false, ⊤, map, string_bytes, IfOk, vec_items};
-ghost use Rattle.ans_options.specs.CommandLine.{texts_of};
+ghost use Rattle.ans_model.specs.Text.Words.{texts_of};
 ghost use Rattle.ans_write.specs.Tried.{has_failed};
 ghost use Rattle.ans_check.specs.Ending.{ending_status};
 ghost use Rattle.ans_check.specs.SystemInput.{AnswersOnSystem};

@@ -1,6 +1,6 @@
 -- What is said of a file is true of it.
-use Rattle.std.specs.Prelude.{◌≡◌, ◌≢◌, ◌⊎◌, ℕ, ◌+◌, ◌≤◌, ◌↔◌, Bool, IsTrue, List, [], length, take, drop, Option, Some}
-use Rattle.std.specs.Prelude.{None, IfSome, IfNone}
+use Rattle.std.specs.Prelude.{◌≡◌, ◌≢◌, ◌⊎◌, ℕ, ◌+◌, ◌≤◌, ◌↔◌, Bool, true, false, IsTrue, List, [], length, take}
+use Rattle.std.specs.Prelude.{drop, Option, Some, None, IfSome, IfNone}
 use Rattle.ans_model.specs.Bytes.{longest_file, most_lines}
 use Rattle.ans_model.specs.declared.cell.Position.{Position}
 use Rattle.ans_model.specs.declared.fault.Fault.{Fault}
@@ -21,6 +21,7 @@ use Rattle.ans_sauce.specs.Split.{IsSplit}
 use Rattle.ans_sauce.specs.Found.{IsFound}
 use Rattle.ans_model.specs.Verdict.LastFault.{IsDeserved}
 use Rattle.ans_why.specs.Evidence.{ShowsCursors, ShowsNamed}
+use Rattle.ans_why.specs.Mend.{mending}
 use Rattle.ans_why.specs.Lines.{IsGoodOn, IsLeastLines}
 use Rattle.ans_why.specs.Taller.{IsTaller}
 use Rattle.ans_hints.specs.Hints.{AreHints}
@@ -64,7 +65,7 @@ pub record IsReliance (z : Size) (file_length : ℕ) (content : List ℕ) (r : R
   pub deserved : IsDeserved z none_known content r.fault
   pub bytes : AreToBlame z none_known content r.fault r.bytes.now
   pub shown : IsShown z none_known content r.fault r.shown
-  pub mends : IsTrue r.mends ↔ (file_length + 16 ≤ longest_file)
+  pub mends : IsTrue r.mends ↔ (file_length + length mending ≤ longest_file)
 
 -- a content that passes from the cleared start, and its record
 pub record IsPass (file_length : ℕ) (sauce content : List ℕ) (pass : Pass) : Type 0 where
@@ -112,3 +113,8 @@ IsTrueOf file (NoContent fault found) = (record_fault file ≡ Some fault) × Is
 IsTrueOf file (Refused parts refusal) = IsSplit file parts × IsRefusal (record_of parts) (content_of parts) refusal
 IsTrueOf file (Passes parts pass) =
     IsSplit file parts × IsPass (length file) (record_of parts) (content_of parts) pass
+
+-- what is said of a file that passes from the cleared start
+abbrev pub is_of_pass : Why → Bool
+is_of_pass (Passes parts pass) = true
+is_of_pass _ = false

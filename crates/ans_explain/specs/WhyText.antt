@@ -8,6 +8,7 @@ use Rattle.ans_model.specs.Text.Characters.{shown_bytes}
 use Rattle.ans_model.specs.Text.Hexadecimal.{hex_byte}
 use Rattle.ans_model.specs.Text.FaultText.{line_of, fault_line}
 use Rattle.ans_model.specs.Text.NeedsText.{needed_parts}
+use Rattle.ans_model.specs.Text.Words.{answer_text}
 use Rattle.ans_model.specs.Text.RecordText.{named_line}
 use Rattle.ans_model.specs.Text.ReportText.{size_text, refusal_text}
 use Rattle.ans_sauce.specs.declared.found.Found.{Found}
@@ -69,11 +70,6 @@ abbrev pub reliance_lines : Option Reliance → List ℕ
 reliance_lines None = []
 reliance_lines (Some r) = fault_line r.fault ++ (bytes_line r.bytes.now ++ (shown_lines r.shown ++ mend_line r.mends))
 
--- yes or no
-abbrev pub answer_text : Bool → List ℕ
-answer_text true = codes "yes"
-answer_text false = codes "no"
-
 -- the number of lines that is enough
 abbrev pub lines_line : Option ℕ → List ℕ
 lines_line None = []
@@ -102,8 +98,8 @@ found_line (found.Kind kind subkind) =
 found_line (found.Comments count) = named_line (codes "found") (counted_text count (codes "comment") ++ codes " stated")
 found_line (found.Lines lines) = named_line (codes "found") (counted_text lines (codes "line") ++ codes " stated")
 found_line (found.Width width) = named_line (codes "found") (counted_text width (codes "column") ++ codes " stated")
-found_line (found.AfterEndMark count has_record) =
-    named_line (codes "found") (counted_text count (codes "byte") ++ after_end_mark_text has_record)
+found_line (found.AfterEndMark count holds_record) =
+    named_line (codes "found") (counted_text count (codes "byte") ++ after_end_mark_text holds_record)
 
 -- the size
 abbrev pub size_line : Parts → List ℕ
@@ -116,7 +112,7 @@ font_of parts = trimmed (font_field (record_of parts))
 abbrev pub pass_lines : Parts → Pass → List ℕ
 pass_lines parts pass =
     line_of (codes "verdict: pass")
-    ++ (line_of (codes "needs:" ++ needed_parts pass.needs)
+    ++ (line_of (codes "needs: " ++ needed_parts pass.needs)
     ++ (named_line (codes "taller") (answer_text pass.taller)
     ++ (reliance_lines pass.reliance ++ hints_text pass.hints (font_of parts))))
 

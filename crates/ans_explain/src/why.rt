@@ -1,5 +1,8 @@
 //! What `why` says of a file.
 
+ghost use Rattle.std.specs.Prelude.{◌≡◌};
+ghost use Rattle.ans_explain.specs.Explained.{is_of_pass};
+
 use ans_hints::Hints;
 use ans_model::cell::Cell;
 use ans_model::fault::Fault;
@@ -76,4 +79,13 @@ pub enum Why<'a> {
         parts: Parts<'a>,
         pass: Pass<'a>,
     },
+}
+
+impl Why<'_> {
+    /// Whether the file passes from the cleared start.
+    pub fn is_of_pass(&self) -> bool
+        ensures { result ≡ is_of_pass self.now }
+    {
+        matches!(self, Why::Passes { parts: _, pass: _ })
+    }
 }

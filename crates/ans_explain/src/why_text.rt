@@ -8,14 +8,16 @@ ghost use Rattle.ans_write.specs.Tried.{has_failed, inner_of};
 ghost use Rattle.ans_write.specs.Writes.{WritesText};
 ghost use Rattle.ans_write.specs.Puts.{Puts};
 ghost use Rattle.ans_explain.specs.WhyText.{quoted_byte, quoted, bytes_line, place_text, cell_text, shown_lines};
-ghost use Rattle.ans_explain.specs.WhyText.{mend_line, reliance_lines, answer_text, lines_line, after_end_mark_text};
+ghost use Rattle.ans_explain.specs.WhyText.{mend_line, reliance_lines, lines_line, after_end_mark_text};
+ghost use Rattle.ans_model.specs.Text.Words.{answer_text};
 ghost use Rattle.ans_explain.specs.WhyText.{counted_text, found_line, pass_lines, refusal_lines, why_text};
 
 use crate::why::{Pass, Place, Refusal, Reliance, Shown, Why};
 use ans_hints::{Hints, put_hints};
 use ans_model::cell::Cell;
 use ans_report::{
-    put_fault_line, put_named_line, put_needed_parts, put_number_line, put_refusal, put_size_line,
+    answer_text, put_fault_line, put_named_line, put_needed_parts, put_number_line, put_refusal,
+    put_size_line,
 };
 use ans_sauce::{Found, Parts};
 use ans_write::{Outbox, Tried, WriteFault, hex_byte, put_characters};
@@ -153,20 +155,14 @@ fn put_reliance<W: Write>(out: &mut Outbox<'_, W>, reliance: Option<Reliance<'_>
     put_mend_line(out, reliance.mends);
 }
 
-fn answer(yes: bool) -> &'static [u8]
-    ensures { result.now ≡ answer_text yes }
-{
-    if yes { b"yes" } else { b"no" }
-}
-
 fn put_pass<W: Write>(out: &mut Outbox<'_, W>, parts: &Parts<'_>, pass: &Pass<'_>)
     ensures { Puts W.contents out.old out.new (pass_lines parts.now pass.now) }
 {
     out.put(b"verdict: pass\n");
-    out.put(b"needs:");
+    out.put(b"needs: ");
     put_needed_parts(out, pass.needs);
     out.put(b"\n");
-    put_named_line(out, b"taller", answer(pass.taller));
+    put_named_line(out, b"taller", answer_text(pass.taller));
     put_reliance(out, pass.reliance);
     put_hints(out, &pass.hints, parts.sauce().font());
 }

@@ -10,7 +10,7 @@ use Rattle.ans_model.specs.declared.fault.Cause.TheVariants.{UnknownCell}
 use Rattle.ans_model.specs.declared.note.Note.{Note}
 use Rattle.ans_model.specs.declared.note.Note.TheVariants.{WidthAssumed}
 use Rattle.ans_model.specs.declared.start.Start.{Start}
-use Rattle.ans_model.specs.Bytes.{IsByte}
+use Rattle.ans_model.specs.Bytes.{IsByte, blank}
 use Rattle.ans_model.specs.File.Layout.{FileParts, comment_block}
 use Rattle.ans_model.specs.File.Record.{field, comment_count, trimmed}
 use Rattle.ans_model.specs.File.Refusals.{Accepts}
@@ -19,7 +19,8 @@ use Rattle.ans_model.specs.Text.Characters.{shown_bytes}
 use Rattle.ans_model.specs.Text.FaultText.{line_of, fault_text, position_text, fault_line, note_line}
 use Rattle.ans_model.specs.Text.NeedsText.{needed_parts}
 use Rattle.ans_model.specs.Text.RecordText.{named_line, field_line}
-use Rattle.ans_model.specs.Text.ReportText.{Heading, known_part, known_parts, start_name, size_text, start_line}
+use Rattle.ans_model.specs.Text.ReportText.{Heading, start_name, size_text, start_line}
+use Rattle.ans_model.specs.Text.Words.{part_if, part_names, words_text}
 use Rattle.ans_model.specs.Text.ReportText.{heading_text, refusal_text}
 use Rattle.ans_judge.specs.CleanTexts.{IsCleanText}
 use Rattle.ans_judge.proofs.CleanPieces.{clean_nil, clean_append, clean_if, clean_flat_map, plain_text, clean_line}
@@ -69,36 +70,43 @@ size_clean z =
     clean_append (decimal z.width) (codes " x " ++ decimal z.lines) (clean_decimal z.width)
     (clean_append (codes " x ") (decimal z.lines) (plain_text (codes " x ") refl) (clean_decimal z.lines))
 
-parts_clean : (s : Start) → IsCleanText (known_parts s)
+-- words that are clean, with a blank between each two
+words_clean : (words : List (List ℕ)) → All IsCleanText words → IsCleanText (words_text words)
+words_clean [] all = clean_nil
+words_clean (w ∷ []) all = All-head IsCleanText w [] all
+words_clean (w ∷ v ∷ more) all =
+    clean_append w (blank ∷ words_text (v ∷ more)) (All-head IsCleanText w (v ∷ more) all)
+    (clean_append (codes " ") (words_text (v ∷ more)) (plain_text (codes " ") refl)
+    (words_clean (v ∷ more) (All-tail IsCleanText w (v ∷ more) all)))
+
+part_clean : (known : Bool) (name : List ℕ) (names : List (List ℕ)) → IsCleanText name → All IsCleanText names
+    → All IsCleanText (part_if known name ++ names)
+part_clean true name names clean all = All-cons IsCleanText name names clean all
+part_clean false name names clean all = all
+
+parts_clean : (s : Start) → IsCleanText (words_text (part_names s))
 parts_clean s =
-    let colours = known_part s.colours (codes "colours") in
-    let saved = known_part s.saved (codes "saved") in
-    let cursor = known_part s.cursor (codes "cursor") in
-    let wrap = known_part s.wrap (codes "wrap") in
-    clean_append (known_part s.screen (codes "screen")) (cursor ++ (saved ++ (colours ++ wrap)))
-    (clean_if s.screen (codes " screen") [] (plain_text (codes " screen") refl) clean_nil)
-    (clean_append cursor (saved ++ (colours ++ wrap))
-    (clean_if s.cursor (codes " cursor") [] (plain_text (codes " cursor") refl) clean_nil)
-    (clean_append saved (colours ++ wrap)
-    (clean_if s.saved (codes " saved") [] (plain_text (codes " saved") refl) clean_nil)
-    (clean_append colours wrap
-    (clean_if s.colours (codes " colours") [] (plain_text (codes " colours") refl) clean_nil)
-    (clean_if s.wrap (codes " wrap") [] (plain_text (codes " wrap") refl) clean_nil))))
+    words_clean (part_names s)
+    (part_clean s.screen (codes "screen") _ (plain_text (codes "screen") refl)
+    (part_clean s.cursor (codes "cursor") _ (plain_text (codes "cursor") refl)
+    (part_clean s.saved (codes "saved") _ (plain_text (codes "saved") refl)
+    (part_clean s.colours (codes "colours") _ (plain_text (codes "colours") refl)
+    (part_clean s.wrap (codes "wrap") [] (plain_text (codes "wrap") refl) (All-nil IsCleanText))))))
 
 start_name_clean : (s : Start) → IsCleanText (start_name s)
 start_name_clean s =
-    let named = codes "known" ++ known_parts s in
+    let named = codes "known " ++ words_text (part_names s) in
     let some = if s.screen || s.cursor || s.saved || s.colours || s.wrap then named else codes "any" in
     clean_if (s.screen && s.cursor && s.saved && s.colours && s.wrap) (codes "cleared") some
     (plain_text (codes "cleared") refl)
-    (clean_if (s.screen || s.cursor || s.saved || s.colours || s.wrap) (codes "known" ++ known_parts s) (codes "any")
-    (clean_append (codes "known") (known_parts s) (plain_text (codes "known") refl) (parts_clean s))
+    (clean_if (s.screen || s.cursor || s.saved || s.colours || s.wrap) named (codes "any")
+    (clean_append (codes "known ") (words_text (part_names s)) (plain_text (codes "known ") refl) (parts_clean s))
     (plain_text (codes "any") refl))
 
 pub needed_parts_clean : (s : Start) → IsCleanText (needed_parts s)
 needed_parts_clean s =
-    clean_if (s.screen || s.cursor || s.saved || s.colours || s.wrap) (known_parts s) (codes " nothing") (parts_clean s)
-    (plain_text (codes " nothing") refl)
+    clean_if (s.screen || s.cursor || s.saved || s.colours || s.wrap) (words_text (part_names s)) (codes "nothing")
+    (parts_clean s) (plain_text (codes "nothing") refl)
 
 size_line_clean : (z : Size) → IsCleanText (line_of (codes "size: " ++ size_text z))
 size_line_clean z =

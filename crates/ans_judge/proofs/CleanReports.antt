@@ -266,11 +266,11 @@ tokens_report_clean file false text (inr h) = record_fault_clean file text h
 
 needs_clean : (file : List ℕ) (passed : Bool) (text : List ℕ) → ReportsNeeds file passed text → IsCleanText text
 needs_clean file true text h =
-    let said = codes "needs:" ++ needed_parts h.class in
+    let said = codes "needs: " ++ needed_parts h.class in
     subst IsCleanText (sym h.text_is)
     (clean_append (heading_text (heading h.apart None)) (line_of said) (heading_clean (heading h.apart None))
     (clean_line said
-    (clean_append (codes "needs:") (needed_parts h.class) (plain_text (codes "needs:") refl)
+    (clean_append (codes "needs: ") (needed_parts h.class) (plain_text (codes "needs: ") refl)
     (needed_parts_clean h.class))))
 needs_clean file false text (not_good, inl h) =
     subst IsCleanText (sym h.text_is) (refused_clean (heading h.apart None) h.fault)

@@ -41,7 +41,8 @@ use Rattle.ans_hints.specs.declared.times.Times.{Times}
 use Rattle.ans_explain.specs.Blamed.{AreToBlame}
 use Rattle.ans_explain.specs.Explained.{IsShown, IsReliance, IsPass, IsRefusal, IsTrueOf}
 use Rattle.ans_explain.specs.WhyText.{quoted_byte, quoted, bytes_line, place_text, cell_text, shown_lines, mend_line}
-use Rattle.ans_explain.specs.WhyText.{reliance_lines, answer_text, lines_line, after_end_mark_text, counted_text}
+use Rattle.ans_explain.specs.WhyText.{reliance_lines, lines_line, after_end_mark_text, counted_text}
+use Rattle.ans_model.specs.Text.Words.{answer_text}
 use Rattle.ans_explain.specs.WhyText.{found_line, size_line, font_of, pass_lines, refusal_lines, why_text}
 use Rattle.ans_explain.specs.declared.why.Pass.{Pass}
 use Rattle.ans_explain.specs.declared.why.Place.{Place}
@@ -295,7 +296,7 @@ stated_clean count thing h =
     found_named (counted_text count thing ++ codes " stated")
     (counted_clean count thing (codes " stated") h (plain_text (codes " stated") refl))
 
-after_end_mark_clean : (has_record : Bool) → IsCleanText (after_end_mark_text has_record)
+after_end_mark_clean : (holds_record : Bool) → IsCleanText (after_end_mark_text holds_record)
 after_end_mark_clean true = plain_text (after_end_mark_text true) refl
 after_end_mark_clean false = plain_text (after_end_mark_text false) refl
 
@@ -331,10 +332,10 @@ found_clean file (found.Lines lines) cause bytes h =
     stated_clean lines (codes "line") (plain_text (codes "line") refl)
 found_clean file (found.Width width) cause bytes h =
     stated_clean width (codes "column") (plain_text (codes "column") refl)
-found_clean file (found.AfterEndMark count has_record) cause bytes h =
-    found_named (counted_text count (codes "byte") ++ after_end_mark_text has_record)
-    (counted_clean count (codes "byte") (after_end_mark_text has_record) (plain_text (codes "byte") refl)
-    (after_end_mark_clean has_record))
+found_clean file (found.AfterEndMark count holds_record) cause bytes h =
+    found_named (counted_text count (codes "byte") ++ after_end_mark_text holds_record)
+    (counted_clean count (codes "byte") (after_end_mark_text holds_record) (plain_text (codes "byte") refl)
+    (after_end_mark_clean holds_record))
 
 -- ---- the text
 
@@ -353,7 +354,7 @@ size_line_clean parts =
 pass_clean : (file : List ℕ) (parts : Parts) (pass : Pass) → All IsByte file → IsSplit file parts
     → IsPass (length file) (record_of parts) (content_of parts) pass → IsCleanText (pass_lines parts pass)
 pass_clean file parts pass bytes split h =
-    let needs = codes "needs:" ++ needed_parts pass.needs in
+    let needs = codes "needs: " ++ needed_parts pass.needs in
     let hints = hints_text pass.hints (font_of parts) in
     let relied = reliance_lines pass.reliance ++ hints in
     let taller = named_line (codes "taller") (answer_text pass.taller) in
@@ -361,7 +362,7 @@ pass_clean file parts pass bytes split h =
     (plain_text (line_of (codes "verdict: pass")) refl)
     (clean_append (line_of needs) (taller ++ relied)
     (clean_line needs
-    (clean_append (codes "needs:") (needed_parts pass.needs) (plain_text (codes "needs:") refl)
+    (clean_append (codes "needs: ") (needed_parts pass.needs) (plain_text (codes "needs: ") refl)
     (needed_parts_clean pass.needs)))
     (clean_append taller relied
     (named_clean (codes "taller") (answer_text pass.taller) (plain_text (codes "taller") refl)

@@ -12,7 +12,7 @@ use Rattle.ans_model.specs.Text.Characters.{shown_bytes}
 use Rattle.ans_model.specs.Text.RecordText.{named_line}
 use Rattle.ans_sauce.specs.declared.found.Found.{Found}
 use Rattle.ans_sauce.specs.declared.found.Found.TheVariants as found
-use Rattle.ans_sauce.specs.Found.{IsLastRecord, HasRecord, IsFound, record_in, after_end_mark}
+use Rattle.ans_sauce.specs.Found.{IsLastRecord, IsFound, record_in, after_end_mark, HoldsRecord}
 use Rattle.ans_explain.specs.WhyText.{found_line}
 use Rattle.ans_judge.proofs.Covering.{same_truth}
 
@@ -51,8 +51,8 @@ IsToldOf file LinesUnstated text = text ≡ found_line (found.Lines (tinfo 2 (re
 IsToldOf file WidthTooLarge text = text ≡ found_line (found.Width (tinfo 1 (record_in file)))
 IsToldOf file LinesTooLarge text = text ≡ found_line (found.Lines (tinfo 2 (record_in file)))
 IsToldOf file BytesAfterEndMark text =
-    (has_record : Bool) × (IsTrue has_record ↔ HasRecord (after_end_mark file))
-    × (text ≡ found_line (found.AfterEndMark (length (after_end_mark file)) has_record))
+    (holds_record : Bool) × (IsTrue holds_record ↔ HoldsRecord (after_end_mark file))
+    × (text ≡ found_line (found.AfterEndMark (length (after_end_mark file)) holds_record))
 IsToldOf file _ text = ⊥
 
 told : (file : List ℕ) (x : Found) (cause : Cause) → IsFound file x cause → IsToldOf file cause (found_line x)
@@ -68,8 +68,8 @@ told file (found.Comments count) cause h = rw h.0 (ap (λ (n : ℕ). found_line 
 told file (found.Width width) cause h = rw h.0 (ap (λ (n : ℕ). found_line (found.Width n)) h.1)
 told file (found.Lines lines) cause (inl e, h) = rw e (ap (λ (n : ℕ). found_line (found.Lines n)) h)
 told file (found.Lines lines) cause (inr e, h) = rw e (ap (λ (n : ℕ). found_line (found.Lines n)) h)
-told file (found.AfterEndMark count has_record) cause h =
-    rw h.0 (has_record, h.2, ap (λ (n : ℕ). found_line (found.AfterEndMark n has_record)) h.1)
+told file (found.AfterEndMark count holds_record) cause h =
+    rw h.0 (holds_record, h.2, ap (λ (n : ℕ). found_line (found.AfterEndMark n holds_record)) h.1)
 
 one_told : (file : List ℕ) (cause : Cause) (text other : List ℕ) → IsToldOf file cause text
     → IsToldOf file cause other → text ≡ other

@@ -33,8 +33,9 @@ use Rattle.ans_hints.specs.HintsText.{hints_text}
 use Rattle.ans_hints.specs.declared.hints.Hints.{Hints}
 use Rattle.ans_explain.specs.Blamed.{AreToBlame}
 use Rattle.ans_explain.specs.Explained.{AreHintsOf, AreLines, EndsHints, IsPass, IsRefusal, IsReliance, IsTrueOf}
-use Rattle.ans_explain.specs.Explained.{IsShown, ShowsPlaces}
-use Rattle.ans_explain.specs.WhyText.{answer_text, bytes_line, lines_line, mend_line, place_text}
+use Rattle.ans_explain.specs.Explained.{IsShown, ShowsPlaces, is_of_pass}
+use Rattle.ans_explain.specs.WhyText.{bytes_line, lines_line, mend_line, place_text}
+use Rattle.ans_model.specs.Text.Words.{answer_text}
 use Rattle.ans_explain.specs.WhyText.{reliance_lines, shown_lines, why_text}
 use Rattle.ans_explain.specs.declared.why.Pass.{Pass}
 use Rattle.ans_explain.specs.declared.why.Place.{Place}
@@ -43,7 +44,6 @@ use Rattle.ans_explain.specs.declared.why.Reliance.{Reliance}
 use Rattle.ans_explain.specs.declared.why.Shown.{Shown}
 use Rattle.ans_explain.specs.declared.why.Why.{Why}
 use Rattle.ans_explain.specs.declared.why.Why.TheVariants.{NoContent, Refused, Passes}
-use Rattle.ans_check.specs.CommandText.{is_of_pass}
 use Rattle.ans_judge.proofs.Covering.{covers_both_ways, same_truth}
 use Rattle.ans_judge.proofs.OneBlamed.{one_blamed}
 use Rattle.ans_judge.proofs.OneEvidence.{one_places, one_shown}
@@ -208,7 +208,7 @@ pass_said : List ℕ → Start → Bool → List ℕ → Hints → List ℕ
 pass_said sauce needs taller relied hints =
     named_line (codes "size") (size_text (stated_size sauce))
     ++ (line_of (codes "verdict: pass")
-    ++ (line_of (codes "needs:" ++ needed_parts needs)
+    ++ (line_of (codes "needs: " ++ needed_parts needs)
     ++ (named_line (codes "taller") (answer_text taller)
     ++ (relied ++ hints_text hints (trimmed (font_field sauce))))))
 

@@ -18,7 +18,7 @@ use Rattle.ans_model.specs.Text.TokensText.{TokensText, Leaves, token_lines, fau
 use Rattle.ans_model.proofs.AfterPart.{part_unfinished}
 use Rattle.ans_tokens.proofs.OpenLemmas.{escape_unfinished}
 use Rattle.ans_tokens.proofs.EachByte.{Nothing, Escape, Within}
-use Rattle.ans_tokens.proofs.Readable.{Standing, In, Refused, StandsAt, progress, progress_is}
+use Rattle.ans_tokens.proofs.Readable.{Standing, In, Refused, progress, progress_is, IsStanding}
 
 -- all are bytes, as a test
 abbrev pub are_bytes : List ℕ → Bool
@@ -45,7 +45,7 @@ spells token text bytes t x =
 pub refuses : (cause : Cause) (text : List ℕ) → are_bytes text ≡ true → (progress text).stands ≡ Refused cause
     → (progress text).left ≡ text → IsRefused text cause
 refuses cause text bytes s x =
-    subst₂ (λ (v : Standing) (w : List ℕ). StandsAt v w (progress text).rest) s x
+    subst₂ (λ (v : Standing) (w : List ℕ). IsStanding v w (progress text).rest) s x
     (progress_is text (all_bytes text bytes)).stands
 
 abbrev pub in_sequence : Standing → Bool
@@ -53,7 +53,7 @@ in_sequence (In Escape) = true
 in_sequence (In (Within part)) = true
 in_sequence _ = false
 
-unfinished : (s : Standing) (left rest : List ℕ) → in_sequence s ≡ true → StandsAt s left rest → IsUnfinished left
+unfinished : (s : Standing) (left rest : List ℕ) → in_sequence s ≡ true → IsStanding s left rest → IsUnfinished left
 unfinished (In Escape) left rest e h = rw h.0 escape_unfinished
 unfinished (In (Within part)) left rest e h = part_unfinished part left h.0
 unfinished _ left rest e h = cc
@@ -71,7 +71,7 @@ fault_from start (In Nothing) = None
 fault_from start (In _) = Some (fault_at start EndInSequence)
 fault_from start (Refused cause) = Some (fault_at start cause)
 
-leaves : (start : ℕ) (s : Standing) (left rest : List ℕ) → StandsAt s left rest
+leaves : (start : ℕ) (s : Standing) (left rest : List ℕ) → IsStanding s left rest
     → Leaves start (left ++ rest) (fault_from start s)
 leaves start (In Nothing) left rest h = rw (h.0, h.1) refl
 leaves start (In Escape) left rest h = inr (rw (h.1, append-nil) (unfinished (In Escape) left rest refl h), refl)

@@ -5,8 +5,8 @@ ghost use Rattle.ans_model.specs.Screen.State.{cell, cell_count, IsOnScreen};
 ghost use Rattle.ans_model.specs.Screen.Step.{filled, line_feed, step, final};
 ghost use Rattle.ans_model.specs.Sequence.TokenKind.{Glyph, Clear, EraseLine, Tab};
 ghost use Rattle.ans_model.specs.Inside.ShownKind.{shown_kind};
-ghost use Rattle.ans_laws.specs.MachineView.{machine_view, uniform_state};
-ghost use Rattle.ans_model.specs.Screen.StartClass.{cleared, start_with, low_start, high_start};
+ghost use Rattle.ans_laws.specs.MachineView.{machine_view};
+ghost use Rattle.ans_model.specs.Screen.StartClass.{cleared, start_with, low_start, high_start, uniform_state};
 
 use ans_model::attribute::attribute_after_all;
 use ans_model::cell::{Cell, Position};
@@ -214,7 +214,7 @@ impl Machine {
     ) -> Result<Machine, AllocError>
         requires { IsOnScreen size corner }
         ensures { IfOk result (λ m. m ≡ machine_view size
-            (start_with size start (uniform_state size (cell byte byte) corner wrap))) }
+            (start_with size start (uniform_state size byte corner wrap))) }
     {
         let cell = if start.screen {
             CLEARED_CELL

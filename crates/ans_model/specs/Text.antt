@@ -1,6 +1,7 @@
 -- What is written.
 pub mod Characters
 pub mod Hexadecimal
+pub mod Words
 pub mod FaultText
 pub mod ReportText
 pub mod NeedsText

@@ -1,7 +1,10 @@
 //! The states that a play may begin from.
 
-ghost use Rattle.std.specs.Prelude.{◌≡◌, ◌↔◌, IsTrue};
+ghost use Rattle.std.specs.Prelude.{◌≡◌, ◌↔◌, ◌++◌, ◌<◌, ◌+◌, ◌≤◌, IsTrue, length};
 ghost use Rattle.ans_model.specs.Screen.StartClass.{none_known, all_known, Covers};
+ghost use Rattle.ans_model.specs.Text.Words.{part_if, part_names, texts_of};
+
+use arrayvec::ArrayVec;
 
 /// A class of starts: which parts of the starting state are known to be as on the cleared screen.
 /// Every other part may have any value; both cursors stand on the screen.
@@ -63,5 +66,27 @@ impl Start {
             && (!self.saved || other.saved)
             && (!self.colours || other.colours)
             && (!self.wrap || other.wrap)
+    }
+    /// The names of the parts that are known, in the order of the fields.
+    pub fn part_names(self) -> ArrayVec<&'static str, 5>
+        ensures { texts_of result.items ≡ part_names self }
+    {
+        let mut names = ArrayVec::new();
+        push_part(&mut names, self.screen, "screen");
+        push_part(&mut names, self.cursor, "cursor");
+        push_part(&mut names, self.saved, "saved");
+        push_part(&mut names, self.colours, "colours");
+        push_part(&mut names, self.wrap, "wrap");
+        names
+    }
+}
+
+fn push_part(names: &mut ArrayVec<&'static str, 5>, known: bool, name: &'static str)
+    requires { length names.old.items < 5 }
+    ensures names { texts_of names.new.items ≡ texts_of names.old.items ++ part_if known name.now }
+    ensures count { length names.new.items ≤ length names.old.items + 1 }
+{
+    if known {
+        names.push(name);
     }
 }

@@ -11,7 +11,8 @@ use Rattle.ans_options.specs.declared.command.Command.{Command}
 use Rattle.ans_options.specs.declared.command.Command.TheVariants.{Why, Check, Show, Sauce, Tokens, Needs, Table}
 use Rattle.ans_options.specs.declared.command.Form.TheVariants.{Terminal}
 use Rattle.ans_options.specs.declared.command.TableForm.TheVariants.{Headed}
-use Rattle.ans_options.specs.CommandLine.{IsNoCommand, command_names, help_on, texts_of, words_meant}
+use Rattle.ans_options.specs.CommandLine.{IsNoCommand, command_names, help_on, words_meant}
+use Rattle.ans_model.specs.Text.Words.{texts_of}
 use Rattle.ans_options.proofs.CommandLineLemmas.{not_true}
 
 unequal : (name other : Text) → (name ≡ other → ⊥) → bytes_eq name other ≡ false

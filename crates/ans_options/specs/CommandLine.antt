@@ -2,7 +2,6 @@
 use Rattle.std.specs.Prelude.{map, fold, ◌≡◌, ◌≢◌, ◌↔◌, not, Bool, true, false, List, [], ◌∷◌, Option, Some, codes}
 use Rattle.std.specs.Prelude.{IsSomeAnd, IsTrue, if◌then◌else◌, unwrap_or, ⊤}
 use Rattle.std.specs.List.{list_any}
-use Rattle.std.specs.Borrow.{Bor}
 use Rattle.std.specs.Option.{option_map_or}
 use Rattle.std.specs.Str.{bytes_eq}
 use Rattle.clap.specs.Words.{App, Row, Rule, Text, all_of, first_of, kind_of, one_of, new_app, new_rule, subcommand_of}
@@ -21,10 +20,6 @@ use Rattle.ans_options.specs.declared.command.Form.TheVariants.{Terminal, Vga, P
 use Rattle.ans_options.specs.declared.command.TableForm.{TableForm}
 use Rattle.ans_options.specs.declared.command.TableForm.TheVariants.{Headed, Bare, Json}
 use Rattle.ans_options.specs.declared.command.Options.{Options}
-
--- the words, as texts
-abbrev pub texts_of : List (Bor Text) → List Text
-texts_of words = map (λ w. w.now) words
 
 -- `--NAME`
 abbrev pub flag_rule : Text → Rule

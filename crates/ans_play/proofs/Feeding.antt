@@ -101,19 +101,19 @@ pub plays_all : (old new : PlayView) (piece : List ℕ) (i : ℕ) → PlaysTo ol
 plays_all old new piece i h end = rw (take_all i piece end) at h.goes_on
 
 -- what has a fault after bytes that are played
-deserved_after : (old mid : PlayView) (front rest : List ℕ) (fault : Fault) → GoesOn old front mid →
+first_after : (old mid : PlayView) (front rest : List ℕ) (fault : Fault) → GoesOn old front mid →
     IsFirstAfter mid rest fault → IsFirstAfter old (front ++ rest) fault
-deserved_after old mid front rest fault h d class s p =
+first_after old mid front rest fault h d class s p =
     let before : IsPlayed mid.size class (s ++ front) mid.scanner mid.state = rw h.size (h.played class s p) in
     subst (λ (xs : List ℕ). IsFirstFault old.size class xs fault) (append_assoc s front rest)
     (subst (λ (z : Size). IsFirstFault z class ((s ++ front) ++ rest) fault) h.size (d class (s ++ front) before))
 
 -- the fault of the rest is the piece's
-pub piece_deserved : (old mid : PlayView) (piece : List ℕ) (i : ℕ) (fault : Fault) → PlaysTo old piece i mid →
+pub piece_first : (old mid : PlayView) (piece : List ℕ) (i : ℕ) (fault : Fault) → PlaysTo old piece i mid →
     IsFirstAfter mid (take (length piece - i) (drop i piece)) fault → IsFirstAfter old piece fault
-piece_deserved old mid piece i fault h d =
+piece_first old mid piece i fault h d =
     subst (λ (xs : List ℕ). IsFirstAfter old xs fault) (take-append-drop i piece)
-    (deserved_after old mid (take i piece) (drop i piece) fault h.goes_on (rw take_rest at d))
+    (first_after old mid (take i piece) (drop i piece) fault h.goes_on (rw take_rest at d))
 
 -- ---- a piece
 -- bytes that are played have no first fault
@@ -242,10 +242,10 @@ module _ {old : PlayView} {scanner : ScannerView} {byte : ℕ} (same : scanner �
         })
 
     -- the byte ends a token, which is refused
-    pub byte_deserved : (result : Result (Unit {0}) Fault) → PlaysToken before new token result →
+    pub byte_first : (result : Result (Unit {0}) Fault) → PlaysToken before new token result →
         IfErr result (λ fault. (new.size ≡ old.size) × ((rest : List ℕ) → IsFirstAfter old (byte ∷ rest) fault))
-    byte_deserved (Ok r) plays = tt
-    byte_deserved (Err fault) plays =
+    byte_first (Ok r) plays = tt
+    byte_first (Err fault) plays =
         let shown = rw is at plays in (
           ap (λ (p : PlayView). p.size) shown.2,
           λ rest class s p.
@@ -278,8 +278,8 @@ byte_in_front old new [] some goes_on = elim some [ ]
 byte_in_front old new (b ∷ bytes) some goes_on = record { some = omega arith; within = some; played = goes_on }
 
 -- the fault of the first byte is that of the bytes
-pub front_deserved : (old new : PlayView) (bytes : List ℕ) (fault : Fault) → 1 ≤ length bytes →
+pub front_first : (old new : PlayView) (bytes : List ℕ) (fault : Fault) → 1 ≤ length bytes →
     (new.size ≡ old.size) × ((rest : List ℕ) → IsFirstAfter old (get_or bytes 0 0 ∷ rest) fault) →
     (new.size ≡ old.size) × IsFirstAfter old bytes fault
-front_deserved old new [] fault some _ = elim some [ ]
-front_deserved old new (b ∷ bytes) fault some (same, deserved) = (same, deserved bytes)
+front_first old new [] fault some _ = elim some [ ]
+front_first old new (b ∷ bytes) fault some (same, first) = (same, first bytes)

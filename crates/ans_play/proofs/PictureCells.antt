@@ -12,7 +12,7 @@ use Rattle.ans_model.specs.Verdict.Good.{Picture, IsPictureOf}
 use Rattle.ans_model.specs.declared.cell.Cell.{Cell}
 use Rattle.ans_screen.specs.declared.cell.HalfCell.{HalfCell}
 use Rattle.ans_play.specs.PlayView.{IsByteHalfCell}
-use Rattle.ans_play.specs.Shown.{known_cell, stated_cells, picture_of, IsShown, cells_of_row}
+use Rattle.ans_play.specs.Shown.{known_cell, stated_cells, picture_of, cells_of_row, AreShownCells}
 
 byte_or_0 : (o : Option ℕ) → IfSome o IsByte → IsByte (unwrap_or o 0)
 byte_or_0 None h = lit< tt
@@ -23,7 +23,7 @@ cell_byte c h = (byte_or_0 c.glyph h.0, h.1)
 
 -- shown cells are a picture of their size
 pub is_picture : (z : Size) (cells : List HalfCell) (picture : Picture) → picture_of z cells ≡ picture →
-    IsShown z cells → IsPictureOf picture.size picture
+    AreShownCells z cells → IsPictureOf picture.size picture
 is_picture z cells picture e h = rw (← e) (record {
   size = refl;
   count = simp (length-map, length-take) (omega (arith, h.enough));

@@ -42,7 +42,7 @@ abbrev pub attributes_of_row : Picture → ℕ → List ℕ
 attributes_of_row p row = map (λ c. c.attribute) (cells_of_row p row)
 
 -- each cell of the stated lines is known, and what is known are bytes
-pub record IsShown (z : Size) (cells : List HalfCell) : Type 0 where
+pub record AreShownCells (z : Size) (cells : List HalfCell) : Type 0 where
   pub enough : z.lines * z.width ≤ length cells
   pub known : IsTrue (list_all is_known (stated_cells z cells))
   pub bytes : All IsByteHalfCell cells

@@ -17,23 +17,23 @@ pub struct Picture<G: Screen> {
 
 impl<G: Screen> Model for Picture<G> {
     ghost use Rattle.ans_model.specs.Verdict.Good.{Picture};
-    ghost use Rattle.ans_play.specs.Shown.{picture_of, IsShown};
+    ghost use Rattle.ans_play.specs.Shown.{picture_of, AreShownCells};
 
     ghost Value = { Picture };
 
     ghost view = { λ p. picture_of p.size (G.cells_of p.grid) };
 
-    ghost invariant = { λ p. IsShown p.size (G.cells_of p.grid) };
+    ghost invariant = { λ p. AreShownCells p.size (G.cells_of p.grid) };
 }
 
 impl<G: Screen> Picture<G> {
     ghost use Rattle.ans_model.specs.Screen.State.{at, cell_at, IsPlayableSize};
     ghost use Rattle.ans_model.specs.Verdict.Good.{IsPictureOf};
-    ghost use Rattle.ans_play.specs.Shown.{IsShown, picture_of, known_cell, byte_at, attribute_at};
+    ghost use Rattle.ans_play.specs.Shown.{AreShownCells, picture_of, known_cell, byte_at, attribute_at};
     ghost use Rattle.ans_play.specs.Shown.{bytes_of_row, attributes_of_row};
 
     pub(crate) fn new(size: Size, grid: G) -> Picture<G>
-        requires shown { IsShown size (G.cells_of grid) }
+        requires shown { AreShownCells size (G.cells_of grid) }
         requires width { G.width_of grid ≡ size.width }
         requires rows { size.lines ≤ G.rows_of grid }
         ensures { result ≡ picture_of size (G.cells_of grid) }

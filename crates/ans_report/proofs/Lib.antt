@@ -1,3 +1,4 @@
+pub mod WordLemmas
 pub mod LineTexts
 pub mod RecordLemmas
 pub mod StartNames

@@ -5,7 +5,8 @@ use Rattle.std.proofs.lemmas.Bool.{false_from_ne_true, true_from_ne_false}
 use Rattle.ans_model.specs.declared.start.Start.{Start}
 use Rattle.ans_model.specs.Screen.StartClass.{none_known, all_known}
 use Rattle.ans_model.specs.Text.NeedsText.{needed_parts}
-use Rattle.ans_model.specs.Text.ReportText.{known_parts, start_name}
+use Rattle.ans_model.specs.Text.ReportText.{start_name}
+use Rattle.ans_model.specs.Text.Words.{part_names, words_text}
 
 -- a class by its parts
 abbrev class : Bool → Bool → Bool → Bool → Bool → Start
@@ -29,7 +30,7 @@ last_of_three all some cleared known any e f = rw (e, f) refl
 
 -- where some parts are known and some are not, the class is named by those that are
 pub name_of_parts : (s : Start) → (s ≡ none_known → ⊥) → (s ≡ all_known → ⊥)
-    → codes "known" ++ known_parts s ≡ start_name s
+    → codes "known " ++ words_text (part_names s) ≡ start_name s
 name_of_parts s some missing =
     last_of_three (s.screen && s.cursor && s.saved && s.colours && s.wrap)
     (s.screen || s.cursor || s.saved || s.colours || s.wrap) (codes "cleared") _ (codes "any")
@@ -41,7 +42,7 @@ first_of_two : (some : Bool) (parts nothing : List ℕ) → some ≡ true → pa
 first_of_two some parts nothing e = rw e refl
 
 -- where some parts are needed, they are named
-pub some_needed : (s : Start) → (s ≡ none_known → ⊥) → known_parts s ≡ needed_parts s
+pub some_needed : (s : Start) → (s ≡ none_known → ⊥) → words_text (part_names s) ≡ needed_parts s
 some_needed s some =
-    first_of_two (s.screen || s.cursor || s.saved || s.colours || s.wrap) (known_parts s) (codes " nothing")
+    first_of_two (s.screen || s.cursor || s.saved || s.colours || s.wrap) (words_text (part_names s)) (codes "nothing")
     (true_from_ne_false _ (λ h. some (none_is_known s.screen s.cursor s.saved s.colours s.wrap h)))

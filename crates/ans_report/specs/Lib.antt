@@ -1,3 +1,4 @@
+pub mod Words
 pub mod Headings
 pub mod Rows
 pub mod ReportBytes

@@ -2,12 +2,12 @@
 ghost use Rattle.std.specs.Prelude.{◌≡◌, ℕ, ◌++◌, codes, decimal, length};
 ghost use Rattle.std.specs.List.{flat_map};
 ghost use Rattle.ans_model.specs.Text.FaultText.{line_of, note_text, note_line};
-ghost use Rattle.ans_model.specs.Text.ReportText.{known_part, known_parts, start_name, start_line, heading_text};
+ghost use Rattle.ans_model.specs.Text.ReportText.{start_name, start_line, heading_text};
 ghost use Rattle.ans_write.specs.Puts.{Puts};
 ghost use Rattle.ans_sauce.specs.Parts.{content_of, notes_of};
 ghost use Rattle.ans_report.specs.Headings.{heading_of};
 
-use crate::lines::{put_named_line, put_size_line};
+use crate::lines::{put_named_line, put_size_line, put_words};
 use ans_model::start::Start;
 use ans_sauce::{Note, Parts};
 use ans_write::Outbox;
@@ -27,25 +27,6 @@ pub fn note_text(note: &Note) -> &'static str
     }
 }
 
-fn put_known_part<W: Write>(out: &mut Outbox<'_, W>, known: bool, name: &[u8])
-    ensures { Puts W.contents out.old out.new (known_part known name.now) }
-{
-    if known {
-        out.put(b" ");
-        out.put(name);
-    }
-}
-
-pub(crate) fn put_known_parts<W: Write>(out: &mut Outbox<'_, W>, start: Start)
-    ensures { Puts W.contents out.old out.new (known_parts start) }
-{
-    put_known_part(out, start.screen, b"screen");
-    put_known_part(out, start.cursor, b"cursor");
-    put_known_part(out, start.saved, b"saved");
-    put_known_part(out, start.colours, b"colours");
-    put_known_part(out, start.wrap, b"wrap");
-}
-
 fn put_start_name<W: Write>(out: &mut Outbox<'_, W>, start: Start)
     ensures { Puts W.contents out.old out.new (start_name start) }
 {
@@ -57,8 +38,8 @@ fn put_start_name<W: Write>(out: &mut Outbox<'_, W>, start: Start)
         out.put(b"cleared");
         return;
     }
-    out.put(b"known");
-    put_known_parts(out, start);
+    out.put(b"known ");
+    put_words(out, start.part_names().as_slice());
 }
 
 fn put_start_line<W: Write>(out: &mut Outbox<'_, W>, start: Option<Start>)

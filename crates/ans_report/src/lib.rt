@@ -26,7 +26,7 @@ mod tokens_text;
 pub use ans_write::{DeviceFault, Tried, WriteFault, glyph_text};
 pub use fault_lines::{fault_text, put_fault_line, put_refusal};
 pub use heading::note_text;
-pub use lines::{put_named_line, put_number_line, put_size_line};
+pub use lines::{answer_text, put_named_line, put_number_line, put_size_line};
 pub use message::write_message;
 pub use needs_text::{Needs, put_needed_parts, write_needs};
 pub use record_text::{put_record, write_record};

@@ -7,7 +7,8 @@ ghost use Rattle.ans_report.specs.Headings.{heading_of};
 ghost use Rattle.ans_report.specs.NeedsBytes.{needs_bytes};
 ghost use Rattle.ans_model.specs.Text.NeedsText.{needed_parts, needs_text};
 
-use crate::heading::{put_heading, put_known_parts};
+use crate::heading::put_heading;
+use crate::lines::put_words;
 use crate::report::put_refused;
 use ans_model::start::Start;
 use ans_sauce::{Fault, Parts};
@@ -25,22 +26,23 @@ pub enum Needs<'a> {
     Refused(Option<Parts<'a>>, Fault),
 }
 
-/// Puts the parts that a class knows, each after a blank, or ` nothing` where it knows none.
+/// Puts the names of the parts that a class knows, with a blank between each two, or `nothing` where it
+/// knows none.
 pub fn put_needed_parts<W: Write>(out: &mut Outbox<'_, W>, class: Start)
     ensures { Puts W.contents out.old out.new (needed_parts class) }
 {
     if class == Start::any() {
-        out.put(b" nothing");
+        out.put(b"nothing");
         return;
     }
-    put_known_parts(out, class);
+    put_words(out, class.part_names().as_slice());
 }
 
 fn put_least<W: Write>(out: &mut Outbox<'_, W>, parts: &Parts<'_>, class: Start)
     ensures { Puts W.contents out.old out.new (needs_text (heading_of parts.now None) class) }
 {
     put_heading(out, parts, None);
-    out.put(b"needs:");
+    out.put(b"needs: ");
     put_needed_parts(out, class);
     out.put(b"\n");
 }

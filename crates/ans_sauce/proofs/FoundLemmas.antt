@@ -10,7 +10,7 @@ use Rattle.ans_model.specs.declared.fault.Cause.TheVariants.{BytesAfterEndMark}
 use Rattle.ans_model.specs.declared.fault.Fault.{Fault}
 use Rattle.ans_model.specs.File.Refusals.{Refusal, fault_at, first_refusal, refusals, record_fault, has_record}
 use Rattle.memchr.specs.Find.{OccursAt, FindsLastNeedle}
-use Rattle.ans_sauce.specs.Found.{IsRecordAt, IsLastRecord, HasRecord, record_in, front_in}
+use Rattle.ans_sauce.specs.Found.{IsRecordAt, IsLastRecord, record_in, front_in, HoldsRecord}
 
 -- ---- which refusal applies
 same_cause : (o : Option Fault) (f g : Fault) → Some g ≡ Some f → f.cause ≡ g.cause
@@ -94,6 +94,6 @@ module _ (bytes : List ℕ) (end : ℕ) (room : end + 121 ≡ length bytes) wher
   )
 
 -- there is a last record exactly where there is one
-pub some_last : (bytes : List ℕ) (r : Option ℕ) → IsLastRecord bytes r → IsTrue (is_some r) ↔ HasRecord bytes
+pub some_last : (bytes : List ℕ) (r : Option ℕ) → IsLastRecord bytes r → IsTrue (is_some r) ↔ HoldsRecord bytes
 some_last bytes None none = (λ t. absurd (cc t), λ h. absurd (none h.0 (omega arith) (omega (arith, h.1.whole)) h.1))
 some_last bytes (Some place) last = (λ t. (place, last.1), λ h. refl)

@@ -22,8 +22,8 @@ abbrev pub IsLastRecord : List ℕ → Option ℕ → Type 0
 IsLastRecord bytes place = IsLast (IsRecordAt bytes) 0 (length bytes) place
 
 -- somewhere a record of version 00 stands
-abbrev pub HasRecord : List ℕ → Type 0
-HasRecord bytes = (place : ℕ) × IsRecordAt bytes place
+abbrev pub HoldsRecord : List ℕ → Type 0
+HoldsRecord bytes = (place : ℕ) × IsRecordAt bytes place
 
 -- the file's last 128 bytes, and those before them
 abbrev pub record_in : List ℕ → List ℕ
@@ -49,6 +49,6 @@ IsFound file (found.Comments count) cause = (cause ≡ CommentsMissing) × (coun
 IsFound file (found.Width width) cause = (cause ≡ WidthTooLarge) × (width ≡ tinfo 1 (record_in file))
 IsFound file (found.Lines lines) cause =
     ((cause ≡ LinesUnstated) ⊎ (cause ≡ LinesTooLarge)) × (lines ≡ tinfo 2 (record_in file))
-IsFound file (found.AfterEndMark count has_record) cause =
+IsFound file (found.AfterEndMark count holds_record) cause =
     (cause ≡ BytesAfterEndMark) × (count ≡ length (after_end_mark file))
-    × (IsTrue has_record ↔ HasRecord (after_end_mark file))
+    × (IsTrue holds_record ↔ HoldsRecord (after_end_mark file))

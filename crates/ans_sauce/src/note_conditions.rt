@@ -3,10 +3,10 @@ ghost use Rattle.std.specs.Prelude.{◌≡◌, ◌+◌, ◌≤◌, ◌<◌, ◌=
 ghost use Rattle.std.specs.List.{list_any, list_all};
 ghost use Rattle.std.specs.Char.{is_ascii_digit};
 ghost use Rattle.arrayvec.specs.ArrayVec.{array_vec_len};
-ghost use Rattle.ans_model.specs.File.Record.{tinfo, file_size, date_field, flags};
+ghost use Rattle.ans_model.specs.File.Record.{tinfo, file_size, date_field, flags, letter_spacing, aspect_ratio};
 ghost use Rattle.ans_model.specs.File.Layout as layout;
 ghost use Rattle.ans_model.specs.File.Layout.{is_end_mark};
-ghost use Rattle.ans_model.specs.File.NoteConditions.{note_if, notes, unused_flags, ratio_flags, spacing_flags};
+ghost use Rattle.ans_model.specs.File.NoteConditions.{note_if, notes, unused_flags};
 ghost use Rattle.ans_sauce.specs.RecordBytes.{bytes_of};
 
 use crate::record::Record;
@@ -15,12 +15,6 @@ use arrayvec::ArrayVec;
 
 /// SAUCE 00.5, ANSiFlags: the bits that have no meaning.
 const UNUSED_FLAGS: u8 = 0xE0;
-
-/// SAUCE 00.5, ANSiFlags: the aspect ratio, in which 11 is not valid.
-const RATIO_FLAGS: u8 = 0x18;
-
-/// SAUCE 00.5, ANSiFlags: the letter spacing, in which 11 is not valid.
-const SPACING_FLAGS: u8 = 0x06;
 
 fn assumes_width(sauce: &Record<'_>) -> bool
     ensures { result ≡ (tinfo 1 (bytes_of sauce.now) == 0) }
@@ -56,11 +50,9 @@ fn sets_unused_flags(sauce: &Record<'_>) -> bool
 }
 
 fn has_invalid_pair(sauce: &Record<'_>) -> bool
-    ensures { result ≡ (bit_and (flags (bytes_of sauce.now)) ratio_flags == ratio_flags
-        || bit_and (flags (bytes_of sauce.now)) spacing_flags == spacing_flags) }
+    ensures { result ≡ (aspect_ratio (bytes_of sauce.now) == 3 || letter_spacing (bytes_of sauce.now) == 3) }
 {
-    let flags = sauce.flags();
-    flags & RATIO_FLAGS == RATIO_FLAGS || flags & SPACING_FLAGS == SPACING_FLAGS
+    sauce.aspect_ratio() == 3 || sauce.letter_spacing() == 3
 }
 
 fn push_if(notes: &mut ArrayVec<Note, 6>, applies: bool, note: Note)

@@ -2,8 +2,9 @@
 ghost use Rattle.std.specs.Prelude.{◌≡◌, ◌+◌, ◌≤◌, ◌<◌, ◌==◌, ◌&&◌, not, nat_lt, length, bytes_eq, codes};
 ghost use Rattle.ans_model.specs.Bytes.{most_columns, most_lines};
 ghost use Rattle.ans_model.specs.File.Record.{number, field, version_field, title_field, author_field, group_field};
-ghost use Rattle.ans_model.specs.File.Record.{date_field, font_field, file_size, data_type, file_type, tinfo, stated_width, stated_lines, trimmed};
+ghost use Rattle.ans_model.specs.File.Record.{date_field, font_field, file_size, data_type, file_type, tinfo, trimmed};
 ghost use Rattle.ans_model.specs.File.Record.{comment_count, flags, is_non_blink, letter_spacing, aspect_ratio};
+ghost use Rattle.ans_model.specs.File.Record.{stated_width, stated_lines};
 
 use crate::padding::trimmed;
 use ans_model::limits::{MAX_LINES, MAX_WIDTH};
@@ -147,6 +148,23 @@ impl<'a> Record<'a> {
         self.flags() / 8 % 4
     }
 
+    /// The stated width in columns (TInfo1). 0 stands for 80. A record that is accepted states at most 1024.
+    pub fn width(&self) -> usize
+        ensures { result ≡ stated_width (bytes_of self.now) }
+    {
+        match self.tinfo(1) {
+            0 => 80,
+            width => width as usize,
+        }
+    }
+
+    /// The stated number of lines (TInfo2). A record that is accepted states 1 to 8192.
+    pub fn lines(&self) -> usize
+        ensures { result ≡ stated_lines (bytes_of self.now) }
+    {
+        self.tinfo(2) as usize
+    }
+
     pub(crate) fn date_bytes(&self) -> &'a [u8]
         ensures { result.now ≡ date_field (bytes_of self.now) }
     {
@@ -182,21 +200,6 @@ impl<'a> Record<'a> {
         ensures { result ≡ nat_lt most_lines (tinfo 2 (bytes_of self.now)) }
     {
         self.tinfo(2) as usize > MAX_LINES
-    }
-
-    pub(crate) fn width(&self) -> usize
-        ensures { result ≡ stated_width (bytes_of self.now) }
-    {
-        match self.tinfo(1) {
-            0 => 80,
-            width => width as usize,
-        }
-    }
-
-    pub(crate) fn lines(&self) -> usize
-        ensures { result ≡ stated_lines (bytes_of self.now) }
-    {
-        self.tinfo(2) as usize
     }
 
     fn byte(&self, offset: usize) -> u8

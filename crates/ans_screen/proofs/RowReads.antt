@@ -15,7 +15,7 @@ use Rattle.ans_screen.specs.GridEdits.{written, row_cells, is_unknown, first_unk
 use Rattle.ans_screen.specs.HalfCells.{attribute_byte, glyph_byte, byte_of}
 use Rattle.ans_screen.specs.CellPlanes.{known_byte, AreKnown, IsFirstGap}
 use Rattle.ans_screen.specs.RowCells.{Planes, Stale, Known, Mixed, cell_in_grid, cells_of_grid, states_of, length_grid}
-use Rattle.ans_screen.specs.RowCells.{shown_plane, known_plane, AreKnownCells, IsFirstUnknown, IsCopied, IsHeldRow}
+use Rattle.ans_screen.specs.RowCells.{shown_plane, known_plane, AreKnownCells, IsCopied, IsHeldRow, FindsUnknown}
 use Rattle.ans_screen.specs.declared.cell.CellByte.{CellByte}
 use Rattle.ans_screen.specs.declared.cell.CellByte.TheVariants.{Glyph, Attribute}
 use Rattle.ans_screen.specs.declared.cell.HalfCell.{HalfCell}
@@ -52,7 +52,7 @@ module _ (g : Planes) where
 
   pub gap_some : (from to i : ℕ) → ((i : ℕ) → from ≤ i → i < to → states_of g i ≡ Mixed)
       → IsFirstGap (between from to g.glyphs_known) (between from to g.bits_known) (to - from) (Some i)
-      → IsFirstUnknown (cell_in_grid g) from to (Some (from + i))
+      → FindsUnknown (cell_in_grid g) from to (Some (from + i))
   gap_some from to i mixed found =
       let lt = found.0 in
       let k = get_or-between g.glyphs_known from to i 0 (omega arith) in
@@ -69,7 +69,7 @@ module _ (g : Planes) where
 
   -- ---- the first of all cells
   pub first_of_grid : (to : ℕ) (result : Option ℕ) → to ≤ g.width * g.rows
-      → IsFirstUnknown (cell_in_grid g) 0 to result → result ≡ first_unknown (cells_of_grid g) to
+      → FindsUnknown (cell_in_grid g) 0 to result → result ≡ first_unknown (cells_of_grid g) to
   first_of_grid to result le first = of_result result first
     where
       front : List HalfCell
@@ -85,7 +85,7 @@ module _ (g : Planes) where
           → is_unknown (get_or front k no_cell) ≡ false
       below i within known k lt = ap is_unknown (at k (omega arith)) ∙ known k (omega arith) lt
 
-      of_result : (r : Option ℕ) → IsFirstUnknown (cell_in_grid g) 0 to r → r ≡ position is_unknown front
+      of_result : (r : Option ℕ) → FindsUnknown (cell_in_grid g) 0 to r → r ≡ position is_unknown front
       of_result None known =
           sym (position_none is_unknown front
           (position_or_len_is is_unknown front to no_cell (omega (arith, len)) (below to (omega arith) known)

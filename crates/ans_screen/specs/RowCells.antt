@@ -175,8 +175,8 @@ abbrev pub AreKnownCells : (ℕ → HalfCell) → ℕ → ℕ → Type 0
 AreKnownCells cell from to = (i : ℕ) → from ≤ i → i < to → is_unknown (cell i) ≡ false
 
 -- the first of those cells that is not known
-abbrev pub IsFirstUnknown : (ℕ → HalfCell) → ℕ → ℕ → Option ℕ → Type 0
-IsFirstUnknown cell from to result =
+abbrev pub FindsUnknown : (ℕ → HalfCell) → ℕ → ℕ → Option ℕ → Type 0
+FindsUnknown cell from to result =
     MatchOption result (AreKnownCells cell from to)
     (λ i. (from ≤ i) × (i < to) × AreKnownCells cell from i × IsTrue (is_unknown (cell i)))
 

@@ -11,6 +11,7 @@ use crate::lent_row::LentRow;
 use crate::planes::{fill_bytes, write_bytes};
 use crate::row_planes::{Frame, Row, RowPlanes, cells, copies};
 use crate::screen::Screen;
+use ans_model::limits::{MAX_LINES, MAX_WIDTH};
 
 /// Cell `i` is byte `i` of each of four planes where its row holds it, and else the blank. A fill of
 /// the whole grid writes neither planes nor rows.
@@ -52,7 +53,7 @@ impl<'a> LentGrid<'a> {
         ensures rows { IfSome result (λ g. ⟦<LentGrid<'a> as Screen>⟧.rows_of g ≡ rows) }
         ensures cells { IfSome result (λ g. ⟦<LentGrid<'a> as Screen>⟧.cells_of g ≡ replicate (width * rows) cell) }
     {
-        if width < 1 || width > 1024 || rows < 1 || rows > 8193 {
+        if width < 1 || width > MAX_WIDTH || rows < 1 || rows > MAX_LINES + 1 {
             return None;
         }
         if held.len() < rows || bytes.len() < 4 * (width * rows) {

@@ -32,6 +32,18 @@ impl CellBytes {
         }
     }
 
+    pub(crate) fn of_cell(cell: HalfCell) -> CellBytes
+        ensures { cell_of result.glyph result.glyph_known result.bits_known result.value ≡ cell }
+    {
+        let (glyph, glyph_known) = bytes_of_glyph(cell.glyph);
+        CellBytes {
+            glyph,
+            glyph_known,
+            bits_known: cell.attr.known,
+            value: cell.attr.value,
+        }
+    }
+
     pub(crate) fn is_known(&self) -> bool
         ensures { IsTrue result ↔ ((self.now.glyph_known ≡ 0xFF) × (self.now.bits_known ≡ 0xFF)) }
     {
@@ -46,18 +58,6 @@ fn bytes_of_glyph(glyph: Option<u8>) -> (u8, u8)
     match glyph {
         Some(byte) => (byte, 0xFF),
         None => (0x00, 0x00),
-    }
-}
-
-pub(crate) fn bytes_of(cell: HalfCell) -> CellBytes
-    ensures { cell_of result.glyph result.glyph_known result.bits_known result.value ≡ cell }
-{
-    let (glyph, glyph_known) = bytes_of_glyph(cell.glyph);
-    CellBytes {
-        glyph,
-        glyph_known,
-        bits_known: cell.attr.known,
-        value: cell.attr.value,
     }
 }
 

@@ -1,4 +1,4 @@
-mod WordLemmas
+mod LabelLemmas
 mod CountLemmas
 mod NameLemmas
 mod JsonLemmas

@@ -1,5 +1,5 @@
 -- The columns of a row before the file's name, each with a tab behind it. A value that is absent is empty.
-use Rattle.std.specs.Prelude.{ℕ, ◌==◌, Bool, true, false, List, [], ◌∷◌, ◌++◌, length, codes, decimal}
+use Rattle.std.specs.Prelude.{ℕ, ◌==◌, List, [], ◌∷◌, ◌++◌, length, codes, decimal}
 use Rattle.std.specs.Prelude.{Option, Some, None, if◌then◌else◌}
 use Rattle.std.specs.List.{before_first, flat_map}
 use Rattle.ans_model.specs.Bytes.{blank}
@@ -9,12 +9,14 @@ use Rattle.ans_model.specs.File.Record.{aspect_ratio, author_field, date_field, 
 use Rattle.ans_model.specs.File.Record.{letter_spacing, stated_lines, stated_width, title_field, trimmed}
 use Rattle.ans_model.specs.Text.Characters.{shown_bytes}
 use Rattle.ans_model.specs.Text.FaultText.{fault_text}
+use Rattle.ans_model.specs.Text.NeedsText.{needed_parts}
+use Rattle.ans_model.specs.Text.Words.{answer_text}
 use Rattle.ans_sauce.specs.declared.parts.Parts.{Parts}
 use Rattle.ans_sauce.specs.Parts.{content_of, notes_of}
 use Rattle.ans_table.specs.declared.finding.Finding.{Finding}
 use Rattle.ans_table.specs.declared.finding.Finding.TheVariants.{Pass, Refused, NoContent, Unread}
 use Rattle.ans_table.specs.Findings.{unread_text}
-use Rattle.ans_table.specs.Words.{needs_text, notes_text}
+use Rattle.ans_table.specs.Labels.{labels_text}
 
 abbrev pub tab : ℕ
 tab = 0x09
@@ -23,25 +25,20 @@ tab = 0x09
 abbrev pub column : List ℕ → List ℕ
 column text = text ++ tab ∷ []
 
--- yes or no
-abbrev pub ice_text : Bool → List ℕ
-ice_text true = codes "yes"
-ice_text false = codes "no"
-
--- the number of a fault, as `F20`: its text up to the first blank
-abbrev pub fault_number : Cause → List ℕ
-fault_number cause = before_first (λ b. b == blank) (fault_text cause)
+-- the label of a fault, as `F20`: its text up to the first blank
+abbrev pub fault_label : Cause → List ℕ
+fault_label cause = before_first (λ b. b == blank) (fault_text cause)
 
 -- the columns from the verdict to the fault's offset: `needs` and `taller` are empty
 abbrev pub fault_columns : Fault → List ℕ
 fault_columns fault =
-    column (codes "refused") ++ (tab ∷ tab ∷ (column (fault_number fault.cause) ++ column (decimal fault.offset)))
+    column (codes "refused") ++ (tab ∷ tab ∷ (column (fault_label fault.cause) ++ column (decimal fault.offset)))
 
 -- the columns from the verdict to the place of the fault
 abbrev pub verdict_columns : Finding → List ℕ
 verdict_columns (Pass parts needs taller) =
     column (codes "pass")
-    ++ (column (needs_text needs) ++ (column (ice_text taller) ++ tab ∷ tab ∷ tab ∷ tab ∷ []))
+    ++ (column (needed_parts needs) ++ (column (answer_text taller) ++ tab ∷ tab ∷ tab ∷ tab ∷ []))
 verdict_columns (Refused parts fault row column_number) =
     fault_columns fault ++ (column (decimal row) ++ column (decimal column_number))
 verdict_columns (NoContent fault sauce) = fault_columns fault ++ tab ∷ tab ∷ []
@@ -55,7 +52,7 @@ stated_columns None = tab ∷ tab ∷ []
 
 -- the length of the content in bytes, and the notes
 abbrev pub parts_columns : Parts → List ℕ
-parts_columns parts = column (decimal (length (content_of parts))) ++ column (notes_text (notes_of parts))
+parts_columns parts = column (decimal (length (content_of parts))) ++ column (labels_text (notes_of parts))
 
 abbrev pub content_columns : Finding → List ℕ
 content_columns (Pass parts needs taller) = parts_columns parts
@@ -71,7 +68,7 @@ by_pair pair one two = if pair == 1 then one else if pair == 2 then two else []
 -- ones: the last two where they say which.
 abbrev pub flag_columns : List ℕ → List ℕ
 flag_columns sauce =
-    column (ice_text (is_non_blink sauce))
+    column (answer_text (is_non_blink sauce))
     ++ (column (by_pair (letter_spacing sauce) (codes "8") (codes "9"))
     ++ column (by_pair (aspect_ratio sauce) (codes "stretch") (codes "square")))
 

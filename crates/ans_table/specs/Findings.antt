@@ -21,7 +21,7 @@ use Rattle.ans_table.specs.declared.finding.Unread as unread
 use Rattle.ans_table.specs.declared.finding.Unread.TheVariants as why
 
 -- before the fault the cursor stands in this row and this column, counted from 1, in the play from the cleared start
-pub record StandsAt (z : Size) (content : List ℕ) (fault : Fault) (row column : ℕ) : Type 0 where
+pub record StandsIn (z : Size) (content : List ℕ) (fault : Fault) (row column : ℕ) : Type 0 where
   pub position : Position
   pub shows : ShowsCursors z all_known content fault position position
   pub row_is : row ≡ position.row + 1
@@ -39,7 +39,7 @@ IsFindingOf file (Pass parts needs taller) =
     × (IsTrue taller ↔ IsTaller (size_of parts) needs (content_of parts))
 IsFindingOf file (Refused parts fault row column) =
     IsSplit file parts × IsDeserved (size_of parts) all_known (content_of parts) fault
-    × StandsAt (size_of parts) (content_of parts) fault row column
+    × StandsIn (size_of parts) (content_of parts) fault row column
 IsFindingOf file (NoContent fault sauce) =
     (record_fault file ≡ Some fault) × IsRecordOf file (option_map bytes_of sauce)
 IsFindingOf file (Unread reason) = ⊥

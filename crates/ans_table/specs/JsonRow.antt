@@ -9,16 +9,18 @@ use Rattle.serde_json.specs.declared.value.Value.{Value}
 use Rattle.serde_json.specs.Written.{compact_text}
 use Rattle.ans_model.specs.declared.fault.Fault.{Fault}
 use Rattle.ans_model.specs.File.Record.{aspect_ratio, author_field, comment, comment_count, date_field, font_field}
-use Rattle.ans_model.specs.File.Record.{group_field, is_non_blink, letter_spacing, stated_lines, stated_width, title_field, trimmed}
+use Rattle.ans_model.specs.File.Record.{group_field, is_non_blink, letter_spacing, stated_lines, stated_width, trimmed}
+use Rattle.ans_model.specs.File.Record.{title_field}
 use Rattle.ans_model.specs.Text.Characters.{shown_bytes}
 use Rattle.ans_sauce.specs.declared.parts.Parts.{Parts}
 use Rattle.ans_sauce.specs.Parts.{comments_of, content_of, notes_of, record_of}
 use Rattle.ans_table.specs.declared.finding.Finding.{Finding}
 use Rattle.ans_table.specs.declared.finding.Finding.TheVariants.{Pass, Refused, NoContent, Unread}
-use Rattle.ans_table.specs.Columns.{by_pair, fault_number}
+use Rattle.ans_table.specs.Columns.{by_pair, fault_label}
 use Rattle.ans_table.specs.Findings.{sauce_of, unread_text}
 use Rattle.ans_table.specs.NameText.{name_text}
-use Rattle.ans_table.specs.Words.{note_number, part_names}
+use Rattle.ans_table.specs.Labels.{note_label}
+use Rattle.ans_model.specs.Text.Words.{part_names}
 
 -- a value and its name
 abbrev pub Named : Type 0
@@ -40,7 +42,7 @@ with_values (v ∷ vs) members = with_values vs (put v.0 v.1 members)
 abbrev pub fault_values : Fault → List Named
 fault_values fault =
     (codes "verdict", string (codes "refused"))
-    ∷ (codes "fault", string (fault_number fault.cause)) ∷ (codes "at", count fault.offset) ∷ []
+    ∷ (codes "fault", string (fault_label fault.cause)) ∷ (codes "at", count fault.offset) ∷ []
 
 -- the verdict, and what belongs to it
 abbrev pub verdict_values : Finding → List Named
@@ -65,7 +67,7 @@ comment_texts parts = comments_from 0 (comment_count (record_of parts)) (comment
 abbrev pub parts_values : Parts → List Named
 parts_values parts =
     (codes "content", count (length (content_of parts)))
-    ∷ (codes "notes", texts (map note_number (notes_of parts)))
+    ∷ (codes "notes", texts (map note_label (notes_of parts)))
     ∷ (codes "comments", texts (comment_texts parts)) ∷ []
 
 abbrev pub content_values : Finding → List Named
@@ -76,7 +78,8 @@ content_values (Unread reason) = []
 
 -- letters of 8 or of 9 pixels, where the flags say which
 abbrev pub spacing_values : List ℕ → List Named
-spacing_values sauce = by_pair (letter_spacing sauce) ((codes "spacing", count 8) ∷ []) ((codes "spacing", count 9) ∷ [])
+spacing_values sauce =
+    by_pair (letter_spacing sauce) ((codes "spacing", count 8) ∷ []) ((codes "spacing", count 9) ∷ [])
 
 -- pixels to be stretched, or square ones, where the flags say which
 abbrev pub aspect_values : List ℕ → List Named

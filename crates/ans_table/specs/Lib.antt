@@ -1,4 +1,4 @@
-pub mod Words
+pub mod Labels
 pub mod Findings
 pub mod Columns
 pub mod NameText

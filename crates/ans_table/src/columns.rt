@@ -1,17 +1,16 @@
 //! The columns of a row.
 
 ghost use Rattle.std.specs.Prelude.{◌≡◌, Some, option_map, decimal};
-ghost use Rattle.ans_model.specs.File.Record.{stated_lines, stated_width};
 ghost use Rattle.ans_sauce.specs.RecordBytes.{bytes_of};
 ghost use Rattle.ans_write.specs.Puts.{Puts};
-ghost use Rattle.ans_table.specs.Columns.{by_pair, column, content_columns, escaped_byte, escaped_text};
-ghost use Rattle.ans_table.specs.Columns.{fault_columns, fault_number, field_columns, flag_columns, ice_text};
+ghost use Rattle.ans_table.specs.Columns.{by_pair, column, content_columns, escaped_byte, escaped_text, fault_label};
+ghost use Rattle.ans_table.specs.Columns.{fault_columns, field_columns, flag_columns};
 ghost use Rattle.ans_table.specs.Columns.{parts_columns, record_columns, stated_columns, verdict_columns};
 
 use crate::finding::Finding;
-use crate::words::{put_needs, put_notes};
+use crate::labels::put_labels;
 use ans_model::fault::Fault;
-use ans_report::fault_text;
+use ans_report::{answer_text, fault_text, put_needed_parts};
 use ans_sauce::{Parts, Record};
 use ans_write::{Outbox, put_characters};
 use std::io::Write;
@@ -30,9 +29,9 @@ fn put_number<W: Write>(out: &mut Outbox<'_, W>, number: usize)
     out.put(b"\t");
 }
 
-/// The number of a fault, as `F20`: its text up to the first blank.
-pub(crate) fn fault_number(fault: &Fault) -> &'static str
-    ensures { result.now ≡ fault_number fault.now.cause }
+/// The label of a fault, as `F20`: its text up to the first blank.
+pub(crate) fn fault_label(fault: &Fault) -> &'static str
+    ensures { result.now ≡ fault_label fault.now.cause }
 {
     let text = fault_text(fault);
     match text.split_once(' ') {
@@ -45,14 +44,8 @@ fn put_fault<W: Write>(out: &mut Outbox<'_, W>, fault: &Fault)
     ensures { Puts W.contents out.old out.new (fault_columns fault.now) }
 {
     out.put(b"refused\t\t\t");
-    put_column(out, fault_number(fault).as_bytes());
+    put_column(out, fault_label(fault).as_bytes());
     put_number(out, fault.offset);
-}
-
-fn answer(yes: bool) -> &'static [u8]
-    ensures { result.now ≡ ice_text yes }
-{
-    if yes { b"yes" } else { b"no" }
 }
 
 /// The columns from the verdict to the place of the fault.
@@ -62,9 +55,9 @@ pub(crate) fn put_verdict<W: Write>(out: &mut Outbox<'_, W>, finding: &Finding<'
     match finding {
         Finding::Pass { needs, taller, .. } => {
             out.put(b"pass\t");
-            put_needs(out, *needs);
+            put_needed_parts(out, *needs);
             out.put(b"\t");
-            put_column(out, answer(*taller));
+            put_column(out, answer_text(*taller));
             out.put(b"\t\t\t\t");
         }
         Finding::Refused {
@@ -89,27 +82,11 @@ pub(crate) fn put_verdict<W: Write>(out: &mut Outbox<'_, W>, finding: &Finding<'
     }
 }
 
-/// The stated width in columns. 0 counts as 80.
-pub(crate) fn stated_width(sauce: &Record<'_>) -> usize
-    ensures { result ≡ stated_width (bytes_of sauce.now) }
-{
-    match sauce.tinfo(1) {
-        0 => 80,
-        width => width as usize,
-    }
-}
-
-pub(crate) fn stated_lines(sauce: &Record<'_>) -> usize
-    ensures { result ≡ stated_lines (bytes_of sauce.now) }
-{
-    sauce.tinfo(2) as usize
-}
-
 fn put_size<W: Write>(out: &mut Outbox<'_, W>, sauce: &Record<'_>)
     ensures { Puts W.contents out.old out.new (stated_columns (Some (bytes_of sauce.now))) }
 {
-    put_number(out, stated_width(sauce));
-    put_number(out, stated_lines(sauce));
+    put_number(out, sauce.width());
+    put_number(out, sauce.lines());
 }
 
 /// The columns of the stated size.
@@ -126,7 +103,7 @@ fn put_parts<W: Write>(out: &mut Outbox<'_, W>, parts: &Parts<'_>)
     ensures { Puts W.contents out.old out.new (parts_columns parts.now) }
 {
     put_number(out, parts.content().len());
-    put_notes(out, parts.notes().as_slice());
+    put_labels(out, parts.notes().as_slice());
     out.put(b"\t");
 }
 
@@ -154,7 +131,7 @@ fn pair_text(pair: u8, one: &'static [u8], two: &'static [u8]) -> &'static [u8]
 fn put_flags<W: Write>(out: &mut Outbox<'_, W>, sauce: &Record<'_>)
     ensures { Puts W.contents out.old out.new (flag_columns (bytes_of sauce.now)) }
 {
-    put_column(out, answer(sauce.is_non_blink()));
+    put_column(out, answer_text(sauce.is_non_blink()));
     put_column(out, pair_text(sauce.letter_spacing(), b"8", b"9"));
     put_column(out, pair_text(sauce.aspect_ratio(), b"stretch", b"square"));
 }

@@ -10,12 +10,13 @@ ghost use Rattle.ans_table.specs.JsonRow.{Adds, aspect_values, comment_texts, co
 ghost use Rattle.ans_table.specs.JsonRow.{fault_values, field_values, flag_values, json_text, parts_values};
 ghost use Rattle.ans_table.specs.JsonRow.{record_values, row_data, size_values, spacing_values, texts, verdict_values};
 ghost use Rattle.ans_table.specs.NameText.{name_text};
-ghost use Rattle.ans_table.specs.Words.{note_number, part_names, texts_of};
+ghost use Rattle.ans_table.specs.Labels.{note_label};
+ghost use Rattle.ans_model.specs.Text.Words.{texts_of, part_names};
 
-use crate::columns::{fault_number, stated_lines, stated_width};
+use crate::columns::fault_label;
 use crate::finding::Finding;
+use crate::labels::note_label;
 use crate::name_text::put_name;
-use crate::words::{note_number, part_names};
 use ans_model::fault::Fault;
 use ans_model::note::Note;
 use ans_model::start::Start;
@@ -71,16 +72,16 @@ fn words_value(alloc: Global, words: &[&str]) -> Result<Value, AllocError>
 fn needs_value(alloc: Global, needs: Start) -> Result<Value, AllocError>
     ensures { IfOk result (λ v. view v ≡ texts (part_names needs)) }
 {
-    words_value(alloc, part_names(needs).as_slice())
+    words_value(alloc, needs.part_names().as_slice())
 }
 
-/// The numbers of notes.
+/// The labels of notes.
 fn notes_value(alloc: Global, notes: &[Note]) -> Result<Value, AllocError>
-    ensures { IfOk result (λ v. view v ≡ texts (map note_number notes.now)) }
+    ensures { IfOk result (λ v. view v ≡ texts (map note_label notes.now)) }
 {
     let mut list = Vec::new(alloc);
     for note in notes {
-        push(&mut list, Value::try_from_str(alloc, note_number(note))?)?;
+        push(&mut list, Value::try_from_str(alloc, note_label(note))?)?;
     }
     Ok(Value::Array(list))
 }
@@ -113,7 +114,7 @@ fn put_fault(members: &mut Members, alloc: Global, fault: &Fault) -> Added
     ensures { Adds members.old.entries members.new.entries result (fault_values fault.now) }
 {
     put_text(members, alloc, "verdict", "refused")?;
-    put_text(members, alloc, "fault", fault_number(fault))?;
+    put_text(members, alloc, "fault", fault_label(fault))?;
     put_number(members, alloc, "at", fault.offset)
 }
 
@@ -197,8 +198,8 @@ fn put_flags(members: &mut Members, alloc: Global, sauce: &Record<'_>) -> Added
 fn put_size(members: &mut Members, alloc: Global, sauce: &Record<'_>) -> Added
     ensures { Adds members.old.entries members.new.entries result (size_values (bytes_of sauce.now)) }
 {
-    put_number(members, alloc, "width", stated_width(sauce))?;
-    put_number(members, alloc, "lines", stated_lines(sauce))
+    put_number(members, alloc, "width", sauce.width())?;
+    put_number(members, alloc, "lines", sauce.lines())
 }
 
 fn put_fields(members: &mut Members, alloc: Global, sauce: &Record<'_>) -> Added

@@ -14,9 +14,9 @@ mod columns;
 mod counts;
 mod finding;
 mod json_object;
+mod labels;
 mod name_text;
 mod row_text;
-mod words;
 
 pub use counts::{Counts, Outcome, write_counts};
 pub use finding::{Finding, Unread};

@@ -89,15 +89,15 @@ pub record Progress : Type 0 where
   pub left : List ℕ
   pub rest : List ℕ
 
-abbrev pub StandsAt : Standing → List ℕ → List ℕ → Type 0
-StandsAt (In open_part) left rest = SpellsOpen open_part left × (rest ≡ [])
-StandsAt (Refused cause) left rest = IsRefused left cause
+abbrev pub IsStanding : Standing → List ℕ → List ℕ → Type 0
+IsStanding (In open_part) left rest = SpellsOpen open_part left × (rest ≡ [])
+IsStanding (Refused cause) left rest = IsRefused left cause
 
 -- the bytes are so
 pub record IsProgress (bytes : List ℕ) (p : Progress) : Type 0 where
   pub whole : bytes ≡ p.front ++ (p.left ++ p.rest)
   pub reads : ReadsAs p.front p.tokens p.texts
-  pub stands : StandsAt p.stands p.left p.rest
+  pub stands : IsStanding p.stands p.left p.rest
 
 abbrev pub settled : Progress → List ℕ → Next → Progress
 settled p y (Stays open_part) = record p { stands = In open_part; left = y; rest = [] }
@@ -142,7 +142,7 @@ settled_is p bytes y (Ends token) reads whole h = record {
 }
 
 with_byte_is : (p : Progress) (s : Standing) (bytes : List ℕ) (b : ℕ) → IsByte b
-    → bytes ≡ p.front ++ (p.left ++ p.rest) → ReadsAs p.front p.tokens p.texts → StandsAt s p.left p.rest
+    → bytes ≡ p.front ++ (p.left ++ p.rest) → ReadsAs p.front p.tokens p.texts → IsStanding s p.left p.rest
     → IsProgress (bytes ++ b ∷ []) (with_byte p s b)
 with_byte_is p (In open_part) bytes b byte whole reads h =
     let front : bytes ≡ p.front ++ p.left = rw (h.1, append-nil) at whole in
@@ -170,7 +170,7 @@ pub progress_is : (bytes : List ℕ) → AllByRecursion IsByte bytes → IsProgr
 progress_is bytes h = with_bytes_is at_start [] bytes h
     (record { whole = refl; reads = record { each = tt; whole = refl }; stands = (refl, refl) })
 
-leaves : (s : Standing) (left rest : List ℕ) → StandsAt s left rest
+leaves : (s : Standing) (left rest : List ℕ) → IsStanding s left rest
     → IsOpen (left ++ rest) ⊎ IsRefusedFront (left ++ rest)
 leaves (In open_part) left rest h = inl (rw (h.1, append-nil) (is_open open_part left h.0))
 leaves (Refused cause) left rest h =

@@ -36,9 +36,9 @@ BeginsWithNoGlyph bytes = (b : ℕ) → slice_get bytes 0 ≡ Some b → ¬ IsGl
 
 -- Glyphs are the text itself, and no glyph comes after them. A token says where its text stands and how long it is,
 -- and begins with no glyph.
-abbrev pub StandsAt : ℕ → List ℕ → List ℕ → Piece → Type 0
-StandsAt offset text rest (Glyphs bytes) = (bytes.now ≡ text) × BeginsWithNoGlyph rest
-StandsAt offset text rest (Token t) = (start_of t ≡ offset) × (length_of t ≡ length text) × BeginsWithNoGlyph text
+abbrev pub IsPieceAt : ℕ → List ℕ → List ℕ → Piece → Type 0
+IsPieceAt offset text rest (Glyphs bytes) = (bytes.now ≡ text) × BeginsWithNoGlyph rest
+IsPieceAt offset text rest (Token t) = (start_of t ≡ offset) × (length_of t ≡ length text) × BeginsWithNoGlyph text
 
 -- the bytes that were left begin with those of the piece, at least one, and the others are left
 pub record TakesPiece (old new : PiecesView) (piece : Piece) : Type 0 where
@@ -47,7 +47,7 @@ pub record TakesPiece (old new : PiecesView) (piece : Piece) : Type 0 where
   pub some : 0 < length text
   pub reads : Reads text (kinds_of_piece piece)
   pub offset : new.offset ≡ old.offset + length text
-  pub stands : StandsAt old.offset text new.rest piece
+  pub stands : IsPieceAt old.offset text new.rest piece
 
 -- nothing is left, and nothing is taken
 abbrev pub HasEnded : PiecesView → PiecesView → Type 0

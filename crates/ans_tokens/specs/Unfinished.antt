@@ -36,10 +36,10 @@ abbrev pub with_next : Part → Part
 with_next part = record { mark = part.mark; done = part.done ++ member_of part.current ∷ []; current = Fresh }
 
 -- After the open part, which the part spells, the byte leaves the sequence unfinished, is its letter, or is refused.
-abbrev pub Outcome : Continuation → Unfinished → Part → List ℕ → ℕ → Type 0
-Outcome More held part open_part byte =
+abbrev pub ContinuesAs : Continuation → Unfinished → Part → List ℕ → ℕ → Type 0
+ContinuesAs More held part open_part byte =
     (next : Part) × IsStateOf held next × SpellsPart next (open_part ++ byte ∷ [])
-Outcome Letter held part open_part byte =
+ContinuesAs Letter held part open_part byte =
     IsStateOf held part × (lacks part.current ≡ []) × Spells (raw_of part byte) (open_part ++ byte ∷ [])
-Outcome (Refused cause) held part open_part byte =
+ContinuesAs (Refused cause) held part open_part byte =
     ¬ IsPrefixOfSpelling (open_part ++ byte ∷ []) × IsWhy (open_part ++ byte ∷ []) byte cause

@@ -89,7 +89,7 @@ impl Unfinished {
     ghost use Rattle.ans_model.specs.Sequence.Spelling.{IsPrefixOfLoose};
     ghost use Rattle.ans_model.specs.Sequence.Meaning.{meaning, colour_number};
     ghost use Rattle.ans_tokens.specs.PlainSequence.{Means};
-    ghost use Rattle.ans_tokens.specs.Unfinished.{IsStateOf, Outcome, IsMarkAt, IsNoMarkAt, IsWhole, empty_part};
+    ghost use Rattle.ans_tokens.specs.Unfinished.{IsStateOf, IsMarkAt, IsNoMarkAt, IsWhole, empty_part, ContinuesAs};
     ghost use Rattle.ans_tokens.specs.Unfinished.{with_next};
 
     /// Directly after `[`.
@@ -107,7 +107,7 @@ impl Unfinished {
     /// Takes the next byte.
     pub(crate) fn advance(&mut self, byte: u8) -> Continuation
         ensures { (part : Part) (open_part : List ℕ) → IsStateOf self.old part
-            → SpellsPart part open_part → Outcome result self.new part open_part byte }
+            → SpellsPart part open_part → ContinuesAs result self.new part open_part byte }
     {
         match self.current {
             Current::InString(quote) => {
@@ -136,7 +136,7 @@ impl Unfinished {
     fn begin(&mut self, byte: u8) -> Continuation
         requires { (part : Part) → IsStateOf self.old part → part.current ≡ Fresh }
         ensures { (part : Part) (open_part : List ℕ) → IsStateOf self.old part
-            → SpellsPart part open_part → Outcome result self.new part open_part byte }
+            → SpellsPart part open_part → ContinuesAs result self.new part open_part byte }
     {
         if byte.is_ascii_digit() {
             self.current = Current::InNumber(byte - b'0');
@@ -171,7 +171,7 @@ impl Unfinished {
         ensures { (part : Part) (open_part : List ℕ) → IsStateOf self.old part
             → SpellsPart part open_part
             → (is_stop byte ≡ false → ¬ IsPrefixOfLoose (open_part ++ byte ∷ []))
-            → Outcome result self.new part open_part byte }
+            → ContinuesAs result self.new part open_part byte }
     {
         if byte == b';' {
             if self.done.len() + 1 >= MAX_PARAMETERS {

@@ -1,5 +1,5 @@
 -- A file behind the mending.
-use Rattle.std.proofs.Common.{◌≡◌, inl, inr, ℕ, suc, ◌+◌, ◌*◌, ◌<◌, ◌≤◌, ◌==◌, Bool, List, [], ◌∷◌, ◌++◌}
+use Rattle.std.proofs.Common.{◌≡◌, inl, inr, ℕ, suc, ◌+◌, ◌*◌, ◌/◌, ◌%◌, ◌<◌, ◌≤◌, ◌==◌, Bool, List, [], ◌∷◌, ◌++◌}
 use Rattle.std.proofs.Common.{length, take, drop, refl, ap, ap₂, sym, ◌∙◌, arith, append_assoc, true, false, true≢false}
 use Rattle.std.proofs.lemmas.Bool.{cases_eq, eq-eqb, ne_eqb}
 use Rattle.std.proofs.lemmas.List.{length-append, length-drop, length-take-le, take-append-drop, take-append-le}
@@ -9,8 +9,8 @@ use Rattle.std.proofs.Math.Seq.{drop-append_seam}
 use Rattle.std.specs.Prelude.{if◌then◌else◌, not, ◌||◌, bit_and}
 use Rattle.std.specs.Char.{is_ascii_digit}
 use Rattle.std.specs.List.{list_any, list_all, position_or_len}
-use Rattle.ans_model.specs.File.Layout.{FileParts, after_content, content, is_clean_end, is_end_mark}
-use Rattle.ans_model.specs.File.NoteConditions.{note_if, notes, ratio_flags, spacing_flags, unused_flags}
+use Rattle.ans_model.specs.File.Layout.{FileParts, after_content, content, is_clean_end, is_end_mark, laid_file}
+use Rattle.ans_model.specs.File.NoteConditions.{note_if, notes, unused_flags}
 use Rattle.ans_model.specs.declared.note.Note.{Note}
 use Rattle.ans_model.specs.declared.note.Note.TheVariants.{WidthAssumed, NoEndMark, SizeDiffers, OddDate, FlagBits}
 use Rattle.ans_model.specs.declared.note.Note.TheVariants.{FlagPair}
@@ -18,7 +18,7 @@ use Rattle.ans_model.specs.File.Record.{date_field, field, file_size, flags, num
 use Rattle.ans_model.specs.File.Refusals.{Accepts}
 use Rattle.ans_model.specs.Screen.State.{sized}
 use Rattle.ans_why.specs.Mend.{mending}
-use Rattle.ans_why.specs.MendedFile.{MendedFilePasses, bytes_of, four_bytes, mended_parts, with_file_size}
+use Rattle.ans_why.specs.MendedFile.{MendedFilePasses, four_bytes, mended_parts, with_file_size}
 use Rattle.ans_why.proofs.Mended.{makes_good}
 
 -- ---- the record
@@ -116,7 +116,7 @@ module _ (file : List ℕ) (apart : FileParts) (accepts : Accepts file apart)
       → number (field offset size mended.record_bytes) ≡ number (field offset size r)
   same_number offset size le = ap number (behind offset size le)
 
-  mended_accepted : Accepts (bytes_of mended) mended
+  mended_accepted : Accepts (laid_file mended) mended
   mended_accepted = record {
     laid = record {
       size = its_length r accepts.laid.size (file_size r + 16);
@@ -165,7 +165,7 @@ module _ (file : List ℕ) (apart : FileParts) (accepts : Accepts file apart)
       ++ note_if (not same_size) SizeDiffers
       ++ note_if (not (list_all is_ascii_digit date)) OddDate
       ++ note_if (not (bit_and bits unused_flags == 0)) FlagBits
-      ++ note_if (bit_and bits ratio_flags == ratio_flags || bit_and bits spacing_flags == spacing_flags) FlagPair
+      ++ note_if (bits / 8 % 4 == 3 || bits / 2 % 4 == 3) FlagPair
 
   its_notes : notes mended.body mended.record_bytes ≡ notes apart.body r
   its_notes =

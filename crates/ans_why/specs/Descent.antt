@@ -35,9 +35,9 @@ abbrev pub IsNeverClean : List TokenKind → Descent → Type 0
 IsNeverClean tokens d = (n : ℕ) → n ≤ d.most → ¬ IsClean (sized d.width n) all_known tokens
 
 -- whether the tokens go on
-abbrev pub Outcome : Bool → List TokenKind → Descent → Type 0
-Outcome true tokens d = IsDescent tokens d
-Outcome false tokens d = IsNeverClean tokens d
+abbrev pub IsDescentIf : Bool → List TokenKind → Descent → Type 0
+IsDescentIf true tokens d = IsDescent tokens d
+IsDescentIf false tokens d = IsNeverClean tokens d
 
 -- The tokens print this many bytes from this column: so many glyphs, or a tab.
 abbrev pub PrintsRun : ℕ → ℕ → List TokenKind → Type 0
@@ -57,7 +57,7 @@ pub record IsInOrder (d : Descent) : Type 0 where
   pub saved : IsOnScreen (sized d.width d.enough) d.pen.saved
 
 -- it goes on with the same width and the same most lines
-pub record GoesOn (old new : Descent) : Type 0 where
+pub record KeepsRange (old new : Descent) : Type 0 where
   pub width : new.width ≡ old.width
   pub most : new.most ≡ old.most
   pub order : IsInOrder new

@@ -2,7 +2,7 @@
 use Rattle.std.specs.Prelude.{◌≡◌, ℕ, ◌<◌, Bool, List, fold, replicate, unwrap_or, ⊤}
 use Rattle.ans_model.specs.Bytes.{blank}
 use Rattle.ans_model.specs.Sequence.TokenKind.{TokenKind, Glyph, LineFeed, Tab}
-use Rattle.ans_model.specs.Screen.State.{Size, State, cell, cell_at, cell_count}
+use Rattle.ans_model.specs.Screen.State.{Size, State, cell_at}
 use Rattle.ans_model.specs.Screen.Step.{blank_cell, put, tab_blanks}
 use Rattle.ans_model.specs.declared.cell.Position.{Position}
 use Rattle.ans_model.specs.declared.start.Start.{Start}
@@ -16,16 +16,6 @@ abbrev pub watched : Size → Position → State → Watch
 watched z p s = record {
   pen = pen_of s;
   cell = unwrap_or (cell_at z s.screen p) (blank_cell 0x07);
-}
-
--- each cell has this byte and this attribute, which is the current one, and both cursors stand here
-abbrev pub uniform_state : Size → ℕ → Position → Bool → State
-uniform_state z byte corner wrap = record {
-  screen = replicate (cell_count z) (cell byte byte);
-  cursor = corner;
-  saved = corner;
-  attribute = byte;
-  wrap = wrap;
 }
 
 -- a line feed comes, and each byte is printed, above the spare row; so the screen does not scroll

@@ -6,7 +6,7 @@ ghost use Rattle.ans_model.specs.Sequence.TokenKind.{TokenKind, Down, Place, Lin
 ghost use Rattle.ans_model.specs.Inside.ShownKind.{shown_kind};
 ghost use Rattle.ans_tokens.specs.Pieces.{kinds_of_piece};
 ghost use Rattle.ans_why.specs.Runs.{PieceFits};
-ghost use Rattle.ans_why.specs.Descent.{asked, IsDescent, IsInOrder, GoesOn, Outcome, PrintsRun};
+ghost use Rattle.ans_why.specs.Descent.{asked, IsDescent, IsInOrder, PrintsRun, KeepsRange, IsDescentIf};
 
 use crate::print::run_end;
 use ans_model::cell::Position;
@@ -17,7 +17,7 @@ use ans_tokens::Piece;
 
 /// Plays from the cleared start on each number of lines from `enough` to `most`, which have one pen.
 /// With fewer lines than `refused` some token had a fault; between the two nothing is known.
-#[derive(Debug, Clone, Copy)]
+#[derive(Clone, Copy)]
 pub(crate) struct Descent {
     pub(crate) width: usize,
     pub(crate) most: usize,
@@ -53,7 +53,7 @@ impl Descent {
     /// A token asks for so many lines: whether there are so many. With fewer it has a fault.
     fn ask(&mut self, lines: usize) -> bool
         requires order { IsInOrder self.old }
-        ensures on { GoesOn self.old self.new }
+        ensures on { KeepsRange self.old self.new }
         ensures enough { IsTrue result → (lines ≤ self.old.most) × (self.new ≡ asked self.old lines) }
         ensures few { result ≡ false → (self.old.most < lines) × (self.new ≡ self.old) }
     {
@@ -72,10 +72,10 @@ impl Descent {
         requires order { IsInOrder self.old }
         requires some { 1 ≤ count }
         requires count { count ≤ longest_file }
-        ensures on { GoesOn self.old self.new }
+        ensures on { KeepsRange self.old self.new }
         ensures played { (tokens run : List TokenKind)
             → PrintsRun self.old.pen.cursor.column count run → IsDescent tokens self.old
-            → Outcome result (tokens ++ run) self.new }
+            → IsDescentIf result (tokens ++ run) self.new }
     {
         let Pen { cursor, wrap, .. } = self.pen;
         let last = run_end(self.width, cursor, wrap, count - 1);
@@ -90,7 +90,7 @@ impl Descent {
     fn down(&mut self, rows: usize)
         requires order { IsInOrder self.old }
         requires rows { rows ≤ 255 }
-        ensures on { GoesOn self.old self.new }
+        ensures on { KeepsRange self.old self.new }
         ensures played { (tokens : List TokenKind) → IsDescent tokens self.old
             → IsDescent (tokens ++ Down rows ∷ []) self.new }
     {
@@ -102,9 +102,9 @@ impl Descent {
     /// The cursor goes to a row and a column, counted from 1: whether they are on the screen.
     fn place(&mut self, row: usize, column: usize) -> bool
         requires order { IsInOrder self.old }
-        ensures on { GoesOn self.old self.new }
+        ensures on { KeepsRange self.old self.new }
         ensures played { (tokens : List TokenKind) → IsDescent tokens self.old
-            → Outcome result (tokens ++ Place row column ∷ []) self.new }
+            → IsDescentIf result (tokens ++ Place row column ∷ []) self.new }
     {
         if column > self.width || !self.ask(row.saturating_sub(1)) {
             return false;
@@ -119,9 +119,9 @@ impl Descent {
     /// One row down: whether the screen does not scroll.
     fn line_feed(&mut self) -> bool
         requires order { IsInOrder self.old }
-        ensures on { GoesOn self.old self.new }
+        ensures on { KeepsRange self.old self.new }
         ensures played { (tokens : List TokenKind) → IsDescent tokens self.old
-            → Outcome result (tokens ++ LineFeed ∷ []) self.new }
+            → IsDescentIf result (tokens ++ LineFeed ∷ []) self.new }
     {
         if !self.ask(self.pen.cursor.row + 1) {
             return false;
@@ -133,9 +133,9 @@ impl Descent {
     /// One token: whether it has no fault.
     fn step(&mut self, kind: &Kind) -> bool
         requires order { IsInOrder self.old }
-        ensures on { GoesOn self.old self.new }
+        ensures on { KeepsRange self.old self.new }
         ensures played { (tokens : List TokenKind) → IsDescent tokens self.old
-            → Outcome result (tokens ++ shown_kind kind.now ∷ []) self.new }
+            → IsDescentIf result (tokens ++ shown_kind kind.now ∷ []) self.new }
     {
         match kind {
             Kind::Glyph(_) => self.print(1),
@@ -158,9 +158,9 @@ impl Descent {
     pub(crate) fn piece(&mut self, piece: &Piece<'_>) -> bool
         requires order { IsInOrder self.old }
         requires length { PieceFits piece.now }
-        ensures on { GoesOn self.old self.new }
+        ensures on { KeepsRange self.old self.new }
         ensures played { (tokens : List TokenKind) → IsDescent tokens self.old
-            → Outcome result (tokens ++ kinds_of_piece piece.now) self.new }
+            → IsDescentIf result (tokens ++ kinds_of_piece piece.now) self.new }
     {
         match piece {
             Piece::Glyphs(text) => self.print(text.len()),

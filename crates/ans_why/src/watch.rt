@@ -2,12 +2,12 @@
 
 ghost use Rattle.std.specs.Prelude.{◌≡◌};
 ghost use Rattle.ans_model.specs.Screen.State.{State, FitsScreen, IsOnScreen};
-ghost use Rattle.ans_model.specs.Screen.StartClass.{start_with, low_start, high_start, cleared};
+ghost use Rattle.ans_model.specs.Screen.StartClass.{start_with, low_start, high_start, cleared, uniform_state};
 ghost use Rattle.ans_model.specs.Screen.Step.{blank_cell, printed, step};
 ghost use Rattle.ans_model.specs.Sequence.TokenKind.{Glyph, Clear, EraseLine, Tab};
 ghost use Rattle.ans_model.specs.Inside.ShownKind.{shown_kind};
 ghost use Rattle.ans_pen.specs.Pens.{StandsOn};
-ghost use Rattle.ans_why.specs.Watched.{watched, uniform_state, WritesAbove};
+ghost use Rattle.ans_why.specs.Watched.{watched, WritesAbove};
 
 use ans_model::cell::{Cell, Position};
 use ans_model::kind::Kind;

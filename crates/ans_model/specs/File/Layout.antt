@@ -19,13 +19,17 @@ abbrev pub file_parts : List ℕ → List ℕ → List ℕ → FileParts
 file_parts body comment_bytes record_bytes =
     record { body = body; comment_bytes = comment_bytes; record_bytes = record_bytes }
 
--- SAUCE 00.5, file layout: the file is the body, then the comment block, then the record.
+-- SAUCE 00.5, file layout: the body, then the comment block, then the record
+abbrev pub laid_file : FileParts → List ℕ
+laid_file parts =
+    parts.body ++ (comment_block (comment_count parts.record_bytes) parts.comment_bytes ++ parts.record_bytes)
+
+-- The file is laid out so.
 pub record Laid (file : List ℕ) (parts : FileParts) : Type 0 where
   pub size : length parts.record_bytes ≡ 128
   pub id : take 5 parts.record_bytes ≡ codes "SAUCE"
   pub comments : length parts.comment_bytes ≡ 64 * comment_count parts.record_bytes
-  pub whole : file ≡ parts.body ++ (comment_block (comment_count parts.record_bytes) parts.comment_bytes
-      ++ parts.record_bytes)
+  pub whole : file ≡ laid_file parts
 
 -- the byte 1Ah
 abbrev pub is_end_mark : ℕ → Bool

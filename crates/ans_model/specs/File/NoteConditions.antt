@@ -5,20 +5,12 @@ use Rattle.std.specs.Char.{is_ascii_digit}
 use Rattle.ans_model.specs.declared.note.Note.{Note}
 use Rattle.ans_model.specs.declared.note.Note.TheVariants.{WidthAssumed, NoEndMark, SizeDiffers, OddDate, FlagBits}
 use Rattle.ans_model.specs.declared.note.Note.TheVariants.{FlagPair}
-use Rattle.ans_model.specs.File.Record.{tinfo, file_size, date_field, flags}
+use Rattle.ans_model.specs.File.Record.{tinfo, file_size, date_field, flags, letter_spacing, aspect_ratio}
 use Rattle.ans_model.specs.File.Layout.{content, is_end_mark}
 
 -- the flags' three highest bits, which have no meaning
 abbrev pub unused_flags : ℕ
 unused_flags = 0xE0
-
--- the pair of the aspect ratio
-abbrev pub ratio_flags : ℕ
-ratio_flags = 0x18
-
--- the pair of the letter spacing
-abbrev pub spacing_flags : ℕ
-spacing_flags = 0x06
 
 -- the note where the test holds, and else none
 abbrev pub note_if : Bool → Note → List Note
@@ -34,5 +26,4 @@ notes body record_bytes =
     || file_size record_bytes == length (content body) + 1)) SizeDiffers
     ++ note_if (not (list_all is_ascii_digit (date_field record_bytes))) OddDate
     ++ note_if (not (bit_and (flags record_bytes) unused_flags == 0)) FlagBits
-    ++ note_if (bit_and (flags record_bytes) ratio_flags == ratio_flags
-    || bit_and (flags record_bytes) spacing_flags == spacing_flags) FlagPair
+    ++ note_if (aspect_ratio record_bytes == 3 || letter_spacing record_bytes == 3) FlagPair

@@ -1,6 +1,7 @@
 -- The starts of a class, and its low and its high one. A class says which parts of a start are known to be as on the
 -- cleared screen.
-use Rattle.std.specs.Prelude.{◌≡◌, ◌-◌, ◌&&◌, true, false, replicate, IsTrue, if◌then◌else◌}
+use Rattle.std.specs.Prelude.{◌≡◌, ℕ, ◌-◌, ◌&&◌, Bool, true, false, replicate, IsTrue, if◌then◌else◌}
+use Rattle.ans_model.specs.declared.cell.Position.{Position}
 use Rattle.ans_model.specs.Screen.State.{Size, State, at, cell, cell_count, IsWellFormed}
 use Rattle.ans_model.specs.Screen.Step.{blank_cell}
 use Rattle.ans_model.specs.declared.start.Start.{Start}
@@ -76,22 +77,20 @@ start_with z class s = record {
   wrap = if class.wrap then (cleared z).wrap else s.wrap;
 }
 
+-- each cell has this byte and this attribute, which is the current one, and both cursors stand here
+abbrev pub uniform_state : Size → ℕ → Position → Bool → State
+uniform_state z byte corner wrap = record {
+  screen = replicate (cell_count z) (cell byte byte);
+  cursor = corner;
+  saved = corner;
+  attribute = byte;
+  wrap = wrap;
+}
+
 -- the least value of each part that is not known
 abbrev pub low_start : Size → Start → State
-low_start z class = start_with z class (record {
-  screen = replicate (cell_count z) (cell 0x00 0x00);
-  cursor = at 0 0;
-  saved = at 0 0;
-  attribute = 0x00;
-  wrap = false;
-})
+low_start z class = start_with z class (uniform_state z 0x00 (at 0 0) false)
 
 -- the greatest value of each part that is not known
 abbrev pub high_start : Size → Start → State
-high_start z class = start_with z class (record {
-  screen = replicate (cell_count z) (cell 0xFF 0xFF);
-  cursor = at z.lines (z.width - 1);
-  saved = at z.lines (z.width - 1);
-  attribute = 0xFF;
-  wrap = true;
-})
+high_start z class = start_with z class (uniform_state z 0xFF (at z.lines (z.width - 1)) true)

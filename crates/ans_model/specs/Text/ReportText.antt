@@ -10,6 +10,7 @@ use Rattle.ans_model.specs.Verdict.Good.{Picture}
 use Rattle.ans_model.specs.Text.Characters.{shown_bytes}
 use Rattle.ans_model.specs.Text.Hexadecimal.{hex_byte, hex_value}
 use Rattle.ans_model.specs.Text.FaultText.{line_of, fault_line, note_line}
+use Rattle.ans_model.specs.Text.Words.{part_names, words_text}
 
 -- What a report says before its verdict, or before what a content needs. The length is in bytes; needs name no start.
 pub record Heading : Type 0 where
@@ -23,25 +24,12 @@ pub data ReportVerdict : Type 0 where
   Passed : (picture : Picture) (with_cells : Bool) → ReportVerdict
   RefusedFor : (fault : Fault) → ReportVerdict
 
--- a blank and the part's name, where the part is known
-abbrev pub known_part : Bool → List ℕ → List ℕ
-known_part known name = if known then codes " " ++ name else []
-
--- the parts that are known, in their order, each after a blank
-abbrev pub known_parts : Start → List ℕ
-known_parts s =
-    known_part s.screen (codes "screen")
-    ++ (known_part s.cursor (codes "cursor")
-    ++ (known_part s.saved (codes "saved")
-    ++ (known_part s.colours (codes "colours")
-    ++ known_part s.wrap (codes "wrap"))))
-
 -- the name of a class of starts: the parts that are known, where they are not all or none
 abbrev pub start_name : Start → List ℕ
 start_name s =
     if s.screen && s.cursor && s.saved && s.colours && s.wrap then codes "cleared"
     else if s.screen || s.cursor || s.saved || s.colours || s.wrap then
-    codes "known" ++ known_parts s
+    codes "known " ++ words_text (part_names s)
     else codes "any"
 
 -- the line of the class of starts, where it is named

@@ -9,7 +9,7 @@ use super::RowPlanes;
 use super::rows::{fill_planes, first_unknown_of_row, held_row, open, row_start};
 use crate::attr::Attr;
 use crate::cell::HalfCell;
-use crate::planes::{CellBytes, bytes_of, cell_of_bytes};
+use crate::planes::{CellBytes, cell_of_bytes};
 
 #[tactic(auto, using(crate::specs::RowCells::length_grid, crate::proofs::Places::row_below))]
 pub(crate) fn get<P: RowPlanes>(grid: &P, i: usize) -> HalfCell
@@ -98,7 +98,7 @@ pub(crate) fn fill_row<P: RowPlanes>(
     ensures rows { (P.planes_of grid.new).rows ≡ (P.planes_of grid.old).rows }
 {
     let start = row_start(grid, row);
-    let bytes = bytes_of(cell);
+    let bytes = CellBytes::of_cell(cell);
     let known = open(grid, row, start + from, start + to, bytes.is_known());
     fill_planes(grid, start + from, start + to, bytes, known);
 }

@@ -4,11 +4,11 @@ ghost use Rattle.std.specs.Prelude.{◌≡◌, ◌+◌, ◌-◌, ◌*◌, ◌<�
 ghost use Rattle.ans_screen.specs.CellPlanes.{IsFirstGap};
 ghost use Rattle.ans_screen.specs.HalfCells.{is_known};
 ghost use Rattle.ans_screen.specs.RowCells.{AreFilled, cell_in_grid, states_of, state_of, holds_none, IsHeldRow};
-ghost use Rattle.ans_screen.specs.RowCells.{SameRows, IsFirstUnknown, HasBlanks, IsMarked, ShowsSame};
+ghost use Rattle.ans_screen.specs.RowCells.{SameRows, HasBlanks, IsMarked, ShowsSame, FindsUnknown};
 
 use super::{Row, RowPlanes};
 use crate::cell::CellByte;
-use crate::planes::{CellBytes, bytes_of, first_gap};
+use crate::planes::{CellBytes, first_gap};
 
 /// How many cells of a row are held at the least behind those that are written, since what is
 /// written next mostly stands there. With one cell written, one blend fills them.
@@ -97,7 +97,7 @@ fn write_blank<P: RowPlanes>(grid: &mut P, from: usize, to: usize, known: bool)
     ensures same { SameRows (P.planes_of grid.old) (P.planes_of grid.new) }
 {
     if from < to {
-        let blank = bytes_of(grid.frame().blank);
+        let blank = CellBytes::of_cell(grid.frame().blank);
         fill_planes(grid, from, to, blank, known);
     }
 }
@@ -202,7 +202,7 @@ pub(crate) fn first_unknown_of_row<P: RowPlanes>(grid: &P, row: usize, to: usize
     requires row { row < (P.planes_of grid.now).rows }
     requires from { row * (P.planes_of grid.now).width ≤ to }
     requires to { to ≤ row * (P.planes_of grid.now).width + (P.planes_of grid.now).width }
-    ensures { IsFirstUnknown (cell_in_grid (P.planes_of grid.now)) (row * (P.planes_of grid.now).width) to result }
+    ensures { FindsUnknown (cell_in_grid (P.planes_of grid.now)) (row * (P.planes_of grid.now).width) to result }
 {
     let start = row_start(grid, row);
     let held = held_row(grid, row, start);
@@ -240,7 +240,7 @@ fn first_unknown_held<P: RowPlanes>(grid: &P, from: usize, to: usize, known: boo
     requires ordered { from ≤ to }
     requires within { to ≤ (P.planes_of grid.now).width * (P.planes_of grid.now).rows }
     requires held { (i : ℕ) → from ≤ i → i < to → states_of (P.planes_of grid.now) i ≡ state_of known }
-    ensures { IsFirstUnknown (cell_in_grid (P.planes_of grid.now)) from to result }
+    ensures { FindsUnknown (cell_in_grid (P.planes_of grid.now)) from to result }
 {
     if known {
         return None;

@@ -1,5 +1,5 @@
 use Rattle.std.proofs.Common.{refl, subst, inr, ap, ◌∙◌}
-use Rattle.ans_options.specs.CommandLine.{texts_of}
+use Rattle.ans_model.specs.Text.Words.{texts_of}
 use Rattle.ans_options.specs.declared.command_line.WordsError.TheVariants as words_error
 use Rattle.ans_check.specs.SystemInput.{AnswersOnSystem}
 use Rattle.ans_check.specs.declared.exit_status.Ending.TheVariants.{UnreadableWords}

@@ -35,7 +35,8 @@ returns c =
     let flag = is_non_blink (record_of parts) in
     let hints : AreHintsOf z flag content [] c.of-hints.result =
     hints_of_all z flag content c.of-hints.result
-    (rw (c.content-content.ensures, c.size-size.ensures, c.is_non_blink.ensures, c.sauce.ensures) at c.of-hints.ensures) in
+    (rw (c.content-content.ensures, c.size-size.ensures, c.is_non_blink.ensures, c.sauce.ensures)
+    at c.of-hints.ensures) in
     record {
       needs = c.requires.needs;
       taller = elim c.if-not-hints.branch [

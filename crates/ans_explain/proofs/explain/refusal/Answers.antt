@@ -19,5 +19,6 @@ returns c =
       lines = rw (c.width.ensures.width, c.content-content.ensures) at c.enough_lines.ensures;
       hints_end = c.end_of_hints-end.result;
       ends = c.end_of_hints-end.ensures.ends;
-      hints = rw (c.content-content.ensures, c.size-size.ensures, c.is_non_blink.ensures, c.sauce.ensures) at c.of.ensures;
+      hints = rw (c.content-content.ensures, c.size-size.ensures, c.is_non_blink.ensures, c.sauce.ensures)
+          at c.of.ensures;
     }

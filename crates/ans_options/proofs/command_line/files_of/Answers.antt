@@ -2,7 +2,7 @@ use Rattle.std.proofs.Common.{◌∙◌, ◌≡◌, [], None, Option, List, Some
 use Rattle.std.specs.Prelude.{unwrap_or}
 use Rattle.clap.specs.Words.{Text, all_of, found_of, rows_of}
 use Rattle.clap.proofs.WalkLemmas.{raw_values-rows}
-use Rattle.ans_options.specs.CommandLine.{texts_of}
+use Rattle.ans_model.specs.Text.Words.{texts_of}
 use Rattle.ans_options.proofs.command_line.files_of.Goals as goal
 
 pub returns-in_default-clause-ok : goal.returns-in_default-clause-ok

@@ -1,7 +1,7 @@
 use Rattle.std.proofs.Common.{◌∙◌, ap, subst, sym}
 use Rattle.std.proofs.lemmas.Result.{err_from_is_err_and}
 use Rattle.clap.specs.Words.{HasKind, Kinds, fault_of, is_simple, is_simple_and_free, subcommand_of, takes}
-use Rattle.ans_options.specs.CommandLine.{texts_of}
+use Rattle.ans_model.specs.Text.Words.{texts_of}
 use Rattle.ans_options.proofs.CommandLineLemmas.{subcommand_met}
 use Rattle.ans_options.proofs.command_line.matches_of.Goals as goal
 

@@ -1,6 +1,6 @@
 use Rattle.std.proofs.Common.{option_map}
 use Rattle.std.specs.Prelude.{string_bytes}
-use Rattle.ans_options.specs.CommandLine.{texts_of}
+use Rattle.ans_model.specs.Text.Words.{texts_of}
 use Rattle.ans_options.proofs.ErrorLemmas.{none_mapped}
 use Rattle.ans_options.proofs.FlagLemmas.{flagless, nameless, no_cells}
 use Rattle.ans_options.proofs.command_line.options.Goals as goal

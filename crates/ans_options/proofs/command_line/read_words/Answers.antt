@@ -2,7 +2,8 @@ use Rattle.std.proofs.Common.{◌∙◌, ◌≡◌, [], ap, map, option_map, ref
 use Rattle.std.proofs.lemmas.Result.{IfErr-weaker, IfOk-weaker, err_from_is_err_and}
 use Rattle.std.specs.Prelude.{IfOk, IsSomeAnd, string_bytes}
 use Rattle.clap.specs.Words.{Kinds, Row, Text, fault_of, subcommand_of, subcommand_rows_of, takes}
-use Rattle.ans_options.specs.CommandLine.{AsksFor, HasKindAmong, anscheck, faults_of, files_of, texts_of, words_meant}
+use Rattle.ans_options.specs.CommandLine.{AsksFor, HasKindAmong, anscheck, faults_of, files_of, words_meant}
+use Rattle.ans_model.specs.Text.Words.{texts_of}
 use Rattle.ans_options.proofs.CommandLineLemmas.{command_found}
 use Rattle.ans_options.proofs.ErrorLemmas.{out_of_memory, ran_out}
 use Rattle.ans_options.proofs.command_line.read_words.Goals as goal

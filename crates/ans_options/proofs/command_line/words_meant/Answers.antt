@@ -2,7 +2,8 @@ use Rattle.std.proofs.Common.{ap, sym, ◌∙◌, rules, ◌≡◌, []}
 use Rattle.std.proofs.lemmas.Result.{IfOk-weaker}
 use Rattle.std.specs.Borrow.{Bor}
 use Rattle.clap.specs.Words.{Text}
-use Rattle.ans_options.specs.CommandLine.{texts_of, words_meant}
+use Rattle.ans_options.specs.CommandLine.{words_meant}
+use Rattle.ans_model.specs.Text.Words.{texts_of}
 use Rattle.ans_options.proofs.MeaningLemmas.{few_meant, others_meant}
 use Rattle.ans_options.proofs.command_line.words_meant.Goals.{in_default-via-then-words-lt2}
 use Rattle.ans_options.proofs.command_line.words_meant.Goals.{in_default-via-else-words-lt2+in_default}

@@ -1,6 +1,6 @@
 use Rattle.std.proofs.Common.{ℕ, List, length, refl, ap, subst}
 use Rattle.std.specs.Prelude.{◌↔◌, IsTrue}
-use Rattle.ans_sauce.specs.Found.{HasRecord}
+use Rattle.ans_sauce.specs.Found.{HoldsRecord}
 use Rattle.ans_sauce.proofs.FoundLemmas.{some_last}
 use Rattle.ans_sauce.proofs.found.found_after.Goals as goal
 
@@ -9,5 +9,5 @@ returns c file is =
     let found = some_last c.args.after.now c.last_record_place.result c.last_record_place.ensures in (
       refl,
       ap length is,
-      subst (λ (bytes : List ℕ). IsTrue c.is_some.result ↔ HasRecord bytes) is (rw c.is_some.ensures found),
+      subst (λ (bytes : List ℕ). IsTrue c.is_some.result ↔ HoldsRecord bytes) is (rw c.is_some.ensures found),
     )

@@ -3,4 +3,4 @@ use Rattle.ans_table.proofs.columns.put_size.Goals as goal
 
 pub returns : goal.returns
 returns g c =
-    Puts-then (rw c.stated_width.ensures at c.put_number.ensures) (rw c.stated_lines.ensures at c.put_number-2.ensures)
+    Puts-then (rw c.width.ensures at c.put_number.ensures) (rw c.lines.ensures at c.put_number-2.ensures)

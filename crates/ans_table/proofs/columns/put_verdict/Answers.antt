@@ -8,8 +8,8 @@ pub returns-in-Pass : goal.returns-in-Pass
 returns-in-Pass g c =
     Puts-same (sym (ap verdict_columns c.in-Pass.is))
     (Puts-then c.put.ensures
-    (Puts-then (Puts-then c.put_needs.ensures c.put-in-Pass.ensures)
-    (Puts-then (rw c.answer.ensures at c.put_column.ensures) c.put-in-Pass-2.ensures)))
+    (Puts-then (Puts-then c.put_needed_parts.ensures c.put-in-Pass.ensures)
+    (Puts-then (rw c.answer_text.ensures at c.put_column.ensures) c.put-in-Pass-2.ensures)))
 
 pub returns-in-Refused : goal.returns-in-Refused
 returns-in-Refused g c =

@@ -1,7 +1,7 @@
 use Rattle.std.proofs.Common.{◌∙◌, List, ◌++◌, ap, sym}
 use Rattle.std.specs.Borrow.{Bor}
 use Rattle.clap.specs.Words.{Text}
-use Rattle.ans_options.specs.CommandLine.{texts_of}
+use Rattle.ans_model.specs.Text.Words.{texts_of}
 use Rattle.ans_check.specs.Listing.{is_whole, names_in}
 use Rattle.ans_check.proofs.ListingLemmas.{name_named, one_name_more}
 use Rattle.ans_check.proofs.listing.Listing.names.Goals as goal

@@ -1,7 +1,7 @@
 use Rattle.std.proofs.Common.{◌≡◌, ap, rules}
 use Rattle.std.specs.Prelude.{Err}
 use Rattle.ans_play.specs.PlayView.{PlayView}
-use Rattle.ans_play.proofs.Feeding.{byte_refused, byte_goes_on, byte_plays, byte_deserved}
+use Rattle.ans_play.proofs.Feeding.{byte_refused, byte_goes_on, byte_plays, byte_first}
 use Rattle.ans_play.proofs.play.Play.slow_byte.Goals as goal
 
 pub returns-in_err-byte-clause-stopped : goal.returns-in_err-byte-clause-stopped
@@ -27,6 +27,6 @@ returns-in-Some-clause-played g c =
 
 pub returns-in-Some-clause-stopped : goal.returns-in-Some-clause-stopped
 returns-in-Some-clause-stopped g c =
-    byte_deserved (ap (λ (p : PlayView). p.scanner) c.self.view_is) _
+    byte_first (ap (λ (p : PlayView). p.scanner) c.self.view_is) _
     (ap (λ (p : PlayView). record p { scanner = c.byte.new.self }) c.self.view_is)
     (rw c.in-Some.is at c.in_ok-byte.ensures.token) c.step.result c.step.ensures

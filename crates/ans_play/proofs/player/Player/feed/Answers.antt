@@ -1,7 +1,7 @@
 use Rattle.std.proofs.Common.{◌≡◌, ◌≤◌, ◌+◌, refl, sym, ap, ◌∙◌, length, None, arith, rules}
 use Rattle.ans_play.specs.PlayerView.{PlayerView, play_of}
 use Rattle.ans_play.specs.Stands.{GoesOn}
-use Rattle.ans_play.proofs.Feeding.{plays_more, plays_all, piece_deserved, feeds_all, feeds_fault, feeds_again}
+use Rattle.ans_play.proofs.Feeding.{plays_more, plays_all, piece_first, feeds_all, feeds_fault, feeds_again}
 use Rattle.ans_play.proofs.Feeding.{plays_to_start}
 use Rattle.ans_play.proofs.player.Player.feed.Goals as goal
 
@@ -34,7 +34,7 @@ returns-in-Err-clause-fed g c s st =
     let here = c.loop-played.invariant in
     let none : c.args.self.now.fault ≡ None = search rules in
     feeds_fault c.args.self.now _ c.args.piece.now s c.in-Err.fault
-    (piece_deserved (play_of c.args.self.now) c.loop-played.self-inside.play c.args.piece.now c.loop-played.played
+    (piece_first (play_of c.args.self.now) c.loop-played.self-inside.play c.args.piece.now c.loop-played.played
     c.in-Err.fault here.plays c.in-Err.ensures.stopped.1)
     (record { size = c.in-Err.ensures.stopped.0 ∙ here.plays.goes_on.size; start = here.start }) none refl st
 

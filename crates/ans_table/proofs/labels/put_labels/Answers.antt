@@ -1,13 +1,13 @@
 use Rattle.std.proofs.Common.{◌≡◌, ◌-◌, take, length, drop, sym}
 use Rattle.std.proofs.lemmas.List.{take_rest}
 use Rattle.ans_write.proofs.PutsLemmas.{Puts-same, Puts-then}
-use Rattle.ans_table.proofs.WordLemmas.{notes_text_is}
-use Rattle.ans_table.proofs.words.put_notes.Goals as goal
+use Rattle.ans_table.proofs.LabelLemmas.{labels_text_is}
+use Rattle.ans_table.proofs.labels.put_labels.Goals as goal
 
 pub returns : goal.returns
 returns g c =
     let notes = c.args.notes.now in
     let later : take (length notes - 1) (drop 1 notes) ≡ drop 1 notes = take_rest notes 1 in
-    Puts-same (sym (notes_text_is notes _ c.in-len1-up.len_at_least))
-    (Puts-then (rw (c.as_bytes.ensures.value, c.note_number.ensures) at c.put.ensures)
-    (rw later at c.put_later_notes.ensures))
+    Puts-same (sym (labels_text_is notes _ c.in-len1-up.len_at_least))
+    (Puts-then (rw (c.as_bytes.ensures.value, c.note_label.ensures) at c.put.ensures)
+    (rw later at c.put_later_labels.ensures))

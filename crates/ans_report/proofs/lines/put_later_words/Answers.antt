@@ -1,8 +1,8 @@
 use Rattle.std.proofs.Common.{get_or, rules, ◌≡◌, ℕ, List, []}
 use Rattle.std.specs.Borrow.{Bor}
-use Rattle.ans_table.specs.Words.{later_view}
+use Rattle.ans_report.specs.Words.{later_view}
 use Rattle.ans_write.proofs.PutsLemmas.{Puts-then, Puts-next}
-use Rattle.ans_table.proofs.words.put_later_words.Goals as goal
+use Rattle.ans_report.proofs.lines.put_later_words.Goals as goal
 
 -- what stands past the end of a slice
 abbrev none : Bor (List ℕ)

@@ -1,8 +1,8 @@
 use Rattle.std.proofs.Common.{take}
 use Rattle.std.specs.List.{flat_map}
 use Rattle.ans_write.specs.Puts.{Puts}
-use Rattle.ans_table.specs.Words.{later_view}
-use Rattle.ans_table.proofs.words.put_later_words.Given as goal
+use Rattle.ans_report.specs.Words.{later_view}
+use Rattle.ans_report.proofs.lines.put_later_words.Given as goal
 
 abbrev pub invariant-loop-word : goal.invariant-loop-word
 invariant-loop-word g l =

@@ -2,8 +2,8 @@ use Rattle.std.proofs.Common.{◌≡◌, ◌-◌, ℕ, List, [], take, length, g
 use Rattle.std.proofs.lemmas.List.{take_rest}
 use Rattle.std.specs.Borrow.{Bor}
 use Rattle.ans_write.proofs.PutsLemmas.{Puts-same, Puts-then}
-use Rattle.ans_table.proofs.WordLemmas.{words_text_is}
-use Rattle.ans_table.proofs.words.put_words.Goals as goal
+use Rattle.ans_report.proofs.WordLemmas.{words_text_is}
+use Rattle.ans_report.proofs.lines.put_words.Goals as goal
 
 -- what stands past the end of a slice
 abbrev none : Bor (List ℕ)

@@ -1,8 +1,0 @@
-use Rattle.ans_table.specs.Words.{later_note}
-use Rattle.ans_write.proofs.PutsLemmas.{Puts-then, Puts-next}
-use Rattle.ans_table.proofs.words.put_later_notes.Goals as goal
-
-pub loop-note-preserved : goal.loop-note-preserved
-loop-note-preserved g c =
-    Puts-next later_note c.args.notes.now c.loop-note.note-index _ c.loop-note-test.true c.loop-note.invariant
-    (Puts-then c.put.ensures (rw (c.as_bytes.ensures.value, c.note_number.ensures) at c.put-in-loop-note.ensures))

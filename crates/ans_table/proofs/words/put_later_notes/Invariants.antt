@@ -1,9 +1,0 @@
-use Rattle.std.proofs.Common.{take}
-use Rattle.std.specs.List.{flat_map}
-use Rattle.ans_write.specs.Puts.{Puts}
-use Rattle.ans_table.specs.Words.{later_note}
-use Rattle.ans_table.proofs.words.put_later_notes.Given as goal
-
-abbrev pub invariant-loop-note : goal.invariant-loop-note
-invariant-loop-note g l =
-    Puts g.W.Write.contents l.fn.out l.out (flat_map later_note (take l.note-index l.notes))

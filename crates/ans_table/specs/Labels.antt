@@ -1,0 +1,18 @@
+-- The labels of notes.
+use Rattle.std.specs.Prelude.{ℕ, List, ◌++◌, map, codes, decimal}
+use Rattle.ans_model.specs.declared.note.Note.{Note}
+use Rattle.ans_model.specs.Text.FaultText.{note_number}
+use Rattle.ans_model.specs.Text.Words.{words_text}
+use Rattle.ans_report.specs.Words.{later_word}
+
+-- the label of each note, as `N1`
+abbrev pub note_label : Note → List ℕ
+note_label note = codes "N" ++ decimal (note_number note)
+
+-- the labels of notes, with a blank between each two
+abbrev pub labels_text : List Note → List ℕ
+labels_text notes = words_text (map note_label notes)
+
+-- the label of a note after a blank
+abbrev pub later_label : Note → List ℕ
+later_label note = later_word (note_label note)
