@@ -1,5 +1,5 @@
 -- The room that plays one after the other take.
-use Rattle.std.proofs.Common.{◌≡◌, ◌∙◌, ℕ, List, length, Ok, Err, ap, subst, sym}
+use Rattle.std.proofs.Common.{◌≡◌, ◌∙◌, ℕ, List, length, Ok, Err, ap, refl, subst, sym}
 use Rattle.std.specs.Prelude.{◌↔◌, Result, IsOk, IsErr}
 use Rattle.ans_model.specs.File.Layout.{FileParts}
 use Rattle.ans_model.specs.File.Record.{stated_size}
@@ -44,6 +44,11 @@ takes_err {r = r} p is told = record {
   room = λ h. absurd (not_both r (p.room h) is);
   want = λ _. p.want is;
 }
+
+-- an answer that came
+pub takes_ok : {S T E : Type 0} {has_room may_lack : S → Size → Type 0} {z : Size} {a b : S} {v : T}
+    → KeepsRoom has_room may_lack z a b → TakesRoom {E = E} has_room may_lack z a b (Ok v)
+takes_ok p = record { keeps = p; room = λ _. refl; want = λ told. absurd (cc) }
 
 -- memory that is lent stays as it is
 pub keeps_lent : (z : Size) (old new : LentScreens) → length new.rows.now ≡ length old.rows.now

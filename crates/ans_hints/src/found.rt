@@ -20,7 +20,7 @@ use ans_pen::Pen;
 
 /// What is found so far. The rows are those down to the lowest in which something was printed; and
 /// some token moves the cursor up or down by rows, or none.
-#[derive(Debug, Clone, Copy)]
+#[derive(Clone, Copy)]
 pub(crate) struct Found {
     pub(crate) loose_line_feeds: Option<Times>,
     pub(crate) full_rows: Option<Times>,

@@ -19,7 +19,7 @@ use ans_pen::Pen;
 use ans_tokens::{Piece, Pieces};
 
 /// A play without its screen, and what is found in it so far.
-#[derive(Debug, Clone, Copy)]
+#[derive(Clone, Copy)]
 pub(crate) struct Walk {
     pub(crate) pen: Pen,
     pub(crate) found: Found,

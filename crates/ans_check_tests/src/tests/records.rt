@@ -2,6 +2,7 @@
 use super::{
     CLEARED, COMMANDS, HI_RECORD, HI_REPORT, SAUCE, behind, expect_run, file_of, run_once,
 };
+use std::process::Abort;
 
 #[test]
 fn a_record_is_told(rt: HostRuntime) {
@@ -63,8 +64,8 @@ fn a_refused_record_is_told_by_each_command(rt: HostRuntime) {
     }
 }
 
-#[test]
-fn the_most_comments_are_told(rt: HostRuntime) {
+/// What stands before the record of a drawing with 255 comments, each of which is `hello`.
+fn most_comments() -> [u8; 8 + 255 * 64] {
     let mut front = [b' '; 8 + 255 * 64];
     front[..8].copy_from_slice(b"Hi\x1aCOMNT");
     for line in front[8..].chunks_mut(64) {
@@ -72,7 +73,19 @@ fn the_most_comments_are_told(rt: HostRuntime) {
             text.copy_from_slice(b"hello");
         }
     }
-    let file = file_of(&rt, &front, &[(104, b"\xff")]);
+    front
+}
+
+/// Asserts lines of comments, each of which is `hello`.
+fn assert_comments(rt: &impl Abort, lines: &[u8]) {
+    for line in lines.chunks(15) {
+        assert!(rt; line == b"comment: hello\n".as_slice());
+    }
+}
+
+#[test]
+fn the_most_comments_are_told(rt: HostRuntime) {
+    let file = file_of(&rt, &most_comments(), &[(104, b"\xff")]);
     assert!(rt; file.len() == 16_456);
     expect_run(&rt, file.as_slice(), &CLEARED, 256, Ok(true), HI_REPORT);
     let ran = run_once(&rt, file.as_slice(), &SAUCE, 4096);
@@ -80,7 +93,5 @@ fn the_most_comments_are_told(rt: HostRuntime) {
     let count = behind(&rt, ran.writer.inner().held(), fields);
     let comments = behind(&rt, count, b"255\n");
     assert!(rt; ran.answer == Ok(true) && comments.len() == 255 * 15);
-    for line in comments.chunks(15) {
-        assert!(rt; line == b"comment: hello\n".as_slice());
-    }
+    assert_comments(&rt, comments);
 }

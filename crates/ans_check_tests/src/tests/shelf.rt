@@ -66,6 +66,15 @@ impl<'a> Shelf<'a> {
     pub(super) fn new(files: &'a [(&'a str, Stored<'a>)], standard: Stored<'a>) -> Shelf<'a> {
         Shelf { files, standard }
     }
+
+    fn named(&self, name: &str) -> Option<Stored<'a>> {
+        for (held, stored) in self.files {
+            if *held == name {
+                return Some(*stored);
+            }
+        }
+        None
+    }
 }
 
 impl<'a> Inputs for Shelf<'a> {
@@ -78,12 +87,10 @@ impl<'a> Inputs for Shelf<'a> {
     ghost is_missing = { λ _ _. ⊤ };
 
     fn file(self, name: &str) -> io::Result<Stored<'a>> {
-        for (held, stored) in self.files {
-            if *held == name {
-                return Ok(*stored);
-            }
+        match self.named(name) {
+            Some(stored) => Ok(stored),
+            None => Err(io::Error::from(io::ErrorKind::NotFound)),
         }
-        Err(io::Error::from(io::ErrorKind::NotFound))
     }
 
     fn standard(self) -> Stored<'a> {

@@ -30,6 +30,21 @@ fn is_of_the_record(cause: Cause) -> bool {
     )
 }
 
+/// Asserts the byte of a cell of a file's picture, and its attribute where one is given.
+fn assert_cell<G: Grid>(
+    rt: &impl Abort,
+    file: &[u8],
+    picture: &Picture<G>,
+    (row, column): (usize, usize),
+    byte: u8,
+    attribute: Option<u8>,
+) {
+    assert!(rt; row < picture.lines() && column < picture.width());
+    let shown = (picture.glyph(row, column), picture.attr(row, column));
+    let wanted = (byte, attribute.unwrap_or(shown.1));
+    assert_eq!(rt; shown, wanted, "at {row}, {column} of {file:?}");
+}
+
 /// Asserts the bytes of a file's picture in row order, and their attributes where these are compared.
 fn assert_shows<G: Grid>(
     rt: &impl Abort,
@@ -43,18 +58,8 @@ fn assert_shows<G: Grid>(
     assert!(rt; bytes.len() == width * lines);
     assert!(rt; attributes.is_empty() || attributes.len() == bytes.len());
     for (i, byte) in bytes.iter().enumerate() {
-        let (row, column) = (i / width, i % width);
-        assert!(rt; row < lines);
-        let (glyph, found) = (picture.glyph(row, column), picture.attr(row, column));
-        let attribute = match attributes.get(i) {
-            Some(attribute) => *attribute,
-            None => found,
-        };
-        assert_eq!(rt;
-            (glyph, found),
-            (*byte, attribute),
-            "at {row}, {column} of {file:?}"
-        );
+        let place = (i / width, i % width);
+        assert_cell(rt, file, picture, place, *byte, attributes.get(i).copied());
     }
 }
 

@@ -6,6 +6,7 @@ use Rattle.ans_model.proofs.ClassLemmas.{covers_itself}
 use Rattle.ans_play.proofs.LeastClass.{least_by_parts}
 use Rattle.ans_sauce.specs.Parts.{content_of, size_of}
 use Rattle.ans_check.specs.FileVerdict.{Deserves}
+use Rattle.ans_check.proofs.RoomLemmas.{keeps_then, takes_err, takes_ok, takes_then}
 use Rattle.ans_check.proofs.VerdictLemmas.{nothing_needed, not_good}
 use Rattle.ans_check.proofs.least_class.least_class.Goals as goal
 
@@ -36,3 +37,21 @@ returns-clause-least g c =
         deserves,
       );
     }
+
+pub returns-in_err-passing-clause-room : goal.returns-in_err-passing-clause-room
+returns-in_err-passing-clause-room g c =
+    takes_err (takes_then c.fault_from.ensures.room.keeps c.in_err-passing.ensures.room) refl
+    c.from_residual-in_err-passing.ensures.0
+
+pub returns-in_err-class-clause-room : goal.returns-in_err-class-clause-room
+returns-in_err-class-clause-room g c =
+    takes_err
+    (takes_then (keeps_then c.fault_from.ensures.room.keeps c.passing_class.ensures.room.keeps)
+    c.in_err-class.ensures.room)
+    refl c.from_residual-in_err-class.ensures.0
+
+pub returns-clause-room : goal.returns-clause-room
+returns-clause-room g c =
+    takes_ok
+    (keeps_then (keeps_then c.fault_from.ensures.room.keeps c.passing_class.ensures.room.keeps)
+    c.class_by_parts.ensures.room.keeps)

@@ -1,9 +1,9 @@
-use Rattle.std.proofs.Common.{true}
+use Rattle.std.proofs.Common.{refl, true}
 use Rattle.ans_model.specs.Screen.StartClass.{none_known}
 use Rattle.ans_sauce.specs.Parts.{content_of, size_of}
 use Rattle.ans_check.specs.StartParts.{with_part}
 use Rattle.ans_check.proofs.LeastLemmas.{not_good_by}
-use Rattle.ans_check.proofs.RoomLemmas.{keeps_itself, keeps_then}
+use Rattle.ans_check.proofs.RoomLemmas.{keeps_itself, keeps_then, takes_err, takes_ok, takes_then}
 use Rattle.ans_check.proofs.VerdictLemmas.{not_good}
 use Rattle.ans_check.proofs.least_class.passing_class.Goals as goal
 
@@ -24,3 +24,16 @@ loop-preserved g c =
           c.in-Some-fault.is);
       keeps = keeps_then c.loop.invariant.keeps c.in_ok-mended.ensures.room.keeps;
     }
+
+pub returns-in_err-mended-clause-room : goal.returns-in_err-mended-clause-room
+returns-in_err-mended-clause-room g c =
+    takes_err (takes_then c.loop.invariant.keeps c.in_err-mended.ensures.room) refl c.from_residual.ensures.0
+
+pub returns-in-None-clause-room : goal.returns-in-None-clause-room
+returns-in-None-clause-room g c = takes_ok (keeps_then c.loop.invariant.keeps c.in_ok-mended.ensures.room.keeps)
+
+pub returns-after-loop-clause-room : goal.returns-after-loop-clause-room
+returns-after-loop-clause-room g c = takes_ok c.loop.invariant.keeps
+
+pub returns-in_default-clause-room : goal.returns-in_default-clause-room
+returns-in_default-clause-room g c = takes_ok (keeps_then c.loop.invariant.keeps c.in_ok-mended.ensures.room.keeps)
