@@ -10,7 +10,7 @@ use Rattle.ans_model.specs.Sequence.Reads.{SpellsToken, Reads, ReadsAs}
 use Rattle.ans_model.specs.Inside.ShownKind.{shown_kind}
 use Rattle.ans_model.proofs.Reading.{token_nonempty, one_token_in_front, unfinished_not_read, refused_not_read}
 use Rattle.ans_tokens.specs.ScannerView.{ScannerView, Holds, EndsToken, RefusesByte, Ends}
-use Rattle.ans_tokens.specs.Scanning.{TakesBytes, kinds_of, text_of, texts_of}
+use Rattle.ans_tokens.specs.Scanning.{TakesBytes, kinds_of, text_of, token_texts}
 use Rattle.ans_tokens.specs.Token.{kind_of, start_of, length_of}
 use Rattle.ans_tokens.specs.declared.token.Token.{Token}
 use Rattle.ans_tokens.proofs.EachByte.{kept_open, open_ends}
@@ -22,7 +22,7 @@ pub record IsScanned (offset : ℕ) (bytes : List ℕ) (s : ScannerView) (tokens
   pub front : List ℕ
   pub open_part : List ℕ
   pub whole : bytes ≡ front ++ open_part
-  pub reads : ReadsAs front (kinds_of tokens) (texts_of offset bytes tokens)
+  pub reads : ReadsAs front (kinds_of tokens) (token_texts offset bytes tokens)
   pub holds : Holds s open_part
 
 -- the same with the bytes that are still to come
@@ -30,7 +30,7 @@ record ScansOn (offset : ℕ) (bytes rest : List ℕ) (s : ScannerView) (tokens 
   front : List ℕ
   open_part : List ℕ
   whole : bytes ≡ front ++ (open_part ++ rest)
-  reads : ReadsAs front (kinds_of tokens) (texts_of offset bytes tokens)
+  reads : ReadsAs front (kinds_of tokens) (token_texts offset bytes tokens)
   holds : Holds s open_part
   at : s.offset ≡ offset + (length front + length open_part)
 
@@ -56,7 +56,7 @@ after_token offset bytes rest old new tokens b t h ends at =
     let same : text_of offset bytes t ≡ text =
     text_is offset (start_of t) (length_of t) bytes h.front text rest whole (omega (arith, is_token.starts, h.at))
     (is_token.long ∙ sym size) in
-    let read = reads_as_more h.front text (kinds_of tokens) (texts_of offset bytes tokens) kind h.reads
+    let read = reads_as_more h.front text (kinds_of tokens) (token_texts offset bytes tokens) kind h.reads
     is_token.spelled in
     record {
       front = h.front ++ text;
@@ -115,12 +115,12 @@ scanned old new bytes tokens empty takes = scans_on bytes old.offset bytes old n
 -- ---- at the end
 pub scanned_read : (offset : ℕ) (bytes : List ℕ) (s : ScannerView) (tokens : List Token)
     → IsScanned offset bytes s tokens → Ends s (Ok tt)
-    → ReadsAs bytes (kinds_of tokens) (texts_of offset bytes tokens)
+    → ReadsAs bytes (kinds_of tokens) (token_texts offset bytes tokens)
 scanned_read offset bytes s tokens h ends =
     let none : h.open_part ≡ [] = ends h.open_part h.holds in
     let all : h.front ≡ bytes =
     sym (append-nil h.front) ∙ ap (λ (v : List ℕ). h.front ++ v) (sym none) ∙ sym h.whole in
-    subst (λ (v : List ℕ). ReadsAs v (kinds_of tokens) (texts_of offset bytes tokens)) all h.reads
+    subst (λ (v : List ℕ). ReadsAs v (kinds_of tokens) (token_texts offset bytes tokens)) all h.reads
 
 -- ---- what has a reading
 -- the reading begins with these tokens and texts, and goes on over the other bytes
@@ -176,7 +176,7 @@ read_on : (offset : ℕ) (bytes rest : List ℕ) (s : ScannerView) (tokens : Lis
     (h : IsScanned offset bytes s tokens) → Reads (bytes ++ rest) us
     → ReadsOn (h.open_part ++ rest) (kinds_of tokens) us
 read_on offset bytes rest s tokens us h reads =
-    reads_on h.front (h.open_part ++ rest) (kinds_of tokens) us (texts_of offset bytes tokens, h.reads)
+    reads_on h.front (h.open_part ++ rest) (kinds_of tokens) us (token_texts offset bytes tokens, h.reads)
     (subst (λ (v : List ℕ). Reads v us)
     (ap (λ (v : List ℕ). v ++ rest) h.whole ∙ append_assoc h.front h.open_part rest) reads)
 

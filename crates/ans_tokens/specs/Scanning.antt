@@ -28,5 +28,5 @@ abbrev pub text_of : ℕ → List ℕ → Token → List ℕ
 text_of offset bytes t = take (length_of t) (drop (start_of t - offset) bytes)
 
 -- the bytes of each token
-abbrev pub texts_of : ℕ → List ℕ → List Token → List (List ℕ)
-texts_of offset bytes tokens = map (text_of offset bytes) tokens
+abbrev pub token_texts : ℕ → List ℕ → List Token → List (List ℕ)
+token_texts offset bytes tokens = map (text_of offset bytes) tokens

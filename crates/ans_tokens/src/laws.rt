@@ -6,7 +6,7 @@ ghost use Rattle.ans_model.specs.Sequence.TokenKind.{TokenKind};
 ghost use Rattle.ans_model.specs.Sequence.Spelling.{IsUnfinished};
 ghost use Rattle.ans_model.specs.Sequence.Reads.{Reads, ReadsAs};
 ghost use Rattle.ans_tokens.specs.ScannerView.{ScannerView, Holds, RefusesByte, Ends};
-ghost use Rattle.ans_tokens.specs.Scanning.{TakesBytes, kinds_of, texts_of};
+ghost use Rattle.ans_tokens.specs.Scanning.{TakesBytes, kinds_of, token_texts};
 ghost use Rattle.ans_tokens.specs.declared.token.Token.{Token};
 
 /// What a scanner holds is empty, or the beginning of a sequence that can still be finished.
@@ -20,7 +20,7 @@ pub fn held_bytes_are_unfinished()
 pub fn bytes_give_their_tokens()
     ensures read { (old new : ScannerView) (bytes : List ℕ) (tokens : List Token)
         → Holds old [] → TakesBytes old bytes tokens new → Ends new (Ok tt)
-        → ReadsAs bytes (kinds_of tokens) (texts_of old.offset bytes tokens) }
+        → ReadsAs bytes (kinds_of tokens) (token_texts old.offset bytes tokens) }
     ensures only { (old new : ScannerView) (bytes : List ℕ) (tokens : List Token)
         (kinds : List TokenKind) → Holds old [] → TakesBytes old bytes tokens new
         → Reads bytes kinds → kinds_of tokens ≡ kinds }

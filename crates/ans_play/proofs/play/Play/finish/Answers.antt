@@ -27,9 +27,9 @@ record IsPlace (row column : ℕ) : Type 0 where
   row_fits : row + 1 < 65536
   column_fits : column + 1 < 65536
 
-place_fits : (z : Size) (cells : List HalfCell) (lines width i : ℕ) → IsPlayableSize z → lines ≡ z.lines
+place_fits : {z : Size} {lines width i : ℕ} (cells : List HalfCell) → IsPlayableSize z → lines ≡ z.lines
     → width ≡ z.width → first_unknown cells (lines * width) ≡ Some i → IsPlace (i / width) (i % width)
-place_fits z cells lines width i limits same_lines same_width found =
+place_fits {z} {lines} {width} {i} cells limits same_lines same_width found =
     let some : 0 < width = omega (arith, limits.some_columns, same_width) in
     let row : i / width < lines =
     (div-lt_iff_lt-mul some).1 (found_unknown cells (lines * width) i no_cell found).within in
@@ -81,29 +81,25 @@ returns-in-Some-clause-ends g c class s p =
 
 pub overflow_add-result : goal.overflow_add-result
 overflow_add-result g c =
-    let place = place_fits c.self.inside.size (g.G.Screen.cells_of c.self.inside.grid) c.lines.result
-    c.width-width.result c.in-Some.i c.lines.ensures.limits c.lines.ensures.lines c.width-width.ensures.width
+    let place = place_fits _ c.lines.ensures.limits c.lines.ensures.lines c.width-width.ensures.width
     (sym c.first_unknown.ensures ∙ c.in-Some.is) in
     omega (arith, place.row_fits)
 
 pub overflow_cast-result : goal.overflow_cast-result
 overflow_cast-result g c =
-    let place = place_fits c.self.inside.size (g.G.Screen.cells_of c.self.inside.grid) c.lines.result
-    c.width-width.result c.in-Some.i c.lines.ensures.limits c.lines.ensures.lines c.width-width.ensures.width
+    let place = place_fits _ c.lines.ensures.limits c.lines.ensures.lines c.width-width.ensures.width
     (sym c.first_unknown.ensures ∙ c.in-Some.is) in
     omega (arith, place.row_fits)
 
 pub overflow_add-result-in-Some : goal.overflow_add-result-in-Some
 overflow_add-result-in-Some g c =
-    let place = place_fits c.self.inside.size (g.G.Screen.cells_of c.self.inside.grid) c.lines.result
-    c.width-width.result c.in-Some.i c.lines.ensures.limits c.lines.ensures.lines c.width-width.ensures.width
+    let place = place_fits _ c.lines.ensures.limits c.lines.ensures.lines c.width-width.ensures.width
     (sym c.first_unknown.ensures ∙ c.in-Some.is) in
     omega (arith, place.column_fits)
 
 pub overflow_cast-result-in-Some : goal.overflow_cast-result-in-Some
 overflow_cast-result-in-Some g c =
-    let place = place_fits c.self.inside.size (g.G.Screen.cells_of c.self.inside.grid) c.lines.result
-    c.width-width.result c.in-Some.i c.lines.ensures.limits c.lines.ensures.lines c.width-width.ensures.width
+    let place = place_fits _ c.lines.ensures.limits c.lines.ensures.lines c.width-width.ensures.width
     (sym c.first_unknown.ensures ∙ c.in-Some.is) in
     omega (arith, place.column_fits)
 
