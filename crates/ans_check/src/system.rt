@@ -62,10 +62,12 @@ impl Inputs for System<'_> {
 
 /// The program's words, its own name first. None where one is not text, and where memory runs out.
 fn words_of(rt: &HostRuntime) -> Option<Vec<String>> {
-    match env::args(rt) {
-        Ok(arguments) => arguments.collect::<Vec<String>>(rt.alloc()).ok(),
-        Err(_) => None,
+    let arguments = env::args(rt).ok()?;
+    let mut words = Vec::new(rt.alloc());
+    for argument in arguments {
+        words.push(argument).ok()?;
     }
+    Some(words)
 }
 
 /// A view of each text.

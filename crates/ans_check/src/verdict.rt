@@ -18,7 +18,7 @@ use ans_screen::{Grid, HalfCell, Screen};
 use std::alloc::{AllocError, Global};
 
 /// How many bytes of the content are fed at once.
-const PIECE: usize = 65_536;
+const PIECE: usize = 4_096;
 
 /// What the checker finds of a file.
 #[derive(Drop)]

@@ -192,6 +192,8 @@ impl<G: Screen> Play<G> {
 
     /// Plays the first byte, which is not ESC, and returns that it is one byte, or 0 where it is
     /// refused. The scanner stays.
+    // in line, so that its answer stays in a register
+    #[inline(always)]
     fn fast_byte(&mut self, bytes: &[u8]) -> usize
         requires some { 1 ≤ length bytes.now }
         requires outside { slice_index_or bytes.now 0 0 ≢ escape }
