@@ -7,9 +7,9 @@ Run it anywhere, with the names of edits or with none for all:
     python3 tools/definitions/try_all.py [EDIT..]
 
 An edit is written as those in `must-fail/`, but its files are named from the folder `crates` on. It is tried on a copy
-of `ans_model` and of `ans_laws` without the plain answer, which stands on crates whose own proofs would refuse the
-mistake before any law is reached. For each edit the script prints which of the two crates refuses it, and why. It ends
-with 0 where each edit is refused. It takes a minute or two for each.
+of `ans_model` and of `ans_laws` without the plain answer and the examples of texts, which stand on crates whose own
+proofs would refuse the mistake before any law is reached. For each edit the script prints which of the two crates
+refuses it, and why. It ends with 0 where each edit is refused. It takes a minute or two for each.
 """
 import os
 import re
@@ -22,25 +22,25 @@ EDITS = os.path.dirname(os.path.abspath(__file__))
 CRATES = os.path.abspath(f"{EDITS}/../../crates")
 TRIED = ["ans_model", "ans_laws"]
 DEPENDENCIES = "ans_model: arrayvec\nans_laws: ans_model\n"
-# what of ans_laws belongs to the plain answer
-ANSWER = {
-    "src/lib.rt": r"(mod|pub use) (answer|two_plays)\b.*",
-    "specs/Lib.antt": r"pub mod (Answers|TwoPlays)",
-    "proofs/Lib.antt": r"pub mod (TwoCursors|TabPlays|TokenFaults|Played|EndOfPlays)",
+# what of ans_laws belongs to the plain answer, and to the examples of texts, which are read by the scanner
+ABOVE = {
+    "src/lib.rt": r"(pub mod|mod|pub use) (answer|two_plays|text_examples)\b.*",
+    "specs/Lib.antt": r"pub mod (Answers|TwoPlays|TextExamples)",
+    "proofs/Lib.antt": r"pub mod (ComputedReading|TwoCursors|TabPlays|TokenFaults|Played|EndOfPlays)",
 }
-ANSWER_FILES = ["src/answer.rt", "src/two_plays.rt", "specs/Answers.antt", "specs/TwoPlays.antt",
-                "proofs/answer", "proofs/two_plays"] + [
-    f"proofs/{name}.antt" for name in ["TwoCursors", "TabPlays", "TokenFaults", "Played", "EndOfPlays"]]
+FILES_ABOVE = ["src/answer.rt", "src/two_plays.rt", "src/text_examples.rt", "specs/Answers.antt", "specs/TwoPlays.antt",
+               "specs/TextExamples.antt", "proofs/answer", "proofs/two_plays", "proofs/text_examples"] + [
+    f"proofs/{name}.antt" for name in ["ComputedReading", "TwoCursors", "TabPlays", "TokenFaults", "Played", "EndOfPlays"]]
 
 
-def without_answer(laws):
-    """Takes the plain answer out of a copy of ans_laws."""
-    for path, lines in ANSWER.items():
+def without_what_stands_above(laws):
+    """Takes the plain answer and the examples of texts out of a copy of ans_laws."""
+    for path, lines in ABOVE.items():
         with open(f"{laws}/{path}", encoding="utf-8") as it:
             kept = [line for line in it if not re.fullmatch(lines, line.rstrip("\n"))]
         with open(f"{laws}/{path}", "w", encoding="utf-8") as it:
             it.writelines(kept)
-    for path in ANSWER_FILES:
+    for path in FILES_ABOVE:
         at = f"{laws}/{path}"
         shutil.rmtree(at) if os.path.isdir(at) else os.remove(at)
 
@@ -53,7 +53,7 @@ def copy_crates(room):
     shutil.copy2(f"{CRATES}/../HANDLES", room)
     for name in TRIED:
         shutil.copytree(f"{CRATES}/{name}", f"{room}/crates/{name}", ignore=shutil.ignore_patterns("must-fail"))
-    without_answer(f"{room}/crates/ans_laws")
+    without_what_stands_above(f"{room}/crates/ans_laws")
 
 
 def check(room, name):
