@@ -5,9 +5,10 @@ Run it anywhere, with the names of crates or with none for all:
 
     python3 tools/edits/try_all.py [CRATE..]
 
-The gate tries the edits in each crate's `must-fail/`. Those here are as well made, and mostly in private
-functions. They are kept apart because each takes some 30 seconds of a processor, and the gate is to end
-within three hours on two slow cores. They are tried on a copy of the repository, in which the crates below are built.
+The gate tries the edits in each crate's `must-fail/`. Those here tell less, or as much as one there. They are
+kept apart because each takes 6 to 40 seconds of a processor, and the gate is to end within three hours on two slow
+cores. They are tried on a copy of the repository, in which the crates below are built. Run it for each crate that
+changes, before work on it is called done.
 """
 import os
 import shutil
