@@ -139,15 +139,24 @@ fn glyphs_of(glyphs: &[(usize, usize, u8)], row: usize) -> [u8; 1024] {
     line
 }
 
-/// Asserts that a row of a picture has these glyphs, on attributes 07h.
-fn assert_row<G: Grid>(rt: &impl Abort, picture: &Picture<G>, row: usize, glyphs: &[u8; 1024]) {
+/// The attributes of a row of white on black.
+const WHITE: [u8; 1024] = [0x07; 1024];
+
+/// Asserts that a row of a picture has these glyphs and attributes.
+fn assert_row<G: Grid>(
+    rt: &impl Abort,
+    picture: &Picture<G>,
+    row: usize,
+    glyphs: &[u8; 1024],
+    attributes: &[u8; 1024],
+) {
     let width = picture.width();
     assert!(rt; width <= 1024 && row < picture.lines());
     let mut shown = [0; 1024];
     picture.copy_glyphs(row, &mut shown[..width]);
     assert!(rt; shown[..width] == glyphs[..width], "row {row} from 0");
     picture.copy_attributes(row, &mut shown[..width]);
-    assert!(rt; shown[..width] == [0x07; 1024][..width], "row {row} from 0");
+    assert!(rt; shown[..width] == attributes[..width], "row {row} from 0");
 }
 
 /// Asserts that a picture has this size and in each row these glyphs, on blanks of attribute 07h.
@@ -159,7 +168,7 @@ pub(super) fn assert_glyphs<G: Grid>(
 ) {
     assert!(rt; (picture.width(), picture.lines()) == size);
     for row in 0..picture.lines() {
-        assert_row(rt, picture, row, &glyphs_of(glyphs, row));
+        assert_row(rt, picture, row, &glyphs_of(glyphs, row), &WHITE);
     }
 }
 
@@ -226,6 +235,39 @@ fn the_largest_screen_is_cleared_from_any_start(rt: HostRuntime) -> Result<(), A
     expect_glyphs(&rt, content, Start::ANY, (1024, 8192), &[])
 }
 
+/// Asserts that a file passes over one kind of grid, with 4095 `a` on 80 columns and 52 lines, a bright `b`
+/// behind them, and blanks up to the border.
+fn expect_bright_end<G: Grid>(
+    rt: &(impl Abort + AllocGlobal),
+    file: &[u8],
+) -> Result<(), AllocError>
+    requires { length file.now ≤ longest_file }
+{
+    let Verdict::Pass(_, picture) = &check::<G>(rt.alloc(), file, Start::cleared())? else {
+        panic!(rt; "a pass was expected");
+    };
+    assert!(rt; (picture.width(), picture.lines()) == (80, 52));
+    for row in 0..51 {
+        assert_row(rt, picture, row, &[b'a'; 1024], &WHITE);
+    }
+    let (mut glyphs, mut attributes) = ([b' '; 1024], WHITE);
+    glyphs[..16].copy_from_slice(b"aaaaaaaaaaaaaaab");
+    attributes[15] = 0x0f;
+    assert_row(rt, picture, 51, &glyphs, &attributes);
+    Ok(())
+}
+
+/// The 4096 bytes that are fed at once end within the sequence.
+#[test]
+fn a_sequence_crosses_two_pieces(rt: HostRuntime) -> Result<(), AllocError> {
+    let mut content = [b'a'; 4100];
+    content[4095..].copy_from_slice(b"\x1b[1mb");
+    let file = file_of_size(&rt, &content, 80, 52)?;
+    assert!(rt; file.len() <= MAX_FILE);
+    expect_bright_end::<PlainGrid>(&rt, file.as_slice())?;
+    expect_bright_end::<PlaneGrid>(&rt, file.as_slice())
+}
+
 /// The report of the content in which two sequences cross the ends of pieces.
 const PIECES_REPORT: &[u8] = b"size: 3 x 1\n\
     start: cleared\n\
@@ -236,10 +278,10 @@ const PIECES_REPORT: &[u8] = b"size: 3 x 1\n\
     cells:\n\
     6107620f630f\n";
 
-/// Content is fed in pieces of 4096 bytes. A sequence stands across the end of the first piece, and one
-/// across the end of the second. The other bytes are returns, which move the cursor to the first column.
+/// A sequence stands across the end of the first 4096 bytes, and one across the end of the next. The
+/// bytes about them are returns, which move the cursor to the first column.
 #[test]
-fn two_sequences_cross_pieces(rt: HostRuntime) -> Result<(), AllocError> {
+fn two_sequences_cross_three_pieces(rt: HostRuntime) -> Result<(), AllocError> {
     let mut front = [b'\r'; 8196];
     front[4093..4099].copy_from_slice(b"a\x1b[1mb");
     front[8190..].copy_from_slice(b"\x1b[2Cc\x1a");

@@ -189,6 +189,7 @@ fn expect_accepted<G: Grid>(
     assert!(rt; file.len() <= MAX_FILE);
     match &check::<G>(rt.alloc(), file.as_slice(), Start::cleared())? {
         Verdict::Pass(parts, picture) => {
+            assert!(rt; row.width != 1);
             expect_parts(rt, parts, row);
             let glyphs: &[(usize, usize, u8)] = &[(0, 0, b'H'), (0, 1, b'i')];
             let shown = &glyphs[..row.content.len().min(2)];
