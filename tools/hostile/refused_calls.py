@@ -14,25 +14,29 @@ until a run meets no refusal. It needs a program that is linked with the C libra
 What has to come of a run of the program in which one call is refused:
 
 - An allocation, and all from one on: status 2, nothing on standard output, `out of memory` or `cannot read
-  the command line`. There are two exceptions. Where the words are rejected anyway, the text that rejects them
-  will do. And where one allocation alone is refused, up to two in a run may be made again with all that comes
-  without it: the room that the kit's `collect` asks for beforehand, for the program's words and for what
-  they are read as. With all refused from there on, that run has no answer either.
+  the command line`. Where the words are rejected anyway, the text that rejects them will do.
 - An open, a read: status 2, nothing on standard output, and the line that says so.
 - A write of standard output: status 2, `cannot write the report`, and a prefix of the text; the whole text
   is one, since what a buffer holds is offered once more as it is dropped. A write of standard error: the
   status and the standard output that come without it.
 - A read or a write that moves one byte in place of several: all that comes without it.
 
-Of a test: `error: AllocError` or `error: AllocFailed`, where the test hands its errors on. The tests of
-`ans_laws_tests`, `ans_options_tests` and `ans_check_tests` make a call that met the refusal once more, and have to
-pass. A test process that ends with a signal, or passes although its error was to be handed on, is wrong.
+A table goes on behind a file that it could not read. So of `table` an allocation, an open or a read of a file
+may also end thus: status 2, the row of that file says so, all other rows are as without it, and standard error
+counts the rows; where all allocations from one on are refused, the rows of the files behind it say so too. Or,
+where memory is refused for the text of a row, the table ends before it, with `out of memory`. Where a read of
+the names fails there are the rows of the names before, and `cannot read the names`.
+
+Of a test: `error: AllocError` or `error: AllocFailed`, for each allocation. A test process that ends with a
+signal, or passes, is wrong: in the one case memory that is not there was used, in the other an answer came
+where it should have failed.
 
 It prints the refusals of each kind and each crate, and what came out otherwise. The status is 1 where
 something did, where tests are not built, or where a kind of call was never met.
 """
 import collections
 import concurrent.futures
+import json
 import os
 import subprocess
 import sys
@@ -46,14 +50,21 @@ sys.path.insert(0, os.path.join(os.path.dirname(HERE), "runs"))
 from table import file_of
 
 TESTED = ["ans_screen", "ans_play_tests", "ans_laws_tests", "ans_report_tests", "ans_options_tests", "ans_check_tests"]
-MAKES_THE_CALL_AGAIN = {"ans_laws_tests", "ans_options_tests", "ans_check_tests"}
 AT_ONCE, WORKERS, SECONDS = 16, 4, 120
 
-MEMORY = [b"anscheck: out of memory\n", b"anscheck: cannot read the command line\n"]
+OUT_OF_MEMORY = b"anscheck: out of memory\n"
+MEMORY = [OUT_OF_MEMORY, b"anscheck: cannot read the command line\n"]
 NOT_OPENED = b"anscheck: cannot open the file\n"
 NOT_READ = b"anscheck: cannot read the file\n"
+NAMES_NOT_READ = b"anscheck: cannot read the names\n"
 NOT_WRITTEN = b"anscheck: cannot write the report\n"
-MADE_AGAIN = 2
+REJECTED = b"error: "
+IN_ROWS = {
+    "alloc": "out of memory",
+    "alloc-from": "out of memory",
+    "open": "cannot open the file",
+    "read": "cannot read the file",
+}
 KINDS = ["alloc", "alloc-from", "open", "read", "write", "short-read", "short-write"]
 
 CLEAR = b"\x1b[?7h\x1b[0m\x1b[2J"
@@ -68,8 +79,8 @@ FILES = {
 }
 COMMANDS = [
     ["check"], ["check", "--cleared"], ["check", "--cleared", "--cells"],
-    ["check", "--known-cursor", "--known-colours"], ["show"], ["show", "--html", "--any"], ["needs"], ["sauce"],
-    ["tokens"],
+    ["check", "--known-cursor", "--known-colours"], ["show"], ["show", "--html", "--any"], ["why"], ["needs"],
+    ["sauce"], ["tokens"], ["table"], ["table", "--json"],
 ]
 OTHER_WORDS = [["--help"], ["check", "--help"], ["check", "--bogus"], []]
 
@@ -102,12 +113,66 @@ def each_refusal(pool, words, stdin, library, kind):
         first += AT_ONCE
 
 
-def comes_as_it_must(kind, whole, ran):
+Row = collections.namedtuple("Row", "verdict fault name")
+
+
+def rows_of(table):
+    """What the lines of a table tell. The line of the columns' names is taken as a row that is no file's."""
+    rows = []
+    for line in table.decode().splitlines():
+        if line.startswith("{"):
+            row = json.loads(line)
+            rows.append(Row(row["verdict"], row.get("fault", ""), row["file"]))
+        else:
+            columns = line.split("\t")
+            rows.append(Row(columns[0], columns[3], columns[-1]))
+    return rows
+
+
+def counts_of(rows):
+    """What standard error says of these rows."""
+    verdicts = collections.Counter(row.verdict for row in rows)
+    passed, refused, unread = (verdicts[verdict] for verdict in ("pass", "refused", "error"))
+    files = passed + refused + unread
+    plural = "" if files == 1 else "s"
+    return f"anscheck: {files} file{plural}: {passed} pass, {refused} refused, {unread} not read\n".encode()
+
+
+def is_told_in_rows(kind, whole, ran):
+    """Whether a table is as without the refused call but for one row, which says what was refused; with all
+    allocations refused from one on, but for the last rows, which all say so."""
+    lines, whole_lines = ran.out.splitlines(), whole.out.splitlines()
+    if ran.status != 2 or len(lines) != len(whole_lines) or ran.out[-1:] != b"\n":
+        return False
+    rows, names = rows_of(ran.out), [row.name for row in rows_of(whole.out)]
+    changed = [i for i in range(len(lines)) if lines[i] != whole_lines[i]]
+    are_told = all(rows[i] == Row("error", IN_ROWS[kind], names[i]) for i in changed)
+    are_those = len(changed) == 1 if kind != "alloc-from" else changed == list(range(len(lines)))[-len(changed):]
+    return bool(changed) and are_those and are_told and ran.err == counts_of(rows)
+
+
+def ends_behind_a_row(whole, ran, said):
+    """Whether a table has some of its first lines, each whole, and ends with this on standard error."""
+    return (ran.status == 2 and ran.err == said and whole.out.startswith(ran.out)
+            and ran.out[-1:] in (b"", b"\n"))
+
+
+def is_table_as_it_must(kind, whole, ran):
+    """Whether a table tells of a refused allocation, open or read."""
+    if kind == "read" and ran.refused == 0:
+        return ends_behind_a_row(whole, ran, NAMES_NOT_READ)
+    ends = kind in ("alloc", "alloc-from") and ran.out != whole.out and ends_behind_a_row(whole, ran, OUT_OF_MEMORY)
+    return ends or is_told_in_rows(kind, whole, ran)
+
+
+def comes_as_it_must(kind, is_table, whole, ran):
     """Whether a run with a refused call is as the text above says, beside the run without one."""
     silent = ran.status == 2 and ran.out == b""
     if kind in ("alloc", "alloc-from"):
-        is_rejected = whole.status == 2 and ran[:3] == whole[:3]
-        return is_rejected or silent and ran.err in MEMORY
+        is_rejected = whole.err.startswith(REJECTED) and ran[:3] == whole[:3]
+        return is_rejected or silent and ran.err in MEMORY or is_table and is_table_as_it_must(kind, whole, ran)
+    if kind in ("open", "read") and is_table:
+        return is_table_as_it_must(kind, whole, ran)
     if kind == "open":
         return silent and ran.err == NOT_OPENED
     if kind == "read":
@@ -120,32 +185,33 @@ def comes_as_it_must(kind, whole, ran):
 
 
 def runs_of_the_program(room):
-    """What the program is asked, and its standard input: each command on each file, in two ways."""
+    """What the program is asked, and its standard input: each command on each file, named as a word and on
+    standard input. A table reads names there, each ended by 00h: one file's, and all of them."""
+    every_name = os.path.join(room, "every-name")
     for name, file in FILES.items():
         path = os.path.join(room, name.replace(" ", "-"))
-        with open(path, "wb") as to:
+        listed = path + ".name"
+        with open(path, "wb") as to, open(listed, "wb") as names, open(every_name, "ab") as all_names:
             to.write(file)
+            names.write(path.encode() + b"\0")
+            all_names.write(path.encode() + b"\0")
         for words in COMMANDS:
             yield [*words, path], os.devnull
-            yield words, path
+            yield words, listed if words[0] == "table" else path
+    yield from ((words, every_name) for words in COMMANDS if words[0] == "table")
     yield ["check", os.path.join(room, "none")], os.devnull
     yield from ((words, os.devnull) for words in OTHER_WORDS)
 
 
 def try_run(pool, words, stdin, library, refusals):
     """How many refusals of one run came out otherwise. Each is counted."""
-    whole, wrong, made_again = run(words, stdin, library, "none:0"), 0, 0
+    whole, wrong = run(words, stdin, library, "none:0"), 0
     for kind in KINDS:
         for n, ran in each_refusal(pool, words, stdin, library, kind):
             refusals[kind] += 1
-            if comes_as_it_must(kind, whole, ran):
-                continue
-            if kind == "alloc" and ran[:3] == whole[:3] and made_again < MADE_AGAIN:
-                made_again += 1
-                continue
-            wrong += 1
-            print(f"{kind} {n} of {words[1:]} < {stdin}: {ran.status} {ran.out[-60:]} {ran.err[:80]}")
-    refusals["made again"] += made_again
+            if not comes_as_it_must(kind, words[1:2] == ["table"], whole, ran):
+                wrong += 1
+                print(f"{kind} {n} of {words[1:]} < {stdin}: {ran.status} {ran.out[-60:]} {ran.err[:80]}")
     return wrong
 
 
@@ -156,8 +222,7 @@ def try_program(pool, program, library, room):
         runs += 1
         wrong += try_run(pool, [program, *words], stdin, library, refusals)
     counts = ", ".join(f"{refusals[kind]} {kind}" for kind in KINDS)
-    print(f"anscheck: {runs} runs with each call refused in turn: {counts}; {wrong} otherwise, "
-          f"{refusals['made again']} made again", flush=True)
+    print(f"anscheck: {runs} runs with each call refused in turn: {counts}; {wrong} otherwise", flush=True)
     return wrong + sum(refusals[kind] == 0 for kind in KINDS)
 
 
@@ -166,9 +231,8 @@ def tests_of(executable):
     return [line.removesuffix(": test") for line in listed.splitlines() if line.endswith(": test")]
 
 
-def passes_or_hands_on(name, ran):
-    if name in MAKES_THE_CALL_AGAIN:
-        return ran.status == 0
+def hands_on(ran):
+    """Whether a test failed with the error of memory."""
     return ran.status > 0 and ran.err.startswith((b"error: AllocError\n", b"error: AllocFailed"))
 
 
@@ -182,7 +246,7 @@ def try_tests(pool, name, library):
     for test in tests:
         for n, ran in each_refusal(pool, [executable, test], os.devnull, library, "alloc"):
             refusals += 1
-            if not passes_or_hands_on(name, ran):
+            if not hands_on(ran):
                 wrong += 1
                 print(f"{name}, {test}, allocation {n}: status {ran.status} {ran.err[:200]}", flush=True)
     print(f"{name}: {len(tests)} tests, {refusals} allocations refused in turn; {wrong} otherwise", flush=True)

@@ -1,5 +1,4 @@
-//! Files, readers and writers from end to end. A call that met a refused allocation is made once
-//! more, and its answer is then insisted on; so each allocation can be refused in turn.
+//! Files, readers and writers from end to end. Where memory runs out a test fails with that error.
 ghost use Rattle.std.specs.Prelude.{◌≡◌, false};
 ghost use Rattle.ans_write.specs.Tried.{has_failed};
 
@@ -95,8 +94,8 @@ const NEEDS: Options = asked!(Needs);
 
 const WHY: Options = asked!(Why);
 
-/// What the commands but `why` may be asked.
-static COMMANDS: [Options; 7] = [ANY, CLEARED, CELLS, SHOW, SAUCE, TOKENS, NEEDS];
+/// What a command on one file may be asked.
+static COMMANDS: [Options; 8] = [ANY, CLEARED, CELLS, SHOW, SAUCE, TOKENS, NEEDS, WHY];
 
 /// The report of a check of `Hi` from the cleared screen.
 const HI_REPORT: &[u8] =
@@ -113,19 +112,16 @@ const HI_RECORD: &[u8] = b"title: \n\
     file size: 2\n\
     comments: 0\n";
 
-/// What stands before the record, and the plain record with these bytes changed.
-fn file_of(rt: &(impl Abort + AllocGlobal), front: &[u8], edits: &[(usize, &[u8])]) -> Vec<u8> {
-    match sample_file(rt.alloc(), front, edits) {
-        Ok(file) => file,
-        Err(AllocError) => sample_file(rt.alloc(), front, edits).expect(rt, "memory"),
-    }
-}
-
 /// What stands before the record, and the plain record with this width and these lines.
-fn file_of_size(rt: &(impl Abort + AllocGlobal), front: &[u8], width: u16, lines: u16) -> Vec<u8> {
+fn file_of_size(
+    rt: &impl AllocGlobal,
+    front: &[u8],
+    width: u16,
+    lines: u16,
+) -> Result<Vec<u8>, AllocError> {
     let width = width.to_le_bytes();
     let lines = lines.to_le_bytes();
-    file_of(rt, front, &[(96, &width), (98, &lines)])
+    sample_file(rt.alloc(), front, &[(96, &width), (98, &lines)])
 }
 
 /// The content, one end mark, and the plain record with this size, these flags and this title.
@@ -135,15 +131,15 @@ fn drawing(
     (width, lines): (u16, u16),
     flags: u8,
     title: &[u8],
-) -> Vec<u8> {
+) -> Result<Vec<u8>, AllocError> {
     let mut front = [0x1a; 64];
     assert!(rt; content.len() < 64);
     front[..content.len()].copy_from_slice(content);
     let file_size = u32::try_from(content.len()).unwrap_or(0).to_le_bytes();
     let width = width.to_le_bytes();
     let lines = lines.to_le_bytes();
-    file_of(
-        rt,
+    sample_file(
+        rt.alloc(),
         &front[..content.len() + 1],
         &[
             (7, title),
@@ -156,7 +152,12 @@ fn drawing(
 }
 
 /// The content, one end mark and the plain record of this size.
-fn plain_file(rt: &(impl Abort + AllocGlobal), content: &[u8], width: u16, lines: u16) -> Vec<u8> {
+fn plain_file(
+    rt: &(impl Abort + AllocGlobal),
+    content: &[u8],
+    width: u16,
+    lines: u16,
+) -> Result<Vec<u8>, AllocError> {
     drawing(rt, content, (width, lines), 0, b"")
 }
 
@@ -164,6 +165,19 @@ fn room_for(room: usize) -> Tried<Narrow>
     ensures { has_failed result ≡ false }
 {
     Tried::new(Narrow::new(room))
+}
+
+/// Fails where a run met a refused allocation. Its writer was then not called.
+fn expect_memory(
+    rt: &impl Abort,
+    answer: Result<bool, RunError>,
+    calls: u64,
+) -> Result<(), AllocError> {
+    if answer == Err(RunError::Memory) {
+        assert!(rt; calls == 0);
+        return Err(AllocError);
+    }
+    Ok(())
 }
 
 /// What became of a run.
@@ -174,28 +188,22 @@ struct Ran<R> {
     writer: Tried<Narrow>,
 }
 
-/// Runs on an input, and writes to a device with this much room. Nothing is written where memory was
-/// refused.
-fn run_once<R: Read + Copy + Drop>(
+/// Runs on an input, and writes to a device with this much room. It fails where memory runs out.
+fn run_on<R: Read + Drop>(
     rt: &(impl Abort + AllocGlobal),
     input: R,
     options: &Options,
     room: usize,
-) -> Ran<R> {
-    for _ in 0..2 {
-        let mut reader = Tried::new(input);
-        let mut writer = room_for(room);
-        let answer = run(rt.alloc(), &mut reader, &mut writer, options);
-        if answer != Err(RunError::Memory) {
-            return Ran {
-                answer,
-                reader,
-                writer,
-            };
-        }
-        assert!(rt; writer.calls() == 0);
-    }
-    panic!(rt; "memory was refused twice");
+) -> Result<Ran<R>, AllocError> {
+    let mut reader = Tried::new(input);
+    let mut writer = room_for(room);
+    let answer = run(rt.alloc(), &mut reader, &mut writer, options);
+    expect_memory(rt, answer, writer.calls())?;
+    Ok(Ran {
+        answer,
+        reader,
+        writer,
+    })
 }
 
 /// Asserts what a run returns, and what it writes to a device with this much room.
@@ -206,10 +214,11 @@ fn expect_run(
     room: usize,
     expected: Result<bool, RunError>,
     text: &[u8],
-) {
-    let ran = run_once(rt, file, options, room);
+) -> Result<(), AllocError> {
+    let ran = run_on(rt, file, options, room)?;
     assert!(rt; ran.answer == expected);
     assert_eq!(rt; ran.writer.inner().held(), text);
+    Ok(())
 }
 
 /// Asserts that bytes begin so, and returns the others.
@@ -224,9 +233,14 @@ fn behind<'a>(rt: &impl Abort, bytes: &'a [u8], front: &[u8]) -> &'a [u8] {
 type Text = (&'static [u8], u16, u16, bool, &'static [u8]);
 
 /// Asserts what is written of each file where one thing is asked.
-fn expect_texts(rt: &(impl Abort + AllocGlobal), asked: &Options, rows: &[Text]) {
+fn expect_texts(
+    rt: &(impl Abort + AllocGlobal),
+    asked: &Options,
+    rows: &[Text],
+) -> Result<(), AllocError> {
     for (content, width, lines, passes, text) in rows {
-        let file = plain_file(rt, content, *width, *lines);
-        expect_run(rt, file.as_slice(), asked, 256, Ok(*passes), text);
+        let file = plain_file(rt, content, *width, *lines)?;
+        expect_run(rt, file.as_slice(), asked, 256, Ok(*passes), text)?;
     }
+    Ok(())
 }

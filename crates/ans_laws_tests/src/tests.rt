@@ -1,5 +1,4 @@
-//! The rows of `ans_samples` on the plain answer. A call that met a refused allocation is made once
-//! more, and its answer is then insisted on; so each allocation can be refused in turn.
+//! The rows of `ans_samples` on the plain answer. Where memory runs out a test fails with that error.
 
 mod long_contents;
 mod machine;
@@ -15,7 +14,7 @@ use ans_samples::rows::{Row, tables};
 use std::alloc::{AllocError, Global};
 use std::process::Abort;
 
-/// The plain answer. A call that ran out of memory is made again.
+/// The plain answer. It fails where memory runs out.
 fn answer_to(
     rt: &impl Abort,
     alloc: Global,
@@ -23,13 +22,10 @@ fn answer_to(
     width: usize,
     lines: usize,
     start: Start,
-) -> Answer {
+) -> Result<Answer, AllocError> {
     assert!(rt; 1 <= width && width <= MAX_WIDTH && 1 <= lines && lines <= MAX_LINES);
     assert!(rt; bytes.len() <= MAX_FILE);
-    match plain_answer(alloc, bytes, width, lines, start) {
-        Ok(answer) => answer,
-        Err(AllocError) => plain_answer(alloc, bytes, width, lines, start).expect(rt, "memory"),
-    }
+    plain_answer(alloc, bytes, width, lines, start)
 }
 
 /// Asserts the cells' bytes, and their attributes where these are compared.
@@ -56,7 +52,7 @@ fn assert_fault(rt: &impl Abort, content: &[u8], fault: Fault, expected: Fault, 
 }
 
 /// Asserts a row's answer.
-fn expect_answer(rt: &impl Abort, alloc: Global, row: &Row) {
+fn expect_answer(rt: &impl Abort, alloc: Global, row: &Row) -> Result<(), AllocError> {
     let Row {
         start,
         width,
@@ -65,7 +61,8 @@ fn expect_answer(rt: &impl Abort, alloc: Global, row: &Row) {
         expected,
     } = *row;
     assert!(rt; width <= 20 && lines <= 10);
-    match (answer_to(rt, alloc, content, width, lines, start), expected) {
+    let answer = answer_to(rt, alloc, content, width, lines, start)?;
+    match (answer, expected) {
         (Answer::Good(cells), Shows(bytes, attributes)) => {
             assert_eq!(rt; cells.len(), width * lines);
             assert_cells(rt, cells.as_slice(), bytes, attributes);
@@ -78,17 +75,20 @@ fn expect_answer(rt: &impl Abort, alloc: Global, row: &Row) {
         }
         _ => panic!(rt; "a picture where a fault was expected, or the reverse, in {content:?}"),
     }
+    Ok(())
 }
 
-fn expect_answers(rt: &impl Abort, alloc: Global, rows: &[Row]) {
+fn expect_answers(rt: &impl Abort, alloc: Global, rows: &[Row]) -> Result<(), AllocError> {
     for row in rows {
-        expect_answer(rt, alloc, row);
+        expect_answer(rt, alloc, row)?;
     }
+    Ok(())
 }
 
 #[test]
-fn rows_are_answered(rt: HostRuntime) {
+fn rows_are_answered(rt: HostRuntime) -> Result<(), AllocError> {
     for rows in tables() {
-        expect_answers(&rt, rt.alloc(), rows);
+        expect_answers(&rt, rt.alloc(), rows)?;
     }
+    Ok(())
 }

@@ -1,5 +1,4 @@
-//! Words and what they give. A call that met a refused allocation is made once more, and its answer
-//! is then insisted on; so each allocation can be refused in turn.
+//! Words and what they give. Where memory runs out a test fails with that error.
 
 /// A table: the program's words, and what is expected of them.
 macro_rules! rows {
@@ -22,21 +21,21 @@ mod texts;
 
 use ans_options::{Options, WordsError, options};
 use clap::error::ErrorKind;
+use std::alloc::AllocError;
 
-/// What words give. Where memory was refused they are read once more.
+/// What words give, or what `clap` says of them. It fails where memory runs out.
 fn read_words(
     rt: &impl AllocGlobal,
     words: &[&str],
-) -> Result<(Options, Option<String>), WordsError> {
-    let answer = options(rt.alloc(), words);
-    let was_refused = match &answer {
-        Ok(_) => false,
-        Err(WordsError::Clap(error)) => error.kind() == ErrorKind::OutOfMemory,
-        Err(WordsError::Memory) => true,
-    };
-    if was_refused {
-        options(rt.alloc(), words)
-    } else {
-        answer
+) -> Result<Result<(Options, Option<String>), clap::Error>, AllocError> {
+    match options(rt.alloc(), words) {
+        Ok(given) => Ok(Ok(given)),
+        Err(WordsError::Memory) => Err(AllocError),
+        Err(WordsError::Clap(error)) => {
+            if error.kind() == ErrorKind::OutOfMemory {
+                return Err(AllocError);
+            }
+            Ok(Err(error))
+        }
     }
 }

@@ -1,11 +1,12 @@
 //! Readers and writers that fail.
 use super::{
-    CLEARED, COMMANDS, HI_RECORD, HI_REPORT, NEEDS, SAUCE, SHOW, TOKENS, expect_run, plain_file,
-    run_once,
+    CLEARED, COMMANDS, HI_RECORD, HI_REPORT, NEEDS, SAUCE, SHOW, TOKENS, WHY, expect_memory,
+    expect_run, plain_file, run_on,
 };
 use ans_check::{Options, RunError, run};
 use ans_report::Tried;
 use ans_samples::{FailingOnce, Failure, Narrow};
+use std::alloc::AllocError;
 use std::io::{self, Read};
 use std::process::Abort;
 
@@ -14,6 +15,16 @@ const HI_SHOWN: &[u8] = b"\x1b[0;37;40mHi\x1b[0m\n";
 const HI_TOKENS: &[u8] = b"0 1 glyph 48\n1 1 glyph 69\n";
 
 const HI_NEEDS: &[u8] = b"size: 2 x 1\ncontent: 2 bytes\nneeds: cursor colours\n";
+
+const HI_WHY: &[u8] = b"size: 2 x 1\n\
+    verdict: pass\n\
+    needs: cursor colours\n\
+    taller: yes\n\
+    at 0: F22 print at an unknown place\n\
+    bytes: H\n\
+    low start: row 1, column 1\n\
+    high start: row 2, column 2\n\
+    mend: begin with ESC[?7h ESC[0m ESC[2J ESC[s\n";
 
 /// Gives one byte a read, and fails at one of the reads alone.
 #[derive(Clone, Copy)]
@@ -37,12 +48,13 @@ impl Read for Dripping<'_> {
 }
 
 /// What is asked of the sample file, and the whole text of the answer.
-static TEXTS: [(Options, &[u8]); 5] = [
+static TEXTS: [(Options, &[u8]); 6] = [
     (CLEARED, HI_REPORT),
     (SHOW, HI_SHOWN),
     (SAUCE, HI_RECORD),
     (TOKENS, HI_TOKENS),
     (NEEDS, HI_NEEDS),
+    (WHY, HI_WHY),
 ];
 
 /// Asserts that a run ends at the one write that fails, behind so many bytes, with these written.
@@ -52,62 +64,70 @@ fn expect_end_at_write(
     asked: &Options,
     fails_at: u64,
     written: &[u8],
-) {
-    for _ in 0..2 {
-        let mut reader = Tried::new(file);
-        let device = FailingOnce::new(Narrow::new(128), fails_at, Failure::Error);
-        let mut writer = Tried::new(device);
-        let answer = run(rt.alloc(), &mut reader, &mut writer, asked);
-        if answer != Err(RunError::Memory) {
-            let calls = writer.calls();
-            let device = writer.into_inner();
-            assert_eq!(rt;
-                (answer, [calls, device.calls()], device.device.held()),
-                (Err(RunError::Write), [fails_at; 2], written)
-            );
-            return;
-        }
-    }
-    panic!(rt; "memory was refused twice");
+) -> Result<(), AllocError> {
+    let mut reader = Tried::new(file);
+    let device = FailingOnce::new(Narrow::new(256), fails_at, Failure::Error);
+    let mut writer = Tried::new(device);
+    let answer = run(rt.alloc(), &mut reader, &mut writer, asked);
+    let calls = writer.calls();
+    expect_memory(rt, answer, calls)?;
+    let device = writer.into_inner();
+    assert_eq!(rt;
+        (answer, [calls, device.calls()], device.device.held()),
+        (Err(RunError::Write), [fails_at; 2], written)
+    );
+    Ok(())
 }
 
 /// Asserts that a writer which fails, for good or once, has a prefix of the text.
-fn expect_prefixes(rt: &(impl Abort + AllocGlobal), file: &[u8], asked: &Options, text: &[u8]) {
+fn expect_prefixes(
+    rt: &(impl Abort + AllocGlobal),
+    file: &[u8],
+    asked: &Options,
+    text: &[u8],
+) -> Result<(), AllocError> {
     for room in 0..text.len() {
         let written = &text[..room];
-        expect_run(rt, file, asked, room, Err(RunError::Write), written);
+        expect_run(rt, file, asked, room, Err(RunError::Write), written)?;
         let fails_at = (room as u64).saturating_add(1);
-        expect_end_at_write(rt, file, asked, fails_at, written);
+        expect_end_at_write(rt, file, asked, fails_at, written)?;
     }
+    Ok(())
 }
 
 #[test]
-fn a_writer_that_fails_has_a_prefix(rt: HostRuntime) {
-    let file = plain_file(&rt, b"Hi", 2, 1);
+fn a_writer_that_fails_has_a_prefix(rt: HostRuntime) -> Result<(), AllocError> {
+    let file = plain_file(&rt, b"Hi", 2, 1)?;
     assert!(rt; HI_REPORT.len() == 70);
     for (asked, text) in &TEXTS {
-        expect_prefixes(&rt, file.as_slice(), asked, text);
-        expect_run(&rt, file.as_slice(), asked, text.len(), Ok(true), text);
+        expect_prefixes(&rt, file.as_slice(), asked, text)?;
+        expect_run(&rt, file.as_slice(), asked, text.len(), Ok(true), text)?;
     }
+    Ok(())
 }
 
 #[test]
-fn a_writer_that_fails_has_a_prefix_of_a_refusal(rt: HostRuntime) {
+fn a_writer_that_fails_has_a_prefix_of_a_refusal(rt: HostRuntime) -> Result<(), AllocError> {
     let text = b"verdict: refused\nat 127: F1 no SAUCE record\n";
     for asked in &COMMANDS {
-        expect_prefixes(&rt, &[b'S'; 127], asked, text);
+        expect_prefixes(&rt, &[b'S'; 127], asked, text)?;
     }
+    Ok(())
 }
 
 /// Asserts that nothing is written where the reader fails at a read, and that it is not asked again.
-fn expect_unread(rt: &(impl Abort + AllocGlobal), file: &[u8], asked: &Options) {
+fn expect_unread(
+    rt: &(impl Abort + AllocGlobal),
+    file: &[u8],
+    asked: &Options,
+) -> Result<(), AllocError> {
     for fails_at in 1..133u64 {
         let input = Dripping {
             left: file,
             reads: 0,
             fails_at,
         };
-        let ran = run_once(rt, input, asked, 256);
+        let ran = run_on(rt, input, asked, 256)?;
         let calls = [
             ran.reader.calls(),
             ran.reader.inner().reads,
@@ -118,12 +138,14 @@ fn expect_unread(rt: &(impl Abort + AllocGlobal), file: &[u8], asked: &Options) 
             (Err(RunError::Read), [fails_at, fails_at, 0])
         );
     }
+    Ok(())
 }
 
 #[test]
-fn a_reader_that_fails_leaves_nothing_written(rt: HostRuntime) {
-    let file = plain_file(&rt, b"Hi", 2, 1);
+fn a_reader_that_fails_leaves_nothing_written(rt: HostRuntime) -> Result<(), AllocError> {
+    let file = plain_file(&rt, b"Hi", 2, 1)?;
     for asked in &COMMANDS {
-        expect_unread(&rt, file.as_slice(), asked);
+        expect_unread(&rt, file.as_slice(), asked)?;
     }
+    Ok(())
 }

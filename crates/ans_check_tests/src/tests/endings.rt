@@ -1,20 +1,11 @@
 //! How the program ends.
-use super::{CLEARED, plain_file};
+use super::{CLEARED, expect_memory, plain_file};
 use ans_check::{Ending, RunError, WordsError, options, serve, status};
 use ans_report::Tried;
 use ans_samples::{FailingOnce, Failure};
 use std::alloc::AllocError;
-use std::fmt::Display;
 use std::io::{self, Read, Write};
 use std::process::Abort;
-
-/// How a value is displayed. Where memory was refused it is displayed once more.
-fn shown<D: Display>(rt: &(impl Abort + AllocGlobal), value: &D) -> String {
-    match format!(in rt.alloc(); "{value}") {
-        Ok(text) => text,
-        Err(_) => format!(in rt.alloc(); "{value}").expect(rt, "no text"),
-    }
-}
 
 /// An ending, its exit status, and what it says.
 static ENDINGS: [(Ending, u8, Option<&str>); 10] = [
@@ -47,7 +38,7 @@ static ENDINGS: [(Ending, u8, Option<&str>); 10] = [
 ];
 
 #[test]
-fn endings_have_their_statuses_and_texts(rt: HostRuntime) {
+fn endings_have_their_statuses_and_texts(rt: HostRuntime) -> Result<(), AllocError> {
     for (ending, expected, message) in &ENDINGS {
         let end = (ending.status(), ending.message());
         assert_eq!(rt; end, (*expected, *message));
@@ -55,10 +46,11 @@ fn endings_have_their_statuses_and_texts(rt: HostRuntime) {
             assert!(rt; status(answer) == *expected);
         }
         if let Ending::Run(Err(error)) = ending {
-            let text = shown(&rt, error);
+            let text = format!(in rt.alloc(); "{error}")?;
             assert!(rt; Some(text.as_str()) == *message);
         }
     }
+    Ok(())
 }
 
 /// Words that give no options, of each kind that the tests of `ans_options` meet, and how the program
@@ -73,31 +65,26 @@ static REFUSED_WORDS: [(&[&str], Ending); 7] = words! {
     "check" "--cells" "--cells" => Ending::Usage;
 };
 
-/// How the program ends at words that give no options. Where memory was refused they are read once
-/// more.
-fn ending_at(rt: &(impl Abort + AllocGlobal), words: &[&str]) -> Ending {
-    for _ in 0..2 {
-        match options(rt.alloc(), words) {
-            Ok(_) => panic!(rt; "the words give options"),
-            Err(error) => {
-                let ending = Ending::of_words(&error);
-                if ending != Ending::UnreadableWords {
-                    return ending;
-                }
-            }
-        }
+/// How the program ends at words that give no options. It fails where memory runs out.
+fn ending_at(rt: &(impl Abort + AllocGlobal), words: &[&str]) -> Result<Ending, AllocError> {
+    match options(rt.alloc(), words) {
+        Ok(_) => panic!(rt; "the words give options"),
+        Err(error) => match Ending::of_words(&error) {
+            Ending::UnreadableWords => Err(AllocError),
+            ending => Ok(ending),
+        },
     }
-    panic!(rt; "memory was refused twice");
 }
 
 #[test]
-fn words_without_options_have_their_endings(rt: HostRuntime) {
+fn words_without_options_have_their_endings(rt: HostRuntime) -> Result<(), AllocError> {
     for (words, ending) in &REFUSED_WORDS {
-        assert_eq!(rt; ending_at(&rt, words), *ending);
+        assert_eq!(rt; ending_at(&rt, words)?, *ending);
     }
     let refused = WordsError::Clap(clap::Error::from(AllocError));
     assert!(rt; Ending::of_words(&refused) == Ending::UnreadableWords);
     assert!(rt; Ending::of_words(&WordsError::Memory) == Ending::UnreadableWords);
+    Ok(())
 }
 
 /// A device with room for so many bytes, which may fail to hand on what it took.
@@ -133,33 +120,31 @@ impl Write for Output {
     }
 }
 
-/// What serving an input into a device returns, and how much room is left.
-pub(super) fn serve_once<R: Read + Copy + Drop>(
+/// What serving an input into a device returns, and how much room is left. It fails where memory runs
+/// out.
+pub(super) fn serve_on<R: Read + Drop>(
     rt: &(impl Abort + AllocGlobal),
     input: R,
     output: Output,
-) -> (Result<bool, RunError>, usize) {
-    for _ in 0..2 {
-        let mut reader = Tried::new(input);
-        let mut writer = Tried::new(output);
-        let answer = serve(rt.alloc(), &mut reader, &mut writer, &CLEARED);
-        if answer != Err(RunError::Memory) {
-            return (answer, writer.inner().room);
-        }
-    }
-    panic!(rt; "memory was refused twice");
+) -> Result<(Result<bool, RunError>, usize), AllocError> {
+    let mut reader = Tried::new(input);
+    let mut writer = Tried::new(output);
+    let answer = serve(rt.alloc(), &mut reader, &mut writer, &CLEARED);
+    expect_memory(rt, answer, writer.calls())?;
+    Ok((answer, writer.inner().room))
 }
 
 /// Asserts what serving an input into a device returns, and how much room is left.
-fn expect_served<R: Read + Copy + Drop>(
+fn expect_served<R: Read + Drop>(
     rt: &(impl Abort + AllocGlobal),
     input: R,
     output: Output,
     expected: Result<bool, RunError>,
     left: usize,
-) {
-    let served = serve_once(rt, input, output);
+) -> Result<(), AllocError> {
+    let served = serve_on(rt, input, output)?;
     assert_eq!(rt; served, (expected, left));
+    Ok(())
 }
 
 /// The room, whether the device flushes, and what is returned for a report of 70 bytes, with the room
@@ -174,36 +159,37 @@ static OUTPUTS: [(usize, bool, Result<bool, RunError>, usize); 6] = [
 ];
 
 #[test]
-fn a_report_is_flushed(rt: HostRuntime) {
-    let file = plain_file(&rt, b"Hi", 2, 1);
+fn a_report_is_flushed(rt: HostRuntime) -> Result<(), AllocError> {
+    let file = plain_file(&rt, b"Hi", 2, 1)?;
     for (room, flushes, expected, left) in &OUTPUTS {
         let output = Output {
             room: *room,
             flushes: *flushes,
         };
-        expect_served(&rt, file.as_slice(), output, *expected, *left);
+        expect_served(&rt, file.as_slice(), output, *expected, *left)?;
     }
+    Ok(())
 }
 
 #[test]
-fn a_refusal_is_flushed(rt: HostRuntime) {
+fn a_refusal_is_flushed(rt: HostRuntime) -> Result<(), AllocError> {
     let refused = [b'S'; 127];
     let output = Output::with_room(100);
-    expect_served(&rt, refused.as_slice(), output, Ok(false), 56);
+    expect_served(&rt, refused.as_slice(), output, Ok(false), 56)?;
     let output = Output {
         flushes: false,
         ..output
     };
     let failed = Err(RunError::Write);
-    expect_served(&rt, refused.as_slice(), output, failed, 56);
+    expect_served(&rt, refused.as_slice(), output, failed, 56)
 }
 
 #[test]
-fn errors_of_a_run_are_served(rt: HostRuntime) {
+fn errors_of_a_run_are_served(rt: HostRuntime) -> Result<(), AllocError> {
     let output = Output::with_room(100);
-    let file = plain_file(&rt, b"Hi", 2, 1);
+    let file = plain_file(&rt, b"Hi", 2, 1)?;
     let input = FailingOnce::new(file.as_slice(), 2, Failure::Error);
-    expect_served(&rt, input, output, Err(RunError::Read), 100);
-    let file = plain_file(&rt, b"", 80, 200);
-    expect_served(&rt, file.as_slice(), output, Err(RunError::Write), 0);
+    expect_served(&rt, input, output, Err(RunError::Read), 100)?;
+    let file = plain_file(&rt, b"", 80, 200)?;
+    expect_served(&rt, file.as_slice(), output, Err(RunError::Write), 0)
 }

@@ -5,7 +5,7 @@ use super::tables::{
     ABC_OBJECT, ABC_ROW, GONE_OBJECT, GONE_ROW, HI_OBJECT, HI_ROW, LONG_OBJECT, LONG_ROW,
     LOW_OBJECT, LOW_ROW, TORN_OBJECT, TORN_ROW, expect_table,
 };
-use ans_check::{Ending, RunError};
+use std::alloc::AllocError;
 use std::io::{self, Write};
 use std::process::Abort;
 
@@ -82,7 +82,6 @@ static MANY: [(&[&str], usize, [&str; 10], usize, &str); 2] = words! {
 };
 
 /// Asserts that a table has so many rows, these ones again and again, and what is said of it.
-/// Where memory was refused it is written once more.
 fn expect_many(
     rt: &(impl Abort + AllocGlobal),
     words: &[&str],
@@ -90,14 +89,8 @@ fn expect_many(
     rows: &[&str],
     count: usize,
     said: &str,
-) {
-    let mut answered = answer_on(rt, words, shelf, Rows::new(rows), 4096);
-    if answered.ending == Ending::UnreadableWords
-        || answered.ending == Ending::Run(Err(RunError::Memory))
-        || answered.output.others > 0
-    {
-        answered = answer_on(rt, words, shelf, Rows::new(rows), 4096);
-    }
+) -> Result<(), AllocError> {
+    let answered = answer_on(rt, words, shelf, Rows::new(rows), 4096)?;
     let written = answered.output;
     let counts = [written.whole, written.within, written.others];
     assert!(rt; answered.ending.status() == 2);
@@ -105,16 +98,18 @@ fn expect_many(
         (counts, answered.errors.held()),
         ([count, 0, 0], said.as_bytes())
     );
+    Ok(())
 }
 
 #[test]
-fn many_files_have_their_rows(rt: HostRuntime) {
-    let drawings = Drawings::new(&rt);
+fn many_files_have_their_rows(rt: HostRuntime) -> Result<(), AllocError> {
+    let drawings = Drawings::new(&rt)?;
     let files = drawings.files();
     for (words, times, rows, count, said) in &MANY {
         let shelf = Shelf::new(&files, Stored::repeated(NAMES, *times));
-        expect_many(&rt, words, shelf, rows, *count, said);
+        expect_many(&rt, words, shelf, rows, *count, said)?;
     }
+    Ok(())
 }
 
 /// A file of the greatest length, which has no record.
@@ -131,7 +126,7 @@ static LONG: [(&[&str], &[&str]); 2] = words! {
 
 /// 24,929 bytes 673 times are 16,777,217.
 #[test]
-fn a_file_above_the_largest_is_not_read(rt: HostRuntime) {
+fn a_file_above_the_largest_is_not_read(rt: HostRuntime) -> Result<(), AllocError> {
     let files = [
         ("largest", Stored::repeated(&[b'y'; 16_384], 1_024)),
         ("long", Stored::repeated(&[b'y'; 24_929], 673)),
@@ -140,6 +135,7 @@ fn a_file_above_the_largest_is_not_read(rt: HostRuntime) {
     let said = "anscheck: 3 files: 0 pass, 2 refused, 1 not read\n";
     for (words, table) in &LONG {
         let shelf = Shelf::new(&files, Stored::Torn(b""));
-        expect_table(&rt, words, shelf, table, said, 2);
+        expect_table(&rt, words, shelf, table, said, 2)?;
     }
+    Ok(())
 }

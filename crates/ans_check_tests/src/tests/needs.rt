@@ -87,36 +87,31 @@ fn class_named(names: &str) -> Start {
     }
 }
 
-/// What a file needs. A search that ran out of memory is made again.
-pub(super) fn needs_of<'a, G: Grid>(rt: &(impl Abort + AllocGlobal), file: &'a [u8]) -> Needs<'a>
-    requires { length file.now ≤ longest_file }
-{
-    match needs::<G>(rt.alloc(), file) {
-        Ok(found) => found,
-        Err(AllocError) => needs::<G>(rt.alloc(), file).expect(rt, "memory"),
-    }
-}
-
 /// Asserts what the contents need, found over one kind of grid.
-fn expect_needs_on<G: Grid>(rt: &(impl Abort + AllocGlobal), rows: &[Row]) {
+fn expect_needs_on<G: Grid>(
+    rt: &(impl Abort + AllocGlobal),
+    rows: &[Row],
+) -> Result<(), AllocError> {
     for (content, width, lines, names) in rows {
-        let file = plain_file(rt, content, *width, *lines);
+        let file = plain_file(rt, content, *width, *lines)?;
         assert!(rt; file.len() <= MAX_FILE);
-        let found = match &needs_of::<G>(rt, file.as_slice()) {
+        let found = match &needs::<G>(rt.alloc(), file.as_slice())? {
             Needs::Least(parts, class) => Some((parts.width(), parts.lines(), *class)),
             Needs::Refused(_, _) => None,
         };
         let expected = (*width as usize, *lines as usize, class_named(names));
         assert!(rt; found == Some(expected), "{names} at {content:?}");
     }
+    Ok(())
 }
 
 #[test]
-fn contents_need_their_parts(rt: HostRuntime) {
+fn contents_need_their_parts(rt: HostRuntime) -> Result<(), AllocError> {
     for rows in [EACH_CLASS.as_slice(), OTHERS.as_slice()] {
-        expect_needs_on::<PlainGrid>(&rt, rows);
-        expect_needs_on::<PlaneGrid>(&rt, rows);
+        expect_needs_on::<PlainGrid>(&rt, rows)?;
+        expect_needs_on::<PlaneGrid>(&rt, rows)?;
     }
+    Ok(())
 }
 
 /// A content that is refused from each start, its width and lines, and its fault's offset and cause.
@@ -137,9 +132,9 @@ fn expect_fault<G: Grid>(
     file: &[u8],
     content: Option<&[u8]>,
     fault: Fault,
-) {
+) -> Result<(), AllocError> {
     assert!(rt; file.len() <= MAX_FILE);
-    match &needs_of::<G>(rt, file) {
+    match &needs::<G>(rt.alloc(), file)? {
         Needs::Refused(parts, found) => {
             let found_content = match parts {
                 Some(parts) => Some(parts.content()),
@@ -149,30 +144,33 @@ fn expect_fault<G: Grid>(
         }
         Needs::Least(_, _) => panic!(rt; "a fault was expected"),
     }
+    Ok(())
 }
 
 #[test]
-fn content_that_fails_from_the_cleared_start_is_refused(rt: HostRuntime) {
+fn content_that_fails_from_the_cleared_start_is_refused(rt: HostRuntime) -> Result<(), AllocError> {
     for (content, width, lines, offset, cause) in REFUSED {
-        let file = plain_file(&rt, content, width, lines);
+        let file = plain_file(&rt, content, width, lines)?;
         let fault = Fault { offset, cause };
-        expect_fault::<PlainGrid>(&rt, file.as_slice(), Some(content), fault);
-        expect_fault::<PlaneGrid>(&rt, file.as_slice(), Some(content), fault);
+        expect_fault::<PlainGrid>(&rt, file.as_slice(), Some(content), fault)?;
+        expect_fault::<PlaneGrid>(&rt, file.as_slice(), Some(content), fault)?;
     }
+    Ok(())
 }
 
 #[test]
-fn a_refused_record_has_no_parts(rt: HostRuntime) {
-    let after_the_end = file_of_size(&rt, b"Hi\x1a!", 2, 1);
+fn a_refused_record_has_no_parts(rt: HostRuntime) -> Result<(), AllocError> {
+    let after_the_end = file_of_size(&rt, b"Hi\x1a!", 2, 1)?;
     let rows: [(&[u8], usize, Cause); 2] = [
         (&[b'S'; 127], 127, Cause::NoRecord),
         (after_the_end.as_slice(), 3, Cause::BytesAfterEndMark),
     ];
     for (file, offset, cause) in rows {
         let fault = Fault { offset, cause };
-        expect_fault::<PlainGrid>(&rt, file, None, fault);
-        expect_fault::<PlaneGrid>(&rt, file, None, fault);
+        expect_fault::<PlainGrid>(&rt, file, None, fault)?;
+        expect_fault::<PlaneGrid>(&rt, file, None, fault)?;
     }
+    Ok(())
 }
 
 /// The content, its width and lines, whether it is known what it needs, and the text.
@@ -188,18 +186,18 @@ static TEXTS: [Text; 6] = texts! {
 };
 
 #[test]
-fn needs_are_told(rt: HostRuntime) {
-    expect_texts(&rt, &NEEDS, &TEXTS);
+fn needs_are_told(rt: HostRuntime) -> Result<(), AllocError> {
+    expect_texts(&rt, &NEEDS, &TEXTS)
 }
 
 #[test]
-fn notes_are_told_before_the_needs(rt: HostRuntime) {
-    let noted = file_of_size(&rt, b"", 0, 1);
+fn notes_are_told_before_the_needs(rt: HostRuntime) -> Result<(), AllocError> {
+    let noted = file_of_size(&rt, b"", 0, 1)?;
     let text: &[u8] = b"size: 80 x 1\n\
         content: 0 bytes\n\
         note: width 0 taken as 80\n\
         note: no end mark after the content\n\
         note: file size differs from the content\n\
         needs: screen\n";
-    expect_run(&rt, noted.as_slice(), &NEEDS, 256, Ok(true), text);
+    expect_run(&rt, noted.as_slice(), &NEEDS, 256, Ok(true), text)
 }

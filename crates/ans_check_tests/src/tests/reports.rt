@@ -2,6 +2,7 @@
 use super::{ANY, CELLS, CLEARED, expect_run, file_of_size, plain_file};
 use ans_check::{Command, Form, Options};
 use ans_samples::start;
+use std::alloc::AllocError;
 
 /// Checks from the starts whose cursor is known, and from those whose colours are known too.
 const FROM_KNOWN_CURSOR: Options = Options {
@@ -51,24 +52,25 @@ static REPORTS: [(&[u8], u16, u16, Options, bool, &str); 16] = reports! {
 
 /// What a refusal is reported as is the same where the picture is asked for, in any form.
 #[test]
-fn a_file_is_read_and_reported_on(rt: HostRuntime) {
+fn a_file_is_read_and_reported_on(rt: HostRuntime) -> Result<(), AllocError> {
     for (content, width, lines, asked, passes, text) in &REPORTS {
-        let file = plain_file(&rt, content, *width, *lines);
+        let file = plain_file(&rt, content, *width, *lines)?;
         let text = text.as_bytes();
-        expect_run(&rt, file.as_slice(), asked, 256, Ok(*passes), text);
+        expect_run(&rt, file.as_slice(), asked, 256, Ok(*passes), text)?;
         if !*passes {
             let shown = Options {
                 command: Command::Show(Form::Page),
                 ..*asked
             };
-            expect_run(&rt, file.as_slice(), &shown, 256, Ok(false), text);
+            expect_run(&rt, file.as_slice(), &shown, 256, Ok(false), text)?;
         }
     }
+    Ok(())
 }
 
 #[test]
-fn notes_are_told_before_the_verdict(rt: HostRuntime) {
-    let noted = file_of_size(&rt, b"", 0, 1);
+fn notes_are_told_before_the_verdict(rt: HostRuntime) -> Result<(), AllocError> {
+    let noted = file_of_size(&rt, b"", 0, 1)?;
     let text: &[u8] = b"size: 80 x 1\n\
         start: any\n\
         content: 0 bytes\n\
@@ -77,5 +79,5 @@ fn notes_are_told_before_the_verdict(rt: HostRuntime) {
         note: file size differs from the content\n\
         verdict: refused\n\
         at 0: F25 cell stays unknown (row 1, column 1)\n";
-    expect_run(&rt, noted.as_slice(), &ANY, 256, Ok(false), text);
+    expect_run(&rt, noted.as_slice(), &ANY, 256, Ok(false), text)
 }

@@ -6,6 +6,7 @@ use super::plain_file;
 use ans_check::{Ending, Inputs, RunError, answer};
 use ans_report::Tried;
 use ans_samples::Narrow;
+use std::alloc::AllocError;
 use std::io::{self, Read, Write};
 use std::process::Abort;
 
@@ -106,11 +107,11 @@ pub(super) struct Drawings {
 }
 
 impl Drawings {
-    pub(super) fn new(rt: &(impl Abort + AllocGlobal)) -> Drawings {
-        Drawings {
-            hi: plain_file(rt, b"Hi", 2, 1),
-            low: plain_file(rt, b"a\r\nb", 80, 1),
-        }
+    pub(super) fn new(rt: &(impl Abort + AllocGlobal)) -> Result<Drawings, AllocError> {
+        Ok(Drawings {
+            hi: plain_file(rt, b"Hi", 2, 1)?,
+            low: plain_file(rt, b"a\r\nb", 80, 1)?,
+        })
     }
 
     /// The drawings and files without a record, by their names.
@@ -126,6 +127,33 @@ impl Drawings {
     }
 }
 
+/// Whether a line is the row, or the object, of a file for which memory ran out.
+fn is_of_memory(line: &[u8]) -> bool {
+    line.starts_with(b"error\t\t\tout of memory\t")
+        || line.starts_with(b"{\"fault\":\"out of memory\"")
+}
+
+/// A device that is offered a table. It notes whether it was offered a row of a file for which memory
+/// ran out, be the row taken or not.
+#[derive(Drop)]
+struct Noting<W> {
+    device: W,
+    memory_ran_out: bool,
+}
+
+impl<W: Write> Write for Noting<W> {
+    fn write(&mut self, buf: &[u8]) -> io::Result<usize> {
+        if buf.split(|byte| *byte == b'\n').any(is_of_memory) {
+            self.memory_ran_out = true;
+        }
+        self.device.write(buf)
+    }
+
+    fn flush(&mut self) -> io::Result<()> {
+        self.device.flush()
+    }
+}
+
 /// What became of some words.
 #[derive(Drop)]
 pub(super) struct Answered<W> {
@@ -134,55 +162,42 @@ pub(super) struct Answered<W> {
     pub errors: Narrow,
 }
 
-/// Answers words over a shelf, on a device and one with so much room for errors.
+/// Answers words over a shelf, on a device and one with so much room for errors. It fails where memory
+/// ran out, for the words, for a command or for a row. But for the rows before, nothing is then written.
 pub(super) fn answer_on<W: Write + Drop>(
     rt: &(impl Abort + AllocGlobal),
     words: &[&str],
     shelf: Shelf<'_>,
     output: W,
     error_room: usize,
-) -> Answered<W> {
-    let mut output = Tried::new(output);
+) -> Result<Answered<W>, AllocError> {
+    let mut output = Tried::new(Noting {
+        device: output,
+        memory_ran_out: false,
+    });
     let mut errors = Tried::new(Narrow::new(error_room));
     let ending = answer(rt.alloc(), words, shelf, &mut output, &mut errors);
-    Answered {
-        ending,
-        output: output.into_inner(),
-        errors: errors.into_inner(),
+    if ending == Ending::UnreadableWords || ending == Ending::Run(Err(RunError::Memory)) {
+        assert!(rt; output.calls() == 0 || words.contains(&"table"));
+        return Err(AllocError);
     }
+    let output = output.into_inner();
+    if output.memory_ran_out {
+        return Err(AllocError);
+    }
+    Ok(Answered {
+        ending,
+        output: output.device,
+        errors: errors.into_inner(),
+    })
 }
 
-/// Answers words over a shelf, on devices with this much room. Where memory may have been refused they
-/// are answered once more.
-pub(super) fn answer_once(
+/// Answers words over a shelf, on devices with this much room. It fails where memory ran out.
+pub(super) fn answer_in(
     rt: &(impl Abort + AllocGlobal),
     words: &[&str],
     shelf: Shelf<'_>,
     (room, error_room): (usize, usize),
-) -> Answered<Narrow> {
-    let answered = answer_on(rt, words, shelf, Narrow::new(room), error_room);
-    if !may_have_met_refusal(answered.ending, answered.output.held()) {
-        return answered;
-    }
+) -> Result<Answered<Narrow>, AllocError> {
     answer_on(rt, words, shelf, Narrow::new(room), error_room)
-}
-
-/// Whether memory may have been refused, by the ending and by what was written: a row that says so may
-/// be cut off.
-pub(super) fn may_have_met_refusal(ending: Ending, written: &[u8]) -> bool {
-    ending == Ending::UnreadableWords
-        || ending == Ending::Run(Err(RunError::Memory))
-        || written.split(|byte| *byte == b'\n').any(is_of_memory)
-}
-
-/// Whether a line begins as the row of a file does for which memory ran out.
-fn is_of_memory(line: &[u8]) -> bool {
-    !line.is_empty()
-        && (begins_alike(line, b"error\t\t\tout of memory\t")
-            || begins_alike(line, b"{\"fault\":\"out of memory\""))
-}
-
-/// Whether one of two texts begins with the other.
-fn begins_alike(first: &[u8], second: &[u8]) -> bool {
-    first.starts_with(second) || second.starts_with(first)
 }

@@ -1,11 +1,11 @@
 //! Tables of files in memory.
 
 use super::answers::UNWRITTEN;
-use super::file_of;
 use super::shelf::Stored::{self, Bytes, Torn};
-use super::shelf::{Drawings, Shelf, answer_on, answer_once, may_have_met_refusal};
+use super::shelf::{Drawings, Shelf, answer_in, answer_on};
 use ans_check::{Ending, RunError};
-use ans_samples::FailingOnce;
+use ans_samples::{FailingOnce, sample_file};
+use std::alloc::AllocError;
 use std::process::Abort;
 
 /// Whether a text is these pieces, one after the other.
@@ -42,11 +42,12 @@ pub(super) fn expect_table(
     table: &[&str],
     said: &str,
     status: u8,
-) {
-    let answered = answer_once(rt, words, shelf, (4096, 4096));
+) -> Result<(), AllocError> {
+    let answered = answer_in(rt, words, shelf, (4096, 4096))?;
     assert!(rt; is_made_of(answered.output.held(), table));
     let end = (answered.errors.held(), answered.ending.status());
     assert_eq!(rt; end, (said.as_bytes(), status));
+    Ok(())
 }
 
 /// The line of the columns' names.
@@ -178,13 +179,14 @@ static TABLES: [(&[&str], Stored<'static>, &[&str], &str, u8); 19] = words! {
 };
 
 #[test]
-fn tables_are_written(rt: HostRuntime) {
-    let drawings = Drawings::new(&rt);
+fn tables_are_written(rt: HostRuntime) -> Result<(), AllocError> {
+    let drawings = Drawings::new(&rt)?;
     let files = drawings.files();
     for (words, standard, table, said, status) in &TABLES {
         let shelf = Shelf::new(&files, *standard);
-        expect_table(&rt, words, shelf, table, said, *status);
+        expect_table(&rt, words, shelf, table, said, *status)?;
     }
+    Ok(())
 }
 
 /// The words for the table of one file, what stands before its record, what the record has beside
@@ -269,13 +271,14 @@ static RECORDS: [Shown; 9] = [
 ];
 
 #[test]
-fn records_are_shown(rt: HostRuntime) {
+fn records_are_shown(rt: HostRuntime) -> Result<(), AllocError> {
     for (words, front, edits, text) in &RECORDS {
-        let file = file_of(&rt, front, edits);
+        let file = sample_file(rt.alloc(), front, edits)?;
         let files = [("f", Bytes(file.as_slice()))];
-        let answered = answer_once(&rt, words, Shelf::new(&files, Torn(b"")), (4096, 4096));
+        let answered = answer_in(&rt, words, Shelf::new(&files, Torn(b"")), (4096, 4096))?;
         assert!(rt; answered.output.held() == text.as_bytes());
     }
+    Ok(())
 }
 
 /// Words for a table in each form, of the names on standard input, and the table of `hi.ans`, `gone`
@@ -304,15 +307,12 @@ fn expect_front(
     shelf: Shelf<'_>,
     taken: usize,
     table: &[&str],
-) {
-    let answered = answer_once(rt, words, shelf, (taken, 4096));
+) -> Result<(), AllocError> {
+    let answered = answer_in(rt, words, shelf, (taken, 4096))?;
     let written = answered.output.held();
     assert!(rt; is_cut_off(answered.ending, written, taken, table));
     assert!(rt; answered.errors.held() == UNWRITTEN);
-    let mut answered = answer_on(rt, words, shelf, FailingOnce::after(taken), 4096);
-    if may_have_met_refusal(answered.ending, answered.output.device.held()) {
-        answered = answer_on(rt, words, shelf, FailingOnce::after(taken), 4096);
-    }
+    let answered = answer_on(rt, words, shelf, FailingOnce::after(taken), 4096)?;
     let written = answered.output.device.held();
     let calls = (taken as u64).saturating_add(1);
     assert!(rt;
@@ -320,6 +320,7 @@ fn expect_front(
         "after {taken}"
     );
     assert!(rt; answered.output.calls() == calls);
+    Ok(())
 }
 
 /// Asserts so of a table at each byte that it has.
@@ -328,19 +329,21 @@ fn expect_fronts(
     words: &[&str],
     shelf: Shelf<'_>,
     table: &[&str],
-) {
+) -> Result<(), AllocError> {
     for taken in 0..length_of(table) {
-        expect_front(rt, words, shelf, taken, table);
+        expect_front(rt, words, shelf, taken, table)?;
     }
+    Ok(())
 }
 
 #[test]
-fn a_table_that_is_cut_off_is_an_error(rt: HostRuntime) {
-    let drawings = Drawings::new(&rt);
+fn a_table_that_is_cut_off_is_an_error(rt: HostRuntime) -> Result<(), AllocError> {
+    let drawings = Drawings::new(&rt)?;
     let files = drawings.files();
     for (words, table) in &FORMS {
         let counts = "anscheck: 3 files: 1 pass, 1 refused, 1 not read\n";
-        expect_table(&rt, words, Shelf::new(&files, NAMES), table, counts, 2);
-        expect_fronts(&rt, words, Shelf::new(&files, NAMES), table);
+        expect_table(&rt, words, Shelf::new(&files, NAMES), table, counts, 2)?;
+        expect_fronts(&rt, words, Shelf::new(&files, NAMES), table)?;
     }
+    Ok(())
 }

@@ -1,5 +1,6 @@
 //! The texts of contents' tokens.
 use super::{TOKENS, Text, expect_texts};
+use std::alloc::AllocError;
 
 /// The content, its width and lines, whether all of it is read, and the text.
 static CONTENTS: [Text; 9] = texts! {
@@ -17,6 +18,6 @@ static CONTENTS: [Text; 9] = texts! {
 };
 
 #[test]
-fn tokens_are_told_up_to_a_fault(rt: HostRuntime) {
-    expect_texts(&rt, &TOKENS, &CONTENTS);
+fn tokens_are_told_up_to_a_fault(rt: HostRuntime) -> Result<(), AllocError> {
+    expect_texts(&rt, &TOKENS, &CONTENTS)
 }

@@ -1,5 +1,7 @@
 //! Why files are refused, and what they rely on, from end to end.
-use super::{WHY, expect_run, file_of, plain_file};
+use super::{WHY, expect_run, plain_file};
+use ans_samples::sample_file;
+use std::alloc::AllocError;
 use std::process::Abort;
 
 /// A content, its width and lines, and what is said of it.
@@ -128,37 +130,29 @@ static PASSED: [Row; 11] = files! {
         hint: nothing is printed in the last 2 lines\n";
 };
 
-/// The whole text: the size, the verdict, and what is said.
-fn text_of(
+/// Asserts the whole text of each row: the size, the verdict, and what is said.
+fn expect_explained(
     rt: &(impl Abort + AllocGlobal),
-    (width, lines): (u16, u16),
+    rows: &[Row],
     verdict: &str,
-    said: &str,
-) -> String {
-    match format!(in rt.alloc(); "size: {width} x {lines}\nverdict: {verdict}\n{said}") {
-        Ok(text) => text,
-        Err(_) => format!(in rt.alloc();
-            "size: {width} x {lines}\nverdict: {verdict}\n{said}"
-        ).expect(rt, "no text"),
-    }
-}
-
-fn expect_explained(rt: &(impl Abort + AllocGlobal), rows: &[Row], verdict: &str, passes: bool) {
+    passes: bool,
+) -> Result<(), AllocError> {
     for (content, width, lines, said) in rows {
-        let file = plain_file(rt, content, *width, *lines);
-        let text = text_of(rt, (*width, *lines), verdict, said);
-        expect_run(rt, file.as_slice(), &WHY, 512, Ok(passes), text.as_bytes());
+        let file = plain_file(rt, content, *width, *lines)?;
+        let text = format!(in rt.alloc(); "size: {width} x {lines}\nverdict: {verdict}\n{said}")?;
+        expect_run(rt, file.as_slice(), &WHY, 512, Ok(passes), text.as_bytes())?;
     }
+    Ok(())
 }
 
 #[test]
-fn a_refused_content_is_explained(rt: HostRuntime) {
-    expect_explained(&rt, &REFUSED, "refused", false);
+fn a_refused_content_is_explained(rt: HostRuntime) -> Result<(), AllocError> {
+    expect_explained(&rt, &REFUSED, "refused", false)
 }
 
 #[test]
-fn what_a_content_relies_on_is_explained(rt: HostRuntime) {
-    expect_explained(&rt, &PASSED, "pass", true);
+fn what_a_content_relies_on_is_explained(rt: HostRuntime) -> Result<(), AllocError> {
+    expect_explained(&rt, &PASSED, "pass", true)
 }
 
 /// Where the record of `Hi` is changed, to what, and the text.
@@ -202,42 +196,43 @@ static CHANGED: [(usize, &[u8], &str); 8] = [
 ];
 
 #[test]
-fn a_refused_record_is_explained(rt: HostRuntime) {
+fn a_refused_record_is_explained(rt: HostRuntime) -> Result<(), AllocError> {
     for (offset, bytes, text) in &CHANGED {
-        let file = file_of(&rt, b"Hi\x1a", &[(*offset, bytes)]);
-        expect_run(&rt, file.as_slice(), &WHY, 512, Ok(false), text.as_bytes());
+        let file = sample_file(rt.alloc(), b"Hi\x1a", &[(*offset, bytes)])?;
+        expect_run(&rt, file.as_slice(), &WHY, 512, Ok(false), text.as_bytes())?;
     }
+    Ok(())
 }
 
 #[test]
-fn bytes_after_the_end_mark_are_counted(rt: HostRuntime) {
-    let file = file_of(&rt, b"Hi\x1ax", &[]);
+fn bytes_after_the_end_mark_are_counted(rt: HostRuntime) -> Result<(), AllocError> {
+    let file = sample_file(rt.alloc(), b"Hi\x1ax", &[])?;
     let text = b"verdict: refused\n\
         at 3: F8 bytes after the end mark\n\
         found: 1 byte after the end mark, without a record\n";
-    expect_run(&rt, file.as_slice(), &WHY, 512, Ok(false), text);
+    expect_run(&rt, file.as_slice(), &WHY, 512, Ok(false), text)
 }
 
 #[test]
-fn a_record_before_the_end_is_found(rt: HostRuntime) {
-    let file = file_of(&rt, b"Hi\x1a", &[]);
+fn a_record_before_the_end_is_found(rt: HostRuntime) -> Result<(), AllocError> {
+    let file = sample_file(rt.alloc(), b"Hi\x1a", &[])?;
     assert!(rt; file.len() == 131);
     let mut longer = [b'\n'; 132];
     longer[..131].copy_from_slice(file.as_slice());
     let text = b"verdict: refused\n\
         at 132: F1 no SAUCE record\n\
         found: a record at 3, and 1 byte behind it\n";
-    expect_run(&rt, longer.as_slice(), &WHY, 512, Ok(false), text);
+    expect_run(&rt, longer.as_slice(), &WHY, 512, Ok(false), text)
 }
 
 #[test]
-fn an_older_record_is_found(rt: HostRuntime) {
-    let older = file_of(&rt, b"Hi\x1a", &[]);
-    let file = file_of(&rt, older.as_slice(), &[]);
+fn an_older_record_is_found(rt: HostRuntime) -> Result<(), AllocError> {
+    let older = sample_file(rt.alloc(), b"Hi\x1a", &[])?;
+    let file = sample_file(rt.alloc(), older.as_slice(), &[])?;
     let text = b"verdict: refused\n\
         at 3: F8 bytes after the end mark\n\
         found: 128 bytes after the end mark, with an older record\n";
-    expect_run(&rt, file.as_slice(), &WHY, 512, Ok(false), text);
+    expect_run(&rt, file.as_slice(), &WHY, 512, Ok(false), text)
 }
 
 /// A content for one cell, the record's flags and font, and what is said behind the size.
@@ -268,10 +263,10 @@ static FONTS: [(&[u8], u8, &[u8], &[u8]); 2] = [
 ];
 
 #[test]
-fn the_flags_and_the_font_are_heeded(rt: HostRuntime) {
+fn the_flags_and_the_font_are_heeded(rt: HostRuntime) -> Result<(), AllocError> {
     for (front, flags, font, text) in &FONTS {
-        let file = file_of(
-            &rt,
+        let file = sample_file(
+            rt.alloc(),
             front,
             &[
                 (90, b"\x0e\x00\x00\x00"),
@@ -279,7 +274,8 @@ fn the_flags_and_the_font_are_heeded(rt: HostRuntime) {
                 (105, &[*flags]),
                 (106, font),
             ],
-        );
-        expect_run(&rt, file.as_slice(), &WHY, 512, Ok(true), text);
+        )?;
+        expect_run(&rt, file.as_slice(), &WHY, 512, Ok(true), text)?;
     }
+    Ok(())
 }

@@ -41,6 +41,19 @@ fn a_sequence_after_many_letters(rt: HostRuntime) -> Result<(), AllocError> {
     Ok(())
 }
 
+/// A sequence stands across the end of the first 4096 bytes, and one across the end of the next; the bytes
+/// about them are returns. The prefixes end before, in and behind these sequences.
+#[test]
+fn two_sequences_cross_three_pieces(rt: HostRuntime) -> Result<(), AllocError> {
+    let mut content = [b'\r'; 8195];
+    content[4093..4099].copy_from_slice(b"a\x1b[1mb");
+    content[8190..].copy_from_slice(b"\x1b[2Cc");
+    for lengths in [(4092, 4100), (8188, 8195)] {
+        judge_prefixes(&rt, rt.alloc(), cleared(3, 1), &content, lengths)?;
+    }
+    Ok(())
+}
+
 #[test]
 fn a_number_of_many_digits(rt: HostRuntime) -> Result<(), AllocError> {
     let mut content = [b'0'; 1004];
@@ -73,6 +86,19 @@ fn the_longest_screen(rt: HostRuntime) -> Result<(), AllocError> {
     judge_classes(&rt, rt.alloc(), 1, 8192, b"\x1b[0m\x1b[2J")
 }
 
+/// The largest screen, from any start.
+const LARGEST: Screen = Screen {
+    width: 1024,
+    lines: 8192,
+    start: Start::ANY,
+};
+
+/// From any start the screen is erased.
+#[test]
+fn the_largest_screen_erased(rt: HostRuntime) -> Result<(), AllocError> {
+    judge_prefixes(&rt, rt.alloc(), LARGEST, b"\x1b[0m\x1b[2J", (8, 8))
+}
+
 /// From any start the screen is erased, and then a letter is printed in its last stated cell.
 #[test]
 fn the_largest_screen(rt: HostRuntime) -> Result<(), AllocError> {
@@ -81,11 +107,6 @@ fn the_largest_screen(rt: HostRuntime) -> Result<(), AllocError> {
         content.extend_from_slice(b"\x1b[255B\x1b[255C")?;
     }
     content.extend_from_slice(b"\x1b[Az")?;
-    let screen = Screen {
-        width: 1024,
-        lines: 8192,
-        start: Start::any(),
-    };
     let whole = (content.len(), content.len());
-    judge_prefixes(&rt, rt.alloc(), screen, &content, whole)
+    judge_prefixes(&rt, rt.alloc(), LARGEST, &content, whole)
 }

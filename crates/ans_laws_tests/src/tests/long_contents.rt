@@ -5,7 +5,7 @@ use ans_laws::Answer;
 use ans_model::cell::Cell;
 use ans_model::fault::{Cause, Fault};
 use ans_model::start::Start;
-use std::alloc::Global;
+use std::alloc::{AllocError, Global};
 use std::process::Abort;
 
 /// A blank cell of the cleared screen.
@@ -21,18 +21,18 @@ fn cells_from_cleared(
     content: &[u8],
     width: usize,
     lines: usize,
-) -> Vec<Cell> {
-    match answer_to(rt, alloc, content, width, lines, Start::cleared()) {
-        Answer::Good(cells) => cells,
+) -> Result<Vec<Cell>, AllocError> {
+    match answer_to(rt, alloc, content, width, lines, Start::cleared())? {
+        Answer::Good(cells) => Ok(cells),
         _ => panic!(rt; "a fault where cells were expected"),
     }
 }
 
 #[test]
-fn a_sequence_after_many_letters(rt: HostRuntime) {
+fn a_sequence_after_many_letters(rt: HostRuntime) -> Result<(), AllocError> {
     let mut content = [b'a'; 4100];
     content[4095..].copy_from_slice(b"\x1b[1mb");
-    let cells = cells_from_cleared(&rt, rt.alloc(), &content, 80, 52);
+    let cells = cells_from_cleared(&rt, rt.alloc(), &content, 80, 52)?;
     assert_eq!(rt; cells.len(), 80 * 52);
     for i in 0..80 * 52 {
         let (byte, attribute) = match i {
@@ -42,22 +42,24 @@ fn a_sequence_after_many_letters(rt: HostRuntime) {
         };
         assert_eq!(rt; cells[i], Cell { byte, attribute }, "cell {i}");
     }
+    Ok(())
 }
 
 #[test]
-fn a_number_of_many_digits(rt: HostRuntime) {
+fn a_number_of_many_digits(rt: HostRuntime) -> Result<(), AllocError> {
     let mut content = [b'0'; 1004];
     content[..2].copy_from_slice(b"\x1b[");
     content[1002..].copy_from_slice(b"5C");
-    let cells = cells_from_cleared(&rt, rt.alloc(), &content, 2, 1);
+    let cells = cells_from_cleared(&rt, rt.alloc(), &content, 2, 1)?;
     assert_eq!(rt; cells.as_slice(), [BLANK; 2].as_slice());
+    Ok(())
 }
 
 #[test]
-fn a_string_that_does_not_end(rt: HostRuntime) {
+fn a_string_that_does_not_end(rt: HostRuntime) -> Result<(), AllocError> {
     let mut content = [0x1B; 100_003];
     content[1..3].copy_from_slice(b"[\"");
-    match answer_to(&rt, rt.alloc(), &content, 2, 1, Start::cleared()) {
+    match answer_to(&rt, rt.alloc(), &content, 2, 1, Start::cleared())? {
         Answer::Last(fault) => assert_eq!(rt;
             fault,
             Fault {
@@ -67,10 +69,11 @@ fn a_string_that_does_not_end(rt: HostRuntime) {
         ),
         _ => panic!(rt; "a sequence that does not end was expected"),
     }
+    Ok(())
 }
 
 #[test]
-fn the_widest_and_the_longest_screen(rt: HostRuntime) {
+fn the_widest_and_the_longest_screen(rt: HostRuntime) -> Result<(), AllocError> {
     for (width, lines) in [(1024, 1), (1, 8192)] {
         match answer_to(
             &rt,
@@ -79,7 +82,7 @@ fn the_widest_and_the_longest_screen(rt: HostRuntime) {
             width,
             lines,
             Start::any(),
-        ) {
+        )? {
             Answer::Good(cells) => {
                 assert_eq!(rt; cells.len(), width * lines);
                 for cell in &cells {
@@ -89,4 +92,5 @@ fn the_widest_and_the_longest_screen(rt: HostRuntime) {
             _ => panic!(rt; "blanks were expected"),
         }
     }
+    Ok(())
 }

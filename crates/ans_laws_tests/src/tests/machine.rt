@@ -7,16 +7,7 @@ use ans_model::cell::Position;
 use ans_model::kind::Kind;
 use ans_model::size::Size;
 use arrayvec::ArrayVec;
-use std::alloc::{AllocError, Global};
-use std::process::Abort;
-
-/// A machine in its cleared state. A call that ran out of memory is made again.
-fn cleared(rt: &impl Abort, alloc: Global, size: Size) -> Machine {
-    match Machine::cleared(alloc, size) {
-        Ok(machine) => machine,
-        Err(AllocError) => Machine::cleared(alloc, size).expect(rt, "memory"),
-    }
-}
+use std::alloc::AllocError;
 
 fn print(machine: &mut Machine, bytes: &[u8]) {
     for byte in bytes {
@@ -26,17 +17,18 @@ fn print(machine: &mut Machine, bytes: &[u8]) {
 
 /// A line of glyphs wraps at once: after the last column the cursor stands in the row below.
 #[test]
-fn wrap_is_immediate(rt: HostRuntime) {
-    let mut machine = cleared(&rt, rt.alloc(), Size::new(2, 1));
+fn wrap_is_immediate(rt: HostRuntime) -> Result<(), AllocError> {
+    let mut machine = Machine::cleared(rt.alloc(), Size::new(2, 1))?;
     machine.play(&[Kind::Glyph(b'H'), Kind::Glyph(b'i')]);
     assert_eq!(rt; machine.cursor(), Position { row: 1, column: 0 });
+    Ok(())
 }
 
 /// A line feed in the spare row scrolls: the first line is gone, and the last row is blank in the
 /// current colours.
 #[test]
-fn line_feeds_scroll(rt: HostRuntime) {
-    let mut machine = cleared(&rt, rt.alloc(), Size::new(2, 2));
+fn line_feeds_scroll(rt: HostRuntime) -> Result<(), AllocError> {
+    let mut machine = Machine::cleared(rt.alloc(), Size::new(2, 2))?;
     print(&mut machine, b"abcd");
     let mut red = ArrayVec::new();
     let _ = red.try_push(41);
@@ -45,4 +37,5 @@ fn line_feeds_scroll(rt: HostRuntime) {
     print(&mut machine, b"x");
     let attributes = [0x07, 0x07, 0x07, 0x07, 0x47, 0x47];
     assert_cells(&rt, machine.cells(), b"cd  x ", &attributes);
+    Ok(())
 }

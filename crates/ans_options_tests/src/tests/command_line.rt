@@ -2,6 +2,7 @@
 use super::read_words;
 use ans_options::{Command, Form, Options};
 use ans_samples::start;
+use std::alloc::AllocError;
 use std::process::Abort;
 
 /// A command, its class of starts, and `cells` where they are asked for.
@@ -95,33 +96,37 @@ fn expect_options(
     words: &[&str],
     expected: Options,
     file: Option<&str>,
-) {
-    match read_words(rt, words) {
+) -> Result<(), AllocError> {
+    match read_words(rt, words)? {
         Ok((found, name)) => {
             assert!(rt; found == expected);
             assert!(rt; name.as_ref().map(|f| f.as_str()) == file);
         }
         Err(_) => panic!(rt; "no options"),
     }
+    Ok(())
 }
 
 #[test]
-fn words_give_options(rt: HostRuntime) {
+fn words_give_options(rt: HostRuntime) -> Result<(), AllocError> {
     for (words, expected, file) in &TAKEN {
-        expect_options(&rt, words, *expected, *file);
+        expect_options(&rt, words, *expected, *file)?;
     }
+    Ok(())
 }
 
 #[test]
-fn flags_say_how_a_picture_is_shown(rt: HostRuntime) {
+fn flags_say_how_a_picture_is_shown(rt: HostRuntime) -> Result<(), AllocError> {
     for (words, expected, file) in &SHOWN {
-        expect_options(&rt, words, *expected, *file);
+        expect_options(&rt, words, *expected, *file)?;
     }
+    Ok(())
 }
 
 #[test]
-fn flags_say_what_is_known(rt: HostRuntime) {
+fn flags_say_what_is_known(rt: HostRuntime) -> Result<(), AllocError> {
     for (words, expected) in &STARTS {
-        expect_options(&rt, words, *expected, None);
+        expect_options(&rt, words, *expected, None)?;
     }
+    Ok(())
 }

@@ -1,23 +1,28 @@
 //! Words that give no options.
 use super::read_words;
-use ans_options::WordsError;
 use clap::error::ErrorKind::{
     self, ArgumentConflict, DisplayHelp, DisplayVersion, InvalidSubcommand, MissingSubcommand,
     UnknownArgument,
 };
+use std::alloc::AllocError;
 use std::process::Abort;
 
 /// Asserts that words give none, and which kind `clap` says they are. Only what was asked for goes to
 /// the standard output.
-fn expect_kind(rt: &(impl Abort + AllocGlobal), words: &[&str], kind: ErrorKind) {
-    match read_words(rt, words) {
-        Err(WordsError::Clap(error)) => {
+fn expect_kind(
+    rt: &(impl Abort + AllocGlobal),
+    words: &[&str],
+    kind: ErrorKind,
+) -> Result<(), AllocError> {
+    match read_words(rt, words)? {
+        Err(error) => {
             assert_eq!(rt; error.kind(), kind);
             let is_asked_for = matches!(kind, DisplayHelp | DisplayVersion);
             assert_eq!(rt; error.use_stderr(), !is_asked_for);
         }
-        _ => panic!(rt; "no error of clap's"),
+        Ok(_) => panic!(rt; "no error of clap's"),
     }
+    Ok(())
 }
 
 /// Words, and of which kind `clap` says they are.
@@ -109,25 +114,29 @@ static HELP_MISTAKES: [Row; 12] = after_help! {
 };
 
 /// Asserts so of each row.
-pub(super) fn expect_kinds(rt: &(impl Abort + AllocGlobal), rows: &[Row]) {
+pub(super) fn expect_kinds(
+    rt: &(impl Abort + AllocGlobal),
+    rows: &[Row],
+) -> Result<(), AllocError> {
     for (words, kind) in rows {
-        expect_kind(rt, words, *kind);
+        expect_kind(rt, words, *kind)?;
     }
+    Ok(())
 }
 
 #[test]
-fn requests_are_told_from_mistakes(rt: HostRuntime) {
-    expect_kinds(&rt, &REQUESTS);
-    expect_kind(&rt, &["other", "--version"], DisplayVersion);
+fn requests_are_told_from_mistakes(rt: HostRuntime) -> Result<(), AllocError> {
+    expect_kinds(&rt, &REQUESTS)?;
+    expect_kind(&rt, &["other", "--version"], DisplayVersion)
 }
 
 #[test]
-fn mistakes_have_their_kinds(rt: HostRuntime) {
-    expect_kinds(&rt, &ALONE);
-    expect_kinds(&rt, &MISTAKES);
+fn mistakes_have_their_kinds(rt: HostRuntime) -> Result<(), AllocError> {
+    expect_kinds(&rt, &ALONE)?;
+    expect_kinds(&rt, &MISTAKES)
 }
 
 #[test]
-fn help_takes_one_command(rt: HostRuntime) {
-    expect_kinds(&rt, &HELP_MISTAKES);
+fn help_takes_one_command(rt: HostRuntime) -> Result<(), AllocError> {
+    expect_kinds(&rt, &HELP_MISTAKES)
 }

@@ -1,9 +1,10 @@
 //! The names and the form of a table.
 use super::faults::{Row, expect_kinds};
 use super::read_words;
-use ans_options::{Command, Options, TableForm, table_names};
+use ans_options::{Command, Options, TableForm, WordsError, table_names};
 use ans_samples::start;
-use clap::error::ErrorKind::{ArgumentConflict, DisplayHelp, UnknownArgument};
+use clap::error::ErrorKind::{ArgumentConflict, DisplayHelp, OutOfMemory, UnknownArgument};
+use std::alloc::AllocError;
 use std::process::Abort;
 
 /// The options of a table in a form.
@@ -39,36 +40,38 @@ static FAULTS: [Row; 6] = words! {
     "help" "table" => DisplayHelp;
 };
 
-/// The names that words give. Where memory was refused they are read once more.
-fn names_of(rt: &(impl Abort + AllocGlobal), words: &[&str]) -> Vec<String> {
+/// The names that words give. It fails where memory runs out.
+fn names_of(rt: &(impl Abort + AllocGlobal), words: &[&str]) -> Result<Vec<String>, AllocError> {
     match table_names(rt.alloc(), words) {
-        Ok(names) => names,
-        Err(_) => match table_names(rt.alloc(), words) {
-            Ok(names) => names,
-            Err(_) => panic!(rt; "no names"),
-        },
+        Ok(names) => Ok(names),
+        Err(WordsError::Memory) => Err(AllocError),
+        Err(WordsError::Clap(error)) => {
+            assert_eq!(rt; error.kind(), OutOfMemory);
+            Err(AllocError)
+        }
     }
 }
 
 #[test]
-fn words_name_the_files_of_a_table(rt: HostRuntime) {
+fn words_name_the_files_of_a_table(rt: HostRuntime) -> Result<(), AllocError> {
     for (words, expected, files) in &TABLES {
-        match read_words(&rt, words) {
+        match read_words(&rt, words)? {
             Ok((found, name)) => {
                 assert!(rt; found == *expected);
                 assert!(rt; name.is_none());
             }
             Err(_) => panic!(rt; "no options"),
         }
-        let names = names_of(&rt, words);
+        let names = names_of(&rt, words)?;
         assert_eq!(rt; names.len(), files.len());
         for (name, file) in names.iter().zip(files.iter()) {
             assert_eq!(rt; name.as_str(), *file);
         }
     }
+    Ok(())
 }
 
 #[test]
-fn wrong_words_of_a_table_have_their_kind(rt: HostRuntime) {
-    expect_kinds(&rt, &FAULTS);
+fn wrong_words_of_a_table_have_their_kind(rt: HostRuntime) -> Result<(), AllocError> {
+    expect_kinds(&rt, &FAULTS)
 }

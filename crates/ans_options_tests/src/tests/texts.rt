@@ -1,6 +1,6 @@
 //! What `clap` says of words, in the layout of Rust's clap 4.
 use super::read_words;
-use ans_options::WordsError;
+use std::alloc::AllocError;
 use std::process::Abort;
 
 /// A help, by all that stands before the exit statuses.
@@ -158,47 +158,51 @@ static TEXTS: [(&[&str], &str); 10] = words! {
     "help" "check" "more" => mistake!("unexpected argument 'more' found", "check [OPTIONS] [FILE]");
 };
 
-/// What `clap` says of words. Where memory was refused it says it once more.
-fn text_of(rt: &(impl Abort + AllocGlobal), words: &[&str]) -> String {
-    let Err(WordsError::Clap(error)) = read_words(rt, words) else {
+/// What `clap` says of words. It fails where memory runs out.
+fn text_of(rt: &(impl Abort + AllocGlobal), words: &[&str]) -> Result<String, AllocError> {
+    let Err(error) = read_words(rt, words)? else {
         panic!(rt; "no error of clap's");
     };
-    match format!(in rt.alloc(); "{error}") {
-        Ok(text) => text,
-        Err(_) => format!(in rt.alloc(); "{error}").expect(rt, "no text"),
-    }
+    format!(in rt.alloc(); "{error}")
 }
 
 /// Asserts what `clap` says of words. No line of a help has more than 79 columns.
-fn expect_help(rt: &(impl Abort + AllocGlobal), words: &[&str], text: &str) {
-    let said = text_of(rt, words);
+fn expect_help(
+    rt: &(impl Abort + AllocGlobal),
+    words: &[&str],
+    text: &str,
+) -> Result<(), AllocError> {
+    let said = text_of(rt, words)?;
     assert_eq!(rt; said.as_str(), text);
     for line in text.split('\n') {
         assert!(rt; line.chars().count() <= 79);
     }
+    Ok(())
 }
 
 #[test]
-fn help_has_its_texts(rt: HostRuntime) {
+fn help_has_its_texts(rt: HostRuntime) -> Result<(), AllocError> {
     for word in ["--help", "-h", "help"] {
-        expect_help(&rt, &["anscheck", word], PROGRAM_HELP);
+        expect_help(&rt, &["anscheck", word], PROGRAM_HELP)?;
     }
     for words in [
         ["anscheck", "table", "--help"],
         ["anscheck", "help", "table"],
     ] {
-        expect_help(&rt, &words, TABLE_HELP);
+        expect_help(&rt, &words, TABLE_HELP)?;
     }
     for (command, text) in &COMMANDS {
-        expect_help(&rt, &["anscheck", command, "--help"], text);
-        expect_help(&rt, &["anscheck", "help", command], text);
+        expect_help(&rt, &["anscheck", command, "--help"], text)?;
+        expect_help(&rt, &["anscheck", "help", command], text)?;
     }
+    Ok(())
 }
 
 #[test]
-fn words_have_their_texts(rt: HostRuntime) {
+fn words_have_their_texts(rt: HostRuntime) -> Result<(), AllocError> {
     for (words, text) in &TEXTS {
-        let said = text_of(&rt, words);
+        let said = text_of(&rt, words)?;
         assert_eq!(rt; said.as_str(), *text);
     }
+    Ok(())
 }
