@@ -1,6 +1,5 @@
-// What to do about each fault, in a line or two. What a fault means comes from docs/FAULTS.md, by make.py.
-
-const SAFE_BEGINNING = "ESC[?7h ESC[0m ESC[2J, without the blanks";
+// What to do about each fault that a drawing is refused for, in a line or two. What a fault means comes from
+// docs/FAULTS.md, by make.py. F22 to F25 refuse no drawing from the cleared screen, and `why` says how they are mended.
 
 const MENDS = {
   1: "Save the drawing with a SAUCE record. If it has one, cut off what stands behind it.",
@@ -25,8 +24,4 @@ const MENDS = {
   20: "State more lines: the line \"lines:\" says how many would do. If it is missing, look at the hints.",
   21: "Take the last line end out, and all empty lines at the end, or state more lines. Where full rows end in a line "
     + "end, take those line ends out.",
-  22: `Begin the drawing with ${SAFE_BEGINNING}.`,
-  23: `Begin the drawing with ${SAFE_BEGINNING}.`,
-  24: `Begin the drawing with ${SAFE_BEGINNING}.`,
-  25: "Begin the drawing with ESC[0m and then ESC[2J, or print every cell of the stated lines behind an ESC[0m.",
 };

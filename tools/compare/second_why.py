@@ -214,9 +214,9 @@ def hint_lines(content, last, width, lines, flags, font, all_is_played):
         f"hint: {what}, {times_text(offsets[key])}{advice}"
         for key, what, advice in COUNTED_HINTS if offsets[key]
     ]
-    name = font.rstrip(b" \0")
+    name = font.partition(b"\0")[0].rstrip(b" ")
     if name and name not in FONTS_OF_437:
-        characters = "".join(map(shown, name))
+        characters = "".join(map(shown, font.rstrip(b" \0")))
         hints.append(f"hint: the font {characters} is not one of code page 437, so other characters may show")
     empty = lines - 1 - max(printed) if all_is_played else 0
     if empty > 0:
@@ -337,7 +337,9 @@ def a_font(chance):
     if chance.random() < 0.7:
         return b""
     odd = [b"IBM VGA 866", b"IBM VGA 437 ", b"Amiga Topaz 1", b"ibm vga", b" IBM VGA", b"A\0\xb0", b"IBM VGA50 4377"]
-    return chance.choice(FONTS_OF_437 + odd + [b" " * 22, b"\x1b" * 22])
+    field = chance.choice(FONTS_OF_437 + odd + [b" " * 22, b"\x1b" * 22])
+    behind = [b"", b"", b"\0 866", b" \0\xb0", b"\0\0437"]
+    return (field + chance.choice(behind))[:22]
 
 
 def kinds_of(said):

@@ -82,12 +82,16 @@ def error_row(why, name):
 
 NO_RECORD = b"verdict: refused\nat 127: F1 no SAUCE record\n"
 
-STATUSES = b"""
-Exit status:
-  0  The file passes, or help or the version was asked for
-  1  The file is refused
-  2  There is no answer; standard error says why
-"""
+
+def statuses(success):
+    """The exit statuses, by when the first one comes."""
+    return (
+        f"\nExit status:\n  0  {success}\n  1  The file is refused\n"
+        "  2  There is no answer; standard error says why\n"
+    ).encode()
+
+
+STATUSES = statuses("The file passes, or help or the version was asked for")
 HELP = b"""Checks ANSI art files that end in a SAUCE record
 
 Usage: anscheck <COMMAND>
@@ -150,19 +154,23 @@ Without --any or a --known flag all five are assumed: a screen just cleared.
 """ + STATUSES
 
 
-def file_help(about, command):
-    """The help of a command that takes no flags."""
+def file_help(about, command, success):
+    """The help of a command that takes no flags, by when its exit status is 0."""
     return (
         f"{about}\n\nUsage: anscheck {command} [FILE]\n\nArguments:\n"
         "  [FILE]  The file to read; - or none is standard input\n\n"
         "Options:\n  -h, --help  Print help\n"
-    ).encode() + STATUSES
+    ).encode() + statuses(success)
 
 
-SAUCE_HELP = file_help("Print what a file's SAUCE record says", "sauce")
-WHY_HELP = file_help("Say why a drawing is refused, what it relies on, and how to mend it", "why")
-NEEDS_HELP = file_help("Print what a drawing relies on: screen, cursor, saved, colours, wrap", "needs")
-TOKENS_HELP = file_help("Print the bytes and the escape sequences of a file, one a line", "tokens")
+SAUCE_HELP = file_help("Print what a file's SAUCE record says", "sauce",
+                       "The record is accepted, or help was asked for")
+WHY_HELP = file_help("Say why a drawing is refused, what it relies on, and how to mend it", "why",
+                     "The file passes from the cleared screen, or help was asked for")
+NEEDS_HELP = file_help("Print what a drawing relies on: screen, cursor, saved, colours, wrap", "needs",
+                       "The file passes from the cleared screen, or help was asked for")
+TOKENS_HELP = file_help("Print the bytes and the escape sequences of a file, one a line", "tokens",
+                        "The record is accepted and all of the content read, or help was asked for")
 VERSION = b"anscheck 0.1.0 (rattle logic dac8208d650f15bf)\n"
 
 

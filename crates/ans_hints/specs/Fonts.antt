@@ -1,7 +1,8 @@
 -- The names of fonts (SAUCE 00.5, font names), and their code page.
-use Rattle.std.specs.Prelude.{ℕ, Bool, not, ◌&&◌, List, [], ◌∷◌, codes}
-use Rattle.std.specs.List.{list_any}
+use Rattle.std.specs.Prelude.{ℕ, Bool, not, ◌&&◌, ◌==◌, List, [], ◌∷◌, codes}
+use Rattle.std.specs.List.{list_any, before_first}
 use Rattle.std.specs.Str.{bytes_eq}
+use Rattle.ans_model.specs.File.Record.{trimmed}
 
 -- the fonts of the IBM PC, whose code page is 437 unless the name has another
 abbrev pub fonts_of_437 : List (List ℕ)
@@ -13,6 +14,15 @@ fonts_of_437 =
     ∷ codes "IBM EGA43" ∷ codes "IBM EGA43 437"
     ∷ []
 
+-- the byte that ends a text (SAUCE 00.5, ZString)
+abbrev pub is_zero : ℕ → Bool
+is_zero b = b == 0x00
+
+-- the name in the field of the font: it ends before the first zero byte (SAUCE 00.5, TInfoS), and has no trailing blanks
+abbrev pub font_name : List ℕ → List ℕ
+font_name field = trimmed (before_first is_zero field)
+
 -- the name is not empty, and it is none of those
 abbrev pub has_other_code_page : List ℕ → Bool
-has_other_code_page name = not (bytes_eq name []) && not (list_any (bytes_eq name) fonts_of_437)
+has_other_code_page field =
+    not (bytes_eq (font_name field) []) && not (list_any (bytes_eq (font_name field)) fonts_of_437)

@@ -21,7 +21,7 @@ abbrev pub times_line : List ℕ → Option Times → List ℕ → List ℕ
 times_line what None advice = []
 times_line what (Some times) advice = hint_line (what ++ (codes ", " ++ (times_text times ++ advice)))
 
--- a font that is known for other characters, or not known
+-- a font that is known for other characters, or not known; the field is shown whole
 abbrev pub font_line : List ℕ → List ℕ
 font_line font =
     if has_other_code_page font then hint_line (codes "the font "
@@ -35,7 +35,7 @@ empty_rows_line rows =
     else if rows == 1 then hint_line (codes "nothing is printed in the last line")
     else hint_line (codes "nothing is printed in the last " ++ (decimal rows ++ codes " lines"))
 
--- the hints of a content, and that of the record's font by its name
+-- the hints of a content, and that of the font, by the record's field
 abbrev pub hints_text : Hints → List ℕ → List ℕ
 hints_text hints font =
     times_line (codes "a line feed with no return beside it goes straight down") hints.loose_line_feeds []

@@ -1,9 +1,30 @@
 //! The code page of a font.
 
 ghost use Rattle.std.specs.Prelude.{◌≡◌};
-ghost use Rattle.std.specs.List.{list_any};
+ghost use Rattle.std.specs.List.{list_any, position_or_len};
 ghost use Rattle.std.specs.Str.{bytes_eq};
-ghost use Rattle.ans_hints.specs.Fonts.{fonts_of_437, has_other_code_page};
+ghost use Rattle.ans_hints.specs.Fonts.{fonts_of_437, is_zero, font_name, has_other_code_page};
+
+/// How many bytes stand before the first zero byte, or in all where there is none.
+fn size_of_text(field: &[u8]) -> usize
+    ensures { result ≡ position_or_len is_zero field.now }
+{
+    field
+        .iter()
+        .position(|byte| *byte == 0)
+        .unwrap_or(field.len())
+}
+
+/// The name in the field of the font: it ends before the first zero byte, and has no trailing blanks.
+fn font_name(field: &[u8]) -> &[u8]
+    ensures { result.now ≡ font_name field.now }
+{
+    let mut end = size_of_text(field);
+    while end > 0 && field[end - 1] == b' ' {
+        end -= 1;
+    }
+    &field[..end]
+}
 
 fn is(name: &[u8], font: &[u8]) -> bool
     ensures { result ≡ bytes_eq name.now font.now }
@@ -27,10 +48,11 @@ fn is_of_437(name: &[u8]) -> bool
 }
 
 /// Whether a font is named, and it is none whose code page is 437. Those are the IBM PC's fonts, alone
-/// or followed by ` 437` (SAUCE 00.5, font names). The name comes without its trailing blanks and
-/// zero bytes.
-pub fn has_other_code_page(name: &[u8]) -> bool
-    ensures { result ≡ has_other_code_page name.now }
+/// or followed by ` 437` (SAUCE 00.5, font names). A name ends at the first zero byte of the record's
+/// field (TInfoS), and its trailing blanks do not count.
+pub fn has_other_code_page(field: &[u8]) -> bool
+    ensures { result ≡ has_other_code_page field.now }
 {
+    let name = font_name(field);
     !name.is_empty() && !is_of_437(name)
 }

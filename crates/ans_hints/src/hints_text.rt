@@ -68,8 +68,8 @@ fn put_empty_rows_line<W: Write>(out: &mut Outbox<'_, W>, rows: usize)
 }
 
 /// Puts the lines of the hints: `hint: `, what it is about, how many times it comes, and the offset of
-/// the first time in bytes; each where there is something to say. The font's name comes without
-/// its trailing blanks and zero bytes; where it is not one of code page 437, a line says so.
+/// the first time in bytes; each where there is something to say. Where the record's field of the font
+/// names one that is not of code page 437, a line says so, and shows the field.
 pub fn put_hints<W: Write>(out: &mut Outbox<'_, W>, hints: &Hints, font: &[u8])
     ensures { Puts W.contents out.old out.new (hints_text hints.now font.now) }
 {

@@ -1,8 +1,8 @@
 //! Hints: what is worth a look in a drawing, though it changes no verdict.
 //!
 //! [`Hints::of`] reads a content once, plays it from the cleared start without a screen, and gives of
-//! each thing how many times it comes and where first. [`has_other_code_page`] knows a font by its
-//! name, and [`put_hints`] puts the lines. What each hint is about stands in `specs/Conditions.antt`
+//! each thing how many times it comes and where first. [`has_other_code_page`] knows a font by the
+//! record's field, and [`put_hints`] puts the lines. What each hint is about stands in `specs/Conditions.antt`
 //! and `specs/Rows.antt`, how it is counted in `specs/Places.antt`, and its line in
 //! `specs/HintsText.antt`.
 #![tactic(auto)]

@@ -216,32 +216,40 @@ fn no_glyph_blinks_with_the_flag(rt: HostRuntime) {
     expect_hints(&rt, hints, b"", "");
 }
 
+/// The record's field of the font, and whether it names a font of another code page.
+static FONTS: [(&[u8], bool); 22] = [
+    (b"", false),
+    (b"IBM VGA", false),
+    (b"IBM VGA 437", false),
+    (b"IBM VGA50", false),
+    (b"IBM VGA25G 437", false),
+    (b"IBM EGA", false),
+    (b"IBM EGA43 437", false),
+    (b"IBM VGA 866", true),
+    (b"IBM VGA25G 850", true),
+    (b"ibm vga", true),
+    (b"IBM VGA437", true),
+    (b" IBM VGA", true),
+    (b"Amiga Topaz 1", true),
+    // A zero byte ends the name.
+    (b"IBM VGA\0rubbish", false),
+    (b"IBM VGA 437\0\0 866", false),
+    (b"IBM VGA  \0\xb0", false),
+    (b"\0IBM VGA 866", false),
+    (b"  \0x", false),
+    (b"IBM VGA 866\0rubbish", true),
+    (b"Amiga Topaz 1\0IBM VGA", true),
+    (b"IBM\0 VGA", true),
+    (b"IBM VGA\x01", true),
+];
+
 #[test]
 fn fonts_have_their_code_page(rt: HostRuntime) {
-    let of_437: [&[u8]; 7] = [
-        b"",
-        b"IBM VGA",
-        b"IBM VGA 437",
-        b"IBM VGA50",
-        b"IBM VGA25G 437",
-        b"IBM EGA",
-        b"IBM EGA43 437",
-    ];
-    for name in of_437 {
-        assert!(rt; !has_other_code_page(name), "{name:?}");
-    }
-    let others: [&[u8]; 6] = [
-        b"IBM VGA 866",
-        b"IBM VGA25G 850",
-        b"ibm vga",
-        b"IBM VGA437",
-        b" IBM VGA",
-        b"Amiga Topaz 1",
-    ];
-    for name in others {
-        assert!(rt; has_other_code_page(name), "{name:?}");
+    for (field, other) in FONTS {
+        assert!(rt; has_other_code_page(field) == other, "{field:?}");
     }
     let text =
         "hint: the font \u{2665} Topaz is not one of code page 437, so other characters may show\n";
     expect_content(&rt, (2, 1), b"Hi", b"\x03 Topaz", text);
+    expect_content(&rt, (2, 1), b"Hi", b"IBM VGA\0rubbish", "");
 }

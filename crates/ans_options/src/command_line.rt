@@ -43,29 +43,50 @@ impl From<clap::Error> for WordsError {
 /// What `--version` prints after the program's name: its version, and the prover's logic.
 const VERSION: &str = "0.1.0 (rattle logic dac8208d650f15bf)";
 
-/// A text, and behind it the exit statuses.
+/// A text, and behind it the exit statuses, of which the first comes where this is so.
 macro_rules! with_exit_statuses {
-    ($text:literal) => {
+    ($text:literal, $success:literal) => {
         concat!(
             $text,
             "\
 Exit status:
-  0  The file passes, or help or the version was asked for
+  0  ",
+            $success,
+            "
   1  The file is refused
   2  There is no answer; standard error says why"
         )
     };
 }
 
-/// The last lines of a command's help.
-const COMMAND_END: &str = with_exit_statuses!("");
+/// The last lines of the help of `why` and `needs`.
+const NEEDS_END: &str = with_exit_statuses!(
+    "",
+    "The file passes from the cleared screen, or help was asked for"
+);
+
+/// The last lines of the help of `check`.
+const CHECK_END: &str = with_exit_statuses!(
+    "",
+    "The file passes, or help or the version was asked for"
+);
 
 /// The last lines of the help of `show`.
 const SHOW_END: &str = with_exit_statuses!(
     "\
 Without --any or a --known flag all five are assumed: a screen just cleared.
 
-"
+",
+    "The file passes, or help or the version was asked for"
+);
+
+/// The last lines of the help of `sauce`.
+const SAUCE_END: &str = with_exit_statuses!("", "The record is accepted, or help was asked for");
+
+/// The last lines of the help of `tokens`.
+const TOKENS_END: &str = with_exit_statuses!(
+    "",
+    "The record is accepted and all of the content read, or help was asked for"
 );
 
 /// The last lines of the help of `table`.
@@ -88,7 +109,8 @@ Examples:
   anscheck show drawing.ans
   anscheck help check
 
-"
+",
+    "The file passes, or help or the version was asked for"
 );
 
 // What the commands do, in the order of the program's help.
@@ -201,7 +223,7 @@ fn with_flags<'a>(
 fn check_command<'a>(alloc: Global) -> Result<clap::Command<'a>, AllocError>
     ensures { IfOk result (λ c. app_of c ≡ command_app Check) }
 {
-    let command = file_command(alloc, "check", CHECK, COMMAND_END)?;
+    let command = file_command(alloc, "check", CHECK, CHECK_END)?;
     let command = with_flags(alloc, command, &PART_FLAGS)?;
     with_flags(alloc, command, &CHECK_FLAGS)
 }
@@ -232,12 +254,12 @@ fn subcommand<'a>(alloc: Global, command: Command) -> Result<clap::Command<'a>, 
     ensures { IfOk result (λ c. app_of c ≡ command_app command) }
 {
     match command {
-        Command::Why => file_command(alloc, "why", WHY, COMMAND_END),
-        Command::Needs => file_command(alloc, "needs", NEEDS, COMMAND_END),
+        Command::Why => file_command(alloc, "why", WHY, NEEDS_END),
+        Command::Needs => file_command(alloc, "needs", NEEDS, NEEDS_END),
         Command::Check => check_command(alloc),
         Command::Show(_) => show_command(alloc),
-        Command::Sauce => file_command(alloc, "sauce", SAUCE, COMMAND_END),
-        Command::Tokens => file_command(alloc, "tokens", TOKENS, COMMAND_END),
+        Command::Sauce => file_command(alloc, "sauce", SAUCE, SAUCE_END),
+        Command::Tokens => file_command(alloc, "tokens", TOKENS, TOKENS_END),
         Command::Table(_) => table_command(alloc),
     }
 }

@@ -3,24 +3,27 @@ use super::read_words;
 use std::alloc::AllocError;
 use std::process::Abort;
 
-/// A help, by all that stands before the exit statuses.
+/// A help, by when the exit status is 0, and all that stands before the exit statuses.
 macro_rules! help {
-    ($($text:literal),+) => {
+    ($success:literal, $($text:literal),+) => {
         concat!(
             $($text,)+
             "\n\
             Exit status:\n\
-            \x20 0  The file passes, or help or the version was asked for\n\
+            \x20 0  ",
+            $success,
+            "\n\
             \x20 1  The file is refused\n\
             \x20 2  There is no answer; standard error says why\n"
         )
     };
 }
 
-/// The help of commands, by what each does, its usage and its options.
+/// The help of commands, by what each does, its usage, its options and when the exit status is 0.
 macro_rules! command_helps {
-    ($($name:literal: $about:literal, $usage:literal, $options:literal;)*) => {
+    ($($name:literal: $about:literal, $usage:literal, $options:literal, $success:literal;)*) => {
         [$(($name, help!(
+            $success,
             $about,
             "\n\nUsage: anscheck ",
             $name,
@@ -49,6 +52,7 @@ macro_rules! mistake {
 }
 
 const PROGRAM_HELP: &str = help!(
+    "The file passes, or help or the version was asked for",
     "Checks ANSI art files that end in a SAUCE record\n\
     \n\
     Usage: anscheck <COMMAND>\n\
@@ -77,10 +81,12 @@ const PROGRAM_HELP: &str = help!(
 static COMMANDS: [(&str, &str); 6] = command_helps! {
     "why":
         "Say why a drawing is refused, what it relies on, and how to mend it", " [FILE]",
-        "  -h, --help  Print help\n";
+        "  -h, --help  Print help\n",
+        "The file passes from the cleared screen, or help was asked for";
     "needs":
         "Print what a drawing relies on: screen, cursor, saved, colours, wrap", " [FILE]",
-        "  -h, --help  Print help\n";
+        "  -h, --help  Print help\n",
+        "The file passes from the cleared screen, or help was asked for";
     "check":
         "Check that a file always shows the same picture, and print it", " [OPTIONS] [FILE]",
         "\x20     --known-screen   Assume the screen to be blank, white on black\n\
@@ -90,7 +96,8 @@ static COMMANDS: [(&str, &str); 6] = command_helps! {
         \x20     --known-wrap     Assume wrap to be on\n\
         \x20     --cleared        Assume all five: a screen that was just cleared\n\
         \x20     --cells          Print each cell too: its byte and its attribute, in hex\n\
-        \x20 -h, --help           Print help\n";
+        \x20 -h, --help           Print help\n",
+        "The file passes, or help or the version was asked for";
     "show":
         "Show the picture in its colours, for a terminal or as a page", " [OPTIONS] [FILE]",
         "\x20     --html           Write an HTML page, in the colours of a VGA\n\
@@ -103,13 +110,16 @@ static COMMANDS: [(&str, &str); 6] = command_helps! {
         \x20     --known-wrap     Assume wrap to be on\n\
         \x20 -h, --help           Print help\n\
         \n\
-        Without --any or a --known flag all five are assumed: a screen just cleared.\n";
+        Without --any or a --known flag all five are assumed: a screen just cleared.\n",
+        "The file passes, or help or the version was asked for";
     "sauce":
         "Print what a file's SAUCE record says", " [FILE]",
-        "  -h, --help  Print help\n";
+        "  -h, --help  Print help\n",
+        "The record is accepted, or help was asked for";
     "tokens":
         "Print the bytes and the escape sequences of a file, one a line", " [FILE]",
-        "  -h, --help  Print help\n";
+        "  -h, --help  Print help\n",
+        "The record is accepted and all of the content read, or help was asked for";
 };
 
 const TABLE_HELP: &str = "\
