@@ -2,7 +2,7 @@
 use Rattle.std.proofs.Common.{◌≡◌, ℕ, true, List, ◌++◌, codes, decimal, sym, ap, ◌∙◌, append_assoc, refl}
 use Rattle.std.proofs.lemmas.Bool.{eq-eqb, ne_eqb}
 use Rattle.ans_model.specs.Text.Characters.{shown_bytes}
-use Rattle.ans_hints.specs.Fonts.{has_other_code_page}
+use Rattle.ans_hints.specs.Fonts.{font_name, has_other_code_page}
 use Rattle.ans_hints.specs.HintsText.{times_text, hint_line, font_line, empty_rows_line}
 use Rattle.ans_hints.specs.declared.times.Times.{Times}
 
@@ -19,14 +19,16 @@ pub times_line_is : (what times advice : List ℕ)
     ≡ hint_line (what ++ (codes ", " ++ (times ++ advice)))
 times_line_is what times advice = simp append_assoc
 
-pub font_line_is : (font : List ℕ) → has_other_code_page font ≡ true
+pub font_line_is : (field : List ℕ) → has_other_code_page (font_name field) ≡ true
     → codes "hint: the font "
-    ++ (shown_bytes font ++ codes " is not one of code page 437, so other characters may show\n") ≡ font_line font
-font_line_is font other =
+    ++ (shown_bytes (font_name field) ++ codes " is not one of code page 437, so other characters may show\n")
+    ≡ font_line field
+font_line_is field other =
+    let name = font_name field in
     rw other (sym (append_assoc (codes "hint: the font ")
-    (shown_bytes font ++ codes " is not one of code page 437, so other characters may show") (codes "\n")
+    (shown_bytes name ++ codes " is not one of code page 437, so other characters may show") (codes "\n")
     ∙ ap (λ (v : List ℕ). codes "hint: the font " ++ v)
-    (append_assoc (shown_bytes font) (codes " is not one of code page 437, so other characters may show")
+    (append_assoc (shown_bytes name) (codes " is not one of code page 437, so other characters may show")
     (codes "\n"))))
 
 pub empty_rows_line_is : (rows : ℕ) → (rows ≡ 0 → ⊥) → (rows ≡ 1 → ⊥)

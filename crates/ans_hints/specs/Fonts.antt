@@ -24,5 +24,4 @@ font_name field = trimmed (before_first is_zero field)
 
 -- the name is not empty, and it is none of those
 abbrev pub has_other_code_page : List ℕ → Bool
-has_other_code_page field =
-    not (bytes_eq (font_name field) []) && not (list_any (bytes_eq (font_name field)) fonts_of_437)
+has_other_code_page name = not (bytes_eq name []) && not (list_any (bytes_eq name) fonts_of_437)

@@ -2,7 +2,7 @@
 use Rattle.std.specs.Prelude.{ℕ, ◌==◌, List, [], ◌++◌, codes, decimal, Option, None, Some, if◌then◌else◌}
 use Rattle.ans_model.specs.Text.Characters.{shown_bytes}
 use Rattle.ans_model.specs.Text.FaultText.{line_of}
-use Rattle.ans_hints.specs.Fonts.{has_other_code_page}
+use Rattle.ans_hints.specs.Fonts.{font_name, has_other_code_page}
 use Rattle.ans_hints.specs.declared.hints.Hints.{Hints}
 use Rattle.ans_hints.specs.declared.times.Times.{Times}
 
@@ -21,11 +21,11 @@ abbrev pub times_line : List ℕ → Option Times → List ℕ → List ℕ
 times_line what None advice = []
 times_line what (Some times) advice = hint_line (what ++ (codes ", " ++ (times_text times ++ advice)))
 
--- a font that is known for other characters, or not known; the field is shown whole
+-- a font that is known for other characters, or not known, by the field that names it
 abbrev pub font_line : List ℕ → List ℕ
-font_line font =
-    if has_other_code_page font then hint_line (codes "the font "
-    ++ (shown_bytes font ++ codes " is not one of code page 437, so other characters may show"))
+font_line field =
+    if has_other_code_page (font_name field) then hint_line (codes "the font "
+    ++ (shown_bytes (font_name field) ++ codes " is not one of code page 437, so other characters may show"))
     else []
 
 -- the stated lines below all that is printed
@@ -37,7 +37,7 @@ empty_rows_line rows =
 
 -- the hints of a content, and that of the font, by the record's field
 abbrev pub hints_text : Hints → List ℕ → List ℕ
-hints_text hints font =
+hints_text hints field =
     times_line (codes "a line feed with no return beside it goes straight down") hints.loose_line_feeds []
     ++ (times_line (codes "a full row and a line end take two rows") hints.full_rows []
     ++ (times_line (codes "a character is in UTF-8") hints.wide_characters
@@ -46,4 +46,4 @@ hints_text hints font =
     hints.later_colours []
     ++ (times_line (codes "a character blinks") hints.blinking_glyphs
     (codes ": for bright backgrounds set the non-blink flag")
-    ++ (font_line font ++ empty_rows_line hints.empty_rows)))))
+    ++ (font_line field ++ empty_rows_line hints.empty_rows)))))

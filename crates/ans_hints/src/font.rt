@@ -15,8 +15,9 @@ fn size_of_text(field: &[u8]) -> usize
         .unwrap_or(field.len())
 }
 
-/// The name in the field of the font: it ends before the first zero byte, and has no trailing blanks.
-fn font_name(field: &[u8]) -> &[u8]
+/// The name in the record's field of the font: it ends before the first zero byte (SAUCE 00.5, TInfoS is a
+/// ZString), and has no trailing blanks.
+pub fn font_name(field: &[u8]) -> &[u8]
     ensures { result.now ≡ font_name field.now }
 {
     let mut end = size_of_text(field);
@@ -48,11 +49,9 @@ fn is_of_437(name: &[u8]) -> bool
 }
 
 /// Whether a font is named, and it is none whose code page is 437. Those are the IBM PC's fonts, alone
-/// or followed by ` 437` (SAUCE 00.5, font names). A name ends at the first zero byte of the record's
-/// field (TInfoS), and its trailing blanks do not count.
-pub fn has_other_code_page(field: &[u8]) -> bool
-    ensures { result ≡ has_other_code_page field.now }
+/// or followed by ` 437` (SAUCE 00.5, font names).
+pub fn has_other_code_page(name: &[u8]) -> bool
+    ensures { result ≡ has_other_code_page name.now }
 {
-    let name = font_name(field);
     !name.is_empty() && !is_of_437(name)
 }

@@ -4,7 +4,7 @@ ghost use Rattle.std.specs.Prelude.{◌≡◌};
 ghost use Rattle.ans_hints.specs.HintsText.{times_text, times_line, font_line, empty_rows_line, hints_text};
 ghost use Rattle.ans_write.specs.Puts.{Puts};
 
-use crate::font::has_other_code_page;
+use crate::font::{font_name, has_other_code_page};
 use crate::hints::Hints;
 use crate::times::Times;
 use ans_write::{Outbox, put_characters};
@@ -42,12 +42,13 @@ fn put_times_line<W: Write>(
     out.put(b"\n");
 }
 
-fn put_font_line<W: Write>(out: &mut Outbox<'_, W>, font: &[u8])
-    ensures { Puts W.contents out.old out.new (font_line font.now) }
+fn put_font_line<W: Write>(out: &mut Outbox<'_, W>, field: &[u8])
+    ensures { Puts W.contents out.old out.new (font_line field.now) }
 {
-    if has_other_code_page(font) {
+    let name = font_name(field);
+    if has_other_code_page(name) {
         out.put(b"hint: the font ");
-        put_characters(out, font);
+        put_characters(out, name);
         out.put(b" is not one of code page 437, so other characters may show\n");
     }
 }
@@ -69,9 +70,9 @@ fn put_empty_rows_line<W: Write>(out: &mut Outbox<'_, W>, rows: usize)
 
 /// Puts the lines of the hints: `hint: `, what it is about, how many times it comes, and the offset of
 /// the first time in bytes; each where there is something to say. Where the record's field of the font
-/// names one that is not of code page 437, a line says so, and shows the field.
-pub fn put_hints<W: Write>(out: &mut Outbox<'_, W>, hints: &Hints, font: &[u8])
-    ensures { Puts W.contents out.old out.new (hints_text hints.now font.now) }
+/// names one that is not of code page 437, a line says so.
+pub fn put_hints<W: Write>(out: &mut Outbox<'_, W>, hints: &Hints, font_field: &[u8])
+    ensures { Puts W.contents out.old out.new (hints_text hints.now font_field.now) }
 {
     put_times_line(
         out,
@@ -103,6 +104,6 @@ pub fn put_hints<W: Write>(out: &mut Outbox<'_, W>, hints: &Hints, font: &[u8])
         hints.blinking_glyphs,
         b": for bright backgrounds set the non-blink flag",
     );
-    put_font_line(out, font);
+    put_font_line(out, font_field);
     put_empty_rows_line(out, hints.empty_rows);
 }

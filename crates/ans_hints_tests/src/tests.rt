@@ -3,7 +3,7 @@
 ghost use Rattle.std.specs.Prelude.{◌≤◌, length};
 ghost use Rattle.ans_model.specs.Bytes.{longest_file};
 
-use ans_hints::{Hints, has_other_code_page, put_hints};
+use ans_hints::{Hints, font_name, has_other_code_page, put_hints};
 use ans_model::size::Size;
 use ans_samples::Narrow;
 use ans_write::{Outbox, Tried};
@@ -216,8 +216,8 @@ fn no_glyph_blinks_with_the_flag(rt: HostRuntime) {
     expect_hints(&rt, hints, b"", "");
 }
 
-/// The record's field of the font, and whether it names a font of another code page.
-static FONTS: [(&[u8], bool); 22] = [
+/// The name of a font, and whether its code page is another one than 437.
+static FONTS: [(&[u8], bool); 14] = [
     (b"", false),
     (b"IBM VGA", false),
     (b"IBM VGA 437", false),
@@ -230,26 +230,35 @@ static FONTS: [(&[u8], bool); 22] = [
     (b"ibm vga", true),
     (b"IBM VGA437", true),
     (b" IBM VGA", true),
-    (b"Amiga Topaz 1", true),
-    // A zero byte ends the name.
-    (b"IBM VGA\0rubbish", false),
-    (b"IBM VGA 437\0\0 866", false),
-    (b"IBM VGA  \0\xb0", false),
-    (b"\0IBM VGA 866", false),
-    (b"  \0x", false),
-    (b"IBM VGA 866\0rubbish", true),
-    (b"Amiga Topaz 1\0IBM VGA", true),
-    (b"IBM\0 VGA", true),
     (b"IBM VGA\x01", true),
+    (b"Amiga Topaz 1", true),
+];
+
+/// The record's field of the font, and the name in it.
+static FONT_FIELDS: [(&[u8], &[u8]); 10] = [
+    (b"", b""),
+    (b"IBM VGA", b"IBM VGA"),
+    (b"IBM VGA  ", b"IBM VGA"),
+    (b"IBM VGA\0rubbish", b"IBM VGA"),
+    (b"IBM VGA 437\0\0 866", b"IBM VGA 437"),
+    (b"IBM VGA  \0\xb0", b"IBM VGA"),
+    (b"Amiga Topaz 1\0IBM VGA", b"Amiga Topaz 1"),
+    (b"IBM\0 VGA", b"IBM"),
+    (b"\0IBM VGA 866", b""),
+    (b"  \0x", b""),
 ];
 
 #[test]
-fn fonts_have_their_code_page(rt: HostRuntime) {
-    for (field, other) in FONTS {
-        assert!(rt; has_other_code_page(field) == other, "{field:?}");
+fn fonts_have_their_names_and_code_pages(rt: HostRuntime) {
+    for (name, is_another) in FONTS {
+        assert!(rt; has_other_code_page(name) == is_another, "{name:?}");
+    }
+    for (field, name) in FONT_FIELDS {
+        assert!(rt; font_name(field) == name, "{field:?}");
     }
     let text =
         "hint: the font \u{2665} Topaz is not one of code page 437, so other characters may show\n";
     expect_content(&rt, (2, 1), b"Hi", b"\x03 Topaz", text);
+    expect_content(&rt, (2, 1), b"Hi", b"\x03 Topaz\0rubbish", text);
     expect_content(&rt, (2, 1), b"Hi", b"IBM VGA\0rubbish", "");
 }

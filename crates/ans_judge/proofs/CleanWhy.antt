@@ -34,7 +34,7 @@ use Rattle.ans_sauce.specs.Parts.{content_of, record_of, size_of}
 use Rattle.ans_sauce.specs.Split.{IsSplit}
 use Rattle.ans_model.specs.Verdict.LastFault.{IsDeserved}
 use Rattle.ans_why.specs.Evidence.{ShowsNamed}
-use Rattle.ans_hints.specs.Fonts.{has_other_code_page}
+use Rattle.ans_hints.specs.Fonts.{font_name, has_other_code_page}
 use Rattle.ans_hints.specs.HintsText.{hint_line, times_text, times_line, font_line, empty_rows_line, hints_text}
 use Rattle.ans_hints.specs.declared.hints.Hints.{Hints}
 use Rattle.ans_hints.specs.declared.times.Times.{Times}
@@ -222,14 +222,17 @@ times_clean what (Some times) advice h g =
     (clean_append (codes ", ") told (plain_text (codes ", ") refl)
     (clean_append (times_text times) advice (times_text_clean times) g)))
 
-font_clean : (font : List ℕ) → All IsByte font → IsCleanText (font_line font)
-font_clean font bytes =
+font_clean : (field : List ℕ) → All IsByte field → IsCleanText (font_line field)
+font_clean field bytes =
+    let name = font_name field in
+    let shown = shown_bytes name in
+    let name_bytes : All IsByte name = trimmed_is_bytes _ (All-take IsByte _ field bytes) in
     let after = codes " is not one of code page 437, so other characters may show" in
-    let told = codes "the font " ++ (shown_bytes font ++ after) in
-    clean_if (has_other_code_page font) (hint_line told) []
+    let told = codes "the font " ++ (shown ++ after) in
+    clean_if (has_other_code_page name) (hint_line told) []
     (hint_clean told
-    (clean_append (codes "the font ") (shown_bytes font ++ after) (plain_text (codes "the font ") refl)
-    (clean_append (shown_bytes font) after (clean_shown font bytes) (plain_text after refl))))
+    (clean_append (codes "the font ") (shown ++ after) (plain_text (codes "the font ") refl)
+    (clean_append shown after (clean_shown name name_bytes) (plain_text after refl))))
     clean_nil
 
 empty_rows_clean : (rows : ℕ) → IsCleanText (empty_rows_line rows)
