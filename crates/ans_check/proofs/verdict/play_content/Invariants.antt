@@ -5,7 +5,7 @@ use Rattle.ans_check.proofs.verdict.play_content.Given as goal
 
 abbrev pub invariant-loop-piece : goal.invariant-loop-piece
 invariant-loop-piece g l = record {
-  size : chunks_size l.piece-iterator ≡ 65_536;
+  size : chunks_size l.piece-iterator ≡ 4_096;
   rest : chunks_rest l.piece-iterator ≡ drop l.player.fed l.content;
   fed : l.player.fed ≤ length l.content;
   no_fault : l.player.fault ≡ None;
