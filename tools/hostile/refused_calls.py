@@ -27,9 +27,10 @@ counts the rows; where all allocations from one on are refused, the rows of the 
 where memory is refused for the text of a row, the table ends before it, with `out of memory`. Where a read of
 the names fails there are the rows of the names before, and `cannot read the names`.
 
-Of a test: `error: AllocError` or `error: AllocFailed`, for each allocation. A test process that ends with a
-signal, or passes, is wrong: in the one case memory that is not there was used, in the other an answer came
-where it should have failed.
+Of a test: the error `AllocError` or `AllocFailed`, for each allocation. A test process that ends with a signal,
+or passes, is wrong: in the one case memory that is not there was used, in the other an answer came where it
+should have failed. The tests of words that are rejected may pass: `clap` then looks for names that are close, by
+the kit's `collect`, which asks for room beforehand and goes on without it.
 
 It prints the refusals of each kind and each crate, and what came out otherwise. The status is 1 where
 something did, where tests are not built, or where a kind of call was never met.
@@ -64,6 +65,15 @@ IN_ROWS = {
     "alloc-from": "out of memory",
     "open": "cannot open the file",
     "read": "cannot read the file",
+}
+TEST_ERRORS = (b"error: AllocError\n", b"error: AllocFailed", b"Error: AllocError\n")
+OF_REJECTED_WORDS = {
+    "tests::answers::rejected_words_are_told_on_the_errors",
+    "tests::endings::words_without_options_have_their_endings",
+    "tests::faults::help_takes_one_command",
+    "tests::faults::mistakes_have_their_kinds",
+    "tests::tables::wrong_words_of_a_table_have_their_kind",
+    "tests::texts::words_have_their_texts",
 }
 KINDS = ["alloc", "alloc-from", "open", "read", "write", "short-read", "short-write"]
 
@@ -231,9 +241,9 @@ def tests_of(executable):
     return [line.removesuffix(": test") for line in listed.splitlines() if line.endswith(": test")]
 
 
-def hands_on(ran):
-    """Whether a test failed with the error of memory."""
-    return ran.status > 0 and ran.err.startswith((b"error: AllocError\n", b"error: AllocFailed"))
+def hands_on(test, ran):
+    """Whether a test failed with the error of memory, or passed where it may."""
+    return ran.status > 0 and ran.err.startswith(TEST_ERRORS) or ran.status == 0 and test in OF_REJECTED_WORDS
 
 
 def try_tests(pool, name, library):
@@ -246,7 +256,7 @@ def try_tests(pool, name, library):
     for test in tests:
         for n, ran in each_refusal(pool, [executable, test], os.devnull, library, "alloc"):
             refusals += 1
-            if not hands_on(ran):
+            if not hands_on(test, ran):
                 wrong += 1
                 print(f"{name}, {test}, allocation {n}: status {ran.status} {ran.err[:200]}", flush=True)
     print(f"{name}: {len(tests)} tests, {refusals} allocations refused in turn; {wrong} otherwise", flush=True)
