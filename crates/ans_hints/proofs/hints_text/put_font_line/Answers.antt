@@ -7,7 +7,7 @@ use Rattle.ans_hints.proofs.hints_text.put_font_line.Goals as goal
 
 pub returns-then-has_other_code_page : goal.returns-then-has_other_code_page
 returns-then-has_other_code_page g c =
-    let other : has_other_code_page c.font_name.result.now ≡ true = search rules in
-    Puts-same (font_line_is c.args.field.now (rw (sym c.font_name.ensures) other))
-    (rw (sym c.font_name.ensures)
-    (Puts-then c.put.ensures (Puts-then c.put_characters.ensures c.put-then-has_other_code_page.ensures)))
+    let other : has_other_code_page (font_name c.args.field.now) ≡ true = search rules in
+    Puts-same (font_line_is c.args.field.now other)
+    (Puts-then c.put.ensures (Puts-then (rw (sym c.font_name-name.ensures) c.put_characters.ensures)
+    c.put-then-has_other_code_page.ensures))
