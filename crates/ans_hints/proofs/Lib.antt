@@ -4,6 +4,7 @@ pub mod FoundLater
 pub mod Split
 pub mod Leading
 pub mod PieceWalks
+pub mod FontNames
 pub mod HintLines
 pub mod RowWalks
 pub mod EmptyRows

@@ -1,25 +1,21 @@
 //! The code page of a font.
 
 ghost use Rattle.std.specs.Prelude.{◌≡◌};
-ghost use Rattle.std.specs.List.{list_any, position_or_len};
+ghost use Rattle.std.specs.List.{list_any, position};
 ghost use Rattle.std.specs.Str.{bytes_eq};
 ghost use Rattle.ans_hints.specs.Fonts.{fonts_of_437, is_zero, font_name, has_other_code_page};
 
-/// How many bytes stand before the first zero byte, or in all where there is none.
-fn size_of_text(field: &[u8]) -> usize
-    ensures { result ≡ position_or_len is_zero field.now }
+fn first_zero(field: &[u8]) -> Option<usize>
+    ensures { result ≡ position is_zero field.now }
 {
-    field
-        .iter()
-        .position(|byte| *byte == 0)
-        .unwrap_or(field.len())
+    field.iter().position(|byte| *byte == 0)
 }
 
 /// The name in the field of the font: it ends before the first zero byte, and has no trailing blanks.
 fn font_name(field: &[u8]) -> &[u8]
     ensures { result.now ≡ font_name field.now }
 {
-    let mut end = size_of_text(field);
+    let mut end = first_zero(field).unwrap_or(field.len());
     while end > 0 && field[end - 1] == b' ' {
         end -= 1;
     }
