@@ -216,7 +216,7 @@ def hint_lines(content, last, width, lines, flags, font, all_is_played):
     ]
     name = font.partition(b"\0")[0].rstrip(b" ")
     if name and name not in FONTS_OF_437:
-        characters = "".join(map(shown, font.rstrip(b" \0")))
+        characters = "".join(map(shown, name))
         hints.append(f"hint: the font {characters} is not one of code page 437, so other characters may show")
     empty = lines - 1 - max(printed) if all_is_played else 0
     if empty > 0:
