@@ -268,6 +268,12 @@ fn a_sequence_crosses_two_pieces(rt: HostRuntime) -> Result<(), AllocError> {
     expect_bright_end::<PlaneGrid>(&rt, file.as_slice())
 }
 
+/// Overwrites bytes of a content from an offset on.
+fn put(rt: &impl Abort, content: &mut [u8], at: usize, bytes: &[u8]) {
+    assert!(rt; at <= content.len() && bytes.len() <= content.len() - at);
+    content[at..at + bytes.len()].copy_from_slice(bytes);
+}
+
 /// The report of the content in which two sequences cross the ends of pieces.
 const PIECES_REPORT: &[u8] = b"size: 3 x 1\n\
     start: cleared\n\
@@ -283,8 +289,8 @@ const PIECES_REPORT: &[u8] = b"size: 3 x 1\n\
 #[test]
 fn two_sequences_cross_three_pieces(rt: HostRuntime) -> Result<(), AllocError> {
     let mut front = [b'\r'; 8196];
-    front[4093..4099].copy_from_slice(b"a\x1b[1mb");
-    front[8190..].copy_from_slice(b"\x1b[2Cc\x1a");
+    put(&rt, &mut front, 4093, b"a\x1b[1mb");
+    put(&rt, &mut front, 8190, b"\x1b[2Cc\x1a");
     let edits: [(usize, &[u8]); 2] = [(90, b"\x03\x20"), (96, b"\x03")];
     let file = sample_file(rt.alloc(), &front, &edits)?;
     let shown: (&[u8], &[u8]) = (b"abc", b"\x07\x0f\x0f");

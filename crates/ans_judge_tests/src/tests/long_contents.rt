@@ -41,13 +41,19 @@ fn a_sequence_after_many_letters(rt: HostRuntime) -> Result<(), AllocError> {
     Ok(())
 }
 
+/// Overwrites bytes of a content from an offset on.
+fn put(rt: &impl Abort, content: &mut [u8], at: usize, bytes: &[u8]) {
+    assert!(rt; at <= content.len() && bytes.len() <= content.len() - at);
+    content[at..at + bytes.len()].copy_from_slice(bytes);
+}
+
 /// A sequence stands across the end of the first 4096 bytes, and one across the end of the next; the bytes
 /// about them are returns. The prefixes end before, in and behind these sequences.
 #[test]
 fn two_sequences_cross_three_pieces(rt: HostRuntime) -> Result<(), AllocError> {
     let mut content = [b'\r'; 8195];
-    content[4093..4099].copy_from_slice(b"a\x1b[1mb");
-    content[8190..].copy_from_slice(b"\x1b[2Cc");
+    put(&rt, &mut content, 4093, b"a\x1b[1mb");
+    put(&rt, &mut content, 8190, b"\x1b[2Cc");
     for lengths in [(4092, 4100), (8188, 8195)] {
         judge_prefixes(&rt, rt.alloc(), cleared(3, 1), &content, lengths)?;
     }
