@@ -18,7 +18,8 @@ fonts_of_437 =
 abbrev pub is_zero : ℕ → Bool
 is_zero b = b == 0x00
 
--- the name in the field of the font: it ends before the first zero byte (SAUCE 00.5, TInfoS), and has no trailing blanks
+-- the name in the record's field of the font: it ends before the first zero byte (SAUCE 00.5, TInfoS is a ZString),
+-- and has no trailing blanks
 abbrev pub font_name : List ℕ → List ℕ
 font_name field = trimmed (before_first is_zero field)
 

@@ -1,6 +1,5 @@
-use Rattle.std.proofs.Common.{rules, ◌≡◌, true, ◌++◌, codes, List, ℕ, sym, subst}
+use Rattle.std.proofs.Common.{rules, ◌≡◌, true, sym}
 use Rattle.ans_write.proofs.PutsLemmas.{Puts-same, Puts-then}
-use Rattle.ans_model.specs.Text.Characters.{shown_bytes}
 use Rattle.ans_hints.specs.Fonts.{font_name, has_other_code_page}
 use Rattle.ans_hints.proofs.HintLines.{font_line_is}
 use Rattle.ans_hints.proofs.hints_text.put_font_line.Goals as goal
