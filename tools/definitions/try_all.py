@@ -30,7 +30,8 @@ ABOVE = {
 }
 FILES_ABOVE = ["src/answer.rt", "src/two_plays.rt", "src/text_examples.rt", "specs/Answers.antt", "specs/TwoPlays.antt",
                "specs/TextExamples.antt", "proofs/answer", "proofs/two_plays", "proofs/text_examples"] + [
-    f"proofs/{name}.antt" for name in ["ComputedReading", "TwoCursors", "TabPlays", "TokenFaults", "Played", "EndOfPlays"]]
+    f"proofs/{name}.antt"
+    for name in ["ComputedReading", "TwoCursors", "TabPlays", "TokenFaults", "Played", "EndOfPlays"]]
 
 
 def without_what_stands_above(laws):

@@ -252,14 +252,16 @@ def try_tests(pool, name, library):
     if not os.path.exists(executable):
         print(f"{name}: no {executable}; run rt test there")
         return 1
-    tests, refusals, wrong = tests_of(executable), 0, 0
+    tests, refusals, passed, wrong = tests_of(executable), 0, 0, 0
     for test in tests:
         for n, ran in each_refusal(pool, [executable, test], os.devnull, library, "alloc"):
             refusals += 1
+            passed += ran.status == 0
             if not hands_on(test, ran):
                 wrong += 1
                 print(f"{name}, {test}, allocation {n}: status {ran.status} {ran.err[:200]}", flush=True)
-    print(f"{name}: {len(tests)} tests, {refusals} allocations refused in turn; {wrong} otherwise", flush=True)
+    told = f", {passed} passed with rejected words" if passed else ""
+    print(f"{name}: {len(tests)} tests, {refusals} allocations refused in turn; {wrong} otherwise{told}", flush=True)
     return wrong + (refusals == 0)
 
 

@@ -235,12 +235,13 @@ fn an_older_record_is_found(rt: HostRuntime) -> Result<(), AllocError> {
     expect_run(&rt, file.as_slice(), &WHY, 512, Ok(false), text)
 }
 
-/// A content for one cell, the record's flags and font, and what is said behind the size.
+/// A content for one cell, the record's flags and the field of its font, in which a zero byte ends the name, and
+/// what is said behind the size.
 static FONTS: [(&[u8], u8, &[u8], &[u8]); 2] = [
     (
         b"\x1b[?7h\x1b[0m\x1b[2JH\x1a",
         0,
-        b"IBM VGA 866",
+        b"IBM VGA 866\0x",
         b"size: 1 x 1\n\
         verdict: pass\n\
         needs: nothing\n\
@@ -250,7 +251,7 @@ static FONTS: [(&[u8], u8, &[u8], &[u8]); 2] = [
     (
         b"\x1b[?7h\x1b[5m\x1b[2JH\x1a",
         1,
-        b"IBM VGA50 437",
+        b"IBM VGA50 437\0 866",
         b"size: 1 x 1\n\
         verdict: pass\n\
         needs: colours\n\
