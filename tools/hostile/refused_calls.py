@@ -73,7 +73,7 @@ OF_REJECTED_WORDS = {
     "tests::faults::help_takes_one_command",
     "tests::faults::mistakes_have_their_kinds",
     "tests::tables::wrong_words_of_a_table_have_their_kind",
-    "tests::texts::words_have_their_texts",
+    "tests::texts::rejected_words_have_their_texts",
 }
 KINDS = ["alloc", "alloc-from", "open", "read", "write", "short-read", "short-write"]
 

@@ -144,10 +144,10 @@ const TABLE_HELP: &str = "\
     \x20 1  A file is refused, and every file was read\n\
     \x20 2  A file could not be read, or the table could not be written\n";
 
-/// Words that ask for no help, and the text.
-static TEXTS: [(&[&str], &str); 10] = words! {
-    "--version" => "anscheck 0.1.0 (rattle logic dac8208d650f15bf)\n";
-    "-V" => "anscheck 0.1.0 (rattle logic dac8208d650f15bf)\n";
+const VERSION: &str = "anscheck 0.1.0 (rattle logic dac8208d650f15bf)\n";
+
+/// Words that are rejected, and the text.
+static REJECTED: [(&[&str], &str); 8] = words! {
     "check" "--bogus" => mistake!(
         "unexpected argument '--bogus' found\n\n  tip: to pass '--bogus' as a value, use '-- --bogus'",
         "check [OPTIONS] [FILE]"
@@ -209,8 +209,17 @@ fn help_has_its_texts(rt: HostRuntime) -> Result<(), AllocError> {
 }
 
 #[test]
-fn words_have_their_texts(rt: HostRuntime) -> Result<(), AllocError> {
-    for (words, text) in &TEXTS {
+fn the_version_has_its_text(rt: HostRuntime) -> Result<(), AllocError> {
+    for word in ["--version", "-V"] {
+        let said = text_of(&rt, &["anscheck", word])?;
+        assert_eq!(rt; said.as_str(), VERSION);
+    }
+    Ok(())
+}
+
+#[test]
+fn rejected_words_have_their_texts(rt: HostRuntime) -> Result<(), AllocError> {
+    for (words, text) in &REJECTED {
         let said = text_of(&rt, words)?;
         assert_eq!(rt; said.as_str(), *text);
     }
