@@ -1,6 +1,6 @@
 -- What clap's matches give of the program's words.
 use Rattle.std.proofs.Common.{◌≡◌, ◌∙◌, Bool, true, false, List, [], ◌∷◌, Option, Some, None, refl, sym, ap, codes}
-use Rattle.std.proofs.Common.{option_map, unwrap_or, inl, inr, ◌⊎◌, subst, ◌&&◌, not}
+use Rattle.std.proofs.Common.{option_map, unwrap_or, inl, inr, ◌⊎◌, ◌&&◌, not}
 use Rattle.std.specs.Prelude.{find, IsSome, IsSomeAnd, Box}
 use Rattle.std.specs.Option.{option_map_or}
 use Rattle.std.specs.Str.{bytes_eq}
@@ -23,8 +23,7 @@ use Rattle.ans_options.specs.declared.command.TableForm.TheVariants.{Headed}
 use Rattle.clap.specs.declared.builder.command.Command.{Command}
 use Rattle.clap.proofs.CallerLemmas.{subcommand_required}
 use Rattle.clap.proofs.TakesLemmas.{some_rows}
-use Rattle.ans_options.specs.declared.command.Options.{Options}
-use Rattle.ans_options.specs.CommandLine.{AsksFor, IsCommand, anscheck, holds_flag}
+use Rattle.ans_options.specs.CommandLine.{IsCommand, anscheck, holds_flag}
 
 pub not_true : (b : Bool) → (b ≡ true → ⊥) → b ≡ false
 not_true true h = absurd (h refl)
@@ -140,9 +139,3 @@ subcommand_met program m app_is parsed =
     let needs = ap (λ (a : App). a.top.subcommand_required) app_is in
     sym (some_rows (out-ArgMatches m).subcommand) ∙ subcommand_required program m parsed
     (no_globals _ _ _ _ plain) needs
-
--- the subcommand that is there asks for this
-pub asks_for : (sub : Option (Text × List Row)) (name : Text) (rows : List Row) (o : Options) (file : Option Text)
-    → sub ≡ Some (name, rows) → AsksFor (name, rows) o file → IsSomeAnd sub (λ p. AsksFor p o file)
-asks_for sub name rows o file e asks = subst (λ (s : Option (Text × List Row)). IsSomeAnd s (λ p. AsksFor p o file))
-    (sym e) asks

@@ -1,7 +1,8 @@
 -- An argument that a command does not take has no row in its matches. So without flags nothing is known of the start.
 use Rattle.std.proofs.Common.{◌≡◌, ◌≢◌, ◌∙◌, Bool, ◌&&◌, ◌||◌, true, false, true≢false, List, [], ◌∷◌, Option, Some}
-use Rattle.std.proofs.Common.{None, refl, sym, subst, inl, inr, codes}
-use Rattle.std.specs.Prelude.{IsSomeAnd, if◌then◌else◌}
+use Rattle.std.proofs.Common.{String, Vec, None, refl, sym, subst, inl, inr, codes}
+use Rattle.std.specs.Global.{Global}
+use Rattle.std.specs.Prelude.{option_map, string_bytes, IsSomeAnd, if◌then◌else◌}
 use Rattle.std.specs.List.{list_any}
 use Rattle.std.specs.Str.{bytes_eq}
 use Rattle.std.proofs.lemmas.Slice.Eq.{bytes_eq-Decides}
@@ -10,11 +11,15 @@ use Rattle.clap.specs.Walk.{rows_after}
 use Rattle.clap.specs.Words.{Row, Shape, Text, subcommand_of}
 use Rattle.ans_model.specs.declared.start.Start.{Start}
 use Rattle.ans_model.specs.Screen.StartClass.{all_known, none_known}
+use Rattle.ans_options.specs.declared.command.Asked.{Asked}
+use Rattle.ans_options.specs.declared.command.Asked.TheVariants as asked
 use Rattle.ans_options.specs.declared.command.Command.{Command}
 use Rattle.ans_options.specs.declared.command.Command.TheVariants.{Why, Check, Show, Sauce, Tokens, Needs, Table}
 use Rattle.ans_options.specs.declared.command.Options.{Options}
-use Rattle.ans_options.specs.CommandLine.{AreOptionsOf, AsksFor, anscheck, command_name, words_meant}
-use Rattle.ans_options.specs.CommandLine.{holds_flag, is_table, named_start, part_flags, start_asked, takes_flags}
+use Rattle.ans_options.specs.declared.command.TableForm.{TableForm}
+use Rattle.ans_options.specs.CommandLine.{AreOptionsOf, AsksAs, AsksFor, IsAskedBy, anscheck, command_name, table_options}
+use Rattle.ans_options.specs.CommandLine.{words_meant}
+use Rattle.ans_options.specs.CommandLine.{holds_flag, named_start, part_flags, start_asked, takes_flags}
 use Rattle.ans_options.proofs.CommandLineLemmas.{MetIn, not_true, program_met}
 use Rattle.ans_options.proofs.RowLemmas.{Lacks, neither, never_has, unfound, unheld}
 
@@ -45,26 +50,34 @@ lacks_in id w (s ∷ shapes) met (inl here) none =
         (second_false (bytes_eq s.name s.name) _ ((bytes_eq-Decides s.name s.name).1 refl)
         (neither _ (is_taken id s.name shapes) free).0)
 
--- the subcommand that the words name: it asks for the options, and lacks what their command does not take
-record Met (words : List Text) (o : Options) (file : Option Text) : Type 0 where
+-- the subcommand that the words name: it is this command's, asks so, and lacks what the command does not take
+record Met (words : List Text) (c : Command) (Asks : Text × List Row → Type 0) : Type 0 where
   met : Text × List Row
-  asks : AsksFor met o file
-  lacks : (id : Text) → takes id o.command ≡ false → Lacks id met.1
+  found : subcommand_of anscheck (words_meant words) ≡ Some met
+  asks : Asks met
+  lacks : (id : Text) → takes id c ≡ false → Lacks id met.1
 
-met_by : (words : List Text) (o : Options) (file : Option Text) → AreOptionsOf words o file → Met words o file
-met_by words o file asked = go (subcommand_of anscheck (words_meant words)) refl asked
+met_by : (words : List Text) (c : Command) (Asks : Text × List Row → Type 0)
+    → ((sub : Text × List Row) → Asks sub → sub.0 ≡ command_name c)
+    → IsSomeAnd (subcommand_of anscheck (words_meant words)) Asks → Met words c Asks
+met_by words c Asks named asked = go (subcommand_of anscheck (words_meant words)) refl asked
   where
-    go : (sub : Option (Text × List Row)) → subcommand_of anscheck (words_meant words) ≡ sub
-        → IsSomeAnd sub (λ p. AsksFor p o file) → Met words o file
+    go : (sub : Option (Text × List Row)) → subcommand_of anscheck (words_meant words) ≡ sub → IsSomeAnd sub Asks
+        → Met words c Asks
     go None e asks = absurd asks
     go (Some met) e asks =
         let found = program_met (words_meant words) met e in
         record {
           met = met;
+          found = e;
           asks = asks;
           lacks = λ id none. lacks_in id found.0 (built anscheck).subs met found.1
-              (subst (λ (name : Text). is_taken id name (built anscheck).subs ≡ false) (sym asks.0) none);
+              (subst (λ (name : Text). is_taken id name (built anscheck).subs ≡ false) (sym (named met asks)) none);
         }
+
+options_met : (words : List Text) (o : Options) (file : Option Text) → AreOptionsOf words o file
+    → Met words o.command (λ sub. AsksFor sub o file)
+options_met words o file asked = met_by words o.command (λ sub. AsksFor sub o file) (λ sub asks. asks.0) asked
 
 -- the flags that say what is known of the start
 abbrev start_flags : List Text
@@ -110,7 +123,7 @@ none_asked (Table form) rows e lacks = none_named rows (none_held (Table form) r
 pub flagless : (words : List Text) (o : Options) (file : Option Text) → AreOptionsOf words o file
     → takes_flags o.command ≡ false → o.start ≡ none_known
 flagless words o file asked flags =
-    let m = met_by words o file asked in
+    let m = options_met words o file asked in
     m.asks.2 ∙ none_asked o.command m.met.1 flags m.lacks
 
 -- only `check` takes `--cells`
@@ -127,23 +140,27 @@ takes_no_cells (Table form) other = refl
 pub no_cells : (words : List Text) (o : Options) (file : Option Text) → AreOptionsOf words o file
     → o.command ≢ Check → o.cells ≡ false
 no_cells words o file asked other =
-    let m = met_by words o file asked in
+    let m = options_met words o file asked in
     let none = unheld (codes "cells") m.met.1 (m.lacks (codes "cells") (takes_no_cells o.command other)) in
     not_true o.cells (λ on. true≢false (sym (m.asks.3.0 on) ∙ none))
 
--- a table takes no `[FILE]`
-takes_no_file : (c : Command) → is_table c ≡ true → takes (codes "file") c ≡ false
-takes_no_file (Table form) e = refl
-takes_no_file Check e = absurd (true≢false (sym e))
-takes_no_file (Show form) e = absurd (true≢false (sym e))
-takes_no_file Sauce e = absurd (true≢false (sym e))
-takes_no_file Tokens e = absurd (true≢false (sym e))
-takes_no_file Needs e = absurd (true≢false (sym e))
-takes_no_file Why e = absurd (true≢false (sym e))
+-- where the words ask for a command on one input, these are its options
+pub one_asked : (words : List Text) (a : Asked) (o : Options) (file : Option (String Global)) → IsAskedBy words a
+    → a ≡ asked.One o file → AreOptionsOf words o (option_map string_bytes file)
+one_asked words a o file asks is = go (subcommand_of anscheck (words_meant words)) (rw (sym is) asks)
+  where
+    go : (sub : Option (Text × List Row)) → IsSomeAnd sub (AsksAs (asked.One o file))
+        → IsSomeAnd sub (λ p. AsksFor p o (option_map string_bytes file))
+    go None asks = absurd asks
+    go (Some met) asks = asks.0
 
--- the names for a table are no file
-pub nameless : (words : List Text) (o : Options) (file : Option Text) → AreOptionsOf words o file
-    → is_table o.command ≡ true → file ≡ None
-nameless words o file asked table =
-    let m = met_by words o file asked in
-    m.asks.4 ∙ unfound (codes "file") m.met.1 (m.lacks (codes "file") (takes_no_file o.command table))
+-- where the words ask for a table, its options are theirs
+pub table_asked : (words : List Text) (a : Asked) (form : TableForm) (names : Vec (String Global) Global)
+    → IsAskedBy words a → a ≡ asked.Table form names → AreOptionsOf words (table_options form) None
+table_asked words a form names asks is =
+    let m = met_by words (Table form) (AsksAs (asked.Table form names)) (λ sub asks. asks.0) (rw (sym is) asks) in
+    let start = none_asked (Table form) m.met.1 refl m.lacks in
+    let cells = unheld (codes "cells") m.met.1 (m.lacks (codes "cells") refl) in
+    let file = unfound (codes "file") m.met.1 (m.lacks (codes "file") refl) in
+    subst (λ (s : Option (Text × List Row)). IsSomeAnd s (λ sub. AsksFor sub (table_options form) None)) (sym m.found)
+    (m.asks.0, m.asks.1, sym start, rw cells ((λ on. on), (λ on. on)), sym file)

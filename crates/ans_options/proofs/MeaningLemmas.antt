@@ -11,7 +11,8 @@ use Rattle.ans_options.specs.declared.command.Command.{Command}
 use Rattle.ans_options.specs.declared.command.Command.TheVariants.{Why, Check, Show, Sauce, Tokens, Needs, Table}
 use Rattle.ans_options.specs.declared.command.Form.TheVariants.{Terminal}
 use Rattle.ans_options.specs.declared.command.TableForm.TheVariants.{Headed}
-use Rattle.ans_options.specs.CommandLine.{IsNoCommand, command_names, help_on, words_meant}
+use Rattle.ans_options.specs.CommandLine.{IsNoCommand, command_names, help_on, is_table, words_meant}
+use Rattle.ans_options.specs.declared.command.TableForm.{TableForm}
 use Rattle.ans_model.specs.Text.Words.{texts_of}
 use Rattle.ans_options.proofs.CommandLineLemmas.{not_true}
 
@@ -51,3 +52,13 @@ pub others_meant : (words : List (Bor Text)) (none : Bor Text) → 2 ≤ length 
 others_meant [] none many other = absurd (omega arith)
 others_meant (program ∷ []) none many other = absurd (omega arith)
 others_meant (program ∷ word ∷ more) none many other = rw other refl
+
+-- what is no table in any form is none
+pub no_table : (c : Command) → ((form : TableForm) → c ≡ Table form → ⊥) → is_table c ≡ false
+no_table (Table form) other = absurd (other form refl)
+no_table Why other = refl
+no_table Check other = refl
+no_table (Show form) other = refl
+no_table Sauce other = refl
+no_table Tokens other = refl
+no_table Needs other = refl

@@ -1,6 +1,6 @@
 -- The command line, and the options that its words give.
 use Rattle.std.specs.Prelude.{map, fold, ◌≡◌, ◌≢◌, ◌↔◌, not, Bool, true, false, List, [], ◌∷◌, Option, Some, codes}
-use Rattle.std.specs.Prelude.{IsSomeAnd, IsTrue, if◌then◌else◌, unwrap_or, ⊤}
+use Rattle.std.specs.Prelude.{option_map, string_bytes, IsSomeAnd, IsTrue, if◌then◌else◌, unwrap_or, ⊤}
 use Rattle.std.specs.List.{list_any}
 use Rattle.std.specs.Option.{option_map_or}
 use Rattle.std.specs.Str.{bytes_eq}
@@ -10,7 +10,9 @@ use Rattle.clap.specs.declared.builder.ArgAction.TheVariants.{Append, SetTrue}
 use Rattle.clap.specs.declared.error.ErrorKind.TheVariants.{DisplayHelp, DisplayVersion, OutOfMemory}
 use Rattle.clap.specs.declared.error.ErrorKind.{ErrorKind}
 use Rattle.ans_model.specs.declared.start.Start.{Start}
-use Rattle.ans_model.specs.Screen.StartClass.{all_known}
+use Rattle.ans_model.specs.Screen.StartClass.{all_known, none_known}
+use Rattle.ans_options.specs.declared.command.Asked.{Asked}
+use Rattle.ans_options.specs.declared.command.Asked.TheVariants as asked
 use Rattle.ans_options.specs.declared.command_line.WordsError.{WordsError}
 use Rattle.ans_options.specs.declared.command_line.WordsError.TheVariants as words_error
 use Rattle.ans_options.specs.declared.command.Command.{Command}
@@ -191,9 +193,24 @@ AreOptionsOf words o file = IsSomeAnd (subcommand_of anscheck (words_meant words
 abbrev pub files_of : List Row → List Text
 files_of rows = unwrap_or (all_of (codes "files") rows) []
 
--- clap finds a subcommand in what the words mean, and these are its `[FILE]..`
-abbrev pub AreNamesOf : List Text → List Text → Type 0
-AreNamesOf words names = IsSomeAnd (subcommand_of anscheck (words_meant words)) (λ sub. names ≡ files_of sub.1)
+-- the options of a table: nothing is known, and no cells are asked for
+abbrev pub table_options : TableForm → Options
+table_options form = record { command = Table form; start = none_known; cells = false }
+
+-- the subcommand is `table`, its matches say in which form, and these are its `[FILE]..`
+abbrev pub AsksForTable : (Text × List Row) → TableForm → List Text → Type 0
+AsksForTable sub form names =
+    (sub.0 ≡ command_name (Table form)) × (form ≡ table_form_asked sub.1) × (names ≡ files_of sub.1)
+
+-- the subcommand asks for a table of many files, or for a command on one
+abbrev pub AsksAs : Asked → (Text × List Row) → Type 0
+AsksAs (asked.One options file) sub =
+    AsksFor sub options (option_map string_bytes file) × (is_table options.command ≡ false)
+AsksAs (asked.Table form names) sub = AsksForTable sub form (map string_bytes names.items)
+
+-- clap finds a subcommand in what the words mean, which asks for this
+abbrev pub IsAskedBy : List Text → Asked → Type 0
+IsAskedBy words a = IsSomeAnd (subcommand_of anscheck (words_meant words)) (AsksAs a)
 
 -- the kinds that the first fault of what the words mean may have; to ask for help or for the version counts as a fault
 abbrev pub faults_of : List Text → Kinds

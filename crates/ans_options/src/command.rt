@@ -1,5 +1,8 @@
 //! What the program is asked to do.
 
+ghost use Rattle.std.specs.Prelude.{◌≡◌};
+ghost use Rattle.ans_options.specs.CommandLine.{table_options};
+
 use ans_model::start::Start;
 
 /// The form in which a picture is shown.
@@ -51,4 +54,26 @@ pub struct Options {
     pub start: Start,
     /// Whether the report of a pass also tells each cell. Only `Check` reads it.
     pub cells: bool,
+}
+
+impl Options {
+    /// The options of a table. It reads neither what is known of the start nor whether cells are told.
+    pub(crate) fn of_table(form: TableForm) -> Options
+        ensures { result ≡ table_options form }
+    {
+        Options {
+            command: Command::Table(form),
+            start: Start::ANY,
+            cells: false,
+        }
+    }
+}
+
+/// What the words ask for.
+#[derive(Debug, Drop)]
+pub enum Asked {
+    /// One command, and the name of its input as it is given, `-` too.
+    One(Options, Option<String>),
+    /// A table, and the names of its files as they are given, in their order.
+    Table(TableForm, Vec<String>),
 }

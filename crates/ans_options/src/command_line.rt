@@ -11,13 +11,13 @@ ghost use Rattle.ans_options.specs.CommandLine.{with_flags, with_subcommands};
 ghost use Rattle.ans_options.specs.CommandLine.{words_meant, anscheck, command_app, command_name, file_app};
 ghost use Rattle.ans_options.specs.CommandLine.{asks_for_cleared, holds_flag};
 ghost use Rattle.ans_model.specs.Text.Words.{texts_of};
-ghost use Rattle.ans_options.specs.CommandLine.{AreNamesOf, files_of, is_table, table_form_asked};
+ghost use Rattle.ans_options.specs.CommandLine.{AsksAs, IsAskedBy, files_of, is_table, table_form_asked};
 ghost use Rattle.ans_options.specs.declared.command.Command.TheVariants.{Check, Show, Table};
 ghost use Rattle.ans_options.specs.declared.command.Form.TheVariants.{Terminal};
 ghost use Rattle.ans_options.specs.declared.command.TableForm.TheVariants.{Headed};
 ghost use Rattle.ans_options.specs.declared.command_line.WordsError.TheVariants.{Clap};
 
-use crate::command::{Command, Form, Options, TableForm};
+use crate::command::{Asked, Command, Form, Options, TableForm};
 use ans_model::start::Start;
 use clap::{Arg, ArgAction, ArgMatches};
 use std::alloc::{AllocError, Global};
@@ -338,6 +338,7 @@ fn table_form_asked(matches: &ArgMatches<'_>) -> TableForm
 /// The command, with the form that the flags ask for.
 fn in_form_asked(command: Command, matches: &ArgMatches<'_>) -> Command
     ensures name { command_name result ≡ command_name command }
+    ensures table { is_table result ≡ is_table command }
     ensures form { IsInFormAsked result (rows_of (found_of matches.now)) }
 {
     match command {
@@ -396,6 +397,7 @@ fn file_of(alloc: Global, matches: &ArgMatches<'_>) -> Result<Option<String>, Wo
 
 fn options_of(command: Command, matches: &ArgMatches<'_>) -> Options
     ensures name { command_name result.command ≡ command_name command }
+    ensures table { is_table result.command ≡ is_table command }
     ensures form { IsInFormAsked result.command (rows_of (found_of matches.now)) }
     ensures start { result.start ≡ start_asked result.command (rows_of (found_of matches.now)) }
     ensures cells { IsTrue result.cells
@@ -432,21 +434,10 @@ fn files_of(alloc: Global, matches: &ArgMatches<'_>) -> Result<Vec<String>, Word
     }
 }
 
-/// What the words ask for: the options, and the name of the file, or the names for a table.
-#[derive(Drop)]
-struct Asked {
-    options: Options,
-    file: Option<String>,
-    files: Vec<String>,
-}
-
 fn read_matches(alloc: Global, matches: &ArgMatches<'_>) -> Result<Asked, WordsError>
     requires { IsSomeAnd (subcommand_rows_of matches.now) IsCommand }
     ensures memory { IfErr result (λ e. e ≡ WordsError.Memory) }
-    ensures ok { IfOk result (λ a. IsSomeAnd (subcommand_rows_of matches.now)
-        (λ p. AsksFor p a.options (option_map string_bytes a.file))) }
-    ensures names { IfOk result (λ a. IsSomeAnd (subcommand_rows_of matches.now)
-        (λ p. map string_bytes a.files.items ≡ files_of p.1)) }
+    ensures ok { IfOk result (λ a. IsSomeAnd (subcommand_rows_of matches.now) (AsksAs a)) }
 {
     let Some((name, found)) = matches.subcommand() else {
         unreachable!()
@@ -454,13 +445,12 @@ fn read_matches(alloc: Global, matches: &ArgMatches<'_>) -> Result<Asked, WordsE
     let Some(command) = command_named(name) else {
         unreachable!()
     };
+    if let Command::Table(_) = command {
+        let names = files_of(alloc, found)?;
+        return Ok(Asked::Table(table_form_asked(found), names));
+    }
     let file = file_of(alloc, found)?;
-    let files = files_of(alloc, found)?;
-    Ok(Asked {
-        options: options_of(command, found),
-        file,
-        files,
-    })
+    Ok(Asked::One(options_of(command, found), file))
 }
 
 fn words_for_help<'a>(
@@ -505,11 +495,22 @@ fn matches_of<'a>(alloc: Global, meant: &'a [&'a str]) -> Result<ArgMatches<'a>,
     Ok(program.try_get_matches_from(meant)?)
 }
 
-/// What the words ask for.
-fn read_words(alloc: Global, words: &[&str]) -> Result<Asked, WordsError>
-    ensures ok { IfOk result (λ a.
-        AreOptionsOf (texts_of words.now) a.options (option_map string_bytes a.file)) }
-    ensures names { IfOk result (λ a. AreNamesOf (texts_of words.now) (map string_bytes a.files.items)) }
+/// Reads the program's words, its own name first: `anscheck why [FILE]`, `anscheck needs [FILE]`,
+/// `anscheck check` or `anscheck show` with its flags and `[FILE]`, `anscheck sauce [FILE]`,
+/// `anscheck tokens [FILE]`, or `anscheck table` with its flags and `[FILE]..`.
+/// A part of the start is known where its flag is given, as `--known-cursor`. With `check` all are known
+/// where `--cleared` is given, and cells are asked for where `--cells` is. With `show` all are known where
+/// neither such a flag nor `--any` is given, and the picture comes as a page where `--html` is, else in a
+/// VGA's colours where `--vga` is. A table's rows are JSON where `--json` is given, and else have a line
+/// of names above them unless `--no-header` is. With the other commands nothing is known.
+///
+/// Fails where `clap` rejects the words, where they ask for help or for the version, and where memory
+/// runs out. Help is asked for by `--help`, `-h`, `help` and `help COMMAND`, the version by
+/// `--version` and `-V`; the error then has the text that was asked for. But for want of memory the
+/// words alone decide: there is an answer exactly where they have no fault, and else the error has one
+/// of the kinds that their first fault may have. To ask for help or for the version counts as a fault.
+pub fn asked(alloc: Global, words: &[&str]) -> Result<Asked, WordsError>
+    ensures ok { IfOk result (λ a. IsAskedBy (texts_of words.now) a) }
     ensures accepted { IfOk result (λ a. faults_of (texts_of words.now) ≡ []) }
     ensures errors { IfErr result (IsErrorOf (texts_of words.now)) }
 {
@@ -520,22 +521,8 @@ fn read_words(alloc: Global, words: &[&str]) -> Result<Asked, WordsError>
     read_matches(alloc, &matches)
 }
 
-/// Reads the options and the file from the program's words, its own name first:
-/// `anscheck why [FILE]`, `anscheck needs [FILE]`, `anscheck check` or `anscheck show` with its flags and `[FILE]`,
-/// `anscheck sauce [FILE]`, `anscheck tokens [FILE]`, or `anscheck table` with its flags and `[FILE]..`.
-/// A part of the start is known where its flag is given, as `--known-cursor`. With `check` all are known
-/// where `--cleared` is given, and cells are asked for where `--cells` is. With `show` all are known where
-/// neither such a flag nor `--any` is given, and the picture comes as a page where `--html` is, else in a
-/// VGA's colours where `--vga` is. A table's rows are JSON where `--json` is given, and else have a line
-/// of names above them unless `--no-header` is. With the
-/// other commands nothing is known. The file's name comes as it is given, `-` too; the names for `table`
-/// come by [`table_names`], and here as none.
-///
-/// Fails where `clap` rejects the words, where they ask for help or for the version, and where memory
-/// runs out. Help is asked for by `--help`, `-h`, `help` and `help COMMAND`, the version by
-/// `--version` and `-V`; the error then has the text that was asked for. But for want of memory the
-/// words alone decide: options come exactly where they have no fault, and else the error has one of
-/// the kinds that their first fault may have. To ask for help or for the version counts as a fault.
+/// Reads the options and the file from the program's words, as [`asked`] does, and fails as it does.
+/// The file's name comes as it is given, `-` too. Of a table the options alone come, and no name.
 pub fn options(alloc: Global, words: &[&str]) -> Result<(Options, Option<String>), WordsError>
     ensures ok { IfOk result (λ r.
         AreOptionsOf (texts_of words.now) r.0 (option_map string_bytes r.1)) }
@@ -545,24 +532,8 @@ pub fn options(alloc: Global, words: &[&str]) -> Result<(Options, Option<String>
     ensures accepted { IfOk result (λ r. faults_of (texts_of words.now) ≡ []) }
     ensures errors { IfErr result (IsErrorOf (texts_of words.now)) }
 {
-    let Asked {
-        options,
-        file,
-        files: _,
-    } = read_words(alloc, words)?;
-    Ok((options, file))
-}
-
-/// Reads the names of the files from the program's words for a table, its own name first, as
-/// [`options`] reads the rest: each as it is given, in their order. They are none where the words name
-/// none, and where they ask for another command.
-///
-/// Fails as [`options`] does.
-pub fn table_names(alloc: Global, words: &[&str]) -> Result<Vec<String>, WordsError>
-    ensures ok { IfOk result (λ v. AreNamesOf (texts_of words.now) (map string_bytes v.items)) }
-    ensures accepted { IfOk result (λ v. faults_of (texts_of words.now) ≡ []) }
-    ensures errors { IfErr result (IsErrorOf (texts_of words.now)) }
-{
-    let asked = read_words(alloc, words)?;
-    Ok(asked.files)
+    match asked(alloc, words)? {
+        Asked::One(options, file) => Ok((options, file)),
+        Asked::Table(form, _) => Ok((Options::of_table(form), None)),
+    }
 }

@@ -1,10 +1,10 @@
 //! The command line, and what its words ask for.
 //!
-//! [`options`] has `clap` read what the words mean, and returns the [`Options`] and the file's name,
-//! or a [`WordsError`]; [`table_names`] gives the names of many files, for a table. Which words ask
-//! for what stands in `specs/CommandLine.antt`; there `help`
-//! stands for `--help`, and `help COMMAND` for `COMMAND --help`. That the command line is of `clap`'s
-//! simple kind, and no argument has a rule on another, is a law, in [`laws`].
+//! [`asked`] has `clap` read what the words mean, and returns what they ask for: the [`Options`] and the
+//! name of one file, or the form of a table and the names of many; or a [`WordsError`]. [`options`] gives
+//! the options alone with the one name. Which words ask for what stands in `specs/CommandLine.antt`;
+//! there `help` stands for `--help`, and `help COMMAND` for `COMMAND --help`. That the command line is of
+//! `clap`'s simple kind, and no argument has a rule on another, is a law, in [`laws`].
 //!
 //! But for want of memory the answer is a function of the words: there are options exactly where the
 //! words have no fault (`faults_of`), and an error has one of the kinds that their first fault may
@@ -16,5 +16,5 @@ mod command;
 mod command_line;
 pub mod laws;
 
-pub use command::{Command, Form, Options, TableForm};
-pub use command_line::{WordsError, options, table_names};
+pub use command::{Asked, Command, Form, Options, TableForm};
+pub use command_line::{WordsError, asked, options};

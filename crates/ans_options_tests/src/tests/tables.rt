@@ -1,7 +1,7 @@
 //! The names and the form of a table.
 use super::faults::{Row, expect_kinds};
 use super::read_words;
-use ans_options::{Command, Options, TableForm, WordsError, table_names};
+use ans_options::{Asked, Command, Options, TableForm, WordsError, asked};
 use ans_samples::start;
 use clap::error::ErrorKind::{ArgumentConflict, DisplayHelp, OutOfMemory, UnknownArgument};
 use std::alloc::AllocError;
@@ -42,8 +42,9 @@ static FAULTS: [Row; 6] = words! {
 
 /// The names that words give. It fails where memory runs out.
 fn names_of(rt: &(impl Abort + AllocGlobal), words: &[&str]) -> Result<Vec<String>, AllocError> {
-    match table_names(rt.alloc(), words) {
-        Ok(names) => Ok(names),
+    match asked(rt.alloc(), words) {
+        Ok(Asked::Table(_, names)) => Ok(names),
+        Ok(Asked::One(_, _)) => panic!(rt; "no table"),
         Err(WordsError::Memory) => Err(AllocError),
         Err(WordsError::Clap(error)) => {
             assert_eq!(rt; error.kind(), OutOfMemory);

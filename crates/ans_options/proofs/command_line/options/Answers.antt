@@ -1,22 +1,24 @@
 use Rattle.std.proofs.Common.{option_map}
 use Rattle.std.specs.Prelude.{string_bytes}
 use Rattle.ans_model.specs.Text.Words.{texts_of}
-use Rattle.ans_options.proofs.ErrorLemmas.{none_mapped}
-use Rattle.ans_options.proofs.FlagLemmas.{flagless, nameless, no_cells}
+use Rattle.ans_options.specs.CommandLine.{AreOptionsOf}
+use Rattle.ans_options.proofs.FlagLemmas.{flagless, no_cells, one_asked, table_asked}
 use Rattle.ans_options.proofs.command_line.options.Goals as goal
 
-pub returns-clause-flagless : goal.returns-clause-flagless
-returns-clause-flagless c =
-    let o = c.in_ok-options.field-0 in
-    flagless (texts_of c.args.words.now) o.options (option_map string_bytes o.file) c.in_ok-options.ensures.ok
+one : (c : goal.In-One) → AreOptionsOf (texts_of c.args.words.now) c.in-One.options
+    (option_map string_bytes c.in-One.file)
+one c = one_asked (texts_of c.args.words.now) c.in_ok-options.field-0 _ _ c.in_ok-options.ensures.ok c.in-One.is
 
-pub returns-clause-cells : goal.returns-clause-cells
-returns-clause-cells c =
-    let o = c.in_ok-options.field-0 in
-    no_cells (texts_of c.args.words.now) o.options (option_map string_bytes o.file) c.in_ok-options.ensures.ok
+pub returns-in-One-clause-ok : goal.returns-in-One-clause-ok
+returns-in-One-clause-ok c = one c
 
-pub returns-clause-nameless : goal.returns-clause-nameless
-returns-clause-nameless c table =
-    let o = c.in_ok-options.field-0 in
-    none_mapped string_bytes o.file
-    (nameless (texts_of c.args.words.now) o.options (option_map string_bytes o.file) c.in_ok-options.ensures.ok table)
+pub returns-in-One-clause-flagless : goal.returns-in-One-clause-flagless
+returns-in-One-clause-flagless c = flagless (texts_of c.args.words.now) _ _ (one c)
+
+pub returns-in-One-clause-cells : goal.returns-in-One-clause-cells
+returns-in-One-clause-cells c = no_cells (texts_of c.args.words.now) _ _ (one c)
+
+pub returns-clause-ok : goal.returns-clause-ok
+returns-clause-ok c =
+    rw c.of_table.ensures
+    (table_asked (texts_of c.args.words.now) c.in_ok-options.field-0 _ _ c.in_ok-options.ensures.ok c.in-Table.is)

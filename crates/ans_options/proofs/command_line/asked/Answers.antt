@@ -1,12 +1,12 @@
-use Rattle.std.proofs.Common.{◌∙◌, ◌≡◌, [], ap, map, option_map, refl, subst, sym, List, Option}
+use Rattle.std.proofs.Common.{◌∙◌, ◌≡◌, [], ap, refl, subst, sym, List, Option}
 use Rattle.std.proofs.lemmas.Result.{IfErr-weaker, IfOk-weaker, err_from_is_err_and}
-use Rattle.std.specs.Prelude.{IfOk, IsSomeAnd, string_bytes}
+use Rattle.std.specs.Prelude.{IfOk, IsSomeAnd}
 use Rattle.clap.specs.Words.{Kinds, Row, Text, fault_of, subcommand_of, subcommand_rows_of, takes}
-use Rattle.ans_options.specs.CommandLine.{AsksFor, HasKindAmong, anscheck, faults_of, files_of, words_meant}
+use Rattle.ans_options.specs.CommandLine.{AsksAs, HasKindAmong, anscheck, faults_of, words_meant}
 use Rattle.ans_model.specs.Text.Words.{texts_of}
 use Rattle.ans_options.proofs.CommandLineLemmas.{command_found}
 use Rattle.ans_options.proofs.ErrorLemmas.{out_of_memory, ran_out}
-use Rattle.ans_options.proofs.command_line.read_words.Goals as goal
+use Rattle.ans_options.proofs.command_line.asked.Goals as goal
 
 pub read_matches-requires : goal.read_matches-requires
 read_matches-requires c =
@@ -19,15 +19,8 @@ pub returns-clause-ok : goal.returns-clause-ok
 returns-clause-ok c =
     let is = ap texts_of c.as_slice.ensures.value ∙ c.in-Ok.ensures in
     let same = c.in_ok-matches.ensures.met ∙ ap (λ (w : List Text). subcommand_of anscheck w) is in
-    subst (λ (s : Option (Text × List Row)). IfOk c.read_matches.result
-    (λ a. IsSomeAnd s (λ p. AsksFor p a.options (option_map string_bytes a.file)))) same c.read_matches.ensures.ok
-
-pub returns-clause-names : goal.returns-clause-names
-returns-clause-names c =
-    let is = ap texts_of c.as_slice.ensures.value ∙ c.in-Ok.ensures in
-    let same = c.in_ok-matches.ensures.met ∙ ap (λ (w : List Text). subcommand_of anscheck w) is in
-    subst (λ (s : Option (Text × List Row)). IfOk c.read_matches.result
-    (λ a. IsSomeAnd s (λ p. map string_bytes a.files.items ≡ files_of p.1))) same c.read_matches.ensures.names
+    subst (λ (s : Option (Text × List Row)). IfOk c.read_matches.result (λ a. IsSomeAnd s (AsksAs a))) same
+    c.read_matches.ensures.ok
 
 pub returns-clause-accepted : goal.returns-clause-accepted
 returns-clause-accepted c =
