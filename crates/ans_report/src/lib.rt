@@ -1,15 +1,13 @@
 //! The texts that the checker writes.
 //!
-//! They go to the devices of `ans_write`. Others rely on one contract of the writers here: at `Ok`
-//! exactly the text was appended, at `Err` a prefix of it, and `Err` comes exactly where the device
-//! failed in the call. The texts are defined in `ans_model`; which of them tells what is in
-//! `specs/ReportBytes.antt`, `specs/NeedsBytes.antt`, `specs/RecordLines.antt` and
-//! `specs/TokenLines.antt`.
+//! Each text is put into an outbox of `ans_write`, by a call whose contract says which text it is. The
+//! four `write_` calls make an outbox of their own: at `Ok` exactly the text was appended, at `Err` a
+//! prefix of it, and `Err` comes exactly where the device failed in the call. The texts are defined in
+//! `ans_model`; which of them tells what is in `specs/ReportBytes.antt`, `specs/NeedsBytes.antt`,
+//! `specs/RecordLines.antt` and `specs/TokenLines.antt`, and that of the line that says why there is no
+//! answer in `specs/Message.antt`.
 //!
 //! The text of `why` (`ans_explain`) is put by some of the same lines.
-//!
-//! The same contract holds of the line that says on standard error why there is no answer
-//! (`write_message`, `specs/Message.antt`).
 #![tactic(auto)]
 
 mod fault_lines;
@@ -27,8 +25,8 @@ pub use ans_write::{DeviceFault, Tried, WriteFault, glyph_text};
 pub use fault_lines::{fault_text, put_fault_line, put_refusal};
 pub use heading::note_text;
 pub use lines::{answer_text, put_named_line, put_number_line, put_size_line};
-pub use message::write_message;
-pub use needs_text::{Needs, put_needed_parts, write_needs};
+pub use message::put_message;
+pub use needs_text::{Needs, put_needed_parts, put_needs};
 pub use record_text::{put_record, write_record};
-pub use report::{Report, write_refusal, write_report};
-pub use tokens_text::write_tokens;
+pub use report::{Report, put_report, write_refusal, write_report};
+pub use tokens_text::{put_tokens, write_tokens};

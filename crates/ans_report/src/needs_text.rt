@@ -1,7 +1,5 @@
 //! The text of what a content needs.
-ghost use Rattle.std.specs.Prelude.{◌≡◌, ◌↔◌, false, IsTrue, IsErr, None};
-ghost use Rattle.ans_write.specs.Tried.{has_failed, inner_of};
-ghost use Rattle.ans_write.specs.Writes.{WritesText};
+ghost use Rattle.std.specs.Prelude.{None};
 ghost use Rattle.ans_write.specs.Puts.{Puts};
 ghost use Rattle.ans_report.specs.Headings.{heading_of};
 ghost use Rattle.ans_report.specs.NeedsBytes.{needs_bytes};
@@ -12,7 +10,7 @@ use crate::lines::put_words;
 use crate::report::put_refused;
 use ans_model::start::Start;
 use ans_sauce::{Fault, Parts};
-use ans_write::{Outbox, Tried, WriteFault};
+use ans_write::Outbox;
 use std::io::Write;
 
 /// What a file needs.
@@ -47,22 +45,14 @@ fn put_least<W: Write>(out: &mut Outbox<'_, W>, parts: &Parts<'_>, class: Start)
     out.put(b"\n");
 }
 
-/// Writes what a content needs: the size, the content's length and the notes, and then `needs:` and
+/// Puts what a content needs: the size, the content's length and the notes, and then `needs:` and
 /// the parts of the start that have to be known, or `nothing`; or the fault of a refusal. Without
-/// parts only the fault is written.
-///
-/// `Err` comes exactly where the device failed in the call, and then a prefix of the text was
-/// written.
-pub fn write_needs<W: Write>(w: &mut Tried<W>, needs: &Needs<'_>) -> Result<(), WriteFault>
-    requires { has_failed w.old ≡ false }
-    ensures device { IsErr result ↔ IsTrue (has_failed w.new) }
-    ensures bytes { WritesText (W.contents (inner_of w.old)) (W.contents (inner_of w.new))
-        result (needs_bytes needs.now) }
+/// parts only the fault is put.
+pub fn put_needs<W: Write>(out: &mut Outbox<'_, W>, needs: &Needs<'_>)
+    ensures { Puts W.contents out.old out.new (needs_bytes needs.now) }
 {
-    let out = &mut Outbox::new(w);
     match needs {
         Needs::Least(parts, class) => put_least(out, parts, *class),
         Needs::Refused(parts, fault) => put_refused(out, parts.as_ref(), None, fault),
     }
-    out.finish()
 }

@@ -9,7 +9,6 @@ ghost use Rattle.ans_model.specs.Text.ReportText.{refusal_text};
 
 use crate::fault_lines::put_refusal;
 use crate::heading::put_heading;
-use crate::needs_text::{Needs, write_needs};
 use crate::picture_text::put_pass;
 use ans_model::start::Start;
 use ans_play::Picture;
@@ -55,7 +54,8 @@ pub(crate) fn put_refused<W: Write>(
     }
 }
 
-fn put_report<W: Write, G: Screen>(out: &mut Outbox<'_, W>, r: &Report<'_, G>)
+/// Puts the report, as [`write_report`] writes it.
+pub fn put_report<W: Write, G: Screen>(out: &mut Outbox<'_, W>, r: &Report<'_, G>)
     ensures text { Puts W.contents out.old out.new (report_bytes r.now) }
     ensures cells_back { TellsCells r.now }
 {
@@ -107,6 +107,7 @@ pub fn write_refusal<W: Write>(w: &mut Tried<W>, f: &Fault) -> Result<(), WriteF
     ensures bytes { WritesText (W.contents (inner_of w.old)) (W.contents (inner_of w.new))
         result (refusal_text f.now) }
 {
-    let refused = Needs::Refused(None, *f);
-    write_needs(w, &refused)
+    let mut out = Outbox::new(w);
+    put_refusal(&mut out, f);
+    out.finish()
 }

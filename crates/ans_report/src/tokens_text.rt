@@ -129,8 +129,9 @@ fn take_front(scanner: &mut Scanner, bytes: &[u8]) -> Front
     }
 }
 
-/// Stops once the device has failed.
-fn put_tokens<W: Write>(out: &mut Outbox<'_, W>, content: &[u8]) -> Option<Fault>
+/// Puts the tokens of the content, as [`write_tokens`] writes them, and returns the fault that ends
+/// them. It stops once the device has failed.
+pub fn put_tokens<W: Write>(out: &mut Outbox<'_, W>, content: &[u8]) -> Option<Fault>
     requires { length content.now ≤ longest_file }
     ensures { PutsTokens W.contents out.old out.new content.now result }
 {

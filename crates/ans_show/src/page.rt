@@ -1,8 +1,6 @@
 //! The picture as a page.
-ghost use Rattle.std.specs.Prelude.{◌≡◌, ◌↔◌, ◌<◌, [], ◌++◌, false, codes, decimal, if◌then◌else◌, IsTrue, IsErr};
+ghost use Rattle.std.specs.Prelude.{◌≡◌, ◌<◌, [], ◌++◌, codes, decimal, if◌then◌else◌};
 ghost use Rattle.ans_write.specs.Puts.{Puts};
-ghost use Rattle.ans_write.specs.Tried.{has_failed, inner_of};
-ghost use Rattle.ans_write.specs.Writes.{WritesText};
 ghost use Rattle.ans_show.specs.Forms.{IsPage};
 ghost use Rattle.ans_show.specs.Looks.{look_of};
 ghost use Rattle.ans_show.specs.ShortTexts.{text_of};
@@ -14,7 +12,7 @@ use crate::look::{background, blinks, foreground};
 use crate::rows::put_rows;
 use ans_play::Picture;
 use ans_screen::Screen;
-use ans_write::{Outbox, Tried, WriteFault};
+use ans_write::Outbox;
 use std::io::Write;
 
 /// Where a span begins, by the number of its foreground.
@@ -109,7 +107,13 @@ fn put_title<W: Write>(out: &mut Outbox<'_, W>, title: &[u8], tables: &FormTable
     }
 }
 
-fn put_page<W: Write, G: Screen>(
+/// Puts the picture as a page, a whole document that loads nothing and has no script: one `pre` with
+/// a span for each longest run of cells with one attribute. The classes of a span are `f` and the
+/// number of the foreground, `b` and the number of the background, and `k` where it blinks. The bytes
+/// of the title are shown by their characters; an empty one is told as `ANSI drawing`. An attribute's
+/// bit 7 is blink, or, where the record's non-blink flag is set, a bright background.
+#[inline(never)]
+pub fn put_page<W: Write, G: Screen>(
     out: &mut Outbox<'_, W>,
     picture: &Picture<G>,
     title: &[u8],
@@ -123,29 +127,4 @@ fn put_page<W: Write, G: Screen>(
     out.put(STYLE);
     put_rows(out, picture, &tables);
     out.put(END);
-}
-
-/// Writes the picture as a page, a whole document that loads nothing and has no script: one `pre` with
-/// a span for each longest run of cells with one attribute. The classes of a span are `f` and the
-/// number of the foreground, `b` and the number of the background, and `k` where it blinks. The bytes
-/// of the title are shown by their characters; an empty one is told as `ANSI drawing`. An attribute's
-/// bit 7 is blink, or, where the record's non-blink flag is set, a bright background.
-///
-/// `Err` comes exactly where the device failed in the call, and then a prefix of the page was
-/// written.
-#[inline(never)]
-pub fn write_page<W: Write, G: Screen>(
-    w: &mut Tried<W>,
-    picture: &Picture<G>,
-    title: &[u8],
-    non_blink: bool,
-) -> Result<(), WriteFault>
-    requires { has_failed w.old ≡ false }
-    ensures device { IsErr result ↔ IsTrue (has_failed w.new) }
-    ensures bytes { WritesText (W.contents (inner_of w.old)) (W.contents (inner_of w.new))
-        result (page_text non_blink title.now picture.now) }
-{
-    let mut out = Outbox::new(w);
-    put_page(&mut out, picture, title, non_blink);
-    out.finish()
 }

@@ -1,8 +1,7 @@
 //! The picture for a terminal.
-ghost use Rattle.std.specs.Prelude.{◌≡◌, ◌↔◌, ◌<◌, [], ◌∷◌, ◌++◌, false, codes, if◌then◌else◌, IsTrue, IsErr};
+ghost use Rattle.std.specs.Prelude.{◌≡◌, ◌<◌, [], ◌∷◌, ◌++◌, codes, if◌then◌else◌};
 ghost use Rattle.ans_model.specs.Bytes.{escape};
-ghost use Rattle.ans_write.specs.Tried.{has_failed, inner_of};
-ghost use Rattle.ans_write.specs.Writes.{WritesText};
+ghost use Rattle.ans_write.specs.Puts.{Puts};
 ghost use Rattle.ans_show.specs.Looks.{look_of};
 ghost use Rattle.ans_show.specs.ShortTexts.{text_of};
 ghost use Rattle.ans_show.specs.TerminalText.{parameter, foreground_text, background_text, colours_text, terminal_text};
@@ -13,7 +12,7 @@ use crate::look::{background, blinks, foreground};
 use crate::rows::put_rows;
 use ans_play::Picture;
 use ans_screen::Screen;
-use ans_write::{Outbox, Tried, WriteFault};
+use ans_write::Outbox;
 use std::io::Write;
 
 /// The foregrounds of a terminal, by the number of the colour.
@@ -102,28 +101,20 @@ pub(crate) fn colours(attribute: u8, non_blink: bool, vga: bool) -> Break
     )
 }
 
-/// Writes the picture for a terminal, line by line: before each longest run of cells with one
+/// Puts the picture for a terminal, line by line: before each longest run of cells with one
 /// attribute the sequence of its colours, and at the end of the line ESC, `[0m` and a line feed. The
 /// characters are those of a report, and trailing blanks are kept. An attribute's bit 7 is blink, or,
 /// where the record's non-blink flag is set, a bright background. With `vga` the colours are the
 /// sixteen of a VGA, and else the terminal's own.
-///
-/// `Err` comes exactly where the device failed in the call, and then a prefix of the text was
-/// written.
 #[inline(never)]
-pub fn write_terminal<W: Write, G: Screen>(
-    w: &mut Tried<W>,
+pub fn put_terminal<W: Write, G: Screen>(
+    out: &mut Outbox<'_, W>,
     picture: &Picture<G>,
     non_blink: bool,
     vga: bool,
-) -> Result<(), WriteFault>
-    requires { has_failed w.old ≡ false }
-    ensures device { IsErr result ↔ IsTrue (has_failed w.new) }
-    ensures bytes { WritesText (W.contents (inner_of w.old)) (W.contents (inner_of w.new))
-        result (terminal_text vga non_blink picture.now) }
+)
+    ensures { Puts W.contents out.old out.new (terminal_text vga non_blink picture.now) }
 {
-    let mut out = Outbox::new(w);
     let tables = FormTables::new(Form::Terminal { vga, non_blink });
-    put_rows(&mut out, picture, &tables);
-    out.finish()
+    put_rows(out, picture, &tables);
 }

@@ -1,15 +1,13 @@
 //! How many files came out how.
 
-ghost use Rattle.std.specs.Prelude.{◌≡◌, ◌+◌, ◌<◌, ◌≤◌, ◌↔◌, ◌++◌, [], ◌∷◌, false, length, IsTrue, IsErr, List};
-ghost use Rattle.ans_write.specs.Tried.{has_failed, inner_of};
-ghost use Rattle.ans_write.specs.Writes.{WritesText};
+ghost use Rattle.std.specs.Prelude.{◌≡◌, ◌+◌, ◌<◌, ◌≤◌, ◌++◌, [], ◌∷◌, List};
 ghost use Rattle.ans_write.specs.Puts.{Puts};
 ghost use Rattle.ans_report.specs.Message.{message_line};
 ghost use Rattle.ans_table.specs.Counting.{counts_of, counts_status, counts_text, files_word, is_pass, is_refused};
 ghost use Rattle.ans_table.specs.Counting.{is_unread, one_if};
 ghost use Rattle.ans_table.specs.declared.counts.Outcome.{Outcome};
 
-use ans_write::{Outbox, Tried, WriteFault};
+use ans_write::Outbox;
 use std::io::Write;
 
 /// How a file came out.
@@ -83,7 +81,8 @@ fn files_word(files: usize) -> &'static [u8]
     if files == 1 { b" file: " } else { b" files: " }
 }
 
-fn put_counts<W: Write>(out: &mut Outbox<'_, W>, counts: &Counts)
+/// Puts the line that says on standard error how many files came out how.
+pub fn put_counts<W: Write>(out: &mut Outbox<'_, W>, counts: &Counts)
     ensures { Puts W.contents out.old out.new (message_line (counts_text counts.now)) }
 {
     out.put(b"anscheck: ");
@@ -95,19 +94,4 @@ fn put_counts<W: Write>(out: &mut Outbox<'_, W>, counts: &Counts)
     out.put(b" refused, ");
     out.put_decimal(counts.unread as u64);
     out.put(b" not read\n");
-}
-
-/// Writes the line that says on standard error how many files came out how.
-///
-/// `Err` comes exactly where the device failed in the call, and then a prefix of the line was
-/// written.
-pub fn write_counts<W: Write>(writer: &mut Tried<W>, counts: &Counts) -> Result<(), WriteFault>
-    requires works { has_failed writer.old ≡ false }
-    ensures device { IsErr result ↔ IsTrue (has_failed writer.new) }
-    ensures bytes { WritesText (W.contents (inner_of writer.old)) (W.contents (inner_of writer.new))
-        result (message_line (counts_text counts.now)) }
-{
-    let mut out = Outbox::new(writer);
-    put_counts(&mut out, counts);
-    out.finish()
 }
