@@ -153,6 +153,16 @@ pub some_by_none : {T : Type 0} (o : Option T) → is_some o ≡ not (not (is_so
 some_by_none None = refl
 some_by_none (Some v) = refl
 
+-- whether there is no fault, by the one that was told
+pub none_told : {T : Type 0} (told fault : Option T) (none : Bool) → is_some told ≡ not none → told ≡ fault
+    → none ≡ not (is_some fault)
+none_told told fault none e same =
+    go none (is_some fault) (ap (λ o. is_some o) (sym same) ∙ e)
+  where
+    go : (none some : Bool) → some ≡ not none → none ≡ not some
+    go true some is = rw is refl
+    go false some is = rw is refl
+
 -- the answer to it is right where it tells whether there is no fault
 pub tokens_reported : (file : List ℕ) (parts : Parts) (bytes : List ℕ) (fault : Option Fault) (passed : Bool)
     (text : List ℕ) → IsSplit file parts

@@ -1,91 +1,86 @@
--- What a command has done, by what its writing came to.
-use Rattle.std.proofs.Common.{◌≡◌, ◌⊎◌, ◌↔◌, ◌+◌, ◌<◌, ℕ, Bool, true, false, List, length, Option, Some, None, Result}
-use Rattle.std.proofs.Common.{Ok, Err, inl, inr, refl, sym, subst, ◌∙◌, true≢false}
-use Rattle.std.specs.Prelude.{IfErr, IfSome, IsErr, IsErrOf, IsTrue, MatchResult}
+-- What a command has put, and what a run has done by it.
+use Rattle.std.proofs.Common.{◌≡◌, ◌↔◌, ◌+◌, ◌<◌, ◌≤◌, ℕ, Bool, true, false, List, length, Option, Some, None, Result}
+use Rattle.std.proofs.Common.{Ok, Err, refl, sym, ap, subst, ◌∙◌, true≢false}
+use Rattle.std.specs.Prelude.{IfErr, IfSome, IsErr, IsErrOf, IsTrue, OnOk, Vec}
+use Rattle.std.specs.Global.{Global}
 use Rattle.ans_model.specs.Bytes.{longest_file}
-use Rattle.ans_write.specs.Tried.{has_failed, inner_of}
-use Rattle.ans_write.specs.Writes.{Wrote, WrotePrefix, WritesText}
+use Rattle.ans_options.specs.declared.command.Options.{Options}
+use Rattle.ans_table.specs.declared.finding.Unread.{Unread}
+use Rattle.ans_table.specs.declared.finding.Unread.TheVariants as why
+use Rattle.ans_write.specs.Puts.{HandsOn, Puts, device_failed, device_of, waiting_of}
+use Rattle.ans_write.specs.Tried.{call_count, has_failed, inner_of}
+use Rattle.ans_write.specs.Writes.{Wrote, WrotePrefix}
+use Rattle.ans_write.specs.declared.outbox.Outbox.{Outbox}
 use Rattle.ans_write.specs.declared.tried.Tried.{Tried}
-use Rattle.ans_check.specs.Reported.{IsReported}
+use Rattle.ans_write.proofs.PutsLemmas.{WritesText-finished}
+use Rattle.ans_check.specs.CommandText.{Reports}
+use Rattle.ans_check.specs.Reported.{IsPut}
+use Rattle.ans_check.specs.Run.{HasRead, IsOfReading, run_error_of}
+use Rattle.ans_check.specs.Served.{Serves}
 use Rattle.ans_check.specs.declared.errors.RunError.{RunError}
 use Rattle.ans_check.specs.declared.errors.RunError.TheVariants as error
 
--- a device has not failed where that would mean an error, and there is none
-pub works_at_ok : (failed : Bool) → (false ≡ true) ↔ IsTrue failed → failed ≡ false
-works_at_ok false device = refl
-works_at_ok true device = absurd (true≢false (sym (device.1 refl)))
+-- the text that was put is what the answer says
+pub is_put : {W : Type 0} {contents : W → Option (List ℕ)} {reports : Bool → List ℕ → Type 0} {old new : Outbox W}
+    (passed : Bool) (text : List ℕ) → reports passed text → Puts contents old new text
+    → IsPut contents reports old new passed
+is_put passed text told puts =
+    record { passed = passed; text = text; reported = told; puts = puts; answers = λ works. refl }
 
-module _ {W : Type 0} (contents : W → Option (List ℕ)) (reports : Bool → List ℕ → Type 0) (old new : Tried W) where
-  -- the whole text was written
-  pub reported_whole : (passed : Bool) (text : List ℕ) → reports passed text → Wrote contents old new text
-      → has_failed new ≡ false → IsReported contents reports old new (Ok passed)
-  reported_whole passed text told wrote works = record {
-    ok = (text, told, wrote);
-    prefix = λ e. absurd (cc);
-    unwritten = tt;
-    write = (λ e. absurd (cc), λ failed. absurd (true≢false (sym failed ∙ works)));
-    errors = tt;
-  }
+-- a device has not failed where the next state of it has not
+pub works_before : (before after : Bool) → (before ≡ true → after ≡ true) → after ≡ false → before ≡ false
+works_before false after h works = refl
+works_before true after h works = absurd (true≢false (sym (h refl) ∙ works))
 
-  -- a prefix of it was written
-  pub reported_in_part : (passed : Bool) (text : List ℕ) → reports passed text → WrotePrefix contents old new text
-      → has_failed new ≡ true → IsReported contents reports old new (Err error.Write)
-  reported_in_part passed text told wrote failed = record {
-    ok = tt;
-    prefix = λ e. (passed, text, told, wrote);
-    unwritten = λ other. absurd (other refl);
-    write = (λ e. failed, λ e. refl);
-    errors = inr refl;
-  }
-
-  -- what was written comes to this
-  pub reported : {E : Type 0} (written : Result Unit E) (result : Result Bool RunError) (passed : Bool) (text : List ℕ)
-      → reports passed text → IsErr written ↔ IsTrue (has_failed new)
-      → WritesText (contents (inner_of old)) (contents (inner_of new)) written text
-      → MatchResult written (λ _. result ≡ Ok passed) (λ _. result ≡ Err error.Write)
-      → IsReported contents reports old new result
-  reported (Ok v) result passed text told device wrote is =
-      subst (IsReported contents reports old new) (sym is)
-      (reported_whole passed text told wrote (works_at_ok (has_failed new) device))
-  reported (Err e) result passed text told device wrote is =
-      subst (IsReported contents reports old new) (sym is) (reported_in_part passed text told wrote (device.0 refl))
-
--- its only error is the writer's
-pub only_write : {E : Type 0} (written : Result Unit E) (result : Result Bool RunError) (passed : Bool)
-    → MatchResult written (λ _. result ≡ Ok passed) (λ _. result ≡ Err error.Write)
-    → IfErr result (λ e. e ≡ error.Write)
-only_write (Ok v) result passed is = rw is tt
-only_write (Err e) result passed is = rw is refl
-
--- without memory nothing is written
-pub unreported : {W : Type 0} (contents : W → Option (List ℕ)) (reports : Bool → List ℕ → Type 0) (writer : Tried W)
-    → has_failed writer ≡ false → IsReported contents reports writer writer (Err error.Memory)
-unreported contents reports writer works = record {
-  ok = tt;
-  prefix = λ e. absurd (cc);
-  unwritten = λ other. refl;
-  write = (λ e. absurd (cc), λ failed. absurd (true≢false (sym failed ∙ works)));
-  errors = inl refl;
-}
-
--- an error of the memory or the writer is none of the length
-not_too_long : (r : Result Bool RunError) → IfErr r (λ e. (e ≡ error.Memory) ⊎ (e ≡ error.Write))
-    → IsErrOf r error.TooLong → ⊥
-not_too_long (Ok v) h bad = cc
-not_too_long (Err e) (inl memory) bad = cc
-not_too_long (Err e) (inr write) bad = cc
-
-abbrev read_of : {V : Type 0} → V → Result V RunError
+abbrev read_of : {V : Type 0} → V → Result V Unread
 read_of v = Ok v
 
--- where all was read, no later error tells of too many bytes
-pub read_whole : {V : Type 0} (a b : Option (List ℕ)) (v : V) (r : Result Bool RunError)
-    → IfErr r (λ e. (e ≡ error.Memory) ⊎ (e ≡ error.Write))
-    → IfSome a (λ xs. IfSome b (λ ys. IsErrOf (read_of v) error.TooLong ↔ (longest_file + length ys < length xs)))
-    → IfSome a (λ xs. IfSome b (λ ys. IsErrOf r error.TooLong ↔ (longest_file + length ys < length xs)))
-read_whole None b v r h k = tt
-read_whole (Some xs) None v r h k = tt
-read_whole (Some xs) (Some ys) v r h k = (λ bad. absurd (not_too_long r h bad), λ long. absurd (never (k.1 long)))
-  where
-    never : IsErrOf (read_of v) error.TooLong → ⊥
-    never e = cc
+module _ {R W V : Type 0} (remaining : R → Option (List ℕ)) (contents : W → Option (List ℕ)) (options : Options)
+    (reader reader_after : Tried R) (writer writer_after : Tried W) (file : List ℕ) (v : V)
+    (whole : HasRead (remaining (inner_of reader)) (remaining (inner_of reader_after)) file)
+    (reads : IsErrOf (read_of v) why.ReadFailed ↔ IsTrue (has_failed reader_after))
+    (long : IfSome (remaining (inner_of reader)) (λ xs. IfSome (remaining (inner_of reader_after)) (λ ys.
+    IsErrOf (read_of v) why.TooLong ↔ (longest_file + length ys < length xs))))
+    (calls : call_count reader_after ≤ call_count reader + (longest_file + 2))
+    (passed : Bool) (text : List ℕ) (reported : Reports options file passed text) where
+  never_long : (r : Result Bool RunError) → (IsErrOf r error.TooLong → ⊥) → (a b : Option (List ℕ))
+      → IfSome a (λ xs. IfSome b (λ ys. IsErrOf (read_of v) why.TooLong ↔ (longest_file + length ys < length xs)))
+      → IfSome a (λ xs. IfSome b (λ ys. IsErrOf r error.TooLong ↔ (longest_file + length ys < length xs)))
+  never_long r other None b h = tt
+  never_long r other (Some xs) None h = tt
+  never_long r other (Some xs) (Some ys) h = (λ bad. absurd (other bad), λ more. absurd (never (h.1 more)))
+    where
+      never : IsErrOf (read_of v) why.TooLong → ⊥
+      never e = cc
+
+  never_failed : IsTrue (has_failed reader_after) → ⊥
+  never_failed failed = go (reads.1 failed)
+    where
+      go : IsErrOf (read_of v) why.ReadFailed → ⊥
+      go e = cc
+
+  -- the whole text was written
+  pub served_whole : Wrote contents writer writer_after text → has_failed writer_after ≡ false
+      → Serves remaining contents options reader reader_after writer writer_after (Ok passed)
+  served_whole wrote works = record {
+    ok = (file, text, whole, reported, wrote);
+    prefix = λ e. absurd (cc);
+    unwritten = tt;
+    read = (λ e. absurd (cc), λ failed. absurd (never_failed failed));
+    write = (λ e. absurd (cc), λ failed. absurd (true≢false (sym failed ∙ works)));
+    too_long = never_long (Ok passed) (λ e. cc) _ _ long;
+    calls = calls;
+  }
+
+  -- a prefix of it was
+  pub served_in_part : WrotePrefix contents writer writer_after text → has_failed writer_after ≡ true
+      → Serves remaining contents options reader reader_after writer writer_after (Err error.Write)
+  served_in_part wrote failed = record {
+    ok = tt;
+    prefix = λ e. (file, passed, text, whole, reported, wrote);
+    unwritten = λ other. absurd (other refl);
+    read = (λ e. absurd (cc), λ gone. absurd (never_failed gone));
+    write = (λ e. failed, λ e. refl);
+    too_long = never_long (Err error.Write) (λ e. cc) _ _ long;
+    calls = calls;
+  }

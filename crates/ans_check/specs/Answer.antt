@@ -1,11 +1,12 @@
 -- How the program answers its words.
 use Rattle.std.specs.Prelude.{◌≡◌, ◌⊎◌, ℕ, Bool, true, false, List, [], ◌∷◌, Option, Some, None, Result, Ok, Err, codes}
-use Rattle.std.specs.Prelude.{MatchBool, MatchOption}
+use Rattle.std.specs.Prelude.{◌↔◌, IsSomeAnd, IsTrue, MatchBool, MatchOption, map, option_map, string_bytes}
 use Rattle.std.specs.List.{list_any}
 use Rattle.std.specs.Str.{bytes_eq}
 use Rattle.clap.specs.Words.{Text}
-use Rattle.ans_options.specs.CommandLine.{AreNamesOf, AreOptionsOf, HasKindAmong, RanOutOfMemory, faults_of, is_table}
-use Rattle.ans_options.specs.declared.command.Command.TheVariants as command
+use Rattle.ans_options.specs.CommandLine.{HasKindAmong, IsAskedBy, RanOutOfMemory, faults_of}
+use Rattle.ans_options.specs.declared.command.Asked.{Asked}
+use Rattle.ans_options.specs.declared.command.Asked.TheVariants as asked
 use Rattle.ans_options.specs.declared.command.TableForm.{TableForm}
 use Rattle.ans_options.specs.declared.command.Options.{Options}
 use Rattle.ans_options.specs.declared.command_line.WordsError.{WordsError}
@@ -37,15 +38,10 @@ IsNamed is_file is_standard (Some name) reader =
     MatchBool (names_standard name) (is_standard reader) (is_file name reader)
 IsNamed is_file is_standard None reader = is_standard reader
 
--- The words give options, and the program ends as a run with them on the input that they name. A table is no such run.
+-- The program ends as a run with these options on the input of this name.
 pub record EndsAsServed {R W : Type 0} (remaining : R → Option (List ℕ)) (contents : W → Option (List ℕ))
-    (is_file : Text → R → Type 0) (is_standard : R → Type 0) (words : List Text) (output output_after : Tried W)
-    (ending : Ending) : Type 0 where
-  pub options : Options
-  pub file : Option Text
-  pub asked : AreOptionsOf words options file
-  pub one : is_table options.command ≡ false
-  pub faultless : faults_of words ≡ []
+    (is_file : Text → R → Type 0) (is_standard : R → Type 0) (options : Options) (file : Option Text)
+    (output output_after : Tried W) (ending : Ending) : Type 0 where
   pub reader : Tried R
   pub reader_after : Tried R
   pub input : IsNamed is_file is_standard file (inner_of reader)
@@ -54,17 +50,19 @@ pub record EndsAsServed {R W : Type 0} (remaining : R → Option (List ℕ)) (co
   pub serves : Serves remaining contents options reader reader_after output output_after answer
   pub ends : ending ≡ Run answer
 
--- The words give options, and the file that they name cannot be opened.
-pub record EndsUnopened {W : Type 0} (is_missing : Text → Type 0) (words : List Text) (output output_after : Tried W)
+-- The input is a file that cannot be opened.
+pub record EndsUnopened {W : Type 0} (is_missing : Text → Type 0) (file : Option Text) (output output_after : Tried W)
     (ending : Ending) : Type 0 where
-  pub options : Options
-  pub file : Text
-  pub asked : AreOptionsOf words options (Some file)
-  pub faultless : faults_of words ≡ []
-  pub named : names_standard file ≡ false
-  pub missing : is_missing file
+  pub named : IsSomeAnd file (λ name. (names_standard name ≡ false) × is_missing name)
   pub unwritten : output_after ≡ output
   pub ends : ending ≡ UnopenedFile
+
+-- a command on the input of this name was run, or the input cannot be opened
+abbrev pub EndsRun : {R W : Type 0} → (R → Option (List ℕ)) → (W → Option (List ℕ)) → (Text → R → Type 0)
+    → (R → Type 0) → (Text → Type 0) → Options → Option Text → Tried W → Tried W → Ending → Type 0
+EndsRun remaining contents is_file is_standard is_missing options file output output_after ending =
+    EndsAsServed remaining contents is_file is_standard options file output output_after ending
+    ⊎ EndsUnopened is_missing file output output_after ending
 
 -- how a table ends, by whether all names were read and what its writing came to
 abbrev pub ending_of_table : Bool → Result Counts RunError → Ending
@@ -109,25 +107,24 @@ EndsBy remaining contents is_standard found form [] output output_after ending =
 EndsBy remaining contents is_standard found form (name ∷ more) output output_after ending =
     EndsNamed contents found form (name ∷ more) output output_after ending
 
--- the table of the names that the words give, or there was no memory for those
-abbrev pub EndsTable : {R W : Type 0} → (R → Option (List ℕ)) → (W → Option (List ℕ)) → (R → Type 0)
-    → (Text → Finding → Type 0) → List Text → TableForm → Tried W → Tried W → Ending → Type 0
-EndsTable remaining contents is_standard found words form output output_after ending =
-    ((names : List Text) × AreNamesOf words names
-    × EndsBy remaining contents is_standard found form names output output_after ending)
-    ⊎ ((ending ≡ UnreadableWords) × (output_after ≡ output))
+-- what is asked for was done: one command on one input, or a table of many files
+abbrev pub EndsAs : {R W : Type 0} → (R → Option (List ℕ)) → (W → Option (List ℕ)) → (Text → R → Type 0)
+    → (R → Type 0) → (Text → Type 0) → Asked → Tried W → Tried W → Ending → Type 0
+EndsAs remaining contents is_file is_standard is_missing (asked.One options file) output output_after ending =
+    EndsRun remaining contents is_file is_standard is_missing options (option_map string_bytes file) output output_after
+    ending
+EndsAs remaining contents is_file is_standard is_missing (asked.Table form names) output output_after ending =
+    EndsBy remaining contents is_standard (IsFoundByName remaining is_file is_missing) form
+    (map string_bytes names.items) output output_after ending
 
--- The words ask for a table, and the program ends with it.
-pub record EndsTabled {R W : Type 0} (remaining : R → Option (List ℕ)) (contents : W → Option (List ℕ))
-    (is_standard : R → Type 0) (found : Text → Finding → Type 0) (words : List Text) (output output_after : Tried W)
-    (ending : Ending) : Type 0 where
-  pub options : Options
-  pub file : Option Text
-  pub asked : AreOptionsOf words options file
+-- The words ask for something, and the program ends with it.
+pub record EndsAsAsked {R W : Type 0} (remaining : R → Option (List ℕ)) (contents : W → Option (List ℕ))
+    (is_file : Text → R → Type 0) (is_standard : R → Type 0) (is_missing : Text → Type 0) (words : List Text)
+    (output output_after : Tried W) (ending : Ending) : Type 0 where
+  pub asked : Asked
+  pub asked_by : IsAskedBy words asked
   pub faultless : faults_of words ≡ []
-  pub form : TableForm
-  pub command : options.command ≡ command.Table form
-  pub ends : EndsTable remaining contents is_standard found words form output output_after ending
+  pub ends : EndsAs remaining contents is_file is_standard is_missing asked output output_after ending
 
 -- The error is one that these words can have. Where they have no fault, it is want of memory.
 pub record IsRefusalOf (words : List Text) (refusal : WordsError) : Type 0 where
@@ -153,23 +150,24 @@ EndsAfter contents Usage output output_after ending =
     ((ending ≡ Usage) ⊎ (ending ≡ UnreadableWords)) × (output_after ≡ output)
 EndsAfter contents told output output_after ending = (ending ≡ told) × (output_after ≡ output)
 
--- The words give no options, and the program ends as their error says.
+-- The words ask for nothing, and the program ends as their error says.
 pub record EndsRefused {W : Type 0} (contents : W → Option (List ℕ)) (words : List Text) (output output_after : Tried W)
     (ending : Ending) : Type 0 where
   pub refusal : WordsError
   pub refused : IsRefusalOf words refusal
   pub ends : EndsAfter contents (ending_of_words refusal) output output_after ending
 
--- The four ways in which the words are answered.
+-- The two ways in which the words are answered.
 abbrev pub EndsSo : {R W : Type 0} → (R → Option (List ℕ)) → (W → Option (List ℕ))
     → (Text → R → Type 0) → (R → Type 0) → (Text → Type 0)
     → List Text → Tried W → Tried W → Ending → Type 0
 EndsSo remaining contents is_file is_standard is_missing words output output_after ending =
-    EndsAsServed remaining contents is_file is_standard words output output_after ending
-    ⊎ EndsTabled remaining contents is_standard (IsFoundByName remaining is_file is_missing)
-    words output output_after ending
-    ⊎ EndsUnopened is_missing words output output_after ending
+    EndsAsAsked remaining contents is_file is_standard is_missing words output output_after ending
     ⊎ EndsRefused contents words output output_after ending
+
+-- the ending tells of a failed write exactly where the output failed
+abbrev pub TellsFailure : {W : Type 0} → Tried W → Ending → Type 0
+TellsFailure output ending = (ending ≡ Run (Err error.Write)) ↔ IsTrue (has_failed output)
 
 -- between two moments the errors took the text, or a prefix of it where they failed
 abbrev pub Tells : {E : Type 0} → (E → Option (List ℕ)) → Tried E → Tried E → List ℕ → Type 0

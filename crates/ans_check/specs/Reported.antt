@@ -1,23 +1,21 @@
--- What a command has done when it returns.
-use Rattle.std.specs.Prelude.{◌≡◌, ◌≢◌, ◌↔◌, ◌⊎◌, ℕ, Bool, List, Option, Result, IfOk, IfErr, IsErrOf, IsTrue}
-use Rattle.ans_write.specs.Tried.{has_failed}
-use Rattle.ans_write.specs.Writes.{Wrote, WrotePrefix}
-use Rattle.ans_write.specs.declared.tried.Tried.{Tried}
-use Rattle.ans_check.specs.declared.errors.RunError.{RunError}
-use Rattle.ans_check.specs.declared.errors.RunError.TheVariants as error
+-- What a command has put when it returns.
+use Rattle.std.specs.declared.alloc.AllocError.{AllocError}
+use Rattle.std.specs.Prelude.{◌≡◌, ℕ, Bool, false, List, Option, Result, Ok, Err}
+use Rattle.ans_write.specs.Puts.{Puts, device_failed}
+use Rattle.ans_write.specs.declared.outbox.Outbox.{Outbox}
 
--- A command was given a writer that works. `reports` says, of whether the file passes and of a text, that they are what
--- the command is to write.
-pub record IsReported {W : Type 0} (contents : W → Option (List ℕ)) (reports : Bool → List ℕ → Type 0)
-    (writer writer_after : Tried W) (result : Result Bool RunError) : Type 0 where
-  -- at `Ok` such a text was written
-  pub ok : IfOk result (λ passed. (text : List ℕ) × reports passed text × Wrote contents writer writer_after text)
-  -- after `Write` a prefix of one was written
-  pub prefix : IsErrOf result error.Write
-      → ((passed : Bool) × (text : List ℕ) × reports passed text × WrotePrefix contents writer writer_after text)
-  -- after any other error nothing was
-  pub unwritten : IfErr result (λ e. e ≢ error.Write → writer_after ≡ writer)
-  -- `Write` comes exactly where the writer failed
-  pub write : IsErrOf result error.Write ↔ IsTrue (has_failed writer_after)
-  -- any other error is want of memory
-  pub errors : IfErr result (λ e. (e ≡ error.Memory) ⊎ (e ≡ error.Write))
+-- `reports` says, of whether the file passes and of a text, that they are what the command is to write. Such a text was
+-- put, and while the device works the answer is that of the text.
+pub record IsPut {W : Type 0} (contents : W → Option (List ℕ)) (reports : Bool → List ℕ → Type 0) (old new : Outbox W)
+    (answer : Bool) : Type 0 where
+  pub passed : Bool
+  pub text : List ℕ
+  pub reported : reports passed text
+  pub puts : Puts contents old new text
+  pub answers : device_failed new ≡ false → answer ≡ passed
+
+-- such a text was put; or memory ran out, and nothing was
+abbrev pub PutsReport : {W : Type 0} → (W → Option (List ℕ)) → (Bool → List ℕ → Type 0) → Outbox W → Outbox W
+    → Result Bool AllocError → Type 0
+PutsReport contents reports old new (Ok answer) = IsPut contents reports old new answer
+PutsReport contents reports old new (Err e) = new ≡ old

@@ -1,8 +1,9 @@
 -- What a run returns, and what it has read.
-use Rattle.std.specs.Prelude.{◌≤◌, ℕ, Bool, true, false, List, Option, Result, Ok, Err, codes, length}
+use Rattle.std.specs.Prelude.{◌≤◌, ℕ, Bool, true, false, List, Option, Result, Ok, Err, codes, length, ⊤}
 use Rattle.std.specs.Io.KnownBytes.{Consumes, IsAtEnd}
 use Rattle.ans_model.specs.Bytes.{longest_file}
 use Rattle.ans_table.specs.Findings.{unread_text}
+use Rattle.ans_table.specs.declared.finding.Unread.{Unread}
 use Rattle.ans_table.specs.declared.finding.Unread.TheVariants as why
 use Rattle.ans_check.specs.declared.errors.RunError.{RunError}
 use Rattle.ans_check.specs.declared.errors.RunError.TheVariants as error
@@ -13,6 +14,20 @@ run_error_text error.Read = unread_text why.ReadFailed
 run_error_text error.TooLong = unread_text why.TooLong
 run_error_text error.Memory = unread_text why.Memory
 run_error_text error.Write = codes "cannot write the report"
+
+-- why there is no answer where the input was not read
+abbrev pub run_error_of : Unread → RunError
+run_error_of why.Unopened = error.Read
+run_error_of why.ReadFailed = error.Read
+run_error_of why.TooLong = error.TooLong
+run_error_of why.Memory = error.Memory
+run_error_of why.NameNotText = error.Read
+
+-- a file that is open was not read to its end
+abbrev pub IsOfReading : Unread → Type 0
+IsOfReading why.Unopened = ⊥
+IsOfReading why.NameNotText = ⊥
+IsOfReading _ = ⊤
 
 -- the exit status of what a run returned
 abbrev pub status_of : Result Bool RunError → ℕ

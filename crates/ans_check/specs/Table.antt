@@ -34,13 +34,6 @@ MayBeFoundIn file finding = IsFindingOf file finding
 abbrev pub MayEndTable : TableForm → RunError → Type 0
 MayEndTable form e = (e ≡ error.Write) ⊎ ((e ≡ error.Memory) × (form ≡ Json))
 
--- why a file was not read, by what its reading came to
-abbrev pub unread_of : RunError → unread.Unread
-unread_of error.Read = why.ReadFailed
-unread_of error.TooLong = why.TooLong
-unread_of error.Memory = why.Memory
-unread_of error.Write = why.ReadFailed
-
 -- What a reader gave of a file: a failure; more bytes than a file may have; or all bytes of it, of which this is true.
 abbrev pub Gave : {R : Type 0} → (R → Option (List ℕ)) → Tried R → Tried R → Finding → Type 0
 Gave remaining reader after (Unread why.ReadFailed) = IsTrue (has_failed after)
@@ -76,14 +69,6 @@ row_in Json name finding = line_of (json_text name finding)
 -- the rows in a form, in their order
 abbrev pub rows_in : TableForm → List Row → List ℕ
 rows_in form rows = flat_map (λ row. row_in form row.name row.finding) rows
-
--- the row of one file was written, or a prefix of it
-pub record WritesRow {W : Type 0} (contents : W → Option (List ℕ)) (found : Text → Finding → Type 0) (form : TableForm)
-    (name : Text) (output output_after : Tried W) (result : Result Outcome RunError) : Type 0 where
-  pub finding : Finding
-  pub is_found : found name finding
-  pub row : WritesText (contents (inner_of output)) (contents (inner_of output_after)) result (row_in form name finding)
-  pub outcome : IfOk result (λ o. o ≡ outcome_of finding)
 
 -- the line of the columns' names, where the form asks for it
 abbrev pub header : TableForm → List ℕ

@@ -1,13 +1,13 @@
 //! From the program's words to its ending.
 
-ghost use Rattle.std.specs.Prelude.{◌≡◌, ◌≢◌, ◌↔◌, [], Err, None, false, IsTrue, IfSome, IsSomeAnd};
+ghost use Rattle.std.specs.Prelude.{◌≡◌, ◌≢◌, [], None, false, IfSome, IsSomeAnd};
 ghost use Rattle.std.specs.Prelude.{option_map, string_bytes, true, map, IfOk};
 ghost use Rattle.std.specs.List.{list_any};
-ghost use Rattle.ans_options.specs.CommandLine.{AreOptionsOf, faults_of};
 ghost use Rattle.ans_model.specs.Text.Words.{texts_of};
 ghost use Rattle.ans_write.specs.Tried.{has_failed};
-ghost use Rattle.ans_check.specs.Answer.{EndsAfter, EndsSo, IsNamed, PrintsHelp, Says, Tells, names_standard};
-ghost use Rattle.ans_check.specs.Answer.{EndsBy, EndsNamed, EndsTable, EndsWritten, ending_of_table};
+ghost use Rattle.ans_check.specs.Answer.{EndsAfter, EndsAs, EndsBy, EndsNamed, EndsRun, EndsSo, EndsWritten};
+ghost use Rattle.ans_check.specs.Answer.{IsNamed, PrintsHelp, Says, Tells, TellsFailure, ending_of_table};
+ghost use Rattle.ans_check.specs.Answer.{names_standard};
 ghost use Rattle.ans_check.specs.Ending.{ending_of_words};
 ghost use Rattle.ans_check.specs.Listing.{is_whole, names_in, listed_bytes};
 ghost use Rattle.ans_check.specs.Table.{IsFoundByName};
@@ -18,9 +18,10 @@ use crate::inputs::Inputs;
 use crate::listing::Listing;
 use crate::rows::table;
 use crate::streams::serve;
-use ans_options::{Command, Options, TableForm, WordsError, options, table_names};
-use ans_report::{Tried, write_message};
-use ans_table::{Counts, write_counts};
+use ans_options::{Asked, Options, TableForm, WordsError, asked};
+use ans_report::{Tried, put_message};
+use ans_table::{Counts, put_counts};
+use ans_write::Outbox;
 use std::alloc::{AllocError, Global};
 use std::io::Write;
 
@@ -31,13 +32,14 @@ pub(crate) fn say<E: Write>(errors: &mut Tried<E>, ending: Ending)
     requires told { ending ≢ Ending.Usage }
     ensures { Says E.contents errors.old errors.new ending }
 {
+    let mut out = Outbox::new(errors);
     if let Ending::Table(counts) = ending {
-        let _ = write_counts(errors, &counts);
-        return;
+        put_counts(&mut out, &counts);
     }
     if let Some(text) = ending.message() {
-        let _ = write_message(errors, text);
+        put_message(&mut out, text);
     }
+    let _ = out.finish();
 }
 
 /// The input that the words name: standard input where they name none, or `-`. None where the file
@@ -58,7 +60,7 @@ fn input_named<I: Inputs>(inputs: I, name: &Option<String>) -> Option<I::Reader>
 fn print_help<W: Write>(output: &mut Tried<W>, text: &str) -> Ending
     requires { has_failed output.old ≡ false }
     ensures ends { PrintsHelp W.contents output.old output.new text.now result }
-    ensures write { result ≡ Ending.Run (Err RunError.Write) ↔ IsTrue (has_failed output.new) }
+    ensures write { TellsFailure output.new result }
 {
     if output.write_all(text.as_bytes()).is_err() || output.flush().is_err() {
         return Ending::Run(Err(RunError::Write));
@@ -87,7 +89,7 @@ fn refuse_words<W: Write, E: Write>(
     ensures ends { EndsAfter W.contents (ending_of_words refusal.now) output.old output.new result }
     ensures told { result ≡ Ending.Usage → Says E.contents errors.old errors.new result }
     ensures untold { result ≢ Ending.Usage → errors.new ≡ errors.old }
-    ensures write { result ≡ Ending.Run (Err RunError.Write) ↔ IsTrue (has_failed output.new) }
+    ensures write { TellsFailure output.new result }
 {
     let ending = Ending::of_words(refusal);
     let (WordsError::Clap(error), Ending::Help | Ending::Usage) = (refusal, ending) else {
@@ -146,7 +148,7 @@ fn serve_names<I: Inputs, W: Write>(
     requires { has_failed output.old ≡ false }
     ensures ends { EndsNamed W.contents (IsFoundByName I.Reader.remaining (I.is_file inputs) (I.is_missing inputs)) form
         (map string_bytes names.now) output.old output.new result }
-    ensures write { result ≡ Ending.Run (Err RunError.Write) ↔ IsTrue (has_failed output.new) }
+    ensures write { TellsFailure output.new result }
 {
     if names_input(names) {
         return Ending::NamedInput;
@@ -169,7 +171,7 @@ fn serve_listing<I: Inputs, W: Write>(
     ensures ends { EndsWritten W.contents
         (IsFoundByName I.Reader.remaining (I.is_file inputs) (I.is_missing inputs)) form (is_whole listing.now)
         (names_in (is_whole listing.now) (listed_bytes listing.now)) output.old output.new result }
-    ensures write { result ≡ Ending.Run (Err RunError.Write) ↔ IsTrue (has_failed output.new) }
+    ensures write { TellsFailure output.new result }
 {
     let Ok(names) = listing.names(alloc) else {
         return Ending::Run(Err(RunError::Memory));
@@ -192,7 +194,7 @@ fn serve_input<I: Inputs, W: Write>(
     ensures ends { EndsBy I.Reader.remaining W.contents (I.is_standard inputs)
         (IsFoundByName I.Reader.remaining (I.is_file inputs) (I.is_missing inputs)) form []
         output.old output.new result }
-    ensures write { result ≡ Ending.Run (Err RunError.Write) ↔ IsTrue (has_failed output.new) }
+    ensures write { TellsFailure output.new result }
 {
     let mut reader = Tried::new(inputs.standard());
     match Listing::read(alloc, &mut reader) {
@@ -204,53 +206,59 @@ fn serve_input<I: Inputs, W: Write>(
 /// Writes the table that the words ask for.
 fn serve_table<I: Inputs, W: Write>(
     alloc: Global,
-    words: &[&str],
     inputs: I,
+    names: &[String],
     form: TableForm,
     output: &mut Tried<W>,
 ) -> Ending
-    requires prints { has_failed output.old ≡ false }
-    requires faultless { faults_of (texts_of words.now) ≡ [] }
-    ensures ends { EndsTable I.Reader.remaining W.contents (I.is_standard inputs)
-        (IsFoundByName I.Reader.remaining (I.is_file inputs) (I.is_missing inputs)) (texts_of words.now) form
-        output.old output.new result }
-    ensures write { result ≡ Ending.Run (Err RunError.Write) ↔ IsTrue (has_failed output.new) }
+    requires { has_failed output.old ≡ false }
+    ensures ends { EndsBy I.Reader.remaining W.contents (I.is_standard inputs)
+        (IsFoundByName I.Reader.remaining (I.is_file inputs) (I.is_missing inputs)) form
+        (map string_bytes names.now) output.old output.new result }
+    ensures write { TellsFailure output.new result }
 {
-    let Ok(names) = table_names(alloc, words) else {
-        return Ending::UnreadableWords;
-    };
-    let files = names.as_slice();
-    if files.is_empty() {
+    if names.is_empty() {
         return serve_input(alloc, inputs, form, output);
     }
-    serve_names(alloc, inputs, files, form, output)
+    serve_names(alloc, inputs, names, form, output)
 }
 
-/// Serves the options: a table of many files, or one command on one input.
-fn serve_options<I: Inputs, W: Write>(
+/// Runs a command on the input that the words name.
+fn serve_one<I: Inputs, W: Write>(
     alloc: Global,
-    words: &[&str],
     inputs: I,
     options: &Options,
     name: &Option<String>,
     output: &mut Tried<W>,
 ) -> Ending
-    requires prints { has_failed output.old ≡ false }
-    requires asked { AreOptionsOf (texts_of words.now) options.now (option_map string_bytes name.now) }
-    requires faultless { faults_of (texts_of words.now) ≡ [] }
-    ensures ends { EndsSo I.Reader.remaining W.contents (I.is_file inputs) (I.is_standard inputs)
-        (I.is_missing inputs) (texts_of words.now) output.old output.new result }
-    ensures ran { result ≢ Ending.Usage }
-    ensures write { result ≡ Ending.Run (Err RunError.Write) ↔ IsTrue (has_failed output.new) }
+    requires { has_failed output.old ≡ false }
+    ensures ends { EndsRun I.Reader.remaining W.contents (I.is_file inputs) (I.is_standard inputs)
+        (I.is_missing inputs) options.now (option_map string_bytes name.now) output.old output.new result }
+    ensures write { TellsFailure output.new result }
 {
-    if let Command::Table(form) = options.command {
-        return serve_table(alloc, words, inputs, form, output);
-    }
     let Some(input) = input_named(inputs, name) else {
         return Ending::UnopenedFile;
     };
     let mut reader = Tried::new(input);
     Ending::Run(serve(alloc, &mut reader, output, options))
+}
+
+/// Does what the words ask for.
+fn serve_asked<I: Inputs, W: Write>(
+    alloc: Global,
+    inputs: I,
+    asked: &Asked,
+    output: &mut Tried<W>,
+) -> Ending
+    requires { has_failed output.old ≡ false }
+    ensures ends { EndsAs I.Reader.remaining W.contents (I.is_file inputs) (I.is_standard inputs)
+        (I.is_missing inputs) asked.now output.old output.new result }
+    ensures write { TellsFailure output.new result }
+{
+    match asked {
+        Asked::One(options, name) => serve_one(alloc, inputs, options, name, output),
+        Asked::Table(form, names) => serve_table(alloc, inputs, names.as_slice(), *form, output),
+    }
 }
 
 /// Answers the words, and leaves the ending's message to the caller.
@@ -267,10 +275,10 @@ fn end_of_words<I: Inputs, W: Write, E: Write>(
         (I.is_missing inputs) (texts_of words.now) output.old output.new result }
     ensures told { result ≡ Ending.Usage → Says E.contents errors.old errors.new result }
     ensures untold { result ≢ Ending.Usage → errors.new ≡ errors.old }
-    ensures write { result ≡ Ending.Run (Err RunError.Write) ↔ IsTrue (has_failed output.new) }
+    ensures write { TellsFailure output.new result }
 {
-    match options(alloc, words) {
-        Ok((options, name)) => serve_options(alloc, words, inputs, &options, &name, output),
+    match asked(alloc, words) {
+        Ok(asked) => serve_asked(alloc, inputs, &asked, output),
         Err(refusal) => refuse_words(alloc, &refusal, output, errors),
     }
 }
@@ -300,7 +308,7 @@ pub fn answer<I: Inputs, W: Write, E: Write>(
     ensures ends { EndsSo I.Reader.remaining W.contents (I.is_file inputs) (I.is_standard inputs)
         (I.is_missing inputs) (texts_of words.now) output.old output.new result }
     ensures says { Says E.contents errors.old errors.new result }
-    ensures write { result ≡ Ending.Run (Err RunError.Write) ↔ IsTrue (has_failed output.new) }
+    ensures write { TellsFailure output.new result }
 {
     let ending = end_of_words(alloc, words, inputs, output, errors);
     if ending != Ending::Usage {

@@ -1,6 +1,6 @@
 //! Why a run has no answer.
 ghost use Rattle.std.specs.Prelude.{◌≡◌};
-ghost use Rattle.ans_check.specs.Run.{run_error_text};
+ghost use Rattle.ans_check.specs.Run.{run_error_of, run_error_text};
 
 use ans_table::Unread;
 use thiserror::Error;
@@ -32,6 +32,19 @@ impl RunError {
             RunError::TooLong => Unread::TooLong.text(),
             RunError::Memory => Unread::Memory.text(),
             RunError::Write => "cannot write the report",
+        }
+    }
+}
+
+impl From<Unread> for RunError {
+    ghost from_gives = { λ why e. e ≡ run_error_of why };
+
+    /// Why there is no answer where the input was not read.
+    fn from(why: Unread) -> RunError {
+        match why {
+            Unread::TooLong => RunError::TooLong,
+            Unread::Memory => RunError::Memory,
+            Unread::Unopened | Unread::ReadFailed | Unread::NameNotText => RunError::Read,
         }
     }
 }

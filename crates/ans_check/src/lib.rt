@@ -35,7 +35,7 @@ mod verdict;
 mod why;
 
 pub use ans_model::start::Start;
-pub use ans_options::{Command, Form, Options, TableForm, WordsError, options, table_names};
+pub use ans_options::{Command, Form, Options, TableForm, WordsError, options};
 pub use ans_report::Needs;
 pub use ans_table::{Counts, Finding, Outcome, Unread};
 pub use answering::answer;

@@ -1,16 +1,14 @@
 //! Bytes to bytes.
-ghost use Rattle.std.specs.Prelude.{◌≡◌, ◌≤◌, ◌↔◌, Ok, Err, IfErr, IsErr, IsSome, IsTrue, false, length, MatchResult};
-ghost use Rattle.std.specs.Prelude.{is_some, not};
-ghost use Rattle.ans_model.specs.File.Refusals.{record_fault};
+ghost use Rattle.std.specs.Prelude.{◌≡◌, ◌≤◌, false, length, is_some, not};
 ghost use Rattle.ans_model.specs.Bytes.{longest_file};
 ghost use Rattle.ans_sauce.specs.Parts.{record_of};
-ghost use Rattle.ans_write.specs.Tried.{has_failed, inner_of};
-ghost use Rattle.ans_write.specs.Writes.{WritesText};
+ghost use Rattle.ans_write.specs.Tried.{has_failed};
+ghost use Rattle.ans_write.specs.Puts.{Puts};
 ghost use Rattle.ans_check.specs.CommandText.{Reports, ReportsCheck, ReportsNeeds, ReportsSauce, ReportsShow};
 ghost use Rattle.ans_check.specs.CommandText.{ReportsTokens, ReportsWhy, IsReportOf, shown_text};
 ghost use Rattle.ans_check.specs.FileNeeds.{needs_fault};
 ghost use Rattle.ans_check.specs.FileVerdict.{fault_of};
-ghost use Rattle.ans_check.specs.Reported.{IsReported};
+ghost use Rattle.ans_check.specs.Reported.{IsPut, PutsReport};
 ghost use Rattle.ans_check.specs.Served.{Serves};
 
 use crate::errors::RunError;
@@ -19,18 +17,18 @@ use crate::reading::read_all;
 use crate::screens::KeptScreens;
 use crate::verdict::{Verdict, check};
 use crate::why::why_on;
-use ans_explain::write_why;
+use ans_explain::put_why;
 use ans_model::start::Start;
 use ans_options::{Command, Form, Options};
 use ans_play::Picture;
 use ans_report::{
-    Needs, Report, Tried, WriteFault, write_needs, write_record, write_refusal, write_report,
-    write_tokens,
+    Needs, Report, Tried, WriteFault, put_needs, put_record, put_refusal, put_report, put_tokens,
 };
 use ans_sauce::{Parts, split};
 use ans_screen::{PlaneGrid, Screen};
-use ans_show::{write_page, write_terminal};
-use std::alloc::Global;
+use ans_show::{put_page, put_terminal};
+use ans_write::Outbox;
+use std::alloc::{AllocError, Global};
 use std::io::{Read, Write};
 
 /// The report that tells a verdict.
@@ -59,109 +57,88 @@ fn is_pass<G: Screen>(verdict: &Verdict<'_, G>) -> bool
     matches!(verdict, Verdict::Pass(_, _))
 }
 
-/// What a writing comes to, where the file passes or does not.
-fn told(written: Result<(), WriteFault>, passed: bool) -> Result<bool, RunError>
-    ensures { MatchResult written (λ _. result ≡ Ok passed) (λ _. result ≡ Err RunError.Write) }
-{
-    match written {
-        Ok(()) => Ok(passed),
-        Err(WriteFault) => Err(RunError::Write),
-    }
-}
-
-/// Checks a file and writes its report. Returns whether the file passes.
-fn report<W: Write>(
+/// Puts the report of a check. Returns whether the file passes.
+fn tell_verdict<W: Write>(
     alloc: Global,
-    writer: &mut Tried<W>,
+    out: &mut Outbox<'_, W>,
     file: &[u8],
     start: Start,
     cells: bool,
-) -> Result<bool, RunError>
-    requires works { has_failed writer.old ≡ false }
-    requires length { length file.now ≤ longest_file }
-    ensures reported { IsReported W.contents (ReportsCheck file.now start cells) writer.old writer.new result }
-    ensures memory { IsSome (record_fault file.now) → IfErr result (λ e. e ≡ RunError.Write) }
+) -> Result<bool, AllocError>
+    requires { length file.now ≤ longest_file }
+    ensures { PutsReport W.contents (ReportsCheck file.now start cells) out.old out.new result }
 {
-    let Ok(verdict) = check::<PlaneGrid>(alloc, file, start) else {
-        return Err(RunError::Memory);
-    };
-    let written = write_report(writer, &report_of(&verdict, start, cells));
-    told(written, is_pass(&verdict))
+    let verdict = check::<PlaneGrid>(alloc, file, start)?;
+    put_report(out, &report_of(&verdict, start, cells));
+    Ok(is_pass(&verdict))
 }
 
-/// Writes a picture in colour, with the title of its record and by its non-blink flag.
-fn write_picture<W: Write, G: Screen>(
-    writer: &mut Tried<W>,
+/// Puts a picture in colour, with the title of its record and by its non-blink flag.
+fn put_picture<W: Write, G: Screen>(
+    out: &mut Outbox<'_, W>,
     picture: &Picture<G>,
     parts: &Parts<'_>,
     form: Form,
-) -> Result<(), WriteFault>
-    requires { has_failed writer.old ≡ false }
-    ensures device { IsErr result ↔ IsTrue (has_failed writer.new) }
-    ensures bytes { WritesText (W.contents (inner_of writer.old)) (W.contents (inner_of writer.new))
-        result (shown_text form (record_of parts.now) picture.now) }
+)
+    ensures { Puts W.contents out.old out.new (shown_text form (record_of parts.now) picture.now) }
 {
     let sauce = parts.sauce();
     let non_blink = sauce.is_non_blink();
     match form {
-        Form::Terminal => write_terminal(writer, picture, non_blink, false),
-        Form::Vga => write_terminal(writer, picture, non_blink, true),
-        Form::Page => write_page(writer, picture, sauce.title(), non_blink),
+        Form::Terminal => put_terminal(out, picture, non_blink, false),
+        Form::Vga => put_terminal(out, picture, non_blink, true),
+        Form::Page => put_page(out, picture, sauce.title(), non_blink),
     }
 }
 
-/// Checks a file and shows its picture, or writes the report of its refusal. Returns whether the file
+/// Puts the picture of a file that passes, or the report of its refusal. Returns whether the file
 /// passes.
-fn show<W: Write>(
+fn tell_picture<W: Write>(
     alloc: Global,
-    writer: &mut Tried<W>,
+    out: &mut Outbox<'_, W>,
     file: &[u8],
     start: Start,
     form: Form,
-) -> Result<bool, RunError>
-    requires works { has_failed writer.old ≡ false }
-    requires length { length file.now ≤ longest_file }
-    ensures reported { IsReported W.contents (ReportsShow file.now start form) writer.old writer.new result }
-    ensures memory { IsSome (record_fault file.now) → IfErr result (λ e. e ≡ RunError.Write) }
+) -> Result<bool, AllocError>
+    requires { length file.now ≤ longest_file }
+    ensures { PutsReport W.contents (ReportsShow file.now start form) out.old out.new result }
 {
-    let Ok(verdict) = check::<PlaneGrid>(alloc, file, start) else {
-        return Err(RunError::Memory);
-    };
+    let verdict = check::<PlaneGrid>(alloc, file, start)?;
     match &verdict {
-        Verdict::Pass(parts, picture) => told(write_picture(writer, picture, parts, form), true),
-        Verdict::Refused(_, _) => {
-            let report = report_of(&verdict, start, false);
-            told(write_report(writer, &report), false)
+        Verdict::Pass(parts, picture) => put_picture(out, picture, parts, form),
+        Verdict::Refused(_, _) => put_report(out, &report_of(&verdict, start, false)),
+    }
+    Ok(is_pass(&verdict))
+}
+
+/// Puts what a file's record says, or why the file is refused. Returns whether it is accepted.
+fn tell_record<W: Write>(out: &mut Outbox<'_, W>, file: &[u8]) -> bool
+    ensures { IsPut W.contents (ReportsSauce file.now) out.old out.new result }
+{
+    match split(file) {
+        Ok(parts) => {
+            put_record(out, &parts);
+            true
+        }
+        Err(fault) => {
+            put_refusal(out, &fault);
+            false
         }
     }
 }
 
-/// Writes what a file's record says, or why the file is refused. Returns whether it is accepted.
-fn tell_record<W: Write>(writer: &mut Tried<W>, file: &[u8]) -> Result<bool, RunError>
-    requires { has_failed writer.old ≡ false }
-    ensures reported { IsReported W.contents (ReportsSauce file.now) writer.old writer.new result }
-    ensures memory { IfErr result (λ e. e ≡ RunError.Write) }
-{
-    match split(file) {
-        Ok(parts) => told(write_record(writer, &parts), true),
-        Err(refusal) => told(write_refusal(writer, &refusal), false),
-    }
-}
-
-/// Writes the tokens of a file's content, or why the file is refused. Returns whether it is accepted
+/// Puts the tokens of a file's content, or why the file is refused. Returns whether it is accepted
 /// and all of its content is read.
-fn tell_tokens<W: Write>(writer: &mut Tried<W>, file: &[u8]) -> Result<bool, RunError>
-    requires works { has_failed writer.old ≡ false }
-    requires length { length file.now ≤ longest_file }
-    ensures reported { IsReported W.contents (ReportsTokens file.now) writer.old writer.new result }
-    ensures memory { IfErr result (λ e. e ≡ RunError.Write) }
+fn tell_tokens<W: Write>(out: &mut Outbox<'_, W>, file: &[u8]) -> bool
+    requires { length file.now ≤ longest_file }
+    ensures { IsPut W.contents (ReportsTokens file.now) out.old out.new result }
 {
     match split(file) {
-        Ok(parts) => match write_tokens(writer, parts.content()) {
-            Ok(fault) => Ok(fault.is_none()),
-            Err(WriteFault) => Err(RunError::Write),
-        },
-        Err(refusal) => told(write_refusal(writer, &refusal), false),
+        Ok(parts) => put_tokens(out, parts.content()).is_none(),
+        Err(fault) => {
+            put_refusal(out, &fault);
+            false
+        }
     }
 }
 
@@ -172,53 +149,53 @@ fn is_least(found: &Needs<'_>) -> bool
     matches!(found, Needs::Least(_, _))
 }
 
-/// Writes what a file needs, or why it is refused. Returns whether it is known what it needs.
-fn tell_needs<W: Write>(alloc: Global, writer: &mut Tried<W>, file: &[u8]) -> Result<bool, RunError>
-    requires works { has_failed writer.old ≡ false }
-    requires length { length file.now ≤ longest_file }
-    ensures reported { IsReported W.contents (ReportsNeeds file.now) writer.old writer.new result }
-    ensures memory { IsSome (record_fault file.now) → IfErr result (λ e. e ≡ RunError.Write) }
+/// Puts what a file needs, or why it is refused. Returns whether it is known what it needs.
+fn tell_needs<W: Write>(
+    alloc: Global,
+    out: &mut Outbox<'_, W>,
+    file: &[u8],
+) -> Result<bool, AllocError>
+    requires { length file.now ≤ longest_file }
+    ensures { PutsReport W.contents (ReportsNeeds file.now) out.old out.new result }
 {
-    let Ok(found) = needs_on(&mut KeptScreens::new(alloc), file) else {
-        return Err(RunError::Memory);
-    };
-    let written = write_needs(writer, &found);
-    told(written, is_least(&found))
+    let found = needs_on(&mut KeptScreens::new(alloc), file)?;
+    put_needs(out, &found);
+    Ok(is_least(&found))
 }
 
-/// Writes why a file is refused, or what it relies on. Returns whether it passes from the cleared
-/// start.
-fn tell_why<W: Write>(alloc: Global, writer: &mut Tried<W>, file: &[u8]) -> Result<bool, RunError>
-    requires works { has_failed writer.old ≡ false }
-    requires length { length file.now ≤ longest_file }
-    ensures reported { IsReported W.contents (ReportsWhy file.now) writer.old writer.new result }
-    ensures memory { IsSome (record_fault file.now) → IfErr result (λ e. e ≡ RunError.Write) }
+/// Puts why a file is refused, or what it relies on. Returns whether it passes from the cleared start.
+fn tell_why<W: Write>(
+    alloc: Global,
+    out: &mut Outbox<'_, W>,
+    file: &[u8],
+) -> Result<bool, AllocError>
+    requires { length file.now ≤ longest_file }
+    ensures { PutsReport W.contents (ReportsWhy file.now) out.old out.new result }
 {
-    let Ok(why) = why_on(&mut KeptScreens::new(alloc), file) else {
-        return Err(RunError::Memory);
-    };
-    let written = write_why(writer, &why);
-    told(written, why.is_of_pass())
+    let why = why_on(&mut KeptScreens::new(alloc), file)?;
+    put_why(out, &why);
+    Ok(why.is_of_pass())
 }
 
-/// Runs the chosen command on a file. Returns whether the file passes.
+/// Puts what the chosen command says of a file. Returns whether the file passes.
 fn run_command<W: Write>(
     alloc: Global,
-    writer: &mut Tried<W>,
+    out: &mut Outbox<'_, W>,
     file: &[u8],
     options: &Options,
-) -> Result<bool, RunError>
-    requires works { has_failed writer.old ≡ false }
-    requires length { length file.now ≤ longest_file }
-    ensures { IsReported W.contents (Reports options.now file.now) writer.old writer.new result }
+) -> Result<bool, AllocError>
+    requires { length file.now ≤ longest_file }
+    ensures { PutsReport W.contents (Reports options.now file.now) out.old out.new result }
 {
     match options.command {
-        Command::Why => tell_why(alloc, writer, file),
-        Command::Check => report(alloc, writer, file, options.start, options.cells),
-        Command::Show(form) => show(alloc, writer, file, options.start, form),
-        Command::Sauce => tell_record(writer, file),
-        Command::Tokens => tell_tokens(writer, file),
-        Command::Needs | Command::Table(_) => tell_needs(alloc, writer, file),
+        Command::Why => tell_why(alloc, out, file),
+        Command::Check => tell_verdict(alloc, out, file, options.start, options.cells),
+        Command::Show(form) => tell_picture(alloc, out, file, options.start, form),
+        Command::Sauce => Ok(tell_record(out, file)),
+        Command::Tokens => Ok(tell_tokens(out, file)),
+        Command::Needs => tell_needs(alloc, out, file),
+        // of the one input here what it needs is told
+        Command::Table(_) => tell_needs(alloc, out, file),
     }
 }
 
@@ -246,5 +223,12 @@ pub fn run<R: Read, W: Write>(
     ensures { Serves R.remaining W.contents options.now reader.old reader.new writer.old writer.new result }
 {
     let file = read_all(alloc, reader)?;
-    run_command(alloc, writer, file.as_slice(), options)
+    let mut out = Outbox::new(writer);
+    let Ok(passed) = run_command(alloc, &mut out, file.as_slice(), options) else {
+        return Err(RunError::Memory);
+    };
+    match out.finish() {
+        Ok(()) => Ok(passed),
+        Err(WriteFault) => Err(RunError::Write),
+    }
 }

@@ -1,15 +1,14 @@
 //! The table of many files.
 
-ghost use Rattle.std.specs.Prelude.{◌≡◌, ◌≢◌, ◌↔◌, ◌≤◌, false, length, IsTrue, IsErrOf, IfErr, IfOk, OnOk, map, []};
+ghost use Rattle.std.specs.Prelude.{◌≡◌, ◌↔◌, ◌≤◌, false, length, IsTrue, IsErrOf, IfErr, IfOk, []};
 ghost use Rattle.ans_model.specs.Bytes.{longest_file};
 ghost use Rattle.ans_model.specs.Text.Words.{texts_of};
-ghost use Rattle.ans_write.specs.Tried.{has_failed, inner_of};
-ghost use Rattle.ans_write.specs.Writes.{WritesText};
+ghost use Rattle.ans_write.specs.Puts.{device_of};
+ghost use Rattle.ans_write.specs.Tried.{has_failed};
 ghost use Rattle.ans_table.specs.Findings.{IsFindingOf, outcome_of};
 ghost use Rattle.ans_check.specs.FileNeeds.{IsNeedsOf};
-ghost use Rattle.ans_options.specs.declared.command.TableForm.{TableForm};
-ghost use Rattle.ans_check.specs.Table.{MayBeFoundIn, WritesRow, WritesTable, header, row_in, IsFoundByName};
-ghost use Rattle.ans_check.specs.Table.{MayEndTable, unread_of};
+ghost use Rattle.ans_check.specs.Rows.{EndsRows, IsReady, PutsRow, WritesOut, WritesRow};
+ghost use Rattle.ans_check.specs.Table.{IsFoundByName, MayBeFoundIn, MayEndTable, WritesTable, header, row_in};
 
 use crate::errors::RunError;
 use crate::inputs::Inputs;
@@ -18,7 +17,8 @@ use crate::reading::read_all;
 use crate::screens::KeptScreens;
 use ans_options::TableForm;
 use ans_report::{Needs, Tried, WriteFault};
-use ans_table::{Counts, Finding, Outcome, Unread, json_row, write_header, write_line, write_row};
+use ans_table::{Counts, Finding, Outcome, Unread, json_row, put_header, put_line, put_row};
+use ans_write::Outbox;
 use std::alloc::{AllocError, Global};
 use std::io::Write;
 
@@ -48,116 +48,74 @@ fn finding_in<'a>(screens: &mut KeptScreens, file: &'a [u8]) -> Finding<'a>
     }
 }
 
-/// Why a file was not read, by what its reading came to.
-fn unread(error: RunError) -> Unread
-    requires { error ≢ RunError.Write }
-    ensures { result ≡ unread_of error }
-{
-    match error {
-        RunError::Read => Unread::ReadFailed,
-        RunError::TooLong => Unread::TooLong,
-        RunError::Memory => Unread::Memory,
-        RunError::Write => unreachable!(),
-    }
-}
-
-/// Writes a row.
-fn write_in<W: Write>(
+/// Puts a row in the form. Without memory for the text of a JSON object nothing is put.
+fn put_row_in<W: Write>(
     alloc: Global,
     form: TableForm,
-    output: &mut Tried<W>,
+    out: &mut Outbox<'_, W>,
     name: &[u8],
     finding: &Finding<'_>,
-) -> Result<(), RunError>
-    requires { has_failed output.old ≡ false }
-    ensures device { IsErrOf result RunError.Write ↔ IsTrue (has_failed output.new) }
-    ensures errors { IfErr result (MayEndTable form) }
-    ensures works { OnOk result (has_failed output.new ≡ false) }
-    ensures row { WritesText (W.contents (inner_of output.old)) (W.contents (inner_of output.new))
-        result (row_in form name.now finding.now) }
+) -> Result<(), AllocError>
+    ensures { PutsRow W.contents form (row_in form name.now finding.now) out.old out.new result }
 {
-    let written = match form {
-        TableForm::Headed | TableForm::Bare => write_row(output, name, finding),
+    match form {
+        TableForm::Headed | TableForm::Bare => put_row(out, name, finding),
         TableForm::Json => {
-            let Ok(row) = json_row(alloc, name, finding) else {
-                return Err(RunError::Memory);
-            };
-            write_line(output, row.as_bytes())
+            let row = json_row(alloc, name, finding)?;
+            put_line(out, row.as_bytes());
         }
-    };
-    match written {
-        Ok(()) => Ok(()),
+    }
+    Ok(())
+}
+
+/// Puts a row, and has it written and handed on.
+fn tell<W: Write>(
+    alloc: Global,
+    form: TableForm,
+    out: &mut Outbox<'_, W>,
+    name: &[u8],
+    finding: &Finding<'_>,
+) -> Result<Outcome, RunError>
+    requires { IsReady out.old }
+    ensures row { WritesOut W.contents (MayEndTable form) (row_in form name.now finding.now) out.old out.new result }
+    ensures outcome { IfOk result (λ o. o ≡ outcome_of finding.now) }
+{
+    if put_row_in(alloc, form, out, name, finding).is_err() {
+        return Err(RunError::Memory);
+    }
+    match out.hand_on() {
+        Ok(()) => Ok(finding.outcome()),
         Err(WriteFault) => Err(RunError::Write),
     }
 }
 
-/// Writes a row, and has the writer hand it on.
-fn tell<W: Write>(
-    alloc: Global,
-    form: TableForm,
-    output: &mut Tried<W>,
-    name: &[u8],
-    finding: &Finding<'_>,
-) -> Result<Outcome, RunError>
-    requires { has_failed output.old ≡ false }
-    ensures device { IsErrOf result RunError.Write ↔ IsTrue (has_failed output.new) }
-    ensures errors { IfErr result (MayEndTable form) }
-    ensures works { OnOk result (has_failed output.new ≡ false) }
-    ensures row { WritesText (W.contents (inner_of output.old)) (W.contents (inner_of output.new))
-        result (row_in form name.now finding.now) }
-    ensures outcome { IfOk result (λ o. o ≡ outcome_of finding.now) }
-{
-    write_in(alloc, form, output, name, finding)?;
-    if output.flush().is_err() {
-        return Err(RunError::Write);
-    }
-    Ok(finding.outcome())
-}
-
-/// Reads a file, and writes its row.
+/// What a row tells of the file of this name, which is opened and read.
 fn tell_file<I: Inputs, W: Write>(
     alloc: Global,
     screens: &mut KeptScreens,
     inputs: I,
     name: &[u8],
     form: TableForm,
-    output: &mut Tried<W>,
+    out: &mut Outbox<'_, W>,
 ) -> Result<Outcome, RunError>
-    requires { has_failed output.old ≡ false }
-    ensures device { IsErrOf result RunError.Write ↔ IsTrue (has_failed output.new) }
-    ensures errors { IfErr result (MayEndTable form) }
-    ensures works { OnOk result (has_failed output.new ≡ false) }
-    ensures row { WritesRow W.contents (IsFoundByName I.Reader.remaining (I.is_file inputs) (I.is_missing inputs))
-        form name.now output.old output.new result }
+    requires { IsReady out.old }
+    ensures { WritesRow W.contents (IsFoundByName I.Reader.remaining (I.is_file inputs) (I.is_missing inputs))
+        form name.now out.old out.new result }
 {
     let Ok(text) = str::from_utf8(name) else {
-        return tell(
-            alloc,
-            form,
-            output,
-            name,
-            &Finding::Unread(Unread::NameNotText),
-        );
+        let finding = Finding::Unread(Unread::NameNotText);
+        return tell(alloc, form, out, name, &finding);
     };
     let Ok(input) = inputs.file(text) else {
-        return tell(
-            alloc,
-            form,
-            output,
-            name,
-            &Finding::Unread(Unread::Unopened),
-        );
+        return tell(alloc, form, out, name, &Finding::Unread(Unread::Unopened));
     };
     let mut reader = Tried::new(input);
     match read_all(alloc, &mut reader) {
-        Ok(file) => tell(
-            alloc,
-            form,
-            output,
-            name,
-            &finding_in(screens, file.as_slice()),
-        ),
-        Err(error) => tell(alloc, form, output, name, &Finding::Unread(unread(error))),
+        Ok(file) => {
+            let finding = finding_in(screens, file.as_slice());
+            tell(alloc, form, out, name, &finding)
+        }
+        Err(why) => tell(alloc, form, out, name, &Finding::Unread(why)),
     }
 }
 
@@ -167,39 +125,33 @@ fn tell_files<I: Inputs, W: Write>(
     inputs: I,
     names: &[&[u8]],
     form: TableForm,
-    output: &mut Tried<W>,
+    out: &mut Outbox<'_, W>,
 ) -> Result<Counts, RunError>
-    requires { has_failed output.old ≡ false }
-    ensures device { IsErrOf result RunError.Write ↔ IsTrue (has_failed output.new) }
-    ensures errors { IfErr result (MayEndTable form) }
+    requires { IsReady out.old }
+    ensures ends { EndsRows (MayEndTable form) out.new result }
     ensures rows { WritesTable W.contents (IsFoundByName I.Reader.remaining (I.is_file inputs) (I.is_missing inputs))
-        form [] (texts_of names.now) output.old output.new result }
+        form [] (texts_of names.now) (device_of out.old) (device_of out.new) result }
 {
     let mut counts = Counts::NONE;
     let mut screens = KeptScreens::new(alloc);
     for name in names {
-        let outcome = tell_file(alloc, &mut screens, inputs, name, form, output)?;
+        let outcome = tell_file(alloc, &mut screens, inputs, name, form, out)?;
         counts.add(outcome);
     }
     Ok(counts)
 }
 
 /// Writes the line of the columns' names, where the form asks for it.
-fn tell_header<W: Write>(form: TableForm, output: &mut Tried<W>) -> Result<(), RunError>
-    requires { has_failed output.old ≡ false }
-    ensures device { IsErrOf result RunError.Write ↔ IsTrue (has_failed output.new) }
-    ensures errors { IfErr result (λ e. e ≡ RunError.Write) }
-    ensures works { OnOk result (has_failed output.new ≡ false) }
-    ensures bytes { WritesText (W.contents (inner_of output.old)) (W.contents (inner_of output.new))
-        result (header form) }
+fn tell_header<W: Write>(form: TableForm, out: &mut Outbox<'_, W>) -> Result<(), RunError>
+    requires { IsReady out.old }
+    ensures { WritesOut W.contents (λ e. e ≡ RunError.Write) (header form) out.old out.new result }
 {
-    match form {
-        TableForm::Headed => match write_header(output) {
-            Ok(()) => Ok(()),
-            Err(WriteFault) => Err(RunError::Write),
-        },
-        TableForm::Bare => Ok(()),
-        TableForm::Json => Ok(()),
+    if form == TableForm::Headed {
+        put_header(out);
+    }
+    match out.finish() {
+        Ok(()) => Ok(()),
+        Err(WriteFault) => Err(RunError::Write),
     }
 }
 
@@ -223,6 +175,7 @@ pub fn table<I: Inputs, W: Write>(
     ensures table { WritesTable W.contents (IsFoundByName I.Reader.remaining (I.is_file inputs) (I.is_missing inputs))
         form (header form) (texts_of names.now) output.old output.new result }
 {
-    tell_header(form, output)?;
-    tell_files(alloc, inputs, names, form, output)
+    let mut out = Outbox::new(output);
+    tell_header(form, &mut out)?;
+    tell_files(alloc, inputs, names, form, &mut out)
 }

@@ -2,7 +2,7 @@
 ghost use Rattle.std.specs.Prelude.{◌≡◌, ◌↔◌, [], false, decimal, IsTrue, IsErr, OnOk};
 ghost use Rattle.ans_write.specs.Puts.{HandsOn, Puts, device_of, device_failed, waiting_of};
 
-use crate::tried::Tried;
+use crate::tried::{DeviceFault, Tried};
 use arrayvec::ArrayVec;
 use std::io::Write;
 
@@ -105,5 +105,20 @@ impl<'a, W: Write> Outbox<'a, W> {
             return Err(WriteFault);
         }
         Ok(())
+    }
+
+    /// Writes what waits, and has the device hand on what it holds back. `Err` comes exactly where the
+    /// device has failed, now or before, and then a prefix of what was put was written. That the
+    /// device is asked is only tested: what a flush is for, the contract of `Write` does not say.
+    pub fn hand_on(&mut self) -> Result<(), WriteFault>
+        ensures device { IsErr result ↔ IsTrue (device_failed self.new) }
+        ensures handed { HandsOn W.contents self.old self.new [] }
+        ensures empty { OnOk result (waiting_of self.new ≡ []) }
+    {
+        self.finish()?;
+        match self.device.flush() {
+            Ok(()) => Ok(()),
+            Err(DeviceFault) => Err(WriteFault),
+        }
     }
 }

@@ -1,14 +1,39 @@
-use Rattle.std.proofs.Common.{rules}
-use Rattle.ans_check.proofs.ReportedLemmas.{read_whole}
+use Rattle.std.proofs.Common.{rules, ◌≡◌, true, false, subst, sym}
+use Rattle.ans_write.specs.Puts.{device_failed, device_of}
+use Rattle.ans_write.proofs.PutsLemmas.{WritesText-finished}
+use Rattle.ans_check.specs.CommandText.{Reports}
+use Rattle.ans_check.proofs.ReportedLemmas.{served_in_part, served_whole, works_before}
 use Rattle.ans_check.proofs.pipeline.run.Goals as goal
 
+pub returns-in-Ok-finish : goal.returns-in-Ok-finish
+returns-in-Ok-finish g c =
+    let put = c.in-Ok.ensures in
+    let file = c.as_slice.result.now in
+    let written = WritesText-finished c.args.writer.now c.finish.result c.new-out.ensures.unchanged
+    c.new-out.ensures.empty put.puts c.finish.ensures.handed c.finish.ensures.device c.finish.ensures.empty in
+    let works : device_failed c.finish.new.self ≡ false = search rules in
+    let before : device_failed c.run_command.new.out ≡ false =
+    works_before _ _ (λ failed. (c.finish.ensures.handed.stays_failed failed).0) works in
+    let served =
+    served_whole g.R.Read.remaining g.W.Write.contents c.args.options.now c.args.reader.now c.read_all.new.r
+    c.args.writer.now (device_of c.finish.new.self) file c.in_ok-file.file
+    (rw c.as_slice.ensures.value c.in_ok-file.ensures.whole) c.in_ok-file.ensures.device
+    c.in_ok-file.ensures.too_long c.in_ok-file.ensures.calls c.in-Ok.passed put.text
+    (subst (λ b. Reports c.args.options.now file b put.text) (sym (put.answers before)) put.reported)
+    (rw c.in-Ok-finish.is at written) works in
+    search (rules, served)
+
 pub returns : goal.returns
-returns g c = record {
-  ok = search rules;
-  prefix = search rules;
-  unwritten = c.run_command.ensures.unwritten;
-  read = search rules;
-  write = c.run_command.ensures.write;
-  too_long = read_whole _ _ _ c.run_command.result c.run_command.ensures.errors c.in_ok-file.ensures.too_long;
-  calls = c.in_ok-file.ensures.calls;
-}
+returns g c =
+    let put = c.in-Ok.ensures in
+    let file = c.as_slice.result.now in
+    let written = WritesText-finished c.args.writer.now c.finish.result c.new-out.ensures.unchanged
+    c.new-out.ensures.empty put.puts c.finish.ensures.handed c.finish.ensures.device c.finish.ensures.empty in
+    let failed : device_failed c.finish.new.self ≡ true = search rules in
+    let served =
+    served_in_part g.R.Read.remaining g.W.Write.contents c.args.options.now c.args.reader.now c.read_all.new.r
+    c.args.writer.now (device_of c.finish.new.self) file c.in_ok-file.file
+    (rw c.as_slice.ensures.value c.in_ok-file.ensures.whole) c.in_ok-file.ensures.device
+    c.in_ok-file.ensures.too_long c.in_ok-file.ensures.calls put.passed put.text put.reported
+    (rw c.in-Err.is at written) failed in
+    search (rules, served)
