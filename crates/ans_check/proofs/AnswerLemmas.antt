@@ -1,9 +1,13 @@
 -- What is said of an ending.
 use Rattle.std.proofs.Common.{◌≡◌, ℕ, ◌≤◌, Bool, true, false, List, [], ◌∷◌, length, Option, Some, None, Ok, Err}
 use Rattle.std.proofs.Common.{arith, refl, subst, sym, true≢false}
-use Rattle.std.specs.Prelude.{◌↔◌, Result, IsErr, IsTrue, MatchOption}
+use Rattle.std.specs.Prelude.{◌↔◌, Result, IsErr, IsTrue, MatchOption, OnOk}
 use Rattle.ans_report.specs.Message.{message_line}
+use Rattle.ans_write.specs.Puts.{HandsOn, Puts, device_failed, device_of, waiting_of}
 use Rattle.ans_write.specs.Writes.{AppendsUnless, WritesText}
+use Rattle.ans_write.specs.declared.outbox.Outbox.{Outbox}
+use Rattle.ans_write.specs.declared.outbox.WriteFault.{WriteFault}
+use Rattle.ans_write.proofs.PutsLemmas.{WritesText-finished}
 use Rattle.ans_write.specs.declared.tried.Tried.{Tried}
 use Rattle.clap.specs.Words.{Text}
 use Rattle.ans_options.specs.declared.command.TableForm.{TableForm}
@@ -15,12 +19,21 @@ use Rattle.ans_check.specs.declared.exit_status.Ending.TheVariants.{Run, Help, U
 use Rattle.ans_check.specs.declared.exit_status.Ending.TheVariants.{Table, NamedInput, UnreadNames}
 
 -- what was written by its result is what was written by whether the device has failed
-pub written_unless : {T E : Type 0} (old new : Option (List ℕ)) (r : Result T E) (failed : Bool) (text : List ℕ)
+written_unless : {T E : Type 0} (old new : Option (List ℕ)) (r : Result T E) (failed : Bool) (text : List ℕ)
     → IsErr r ↔ IsTrue failed → WritesText old new r text → AppendsUnless failed old new text
 written_unless old new (Ok v) false text device h = h
 written_unless old new (Ok v) true text device h = absurd (true≢false (sym (device.1 refl)))
 written_unless old new (Err e) false text device h = absurd (true≢false (sym (device.0 refl)))
 written_unless old new (Err e) true text device h = h
+
+-- what was put on an empty outbox and written
+pub put_out : {E : Type 0} {contents : E → Option (List ℕ)} {a b c : Outbox E} {text : List ℕ} (errors : Tried E)
+    (r : Result Unit WriteFault) → device_of a ≡ errors → waiting_of a ≡ [] → Puts contents a b text
+    → HandsOn contents b c [] → IsErr r ↔ IsTrue (device_failed c) → OnOk r (waiting_of c ≡ [])
+    → Tells contents errors (device_of c) text
+put_out {E} {contents} {a} {b} {c} {text} errors r is none put handed device empty =
+    written_unless _ _ r (device_failed c) text device
+    (WritesText-finished errors r is none put handed device empty)
 
 -- what holds of a text holds in the option that has it
 in_some : (P : List ℕ → Type 0) (A : Type 0) (o : Option (List ℕ)) (text : List ℕ) → o ≡ Some text → P text

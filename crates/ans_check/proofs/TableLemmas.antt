@@ -1,6 +1,6 @@
 -- Rows after rows, and the text before them.
 use Rattle.std.proofs.Common.{◌≡◌, ◌∙◌, ℕ, ◌+◌, ◌≤◌, List, [], ◌∷◌, ◌++◌, length, take, All, Option, Some, None, Result}
-use Rattle.std.proofs.Common.{Ok, Err, refl, sym, ap, subst, arith, append-nil, length-append, ◌<◌, drop, get_or, map}
+use Rattle.std.proofs.Common.{Ok, Err, inr, true≢false, refl, sym, ap, subst, arith, append-nil, length-append, ◌<◌, drop, get_or, map}
 use Rattle.std.specs.Borrow.{Bor}
 use Rattle.std.specs.Io.KnownBytes.{Appends}
 use Rattle.std.proofs.KnownBytes.{Appends-nil, Appends-trans}
@@ -20,17 +20,24 @@ use Rattle.std.proofs.lemmas.List.Sums.{count_by-le-length}
 use Rattle.ans_table.specs.Counting.{counts_of, is_pass, is_refused, is_unread}
 use Rattle.ans_table.specs.Findings.{outcome_of}
 use Rattle.ans_table.specs.RowText.{Row}
-use Rattle.std.specs.Prelude.{IfSome, IsErrOf, IsTrue, Vec, ◌↔◌, ◌≢◌}
+use Rattle.std.specs.Prelude.{Bool, IfSome, IsErr, IsErrOf, IsTrue, OnOk, Vec, false, true, ◌↔◌}
+use Rattle.ans_options.specs.declared.command.TableForm.TheVariants.{Json}
 use Rattle.std.specs.Global.{Global}
 use Rattle.ans_table.specs.declared.finding.Finding.TheVariants.{Pass, Refused, NoContent, Unread}
 use Rattle.ans_table.specs.declared.finding.Unread.TheVariants as why
 use Rattle.ans_check.specs.declared.errors.RunError.{RunError}
 use Rattle.ans_check.specs.declared.errors.RunError.TheVariants as error
-use Rattle.ans_check.specs.Run.{HasRead}
+use Rattle.ans_table.specs.declared.finding.Unread as unread
+use Rattle.ans_check.specs.Rows.{EndsRows, IsReady, WritesOut, WritesRow}
+use Rattle.ans_check.specs.Run.{HasRead, IsOfReading}
 use Rattle.ans_write.specs.Tried.{call_count, has_failed, inner_of}
-use Rattle.ans_write.specs.Writes.{AppendsPrefix}
+use Rattle.ans_write.specs.Puts.{HandsOn, Puts, device_failed, device_of, waiting_of}
+use Rattle.ans_write.specs.Writes.{AppendsPrefix, WritesText}
+use Rattle.ans_write.specs.declared.outbox.Outbox.{Outbox}
+use Rattle.ans_write.specs.declared.outbox.WriteFault.{WriteFault}
+use Rattle.ans_write.proofs.PutsLemmas.{WritesText-finished}
 use Rattle.ans_write.specs.declared.tried.Tried.{Tried}
-use Rattle.ans_check.specs.Table.{MayBeFoundIn, WritesRow, WritesTable, row_in, rows_in, unread_of, IsFoundByName}
+use Rattle.ans_check.specs.Table.{IsFoundByName, MayBeFoundIn, MayEndTable, WritesTable, row_in, rows_in}
 
 -- ---- files
 module _ {R : Type 0} (remaining : R → Option (List ℕ)) (is_file : Text → R → Type 0) (is_missing : Text → Type 0)
@@ -53,14 +60,16 @@ module _ {R : Type 0} (remaining : R → Option (List ℕ)) (is_file : Text → 
   found_in file (Unread why.NameNotText) input calls read is = absurd is
 
   -- a file that was not read to its end
-  pub not_read : (e : RunError) → is_file name (inner_of reader) → call_count reader ≡ 0 → e ≢ error.Write
-      → IsErrOf {T = Vec ℕ Global} (Err e) error.Read ↔ IsTrue (has_failed after)
+  pub not_read : (e : unread.Unread) → is_file name (inner_of reader) → call_count reader ≡ 0 → IsOfReading e
+      → IsErrOf {T = Vec ℕ Global} (Err e) why.ReadFailed ↔ IsTrue (has_failed after)
       → IfSome (remaining (inner_of reader)) (λ xs. IfSome (remaining (inner_of after)) (λ ys.
-      IsErrOf {T = Vec ℕ Global} (Err e) error.TooLong ↔ (longest_file + length ys < length xs)))
-      → IsFoundByName remaining is_file is_missing name (Unread (unread_of e))
-  not_read error.Read input calls other device long =
+      IsErrOf {T = Vec ℕ Global} (Err e) why.TooLong ↔ (longest_file + length ys < length xs)))
+      → IsFoundByName remaining is_file is_missing name (Unread e)
+  not_read why.Unopened input calls reading device long = absurd reading
+  not_read why.NameNotText input calls reading device long = absurd reading
+  not_read why.ReadFailed input calls reading device long =
       record { reader = reader; reader_after = after; input = input; unread = calls; gave = device.0 refl }
-  not_read error.TooLong input calls other device long =
+  not_read why.TooLong input calls reading device long =
       record {
         reader = reader;
         reader_after = after;
@@ -70,22 +79,15 @@ module _ {R : Type 0} (remaining : R → Option (List ℕ)) (is_file : Text → 
       }
     where
       go : (a b : Option (List ℕ)) → IfSome a (λ xs. IfSome b (λ ys.
-          IsErrOf {T = Vec ℕ Global} (Err error.TooLong) error.TooLong ↔ (longest_file + length ys < length xs)))
+          IsErrOf {T = Vec ℕ Global} (Err why.TooLong) why.TooLong ↔ (longest_file + length ys < length xs)))
           → IfSome a (λ xs. IfSome b (λ ys. longest_file + length ys < length xs))
       go None b h = tt
       go (Some xs) None h = tt
       go (Some xs) (Some ys) h = h.0 refl
-  not_read error.Memory input calls other device long =
+  not_read why.Memory input calls reading device long =
       record { reader = reader; reader_after = after; input = input; unread = calls; gave = tt }
-  not_read error.Write input calls other device long = absurd (other refl)
 
 -- ---- texts
--- a text that was written is a prefix of itself
-pub written_whole : (a b : Option (List ℕ)) (text : List ℕ) → Appends a b text → AppendsPrefix a b text
-written_whole a b text h =
-    let whole : take (length text) text ≡ text = take_all (length text) text (omega arith) in
-    (length text, omega arith, subst (λ (v : List ℕ). Appends a b v) (sym whole) h)
-
 -- a prefix of a text is one of a longer text
 pub prefix_of_longer : (a b : Option (List ℕ)) (text more : List ℕ) → AppendsPrefix a b text
     → AppendsPrefix a b (text ++ more)
@@ -104,6 +106,37 @@ prefix_behind a b c front text h (n, within, g) = (
   subst (λ (v : List ℕ). Appends a c v) (sym (take-append-add front text n))
       (Appends-trans a b c front (take n text) h g),
 )
+
+-- ---- ends
+-- a device has not failed where that would mean an error, and there is none
+works_at_ok : (failed : Bool) → (false ≡ true) ↔ IsTrue failed → failed ≡ false
+works_at_ok false device = refl
+works_at_ok true device = absurd (true≢false (sym (device.1 refl)))
+
+-- all is ready
+pub ends_ok : {W T : Type 0} {MayEnd : RunError → Type 0} {old new : Outbox W} (v : T) → IsReady new
+    → new.device.ghost_name ≡ old.device.ghost_name → EndsRows MayEnd old new (Ok v)
+ends_ok v ready same = record {
+  same_device = same;
+  device = (λ e. absurd (cc), λ failed. absurd (true≢false (sym failed ∙ ready.1)));
+  errors = tt;
+  ready = ready;
+}
+
+-- what is one error of a result is one of another
+pub err_as : {T U : Type 0} {e f : RunError} → IsErrOf {T = T} (Err e) f → IsErrOf {T = U} (Err e) f
+err_as {T} {U} {e} {f} is = let same : e ≡ f = cc in rw same refl
+
+-- one error ends what is around it too
+pub ends_err : {W T U : Type 0} {MayEnd : RunError → Type 0} {old between new : Outbox W} {e : RunError}
+    → between.device.ghost_name ≡ old.device.ghost_name → EndsRows {T = T} MayEnd between new (Err e)
+    → EndsRows {T = U} MayEnd old new (Err e)
+ends_err {W} {T} {U} {MayEnd} {old} {between} {new} {e} same h = record {
+  same_device = h.same_device ∙ same;
+  device = (λ is. h.device.0 (err_as is), λ failed. err_as (h.device.1 failed));
+  errors = h.errors;
+  ready = tt;
+}
 
 -- ---- rows
 abbrev one_row : Text → Finding → Row
@@ -164,8 +197,8 @@ module _ {W : Type 0} (contents : W → Option (List ℕ)) (found : Text → Fin
         unread = count_by-le-length is_unread came;
       })
 
-  module _ (i : ℕ) (d : Bor Text) (output between : Tried W) (counts : Counts) (h : TellsFirst i output between counts)
-      (lt : i < length names) where
+  module _ (i : ℕ) (d : Bor Text) (output : Tried W) (between : Outbox W) (counts : Counts)
+      (h : TellsFirst i output (device_of between) counts) (lt : i < length names) where
     next_names : texts_of (take (i + 1) names) ≡ texts_of (take i names) ++ (get_or names i d).now ∷ []
     next_names = ap texts_of (take_more names i d lt) ∙ map-append _ (take i names) (get_or names i d ∷ [])
 
@@ -188,17 +221,17 @@ module _ {W : Type 0} (contents : W → Option (List ℕ)) (found : Text → Fin
           ∙ ap (λ (v : List ℕ). rows_in form h.rows ++ v) (one_text form (get_or names i d).now finding)
 
     -- one more row was written
-    pub one_more : (after : Tried W) (outcome : Outcome) (more : Counts)
+    pub one_more : (after : Outbox W) (outcome : Outcome) (more : Counts)
         → WritesRow contents found form (get_or names i d).now between after (Ok outcome)
         → ((before : List Outcome) → counts ≡ counts_of before → more ≡ counts_of (before ++ outcome ∷ []))
-        → TellsFirst (i + 1) output after more
+        → TellsFirst (i + 1) output (device_of after) more
     one_more after outcome more w adds = record {
       rows = next w.finding w.is_found;
       each = next_each w.finding w.is_found;
       written = subst
-          (λ (v : List ℕ). Appends (contents (inner_of output)) (contents (inner_of after)) v)
+          (λ (v : List ℕ). Appends (contents (inner_of output)) (contents (inner_of (device_of after))) v)
           (sym (next_text w.finding w.is_found))
-          (Appends-trans _ _ _ (rows_in form h.rows) (row_in form (get_or names i d).now w.finding) h.written w.row);
+          (Appends-trans _ _ _ (rows_in form h.rows) (row_in form (get_or names i d).now w.finding) h.written w.row.written);
       named = next_named w.finding w.is_found;
       counted = adds (outcomes h.rows) h.counted
           ∙ ap (λ (o : Outcome). counts_of (outcomes h.rows ++ o ∷ [])) w.outcome
@@ -206,16 +239,16 @@ module _ {W : Type 0} (contents : W → Option (List ℕ)) (found : Text → Fin
     }
 
     -- the device failed at one more
-    pub cut_off : (after : Tried W) (fault : RunError)
+    pub cut_off : (after : Outbox W) (fault : RunError)
         → WritesRow contents found form (get_or names i d).now between after (Err fault)
-        → WritesTable contents found form [] (texts_of names) output after (Err fault)
+        → WritesTable contents found form [] (texts_of names) output (device_of after) (Err fault)
     cut_off after fault w = record {
       rows = next w.finding w.is_found;
       each = next_each w.finding w.is_found;
       written = subst
-          (λ (v : List ℕ). AppendsPrefix (contents (inner_of output)) (contents (inner_of after)) v)
+          (λ (v : List ℕ). AppendsPrefix (contents (inner_of output)) (contents (inner_of (device_of after))) v)
           (sym (next_text w.finding w.is_found))
-          (prefix_behind _ _ _ (rows_in form h.rows) (row_in form (get_or names i d).now w.finding) h.written w.row);
+          (prefix_behind _ _ _ (rows_in form h.rows) (row_in form (get_or names i d).now w.finding) h.written w.row.written);
       later = texts_of (drop (i + 1) names);
       named = sym (ap texts_of (take-append-drop (i + 1) names))
           ∙ map-append _ (take (i + 1) names) (drop (i + 1) names)
@@ -271,3 +304,43 @@ module _ {W : Type 0} (contents : W → Option (List ℕ)) (found : Text → Fin
     named = refl;
     all = tt;
   }
+
+-- ---- what was put is written
+module _ {W T : Type 0} {contents : W → Option (List ℕ)} {MayEnd : RunError → Type 0} {text : List ℕ}
+    (a b c : Outbox W) (r : Result Unit WriteFault) (ready : IsReady a) (puts : Puts contents a b text)
+    (handed : HandsOn contents b c []) (device : IsErr r ↔ IsTrue (device_failed c))
+    (empty : OnOk r (waiting_of c ≡ [])) where
+  pub out_whole : (v : T) (done : Unit {0}) → r ≡ Ok done → WritesOut contents MayEnd text a c (Ok v)
+  out_whole v done is =
+      let works : device_failed c ≡ false = works_at_ok (device_failed c) (rw is at device) in
+      record {
+        ends = ends_ok v (rw is at empty, works) (handed.same_device ∙ puts.hands_on.same_device);
+        written = rw is at (WritesText-finished (device_of a) r refl ready.0 puts handed device empty);
+      }
+
+  pub out_in_part : (fault : WriteFault) → r ≡ Err fault → MayEnd error.Write
+      → WritesOut {T = T} contents MayEnd text a c (Err error.Write)
+  out_in_part fault is may =
+      record {
+        ends = record {
+          same_device = handed.same_device ∙ puts.hands_on.same_device;
+          device = (λ e. (rw is at device).0 refl, λ failed. refl);
+          errors = may;
+          ready = tt;
+        };
+        written = rw is at (WritesText-finished (device_of a) r refl ready.0 puts handed device empty);
+      }
+
+-- for want of memory nothing was
+pub out_of_memory : {W T : Type 0} {contents : W → Option (List ℕ)} {form : TableForm} {text : List ℕ} (a b : Outbox W)
+    → IsReady a → form ≡ Json → b ≡ a
+    → WritesOut {T = T} contents (MayEndTable form) text a b (Err error.Memory)
+out_of_memory {W} {T} {contents} {form} {text} a b ready is same = rw same (record {
+  ends = record {
+    same_device = refl;
+    device = (λ e. absurd (cc), λ failed. absurd (true≢false (sym failed ∙ ready.1)));
+    errors = inr (refl, is);
+    ready = tt;
+  };
+  written = (0, omega arith, Appends-nil (contents (inner_of (device_of a))));
+})

@@ -1,7 +1,7 @@
 -- What the writing of a part of a table has done when it returns.
 use Rattle.std.specs.declared.alloc.AllocError.{AllocError}
 use Rattle.std.specs.Prelude.{◌≡◌, ◌↔◌, ℕ, Bool, false, List, [], Option, Result, Ok, Err, IfOk, IfErr}
-use Rattle.std.specs.Prelude.{OnOk, IsErrOf, IsTrue, Unit}
+use Rattle.std.specs.Prelude.{OnOk, IsErrOf, IsTrue}
 use Rattle.clap.specs.Words.{Text}
 use Rattle.ans_options.specs.declared.command.TableForm.{TableForm}
 use Rattle.ans_options.specs.declared.command.TableForm.TheVariants.{Json}
@@ -26,17 +26,19 @@ abbrev pub PutsRow : {W : Type 0} → (W → Option (List ℕ)) → TableForm �
 PutsRow contents form row old new (Ok done) = Puts contents old new row
 PutsRow contents form row old new (Err e) = (form ≡ Json) × (new ≡ old)
 
--- `Write` comes exactly where the device failed, any other error is one of these, and at `Ok` all is ready again
-pub record EndsRows {W T : Type 0} (MayEnd : RunError → Type 0) (new : Outbox W) (result : Result T RunError) : Type 0
-  where
-    pub device : IsErrOf result error.Write ↔ IsTrue (device_failed new)
-    pub errors : IfErr result MayEnd
-    pub ready : OnOk result (IsReady new)
+-- The device is the same. `Write` comes exactly where it failed, any other error is one of these, and at `Ok` all is
+-- ready again.
+pub record EndsRows {W T : Type 0} (MayEnd : RunError → Type 0) (old new : Outbox W) (result : Result T RunError)
+    : Type 0 where
+  pub same_device : new.device.ghost_name ≡ old.device.ghost_name
+  pub device : IsErrOf result error.Write ↔ IsTrue (device_failed new)
+  pub errors : IfErr result MayEnd
+  pub ready : OnOk result (IsReady new)
 
 -- at `Ok` the text was written, and else a prefix of it
 pub record WritesOut {W T : Type 0} (contents : W → Option (List ℕ)) (MayEnd : RunError → Type 0) (text : List ℕ)
     (old new : Outbox W) (result : Result T RunError) : Type 0 where
-  pub ends : EndsRows MayEnd new result
+  pub ends : EndsRows MayEnd old new result
   pub written : WritesText (contents (inner_of (device_of old))) (contents (inner_of (device_of new))) result text
 
 -- the row of one file was written, which tells what is found of it

@@ -32,14 +32,17 @@ pub(crate) fn say<E: Write>(errors: &mut Tried<E>, ending: Ending)
     requires told { ending ≢ Ending.Usage }
     ensures { Says E.contents errors.old errors.new ending }
 {
-    let mut out = Outbox::new(errors);
     if let Ending::Table(counts) = ending {
+        let mut out = Outbox::new(errors);
         put_counts(&mut out, &counts);
+        let _ = out.finish();
+        return;
     }
     if let Some(text) = ending.message() {
+        let mut out = Outbox::new(errors);
         put_message(&mut out, text);
+        let _ = out.finish();
     }
-    let _ = out.finish();
 }
 
 /// The input that the words name: standard input where they name none, or `-`. None where the file

@@ -3,7 +3,7 @@
 ghost use Rattle.std.specs.Prelude.{◌≡◌, ◌↔◌, ◌≤◌, false, length, IsTrue, IsErrOf, IfErr, IfOk, []};
 ghost use Rattle.ans_model.specs.Bytes.{longest_file};
 ghost use Rattle.ans_model.specs.Text.Words.{texts_of};
-ghost use Rattle.ans_write.specs.Puts.{device_of};
+ghost use Rattle.ans_write.specs.Puts.{Puts, device_of};
 ghost use Rattle.ans_write.specs.Tried.{has_failed};
 ghost use Rattle.ans_table.specs.Findings.{IsFindingOf, outcome_of};
 ghost use Rattle.ans_check.specs.FileNeeds.{IsNeedsOf};
@@ -80,9 +80,9 @@ fn tell<W: Write>(
     ensures row { WritesOut W.contents (MayEndTable form) (row_in form name.now finding.now) out.old out.new result }
     ensures outcome { IfOk result (λ o. o ≡ outcome_of finding.now) }
 {
-    if put_row_in(alloc, form, out, name, finding).is_err() {
+    let Ok(()) = put_row_in(alloc, form, out, name, finding) else {
         return Err(RunError::Memory);
-    }
+    };
     match out.hand_on() {
         Ok(()) => Ok(finding.outcome()),
         Err(WriteFault) => Err(RunError::Write),
@@ -128,7 +128,7 @@ fn tell_files<I: Inputs, W: Write>(
     out: &mut Outbox<'_, W>,
 ) -> Result<Counts, RunError>
     requires { IsReady out.old }
-    ensures ends { EndsRows (MayEndTable form) out.new result }
+    ensures ends { EndsRows (MayEndTable form) out.old out.new result }
     ensures rows { WritesTable W.contents (IsFoundByName I.Reader.remaining (I.is_file inputs) (I.is_missing inputs))
         form [] (texts_of names.now) (device_of out.old) (device_of out.new) result }
 {
@@ -141,14 +141,23 @@ fn tell_files<I: Inputs, W: Write>(
     Ok(counts)
 }
 
-/// Writes the line of the columns' names, where the form asks for it.
+/// Puts the line of the columns' names, where the form asks for it.
+fn put_header_in<W: Write>(form: TableForm, out: &mut Outbox<'_, W>)
+    ensures { Puts W.contents out.old out.new (header form) }
+{
+    match form {
+        TableForm::Headed => put_header(out),
+        TableForm::Bare => {}
+        TableForm::Json => {}
+    }
+}
+
+/// Writes that line.
 fn tell_header<W: Write>(form: TableForm, out: &mut Outbox<'_, W>) -> Result<(), RunError>
     requires { IsReady out.old }
-    ensures { WritesOut W.contents (λ e. e ≡ RunError.Write) (header form) out.old out.new result }
+    ensures { WritesOut W.contents (MayEndTable form) (header form) out.old out.new result }
 {
-    if form == TableForm::Headed {
-        put_header(out);
-    }
+    put_header_in(form, out);
     match out.finish() {
         Ok(()) => Ok(()),
         Err(WriteFault) => Err(RunError::Write),

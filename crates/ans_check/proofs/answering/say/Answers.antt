@@ -1,11 +1,20 @@
+use Rattle.std.proofs.Common.{rules, sym}
 use Rattle.ans_report.specs.Message.{message_line}
-use Rattle.ans_write.specs.Tried.{has_failed}
-use Rattle.std.proofs.Common.{sym}
-use Rattle.ans_check.proofs.AnswerLemmas.{says_message, written_unless}
+use Rattle.ans_write.specs.Puts.{device_of}
+use Rattle.ans_check.proofs.AnswerLemmas.{put_out, says_message}
 use Rattle.ans_check.proofs.answering.say.Goals as goal
 
+pub returns-in-Table : goal.returns-in-Table
+returns-in-Table g c =
+    let told = put_out c.args.errors.now c.finish.result c.new-out.ensures.unchanged c.new-out.ensures.empty
+    c.put_counts.ensures c.finish.ensures.handed c.finish.ensures.device c.finish.ensures.empty in
+    rw c.in-Table.is (search (rules, told))
+
 pub returns-in-Some : goal.returns-in-Some
-returns-in-Some g c = says_message g.E.Write.contents c.args.errors.now c.write_message.new.writer c.args.ending
-    c.in-Some.text.now (sym c.in-Some.ensures)
-    (written_unless _ _ c.write_message.result (has_failed c.write_message.new.writer) (message_line c.in-Some.text.now)
-    c.write_message.ensures.device c.write_message.ensures.bytes)
+returns-in-Some g c =
+    let done = c.finish-in-Some.ensures in
+    let told = put_out c.args.errors.now c.finish-in-Some.result c.new-out-in-Some.ensures.unchanged
+    c.new-out-in-Some.ensures.empty c.put_message.ensures done.handed done.device done.empty in
+    let said = says_message g.E.Write.contents c.args.errors.now (device_of c.finish-in-Some.new.self) c.args.ending
+    c.in-Some.text.now (sym c.in-Some.ensures) told in
+    search (rules, said)

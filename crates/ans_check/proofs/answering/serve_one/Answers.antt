@@ -1,15 +1,10 @@
-use Rattle.std.proofs.Common.{refl, rules, sym, subst, inl}
+use Rattle.std.proofs.Common.{refl, subst, sym, inl}
 use Rattle.std.specs.Prelude.{option_map, string_bytes}
 use Rattle.ans_check.specs.Answer.{IsNamed}
-use Rattle.ans_check.proofs.answering.serve_options.Goals as goal
+use Rattle.ans_check.proofs.answering.serve_one.Goals as goal
 
 pub returns-clause-ends : goal.returns-clause-ends
 returns-clause-ends g c = inl (record {
-  options = c.args.options.now;
-  file = option_map string_bytes c.args.name.now;
-  asked = c.requires.asked;
-  one = search rules;
-  faultless = c.requires.faultless;
   reader = c.new-reader.result;
   reader_after = c.serve.new.reader;
   input = subst (IsNamed (g.I.Inputs.is_file c.args.inputs) (g.I.Inputs.is_standard c.args.inputs)

@@ -8,11 +8,11 @@ use Rattle.ans_check.proofs.system.answer_texts.Goals as goal
 pub returns-in_default : goal.returns-in_default
 returns-in_default g c = (
   UnreadableWords,
-  inr (inr (inr (record {
+  inr (record {
     refusal = words_error.Memory;
     refused = record { kind = tt; memory = λ _. tt };
     ends = (refl, refl);
-  }))),
+  }),
   c.say.ensures,
   c.status.ensures,
 )

@@ -1,0 +1,8 @@
+use Rattle.ans_check.proofs.answering.serve_asked.Goals as goal
+
+pub returns-in-One-clause-ends : goal.returns-in-One-clause-ends
+returns-in-One-clause-ends g c = rw c.in-One.is c.serve_one.ensures.ends
+
+pub returns-in-Table-clause-ends : goal.returns-in-Table-clause-ends
+returns-in-Table-clause-ends g c =
+    rw c.in-Table.is (rw c.as_slice.ensures.value at c.serve_table.ensures.ends)
