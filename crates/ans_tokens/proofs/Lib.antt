@@ -10,4 +10,6 @@ pub mod TextFront
 pub mod Declines
 pub mod Scanning
 pub mod PiecesRead
+mod WalkSteps
+pub mod Walked
 pub mod TakenSoFar

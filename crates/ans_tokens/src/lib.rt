@@ -21,6 +21,7 @@ mod pieces;
 mod scanner;
 mod token;
 mod unfinished;
+mod walker;
 mod whole;
 
 pub use ans_model::fault::{Cause, Fault};
@@ -30,4 +31,5 @@ pub use meaning::{distance, is_just, place};
 pub use pieces::{Piece, Pieces};
 pub use scanner::{ESCAPE, Scanner};
 pub use token::Token;
+pub use walker::{Walker, walk};
 pub use whole::{Letter, read_sequence};

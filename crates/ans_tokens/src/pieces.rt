@@ -36,7 +36,7 @@ fn glyphs_in_front(bytes: &[u8]) -> usize
 /// The token that the bytes begin with, which stands at this offset: they are taken one by one. None
 /// where there is no byte, and else a fault at the offset, F9 to F14.
 #[inline(never)]
-fn token_by_bytes(bytes: &[u8], offset: usize) -> Result<Option<Token>, Fault>
+pub(crate) fn token_by_bytes(bytes: &[u8], offset: usize) -> Result<Option<Token>, Fault>
     requires { offset + length bytes.now ≤ longest_file }
     ensures token { IfOk result (λ token. MatchOption token (bytes.now ≡ [])
         (IsTokenAt offset bytes.now)) }

@@ -1,0 +1,69 @@
+//! A walk over the tokens of a content.
+
+ghost use Rattle.std.specs.Prelude.{◌≡◌, ◌+◌, ◌<◌, ◌≤◌, ℕ, Bool, List, [], length, true, MatchOption};
+ghost use Rattle.std.specs.Prelude.{IfOk, IfErr};
+ghost use Rattle.ans_model.specs.Bytes.{longest_file};
+ghost use Rattle.ans_model.specs.Inside.ShownKind.{shown_kind};
+ghost use Rattle.ans_tokens.specs.Pieces.{IsFaultAt};
+ghost use Rattle.ans_tokens.specs.Token.{kind_of, start_of, length_of};
+ghost use Rattle.ans_tokens.specs.Walk.{Front, IsNext, WalksTo, front_with, no_front};
+ghost use Rattle.ans_tokens.specs.WholeToken.{IsTokenAt};
+
+use crate::pieces::token_by_bytes;
+use crate::token::Token;
+use crate::whole::whole_token;
+use ans_model::fault::Fault;
+
+/// What is handed the tokens of a content one after the other.
+pub trait Walker {
+    /// It may be handed a token that stands at this offset.
+    ghost ready: { Self → ℕ → Type 0 };
+
+    /// The first walker has been over the front and has become the second, which goes on or stops.
+    ghost walked: { Self → Front → Self → Bool → Type 0 };
+
+    /// Takes the next token, and says whether to go on. `behind` are the content's bytes behind the
+    /// token.
+    fn token(&mut self, token: &Token, behind: &[u8]) -> bool
+        requires room { start_of token.now < longest_file }
+        requires ready { ready self.old (start_of token.now) }
+        ensures ready { ready self.new (start_of token.now + length_of token.now) }
+        ensures walked { (first : Self) (front : Front) (text : List ℕ)
+            → IsNext front token.now text behind.now → walked first front self.old true → walked first
+            (front_with front (shown_kind (kind_of token.now)) text behind.now) self.new result };
+}
+
+/// The token that the bytes begin with, which stands at this offset. None where there is no byte, and
+/// else a fault at the offset, F9 to F14.
+#[inline(always)]
+fn next_token(bytes: &[u8], offset: usize) -> Result<Option<Token>, Fault>
+    requires { offset + length bytes.now ≤ longest_file }
+    ensures token { IfOk result (λ token. MatchOption token (bytes.now ≡ [])
+        (IsTokenAt offset bytes.now)) }
+    ensures fault { IfErr result (IsFaultAt offset bytes.now) }
+{
+    if let Some(token) = whole_token(bytes, offset) {
+        return Ok(Some(token));
+    }
+    token_by_bytes(bytes, offset)
+}
+
+/// Hands a walker the tokens of the first `end` bytes of a content, one after the other. True where
+/// it went on up to the end, and false where it stopped before. Where the reading refuses what stands
+/// next, or the bytes end in a sequence, the fault is returned, F9 to F14.
+pub fn walk<W: Walker>(content: &[u8], end: usize, walker: &mut W) -> Result<bool, Fault>
+    requires length { length content.now ≤ longest_file }
+    requires end { end ≤ length content.now }
+    requires ready { W.ready walker.old 0 }
+    requires begins { W.walked walker.old (no_front content.now) walker.old true }
+    ensures { WalksTo W.walked content.now end walker.old walker.new result }
+{
+    let mut at = 0;
+    while let Some(token) = next_token(&content[at..end], at)? {
+        at += token.length;
+        if !walker.token(&token, &content[at..]) {
+            return Ok(false);
+        }
+    }
+    Ok(true)
+}
