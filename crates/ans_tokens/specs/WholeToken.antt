@@ -1,5 +1,5 @@
 -- A token that is taken whole from the bytes that begin with it.
-use Rattle.std.specs.Prelude.{◌≡◌, ◌⊎◌, ℕ, ◌<◌, ◌≤◌, IsTrue, false, List, ◌++◌, length, map, take, slice_index_or}
+use Rattle.std.specs.Prelude.{◌≡◌, ℕ, ◌<◌, ◌≤◌, IsTrue, false, List, length, map, take, slice_index_or}
 use Rattle.std.specs.List.{list_all, list_any}
 use Rattle.std.specs.Char.{is_ascii_digit}
 use Rattle.std.specs.Str.Parse.{digits_value}
@@ -8,10 +8,8 @@ use Rattle.ans_model.specs.Sequence.Spelling.{Raw, Spells}
 use Rattle.ans_model.specs.declared.mark.Mark.{Mark}
 use Rattle.ans_model.specs.Sequence.TokenKind.{TokenKind}
 use Rattle.ans_model.specs.Sequence.Meaning.{colour_number, is_quoted}
-use Rattle.ans_model.specs.Sequence.Reads.{IsByteOf, IsSequenceOf, SpellsToken}
+use Rattle.ans_model.specs.Sequence.Reads.{SpellsToken}
 use Rattle.ans_model.specs.Inside.ShownKind.{shown_kind}
-use Rattle.ans_tokens.specs.ScannerView.{ScannerView}
-use Rattle.ans_tokens.specs.Glyphs.{scanner_after}
 use Rattle.ans_tokens.specs.Token.{kind_of, start_of, length_of}
 use Rattle.ans_tokens.specs.declared.token.Token.{Token}
 
@@ -43,9 +41,3 @@ pub record IsTokenFront (bytes : List ℕ) (token : TokenKind) (count : ℕ) : T
 pub record IsTokenAt (offset : ℕ) (bytes : List ℕ) (token : Token) : Type 0 where
   pub front : IsTokenFront bytes (shown_kind (kind_of token)) (length_of token)
   pub starts : start_of token ≡ offset
-
--- the bytes begin with the token, which stands where the scanner stood and is taken
-pub record TakesToken (old : ScannerView) (bytes : List ℕ) (new : ScannerView) (token : Token) : Type 0 where
-  pub front : IsTokenFront bytes (shown_kind (kind_of token)) (length_of token)
-  pub starts : start_of token ≡ old.offset
-  pub taken : new ≡ scanner_after old (length_of token)

@@ -1,9 +1,9 @@
 //! Which bytes of the content form which token: the sequences of ANSI.SYS, exactly.
 //!
 //! A `Scanner` is given one byte at a time. It returns a token where the bytes since the last one
-//! spell it, nothing where they begin a spelling, and a fault where they begin none. Between two
-//! tokens it also takes a run of glyphs or a whole token from a slice.
+//! spell it, nothing where they begin a spelling, and a fault where they begin none.
 //!
+//! [`walk`] goes over a content and hands its tokens to a [`Walker`], common ones read whole.
 //! [`Pieces`] goes over a whole content, glyphs in a row at once and else token by token.
 //!
 //! Other functions are for a caller that plays as it reads and makes no token. [`count_glyphs`]

@@ -1,4 +1,4 @@
-use Rattle.std.proofs.Common.{◌≡◌, ◌+◌, true, false, List, ℕ, sym, ◌∙◌, arith, get_or, drop}
+use Rattle.std.proofs.Common.{◌≡◌, ◌+◌, true, List, ℕ, sym, ◌∙◌, arith, get_or}
 use Rattle.std.specs.Char.{is_ascii_alphabetic}
 use Rattle.ans_tokens.proofs.WholeSequences.{number_at, member_at, letter_at}
 use Rattle.ans_tokens.proofs.whole.read_members.Goals as goal

@@ -1,4 +1,4 @@
-use Rattle.std.proofs.Common.{◌≡◌, ◌<◌, ◌≤◌, false, take, drop, length}
+use Rattle.std.proofs.Common.{◌≡◌, ◌<◌, ◌≤◌, false, take, length}
 use Rattle.ans_model.specs.Bytes.{most_parameters}
 use Rattle.arrayvec.specs.ArrayVec.{array_vec_len}
 use Rattle.ans_tokens.specs.ScannerView.{Keeps, Sequence, Fresh}
