@@ -1,6 +1,6 @@
 -- The lines of the content's tokens, as a walk puts them.
 use Rattle.std.proofs.Common.{◌≡◌, ◌⊎◌, inl, inr, ℕ, ◌+◌, ◌<◌, suc, Bool, true, false, true≢false, List, [], ◌∷◌, ◌++◌}
-use Rattle.std.proofs.Common.{length, take, get_or, refl, ap, sym, subst, ◌∙◌, arith, append_assoc, append-nil, length-append}
+use Rattle.std.proofs.Common.{length, get_or, refl, ap, sym, subst, ◌∙◌, arith, append_assoc, append-nil, length-append}
 use Rattle.std.specs.Prelude.{Option, Some, None, Result, Ok, Err}
 use Rattle.std.specs.List.{AllZip, AllByRecursion, concat}
 use Rattle.std.proofs.lemmas.List.{take_all}
@@ -17,7 +17,7 @@ use Rattle.ans_model.specs.Text.FaultText.{fault_line}
 use Rattle.ans_model.specs.Text.TokensText.{token_line, token_lines, Leaves, fault_end, TokensText}
 use Rattle.ans_tokens.specs.declared.token.Token.{Token}
 use Rattle.ans_tokens.specs.Pieces.{IsFaultAt}
-use Rattle.ans_tokens.specs.Token.{kind_of, start_of, length_of}
+use Rattle.ans_tokens.specs.Token.{kind_of, start_of}
 use Rattle.ans_tokens.specs.Walk.{Front, IsNext, Walks, WalksTo}
 use Rattle.ans_tokens.proofs.EachByte.{IsOpen, open_ends}
 use Rattle.ans_tokens.proofs.Readable.{IsRefusedFront, readable, reads_as_append}

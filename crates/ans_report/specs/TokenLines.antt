@@ -7,7 +7,7 @@ use Rattle.ans_model.specs.Inside.ShownKind.{shown_kind}
 use Rattle.ans_model.specs.Text.FaultText.{line_of}
 use Rattle.ans_model.specs.Sequence.TokenKind.{TokenKind, Glyph, Up, Down, Forward, Backward, Place, Colours}
 use Rattle.ans_model.specs.Text.Hexadecimal.{hex_byte}
-use Rattle.ans_model.specs.Text.TokensText.{token_line, token_name, token_lines, TokensText}
+use Rattle.ans_model.specs.Text.TokensText.{token_name, token_lines, TokensText}
 use Rattle.ans_tokens.specs.Token.{kind_of, start_of, length_of}
 use Rattle.ans_tokens.specs.declared.token.Token.{Token}
 use Rattle.ans_tokens.specs.Walk.{Front}

@@ -1,4 +1,4 @@
-use Rattle.std.proofs.Common.{◌≡◌, false, not, sym, ap, ◌∙◌}
+use Rattle.std.proofs.Common.{sym, ◌∙◌}
 use Rattle.std.proofs.lemmas.Bool.{not-false}
 use Rattle.ans_report.proofs.TokensPut.{puts_line}
 use Rattle.ans_report.proofs.tokens_text.TokenLinesWalker.token.Goals as goal
