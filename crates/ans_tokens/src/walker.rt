@@ -1,8 +1,8 @@
 //! A walk over the tokens of a content.
 
-ghost use Rattle.std.specs.Prelude.{◌≡◌, ◌+◌, ◌<◌, ◌≤◌, ℕ, Bool, List, [], length, true, MatchOption};
-ghost use Rattle.std.specs.Prelude.{IfOk, IfErr};
-ghost use Rattle.ans_model.specs.Bytes.{longest_file};
+ghost use Rattle.std.specs.Prelude.{◌≡◌, ◌≢◌, ◌+◌, ◌<◌, ◌≤◌, ℕ, Bool, List, [], length, true, MatchOption};
+ghost use Rattle.std.specs.Prelude.{IfOk, IfErr, slice_index_or};
+ghost use Rattle.ans_model.specs.Bytes.{escape, longest_file};
 ghost use Rattle.ans_model.specs.Inside.ShownKind.{shown_kind};
 ghost use Rattle.ans_tokens.specs.Pieces.{IsFaultAt};
 ghost use Rattle.ans_tokens.specs.Token.{kind_of, start_of, length_of};
@@ -10,8 +10,9 @@ ghost use Rattle.ans_tokens.specs.Walk.{Front, IsNext, WalksTo, front_with, no_f
 ghost use Rattle.ans_tokens.specs.WholeToken.{IsTokenAt};
 
 use crate::pieces::token_by_bytes;
+use crate::scanner::{ESCAPE, kind_of_byte};
 use crate::token::Token;
-use crate::whole::whole_token;
+use crate::whole::whole_sequence;
 use ans_model::fault::Fault;
 
 /// What is handed the tokens of a content one after the other.
@@ -33,16 +34,26 @@ pub trait Walker {
             (front_with front (shown_kind (kind_of token.now)) text behind.now) self.new result };
 }
 
-/// The token that the bytes begin with, which stands at this offset. None where there is no byte, and
-/// else a fault at the offset, F9 to F14.
+/// The token that the bytes begin with, which stands at this offset; it is a byte outside sequences.
 #[inline(always)]
-fn next_token(bytes: &[u8], offset: usize) -> Result<Option<Token>, Fault>
+fn next_byte(bytes: &[u8], offset: usize) -> Token
+    requires some { 1 ≤ length bytes.now }
+    requires outside { slice_index_or bytes.now 0 0 ≢ escape }
+    ensures { IsTokenAt offset bytes.now result }
+{
+    Token::new(kind_of_byte(bytes[0]), offset, 1)
+}
+
+/// The token that the bytes begin with, which stands at this offset; it is a sequence. None where
+/// there is no byte, and else a fault at the offset, F9 to F14.
+#[inline(always)]
+fn next_sequence(bytes: &[u8], offset: usize) -> Result<Option<Token>, Fault>
     requires { offset + length bytes.now ≤ longest_file }
     ensures token { IfOk result (λ token. MatchOption token (bytes.now ≡ [])
         (IsTokenAt offset bytes.now)) }
     ensures fault { IfErr result (IsFaultAt offset bytes.now) }
 {
-    if let Some(token) = whole_token(bytes, offset) {
+    if let Some(token) = whole_sequence(bytes, offset) {
         return Ok(Some(token));
     }
     token_by_bytes(bytes, offset)
@@ -59,11 +70,25 @@ pub fn walk<W: Walker>(content: &[u8], end: usize, walker: &mut W) -> Result<boo
     ensures { WalksTo W.walked content.now end walker.old walker.new result }
 {
     let mut at = 0;
-    while let Some(token) = next_token(&content[at..end], at)? {
-        at += token.length;
-        if !walker.token(&token, &content[at..]) {
+    'tokens: loop {
+        let bytes = &content[at..end];
+        // A token is large, so that of a byte is handed on at once: it would be copied where ways join.
+        let goes_on = match bytes {
+            [byte, ..] if *byte != ESCAPE => {
+                let token = next_byte(bytes, at);
+                at += token.length;
+                walker.token(&token, &content[at..])
+            }
+            _ => {
+                let Some(token) = next_sequence(bytes, at)? else {
+                    return Ok(true);
+                };
+                at += token.length;
+                walker.token(&token, &content[at..])
+            }
+        };
+        if !goes_on {
             return Ok(false);
         }
     }
-    Ok(true)
 }

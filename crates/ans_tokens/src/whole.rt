@@ -130,11 +130,10 @@ pub fn read_sequence(bytes: &[u8], numbers: &mut ArrayVec<u8, MAX_PARAMETERS>) -
     }
 }
 
-/// The token of the sequence that the bytes begin with, which stands at this offset. The first byte
-/// is ESC. It declines where the sequence is not whole, has a string, or is refused.
+/// The token of the sequence that the bytes begin with, which stands at this offset. It declines
+/// where there is none, or it is not whole, has a string, or is refused.
 #[inline(always)]
-fn whole_sequence(bytes: &[u8], start: usize) -> Option<Token>
-    requires { slice_index_or bytes.now 0 0 ≡ escape }
+pub(crate) fn whole_sequence(bytes: &[u8], start: usize) -> Option<Token>
     ensures { IfSome result (IsTokenAt start bytes.now) }
 {
     let [0x1B, b'[', next, ..] = bytes else {

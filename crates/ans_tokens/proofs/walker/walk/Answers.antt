@@ -1,48 +1,38 @@
-use Rattle.std.proofs.Common.{List, ℕ, ◌+◌, take, drop, subst}
 use Rattle.std.proofs.lemmas.Result.{err_from_is_err_and}
-use Rattle.ans_tokens.specs.WholeToken.{IsTokenAt}
-use Rattle.ans_tokens.specs.Token.{length_of}
-use Rattle.ans_tokens.specs.Walk.{Walks}
-use Rattle.ans_tokens.proofs.WalkSteps.{part_of, rest_of, ends_within, walks_token, fault_left}
+use Rattle.ans_tokens.proofs.WalkSteps.{StandsAt, walks_token, fault_left}
 use Rattle.ans_tokens.proofs.walker.walk.Goals as goal
 use Rattle.ans_tokens.proofs.walker.walk.Given.{Over}
-use Rattle.ans_tokens.proofs.walker.walk.Goals.{After-token}
+use Rattle.ans_tokens.proofs.walker.walk.Goals.{Joined-bytes-lt1, in-len1-up, in_default+in_ok-token-in_default+in-Some}
 
-pub returns-in_err-token : goal.returns-in_err-token
-returns-in_err-token g c =
+pub returns-in_err-token-in_default : goal.returns-in_err-token-in_default
+returns-in_err-token-in_default g c =
     let p = err_from_is_err_and c.from_residual.result c.from_residual.ensures.1 in
     rw (p.1, p.2) (fault_left g.W.Walker.walked c.args.content.now c.args.end c.args.walker.now c.requires.end
-    c.loop-token.at c.loop-token.walker c.loop-token.invariant.so_far c.loop-token.invariant.within
-    c.in_err-token.field-0.0 c.in_err-token.ensures.fault)
+    c.tokens.at c.tokens.walker c.tokens.invariant.so_far c.tokens.invariant.within
+    c.in_err-token-in_default.field-0.0 c.in_err-token-in_default.ensures.fault)
 
--- the token that was taken
-token_at : (g : Over) (c : After-token g)
-    → IsTokenAt c.loop-token.at (drop c.loop-token.at (take c.args.end c.args.content.now)) c.in-Some.token
-token_at g c =
-    subst (λ (v : List ℕ). IsTokenAt c.loop-token.at v c.in-Some.token)
-    (part_of c.args.content.now c.loop-token.at c.args.end c.loop-token.invariant.within)
-    (rw c.in-Some.is at c.in_ok-token.ensures.token)
+-- after the token that was handed on
+stands : (g : Over) (c : Joined-bytes-lt1 g) → StandsAt g.W.Walker.walked g.W.Walker.ready c.args.content.now c.args.end
+    c.args.walker.now c.if-bytes-lt1.at c.if-bytes-lt1.walker c.if-bytes-lt1.goes_on
+stands g c =
+    let h = c.tokens.invariant in
+    elim c.if-bytes-lt1.branch [
+      | in-len1-up w ↦ rw (w.walker-is, w.at-is, w.goes_on-is) (walks_token g.W.Walker.walked c.args.content.now
+          c.args.end c.args.walker.now c.requires.end c.tokens.at c.tokens.walker h.so_far h.within
+          w.next_byte-token.result w.next_byte-token.ensures g.W.Walker.ready _ _ w.token-goes_on.ensures.ready
+          w.token-goes_on.ensures.walked)
+      | in_default+in_ok-token-in_default+in-Some w ↦ rw (w.walker-is, w.at-is, w.goes_on-is) (walks_token
+          g.W.Walker.walked c.args.content.now c.args.end c.args.walker.now c.requires.end c.tokens.at
+          c.tokens.walker h.so_far h.within w.in-Some.token
+          (rw w.in-Some.is at w.in_ok-token-in_default.ensures.token) g.W.Walker.ready _ _
+          w.token-goes_on-in_default.ensures.ready w.token-goes_on-in_default.ensures.walked)
+    ]
 
-walks_on : (g : Over) (c : After-token g) → Walks g.W.Walker.walked c.args.content.now c.args.end
-    (drop (c.loop-token.at + length_of c.in-Some.token) (take c.args.end c.args.content.now)) c.args.walker.now
-    c.token.new.self c.token.result
-walks_on g c =
-    let h = c.loop-token.invariant in
-    walks_token g.W.Walker.walked c.args.content.now c.args.end c.args.walker.now c.requires.end c.loop-token.at
-    c.loop-token.walker h.so_far h.within c.in-Some.token (token_at g c) _ c.token.new.self c.token.result
-    (rest_of c.args.content.now (c.loop-token.at + length_of c.in-Some.token)) (c.token.ensures.walked c.args.walker.now)
+pub returns-then-not-goes_on : goal.returns-then-not-goes_on
+returns-then-not-goes_on g c =
+    let h = stands g (goal.at.returns-then-not-goes_on g c).Joined-bytes-lt1 in
+    (_, rw c.if-not-goes_on.true at h.so_far)
 
-pub returns-then-not-token : goal.returns-then-not-token
-returns-then-not-token g c = (_, rw c.if-not-token.true at (walks_on g (goal.at.returns-then-not-token g c).After-token))
-
-pub loop-token-preserved : goal.loop-token-preserved
-loop-token-preserved g c =
-    let d = (goal.at.loop-token-preserved g c).After-token in
-    let h = c.loop-token.invariant in
-    let token = token_at g d in
-    record {
-      within = ends_within g.W.Walker.walked c.args.content.now c.args.end c.args.walker.now c.requires.end c.loop-token.at
-          c.loop-token.walker h.so_far h.within c.in-Some.token token;
-      ready = subst (λ (k : ℕ). g.W.Walker.ready c.token.new.self (k + length_of c.in-Some.token)) token.starts c.token.ensures.ready;
-      so_far = rw c.if-not-token.false at (walks_on g d);
-    }
+pub tokens-preserved : goal.tokens-preserved
+tokens-preserved g c =
+    rw c.if-not-goes_on.false at (stands g (goal.at.tokens-preserved g c).Joined-bytes-lt1)

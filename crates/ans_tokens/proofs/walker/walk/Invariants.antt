@@ -1,14 +1,10 @@
-use Rattle.std.proofs.Common.{◌≤◌, ◌-◌, take, drop, true}
-use Rattle.ans_tokens.specs.Walk.{Walks}
+use Rattle.std.proofs.Common.{◌-◌, true}
+use Rattle.ans_tokens.proofs.WalkSteps.{StandsAt}
 use Rattle.ans_tokens.proofs.walker.walk.Given as goal
 
--- the walker has been over the tokens before this offset
-abbrev pub invariant-loop-token : goal.invariant-loop-token
-invariant-loop-token g l = record {
-  within : l.at ≤ l.end;
-  ready : g.W.Walker.ready l.walker l.at;
-  so_far : Walks g.W.Walker.walked l.content l.end (drop l.at (take l.end l.content)) l.fn.walker l.walker true;
-}
+abbrev pub invariant-tokens : goal.invariant-tokens
+invariant-tokens g l =
+    StandsAt g.W.Walker.walked g.W.Walker.ready l.content l.end l.fn.walker l.at l.walker true
 
-abbrev pub decreases-loop-token : goal.decreases-loop-token
-decreases-loop-token g l = l.end - l.at
+abbrev pub decreases-tokens : goal.decreases-tokens
+decreases-tokens g l = l.end - l.at
