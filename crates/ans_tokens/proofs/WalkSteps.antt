@@ -86,6 +86,7 @@ module _ {W : Type 0} (walked : W → Front → W → Bool → Type 0) (content 
           reads = reads_as_more h.read text h.front.tokens h.front.texts kind h.reads next.front.spelled;
           behind = goes_on;
           over = step h.front text (record {
+              each = h.reads.each;
             whole = h.behind ∙ ap (λ (v : List ℕ). v ++ drop end content) token_left
                 ∙ append_assoc text left (drop end content) ∙ ap (λ (v : List ℕ). text ++ v) (sym goes_on);
             spelled = next.front.spelled;

@@ -1,6 +1,6 @@
 -- What a walk over the tokens of a content has been over.
 use Rattle.std.specs.Prelude.{◌≡◌, ℕ, Bool, true, false, List, [], ◌∷◌, ◌++◌, length, take, drop, Result, Ok, Err}
-use Rattle.std.specs.List.{concat}
+use Rattle.std.specs.List.{AllZip, concat}
 use Rattle.ans_model.specs.Sequence.TokenKind.{TokenKind}
 use Rattle.ans_model.specs.Sequence.Reads.{SpellsToken, ReadsAs}
 use Rattle.ans_model.specs.Inside.ShownKind.{shown_kind}
@@ -22,8 +22,9 @@ front_of tokens texts behind = record { tokens = tokens; texts = texts; behind =
 abbrev pub no_front : List ℕ → Front
 no_front content = front_of [] [] content
 
--- the token comes next: it stands behind the front, and these bytes stand behind it
+-- the token comes next: its text stands behind the front, whose tokens have their texts, and these bytes stand behind it
 pub record IsNext (front : Front) (token : Token) (text behind : List ℕ) : Type 0 where
+  pub each : AllZip SpellsToken front.tokens front.texts
   pub whole : front.behind ≡ text ++ behind
   pub spelled : SpellsToken (shown_kind (kind_of token)) text
   pub starts : start_of token ≡ length (concat front.texts)

@@ -127,7 +127,7 @@ impl Scanner {
     ghost use Rattle.ans_tokens.specs.ScannerView.{new_scanner, Holds, StaysUnfinished, EndsToken};
     ghost use Rattle.ans_tokens.specs.ScannerView.{StartsAfterLast, RefusesByte, Ends};
     ghost use Rattle.ans_tokens.specs.Glyphs.{IsGlyphFront, IsBetweenTokens, scanner_after};
-    ghost use Rattle.ans_tokens.specs.WholeToken.{TakesToken, HasNoCommonToken};
+    ghost use Rattle.ans_tokens.specs.WholeToken.{TakesToken};
 
     /// A scanner before the first byte.
     pub fn new() -> Scanner
@@ -228,13 +228,12 @@ impl Scanner {
     /// Takes the token that the bytes begin with, where it is a whole one and of a common form: a
     /// byte outside sequences (ANSI.SYS), or `ESC [`, perhaps a mark `?` or `=`, at most 16 numbers
     /// of at most 255 with a `;` between each two, and a letter that means something with them.
-    /// None declines, only where the bytes begin with no such token: then nothing changes, and they
-    /// may be taken one by one. It is called between two tokens.
+    /// None declines: then nothing changes, and the bytes may be taken one by one. It is called
+    /// between two tokens.
     pub fn token(&mut self, bytes: &[u8]) -> Option<Token>
         requires between { IsBetweenTokens self.old }
         requires room { self.old.offset + length bytes.now ≤ longest_file }
         ensures taken { IfSome result (TakesToken self.old bytes.now self.new) }
-        ensures declined { IfNone result (HasNoCommonToken bytes.now) }
         ensures unchanged { IfNone result (self.new ≡ self.old) }
     {
         let token = whole_token(bytes, self.offset);

@@ -1,7 +1,7 @@
 //! Contents byte by byte: the tokens that they hold, and where they are refused.
 
-mod pieces;
 mod sequences;
+mod walks;
 mod whole_tokens;
 
 use ans_model::limits::MAX_FILE;

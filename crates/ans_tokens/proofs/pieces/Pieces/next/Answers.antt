@@ -20,7 +20,7 @@ returns-in-Some-clause-piece c =
     subst (λ (v : PiecesView). IsGlyphFront v.rest 0) c.self.view_is (rw none at c.glyphs_in_front-count.ensures) in
     let token : IsTokenAt c.args.self.now.offset c.args.self.now.rest c.in-Some.token =
     subst (λ (v : PiecesView). IsTokenAt v.offset v.rest c.in-Some.token) c.self.view_is
-    (rw c.in-Some.is at c.whole_token.ensures.taken) in
+    (rw c.in-Some.is at c.whole_token.ensures) in
     token_taken c.args.self.now c.take-in-Some.new.self c.in-Some.token token front c.take-in-Some.ensures.taken
 
 pub returns-in-Some-2-clause-piece : goal.returns-in-Some-2-clause-piece
