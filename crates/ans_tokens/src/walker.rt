@@ -27,6 +27,7 @@ pub trait Walker {
     /// token.
     fn token(&mut self, token: &Token, behind: &[u8]) -> bool
         requires room { start_of token.now < longest_file }
+        requires some { 0 < length_of token.now }
         requires ready { ready self.old (start_of token.now) }
         ensures ready { ready self.new (start_of token.now + length_of token.now) }
         ensures walked { (first : Self) (front : Front) (text : List ℕ)
