@@ -16,7 +16,7 @@ use Rattle.ans_model.specs.declared.fault.Cause.TheVariants.{EndInSequence}
 use Rattle.ans_model.specs.Text.FaultText.{fault_line}
 use Rattle.ans_model.specs.Text.TokensText.{token_line, token_lines, Leaves, fault_end, TokensText}
 use Rattle.ans_tokens.specs.declared.token.Token.{Token}
-use Rattle.ans_tokens.specs.Pieces.{IsFaultAt}
+use Rattle.ans_tokens.specs.Walk.{IsFaultAt}
 use Rattle.ans_tokens.specs.Token.{kind_of, start_of}
 use Rattle.ans_tokens.specs.Walk.{Front, IsNext, Walks, WalksTo}
 use Rattle.ans_tokens.proofs.EachByte.{IsOpen, open_ends}

@@ -8,7 +8,6 @@ pub mod PartLemmas
 pub mod WholeSequences
 pub mod TextFront
 pub mod Scanning
-pub mod PiecesRead
 mod WalkSteps
 pub mod Walked
 pub mod TakenSoFar

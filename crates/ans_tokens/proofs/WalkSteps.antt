@@ -5,7 +5,7 @@ use Rattle.std.proofs.lemmas.List.{take_all, take-append-drop, drop-append-le, d
 use Rattle.std.proofs.lemmas.List.{length-drop}
 use Rattle.ans_model.specs.Inside.ShownKind.{shown_kind}
 use Rattle.ans_model.specs.declared.fault.Fault.{Fault}
-use Rattle.ans_tokens.specs.Pieces.{IsFaultAt}
+use Rattle.ans_tokens.specs.Walk.{IsFaultAt}
 use Rattle.ans_tokens.specs.Token.{kind_of, start_of, length_of}
 use Rattle.ans_tokens.specs.Walk.{Front, IsNext, front_with, Walks}
 use Rattle.ans_tokens.specs.WholeToken.{IsTokenAt}

@@ -1,14 +1,23 @@
 -- What a walk tells of a content that has a reading.
-use Rattle.std.proofs.Common.{◌≡◌, ℕ, Bool, true, false, List, [], ◌++◌, take, drop, sym, ap, ◌∙◌, subst}
+use Rattle.std.proofs.Common.{inl, inr, ◌≡◌, ℕ, Bool, true, false, List, [], ◌++◌, take, drop, sym, ap, ◌∙◌, subst}
 use Rattle.std.specs.Prelude.{Result, Ok, Err}
 use Rattle.std.specs.List.{concat}
 use Rattle.std.proofs.lemmas.List.{append-nil}
 use Rattle.ans_model.specs.Sequence.TokenKind.{TokenKind}
 use Rattle.ans_model.specs.Sequence.Reads.{Reads, ReadsAs}
 use Rattle.ans_model.specs.declared.fault.Fault.{Fault}
-use Rattle.ans_tokens.specs.Walk.{Front, front_of, Walks, WalksTo}
+use Rattle.ans_tokens.specs.Walk.{Front, IsFaultAt, front_of, Walks, WalksTo}
+use Rattle.ans_model.proofs.Reading.{unfinished_not_read, refused_not_read}
 use Rattle.ans_tokens.proofs.Scanning.{ReadsOn, reads_on, split_reading, nothing_left}
-use Rattle.ans_tokens.proofs.PiecesRead.{no_fault}
+
+-- what has a reading has no fault
+no_fault : (offset : ℕ) (bytes : List ℕ) (fault : Fault) (tokens : List TokenKind) → IsFaultAt offset bytes fault
+    → ¬ Reads bytes tokens
+no_fault offset bytes fault tokens h reads = elim h.unread [
+  | inl begins ↦
+      refused_not_read begins.text begins.rest fault.cause tokens begins.refused (rw begins.whole at reads)
+  | inr (unfinished, cause) ↦ unfinished_not_read bytes tokens unfinished reads
+]
 
 -- one front of bytes that are read, and the same texts
 one_front : (front : Front) (read : List ℕ) (tokens : List TokenKind) (texts : List (List ℕ)) (behind : List ℕ)

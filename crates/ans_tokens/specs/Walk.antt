@@ -1,11 +1,14 @@
 -- What a walk over the tokens of a content has been over.
-use Rattle.std.specs.Prelude.{◌≡◌, ℕ, Bool, true, false, List, [], ◌∷◌, ◌++◌, length, take, drop, Result, Ok, Err}
+use Rattle.std.specs.Prelude.{◌≡◌, ◌⊎◌, ℕ, Bool, true, false, List, [], ◌∷◌, ◌++◌, length, take, drop, Result, Ok, Err}
 use Rattle.std.specs.List.{AllZip, concat}
 use Rattle.ans_model.specs.Sequence.TokenKind.{TokenKind}
 use Rattle.ans_model.specs.Sequence.Reads.{SpellsToken, ReadsAs}
 use Rattle.ans_model.specs.Inside.ShownKind.{shown_kind}
+use Rattle.ans_model.specs.Sequence.Spelling.{IsUnfinished}
+use Rattle.ans_model.specs.Verdict.FirstFault.{IsRefused}
+use Rattle.ans_model.specs.declared.fault.Cause.{Cause}
+use Rattle.ans_model.specs.declared.fault.Cause.TheVariants.{EndInSequence}
 use Rattle.ans_model.specs.declared.fault.Fault.{Fault}
-use Rattle.ans_tokens.specs.Pieces.{IsFaultAt}
 use Rattle.ans_tokens.specs.Token.{kind_of, start_of, length_of}
 use Rattle.ans_tokens.specs.declared.token.Token.{Token}
 
@@ -33,6 +36,22 @@ pub record IsNext (front : Front) (token : Token) (text behind : List ℕ) : Typ
 -- with one token more
 abbrev pub front_with : Front → TokenKind → List ℕ → List ℕ → Front
 front_with front token text behind = front_of (front.tokens ++ token ∷ []) (front.texts ++ text ∷ []) behind
+
+-- the bytes begin with a text that the reading refuses
+pub record BeginsRefused (bytes : List ℕ) (cause : Cause) : Type 0 where
+  pub text : List ℕ
+  pub rest : List ℕ
+  pub whole : bytes ≡ text ++ rest
+  pub refused : IsRefused text cause
+
+-- the bytes begin with what is refused, or are an unfinished sequence
+abbrev pub HasNoReading : List ℕ → Cause → Type 0
+HasNoReading bytes cause = BeginsRefused bytes cause ⊎ (IsUnfinished bytes × (cause ≡ EndInSequence))
+
+-- what is left has no reading, and the fault stands where it begins
+pub record IsFaultAt (offset : ℕ) (bytes : List ℕ) (fault : Fault) : Type 0 where
+  pub offset_is : fault.offset ≡ offset
+  pub unread : HasNoReading bytes fault.cause
 
 -- The first `end` bytes of the content begin with a front, before what is left of them. The walker has been over it.
 pub record Walks {W : Type 0} (walked : W → Front → W → Bool → Type 0) (content : List ℕ) (end : ℕ) (left : List ℕ)

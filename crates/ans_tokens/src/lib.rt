@@ -4,7 +4,6 @@
 //! spell it, nothing where they begin a spelling, and a fault where they begin none.
 //!
 //! [`walk`] goes over a content and hands its tokens to a [`Walker`], common ones read whole.
-//! [`Pieces`] goes over a whole content, glyphs in a row at once and else token by token.
 //!
 //! Other functions are for a caller that plays as it reads and makes no token. [`count_glyphs`]
 //! counts a run. [`read_sequence`] reads a sequence's numbers and letter, and [`distance`],
@@ -17,7 +16,6 @@ mod glyphs;
 pub mod laws;
 mod mark;
 mod meaning;
-mod pieces;
 mod scanner;
 mod token;
 mod unfinished;
@@ -28,7 +26,6 @@ pub use ans_model::fault::{Cause, Fault};
 pub use ans_model::kind::Kind;
 pub use glyphs::count_glyphs;
 pub use meaning::{distance, is_just, place};
-pub use pieces::{Piece, Pieces};
 pub use scanner::{ESCAPE, Scanner};
 pub use token::Token;
 pub use walker::{Walker, walk};

@@ -4,13 +4,11 @@ ghost use Rattle.std.specs.Prelude.{◌≡◌, ◌≢◌, ◌+◌, ◌<◌, ◌�
 ghost use Rattle.std.specs.Prelude.{IfOk, IfErr, slice_index_or};
 ghost use Rattle.ans_model.specs.Bytes.{escape, longest_file};
 ghost use Rattle.ans_model.specs.Inside.ShownKind.{shown_kind};
-ghost use Rattle.ans_tokens.specs.Pieces.{IsFaultAt};
 ghost use Rattle.ans_tokens.specs.Token.{kind_of, start_of, length_of};
-ghost use Rattle.ans_tokens.specs.Walk.{Front, IsNext, WalksTo, front_with, no_front};
+ghost use Rattle.ans_tokens.specs.Walk.{Front, IsFaultAt, IsNext, WalksTo, front_with, no_front};
 ghost use Rattle.ans_tokens.specs.WholeToken.{IsTokenAt};
 
-use crate::pieces::token_by_bytes;
-use crate::scanner::{ESCAPE, kind_of_byte};
+use crate::scanner::{ESCAPE, Scanner, kind_of_byte};
 use crate::token::Token;
 use crate::whole::whole_sequence;
 use ans_model::fault::Fault;
@@ -43,6 +41,26 @@ fn next_byte(bytes: &[u8], offset: usize) -> Token
     ensures { IsTokenAt offset bytes.now result }
 {
     Token::new(kind_of_byte(bytes[0]), offset, 1)
+}
+
+/// The token that the bytes begin with, which stands at this offset: they are taken one by one. None
+/// where there is no byte, and else a fault at the offset, F9 to F14.
+#[inline(never)]
+fn token_by_bytes(bytes: &[u8], offset: usize) -> Result<Option<Token>, Fault>
+    requires { offset + length bytes.now ≤ longest_file }
+    ensures token { IfOk result (λ token. MatchOption token (bytes.now ≡ [])
+        (IsTokenAt offset bytes.now)) }
+    ensures fault { IfErr result (IsFaultAt offset bytes.now) }
+{
+    let mut scanner = Scanner::new();
+    scanner.skip(offset);
+    for byte in bytes {
+        if let Some(token) = scanner.byte(*byte)? {
+            return Ok(Some(token));
+        }
+    }
+    scanner.end()?;
+    Ok(None)
 }
 
 /// The token that the bytes begin with, which stands at this offset; it is a sequence. None where

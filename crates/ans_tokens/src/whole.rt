@@ -14,7 +14,6 @@ ghost use Rattle.ans_tokens.specs.WholeToken.{IsNumberFront, IsSequenceFront, Is
 
 use crate::mark::mark_of_byte;
 use crate::meaning::kind_meant;
-use crate::scanner::{ESCAPE, kind_of_byte};
 use crate::token::Token;
 use ans_model::limits::MAX_PARAMETERS;
 use ans_model::mark::Mark;
@@ -149,17 +148,4 @@ pub(crate) fn whole_sequence(bytes: &[u8], start: usize) -> Option<Token>
         Ok(kind) => Some(Token::new(kind, start, letter.end)),
         Err(_) => None,
     }
-}
-
-/// The token that the bytes begin with, which stands at this offset. It declines where there is no
-/// byte, or they begin with ESC and no sequence of the common form.
-#[inline(always)]
-pub(crate) fn whole_token(bytes: &[u8], start: usize) -> Option<Token>
-    ensures { IfSome result (IsTokenAt start bytes.now) }
-{
-    let first = *bytes.first()?;
-    if first == ESCAPE {
-        return whole_sequence(bytes, start);
-    }
-    Some(Token::new(kind_of_byte(first), start, 1))
 }
