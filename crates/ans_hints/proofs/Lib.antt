@@ -1,10 +1,5 @@
 pub mod TextTests
-pub mod GlyphWalks
-pub mod FoundLater
-pub mod Split
-pub mod Leading
-pub mod PieceWalks
 pub mod FontNames
 pub mod HintLines
-pub mod RowWalks
 pub mod EmptyRows
+pub mod HintsFound

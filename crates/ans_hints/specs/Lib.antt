@@ -4,9 +4,7 @@ pub mod Rows
 pub mod RowMoves
 pub mod Fonts
 pub mod Counted
-pub mod FoundSoFar
 pub mod Hints
 pub mod Walks
 pub mod HintsText
-pub mod InRow
 pub mod RowLaws

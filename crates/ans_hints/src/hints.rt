@@ -7,8 +7,9 @@ ghost use Rattle.ans_model.specs.Sequence.Reads.{ReadsAs};
 ghost use Rattle.ans_hints.specs.Hints.{AreHints};
 
 use crate::times::Times;
-use crate::walk::found_in;
+use crate::walk::Walk;
 use ans_model::size::Size;
+use ans_pen::Pen;
 
 /// What is worth a hint, in the play from the cleared start. None, or 0 rows, is no hint.
 #[derive(Debug, Clone, Copy, PartialEq, Eq)]
@@ -41,19 +42,21 @@ impl Hints {
             → ReadsAs (take end content.now) tokens texts
             → AreHints size non_blink tokens texts (drop end content.now) result }
     {
-        let found = found_in(size, content, end);
-        Hints {
-            loose_line_feeds: found.loose_line_feeds,
-            full_rows: found.full_rows,
-            wide_characters: found.wide_characters,
-            later_colours: found.later_colours,
-            blinking_glyphs: if non_blink {
-                None
-            } else {
-                found.blinking_glyphs
+        let mut walk = Walk {
+            size,
+            non_blink,
+            pen: Pen::cleared(),
+            hints: Hints {
+                loose_line_feeds: None,
+                full_rows: None,
+                wide_characters: None,
+                later_colours: None,
+                blinking_glyphs: None,
+                empty_rows: size.lines(),
+                moves_rows: false,
             },
-            empty_rows: size.lines().saturating_sub(found.rows),
-            moves_rows: found.moves_rows,
-        }
+        };
+        let _ = ans_tokens::walk(content, end, &mut walk);
+        walk.hints
     }
 }

@@ -9,7 +9,6 @@
 
 mod conditions;
 mod font;
-mod found;
 mod hints;
 mod hints_text;
 pub mod laws;

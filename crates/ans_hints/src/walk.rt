@@ -1,123 +1,116 @@
-//! A walk over the tokens of a content.
+//! A walk over the tokens of a content that finds its hints.
 
-ghost use Rattle.std.specs.Prelude.{◌≡◌, ◌+◌, ◌<◌, ◌≤◌, ℕ, List, length, map, take, drop};
+ghost use Rattle.std.specs.Prelude.{◌≡◌, ◌+◌, ◌-◌, ◌<◌, ◌≤◌, min};
 ghost use Rattle.ans_model.specs.Bytes.{longest_file};
-ghost use Rattle.ans_model.specs.Sequence.TokenKind.{TokenKind, Glyph};
-ghost use Rattle.ans_model.specs.Sequence.Reads.{ReadsAs};
-ghost use Rattle.ans_model.specs.Screen.State.{Size, State};
-ghost use Rattle.ans_model.specs.Screen.Step.{step, final};
-ghost use Rattle.ans_model.specs.Screen.StartClass.{cleared};
+ghost use Rattle.ans_model.specs.Sequence.TokenKind.{Glyph, LineFeed};
+ghost use Rattle.ans_model.specs.Screen.State.{State};
 ghost use Rattle.ans_model.specs.Inside.ShownKind.{shown_kind};
-ghost use Rattle.ans_hints.specs.FoundSoFar.{found_with, found_after, nothing_found};
-ghost use Rattle.ans_hints.specs.Walks.{IsAt, Shows, found_in_glyphs};
-ghost use Rattle.ans_hints.specs.declared.found.Found.{Found};
+ghost use Rattle.ans_pen.specs.Pens.{pen_of};
+ghost use Rattle.ans_hints.specs.Walks.{IsAt, CountsWithin, hints_with};
 
-use crate::found::Found;
+use crate::conditions::{begins_with_line_end, begins_with_wide, has_later_colour};
+use crate::hints::Hints;
+use crate::times::count;
 use ans_model::kind::Kind;
 use ans_model::size::Size;
 use ans_pen::Pen;
-use ans_tokens::{Piece, Pieces};
+use ans_tokens::{Token, Walker};
 
-/// A play without its screen, and what is found in it so far.
+/// A play from the cleared start without its screen, and the hints of its tokens so far.
 #[derive(Clone, Copy)]
 pub(crate) struct Walk {
+    pub(crate) size: Size,
+    pub(crate) non_blink: bool,
     pub(crate) pen: Pen,
-    pub(crate) found: Found,
+    pub(crate) hints: Hints,
 }
 
 impl Walk {
-    /// Before the first token of a play from the cleared start.
-    pub(crate) fn new(size: Size) -> Walk
-        ensures at { IsAt size 0 result }
-        ensures begins { Shows result (cleared size) nothing_found }
-    {
-        Walk {
-            pen: Pen::cleared(),
-            found: Found::nothing(),
-        }
-    }
-
-    /// A token that stands at this offset, before the rest of the content.
-    #[inline(always)]
-    pub(crate) fn token(&mut self, size: Size, offset: usize, kind: &Kind, rest: &[u8])
+    fn line_feed(&mut self, offset: usize, behind: &[u8])
         requires room { offset < longest_file }
-        requires at { IsAt size offset self.old }
-        ensures at { IsAt size (offset + 1) self.new }
-        ensures goes_on { (s : State) (found : Found) → Shows self.old s found
-            → Shows self.new (step size s (shown_kind kind.now))
-            (found_with size s offset (shown_kind kind.now) rest.now found) }
+        requires at { IsAt self.old offset }
+        ensures within { CountsWithin self.new.hints (offset + 1) }
+        ensures kept { self.new ≡ record self.old { hints = self.new.hints } }
+        ensures hints { (s : State) → self.old.pen ≡ pen_of s
+            → self.new.hints ≡ hints_with self.old s offset LineFeed behind.now }
     {
-        self.found.token(size, &self.pen, offset, kind, rest);
-        self.pen.step(size, kind);
+        let comes = self.pen.cursor.column != 0 && !behind.starts_with(b"\r");
+        count(&mut self.hints.loose_line_feeds, comes, offset);
     }
 
-    /// The first `count` of these bytes, each as a glyph, in one row before its last column. They go on
-    /// to the content's end.
+    /// Something is printed in a row.
     #[inline(always)]
-    fn in_row(&mut self, size: Size, offset: usize, bytes: &[u8], count: usize)
-        requires room { offset + length bytes.now ≤ longest_file }
-        requires some { 0 < count }
-        requires within { count ≤ length bytes.now }
-        requires in_row { self.old.pen.cursor.column + count < size.width }
-        requires at { IsAt size offset self.old }
-        ensures at { IsAt size (offset + count) self.new }
-        ensures goes_on { (s : State) (found : Found) → Shows self.old s found
-            → Shows self.new (final size s (map Glyph (take count bytes.now)))
-            (found_in_glyphs size s offset count bytes.now found) }
+    fn print_in(&mut self, row: usize)
+        requires { row ≤ self.old.size.lines }
+        ensures { self.new ≡ record self.old {
+          hints = record self.old.hints {
+            empty_rows = min self.old.hints.empty_rows (self.old.size.lines - (row + 1));
+          };
+        } }
     {
-        self.found.in_row(size, &self.pen, offset, bytes, count);
-        self.pen.cursor.column += count;
+        let below = self.size.lines().saturating_sub(row + 1);
+        self.hints.empty_rows = self.hints.empty_rows.min(below);
     }
 
-    /// The first `count` of these bytes, each as a glyph. The first stands at this offset, and they go on
-    /// to the content's end.
-    pub(crate) fn glyphs(&mut self, size: Size, offset: usize, bytes: &[u8], count: usize)
-        requires room { offset + length bytes.now ≤ longest_file }
-        requires some { count ≤ length bytes.now }
-        requires at { IsAt size offset self.old }
-        ensures at { IsAt size (offset + count) self.new }
-        ensures goes_on { (s : State) (found : Found) → Shows self.old s found
-            → Shows self.new (final size s (map Glyph (take count bytes.now)))
-            (found_in_glyphs size s offset count bytes.now found) }
+    #[inline(always)]
+    fn glyph(&mut self, offset: usize, byte: u8, behind: &[u8])
+        requires room { offset < longest_file }
+        requires at { IsAt self.old offset }
+        ensures within { CountsWithin self.new.hints (offset + 1) }
+        ensures kept { self.new ≡ record self.old { hints = self.new.hints } }
+        ensures hints { (s : State) → self.old.pen ≡ pen_of s
+            → self.new.hints ≡ hints_with self.old s offset (Glyph byte) behind.now }
     {
-        let mut done = 0;
-        while done < count {
-            let before_last = size.width() - 1 - self.pen.cursor.column;
-            let here = before_last.min(count - done);
-            if here > 0 {
-                self.in_row(size, offset + done, &bytes[done..], here);
-                done += here;
-            } else {
-                let glyph = Kind::Glyph(bytes[done]);
-                self.token(size, offset + done, &glyph, &bytes[done + 1..]);
-                done += 1;
+        let last_column = self.size.width() - 1;
+        let wraps = self.pen.cursor.column == last_column && self.pen.wrap;
+        let full = wraps && begins_with_line_end(behind);
+        let wide = begins_with_wide(byte, behind);
+        let blinks = !self.non_blink && self.pen.attribute >= 0x80;
+        count(&mut self.hints.full_rows, full, offset + 1);
+        count(&mut self.hints.wide_characters, wide, offset);
+        count(&mut self.hints.blinking_glyphs, blinks, offset);
+        self.print_in(self.pen.cursor.row);
+    }
+
+    /// Looks at a token that stands at this offset, before it is played.
+    #[inline(always)]
+    fn look(&mut self, offset: usize, kind: &Kind, behind: &[u8])
+        requires room { offset < longest_file }
+        requires at { IsAt self.old offset }
+        ensures within { CountsWithin self.new.hints (offset + 1) }
+        ensures kept { self.new ≡ record self.old { hints = self.new.hints } }
+        ensures hints { (s : State) → self.old.pen ≡ pen_of s
+            → self.new.hints ≡ hints_with self.old s offset (shown_kind kind.now) behind.now }
+    {
+        match kind {
+            Kind::Glyph(byte) => self.glyph(offset, *byte, behind),
+            Kind::LineFeed => self.line_feed(offset, behind),
+            Kind::Tab => {
+                let pen = self.pen;
+                self.print_in(pen.row_of_tab(self.size));
             }
+            Kind::Up(_) | Kind::Down(_) => self.hints.moves_rows = true,
+            Kind::Colours(numbers) => {
+                let later = has_later_colour(numbers);
+                count(&mut self.hints.later_colours, later, offset);
+            }
+            _ => {}
         }
     }
 }
 
-/// What is found in the first `end` bytes of the content, in their play from the cleared start.
-pub(crate) fn found_in(size: Size, content: &[u8], end: usize) -> Found
-    requires length { length content.now ≤ longest_file }
-    requires end { end ≤ length content.now }
-    ensures { (tokens : List TokenKind) (texts : List (List ℕ))
-        → ReadsAs (take end content.now) tokens texts → result ≡ found_after
-        size (cleared size) 0 tokens texts (drop end content.now) nothing_found }
-{
-    let mut pieces = Pieces::new(&content[..end]);
-    let mut walk = Walk::new(size);
-    loop {
-        match pieces.next() {
-            Ok(Some(Piece::Glyphs(text))) => {
-                let start = pieces.offset() - text.len();
-                walk.glyphs(size, start, &content[start..], text.len());
-            }
-            Ok(Some(Piece::Token(token))) => {
-                let rest = &content[pieces.offset()..];
-                walk.token(size, token.start(), token.kind(), rest);
-            }
-            Ok(None) => return walk.found,
-            Err(_) => return walk.found,
-        }
+impl Walker for Walk {
+    ghost use Rattle.ans_hints.specs.Walks.{IsAt, HasWalked};
+
+    ghost ready = { λ walk offset. IsAt walk offset };
+
+    ghost walked = { λ first front now goes_on. HasWalked first front goes_on now };
+
+    #[inline(always)]
+    fn token(&mut self, token: &Token, behind: &[u8]) -> bool {
+        let kind = token.kind();
+        self.look(token.start(), kind, behind);
+        self.pen.step(self.size, kind);
+        true
     }
 }

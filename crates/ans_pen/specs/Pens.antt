@@ -1,6 +1,8 @@
 -- A pen: what is kept of a state, which is all but its screen.
-use Rattle.ans_model.specs.Sequence.TokenKind.{TokenKind, Glyph, Tab, LineFeed, Place, Down}
+use Rattle.std.specs.Prelude.{◌-◌, fold, replicate}
+use Rattle.ans_model.specs.Bytes.{blank}
 use Rattle.ans_model.specs.Screen.State.{Size, State, IsOnScreen, sized}
+use Rattle.ans_model.specs.Screen.Step.{put, tab_blanks}
 use Rattle.ans_model.specs.Screen.StartClass.{cleared}
 use Rattle.ans_pen.specs.declared.pen.Pen.{Pen}
 
@@ -17,11 +19,6 @@ pub record StandsOn (z : Size) (pen : Pen) : Type 0 where
   pub cursor : IsOnScreen z pen.cursor
   pub saved : IsOnScreen z pen.saved
 
--- the token prints nothing, and moves the cursors alike on any number of lines
-abbrev pub MovesAlike : TokenKind → Type 0
-MovesAlike (Glyph byte) = ⊥
-MovesAlike Tab = ⊥
-MovesAlike LineFeed = ⊥
-MovesAlike (Place row column) = ⊥
-MovesAlike (Down n) = ⊥
-MovesAlike _ = Unit {0}
+-- the state before the last blank of a tab
+abbrev pub before_last_blank : Size → State → State
+before_last_blank z s = fold (put z) s (replicate (tab_blanks s.cursor.column - 1) blank)

@@ -1,11 +1,11 @@
 //! The cursors, the attribute and wrap, token by token.
 
-ghost use Rattle.std.specs.Prelude.{◌≡◌, ◌+◌, ◌<◌, ◌≤◌, ℕ, fold, replicate};
-ghost use Rattle.ans_model.specs.Bytes.{blank, most_columns};
-ghost use Rattle.ans_model.specs.Screen.State.{Size, State, sized};
+ghost use Rattle.std.specs.Prelude.{◌≡◌, ◌≤◌, fold, replicate};
+ghost use Rattle.ans_model.specs.Bytes.{blank};
+ghost use Rattle.ans_model.specs.Screen.State.{Size, State};
 ghost use Rattle.ans_model.specs.Screen.Step.{advanced, line_feed, put, step};
 ghost use Rattle.ans_model.specs.Inside.ShownKind.{shown_kind};
-ghost use Rattle.ans_pen.specs.Pens.{pen_of, cleared_pen, MovesAlike, StandsOn};
+ghost use Rattle.ans_pen.specs.Pens.{pen_of, cleared_pen, before_last_blank, StandsOn};
 
 use ans_model::attribute::attribute_after_all;
 use ans_model::cell::Position;
@@ -82,37 +82,17 @@ impl Pen {
         }
     }
 
-    /// A token that prints nothing and moves alike on any number of lines, each of `width` columns.
-    #[inline(always)]
-    pub fn moved(&mut self, width: usize, kind: &Kind)
-        requires some_columns { 0 < width }
-        requires columns { width ≤ most_columns }
-        requires cursor { self.old.cursor.column < width }
-        ensures stands { (lines : ℕ) → StandsOn (sized width lines) self.old
-            → StandsOn (sized width lines) self.new }
-        ensures pen { (lines : ℕ) (s : State) → MovesAlike (shown_kind kind.now)
-            → self.old ≡ pen_of s
-            → self.new ≡ pen_of (step (sized width lines) s (shown_kind kind.now)) }
+    /// The row of the last blank that a tab prints, which is the lowest.
+    pub fn row_of_tab(&self, size: Size) -> usize
+        requires stands { StandsOn size self.now }
+        ensures within { result ≤ size.lines }
+        ensures row { (s : State) → self.now ≡ pen_of s
+            → result ≡ (before_last_blank size s).cursor.row }
     {
-        match kind {
-            Kind::Up(n) => self.cursor.row = self.cursor.row.saturating_sub(*n as usize),
-            Kind::Forward(n) => {
-                self.cursor.column = (self.cursor.column + *n as usize).min(width - 1)
-            }
-            Kind::Backward(n) => {
-                self.cursor.column = self.cursor.column.saturating_sub(*n as usize)
-            }
-            Kind::BackSpace => self.cursor.column = self.cursor.column.saturating_sub(1),
-            Kind::CarriageReturn => self.cursor.column = 0,
-            Kind::Clear => self.cursor = HOME,
-            Kind::Save => self.saved = self.cursor,
-            Kind::Restore => self.cursor = self.saved,
-            Kind::Colours(parameters) => {
-                self.attribute = attribute_after_all(self.attribute, parameters)
-            }
-            Kind::Wrap(on) => self.wrap = *on,
-            _ => {}
-        }
+        let mut last = *self;
+        let blanks = tab_blanks(self.cursor.column) - 1;
+        last.blanks(size, blanks);
+        last.cursor.row
     }
 
     /// One token, by the table of steps.
@@ -124,18 +104,32 @@ impl Pen {
             → self.new ≡ pen_of (step size s (shown_kind kind.now)) }
     {
         let last_row = size.lines();
+        let last_column = size.width() - 1;
+        let Position { row, column } = self.cursor;
         match kind {
             Kind::Glyph(_) => self.advance(size),
-            Kind::Tab => self.blanks(size, tab_blanks(self.cursor.column)),
+            Kind::Tab => self.blanks(size, tab_blanks(column)),
             Kind::LineFeed => self.line_feed(size),
-            Kind::Down(n) => self.cursor.row = (self.cursor.row + *n as usize).min(last_row),
+            Kind::CarriageReturn => self.cursor.column = 0,
+            Kind::BackSpace => self.cursor.column = column.saturating_sub(1),
+            Kind::Up(n) => self.cursor.row = row.saturating_sub(*n as usize),
+            Kind::Down(n) => self.cursor.row = (row + *n as usize).min(last_row),
+            Kind::Forward(n) => self.cursor.column = (column + *n as usize).min(last_column),
+            Kind::Backward(n) => self.cursor.column = column.saturating_sub(*n as usize),
             Kind::Place(row, column) => {
                 self.cursor = Position {
                     row: (*row as usize).saturating_sub(1).min(last_row),
-                    column: (*column as usize).saturating_sub(1).min(size.width() - 1),
+                    column: (*column as usize).saturating_sub(1).min(last_column),
                 }
             }
-            _ => self.moved(size.width(), kind),
+            Kind::Clear => self.cursor = HOME,
+            Kind::Save => self.saved = self.cursor,
+            Kind::Restore => self.cursor = self.saved,
+            Kind::Colours(parameters) => {
+                self.attribute = attribute_after_all(self.attribute, parameters)
+            }
+            Kind::Wrap(on) => self.wrap = *on,
+            Kind::Bell | Kind::EraseLine | Kind::Keys | Kind::Mode | Kind::Ask => {}
         }
     }
 }

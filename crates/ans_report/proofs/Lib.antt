@@ -3,8 +3,5 @@ pub mod LineTexts
 pub mod RecordLemmas
 pub mod StartNames
 pub mod CellsTold
-pub mod TextSoFar
-pub mod TextGoesOn
-pub mod TextEnds
+pub mod TokensPut
 pub mod TokensFinished
-pub mod GlyphLines

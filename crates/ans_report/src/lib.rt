@@ -11,7 +11,6 @@
 #![tactic(auto)]
 
 mod fault_lines;
-mod glyph_lines;
 mod heading;
 mod lines;
 mod message;

@@ -1,5 +1,5 @@
 //! The text of the content's tokens.
-ghost use Rattle.std.specs.Prelude.{◌≡◌, ◌↔◌, ◌+◌, ◌≤◌, ◌++◌, ℕ, List, Option};
+ghost use Rattle.std.specs.Prelude.{◌≡◌, ◌↔◌, ◌+◌, ◌≤◌, ◌++◌, ⊤, ℕ, List, Option};
 ghost use Rattle.std.specs.Prelude.{false, length, IsTrue, IsErr, IfOk, IfErr};
 ghost use Rattle.std.specs.List.{flat_map};
 ghost use Rattle.std.specs.Io.KnownBytes.{Appends};
@@ -10,18 +10,14 @@ ghost use Rattle.ans_model.specs.Text.TokensText.{TokensText, token_name};
 ghost use Rattle.ans_write.specs.Tried.{has_failed, inner_of};
 ghost use Rattle.ans_write.specs.Writes.{AppendsPrefix};
 ghost use Rattle.ans_write.specs.Puts.{Puts};
-ghost use Rattle.ans_report.specs.TokenLines.{PutsTokens, TakesFront, token_text, numbers_text, numbers_of};
+ghost use Rattle.ans_report.specs.TokenLines.{PutsTokens, PutsLines, token_text, numbers_text, numbers_of};
 ghost use Rattle.ans_report.specs.TokenLines.{later_number};
 
 use crate::fault_lines::put_fault_line;
-use crate::glyph_lines::put_glyphs;
 use ans_sauce::Fault;
-use ans_tokens::{Kind, Scanner, Token};
+use ans_tokens::{Kind, Token, Walker, walk};
 use ans_write::{Outbox, Tried, WriteFault, hex_byte};
 use std::io::Write;
-
-/// How many bytes are read at most between two looks at whether the device has failed.
-const PIECE: usize = 4096;
 
 fn put_later_numbers<W: Write>(out: &mut Outbox<'_, W>, numbers: &[u8])
     ensures { Puts W.contents out.old out.new (flat_map later_number numbers.now) }
@@ -102,30 +98,20 @@ fn put_token<W: Write>(out: &mut Outbox<'_, W>, token: &Token)
     out.put(b"\n");
 }
 
-/// What a scanner takes at once.
-enum Front {
-    /// This many glyphs, at least one.
-    Glyphs(usize),
-    /// A whole token of a common form.
-    Whole(Token),
-    /// Nothing: the next byte is to be taken alone.
-    Nothing,
+/// Puts the line of each token, up to where the device has failed.
+#[derive(Drop)]
+struct TokenLines<'a, 'w, W> {
+    out: &'a mut Outbox<'w, W>,
 }
 
-fn take_front(scanner: &mut Scanner, bytes: &[u8]) -> Front
-    requires { scanner.old.offset + length bytes.now ≤ longest_file }
-    ensures { TakesFront scanner.old bytes.now scanner.new result }
-{
-    if !scanner.is_between_tokens() {
-        return Front::Nothing;
-    }
-    let count = scanner.glyphs(bytes);
-    if count > 0 {
-        return Front::Glyphs(count);
-    }
-    match scanner.token(bytes) {
-        Some(token) => Front::Whole(token),
-        None => Front::Nothing,
+impl<W: Write> Walker for TokenLines<'_, '_, W> {
+    ghost ready = { λ lines offset. ⊤ };
+
+    ghost walked = { PutsLines W.contents };
+
+    fn token(&mut self, token: &Token, _behind: &[u8]) -> bool {
+        put_token(self.out, token);
+        !self.out.has_failed()
     }
 }
 
@@ -135,40 +121,12 @@ pub fn put_tokens<W: Write>(out: &mut Outbox<'_, W>, content: &[u8]) -> Option<F
     requires { length content.now ≤ longest_file }
     ensures { PutsTokens W.contents out.old out.new content.now result }
 {
-    let mut scanner = Scanner::new();
-    let mut at = 0;
-    while at < content.len() {
-        if out.has_failed() {
-            return None;
-        }
-        let piece = &content[at..content.len().min(at + PIECE)];
-        match take_front(&mut scanner, piece) {
-            Front::Glyphs(count) => {
-                put_glyphs(out, at, &piece[..count]);
-                at += count;
-            }
-            Front::Whole(token) => {
-                put_token(out, &token);
-                at += token.length();
-            }
-            Front::Nothing => match scanner.byte(content[at]) {
-                Ok(None) => at += 1,
-                Ok(Some(token)) => {
-                    put_token(out, &token);
-                    at += 1;
-                }
-                Err(fault) => {
-                    put_fault_line(out, &fault);
-                    return Some(fault);
-                }
-            },
-        }
-    }
-    match scanner.end() {
-        Ok(()) => None,
-        Err(unfinished) => {
-            put_fault_line(out, &unfinished);
-            Some(unfinished)
+    let mut lines = TokenLines { out };
+    match walk(content, content.len(), &mut lines) {
+        Ok(_) => None,
+        Err(fault) => {
+            put_fault_line(lines.out, &fault);
+            Some(fault)
         }
     }
 }

@@ -7,7 +7,7 @@ pub mod ReadSoFar
 pub mod PartLemmas
 pub mod WholeSequences
 pub mod TextFront
-pub mod Declines
 pub mod Scanning
-pub mod PiecesRead
+mod WalkSteps
+pub mod Walked
 pub mod TakenSoFar

@@ -180,10 +180,15 @@ read_on offset bytes rest s tokens us h reads =
     (subst (λ (v : List ℕ). Reads v us)
     (ap (λ (v : List ℕ). v ++ rest) h.whole ∙ append_assoc h.front h.open_part rest) reads)
 
+-- nothing is read as no token
+pub nothing_left : (ts : List TokenKind) (xs : List (List ℕ)) → ReadsAs [] ts xs → (ts ≡ []) × (xs ≡ [])
+nothing_left [] [] h = (refl, refl)
+nothing_left [] (x ∷ xs) h = absurd h.each
+nothing_left (t ∷ ts) [] h = absurd h.each
+nothing_left (t ∷ ts) (x ∷ xs) h = absurd (token_nonempty t x (concat xs) h.each.0 (sym h.whole))
+
 pub none_left : (rest : List TokenKind) → Reads [] rest → rest ≡ []
-none_left [] h = refl
-none_left (t ∷ rest) ([], h) = absurd h.each
-none_left (t ∷ rest) (x ∷ xs, h) = absurd (token_nonempty t x (concat xs) h.each.0 (sym h.whole))
+none_left rest (xs, h) = (nothing_left rest xs h).0
 
 -- the tokens are those of the one reading
 pub scanned_only : (offset : ℕ) (bytes : List ℕ) (s : ScannerView) (tokens : List Token) (us : List TokenKind)

@@ -5,7 +5,7 @@ use Rattle.std.proofs.Math.Seq.{split_at}
 use Rattle.std.proofs.lemmas.List.{length-take-le}
 use Rattle.ans_model.specs.declared.fault.Fault.{Fault}
 use Rattle.ans_tokens.specs.ScannerView.{ScannerView, Holds, RefusesByte}
-use Rattle.ans_tokens.specs.Pieces.{IsFaultAt}
+use Rattle.ans_tokens.specs.Walk.{IsFaultAt}
 
 -- it holds all of these bytes, the first of which stands at this offset
 pub record HoldsAll (offset : ℕ) (bytes : List ℕ) (s : ScannerView) : Type 0 where

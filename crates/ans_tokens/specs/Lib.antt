@@ -8,4 +8,4 @@ pub mod Unfinished
 pub mod ScannerInside
 pub mod WholeToken
 pub mod Scanning
-pub mod Pieces
+pub mod Walk

@@ -1,5 +1,5 @@
 -- A token that is taken whole from the bytes that begin with it.
-use Rattle.std.specs.Prelude.{◌≡◌, ◌⊎◌, ℕ, ◌<◌, ◌≤◌, IsTrue, false, List, ◌++◌, length, map, take, slice_index_or}
+use Rattle.std.specs.Prelude.{◌≡◌, ℕ, ◌<◌, ◌≤◌, IsTrue, false, List, length, map, take, slice_index_or}
 use Rattle.std.specs.List.{list_all, list_any}
 use Rattle.std.specs.Char.{is_ascii_digit}
 use Rattle.std.specs.Str.Parse.{digits_value}
@@ -8,10 +8,8 @@ use Rattle.ans_model.specs.Sequence.Spelling.{Raw, Spells}
 use Rattle.ans_model.specs.declared.mark.Mark.{Mark}
 use Rattle.ans_model.specs.Sequence.TokenKind.{TokenKind}
 use Rattle.ans_model.specs.Sequence.Meaning.{colour_number, is_quoted}
-use Rattle.ans_model.specs.Sequence.Reads.{IsByteOf, IsSequenceOf, SpellsToken}
+use Rattle.ans_model.specs.Sequence.Reads.{SpellsToken}
 use Rattle.ans_model.specs.Inside.ShownKind.{shown_kind}
-use Rattle.ans_tokens.specs.ScannerView.{ScannerView}
-use Rattle.ans_tokens.specs.Glyphs.{scanner_after}
 use Rattle.ans_tokens.specs.Token.{kind_of, start_of, length_of}
 use Rattle.ans_tokens.specs.declared.token.Token.{Token}
 
@@ -23,10 +21,6 @@ pub record IsNumberFront (bytes : List ℕ) (value count : ℕ) : Type 0 where
   pub value_is : digits_value 10 (take count bytes) ≡ value
   pub in_limit : value ≤ largest_number
 
--- the bytes begin with no number within the limit that a byte after it ends
-abbrev pub HasNoNumber : List ℕ → Type 0
-HasNoNumber bytes = (value count : ℕ) → ¬ IsNumberFront bytes value count
-
 -- the first `count` bytes spell a sequence with this mark, a number for each member, no string, and this letter
 pub record IsSequenceFront (bytes : List ℕ) (mark : Mark) (numbers : List ℕ) (letter count : ℕ) : Type 0 where
   pub raw : Raw
@@ -36,23 +30,6 @@ pub record IsSequenceFront (bytes : List ℕ) (mark : Mark) (numbers : List ℕ)
   pub numbers_are : map colour_number raw.members ≡ numbers
   pub no_string : list_any is_quoted raw.members ≡ false
   pub letter_is : raw.letter ≡ letter
-
--- the bytes begin with no whole sequence that has this mark and no string
-abbrev pub HasNoSequence : List ℕ → Mark → Type 0
-HasNoSequence bytes mark = (numbers : List ℕ) (letter count : ℕ) → ¬ IsSequenceFront bytes mark numbers letter count
-
--- the text is a sequence without a string that means the token
-pub record IsCommonSequenceOf (token : TokenKind) (text : List ℕ) : Type 0 where
-  pub sequence : IsSequenceOf token text
-  pub no_string : list_any is_quoted sequence.raw.members ≡ false
-
--- the text is a token of the common form: a byte outside sequences, or a sequence without a string
-abbrev pub IsCommonToken : TokenKind → List ℕ → Type 0
-IsCommonToken token text = IsByteOf token text ⊎ IsCommonSequenceOf token text
-
--- the bytes begin with no whole token of the common form
-abbrev pub HasNoCommonToken : List ℕ → Type 0
-HasNoCommonToken bytes = (token : TokenKind) (text rest : List ℕ) → bytes ≡ text ++ rest → ¬ IsCommonToken token text
 
 -- the first `count` bytes, at least one, spell the token
 pub record IsTokenFront (bytes : List ℕ) (token : TokenKind) (count : ℕ) : Type 0 where
@@ -64,9 +41,3 @@ pub record IsTokenFront (bytes : List ℕ) (token : TokenKind) (count : ℕ) : T
 pub record IsTokenAt (offset : ℕ) (bytes : List ℕ) (token : Token) : Type 0 where
   pub front : IsTokenFront bytes (shown_kind (kind_of token)) (length_of token)
   pub starts : start_of token ≡ offset
-
--- the bytes begin with the token, which stands where the scanner stood and is taken
-pub record TakesToken (old : ScannerView) (bytes : List ℕ) (new : ScannerView) (token : Token) : Type 0 where
-  pub front : IsTokenFront bytes (shown_kind (kind_of token)) (length_of token)
-  pub starts : start_of token ≡ old.offset
-  pub taken : new ≡ scanner_after old (length_of token)

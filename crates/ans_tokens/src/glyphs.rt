@@ -6,7 +6,7 @@ ghost use Rattle.ans_tokens.specs.Glyphs.{IsGlyphByte, IsGlyphFront, is_low};
 
 use std::simd::prelude::*;
 
-pub(crate) fn is_glyph(byte: u8) -> bool
+fn is_glyph(byte: u8) -> bool
     ensures { IsTrue result ↔ IsGlyphByte byte }
 {
     !matches!(byte, 0x07 | 0x08 | b'\t' | b'\n' | b'\r' | 0x1B)

@@ -9,12 +9,6 @@ ghost use Rattle.ans_tokens.specs.ScannerView.{ScannerView, Holds, RefusesByte, 
 ghost use Rattle.ans_tokens.specs.Scanning.{TakesBytes, kinds_of, token_texts};
 ghost use Rattle.ans_tokens.specs.declared.token.Token.{Token};
 
-/// What a scanner holds is empty, or the beginning of a sequence that can still be finished.
-pub fn held_bytes_are_unfinished()
-    ensures { (scanner : ScannerView) (open_part : List ℕ) → Holds scanner open_part
-        → (open_part ≡ []) ⊎ IsUnfinished open_part }
-{}
-
 /// A scanner that holds no bytes, as a new one does, and takes bytes one by one gives the tokens that
 /// read them, each with its bytes, and no others. Bytes that have a reading are never refused.
 pub fn bytes_give_their_tokens()

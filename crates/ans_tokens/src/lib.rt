@@ -1,10 +1,9 @@
 //! Which bytes of the content form which token: the sequences of ANSI.SYS, exactly.
 //!
 //! A `Scanner` is given one byte at a time. It returns a token where the bytes since the last one
-//! spell it, nothing where they begin a spelling, and a fault where they begin none. Between two
-//! tokens it also takes a run of glyphs or a whole token from a slice.
+//! spell it, nothing where they begin a spelling, and a fault where they begin none.
 //!
-//! [`Pieces`] goes over a whole content, glyphs in a row at once and else token by token.
+//! [`walk`] goes over a content and hands its tokens to a [`Walker`], common ones read whole.
 //!
 //! Other functions are for a caller that plays as it reads and makes no token. [`count_glyphs`]
 //! counts a run. [`read_sequence`] reads a sequence's numbers and letter, and [`distance`],
@@ -17,17 +16,17 @@ mod glyphs;
 pub mod laws;
 mod mark;
 mod meaning;
-mod pieces;
 mod scanner;
 mod token;
 mod unfinished;
+mod walker;
 mod whole;
 
 pub use ans_model::fault::{Cause, Fault};
 pub use ans_model::kind::Kind;
 pub use glyphs::count_glyphs;
 pub use meaning::{distance, is_just, place};
-pub use pieces::{Piece, Pieces};
 pub use scanner::{ESCAPE, Scanner};
 pub use token::Token;
+pub use walker::{Walker, walk};
 pub use whole::{Letter, read_sequence};

@@ -7,10 +7,8 @@ ghost use Rattle.ans_model.specs.Sequence.Spelling.{IsUnfinished};
 ghost use Rattle.ans_model.specs.Verdict.FirstFault.{IsRefused};
 ghost use Rattle.ans_model.specs.Inside.ShownKind.{shown_kind};
 
-use crate::glyphs::count_glyphs;
 use crate::token::Token;
 use crate::unfinished::{Continuation, Unfinished};
-use crate::whole::whole_token;
 use ans_model::fault::{Cause, Fault};
 use ans_model::kind::Kind;
 use std::marker::Model;
@@ -94,8 +92,7 @@ impl Open {
     }
 }
 
-/// Reads the content byte by byte, and between two tokens also glyphs many at a time and whole
-/// tokens.
+/// Reads the content byte by byte.
 ///
 /// It keeps its offset and what is needed of the bytes since the last token, and never the bytes
 /// themselves: its size is a small constant.
@@ -126,8 +123,7 @@ impl Scanner {
     ghost use Rattle.ans_model.specs.File.Refusals.{fault_at};
     ghost use Rattle.ans_tokens.specs.ScannerView.{new_scanner, Holds, StaysUnfinished, EndsToken};
     ghost use Rattle.ans_tokens.specs.ScannerView.{StartsAfterLast, RefusesByte, Ends};
-    ghost use Rattle.ans_tokens.specs.Glyphs.{IsGlyphFront, IsBetweenTokens, scanner_after};
-    ghost use Rattle.ans_tokens.specs.WholeToken.{TakesToken, HasNoCommonToken};
+    ghost use Rattle.ans_tokens.specs.Glyphs.{IsBetweenTokens, scanner_after};
 
     /// A scanner before the first byte.
     pub fn new() -> Scanner
@@ -209,40 +205,6 @@ impl Scanner {
         ensures holds { IsTrue result → Holds self.now [] }
     {
         matches!(self.open_part, Open::Nothing) && self.fault.is_none()
-    }
-
-    /// Takes the glyphs before the first byte that is none, each as a token of one byte, and
-    /// returns how many they are; [`count_glyphs`] says which bytes are glyphs. It is called between
-    /// two tokens.
-    pub fn glyphs(&mut self, bytes: &[u8]) -> usize
-        requires between { IsBetweenTokens self.old }
-        requires room { self.old.offset + length bytes.now ≤ longest_file }
-        ensures front { IsGlyphFront bytes.now result }
-        ensures taken { self.new ≡ scanner_after self.old result }
-    {
-        let count = count_glyphs(bytes);
-        self.skip(count);
-        count
-    }
-
-    /// Takes the token that the bytes begin with, where it is a whole one and of a common form: a
-    /// byte outside sequences (ANSI.SYS), or `ESC [`, perhaps a mark `?` or `=`, at most 16 numbers
-    /// of at most 255 with a `;` between each two, and a letter that means something with them.
-    /// None declines, only where the bytes begin with no such token: then nothing changes, and they
-    /// may be taken one by one. It is called between two tokens.
-    pub fn token(&mut self, bytes: &[u8]) -> Option<Token>
-        requires between { IsBetweenTokens self.old }
-        requires room { self.old.offset + length bytes.now ≤ longest_file }
-        ensures taken { IfSome result (TakesToken self.old bytes.now self.new) }
-        ensures declined { IfNone result (HasNoCommonToken bytes.now) }
-        ensures unchanged { IfNone result (self.new ≡ self.old) }
-    {
-        let token = whole_token(bytes, self.offset);
-        if let Some(token) = &token {
-            self.offset += token.length;
-            self.open_offset += token.length;
-        }
-        token
     }
 
     /// Goes on over bytes that the caller has taken as whole tokens. It is called between two tokens.

@@ -5,17 +5,15 @@
 //! in one place.
 
 ghost use Rattle.std.specs.Prelude.{◌≡◌, ◌≢◌, ◌⊎◌, ◌<◌, ◌≤◌, ◌++◌, ◌∷◌, [], length, take, false};
-ghost use Rattle.std.specs.Prelude.{IfSome, IfNone, slice_index_or};
+ghost use Rattle.std.specs.Prelude.{IfSome, slice_index_or};
 ghost use Rattle.ans_model.specs.Bytes.{most_parameters, escape};
 ghost use Rattle.arrayvec.specs.ArrayVec.{array_vec_len};
 ghost use Rattle.ans_model.specs.declared.mark.Mark.TheVariants.{Unmarked};
 ghost use Rattle.ans_tokens.specs.ScannerView.{Keeps, Sequence, Fresh};
 ghost use Rattle.ans_tokens.specs.WholeToken.{IsNumberFront, IsSequenceFront, IsTokenAt};
-ghost use Rattle.ans_tokens.specs.WholeToken.{HasNoNumber, HasNoSequence, HasNoCommonToken};
 
 use crate::mark::mark_of_byte;
 use crate::meaning::kind_meant;
-use crate::scanner::{ESCAPE, kind_of_byte};
 use crate::token::Token;
 use ans_model::limits::MAX_PARAMETERS;
 use ans_model::mark::Mark;
@@ -31,8 +29,7 @@ pub struct Letter {
 /// The value of the digits that the bytes begin with, and their count: 0 and 0 where there are
 /// none. It declines where the value is above 255, or where no other byte follows.
 fn read_digits(bytes: &[u8]) -> Option<(u8, usize)>
-    ensures read { IfSome result (λ read. IsNumberFront bytes.now read.0 read.1) }
-    ensures declined { IfNone result (HasNoNumber bytes.now) }
+    ensures { IfSome result (λ read. IsNumberFront bytes.now read.0 read.1) }
 {
     let mut value = 0u8;
     for (i, byte) in bytes.iter().enumerate() {
@@ -51,8 +48,7 @@ fn read_digits(bytes: &[u8]) -> Option<(u8, usize)>
 /// Reads as `read_digits` does. Most numbers have one digit or two, and these need no loop.
 #[inline(always)]
 fn read_number(bytes: &[u8]) -> Option<(u8, usize)>
-    ensures read { IfSome result (λ read. IsNumberFront bytes.now read.0 read.1) }
-    ensures declined { IfNone result (HasNoNumber bytes.now) }
+    ensures { IfSome result (λ read. IsNumberFront bytes.now read.0 read.1) }
 {
     let [first, second, third, ..] = bytes else {
         return read_digits(bytes);
@@ -83,9 +79,9 @@ fn add_last(numbers: &mut ArrayVec<u8, MAX_PARAMETERS>, value: u8, digits: usize
 }
 
 /// Reads the members and the letter of a sequence from the index after its mark, and puts a number
-/// for each member into an empty list. It declines only where a byte is neither a digit nor a `;`
-/// nor a letter, where a number is above 255, where the members are more than 16, and where the bytes
-/// end before the letter: then no sequence with this mark and without a string stands here.
+/// for each member into an empty list. It declines where a byte is neither a digit nor a `;` nor a
+/// letter, where a number is above 255, where the members are more than 16, and where the bytes end
+/// before the letter.
 #[inline(always)]
 fn read_members(
     bytes: &[u8],
@@ -96,9 +92,8 @@ fn read_members(
     requires within { from ≤ length bytes.now }
     requires begun { Keeps (Sequence mark [] false Fresh) (take from bytes.now) }
     requires empty { numbers.old.items ≡ [] }
-    ensures read { IfSome result (λ letter.
+    ensures { IfSome result (λ letter.
         IsSequenceFront bytes.now mark numbers.new.items letter.byte letter.end) }
-    ensures declined { IfNone result (HasNoSequence bytes.now mark) }
 {
     let mut at = from;
     for _ in 0..MAX_PARAMETERS {
@@ -121,14 +116,12 @@ fn read_members(
 
 /// Reads the sequence that the bytes begin with, where it is whole and has neither a mark nor a
 /// string: it puts a number for each member into an empty list, 0 for one that is omitted, and
-/// returns the letter. It declines only where the bytes begin with no such sequence, and then the
-/// list holds any numbers.
+/// returns the letter. It declines any other bytes, and then the list holds any numbers.
 #[inline(always)]
 pub fn read_sequence(bytes: &[u8], numbers: &mut ArrayVec<u8, MAX_PARAMETERS>) -> Option<Letter>
     requires { numbers.old.items ≡ [] }
-    ensures read { IfSome result (λ letter.
+    ensures { IfSome result (λ letter.
         IsSequenceFront bytes.now Unmarked numbers.new.items letter.byte letter.end) }
-    ensures declined { IfNone result (HasNoSequence bytes.now Unmarked) }
 {
     match bytes {
         [0x1B, b'[', _, ..] => read_members(bytes, Mark::Unmarked, 2, numbers),
@@ -136,13 +129,11 @@ pub fn read_sequence(bytes: &[u8], numbers: &mut ArrayVec<u8, MAX_PARAMETERS>) -
     }
 }
 
-/// The token of the sequence that the bytes begin with, which stands at this offset. The first byte
-/// is ESC. It declines only where the sequence is not whole, has a string, or is refused.
+/// The token of the sequence that the bytes begin with, which stands at this offset. It declines
+/// where there is none, or it is not whole, has a string, or is refused.
 #[inline(always)]
-fn whole_sequence(bytes: &[u8], start: usize) -> Option<Token>
-    requires { slice_index_or bytes.now 0 0 ≡ escape }
-    ensures taken { IfSome result (IsTokenAt start bytes.now) }
-    ensures declined { IfNone result (HasNoCommonToken bytes.now) }
+pub(crate) fn whole_sequence(bytes: &[u8], start: usize) -> Option<Token>
+    ensures { IfSome result (IsTokenAt start bytes.now) }
 {
     let [0x1B, b'[', next, ..] = bytes else {
         return None;
@@ -157,18 +148,4 @@ fn whole_sequence(bytes: &[u8], start: usize) -> Option<Token>
         Ok(kind) => Some(Token::new(kind, start, letter.end)),
         Err(_) => None,
     }
-}
-
-/// The token that the bytes begin with, which stands at this offset. It declines only where there is
-/// no byte, or they begin with ESC and no sequence of the common form.
-#[inline(always)]
-pub(crate) fn whole_token(bytes: &[u8], start: usize) -> Option<Token>
-    ensures taken { IfSome result (IsTokenAt start bytes.now) }
-    ensures declined { IfNone result (HasNoCommonToken bytes.now) }
-{
-    let first = *bytes.first()?;
-    if first == ESCAPE {
-        return whole_sequence(bytes, start);
-    }
-    Some(Token::new(kind_of_byte(first), start, 1))
 }

@@ -1,8 +1,7 @@
 //! Contents byte by byte: the tokens that they hold, and where they are refused.
 
-mod pieces;
 mod sequences;
-mod whole_tokens;
+mod walks;
 
 use ans_model::limits::MAX_FILE;
 use ans_tokens::{Cause, Fault, Scanner, Token, count_glyphs};
@@ -201,9 +200,18 @@ fn asking_for_the_end_changes_nothing(rt: HostRuntime) {
     take_steps(&rt, &mut Scanner::new(), 0);
 }
 
-/// Glyphs are taken together up to a control, and only between two tokens.
+/// Bytes that were taken as whole tokens are skipped, and the scanner goes on behind them.
 #[test]
-fn glyphs_are_taken_together(rt: HostRuntime) {
+fn bytes_are_skipped(rt: HostRuntime) {
+    let mut scanner = Scanner::new();
+    scanner.skip(4);
+    assert!(rt; scanner.is_between_tokens() && scanner.offset() == 4);
+    take_steps(&rt, &mut scanner, 4);
+}
+
+/// Glyphs are counted up to a control.
+#[test]
+fn glyphs_are_counted(rt: HostRuntime) {
     let rows: [(&[u8], usize); 7] = [
         (b"a\x00\x1a\xff\n!", 4),
         (b"\x07a", 0),
@@ -213,13 +221,9 @@ fn glyphs_are_taken_together(rt: HostRuntime) {
         (b"\ra", 0),
         (b"\x1ba", 0),
     ];
-    let mut scanner = Scanner::new();
     for (bytes, count) in rows {
-        assert!(rt; scanner.is_between_tokens() && scanner.offset() <= 4);
-        let found = [count_glyphs(bytes), scanner.glyphs(bytes), scanner.offset()];
-        assert_eq!(rt; found, [count, count, 4], "in {bytes:?}");
+        assert_eq!(rt; count_glyphs(bytes), count, "in {bytes:?}");
     }
-    take_steps(&rt, &mut scanner, 4);
 }
 
 /// Long sequences: their first bytes, a byte and how often it follows, their last bytes, and the

@@ -8,15 +8,9 @@ pub mod WatchedCells
 pub mod WatchedSteps
 pub mod CleanSteps
 pub mod TabBlanks
-pub mod WatchedSoFar
 pub mod BeforeFault
 pub mod NamedCells
-pub mod RunEnds
 pub mod ClearedSteps
-pub mod Runs
-pub mod Descents
-pub mod DescentSteps
-pub mod FreeKinds
-pub mod LinesFound
 pub mod TallerFound
-pub mod TallerWalk
+pub mod GoodFound
+pub mod WatchedSoFar

@@ -1,33 +1,33 @@
 -- From the cleared start a content plays as well with one line more.
-use Rattle.std.proofs.Common.{◌≡◌, inl, inr, ℕ, zero, suc, ◌+◌, ◌-◌, ◌*◌, ◌<◌, ◌≤◌, Bool, true, false, List, []}
-use Rattle.std.proofs.Common.{◌∷◌, ◌++◌, length, take, replicate, fold, refl, ap, sym, subst, ◌∙◌, Some, arith, All}
-use Rattle.std.proofs.lemmas.List.{length-take-le}
+use Rattle.std.proofs.Common.{◌≡◌, ℕ, zero, suc, ◌+◌, ◌-◌, ◌*◌, ◌<◌, ◌≤◌, Bool, true, false, List, [], ◌∷◌, ◌++◌}
+use Rattle.std.proofs.Common.{take, replicate, fold, refl, ap, sym, subst, ◌∙◌, arith, All, append_assoc}
+use Rattle.std.proofs.lemmas.List.{append-nil, length-take-le}
 use Rattle.std.proofs.lemmas.List.Elements.{All-head, All-tail, All-take}
 use Rattle.std.proofs.lemmas.List.Sums.{fold-append}
-use Rattle.std.proofs.lemmas.Option.{slice_get_within, slice_get-get_or}
-use Rattle.std.proofs.Math.Seq.{take-suc}
-use Rattle.std.specs.Prelude.{get_or, slice_get, if◌then◌else◌, nat_lt, min}
+use Rattle.std.specs.Prelude.{if◌then◌else◌, nat_lt, min}
 use Rattle.ans_model.specs.Bytes.{blank}
 use Rattle.ans_model.specs.declared.cell.Position.{Position}
-use Rattle.ans_model.specs.declared.fault.Cause.{Cause}
-use Rattle.ans_model.specs.declared.fault.Cause.TheVariants.{OutsideScreen}
-use Rattle.ans_model.specs.Sequence.TokenKind.{TokenKind, Glyph, Bell, BackSpace, LineFeed, CarriageReturn, Tab}
+use Rattle.ans_model.specs.Sequence.Reads.{Reads}
+use Rattle.ans_model.specs.Sequence.TokenKind.{TokenKind, Glyph, BackSpace, LineFeed, CarriageReturn, Tab}
 use Rattle.ans_model.specs.Sequence.TokenKind.{Up, Down, Forward, Backward, Place, Clear, EraseLine, Save, Restore}
 use Rattle.ans_model.specs.Sequence.TokenKind.{Colours, Wrap, PrintsByte}
-use Rattle.ans_model.specs.Screen.State.{Size, State, IsByteCell, IsWellFormed, at, cell_at, index, sized, FitsScreen}
+use Rattle.ans_model.specs.Screen.State.{Size, State, IsByteCell, IsWellFormed, at, cell_at, index, sized}
 use Rattle.ans_model.specs.Screen.Step.{destination, final, line_feed, put, step, tab_blanks}
 use Rattle.ans_model.specs.Screen.StartClass.{IsStart, cleared, all_known}
-use Rattle.ans_model.specs.Verdict.Good.{Picture, PlaysWell, PrintsWell, Shows}
-use Rattle.ans_model.specs.Verdict.TokenFault.{FromEvery, HasStaticFault, IsInSpareRow, SamePosition, then_blanks}
+use Rattle.ans_model.specs.Verdict.Good.{Picture, Shows}
+use Rattle.ans_model.specs.Verdict.TokenFault.{IsClean}
+use Rattle.ans_model.proofs.OneAnswer.{well_is_clean}
 use Rattle.ans_model.proofs.OneCause.{cleared_is_one}
 use Rattle.ans_model.proofs.StartLemmas.{low_is_start}
 use Rattle.ans_model.proofs.StepLemmas.{line_feed_is}
-use Rattle.ans_model.proofs.TabLemmas.{final_then_blanks}
-use Rattle.ans_model.proofs.WellFormed.{fits_after_tokens, well_formed_after_step}
+use Rattle.ans_model.proofs.WellFormed.{well_formed_after_step}
 use Rattle.ans_model.proofs.Reading.{reads_bytes}
 use Rattle.ans_model.proofs.PositionLemmas.{index-lt_stated}
 use Rattle.ans_model.proofs.Slices.{slice_get-take}
-use Rattle.ans_why.specs.Lines.{OneLineMoreIsGood}
+use Rattle.ans_play.proofs.PlaysWell.{plays_well}
+use Rattle.ans_why.specs.Lines.{IsGoodOn, OneLineMoreIsGood, HasRoom}
+use Rattle.ans_why.proofs.CleanSteps.{clean_front}
+use Rattle.ans_why.proofs.ClearedSteps.{blanks_have_room, clean_with, clean_had_room}
 use Rattle.ans_why.proofs.Printed.{next, put_is}
 
 -- a position of the screen with a line more stands beside the other, or one row below it
@@ -98,22 +98,14 @@ module _ (width lines : ℕ) (some_columns : 0 < width) where
         wrap = h.wrap;
       })
 
-  -- what a token needs so that nothing scrolls
-  abbrev IsRoomFor : State → TokenKind → Type 0
-  IsRoomFor s LineFeed = s.cursor.row < lines
-  IsRoomFor s (Glyph byte) = s.cursor.row < lines
-  IsRoomFor s Tab = (i : ℕ) → i < tab_blanks s.cursor.column
-      → (fold (put small) s (replicate i blank)).cursor.row < lines
-  IsRoomFor s t = Unit {0}
-
-  near_step : (s t : State) (token : TokenKind) → IsRoomFor s token → AreNear s t
+  near_step : (s t : State) (token : TokenKind) → HasRoom small s token → AreNear s t
       → AreNear (step small s token) (step large t token)
   near_step s t LineFeed room h = near_line_feed s t room h
   near_step s t (Glyph byte) room h = near_put s t byte room h
   near_step s t Tab room h =
       subst (λ (c : ℕ). AreNear (fold (put small) s (replicate (tab_blanks s.cursor.column) blank))
       (fold (put large) t (replicate (tab_blanks c) blank))) (sym h.cursor.0)
-      (near_blanks s t (tab_blanks s.cursor.column) h room)
+      (near_blanks s t (tab_blanks s.cursor.column) h (λ i lt. blanks_have_room small s i room lt))
   near_step s t Clear room h = record { cursor = (refl, omega arith, omega arith); saved = h.saved; wrap = h.wrap }
   near_step s t EraseLine room h = record { cursor = h.cursor; saved = h.saved; wrap = h.wrap }
   near_step s t Save room h = record { cursor = h.cursor; saved = h.cursor; wrap = h.wrap }
@@ -123,107 +115,41 @@ module _ (width lines : ℕ) (some_columns : 0 < width) where
   near_step s t token room h =
       record { cursor = near_destination token s.cursor t.cursor h.cursor; saved = h.saved; wrap = h.wrap }
 
-  -- ---- a content that is good on the smaller screen
-  module _ (tokens : List TokenKind) (start : IsStart small all_known (cleared small))
-      (plays : PlaysWell small all_known tokens) where
-    abbrev after : ℕ → State
-    after k = final small (cleared small) (take k tokens)
+  -- what has room on the smaller screen has it on the larger
+  larger_room : (s t : State) (token : TokenKind) → HasRoom small s token → AreNear s t → HasRoom large t token
+  larger_room s t LineFeed room h = omega (arith, room, h.cursor.2)
+  larger_room s t (Glyph byte) room h = omega (arith, room, h.cursor.2)
+  larger_room s t Tab room h =
+      let n : ℕ = tab_blanks s.cursor.column - 1 in
+      let near = near_blanks s t n h (λ i lt. blanks_have_room small s i room (omega (arith, lt))) in
+      subst (λ (c : ℕ). (fold (put large) t (replicate (tab_blanks c - 1) blank)).cursor.row < lines + 1)
+      (sym h.cursor.0) (omega (arith, room, near.cursor.2))
+  larger_room s t (Place row column) room h = (omega (arith, room.0), room.1)
+  larger_room s t token room h = room
 
-    abbrev after_larger : ℕ → State
-    after_larger k = final large (cleared large) (take k tokens)
+  -- after clean tokens, those that are clean on the smaller screen are clean on the larger
+  clean_later : (later played : List TokenKind) → IsClean small all_known (played ++ later)
+      → IsClean large all_known played → AreNear (final small (cleared small) played) (final large (cleared large) played)
+      → IsClean large all_known (played ++ later)
+  clean_later [] played clean so_far near = rw (append-nil played) so_far
+  clean_later (t ∷ later) played clean so_far near =
+      let more : (played ++ t ∷ []) ++ later ≡ played ++ t ∷ later = append_assoc played (t ∷ []) later in
+      let whole : IsClean small all_known ((played ++ t ∷ []) ++ later) = rw more clean in
+      let room = clean_had_room small some_columns played t (clean_front small all_known (played ++ t ∷ []) later whole) in
+      subst (IsClean large all_known) more (clean_later later (played ++ t ∷ []) whole
+      (clean_with large some_columns played t so_far (larger_room _ _ t room near))
+      (rw (
+        fold-append (step small) (cleared small) played (t ∷ []),
+        fold-append (step large) (cleared large) played (t ∷ []),
+      ) (near_step _ _ t room near)))
 
-    fits_after : (played : List TokenKind) → FitsScreen small (final small (cleared small) played)
-    fits_after played = fits_after_tokens small (cleared small) played some_columns start.well_formed.fits
-
-    -- where the cursor does not stand in the spare row, it stands above it
-    above : (played : List TokenKind) → ¬ IsInSpareRow small played (cleared small)
-        → (final small (cleared small) played).cursor.row < lines
-    above played h = let on = (fits_after played).cursor.0 in omega (arith, on, h)
-
-    room_for : (k : ℕ) (t : TokenKind) → slice_get tokens k ≡ Some t → IsRoomFor (after k) t
-    room_for k LineFeed e = above (take k tokens) (plays.never_scrolls k e (cleared small) start)
-    room_for k (Glyph byte) e = above (take k tokens) ((plays.prints_well k byte e).never_below (cleared small) start)
-    room_for k Tab e = λ i lt.
-        rw (final_then_blanks small (cleared small) (take k tokens) i) at (above (then_blanks (take k tokens) i)
-        ((plays.tabs_well k i e (cleared small, start, lt)).never_below (cleared small) start))
-    room_for k t e = tt
-
-    near_at : (k : ℕ) → k ≤ length tokens → AreNear (after k) (after_larger k)
-    near_at zero le = record {
-      cursor = (refl, omega arith, omega arith);
-      saved = (refl, omega arith, omega arith);
-      wrap = refl;
-    }
-    near_at (suc k) le =
-        let t : TokenKind = get_or tokens k Bell in
-        let there : slice_get tokens k ≡ Some t = slice_get-get_or tokens k Bell (omega (arith, le)) in
-        let more : take (suc k) tokens ≡ take k tokens ++ t ∷ [] = take-suc tokens k Bell (omega (arith, le)) in
-        rw (
-          more,
-          fold-append (step small) (cleared small) (take k tokens) (t ∷ []),
-          fold-append (step large) (cleared large) (take k tokens) (t ∷ []),
-        )
-        (near_step (after k) (after_larger k) t (room_for k t there) (near_at k (omega (arith, le))))
-
-    larger_start : IsStart large all_known (cleared large)
-    larger_start = low_is_start large all_known some_columns
-
-    -- a play from a cleared start of the larger screen is the play from the cleared state
-    from_cleared : (s : State) → IsStart large all_known s → (played : List TokenKind)
-        → final large s played ≡ final large (cleared large) played
-    from_cleared s from played =
-        ap (λ (v : State). final large v played) (cleared_is_one large s (cleared large) from larger_start)
-
-    one_position : (played : List TokenKind) → SamePosition large all_known played
-    one_position played s t h g =
-        ap (λ (v : State). v.cursor) (from_cleared s h played ∙ sym (from_cleared t g played))
-
-    -- none stands in the larger screen's spare row where the cursor stands above it from the cleared state
-    none_in_spare_row : (played : List TokenKind) → (final large (cleared large) played).cursor.row < lines + 1
-        → FromEvery large all_known (λ s. ¬ IsInSpareRow large played s)
-    none_in_spare_row played lt s from below =
-        let there : (final large (cleared large) played).cursor.row ≡ lines + 1 =
-        sym (ap (λ (v : State). v.cursor.row) (from_cleared s from played)) ∙ below in
-        omega (arith, lt, there)
-
-    prints_there : (played : List TokenKind) → (final large (cleared large) played).cursor.row < lines + 1
-        → PrintsWell large all_known played
-    prints_there played lt = record {
-      at_one_position = one_position played;
-      never_below = none_in_spare_row played lt;
-    }
-
-    -- after a token's predecessors the cursor stands above the larger spare row where it does above the smaller
-    stays_above : (k : ℕ) (t : TokenKind) → slice_get tokens k ≡ Some t → (after k).cursor.row < lines
-        → (after_larger k).cursor.row < lines + 1
-    stays_above k t e lt =
-        let near = (near_at k (omega (arith, slice_get_within tokens k t e))).cursor in
-        omega (arith, lt, near.2)
-
-    blanks_above : (k i : ℕ) → slice_get tokens k ≡ Some Tab → i < tab_blanks (after_larger k).cursor.column
-        → (final large (cleared large) (then_blanks (take k tokens) i)).cursor.row < lines + 1
-    blanks_above k i e lt =
-        let near = near_at k (omega (arith, slice_get_within tokens k Tab e)) in
-        let within : i < tab_blanks (after k).cursor.column = rw near.cursor.0 at lt in
-        let room = room_for k Tab e in
-        let blanks = near_blanks (after k) (after_larger k) i near (λ j less. room j (omega (arith, less, within))) in
-        rw (final_then_blanks large (cleared large) (take k tokens) i)
-        (omega (arith, room i within, blanks.cursor.2))
-
-    larger_static : (t : TokenKind) (cause : Cause) → HasStaticFault large t cause → HasStaticFault small t cause
-    larger_static (Place row column) OutsideScreen (inl h) = inl (omega (arith, h))
-    larger_static (Place row column) OutsideScreen (inr h) = inr h
-    larger_static t cause h = h
-
-    pub plays_larger : PlaysWell large all_known tokens
-    plays_larger = record {
-      no_static_fault = λ k t cause e h. plays.no_static_fault k t cause e (larger_static t cause h);
-      never_scrolls = λ k e. none_in_spare_row (take k tokens) (stays_above k LineFeed e (room_for k LineFeed e));
-      prints_well = λ k byte e. prints_there (take k tokens) (stays_above k (Glyph byte) e (room_for k (Glyph byte) e));
-      tabs_well = λ k i e some. prints_there (then_blanks (take k tokens) i) (blanks_above k i e
-          (rw (from_cleared some.0 some.1 (take k tokens)) at some.2));
-      erases_at_one_position = λ k e. one_position (take k tokens);
-    }
+  clean_larger : (tokens : List TokenKind) → IsClean small all_known tokens → IsClean large all_known tokens
+  clean_larger tokens clean =
+      clean_later tokens [] clean (λ k cause blamed. absurd (cc (blamed.1))) (record {
+        cursor = (refl, omega arith, omega arith);
+        saved = (refl, omega arith, omega arith);
+        wrap = refl;
+      })
 
 -- ---- its picture
 well_formed_after : (z : Size) (s : State) (tokens : List TokenKind) → 0 < z.width → All PrintsByte tokens
@@ -260,17 +186,42 @@ shows_it z tokens w prints =
     lines_are_cells : (z : Size) → (z.lines + 1) * z.width ≡ z.lines * z.width + z.width
     lines_are_cells z = omega arith
 
+-- ---- good and clean
+pub clean_is_good : (width n : ℕ) (content : List ℕ) (tokens : List TokenKind) → 0 < width → 0 < n
+    → Reads content tokens → IsClean (sized width n) all_known tokens → IsGoodOn width content n
+clean_is_good width n content tokens columns lines reads clean = (
+  shown_picture (sized width n) tokens,
+  record {
+    size = record { some_columns = columns; some_lines = lines };
+    tokens = tokens;
+    reads = reads;
+    plays = plays_well (sized width n) all_known tokens clean;
+    shows = shows_it (sized width n) tokens columns (reads_bytes content tokens reads);
+  },
+)
+
+pub good_is_clean : (width n : ℕ) (content : List ℕ) (good : IsGoodOn width content n)
+    → IsClean (sized width n) all_known good.1.tokens
+good_is_clean width n content good =
+    well_is_clean (sized width n) all_known good.1.tokens good.1.size.some_columns good.1.plays
+
+-- ---- with more lines
 pub one_line_more : OneLineMoreIsGood
 one_line_more width lines content good =
-    let h = good.1 in
-    let start : IsStart (sized width lines) all_known (cleared (sized width lines)) =
-    low_is_start (sized width lines) all_known h.size.some_columns in (
-      shown_picture (sized width (lines + 1)) h.tokens,
-      record {
-        size = record { some_columns = h.size.some_columns; some_lines = omega arith };
-        tokens = h.tokens;
-        reads = h.reads;
-        plays = plays_larger width lines h.size.some_columns h.tokens start h.plays;
-        shows = shows_it (sized width (lines + 1)) h.tokens h.size.some_columns (reads_bytes content h.tokens h.reads);
-      },
-    )
+    let columns = good.1.size.some_columns in
+    clean_is_good width (lines + 1) content good.1.tokens columns (omega arith) good.1.reads
+    (clean_larger width lines columns good.1.tokens (good_is_clean width lines content good))
+
+good_with_more : (width lines more : ℕ) (content : List ℕ) → IsGoodOn width content lines
+    → IsGoodOn width content (lines + more)
+good_with_more width lines zero content good =
+    let same : lines ≡ lines + 0 = omega arith in subst (IsGoodOn width content) same good
+good_with_more width lines (suc more) content good =
+    let same : lines + more + 1 ≡ lines + suc more = omega arith in
+    subst (IsGoodOn width content) same
+    (one_line_more width (lines + more) content (good_with_more width lines more content good))
+
+pub good_from_on : (width n m : ℕ) (content : List ℕ) → n ≤ m → IsGoodOn width content n → IsGoodOn width content m
+good_from_on width n m content le good =
+    let up : n + (m - n) ≡ m = omega (arith, le) in
+    subst (IsGoodOn width content) up (good_with_more width n (m - n) content good)

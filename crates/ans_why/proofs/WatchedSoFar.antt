@@ -1,63 +1,58 @@
--- Two plays that are watched as far as the tokens of a content are read.
-use Rattle.std.proofs.Common.{◌≡◌, List, ℕ, [], ◌++◌, refl, sym, ap, ◌∙◌, append_assoc, subst}
-use Rattle.std.proofs.lemmas.List.{append-nil}
+-- Two plays are watched over the tokens of a content.
+use Rattle.std.proofs.Common.{◌≡◌, true, false, List, ℕ, [], ◌∷◌, ◌++◌, length, refl, ◌∙◌, subst}
+use Rattle.std.specs.Prelude.{Result, Ok, Err, Bool}
+use Rattle.std.proofs.lemmas.Bool.{false≢true}
+use Rattle.std.proofs.Math.Seq.{take-length}
 use Rattle.ans_model.specs.Sequence.TokenKind.{TokenKind}
 use Rattle.ans_model.specs.Sequence.Reads.{Reads}
 use Rattle.ans_model.specs.Screen.State.{Size}
 use Rattle.ans_model.specs.declared.cell.Position.{Position}
+use Rattle.ans_model.specs.declared.fault.Fault.{Fault}
 use Rattle.ans_model.specs.declared.start.Start.{Start}
 use Rattle.ans_model.specs.Verdict.TokenFault.{IsClean}
-use Rattle.ans_tokens.specs.Pieces.{PiecesView, TakesPiece, HasEnded, kinds_of_piece}
-use Rattle.ans_tokens.specs.declared.pieces.Piece.{Piece}
-use Rattle.ans_tokens.proofs.PiecesRead.{goes_on, no_more}
-use Rattle.ans_why.specs.Watched.{AreWatched}
+use Rattle.ans_tokens.specs.Walk.{WalksTo}
+use Rattle.ans_tokens.proofs.Walked.{walked_whole}
+use Rattle.ans_why.specs.Watched.{AreWatched, BothStandOn, HasWatched}
+use Rattle.ans_why.specs.declared.evidence.Watching.{Watching}
 use Rattle.ans_why.specs.declared.two_watches.TwoWatches.{TwoWatches}
 use Rattle.ans_why.proofs.CleanSteps.{clean_front}
 
--- The first of the tokens are played, and these are their watches; the bytes that are left are read as the others.
-pub record WatchedSoFar (z : Size) (class : Start) (p : Position) (rest : List ℕ) (tokens : List TokenKind)
-    (w : TwoWatches) : Type 0 where
-  pub played : List TokenKind
-  pub later : List TokenKind
-  pub all : tokens ≡ played ++ later
-  pub reads : Reads rest later
-  pub watched : AreWatched z class p played w
+-- what the play of a token ensures
+abbrev pub PlaysOn : Size → Position → TwoWatches → TokenKind → TwoWatches → Type 0
+PlaysOn z p old t new = (class : Start) (tokens : List TokenKind) → IsClean z class (tokens ++ t ∷ [])
+    → AreWatched z class p tokens old → AreWatched z class p (tokens ++ t ∷ []) new
 
--- what the play of tokens ensures
-abbrev pub PlaysOn : Size → Start → Position → TwoWatches → List TokenKind → TwoWatches → Type 0
-PlaysOn z class p old ts new = (tokens : List TokenKind) → IsClean z class (tokens ++ ts)
-    → AreWatched z class p tokens old → AreWatched z class p (tokens ++ ts) new
+-- one token more
+pub watched_token : (first old new : Watching) (tokens : List TokenKind) (t : TokenKind)
+    → HasWatched first tokens true old → new.size ≡ old.size → new.at ≡ old.at → BothStandOn old.size new.watches
+    → PlaysOn old.size old.at old.watches t new.watches → HasWatched first (tokens ++ t ∷ []) true new
+watched_token first old new tokens t h size at stand plays = record {
+  never_stops = refl;
+  size = size ∙ h.size;
+  at = at ∙ h.at;
+  stand = subst (λ (z : Size). BothStandOn z new.watches) h.size stand;
+  watched = λ class begins clean.
+      subst (λ (z : Size). PlaysOn z first.at old.watches t new.watches) h.size
+      (subst (λ (p : Position). PlaysOn old.size p old.watches t new.watches) h.at plays) class tokens clean
+      (h.watched class begins (clean_front first.size class tokens (t ∷ []) clean));
+}
 
-module _ (z : Size) (class : Start) (p : Position) (tokens : List TokenKind) where
-  -- before the first byte
-  pub watched_nothing : (bytes : List ℕ) (w : TwoWatches) → Reads bytes tokens → AreWatched z class p [] w
-      → WatchedSoFar z class p bytes tokens w
-  watched_nothing bytes w reads h =
-      record { played = []; later = tokens; all = refl; reads = reads; watched = h }
+-- ---- all tokens
+abbrev pub WatchesTo : List ℕ → Watching → Watching → Result Bool Fault → Type 0
+WatchesTo bytes first now =
+    WalksTo (λ first front now goes_on. HasWatched first front.tokens goes_on now) bytes (length bytes) first now
 
-  -- one more piece
-  pub watched_piece : (old new : PiecesView) (piece : Piece) (w v : TwoWatches) → IsClean z class tokens
-      → WatchedSoFar z class p old.rest tokens w → TakesPiece old new piece
-      → PlaysOn z class p w (kinds_of_piece piece) v → WatchedSoFar z class p new.rest tokens v
-  watched_piece old new piece w v clean h taken plays =
-      let on = goes_on old new piece h.later taken h.reads in
-      let kinds = kinds_of_piece piece in
-      let all : tokens ≡ (h.played ++ kinds) ++ on.later =
-      h.all ∙ ap (λ (ts : List TokenKind). h.played ++ ts) on.more ∙ sym (append_assoc h.played kinds on.later) in
-      record {
-        played = h.played ++ kinds;
-        later = on.later;
-        all = all;
-        reads = on.reads;
-        watched = plays h.played
-            (clean_front z class (h.played ++ kinds) on.later (subst (IsClean z class) all clean)) h.watched;
-      }
+pub both_stand : (bytes : List ℕ) (first now : Watching) (result : Result Bool Fault) → WatchesTo bytes first now result
+    → BothStandOn first.size now.watches
+both_stand bytes first now (Ok true) h = h.over.stand
+both_stand bytes first now (Ok false) (left, h) = h.over.stand
+both_stand bytes first now (Err fault) (left, h, fails) = h.over.stand
 
-  -- at the end all are played
-  pub watched_all : (old new : PiecesView) (w : TwoWatches) → HasEnded old new
-      → WatchedSoFar z class p old.rest tokens w → AreWatched z class p tokens w
-  watched_all old new w ended h =
-      let none : h.later ≡ [] = no_more old new h.later ended h.reads in
-      let all : h.played ≡ tokens =
-      sym (h.all ∙ ap (λ (ts : List TokenKind). h.played ++ ts) none ∙ append-nil h.played) in
-      subst (λ (ts : List TokenKind). AreWatched z class p ts w) all h.watched
+pub watched_all : (class : Start) (bytes : List ℕ) (first now : Watching) (result : Result Bool Fault)
+    (tokens : List TokenKind) → WatchesTo bytes first now result
+    → AreWatched first.size class first.at [] first.watches → Reads bytes tokens → IsClean first.size class tokens
+    → AreWatched first.size class first.at tokens now.watches
+watched_all class bytes first now result tokens h begins reads clean =
+    let over = walked_whole _ bytes (length bytes) first now result tokens reads.0
+    (λ front stops. false≢true stops.never_stops) h (rw (take-length bytes) reads.1) in
+    over.watched class begins clean

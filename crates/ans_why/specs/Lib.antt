@@ -4,5 +4,3 @@ pub mod Lines
 pub mod Taller
 pub mod Watched
 pub mod Evidence
-pub mod Runs
-pub mod Descent

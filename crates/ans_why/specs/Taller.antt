@@ -1,18 +1,18 @@
 -- Content that plays on a taller screen as on the stated one.
-use Rattle.std.specs.Prelude.{◌≡◌, ℕ, ◌+◌, ◌≤◌, List, take, slice_get, Some}
-use Rattle.ans_model.specs.Sequence.TokenKind.{TokenKind, Up, Down}
+use Rattle.std.specs.Prelude.{◌≡◌, ℕ, ◌+◌, ◌≤◌, Bool, true, false, List, All, take, slice_get, Some}
+use Rattle.ans_model.specs.Sequence.TokenKind.{TokenKind, PrintsByte, Up, Down}
 use Rattle.ans_model.specs.Sequence.Reads.{Reads}
-use Rattle.ans_model.specs.Inside.ShownKind.{shown_kind}
 use Rattle.ans_model.specs.Screen.State.{Size, State, IsStated, cell_at, sized}
 use Rattle.ans_model.specs.Screen.Step.{final}
-use Rattle.ans_model.specs.Screen.StartClass.{IsStart}
+use Rattle.ans_model.specs.Screen.StartClass.{IsStart, low_start, high_start}
 use Rattle.ans_model.specs.Verdict.Good.{Picture, GoodWith, PlaysWell}
-use Rattle.ans_model.specs.Verdict.TokenFault.{FromEvery}
+use Rattle.ans_model.specs.Verdict.TokenFault.{FromEvery, IsClean}
+use Rattle.ans_model.specs.Verdict.TwoStarts.{low_final, high_final}
 use Rattle.ans_model.specs.declared.cell.Position.{Position}
 use Rattle.ans_model.specs.declared.start.Start.{Start}
-use Rattle.ans_tokens.specs.Token.{kind_of}
-use Rattle.ans_tokens.specs.declared.pieces.Piece.{Piece}
-use Rattle.ans_tokens.specs.declared.pieces.Piece.TheVariants.{Glyphs, Token}
+use Rattle.ans_pen.specs.Pens.{pen_of}
+use Rattle.ans_pen.specs.declared.pen.Pen.{Pen}
+use Rattle.ans_why.specs.declared.taller.Moves.{Moves}
 
 -- after these tokens the cursor's row is the same from every start
 abbrev pub SameRow : Size → Start → List TokenKind → Type 0
@@ -57,7 +57,15 @@ IsFreeBetween z low high (Down n) = (low.row + n ≤ z.lines) × (high.row + n �
 IsFreeBetween z low high (Up n) = low.row ≡ high.row
 IsFreeBetween z low high _ = Unit {0}
 
--- none of the piece's tokens is another move
-abbrev pub IsFreePiece : Size → Position → Position → Piece → Type 0
-IsFreePiece z low high (Glyphs text) = Unit {0}
-IsFreePiece z low high (Token t) = IsFreeBetween z low high (shown_kind (kind_of t))
+-- The moves of the tokens are free, and so the plays from the low and the high start have these pens; or else one is not.
+abbrev pub MoveFreelyTo : Size → Start → List TokenKind → Bool → Pen → Pen → Type 0
+MoveFreelyTo z class tokens true low high = MovesFreely z class tokens
+    × (low ≡ pen_of (low_final z class tokens)) × (high ≡ pen_of (high_final z class tokens))
+MoveFreelyTo z class tokens false low high = ¬ MovesFreely z class tokens
+
+-- over these tokens, where they are clean, the first has become the other, which goes on or stops
+pub record HasMoved (first : Moves) (tokens : List TokenKind) (goes_on : Bool) (now : Moves) : Type 0 where
+  pub size : now.size ≡ first.size
+  pub moved : (class : Start) → first.low ≡ pen_of (low_start first.size class)
+      → first.high ≡ pen_of (high_start first.size class) → All PrintsByte tokens → IsClean first.size class tokens
+      → MoveFreelyTo first.size class tokens goes_on now.low now.high

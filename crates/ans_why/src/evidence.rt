@@ -21,7 +21,30 @@ use ans_model::fault::{Cause, Fault};
 use ans_model::size::Size;
 use ans_model::start::Start;
 use ans_pen::HOME;
-use ans_tokens::Pieces;
+use ans_tokens::{Token, Walker, walk};
+
+/// The two plays over the tokens of a content.
+#[derive(Clone, Copy)]
+struct Watching {
+    size: Size,
+    at: Position,
+    watches: TwoWatches,
+}
+
+impl Walker for Watching {
+    ghost use Rattle.ans_model.specs.Screen.State.{IsOnScreen};
+    ghost use Rattle.ans_why.specs.Watched.{BothStandOn, HasWatched};
+
+    ghost ready = { λ w offset. IsOnScreen w.size w.at × BothStandOn w.size w.watches };
+
+    ghost walked = { λ first front now goes_on. HasWatched first front.tokens goes_on now };
+
+    #[inline(always)]
+    fn token(&mut self, token: &Token, _behind: &[u8]) -> bool {
+        self.watches.step(self.size, self.at, token.kind());
+        true
+    }
+}
 
 /// The two plays after bytes that are read as clean tokens.
 fn watch_tokens(size: Size, start: Start, at: Position, bytes: &[u8]) -> TwoWatches
@@ -31,15 +54,10 @@ fn watch_tokens(size: Size, start: Start, at: Position, bytes: &[u8]) -> TwoWatc
     ensures watched { (tokens : List TokenKind) → Reads bytes.now tokens → IsClean size start tokens
         → AreWatched size start at tokens result }
 {
-    let mut pieces = Pieces::new(bytes);
-    let mut watches = TwoWatches::new(size, start, at);
-    'pieces: loop {
-        match pieces.next() {
-            Ok(Some(piece)) => watches.piece(size, at, &piece),
-            Ok(None) => return watches,
-            Err(_) => return watches,
-        }
-    }
+    let watches = TwoWatches::new(size, start, at);
+    let mut watching = Watching { size, at, watches };
+    let _ = walk(bytes, bytes.len(), &mut watching);
+    watching.watches
 }
 
 fn begins_with_tab(bytes: &[u8]) -> bool

@@ -1,39 +1,74 @@
 //! How many lines a content needs from the cleared start.
 
-ghost use Rattle.std.specs.Prelude.{◌≤◌, length, IfSome, IfNone};
+ghost use Rattle.std.specs.Prelude.{◌≡◌, ◌≤◌, ◌↔◌, length, IfSome, IfNone, IsTrue};
 ghost use Rattle.ans_model.specs.Bytes.{longest_file, most_columns, most_lines};
-ghost use Rattle.ans_why.specs.Lines.{IsNeverGood, IsLeastLines};
-ghost use Rattle.ans_why.specs.Descent.{Settles};
+ghost use Rattle.ans_model.specs.Inside.ShownKind.{shown_kind};
+ghost use Rattle.ans_model.specs.Screen.StartClass.{all_known};
+ghost use Rattle.ans_model.specs.Screen.State.{State};
+ghost use Rattle.ans_model.specs.Verdict.Good.{IsGood};
+ghost use Rattle.ans_pen.specs.Pens.{pen_of, StandsOn};
+ghost use Rattle.ans_why.specs.Lines.{HasRoom, IsNeverGood, IsLeastLines};
 
-use crate::descent::Descent;
+use ans_model::kind::Kind;
 use ans_model::limits::MAX_LINES;
-use ans_tokens::Pieces;
+use ans_model::size::Size;
+use ans_pen::Pen;
+use ans_tokens::{Token, Walker, walk};
 
-/// Plays the content on each number of lines from `enough` to `most` at once. None where it is good
-/// on none up to the most.
-fn descend(width: usize, enough: usize, most: usize, content: &[u8]) -> Option<Descent>
-    requires some_columns { 1 ≤ width }
-    requires columns { width ≤ most_columns }
-    requires some_lines { 1 ≤ enough }
-    requires enough { enough ≤ most }
-    requires most { most ≤ most_lines }
-    requires length { length content.now ≤ longest_file }
-    ensures settles { IfSome result (Settles width content.now most) }
-    ensures none { IfNone result (IsNeverGood width content.now most) }
+/// Whether a token has no fault where a play from the cleared start has come to this pen.
+#[inline(always)]
+fn has_room(size: Size, pen: &Pen, kind: &Kind) -> bool
+    requires stands { StandsOn size pen.now }
+    ensures { (s : State) → pen.now ≡ pen_of s
+        → (IsTrue result ↔ HasRoom size s (shown_kind kind.now)) }
 {
-    let mut pieces = Pieces::new(content);
-    let mut descent = Descent::new(width, enough, most);
-    'pieces: loop {
-        match pieces.next() {
-            Ok(Some(piece)) => {
-                if !descent.piece(&piece) {
-                    return None;
-                }
-            }
-            Ok(None) => return Some(descent),
-            Err(_) => return None,
+    match kind {
+        Kind::Glyph(_) | Kind::LineFeed => pen.cursor.row < size.lines(),
+        Kind::Tab => pen.row_of_tab(size) < size.lines(),
+        Kind::Place(row, column) => {
+            *row as usize <= size.lines() + 1 && *column as usize <= size.width()
         }
+        Kind::Keys | Kind::Mode | Kind::Ask => false,
+        _ => true,
     }
+}
+
+/// A play from the cleared start without its screen, as long as no token has a fault.
+#[derive(Clone, Copy)]
+struct ClearedPlay {
+    size: Size,
+    pen: Pen,
+}
+
+impl Walker for ClearedPlay {
+    ghost use Rattle.ans_pen.specs.Pens.{StandsOn};
+    ghost use Rattle.ans_why.specs.Lines.{HasPlayed};
+
+    ghost ready = { λ play offset. StandsOn play.size play.pen };
+
+    ghost walked = { λ first front now goes_on. HasPlayed first front.tokens goes_on now };
+
+    #[inline(always)]
+    fn token(&mut self, token: &Token, _behind: &[u8]) -> bool {
+        let kind = token.kind();
+        if !has_room(self.size, &self.pen, kind) {
+            return false;
+        }
+        self.pen.step(self.size, kind);
+        true
+    }
+}
+
+/// Whether the content is good from the cleared start.
+fn is_good(size: Size, content: &[u8]) -> bool
+    requires length { length content.now ≤ longest_file }
+    ensures { IsTrue result ↔ IsGood size all_known content.now }
+{
+    let mut play = ClearedPlay {
+        size,
+        pen: Pen::cleared(),
+    };
+    walk(content, content.len(), &mut play).unwrap_or(false)
 }
 
 /// The least number of lines, up to 8192, with which the content is good from the cleared start on a
@@ -46,14 +81,17 @@ pub fn least_lines(width: usize, content: &[u8]) -> Option<u16>
     ensures within { IfSome result (λ lines. lines ≤ most_lines) }
     ensures none { IfNone result (IsNeverGood width content.now most_lines) }
 {
-    let descent = descend(width, 1, MAX_LINES, content)?;
-    let mut refused = descent.refused.max(1);
-    let mut enough = descent.enough;
+    if !is_good(Size::new(width, MAX_LINES), content) {
+        return None;
+    }
+    let mut refused = 1;
+    let mut enough = MAX_LINES;
     'halves: while refused < enough {
         let middle = refused + (enough - refused) / 2;
-        match descend(width, middle, middle, content) {
-            Some(_) => enough = middle,
-            None => refused = middle + 1,
+        if is_good(Size::new(width, middle), content) {
+            enough = middle;
+        } else {
+            refused = middle + 1;
         }
     }
     Some(enough as u16)

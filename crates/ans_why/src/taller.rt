@@ -5,15 +5,14 @@ ghost use Rattle.ans_model.specs.Bytes.{longest_file};
 ghost use Rattle.ans_model.specs.Inside.ShownKind.{shown_kind};
 ghost use Rattle.ans_model.specs.Verdict.Good.{IsGood};
 ghost use Rattle.ans_pen.specs.Pens.{StandsOn};
-ghost use Rattle.ans_why.specs.Taller.{IsTaller, IsFreeBetween, IsFreePiece};
+ghost use Rattle.ans_why.specs.Taller.{IsTaller, IsFreeBetween};
 
-use crate::print::play_piece;
 use crate::watch::Watch;
 use ans_model::kind::Kind;
 use ans_model::size::Size;
 use ans_model::start::Start;
 use ans_pen::{HOME, Pen};
-use ans_tokens::{Piece, Pieces};
+use ans_tokens::{Token, Walker, walk};
 
 /// Whether a token is no move up or down, or one that nothing stops, where the cursors of the low and
 /// the high start stand so.
@@ -34,16 +33,32 @@ fn is_free(size: Size, low: &Pen, high: &Pen, kind: &Kind) -> bool
     }
 }
 
-/// The same of a piece of a content.
-#[inline(always)]
-fn is_free_piece(size: Size, low: &Pen, high: &Pen, piece: &Piece<'_>) -> bool
-    requires low { StandsOn size low.now }
-    requires high { StandsOn size high.now }
-    ensures { IsTrue result ↔ IsFreePiece size low.now.cursor high.now.cursor piece.now }
-{
-    match piece {
-        Piece::Glyphs(_) => true,
-        Piece::Token(token) => is_free(size, low, high, token.kind()),
+/// The plays from the low and the high start of a class without their screens, as long as the moves
+/// are free.
+#[derive(Clone, Copy)]
+struct Moves {
+    size: Size,
+    low: Pen,
+    high: Pen,
+}
+
+impl Walker for Moves {
+    ghost use Rattle.ans_pen.specs.Pens.{StandsOn};
+    ghost use Rattle.ans_why.specs.Taller.{HasMoved};
+
+    ghost ready = { λ m offset. StandsOn m.size m.low × StandsOn m.size m.high };
+
+    ghost walked = { λ first front now goes_on. HasMoved first front.tokens goes_on now };
+
+    #[inline(always)]
+    fn token(&mut self, token: &Token, _behind: &[u8]) -> bool {
+        let kind = token.kind();
+        if !is_free(self.size, &self.low, &self.high, kind) {
+            return false;
+        }
+        self.low.step(self.size, kind);
+        self.high.step(self.size, kind);
+        true
     }
 }
 
@@ -55,20 +70,10 @@ pub fn is_taller(size: Size, start: Start, content: &[u8]) -> bool
     requires good { IsGood size start content.now }
     ensures { IsTrue result ↔ IsTaller size start content.now }
 {
-    let mut low = Watch::low(size, start, HOME).pen;
-    let mut high = Watch::high(size, start, HOME).pen;
-    let mut pieces = Pieces::new(content);
-    'pieces: loop {
-        match pieces.next() {
-            Ok(Some(piece)) => {
-                if !is_free_piece(size, &low, &high, &piece) {
-                    return false;
-                }
-                play_piece(&mut low, size, &piece);
-                play_piece(&mut high, size, &piece);
-            }
-            Ok(None) => return true,
-            Err(_) => return false,
-        }
-    }
+    let mut moves = Moves {
+        size,
+        low: Watch::low(size, start, HOME).pen,
+        high: Watch::high(size, start, HOME).pen,
+    };
+    walk(content, content.len(), &mut moves).unwrap_or(false)
 }

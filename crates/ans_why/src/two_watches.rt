@@ -1,13 +1,12 @@
 //! The plays from the low and the high start of a class, of which one cell is kept.
 
-ghost use Rattle.std.specs.Prelude.{◌≡◌, ◌≢◌, ◌⊎◌, ◌↔◌, ◌++◌, ◌∷◌, [], IsTrue, List, All, map};
+ghost use Rattle.std.specs.Prelude.{◌≡◌, ◌≢◌, ◌⊎◌, ◌↔◌, ◌++◌, ◌∷◌, [], IsTrue, List, All};
 ghost use Rattle.ans_model.specs.Screen.State.{IsOnScreen};
-ghost use Rattle.ans_model.specs.Sequence.TokenKind.{TokenKind, PrintsByte, Glyph};
+ghost use Rattle.ans_model.specs.Sequence.TokenKind.{TokenKind, PrintsByte};
 ghost use Rattle.ans_model.specs.Inside.ShownKind.{shown_kind};
 ghost use Rattle.ans_model.specs.declared.fault.Cause.{Cause};
 ghost use Rattle.ans_model.specs.declared.start.Start.{Start};
 ghost use Rattle.ans_model.specs.Verdict.TokenFault.{IsClean, HasTabFault, then_blanks};
-ghost use Rattle.ans_tokens.specs.Pieces.{kinds_of_piece};
 ghost use Rattle.ans_why.specs.Watched.{AreWatched, BothStandOn};
 
 use crate::watch::Watch;
@@ -16,18 +15,17 @@ use ans_model::kind::Kind;
 use ans_model::size::Size;
 use ans_model::start::Start;
 use ans_model::tab::tab_blanks;
-use ans_tokens::Piece;
 
 /// The watches of the two plays.
-#[derive(Debug, Clone, Copy)]
-pub struct TwoWatches {
-    pub low: Watch,
-    pub high: Watch,
+#[derive(Clone, Copy)]
+pub(crate) struct TwoWatches {
+    pub(crate) low: Watch,
+    pub(crate) high: Watch,
 }
 
 impl TwoWatches {
     /// The two plays before the first token.
-    pub fn new(size: Size, start: Start, at: Position) -> TwoWatches
+    pub(crate) fn new(size: Size, start: Start, at: Position) -> TwoWatches
         requires at { IsOnScreen size at }
         ensures stand { BothStandOn size result }
         ensures watched { AreWatched size start at [] result }
@@ -39,7 +37,8 @@ impl TwoWatches {
     }
 
     /// A token in both plays.
-    pub fn step(&mut self, size: Size, at: Position, kind: &Kind)
+    #[inline(always)]
+    pub(crate) fn step(&mut self, size: Size, at: Position, kind: &Kind)
         requires at { IsOnScreen size at }
         requires stand { BothStandOn size self.old }
         ensures stand { BothStandOn size self.new }
@@ -52,52 +51,6 @@ impl TwoWatches {
         self.high.step(size, at, kind);
     }
 
-    /// A byte that is printed in both plays.
-    #[inline(always)]
-    fn print(&mut self, size: Size, at: Position, byte: u8)
-        requires at { IsOnScreen size at }
-        requires stand { BothStandOn size self.old }
-        ensures stand { BothStandOn size self.new }
-        ensures watched { (class : Start) (tokens : List TokenKind)
-            → IsClean size class (tokens ++ Glyph byte ∷ [])
-            → AreWatched size class at tokens self.old
-            → AreWatched size class at (tokens ++ Glyph byte ∷ []) self.new }
-    {
-        self.low.print(size, at, byte);
-        self.high.print(size, at, byte);
-    }
-
-    /// Glyphs in both plays.
-    pub fn glyphs(&mut self, size: Size, at: Position, bytes: &[u8])
-        requires at { IsOnScreen size at }
-        requires stand { BothStandOn size self.old }
-        ensures stand { BothStandOn size self.new }
-        ensures watched { (class : Start) (tokens : List TokenKind)
-            → IsClean size class (tokens ++ map Glyph bytes.now)
-            → AreWatched size class at tokens self.old
-            → AreWatched size class at (tokens ++ map Glyph bytes.now) self.new }
-    {
-        for byte in bytes {
-            self.print(size, at, *byte);
-        }
-    }
-
-    /// A piece of a content in both plays.
-    pub fn piece(&mut self, size: Size, at: Position, piece: &Piece<'_>)
-        requires at { IsOnScreen size at }
-        requires stand { BothStandOn size self.old }
-        ensures stand { BothStandOn size self.new }
-        ensures watched { (class : Start) (tokens : List TokenKind)
-            → IsClean size class (tokens ++ kinds_of_piece piece.now)
-            → AreWatched size class at tokens self.old
-            → AreWatched size class at (tokens ++ kinds_of_piece piece.now) self.new }
-    {
-        match piece {
-            Piece::Glyphs(text) => self.glyphs(size, at, text),
-            Piece::Token(token) => self.step(size, at, token.kind()),
-        }
-    }
-
     /// Whether a byte that is printed next has a fault: the cursors differ, or stand in the spare
     /// row.
     fn decides(&self, size: Size) -> bool
@@ -108,7 +61,7 @@ impl TwoWatches {
     }
 
     /// The blanks of a tab that has a fault, up to the one that decides it.
-    pub fn blanks(&mut self, size: Size, at: Position)
+    pub(crate) fn blanks(&mut self, size: Size, at: Position)
         requires at { IsOnScreen size at }
         requires stand { BothStandOn size self.old }
         ensures stand { BothStandOn size self.new }

@@ -2,7 +2,7 @@
 
 ghost use Rattle.std.specs.Prelude.{◌≡◌};
 ghost use Rattle.ans_model.specs.Screen.State.{State, FitsScreen, IsOnScreen};
-ghost use Rattle.ans_model.specs.Screen.StartClass.{start_with, low_start, high_start, cleared, uniform_state};
+ghost use Rattle.ans_model.specs.Screen.StartClass.{start_with, low_start, high_start, uniform_state};
 ghost use Rattle.ans_model.specs.Screen.Step.{blank_cell, printed, step};
 ghost use Rattle.ans_model.specs.Sequence.TokenKind.{Glyph, Clear, EraseLine, Tab};
 ghost use Rattle.ans_model.specs.Inside.ShownKind.{shown_kind};
@@ -28,10 +28,10 @@ const CLEARED_CELL: Cell = Cell {
 };
 
 /// What is watched of a state: its pen, and one cell of its screen.
-#[derive(Debug, Clone, Copy, PartialEq, Eq)]
-pub struct Watch {
-    pub pen: Pen,
-    pub cell: Cell,
+#[derive(Clone, Copy)]
+pub(crate) struct Watch {
+    pub(crate) pen: Pen,
+    pub(crate) cell: Cell,
 }
 
 impl Watch {
@@ -70,7 +70,7 @@ impl Watch {
     }
 
     /// The watch of the low start of a class: each part that is not known has its least value.
-    pub fn low(size: Size, start: Start, at: Position) -> Watch
+    pub(crate) fn low(size: Size, start: Start, at: Position) -> Watch
         requires at { IsOnScreen size at }
         ensures watch { result ≡ watched size at (low_start size start) }
         ensures stands { StandsOn size result.pen }
@@ -79,7 +79,7 @@ impl Watch {
     }
 
     /// The watch of the high start of a class: each part that is not known has its greatest value.
-    pub fn high(size: Size, start: Start, at: Position) -> Watch
+    pub(crate) fn high(size: Size, start: Start, at: Position) -> Watch
         requires at { IsOnScreen size at }
         ensures watch { result ≡ watched size at (high_start size start) }
         ensures stands { StandsOn size result.pen }
@@ -89,15 +89,6 @@ impl Watch {
             column: size.width() - 1,
         };
         Watch::from_class(size, start, at, 0xFF, last, true)
-    }
-
-    /// The watch of the cleared screen.
-    pub fn cleared(size: Size, at: Position) -> Watch
-        requires at { IsOnScreen size at }
-        ensures watch { result ≡ watched size at (cleared size) }
-        ensures stands { StandsOn size result.pen }
-    {
-        Watch::low(size, Start::CLEARED, at)
     }
 
     /// A blank of the current attribute.
@@ -182,7 +173,7 @@ impl Watch {
 
     /// One token, by the table of steps. The watch of a state becomes that of the next one, unless
     /// the screen scrolls.
-    pub fn step(&mut self, size: Size, at: Position, kind: &Kind)
+    pub(crate) fn step(&mut self, size: Size, at: Position, kind: &Kind)
         requires at { IsOnScreen size at }
         requires stands { StandsOn size self.old.pen }
         ensures stands { StandsOn size self.new.pen }

@@ -2,4 +2,3 @@ pub mod WritesLemmas
 pub mod PutsLemmas
 pub mod HexadecimalDigits
 pub mod RowTexts
-pub mod CountsUp

@@ -10,7 +10,7 @@ use Rattle.std.proofs.Math.Seq.{take-append_seam}
 use Rattle.std.specs.Io.KnownBytes.{Appends}
 use Rattle.std.proofs.KnownBytes.{Appends-nil, Appends-trans}
 use Rattle.ans_write.specs.Tried.{has_failed, inner_of}
-use Rattle.ans_write.specs.Puts.{HandsOn, Puts, device_failed, outbox_size}
+use Rattle.ans_write.specs.Puts.{HandsOn, Puts, device_failed}
 use Rattle.ans_write.specs.Writes.{AppendsPrefix, AppendsUnless, WritesText}
 use Rattle.ans_write.specs.declared.outbox.Outbox.{Outbox}
 use Rattle.ans_write.specs.declared.tried.Tried.{Tried}

@@ -7,13 +7,11 @@
 //! after a writing).
 //!
 //! Beside them stands how bytes are written: by characters ([`glyph_text`], [`put_characters`]), by
-//! hexadecimal digits ([`hex_byte`]), by [`Tables`] of both where a text is long, and by a
-//! [`Counter`] where decimal numbers follow one another. The characters and digits are defined in
-//! `ans_model`.
+//! hexadecimal digits ([`hex_byte`]), and by [`Tables`] of both where a text is long. The characters
+//! and digits are defined in `ans_model`.
 #![tactic(auto)]
 
 mod characters;
-mod counter;
 mod hexadecimal;
 mod outbox;
 mod tables;
@@ -22,7 +20,6 @@ mod utf8;
 mod whole_writes;
 
 pub use characters::{glyph_text, put_characters};
-pub use counter::Counter;
 pub use hexadecimal::hex_byte;
 pub use outbox::{Outbox, WriteFault};
 pub use tables::Tables;

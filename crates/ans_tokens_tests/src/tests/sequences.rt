@@ -1,6 +1,6 @@
 //! Sequences of numbers that are read from a slice, and what their numbers stand for.
 
-use ans_tokens::{Cause, Scanner, distance, is_just, place, read_sequence};
+use ans_tokens::{Cause, distance, is_just, place, read_sequence};
 use arrayvec::ArrayVec;
 
 /// Bytes that begin with a sequence of numbers: the numbers, the letter and the index after it.
@@ -38,30 +38,46 @@ fn numbers_and_letters_are_read(rt: HostRuntime) {
 
 /// Bytes that begin with no whole sequence, or with one that has a mark or a string, a number above
 /// 255 or more than 16 members.
-const NOT_READ: [&[u8]; 13] = [
+const DECLINED: [&[u8]; 17] = [
     b"",
     b"a\x1b[m",
     b"\x1b",
-    b"\x1b[",
-    b"\x1b[1;2",
+    b"\x1b\x1b[m",
+    b"\x1b(B",
     b"\x1b[?7h",
     b"\x1b[=7h",
+    b"\x1b[7?h",
     b"\x1b[\"m\"p",
     b"\x1b[1'm'p",
     b"\x1b[1 m",
+    b"\x1b[1\nm",
     b"\x1b[\x1b[m",
     b"\x1b[256C",
+    b"\x1b[1;2;0999m",
+    b"\x1b[1;2;3;4;5;6;7;8;9;10;11;12;13;14;15;16;17m",
     b"\x1b[;;;;;;;;;;;;;;;;m",
 ];
 
+fn is_declined(bytes: &[u8]) -> bool {
+    read_sequence(bytes, &mut ArrayVec::new()).is_none()
+}
+
 #[test]
-fn others_are_not_read(rt: HostRuntime) {
-    for bytes in NOT_READ {
-        let mut found = ArrayVec::new();
-        assert!(rt;
-            read_sequence(bytes, &mut found).is_none(),
-            "{bytes:?} is read"
-        );
+fn other_forms_are_declined(rt: HostRuntime) {
+    for bytes in DECLINED {
+        assert!(rt; is_declined(bytes), "{bytes:?} is read");
+    }
+}
+
+/// A sequence is cut where the slice ends before its letter.
+#[test]
+fn cut_sequences_are_declined(rt: HostRuntime) {
+    let texts: [&[u8]; 4] = [b"\x1b[m", b"\x1b[12;5H", b"\x1b[07;255h", b"\x1b[;;1m"];
+    for text in texts {
+        for cut in 0..text.len() {
+            assert!(rt; is_declined(&text[..cut]), "{text:?} is read at {cut}");
+        }
+        assert!(rt; !is_declined(text), "{text:?} is not read");
     }
 }
 
@@ -109,13 +125,4 @@ fn a_number_alone(rt: HostRuntime) {
         is_just(2, &[2, 2]),
     ];
     assert!(rt; alone == [true, false, false, false]);
-}
-
-#[test]
-fn bytes_are_skipped(rt: HostRuntime) {
-    let mut scanner = Scanner::new();
-    scanner.skip(3);
-    let skipped = scanner.offset();
-    let token = scanner.token(b"x").expect(&rt, "a token");
-    assert_eq!(rt; [skipped, token.start(), scanner.offset()], [3, 3, 4]);
 }

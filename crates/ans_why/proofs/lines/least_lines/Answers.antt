@@ -1,27 +1,24 @@
-use Rattle.std.proofs.Common.{◌≡◌, inl, inr, arith}
-use Rattle.std.proofs.lemmas.Bool.{cases_lt}
+use Rattle.std.proofs.Common.{◌≡◌, ◌+◌, ◌-◌, ◌/◌, ℕ, arith}
+use Rattle.ans_why.proofs.MoreLines.{good_from_on}
 use Rattle.ans_why.proofs.lines.least_lines.Goals as goal
 
-pub halves-init : goal.halves-init
-halves-init c =
-    let settles = c.in_ok-descent.ensures.settles in
-    record {
-      enough = settles.enough;
-      fewer = λ n lt good. elim (cases_lt n c.in_ok-descent.descent.refused) [
-        | inl less ↦ settles.fewer n less good
-        | inr more ↦ omega (arith, good.1.size.some_lines, lt, more, c.max-refused.ensures)
-      ];
-      some = omega (arith, c.max-refused.ensures);
-      order = omega (arith, c.max-refused.ensures, settles.order.0, settles.order.1);
-      most = settles.order.2;
-    }
+pub returns-then-not-is_good-clause-none : goal.returns-then-not-is_good-clause-none
+returns-then-not-is_good-clause-none c n le good =
+    let no = rw c.new.ensures at c.is_good.ensures in
+    absurd (cc (no.1 (good_from_on c.args.width n 8192 c.args.content.now le good), c.if-not-is_good.true))
 
 pub halves-preserved : goal.halves-preserved
 halves-preserved c =
     let h = c.halves.invariant in
+    let middle : ℕ = c.halves.refused + (c.halves.enough - c.halves.refused) / 2 in
     record {
       enough = h.enough;
-      fewer = λ n lt good. c.in-None.ensures.none n (omega (arith, lt)) good;
+      fewer = λ n lt good.
+          let no = rw c.new-in-halves.ensures at c.is_good-in-halves.ensures in
+          absurd (cc (
+            no.1 (good_from_on c.args.width n middle c.args.content.now (omega (arith, lt)) good),
+            c.if-is_good.false,
+          ));
       some = omega arith;
       order = omega (arith, c.halves-test.true);
       most = h.most;

@@ -1,0 +1,72 @@
+-- What a walk over the tokens of a content has been over.
+use Rattle.std.specs.Prelude.{◌≡◌, ◌⊎◌, ℕ, Bool, true, false, List, [], ◌∷◌, ◌++◌, length, take, drop, Result, Ok, Err}
+use Rattle.std.specs.List.{AllZip, concat}
+use Rattle.ans_model.specs.Sequence.TokenKind.{TokenKind}
+use Rattle.ans_model.specs.Sequence.Reads.{SpellsToken, ReadsAs}
+use Rattle.ans_model.specs.Inside.ShownKind.{shown_kind}
+use Rattle.ans_model.specs.Sequence.Spelling.{IsUnfinished}
+use Rattle.ans_model.specs.Verdict.FirstFault.{IsRefused}
+use Rattle.ans_model.specs.declared.fault.Cause.{Cause}
+use Rattle.ans_model.specs.declared.fault.Cause.TheVariants.{EndInSequence}
+use Rattle.ans_model.specs.declared.fault.Fault.{Fault}
+use Rattle.ans_tokens.specs.Token.{kind_of, start_of, length_of}
+use Rattle.ans_tokens.specs.declared.token.Token.{Token}
+
+-- a front of a content: its tokens, the text of each, and the bytes behind them
+pub record Front : Type 0 where
+  pub tokens : List TokenKind
+  pub texts : List (List ℕ)
+  pub behind : List ℕ
+
+abbrev pub front_of : List TokenKind → List (List ℕ) → List ℕ → Front
+front_of tokens texts behind = record { tokens = tokens; texts = texts; behind = behind }
+
+-- before the first token
+abbrev pub no_front : List ℕ → Front
+no_front content = front_of [] [] content
+
+-- the token comes next: its text stands behind the front, whose tokens have their texts, and these bytes stand behind it
+pub record IsNext (front : Front) (token : Token) (text behind : List ℕ) : Type 0 where
+  pub each : AllZip SpellsToken front.tokens front.texts
+  pub whole : front.behind ≡ text ++ behind
+  pub spelled : SpellsToken (shown_kind (kind_of token)) text
+  pub starts : start_of token ≡ length (concat front.texts)
+  pub long : length_of token ≡ length text
+
+-- with one token more
+abbrev pub front_with : Front → TokenKind → List ℕ → List ℕ → Front
+front_with front token text behind = front_of (front.tokens ++ token ∷ []) (front.texts ++ text ∷ []) behind
+
+-- the bytes begin with a text that the reading refuses
+pub record BeginsRefused (bytes : List ℕ) (cause : Cause) : Type 0 where
+  pub text : List ℕ
+  pub rest : List ℕ
+  pub whole : bytes ≡ text ++ rest
+  pub refused : IsRefused text cause
+
+-- the bytes begin with what is refused, or are an unfinished sequence
+abbrev pub HasNoReading : List ℕ → Cause → Type 0
+HasNoReading bytes cause = BeginsRefused bytes cause ⊎ (IsUnfinished bytes × (cause ≡ EndInSequence))
+
+-- what is left has no reading, and the fault stands where it begins
+pub record IsFaultAt (offset : ℕ) (bytes : List ℕ) (fault : Fault) : Type 0 where
+  pub offset_is : fault.offset ≡ offset
+  pub unread : HasNoReading bytes fault.cause
+
+-- The first `end` bytes of the content begin with a front, before what is left of them. The walker has been over it.
+pub record Walks {W : Type 0} (walked : W → Front → W → Bool → Type 0) (content : List ℕ) (end : ℕ) (left : List ℕ)
+    (first now : W) (goes_on : Bool) : Type 0 where
+  pub front : Front
+  pub read : List ℕ
+  pub whole : take end content ≡ read ++ left
+  pub reads : ReadsAs read front.tokens front.texts
+  pub behind : front.behind ≡ left ++ drop end content
+  pub over : walked first front now goes_on
+
+-- Nothing is left where the walker went on to the end, something may be left where it stopped, and a fault stands where
+-- the reading refuses what is left.
+abbrev pub WalksTo : {W : Type 0} → (W → Front → W → Bool → Type 0) → List ℕ → ℕ → W → W → Result Bool Fault → Type 0
+WalksTo walked content end first now (Ok true) = Walks walked content end [] first now true
+WalksTo walked content end first now (Ok false) = (left : List ℕ) × Walks walked content end left first now false
+WalksTo walked content end first now (Err fault) = (left : List ℕ)
+    × (h : Walks walked content end left first now true) × IsFaultAt (length h.read) left fault

@@ -1,7 +1,0 @@
-use Rattle.std.proofs.Common.{arith}
-use Rattle.std.proofs.lemmas.Fmt.{length-decimal-le}
-use Rattle.ans_write.proofs.counter.Counter.new.Goals as goal
-
-pub write_digits-start-requires : goal.write_digits-start-requires
-write_digits-start-requires c =
-    (length-decimal-le 8 c.args.number (omega arith) (omega arith) (omega arith), omega arith)
