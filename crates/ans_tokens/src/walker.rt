@@ -63,21 +63,6 @@ fn token_by_bytes(bytes: &[u8], offset: usize) -> Result<Option<Token>, Fault>
     Ok(None)
 }
 
-/// The token that the bytes begin with, which stands at this offset; it is a sequence. None where
-/// there is no byte, and else a fault at the offset, F9 to F14.
-#[inline(always)]
-fn next_sequence(bytes: &[u8], offset: usize) -> Result<Option<Token>, Fault>
-    requires { offset + length bytes.now ≤ longest_file }
-    ensures token { IfOk result (λ token. MatchOption token (bytes.now ≡ [])
-        (IsTokenAt offset bytes.now)) }
-    ensures fault { IfErr result (IsFaultAt offset bytes.now) }
-{
-    if let Some(token) = whole_sequence(bytes, offset) {
-        return Ok(Some(token));
-    }
-    token_by_bytes(bytes, offset)
-}
-
 /// Hands a walker the tokens of the first `end` bytes of a content, one after the other. True where
 /// it went on up to the end, and false where it stopped before. Where the reading refuses what stands
 /// next, or the bytes end in a sequence, the fault is returned, F9 to F14.
@@ -91,20 +76,26 @@ pub fn walk<W: Walker>(content: &[u8], end: usize, walker: &mut W) -> Result<boo
     let mut at = 0;
     'tokens: loop {
         let bytes = &content[at..end];
-        // A token is large, so that of a byte is handed on at once: it would be copied where ways join.
+        // A token is large, so each is handed on at once: it would be copied where ways join.
         let goes_on = match bytes {
             [byte, ..] if *byte != ESCAPE => {
                 let token = next_byte(bytes, at);
                 at += token.length;
                 walker.token(&token, &content[at..])
             }
-            _ => {
-                let Some(token) = next_sequence(bytes, at)? else {
-                    return Ok(true);
-                };
-                at += token.length;
-                walker.token(&token, &content[at..])
-            }
+            _ => match whole_sequence(bytes, at) {
+                Some(token) => {
+                    at += token.length;
+                    walker.token(&token, &content[at..])
+                }
+                None => {
+                    let Some(token) = token_by_bytes(bytes, at)? else {
+                        return Ok(true);
+                    };
+                    at += token.length;
+                    walker.token(&token, &content[at..])
+                }
+            },
         };
         if !goes_on {
             return Ok(false);
