@@ -10,4 +10,5 @@ pub mod TextFront
 pub mod Scanning
 mod WalkSteps
 pub mod Walked
+pub mod Cleared
 pub mod TakenSoFar

@@ -1,16 +1,14 @@
 -- Each list of bytes is read as tokens, up to its end, an open sequence, or the first text that the reading refuses.
-use Rattle.std.proofs.Common.{◌≡◌, ◌⊎◌, inl, inr, ℕ, List, [], ◌∷◌, ◌++◌, All, map, refl, sym, ap, ◌∙◌}
+use Rattle.std.proofs.Common.{◌≡◌, ◌⊎◌, inl, inr, ℕ, List, [], ◌∷◌, ◌++◌, refl, sym, ap, ◌∙◌}
 use Rattle.std.proofs.Common.{append_assoc, subst}
 use Rattle.std.specs.List.{AllByRecursion, AllZip}
 use Rattle.std.proofs.lemmas.List.{append-nil}
 use Rattle.std.proofs.lemmas.List.Folds.{concat-append}
 use Rattle.ans_model.specs.Bytes.{IsByte}
-use Rattle.std.proofs.lemmas.List.Elements.{All-head, All-tail}
-use Rattle.ans_model.specs.Sequence.TokenKind.{TokenKind, Glyph}
+use Rattle.ans_model.specs.Sequence.TokenKind.{TokenKind}
 use Rattle.ans_model.specs.declared.fault.Cause.{Cause}
 use Rattle.ans_model.specs.Sequence.Reads.{SpellsToken, ReadsAs}
 use Rattle.ans_model.specs.Verdict.FirstFault.{IsRefused}
-use Rattle.ans_tokens.specs.Glyphs.{IsGlyphByte}
 use Rattle.ans_tokens.proofs.EachByte.{IsOpen, Open, Nothing, SpellsOpen, is_open, Next, Stays, Ends, Refuses}
 use Rattle.ans_tokens.proofs.EachByte.{SpellsNext, next, next_is}
 
@@ -55,17 +53,6 @@ reads_as_append a b ts us xs ys h k = record {
 -- one token
 pub reads_as_one : (t : TokenKind) (text : List ℕ) → SpellsToken t text → ReadsAs text (t ∷ []) (text ∷ [])
 reads_as_one t text spelled = record { each = (spelled, tt); whole = sym (append-nil text) }
-
--- glyphs are read one by one
-pub glyphs_read : (bytes : List ℕ) → All IsGlyphByte bytes
-    → ReadsAs bytes (map Glyph bytes) (map (λ b. b ∷ []) bytes)
-glyphs_read [] h = record { each = tt; whole = refl }
-glyphs_read (b ∷ bytes) h =
-    let later = glyphs_read bytes (All-tail IsGlyphByte b bytes h) in
-    record {
-      each = (All-head IsGlyphByte b bytes h, later.each);
-      whole = ap (λ (v : List ℕ). b ∷ v) later.whole;
-    }
 
 -- one more token is read
 pub reads_as_more : (bytes text : List ℕ) (tokens : List TokenKind) (texts : List (List ℕ)) (t : TokenKind)

@@ -12,6 +12,7 @@
 //! and `Reads`.
 #![tactic(auto)]
 
+mod clearing;
 mod glyphs;
 pub mod laws;
 mod mark;
@@ -24,6 +25,7 @@ mod whole;
 
 pub use ans_model::fault::{Cause, Fault};
 pub use ans_model::kind::Kind;
+pub use clearing::is_cleared;
 pub use glyphs::count_glyphs;
 pub use meaning::{distance, is_just, place};
 pub use scanner::{ESCAPE, Scanner};

@@ -3,7 +3,7 @@
 ghost use Rattle.std.specs.Prelude.{⊤};
 
 use ans_model::limits::MAX_FILE;
-use ans_tokens::{Cause, Fault, Token, Walker, walk};
+use ans_tokens::{Cause, Fault, Token, Walker, is_cleared, walk};
 use std::process::Abort;
 
 /// What a token is to be: its offset, its length, and how many bytes of the content stand behind it.
@@ -114,4 +114,16 @@ fn walks_end_where_they_are_told(rt: HostRuntime) {
     ];
     let ends = [(Ok(true), 1), (Ok(true), 0), (Err(cut), 0), (Ok(false), 0)];
     assert_eq!(rt; walks, ends);
+}
+
+#[test]
+fn contents_clear_the_screen_or_not(rt: HostRuntime) {
+    let content = b"a\x1b[\"\x1b[2J\"p\x1b[K\x1b[2Jb";
+    let cleared = [
+        is_cleared(content, 10),
+        is_cleared(content, 13),
+        is_cleared(content, 17),
+        is_cleared(content, 18),
+    ];
+    assert_eq!(rt; cleared, [false, false, true, true]);
 }
