@@ -1,5 +1,5 @@
 -- What `why` says of a file is clean.
-use Rattle.std.proofs.Common.{◌≡◌, inl, inr, ℕ, Bool, true, false, refl, sym, subst, List, [], ◌∷◌, ◌++◌, length}
+use Rattle.std.proofs.Common.{◌≡◌, inl, inr, ℕ, ◌<◌, Bool, true, false, refl, sym, subst, List, [], ◌∷◌, ◌++◌, length}
 use Rattle.std.proofs.Common.{take, codes, Option, Some, None, All}
 use Rattle.std.specs.Prelude.{◌==◌, nat_lt, if◌then◌else◌, decimal, flat_map, IfSome}
 use Rattle.std.proofs.lemmas.Option.{slice_get_within, get_or_from_slice_get}
@@ -14,9 +14,9 @@ use Rattle.ans_model.specs.declared.start.Start.{Start}
 use Rattle.ans_model.specs.File.Record.{font_field}
 use Rattle.ans_model.specs.Screen.State.{Size, State, IsSize, IsByteCell, IsWellFormed, cell_at, index}
 use Rattle.ans_model.specs.Screen.StartClass.{IsStart, none_known, all_known, low_start, high_start}
-use Rattle.ans_model.specs.Screen.Step.{final}
+use Rattle.ans_model.specs.Screen.Step.{step, final}
 use Rattle.ans_model.specs.Sequence.Reads.{Reads}
-use Rattle.ans_model.specs.Sequence.TokenKind.{TokenKind}
+use Rattle.ans_model.specs.Sequence.TokenKind.{TokenKind, PrintsByte}
 use Rattle.ans_model.specs.Text.Characters.{shown_bytes}
 use Rattle.ans_model.specs.Text.FaultText.{line_of, fault_line}
 use Rattle.ans_model.specs.Text.Hexadecimal.{hex_byte}
@@ -25,7 +25,7 @@ use Rattle.ans_model.specs.Text.RecordText.{named_line}
 use Rattle.ans_model.specs.Text.ReportText.{refusal_text, size_text}
 use Rattle.ans_model.proofs.Reading.{reads_bytes}
 use Rattle.ans_model.proofs.StartLemmas.{low_is_start, high_is_start}
-use Rattle.ans_laws.proofs.TwoCursors.{well_formed_final}
+use Rattle.ans_model.proofs.WellFormed.{well_formed_after_step}
 use Rattle.ans_sauce.specs.declared.found.Found.{Found}
 use Rattle.ans_sauce.specs.declared.found.Found.TheVariants as found
 use Rattle.ans_sauce.specs.declared.parts.Parts.{Parts}
@@ -132,6 +132,14 @@ cell_clean c h =
     (clean_append (hex_byte c.byte) attribute (clean_hex_byte c.byte h.0)
     (clean_append (codes ", attribute ") (hex_byte c.attribute) (plain_text (codes ", attribute ") refl)
     (clean_hex_byte c.attribute h.1)))
+
+-- after tokens a state of the machine is still one
+well_formed_final : (z : Size) (s : State) (tokens : List TokenKind) → 0 < z.width → All PrintsByte tokens
+    → IsWellFormed z s → IsWellFormed z (final z s tokens)
+well_formed_final z s [] w prints well = well
+well_formed_final z s (t ∷ tokens) w prints well =
+    well_formed_final z (step z s t) tokens w (All-tail PrintsByte t tokens prints)
+    (well_formed_after_step z s t (All-head PrintsByte t tokens prints) w well)
 
 -- a screen's cell is one of bytes after a play from a start
 played_cell : (z : Size) (class : Start) (s : State) (content : List ℕ) (tokens : List TokenKind) (p : Position)

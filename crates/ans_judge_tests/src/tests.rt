@@ -2,10 +2,13 @@
 
 mod fault_page;
 mod long_contents;
+mod machine;
 mod needs;
 mod prefixes;
 mod reading;
+mod rows;
 mod slow_machine;
+mod starts;
 mod step_faults;
 mod verdicts;
 

@@ -1,9 +1,9 @@
 //! The slow machine: two whole states, played side by side from the low and the high start of a
 //! class.
 
+use super::machine::Machine;
 use super::reading::{Front, read_front};
 use super::step_faults::fault_of_step;
-use ans_laws::machine::Machine;
 use ans_model::cell::{Cell, Position};
 use ans_model::fault::{Cause, Fault};
 use ans_model::kind::Kind;
@@ -73,8 +73,8 @@ impl SlowMachine {
             if fault.is_some() {
                 return fault;
             }
-            self.low.step(step);
-            self.high.step(step);
+            self.low.step(rt, step);
+            self.high.step(rt, step);
         }
         None
     }

@@ -6,9 +6,8 @@ ghost use Rattle.ans_model.specs.Bytes.{longest_file, most_columns, most_lines};
 use super::file_of;
 use super::slow_machine::SlowMachine;
 use ans_check::{Verdict, check};
-use ans_laws::{Answer, plain_answer};
 use ans_model::cell::Cell;
-use ans_model::fault::{Cause, Fault};
+use ans_model::fault::Fault;
 use ans_model::limits::{MAX_FILE, MAX_LINES, MAX_WIDTH};
 use ans_model::start::Start;
 use ans_play::{Picture, Player};
@@ -60,11 +59,6 @@ fn assert_shows<G: Grid>(rt: &impl Abort, screen: Screen, picture: &Picture<G>, 
     for row in 0..screen.lines {
         assert_row(rt, picture, row, cells);
     }
-}
-
-/// Whether the cause is one of the content's end.
-fn is_of_the_end(cause: Cause) -> bool {
-    matches!(cause, Cause::EndInSequence | Cause::UnknownCell { .. })
 }
 
 /// Bytes, and what the slow machine finds of them: the cells with which both screens begin, or a fault.
@@ -129,30 +123,10 @@ impl Judged<'_> {
         }
         Ok(end)
     }
-
-    /// Judges the plain answer to these bytes.
-    fn judge_plain_answer(self, rt: &impl Abort, alloc: Global) -> Result<(), AllocError> {
-        let screen = self.screen;
-        let Screen { width, lines, .. } = screen;
-        assert_playable(rt, width, lines, self.bytes);
-        let answer = plain_answer(alloc, self.bytes, width, lines, screen.start)?;
-        let (fault, is_last) = match answer {
-            Answer::Good(cells) => {
-                let found = self.finding.unwrap_or(&[]).get(..width * lines);
-                assert_eq!(rt; Some(cells.as_slice()), found, "on {screen:?}");
-                return Ok(());
-            }
-            Answer::First(fault) => (fault, false),
-            Answer::Last(fault) => (fault, true),
-        };
-        let found = (self.finding.err(), is_of_the_end(fault.cause));
-        assert_eq!(rt; (Some(fault), is_last), found, "on {screen:?}");
-        Ok(())
-    }
 }
 
 /// Judges all that is found of the bytes which the slow machine has played: by a check on both
-/// grids, by a player and by the plain answer. It fails where memory runs out.
+/// grids and by a player. It fails where memory runs out.
 pub fn judge(
     rt: &impl Abort,
     alloc: Global,
@@ -169,5 +143,5 @@ pub fn judge(
     judged.judge_check::<PlaneGrid>(rt, alloc)?;
     let end = judged.end_of_player(rt, alloc)?;
     judged.assert_end(rt, &end);
-    judged.judge_plain_answer(rt, alloc)
+    Ok(())
 }
