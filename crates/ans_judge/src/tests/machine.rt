@@ -98,9 +98,10 @@ impl Machine {
         if self.cursor.row < self.size.lines() {
             self.cursor.row += 1;
         } else {
-            assert!(rt; self.size.width() <= self.screen.len());
+            let (start, end) = (self.row_start(), self.screen.len());
+            assert!(rt; self.size.width() <= end);
             self.screen.rotate_left(self.size.width());
-            self.erase(rt, self.row_start(), self.screen.len());
+            self.erase(rt, start, end);
         }
     }
 
@@ -129,7 +130,8 @@ impl Machine {
 
     /// The whole screen becomes blank, and the cursor goes home.
     fn clear(&mut self, rt: &impl Abort) {
-        self.erase(rt, 0, self.screen.len());
+        let end = self.screen.len();
+        self.erase(rt, 0, end);
         self.cursor = HOME;
     }
 
