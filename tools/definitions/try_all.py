@@ -7,9 +7,9 @@ Run it anywhere, with the names of edits or with none for all:
     python3 tools/definitions/try_all.py [EDIT..]
 
 An edit is written as those in `must-fail/`, but its files are named from the folder `crates` on. It is tried on a copy
-of `ans_model` and of `ans_laws` without the examples of texts, which are read by the scanner, so that its crate need not
-be proved again. For each edit the script prints which of the two crates refuses it, and why. It ends with 0 where each
-edit is refused. It takes a minute or two for each.
+of `ans_model` and of `ans_laws` without the examples of texts, which are read by the scanner, so that no third crate
+has to be proved again. For each edit the script prints which of the two crates refuses it, and why. It ends with 0
+where each edit is refused. It takes a minute or two for each.
 """
 import os
 import re

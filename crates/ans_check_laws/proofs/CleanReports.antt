@@ -51,8 +51,8 @@ use Rattle.ans_check_laws.proofs.CleanLines.{needed_parts_clean, heading_clean, 
 use Rattle.ans_check_laws.proofs.CleanLines.{trimmed_is_bytes, named_clean, field_clean}
 use Rattle.ans_check_laws.proofs.CleanWhy.{why_clean}
 use Rattle.ans_check_laws.proofs.CleanPictures.{coloured_where_clean, of_rows, page_clean, terminal_coloured}
-use Rattle.ans_check_laws.proofs.CleanPieces.{clean_nil, clean_append, clean_if, clean_flat_map, plain_text, clean_line}
-use Rattle.ans_check_laws.proofs.CleanPieces.{clean_decimal, clean_hex_byte, clean_numbers, clean_shown}
+use Rattle.ans_check_laws.proofs.CleanPieces.{clean_nil, clean_append, clean_if, clean_flat_map, plain_text}
+use Rattle.ans_check_laws.proofs.CleanPieces.{clean_line, clean_decimal, clean_hex_byte, clean_numbers, clean_shown}
 
 -- ---- pictures
 

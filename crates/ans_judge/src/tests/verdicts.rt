@@ -1,8 +1,5 @@
 //! What the checker finds of bytes, compared with what the slow machine finds.
 
-ghost use Rattle.std.specs.Prelude.{◌≤◌, length};
-ghost use Rattle.ans_model.specs.Bytes.{longest_file, most_columns, most_lines};
-
 use super::file_of;
 use super::slow_machine::SlowMachine;
 use ans_check::{Verdict, check};
@@ -21,18 +18,6 @@ pub struct Screen {
     pub width: usize,
     pub lines: usize,
     pub start: Start,
-}
-
-/// Asserts that a screen has a size that a record may state, and that bytes may be a content.
-fn assert_playable(rt: &impl Abort, width: usize, lines: usize, bytes: &[u8])
-    ensures some_columns { 1 ≤ width }
-    ensures columns { width ≤ most_columns }
-    ensures some_lines { 1 ≤ lines }
-    ensures lines { lines ≤ most_lines }
-    ensures length { length bytes.now ≤ longest_file }
-{
-    assert!(rt; 1 <= width && width <= MAX_WIDTH && 1 <= lines && lines <= MAX_LINES);
-    assert!(rt; bytes.len() <= MAX_FILE);
 }
 
 /// Asserts that a row of a picture, counted from 0, has the cells of that row.
@@ -112,7 +97,8 @@ impl Judged<'_> {
             lines,
             start,
         } = self.screen;
-        assert_playable(rt, width, lines, self.bytes);
+        assert!(rt; 1 <= width && width <= MAX_WIDTH && 1 <= lines && lines <= MAX_LINES);
+        assert!(rt; self.bytes.len() <= MAX_FILE);
         let mut player = Player::<PlaneGrid>::new(alloc, width, lines, start)?;
         assert!(rt; player.fed() == 0);
         let fed = player.feed(self.bytes);
