@@ -1,15 +1,15 @@
 #!/usr/bin/env python3
-"""Tries the edits that stand in this folder: each makes a mistake in a definition of `ans_model`, most of them in what
-follows that definition too, and the laws have to refuse it.
+"""Tries the edits that stand in this folder: each makes a mistake in a definition of `ans_model`, some of them in the
+function that follows that definition too, and the laws have to refuse it.
 
 Run it anywhere, with the names of edits or with none for all:
 
     python3 tools/definitions/try_all.py [EDIT..]
 
 An edit is written as those in `must-fail/`, but its files are named from the folder `crates` on. It is tried on a copy
-of `ans_model` and of `ans_laws` without the plain answer and the examples of texts, which stand on crates whose own
-proofs would refuse the mistake before any law is reached. For each edit the script prints which of the two crates
-refuses it, and why. It ends with 0 where each edit is refused. It takes a minute or two for each.
+of `ans_model` and of `ans_laws` without the examples of texts, which are read by the scanner, so that no third crate
+has to be proved again. For each edit the script prints which of the two crates refuses it, and why. It ends with 0
+where each edit is refused. It takes a minute or two for each.
 """
 import os
 import re
@@ -22,25 +22,22 @@ EDITS = os.path.dirname(os.path.abspath(__file__))
 CRATES = os.path.abspath(f"{EDITS}/../../crates")
 TRIED = ["ans_model", "ans_laws"]
 DEPENDENCIES = "ans_model: arrayvec\nans_laws: ans_model\n"
-# what of ans_laws belongs to the plain answer, and to the examples of texts, which are read by the scanner
+# the examples of texts, which are read by the scanner
 ABOVE = {
-    "src/lib.rt": r"(pub mod|mod|pub use) (answer|two_plays|text_examples)\b.*",
-    "specs/Lib.antt": r"pub mod (Answers|TwoPlays|TextExamples)",
-    "proofs/Lib.antt": r"pub mod (ComputedReading|TwoCursors|TabPlays|TokenFaults|Played|EndOfPlays)",
+    "src/lib.rt": "pub mod text_examples;",
+    "specs/Lib.antt": "pub mod TextExamples",
+    "proofs/Lib.antt": "pub mod ComputedReading",
 }
-FILES_ABOVE = ["src/answer.rt", "src/two_plays.rt", "src/text_examples.rt", "specs/Answers.antt", "specs/TwoPlays.antt",
-               "specs/TextExamples.antt", "proofs/answer", "proofs/two_plays", "proofs/text_examples"] + [
-    f"proofs/{name}.antt"
-    for name in ["ComputedReading", "TwoCursors", "TabPlays", "TokenFaults", "Played", "EndOfPlays"]]
+FILES_ABOVE = ["src/text_examples.rt", "specs/TextExamples.antt", "proofs/text_examples", "proofs/ComputedReading.antt"]
 
 
 def without_what_stands_above(laws):
-    """Takes the plain answer and the examples of texts out of a copy of ans_laws."""
-    for path, lines in ABOVE.items():
+    """Takes the examples of texts out of a copy of ans_laws."""
+    for path, line in ABOVE.items():
         with open(f"{laws}/{path}", encoding="utf-8") as it:
-            kept = [line for line in it if not re.fullmatch(lines, line.rstrip("\n"))]
+            kept = it.read().replace(f"{line}\n", "")
         with open(f"{laws}/{path}", "w", encoding="utf-8") as it:
-            it.writelines(kept)
+            it.write(kept)
     for path in FILES_ABOVE:
         at = f"{laws}/{path}"
         shutil.rmtree(at) if os.path.isdir(at) else os.remove(at)

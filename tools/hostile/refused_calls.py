@@ -50,7 +50,7 @@ sys.path.insert(0, os.path.join(os.path.dirname(HERE), "runs"))
 
 from table import file_of
 
-TESTED = ["ans_screen", "ans_play_tests", "ans_laws_tests", "ans_report_tests", "ans_options_tests", "ans_check_tests"]
+TESTED = ["ans_screen", "ans_play_tests", "ans_report_tests", "ans_options_tests", "ans_check_tests"]
 AT_ONCE, WORKERS, SECONDS = 16, 4, 120
 
 OUT_OF_MEMORY = b"anscheck: out of memory\n"

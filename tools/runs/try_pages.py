@@ -9,7 +9,7 @@ Run it in `crates/anscheck`, after `rt run -- check --cleared data/hi.ans` has b
   has to print of it what the block says. The record is made here, from SAUCE 00.5.
 - The page has one heading for each fault and each note of ans_model, and none more; it opens with
   the text that the examples below it print; and its table of contents leads to it.
-- The examples of the page are those that the tests of ans_judge_tests try, and the tests try none more.
+- The examples of the page are those that the tests of ans_judge try, and the tests try none more.
 - The program sets each of the 256 colour numbers as the table of docs/PROFILE.md says.
 - Each command of a block of no language, on a line that begins with `$ `, has to print the lines
   that follow it. It is run by bash in this folder, with the program on the PATH. Blocks that are not
@@ -30,7 +30,7 @@ HERE = TOP / "crates" / "anscheck"
 PAGE = TOP / "docs" / "FAULTS.md"
 PROFILE = TOP / "docs" / "PROFILE.md"
 MODEL = TOP / "crates" / "ans_model" / "src"
-TESTS = TOP / "crates" / "ans_judge_tests" / "src" / "tests" / "fault_page.rt"
+TESTS = TOP / "crates" / "ans_judge" / "src" / "tests" / "fault_page.rt"
 DRAWINGS = "/usr/share/doc/ansilove/examples"
 
 BLOCK = re.compile(r"^```(\w*)\n(.*?)^```$", re.DOTALL | re.MULTILINE)

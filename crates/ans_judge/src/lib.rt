@@ -1,12 +1,17 @@
-//! The laws of the checker as a whole, above all its layers. No program stands on this crate. The judge
-//! of the checker stands in `ans_judge_tests`.
+//! The judge of the checker, in tests. No program stands on this crate.
 //!
-//! Each law is the contract of a function without a body. [`class_laws`] say which classes of starts
-//! cover which. [`text_laws`] say that the texts are clean: of the control characters only line feeds
-//! are in them, and no byte of a file is shown by one. [`report_laws`] say that a file and its options
-//! have one report, and that what `needs` finds is what each check finds.
+//! A slow machine plays bytes as plainly as can be: two whole states, from the low and the high start of
+//! a class, compared cell by cell. It reads the bytes with a reader of its own. What it finds of them is
+//! what the checker has to find of the file made of them: `ans_check::check` on both grids and
+//! `ans_check::needs`, and of the bytes alone `ans_play::Player`. It shares with the scanner and the
+//! player only the plain words of `ans_model`, such as kinds, causes and limits, and what colour
+//! parameters do to an attribute.
+//!
+//! It judges every prefix of each content of `ans_samples`, from all 32 classes of starts, and
+//! contents and screens that are too large for these.
+//!
+//! Beside the judge stand the examples of `docs/FAULTS.md`, with what `ans_check::run` writes of each.
 #![tactic(auto)]
 
-pub mod class_laws;
-pub mod report_laws;
-pub mod text_laws;
+#[cfg(test)]
+mod tests;

@@ -1,13 +1,11 @@
 -- Where the moves take the cursor.
-use Rattle.std.proofs.Common.{◌≡◌, inl, inr, ℕ, ◌+◌, ◌-◌, ◌<◌, ◌≤◌, min, refl, ap, arith}
+use Rattle.std.proofs.Common.{◌≡◌, inl, inr, ℕ, ◌+◌, ◌-◌, min, refl, arith}
 use Rattle.std.proofs.lemmas.Bool.{cases_lt}
 use Rattle.ans_model.specs.Sequence.TokenKind.{BackSpace, CarriageReturn, Up, Down, Forward, Backward, Place, Restore}
 use Rattle.ans_model.specs.Screen.State.{State}
 use Rattle.ans_model.specs.declared.cell.Position.{Position}
 use Rattle.ans_model.specs.Screen.Step.{step}
 use Rattle.ans_laws.specs.MoveLaws.{OnlyCursor, MovesChangeCursor, IsLessBy, IsMoreBy, IsNearest}
-use Rattle.ans_laws.specs.MoveLaws.{DownUndoesUp, ForwardUndoesBackward}
-use Rattle.ans_model.proofs.PositionLemmas.{same_position}
 
 only_cursor : (s : State) (p : Position) → OnlyCursor s (record s { cursor = p })
 only_cursor s p = record { screen = refl; saved = refl; attribute = refl; wrap = refl }
@@ -44,18 +42,3 @@ nearest given last new e = elim (cases_lt 0 given) [
   ]
   | inr none ↦ inl (omega arith, omega (arith, e))
 ]
-
--- ---- there and back
--- a cursor that is the old one changes nothing
-with_cursor : (s : State) (p : Position) → p ≡ s.cursor → record s { cursor = p } ≡ s
-with_cursor s p e = ap (λ (q : Position). record s { cursor = q }) e
-
-pub down_undoes_up : DownUndoesUp
-down_undoes_up z s n h le =
-    let low : s.cursor.row ≤ z.lines = h.fits.cursor.0 in
-    with_cursor s (step z (step z s (Up n)) (Down n)).cursor (same_position _ s.cursor (omega arith) refl)
-
-pub forward_undoes_backward : ForwardUndoesBackward
-forward_undoes_backward z s n h le =
-    let on : s.cursor.column < z.width = h.fits.cursor.1 in
-    with_cursor s (step z (step z s (Backward n)) (Forward n)).cursor (same_position _ s.cursor refl (omega arith))

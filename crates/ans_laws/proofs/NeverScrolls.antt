@@ -4,17 +4,15 @@ use Rattle.std.proofs.lemmas.List.Sums.{fold-append}
 use Rattle.std.specs.Prelude.{if◌then◌else◌, nat_lt}
 use Rattle.std.proofs.lemmas.Bool.{ne_eqb}
 use Rattle.ans_model.specs.Sequence.TokenKind.{Glyph, LineFeed, Tab}
-use Rattle.ans_model.specs.Screen.State.{Size, State, FitsScreen, at}
+use Rattle.ans_model.specs.Screen.State.{Size, State, at}
 use Rattle.ans_model.specs.Bytes.{blank}
 use Rattle.ans_model.specs.Screen.Step.{final, line_feed, advanced, printed, step}
 use Rattle.ans_model.specs.Verdict.TokenFault.{IsClean, then_blanks}
 use Rattle.ans_model.specs.Verdict.Good.{PrintsWell}
 use Rattle.ans_laws.specs.StepLaws.{CleanNeverScrolls, GoodNeverScrolls, ScrollsAt}
-use Rattle.ans_model.proofs.WellFormed.{fits_after_tokens}
 use Rattle.ans_model.proofs.CleanLemmas.{no_feed_below, prints_well, tabs_well}
 use Rattle.ans_model.proofs.Reading.{one_reading}
 use Rattle.ans_model.proofs.OneAnswer.{well_is_clean}
-use Rattle.ans_laws.proofs.TabCells.{tab_in_place}
 
 -- above the spare row a line feed leaves the screen
 feed_keeps : (z : Size) (s : State) → s.cursor.row ≢ z.lines → (line_feed z s).screen ≡ s.screen
@@ -36,13 +34,13 @@ pub clean_never_scrolls : CleanNeverScrolls
 clean_never_scrolls z class tokens k LineFeed size clean e s start =
     let now : State = final z s (take k tokens) in
     let above : now.cursor.row ≢ z.lines = no_feed_below z class tokens clean k e s start in
-    record { never_scrolls = above; in_place = feed_keeps z now above }
+    record { never_scrolls = above; in_place = λ n. feed_keeps z now above }
 clean_never_scrolls z class tokens k (Glyph byte) size clean e s start =
     let now : State = final z s (take k tokens) in
     let above : now.cursor.row ≢ z.lines = (prints_well z class tokens clean k byte e).never_below s start in
     record {
       never_scrolls = λ scrolls. above scrolls.0;
-      in_place = advance_keeps z (printed z now byte) above;
+      in_place = λ n. advance_keeps z (printed z now byte) above;
     }
 clean_never_scrolls z class tokens k Tab size clean e s start =
     let now : State = final z s (take k tokens) in
@@ -50,10 +48,8 @@ clean_never_scrolls z class tokens k Tab size clean e s start =
     let well : PrintsWell z class (then_blanks (take k tokens) n) =
     tabs_well z class tokens clean k n e (s, start, goes_on) in
     well.never_below s start (rw (fold-append (step z) s (take k tokens) (replicate n (Glyph blank))) scrolls.0) in
-    let fits : FitsScreen z now =
-    fits_after_tokens z s (take k tokens) size.some_columns start.well_formed.fits in
-    record { never_scrolls = never; in_place = tab_in_place z now fits never }
-clean_never_scrolls z class tokens k _ size clean e s start = record { never_scrolls = λ h. h; in_place = refl }
+    record { never_scrolls = never; in_place = λ n. absurd (n refl) }
+clean_never_scrolls z class tokens k _ size clean e s start = record { never_scrolls = λ h. h; in_place = λ n. refl }
 
 -- the tokens of good content are clean
 pub good_never_scrolls : GoodNeverScrolls

@@ -1,4 +1,4 @@
--- Which refusal a file gets, and the order of the notes.
+-- Which refusal a file gets.
 use Rattle.std.specs.Prelude.{◌≡◌, IsTrue, IsFalse, List, ◌∷◌, ◌++◌, All}
 use Rattle.ans_model.specs.declared.fault.Fault.{Fault}
 use Rattle.ans_model.specs.File.Refusals.{Refusal, fault_at}

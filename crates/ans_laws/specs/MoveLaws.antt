@@ -2,7 +2,7 @@
 use Rattle.std.specs.Prelude.{◌≡◌, ◌⊎◌, ℕ, ◌+◌, ◌<◌, ◌≤◌}
 use Rattle.ans_model.specs.Sequence.TokenKind.{TokenKind, BackSpace, CarriageReturn, Up, Down, Forward, Backward}
 use Rattle.ans_model.specs.Sequence.TokenKind.{Place, Restore}
-use Rattle.ans_model.specs.Screen.State.{Size, State, IsWellFormed, IsOnScreen}
+use Rattle.ans_model.specs.Screen.State.{Size, State, IsOnScreen}
 use Rattle.ans_model.specs.declared.cell.Position.{Position}
 use Rattle.ans_model.specs.Screen.Step.{step}
 
@@ -75,13 +75,3 @@ pub record MovesGoWhereTheySay (z : Size) (s : State) : Type 0 where
   -- to the nearest row and to the nearest column that the screen has
   pub place_edges : (row column last : ℕ) → IsLastColumn z last → let new = (step z s (Place row column)).cursor in
       IsNearest row z.lines new.row × IsNearest column last new.column
-
--- Down brings back what Up took, where no edge is met.
-abbrev pub DownUndoesUp : Type 0
-DownUndoesUp = (z : Size) (s : State) (n : ℕ) → IsWellFormed z s → n ≤ s.cursor.row
-    → step z (step z s (Up n)) (Down n) ≡ s
-
--- Forward brings back what Backward took, where no edge is met.
-abbrev pub ForwardUndoesBackward : Type 0
-ForwardUndoesBackward = (z : Size) (s : State) (n : ℕ) → IsWellFormed z s → n ≤ s.cursor.column
-    → step z (step z s (Backward n)) (Forward n) ≡ s

@@ -1,7 +1,7 @@
 -- Laws of a step: what each line of the table of steps changes and what it leaves. Those of the moves stand in
 -- MoveLaws.
 use Rattle.std.specs.Prelude.{◌≡◌, ◌≢◌, ◌⊎◌, ℕ, ◌+◌, ◌*◌, ◌≤◌, ◌<◌, Bool, true, false, List, set, Some}
-use Rattle.std.specs.Prelude.{slice_get, take, replicate, ◌-◌, min, if◌then◌else◌}
+use Rattle.std.specs.Prelude.{slice_get, take, replicate}
 use Rattle.ans_model.specs.Sequence.TokenKind.{TokenKind, PrintsByte, Glyph, Bell, LineFeed, Tab, Clear, EraseLine}
 use Rattle.ans_model.specs.Sequence.TokenKind.{Save, Colours, Wrap, Mode, Keys, Ask}
 use Rattle.ans_model.specs.Sequence.Reads.{Reads}
@@ -16,10 +16,6 @@ use Rattle.ans_model.specs.declared.start.Start.{Start}
 use Rattle.ans_model.specs.Verdict.TokenFault.{FromEvery, IsClean}
 use Rattle.ans_model.specs.Verdict.Good.{IsGood}
 use Rattle.ans_laws.specs.MoveLaws.{IsLastColumn}
-
--- Two positions of the screen with one index are one position.
-abbrev pub OnePositionAnIndex : Type 0
-OnePositionAnIndex = (z : Size) (p q : Position) → IsOnScreen z p → IsOnScreen z q → index z p ≡ index z q → p ≡ q
 
 -- nothing but the screen and the cursor has changed
 pub record OnlyScreenAndCursor (s t : State) : Type 0 where
@@ -119,34 +115,6 @@ pub record PrintsBlanks (z : Size) (s : State) (count : ℕ) : Type 0 where
   pub to_stop : (stop : ℕ) × (s.cursor.column + count ≡ 8 * stop)
   pub played : step z s Tab ≡ final z s (replicate count (Glyph blank))
 
--- the index after the last cell that a tab blanks: it goes on in the rows below where wrap is on, and else it stops at
--- the row's end
-abbrev pub tab_end : Size → State → ℕ
-tab_end z s =
-    if s.wrap then index z s.cursor + tab_blanks s.cursor.column
-    else min (index z s.cursor + tab_blanks s.cursor.column) (next_row_start z s.cursor)
-
--- a position whose cell a tab blanks
-abbrev pub IsTabbed : Size → State → Position → Type 0
-IsTabbed z s p = (index z s.cursor ≤ index z p) × (index z p < tab_end z s)
-
--- The cells from the cursor to the tab's end are blank, and each other cell is kept. The cursor stands after them, or
--- in the last column where wrap is off and the row has ended.
-pub record IsAfterTab (z : Size) (s t : State) : Type 0 where
-  pub blanked : (p : Position) → IsOnScreen z p → IsTabbed z s p → cell_at z t.screen p ≡ Some (blank_cell s.attribute)
-  pub kept : (p : Position) → IsOnScreen z p → ¬ IsTabbed z s p → cell_at z t.screen p ≡ cell_at z s.screen p
-  pub on_screen : IsOnScreen z t.cursor
-  pub wrapped : s.wrap ≡ true → index z t.cursor ≡ tab_end z s
-  pub stopped : s.wrap ≡ false
-      → t.cursor ≡ at s.cursor.row (min (s.cursor.column + tab_blanks s.cursor.column) (z.width - 1))
-  pub others : OnlyScreenAndCursor s t
-
--- A Tab changes those cells and the cursor, except where wrap is on and its blanks reach the end of the spare row:
--- there the screen scrolls, as it does for each printed blank.
-abbrev pub TabBlanksCells : Type 0
-TabBlanksCells = (z : Size) (s : State) → IsWellFormed z s → (s.wrap ≡ true → tab_end z s < cell_count z)
-    → IsAfterTab z s (step z s Tab)
-
 -- A LineFeed above the spare row takes the cursor down one row and changes nothing else.
 abbrev pub LineFeedMovesDown : Type 0
 LineFeedMovesDown = (z : Size) (s : State) → s.cursor.row < z.lines
@@ -170,12 +138,11 @@ abbrev pub StepsAreWellFormed : Type 0
 StepsAreWellFormed = (z : Size) (s : State) (t : TokenKind) → IsSize z → PrintsByte t → IsWellFormed z s
     → IsWellFormed z (step z s t)
 
--- what a token writes to the screen in place, with no row moved
+-- what a token other than a tab writes to the screen in place, with no row moved
 abbrev pub screen_in_place : Size → State → TokenKind → List Cell
 screen_in_place z s Clear = replicate (cell_count z) (blank_cell s.attribute)
 screen_in_place z s EraseLine = filled s.screen (index z s.cursor) (next_row_start z s.cursor) (blank_cell s.attribute)
 screen_in_place z s (Glyph byte) = set s.screen (index z s.cursor) (cell byte s.attribute)
-screen_in_place z s Tab = filled s.screen (index z s.cursor) (tab_end z s) (blank_cell s.attribute)
 screen_in_place z s _ = s.screen
 
 -- the token scrolls here: a line feed in the spare row, or a byte printed in its last column where wrap is on; a tab
@@ -187,15 +154,10 @@ ScrollsAt z s Tab =
     (n : ℕ) × (n < tab_blanks s.cursor.column) × PrintScrolls z (final z s (replicate n (Glyph blank)))
 ScrollsAt z s _ = ⊥
 
--- A Tab scrolls the screen where wrap is on and its blanks reach the end of the spare row.
-abbrev pub FullTabScrolls : Type 0
-FullTabScrolls = (z : Size) (s : State) → IsWellFormed z s → s.wrap ≡ true → cell_count z ≤ tab_end z s
-    → ScrollsAt z s Tab
-
--- the token does not scroll here, and what it writes to the screen it writes in place
+-- The token does not scroll here, and what it writes to the screen it writes in place; a tab writes by its blanks.
 pub record WritesInPlace (z : Size) (s : State) (t : TokenKind) : Type 0 where
   pub never_scrolls : ¬ ScrollsAt z s t
-  pub in_place : (step z s t).screen ≡ screen_in_place z s t
+  pub in_place : t ≢ Tab → (step z s t).screen ≡ screen_in_place z s t
 
 -- Where tokens are clean none of them scrolls, from any start: not a line feed, not a print that wraps, and not a tab.
 abbrev pub CleanNeverScrolls : Type 0

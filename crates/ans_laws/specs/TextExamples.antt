@@ -5,6 +5,8 @@ use Rattle.ans_model.specs.Bytes.{escape, blank, end_mark}
 use Rattle.ans_model.specs.declared.note.Note.{Note}
 use Rattle.ans_model.specs.declared.start.Start.{Start}
 use Rattle.ans_model.specs.Screen.State.{Size}
+use Rattle.ans_model.specs.Verdict.Good.{Picture}
+use Rattle.ans_model.specs.declared.cell.Cell.{Cell}
 use Rattle.ans_model.specs.Text.ReportText.{Heading}
 use Rattle.ans_model.specs.File.Layout.{comment_block}
 use Rattle.ans_model.specs.File.Refusals.{fault_at, record_fault}
@@ -79,6 +81,10 @@ IsAccepted body comment_bytes f expected =
     × (notes body (record_with f) ≡ expected)
 
 -- ---- reports
+-- the picture of these cells
+abbrev pub picture : Size → List Cell → Picture
+picture z cells = record { size = z; cells = cells }
+
 -- a heading; that of a text of what a content needs names no start
 abbrev pub heading_with : Size → Option Start → ℕ → List Note → Heading
 heading_with size start content_length expected =

@@ -1,12 +1,9 @@
 //! Laws of files: each is the contract of a function without a body.
 
-ghost use Rattle.std.specs.Prelude.{◌≡◌, ◌≤◌, ◌↔◌, ℕ, List, length, map, Some, None};
-ghost use Rattle.std.specs.List.Sorted.{IsStrictlyIncreasing};
+ghost use Rattle.std.specs.Prelude.{◌≡◌, ◌≤◌, ◌↔◌, ℕ, List, length, Some, None};
 ghost use Rattle.ans_model.specs.declared.fault.Fault.{Fault};
 ghost use Rattle.ans_model.specs.File.Layout.{FileParts, Laid};
 ghost use Rattle.ans_model.specs.File.Refusals.{Accepts, file_refusals, record_fault};
-ghost use Rattle.ans_model.specs.File.NoteConditions.{notes};
-ghost use Rattle.ans_model.specs.Text.FaultText.{note_number};
 ghost use Rattle.ans_laws.specs.FileLaws.{IsFirstThatApplies};
 
 /// A file is accepted exactly where no refusal applies to it, and is laid out in one way.
@@ -25,10 +22,4 @@ pub fn first_refusal_answers()
         → (record_fault file ≡ Some fault) ↔ IsFirstThatApplies (file_refusals file) fault }
     ensures within { (file : List ℕ) (fault : Fault)
         → record_fault file ≡ Some fault → fault.offset ≤ length file }
-{}
-
-/// The notes on a record stand in the order N1 to N6, each once at most.
-pub fn notes_in_order()
-    ensures { (body record_bytes : List ℕ)
-        → IsStrictlyIncreasing (map note_number (notes body record_bytes)) }
 {}

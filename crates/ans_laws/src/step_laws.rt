@@ -4,16 +4,11 @@ ghost use Rattle.std.specs.Prelude.{ℕ};
 ghost use Rattle.ans_model.specs.Sequence.TokenKind.{Clear, EraseLine};
 ghost use Rattle.ans_model.specs.Screen.State.{Size, State, IsWellFormed};
 ghost use Rattle.ans_model.specs.Screen.Step.{step};
-ghost use Rattle.ans_laws.specs.MoveLaws.{DownUndoesUp, ForwardUndoesBackward, MovesChangeCursor, MovesGoWhereTheySay};
-ghost use Rattle.ans_laws.specs.StepLaws.{CleanNeverScrolls, ColoursChangeAttribute, FullTabScrolls, GlyphPrints};
+ghost use Rattle.ans_laws.specs.MoveLaws.{MovesChangeCursor, MovesGoWhereTheySay};
+ghost use Rattle.ans_laws.specs.StepLaws.{CleanNeverScrolls, ColoursChangeAttribute, GlyphPrints};
 ghost use Rattle.ans_laws.specs.StepLaws.{GlyphScrolls, GoodNeverScrolls, IdleChangesNothing, IsCleared, IsLineErased};
-ghost use Rattle.ans_laws.specs.StepLaws.{LineFeedMovesDown, LineFeedScrolls, OnePositionAnIndex, PrintsBlanks};
-ghost use Rattle.ans_laws.specs.StepLaws.{SavesCursor, StepsAreWellFormed, TabBlanksCells, WrapChangesWrap};
-
-/// Two positions of the screen have two indices.
-pub fn positions_have_indices()
-    ensures { OnePositionAnIndex }
-{}
+ghost use Rattle.ans_laws.specs.StepLaws.{LineFeedMovesDown, LineFeedScrolls, PrintsBlanks};
+ghost use Rattle.ans_laws.specs.StepLaws.{SavesCursor, StepsAreWellFormed, WrapChangesWrap};
 
 /// Moves change the cursor alone.
 pub fn moves_change_the_cursor()
@@ -23,12 +18,6 @@ pub fn moves_change_the_cursor()
 /// Where each move takes the cursor, inside the screen and at its edges.
 pub fn moves_go_where_they_say()
     ensures { (z : Size) (s : State) → MovesGoWhereTheySay z s }
-{}
-
-/// Down undoes Up, and Forward undoes Backward, where no edge is met.
-pub fn moves_are_undone()
-    ensures up { DownUndoesUp }
-    ensures backward { ForwardUndoesBackward }
 {}
 
 /// Save, Colours and Wrap change one part each, and the idle tokens none.
@@ -52,12 +41,9 @@ pub fn glyphs_print()
     ensures scrolls { GlyphScrolls }
 {}
 
-/// A Tab is the play of its blanks: they change the cells from the cursor on, and the cursor then
-/// stands after them. Where wrap is on and they reach the end of the spare row, the screen scrolls.
+/// A Tab is the play of its blanks, one to eight, up to a column that 8 divides.
 pub fn tabs_print_blanks()
-    ensures blanks { (z : Size) (s : State) → (count : ℕ) × PrintsBlanks z s count }
-    ensures cells { TabBlanksCells }
-    ensures scrolls { FullTabScrolls }
+    ensures { (z : Size) (s : State) → (count : ℕ) × PrintsBlanks z s count }
 {}
 
 /// A LineFeed goes down a row, and in the spare row it scrolls the screen.

@@ -28,10 +28,9 @@ ghost use Rattle.ans_model.specs.Text.ReportText.{RefusedFor};
 ghost use Rattle.ans_model.specs.Text.NeedsText.{needs_text};
 ghost use Rattle.ans_model.specs.Text.RecordText.{record_text};
 ghost use Rattle.ans_model.specs.Text.TokensText.{TokensText};
-ghost use Rattle.ans_laws.specs.Answers.{picture};
 ghost use Rattle.ans_laws.specs.TextExamples.{plain, record_with, heading_with, IsRefusedAt};
 ghost use Rattle.ans_laws.specs.TextExamples.{hi, sample_record, sample_comment, IsAccepted, IsRefusedAs};
-ghost use Rattle.ans_laws.specs.TextExamples.{esc, cut_content, short_forms, other_kinds};
+ghost use Rattle.ans_laws.specs.TextExamples.{picture, esc, cut_content, short_forms, other_kinds};
 
 /// Files that are refused, each for one thing.
 pub fn refused_files()

@@ -1,0 +1,12 @@
+//! The laws of the checker as a whole, above all its layers. No program stands on this crate. The judge
+//! of the checker stands in `ans_judge`.
+//!
+//! Each law is the contract of a function without a body. [`class_laws`] say which classes of starts
+//! cover which. [`text_laws`] say that the texts are clean: of the control characters only line feeds
+//! are in them, and no byte of a file is shown by one. [`report_laws`] say that a file and its options
+//! have one report, and that what `needs` finds is what each check finds.
+#![tactic(auto)]
+
+pub mod class_laws;
+pub mod report_laws;
+pub mod text_laws;

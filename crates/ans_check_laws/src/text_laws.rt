@@ -1,0 +1,48 @@
+//! Laws of the texts that are written: no byte of a file comes out as a control character.
+
+ghost use Rattle.std.specs.Prelude.{◌≡◌, ◌&&◌, ℕ, Bool, false, List, All, Some};
+ghost use Rattle.ans_model.specs.Bytes.{IsByte};
+ghost use Rattle.ans_model.specs.Text.Characters.{glyph_text, shown_bytes};
+ghost use Rattle.ans_model.specs.Text.RecordText.{named_line};
+ghost use Rattle.ans_check.specs.CommandText.{Reports};
+ghost use Rattle.ans_check.specs.Ending.{ending_message};
+ghost use Rattle.ans_check.specs.declared.exit_status.Ending.{Ending};
+ghost use Rattle.ans_options.specs.declared.command.Options.{Options};
+ghost use Rattle.ans_report.specs.Message.{message_line};
+ghost use Rattle.ans_check_laws.specs.CleanTexts.{IsCleanByte, IsCleanText, HasNoControls};
+ghost use Rattle.ans_check_laws.specs.CleanTexts.{IsColouredText, IsControl, IsControlByte, IsOneLine, is_for_terminal};
+
+/// No byte is shown by a control character, not even a line feed. So the text by which bytes are
+/// shown has none, whatever they are: the bytes of a record's field, of a comment, or of a picture's
+/// row.
+pub fn bytes_are_shown_clean()
+    ensures characters { (b : ℕ) → IsByte b → ¬ IsControl (glyph_text b) }
+    ensures texts { (bytes : List ℕ) → All IsByte bytes → HasNoControls (shown_bytes bytes) }
+{}
+
+/// The line of a record's field or comment is one line, whatever bytes the field has: its line feed
+/// is the report's own.
+pub fn fields_are_shown_in_one_line()
+    ensures { (name bytes : List ℕ) → All (λ b. ¬ IsControlByte b) name → All IsByte bytes
+        → IsOneLine (named_line name (shown_bytes bytes)) }
+{}
+
+/// What is written of a file is clean, whatever is asked of it, but for a picture in the colours of a
+/// terminal; that is clean between the sequences that set its colours. So is the line on standard
+/// error that says why there is no answer. Of what clap says of the words this tells nothing.
+pub fn texts_are_clean()
+    ensures reports { (options : Options) (file text : List ℕ) (passed : Bool)
+        → All IsByte file → Reports options file passed text
+        → (is_for_terminal options.command && passed) ≡ false → IsCleanText text }
+    ensures pictures { (options : Options) (file text : List ℕ) (passed : Bool)
+        → All IsByte file → Reports options file passed text → IsColouredText text }
+    ensures messages { (ending : Ending) (text : List ℕ)
+        → ending_message ending ≡ Some text → IsCleanText (message_line text) }
+{}
+
+/// Of the bytes of a clean text that stand below 20h each is a line feed, and none is 7Fh. A text
+/// without control characters has neither.
+pub fn clean_texts_have_clean_bytes()
+    ensures clean { (text : List ℕ) → IsCleanText text → All IsCleanByte text }
+    ensures no_controls { (text : List ℕ) → HasNoControls text → All (λ b. ¬ IsControlByte b) text }
+{}

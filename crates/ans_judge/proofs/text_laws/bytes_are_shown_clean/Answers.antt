@@ -1,8 +1,0 @@
-use Rattle.ans_judge.proofs.CleanPieces.{glyph_no_control, shown_has_no_controls}
-use Rattle.ans_judge.proofs.text_laws.bytes_are_shown_clean.Goals as goal
-
-pub returns-clause-characters : goal.returns-clause-characters
-returns-clause-characters c = glyph_no_control
-
-pub returns-clause-texts : goal.returns-clause-texts
-returns-clause-texts c = shown_has_no_controls

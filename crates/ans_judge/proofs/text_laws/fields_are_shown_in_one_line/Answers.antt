@@ -1,5 +1,0 @@
-use Rattle.ans_judge.proofs.CleanBytes.{named_line_is_one}
-use Rattle.ans_judge.proofs.text_laws.fields_are_shown_in_one_line.Goals as goal
-
-pub returns : goal.returns
-returns c = named_line_is_one
