@@ -15,7 +15,7 @@ use crate::screens::Screens;
 use ans_model::fault::{Cause, Fault};
 use ans_model::start::Start;
 use ans_sauce::Parts;
-use memchr::arch::all::twoway::Finder;
+use ans_tokens::is_cleared;
 use std::alloc::AllocError;
 
 /// The class that a content needs, and its fault from all starts, where it needs anything.
@@ -39,16 +39,14 @@ pub(crate) struct Mended {
     pub(crate) fault: Option<Fault>,
 }
 
-/// `ESC[2J`
-const CLEAR: &[u8] = b"\x1b[2J";
-
 /// The parts that may be missing where a content has this fault, the likeliest first. They decide
 /// how many plays it takes to find the class, and not which class that is. Where the screen was
 /// cleared before, its cells are in the current colours, and the cursor was at home.
-fn likely_parts(content: &[u8], fault: Fault) -> &'static [Part] {
-    let before = content.get(..fault.offset).unwrap_or(content);
-    let is_cleared = Finder::new(CLEAR).find(before, CLEAR).is_some();
-    match (fault.cause, is_cleared) {
+fn likely_parts(content: &[u8], fault: Fault) -> &'static [Part]
+    requires { length content.now ≤ longest_file }
+{
+    let before = fault.offset.min(content.len());
+    match (fault.cause, is_cleared(content, before)) {
         (Cause::UnknownCell { .. }, false) => &[Part::Screen, Part::Colours],
         (Cause::UnknownCell { .. }, true) => &[Part::Colours, Part::Screen],
         (_, false) => &[Part::Cursor, Part::Wrap, Part::Saved],

@@ -2,10 +2,10 @@
 //! one of which a call fails.
 use ans_model::start::Start;
 use ans_play::{Picture, Player};
+use ans_samples::puts;
 use ans_sauce::MAX_FILE;
 use ans_screen::PlainGrid;
-use ans_show::{write_page, write_terminal};
-use ans_trials::writes;
+use ans_show::{put_page, put_terminal};
 use std::process::Abort;
 use std::test::Fail;
 
@@ -72,12 +72,7 @@ static TEXTS: [(usize, usize, &[u8], (bool, bool), &[u8]); 12] = rows! {
 fn a_terminal_shows_the_colours(rt: HostRuntime) -> Result<(), Fail> {
     for (width, lines, content, (non_blink, vga), text) in &TEXTS {
         let picture = picture_of(&rt, *width, *lines, content)?;
-        assert!(rt;
-            writes(text, |device| {
-                assert!(rt; !device.failed());
-                write_terminal(device, &picture, *non_blink, *vga)
-            })
-        );
+        assert!(rt; puts(text, |out| put_terminal(out, &picture, *non_blink, *vga)));
     }
     Ok(())
 }
@@ -136,10 +131,10 @@ fn a_page_shows_the_colours(rt: HostRuntime) -> Result<(), Fail> {
         let picture = picture_of(&rt, *width, *lines, content)?;
         let page = format!(in rt.alloc(); "{START}{shown}{STYLE}{spans}{END}")?;
         assert!(rt;
-            writes(page.as_bytes(), |device| {
-                assert!(rt; !device.failed());
-                write_page(device, &picture, title, *non_blink)
-            })
+            puts(
+                page.as_bytes(),
+                |out| put_page(out, &picture, title, *non_blink)
+            )
         );
     }
     Ok(())

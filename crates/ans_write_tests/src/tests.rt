@@ -1,6 +1,7 @@
-//! The characters by example, and devices of which one call fails.
+//! The characters by example, devices of which one call fails, and the samples that other tests use.
 
 mod devices;
+mod samples;
 
 use ans_write::glyph_text;
 

@@ -1,35 +1,14 @@
 //! The lines of a report before its verdict, class by class.
 use crate::tests::{SOME_KNOWN, parts_of};
 use ans_model::start::Start;
-use ans_report::{Report, Tried, WriteFault, write_report};
-use ans_samples::sample_file;
-use ans_sauce::{Cause, Fault, Parts};
+use ans_report::{Report, put_report};
+use ans_samples::{puts, sample_file};
+use ans_sauce::{Cause, Fault};
 use ans_screen::PlainGrid;
-use ans_trials::writes;
-use std::io::Write;
 use std::process::Abort;
 use std::test::Fail;
 
-/// Writes that content of the file scrolls, played from the starts of a class.
-fn write_refused<W: Write>(
-    rt: &impl Abort,
-    device: &mut Tried<W>,
-    parts: &Parts<'_>,
-    start: Start,
-) -> Result<(), WriteFault> {
-    assert!(rt; !device.failed());
-    let report: Report<'_, PlainGrid> = Report::Refused {
-        parts: Some(parts),
-        start,
-        fault: Fault {
-            offset: 1,
-            cause: Cause::Scrolls,
-        },
-    };
-    write_report(device, &report)
-}
-
-/// Asserts what the heading of a refusal calls the class of starts.
+/// Asserts what the heading calls the class of starts, where the content of the file scrolls.
 fn expect_name(
     rt: &(impl Abort + AllocGlobal),
     file: &[u8],
@@ -40,12 +19,15 @@ fn expect_name(
     let text = format!(in rt.alloc();
         "size: 2 x 1\nstart: {name}\ncontent: 2 bytes\nverdict: refused\nat 1: F21 scrolls\n"
     )?;
-    assert!(rt;
-        writes(
-            text.as_bytes(),
-            |device| write_refused(rt, device, &parts, start)
-        )
-    );
+    let report: Report<'_, PlainGrid> = Report::Refused {
+        parts: Some(&parts),
+        start,
+        fault: Fault {
+            offset: 1,
+            cause: Cause::Scrolls,
+        },
+    };
+    assert!(rt; puts(text.as_bytes(), |out| put_report(out, &report)));
     Ok(())
 }
 

@@ -1,6 +1,7 @@
 //! The line that is said where there is no answer.
-use ans_report::write_message;
-use ans_trials::writes;
+use ans_report::put_message;
+use ans_samples::{puts, writes};
+use ans_write::Outbox;
 
 /// Texts, and the lines that say them.
 static LINES: [(&str, &[u8]); 4] = [
@@ -13,28 +14,19 @@ static LINES: [(&str, &[u8]); 4] = [
 #[test]
 fn a_message_is_a_line(rt: HostRuntime) {
     for (text, line) in LINES {
-        assert!(rt;
-            writes(line, |device| {
-                assert!(rt; !device.failed());
-                write_message(device, text)
-            })
-        );
+        assert!(rt; puts(line, |out| put_message(out, text)));
     }
 }
 
 /// A try tells a line that is another, and a failure that is kept back.
 #[test]
 fn a_wrong_writing_is_told(rt: HostRuntime) {
-    assert!(rt;
-        !writes(b"anscheck: no\n", |device| {
-            assert!(rt; !device.failed());
-            write_message(device, "on")
-        })
-    );
+    assert!(rt; !puts(b"anscheck: no\n", |out| put_message(out, "on")));
     assert!(rt;
         !writes(b"anscheck: on\n", |device| {
-            assert!(rt; !device.failed());
-            let _ = write_message(device, "on");
+            let mut out = Outbox::new(device);
+            put_message(&mut out, "on");
+            let _ = out.finish();
             Ok(())
         })
     );

@@ -1,20 +1,14 @@
 //! What is written of contents' needs.
 use crate::tests::{NO_RECORD, NO_RECORD_TOLD, SOME_KNOWN, parts_of};
 use ans_model::start::Start;
-use ans_report::{Needs, write_needs};
-use ans_samples::sample_file;
+use ans_report::{Needs, put_needs};
+use ans_samples::{puts, sample_file};
 use ans_sauce::{Cause, Fault, Parts};
-use ans_trials::writes;
 use std::process::Abort;
 use std::test::Fail;
 
 fn expect_needs(rt: &impl Abort, needs: &Needs<'_>, text: &[u8]) {
-    assert!(rt;
-        writes(text, |device| {
-            assert!(rt; !device.failed());
-            write_needs(device, needs)
-        })
-    );
+    assert!(rt; puts(text, |out| put_needs(out, needs)));
 }
 
 fn expect_least(rt: &impl Abort, parts: Parts<'_>, class: Start, text: &[u8]) {

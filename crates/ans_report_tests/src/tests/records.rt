@@ -2,8 +2,7 @@
 use crate::tests::parts_of;
 use ans_report::write_record;
 use ans_samples::records::Edits;
-use ans_samples::sample_file;
-use ans_trials::writes;
+use ans_samples::{sample_file, writes};
 use std::test::Fail;
 
 /// The fields that are changed, and the text of the record, behind `Hi`, an end mark and one comment.

@@ -2,8 +2,8 @@
 ghost use Rattle.std.specs.Prelude.{◌≤◌};
 
 use ans_report::{Tried, write_tokens};
+use ans_samples::{stops_after, writes};
 use ans_sauce::{Cause, Fault, MAX_FILE};
-use ans_trials::{stops_after, writes};
 use std::io::{self, Write};
 use std::process::Abort;
 use std::test::Fail;

@@ -1,44 +1,13 @@
 //! Reports on files, as they are written.
 use crate::tests::{NO_RECORD, NO_RECORD_TOLD, parts_of};
 use ans_model::start::Start;
-use ans_play::{Picture, Player};
-use ans_report::{Report, Tried, WriteFault, write_refusal, write_report};
-use ans_samples::{sample_file, start};
-use ans_sauce::{Fault, MAX_FILE, Parts};
+use ans_play::Player;
+use ans_report::{Report, put_report, write_refusal, write_report};
+use ans_samples::{puts, sample_file, start, writes};
+use ans_sauce::MAX_FILE;
 use ans_screen::PlainGrid;
-use ans_trials::writes;
-use std::io::Write;
 use std::process::Abort;
 use std::test::Fail;
-
-/// Writes the report of how a play ended.
-fn write_end<W: Write>(
-    rt: &impl Abort,
-    device: &mut Tried<W>,
-    parts: &Parts<'_>,
-    start: Start,
-    end: &Result<Picture<PlainGrid>, Fault>,
-    cells: bool,
-) -> Result<(), WriteFault> {
-    assert!(rt; !device.failed());
-    let report = match end {
-        Ok(picture) => {
-            assert!(rt; picture.width() == parts.width() && picture.lines() == parts.lines());
-            Report::Pass {
-                parts,
-                start,
-                picture,
-                cells,
-            }
-        }
-        Err(fault) => Report::Refused {
-            parts: Some(parts),
-            start,
-            fault: *fault,
-        },
-    };
-    write_report(device, &report)
-}
 
 /// Asserts the report on a content of one line and at most 255 bytes.
 fn expect_report(
@@ -61,11 +30,20 @@ fn expect_report(
         Ok(()) => player.finish(),
         Err(fault) => Err(fault),
     };
-    assert!(rt;
-        writes(text.as_bytes(), |device| {
-            write_end(rt, device, &parts, start, &end, cells)
-        })
-    );
+    let report = match &end {
+        Ok(picture) => Report::Pass {
+            parts: &parts,
+            start,
+            picture,
+            cells,
+        },
+        Err(fault) => Report::Refused {
+            parts: Some(&parts),
+            start,
+            fault: *fault,
+        },
+    };
+    assert!(rt; puts(text.as_bytes(), |out| put_report(out, &report)));
     Ok(())
 }
 

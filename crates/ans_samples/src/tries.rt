@@ -1,8 +1,6 @@
-//! How the tests of other crates try a writer. No program uses it.
-#![tactic(auto)]
-
-use ans_samples::{FailingOnce, Narrow};
-use ans_write::{Tried, WriteFault};
+//! How the tests of other crates try a writer.
+use crate::{FailingOnce, Narrow};
+use ans_write::{Outbox, Tried, WriteFault};
 
 /// Whether a writing stops at a device that fails after these bytes, and calls it no more.
 pub fn stops_after<F>(taken: &[u8], write: &F) -> bool
@@ -36,4 +34,18 @@ where
         }
     }
     true
+}
+
+/// Whether this text, put into an outbox, is written to a device that takes it all, and the writing
+/// stops at each of the calls that fail.
+pub fn puts<F>(text: &[u8], put: F) -> bool
+where
+    F: Fn(&mut Outbox<'_, FailingOnce<Narrow>>),
+    requires { F.IsAlwaysCallable put }
+{
+    writes(text, |device| {
+        let mut out = Outbox::new(device);
+        put(&mut out);
+        out.finish()
+    })
 }
