@@ -1,21 +1,19 @@
 -- What a command has put, and what a run has done by it.
 use Rattle.std.proofs.Common.{◌≡◌, ◌↔◌, ◌+◌, ◌<◌, ◌≤◌, ℕ, Bool, true, false, List, length, Option, Some, None, Result}
-use Rattle.std.proofs.Common.{Ok, Err, refl, sym, ap, subst, ◌∙◌, true≢false}
-use Rattle.std.specs.Prelude.{IfErr, IfSome, IsErr, IsErrOf, IsTrue, OnOk, Vec}
-use Rattle.std.specs.Global.{Global}
+use Rattle.std.proofs.Common.{Ok, Err, refl, sym, ◌∙◌, true≢false}
+use Rattle.std.specs.Prelude.{IfSome, IsErrOf, IsTrue}
 use Rattle.ans_model.specs.Bytes.{longest_file}
 use Rattle.ans_options.specs.declared.command.Options.{Options}
 use Rattle.ans_table.specs.declared.finding.Unread.{Unread}
 use Rattle.ans_table.specs.declared.finding.Unread.TheVariants as why
-use Rattle.ans_write.specs.Puts.{HandsOn, Puts, device_failed, device_of, waiting_of}
+use Rattle.ans_write.specs.Puts.{Puts}
 use Rattle.ans_write.specs.Tried.{call_count, has_failed, inner_of}
 use Rattle.ans_write.specs.Writes.{Wrote, WrotePrefix}
 use Rattle.ans_write.specs.declared.outbox.Outbox.{Outbox}
 use Rattle.ans_write.specs.declared.tried.Tried.{Tried}
-use Rattle.ans_write.proofs.PutsLemmas.{WritesText-finished}
 use Rattle.ans_check.specs.CommandText.{Reports}
 use Rattle.ans_check.specs.Reported.{IsPut}
-use Rattle.ans_check.specs.Run.{HasRead, IsOfReading, run_error_of}
+use Rattle.ans_check.specs.Run.{HasRead}
 use Rattle.ans_check.specs.Served.{Serves}
 use Rattle.ans_check.specs.declared.errors.RunError.{RunError}
 use Rattle.ans_check.specs.declared.errors.RunError.TheVariants as error

@@ -32,7 +32,7 @@ use Rattle.ans_check.specs.Rows.{EndsRows, IsReady, WritesOut, WritesRow}
 use Rattle.ans_check.specs.Run.{HasRead, IsOfReading}
 use Rattle.ans_write.specs.Tried.{call_count, has_failed, inner_of}
 use Rattle.ans_write.specs.Puts.{HandsOn, Puts, device_failed, device_of, waiting_of}
-use Rattle.ans_write.specs.Writes.{AppendsPrefix, WritesText}
+use Rattle.ans_write.specs.Writes.{AppendsPrefix}
 use Rattle.ans_write.specs.declared.outbox.Outbox.{Outbox}
 use Rattle.ans_write.specs.declared.outbox.WriteFault.{WriteFault}
 use Rattle.ans_write.proofs.PutsLemmas.{WritesText-finished}

@@ -1,6 +1,6 @@
 -- What the writing of a part of a table has done when it returns.
 use Rattle.std.specs.declared.alloc.AllocError.{AllocError}
-use Rattle.std.specs.Prelude.{◌≡◌, ◌↔◌, ℕ, Bool, false, List, [], Option, Result, Ok, Err, IfOk, IfErr}
+use Rattle.std.specs.Prelude.{◌≡◌, ◌↔◌, ℕ, false, List, [], Option, Result, Ok, Err, IfOk, IfErr}
 use Rattle.std.specs.Prelude.{OnOk, IsErrOf, IsTrue}
 use Rattle.clap.specs.Words.{Text}
 use Rattle.ans_options.specs.declared.command.TableForm.{TableForm}

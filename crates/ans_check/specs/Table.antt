@@ -9,10 +9,8 @@ use Rattle.ans_model.specs.Bytes.{longest_file}
 use Rattle.ans_options.specs.declared.command.TableForm.{TableForm}
 use Rattle.ans_options.specs.declared.command.TableForm.TheVariants.{Headed, Bare, Json}
 use Rattle.ans_table.specs.declared.counts.Counts.{Counts}
-use Rattle.ans_table.specs.declared.counts.Outcome.{Outcome}
 use Rattle.ans_table.specs.declared.finding.Finding.{Finding}
 use Rattle.ans_table.specs.declared.finding.Finding.TheVariants.{Unread}
-use Rattle.ans_table.specs.declared.finding.Unread as unread
 use Rattle.ans_table.specs.declared.finding.Unread.TheVariants as why
 use Rattle.ans_table.specs.Counting.{counts_of}
 use Rattle.ans_table.specs.Findings.{IsFindingOf, outcome_of}

@@ -5,11 +5,6 @@ use Rattle.ans_options.specs.CommandLine.{HasKindAmong, IsErrorOf, RanOutOfMemor
 use Rattle.ans_options.specs.declared.command_line.WordsError.{WordsError}
 use Rattle.ans_options.specs.declared.command_line.WordsError.TheVariants.{Clap, Memory}
 
--- no text was read from none
-pub none_mapped : {X Y : Type 0} (f : X → Y) (o : Option X) → option_map f o ≡ None → o ≡ None
-none_mapped f None e = refl
-none_mapped f (Some x) e = cc
-
 -- want of memory may come of any words
 pub out_of_memory : (words : List Text) (e : WordsError) → e ≡ Memory → IsErrorOf words e
 out_of_memory words e is = rw is (record { refuses = λ taken. tt; faultless = λ none. tt; kinds = tt })

@@ -1,5 +1,4 @@
 use Rattle.std.proofs.Common.{rules, sym}
-use Rattle.ans_report.specs.Message.{message_line}
 use Rattle.ans_write.specs.Puts.{device_of}
 use Rattle.ans_check.proofs.AnswerLemmas.{put_out, says_message}
 use Rattle.ans_check.proofs.answering.say.Goals as goal

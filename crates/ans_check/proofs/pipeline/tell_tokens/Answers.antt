@@ -1,4 +1,4 @@
-use Rattle.std.proofs.Common.{false, not, inr, refl}
+use Rattle.std.proofs.Common.{false, not, inr}
 use Rattle.std.specs.Prelude.{is_some}
 use Rattle.ans_model.specs.Text.ReportText.{refusal_text}
 use Rattle.ans_check.proofs.ReportLemmas.{none_told, record_reported, some_by_none, tokens_reported}
