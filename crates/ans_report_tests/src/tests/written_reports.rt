@@ -1,13 +1,38 @@
 //! Reports on files, as they are written.
 use crate::tests::{NO_RECORD, NO_RECORD_TOLD, parts_of};
 use ans_model::start::Start;
-use ans_play::Player;
+use ans_play::{Picture, Player};
 use ans_report::{Report, put_report, write_refusal, write_report};
 use ans_samples::{puts, sample_file, start, writes};
-use ans_sauce::MAX_FILE;
+use ans_sauce::{Fault, MAX_FILE, Parts};
 use ans_screen::PlainGrid;
 use std::process::Abort;
 use std::test::Fail;
+
+/// Asserts the report of how a play ended.
+fn expect_end(
+    rt: &impl Abort,
+    parts: &Parts<'_>,
+    start: Start,
+    end: &Result<Picture<PlainGrid>, Fault>,
+    cells: bool,
+    text: &str,
+) {
+    let report = match end {
+        Ok(picture) => Report::Pass {
+            parts,
+            start,
+            picture,
+            cells,
+        },
+        Err(fault) => Report::Refused {
+            parts: Some(parts),
+            start,
+            fault: *fault,
+        },
+    };
+    assert!(rt; puts(text.as_bytes(), |out| put_report(out, &report)));
+}
 
 /// Asserts the report on a content of one line and at most 255 bytes.
 fn expect_report(
@@ -30,20 +55,7 @@ fn expect_report(
         Ok(()) => player.finish(),
         Err(fault) => Err(fault),
     };
-    let report = match &end {
-        Ok(picture) => Report::Pass {
-            parts: &parts,
-            start,
-            picture,
-            cells,
-        },
-        Err(fault) => Report::Refused {
-            parts: Some(&parts),
-            start,
-            fault: *fault,
-        },
-    };
-    assert!(rt; puts(text.as_bytes(), |out| put_report(out, &report)));
+    expect_end(rt, &parts, start, &end, cells, text);
     Ok(())
 }
 
