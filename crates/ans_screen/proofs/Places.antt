@@ -206,6 +206,9 @@ places_of w row i some at =
 pub row_end : (w row rows : ℕ) → row < rows → row * w + w ≤ w * rows
 row_end w row rows lt = row_fits_turned row w w rows lt (omega arith)
 
+pub row_below : (w rows i : ℕ) → 0 < w → i < w * rows → i / w < rows
+row_below w rows i some lt = div_below i w rows some (omega arith)
+
 -- each row from that of one place on to that of the last place before another has places between the two
 pub row_between : (w from to row : ℕ) → 0 < w → from < to → from / w ≤ row → row < (to - 1) / w + 1
     → (row * w < to) × (from < row * w + w)
