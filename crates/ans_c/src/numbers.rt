@@ -84,38 +84,6 @@ pub(crate) fn bits_of(class: Start) -> u32
         | bit(class.wrap, 16)
 }
 
-/// The number of a cause.
-fn cause_number(cause: &Cause) -> u32
-    ensures { result ≡ cause_number cause.now }
-{
-    match cause {
-        Cause::NoRecord => 1,
-        Cause::WrongVersion => 2,
-        Cause::WrongKind => 3,
-        Cause::CommentsMissing => 4,
-        Cause::LinesUnstated => 5,
-        Cause::WidthTooLarge => 6,
-        Cause::LinesTooLarge => 7,
-        Cause::BytesAfterEndMark => 8,
-        Cause::BrokenSequence => 9,
-        Cause::NumberTooLarge => 10,
-        Cause::TooManyParameters => 11,
-        Cause::EndInSequence => 12,
-        Cause::UnknownSequence => 13,
-        Cause::WrongParameters => 14,
-        Cause::KeyReassigned => 15,
-        Cause::ScreenMode => 16,
-        Cause::ReportAsked => 17,
-        Cause::OutsideScreen => 19,
-        Cause::PrintBelow => 20,
-        Cause::Scrolls => 21,
-        Cause::PrintUnknownPlace => 22,
-        Cause::EraseUnknownPlace => 23,
-        Cause::MayScroll => 24,
-        Cause::UnknownCell { row: _, col: _ } => 25,
-    }
-}
-
 /// A cause of a number.
 pub(crate) fn cause_of(number: u32) -> Option<Cause>
     ensures some { IfSome result (λ cause. cause_number cause ≡ number) }
@@ -175,7 +143,7 @@ pub(crate) fn told(fault: &Fault) -> ToldFault
         _ => (0, 0),
     };
     ToldFault {
-        number: cause_number(&fault.cause),
+        number: fault.cause.number(),
         row,
         column,
         offset: fault.offset,
