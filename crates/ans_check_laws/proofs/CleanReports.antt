@@ -47,7 +47,8 @@ use Rattle.ans_check.specs.declared.exit_status.Ending.TheVariants.{Run, Help, U
 use Rattle.ans_check.specs.Run.{run_error_text}
 use Rattle.ans_check_laws.specs.CleanTexts.{IsCleanText, IsColouredText, is_for_terminal}
 use Rattle.ans_check_laws.proofs.CleanLines.{fault_line_clean, note_line_clean, refusal_clean, size_clean}
-use Rattle.ans_check_laws.proofs.CleanLines.{needed_parts_clean, heading_clean, OfBytes, parts_are_bytes, field_is_bytes}
+use Rattle.ans_check_laws.proofs.CleanLines.{needed_parts_clean, heading_clean, OfBytes}
+use Rattle.ans_check_laws.proofs.CleanLines.{parts_are_bytes, field_is_bytes}
 use Rattle.ans_check_laws.proofs.CleanLines.{trimmed_is_bytes, named_clean, field_clean}
 use Rattle.ans_check_laws.proofs.CleanWhy.{why_clean}
 use Rattle.ans_check_laws.proofs.CleanPictures.{coloured_where_clean, of_rows, page_clean, terminal_coloured}
