@@ -1,3 +1,4 @@
+pub mod EachNumber
 pub mod Bits
 pub mod Rows
 pub mod Room

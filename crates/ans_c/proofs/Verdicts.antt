@@ -1,18 +1,15 @@
 -- What is found of a file, as it is told.
-use Rattle.std.proofs.Common.{◌≡◌, ◌*◌, ◌<◌, min, ℕ, List, Option, Some, None, inl, inr, subst, ap}
+use Rattle.std.proofs.Common.{◌≡◌, ◌*◌, ◌<◌, min, ℕ, List, Some, inl, inr, subst, ap}
 use Rattle.ans_model.specs.File.Record.{stated_size}
 use Rattle.ans_model.specs.File.Layout.{FileParts}
 use Rattle.ans_model.specs.File.Refusals.{Accepts, record_fault}
 use Rattle.ans_model.specs.Screen.State.{Size}
-use Rattle.ans_model.specs.Screen.StartClass.{all_known}
 use Rattle.ans_model.specs.Verdict.Good.{Picture, GoodWith}
 use Rattle.ans_model.specs.declared.fault.Fault.{Fault}
 use Rattle.ans_model.specs.declared.start.Start.{Start}
 use Rattle.ans_sauce.specs.declared.parts.Parts.{Parts}
 use Rattle.ans_sauce.specs.Parts.{content_of, size_of}
 use Rattle.ans_sauce.specs.Split.{IsSplit}
-use Rattle.ans_report.specs.declared.needs_text.Needs.TheVariants as needs
-use Rattle.ans_check.specs.FileNeeds.{IsNeedsOf}
 use Rattle.ans_check.specs.FileVerdict.{Deserves}
 use Rattle.ans_check.specs.LentScreen.{HasScreen, byte_count, row_count}
 use Rattle.ans_check.specs.declared.screens.LentScreens.{LentScreens}
@@ -48,17 +45,6 @@ pub pass_told : (file : List ℕ) (start : Start) (parts : Parts) (p : Picture) 
 pass_told file start parts p glyphs attributes split good holds =
     let r = passes file start parts split p good in
     record { apart = r.0; picture = p; passes = r.2; holds = holds }
-
--- what is refused even from the cleared start
-pub needs_refused : (file : List ℕ) (parts : Option Parts) (fault : Fault) (told : ToldFault)
-    → IsNeedsOf file (needs.Refused parts fault) → TellsFault told fault → TellsRefusal file all_known told
-needs_refused file None fault told found tells = record_told file all_known fault told found tells
-needs_refused file (Some parts) fault told (apart, shows, refused) tells = record {
-  fault = fault;
-  tells = tells;
-  not_good = refused_not_good file all_known apart fault refused;
-  deserved = inl (apart, refused);
-}
 
 -- what is so of the parts' size is so of the file's
 size_of_file : (P : Size → Type 0) (file : List ℕ) (parts : Parts) (s : IsSplit file parts) → P (size_of parts)

@@ -16,10 +16,8 @@ use crate::numbers::{
 use ans_check::{LentScreens, needs_on, play_on};
 use ans_model::limits::MAX_FILE;
 use ans_model::start::Start;
-use ans_report::Needs;
-use ans_sauce::{Parts, split};
+use ans_sauce::{Judged, Parts, split};
 use ans_screen::{HalfCell, LentGrid, LentRow, Screen};
-use std::alloc::AllocError;
 
 /// Tells the size of a file's picture and what is to be lent for a check of it. `PASS`: the record and the
 /// layout are accepted, and `size` is set. `REFUSED`: they are not, and `fault` tells why, F1 to F8.
@@ -139,15 +137,17 @@ pub extern "C" fn ans_needs(
     if file.len() > MAX_FILE {
         return TOO_LONG;
     }
-    match needs_on(&mut LentScreens::new(rows, bytes), file) {
-        Ok(Needs::Least(_, class)) => {
+    let Ok(needs) = needs_on(&mut LentScreens::new(rows, bytes), file) else {
+        return NO_ROOM;
+    };
+    match needs {
+        Judged::Passes(_, class) => {
             *parts = bits_of(class);
             PASS
         }
-        Ok(Needs::Refused(_, found)) => {
+        Judged::NoContent(found) | Judged::Refused(_, found) => {
             *fault = told(&found);
             REFUSED
         }
-        Err(AllocError) => NO_ROOM,
     }
 }

@@ -89,33 +89,12 @@ pub(crate) fn cause_of(number: u32) -> Option<Cause>
     ensures some { IfSome result (λ cause. cause_number cause ≡ number) }
     ensures none { IsNone result → (cause : Cause) → cause_number cause ≢ number }
 {
-    Some(match number {
-        1 => Cause::NoRecord,
-        2 => Cause::WrongVersion,
-        3 => Cause::WrongKind,
-        4 => Cause::CommentsMissing,
-        5 => Cause::LinesUnstated,
-        6 => Cause::WidthTooLarge,
-        7 => Cause::LinesTooLarge,
-        8 => Cause::BytesAfterEndMark,
-        9 => Cause::BrokenSequence,
-        10 => Cause::NumberTooLarge,
-        11 => Cause::TooManyParameters,
-        12 => Cause::EndInSequence,
-        13 => Cause::UnknownSequence,
-        14 => Cause::WrongParameters,
-        15 => Cause::KeyReassigned,
-        16 => Cause::ScreenMode,
-        17 => Cause::ReportAsked,
-        19 => Cause::OutsideScreen,
-        20 => Cause::PrintBelow,
-        21 => Cause::Scrolls,
-        22 => Cause::PrintUnknownPlace,
-        23 => Cause::EraseUnknownPlace,
-        24 => Cause::MayScroll,
-        25 => Cause::UnknownCell { row: 1, col: 1 },
-        _ => return None,
-    })
+    for cause in &Cause::EACH {
+        if cause.number() == number {
+            return Some(*cause);
+        }
+    }
+    None
 }
 
 /// The note of a number.
@@ -123,15 +102,12 @@ pub(crate) fn note_of(number: u32) -> Option<Note>
     ensures some { IfSome result (λ note. note_number note ≡ number) }
     ensures none { IsNone result → (note : Note) → note_number note ≢ number }
 {
-    Some(match number {
-        1 => Note::WidthAssumed,
-        2 => Note::NoEndMark,
-        3 => Note::SizeDiffers,
-        4 => Note::OddDate,
-        5 => Note::FlagBits,
-        6 => Note::FlagPair,
-        _ => return None,
-    })
+    for note in &Note::EACH {
+        if note.number() == number {
+            return Some(*note);
+        }
+    }
+    None
 }
 
 /// A fault in numbers.

@@ -12,12 +12,12 @@ ghost use Rattle.ans_c.specs.Told.{HandsOver, HandsReport, LacksScreen, code_of}
 
 use crate::numbers::{NO_ROOM, PASS, REFUSED, TOO_LONG, cause_of, note_of};
 use ans_check::{LentScreens, why_on};
-use ans_explain::put_why;
 use ans_model::fault::Fault;
 use ans_model::limits::MAX_FILE;
 use ans_report::{fault_text, note_text, put_record, put_refusal};
 use ans_sauce::split;
 use ans_screen::LentRow;
+use ans_why::put_why;
 use ans_write::{Outbox, Tried};
 use std::io::{self, Write};
 
@@ -109,7 +109,7 @@ pub extern "C" fn ans_why(
     let mut nowhere = Tried::new(Nowhere);
     let mut out = Outbox::new(&mut nowhere);
     put_why(&mut out, &why);
-    hand_over(&out, why.is_of_pass(), text, told)
+    hand_over(&out, why.is_pass(), text, told)
 }
 
 /// Hands over the text of `anscheck sauce`, in UTF-8: what the file's record says, or why its record or its

@@ -11,7 +11,7 @@ use Rattle.ans_write.proofs.PutsLemmas.{WritesText-finished}
 use Rattle.ans_write.specs.declared.tried.Tried.{Tried}
 use Rattle.clap.specs.Words.{Text}
 use Rattle.ans_options.specs.declared.command.TableForm.{TableForm}
-use Rattle.ans_table.specs.declared.finding.Finding.{Finding}
+use Rattle.ans_table.specs.Findings.{RowFinding}
 use Rattle.ans_check.specs.Answer.{EndsBy, EndsNamed, Says, Tells}
 use Rattle.ans_check.specs.Ending.{ending_message}
 use Rattle.ans_check.specs.declared.exit_status.Ending.{Ending}
@@ -62,7 +62,7 @@ says_message contents errors after UnreadNames text e h =
 
 -- the table of names that the words give
 pub ends_by_names : {R W : Type 0} (remaining : R → Option (List ℕ)) (contents : W → Option (List ℕ))
-    (is_standard : R → Type 0) (found : Text → Finding → Type 0) (form : TableForm) (names : List Text)
+    (is_standard : R → Type 0) (found : Text → RowFinding → Type 0) (form : TableForm) (names : List Text)
     (output after : Tried W) (ending : Ending) → 1 ≤ length names
     → EndsNamed contents found form names output after ending
     → EndsBy remaining contents is_standard found form names output after ending
@@ -71,7 +71,7 @@ ends_by_names remaining contents is_standard found form (name ∷ more) output a
 
 -- the table of names on standard input
 pub ends_by_input : {R W : Type 0} (remaining : R → Option (List ℕ)) (contents : W → Option (List ℕ))
-    (is_standard : R → Type 0) (found : Text → Finding → Type 0) (form : TableForm) (names : List Text)
+    (is_standard : R → Type 0) (found : Text → RowFinding → Type 0) (form : TableForm) (names : List Text)
     (output after : Tried W) (ending : Ending) → length names ≤ 0
     → EndsBy remaining contents is_standard found form [] output after ending
     → EndsBy remaining contents is_standard found form names output after ending

@@ -5,7 +5,6 @@ pub mod ReportLemmas
 pub mod ReportedLemmas
 pub mod ServedLemmas
 pub mod AnswerLemmas
-pub mod WhyLemmas
 pub mod ListingLemmas
 pub mod TableLemmas
 pub mod LeastLemmas

@@ -17,22 +17,22 @@ use Rattle.ans_sauce.specs.declared.parts.Parts.{Parts}
 use Rattle.ans_sauce.specs.Parts.{ShowsParts, content_of, size_of, record_of}
 use Rattle.ans_sauce.specs.Split.{IsSplit}
 use Rattle.ans_report.specs.Headings.{heading_of}
-use Rattle.ans_report.specs.NeedsBytes.{needs_bytes}
+use Rattle.ans_report.specs.NeedsBytes.{Needs, needs_bytes}
 use Rattle.ans_report.specs.ReportBytes.{IsFitting, refused_text, report_bytes}
 use Rattle.ans_report.specs.declared.report.Report.{Report}
 use Rattle.ans_report.specs.declared.report.Report.TheVariants as report
-use Rattle.ans_report.specs.declared.needs_text.Needs.{Needs}
-use Rattle.ans_report.specs.declared.needs_text.Needs.TheVariants as needs
+use Rattle.ans_sauce.specs.Judged.{is_pass}
+use Rattle.ans_sauce.specs.declared.judged.Judged.TheVariants as judged
 use Rattle.ans_check.specs.declared.verdict.Verdict.{Verdict}
 use Rattle.ans_check.specs.declared.verdict.Verdict.TheVariants.{Pass, Refused}
-use Rattle.ans_check.specs.FileNeeds.{NeedsClass, IsNeedsOf, needs_fault}
+use Rattle.ans_check.specs.FileNeeds.{IsNeedsOf, needs_fault}
+use Rattle.ans_check.proofs.VerdictLemmas.{needs_class, refuses}
 use Rattle.ans_check.specs.FileVerdict.{Passes, IsRefusedFor, IsVerdictOn, IsGoodFile, fault_of}
 use Rattle.ans_check.specs.CommandText.{heading, ReportsPass, ReportsFault, ReportsRecordFault, ReportsCheck}
-use Rattle.ans_check.specs.CommandText.{ReportsLeast, ReportsNeeds, ReportsRecord, ReportsContent, ReportsTokens}
+use Rattle.ans_check.specs.CommandText.{ReportsNeeds, ReportsRecord, ReportsContent, ReportsTokens}
 use Rattle.ans_check.specs.CommandText.{IsReportOf, ReportsPicture, ReportsWhy, shown_text}
-use Rattle.ans_explain.specs.Explained.{IsTrueOf, is_of_pass}
-use Rattle.ans_explain.specs.WhyText.{why_text}
-use Rattle.ans_explain.specs.declared.why.Why.{Why}
+use Rattle.ans_why.specs.Explained.{IsTrueOf, Why}
+use Rattle.ans_why.specs.WhyText.{why_text}
 use Rattle.ans_options.specs.declared.command.Form.{Form}
 
 -- the heading of a file's parts
@@ -89,11 +89,11 @@ verdict_reported file start cells (Pass parts picture) (report.Pass told from sh
     p s (ap₂ (λ (a : Picture) (b : Bool). (a, b)) i c) (pass_reported file start cells h.0 parts picture h.1 h.2)
 verdict_reported file start cells (Refused (Some parts) f) (report.Refused told from fault) (p, s, same) h good =
     of_equals (λ (v : Option Parts) (at : Start) (why : Fault). ReportsCheck file start cells false
-    (refused_text v (Some at) why))
+    (refused_text v at why))
     p s same (never_good file start f good, inl (fault_reported file start (Some start) h.0 parts f h.1 h.2))
 verdict_reported file start cells (Refused None f) (report.Refused told from fault) (p, s, same) h good =
     of_equals (λ (v : Option Parts) (at : Start) (why : Fault). ReportsCheck file start cells false
-    (refused_text v (Some at) why))
+    (refused_text v at why))
     p s same (never_good file start f good, inr (record_reported file f h))
 verdict_reported file start cells (Pass parts picture) (report.Refused told from fault) never h good = absurd never
 verdict_reported file start cells (Refused parts f) (report.Pass told from shown asked) never h good = absurd never
@@ -130,7 +130,7 @@ picture_reported file start form parts picture h = record {
 }
 
 -- what is said of a file, where it is true
-pub why_reported : (file : List ℕ) (why : Why) (passed : Bool) → IsTrueOf file why → passed ≡ is_of_pass why
+pub why_reported : (file : List ℕ) (why : Why) (passed : Bool) → IsTrueOf file why → passed ≡ is_pass why
     → ReportsWhy file passed (why_text why)
 why_reported file why passed h e = record { said = why; is_true = h; passed_is = e; text_is = refl }
 
@@ -174,21 +174,19 @@ tokens_reported file parts bytes (Some f) true text s same t e = absurd (true≢
 tokens_reported file parts bytes (Some f) false text s same t e = inl
     (f, content_reported file parts bytes (Some f) text s same t)
 
--- a class is told after the heading of its parts
-least_reported : (file : List ℕ) (apart : FileParts) (parts : Parts) (class : Start) → ShowsParts apart parts
-    → NeedsClass file apart class → ReportsLeast file (needs_text (heading_of parts None) class)
-least_reported file apart parts class shows h = record {
-  apart = apart;
-  class = class;
-  needs = h;
-  text_is = ap (λ (v : Heading). needs_text v class) (heading_is apart parts None shows);
-}
-
 -- what is found of a file's needs reports on it
 pub needs_reported : (file : List ℕ) (n : Needs) → IsNeedsOf file n → (IsGoodFile file all_known → needs_fault n ≡ None)
-    → ReportsNeeds file (not (is_some (needs_fault n))) (needs_bytes n)
-needs_reported file (needs.Least parts class) h good = least_reported file h.0 parts class h.1 h.2
-needs_reported file (needs.Refused (Some parts) f) h good =
-    (never_good file all_known f good, inl (fault_reported file all_known None h.0 parts f h.1 h.2))
-needs_reported file (needs.Refused None f) h good =
+    → ReportsNeeds file (is_pass n) (needs_bytes n)
+needs_reported file (judged.NoContent f) h good =
     (never_good file all_known f good, inr (record_reported file f h))
+needs_reported file (judged.Refused parts f) h good =
+    let (apart, shows, refused) = refuses file all_known parts h.0 f h.1 in
+    (never_good file all_known f good, inl (fault_reported file all_known None apart parts f shows refused))
+needs_reported file (judged.Passes parts class) h good =
+    let (apart, shows, needs) = needs_class file class parts h.0 h.1 in
+    record {
+      apart = apart;
+      class = class;
+      needs = needs;
+      text_is = ap (λ (v : Heading). needs_text v class) (heading_is apart parts None shows);
+    }

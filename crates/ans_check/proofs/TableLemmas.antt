@@ -1,6 +1,7 @@
 -- Rows after rows, and the text before them.
 use Rattle.std.proofs.Common.{◌≡◌, ◌∙◌, ℕ, ◌+◌, ◌≤◌, List, [], ◌∷◌, ◌++◌, length, take, All, Option, Some, None, Result}
-use Rattle.std.proofs.Common.{Ok, Err, inr, true≢false, refl, sym, ap, subst, arith, append-nil, length-append, ◌<◌, drop, get_or, map}
+use Rattle.std.proofs.Common.{Ok, Err, inr, true≢false, refl, sym, ap, subst, arith, append-nil, length-append}
+use Rattle.std.proofs.Common.{◌<◌, drop, get_or, map}
 use Rattle.std.specs.Borrow.{Bor}
 use Rattle.std.specs.Io.KnownBytes.{Appends}
 use Rattle.std.proofs.KnownBytes.{Appends-nil, Appends-trans}
@@ -14,22 +15,20 @@ use Rattle.ans_options.specs.declared.command.TableForm.{TableForm}
 use Rattle.ans_model.specs.Bytes.{longest_file}
 use Rattle.ans_table.specs.declared.counts.Counts.{Counts}
 use Rattle.ans_table.specs.declared.counts.Outcome.{Outcome}
-use Rattle.ans_table.specs.declared.finding.Finding.{Finding}
 use Rattle.ans_model.specs.Text.Words.{texts_of}
 use Rattle.std.proofs.lemmas.List.Sums.{count_by-le-length}
 use Rattle.ans_table.specs.Counting.{counts_of, is_pass, is_refused, is_unread}
-use Rattle.ans_table.specs.Findings.{outcome_of}
+use Rattle.ans_table.specs.Findings.{RowFinding, outcome_of}
 use Rattle.ans_table.specs.RowText.{Row}
 use Rattle.std.specs.Prelude.{Bool, IfSome, IsErr, IsErrOf, IsTrue, OnOk, Vec, false, true, ◌↔◌}
 use Rattle.ans_options.specs.declared.command.TableForm.TheVariants.{Json}
 use Rattle.std.specs.Global.{Global}
-use Rattle.ans_table.specs.declared.finding.Finding.TheVariants.{Pass, Refused, NoContent, Unread}
 use Rattle.ans_table.specs.declared.finding.Unread.TheVariants as why
 use Rattle.ans_check.specs.declared.errors.RunError.{RunError}
 use Rattle.ans_check.specs.declared.errors.RunError.TheVariants as error
 use Rattle.ans_table.specs.declared.finding.Unread as unread
 use Rattle.ans_check.specs.Rows.{EndsRows, IsReady, WritesOut, WritesRow}
-use Rattle.ans_check.specs.Run.{HasRead, IsOfReading}
+use Rattle.ans_check.specs.Run.{HasRead, IsOfOpenFile}
 use Rattle.ans_write.specs.Tried.{call_count, has_failed, inner_of}
 use Rattle.ans_write.specs.Puts.{HandsOn, Puts, device_failed, device_of, waiting_of}
 use Rattle.ans_write.specs.Writes.{AppendsPrefix}
@@ -43,28 +42,24 @@ use Rattle.ans_check.specs.Table.{IsFoundByName, MayBeFoundIn, MayEndTable, Writ
 module _ {R : Type 0} (remaining : R → Option (List ℕ)) (is_file : Text → R → Type 0) (is_missing : Text → Type 0)
     (name : Text) (reader after : Tried R) where
   -- what is found in a file that was read
-  pub found_in : (file : List ℕ) (finding : Finding) → is_file name (inner_of reader) → call_count reader ≡ 0
+  pub found_in : (file : List ℕ) (finding : RowFinding) → is_file name (inner_of reader) → call_count reader ≡ 0
       → HasRead (remaining (inner_of reader)) (remaining (inner_of after)) file → MayBeFoundIn file finding
       → IsFoundByName remaining is_file is_missing name finding
-  found_in file (Pass parts needs taller) input calls read is =
+  found_in file (Ok finding) input calls read is =
       record { reader = reader; reader_after = after; input = input; unread = calls; gave = (file, read, is) }
-  found_in file (Refused parts fault row column) input calls read is =
-      record { reader = reader; reader_after = after; input = input; unread = calls; gave = (file, read, is) }
-  found_in file (NoContent fault sauce) input calls read is =
-      record { reader = reader; reader_after = after; input = input; unread = calls; gave = (file, read, is) }
-  found_in file (Unread why.Memory) input calls read is =
+  found_in file (Err why.Memory) input calls read is =
       record { reader = reader; reader_after = after; input = input; unread = calls; gave = tt }
-  found_in file (Unread why.Unopened) input calls read is = absurd is
-  found_in file (Unread why.ReadFailed) input calls read is = absurd is
-  found_in file (Unread why.TooLong) input calls read is = absurd is
-  found_in file (Unread why.NameNotText) input calls read is = absurd is
+  found_in file (Err why.Unopened) input calls read is = absurd is
+  found_in file (Err why.ReadFailed) input calls read is = absurd is
+  found_in file (Err why.TooLong) input calls read is = absurd is
+  found_in file (Err why.NameNotText) input calls read is = absurd is
 
   -- a file that was not read to its end
-  pub not_read : (e : unread.Unread) → is_file name (inner_of reader) → call_count reader ≡ 0 → IsOfReading e
+  pub not_read : (e : unread.Unread) → is_file name (inner_of reader) → call_count reader ≡ 0 → IsOfOpenFile e
       → IsErrOf {T = Vec ℕ Global} (Err e) why.ReadFailed ↔ IsTrue (has_failed after)
       → IfSome (remaining (inner_of reader)) (λ xs. IfSome (remaining (inner_of after)) (λ ys.
       IsErrOf {T = Vec ℕ Global} (Err e) why.TooLong ↔ (longest_file + length ys < length xs)))
-      → IsFoundByName remaining is_file is_missing name (Unread e)
+      → IsFoundByName remaining is_file is_missing name (Err e)
   not_read why.Unopened input calls reading device long = absurd reading
   not_read why.NameNotText input calls reading device long = absurd reading
   not_read why.ReadFailed input calls reading device long =
@@ -139,10 +134,10 @@ ends_err {W} {T} {U} {MayEnd} {old} {between} {new} {e} same h = record {
 }
 
 -- ---- rows
-abbrev one_row : Text → Finding → Row
+abbrev one_row : Text → RowFinding → Row
 one_row name finding = record { name = name; finding = finding }
 
-one_text : (form : TableForm) (name : Text) (finding : Finding)
+one_text : (form : TableForm) (name : Text) (finding : RowFinding)
     → rows_in form (one_row name finding ∷ []) ≡ row_in form name finding
 one_text form name finding = append-nil (row_in form name finding)
 
@@ -152,7 +147,7 @@ row_names rows = map (λ row. row.name) rows
 abbrev outcomes : List Row → List Outcome
 outcomes rows = map (λ row. outcome_of row.finding) rows
 
-module _ {W : Type 0} (contents : W → Option (List ℕ)) (found : Text → Finding → Type 0) (form : TableForm)
+module _ {W : Type 0} (contents : W → Option (List ℕ)) (found : Text → RowFinding → Type 0) (form : TableForm)
     (names : List (Bor Text)) where
   -- the rows of the first i names were written, and counted
   pub record TellsFirst (i : ℕ) (output output_after : Tried W) (counts : Counts) : Type 0 where
@@ -202,7 +197,7 @@ module _ {W : Type 0} (contents : W → Option (List ℕ)) (found : Text → Fin
     next_names : texts_of (take (i + 1) names) ≡ texts_of (take i names) ++ (get_or names i d).now ∷ []
     next_names = ap texts_of (take_more names i d lt) ∙ map-append _ (take i names) (get_or names i d ∷ [])
 
-    module _ (finding : Finding) (is_found : found (get_or names i d).now finding) where
+    module _ (finding : RowFinding) (is_found : found (get_or names i d).now finding) where
       abbrev next : List Row
       next = h.rows ++ one_row (get_or names i d).now finding ∷ []
 
@@ -231,7 +226,8 @@ module _ {W : Type 0} (contents : W → Option (List ℕ)) (found : Text → Fin
       written = subst
           (λ (v : List ℕ). Appends (contents (inner_of output)) (contents (inner_of (device_of after))) v)
           (sym (next_text w.finding w.is_found))
-          (Appends-trans _ _ _ (rows_in form h.rows) (row_in form (get_or names i d).now w.finding) h.written w.row.written);
+          (Appends-trans _ _ _ (rows_in form h.rows) (row_in form (get_or names i d).now w.finding) h.written
+          w.row.written);
       named = next_named w.finding w.is_found;
       counted = adds (outcomes h.rows) h.counted
           ∙ ap (λ (o : Outcome). counts_of (outcomes h.rows ++ o ∷ [])) w.outcome
@@ -248,7 +244,8 @@ module _ {W : Type 0} (contents : W → Option (List ℕ)) (found : Text → Fin
       written = subst
           (λ (v : List ℕ). AppendsPrefix (contents (inner_of output)) (contents (inner_of (device_of after))) v)
           (sym (next_text w.finding w.is_found))
-          (prefix_behind _ _ _ (rows_in form h.rows) (row_in form (get_or names i d).now w.finding) h.written w.row.written);
+          (prefix_behind _ _ _ (rows_in form h.rows) (row_in form (get_or names i d).now w.finding) h.written
+          w.row.written);
       later = texts_of (drop (i + 1) names);
       named = sym (ap texts_of (take-append-drop (i + 1) names))
           ∙ map-append _ (take (i + 1) names) (drop (i + 1) names)
@@ -269,7 +266,7 @@ module _ {W : Type 0} (contents : W → Option (List ℕ)) (found : Text → Fin
   }
 
 -- ---- the text before the rows
-module _ {W : Type 0} (contents : W → Option (List ℕ)) (found : Text → Finding → Type 0) (form : TableForm)
+module _ {W : Type 0} (contents : W → Option (List ℕ)) (found : Text → RowFinding → Type 0) (form : TableForm)
     (text : List ℕ) (names : List Text) (output between after : Tried W) where
   pub rows_behind : (result : Result Counts RunError)
       → Appends (contents (inner_of output)) (contents (inner_of between)) text

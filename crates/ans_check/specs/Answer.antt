@@ -12,7 +12,7 @@ use Rattle.ans_options.specs.declared.command.Options.{Options}
 use Rattle.ans_options.specs.declared.command_line.WordsError.{WordsError}
 use Rattle.ans_report.specs.Message.{message_line}
 use Rattle.ans_table.specs.declared.counts.Counts.{Counts}
-use Rattle.ans_table.specs.declared.finding.Finding.{Finding}
+use Rattle.ans_table.specs.Findings.{RowFinding}
 use Rattle.ans_table.specs.Counting.{counts_text}
 use Rattle.ans_write.specs.Tried.{call_count, has_failed, inner_of}
 use Rattle.ans_write.specs.Writes.{AppendsUnless, Wrote, WrotePrefix}
@@ -71,7 +71,7 @@ ending_of_table false (Ok counts) = UnreadNames
 ending_of_table whole (Err fault) = Run (Err fault)
 
 -- the table of these names was written, and is the ending; or there was no memory to list them, and nothing was
-abbrev pub EndsWritten : {W : Type 0} → (W → Option (List ℕ)) → (Text → Finding → Type 0) → TableForm → Bool
+abbrev pub EndsWritten : {W : Type 0} → (W → Option (List ℕ)) → (Text → RowFinding → Type 0) → TableForm → Bool
     → List Text → Tried W → Tried W → Ending → Type 0
 EndsWritten contents found form whole names output output_after ending =
     ((result : Result Counts RunError) × WritesTable contents found form (header form) names output output_after result
@@ -79,7 +79,7 @@ EndsWritten contents found form whole names output output_after ending =
     ⊎ ((ending ≡ Run (Err error.Memory)) × (output_after ≡ output))
 
 -- The table of the named files; `-` is none of them.
-abbrev pub EndsNamed : {W : Type 0} → (W → Option (List ℕ)) → (Text → Finding → Type 0) → TableForm → List Text
+abbrev pub EndsNamed : {W : Type 0} → (W → Option (List ℕ)) → (Text → RowFinding → Type 0) → TableForm → List Text
     → Tried W → Tried W → Ending → Type 0
 EndsNamed contents found form names output output_after ending =
     MatchBool (list_any names_standard names) ((ending ≡ NamedInput) × (output_after ≡ output))
@@ -87,7 +87,7 @@ EndsNamed contents found form names output output_after ending =
 
 -- standard input gave names, and the program ends as the table of them
 pub record EndsAfterListing {R W : Type 0} (remaining : R → Option (List ℕ)) (contents : W → Option (List ℕ))
-    (is_standard : R → Type 0) (found : Text → Finding → Type 0) (form : TableForm) (output output_after : Tried W)
+    (is_standard : R → Type 0) (found : Text → RowFinding → Type 0) (form : TableForm) (output output_after : Tried W)
     (ending : Ending) : Type 0 where
   pub reader : Tried R
   pub reader_after : Tried R
@@ -100,7 +100,7 @@ pub record EndsAfterListing {R W : Type 0} (remaining : R → Option (List ℕ))
 -- The table by the names that the words give: where they give none, by those on standard input, unless there was no
 -- memory for these.
 abbrev pub EndsBy : {R W : Type 0} → (R → Option (List ℕ)) → (W → Option (List ℕ)) → (R → Type 0)
-    → (Text → Finding → Type 0) → TableForm → List Text → Tried W → Tried W → Ending → Type 0
+    → (Text → RowFinding → Type 0) → TableForm → List Text → Tried W → Tried W → Ending → Type 0
 EndsBy remaining contents is_standard found form [] output output_after ending =
     EndsAfterListing remaining contents is_standard found form output output_after ending
     ⊎ ((ending ≡ Run (Err error.Memory)) × (output_after ≡ output))

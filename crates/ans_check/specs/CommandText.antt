@@ -22,9 +22,9 @@ use Rattle.ans_options.specs.declared.command.Form.TheVariants.{Terminal, Vga, P
 use Rattle.ans_options.specs.declared.command.Options.{Options}
 use Rattle.ans_show.specs.PageText.{page_text}
 use Rattle.ans_show.specs.TerminalText.{terminal_text}
-use Rattle.ans_explain.specs.Explained.{IsTrueOf, is_of_pass}
-use Rattle.ans_explain.specs.WhyText.{why_text}
-use Rattle.ans_explain.specs.declared.why.Why as why
+use Rattle.ans_sauce.specs.Judged.{is_pass}
+use Rattle.ans_why.specs.Explained as why
+use Rattle.ans_why.specs.WhyText.{why_text}
 use Rattle.ans_check.specs.declared.verdict.Verdict.{Verdict}
 use Rattle.ans_check.specs.declared.verdict.Verdict.TheVariants.{Pass, Refused}
 use Rattle.ans_check.specs.FileNeeds.{NeedsClass}
@@ -125,8 +125,8 @@ ReportsNeeds file false text = ReportsRefusal file all_known None text
 -- What is said is true of the file, and the text says it. The file passes where it passes from the cleared start.
 pub record ReportsWhy (file : List ℕ) (passed : Bool) (text : List ℕ) : Type 0 where
   pub said : why.Why
-  pub is_true : IsTrueOf file said
-  pub passed_is : passed ≡ is_of_pass said
+  pub is_true : why.IsTrueOf file said
+  pub passed_is : passed ≡ is_pass said
   pub text_is : text ≡ why_text said
 
 -- Whether the file passes and the text are what the command is to write of it. Of one file, which has no name here, a

@@ -6,8 +6,7 @@ use Rattle.clap.specs.Words.{Text}
 use Rattle.ans_options.specs.declared.command.TableForm.{TableForm}
 use Rattle.ans_options.specs.declared.command.TableForm.TheVariants.{Json}
 use Rattle.ans_table.specs.declared.counts.Outcome.{Outcome}
-use Rattle.ans_table.specs.declared.finding.Finding.{Finding}
-use Rattle.ans_table.specs.Findings.{outcome_of}
+use Rattle.ans_table.specs.Findings.{RowFinding, outcome_of}
 use Rattle.ans_write.specs.Puts.{Puts, device_failed, device_of, waiting_of}
 use Rattle.ans_write.specs.Tried.{inner_of}
 use Rattle.ans_write.specs.Writes.{WritesText}
@@ -42,9 +41,9 @@ pub record WritesOut {W T : Type 0} (contents : W → Option (List ℕ)) (MayEnd
   pub written : WritesText (contents (inner_of (device_of old))) (contents (inner_of (device_of new))) result text
 
 -- the row of one file was written, which tells what is found of it
-pub record WritesRow {W : Type 0} (contents : W → Option (List ℕ)) (found : Text → Finding → Type 0) (form : TableForm)
-    (name : Text) (old new : Outbox W) (result : Result Outcome RunError) : Type 0 where
-  pub finding : Finding
+pub record WritesRow {W : Type 0} (contents : W → Option (List ℕ)) (found : Text → RowFinding → Type 0)
+    (form : TableForm) (name : Text) (old new : Outbox W) (result : Result Outcome RunError) : Type 0 where
+  pub finding : RowFinding
   pub is_found : found name finding
   pub row : WritesOut contents (MayEndTable form) (row_in form name finding) old new result
   pub outcome : IfOk result (λ o. o ≡ outcome_of finding)

@@ -24,10 +24,10 @@ run_error_of why.Memory = error.Memory
 run_error_of why.NameNotText = error.Read
 
 -- a file that is open was not read to its end
-abbrev pub IsOfReading : Unread → Type 0
-IsOfReading why.Unopened = ⊥
-IsOfReading why.NameNotText = ⊥
-IsOfReading _ = ⊤
+abbrev pub IsOfOpenFile : Unread → Type 0
+IsOfOpenFile why.Unopened = ⊥
+IsOfOpenFile why.NameNotText = ⊥
+IsOfOpenFile _ = ⊤
 
 -- the exit status of what a run returned
 abbrev pub status_of : Result Bool RunError → ℕ

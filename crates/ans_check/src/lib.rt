@@ -2,18 +2,17 @@
 //!
 //! [`check`] finds the verdict on a file and [`needs`] which parts of the start it needs. [`play_on`]
 //! plays on a screen that is there already; [`needs_on`] and [`why_on`] take theirs from [`Screens`],
-//! [`NewScreens`] or [`LentScreens`]. [`run`]
-//! reads a file and writes what a command tells of it, and [`serve`] also has the writer hand on what
-//! it holds back. [`answer`] goes from the program's words, over the [`Inputs`] that they can name,
-//! to the [`Ending`]: its exit status and what it says. [`table`] reads many files and writes a row for
-//! each. [`program`] is that on the system's own words,
-//! files and streams.
+//! [`NewScreens`] or [`LentScreens`]. [`run`] reads a file and writes what a command tells of it, and
+//! [`serve`] also has the writer hand on what it holds back. [`table`] reads many files and writes a row
+//! for each. [`answer`] goes from the program's words, over the [`Inputs`] that they can name, to the
+//! [`Ending`]: its exit status and what it says. [`program`] is that on the system's own words, files and
+//! streams.
 //!
 //! What a verdict says of a file stands in `specs/FileVerdict.antt`, what its needs say in
 //! `specs/FileNeeds.antt`, what each command writes in `specs/CommandText.antt`, what a run has done
 //! when it returns in `specs/Served.antt`, what a table has in `specs/Table.antt`, how words are
 //! answered in `specs/Answer.antt`, and the endings in `specs/Ending.antt`. The command line is read
-//! by `ans_options`, whose public names are passed on.
+//! by `ans_options`. Whatever a contract here names is passed on.
 #![tactic(auto)]
 
 mod answering;
@@ -35,9 +34,12 @@ mod verdict;
 mod why;
 
 pub use ans_model::start::Start;
-pub use ans_options::{Command, Form, Options, TableForm, WordsError, options};
+pub use ans_options::{Asked, Command, Form, Options, TableForm, WordsError, asked, options};
 pub use ans_report::Needs;
-pub use ans_table::{Counts, Finding, Outcome, Unread};
+pub use ans_sauce::Judged;
+pub use ans_table::{
+    Counts, FaultFinding, Finding, Outcome, PassFinding, RecordFinding, RowFinding, Unread,
+};
 pub use answering::answer;
 pub use errors::RunError;
 pub use exit_status::{Ending, status};

@@ -7,9 +7,10 @@ ghost use Rattle.ans_check.specs.FileNeeds.{IsNeedsOf, needs_fault};
 ghost use Rattle.ans_check.specs.FileVerdict.{IsGoodFile};
 ghost use Rattle.ans_check.specs.ScreenRoom.{AnswersWithin};
 
-use crate::played::{Played, play_file};
+use crate::played::play_file;
 use crate::screens::{NewScreens, Screens};
 use ans_report::Needs;
+use ans_sauce::Judged;
 use ans_screen::Grid;
 use std::alloc::{AllocError, Global};
 
@@ -40,8 +41,8 @@ pub fn needs_on<'a, S: Screens>(screens: &mut S, file: &'a [u8]) -> Result<Needs
     ensures room { AnswersWithin S.has_room S.may_lack file.now screens.old result }
 {
     match play_file(screens, file)? {
-        Played::NoContent(fault) => Ok(Needs::Refused(None, fault)),
-        Played::Refused(parts, fault) => Ok(Needs::Refused(Some(parts), fault)),
-        Played::Passes(parts, least) => Ok(Needs::Least(parts, least.class)),
+        Judged::NoContent(fault) => Ok(Judged::NoContent(fault)),
+        Judged::Refused(parts, fault) => Ok(Judged::Refused(parts, fault)),
+        Judged::Passes(parts, least) => Ok(Judged::Passes(parts, least.class)),
     }
 }

@@ -6,7 +6,6 @@ ghost use Rattle.ans_write.specs.Tried.{has_failed};
 ghost use Rattle.ans_write.specs.Puts.{Puts};
 ghost use Rattle.ans_check.specs.CommandText.{Reports, ReportsCheck, ReportsNeeds, ReportsSauce, ReportsShow};
 ghost use Rattle.ans_check.specs.CommandText.{ReportsTokens, ReportsWhy, IsReportOf, shown_text};
-ghost use Rattle.ans_check.specs.FileNeeds.{needs_fault};
 ghost use Rattle.ans_check.specs.FileVerdict.{fault_of};
 ghost use Rattle.ans_check.specs.Reported.{IsPut, PutsReport};
 ghost use Rattle.ans_check.specs.Served.{Serves};
@@ -17,16 +16,16 @@ use crate::reading::read_all;
 use crate::screens::KeptScreens;
 use crate::verdict::{Verdict, check};
 use crate::why::why_on;
-use ans_explain::put_why;
 use ans_model::start::Start;
 use ans_options::{Command, Form, Options};
 use ans_play::Picture;
 use ans_report::{
-    Needs, Report, Tried, WriteFault, put_needs, put_record, put_refusal, put_report, put_tokens,
+    Report, Tried, WriteFault, put_needs, put_record, put_refusal, put_report, put_tokens,
 };
 use ans_sauce::{Parts, split};
 use ans_screen::{PlaneGrid, Screen};
 use ans_show::{put_page, put_terminal};
+use ans_why::put_why;
 use ans_write::Outbox;
 use std::alloc::{AllocError, Global};
 use std::io::{Read, Write};
@@ -142,13 +141,6 @@ fn tell_tokens<W: Write>(out: &mut Outbox<'_, W>, file: &[u8]) -> bool
     }
 }
 
-/// Whether a least class was found.
-fn is_least(found: &Needs<'_>) -> bool
-    ensures { result ≡ not (is_some (needs_fault found.now)) }
-{
-    matches!(found, Needs::Least(_, _))
-}
-
 /// Puts what a file needs, or why it is refused. Returns whether it is known what it needs.
 fn tell_needs<W: Write>(
     alloc: Global,
@@ -160,7 +152,7 @@ fn tell_needs<W: Write>(
 {
     let found = needs_on(&mut KeptScreens::new(alloc), file)?;
     put_needs(out, &found);
-    Ok(is_least(&found))
+    Ok(found.is_pass())
 }
 
 /// Puts why a file is refused, or what it relies on. Returns whether it passes from the cleared start.
@@ -174,7 +166,7 @@ fn tell_why<W: Write>(
 {
     let why = why_on(&mut KeptScreens::new(alloc), file)?;
     put_why(out, &why);
-    Ok(why.is_of_pass())
+    Ok(why.is_pass())
 }
 
 /// Puts what the chosen command says of a file. Returns whether the file passes.

@@ -9,19 +9,12 @@ use crate::least_class::{Least, least_class};
 use crate::screens::Screens;
 use ans_model::fault::Fault;
 use ans_model::start::Start;
-use ans_sauce::{Parts, split};
+use ans_sauce::{Judged, split};
 use std::alloc::AllocError;
 
-/// What the plays of a file come to.
-#[derive(Drop)]
-pub(crate) enum Played<'a> {
-    /// The record or the layout is refused, and nothing is played.
-    NoContent(Fault),
-    /// The content is refused from the cleared start.
-    Refused(Parts<'a>, Fault),
-    /// The content passes from the cleared start.
-    Passes(Parts<'a>, Least),
-}
+/// What the plays of a file come to: where its record or its layout is refused, nothing is played; its
+/// content is refused from the cleared start, or passes from there.
+pub(crate) type Played<'a> = Judged<'a, Fault, Fault, Least>;
 
 /// Plays a file's content from the cleared start and, where it passes, from the classes that show what
 /// it needs. `Err` says that there is no room for the screen that the file's record states.
@@ -36,11 +29,11 @@ pub(crate) fn play_file<'a, S: Screens>(
 {
     let parts = match split(file) {
         Ok(parts) => parts,
-        Err(fault) => return Ok(Played::NoContent(fault)),
+        Err(fault) => return Ok(Judged::NoContent(fault)),
     };
     if let Some(fault) = screens.fault_from(&parts, Start::CLEARED)? {
-        return Ok(Played::Refused(parts, fault));
+        return Ok(Judged::Refused(parts, fault));
     }
     let least = least_class(screens, &parts)?;
-    Ok(Played::Passes(parts, least))
+    Ok(Judged::Passes(parts, least))
 }

@@ -2,7 +2,7 @@
 ghost use Rattle.std.specs.Prelude.{◌≡◌, ◌+◌, ◌<◌, ◌≤◌, ◌↔◌, false, length, IsTrue, IfOk, IfErr, IfSome, IsErrOf};
 ghost use Rattle.ans_write.specs.Tried.{has_failed, call_count, inner_of};
 ghost use Rattle.ans_model.specs.Bytes.{longest_file};
-ghost use Rattle.ans_check.specs.Run.{HasRead, IsOfReading};
+ghost use Rattle.ans_check.specs.Run.{HasRead, IsOfOpenFile};
 
 use ans_report::{DeviceFault, Tried};
 use ans_sauce::MAX_FILE;
@@ -22,7 +22,7 @@ pub(crate) fn read_all<R: Read>(alloc: Global, r: &mut Tried<R>) -> Result<Vec<u
     ensures too_long { IfSome (R.remaining (inner_of r.old)) (λ xs.
         IfSome (R.remaining (inner_of r.new)) (λ ys.
         IsErrOf result Unread.TooLong ↔ (longest_file + length ys < length xs))) }
-    ensures reading { IfErr result IsOfReading }
+    ensures reading { IfErr result IsOfOpenFile }
     ensures calls { call_count r.new ≤ call_count r.old + (longest_file + 2) }
 {
     let mut chunk = [0u8; CHUNK];

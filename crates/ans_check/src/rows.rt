@@ -17,7 +17,11 @@ use crate::reading::read_all;
 use crate::screens::KeptScreens;
 use ans_options::TableForm;
 use ans_report::{Needs, Tried, WriteFault};
-use ans_table::{Counts, Finding, Outcome, Unread, json_row, put_header, put_line, put_row};
+use ans_sauce::Judged;
+use ans_table::{
+    Counts, FaultFinding, Finding, Outcome, PassFinding, RecordFinding, RowFinding, Unread,
+    json_row, put_header, put_line, put_row,
+};
 use ans_write::Outbox;
 use std::alloc::{AllocError, Global};
 use std::io::Write;
@@ -29,22 +33,26 @@ fn finding_by<'a>(file: &'a [u8], found: Needs<'a>) -> Finding<'a>
     ensures { IsFindingOf file.now result }
 {
     match found {
-        Needs::Refused(parts, fault) => match parts {
-            Some(parts) => Finding::of_refusal(parts, fault),
-            None => Finding::of_record(file, fault),
-        },
-        Needs::Least(parts, class) => Finding::of_pass(parts, class),
+        Judged::NoContent(fault) => Judged::NoContent(RecordFinding::of(file, fault)),
+        Judged::Refused(parts, fault) => {
+            let said = FaultFinding::of(&parts, fault);
+            Judged::Refused(parts, said)
+        }
+        Judged::Passes(parts, class) => {
+            let said = PassFinding::of(&parts, class);
+            Judged::Passes(parts, said)
+        }
     }
 }
 
 /// What a row tells of a file that was read.
-fn finding_in<'a>(screens: &mut KeptScreens, file: &'a [u8]) -> Finding<'a>
+fn finding_in<'a>(screens: &mut KeptScreens, file: &'a [u8]) -> RowFinding<'a>
     requires { length file.now ≤ longest_file }
     ensures { MayBeFoundIn file.now result }
 {
     match needs_on(screens, file) {
-        Ok(found) => finding_by(file, found),
-        Err(AllocError) => Finding::Unread(Unread::Memory),
+        Ok(found) => Ok(finding_by(file, found)),
+        Err(AllocError) => Err(Unread::Memory),
     }
 }
 
@@ -54,7 +62,7 @@ fn put_row_in<W: Write>(
     form: TableForm,
     out: &mut Outbox<'_, W>,
     name: &[u8],
-    finding: &Finding<'_>,
+    finding: &RowFinding<'_>,
 ) -> Result<(), AllocError>
     ensures { PutsRow W.contents form (row_in form name.now finding.now) out.old out.new result }
 {
@@ -74,7 +82,7 @@ fn tell<W: Write>(
     form: TableForm,
     out: &mut Outbox<'_, W>,
     name: &[u8],
-    finding: &Finding<'_>,
+    finding: &RowFinding<'_>,
 ) -> Result<Outcome, RunError>
     requires { IsReady out.old }
     ensures row { WritesOut W.contents (MayEndTable form) (row_in form name.now finding.now) out.old out.new result }
@@ -84,12 +92,12 @@ fn tell<W: Write>(
         return Err(RunError::Memory);
     };
     match out.hand_on() {
-        Ok(()) => Ok(finding.outcome()),
+        Ok(()) => Ok(Outcome::of(finding)),
         Err(WriteFault) => Err(RunError::Write),
     }
 }
 
-/// What a row tells of the file of this name, which is opened and read.
+/// Opens and reads the file of this name, and writes its row.
 fn tell_file<I: Inputs, W: Write>(
     alloc: Global,
     screens: &mut KeptScreens,
@@ -103,11 +111,10 @@ fn tell_file<I: Inputs, W: Write>(
         form name.now out.old out.new result }
 {
     let Ok(text) = str::from_utf8(name) else {
-        let finding = Finding::Unread(Unread::NameNotText);
-        return tell(alloc, form, out, name, &finding);
+        return tell(alloc, form, out, name, &Err(Unread::NameNotText));
     };
     let Ok(input) = inputs.file(text) else {
-        return tell(alloc, form, out, name, &Finding::Unread(Unread::Unopened));
+        return tell(alloc, form, out, name, &Err(Unread::Unopened));
     };
     let mut reader = Tried::new(input);
     match read_all(alloc, &mut reader) {
@@ -115,7 +122,7 @@ fn tell_file<I: Inputs, W: Write>(
             let finding = finding_in(screens, file.as_slice());
             tell(alloc, form, out, name, &finding)
         }
-        Err(why) => tell(alloc, form, out, name, &Finding::Unread(why)),
+        Err(why) => tell(alloc, form, out, name, &Err(why)),
     }
 }
 

@@ -2,12 +2,13 @@
 ghost use Rattle.std.specs.Prelude.{◌≤◌, length, IsOk, IsSome, IfOk};
 ghost use Rattle.ans_model.specs.Bytes.{longest_file};
 ghost use Rattle.ans_model.specs.File.Refusals.{record_fault};
-ghost use Rattle.ans_explain.specs.Explained.{IsTrueOf};
+ghost use Rattle.ans_why.specs.Explained.{IsTrueOf};
 ghost use Rattle.ans_check.specs.ScreenRoom.{AnswersWithin};
 
-use crate::played::{Played, play_file};
+use crate::played::play_file;
 use crate::screens::Screens;
-use ans_explain::Why;
+use ans_sauce::Judged;
+use ans_why::{Pass, RecordRefusal, Refusal, Why};
 use std::alloc::AllocError;
 
 /// Finds what there is to say of a file of at most 16,777,216 bytes: why it is refused, or what it
@@ -21,10 +22,14 @@ pub fn why_on<'a, S: Screens>(screens: &mut S, file: &'a [u8]) -> Result<Why<'a>
     ensures room { AnswersWithin S.has_room S.may_lack file.now screens.old result }
 {
     match play_file(screens, file)? {
-        Played::NoContent(fault) => Ok(Why::of_record(file, fault)),
-        Played::Refused(parts, fault) => Ok(Why::of_refusal(parts, fault)),
-        Played::Passes(parts, least) => {
-            Ok(Why::of_pass(parts, file.len(), least.class, least.fault))
+        Judged::NoContent(fault) => Ok(Judged::NoContent(RecordRefusal::of(file, fault))),
+        Judged::Refused(parts, fault) => {
+            let refusal = Refusal::of(&parts, fault);
+            Ok(Judged::Refused(parts, refusal))
+        }
+        Judged::Passes(parts, least) => {
+            let pass = Pass::of(&parts, file.len(), least.class, least.fault);
+            Ok(Judged::Passes(parts, pass))
         }
     }
 }

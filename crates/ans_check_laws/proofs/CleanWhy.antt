@@ -1,5 +1,5 @@
 -- What `why` says of a file is clean.
-use Rattle.std.proofs.Common.{◌≡◌, inl, inr, ℕ, ◌<◌, Bool, true, false, refl, sym, subst, List, [], ◌∷◌, ◌++◌, length}
+use Rattle.std.proofs.Common.{◌≡◌, inl, inr, ℕ, Bool, true, false, refl, sym, subst, List, [], ◌∷◌, ◌++◌, length}
 use Rattle.std.proofs.Common.{take, codes, Option, Some, None, All}
 use Rattle.std.specs.Prelude.{◌==◌, nat_lt, if◌then◌else◌, decimal, flat_map, IfSome}
 use Rattle.std.proofs.lemmas.Option.{slice_get_within, get_or_from_slice_get}
@@ -14,9 +14,9 @@ use Rattle.ans_model.specs.declared.start.Start.{Start}
 use Rattle.ans_model.specs.File.Record.{font_field}
 use Rattle.ans_model.specs.Screen.State.{Size, State, IsSize, IsByteCell, IsWellFormed, cell_at, index}
 use Rattle.ans_model.specs.Screen.StartClass.{IsStart, none_known, all_known, low_start, high_start}
-use Rattle.ans_model.specs.Screen.Step.{step, final}
+use Rattle.ans_model.specs.Screen.Step.{final}
 use Rattle.ans_model.specs.Sequence.Reads.{Reads}
-use Rattle.ans_model.specs.Sequence.TokenKind.{TokenKind, PrintsByte}
+use Rattle.ans_model.specs.Sequence.TokenKind.{TokenKind}
 use Rattle.ans_model.specs.Text.Characters.{shown_bytes}
 use Rattle.ans_model.specs.Text.FaultText.{line_of, fault_line}
 use Rattle.ans_model.specs.Text.Hexadecimal.{hex_byte}
@@ -25,7 +25,7 @@ use Rattle.ans_model.specs.Text.RecordText.{named_line}
 use Rattle.ans_model.specs.Text.ReportText.{refusal_text, size_text}
 use Rattle.ans_model.proofs.Reading.{reads_bytes}
 use Rattle.ans_model.proofs.StartLemmas.{low_is_start, high_is_start}
-use Rattle.ans_model.proofs.WellFormed.{well_formed_after_step}
+use Rattle.ans_walks.proofs.MoreLines.{well_formed_after}
 use Rattle.ans_sauce.specs.declared.found.Found.{Found}
 use Rattle.ans_sauce.specs.declared.found.Found.TheVariants as found
 use Rattle.ans_sauce.specs.declared.parts.Parts.{Parts}
@@ -33,25 +33,24 @@ use Rattle.ans_sauce.specs.Found.{IsFound, record_in}
 use Rattle.ans_sauce.specs.Parts.{content_of, record_of, size_of}
 use Rattle.ans_sauce.specs.Split.{IsSplit}
 use Rattle.ans_model.specs.Verdict.LastFault.{IsDeserved}
-use Rattle.ans_why.specs.Evidence.{ShowsNamed}
-use Rattle.ans_hints.specs.Fonts.{font_name, has_other_code_page}
-use Rattle.ans_hints.specs.HintsText.{hint_line, times_text, times_line, font_line, empty_rows_line, hints_text}
-use Rattle.ans_hints.specs.declared.hints.Hints.{Hints}
-use Rattle.ans_hints.specs.declared.times.Times.{Times}
-use Rattle.ans_explain.specs.Blamed.{AreToBlame}
-use Rattle.ans_explain.specs.Explained.{IsShown, IsReliance, IsPass, IsRefusal, IsTrueOf}
-use Rattle.ans_explain.specs.WhyText.{quoted_byte, quoted, bytes_line, place_text, cell_text, shown_lines, mend_line}
-use Rattle.ans_explain.specs.WhyText.{reliance_lines, lines_line, after_end_mark_text, counted_text}
+use Rattle.ans_walks.specs.Evidence.{ShowsNamed}
+use Rattle.ans_why.specs.Fonts.{font_name, has_other_code_page}
+use Rattle.ans_why.specs.HintsText.{hint_line, times_text, times_line, font_line, empty_rows_line, hints_text}
+use Rattle.ans_walks.specs.declared.hints.Hints.{Hints}
+use Rattle.ans_walks.specs.declared.times.Times.{Times}
+use Rattle.ans_why.specs.Blamed.{AreToBlame}
+use Rattle.ans_why.specs.Explained.{IsShown, IsReliance, IsPass, IsRefusal, IsTrueOf, Why}
+use Rattle.ans_why.specs.WhyText.{quoted_byte, quoted, bytes_line, place_text, cell_text, shown_lines, mend_line}
+use Rattle.ans_why.specs.WhyText.{reliance_lines, lines_line, after_end_mark_text, counted_text}
 use Rattle.ans_model.specs.Text.Words.{answer_text}
-use Rattle.ans_explain.specs.WhyText.{found_line, size_line, font_of, pass_lines, refusal_lines, why_text}
-use Rattle.ans_explain.specs.declared.why.Pass.{Pass}
-use Rattle.ans_explain.specs.declared.why.Place.{Place}
-use Rattle.ans_explain.specs.declared.why.Refusal.{Refusal}
-use Rattle.ans_explain.specs.declared.why.Reliance.{Reliance}
-use Rattle.ans_explain.specs.declared.why.Shown.{Shown}
-use Rattle.ans_explain.specs.declared.why.Shown.TheVariants.{Cursors, Cells}
-use Rattle.ans_explain.specs.declared.why.Why.{Why}
-use Rattle.ans_explain.specs.declared.why.Why.TheVariants.{NoContent, Refused, Passes}
+use Rattle.ans_why.specs.WhyText.{found_line, size_line, font_of, pass_lines, refusal_lines, why_text}
+use Rattle.ans_why.specs.declared.why.Pass.{Pass}
+use Rattle.ans_why.specs.declared.why.Place.{Place}
+use Rattle.ans_why.specs.declared.why.Refusal.{Refusal}
+use Rattle.ans_why.specs.declared.why.Reliance.{Reliance}
+use Rattle.ans_why.specs.declared.why.Shown.{Shown}
+use Rattle.ans_why.specs.declared.why.Shown.TheVariants.{Cursors, Cells}
+use Rattle.ans_sauce.specs.declared.judged.Judged.TheVariants.{NoContent, Refused, Passes}
 use Rattle.ans_check_laws.specs.CleanTexts.{IsCleanText}
 use Rattle.ans_check_laws.proofs.CleanLines.{all_left, all_right, fault_line_clean, refusal_clean, size_clean}
 use Rattle.ans_check_laws.proofs.CleanLines.{needed_parts_clean, parts_are_bytes, field_is_bytes, trimmed_is_bytes}
@@ -133,14 +132,6 @@ cell_clean c h =
     (clean_append (codes ", attribute ") (hex_byte c.attribute) (plain_text (codes ", attribute ") refl)
     (clean_hex_byte c.attribute h.1)))
 
--- after tokens a state of the machine is still one
-well_formed_final : (z : Size) (s : State) (tokens : List TokenKind) → 0 < z.width → All PrintsByte tokens
-    → IsWellFormed z s → IsWellFormed z (final z s tokens)
-well_formed_final z s [] w prints well = well
-well_formed_final z s (t ∷ tokens) w prints well =
-    well_formed_final z (step z s t) tokens w (All-tail PrintsByte t tokens prints)
-    (well_formed_after_step z s t (All-head PrintsByte t tokens prints) w well)
-
 -- a screen's cell is one of bytes after a play from a start
 played_cell : (z : Size) (class : Start) (s : State) (content : List ℕ) (tokens : List TokenKind) (p : Position)
     (c : Cell) → IsSize z → IsStart z class s → Reads content tokens
@@ -149,7 +140,7 @@ played_cell z class s content tokens p c size start reads is =
     let screen = (final z s tokens).screen in
     let k = index z p in
     let well : IsWellFormed z (final z s tokens) =
-    well_formed_final z s tokens size.some_columns (reads_bytes content tokens reads) start.well_formed in
+    well_formed_after z s tokens size.some_columns (reads_bytes content tokens reads) start.well_formed in
     subst IsByteCell (get_or_from_slice_get screen k c c is)
     (All-get_or IsByteCell screen k c (slice_get_within screen k c is) well.bytes)
 
@@ -402,9 +393,9 @@ refused_clean file parts r bytes split h =
     (hints_clean shown (font_of parts) (font_is_bytes file parts split bytes)))))
 
 pub why_clean : (file : List ℕ) (why : Why) → All IsByte file → IsTrueOf file why → IsCleanText (why_text why)
-why_clean file (NoContent fault found) bytes h =
-    clean_append (refusal_text fault) (found_line found) (refusal_clean fault)
-    (found_clean file found fault.cause bytes h.1)
+why_clean file (NoContent said) bytes h =
+    clean_append (refusal_text said.fault) (found_line said.found) (refusal_clean said.fault)
+    (found_clean file said.found said.fault.cause bytes h.found)
 why_clean file (Refused parts refusal) bytes (split, h) =
     clean_append (size_line parts) (refusal_lines parts refusal) (size_line_clean parts)
     (refused_clean file parts refusal bytes split h)

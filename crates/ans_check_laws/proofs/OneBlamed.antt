@@ -15,7 +15,7 @@ use Rattle.ans_model.proofs.Reading.{one_begins_the_other, broken_whole, spelled
 use Rattle.ans_model.proofs.Reading.{refused_no_token}
 use Rattle.ans_model.proofs.Refusing.{unfinished_not_refused}
 use Rattle.ans_model.proofs.Spelling.{head_of, one_spelling_in_front}
-use Rattle.ans_explain.specs.Blamed.{AreToBlame}
+use Rattle.ans_why.specs.Blamed.{AreToBlame}
 
 -- ---- lists in two parts
 

@@ -16,11 +16,12 @@ use Rattle.ans_model.specs.Verdict.TokenFault.{HasTabFault, then_blanks}
 use Rattle.ans_model.specs.Verdict.TwoStarts.{low_final, high_final}
 use Rattle.ans_model.proofs.PositionLemmas.{same_position}
 use Rattle.ans_model.proofs.Reading.{one_reading}
-use Rattle.ans_why.specs.Evidence.{begins_with_tab, IsPlayedBefore, StandsBefore, ShowsCursors, ShowsCells, ShowsNamed}
-use Rattle.ans_explain.specs.Explained.{ShowsPlaces, IsShown, place_of}
-use Rattle.ans_explain.specs.declared.why.Place.{Place}
-use Rattle.ans_explain.specs.declared.why.Shown.{Shown}
-use Rattle.ans_explain.specs.declared.why.Shown.TheVariants.{Cursors, Cells}
+use Rattle.ans_walks.specs.Evidence.{begins_with_tab, IsPlayedBefore, StandsBefore}
+use Rattle.ans_walks.specs.Evidence.{ShowsCursors, ShowsCells, ShowsNamed}
+use Rattle.ans_why.specs.Explained.{ShowsPlaces, IsShown, place_of}
+use Rattle.ans_why.specs.declared.why.Place.{Place}
+use Rattle.ans_why.specs.declared.why.Shown.{Shown}
+use Rattle.ans_why.specs.declared.why.Shown.TheVariants.{Cursors, Cells}
 use Rattle.ans_check_laws.proofs.OneBlamed.{front_is, rest_is}
 
 module _ (z : Size) (class : Start) (content : List ℕ) where

@@ -13,7 +13,7 @@ use Rattle.ans_model.specs.Text.RecordText.{named_line}
 use Rattle.ans_sauce.specs.declared.found.Found.{Found}
 use Rattle.ans_sauce.specs.declared.found.Found.TheVariants as found
 use Rattle.ans_sauce.specs.Found.{IsLastRecord, IsFound, record_in, after_end_mark, HoldsRecord}
-use Rattle.ans_explain.specs.WhyText.{found_line}
+use Rattle.ans_why.specs.WhyText.{found_line}
 use Rattle.ans_check_laws.proofs.Covering.{same_truth}
 
 -- ---- the last record

@@ -23,10 +23,10 @@ use Rattle.ans_model.specs.Verdict.LastFault.{EndsInSequence, LeavesUnknown}
 use Rattle.ans_model.specs.Verdict.TokenFault.{HasStaticFault, HasPrintFault, HasFaultAfter, HasFault, then_blanks}
 use Rattle.ans_model.proofs.OneCause.{cleared_is_one}
 use Rattle.ans_model.proofs.Reading.{IsOfMeaning, means_well}
-use Rattle.ans_hints.specs.Hints.{AreHints}
-use Rattle.ans_hints.specs.declared.hints.Hints.{Hints}
-use Rattle.ans_explain.specs.Blamed.{AreToBlame}
-use Rattle.ans_explain.specs.Explained.{AreHintsOf, EndsHints, IsOfReading}
+use Rattle.ans_walks.specs.Hints.{AreHints}
+use Rattle.ans_walks.specs.declared.hints.Hints.{Hints}
+use Rattle.ans_why.specs.Blamed.{AreToBlame}
+use Rattle.ans_why.specs.Explained.{AreHintsOf, EndsHints, IsOfReading}
 use Rattle.ans_check_laws.proofs.OneBlamed.{front_is}
 
 -- ---- what the reading refuses is of the reading

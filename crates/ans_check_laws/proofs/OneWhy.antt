@@ -22,28 +22,28 @@ use Rattle.ans_model.proofs.AcceptedFiles.{no_fault, one_layout}
 use Rattle.ans_model.proofs.ClassLemmas.{covers_all_known, covers_itself}
 use Rattle.ans_model.proofs.OneAnswer.{good_or_first, good_or_last, first_or_last, one_first_fault, one_last_fault}
 use Rattle.ans_sauce.specs.declared.parts.Parts.{Parts}
-use Rattle.ans_sauce.specs.declared.found.Found.{Found}
 use Rattle.ans_sauce.specs.Found.{IsFound}
+use Rattle.ans_sauce.specs.Judged.{is_pass}
+use Rattle.ans_sauce.specs.declared.judged.Judged.TheVariants.{NoContent, Refused, Passes}
 use Rattle.ans_sauce.specs.Parts.{content_of, record_of}
 use Rattle.ans_sauce.specs.Split.{IsSplit}
 use Rattle.ans_model.specs.Verdict.LastFault.{IsDeserved}
-use Rattle.ans_why.specs.Lines.{IsLeastLines}
-use Rattle.ans_why.specs.Taller.{IsTaller}
-use Rattle.ans_hints.specs.HintsText.{hints_text}
-use Rattle.ans_hints.specs.declared.hints.Hints.{Hints}
-use Rattle.ans_explain.specs.Blamed.{AreToBlame}
-use Rattle.ans_explain.specs.Explained.{AreHintsOf, AreLines, EndsHints, IsPass, IsRefusal, IsReliance, IsTrueOf}
-use Rattle.ans_explain.specs.Explained.{IsShown, ShowsPlaces, is_of_pass}
-use Rattle.ans_explain.specs.WhyText.{bytes_line, lines_line, mend_line, place_text}
+use Rattle.ans_walks.specs.Lines.{IsLeastLines}
+use Rattle.ans_walks.specs.Taller.{IsTaller}
+use Rattle.ans_why.specs.HintsText.{hints_text}
+use Rattle.ans_walks.specs.declared.hints.Hints.{Hints}
+use Rattle.ans_why.specs.Blamed.{AreToBlame}
+use Rattle.ans_why.specs.Explained.{AreHintsOf, AreLines, EndsHints, IsPass, IsRefusal, IsReliance, IsTrueOf}
+use Rattle.ans_why.specs.Explained.{IsRecordRefusal, IsShown, ShowsPlaces, Why}
+use Rattle.ans_why.specs.WhyText.{bytes_line, lines_line, mend_line, place_text}
 use Rattle.ans_model.specs.Text.Words.{answer_text}
-use Rattle.ans_explain.specs.WhyText.{reliance_lines, shown_lines, why_text}
-use Rattle.ans_explain.specs.declared.why.Pass.{Pass}
-use Rattle.ans_explain.specs.declared.why.Place.{Place}
-use Rattle.ans_explain.specs.declared.why.Refusal.{Refusal}
-use Rattle.ans_explain.specs.declared.why.Reliance.{Reliance}
-use Rattle.ans_explain.specs.declared.why.Shown.{Shown}
-use Rattle.ans_explain.specs.declared.why.Why.{Why}
-use Rattle.ans_explain.specs.declared.why.Why.TheVariants.{NoContent, Refused, Passes}
+use Rattle.ans_why.specs.WhyText.{reliance_lines, shown_lines, why_text}
+use Rattle.ans_why.specs.declared.why.Pass.{Pass}
+use Rattle.ans_why.specs.declared.why.Place.{Place}
+use Rattle.ans_why.specs.declared.why.Refusal.{Refusal}
+use Rattle.ans_why.specs.declared.why.Reliance.{Reliance}
+use Rattle.ans_why.specs.declared.why.Shown.{Shown}
+use Rattle.ans_why.specs.declared.why.RecordRefusal.{RecordRefusal}
 use Rattle.ans_check_laws.proofs.Covering.{covers_both_ways, same_truth}
 use Rattle.ans_check_laws.proofs.OneBlamed.{one_blamed}
 use Rattle.ans_check_laws.proofs.OneEvidence.{one_places, one_shown}
@@ -248,15 +248,16 @@ module _ (file_length : ℕ) (sauce bytes : List ℕ) (p q : Pass) (h : IsPass f
 
 -- whether a file passes, and the text
 abbrev pub IsOneSaid : Why → Why → Type 0
-IsOneSaid a b = (is_of_pass a ≡ is_of_pass b) × (why_text a ≡ why_text b)
+IsOneSaid a b = (is_pass a ≡ is_pass b) × (why_text a ≡ why_text b)
 
 module _ (file : List ℕ) where
-  both_no_content : (f g : Fault) (x y : Found) → IsTrueOf file (NoContent f x) → IsTrueOf file (NoContent g y)
-      → why_text (NoContent f x) ≡ why_text (NoContent g y)
-  both_no_content f g x y h k =
-      let same : g ≡ f = same_Some g f (sym k.0 ∙ h.0) in
+  both_no_content : (n m : RecordRefusal) → IsRecordRefusal file n → IsRecordRefusal file m
+      → why_text (NoContent n) ≡ why_text (NoContent m)
+  both_no_content n m h k =
+      let same : m.fault ≡ n.fault = same_Some m.fault n.fault (sym k.refused ∙ h.refused) in
       ap₂ (λ (v : Fault) (t : List ℕ). refusal_text v ++ t) (sym same)
-      (one_found file f.cause x y h.1 (subst (λ (v : Fault). IsFound file y v.cause) same k.1))
+      (one_found file n.fault.cause n.found m.found h.found
+      (subst (λ (v : Fault). IsFound file m.found v.cause) same k.found))
 
   same_file : (a b : Parts) → IsSplit file a → IsSplit file b
       → (record_of b ≡ record_of a) × (content_of b ≡ content_of a)
@@ -291,12 +292,12 @@ module _ (file : List ℕ) where
       (least_is_good (stated_size (record_of b)) (content_of b) p.needs g.needs) refused.deserved
 
   pub one_why : (a b : Why) → IsTrueOf file a → IsTrueOf file b → IsOneSaid a b
-  one_why (NoContent f x) (NoContent g y) h k = (refl, both_no_content f g x y h k)
-  one_why (NoContent f x) (Refused b s) h k = absurd (no_parts file f b h.0 k.0)
-  one_why (NoContent f x) (Passes b q) h k = absurd (no_parts file f b h.0 k.0)
-  one_why (Refused a r) (NoContent g y) h k = absurd (no_parts file g a k.0 h.0)
+  one_why (NoContent n) (NoContent m) h k = (refl, both_no_content n m h k)
+  one_why (NoContent n) (Refused b s) h k = absurd (no_parts file n.fault b h.refused k.0)
+  one_why (NoContent n) (Passes b q) h k = absurd (no_parts file n.fault b h.refused k.0)
+  one_why (Refused a r) (NoContent m) h k = absurd (no_parts file m.fault a k.refused h.0)
   one_why (Refused a r) (Refused b s) h k = (refl, both_refused a b r s h k)
   one_why (Refused a r) (Passes b q) h k = absurd (refused_or_passes a b r q h k)
-  one_why (Passes a p) (NoContent g y) h k = absurd (no_parts file g a k.0 h.0)
+  one_why (Passes a p) (NoContent m) h k = absurd (no_parts file m.fault a k.refused h.0)
   one_why (Passes a p) (Refused b s) h k = absurd (refused_or_passes b a s p k h)
   one_why (Passes a p) (Passes b q) h k = (refl, both_pass a b p q h k)

@@ -17,7 +17,8 @@ use Rattle.ans_options.specs.declared.command.Command.{Command}
 use Rattle.ans_options.specs.declared.command.Command.TheVariants.{Why, Check, Show, Sauce, Tokens, Needs, Table}
 use Rattle.ans_options.specs.declared.command.Options.{Options}
 use Rattle.ans_options.specs.declared.command.TableForm.{TableForm}
-use Rattle.ans_options.specs.CommandLine.{AreOptionsOf, AsksAs, AsksFor, IsAskedBy, anscheck, command_name, table_options}
+use Rattle.ans_options.specs.CommandLine.{AreOptionsOf, AsksAs, AsksFor, IsAskedBy, anscheck}
+use Rattle.ans_options.specs.CommandLine.{command_name, table_options}
 use Rattle.ans_options.specs.CommandLine.{words_meant}
 use Rattle.ans_options.specs.CommandLine.{holds_flag, named_start, part_flags, start_asked, takes_flags}
 use Rattle.ans_options.proofs.CommandLineLemmas.{MetIn, not_true, program_met}

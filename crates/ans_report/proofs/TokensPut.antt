@@ -109,7 +109,8 @@ module _ {W : Type 0} (contents : W → Option (List ℕ)) (content : List ℕ) 
   }
 
   -- the walk went on to the end
-  pub tokens_ended : WalksOver contents content first now [] true → PutsTokens contents first.out.now now.out.now content None
+  pub tokens_ended : WalksOver contents content first now [] true
+      → PutsTokens contents first.out.now now.out.now content None
   tokens_ended h = record {
     fault = None;
     text = token_lines 0 h.front.tokens h.front.texts ++ [];
@@ -132,7 +133,8 @@ module _ {W : Type 0} (contents : W → Option (List ℕ)) (content : List ℕ) 
   }
 
   -- once the device has failed, some text of the content's tokens may be said to have been put
-  pub tokens_stopped : (told : Option Fault) → AllByRecursion IsByte content → (left : List ℕ) × WalksOver contents content first now left false
+  pub tokens_stopped : (told : Option Fault) → AllByRecursion IsByte content
+      → (left : List ℕ) × WalksOver contents content first now left false
       → PutsTokens contents first.out.now now.out.now content told
   tokens_stopped told small (left, h) =
       let whole : content ≡ h.read ++ left = sym (take_all (length content) content (omega arith)) ∙ h.whole in

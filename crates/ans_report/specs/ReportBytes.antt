@@ -18,15 +18,15 @@ IsFitting (Pass parts start picture cells) = picture.now.size ≡ size_of parts.
 IsFitting (Refused parts start fault) = Unit {0}
 
 -- the text of a refusal; without parts it is that of the fault alone
-abbrev pub refused_text : Option Parts → Option Start → Fault → List ℕ
+abbrev pub refused_text : Option Parts → Start → Fault → List ℕ
 refused_text None start fault = refusal_text fault
-refused_text (Some parts) start fault = report_text (heading_of parts start) (RefusedFor fault)
+refused_text (Some parts) start fault = report_text (heading_of parts (Some start)) (RefusedFor fault)
 
 -- the report's text
 abbrev pub report_bytes : {G : Type 0} → Report G → List ℕ
 report_bytes (Pass parts start picture cells) =
     report_text (heading_of parts.now (Some start)) (Passed picture.now cells)
-report_bytes (Refused parts start fault) = refused_text (option_copied parts) (Some start) fault
+report_bytes (Refused parts start fault) = refused_text (option_copied parts) start fault
 
 -- the text ends in the line `cells:` and in digits from which the picture's cells are read back
 pub record EndsInCells (picture : Picture) (text : List ℕ) : Type 0 where

@@ -7,7 +7,7 @@
 //! `specs/RecordLines.antt` and `specs/TokenLines.antt`, and that of the line that says why there is no
 //! answer in `specs/Message.antt`.
 //!
-//! The text of `why` (`ans_explain`) is put by some of the same lines.
+//! The text of `why` (`ans_why`) is put by some of the same lines.
 #![tactic(auto)]
 
 mod fault_lines;

@@ -5,24 +5,18 @@ ghost use Rattle.ans_report.specs.Headings.{heading_of};
 ghost use Rattle.ans_report.specs.NeedsBytes.{needs_bytes};
 ghost use Rattle.ans_model.specs.Text.NeedsText.{needed_parts, needs_text};
 
+use crate::fault_lines::put_refusal;
 use crate::heading::put_heading;
 use crate::lines::put_words;
-use crate::report::put_refused;
+use crate::report::put_refused_content;
 use ans_model::start::Start;
-use ans_sauce::{Fault, Parts};
+use ans_sauce::{Fault, Judged, Parts};
 use ans_write::Outbox;
 use std::io::Write;
 
-/// What a file needs.
-#[derive(Drop)]
-pub enum Needs<'a> {
-    /// The least class of starts: the content passes from exactly the classes that know each part
-    /// which this one knows.
-    Least(Parts<'a>, Start),
-    /// The file is refused even from the cleared start: for its content, or, with no parts, for its
-    /// record or its layout.
-    Refused(Option<Parts<'a>>, Fault),
-}
+/// What a file needs: the least class of starts from which its content passes, which passes from exactly
+/// the classes that know each part which this one knows; or why it is refused even from the cleared start.
+pub type Needs<'a> = Judged<'a, Fault, Fault, Start>;
 
 /// Puts the names of the parts that a class knows, with a blank between each two, or `nothing` where it
 /// knows none.
@@ -46,13 +40,14 @@ fn put_least<W: Write>(out: &mut Outbox<'_, W>, parts: &Parts<'_>, class: Start)
 }
 
 /// Puts what a content needs: the size, the content's length and the notes, and then `needs:` and
-/// the parts of the start that have to be known, or `nothing`; or the fault of a refusal. Without
-/// parts only the fault is put.
+/// the parts of the start that have to be known, or `nothing`; or the fault of a refusal. Where the
+/// record or the layout is refused, only the fault is put.
 pub fn put_needs<W: Write>(out: &mut Outbox<'_, W>, needs: &Needs<'_>)
     ensures { Puts W.contents out.old out.new (needs_bytes needs.now) }
 {
     match needs {
-        Needs::Least(parts, class) => put_least(out, parts, *class),
-        Needs::Refused(parts, fault) => put_refused(out, parts.as_ref(), None, fault),
+        Judged::NoContent(fault) => put_refusal(out, fault),
+        Judged::Refused(parts, fault) => put_refused_content(out, parts, None, fault),
+        Judged::Passes(parts, class) => put_least(out, parts, *class),
     }
 }

@@ -5,7 +5,8 @@ ghost use Rattle.ans_write.specs.Tried.{has_failed, inner_of};
 ghost use Rattle.ans_write.specs.Writes.{WritesText};
 ghost use Rattle.ans_write.specs.Puts.{Puts};
 ghost use Rattle.ans_report.specs.ReportBytes.{IsFitting, TellsCells, refused_text, report_bytes};
-ghost use Rattle.ans_model.specs.Text.ReportText.{refusal_text};
+ghost use Rattle.ans_report.specs.Headings.{heading_of};
+ghost use Rattle.ans_model.specs.Text.ReportText.{RefusedFor, refusal_text, report_text};
 
 use crate::fault_lines::put_refusal;
 use crate::heading::put_heading;
@@ -36,20 +37,30 @@ pub enum Report<'a, G: Screen> {
     },
 }
 
-pub(crate) fn put_refused<W: Write>(
+pub(crate) fn put_refused_content<W: Write>(
+    out: &mut Outbox<'_, W>,
+    parts: &Parts<'_>,
+    start: Option<Start>,
+    fault: &Fault,
+)
+    ensures { Puts W.contents out.old out.new
+        (report_text (heading_of parts.now start) (RefusedFor fault.now)) }
+{
+    put_heading(out, parts, start);
+    put_refusal(out, fault);
+}
+
+fn put_refused<W: Write>(
     out: &mut Outbox<'_, W>,
     parts: Option<&Parts<'_>>,
-    start: Option<Start>,
+    start: Start,
     fault: &Fault,
 )
     ensures { Puts W.contents out.old out.new
         (refused_text (option_copied parts.entry) start fault.now) }
 {
     match parts {
-        Some(parts) => {
-            put_heading(out, parts, start);
-            put_refusal(out, fault);
-        }
+        Some(parts) => put_refused_content(out, parts, Some(start), fault),
         None => put_refusal(out, fault),
     }
 }
@@ -70,7 +81,7 @@ pub fn put_report<W: Write, G: Screen>(out: &mut Outbox<'_, W>, r: &Report<'_, G
             parts,
             start,
             fault,
-        } => put_refused(out, *parts, Some(*start), fault),
+        } => put_refused(out, *parts, *start, fault),
     }
 }
 

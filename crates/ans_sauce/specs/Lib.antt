@@ -2,3 +2,4 @@ pub mod RecordBytes
 pub mod Parts
 pub mod Split
 pub mod Found
+pub mod Judged

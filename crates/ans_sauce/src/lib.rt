@@ -10,6 +10,7 @@
 #![tactic(auto)]
 
 mod found;
+mod judged;
 mod layout;
 mod note_conditions;
 mod padding;
@@ -20,6 +21,7 @@ pub use ans_model::fault::{Cause, Fault};
 pub use ans_model::limits::MAX_FILE;
 pub use ans_model::note::Note;
 pub use found::{Found, find};
+pub use judged::Judged;
 pub use layout::{cut_record, split};
 pub use parts::Parts;
 pub use record::Record;

@@ -15,14 +15,13 @@ use Rattle.ans_model.specs.declared.fault.Fault.{Fault}
 use Rattle.ans_model.specs.File.Record.{aspect_ratio, comment, letter_spacing}
 use Rattle.ans_model.specs.Text.Characters.{shown_bytes}
 use Rattle.ans_sauce.specs.declared.parts.Parts.{Parts}
-use Rattle.ans_table.specs.declared.finding.Finding.{Finding}
-use Rattle.ans_table.specs.declared.finding.Finding.TheVariants.{Pass, Refused, NoContent, Unread}
-use Rattle.ans_table.specs.Findings.{sauce_of}
+use Rattle.ans_sauce.specs.declared.judged.Judged.TheVariants.{NoContent, Refused, Passes}
+use Rattle.ans_table.specs.Findings.{Finding, RowFinding, parts_of, sauce_of}
 use Rattle.ans_table.specs.NameText.{name_text}
 use Rattle.ans_table.specs.Columns.{by_pair}
 use Rattle.ans_table.specs.JsonRow.{Adds, Entries, Named, aspect_values, comments_from, content_values, count}
-use Rattle.ans_table.specs.JsonRow.{fault_values, field_values, flag_values, parts_values, record_values, row_data}
-use Rattle.ans_table.specs.JsonRow.{row_values, spacing_values, texts, verdict_values, with_values}
+use Rattle.ans_table.specs.JsonRow.{fault_values, field_values, flag_values, found_values, parts_values, record_values}
+use Rattle.ans_table.specs.JsonRow.{row_data, row_values, spacing_values, texts, verdict_values, with_values}
 
 -- no float, and at most lists
 record IsFlat (d : Data) : Type 0 where
@@ -108,23 +107,25 @@ flat_texts ts = record { float = items_float ts; nests = omega (arith, items_nes
 flat_fault : (fault : Fault) → AllFlat (fault_values fault)
 flat_fault fault = (simple _ refl (omega arith), (simple _ refl (omega arith), (simple _ refl (omega arith), tt)))
 
-flat_verdict : (finding : Finding) → AllFlat (verdict_values finding)
-flat_verdict (Pass parts needs taller) =
+flat_found : (finding : Finding) → AllFlat (found_values finding)
+flat_found (NoContent said) = flat_fault said.fault
+flat_found (Refused parts said) =
+    flat_append (fault_values said.fault) ((codes "row", count said.row) ∷ (codes "column", count said.column) ∷ [])
+    (flat_fault said.fault)
+    (simple (count said.row) refl (omega arith), (simple (count said.column) refl (omega arith), tt))
+flat_found (Passes parts said) =
     (simple _ refl (omega arith), (flat_texts _, (simple _ refl (omega arith), tt)))
-flat_verdict (Refused parts fault row column) =
-    flat_append (fault_values fault) ((codes "row", count row) ∷ (codes "column", count column) ∷ []) (flat_fault fault)
-    (simple (count row) refl (omega arith), (simple (count column) refl (omega arith), tt))
-flat_verdict (NoContent fault sauce) = flat_fault fault
-flat_verdict (Unread reason) = (simple _ refl (omega arith), (simple _ refl (omega arith), tt))
+
+flat_verdict : (finding : RowFinding) → AllFlat (verdict_values finding)
+flat_verdict (Ok finding) = flat_found finding
+flat_verdict (Err reason) = (simple _ refl (omega arith), (simple _ refl (omega arith), tt))
 
 flat_parts : (parts : Parts) → AllFlat (parts_values parts)
 flat_parts parts = (simple _ refl (omega arith), (flat_texts _, (flat_texts _, tt)))
 
-flat_content : (finding : Finding) → AllFlat (content_values finding)
-flat_content (Pass parts needs taller) = flat_parts parts
-flat_content (Refused parts fault row column) = flat_parts parts
-flat_content (NoContent fault sauce) = tt
-flat_content (Unread reason) = tt
+flat_content : (parts : Option Parts) → AllFlat (content_values parts)
+flat_content (Some parts) = flat_parts parts
+flat_content None = tt
 
 flat_if : (b : Bool) (vs ws : List Named) → AllFlat vs → AllFlat ws → AllFlat (if b then vs else ws)
 flat_if true vs ws h g = h
@@ -174,24 +175,26 @@ flat_record (Some sauce) = (
 )
 flat_record None = tt
 
-flat_row : (name : List ℕ) (finding : Finding) → AllFlat (row_values name finding)
+flat_row : (name : List ℕ) (finding : RowFinding) → AllFlat (row_values name finding)
 flat_row name finding =
     let file : List Named = (codes "file", string (name_text name)) ∷ [] in
-    flat_append (verdict_values finding) (content_values finding ++ (record_values (sauce_of finding) ++ file))
+    flat_append (verdict_values finding)
+    (content_values (parts_of finding) ++ (record_values (sauce_of finding) ++ file))
     (flat_verdict finding)
-    (flat_append (content_values finding) (record_values (sauce_of finding) ++ file) (flat_content finding)
+    (flat_append (content_values (parts_of finding)) (record_values (sauce_of finding) ++ file)
+    (flat_content (parts_of finding))
     (flat_append (record_values (sauce_of finding)) file (flat_record (sauce_of finding))
     (simple (string (name_text name)) refl (omega arith), tt)))
 
-flat_members : (name : List ℕ) (finding : Finding) → AreFlat (with_values (row_values name finding) no_members)
+flat_members : (name : List ℕ) (finding : RowFinding) → AreFlat (with_values (row_values name finding) no_members)
 flat_members name finding =
     flat_with (row_values name finding) no_members (flat_row name finding)
     (record { float = refl; nests = omega arith })
 
-pub row_float : (name : List ℕ) (finding : Finding) → has_float (row_data name finding) ≡ false
+pub row_float : (name : List ℕ) (finding : RowFinding) → has_float (row_data name finding) ≡ false
 row_float name finding = (flat_members name finding).float
 
-pub row_nests : (name : List ℕ) (finding : Finding) → depth (row_data name finding) ≤ max_depth
+pub row_nests : (name : List ℕ) (finding : RowFinding) → depth (row_data name finding) ≤ max_depth
 row_nests name finding = omega (arith, (flat_members name finding).nests)
 
 -- values after values

@@ -1,6 +1,6 @@
 -- The columns of a row before the file's name, each with a tab behind it. A value that is absent is empty.
 use Rattle.std.specs.Prelude.{ℕ, ◌==◌, List, [], ◌∷◌, ◌++◌, length, codes, decimal}
-use Rattle.std.specs.Prelude.{Option, Some, None, if◌then◌else◌}
+use Rattle.std.specs.Prelude.{Option, Some, None, Ok, Err, if◌then◌else◌}
 use Rattle.std.specs.List.{before_first, flat_map}
 use Rattle.ans_model.specs.Bytes.{blank}
 use Rattle.ans_model.specs.declared.fault.Cause.{Cause}
@@ -11,11 +11,11 @@ use Rattle.ans_model.specs.Text.Characters.{shown_bytes}
 use Rattle.ans_model.specs.Text.FaultText.{fault_text}
 use Rattle.ans_model.specs.Text.NeedsText.{needed_parts}
 use Rattle.ans_model.specs.Text.Words.{answer_text}
+use Rattle.ans_sauce.specs.declared.judged.Judged.TheVariants.{NoContent, Refused, Passes}
 use Rattle.ans_sauce.specs.declared.parts.Parts.{Parts}
 use Rattle.ans_sauce.specs.Parts.{content_of, notes_of}
-use Rattle.ans_table.specs.declared.finding.Finding.{Finding}
-use Rattle.ans_table.specs.declared.finding.Finding.TheVariants.{Pass, Refused, NoContent, Unread}
-use Rattle.ans_table.specs.Findings.{unread_text}
+use Rattle.ans_table.specs.declared.finding.PassFinding.{PassFinding}
+use Rattle.ans_table.specs.Findings.{Finding, RowFinding, unread_text}
 use Rattle.ans_table.specs.Labels.{labels_text}
 
 abbrev pub tab : ℕ
@@ -34,15 +34,23 @@ abbrev pub fault_columns : Fault → List ℕ
 fault_columns fault =
     column (codes "refused") ++ (tab ∷ tab ∷ (column (fault_label fault.cause) ++ column (decimal fault.offset)))
 
--- the columns from the verdict to the place of the fault
-abbrev pub verdict_columns : Finding → List ℕ
-verdict_columns (Pass parts needs taller) =
+-- the columns from the verdict to the place of a fault, which a pass has none of
+abbrev pub pass_columns : PassFinding → List ℕ
+pass_columns said =
     column (codes "pass")
-    ++ (column (needed_parts needs) ++ (column (answer_text taller) ++ tab ∷ tab ∷ tab ∷ tab ∷ []))
-verdict_columns (Refused parts fault row column_number) =
-    fault_columns fault ++ (column (decimal row) ++ column (decimal column_number))
-verdict_columns (NoContent fault sauce) = fault_columns fault ++ tab ∷ tab ∷ []
-verdict_columns (Unread reason) =
+    ++ (column (needed_parts said.needs) ++ (column (answer_text said.taller) ++ tab ∷ tab ∷ tab ∷ tab ∷ []))
+
+-- the columns from the verdict to the place of the fault, of a file that was read
+abbrev pub found_columns : Finding → List ℕ
+found_columns (NoContent said) = fault_columns said.fault ++ tab ∷ tab ∷ []
+found_columns (Refused parts said) =
+    fault_columns said.fault ++ (column (decimal said.row) ++ column (decimal said.column))
+found_columns (Passes parts said) = pass_columns said
+
+-- the same of any file
+abbrev pub verdict_columns : RowFinding → List ℕ
+verdict_columns (Ok finding) = found_columns finding
+verdict_columns (Err reason) =
     column (codes "error") ++ (tab ∷ tab ∷ (column (unread_text reason) ++ tab ∷ tab ∷ tab ∷ []))
 
 -- the width in columns and the number of lines; a width of 0 is 80
@@ -54,11 +62,9 @@ stated_columns None = tab ∷ tab ∷ []
 abbrev pub parts_columns : Parts → List ℕ
 parts_columns parts = column (decimal (length (content_of parts))) ++ column (labels_text (notes_of parts))
 
-abbrev pub content_columns : Finding → List ℕ
-content_columns (Pass parts needs taller) = parts_columns parts
-content_columns (Refused parts fault row column_number) = parts_columns parts
-content_columns (NoContent fault sauce) = tab ∷ tab ∷ []
-content_columns (Unread reason) = tab ∷ tab ∷ []
+abbrev pub content_columns : Option Parts → List ℕ
+content_columns (Some parts) = parts_columns parts
+content_columns None = tab ∷ tab ∷ []
 
 -- what a pair of bits says, where it says one of two things
 abbrev pub by_pair : {A : Type 0} → ℕ → List A → List A → List A

@@ -1,23 +1,27 @@
 -- What is true of a file of which a row tells.
 use Rattle.std.specs.Prelude.{◌≡◌, ◌↔◌, ℕ, ◌+◌, ◌-◌, IsTrue, IsFalse, List, length, drop, codes, Option, Some, None}
-use Rattle.std.specs.Prelude.{option_map}
+use Rattle.std.specs.Prelude.{Result, Ok, Err, option_map, if◌then◌else◌}
 use Rattle.ans_model.specs.declared.cell.Position.{Position}
 use Rattle.ans_model.specs.declared.fault.Fault.{Fault}
-use Rattle.ans_model.specs.File.Refusals.{has_record, record_fault}
+use Rattle.ans_model.specs.File.Refusals.{has_record}
 use Rattle.ans_model.specs.Screen.State.{Size}
 use Rattle.ans_model.specs.Screen.StartClass.{all_known}
 use Rattle.ans_model.specs.Verdict.Needs.{IsLeast}
 use Rattle.ans_sauce.specs.Parts.{content_of, record_of, size_of}
 use Rattle.ans_sauce.specs.RecordBytes.{bytes_of}
-use Rattle.ans_sauce.specs.Split.{IsSplit}
+use Rattle.ans_sauce.specs.Judged.{IsJudged, IsRecordFault, is_pass, parts_in}
+use Rattle.ans_sauce.specs.declared.judged.Judged.{Judged}
+use Rattle.ans_sauce.specs.declared.judged.Judged.TheVariants.{NoContent, Refused, Passes}
+use Rattle.ans_sauce.specs.declared.parts.Parts.{Parts}
 use Rattle.ans_model.specs.Verdict.LastFault.{IsDeserved}
-use Rattle.ans_why.specs.Evidence.{ShowsCursors}
-use Rattle.ans_why.specs.Taller.{IsTaller}
+use Rattle.ans_walks.specs.Evidence.{ShowsCursors}
+use Rattle.ans_walks.specs.Taller.{IsTaller}
 use Rattle.ans_table.specs.declared.counts.Outcome.{Outcome}
 use Rattle.ans_table.specs.declared.counts.Outcome.TheVariants as outcome
-use Rattle.ans_table.specs.declared.finding.Finding.{Finding}
-use Rattle.ans_table.specs.declared.finding.Finding.TheVariants.{Pass, Refused, NoContent, Unread}
-use Rattle.ans_table.specs.declared.finding.Unread as unread
+use Rattle.ans_table.specs.declared.finding.FaultFinding.{FaultFinding}
+use Rattle.ans_table.specs.declared.finding.PassFinding.{PassFinding}
+use Rattle.ans_table.specs.declared.finding.RecordFinding.{RecordFinding}
+use Rattle.ans_table.specs.declared.finding.Unread.{Unread}
 use Rattle.ans_table.specs.declared.finding.Unread.TheVariants as why
 
 -- before the fault the cursor stands in this row and this column, counted from 1, in the play from the cleared start
@@ -32,34 +36,56 @@ abbrev pub IsRecordOf : List ℕ → Option (List ℕ) → Type 0
 IsRecordOf file (Some bytes) = IsTrue (has_record file) × (bytes ≡ drop (length file - 128) file)
 IsRecordOf file None = IsFalse (has_record file)
 
--- What is said of a file that was read is true of it.
+-- what is said of a record or a layout that is refused is true of the file
+pub record IsRecordFinding (file : List ℕ) (said : RecordFinding) : Type 0 where
+  pub refused : IsRecordFault file said.fault
+  pub sauce : IsRecordOf file (option_map bytes_of said.sauce)
+
+-- what is said of a content that is refused from the cleared start is true of it
+pub record IsFaultFinding (parts : Parts) (said : FaultFinding) : Type 0 where
+  pub deserved : IsDeserved (size_of parts) all_known (content_of parts) said.fault
+  pub stands : StandsIn (size_of parts) (content_of parts) said.fault said.row said.column
+
+-- what is said of a content that passes from the cleared start is true of it
+pub record IsPassFinding (parts : Parts) (said : PassFinding) : Type 0 where
+  pub needs : IsLeast (size_of parts) (content_of parts) said.needs
+  pub taller : IsTrue said.taller ↔ IsTaller (size_of parts) said.needs (content_of parts)
+
+-- what is found of a file that was read
+abbrev pub Finding : Type 0
+Finding = Judged RecordFinding FaultFinding PassFinding
+
+-- what a row tells of a file: what is found of it, or why it was not read
+abbrev pub RowFinding : Type 0
+RowFinding = Result Finding Unread
+
+-- what is said of a file that was read is true of it
 abbrev pub IsFindingOf : List ℕ → Finding → Type 0
-IsFindingOf file (Pass parts needs taller) =
-    IsSplit file parts × IsLeast (size_of parts) (content_of parts) needs
-    × (IsTrue taller ↔ IsTaller (size_of parts) needs (content_of parts))
-IsFindingOf file (Refused parts fault row column) =
-    IsSplit file parts × IsDeserved (size_of parts) all_known (content_of parts) fault
-    × StandsIn (size_of parts) (content_of parts) fault row column
-IsFindingOf file (NoContent fault sauce) =
-    (record_fault file ≡ Some fault) × IsRecordOf file (option_map bytes_of sauce)
-IsFindingOf file (Unread reason) = ⊥
+IsFindingOf file finding = IsJudged (IsRecordFinding file) IsFaultFinding IsPassFinding file finding
+
+-- the parts of a file that was read, where it has some
+abbrev pub parts_of : RowFinding → Option Parts
+parts_of (Ok finding) = parts_in finding
+parts_of (Err reason) = None
+
+-- the record of a file that was read, where it has one
+abbrev pub sauce_in : Finding → Option (List ℕ)
+sauce_in (NoContent said) = option_map bytes_of said.sauce
+sauce_in (Refused parts said) = Some (record_of parts)
+sauce_in (Passes parts said) = Some (record_of parts)
 
 -- the record of the file, where one was read
-abbrev pub sauce_of : Finding → Option (List ℕ)
-sauce_of (Pass parts needs taller) = Some (record_of parts)
-sauce_of (Refused parts fault row column) = Some (record_of parts)
-sauce_of (NoContent fault sauce) = option_map bytes_of sauce
-sauce_of (Unread reason) = None
+abbrev pub sauce_of : RowFinding → Option (List ℕ)
+sauce_of (Ok finding) = sauce_in finding
+sauce_of (Err reason) = None
 
 -- how a file comes out
-abbrev pub outcome_of : Finding → Outcome
-outcome_of (Pass parts needs taller) = outcome.Pass
-outcome_of (Refused parts fault row column) = outcome.Refused
-outcome_of (NoContent fault sauce) = outcome.Refused
-outcome_of (Unread reason) = outcome.Unread
+abbrev pub outcome_of : RowFinding → Outcome
+outcome_of (Ok finding) = if is_pass finding then outcome.Pass else outcome.Refused
+outcome_of (Err reason) = outcome.Unread
 
 -- why a file was not read
-abbrev pub unread_text : unread.Unread → List ℕ
+abbrev pub unread_text : Unread → List ℕ
 unread_text why.Unopened = codes "cannot open the file"
 unread_text why.ReadFailed = codes "cannot read the file"
 unread_text why.TooLong = codes "file above 16777216 bytes"

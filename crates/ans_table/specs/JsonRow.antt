@@ -1,7 +1,7 @@
 -- The row of a file as a JSON object. What is absent is left out. The names of an object stand in the order of their
 -- bytes, as those of its map do.
 use Rattle.std.specs.Prelude.{◌≡◌, ℕ, zero, suc, ◌+◌, List, [], ◌∷◌, ◌++◌, length, map, Option, Some}
-use Rattle.std.specs.Prelude.{None, Result, OnOk, String, codes}
+use Rattle.std.specs.Prelude.{None, Result, Ok, Err, OnOk, String, codes}
 use Rattle.std.specs.declared.alloc.Global.{Global}
 use Rattle.serde_json.specs.Data.{Data, Members, unsigned, boolean, number, string, array, object, no_members, put}
 use Rattle.serde_json.specs.View.{items_of, members_view}
@@ -12,12 +12,12 @@ use Rattle.ans_model.specs.File.Record.{aspect_ratio, author_field, comment, com
 use Rattle.ans_model.specs.File.Record.{group_field, is_non_blink, letter_spacing, stated_lines, stated_width, trimmed}
 use Rattle.ans_model.specs.File.Record.{title_field}
 use Rattle.ans_model.specs.Text.Characters.{shown_bytes}
+use Rattle.ans_sauce.specs.declared.judged.Judged.TheVariants.{NoContent, Refused, Passes}
 use Rattle.ans_sauce.specs.declared.parts.Parts.{Parts}
 use Rattle.ans_sauce.specs.Parts.{comments_of, content_of, notes_of, record_of}
-use Rattle.ans_table.specs.declared.finding.Finding.{Finding}
-use Rattle.ans_table.specs.declared.finding.Finding.TheVariants.{Pass, Refused, NoContent, Unread}
+use Rattle.ans_table.specs.declared.finding.PassFinding.{PassFinding}
 use Rattle.ans_table.specs.Columns.{by_pair, fault_label}
-use Rattle.ans_table.specs.Findings.{sauce_of, unread_text}
+use Rattle.ans_table.specs.Findings.{Finding, RowFinding, parts_of, sauce_of, unread_text}
 use Rattle.ans_table.specs.NameText.{name_text}
 use Rattle.ans_table.specs.Labels.{note_label}
 use Rattle.ans_model.specs.Text.Words.{part_names}
@@ -44,15 +44,23 @@ fault_values fault =
     (codes "verdict", string (codes "refused"))
     ∷ (codes "fault", string (fault_label fault.cause)) ∷ (codes "at", count fault.offset) ∷ []
 
--- the verdict, and what belongs to it
-abbrev pub verdict_values : Finding → List Named
-verdict_values (Pass parts needs taller) =
+-- what a content needs that passes, and whether it shows the same on taller screens
+abbrev pub pass_values : PassFinding → List Named
+pass_values said =
     (codes "verdict", string (codes "pass"))
-    ∷ (codes "needs", texts (part_names needs)) ∷ (codes "taller", boolean taller) ∷ []
-verdict_values (Refused parts fault row column_number) =
-    fault_values fault ++ (codes "row", count row) ∷ (codes "column", count column_number) ∷ []
-verdict_values (NoContent fault sauce) = fault_values fault
-verdict_values (Unread reason) =
+    ∷ (codes "needs", texts (part_names said.needs)) ∷ (codes "taller", boolean said.taller) ∷ []
+
+-- the verdict on a file that was read, and what belongs to it
+abbrev pub found_values : Finding → List Named
+found_values (NoContent said) = fault_values said.fault
+found_values (Refused parts said) =
+    fault_values said.fault ++ (codes "row", count said.row) ∷ (codes "column", count said.column) ∷ []
+found_values (Passes parts said) = pass_values said
+
+-- the same of any file
+abbrev pub verdict_values : RowFinding → List Named
+verdict_values (Ok finding) = found_values finding
+verdict_values (Err reason) =
     (codes "verdict", string (codes "error")) ∷ (codes "fault", string (unread_text reason)) ∷ []
 
 -- the comments from the i-th on, so many, as they are shown
@@ -70,11 +78,9 @@ parts_values parts =
     ∷ (codes "notes", texts (map note_label (notes_of parts)))
     ∷ (codes "comments", texts (comment_texts parts)) ∷ []
 
-abbrev pub content_values : Finding → List Named
-content_values (Pass parts needs taller) = parts_values parts
-content_values (Refused parts fault row column_number) = parts_values parts
-content_values (NoContent fault sauce) = []
-content_values (Unread reason) = []
+abbrev pub content_values : Option Parts → List Named
+content_values (Some parts) = parts_values parts
+content_values None = []
 
 -- letters of 8 or of 9 pixels, where the flags say which
 abbrev pub spacing_values : List ℕ → List Named
@@ -112,17 +118,18 @@ record_values (Some sauce) = size_values sauce ++ (flag_values sauce ++ field_va
 record_values None = []
 
 -- all that is known of a file of this name
-abbrev pub row_values : List ℕ → Finding → List Named
+abbrev pub row_values : List ℕ → RowFinding → List Named
 row_values name finding =
     verdict_values finding
-    ++ (content_values finding ++ (record_values (sauce_of finding) ++ (codes "file", string (name_text name)) ∷ []))
+    ++ (content_values (parts_of finding)
+    ++ (record_values (sauce_of finding) ++ (codes "file", string (name_text name)) ∷ []))
 
 -- the object of it
-abbrev pub row_data : List ℕ → Finding → Data
+abbrev pub row_data : List ℕ → RowFinding → Data
 row_data name finding = object (with_values (row_values name finding) no_members)
 
 -- the text of the object
-abbrev pub json_text : List ℕ → Finding → List ℕ
+abbrev pub json_text : List ℕ → RowFinding → List ℕ
 json_text name finding = compact_text (row_data name finding)
 
 -- the members of an object, as its map holds them

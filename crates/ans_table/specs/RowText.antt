@@ -2,9 +2,8 @@
 use Rattle.std.specs.Prelude.{ℕ, List, [], ◌∷◌, ◌++◌, codes}
 use Rattle.std.specs.List.{flat_map}
 use Rattle.ans_model.specs.Text.FaultText.{line_of}
-use Rattle.ans_table.specs.declared.finding.Finding.{Finding}
 use Rattle.ans_table.specs.Columns.{column, content_columns, record_columns, stated_columns, verdict_columns}
-use Rattle.ans_table.specs.Findings.{sauce_of}
+use Rattle.ans_table.specs.Findings.{RowFinding, parts_of, sauce_of}
 use Rattle.ans_table.specs.NameText.{name_text}
 
 -- the names of the columns but the last
@@ -19,13 +18,13 @@ abbrev pub header_line : List ℕ
 header_line = flat_map column column_names ++ line_of (codes "file")
 
 -- the row of a file of this name
-abbrev pub row_line : List ℕ → Finding → List ℕ
+abbrev pub row_line : List ℕ → RowFinding → List ℕ
 row_line name finding =
     verdict_columns finding
     ++ (stated_columns (sauce_of finding)
-    ++ (content_columns finding ++ (record_columns (sauce_of finding) ++ line_of (name_text name))))
+    ++ (content_columns (parts_of finding) ++ (record_columns (sauce_of finding) ++ line_of (name_text name))))
 
--- a file's name, and what is found of it
+-- a file's name, and what is found of it or why it was not read
 pub record Row : Type 0 where
   pub name : List ℕ
-  pub finding : Finding
+  pub finding : RowFinding

@@ -1,17 +1,18 @@
 //! The columns of a row.
 
 ghost use Rattle.std.specs.Prelude.{◌≡◌, Some, option_map, decimal};
+ghost use Rattle.std.specs.Option.{option_copied};
 ghost use Rattle.ans_sauce.specs.RecordBytes.{bytes_of};
 ghost use Rattle.ans_write.specs.Puts.{Puts};
 ghost use Rattle.ans_table.specs.Columns.{by_pair, column, content_columns, escaped_byte, escaped_text, fault_label};
-ghost use Rattle.ans_table.specs.Columns.{fault_columns, field_columns, flag_columns};
+ghost use Rattle.ans_table.specs.Columns.{fault_columns, field_columns, flag_columns, found_columns, pass_columns};
 ghost use Rattle.ans_table.specs.Columns.{parts_columns, record_columns, stated_columns, verdict_columns};
 
-use crate::finding::Finding;
+use crate::finding::{Finding, PassFinding, RowFinding};
 use crate::labels::put_labels;
 use ans_model::fault::Fault;
 use ans_report::{answer_text, fault_text, put_needed_parts};
-use ans_sauce::{Parts, Record};
+use ans_sauce::{Judged, Parts, Record};
 use ans_write::{Outbox, put_characters};
 use std::io::Write;
 
@@ -48,33 +49,40 @@ fn put_fault<W: Write>(out: &mut Outbox<'_, W>, fault: &Fault)
     put_number(out, fault.offset);
 }
 
+fn put_pass<W: Write>(out: &mut Outbox<'_, W>, said: &PassFinding)
+    ensures { Puts W.contents out.old out.new (pass_columns said.now) }
+{
+    out.put(b"pass\t");
+    put_needed_parts(out, said.needs);
+    out.put(b"\t");
+    put_column(out, answer_text(said.taller));
+    out.put(b"\t\t\t\t");
+}
+
+fn put_found<W: Write>(out: &mut Outbox<'_, W>, finding: &Finding<'_>)
+    ensures { Puts W.contents out.old out.new (found_columns finding.now) }
+{
+    match finding {
+        Judged::NoContent(said) => {
+            put_fault(out, &said.fault);
+            out.put(b"\t\t");
+        }
+        Judged::Refused(_, said) => {
+            put_fault(out, &said.fault);
+            put_number(out, said.row);
+            put_number(out, said.column);
+        }
+        Judged::Passes(_, said) => put_pass(out, said),
+    }
+}
+
 /// The columns from the verdict to the place of the fault.
-pub(crate) fn put_verdict<W: Write>(out: &mut Outbox<'_, W>, finding: &Finding<'_>)
+pub(crate) fn put_verdict<W: Write>(out: &mut Outbox<'_, W>, finding: &RowFinding<'_>)
     ensures { Puts W.contents out.old out.new (verdict_columns finding.now) }
 {
     match finding {
-        Finding::Pass { needs, taller, .. } => {
-            out.put(b"pass\t");
-            put_needed_parts(out, *needs);
-            out.put(b"\t");
-            put_column(out, answer_text(*taller));
-            out.put(b"\t\t\t\t");
-        }
-        Finding::Refused {
-            fault,
-            row,
-            column,
-            ..
-        } => {
-            put_fault(out, fault);
-            put_number(out, *row);
-            put_number(out, *column);
-        }
-        Finding::NoContent { fault, .. } => {
-            put_fault(out, fault);
-            out.put(b"\t\t");
-        }
-        Finding::Unread(why) => {
+        Ok(finding) => put_found(out, finding),
+        Err(why) => {
             out.put(b"error\t\t\t");
             put_column(out, why.text().as_bytes());
             out.put(b"\t\t\t");
@@ -108,12 +116,12 @@ fn put_parts<W: Write>(out: &mut Outbox<'_, W>, parts: &Parts<'_>)
 }
 
 /// The columns of the content's length and of the notes.
-pub(crate) fn put_content<W: Write>(out: &mut Outbox<'_, W>, finding: &Finding<'_>)
-    ensures { Puts W.contents out.old out.new (content_columns finding.now) }
+pub(crate) fn put_content<W: Write>(out: &mut Outbox<'_, W>, parts: Option<&Parts<'_>>)
+    ensures { Puts W.contents out.old out.new (content_columns (option_copied parts.entry)) }
 {
-    match finding {
-        Finding::Pass { parts, .. } | Finding::Refused { parts, .. } => put_parts(out, parts),
-        Finding::NoContent { .. } | Finding::Unread(_) => out.put(b"\t\t"),
+    match parts {
+        Some(parts) => put_parts(out, parts),
+        None => out.put(b"\t\t"),
     }
 }
 

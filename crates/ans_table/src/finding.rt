@@ -1,22 +1,22 @@
 //! What a row tells of a file.
 
-ghost use Rattle.std.specs.Prelude.{◌≡◌, ◌≤◌, ℕ, List, Some, length, option_map};
+ghost use Rattle.std.specs.Prelude.{◌≡◌, ◌≤◌, length, option_map};
+ghost use Rattle.std.specs.Option.{option_copied};
 ghost use Rattle.ans_model.specs.Bytes.{longest_file};
-ghost use Rattle.ans_model.specs.File.Refusals.{record_fault};
 ghost use Rattle.ans_model.specs.Screen.StartClass.{all_known};
 ghost use Rattle.ans_model.specs.Verdict.Needs.{IsLeast};
 ghost use Rattle.ans_sauce.specs.Parts.{content_of, size_of};
 ghost use Rattle.ans_sauce.specs.RecordBytes.{bytes_of};
-ghost use Rattle.ans_sauce.specs.Split.{IsSplit};
+ghost use Rattle.ans_sauce.specs.Judged.{IsRecordFault};
 ghost use Rattle.ans_model.specs.Verdict.LastFault.{IsDeserved};
-ghost use Rattle.ans_table.specs.Findings.{IsFindingOf, outcome_of, sauce_of, unread_text};
+ghost use Rattle.ans_table.specs.Findings.{IsFaultFinding, IsPassFinding, IsRecordFinding, outcome_of, parts_of};
+ghost use Rattle.ans_table.specs.Findings.{sauce_in, sauce_of, unread_text};
 
 use crate::counts::Outcome;
 use ans_model::fault::Fault;
-use ans_model::size::Size;
 use ans_model::start::Start;
-use ans_sauce::{Parts, Record, cut_record};
-use ans_why::{cursors_before, is_taller};
+use ans_sauce::{Judged, Parts, Record, cut_record};
+use ans_walks::{cursors_before, is_taller};
 
 /// Why a file was not read.
 #[derive(Debug, Clone, Copy, PartialEq, Eq)]
@@ -48,98 +48,124 @@ impl Unread {
     }
 }
 
-/// What a row tells of a file.
-#[derive(Debug, Drop)]
-pub enum Finding<'a> {
-    /// Its content passes from the cleared start: the least class of starts from which it does, and
-    /// whether it shows the same picture on every taller screen.
-    Pass {
-        parts: Parts<'a>,
-        needs: Start,
-        taller: bool,
-    },
-    /// Its content is refused from the cleared start. Before the fault the cursor stands in this row
-    /// and this column, counted from 1.
-    Refused {
-        parts: Parts<'a>,
-        fault: Fault,
-        row: usize,
-        column: usize,
-    },
-    /// Its record or its layout is refused. There is a record but for F1.
-    NoContent {
-        fault: Fault,
-        sauce: Option<Record<'a>>,
-    },
-    /// It was not read.
-    Unread(Unread),
+/// What a row tells of a file that was read.
+pub type Finding<'a> = Judged<'a, RecordFinding<'a>, FaultFinding, PassFinding>;
+
+/// What a row tells of a file: what is found of it, or why it was not read.
+pub type RowFinding<'a> = Result<Finding<'a>, Unread>;
+
+/// What a row tells of a record or a layout that is refused: its fault, and the record but for F1.
+#[derive(Debug, Clone, Copy)]
+pub struct RecordFinding<'a> {
+    pub fault: Fault,
+    pub sauce: Option<Record<'a>>,
 }
 
-impl<'a> Finding<'a> {
+/// What a row tells of a content that is refused from the cleared start: its fault, and the row and the
+/// column, counted from 1, in which the cursor stands before it.
+#[derive(Debug, Clone, Copy, PartialEq, Eq)]
+pub struct FaultFinding {
+    pub fault: Fault,
+    pub row: usize,
+    pub column: usize,
+}
+
+/// What a row tells of a content that passes from the cleared start: the least class of starts from
+/// which it does, and whether it shows the same picture on every taller screen.
+#[derive(Debug, Clone, Copy, PartialEq, Eq)]
+pub struct PassFinding {
+    pub needs: Start,
+    pub taller: bool,
+}
+
+impl<'a> RecordFinding<'a> {
     /// Of a file that is refused for its record or its layout.
-    pub fn of_record(file: &'a [u8], fault: Fault) -> Finding<'a>
-        requires { record_fault file.now ≡ Some fault }
-        ensures { IsFindingOf file.now result }
+    pub fn of(file: &'a [u8], fault: Fault) -> RecordFinding<'a>
+        requires { IsRecordFault file.now fault }
+        ensures { IsRecordFinding file.now result }
     {
         match cut_record(file) {
-            Some((_, sauce)) => Finding::NoContent {
+            Some((_, sauce)) => RecordFinding {
                 fault,
                 sauce: Some(sauce),
             },
-            None => Finding::NoContent { fault, sauce: None },
+            None => RecordFinding { fault, sauce: None },
         }
     }
+}
 
-    /// Of a file whose content is refused from the cleared start, for this fault.
-    pub fn of_refusal(parts: Parts<'a>, fault: Fault) -> Finding<'a>
-        requires length { length (content_of parts) ≤ longest_file }
-        requires deserved { IsDeserved (size_of parts) all_known (content_of parts) fault }
-        ensures { (file : List ℕ) → IsSplit file parts.entry → IsFindingOf file result }
+impl FaultFinding {
+    /// Of a content that is refused from the cleared start, for this fault.
+    pub fn of(parts: &Parts<'_>, fault: Fault) -> FaultFinding
+        requires length { length (content_of parts.now) ≤ longest_file }
+        requires deserved { IsDeserved (size_of parts.now) all_known (content_of parts.now) fault }
+        ensures { IsFaultFinding parts.now result }
     {
         let size = parts.size();
         let (cursor, _) = cursors_before(size, Start::CLEARED, parts.content(), fault);
-        Finding::Refused {
-            parts,
+        FaultFinding {
             fault,
             row: cursor.row + 1,
             column: cursor.column + 1,
         }
     }
+}
 
-    /// Of a file whose content passes from the cleared start: it needs this class.
-    pub fn of_pass(parts: Parts<'a>, needs: Start) -> Finding<'a>
-        requires length { length (content_of parts) ≤ longest_file }
-        requires needs { IsLeast (size_of parts) (content_of parts) needs }
-        ensures { (file : List ℕ) → IsSplit file parts.entry → IsFindingOf file result }
+impl PassFinding {
+    /// Of a content that passes from the cleared start: it needs this class.
+    pub fn of(parts: &Parts<'_>, needs: Start) -> PassFinding
+        requires length { length (content_of parts.now) ≤ longest_file }
+        requires needs { IsLeast (size_of parts.now) (content_of parts.now) needs }
+        ensures { IsPassFinding parts.now result }
     {
-        let taller = is_taller(parts.size(), needs, parts.content());
-        Finding::Pass {
-            parts,
+        PassFinding {
             needs,
-            taller,
+            taller: is_taller(parts.size(), needs, parts.content()),
         }
     }
+}
 
-    /// The record of the file, where one was read.
-    pub(crate) fn sauce(&self) -> Option<Record<'a>>
-        ensures { option_map bytes_of result ≡ sauce_of self.now }
-    {
-        match self {
-            Finding::Pass { parts, .. } | Finding::Refused { parts, .. } => Some(parts.sauce()),
-            Finding::NoContent { sauce, .. } => *sauce,
-            Finding::Unread(_) => None,
-        }
+/// The parts of a file that was read, but where its record or its layout is refused.
+pub(crate) fn parts_of<'f, 'a>(finding: &'f RowFinding<'a>) -> Option<&'f Parts<'a>>
+    ensures { option_copied result ≡ parts_of finding.now }
+{
+    match finding {
+        Ok(finding) => finding.parts(),
+        Err(_) => None,
     }
+}
 
-    /// The outcome, by which files are counted.
-    pub fn outcome(&self) -> Outcome
-        ensures { result ≡ outcome_of self.now }
+fn sauce_in<'a>(finding: &Finding<'a>) -> Option<Record<'a>>
+    ensures { option_map bytes_of result ≡ sauce_in finding.now }
+{
+    match finding {
+        Judged::NoContent(said) => said.sauce,
+        Judged::Refused(parts, _) | Judged::Passes(parts, _) => Some(parts.sauce()),
+    }
+}
+
+/// The record of the file, where one was read.
+pub(crate) fn sauce_of<'a>(finding: &RowFinding<'a>) -> Option<Record<'a>>
+    ensures { option_map bytes_of result ≡ sauce_of finding.now }
+{
+    match finding {
+        Ok(finding) => sauce_in(finding),
+        Err(_) => None,
+    }
+}
+
+impl Outcome {
+    /// How the file of a row comes out, by which files are counted.
+    pub fn of(finding: &RowFinding<'_>) -> Outcome
+        ensures { result ≡ outcome_of finding.now }
     {
-        match self {
-            Finding::Pass { .. } => Outcome::Pass,
-            Finding::Refused { .. } => Outcome::Refused,
-            Finding::NoContent { .. } => Outcome::Refused,
-            Finding::Unread(_) => Outcome::Unread,
+        let Ok(finding) = finding else {
+            return Outcome::Unread;
+        };
+        if finding.is_pass() {
+            Outcome::Pass
+        } else {
+            Outcome::Refused
         }
     }
 }

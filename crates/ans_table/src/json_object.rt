@@ -1,26 +1,27 @@
 //! The row of a file as a JSON object.
 
 ghost use Rattle.std.specs.Prelude.{◌≡◌, [], ◌∷◌, Some, IfOk, map, option_map, string_bytes};
+ghost use Rattle.std.specs.Option.{option_copied};
 ghost use Rattle.serde_json.specs.Data.{string};
 ghost use Rattle.serde_json.specs.Read.{read};
 ghost use Rattle.serde_json.specs.View.{view};
 ghost use Rattle.ans_model.specs.Text.Characters.{shown_bytes};
 ghost use Rattle.ans_sauce.specs.RecordBytes.{bytes_of};
 ghost use Rattle.ans_table.specs.JsonRow.{Adds, aspect_values, comment_texts, content_values, count};
-ghost use Rattle.ans_table.specs.JsonRow.{fault_values, field_values, flag_values, json_text, parts_values};
+ghost use Rattle.ans_table.specs.JsonRow.{fault_values, field_values, flag_values, found_values, json_text};
+ghost use Rattle.ans_table.specs.JsonRow.{parts_values, pass_values};
 ghost use Rattle.ans_table.specs.JsonRow.{record_values, row_data, size_values, spacing_values, texts, verdict_values};
 ghost use Rattle.ans_table.specs.NameText.{name_text};
 ghost use Rattle.ans_table.specs.Labels.{note_label};
 ghost use Rattle.ans_model.specs.Text.Words.{texts_of, part_names};
 
 use crate::columns::fault_label;
-use crate::finding::Finding;
-use crate::labels::note_label;
+use crate::finding::{Finding, PassFinding, RowFinding, parts_of, sauce_of};
 use crate::name_text::put_name;
 use ans_model::fault::Fault;
 use ans_model::note::Note;
 use ans_model::start::Start;
-use ans_sauce::{Parts, Record};
+use ans_sauce::{Judged, Parts, Record};
 use ans_write::{Outbox, Tried, glyph_text};
 use serde_json::{Map, Value, push, put};
 use std::alloc::{AllocError, Global};
@@ -75,13 +76,19 @@ fn needs_value(alloc: Global, needs: Start) -> Result<Value, AllocError>
     words_value(alloc, needs.part_names().as_slice())
 }
 
+fn note_value(alloc: Global, note: Note) -> Result<Value, AllocError>
+    ensures { IfOk result (λ v. view v ≡ string (note_label note)) }
+{
+    Ok(Value::String(format!(in alloc; "N{}", note.number())?))
+}
+
 /// The labels of notes.
 fn notes_value(alloc: Global, notes: &[Note]) -> Result<Value, AllocError>
     ensures { IfOk result (λ v. view v ≡ texts (map note_label notes.now)) }
 {
     let mut list = Vec::new(alloc);
     for note in notes {
-        push(&mut list, Value::try_from_str(alloc, note_label(note))?)?;
+        push(&mut list, note_value(alloc, *note)?)?;
     }
     Ok(Value::Array(list))
 }
@@ -118,28 +125,35 @@ fn put_fault(members: &mut Members, alloc: Global, fault: &Fault) -> Added
     put_number(members, alloc, "at", fault.offset)
 }
 
+fn put_pass(members: &mut Members, alloc: Global, said: &PassFinding) -> Added
+    ensures { Adds members.old.entries members.new.entries result (pass_values said.now) }
+{
+    put_text(members, alloc, "verdict", "pass")?;
+    put(members, alloc, "needs", needs_value(alloc, said.needs)?)?;
+    put(members, alloc, "taller", Value::Bool(said.taller))
+}
+
+fn put_found(members: &mut Members, alloc: Global, finding: &Finding<'_>) -> Added
+    ensures { Adds members.old.entries members.new.entries result (found_values finding.now) }
+{
+    match finding {
+        Judged::NoContent(said) => put_fault(members, alloc, &said.fault),
+        Judged::Refused(_, said) => {
+            put_fault(members, alloc, &said.fault)?;
+            put_number(members, alloc, "row", said.row)?;
+            put_number(members, alloc, "column", said.column)
+        }
+        Judged::Passes(_, said) => put_pass(members, alloc, said),
+    }
+}
+
 /// The members from the verdict to the place of the fault.
-fn put_verdict(members: &mut Members, alloc: Global, finding: &Finding<'_>) -> Added
+fn put_verdict(members: &mut Members, alloc: Global, finding: &RowFinding<'_>) -> Added
     ensures { Adds members.old.entries members.new.entries result (verdict_values finding.now) }
 {
     match finding {
-        Finding::Pass { needs, taller, .. } => {
-            put_text(members, alloc, "verdict", "pass")?;
-            put(members, alloc, "needs", needs_value(alloc, *needs)?)?;
-            put(members, alloc, "taller", Value::Bool(*taller))
-        }
-        Finding::Refused {
-            fault,
-            row,
-            column,
-            ..
-        } => {
-            put_fault(members, alloc, fault)?;
-            put_number(members, alloc, "row", *row)?;
-            put_number(members, alloc, "column", *column)
-        }
-        Finding::NoContent { fault, .. } => put_fault(members, alloc, fault),
-        Finding::Unread(why) => {
+        Ok(finding) => put_found(members, alloc, finding),
+        Err(why) => {
             put_text(members, alloc, "verdict", "error")?;
             put_text(members, alloc, "fault", why.text())
         }
@@ -156,14 +170,12 @@ fn put_parts(members: &mut Members, alloc: Global, parts: &Parts<'_>) -> Added
 }
 
 /// The members of the content's length, the notes and the comments.
-fn put_content(members: &mut Members, alloc: Global, finding: &Finding<'_>) -> Added
-    ensures { Adds members.old.entries members.new.entries result (content_values finding.now) }
+fn put_content(members: &mut Members, alloc: Global, parts: Option<&Parts<'_>>) -> Added
+    ensures { Adds members.old.entries members.new.entries result (content_values (option_copied parts.entry)) }
 {
-    match finding {
-        Finding::Pass { parts, .. } | Finding::Refused { parts, .. } => {
-            put_parts(members, alloc, parts)
-        }
-        Finding::NoContent { .. } | Finding::Unread(_) => Ok(()),
+    match parts {
+        Some(parts) => put_parts(members, alloc, parts),
+        None => Ok(()),
     }
 }
 
@@ -231,13 +243,13 @@ fn put_record(members: &mut Members, alloc: Global, sauce: Option<Record<'_>>) -
     }
 }
 
-fn row_value(alloc: Global, name: &[u8], finding: &Finding<'_>) -> Result<Value, AllocError>
+fn row_value(alloc: Global, name: &[u8], finding: &RowFinding<'_>) -> Result<Value, AllocError>
     ensures { IfOk result (λ v. view v ≡ row_data name.now finding.now) }
 {
     let mut members = Map::new(alloc);
     put_verdict(&mut members, alloc, finding)?;
-    put_content(&mut members, alloc, finding)?;
-    put_record(&mut members, alloc, finding.sauce())?;
+    put_content(&mut members, alloc, parts_of(finding))?;
+    put_record(&mut members, alloc, sauce_of(finding))?;
     put(&mut members, alloc, "file", name_value(alloc, name)?)?;
     Ok(Value::Object(members))
 }
@@ -246,7 +258,7 @@ fn row_value(alloc: Global, name: &[u8], finding: &Finding<'_>) -> Result<Value,
 /// is left out, and the names stand in the order of their bytes.
 ///
 /// `Err` comes where memory for it is refused.
-pub fn json_row(alloc: Global, name: &[u8], finding: &Finding<'_>) -> Result<String, AllocError>
+pub fn json_row(alloc: Global, name: &[u8], finding: &RowFinding<'_>) -> Result<String, AllocError>
     ensures text { IfOk result (λ s. string_bytes s ≡ json_text name.now finding.now) }
     ensures reads_back { IfOk result (λ s. read (string_bytes s) ≡ Some (row_data name.now finding.now)) }
 {

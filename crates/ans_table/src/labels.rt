@@ -1,6 +1,5 @@
 //! The labels of notes.
 
-ghost use Rattle.std.specs.Prelude.{◌≡◌};
 ghost use Rattle.std.specs.List.{flat_map};
 ghost use Rattle.ans_write.specs.Puts.{Puts};
 ghost use Rattle.ans_table.specs.Labels.{labels_text, later_label, note_label};
@@ -9,18 +8,12 @@ use ans_model::note::Note;
 use ans_write::Outbox;
 use std::io::Write;
 
-/// The label of a note, as `N1`.
-pub(crate) fn note_label(note: &Note) -> &'static str
-    ensures { result.now ≡ note_label note.now }
+/// Puts the label of a note, as `N1`.
+fn put_label<W: Write>(out: &mut Outbox<'_, W>, note: Note)
+    ensures { Puts W.contents out.old out.new (note_label note) }
 {
-    match note {
-        Note::WidthAssumed => "N1",
-        Note::NoEndMark => "N2",
-        Note::SizeDiffers => "N3",
-        Note::OddDate => "N4",
-        Note::FlagBits => "N5",
-        Note::FlagPair => "N6",
-    }
+    out.put(b"N");
+    out.put_decimal(u64::from(note.number()));
 }
 
 fn put_later_labels<W: Write>(out: &mut Outbox<'_, W>, notes: &[Note])
@@ -28,7 +21,7 @@ fn put_later_labels<W: Write>(out: &mut Outbox<'_, W>, notes: &[Note])
 {
     for note in notes {
         out.put(b" ");
-        out.put(note_label(note).as_bytes());
+        put_label(out, *note);
     }
 }
 
@@ -39,6 +32,6 @@ pub(crate) fn put_labels<W: Write>(out: &mut Outbox<'_, W>, notes: &[Note])
     let [first, later @ ..] = notes else {
         return;
     };
-    out.put(note_label(first).as_bytes());
+    put_label(out, *first);
     put_later_labels(out, later);
 }

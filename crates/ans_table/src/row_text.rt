@@ -7,7 +7,7 @@ ghost use Rattle.ans_table.specs.NameText.{name_text};
 ghost use Rattle.ans_table.specs.RowText.{header_line, row_line};
 
 use crate::columns::{put_content, put_record, put_stated_size, put_verdict};
-use crate::finding::Finding;
+use crate::finding::{RowFinding, parts_of, sauce_of};
 use crate::name_text::put_name;
 use ans_write::Outbox;
 use std::io::Write;
@@ -19,14 +19,14 @@ const HEADER: &[u8] =
 
 /// Puts the row of a file of this name: its columns with a tab after each, and then the name, whose
 /// text is UTF-8 whatever the name is.
-pub fn put_row<W: Write>(out: &mut Outbox<'_, W>, name: &[u8], finding: &Finding<'_>)
+pub fn put_row<W: Write>(out: &mut Outbox<'_, W>, name: &[u8], finding: &RowFinding<'_>)
     ensures puts { Puts W.contents out.old out.new (row_line name.now finding.now) }
     ensures utf8 { IsUtf8 (name_text name.now) }
 {
-    let sauce = finding.sauce();
+    let sauce = sauce_of(finding);
     put_verdict(out, finding);
     put_stated_size(out, sauce);
-    put_content(out, finding);
+    put_content(out, parts_of(finding));
     put_record(out, sauce);
     put_name(out, name);
     out.put(b"\n");

@@ -40,7 +40,8 @@ cleared_is content end first now (Ok true) tokens h (texts, reads) =
     twice true = refl
 cleared_is content end first now (Ok false) tokens (left, h) reads =
     let on = left_reads GoesOnUncleared content end first now left false h tokens reads in
-    sym (ap clears on.more ∙ list_any-append is_clear h.front.tokens on.later ∙ found (clears h.front.tokens) (clears on.later) h.over)
+    sym (ap clears on.more ∙ list_any-append is_clear h.front.tokens on.later
+    ∙ found (clears h.front.tokens) (clears on.later) h.over)
   where
     found : (b c : Bool) → false ≡ not b → (b || c) ≡ true
     found true c e = refl

@@ -37,8 +37,8 @@ one_front front read tokens texts behind h g same =
 
 module _ {W : Type 0} (walked : W → Front → W → Bool → Type 0) (content : List ℕ) (end : ℕ) (first now : W) where
   -- what is left has the rest of the reading
-  pub left_reads : (left : List ℕ) (on : Bool) (h : Walks walked content end left first now on) (tokens : List TokenKind)
-      → Reads (take end content) tokens → ReadsOn left h.front.tokens tokens
+  pub left_reads : (left : List ℕ) (on : Bool) (h : Walks walked content end left first now on)
+      (tokens : List TokenKind) → Reads (take end content) tokens → ReadsOn left h.front.tokens tokens
   left_reads left on h tokens reads =
       reads_on h.read left h.front.tokens tokens (h.front.texts, h.reads)
       (subst (λ (v : List ℕ). Reads v tokens) h.whole reads)
@@ -57,7 +57,8 @@ module _ {W : Type 0} (walked : W → Front → W → Bool → Type 0) (content 
   walked_all tokens texts reads h =
       let all : take end content ≡ h.read = h.whole ∙ append-nil h.read in
       subst (λ (front : Front). walked first front now true)
-      (one_front h.front h.read tokens texts (drop end content) h.reads (subst (λ (v : List ℕ). ReadsAs v tokens texts) all reads) h.behind) h.over
+      (one_front h.front h.read tokens texts (drop end content) h.reads
+      (subst (λ (v : List ℕ). ReadsAs v tokens texts) all reads) h.behind) h.over
 
   -- so has the walk of a walker that never stops
   pub walked_whole : (result : Result Bool Fault) (tokens : List TokenKind) (texts : List (List ℕ))

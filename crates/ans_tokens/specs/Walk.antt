@@ -25,7 +25,8 @@ front_of tokens texts behind = record { tokens = tokens; texts = texts; behind =
 abbrev pub no_front : List ℕ → Front
 no_front content = front_of [] [] content
 
--- the token comes next: its text stands behind the front, whose tokens have their texts, and these bytes stand behind it
+-- the token comes next: its text stands behind the front, whose tokens have their texts, and these bytes stand behind
+-- it
 pub record IsNext (front : Front) (token : Token) (text behind : List ℕ) : Type 0 where
   pub each : AllZip SpellsToken front.tokens front.texts
   pub whole : front.behind ≡ text ++ behind

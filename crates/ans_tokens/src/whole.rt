@@ -1,6 +1,6 @@
 //! Sequences of numbers that are read whole from a slice.
 //!
-//! A reader here answers exactly where the whole sequence stands in the slice and is in its common
+//! A reader here answers only where the whole sequence stands in the slice, and is meant for its common
 //! form. Where it declines, the bytes are left to be taken one by one, so each rarer form is decided
 //! in one place.
 

@@ -1,6 +1,5 @@
-pub mod Mend
-pub mod MendedFile
-pub mod Lines
-pub mod Taller
-pub mod Watched
-pub mod Evidence
+pub mod Blamed
+pub mod Fonts
+pub mod HintsText
+pub mod Explained
+pub mod WhyText

@@ -1,18 +1,22 @@
-//! Why a drawing is refused, what it relies on, and how it is mended.
+//! What `why` says of a file, and its text.
 //!
-//! Each law is the contract of a function without a body. Of a fault that is deserved,
-//! [`cursors_before`] and [`cells_of_fault`] give what the plays from the low and the high start of
-//! a class show. [`least_lines`] says with how many lines a content passes from the cleared start, and
-//! [`is_taller`] whether it plays on taller screens as on the stated one. None of them takes memory.
+//! [`RecordRefusal::of`], [`Refusal::of`] and [`Pass::of`] say it: of a file whose record or layout is
+//! refused, of a content that is refused from the cleared start, and of one that passes from there.
+//! [`put_why`] puts the text in an outbox. [`bytes_to_blame`] gives the bytes at which a content fails.
+//! [`put_hints`] puts the lines of the hints; [`font_name`] reads a font's name in the record's field, and
+//! [`has_other_code_page`] knows it. What is said is true by `specs/Explained.antt`; the text stands in
+//! `specs/WhyText.antt` and `specs/HintsText.antt`.
 #![tactic(auto)]
 
-mod evidence;
-pub mod laws;
-mod lines;
-mod taller;
-mod two_watches;
-mod watch;
+mod blamed;
+mod explain;
+mod font;
+mod hints_text;
+mod why;
+mod why_text;
 
-pub use evidence::{cells_of_fault, cursors_before};
-pub use lines::least_lines;
-pub use taller::is_taller;
+pub use blamed::bytes_to_blame;
+pub use font::{font_name, has_other_code_page};
+pub use hints_text::put_hints;
+pub use why::{Pass, RecordRefusal, Refusal, Reliance, Shown, Why};
+pub use why_text::put_why;

@@ -1,237 +1,265 @@
-//! Small contents, and what the plays from the low and the high start show of their faults.
+//! Contents with their hints, from bytes to the whole text.
 
-ghost use Rattle.std.specs.Prelude.{◌≡◌, ◌≤◌, IfOk, IfSome, None, length};
-ghost use Rattle.ans_model.specs.Bytes.{longest_file, most_columns, most_lines};
-ghost use Rattle.ans_model.specs.Screen.State.{sized};
-ghost use Rattle.ans_model.specs.Verdict.Good.{IsGood};
-ghost use Rattle.ans_model.specs.Verdict.LastFault.{IsDeserved};
+ghost use Rattle.std.specs.Prelude.{◌≤◌, length};
+ghost use Rattle.ans_model.specs.Bytes.{longest_file};
 
-mod lines;
-mod taller;
-
-use ans_model::cell::{Cell, Position};
-use ans_model::fault::{Cause, Fault};
 use ans_model::size::Size;
-use ans_model::start::Start;
-use ans_play::Player;
-use ans_screen::PlainGrid;
-use ans_why::{cells_of_fault, cursors_before};
-use std::alloc::Global;
+use ans_samples::Narrow;
+use ans_walks::Hints;
+use ans_why::{font_name, has_other_code_page, put_hints};
+use ans_write::{Outbox, Tried};
 use std::process::Abort;
-use std::test::Fail;
 
-/// A content on a small screen, from the starts of a class.
-#[derive(Clone, Copy)]
-struct Played {
-    start: Start,
+/// A content on a screen of some columns and lines, and the lines of its hints.
+struct Row {
     width: usize,
     lines: usize,
     content: &'static [u8],
+    text: &'static str,
 }
 
-/// A content, its fault, and where the two cursors stand before it: their rows and columns, counted
-/// from 0.
-struct Stand {
-    played: Played,
-    fault: Fault,
-    low: (usize, usize),
-    high: (usize, usize),
-}
-
-/// A content that leaves a cell unknown: its row and column, counted from 1, and the byte and the
-/// attribute in both plays.
-struct Left {
-    played: Played,
-    named: (u16, u16),
-    low: (u8, u8),
-    high: (u8, u8),
-}
-
-macro_rules! start {
-    (any) => {
-        Start::ANY
+/// The lines of hints, each with how often it comes and where, or with the lines that it speaks of.
+macro_rules! text {
+    (nothing) => { "" };
+    (loose $at:literal) => { concat!("hint: a line feed with no return beside it goes straight down, ", $at, "\n") };
+    (full $at:literal) => { concat!("hint: a full row and a line end take two rows, ", $at, "\n") };
+    (wide $at:literal) => { concat!("hint: a character is in UTF-8, ", $at, ": convert the text to code page 437\n") };
+    (later $at:literal) => {
+        concat!("hint: a sequence has a colour of later terminals (38, 48, 90 to 97 or 100 to 107), ", $at, "\n")
     };
-    (cleared) => {
-        Start::CLEARED
+    (blinks $at:literal) => {
+        concat!("hint: a character blinks, ", $at, ": for bright backgrounds set the non-blink flag\n")
     };
-    (all but $part:ident) => {
-        Start { $part: false, ..Start::CLEARED }
+    (later $first:literal blinks $second:literal) => {
+        concat!(
+            "hint: a sequence has a colour of later terminals (38, 48, 90 to 97 or 100 to 107), ", $first, "\n\
+            hint: a character blinks, ", $second, ": for bright backgrounds set the non-blink flag\n"
+        )
     };
+    (empty $lines:literal) => { concat!("hint: nothing is printed in the ", $lines, "\n") };
 }
 
-macro_rules! played {
-    ($($start:ident)+ $width:literal x $lines:literal, $content:literal) => {
-        Played { start: start!($($start)+), width: $width, lines: $lines, content: $content }
-    };
-}
-
-macro_rules! stands {
-    ($($($start:ident)+ $width:literal x $lines:literal, $content:literal =>
-        $offset:literal $cause:ident, $low:expr, $high:expr;)*) => {
-        [$(Stand {
-            played: played!($($start)+ $width x $lines, $content),
-            fault: Fault { offset: $offset, cause: Cause::$cause },
-            low: $low,
-            high: $high,
+macro_rules! rows {
+    ($(screen($width:literal x $lines:literal, $content:literal) => $($hint:ident $(($said:literal))?)+;)*) => {
+        [$(Row {
+            width: $width,
+            lines: $lines,
+            content: $content,
+            text: text!($($hint $($said)?)+),
         }),*]
     };
 }
 
-macro_rules! left {
-    ($($($start:ident)+ $width:literal x $lines:literal, $content:literal =>
-        $named:expr, $low:expr, $high:expr;)*) => {
-        [$(Left {
-            played: played!($($start)+ $width x $lines, $content),
-            named: $named,
-            low: $low,
-            high: $high,
-        }),*]
-    };
+static LINE_FEEDS: [Row; 8] = rows! {
+    screen(2 x 1, b"Hi") => nothing;
+    screen(4 x 2, b"ab\r\ncd") => nothing;
+    screen(4 x 2, b"ab\n\rcd") => nothing;
+    screen(4 x 2, b"\nab") => nothing;
+    screen(4 x 2, b"ab\ncd") => loose("once, at 2");
+    screen(4 x 1, b"ab\n") => loose("once, at 2");
+    screen(9 x 3, b"a\nb\nc") => loose("2 times, first at 1");
+    screen(9 x 3, b"a\r\nb\n\x1b[D\nc") => loose("once, at 4");
+};
+
+static FULL_ROWS: [Row; 8] = rows! {
+    screen(4 x 3, b"abcd\r\nab") => full("once, at 4");
+    screen(4 x 3, b"abcd\nab") => full("once, at 4");
+    screen(4 x 3, b"abcd\r\nabcd") => full("once, at 4");
+    screen(4 x 5, b"abcd\r\nabcd\na\x1b[5;1Ha") => full("2 times, first at 4");
+    screen(4 x 2, b"abcd\rab") => nothing;
+    screen(4 x 2, b"abc\r\nab") => nothing;
+    screen(4 x 2, b"\x1b[?7labcd\r\nab") => nothing;
+    screen(4 x 1, b"\x1b[1;4Hd\n") => full("once, at 7");
+};
+
+static WIDE_CHARACTERS: [Row; 13] = rows! {
+    screen(9 x 1, b"\xe2\x96\x88") => wide("once, at 0");
+    screen(9 x 1, b"a\xf0\x9f\x98\x80\xe2\x96\x88") => wide("2 times, first at 1");
+    screen(9 x 1, b"\xed\x9f\xbf\xee\x80\x80\xf4\x8f") => wide("2 times, first at 0");
+    screen(4 x 2, b"abc\xe2\x96\x88") => wide("once, at 3");
+    screen(9 x 1, b"\xc3\xa9") => nothing;
+    screen(9 x 1, b"\xe0\x80\x80") => nothing;
+    screen(9 x 1, b"\xed\xa0\x80") => nothing;
+    screen(9 x 1, b"\xf0\x8f\xbf\xbf") => nothing;
+    screen(9 x 1, b"\xf4\x90\x80\x80") => nothing;
+    screen(9 x 1, b"\xe2\x96") => nothing;
+    screen(9 x 1, b"\xf0\x9f\x98") => nothing;
+    screen(9 x 1, b"\xe2\x96\x07\x88") => nothing;
+    screen(9 x 1, b"\xe2\x1b[0m\x96\x88") => nothing;
+};
+
+static COLOURS: [Row; 8] = rows! {
+    screen(9 x 1, b"\x1b[37;90mA\x1b[48m\x1b[107;38m") => later("3 times, first at 0");
+    screen(9 x 1, b"A\x1b[97;100m") => later("once, at 1");
+    screen(9 x 1, b"A\x1b[37;39;47;49;89;98;99;108m") => nothing;
+    screen(9 x 1, b"\x1b[5mab\x1b[0mc") => blinks("2 times, first at 4");
+    screen(3 x 3, b"\x1b[5mabcdefg") => blinks("7 times, first at 4");
+    screen(9 x 1, b"a\x1b[5m\t\x1b[K\x1b[0m") => nothing;
+    screen(9 x 1, b"\x1b[5ma") => blinks("once, at 4");
+    screen(9 x 1, b"\x1b[38;5;208mA") => later("once, at 0") blinks("once, at 11");
+};
+
+static EMPTY_ROWS: [Row; 11] = rows! {
+    screen(4 x 3, b"") => empty("last 3 lines");
+    screen(4 x 3, b"a") => empty("last 2 lines");
+    screen(4 x 3, b"abcde") => empty("last line");
+    screen(4 x 3, b"\x1b[3;1Ha") => nothing;
+    screen(4 x 3, b"\x1b[3;1Ha\x1b[2J") => nothing;
+    screen(4 x 3, b"a\x1b[3;1H\x1b[K") => empty("last 2 lines");
+    screen(9 x 3, b"\t") => empty("last 2 lines");
+    screen(4 x 3, b"\t") => empty("last line");
+    screen(3 x 3, b"\t") => nothing;
+    screen(9 x 3, b"\x1b[2;3H\x1b[s\x1b[1;1H\x1b[ua") => empty("last line");
+    screen(9 x 9, b"\x1b[4B\x1b[2A\x1b[3C\x1b[D\x08a") => empty("last 6 lines");
+};
+
+/// Asserts the lines of hints, and of a font.
+fn expect_hints(rt: &impl Abort, hints: Hints, font: &[u8], text: &str) {
+    let mut device = Tried::new(Narrow::new(4096));
+    let mut out = Outbox::new(&mut device);
+    put_hints(&mut out, &hints, font);
+    assert!(rt; out.finish().is_ok());
+    assert_eq!(rt; device.inner().held(), text.as_bytes());
 }
 
-/// A low start stands at the first position, with wrap off; a high start in the last column of the
-/// spare row, with wrap on.
-static STANDS: [Stand; 27] = stands! {
-    any 3 x 2, b"A" => 0 PrintUnknownPlace, (0, 0), (2, 2);
-    any 10 x 5, b"\x1b[5C\x1b[3B\x1b[2DA" => 12 PrintUnknownPlace, (3, 3), (5, 7);
-    any 10 x 5, b"\x1b[2A\x1b[4D\x08A" => 9 PrintUnknownPlace, (0, 0), (3, 4);
-    any 3 x 2, b"\x07\rA" => 2 PrintUnknownPlace, (0, 0), (2, 0);
-    all but saved 6 x 2, b"Hello\x1b[uA" => 8 PrintUnknownPlace, (0, 0), (2, 5);
-    all but cursor 3 x 2, b"\x1b[s\x1b[2;2H\x1b[uA" => 12 PrintUnknownPlace, (0, 0), (2, 2);
-    all but wrap 2 x 2, b"abc" => 2 PrintUnknownPlace, (0, 1), (1, 0);
-    all but wrap 3 x 2, b"\x1b[?7h\x1b[?7labc\x1b[?7hdefgh" => 22 PrintBelow, (2, 0), (2, 0);
-    any 3 x 2, b"\t" => 0 PrintUnknownPlace, (0, 0), (2, 2);
-    any 9 x 2, b"\x1b[2C\t" => 4 PrintUnknownPlace, (0, 2), (2, 8);
-    all but wrap 4 x 2, b"\t" => 0 PrintUnknownPlace, (0, 3), (1, 0);
-    all but wrap 4 x 2, b"a\t" => 1 PrintUnknownPlace, (0, 3), (1, 0);
-    all but wrap 12 x 2, b"\t\t" => 1 PrintUnknownPlace, (0, 11), (1, 0);
-    cleared 2 x 1, b"abc" => 2 PrintBelow, (1, 0), (1, 0);
-    cleared 4 x 1, b"a\t" => 1 PrintBelow, (1, 0), (1, 0);
-    cleared 4 x 1, b"\n\t" => 1 PrintBelow, (1, 0), (1, 0);
-    any 3 x 2, b"\x1b[K" => 0 EraseUnknownPlace, (0, 0), (2, 2);
-    any 3 x 2, b"\r\x1b[K" => 1 EraseUnknownPlace, (0, 0), (2, 0);
-    any 3 x 2, b"\n" => 0 MayScroll, (0, 0), (2, 2);
-    any 3 x 2, b"\x1b[1A\n\n" => 5 MayScroll, (1, 0), (2, 2);
-    cleared 3 x 2, b"a\x1b[9;9H" => 1 OutsideScreen, (0, 1), (0, 1);
-    any 3 x 2, b"\x1b[1C\x1b[9;9H" => 4 OutsideScreen, (0, 1), (2, 2);
-    cleared 3 x 2, b"\n\n\n" => 2 Scrolls, (2, 0), (2, 0);
-    cleared 3 x 2, b"\n\n\x1b[1C\n" => 6 Scrolls, (2, 1), (2, 1);
-    cleared 3 x 2, b"ab\x1bX" => 2 BrokenSequence, (0, 2), (0, 2);
-    cleared 3 x 2, b"a\x1b[" => 1 EndInSequence, (0, 1), (0, 1);
-    cleared 20 x 2, b"a\x1b[13;\"dir\";13p" => 1 KeyReassigned, (0, 1), (0, 1);
-};
-
-/// The low start has the byte 00h and the attribute 00h in each cell, and the high start FFh.
-static LEFT: [Left; 13] = left! {
-    any 3 x 2, b"" => (1, 1), (0x00, 0x00), (0xFF, 0xFF);
-    any 2 x 1, b"\x1b[HA" => (1, 1), (b'A', 0x00), (b'A', 0xFF);
-    any 2 x 1, b"\x1b[0m\x1b[HA" => (1, 2), (0x00, 0x00), (0xFF, 0xFF);
-    any 2 x 1, b"\x1b[1;2HB\x1b[0m\x1b[1;1HA" => (1, 2), (b'B', 0x00), (b'B', 0xFF);
-    any 2 x 1, b"\x1b[H\x1b[K\x1b[0mA" => (1, 2), (b' ', 0x00), (b' ', 0xFF);
-    all but colours 3 x 2, b"\x1b[2;3H\x1b[K" => (2, 3), (b' ', 0x00), (b' ', 0xFF);
-    all but screen 3 x 2, b"\x1b[2;1H\x1b[K\x1b[1;1Hab" => (1, 3), (0x00, 0x00), (0xFF, 0xFF);
-    all but screen 3 x 2, b"\x1b[1;2H\x1b[K" => (1, 1), (0x00, 0x00), (0xFF, 0xFF);
-    any 2 x 1, b"\x1b[2J\x1b[0mA" => (1, 2), (b' ', 0x00), (b' ', 0xFF);
-    any 2 x 1, b"\x1b[1;31m\x1b[2J" => (1, 1), (b' ', 0x0C), (b' ', 0xFC);
-    any 9 x 1, b"\x1b[1;1H\t" => (1, 1), (b' ', 0x00), (b' ', 0xFF);
-    all but screen 3 x 2, b"abc" => (2, 1), (0x00, 0x00), (0xFF, 0xFF);
-    all but colours 2 x 2, b"\x1b[2;2HA" => (2, 2), (b'A', 0x00), (b'A', 0xFF);
-};
-
-/// The fault of a content, if the play finds one.
-fn fault_of(
-    alloc: Global,
-    width: usize,
-    lines: usize,
-    start: Start,
+/// Asserts the lines of the hints of a content on a screen of this size, and of a font.
+fn expect_content(
+    rt: &impl Abort,
+    (width, lines): (usize, usize),
     content: &[u8],
-) -> Result<Option<Fault>, Fail>
-    requires some_columns { 1 ≤ width }
-    requires columns { width ≤ most_columns }
-    requires some_lines { 1 ≤ lines }
-    requires lines { lines ≤ most_lines }
-    requires length { length content.now ≤ longest_file }
-    ensures fault { IfOk result (λ found. IfSome found (IsDeserved (sized width lines) start content.now)) }
-    ensures good { IfOk result (λ found. found ≡ None → IsGood (sized width lines) start content.now) }
-{
-    let mut player = Player::<PlainGrid>::new(alloc, width, lines, start)?;
-    if let Err(fault) = player.feed(content) {
-        return Ok(Some(fault));
-    }
-    let Err(fault) = player.finish() else {
-        return Ok(None);
-    };
-    Ok(Some(fault))
+    font: &[u8],
+    text: &str,
+) {
+    assert!(rt; 1 <= width && width <= 80 && 1 <= lines && lines <= 10 && content.len() < 300);
+    let hints = Hints::of(Size::new(width, lines), false, content, content.len());
+    expect_hints(rt, hints, font, text);
 }
 
-/// The size of the screen that a content is played on, and the fault that it has.
-fn faulty(rt: &impl Abort, alloc: Global, played: Played) -> Result<(Size, Fault), Fail>
-    ensures length { length played.content.now ≤ longest_file }
-    ensures deserved { IfOk result (λ r. IsDeserved r.0 played.start played.content.now r.1) }
-{
-    let Played {
-        start,
-        width,
-        lines,
-        content,
-    } = played;
-    assert!(rt; 1 <= width && width <= 20 && 1 <= lines && lines <= 10 && content.len() < 200);
-    match fault_of(alloc, width, lines, start, content)? {
-        Some(fault) => Ok((Size::new(width, lines), fault)),
-        None => panic!(rt; "no fault, in {content:?}"),
+fn expect_rows(rt: &impl Abort, rows: &[Row]) {
+    for row in rows {
+        expect_content(rt, (row.width, row.lines), row.content, b"", row.text);
     }
-}
-
-/// Asserts the fault of a content, and where the two cursors stand before it.
-fn expect_stand(rt: &impl Abort, alloc: Global, row: &Stand) -> Result<(), Fail> {
-    let Stand {
-        played,
-        fault,
-        low,
-        high,
-    } = *row;
-    let content = played.content;
-    let (size, found) = faulty(rt, alloc, played)?;
-    let (low_cursor, high_cursor) = cursors_before(size, played.start, content, found);
-    let stand = (
-        found,
-        (low_cursor.row, low_cursor.column),
-        (high_cursor.row, high_cursor.column),
-    );
-    assert!(rt; stand == (fault, low, high), "in {content:?}");
-    Ok(())
-}
-
-/// Asserts the cell that a content leaves unknown, and what it holds in both plays.
-fn expect_left(rt: &impl Abort, alloc: Global, row: &Left) -> Result<(), Fail> {
-    let Left {
-        played,
-        named: (row, col),
-        low,
-        high,
-    } = *row;
-    let content = played.content;
-    let (size, found) = faulty(rt, alloc, played)?;
-    let named = Cause::UnknownCell { row, col };
-    assert_eq!(rt; found.cause, named, "in {content:?}");
-    match cells_of_fault(size, played.start, content, found) {
-        Some((low_cell, high_cell)) => {
-            let low_found = (low_cell.byte, low_cell.attribute);
-            let high_found = (high_cell.byte, high_cell.attribute);
-            assert!(rt; (low_found, high_found) == (low, high), "in {content:?}");
-        }
-        None => panic!(rt; "no cell where one was named, in {content:?}"),
-    }
-    Ok(())
 }
 
 #[test]
-fn plays_show_their_faults(rt: HostRuntime) -> Result<(), Fail> {
-    for row in &STANDS {
-        expect_stand(&rt, rt.alloc(), row)?;
+fn contents_have_their_hints(rt: HostRuntime) {
+    expect_rows(&rt, &LINE_FEEDS);
+    expect_rows(&rt, &FULL_ROWS);
+    expect_rows(&rt, &WIDE_CHARACTERS);
+    expect_rows(&rt, &COLOURS);
+    expect_rows(&rt, &EMPTY_ROWS);
+}
+
+/// `ESC[0m` and rows of 80 glyphs, each with a return and a line feed, up to the one that scrolls.
+#[test]
+fn full_rows_of_a_screen(rt: HostRuntime) {
+    let mut content = [b'x'; 250];
+    content[..4].copy_from_slice(b"\x1b[0m");
+    for end in [84, 166, 248] {
+        content[end] = b'\r';
+        content[end + 1] = b'\n';
     }
-    for row in &LEFT {
-        expect_left(&rt, rt.alloc(), row)?;
+    let text = "hint: a full row and a line end take two rows, 3 times, first at 84\n";
+    expect_content(&rt, (80, 5), &content, b"", text);
+}
+
+#[test]
+fn all_hints_have_an_order(rt: HostRuntime) {
+    let content = b"ab\n\x1b[96mc\xe2\x96\x88\x1b[5md\x1b[3;10He\r\n";
+    expect_content(
+        &rt,
+        (10, 6),
+        content,
+        b"IBM VGA 866",
+        "hint: a line feed with no return beside it goes straight down, once, at 2\n\
+            hint: a full row and a line end take two rows, once, at 25\n\
+            hint: a character is in UTF-8, once, at 9: convert the text to code page 437\n\
+            hint: a sequence has a colour of later terminals (38, 48, 90 to 97 or 100 to 107), once, at 3\n\
+            hint: a character blinks, 2 times, first at 16: for bright backgrounds set the non-blink flag\n\
+            hint: the font IBM VGA 866 is not one of code page 437, so other characters may show\n\
+            hint: nothing is printed in the last 3 lines\n",
+    );
+}
+
+macro_rules! fronts {
+    ($(front($end:literal, $content:literal) => $($hint:ident $(($said:literal))?)+;)*) => {
+        [$(($content, $end, text!($($hint $($said)?)+))),*]
+    };
+}
+
+/// Contents of which only the first bytes count, so many, and what is said of these.
+static FRONTS: [(&[u8], usize, &str); 8] = fronts! {
+    front(3, b"ab\ncd\n") => loose("once, at 2");
+    front(3, b"ab\n\rcd") => nothing;
+    front(4, b"abcd\r\n") => full("once, at 4");
+    front(3, b"abcd\r\n") => nothing;
+    front(4, b"abcd\r") => nothing;
+    front(1, b"\xe2\x96\x88") => wide("once, at 0");
+    front(2, b"a\xe2\x96") => nothing;
+    front(4, b"a\xe2\x96\x88\xe2\x96\x88") => wide("once, at 1");
+};
+
+#[test]
+fn what_stands_behind_tells_of_the_front(rt: HostRuntime) {
+    for (content, end, text) in FRONTS {
+        assert!(rt; end <= content.len() && content.len() < 200);
+        let hints = Hints {
+            empty_rows: 0,
+            ..Hints::of(Size::new(4, 9), false, content, end)
+        };
+        expect_hints(&rt, hints, b"", text);
     }
-    Ok(())
+}
+
+#[test]
+fn no_glyph_blinks_with_the_flag(rt: HostRuntime) {
+    let hints = Hints::of(Size::new(2, 1), true, b"\x1b[5mab", 6);
+    expect_hints(&rt, hints, b"", "");
+}
+
+/// The name of a font, and whether its code page is another one than 437.
+static FONTS: [(&[u8], bool); 14] = [
+    (b"", false),
+    (b"IBM VGA", false),
+    (b"IBM VGA 437", false),
+    (b"IBM VGA50", false),
+    (b"IBM VGA25G 437", false),
+    (b"IBM EGA", false),
+    (b"IBM EGA43 437", false),
+    (b"IBM VGA 866", true),
+    (b"IBM VGA25G 850", true),
+    (b"ibm vga", true),
+    (b"IBM VGA437", true),
+    (b" IBM VGA", true),
+    (b"IBM VGA\x01", true),
+    (b"Amiga Topaz 1", true),
+];
+
+/// The record's field of the font, and the name in it.
+static FONT_FIELDS: [(&[u8], &[u8]); 10] = [
+    (b"", b""),
+    (b"IBM VGA", b"IBM VGA"),
+    (b"IBM VGA  ", b"IBM VGA"),
+    (b"IBM VGA\0rubbish", b"IBM VGA"),
+    (b"IBM VGA 437\0\0 866", b"IBM VGA 437"),
+    (b"IBM VGA  \0\xb0", b"IBM VGA"),
+    (b"Amiga Topaz 1\0IBM VGA", b"Amiga Topaz 1"),
+    (b"IBM\0 VGA", b"IBM"),
+    (b"\0IBM VGA 866", b""),
+    (b"  \0x", b""),
+];
+
+#[test]
+fn fonts_have_their_names_and_code_pages(rt: HostRuntime) {
+    for (name, is_another) in FONTS {
+        assert!(rt; has_other_code_page(name) == is_another, "{name:?}");
+    }
+    for (field, name) in FONT_FIELDS {
+        assert!(rt; font_name(field) == name, "{field:?}");
+    }
+    let text =
+        "hint: the font \u{2665} Topaz is not one of code page 437, so other characters may show\n";
+    expect_content(&rt, (2, 1), b"Hi", b"\x03 Topaz", text);
+    expect_content(&rt, (2, 1), b"Hi", b"\x03 Topaz\0rubbish", text);
+    expect_content(&rt, (2, 1), b"Hi", b"IBM VGA\0rubbish", "");
 }

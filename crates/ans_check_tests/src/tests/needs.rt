@@ -4,7 +4,7 @@ ghost use Rattle.std.specs.Prelude.{◌≤◌, length};
 ghost use Rattle.ans_model.specs.Bytes.{longest_file};
 
 use super::{NEEDS, Text, expect_run, expect_texts, file_of_size, plain_file};
-use ans_check::{Needs, Start, needs};
+use ans_check::{Judged, Start, needs};
 use ans_sauce::{Cause, Fault, MAX_FILE};
 use ans_screen::{Grid, PlainGrid, PlaneGrid};
 use std::alloc::AllocError;
@@ -96,8 +96,8 @@ fn expect_needs_on<G: Grid>(
         let file = plain_file(rt, content, *width, *lines)?;
         assert!(rt; file.len() <= MAX_FILE);
         let found = match &needs::<G>(rt.alloc(), file.as_slice())? {
-            Needs::Least(parts, class) => Some((parts.width(), parts.lines(), *class)),
-            Needs::Refused(_, _) => None,
+            Judged::Passes(parts, class) => Some((parts.width(), parts.lines(), *class)),
+            Judged::NoContent(_) | Judged::Refused(_, _) => None,
         };
         let expected = (*width as usize, *lines as usize, class_named(names));
         assert!(rt; found == Some(expected), "{names} at {content:?}");
@@ -135,14 +135,11 @@ fn expect_fault<G: Grid>(
 ) -> Result<(), AllocError> {
     assert!(rt; file.len() <= MAX_FILE);
     match &needs::<G>(rt.alloc(), file)? {
-        Needs::Refused(parts, found) => {
-            let found_content = match parts {
-                Some(parts) => Some(parts.content()),
-                None => None,
-            };
-            assert_eq!(rt; (*found, found_content), (fault, content));
+        Judged::NoContent(found) => assert_eq!(rt; (*found, None), (fault, content)),
+        Judged::Refused(parts, found) => {
+            assert_eq!(rt; (*found, Some(parts.content())), (fault, content));
         }
-        Needs::Least(_, _) => panic!(rt; "a fault was expected"),
+        Judged::Passes(_, _) => panic!(rt; "a fault was expected"),
     }
     Ok(())
 }

@@ -5,7 +5,7 @@ ghost use Rattle.ans_model.specs.Bytes.{longest_file};
 
 use super::file_of_size;
 use super::large::assert_glyphs;
-use ans_check::{Needs, Start, Verdict, check, needs};
+use ans_check::{Judged, Start, Verdict, check, needs};
 use ans_play::Picture;
 use ans_samples::records::{ACCEPTED, AcceptedFile, REFUSED};
 use ans_samples::rows::Expected::{Refused, Shows};
@@ -116,8 +116,8 @@ fn expect_needs_agree(
         needs::<PlaneGrid>(rt.alloc(), file)?,
     ] {
         let agrees = match &found {
-            Needs::Least(_, class) => class.covers(start) == passes,
-            Needs::Refused(_, _) => !passes,
+            Judged::Passes(_, class) => class.covers(start) == passes,
+            Judged::NoContent(_) | Judged::Refused(_, _) => !passes,
         };
         assert!(rt; agrees, "needs of {file:?}");
     }

@@ -3,7 +3,7 @@
 
 use super::slow_machine::SlowMachine;
 use super::{CLASSES, class, file_of};
-use ans_check::{Needs, needs};
+use ans_check::{Judged, needs};
 use ans_model::fault::Fault;
 use ans_model::limits::MAX_FILE;
 use ans_model::start::Start;
@@ -63,8 +63,8 @@ fn judge_needs<G: Grid>(
     let file = file_of(rt, alloc, bytes, row.width, row.lines)?;
     assert!(rt; file.len() <= MAX_FILE);
     let told = match needs::<G>(alloc, &file)? {
-        Needs::Least(_, least) => Ok(least),
-        Needs::Refused(_, fault) => Err(fault),
+        Judged::Passes(_, least) => Ok(least),
+        Judged::NoContent(fault) | Judged::Refused(_, fault) => Err(fault),
     };
     for number in 0..CLASSES {
         let start = class(number);

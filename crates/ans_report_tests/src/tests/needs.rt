@@ -3,7 +3,7 @@ use crate::tests::{NO_RECORD, NO_RECORD_TOLD, SOME_KNOWN, parts_of};
 use ans_model::start::Start;
 use ans_report::{Needs, put_needs};
 use ans_samples::{puts, sample_file};
-use ans_sauce::{Cause, Fault, Parts};
+use ans_sauce::{Cause, Fault, Judged, Parts};
 use std::process::Abort;
 use std::test::Fail;
 
@@ -12,7 +12,7 @@ fn expect_needs(rt: &impl Abort, needs: &Needs<'_>, text: &[u8]) {
 }
 
 fn expect_least(rt: &impl Abort, parts: Parts<'_>, class: Start, text: &[u8]) {
-    expect_needs(rt, &Needs::Least(parts, class), text);
+    expect_needs(rt, &Judged::Passes(parts, class), text);
 }
 
 #[test]
@@ -51,7 +51,7 @@ fn a_refusal_stands_in_place_of_the_needs(rt: HostRuntime) -> Result<(), Fail> {
         offset: 2,
         cause: Cause::PrintBelow,
     };
-    let needs = Needs::Refused(Some(parts_of(&rt, &file)), fault);
+    let needs = Judged::Refused(parts_of(&rt, &file), fault);
     let text: &[u8] = b"size: 2 x 1\n\
         content: 3 bytes\n\
         note: file size differs from the content\n\
@@ -63,5 +63,5 @@ fn a_refusal_stands_in_place_of_the_needs(rt: HostRuntime) -> Result<(), Fail> {
 
 #[test]
 fn a_refused_record_is_told_alone(rt: HostRuntime) {
-    expect_needs(&rt, &Needs::Refused(None, NO_RECORD), NO_RECORD_TOLD);
+    expect_needs(&rt, &Judged::NoContent(NO_RECORD), NO_RECORD_TOLD);
 }

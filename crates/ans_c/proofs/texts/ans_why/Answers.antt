@@ -1,6 +1,6 @@
 use Rattle.std.proofs.Common.{◌∙◌, ap, inl, inr, length, refl}
 use Rattle.std.specs.Prelude.{is_err}
-use Rattle.ans_explain.specs.WhyText.{why_text}
+use Rattle.ans_why.specs.WhyText.{why_text}
 use Rattle.ans_write.specs.Tried.{has_failed}
 use Rattle.ans_check.proofs.ReportLemmas.{why_reported}
 use Rattle.ans_c.proofs.Verdicts.{lent_lacking}
@@ -18,9 +18,9 @@ returns-in_default-clause-handed c = λ _.
 pub returns-clause-handed : goal.returns-clause-handed
 returns-clause-handed c = λ _.
     inl (record {
-      passed = c.is_of_pass.result;
+      passed = c.is_pass.result;
       text = why_text c.in-Ok.why;
-      reported = why_reported c.args.file.now c.in-Ok.why c.is_of_pass.result c.in-Ok.ensures.why c.is_of_pass.ensures;
+      reported = why_reported c.args.file.now c.in-Ok.why c.is_pass.result c.in-Ok.ensures.why c.is_pass.ensures;
       handed = c.hand_over.ensures.handed c.new-out.result (why_text c.in-Ok.why) c.new-out.ensures.empty
           (ap has_failed c.new-out.ensures.unchanged ∙ c.new-nowhere.ensures.failed) c.put_why.ensures;
     })

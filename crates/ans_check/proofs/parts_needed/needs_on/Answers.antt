@@ -2,9 +2,9 @@ use Rattle.std.proofs.Common.{refl, rules}
 use Rattle.ans_model.specs.Screen.StartClass.{all_known}
 use Rattle.ans_model.proofs.FirstRefusal.{refusal_within_file}
 use Rattle.ans_check.specs.FilePlayed.{IsPlayedFile}
-use Rattle.ans_check.specs.declared.played.Played.TheVariants.{Passes, Refused}
+use Rattle.ans_sauce.specs.declared.judged.Judged.TheVariants.{Refused}
 use Rattle.ans_check.proofs.RoomLemmas.{within_err}
-use Rattle.ans_check.proofs.VerdictLemmas.{needs_class, refuses, refused_not_good, record_not_good}
+use Rattle.ans_check.proofs.VerdictLemmas.{refuses, refused_not_good, record_not_good}
 use Rattle.ans_check.proofs.parts_needed.needs_on.Goals as goal
 
 pub returns-in_err-fault-clause-room : goal.returns-in_err-fault-clause-room
@@ -27,9 +27,10 @@ returns-in-Refused-clause-exact g c good =
     let refused = refuses file all_known c.in-Refused.parts played.0 c.in-Refused.fault played.1 in
     absurd (refused_not_good file all_known refused.0 c.in-Refused.fault refused.2 good)
 
+pub returns-in-Refused-clause-needs : goal.returns-in-Refused-clause-needs
+returns-in-Refused-clause-needs g c = rw c.in-Refused.is at c.in_ok-fault.ensures.played
+
 pub returns-in-Passes-clause-needs : goal.returns-in-Passes-clause-needs
 returns-in-Passes-clause-needs g c =
-    let file = c.args.file.now in
-    let played : IsPlayedFile file (Passes c.in-Passes.parts c.in-Passes.least) =
-    rw c.in-Passes.is at c.in_ok-fault.ensures.played in
-    needs_class file c.in-Passes.least.class c.in-Passes.parts played.0 played.1.least
+    let played = rw c.in-Passes.is at c.in_ok-fault.ensures.played in
+    (played.0, played.1.least)

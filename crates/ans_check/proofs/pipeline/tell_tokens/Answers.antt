@@ -11,8 +11,9 @@ returns-in-Ok g c =
     record {
       passed = not (is_some told.fault);
       text = told.text;
-      reported = tokens_reported c.args.file.now c.in-Ok.parts c.content.result.now told.fault (not (is_some told.fault))
-          told.text c.in-Ok.ensures.ok c.content.ensures told.is_text (some_by_none told.fault);
+      reported = tokens_reported c.args.file.now c.in-Ok.parts c.content.result.now told.fault
+          (not (is_some told.fault)) told.text c.in-Ok.ensures.ok c.content.ensures told.is_text
+          (some_by_none told.fault);
       puts = told.puts;
       answers = λ works. none_told c.put_tokens.result told.fault c.is_none.result c.is_none.ensures
           (told.told_is works);

@@ -26,7 +26,8 @@ pub returns-clause-ok : goal.returns-clause-ok
 returns-clause-ok c =
     let met = rows_met c.args.matches.now c.in-Some.name.now (rows_of (found_of c.in-Some.found.now))
     c.in-Some.ensures.name c.in-Some.ensures.rows in
-    subst (λ (s : Option (Text × List Row)). IsSomeAnd s (AsksAs (One c.options_of.result c.in_ok-file.file))) (sym met) (
+    subst (λ (s : Option (Text × List Row)). IsSomeAnd s (AsksAs (One c.options_of.result c.in_ok-file.file)))
+    (sym met) (
       (
         search rules,
         c.options_of.ensures.form,

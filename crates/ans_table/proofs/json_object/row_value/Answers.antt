@@ -2,7 +2,7 @@ use Rattle.std.proofs.Common.{◌≡◌, ◌∙◌, ap, codes}
 use Rattle.serde_json.proofs.Views.{view-Object}
 use Rattle.serde_json.specs.Data.{object, put, string}
 use Rattle.serde_json.specs.View.{members_view}
-use Rattle.ans_table.specs.Findings.{sauce_of}
+use Rattle.ans_table.specs.Findings.{parts_of, sauce_of}
 use Rattle.ans_table.specs.JsonRow.{Named, content_values, record_values, verdict_values, with_values}
 use Rattle.ans_table.specs.NameText.{name_text}
 use Rattle.ans_table.proofs.JsonLemmas.{row_made}
@@ -14,13 +14,16 @@ returns c =
     let told = members_view c.put_record.new.members.entries in
     let before = members_view c.put_content.new.members.entries in
     let third : told ≡ with_values (record_values (sauce_of finding)) before =
-    rw c.sauce.ensures at c.in_ok-put_record.ensures in
+    rw c.sauce_of.ensures at c.in_ok-put_record.ensures in
+    let first = members_view c.put_verdict.new.members.entries in
+    let second : before ≡ with_values (content_values (parts_of finding)) first =
+    rw c.parts_of.ensures at c.in_ok-put_content.ensures in
     let file : Named = (codes "file", string (name_text c.args.name.now)) in
     let fourth : members_view c.put.new.map.entries ≡ put file.0 file.1 told =
     rw c.in_ok-name_value.ensures at c.in_ok-put.ensures.ok in
     view-Object c.put.new.map
     ∙ ap object
-    (row_made (verdict_values finding) (content_values finding) (record_values (sauce_of finding)) file
-    (members_view c.new-members.result.entries) (members_view c.put_verdict.new.members.entries) before told
+    (row_made (verdict_values finding) (content_values (parts_of finding)) (record_values (sauce_of finding)) file
+    (members_view c.new-members.result.entries) first before told
     (members_view c.put.new.map.entries) (ap members_view c.new-members.ensures.empty)
-    c.in_ok-put_verdict.ensures c.in_ok-put_content.ensures third fourth)
+    c.in_ok-put_verdict.ensures second third fourth)

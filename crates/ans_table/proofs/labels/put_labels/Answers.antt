@@ -9,5 +9,4 @@ returns g c =
     let notes = c.args.notes.now in
     let later : take (length notes - 1) (drop 1 notes) ≡ drop 1 notes = take_rest notes 1 in
     Puts-same (sym (labels_text_is notes _ c.in-len1-up.len_at_least))
-    (Puts-then (rw (c.as_bytes.ensures.value, c.note_label.ensures) at c.put.ensures)
-    (rw later at c.put_later_labels.ensures))
+    (Puts-then c.put_label.ensures (rw later at c.put_later_labels.ensures))

@@ -1,5 +1,0 @@
-pub mod BlamedLemmas
-pub mod WhyLines
-pub mod Relying
-pub mod AllHints
-pub mod NoMoves

@@ -1,7 +1,0 @@
-use Rattle.ans_write.proofs.PutsLemmas.{Puts-then}
-use Rattle.ans_explain.proofs.why_text.put_numbers.Goals as goal
-
-pub returns : goal.returns
-returns g c =
-    Puts-then c.put.ensures
-    (Puts-then c.put_decimal.ensures (Puts-then c.put-2.ensures c.put_decimal-2.ensures))

@@ -1,9 +1,0 @@
-use Rattle.ans_write.proofs.PutsLemmas.{Puts-same, Puts-then}
-use Rattle.ans_explain.specs.WhyText.{place_text}
-use Rattle.ans_explain.proofs.WhyLines.{named_line_is}
-use Rattle.ans_explain.proofs.why_text.put_place_line.Goals as goal
-
-pub returns : goal.returns
-returns g c =
-    Puts-same (named_line_is c.args.name.now (place_text c.args.place))
-    (Puts-then c.put.ensures (Puts-then c.put-2.ensures (Puts-then c.put_place.ensures c.put-3.ensures)))

@@ -1,3 +1,0 @@
-pub mod Blamed
-pub mod Explained
-pub mod WhyText

@@ -1,9 +1,0 @@
-use Rattle.ans_model.specs.Screen.StartClass.{Covers}
-use Rattle.ans_table.proofs.finding.Finding.of_pass.Goals as goal
-
-pub is_taller-taller-requires-clause-good : goal.is_taller-taller-requires-clause-good
-is_taller-taller-requires-clause-good c =
-    let needs = c.args.needs in
-    let itself : Covers needs needs =
-    record { screen = λ t. t; cursor = λ t. t; saved = λ t. t; colours = λ t. t; wrap = λ t. t } in
-    rw (c.content.ensures, c.size.ensures) ((c.requires.needs needs).1 itself)

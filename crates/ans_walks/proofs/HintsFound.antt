@@ -1,0 +1,145 @@
+-- The hints of a front with one token more.
+use Rattle.std.proofs.Common.{◌≡◌, ℕ, ◌+◌, Bool, true, false, not, List, [], ◌∷◌, ◌++◌, length, take, drop}
+use Rattle.std.proofs.Common.{refl, sym, ap}
+use Rattle.std.proofs.Common.{ap₂, arith, ◌∙◌, subst, append_assoc, append-nil, length-append, Option, None, Some}
+use Rattle.std.specs.Prelude.{◌&&◌, if◌then◌else◌, Result}
+use Rattle.std.specs.List.{concat}
+use Rattle.std.proofs.lemmas.Bool.{false≢true}
+use Rattle.std.proofs.lemmas.List.Folds.{concat-append}
+use Rattle.std.proofs.lemmas.List.Sums.{fold-append}
+use Rattle.ans_model.specs.Sequence.TokenKind.{TokenKind}
+use Rattle.ans_model.specs.Sequence.Reads.{ReadsAs}
+use Rattle.ans_model.specs.Screen.State.{Size, State}
+use Rattle.ans_model.specs.Screen.Step.{step, final}
+use Rattle.ans_model.specs.Screen.StartClass.{cleared}
+use Rattle.ans_model.specs.declared.fault.Fault.{Fault}
+use Rattle.ans_walks.specs.Pens.{pen_of}
+use Rattle.ans_tokens.specs.Walk.{Front, front_with, WalksTo}
+use Rattle.ans_tokens.proofs.Walked.{walked_whole}
+use Rattle.ans_walks.specs.Places.{Condition, offset_if, places, times_of}
+use Rattle.ans_walks.specs.Conditions.{loose_line_feed, full_row, wide_character, later_colours, blinking_glyph}
+use Rattle.ans_walks.specs.Counted.{counted}
+use Rattle.ans_walks.specs.Hints.{AreHints}
+use Rattle.ans_walks.specs.RowMoves.{moved_with}
+use Rattle.ans_walks.specs.Rows.{empty_with, empty_after}
+use Rattle.ans_walks.specs.Walks.{HasWalked, hints_with}
+use Rattle.ans_walks.specs.declared.times.Times.{Times}
+use Rattle.ans_walks.specs.declared.walk.Walk.{Walk}
+
+-- an offset more, or none
+times_more : (offsets : List ℕ) (test : Bool) (offset : ℕ)
+    → times_of (offsets ++ offset_if test offset) ≡ counted (times_of offsets) test offset
+times_more [] true offset = refl
+times_more [] false offset = refl
+times_more (first ∷ later) true offset =
+    ap (λ (n : ℕ). Some (record { count = n; first = first })) (length-append (first ∷ later) (offset ∷ []))
+times_more (first ∷ later) false offset = ap times_of (append-nil (first ∷ later))
+
+-- the places in tokens with one more behind them
+places_more : (holds : Condition) (z : Size) (s : State) (offset : ℕ) (tokens : List TokenKind) (t : TokenKind)
+    (texts : List (List ℕ)) (text behind : List ℕ) → length texts ≡ length tokens
+    → places holds z s offset (tokens ++ t ∷ []) (texts ++ text ∷ []) behind
+    ≡ places holds z s offset tokens texts (text ++ behind)
+    ++ offset_if (holds z (final z s tokens) t behind) (offset + length (concat texts))
+places_more holds z s offset [] t [] text behind long =
+    let same : offset ≡ offset + 0 = omega arith in
+    append-nil (offset_if (holds z s t behind) offset) ∙ ap (offset_if (holds z s t behind)) same
+places_more holds z s offset [] t (x ∷ texts) text behind long = absurd (omega (arith, long))
+places_more holds z s offset (u ∷ tokens) t [] text behind long = absurd (omega (arith, long))
+places_more holds z s offset (u ∷ tokens) t (x ∷ texts) text behind long =
+    let here : concat (texts ++ text ∷ []) ++ behind ≡ concat texts ++ (text ++ behind) =
+    ap (λ (v : List ℕ). v ++ behind)
+    (concat-append texts (text ∷ []) ∙ ap (λ (v : List ℕ). concat texts ++ v) (append-nil text))
+    ∙ append_assoc (concat texts) text behind in
+    let there : offset + length x + length (concat texts) ≡ offset + length (x ++ concat texts) =
+    omega (arith, length-append x (concat texts)) in
+    let now : List ℕ = offset_if (holds z s u (concat texts ++ (text ++ behind))) offset in
+    let later : List ℕ = places holds z (step z s u) (offset + length x) tokens texts (text ++ behind) in
+    let last : ℕ → List ℕ = offset_if (holds z (final z (step z s u) tokens) t behind) in
+    ap₂ (λ (rest more : List ℕ). offset_if (holds z s u rest) offset ++ more) here
+    (places_more holds z (step z s u) (offset + length x) tokens t texts text behind (omega (arith, long)))
+    ∙ ap (λ (n : ℕ). now ++ (later ++ last n)) there
+    ∙ sym (append_assoc now later (last (offset + length (x ++ concat texts))))
+
+empty_more : (z : Size) (s : State) (empty : ℕ) (tokens : List TokenKind) (t : TokenKind)
+    → empty_after z s empty (tokens ++ t ∷ []) ≡ empty_with z (final z s tokens) (empty_after z s empty tokens) t
+empty_more z s empty [] t = refl
+empty_more z s empty (u ∷ tokens) t = empty_more z (step z s u) (empty_with z s empty u) tokens t
+
+-- glyphs that blink count where the flag is not set
+unless : (flag test : Bool) (times : Option Times) (offset : ℕ)
+    → (if flag then None else counted times test offset)
+    ≡ counted (if flag then None else times) (not flag && test) offset
+unless true test times offset = refl
+unless false test times offset = refl
+
+-- ---- the walk
+module _ (first old : Walk) (front : Front) (t : TokenKind) (text behind : List ℕ) (h : HasWalked first front true old)
+    (whole : front.behind ≡ text ++ behind) where
+  abbrev z : Size
+  z = first.size
+
+  abbrev here : State
+  here = final first.size (cleared first.size) front.tokens
+
+  abbrev offset : ℕ
+  offset = length (concat front.texts)
+
+  found : (holds : Condition) (start at : ℕ) (times : Option Times) → at ≡ start + offset
+      → times ≡ times_of (places holds z (cleared z) start front.tokens front.texts front.behind)
+      → counted times (holds z here t behind) at
+      ≡ times_of (places holds z (cleared z) start (front.tokens ++ t ∷ []) (front.texts ++ text ∷ []) behind)
+  found holds start at times there e =
+      let before : List ℕ = places holds z (cleared z) start front.tokens front.texts (text ++ behind) in
+      ap₂ (λ (v : Option Times) (n : ℕ). counted v (holds z here t behind) n) (e ∙ ap (λ (b : List ℕ).
+      times_of (places holds z (cleared z) start front.tokens front.texts b)) whole) there
+      ∙ sym (ap times_of (places_more holds z (cleared z) start front.tokens t front.texts text behind h.texts)
+      ∙ times_more before (holds z here t behind) (start + offset))
+
+  hints_more : AreHints z first.non_blink (front.tokens ++ t ∷ []) (front.texts ++ text ∷ []) behind
+      (hints_with (record old { size = z; non_blink = first.non_blink }) here offset t behind)
+  hints_more = record {
+    loose_line_feeds = found loose_line_feed 0 offset _ (omega arith) h.hints.loose_line_feeds;
+    full_rows = found full_row 1 (offset + 1) _ (omega arith) h.hints.full_rows;
+    wide_characters = found wide_character 0 offset _ (omega arith) h.hints.wide_characters;
+    later_colours = found later_colours 0 offset _ (omega arith) h.hints.later_colours;
+    blinking_glyphs =
+        ap (λ (v : Option Times). counted v (not first.non_blink && blinking_glyph z here t behind) offset)
+        h.hints.blinking_glyphs
+        ∙ sym (unless first.non_blink (blinking_glyph z here t behind) _ offset)
+        ∙ ap (λ (v : Option Times). if first.non_blink then None else v)
+        (found blinking_glyph 0 offset _ (omega arith) refl);
+    empty_rows = ap (λ (n : ℕ). empty_with z here n t) h.hints.empty_rows
+        ∙ sym (empty_more z (cleared z) z.lines front.tokens t);
+    moves_rows = ap (λ (moved : Bool). moved_with moved t) h.hints.moves_rows
+        ∙ sym (fold-append moved_with false front.tokens (t ∷ []));
+  }
+
+  -- over one token more
+  pub walked_token : (new : Walk) (start : ℕ) → start ≡ offset → new.size ≡ old.size → new.non_blink ≡ old.non_blink
+      → ((s : State) → old.pen ≡ pen_of s → new.pen ≡ pen_of (step old.size s t))
+      → ((s : State) → old.pen ≡ pen_of s → new.hints ≡ hints_with old s start t behind)
+      → HasWalked first (front_with front t text behind) true new
+  walked_token new start at size non_blink steps looks =
+      let is : new.hints ≡ hints_with (record old { size = z; non_blink = first.non_blink }) here offset t behind =
+      rw (h.size, h.non_blink, at) at (looks here h.pen) in
+      record {
+        never_stops = refl;
+        size = size ∙ h.size;
+        non_blink = non_blink ∙ h.non_blink;
+        texts = omega (arith, h.texts, length-append front.texts (text ∷ []), length-append front.tokens (t ∷ []));
+        pen = subst (λ (y : Size). new.pen ≡ pen_of (step y here t)) h.size (steps here h.pen)
+            ∙ ap pen_of (sym (fold-append (step z) (cleared z) front.tokens (t ∷ [])));
+        hints = subst (AreHints z first.non_blink (front.tokens ++ t ∷ []) (front.texts ++ text ∷ []) behind)
+            (sym is) hints_more;
+      }
+
+-- over the first bytes of a content
+pub walked_hints : (content : List ℕ) (end : ℕ) (first now : Walk) (result : Result Bool Fault)
+    (tokens : List TokenKind) (texts : List (List ℕ))
+    → WalksTo (λ first front now goes_on. HasWalked first front goes_on now) content end first now result
+    → ReadsAs (take end content) tokens texts
+    → AreHints first.size first.non_blink tokens texts (drop end content) now.hints
+walked_hints content end first now result tokens texts h reads =
+    (walked_whole _ content end first now result tokens texts (λ front stops. false≢true stops.never_stops) h
+    reads).hints

@@ -1,0 +1,194 @@
+-- Content behind the mending.
+use Rattle.std.proofs.Common.{◌≡◌, ◌⊎◌, inl, inr, ℕ, zero, suc, true, List, [], ◌∷◌, ◌++◌, length, codes, refl, ap}
+use Rattle.std.proofs.Common.{sym, ◌∙◌, Some, Ok, arith, take, replicate, ◌≤◌}
+use Rattle.std.specs.Prelude.{IsTrue, slice_get, bit_or}
+use Rattle.std.specs.Int.Bits.{and_zero_r}
+use Rattle.std.specs.List.{AllZip, AllByRecursion, join_with_byte}
+use Rattle.std.specs.Char.{is_ascii_alphabetic}
+use Rattle.ans_model.specs.Bytes.{escape, bracket, semicolon, most_parameters}
+use Rattle.ans_model.specs.declared.mark.Mark.{Mark}
+use Rattle.ans_model.specs.declared.mark.Mark.TheVariants.{Unmarked, Question}
+use Rattle.ans_model.specs.declared.fault.Cause.{Cause}
+use Rattle.ans_model.specs.Sequence.TokenKind.{TokenKind, Glyph, LineFeed, Tab, EraseLine, Clear, Save, Colours, Wrap}
+use Rattle.ans_model.specs.Sequence.Spelling.{Member, Number, Omitted, Raw, SpellsMember, IsInLimit, mark_bytes}
+use Rattle.ans_model.specs.Sequence.Meaning.{meaning}
+use Rattle.ans_model.specs.Sequence.Reads.{SpellsToken, Reads}
+use Rattle.ans_model.specs.Screen.Attribute.{attribute_after_all}
+use Rattle.ans_model.specs.Screen.State.{Size, State, cell_at, cell_count}
+use Rattle.ans_model.specs.Screen.Step.{blank_cell, final}
+use Rattle.ans_model.specs.declared.cell.Position.{Position}
+use Rattle.ans_model.specs.Screen.StartClass.{IsStart, cleared, all_known, none_known}
+use Rattle.ans_model.specs.Verdict.Good.{Picture, PlaysWell, PrintsWell, Shows}
+use Rattle.ans_model.specs.Verdict.TokenFault.{FromEvery, FromSome, HasStaticFault, IsInSpareRow, SamePosition}
+use Rattle.ans_model.specs.Verdict.TokenFault.{TabGoesOn, then_blanks}
+use Rattle.ans_model.proofs.StartLemmas.{low_is_start}
+use Rattle.ans_walks.specs.Mend.{mending, mending_tokens, LeavesClearedScreen, MakesGood}
+
+-- the reset of colours leaves nothing of an attribute
+reset : (a : ℕ) → attribute_after_all a (0 ∷ []) ≡ 0x07
+reset a = ap (λ (v : ℕ). bit_or v 0x07) (and_zero_r a)
+
+abbrev cleared_with : Size → ℕ → State
+cleared_with z a = record (cleared z) { screen = replicate (cell_count z) (blank_cell a); attribute = a }
+
+pub leaves_cleared : LeavesClearedScreen
+leaves_cleared z s = ap (cleared_with z) (reset s.attribute)
+
+-- what is played behind the mending is played from the cleared state
+behind_is_cleared : (z : Size) (s : State) (ts : List TokenKind)
+    → final z s (mending_tokens ++ ts) ≡ final z (cleared z) ts
+behind_is_cleared z s ts = ap (λ (v : State). final z v ts) (leaves_cleared z s)
+
+-- ---- its bytes
+
+spelled : (raw : Raw) (texts : List (List ℕ)) → AllZip SpellsMember raw.members texts
+    → (raw.members ≡ Omitted ∷ [] → ⊥) → IsTrue (is_ascii_alphabetic raw.letter)
+    → AllByRecursion IsInLimit raw.members → length raw.members ≤ most_parameters
+    → (t : TokenKind) → meaning raw ≡ Ok t
+    → SpellsToken t (escape ∷ bracket ∷ (mark_bytes raw.mark ++ (join_with_byte semicolon texts ++ raw.letter ∷ [])))
+spelled raw texts members not_omitted letter numbers count t means = inr (record {
+  raw = raw;
+  spelled = record {
+    loose =
+        record { texts = texts; members = members; not_one_omitted = not_omitted; letter = letter; whole = refl };
+    numbers = numbers;
+    count = count;
+  };
+  means = means;
+})
+
+abbrev sequence : Mark → List Member → ℕ → Raw
+sequence mark members letter = record { mark = mark; members = members; letter = letter }
+
+wrap_on : SpellsToken (Wrap true) (escape ∷ codes "[?7h")
+wrap_on =
+    spelled (sequence Question (Number 7 ∷ []) 0x68) (codes "7" ∷ []) ((omega arith, refl, refl), tt) (λ e. cc) refl
+    (omega arith, tt) (omega arith) (Wrap true) refl
+
+white_on_black : SpellsToken (Colours (0 ∷ [])) (escape ∷ codes "[0m")
+white_on_black =
+    spelled (sequence Unmarked (Number 0 ∷ []) 0x6D) (codes "0" ∷ []) ((omega arith, refl, refl), tt) (λ e. cc) refl
+    (omega arith, tt) (omega arith) (Colours (0 ∷ [])) refl
+
+clear : SpellsToken Clear (escape ∷ codes "[2J")
+clear =
+    spelled (sequence Unmarked (Number 2 ∷ []) 0x4A) (codes "2" ∷ []) ((omega arith, refl, refl), tt) (λ e. cc) refl
+    (omega arith, tt) (omega arith) Clear refl
+
+save : SpellsToken Save (escape ∷ codes "[s")
+save = spelled (sequence Unmarked [] 0x73) [] tt (λ e. cc) refl tt (omega arith) Save refl
+
+reads_behind : (content : List ℕ) (tokens : List TokenKind) → Reads content tokens
+    → Reads (mending ++ content) (mending_tokens ++ tokens)
+reads_behind content tokens h = (
+  (escape ∷ codes "[?7h") ∷ (escape ∷ codes "[0m") ∷ (escape ∷ codes "[2J") ∷ (escape ∷ codes "[s") ∷ h.0,
+  record {
+    each = (wrap_on, (white_on_black, (clear, (save, h.1.each))));
+    whole = ap (λ (v : List ℕ). mending ++ v) h.1.whole;
+  },
+)
+
+-- ---- its tokens
+
+-- a token of the mending does nothing that could go wrong
+abbrev IsQuiet : TokenKind → Type 0
+IsQuiet (Glyph byte) = ⊥
+IsQuiet LineFeed = ⊥
+IsQuiet Tab = ⊥
+IsQuiet EraseLine = ⊥
+IsQuiet t = (z : Size) (cause : Cause) → ¬ HasStaticFault z t cause
+
+-- a token stands in the content
+record IsBehind (tokens : List TokenKind) (k : ℕ) (t : TokenKind) : Type 0 where
+  j : ℕ
+  there : slice_get tokens j ≡ Some t
+  front : take k (mending_tokens ++ tokens) ≡ mending_tokens ++ take j tokens
+
+quiet_or_behind : (tokens : List TokenKind) (k : ℕ) (t : TokenKind) → slice_get (mending_tokens ++ tokens) k ≡ Some t
+    → IsQuiet t ⊎ IsBehind tokens k t
+quiet_or_behind tokens zero t e = let same : t ≡ Wrap true = cc in inl (rw same (λ z cause h. h))
+quiet_or_behind tokens (suc zero) t e = let same : t ≡ Colours (0 ∷ []) = cc in inl (rw same (λ z cause h. h))
+quiet_or_behind tokens (suc (suc zero)) t e = let same : t ≡ Clear = cc in inl (rw same (λ z cause h. h))
+quiet_or_behind tokens (suc (suc (suc zero))) t e = let same : t ≡ Save = cc in inl (rw same (λ z cause h. h))
+quiet_or_behind tokens (suc (suc (suc (suc j)))) t e = inr (record { j = j; there = e; front = refl })
+
+-- and has no fault of its own
+quiet_has_none : (t : TokenKind) → IsQuiet t → (z : Size) (cause : Cause) → ¬ HasStaticFault z t cause
+quiet_has_none (Glyph byte) h = absurd h
+quiet_has_none LineFeed h = absurd h
+quiet_has_none Tab h = absurd h
+quiet_has_none EraseLine h = absurd h
+quiet_has_none t h = h
+
+-- what has to hold of a token behind the mending holds where it does of one of the content
+of_content : (tokens : List TokenKind) (k : ℕ) (t : TokenKind) (P : List TokenKind → Type 0)
+    → slice_get (mending_tokens ++ tokens) k ≡ Some t → (IsQuiet t → ⊥)
+    → ((j : ℕ) → slice_get tokens j ≡ Some t → P (mending_tokens ++ take j tokens))
+    → P (take k (mending_tokens ++ tokens))
+of_content tokens k t P e loud h = go (quiet_or_behind tokens k t e)
+  where
+    go : IsQuiet t ⊎ IsBehind tokens k t → P (take k (mending_tokens ++ tokens))
+    go (inl quiet) = absurd (loud quiet)
+    go (inr b) = rw b.front (h b.j b.there)
+
+module _ (z : Size) (start : IsStart z all_known (cleared z)) where
+  -- after the same tokens behind the mending, each start's cursor is the cleared start's
+  one_cursor : (s : State) (played : List TokenKind)
+      → (final z s (mending_tokens ++ played)).cursor ≡ (final z (cleared z) played).cursor
+  one_cursor s played = ap (λ (v : State). v.cursor) (behind_is_cleared z s played)
+
+  one_position : (played : List TokenKind) → SamePosition z none_known (mending_tokens ++ played)
+  one_position played s t _ _ = one_cursor s played ∙ sym (one_cursor t played)
+
+  never_in_spare_row : (played : List TokenKind) → FromEvery z all_known (λ s. ¬ IsInSpareRow z played s)
+      → FromEvery z none_known (λ s. ¬ IsInSpareRow z (mending_tokens ++ played) s)
+  never_in_spare_row played h s _ below =
+      h (cleared z) start (sym (ap (λ (p : Position). p.row) (one_cursor s played)) ∙ below)
+
+  prints_behind : (played : List TokenKind) → PrintsWell z all_known played
+      → PrintsWell z none_known (mending_tokens ++ played)
+  prints_behind played h = record {
+    at_one_position = one_position played;
+    never_below = never_in_spare_row played h.never_below;
+  }
+
+  plays_behind : (tokens : List TokenKind) → PlaysWell z all_known tokens
+      → PlaysWell z none_known (mending_tokens ++ tokens)
+  plays_behind tokens h = record {
+    no_static_fault = λ k t cause e. none k t cause (quiet_or_behind tokens k t e);
+    never_scrolls = λ k e. of_content tokens k LineFeed
+        (λ played. FromEvery z none_known (λ s. ¬ IsInSpareRow z played s)) e (λ quiet. quiet)
+        (λ j at. never_in_spare_row (take j tokens) (h.never_scrolls j at));
+    prints_well = λ k byte e. of_content tokens k (Glyph byte) (PrintsWell z none_known) e (λ quiet. quiet)
+        (λ j at. prints_behind (take j tokens) (h.prints_well j byte at));
+    tabs_well = λ k n e. of_content tokens k Tab
+        (λ played. FromSome z none_known (TabGoesOn z played n) → PrintsWell z none_known (then_blanks played n)) e
+        (λ quiet. quiet)
+        (λ j at some. prints_behind (then_blanks (take j tokens) n)
+        (h.tabs_well j n at (cleared z, start, rw (one_cursor some.0 (take j tokens)) at some.2)));
+    erases_at_one_position = λ k e. of_content tokens k EraseLine (SamePosition z none_known) e (λ quiet. quiet)
+        (λ j at. one_position (take j tokens));
+  }
+    where
+      none : (k : ℕ) (t : TokenKind) (cause : Cause) → IsQuiet t ⊎ IsBehind tokens k t → ¬ HasStaticFault z t cause
+      none k t cause (inl quiet) = quiet_has_none t quiet z cause
+      none k t cause (inr b) = h.no_static_fault b.j t cause b.there
+
+  shows_behind : (tokens : List TokenKind) (picture : Picture) → Shows z all_known tokens picture
+      → Shows z none_known (mending_tokens ++ tokens) picture
+  shows_behind tokens picture h = record {
+    is_picture = h.is_picture;
+    shown = λ s p _ stated. ap (λ (v : State). cell_at z v.screen p) (behind_is_cleared z s tokens)
+        ∙ h.shown (cleared z) p start stated;
+  }
+
+pub makes_good : MakesGood
+makes_good z content picture h =
+    let start : IsStart z all_known (cleared z) = low_is_start z all_known h.size.some_columns in
+    record {
+      size = h.size;
+      tokens = mending_tokens ++ h.tokens;
+      reads = reads_behind content h.tokens h.reads;
+      plays = plays_behind z start h.tokens h.plays;
+      shows = shows_behind z start h.tokens picture h.shows;
+    }

@@ -1,0 +1,16 @@
+pub mod Mend
+pub mod MendedFile
+pub mod Pens
+pub mod Lines
+pub mod Taller
+pub mod Walkers
+pub mod Watched
+pub mod Evidence
+pub mod Places
+pub mod Conditions
+pub mod Rows
+pub mod RowMoves
+pub mod Counted
+pub mod Hints
+pub mod Walks
+pub mod RowLaws

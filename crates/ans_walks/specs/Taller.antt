@@ -1,0 +1,42 @@
+-- Content that plays on a taller screen as on the stated one.
+use Rattle.std.specs.Prelude.{◌≡◌, ℕ, ◌+◌, ◌≤◌, List, take, slice_get, Some}
+use Rattle.ans_model.specs.Sequence.TokenKind.{TokenKind, Up, Down}
+use Rattle.ans_model.specs.Sequence.Reads.{Reads}
+use Rattle.ans_model.specs.Screen.State.{Size, State, IsStated, cell_at, sized}
+use Rattle.ans_model.specs.Screen.Step.{final}
+use Rattle.ans_model.specs.Screen.StartClass.{IsStart}
+use Rattle.ans_model.specs.Verdict.Good.{Picture, GoodWith, PlaysWell}
+use Rattle.ans_model.specs.Verdict.TokenFault.{FromEvery}
+use Rattle.ans_model.specs.declared.cell.Position.{Position}
+use Rattle.ans_model.specs.declared.start.Start.{Start}
+
+-- after these tokens the cursor's row is the same from every start
+abbrev pub SameRow : Size → Start → List TokenKind → Type 0
+SameRow z class played = (s t : State) → IsStart z class s → IsStart z class t
+    → (final z s played).cursor.row ≡ (final z t played).cursor.row
+
+-- No move down is stopped by the bottom edge, and at each move up the cursor's row is the same from every start.
+pub record MovesFreely (z : Size) (class : Start) (tokens : List TokenKind) : Type 0 where
+  pub down : (k n : ℕ) → slice_get tokens k ≡ Some (Down n)
+      → FromEvery z class (λ s. (final z s (take k tokens)).cursor.row + n ≤ z.lines)
+  pub up : (k n : ℕ) → slice_get tokens k ≡ Some (Up n) → SameRow z class (take k tokens)
+
+-- the content's moves are free
+pub record IsTaller (z : Size) (class : Start) (content : List ℕ) : Type 0 where
+  pub tokens : List TokenKind
+  pub reads : Reads content tokens
+  pub free : MovesFreely z class tokens
+
+-- on a screen of this many lines the tokens play well from every start of the class, so that nothing scrolls, and the
+-- first lines show the picture
+pub record ShowsOn (z : Size) (class : Start) (tokens : List TokenKind) (picture : Picture) (lines : ℕ) : Type 0 where
+  pub plays : PlaysWell (sized z.width lines) class tokens
+  pub shown : (s : State) (p : Position) → IsStart (sized z.width lines) class s → IsStated z p
+      → cell_at (sized z.width lines) (final (sized z.width lines) s tokens).screen p ≡ cell_at z picture.cells p
+
+-- Good content whose moves are free shows its picture on every taller screen of its width. (Some content does so whose
+-- moves are not free.)
+abbrev pub TallerShowsTheSame : Type 0
+TallerShowsTheSame = (z : Size) (class : Start) (content : List ℕ) (picture : Picture) (lines : ℕ)
+    → (good : GoodWith z class content picture) → IsTaller z class content → z.lines ≤ lines
+    → ShowsOn z class good.tokens picture lines

@@ -1,0 +1,51 @@
+-- The hints of a front of a content, token by token.
+use Rattle.std.specs.Prelude.{◌≡◌, ℕ, ◌+◌, ◌≤◌, Bool, not, ◌&&◌, List, length, IsTrue}
+use Rattle.ans_model.specs.Sequence.TokenKind.{TokenKind}
+use Rattle.ans_model.specs.Screen.State.{State}
+use Rattle.ans_model.specs.Screen.Step.{final}
+use Rattle.ans_model.specs.Screen.StartClass.{cleared}
+use Rattle.ans_walks.specs.Pens.{pen_of, StandsOn}
+use Rattle.ans_tokens.specs.Walk.{Front}
+use Rattle.ans_walks.specs.Conditions.{loose_line_feed, full_row, wide_character, later_colours, blinking_glyph}
+use Rattle.ans_walks.specs.Counted.{count_of, counted}
+use Rattle.ans_walks.specs.Hints.{AreHints}
+use Rattle.ans_walks.specs.RowMoves.{moved_with}
+use Rattle.ans_walks.specs.Rows.{empty_with}
+use Rattle.ans_walks.specs.declared.hints.Hints.{Hints}
+use Rattle.ans_walks.specs.declared.walk.Walk.{Walk}
+
+-- the hints with one token more, which stands at this offset in this state, before these bytes
+abbrev pub hints_with : Walk → State → ℕ → TokenKind → List ℕ → Hints
+hints_with walk s offset t rest = record {
+  loose_line_feeds = counted walk.hints.loose_line_feeds (loose_line_feed walk.size s t rest) offset;
+  full_rows = counted walk.hints.full_rows (full_row walk.size s t rest) (offset + 1);
+  wide_characters = counted walk.hints.wide_characters (wide_character walk.size s t rest) offset;
+  later_colours = counted walk.hints.later_colours (later_colours walk.size s t rest) offset;
+  blinking_glyphs = counted walk.hints.blinking_glyphs
+      (not walk.non_blink && blinking_glyph walk.size s t rest) offset;
+  empty_rows = empty_with walk.size s walk.hints.empty_rows t;
+  moves_rows = moved_with walk.hints.moves_rows t;
+}
+
+-- there are no more times of anything than bytes so far
+pub record CountsWithin (hints : Hints) (offset : ℕ) : Type 0 where
+  pub loose_line_feeds : count_of hints.loose_line_feeds ≤ offset
+  pub full_rows : count_of hints.full_rows ≤ offset
+  pub wide_characters : count_of hints.wide_characters ≤ offset
+  pub later_colours : count_of hints.later_colours ≤ offset
+  pub blinking_glyphs : count_of hints.blinking_glyphs ≤ offset
+
+-- the cursors stand on the screen, and no more was counted than the bytes up to this offset
+pub record IsAt (walk : Walk) (offset : ℕ) : Type 0 where
+  pub stands : StandsOn walk.size walk.pen
+  pub within : CountsWithin walk.hints offset
+
+-- Over the front the first walk has become the other, which goes on: it is the play of the front's tokens, and has
+-- their hints.
+pub record HasWalked (first : Walk) (front : Front) (goes_on : Bool) (now : Walk) : Type 0 where
+  pub never_stops : IsTrue goes_on
+  pub size : now.size ≡ first.size
+  pub non_blink : now.non_blink ≡ first.non_blink
+  pub texts : length front.texts ≡ length front.tokens
+  pub pen : now.pen ≡ pen_of (final first.size (cleared first.size) front.tokens)
+  pub hints : AreHints first.size first.non_blink front.tokens front.texts front.behind now.hints

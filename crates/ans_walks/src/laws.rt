@@ -1,0 +1,43 @@
+//! Laws of what a drawing relies on, and of what is counted.
+
+ghost use Rattle.ans_walks.specs.Lines.{OneLineMoreIsGood};
+ghost use Rattle.ans_walks.specs.Mend.{LeavesClearedScreen, MakesGood};
+ghost use Rattle.ans_walks.specs.MendedFile.{MendedFilePasses};
+ghost use Rattle.ans_walks.specs.RowLaws.{EmptyRowsHoldNothing, NoMoreRowsAreEmpty};
+ghost use Rattle.ans_walks.specs.Taller.{TallerShowsTheSame};
+
+/// `ESC[?7h ESC[0m ESC[2J ESC[s`, 16 bytes without the blanks between them, leave exactly the cleared
+/// state, whatever state they are played from. So content that is good from the cleared start is good
+/// from every start behind them, with the same picture.
+pub fn mended_content_is_good()
+    ensures cleared { LeavesClearedScreen }
+    ensures good { MakesGood }
+{}
+
+/// An accepted file that passes from the cleared start passes from every start once these 16 bytes
+/// stand before its content and its FileSize is 16 more. It keeps its size and its notes.
+pub fn mended_file_passes()
+    ensures { MendedFilePasses }
+{}
+
+/// From the cleared start, content that is good with some lines stated is good with one line more,
+/// though it may show another picture. So the numbers of lines with which it passes are all from the
+/// least one on.
+pub fn more_lines_never_hurt()
+    ensures { OneLineMoreIsGood }
+{}
+
+/// A verdict speaks of a screen that has the stated lines and one more. Where no move down is stopped
+/// by the bottom edge, and each move up comes with the cursor in one row from every start of the class,
+/// good content does on every taller screen of its width as on that one: nothing scrolls, and the first
+/// lines show the picture.
+pub fn taller_screens_show_the_same()
+    ensures { TallerShowsTheSame }
+{}
+
+/// The rows that are counted as empty are those at the end of the stated lines in which no glyph and no
+/// blank of a tab is printed, in the play from the cleared start.
+pub fn rows_at_the_end_are_empty()
+    ensures nothing { EmptyRowsHoldNothing }
+    ensures no_more { NoMoreRowsAreEmpty }
+{}

@@ -1,0 +1,30 @@
+//! What walks over a content tell: plays of the cursors, the colours and wrap alone, without a screen.
+//!
+//! Of a fault that is deserved, [`cursors_before`] and [`cells_of_fault`] give what the plays from the
+//! low and the high start of a class show. [`least_lines`] says with how many lines a content passes
+//! from the cleared start, and [`is_taller`] whether it plays on taller screens as on the stated one.
+//! [`Hints::of`] counts what is worth a look in a drawing, though it changes no verdict. Each law is the
+//! contract of a function without a body. Nothing here takes memory.
+//!
+//! A `Pen` is all of a state but its cells. No cell tells where a token takes it, so it goes on without
+//! them, also where the screen scrolls (`specs/Pens.antt`). What each hint is about stands in
+//! `specs/Conditions.antt` and `specs/Rows.antt`, and how it is counted in `specs/Places.antt`.
+#![tactic(auto)]
+
+mod conditions;
+mod evidence;
+mod hints;
+pub mod laws;
+mod lines;
+mod pen;
+mod taller;
+mod times;
+mod two_watches;
+mod walk;
+mod watch;
+
+pub use evidence::{cells_of_fault, cursors_before};
+pub use hints::Hints;
+pub use lines::least_lines;
+pub use taller::is_taller;
+pub use times::Times;

@@ -1,0 +1,135 @@
+//! The cursors, the attribute and wrap, token by token.
+
+ghost use Rattle.std.specs.Prelude.{◌≡◌, ◌≤◌, fold, replicate};
+ghost use Rattle.ans_model.specs.Bytes.{blank};
+ghost use Rattle.ans_model.specs.Screen.State.{Size, State};
+ghost use Rattle.ans_model.specs.Screen.Step.{advanced, line_feed, put, step};
+ghost use Rattle.ans_model.specs.Inside.ShownKind.{shown_kind};
+ghost use Rattle.ans_walks.specs.Pens.{pen_of, cleared_pen, before_last_blank, StandsOn};
+
+use ans_model::attribute::attribute_after_all;
+use ans_model::cell::Position;
+use ans_model::kind::Kind;
+use ans_model::size::Size;
+use ans_model::tab::tab_blanks;
+
+/// The first column of the first row.
+pub(crate) const HOME: Position = Position { row: 0, column: 0 };
+
+/// All of a state but its screen: where the cursor stands and where it was saved, by rows and columns
+/// from 0, the attribute as ANSI.SYS keeps it, and whether wrap is on.
+#[derive(Debug, Clone, Copy, PartialEq, Eq)]
+pub(crate) struct Pen {
+    pub(crate) cursor: Position,
+    pub(crate) saved: Position,
+    pub(crate) attribute: u8,
+    pub(crate) wrap: bool,
+}
+
+impl Pen {
+    /// That of the cleared start, which is one on every screen.
+    pub(crate) fn cleared() -> Pen
+        ensures { result ≡ cleared_pen }
+    {
+        Pen {
+            cursor: HOME,
+            saved: HOME,
+            attribute: 0x07,
+            wrap: true,
+        }
+    }
+
+    /// One row down; in the spare row it stays.
+    fn line_feed(&mut self, size: Size)
+        requires stands { StandsOn size self.old }
+        ensures stands { StandsOn size self.new }
+        ensures pen { (s : State) → self.old ≡ pen_of s → self.new ≡ pen_of (line_feed size s) }
+    {
+        if self.cursor.row < size.lines() {
+            self.cursor.row += 1;
+        }
+    }
+
+    /// The cursor goes on after a printed byte.
+    #[inline(always)]
+    pub(crate) fn advance(&mut self, size: Size)
+        requires stands { StandsOn size self.old }
+        ensures stands { StandsOn size self.new }
+        ensures pen { (s : State) → self.old ≡ pen_of s → self.new ≡ pen_of (advanced size s) }
+    {
+        if self.cursor.column + 1 < size.width() {
+            self.cursor.column += 1;
+        } else if self.wrap {
+            self.cursor.column = 0;
+            self.line_feed(size);
+        }
+    }
+
+    /// So many blanks are printed, at most as many as a tab prints.
+    fn blanks(&mut self, size: Size, count: usize)
+        requires few { count ≤ 8 }
+        requires stands { StandsOn size self.old }
+        ensures stands { StandsOn size self.new }
+        ensures pen { (s : State) → self.old ≡ pen_of s
+            → self.new ≡ pen_of (fold (put size) s (replicate count blank)) }
+    {
+        if self.cursor.column + count < size.width() {
+            self.cursor.column += count;
+            return;
+        }
+        for _ in 0..count {
+            self.advance(size);
+        }
+    }
+
+    /// The row of the last blank that a tab prints, which is the lowest.
+    pub(crate) fn row_of_tab(&self, size: Size) -> usize
+        requires stands { StandsOn size self.now }
+        ensures within { result ≤ size.lines }
+        ensures row { (s : State) → self.now ≡ pen_of s
+            → result ≡ (before_last_blank size s).cursor.row }
+    {
+        let mut last = *self;
+        let blanks = tab_blanks(self.cursor.column) - 1;
+        last.blanks(size, blanks);
+        last.cursor.row
+    }
+
+    /// One token, by the table of steps.
+    #[inline(always)]
+    pub(crate) fn step(&mut self, size: Size, kind: &Kind)
+        requires stands { StandsOn size self.old }
+        ensures stands { StandsOn size self.new }
+        ensures pen { (s : State) → self.old ≡ pen_of s
+            → self.new ≡ pen_of (step size s (shown_kind kind.now)) }
+    {
+        let last_row = size.lines();
+        let last_column = size.width() - 1;
+        let Position { row, column } = self.cursor;
+        match kind {
+            Kind::Glyph(_) => self.advance(size),
+            Kind::Tab => self.blanks(size, tab_blanks(column)),
+            Kind::LineFeed => self.line_feed(size),
+            Kind::CarriageReturn => self.cursor.column = 0,
+            Kind::BackSpace => self.cursor.column = column.saturating_sub(1),
+            Kind::Up(n) => self.cursor.row = row.saturating_sub(*n as usize),
+            Kind::Down(n) => self.cursor.row = (row + *n as usize).min(last_row),
+            Kind::Forward(n) => self.cursor.column = (column + *n as usize).min(last_column),
+            Kind::Backward(n) => self.cursor.column = column.saturating_sub(*n as usize),
+            Kind::Place(row, column) => {
+                self.cursor = Position {
+                    row: (*row as usize).saturating_sub(1).min(last_row),
+                    column: (*column as usize).saturating_sub(1).min(last_column),
+                }
+            }
+            Kind::Clear => self.cursor = HOME,
+            Kind::Save => self.saved = self.cursor,
+            Kind::Restore => self.cursor = self.saved,
+            Kind::Colours(parameters) => {
+                self.attribute = attribute_after_all(self.attribute, parameters)
+            }
+            Kind::Wrap(on) => self.wrap = *on,
+            Kind::Bell | Kind::EraseLine | Kind::Keys | Kind::Mode | Kind::Ask => {}
+        }
+    }
+}

@@ -1,0 +1,34 @@
+//! How often something comes.
+
+ghost use Rattle.std.specs.Prelude.{◌≡◌, ◌+◌, ◌≤◌};
+ghost use Rattle.ans_model.specs.Bytes.{longest_file};
+ghost use Rattle.ans_walks.specs.Counted.{count_of, counted};
+
+/// How many times something comes, at least one, and the offset of the first in bytes from the
+/// content's start.
+#[derive(Debug, Clone, Copy, PartialEq, Eq)]
+pub struct Times {
+    pub count: usize,
+    pub first: usize,
+}
+
+/// One time more where it comes at this offset.
+#[inline(always)]
+pub(crate) fn count(times: &mut Option<Times>, comes: bool, offset: usize)
+    requires { count_of times.old ≤ longest_file }
+    ensures value { times.new ≡ counted times.old comes offset }
+    ensures within { count_of times.new ≤ count_of times.old + 1 }
+{
+    if !comes {
+        return;
+    }
+    match times {
+        None => {
+            *times = Some(Times {
+                count: 1,
+                first: offset,
+            })
+        }
+        Some(times) => times.count += 1,
+    }
+}

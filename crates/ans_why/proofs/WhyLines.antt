@@ -1,0 +1,51 @@
+-- The lines of `why`, by the pieces that are put.
+use Rattle.std.proofs.Common.{◌≡◌, ℕ, ◌≤◌, ◌<◌, List, [], ◌∷◌, ◌++◌, length, take, codes}
+use Rattle.std.proofs.Common.{refl, sym, arith, append_assoc, append-nil}
+use Rattle.std.specs.List.{flat_map}
+use Rattle.std.proofs.lemmas.Bool.{lt-ltb, le-ltb}
+use Rattle.std.proofs.lemmas.List.{take_all}
+use Rattle.ans_model.specs.Text.Characters.{shown_bytes}
+use Rattle.ans_model.specs.Text.RecordText.{named_line}
+use Rattle.ans_why.specs.WhyText.{quoted_byte, quoted, bytes_line}
+
+pub named_line_is : (name text : List ℕ) → name ++ (codes ": " ++ (text ++ codes "\n")) ≡ named_line name text
+named_line_is name text = simp append_assoc
+
+-- the same with the key in one piece
+pub keyed_line_is : (key name text : List ℕ) → key ≡ name ++ codes ": "
+    → key ++ (text ++ codes "\n") ≡ named_line name text
+keyed_line_is key name text e = rw e (simp append_assoc)
+
+-- ---- quoted bytes
+pub quoted_long : (bytes : List ℕ) → 32 < length bytes
+    → flat_map quoted_byte (take 32 bytes) ++ codes " .." ≡ quoted bytes
+quoted_long bytes lt = rw (lt-ltb 32 (length bytes) lt) refl
+
+pub quoted_short : (bytes : List ℕ) → length bytes ≤ 32 → flat_map quoted_byte bytes ≡ quoted bytes
+quoted_short bytes le =
+    rw (le-ltb 32 (length bytes) le, take_all 32 bytes le) (sym (append-nil (flat_map quoted_byte bytes)))
+
+pub bytes_line_is : (bytes : List ℕ) → 0 < length bytes
+    → codes "bytes: " ++ (quoted bytes ++ codes "\n") ≡ bytes_line bytes
+bytes_line_is [] some = absurd (omega (arith, some))
+bytes_line_is (byte ∷ more) some = keyed_line_is (codes "bytes: ") (codes "bytes") (quoted (byte ∷ more)) refl
+
+-- ---- what is found
+pub found_version : (bytes : List ℕ) → codes "found: version " ++ (shown_bytes bytes ++ codes "\n")
+    ≡ named_line (codes "found") (codes "version " ++ shown_bytes bytes)
+found_version bytes = simp append_assoc
+
+pub found_count : (count what : List ℕ) → codes "found: " ++ (count ++ (what ++ codes "\n"))
+    ≡ named_line (codes "found") (count ++ what)
+found_count count what = simp append_assoc
+
+pub found_record : (offset behind : List ℕ)
+    → codes "found: a record at " ++ (offset ++ (codes ", and " ++ (behind ++ codes " behind it\n")))
+    ≡ named_line (codes "found")
+    (codes "a record at " ++ (offset ++ (codes ", and " ++ (behind ++ codes " behind it"))))
+found_record offset behind = simp append_assoc
+
+pub found_kind : (kind subkind : List ℕ)
+    → (codes "found: data type " ++ (kind ++ (codes ", file type " ++ subkind))) ++ codes "\n"
+    ≡ named_line (codes "found") (codes "data type " ++ (kind ++ (codes ", file type " ++ subkind)))
+found_kind kind subkind = simp append_assoc

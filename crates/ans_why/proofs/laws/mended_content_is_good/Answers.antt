@@ -1,5 +1,0 @@
-use Rattle.ans_why.proofs.Mended.{leaves_cleared, makes_good}
-use Rattle.ans_why.proofs.laws.mended_content_is_good.Goals as goal
-
-pub returns : goal.returns
-returns c = record { cleared = leaves_cleared; good = makes_good }

@@ -1,0 +1,24 @@
+use Rattle.std.proofs.Common.{◌≡◌, sym, ap, ◌∙◌}
+use Rattle.ans_why.specs.Explained.{place_of}
+use Rattle.ans_why.proofs.why.Refusal.of.Goals as goal
+
+pub returns : goal.returns
+returns c =
+    let shows = c.cursors_before.ensures.shows in
+    let same : c.cursors_before.result.1 ≡ c.cursors_before.result.0 = shows.high_is ∙ sym shows.low_is in
+    record {
+      deserved = c.requires.deserved;
+      bytes = rw (c.content-content.ensures, c.size-size.ensures) at c.bytes_to_blame-bytes.ensures;
+      cursor = record {
+        low_position = c.cursors_before.result.0;
+        high_position = c.cursors_before.result.1;
+        shows = rw (c.content-content.ensures, c.size-size.ensures) at shows;
+        low_is = c.place.ensures;
+        high_is = c.place.ensures ∙ ap place_of (sym same);
+      };
+      lines = rw (c.width.ensures.width, c.content-content.ensures) at c.enough_lines.ensures;
+      hints_end = c.end_of_hints-end.result;
+      ends = c.end_of_hints-end.ensures.ends;
+      hints = rw (c.content-content.ensures, c.size-size.ensures, c.is_non_blink.ensures, c.sauce.ensures)
+          at c.of.ensures;
+    }

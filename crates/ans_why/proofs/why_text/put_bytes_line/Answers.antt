@@ -1,0 +1,10 @@
+use Rattle.std.proofs.Common.{rules, ◌<◌, length}
+use Rattle.ans_write.proofs.PutsLemmas.{Puts-same, Puts-then}
+use Rattle.ans_why.proofs.WhyLines.{bytes_line_is}
+use Rattle.ans_why.proofs.why_text.put_bytes_line.Goals as goal
+
+pub returns : goal.returns
+returns g c =
+    let some : 0 < length c.args.bytes.now = search rules in
+    Puts-same (bytes_line_is c.args.bytes.now some)
+    (Puts-then c.put.ensures (Puts-then c.put_quoted.ensures c.put-2.ensures))

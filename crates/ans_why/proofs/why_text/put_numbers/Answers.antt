@@ -1,0 +1,7 @@
+use Rattle.ans_write.proofs.PutsLemmas.{Puts-then}
+use Rattle.ans_why.proofs.why_text.put_numbers.Goals as goal
+
+pub returns : goal.returns
+returns g c =
+    Puts-then c.put.ensures
+    (Puts-then c.put_decimal.ensures (Puts-then c.put-2.ensures c.put_decimal-2.ensures))

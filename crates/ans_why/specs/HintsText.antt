@@ -1,0 +1,49 @@
+-- The lines of hints.
+use Rattle.std.specs.Prelude.{ℕ, ◌==◌, List, [], ◌++◌, codes, decimal, Option, None, Some, if◌then◌else◌}
+use Rattle.ans_model.specs.Text.Characters.{shown_bytes}
+use Rattle.ans_model.specs.Text.FaultText.{line_of}
+use Rattle.ans_why.specs.Fonts.{font_name, has_other_code_page}
+use Rattle.ans_walks.specs.declared.hints.Hints.{Hints}
+use Rattle.ans_walks.specs.declared.times.Times.{Times}
+
+-- a line that begins with `hint: `
+abbrev pub hint_line : List ℕ → List ℕ
+hint_line text = line_of (codes "hint: " ++ text)
+
+-- how many times, and where first
+abbrev pub times_text : Times → List ℕ
+times_text times =
+    if times.count == 1 then codes "once, at " ++ decimal times.first
+    else decimal times.count ++ (codes " times, first at " ++ decimal times.first)
+
+-- what comes, how often, and what to do; no line where it never comes
+abbrev pub times_line : List ℕ → Option Times → List ℕ → List ℕ
+times_line what None advice = []
+times_line what (Some times) advice = hint_line (what ++ (codes ", " ++ (times_text times ++ advice)))
+
+-- a font that is known for other characters, or not known, by the field that names it
+abbrev pub font_line : List ℕ → List ℕ
+font_line field =
+    if has_other_code_page (font_name field) then hint_line (codes "the font "
+    ++ (shown_bytes (font_name field) ++ codes " is not one of code page 437, so other characters may show"))
+    else []
+
+-- the stated lines below all that is printed
+abbrev pub empty_rows_line : ℕ → List ℕ
+empty_rows_line rows =
+    if rows == 0 then []
+    else if rows == 1 then hint_line (codes "nothing is printed in the last line")
+    else hint_line (codes "nothing is printed in the last " ++ (decimal rows ++ codes " lines"))
+
+-- the hints of a content, and that of the font, by the record's field
+abbrev pub hints_text : Hints → List ℕ → List ℕ
+hints_text hints field =
+    times_line (codes "a line feed with no return beside it goes straight down") hints.loose_line_feeds []
+    ++ (times_line (codes "a full row and a line end take two rows") hints.full_rows []
+    ++ (times_line (codes "a character is in UTF-8") hints.wide_characters
+    (codes ": convert the text to code page 437")
+    ++ (times_line (codes "a sequence has a colour of later terminals (38, 48, 90 to 97 or 100 to 107)")
+    hints.later_colours []
+    ++ (times_line (codes "a character blinks") hints.blinking_glyphs
+    (codes ": for bright backgrounds set the non-blink flag")
+    ++ (font_line field ++ empty_rows_line hints.empty_rows)))))

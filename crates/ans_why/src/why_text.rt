@@ -1,0 +1,303 @@
+//! The text of `why`.
+ghost use Rattle.std.specs.Prelude.{◌≡◌, ◌++◌, ◌==◌, [], codes, decimal, if◌then◌else◌};
+ghost use Rattle.std.specs.List.{flat_map};
+ghost use Rattle.ans_model.specs.Text.Characters.{shown_bytes};
+ghost use Rattle.ans_model.specs.Text.RecordText.{named_line};
+ghost use Rattle.ans_sauce.specs.declared.found.Found.TheVariants as found;
+ghost use Rattle.ans_write.specs.Puts.{Puts};
+ghost use Rattle.ans_why.specs.WhyText.{quoted_byte, quoted, bytes_line, place_text, cell_text, shown_lines};
+ghost use Rattle.ans_why.specs.WhyText.{mend_line, reliance_lines, lines_line, after_end_mark_text};
+ghost use Rattle.ans_model.specs.Text.Words.{answer_text};
+ghost use Rattle.ans_why.specs.WhyText.{counted_text, found_line, pass_lines, refusal_lines, why_text};
+
+use crate::hints_text::put_hints;
+use crate::why::{Pass, Place, Refusal, Reliance, Shown, Why};
+use ans_model::cell::Cell;
+use ans_report::{
+    answer_text, put_fault_line, put_named_line, put_needed_parts, put_number_line, put_refusal,
+    put_size_line,
+};
+use ans_sauce::{Found, Judged, Parts};
+use ans_walks::Hints;
+use ans_write::{Outbox, hex_byte, put_characters};
+use std::io::Write;
+
+/// How many bytes are quoted at most.
+const QUOTED: usize = 32;
+
+fn put_quoted_byte<W: Write>(out: &mut Outbox<'_, W>, byte: u8)
+    ensures { Puts W.contents out.old out.new (quoted_byte byte) }
+{
+    match byte {
+        0x07 => out.put(b"<BEL>"),
+        0x08 => out.put(b"<BS>"),
+        b'\t' => out.put(b"<TAB>"),
+        b'\n' => out.put(b"<LF>"),
+        b'\r' => out.put(b"<CR>"),
+        0x1B => out.put(b"<ESC>"),
+        _ => put_characters(out, &[byte]),
+    }
+}
+
+fn put_quoted_bytes<W: Write>(out: &mut Outbox<'_, W>, bytes: &[u8])
+    ensures { Puts W.contents out.old out.new (flat_map quoted_byte bytes.now) }
+{
+    for byte in bytes {
+        put_quoted_byte(out, *byte);
+    }
+}
+
+fn put_quoted<W: Write>(out: &mut Outbox<'_, W>, bytes: &[u8])
+    ensures { Puts W.contents out.old out.new (quoted bytes.now) }
+{
+    if bytes.len() > QUOTED {
+        put_quoted_bytes(out, &bytes[..QUOTED]);
+        out.put(b" ..");
+        return;
+    }
+    put_quoted_bytes(out, bytes);
+}
+
+fn put_bytes_line<W: Write>(out: &mut Outbox<'_, W>, bytes: &[u8])
+    ensures { Puts W.contents out.old out.new (bytes_line bytes.now) }
+{
+    if bytes.is_empty() {
+        return;
+    }
+    out.put(b"bytes: ");
+    put_quoted(out, bytes);
+    out.put(b"\n");
+}
+
+/// Puts two numbers, each behind a text.
+fn put_numbers<W: Write>(
+    out: &mut Outbox<'_, W>,
+    before: &[u8],
+    number: usize,
+    between: &[u8],
+    other: usize,
+)
+    ensures { Puts W.contents out.old out.new
+        (before.now ++ (decimal number ++ (between.now ++ decimal other))) }
+{
+    out.put(before);
+    out.put_decimal(number as u64);
+    out.put(between);
+    out.put_decimal(other as u64);
+}
+
+fn put_place<W: Write>(out: &mut Outbox<'_, W>, place: Place)
+    ensures { Puts W.contents out.old out.new (place_text place) }
+{
+    put_numbers(out, b"row ", place.row, b", column ", place.column);
+}
+
+fn put_place_line<W: Write>(out: &mut Outbox<'_, W>, name: &[u8], place: Place)
+    ensures { Puts W.contents out.old out.new (named_line name.now (place_text place)) }
+{
+    out.put(name);
+    out.put(b": ");
+    put_place(out, place);
+    out.put(b"\n");
+}
+
+fn put_cell<W: Write>(out: &mut Outbox<'_, W>, cell: Cell)
+    ensures { Puts W.contents out.old out.new (cell_text cell) }
+{
+    out.put(b"byte ");
+    out.put(&hex_byte(cell.byte));
+    out.put(b", attribute ");
+    out.put(&hex_byte(cell.attribute));
+}
+
+fn put_cell_line<W: Write>(out: &mut Outbox<'_, W>, name: &[u8], cell: Cell)
+    ensures { Puts W.contents out.old out.new (named_line name.now (cell_text cell)) }
+{
+    out.put(name);
+    out.put(b": ");
+    put_cell(out, cell);
+    out.put(b"\n");
+}
+
+fn put_shown<W: Write>(out: &mut Outbox<'_, W>, shown: Shown)
+    ensures { Puts W.contents out.old out.new (shown_lines shown) }
+{
+    match shown {
+        Shown::Cursors { low, high } => {
+            put_place_line(out, b"low start", low);
+            put_place_line(out, b"high start", high);
+        }
+        Shown::Cells { low, high } => {
+            put_cell_line(out, b"low start", low);
+            put_cell_line(out, b"high start", high);
+        }
+    }
+}
+
+fn put_mend_line<W: Write>(out: &mut Outbox<'_, W>, mends: bool)
+    ensures { Puts W.contents out.old out.new (mend_line mends) }
+{
+    if mends {
+        out.put(b"mend: begin with ESC[?7h ESC[0m ESC[2J ESC[s\n");
+    }
+}
+
+fn put_reliance<W: Write>(out: &mut Outbox<'_, W>, reliance: Option<Reliance<'_>>)
+    ensures { Puts W.contents out.old out.new (reliance_lines reliance.entry) }
+{
+    let Some(reliance) = reliance else {
+        return;
+    };
+    put_fault_line(out, &reliance.fault);
+    put_bytes_line(out, reliance.bytes);
+    put_shown(out, reliance.shown);
+    put_mend_line(out, reliance.mends);
+}
+
+fn put_pass<W: Write>(out: &mut Outbox<'_, W>, parts: &Parts<'_>, pass: &Pass<'_>)
+    ensures { Puts W.contents out.old out.new (pass_lines parts.now pass.now) }
+{
+    out.put(b"verdict: pass\n");
+    out.put(b"needs: ");
+    put_needed_parts(out, pass.needs);
+    out.put(b"\n");
+    put_named_line(out, b"taller", answer_text(pass.taller));
+    put_reliance(out, pass.reliance);
+    put_hints(out, &pass.hints, parts.sauce().font());
+}
+
+fn put_lines_line<W: Write>(out: &mut Outbox<'_, W>, lines: Option<u16>)
+    ensures { Puts W.contents out.old out.new (lines_line lines) }
+{
+    if let Some(lines) = lines {
+        put_number_line(out, b"lines", u64::from(lines));
+    }
+}
+
+fn put_refused<W: Write>(out: &mut Outbox<'_, W>, parts: &Parts<'_>, refusal: &Refusal<'_>)
+    ensures { Puts W.contents out.old out.new (refusal_lines parts.now refusal.now) }
+{
+    put_refusal(out, &refusal.fault);
+    put_bytes_line(out, refusal.bytes);
+    put_place_line(out, b"cleared start", refusal.cursor);
+    put_lines_line(out, refusal.lines);
+    let hints = Hints {
+        empty_rows: 0,
+        ..refusal.hints
+    };
+    put_hints(out, &hints, parts.sauce().font());
+}
+
+fn plural(count: u64) -> &'static [u8]
+    ensures { result.now ≡ (if count == 1 then [] else codes "s") }
+{
+    if count == 1 { b"" } else { b"s" }
+}
+
+/// Puts so many of a thing, as `1 byte` and `2 bytes`.
+fn put_counted<W: Write>(out: &mut Outbox<'_, W>, count: u64, thing: &[u8])
+    ensures { Puts W.contents out.old out.new (counted_text count thing.now) }
+{
+    out.put_decimal(count);
+    out.put(b" ");
+    out.put(thing);
+    out.put(plural(count));
+}
+
+fn put_count<W: Write>(out: &mut Outbox<'_, W>, count: u64, thing: &[u8], what: &[u8])
+    ensures { Puts W.contents out.old out.new
+        (named_line (codes "found") (counted_text count thing.now ++ what.now)) }
+{
+    out.put(b"found: ");
+    put_counted(out, count, thing);
+    out.put(what);
+    out.put(b"\n");
+}
+
+fn put_record_found<W: Write>(out: &mut Outbox<'_, W>, offset: usize, behind: usize)
+    ensures { Puts W.contents out.old out.new (found_line (found.Record offset behind)) }
+{
+    out.put(b"found: a record at ");
+    out.put_decimal(offset as u64);
+    out.put(b", and ");
+    put_counted(out, behind as u64, b"byte");
+    out.put(b" behind it\n");
+}
+
+fn put_kind_found<W: Write>(out: &mut Outbox<'_, W>, data_type: u8, file_type: u8)
+    ensures { Puts W.contents out.old out.new (found_line (found.Kind data_type file_type)) }
+{
+    let data_type = usize::from(data_type);
+    let file_type = usize::from(file_type);
+    put_numbers(
+        out,
+        b"found: data type ",
+        data_type,
+        b", file type ",
+        file_type,
+    );
+    out.put(b"\n");
+}
+
+fn put_version_found<W: Write>(out: &mut Outbox<'_, W>, version: &[u8])
+    ensures { Puts W.contents out.old out.new
+        (named_line (codes "found") (codes "version " ++ shown_bytes version.now)) }
+{
+    out.put(b"found: version ");
+    put_characters(out, version);
+    out.put(b"\n");
+}
+
+fn after_end_mark(older: bool) -> &'static [u8]
+    ensures { result.now ≡ after_end_mark_text older }
+{
+    if older {
+        b" after the end mark, with an older record"
+    } else {
+        b" after the end mark, without a record"
+    }
+}
+
+fn put_found<W: Write>(out: &mut Outbox<'_, W>, found: &Found<'_>)
+    ensures { Puts W.contents out.old out.new (found_line found.now) }
+{
+    match *found {
+        Found::NoRecord => {}
+        Found::Record { offset, behind } => put_record_found(out, offset, behind),
+        Found::Version(version) => put_version_found(out, version),
+        Found::Kind {
+            data_type,
+            file_type,
+        } => put_kind_found(out, data_type, file_type),
+        Found::Comments(count) => put_count(out, u64::from(count), b"comment", b" stated"),
+        Found::Lines(lines) => put_count(out, u64::from(lines), b"line", b" stated"),
+        Found::Width(width) => put_count(out, u64::from(width), b"column", b" stated"),
+        Found::AfterEndMark { count, record } => {
+            put_count(out, count as u64, b"byte", after_end_mark(record));
+        }
+    }
+}
+
+/// Puts what `why` says of a file: lines of a key, a colon and a value. After the size and the verdict
+/// come, of a pass, what it needs, whether it plays on taller screens, and what it relies on; of a refusal
+/// the fault, the bytes to blame, where the cursor stands before them, and the number of lines that is
+/// enough; and of both the hints. Of a record or a layout that is refused come the fault and what stands
+/// there.
+pub fn put_why<W: Write>(out: &mut Outbox<'_, W>, why: &Why<'_>)
+    ensures { Puts W.contents out.old out.new (why_text why.now) }
+{
+    match why {
+        Judged::NoContent(said) => {
+            put_refusal(out, &said.fault);
+            put_found(out, &said.found);
+        }
+        Judged::Refused(parts, refusal) => {
+            put_size_line(out, parts);
+            put_refused(out, parts, refusal);
+        }
+        Judged::Passes(parts, pass) => {
+            put_size_line(out, parts);
+            put_pass(out, parts, pass);
+        }
+    }
+}
