@@ -37,7 +37,7 @@ from second_machine import (
 
 MOST_LINES, TRIED_ONE_BY_ONE = 8192, 24
 MENDING = b"\x1b[?7h\x1b[0m\x1b[2J\x1b[s"
-NAMES = {7: "<BEL>", 8: "<BS>", 9: "<TAB>", 10: "<LF>", 13: "<CR>", 27: "<ESC>"}
+NAMES = {7: "<BEL>", 8: "<BS>", 9: "<TAB>", 10: "<LF>", 13: "<CR>", 27: "<ESC>", 32: "<SP>"}
 LOW_GLYPHS = " ☺☻♥♦♣♠•◘○◙♂♀♪♫☼►◄↕‼¶§▬↨↑↓→←∟↔▲▼"
 FONTS_OF_437 = [
     name + page
@@ -64,7 +64,7 @@ def shown(byte):
 
 
 def quoted(text):
-    """At most 32 bytes, those that ANSI.SYS does not print by name."""
+    """At most 32 bytes, those that ANSI.SYS does not print and the blank by name."""
     return "".join(NAMES.get(byte) or shown(byte) for byte in text[:32]) + (" .." if len(text) > 32 else "")
 
 

@@ -12,7 +12,7 @@
 //! `specs/FileNeeds.antt`, what each command writes in `specs/CommandText.antt`, what a run has done
 //! when it returns in `specs/Served.antt`, what a table has in `specs/Table.antt`, how words are
 //! answered in `specs/Answer.antt`, and the endings in `specs/Ending.antt`. The command line is read
-//! by `ans_options`. Whatever a contract here names is passed on.
+//! by `ans_options`, whose public names are passed on.
 #![tactic(auto)]
 
 mod answering;

@@ -94,7 +94,8 @@ quoted_byte_clean byte h =
     (clean_if (byte == 0x0A) _ _ (plain_text (codes "<LF>") refl)
     (clean_if (byte == 0x0D) _ _ (plain_text (codes "<CR>") refl)
     (clean_if (byte == 0x1B) _ _ (plain_text (codes "<ESC>") refl)
-    (clean_shown (byte ∷ []) (All-cons IsByte byte [] h (All-nil IsByte))))))))
+    (clean_if (byte == 0x20) _ _ (plain_text (codes "<SP>") refl)
+    (clean_shown (byte ∷ []) (All-cons IsByte byte [] h (All-nil IsByte)))))))))
 
 quoted_bytes_clean : (bytes : List ℕ) → All IsByte bytes → IsCleanText (flat_map quoted_byte bytes)
 quoted_bytes_clean [] h = clean_nil

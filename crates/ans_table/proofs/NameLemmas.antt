@@ -14,7 +14,7 @@ use Rattle.bstr.specs.Utf8.{decoded}
 use Rattle.bstr.proofs.lemmas.SoundLemmas.{SpellsChar-decoded}
 use Rattle.ans_model.specs.Bytes.{IsByte}
 use Rattle.ans_model.specs.Text.Hexadecimal.{hex_byte, hex_digit}
-use Rattle.ans_table.specs.NameText.{ascii_shown, byte_escape, name_after, name_text, wide_size}
+use Rattle.ans_table.specs.NameText.{ascii_shown, byte_escape, is_shown, name_after, name_text, wide_size}
 
 -- a byte that is copied
 pub copied_first : (n : ℕ) (rest : List ℕ) → 0 < n → 0 < length rest
@@ -103,10 +103,10 @@ copied_front (suc n) (b ∷ front) rest e =
     ap (λ (v : List ℕ). b ∷ v) (copied_front n front rest (omega (arith, e)))
 
 -- the character that is shown as itself
-wide_char : (o : Option ℕ) (size : ℕ) → 0 < (if option_map_or (λ c. nat_lt 0x9F c) o false then size else 0)
-    → (c : ℕ) × (o ≡ Some c) × ((if option_map_or (λ c. nat_lt 0x9F c) o false then size else 0) ≡ size)
+wide_char : (o : Option ℕ) (size : ℕ) → 0 < (if option_map_or is_shown o false then size else 0)
+    → (c : ℕ) × (o ≡ Some c) × ((if option_map_or is_shown o false then size else 0) ≡ size)
 wide_char None size some = absurd (omega (arith, some))
-wide_char (Some c) size some = (c, refl, go (nat_lt 0x9F c) some)
+wide_char (Some c) size some = (c, refl, go (is_shown c) some)
   where
     go : (b : Bool) → 0 < (if b then size else 0) → (if b then size else 0) ≡ size
     go true some = refl

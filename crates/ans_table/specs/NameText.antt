@@ -1,5 +1,7 @@
 -- How the name of a file is shown: so that it writes nothing to a terminal but characters, in one column.
-use Rattle.std.specs.Prelude.{ℕ, zero, suc, ◌-◌, ◌==◌, ◌||◌, false, nat_lt, List, [], ◌∷◌, ◌++◌, if◌then◌else◌}
+use Rattle.std.specs.Prelude.{ℕ, zero, suc, ◌-◌, ◌==◌, ◌||◌, ◌&&◌, Bool, false, not, nat_lt, List, [], ◌∷◌, ◌++◌}
+use Rattle.std.specs.Prelude.{if◌then◌else◌}
+use Rattle.std.specs.Int.{is_in_range}
 use Rattle.std.specs.Option.{option_map_or}
 use Rattle.bstr.specs.Utf8.{decoded}
 use Rattle.ans_model.specs.Text.Hexadecimal.{hex_byte}
@@ -17,10 +19,19 @@ ascii_shown b =
     else if nat_lt b 0x20 || b == 0x7F then byte_escape b
     else b ∷ []
 
--- the length of the character that the bytes begin with, where it comes after the control characters of C1; else 0
+-- a character that turns the direction of the text around it, or hides in it
+abbrev pub turns_or_hides : ℕ → Bool
+turns_or_hides c =
+    c == 0x061C || is_in_range 0x200B 0x200F c || is_in_range 0x202A 0x202E c || is_in_range 0x2060 0x2069 c
+    || c == 0xFEFF
+
+-- a character that is shown as itself comes after the control characters of C1, and does neither
+abbrev pub is_shown : ℕ → Bool
+is_shown c = nat_lt 0x9F c && not (turns_or_hides c)
+
+-- the length of the character that the bytes begin with, where it is shown as itself; else 0
 abbrev pub wide_size : List ℕ → ℕ
-wide_size bytes =
-    if option_map_or (λ c. nat_lt 0x9F c) (decoded bytes).char false then (decoded bytes).size else 0
+wide_size bytes = if option_map_or is_shown (decoded bytes).char false then (decoded bytes).size else 0
 
 -- the rest of a name, of which the first n bytes belong to a character that is shown as itself
 abbrev pub name_after : ℕ → List ℕ → List ℕ
@@ -31,6 +42,7 @@ name_after zero (b ∷ rest) =
     else if nat_lt 0 (wide_size (b ∷ rest)) then b ∷ name_after (wide_size (b ∷ rest) - 1) rest
     else byte_escape b ++ name_after 0 rest
 
--- a name: its characters, and by escapes a backslash, the control characters, and each byte that is not UTF-8
+-- a name: its characters, and by escapes a backslash, the control characters, those that turn or hide text, and each
+-- byte that is not UTF-8
 abbrev pub name_text : List ℕ → List ℕ
 name_text name = name_after 0 name

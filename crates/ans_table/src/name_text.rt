@@ -4,7 +4,8 @@ ghost use Rattle.std.specs.Prelude.{◌≡◌, ◌<◌, ◌++◌, ℕ, List, dro
 ghost use Rattle.std.specs.Str.{IsUtf8};
 ghost use Rattle.ans_model.specs.Bytes.{IsByte};
 ghost use Rattle.ans_write.specs.Puts.{Puts};
-ghost use Rattle.ans_table.specs.NameText.{ascii_shown, byte_escape, name_after, name_text, wide_size};
+ghost use Rattle.ans_table.specs.NameText.{ascii_shown, byte_escape, is_shown, name_after, name_text};
+ghost use Rattle.ans_table.specs.NameText.{turns_or_hides, wide_size};
 
 use ans_write::{Outbox, hex_byte};
 use bstr::decode_utf8;
@@ -30,12 +31,32 @@ fn put_ascii<W: Write>(out: &mut Outbox<'_, W>, byte: u8)
     }
 }
 
+/// Whether a character turns the direction of the text around it, or hides in it.
+fn turns_or_hides(character: char) -> bool
+    ensures { result ≡ turns_or_hides character }
+{
+    matches!(
+        character,
+        '\u{61C}'
+            | '\u{200B}'..='\u{200F}'
+            | '\u{202A}'..='\u{202E}'
+            | '\u{2060}'..='\u{2069}'
+            | '\u{FEFF}'
+    )
+}
+
+fn is_shown(character: char) -> bool
+    ensures { result ≡ is_shown character }
+{
+    character > '\u{9F}' && !turns_or_hides(character)
+}
+
 /// The length of the character that the bytes begin with, where it is shown as itself; else 0.
 fn wide_size(bytes: &[u8]) -> usize
     ensures { result ≡ wide_size bytes.now }
 {
     match decode_utf8(bytes) {
-        (Some(character), size) if character > '\u{9F}' => size,
+        (Some(character), size) if is_shown(character) => size,
         _ => 0,
     }
 }
@@ -67,7 +88,8 @@ fn put_first<W: Write>(out: &mut Outbox<'_, W>, rest: &[u8], copied: usize) -> u
 }
 
 /// Puts the name of a file: a tab, a line end and a backslash by their escapes, and each other control
-/// character, and what is not UTF-8, by its bytes in hexadecimal digits. What is put is UTF-8.
+/// character, each character that turns or hides text, and what is not UTF-8, by its bytes in hexadecimal
+/// digits. What is put is UTF-8.
 pub(crate) fn put_name<W: Write>(out: &mut Outbox<'_, W>, name: &[u8])
     ensures puts { Puts W.contents out.old out.new (name_text name.now) }
     ensures utf8 { IsUtf8 (name_text name.now) }

@@ -25,7 +25,7 @@ use Rattle.ans_why.specs.declared.why.Reliance.{Reliance}
 use Rattle.ans_why.specs.declared.why.Shown.{Shown}
 use Rattle.ans_why.specs.declared.why.Shown.TheVariants.{Cursors, Cells}
 
--- a control byte of ANSI.SYS by its name, and another byte by its character
+-- a control byte of ANSI.SYS and a blank by their names, and another byte by its character
 abbrev pub quoted_byte : ℕ → List ℕ
 quoted_byte byte =
     if byte == 0x07 then codes "<BEL>"
@@ -34,6 +34,7 @@ quoted_byte byte =
     else if byte == 0x0A then codes "<LF>"
     else if byte == 0x0D then codes "<CR>"
     else if byte == 0x1B then codes "<ESC>"
+    else if byte == 0x20 then codes "<SP>"
     else shown_bytes (byte ∷ [])
 
 -- at most 32 bytes

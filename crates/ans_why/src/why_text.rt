@@ -35,6 +35,7 @@ fn put_quoted_byte<W: Write>(out: &mut Outbox<'_, W>, byte: u8)
         b'\n' => out.put(b"<LF>"),
         b'\r' => out.put(b"<CR>"),
         0x1B => out.put(b"<ESC>"),
+        b' ' => out.put(b"<SP>"),
         _ => put_characters(out, &[byte]),
     }
 }

@@ -125,8 +125,19 @@ const WILD_OBJECT: &str = error_object!(
     "\\\\x82\u{e9}\\\\xc2\\\\x9b\\\\xe2\\\\x82"
 );
 
+/// A name that has characters that turn or hide text, and their neighbours, which do not.
+const HIDING: &[u8] =
+    b"\xd8\x9c\xe2\x80\x8b\xe2\x80\x8f\xe2\x80\x90\xe2\x80\xaa\xe2\x80\xae\xe2\x80\xaf\
+    \xe2\x81\xa0\xe2\x81\xa9\xe2\x81\xaa\xef\xbb\xbf";
+
+const HIDING_ROW: &str = error_row!(
+    "cannot open the file",
+    "\\xd8\\x9c\\xe2\\x80\\x8b\\xe2\\x80\\x8f\u{2010}\\xe2\\x80\\xaa\\xe2\\x80\\xae\u{202f}\
+        \\xe2\\x81\\xa0\\xe2\\x81\\xa9\u{206a}\\xef\\xbb\\xbf"
+);
+
 /// Words behind `anscheck table`, what standard input gives, the table, what is said, and the status.
-static TABLES: [(&[&str], Stored<'static>, &[&str], &str, u8); 19] = words! {
+static TABLES: [(&[&str], Stored<'static>, &[&str], &str, u8); 20] = words! {
     "table" "hi.ans" => Bytes(b"abc\0"), &[HEADER, HI_ROW],
         "anscheck: 1 file: 1 pass, 0 refused, 0 not read\n", 0;
     "table" "hi.ans" "low.ans" "abc" "--no-header" "hi.ans" => Torn(b""), &[HI_ROW, LOW_ROW, ABC_ROW, HI_ROW],
@@ -145,6 +156,9 @@ static TABLES: [(&[&str], Stored<'static>, &[&str], &str, u8); 19] = words! {
     "table" "--no-header"
         => Bytes(b"a\tb\nc\\d\x1b[m\x7f\0\x82\xc3\xa9\xc2\x9b\xe2\x82\0"), &[CONTROLS_ROW, WILD_ROW],
         "anscheck: 2 files: 0 pass, 0 refused, 2 not read\n", 2;
+    "table" "--no-header"
+        => Bytes(HIDING), &[HIDING_ROW],
+        "anscheck: 1 file: 0 pass, 0 refused, 1 not read\n", 2;
     "table" "--json"
         => Bytes(b"hi.ans\0low.ans\0abc\0torn\0gone\0hi.ans"),
         &[HI_OBJECT, LOW_OBJECT, ABC_OBJECT, TORN_OBJECT, GONE_OBJECT, HI_OBJECT],

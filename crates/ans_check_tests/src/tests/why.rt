@@ -8,8 +8,9 @@ use std::process::Abort;
 type Row = (&'static [u8], u16, u16, &'static str);
 
 /// What is refused.
-static REFUSED: [Row; 18] = files! {
+static REFUSED: [Row; 19] = files! {
     file(2 x 1, b"\x1b7") => "at 0: F9 broken sequence\nbytes: <ESC>7\ncleared start: row 1, column 1\n";
+    file(2 x 1, b"\x1b[ ") => "at 0: F9 broken sequence\nbytes: <ESC>[<SP>\ncleared start: row 1, column 1\n";
     file(2 x 1, b"\x1b[999D") => "at 0: F10 number above 255\nbytes: <ESC>[999\ncleared start: row 1, column 1\n";
     file(2 x 1, b"\x1b[0;0;0;0;0;0;0;0;0;0;0;0;0;0;0;0;0m")
         => "at 0: F11 more than 16 parameters\n\
