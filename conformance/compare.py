@@ -7,7 +7,8 @@ COMMAND is run for each drawing that has a picture, with its path as the last wo
 a cleared screen, and prints what the screen then shows of the stated lines: a line for each row, and in it for each
 cell two hexadecimal digits of its byte in code page 437 and two of its attribute. That is what stands in the
 drawing's `.cells`. It prints the drawings whose cells differ, with the first of these cells, and then how many were
-compared. Its status is 1 where one differs.
+compared. Its status is 1 where one differs. What COMMAND says on standard error is passed on, and the first drawing of
+which it prints nothing ends the comparison, with status 1.
 
     python3 conformance/compare.py --checker anscheck
 
@@ -42,16 +43,24 @@ def first_difference(told, cells):
     return "another number of rows"
 
 
+def printed(command):
+    """What a command prints. Where that is nothing, all ends here."""
+    done = subprocess.run(command, stdout=subprocess.PIPE)
+    if not done.stdout.strip():
+        sys.exit(f"{' '.join(command)}: it printed nothing, and ended with status {done.returncode}")
+    return done.stdout.decode("utf-8", "replace")
+
+
 def checked(program, start, path):
     """What the checker says: the cells of a pass, or the line of a refusal."""
     flags = {"any": [], "cleared": ["--cleared"]}.get(start) or [f"--known-{p}" for p in start.split()[1:]]
-    report = subprocess.run([program, "check", *flags, "--cells", path], capture_output=True).stdout.decode()
+    report = printed([program, "check", *flags, "--cells", path])
     return report.partition("cells:\n")[2] or report.partition("verdict: refused\n")[2]
 
 
 def played(command, path):
     """What a player prints, in small digits."""
-    return subprocess.run([*command, path], capture_output=True).stdout.decode("ascii", "replace").lower()
+    return printed([*command, path]).lower()
 
 
 def main():
