@@ -17,12 +17,16 @@ use Rattle.ans_walks.specs.Pens.{pen_of}
 use Rattle.ans_tokens.specs.Walk.{Front, front_with, WalksTo}
 use Rattle.ans_tokens.proofs.Walked.{walked_whole}
 use Rattle.ans_walks.specs.Places.{Condition, offset_if, places, times_of}
-use Rattle.ans_walks.specs.Conditions.{loose_line_feed, full_row, wide_character, later_colours, blinking_glyph}
+use Rattle.ans_walks.specs.Conditions.{loose_line_feed, wide_character, two_byte_letter, latin_letter, board_code}
+use Rattle.ans_walks.specs.Conditions.{later_colours, blinking_glyph}
+use Rattle.ans_walks.specs.RowEnds.{Written, nothing_written, row_ends_with, row_with, written_after, written_with}
+use Rattle.ans_walks.specs.declared.row.Row.{Row}
 use Rattle.ans_walks.specs.Counted.{counted}
 use Rattle.ans_walks.specs.Hints.{AreHints}
 use Rattle.ans_walks.specs.RowMoves.{moved_with}
 use Rattle.ans_walks.specs.Rows.{empty_with, empty_after}
 use Rattle.ans_walks.specs.Walks.{HasWalked, hints_with}
+use Rattle.ans_walks.specs.declared.row_ends.RowEnds.{RowEnds}
 use Rattle.ans_walks.specs.declared.times.Times.{Times}
 use Rattle.ans_walks.specs.declared.walk.Walk.{Walk}
 
@@ -66,6 +70,24 @@ empty_more : (z : Size) (s : State) (empty : ℕ) (tokens : List TokenKind) (t :
 empty_more z s empty [] t = refl
 empty_more z s empty (u ∷ tokens) t = empty_more z (step z s u) (empty_with z s empty u) tokens t
 
+-- what is written with one token more
+written_more : (z : Size) (s : State) (offset : ℕ) (w : Written) (tokens : List TokenKind) (t : TokenKind)
+    (texts : List (List ℕ)) (text : List ℕ) → length texts ≡ length tokens
+    → written_after z s offset w (tokens ++ t ∷ []) (texts ++ text ∷ [])
+    ≡ written_with z (final z s tokens) (offset + length (concat texts)) (written_after z s offset w tokens texts) t
+written_more z s offset w [] t [] text long =
+    let same : offset ≡ offset + 0 = omega arith in
+    ap (λ (n : ℕ). written_with z s n w t) same
+written_more z s offset w [] t (x ∷ texts) text long = absurd (omega (arith, long))
+written_more z s offset w (u ∷ tokens) t [] text long = absurd (omega (arith, long))
+written_more z s offset w (u ∷ tokens) t (x ∷ texts) text long =
+    let there : offset + length x + length (concat texts) ≡ offset + length (x ++ concat texts) =
+    omega (arith, length-append x (concat texts)) in
+    written_more z (step z s u) (offset + length x) (written_with z s offset w u) tokens t texts text
+    (omega (arith, long))
+    ∙ ap (λ (n : ℕ). written_with z (final z (step z s u) tokens) n
+    (written_after z (step z s u) (offset + length x) (written_with z s offset w u) tokens texts) t) there
+
 -- glyphs that blink count where the flag is not set
 unless : (flag test : Bool) (times : Option Times) (offset : ℕ)
     → (if flag then None else counted times test offset)
@@ -96,12 +118,26 @@ module _ (first old : Walk) (front : Front) (t : TokenKind) (text behind : List 
       ∙ sym (ap times_of (places_more holds z (cleared z) start front.tokens t front.texts text behind h.texts)
       ∙ times_more before (holds z here t behind) (start + offset))
 
+  written : written_after z (cleared z) 0 (nothing_written z) (front.tokens ++ t ∷ []) (front.texts ++ text ∷ [])
+      ≡ written_with z here offset
+      (written_after z (cleared z) 0 (nothing_written z) front.tokens front.texts) t
+  written =
+      let same : 0 + offset ≡ offset = omega arith in
+      written_more z (cleared z) 0 (nothing_written z) front.tokens t front.texts text h.texts
+      ∙ ap (λ (n : ℕ). written_with z here n
+      (written_after z (cleared z) 0 (nothing_written z) front.tokens front.texts) t) same
+
   hints_more : AreHints z first.non_blink (front.tokens ++ t ∷ []) (front.texts ++ text ∷ []) behind
       (hints_with (record old { size = z; non_blink = first.non_blink }) here offset t behind)
   hints_more = record {
     loose_line_feeds = found loose_line_feed 0 offset _ (omega arith) h.hints.loose_line_feeds;
-    full_rows = found full_row 1 (offset + 1) _ (omega arith) h.hints.full_rows;
+    row_ends =
+        ap₂ (λ (row : Row) (ends : RowEnds). row_ends_with z here offset row ends t) h.row h.hints.row_ends
+        ∙ sym (ap (λ (w : Written). w.ends) written);
     wide_characters = found wide_character 0 offset _ (omega arith) h.hints.wide_characters;
+    two_byte_letters = found two_byte_letter 1 (offset + 1) _ (omega arith) h.hints.two_byte_letters;
+    latin_letters = found latin_letter 1 (offset + 1) _ (omega arith) h.hints.latin_letters;
+    board_codes = found board_code 0 offset _ (omega arith) h.hints.board_codes;
     later_colours = found later_colours 0 offset _ (omega arith) h.hints.later_colours;
     blinking_glyphs =
         ap (λ (v : Option Times). counted v (not first.non_blink && blinking_glyph z here t behind) offset)
@@ -118,9 +154,10 @@ module _ (first old : Walk) (front : Front) (t : TokenKind) (text behind : List 
   -- over one token more
   pub walked_token : (new : Walk) (start : ℕ) → start ≡ offset → new.size ≡ old.size → new.non_blink ≡ old.non_blink
       → ((s : State) → old.pen ≡ pen_of s → new.pen ≡ pen_of (step old.size s t))
+      → ((s : State) → old.pen ≡ pen_of s → new.row ≡ row_with old.size s start old.row t)
       → ((s : State) → old.pen ≡ pen_of s → new.hints ≡ hints_with old s start t behind)
       → HasWalked first (front_with front t text behind) true new
-  walked_token new start at size non_blink steps looks =
+  walked_token new start at size non_blink steps rows looks =
       let is : new.hints ≡ hints_with (record old { size = z; non_blink = first.non_blink }) here offset t behind =
       rw (h.size, h.non_blink, at) at (looks here h.pen) in
       record {
@@ -128,6 +165,8 @@ module _ (first old : Walk) (front : Front) (t : TokenKind) (text behind : List 
         size = size ∙ h.size;
         non_blink = non_blink ∙ h.non_blink;
         texts = omega (arith, h.texts, length-append front.texts (text ∷ []), length-append front.tokens (t ∷ []));
+        row = rw (h.size, at) at (rows here h.pen)
+            ∙ ap (λ (row : Row). row_with z here offset row t) h.row ∙ sym (ap (λ (w : Written). w.row) written);
         pen = subst (λ (y : Size). new.pen ≡ pen_of (step y here t)) h.size (steps here h.pen)
             ∙ ap pen_of (sym (fold-append (step z) (cleared z) front.tokens (t ∷ [])));
         hints = subst (AreHints z first.non_blink (front.tokens ++ t ∷ []) (front.texts ++ text ∷ []) behind)

@@ -1,6 +1,6 @@
 -- What the hints of tokens are about. Each condition is asked of a token, of the state before it, and of the bytes
 -- after it.
-use Rattle.std.specs.Prelude.{ℕ, ◌+◌, Bool, false, not, ◌||◌, ◌&&◌, ◌==◌, nat_eq, nat_le, List, [], ◌∷◌, take}
+use Rattle.std.specs.Prelude.{ℕ, Bool, false, not, ◌||◌, ◌&&◌, ◌==◌, nat_eq, nat_le, List, [], ◌∷◌, take}
 use Rattle.std.specs.Prelude.{nat_lt, slice_index, if◌then◌else◌}
 use Rattle.std.specs.Int.{is_in_range}
 use Rattle.std.specs.List.{list_any, starts_with}
@@ -12,15 +12,6 @@ use Rattle.ans_walks.specs.Places.{Condition}
 abbrev pub loose_line_feed : Condition
 loose_line_feed z s LineFeed rest = not (s.cursor.column == 0) && not (starts_with nat_eq rest (0x0D ∷ []))
 loose_line_feed z s _ rest = false
-
--- the bytes begin with a line feed, or with a return and a line feed
-abbrev pub begins_with_line_end : List ℕ → Bool
-begins_with_line_end bytes = starts_with nat_eq bytes (0x0A ∷ []) || starts_with nat_eq bytes (0x0D ∷ 0x0A ∷ [])
-
--- a glyph wraps, since it is printed in the last column with wrap on, and a line end follows
-abbrev pub full_row : Condition
-full_row z s (Glyph byte) rest = s.cursor.column + 1 == z.width && s.wrap && begins_with_line_end rest
-full_row z s _ rest = false
 
 -- how many bytes a character takes in UTF-8 (RFC 3629) if they are three or four: its first byte says it
 abbrev pub wide_size : ℕ → ℕ
@@ -49,3 +40,62 @@ later_colours z s _ rest = false
 abbrev pub blinking_glyph : Condition
 blinking_glyph z s (Glyph byte) rest = nat_le 0x80 s.attribute
 blinking_glyph z s _ rest = false
+
+-- ---- letters and codes of other systems
+
+-- a letter of ASCII
+abbrev pub is_small_letter : ℕ → Bool
+is_small_letter b = is_in_range 0x61 0x7A b
+
+abbrev pub is_letter : ℕ → Bool
+is_letter b = is_in_range 0x41 0x5A b || is_small_letter b
+
+-- The bytes begin with a letter that takes two bytes in UTF-8 and is one of Latin-1, U+00C0 to U+00FF; multiplied by and
+-- divided by are none.
+abbrev pub begins_with_two_byte_letter : List ℕ → Bool
+begins_with_two_byte_letter bytes =
+    slice_index bytes 0 == 0xC3 && is_in_range 0x80 0xBF (slice_index bytes 1)
+    && not (slice_index bytes 1 == 0x97) && not (slice_index bytes 1 == 0xB7)
+
+-- a letter, and behind it such a one
+abbrev pub two_byte_letter : Condition
+two_byte_letter z s (Glyph byte) rest = is_letter byte && begins_with_two_byte_letter rest
+two_byte_letter z s _ rest = false
+
+-- A small letter of Latin-1 whose byte in code page 437 is no letter that words are written with: the small letters a
+-- and u with two dots are, and so is the German double s. So these are left: a and o with two dots, e with three
+-- accents, n with a tilde, o with three accents, u with two dots.
+abbrev pub is_latin_letter : ℕ → Bool
+is_latin_letter b =
+    b == 0xE4 || is_in_range 0xE8 0xEA b || is_in_range 0xF1 0xF4 b || b == 0xF6 || b == 0xFC
+
+-- a small letter, and behind it such a one and a small letter
+abbrev pub latin_letter : Condition
+latin_letter z s (Glyph byte) rest =
+    is_small_letter byte && is_latin_letter (slice_index rest 0) && is_small_letter (slice_index rest 1)
+latin_letter z s _ rest = false
+
+-- a decimal and a hexadecimal digit
+abbrev pub is_digit : ℕ → Bool
+is_digit b = is_in_range 0x30 0x39 b
+
+abbrev pub is_hex_digit : ℕ → Bool
+is_hex_digit b = is_digit b || is_in_range 0x41 0x46 b || is_in_range 0x61 0x66 b
+
+-- the two digits of a number up to 23, and a letter: behind `|`, a pipe code and what it colours
+abbrev pub begins_with_pipe_number : List ℕ → Bool
+begins_with_pipe_number bytes =
+    is_digit (slice_index bytes 1) && is_letter (slice_index bytes 2)
+    && (is_in_range 0x30 0x31 (slice_index bytes 0)
+    || (slice_index bytes 0 == 0x32 && is_in_range 0x30 0x33 (slice_index bytes 1)))
+
+-- `X` and two hexadecimal digits: behind `@`, a code of PCBoard
+abbrev pub begins_with_x_number : List ℕ → Bool
+begins_with_x_number bytes =
+    slice_index bytes 0 == 0x58 && is_hex_digit (slice_index bytes 1) && is_hex_digit (slice_index bytes 2)
+
+-- a colour code of programs for bulletin boards
+abbrev pub board_code : Condition
+board_code z s (Glyph byte) rest =
+    (byte == 0x7C && begins_with_pipe_number rest) || (byte == 0x40 && begins_with_x_number rest)
+board_code z s _ rest = false

@@ -11,6 +11,7 @@ pub mod Conditions
 pub mod Rows
 pub mod RowMoves
 pub mod Counted
+pub mod RowEnds
 pub mod Hints
 pub mod Walks
 pub mod RowLaws

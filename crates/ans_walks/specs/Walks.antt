@@ -6,7 +6,9 @@ use Rattle.ans_model.specs.Screen.Step.{final}
 use Rattle.ans_model.specs.Screen.StartClass.{cleared}
 use Rattle.ans_walks.specs.Pens.{pen_of, StandsOn}
 use Rattle.ans_tokens.specs.Walk.{Front}
-use Rattle.ans_walks.specs.Conditions.{loose_line_feed, full_row, wide_character, later_colours, blinking_glyph}
+use Rattle.ans_walks.specs.Conditions.{loose_line_feed, wide_character, two_byte_letter, latin_letter, board_code}
+use Rattle.ans_walks.specs.Conditions.{later_colours, blinking_glyph}
+use Rattle.ans_walks.specs.RowEnds.{CountsRows, nothing_written, row_ends_with, written_after}
 use Rattle.ans_walks.specs.Counted.{count_of, counted}
 use Rattle.ans_walks.specs.Hints.{AreHints}
 use Rattle.ans_walks.specs.RowMoves.{moved_with}
@@ -18,8 +20,11 @@ use Rattle.ans_walks.specs.declared.walk.Walk.{Walk}
 abbrev pub hints_with : Walk → State → ℕ → TokenKind → List ℕ → Hints
 hints_with walk s offset t rest = record {
   loose_line_feeds = counted walk.hints.loose_line_feeds (loose_line_feed walk.size s t rest) offset;
-  full_rows = counted walk.hints.full_rows (full_row walk.size s t rest) (offset + 1);
+  row_ends = row_ends_with walk.size s offset walk.row walk.hints.row_ends t;
   wide_characters = counted walk.hints.wide_characters (wide_character walk.size s t rest) offset;
+  two_byte_letters = counted walk.hints.two_byte_letters (two_byte_letter walk.size s t rest) (offset + 1);
+  latin_letters = counted walk.hints.latin_letters (latin_letter walk.size s t rest) (offset + 1);
+  board_codes = counted walk.hints.board_codes (board_code walk.size s t rest) offset;
   later_colours = counted walk.hints.later_colours (later_colours walk.size s t rest) offset;
   blinking_glyphs = counted walk.hints.blinking_glyphs
       (not walk.non_blink && blinking_glyph walk.size s t rest) offset;
@@ -30,8 +35,11 @@ hints_with walk s offset t rest = record {
 -- there are no more times of anything than bytes so far
 pub record CountsWithin (hints : Hints) (offset : ℕ) : Type 0 where
   pub loose_line_feeds : count_of hints.loose_line_feeds ≤ offset
-  pub full_rows : count_of hints.full_rows ≤ offset
+  pub row_ends : CountsRows hints.row_ends offset
   pub wide_characters : count_of hints.wide_characters ≤ offset
+  pub two_byte_letters : count_of hints.two_byte_letters ≤ offset
+  pub latin_letters : count_of hints.latin_letters ≤ offset
+  pub board_codes : count_of hints.board_codes ≤ offset
   pub later_colours : count_of hints.later_colours ≤ offset
   pub blinking_glyphs : count_of hints.blinking_glyphs ≤ offset
 
@@ -39,6 +47,7 @@ pub record CountsWithin (hints : Hints) (offset : ℕ) : Type 0 where
 pub record IsAt (walk : Walk) (offset : ℕ) : Type 0 where
   pub stands : StandsOn walk.size walk.pen
   pub within : CountsWithin walk.hints offset
+  pub wraps : walk.row.wraps ≤ offset
 
 -- Over the front the first walk has become the other, which goes on: it is the play of the front's tokens, and has
 -- their hints.
@@ -47,5 +56,7 @@ pub record HasWalked (first : Walk) (front : Front) (goes_on : Bool) (now : Walk
   pub size : now.size ≡ first.size
   pub non_blink : now.non_blink ≡ first.non_blink
   pub texts : length front.texts ≡ length front.tokens
+  pub row : now.row ≡ (written_after first.size (cleared first.size) 0 (nothing_written first.size) front.tokens
+      front.texts).row
   pub pen : now.pen ≡ pen_of (final first.size (cleared first.size) front.tokens)
   pub hints : AreHints first.size first.non_blink front.tokens front.texts front.behind now.hints

@@ -1,16 +1,11 @@
 //! What the hints of tokens are about.
 
-ghost use Rattle.std.specs.Prelude.{◌≡◌, ◌≤◌, ◌∷◌, take};
+ghost use Rattle.std.specs.Prelude.{◌≡◌, ◌≤◌, ◌∷◌, ◌&&◌, take, slice_index};
 ghost use Rattle.std.specs.List.{list_any};
 ghost use Rattle.std.specs.Str.{is_utf8};
-ghost use Rattle.ans_walks.specs.Conditions.{begins_with_line_end, wide_size, begins_with_wide, is_later_colour};
-
-/// Whether the bytes begin with a line feed, or with a return and a line feed.
-pub(crate) fn begins_with_line_end(bytes: &[u8]) -> bool
-    ensures { result ≡ begins_with_line_end bytes.now }
-{
-    bytes.starts_with(b"\n") || bytes.starts_with(b"\r\n")
-}
+ghost use Rattle.ans_walks.specs.Conditions.{begins_with_pipe_number, begins_with_two_byte_letter, begins_with_wide};
+ghost use Rattle.ans_walks.specs.Conditions.{begins_with_x_number, is_digit, is_hex_digit, is_later_colour};
+ghost use Rattle.ans_walks.specs.Conditions.{is_latin_letter, is_letter, is_small_letter, wide_size};
 
 fn is_utf8(bytes: &[u8]) -> bool
     ensures { result ≡ is_utf8 bytes.now }
@@ -58,4 +53,80 @@ pub(crate) fn has_later_colour(numbers: &[u8]) -> bool
     ensures { result ≡ list_any is_later_colour numbers.now }
 {
     numbers.iter().any(|number| is_later_colour(*number))
+}
+
+pub(crate) fn is_small_letter(byte: u8) -> bool
+    ensures { result ≡ is_small_letter byte }
+{
+    matches!(byte, b'a'..=b'z')
+}
+
+pub(crate) fn is_letter(byte: u8) -> bool
+    ensures { result ≡ is_letter byte }
+{
+    matches!(byte, b'A'..=b'Z' | b'a'..=b'z')
+}
+
+/// Whether the bytes begin with a letter of Latin-1 in two bytes of UTF-8.
+pub(crate) fn begins_with_two_byte_letter(bytes: &[u8]) -> bool
+    ensures { result ≡ begins_with_two_byte_letter bytes.now }
+{
+    match bytes {
+        [0xC3, second, ..] => matches!(*second, 0x80..=0x96 | 0x98..=0xB6 | 0xB8..=0xBF),
+        _ => false,
+    }
+}
+
+fn is_latin_letter(byte: u8) -> bool
+    ensures { result ≡ is_latin_letter byte }
+{
+    matches!(byte, 0xE4 | 0xE8..=0xEA | 0xF1..=0xF4 | 0xF6 | 0xFC)
+}
+
+/// Whether the bytes begin with a letter of Latin-1, and a small letter.
+pub(crate) fn begins_with_latin_letter(bytes: &[u8]) -> bool
+    ensures { result ≡ (is_latin_letter (slice_index bytes.now 0)
+        && is_small_letter (slice_index bytes.now 1)) }
+{
+    match bytes {
+        [first, second, ..] => is_latin_letter(*first) && is_small_letter(*second),
+        _ => false,
+    }
+}
+
+fn is_digit(byte: u8) -> bool
+    ensures { result ≡ is_digit byte }
+{
+    byte.is_ascii_digit()
+}
+
+fn is_hex_digit(byte: u8) -> bool
+    ensures { result ≡ is_hex_digit byte }
+{
+    matches!(byte, b'0'..=b'9' | b'A'..=b'F' | b'a'..=b'f')
+}
+
+/// Whether the bytes begin with the number of a pipe code, and a letter.
+pub(crate) fn begins_with_pipe_number(bytes: &[u8]) -> bool
+    ensures { result ≡ begins_with_pipe_number bytes.now }
+{
+    match bytes {
+        [tens, ones, behind, ..] => {
+            let is_small = matches!(*tens, b'0' | b'1');
+            is_digit(*ones)
+                && is_letter(*behind)
+                && (is_small || (*tens == b'2' && matches!(*ones, b'0'..=b'3')))
+        }
+        _ => false,
+    }
+}
+
+/// Whether the bytes begin with the letter and the number of a code of PCBoard.
+pub(crate) fn begins_with_x_number(bytes: &[u8]) -> bool
+    ensures { result ≡ begins_with_x_number bytes.now }
+{
+    match bytes {
+        [b'X', high, low, ..] => is_hex_digit(*high) && is_hex_digit(*low),
+        _ => false,
+    }
 }

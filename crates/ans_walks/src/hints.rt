@@ -1,12 +1,14 @@
 //! The hints of a content.
 
-ghost use Rattle.std.specs.Prelude.{◌≤◌, ℕ, List, length, take, drop};
+ghost use Rattle.std.specs.Prelude.{◌≡◌, ◌≤◌, ℕ, List, length, take, drop};
 ghost use Rattle.ans_model.specs.Bytes.{longest_file};
 ghost use Rattle.ans_model.specs.Sequence.TokenKind.{TokenKind};
 ghost use Rattle.ans_model.specs.Sequence.Reads.{ReadsAs};
-ghost use Rattle.ans_walks.specs.Hints.{AreHints};
+ghost use Rattle.ans_walks.specs.Hints.{AreHints, are_torn};
 
 use crate::pen::Pen;
+use crate::row::Row;
+use crate::row_ends::RowEnds;
 use crate::times::Times;
 use crate::walk::Walk;
 use ans_model::size::Size;
@@ -16,10 +18,16 @@ use ans_model::size::Size;
 pub struct Hints {
     /// Line feeds that come with the cursor not in the first column, and that no return follows.
     pub loose_line_feeds: Option<Times>,
-    /// Glyphs that wrap, with a line end after them, at the offset of the line end.
-    pub full_rows: Option<Times>,
+    /// What the ends of the rows tell.
+    pub row_ends: RowEnds,
     /// Characters of UTF-8 in three or four bytes.
     pub wide_characters: Option<Times>,
+    /// Letters of Latin-1 in two bytes of UTF-8, behind a letter.
+    pub two_byte_letters: Option<Times>,
+    /// Small letters of Latin-1 in one byte, between small letters.
+    pub latin_letters: Option<Times>,
+    /// Colour codes of programs for bulletin boards, `|07` and `@X1F`, that are printed.
+    pub board_codes: Option<Times>,
     /// Sequences with colours that only later terminals know.
     pub later_colours: Option<Times>,
     /// Glyphs that blink.
@@ -46,10 +54,14 @@ impl Hints {
             size,
             non_blink,
             pen: Pen::cleared(),
+            row: Row::FIRST,
             hints: Hints {
                 loose_line_feeds: None,
-                full_rows: None,
+                row_ends: RowEnds::none(size.width()),
                 wide_characters: None,
+                two_byte_letters: None,
+                latin_letters: None,
+                board_codes: None,
                 later_colours: None,
                 blinking_glyphs: None,
                 empty_rows: size.lines(),
@@ -58,5 +70,17 @@ impl Hints {
         };
         let _ = ans_tokens::walk(content, end, &mut walk);
         walk.hints
+    }
+    /// Whether the rows are torn, so that more lines would keep a drawing that nobody meant: line feeds
+    /// go straight down and there is no return; a line end stands behind every full row that something is
+    /// printed behind, and there are two of these; the rows are those of a drawing for more columns; or
+    /// characters are in three or four bytes of UTF-8.
+    pub fn are_torn(&self) -> bool
+        ensures { result ≡ are_torn self.now }
+    {
+        (self.loose_line_feeds.is_some() && !self.row_ends.returns)
+            || self.row_ends.are_all_ended()
+            || self.row_ends.wider_rows().is_some()
+            || self.wide_characters.is_some()
     }
 }

@@ -8,7 +8,8 @@
 //!
 //! A `Pen` is all of a state but its cells. No cell tells where a token takes it, so it goes on without
 //! them, also where the screen scrolls (`specs/Pens.antt`). What each hint is about stands in
-//! `specs/Conditions.antt` and `specs/Rows.antt`, and how it is counted in `specs/Places.antt`.
+//! `specs/Conditions.antt`, `specs/RowEnds.antt` and `specs/Rows.antt`, and how it is counted in
+//! `specs/Places.antt`.
 #![tactic(auto)]
 
 mod conditions;
@@ -17,6 +18,8 @@ mod hints;
 pub mod laws;
 mod lines;
 mod pen;
+mod row;
+mod row_ends;
 mod taller;
 mod times;
 mod two_watches;
@@ -26,5 +29,6 @@ mod watch;
 pub use evidence::{cells_of_fault, cursors_before};
 pub use hints::Hints;
 pub use lines::least_lines;
+pub use row_ends::{RowEnds, RowsOver, WiderRows};
 pub use taller::is_taller;
 pub use times::Times;

@@ -1,16 +1,23 @@
 //! A walk over the tokens of a content that finds its hints.
 
-ghost use Rattle.std.specs.Prelude.{◌≡◌, ◌+◌, ◌-◌, ◌<◌, ◌≤◌, min};
+ghost use Rattle.std.specs.Prelude.{◌≡◌, ◌+◌, ◌-◌, ◌<◌, ◌≤◌, ◌&&◌, ◌||◌, ◌==◌, min, slice_index};
 ghost use Rattle.ans_model.specs.Bytes.{longest_file};
 ghost use Rattle.ans_model.specs.Sequence.TokenKind.{Glyph, LineFeed};
 ghost use Rattle.ans_model.specs.Screen.State.{State};
 ghost use Rattle.ans_model.specs.Inside.ShownKind.{shown_kind};
+ghost use Rattle.ans_walks.specs.Conditions.{begins_with_pipe_number, begins_with_two_byte_letter, is_latin_letter};
+ghost use Rattle.ans_walks.specs.Conditions.{begins_with_x_number, is_letter, is_small_letter};
+ghost use Rattle.ans_walks.specs.Counted.{counted};
 ghost use Rattle.ans_walks.specs.Pens.{pen_of};
 ghost use Rattle.ans_walks.specs.Walks.{IsAt, CountsWithin, hints_with};
 
-use crate::conditions::{begins_with_line_end, begins_with_wide, has_later_colour};
+use crate::conditions::{
+    begins_with_latin_letter, begins_with_pipe_number, begins_with_two_byte_letter,
+    begins_with_wide, begins_with_x_number, has_later_colour, is_letter, is_small_letter,
+};
 use crate::hints::Hints;
 use crate::pen::Pen;
+use crate::row::{Row, Seam, wraps};
 use crate::times::count;
 use ans_model::kind::Kind;
 use ans_model::size::Size;
@@ -22,6 +29,7 @@ pub(crate) struct Walk {
     pub(crate) size: Size,
     pub(crate) non_blink: bool,
     pub(crate) pen: Pen,
+    pub(crate) row: Row,
     pub(crate) hints: Hints,
 }
 
@@ -36,6 +44,8 @@ impl Walk {
     {
         let comes = self.pen.cursor.column != 0 && !behind.starts_with(b"\r");
         count(&mut self.hints.loose_line_feeds, comes, offset);
+        let row = self.row.ended(self.size, &self.pen, offset);
+        self.hints.row_ends.end(offset, row);
     }
 
     /// Something is printed in a row.
@@ -52,6 +62,34 @@ impl Walk {
         self.hints.empty_rows = self.hints.empty_rows.min(below);
     }
 
+    /// A glyph that may belong to a letter or a code of another system.
+    #[inline(always)]
+    fn foreign(&mut self, offset: usize, byte: u8, behind: &[u8])
+        requires room { offset < longest_file }
+        requires within { CountsWithin self.old.hints offset }
+        ensures within { CountsWithin self.new.hints (offset + 1) }
+        ensures hints { self.new ≡ record self.old {
+          hints = record self.old.hints {
+            two_byte_letters = counted self.old.hints.two_byte_letters
+                (is_letter byte && begins_with_two_byte_letter behind.now) (offset + 1);
+            latin_letters = counted self.old.hints.latin_letters
+                (is_small_letter byte && is_latin_letter (slice_index behind.now 0)
+                && is_small_letter (slice_index behind.now 1)) (offset + 1);
+            board_codes = counted self.old.hints.board_codes
+                ((byte == 0x7C && begins_with_pipe_number behind.now)
+                || (byte == 0x40 && begins_with_x_number behind.now)) offset;
+          };
+        } }
+    {
+        let is_two_bytes = is_letter(byte) && begins_with_two_byte_letter(behind);
+        let is_latin = is_small_letter(byte) && begins_with_latin_letter(behind);
+        let is_code = (byte == b'|' && begins_with_pipe_number(behind))
+            || (byte == b'@' && begins_with_x_number(behind));
+        count(&mut self.hints.two_byte_letters, is_two_bytes, offset + 1);
+        count(&mut self.hints.latin_letters, is_latin, offset + 1);
+        count(&mut self.hints.board_codes, is_code, offset);
+    }
+
     #[inline(always)]
     fn glyph(&mut self, offset: usize, byte: u8, behind: &[u8])
         requires room { offset < longest_file }
@@ -61,12 +99,12 @@ impl Walk {
         ensures hints { (s : State) → self.old.pen ≡ pen_of s
             → self.new.hints ≡ hints_with self.old s offset (Glyph byte) behind.now }
     {
-        let last_column = self.size.width() - 1;
-        let wraps = self.pen.cursor.column == last_column && self.pen.wrap;
-        let full = wraps && begins_with_line_end(behind);
+        let wraps = wraps(self.size, &self.pen);
+        let is_over = self.row.seam == Seam::Stuck;
         let wide = begins_with_wide(byte, behind);
         let blinks = !self.non_blink && self.pen.attribute >= 0x80;
-        count(&mut self.hints.full_rows, full, offset + 1);
+        self.foreign(offset, byte, behind);
+        self.hints.row_ends.glyph(offset, wraps, is_over);
         count(&mut self.hints.wide_characters, wide, offset);
         count(&mut self.hints.blinking_glyphs, blinks, offset);
         self.print_in(self.pen.cursor.row);
@@ -85,7 +123,9 @@ impl Walk {
         match kind {
             Kind::Glyph(byte) => self.glyph(offset, *byte, behind),
             Kind::LineFeed => self.line_feed(offset, behind),
+            Kind::CarriageReturn => self.hints.row_ends.returns = true,
             Kind::Tab => {
+                self.hints.row_ends.print();
                 let pen = self.pen;
                 self.print_in(pen.row_of_tab(self.size));
             }
@@ -109,8 +149,12 @@ impl Walker for Walk {
     #[inline(always)]
     fn token(&mut self, token: &Token, behind: &[u8]) -> bool {
         let kind = token.kind();
-        self.look(token.start(), kind, behind);
+        let offset = token.start();
+        self.look(offset, kind, behind);
+        let before = self.pen;
         self.pen.step(self.size, kind);
+        let column = self.pen.cursor.column;
+        self.row.step(self.size, &before, column, offset, kind);
         true
     }
 }
