@@ -4,6 +4,7 @@ use Rattle.std.proofs.Common.{◌≡◌, ℕ, suc, ◌+◌, ◌-◌, ◌*◌, �
 use Rattle.std.proofs.Common.{List, [], ◌∷◌, ◌++◌, length, take, drop, codes, refl, ap, ap₂, sym, ◌∙◌, arith}
 use Rattle.std.proofs.Common.{append_assoc, length-append, length-drop, bytes_eq, nat_le, Option, Some, None}
 use Rattle.std.proofs.Common.{if◌then◌else◌, cond, unwrap_or, slice_index}
+use Rattle.std.specs.Prelude.{is_some}
 use Rattle.std.specs.List.{list_any, list_all, position, position_or_len}
 use Rattle.std.proofs.lemmas.Bool.Decides.{nat_tests}
 use Rattle.std.proofs.lemmas.Slice.Eq.{bytes_eq-Decides}
@@ -131,6 +132,12 @@ none_fails p xs e = here (nat_lt (position_or_len (λ x. not (p x)) xs) (length 
         → cond b (Some (position_or_len (λ x. not (p x)) xs)) None ≡ None → list_all p xs ≡ true
     here true t s = cc
     here false t s = all_is_first p xs ∙ ap not t
+
+-- there is one that fails, or all pass
+pub pass_by_place : (p : ℕ → Bool) (xs : List ℕ) (place : Option ℕ) (fails : Bool)
+    → place ≡ position (λ x. not (p x)) xs → is_some place ≡ fails → list_all p xs ≡ not fails
+pass_by_place p xs None fails at some = rw (← some) (none_fails p xs (sym at))
+pass_by_place p xs (Some i) fails at some = rw (← some) (first_fails p xs i (sym at)).fails
 
 -- ---- the first refusal of several lists of them
 first_of_both : (rs more : List Refusal) (f : Fault) → first_refusal rs ≡ Some f → first_refusal (rs ++ more) ≡ Some f

@@ -32,10 +32,13 @@ record_in file = drop (length file - 128) file
 abbrev pub front_in : List ℕ → List ℕ
 front_in file = take (length file - 128) file
 
+-- the file's body, which ends where the comment block would begin
+abbrev pub body_in : List ℕ → List ℕ
+body_in file = take (length (front_in file) - block_size (comment_count (record_in file))) (front_in file)
+
 -- what follows the first end mark, up to the comment block
 abbrev pub after_end_mark : List ℕ → List ℕ
-after_end_mark file =
-    drop 1 (after_content (take (length (front_in file) - block_size (comment_count (record_in file))) (front_in file)))
+after_end_mark file = drop 1 (after_content (body_in file))
 
 -- this is found in the file where it is refused for the cause
 abbrev pub IsFound : List ℕ → Found → Cause → Type 0
@@ -49,6 +52,6 @@ IsFound file (found.Comments count) cause = (cause ≡ CommentsMissing) × (coun
 IsFound file (found.Width width) cause = (cause ≡ WidthTooLarge) × (width ≡ tinfo 1 (record_in file))
 IsFound file (found.Lines lines) cause =
     ((cause ≡ LinesUnstated) ⊎ (cause ≡ LinesTooLarge)) × (lines ≡ tinfo 2 (record_in file))
-IsFound file (found.AfterEndMark count holds_record) cause =
-    (cause ≡ BytesAfterEndMark) × (count ≡ length (after_end_mark file))
+IsFound file (found.AfterEndMark bytes holds_record) cause =
+    (cause ≡ BytesAfterEndMark) × (bytes.now ≡ after_end_mark file)
     × (IsTrue holds_record ↔ HoldsRecord (after_end_mark file))

@@ -3,3 +3,4 @@ pub mod Parts
 pub mod Split
 pub mod Found
 pub mod Judged
+pub mod WithoutLines

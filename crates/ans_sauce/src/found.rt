@@ -6,7 +6,7 @@ ghost use Rattle.ans_sauce.specs.RecordBytes.{bytes_of};
 ghost use Rattle.ans_sauce.specs.Split.{EndsInRecord};
 ghost use Rattle.ans_sauce.specs.Found.{IsFound, IsLastRecord, after_end_mark};
 
-use crate::layout::{block_size, cut_content, cut_record};
+use crate::layout::{body_before, cut_content, cut_record};
 use crate::record::Record;
 use ans_model::fault::{Cause, Fault};
 use memchr::arch::all::twoway::FinderRev;
@@ -29,9 +29,9 @@ pub enum Found<'a> {
     Width(u16),
     /// F5 and F7: TInfo2.
     Lines(u16),
-    /// F8: how many bytes stand between the first end mark and the comment block or the record, and
-    /// whether a record stands among them.
-    AfterEndMark { count: usize, record: bool },
+    /// F8: the bytes between the first end mark and the comment block or the record, and whether a record
+    /// stands among them.
+    AfterEndMark { bytes: &'a [u8], record: bool },
 }
 
 /// How a record of version 00 begins.
@@ -63,8 +63,7 @@ fn after_end_mark<'a>(front: &'a [u8], sauce: &Record<'_>) -> &'a [u8]
     ensures { (file : List ℕ) → EndsInRecord file front.now (bytes_of sauce.now)
         → result.now ≡ after_end_mark file }
 {
-    let block = block_size(sauce.comment_count());
-    let (_, rest) = cut_content(&front[..front.len().saturating_sub(block)]);
+    let (_, rest) = cut_content(body_before(front, sauce));
     match rest {
         [_, after @ ..] => after,
         [] => rest,
@@ -72,12 +71,12 @@ fn after_end_mark<'a>(front: &'a [u8], sauce: &Record<'_>) -> &'a [u8]
 }
 
 /// F8, of what follows the first end mark.
-fn found_after(after: &[u8]) -> Found<'static>
+fn found_after(after: &[u8]) -> Found<'_>
     ensures { (file : List ℕ) → after.now ≡ after_end_mark file
         → IsFound file result BytesAfterEndMark }
 {
     Found::AfterEndMark {
-        count: after.len(),
+        bytes: after,
         record: last_record_place(after).is_some(),
     }
 }

@@ -1,5 +1,6 @@
 //! How a file is laid out, and which files are refused.
-ghost use Rattle.std.specs.Prelude.{◌≡◌, ◌≤◌, not, length, is_some, IsFalse, IfOk, IfErr, IfSome, IfNone, Some};
+ghost use Rattle.std.specs.Prelude.{◌≡◌, ◌≤◌, ◌-◌, not, length, is_some, IsFalse, IfOk, IfErr, IfSome, IfNone, Some, take};
+ghost use Rattle.ans_model.specs.File.Record.{comment_count};
 ghost use Rattle.std.specs.List.{position};
 ghost use Rattle.ans_model.specs.File.Layout.{content, after_content, is_end_mark};
 ghost use Rattle.ans_model.specs.File.Refusals.{has_record, has_block, block_size, fault_at};
@@ -36,7 +37,7 @@ pub fn cut_record(file: &[u8]) -> Option<(&[u8], Record<'_>)>
 }
 
 /// The length of the block of this many comments: 0 where there are none.
-pub(crate) fn block_size(count: u8) -> usize
+fn block_size(count: u8) -> usize
     ensures { result ≡ block_size count }
 {
     if count == 0 {
@@ -56,6 +57,15 @@ fn cut_block(front: &[u8], count: u8) -> Option<(&[u8], &[u8])>
     }
     let (body, block) = front.split_at(front.len().checked_sub(block_size(count))?);
     Some((body, block.strip_prefix(b"COMNT")?))
+}
+
+/// What stands before a record and before where the comment block that it counts would begin.
+pub(crate) fn body_before<'a>(front: &'a [u8], sauce: &Record<'_>) -> &'a [u8]
+    ensures { result.now ≡ take (length front.now - block_size (comment_count (bytes_of sauce.now)))
+        front.now }
+{
+    let block = block_size(sauce.comment_count());
+    &front[..front.len().saturating_sub(block)]
 }
 
 /// The body and the lines of comments before a record, where nothing in the record is refused: the
@@ -101,7 +111,7 @@ pub(crate) fn cut_content(body: &[u8]) -> (&[u8], &[u8])
     body.split_at(first_end_mark(body).unwrap_or(body.len()))
 }
 
-fn first_other_byte(rest: &[u8]) -> Option<usize>
+pub(crate) fn first_other_byte(rest: &[u8]) -> Option<usize>
     ensures { result ≡ position (λ b. not (is_end_mark b)) rest.now }
 {
     rest.iter().position(|b| *b != END_MARK)

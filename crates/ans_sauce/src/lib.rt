@@ -6,12 +6,14 @@
 //! they determine; otherwise the first refusal that applies, in the order of its table. Which parts
 //! belong to which file is in `specs/Split.antt`, and what the parts show in `specs/Parts.antt` and
 //! `specs/RecordBytes.antt`, over the definitions of `ans_model`: its `Layout`, `Record`, `Refusals`
-//! and `NoteConditions`.
+//! and `NoteConditions`. `find` tells what stands in a file that is refused, and `without_lines` what
+//! there is of one that lacks nothing but the number of its lines.
 #![tactic(auto)]
 
 mod found;
 mod judged;
 mod layout;
+mod no_lines;
 mod note_conditions;
 mod padding;
 mod parts;
@@ -23,5 +25,6 @@ pub use ans_model::note::Note;
 pub use found::{Found, find};
 pub use judged::Judged;
 pub use layout::{cut_record, split};
+pub use no_lines::{WithoutLines, without_lines};
 pub use parts::Parts;
 pub use record::Record;

@@ -8,6 +8,6 @@ pub returns : goal.returns
 returns c file is =
     let found = some_last c.args.after.now c.last_record_place.result c.last_record_place.ensures in (
       refl,
-      ap length is,
+      is,
       subst (λ (bytes : List ℕ). IsTrue c.is_some.result ↔ HoldsRecord bytes) is (rw c.is_some.ensures found),
     )

@@ -1,0 +1,39 @@
+//! A file that lacks nothing but the number of its lines.
+
+ghost use Rattle.std.specs.Prelude.{◌≡◌, ◌≤◌, true, false, IfSome, IfNone};
+ghost use Rattle.ans_model.specs.Bytes.{most_columns};
+ghost use Rattle.ans_model.specs.File.Record.{stated_width};
+ghost use Rattle.ans_sauce.specs.RecordBytes.{bytes_of};
+ghost use Rattle.ans_sauce.specs.WithoutLines.{IsWithoutLines, lacks_lines_alone};
+
+use crate::layout::{body_before, cut_content, cut_record, first_other_byte};
+use crate::record::Record;
+
+/// The content and the record of a file that is refused for F5, and would not be for F6 or F8: only its
+/// lines are not stated.
+#[derive(Debug, Clone, Copy)]
+pub struct WithoutLines<'a> {
+    /// The bytes up to the first end mark, the comment block or the record.
+    pub content: &'a [u8],
+    pub sauce: Record<'a>,
+}
+
+/// What there is of a file but for its lines, where it has a record, its width is within the limit, and
+/// nothing but end marks follows its content. It takes no memory.
+pub fn without_lines(file: &[u8]) -> Option<WithoutLines<'_>>
+    ensures some { IfSome result (IsWithoutLines file.now) }
+    ensures lacks { IfSome result (λ found. lacks_lines_alone file.now ≡ true) }
+    ensures some_columns { IfSome result (λ found. 1 ≤ stated_width (bytes_of found.sauce)) }
+    ensures columns { IfSome result (λ found. stated_width (bytes_of found.sauce) ≤ most_columns) }
+    ensures none { IfNone result (lacks_lines_alone file.now ≡ false) }
+{
+    let (front, sauce) = cut_record(file)?;
+    if sauce.is_too_wide() {
+        return None;
+    }
+    let (content, rest) = cut_content(body_before(front, &sauce));
+    if first_other_byte(rest).is_some() {
+        return None;
+    }
+    Some(WithoutLines { content, sauce })
+}
