@@ -62,7 +62,8 @@ fn put_length_line<W: Write>(out: &mut Outbox<'_, W>, length: usize)
     out.put(b" bytes\n");
 }
 
-pub(crate) fn put_notes<W: Write>(out: &mut Outbox<'_, W>, notes: &[Note])
+/// Puts a line for each note, in their order: `note: ` and its text.
+pub fn put_notes<W: Write>(out: &mut Outbox<'_, W>, notes: &[Note])
     ensures { Puts W.contents out.old out.new (flat_map note_line notes.now) }
 {
     for note in notes {

@@ -37,3 +37,10 @@ empty_rows_line_is rows some more =
     rw (ne_eqb rows 0 some, ne_eqb rows 1 more)
     (ap (λ (v : List ℕ). codes "hint: nothing is printed in the last " ++ v)
     (sym (append_assoc (decimal rows) (codes " lines") (codes "\n"))))
+
+pub wider_line_is : (times columns : List ℕ)
+    → codes "hint: a row runs over the edge and then ends, "
+    ++ (times ++ (codes ": the widest has " ++ (columns ++ codes " columns\n")))
+    ≡ hint_line (codes "a row runs over the edge and then ends, "
+    ++ (times ++ (codes ": the widest has " ++ (columns ++ codes " columns"))))
+wider_line_is times columns = simp append_assoc

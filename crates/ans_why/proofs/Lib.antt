@@ -5,3 +5,5 @@ pub mod WhyLines
 pub mod Relying
 pub mod AllHints
 pub mod NoMoves
+pub mod Forms
+pub mod EnoughLines

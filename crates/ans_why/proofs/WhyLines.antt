@@ -30,6 +30,11 @@ pub bytes_line_is : (bytes : List ℕ) → 0 < length bytes
 bytes_line_is [] some = absurd (omega (arith, some))
 bytes_line_is (byte ∷ more) some = keyed_line_is (codes "bytes: ") (codes "bytes") (quoted (byte ∷ more)) refl
 
+-- ---- the number of lines
+pub lines_line_is : (number torn : List ℕ) → codes "lines: " ++ (number ++ (torn ++ codes "\n"))
+    ≡ named_line (codes "lines") (number ++ torn)
+lines_line_is number torn = simp append_assoc
+
 -- ---- what is found
 pub found_version : (bytes : List ℕ) → codes "found: version " ++ (shown_bytes bytes ++ codes "\n")
     ≡ named_line (codes "found") (codes "version " ++ shown_bytes bytes)

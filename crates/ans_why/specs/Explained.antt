@@ -1,32 +1,36 @@
 -- What is said of a file is true of it.
-use Rattle.std.specs.Prelude.{◌≡◌, ◌≢◌, ◌⊎◌, ℕ, ◌+◌, ◌≤◌, ◌↔◌, Bool, IsTrue, List, [], length, take}
-use Rattle.std.specs.Prelude.{drop, Option, Some, None, IfSome, IfNone}
+use Rattle.std.specs.Prelude.{◌≡◌, ◌≢◌, ◌⊎◌, ℕ, ◌+◌, ◌≤◌, ◌↔◌, Bool, true, IsTrue, List, [], length, take}
+use Rattle.std.specs.Prelude.{drop, Option, Some, None, IfSome, IfNone, MatchOption}
 use Rattle.ans_model.specs.Bytes.{longest_file, most_lines}
 use Rattle.ans_model.specs.declared.cell.Position.{Position}
 use Rattle.ans_model.specs.declared.fault.Fault.{Fault}
 use Rattle.ans_model.specs.declared.fault.Cause.{Cause}
 use Rattle.ans_model.specs.declared.fault.Cause.TheVariants.{BrokenSequence, NumberTooLarge, TooManyParameters}
 use Rattle.ans_model.specs.declared.fault.Cause.TheVariants.{EndInSequence, UnknownSequence, WrongParameters}
-use Rattle.ans_model.specs.declared.fault.Cause.TheVariants.{OutsideScreen, PrintBelow, Scrolls}
+use Rattle.ans_model.specs.declared.fault.Cause.TheVariants.{LinesUnstated, OutsideScreen, PrintBelow, Scrolls}
 use Rattle.ans_model.specs.declared.start.Start.{Start}
-use Rattle.ans_model.specs.File.Record.{is_non_blink, stated_size, stated_width}
+use Rattle.ans_model.specs.File.Layout.{content}
+use Rattle.ans_model.specs.File.Record.{font_field, is_non_blink, stated_size, stated_width, trimmed}
 use Rattle.ans_model.specs.Sequence.TokenKind.{TokenKind}
 use Rattle.ans_model.specs.Sequence.Reads.{ReadsAs}
-use Rattle.ans_model.specs.Screen.State.{Size}
+use Rattle.ans_model.specs.Screen.State.{Size, sized}
 use Rattle.ans_model.specs.Screen.StartClass.{all_known, none_known}
 use Rattle.ans_model.specs.Verdict.Needs.{IsLeast}
 use Rattle.ans_sauce.specs.Parts.{content_of, record_of}
 use Rattle.ans_sauce.specs.Judged.{IsJudged, IsRecordFault}
 use Rattle.ans_sauce.specs.declared.judged.Judged.{Judged}
-use Rattle.ans_sauce.specs.Found.{IsFound}
+use Rattle.ans_sauce.specs.Found.{IsFound, body_in, record_in}
+use Rattle.ans_sauce.specs.WithoutLines.{lacks_lines_alone}
 use Rattle.ans_model.specs.Verdict.LastFault.{IsDeserved}
 use Rattle.ans_walks.specs.Evidence.{ShowsCursors, ShowsNamed}
 use Rattle.ans_walks.specs.Mend.{mending}
-use Rattle.ans_walks.specs.Lines.{IsGoodOn, IsLeastLines}
+use Rattle.ans_walks.specs.Lines.{IsGoodOn, IsLeastLines, IsNeverGood}
 use Rattle.ans_walks.specs.Taller.{IsTaller}
 use Rattle.ans_walks.specs.Hints.{AreHints}
 use Rattle.ans_walks.specs.declared.hints.Hints.{Hints}
 use Rattle.ans_why.specs.Blamed.{AreToBlame}
+use Rattle.ans_why.specs.Known.{known_sequence}
+use Rattle.ans_why.specs.declared.why.Enough.{Enough}
 use Rattle.ans_why.specs.declared.why.Pass.{Pass}
 use Rattle.ans_why.specs.declared.why.Place.{Place}
 use Rattle.ans_why.specs.declared.why.RecordRefusal.{RecordRefusal}
@@ -95,21 +99,49 @@ pub record EndsHints (fault : Fault) (bytes : List ℕ) (end : ℕ) : Type 0 whe
   pub reading : IsOfReading fault.cause → end ≡ fault.offset
   pub token : ¬ IsOfReading fault.cause → end ≡ fault.offset + length bytes
 
+-- the hints of the tokens up to where they end, before the bytes behind them
+pub record AreFrontHints (z : Size) (flag : Bool) (content : List ℕ) (fault : Fault) (bytes : List ℕ)
+    (hints : Hints) : Type 0 where
+  pub end : ℕ
+  pub ends : EndsHints fault bytes end
+  pub hints_are : AreHintsOf z flag (take end content) (drop end content) hints
+
+-- The hints of a refused content: where so many lines are enough, those of all of it on as many.
+abbrev pub AreRefusalHints : List ℕ → List ℕ → Fault → List ℕ → Option ℕ → Hints → Type 0
+AreRefusalHints sauce content fault bytes lines hints = MatchOption lines
+    (AreFrontHints (stated_size sauce) (is_non_blink sauce) content fault bytes hints)
+    (λ n. AreHintsOf (sized (stated_width sauce) n) (is_non_blink sauce) content [] hints)
+
 -- a content that is refused from the cleared start, and its record
 pub record IsRefusal (sauce content : List ℕ) (r : Refusal) : Type 0 where
   pub deserved : IsDeserved (stated_size sauce) all_known content r.fault
   pub bytes : AreToBlame (stated_size sauce) all_known content r.fault r.bytes.now
   pub cursor : ShowsPlaces (stated_size sauce) all_known content r.fault r.cursor r.cursor
   pub lines : AreLines (stated_width sauce) content r.fault.cause r.lines
-  pub hints_end : ℕ
-  pub ends : EndsHints r.fault r.bytes.now hints_end
-  pub hints : AreHintsOf (stated_size sauce) (is_non_blink sauce) (take hints_end content) (drop hints_end content)
-      r.hints
+  pub known : r.known ≡ known_sequence r.fault.cause (drop r.fault.offset content)
+  pub hints : AreRefusalHints sauce content r.fault r.bytes.now r.lines r.hints
+
+-- So many lines are enough for the file, which lacks nothing but that number: its content is good with as many, and
+-- with no fewer. The hints are those of all of it on as many lines.
+pub record IsEnough (file : List ℕ) (e : Enough) : Type 0 where
+  pub lacks : lacks_lines_alone file ≡ true
+  pub least : IsLeastLines (stated_width (record_in file)) (content (body_in file)) e.lines
+  pub within : e.lines ≤ most_lines
+  pub hints : AreHintsOf (sized (stated_width (record_in file)) e.lines) (is_non_blink (record_in file))
+      (content (body_in file)) [] e.hints
+  pub font : e.font.now ≡ trimmed (font_field (record_in file))
+
+-- No number of lines is said of another fault, nor of a file that lacks more; and none where none is enough.
+pub record IsSaidOfLines (file : List ℕ) (cause : Cause) (said : Option Enough) : Type 0 where
+  pub some : IfSome said (λ e. (cause ≡ LinesUnstated) × IsEnough file e)
+  pub none : IfNone said (cause ≡ LinesUnstated → lacks_lines_alone file ≡ true
+      → IsNeverGood (stated_width (record_in file)) (content (body_in file)) most_lines)
 
 -- what is said of a record or a layout that is refused is true of the file
 pub record IsRecordRefusal (file : List ℕ) (said : RecordRefusal) : Type 0 where
   pub refused : IsRecordFault file said.fault
   pub found : IsFound file said.found said.fault.cause
+  pub enough : IsSaidOfLines file said.fault.cause said.enough
 
 -- what is said of a file
 abbrev pub Why : Type 0

@@ -1,3 +1,4 @@
+pub mod Known
 pub mod Blamed
 pub mod Fonts
 pub mod HintsText

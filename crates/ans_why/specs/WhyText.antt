@@ -1,12 +1,12 @@
 -- The text of `why`.
 use Rattle.std.specs.Prelude.{ℕ, ◌==◌, Bool, true, false, nat_lt, List, [], ◌∷◌, ◌++◌, length, take, codes, decimal}
-use Rattle.std.specs.Prelude.{Option, Some, None, if◌then◌else◌}
+use Rattle.std.specs.Prelude.{Option, Some, None, is_some, if◌then◌else◌}
 use Rattle.std.specs.List.{flat_map}
 use Rattle.ans_model.specs.declared.cell.Cell.{Cell}
 use Rattle.ans_model.specs.File.Record.{font_field, trimmed}
 use Rattle.ans_model.specs.Text.Characters.{shown_bytes}
 use Rattle.ans_model.specs.Text.Hexadecimal.{hex_byte}
-use Rattle.ans_model.specs.Text.FaultText.{line_of, fault_line}
+use Rattle.ans_model.specs.Text.FaultText.{line_of, fault_line, note_line}
 use Rattle.ans_model.specs.Text.NeedsText.{needed_parts}
 use Rattle.ans_model.specs.Text.Words.{answer_text}
 use Rattle.ans_model.specs.Text.RecordText.{named_line}
@@ -14,10 +14,15 @@ use Rattle.ans_model.specs.Text.ReportText.{size_text, refusal_text}
 use Rattle.ans_sauce.specs.declared.found.Found.{Found}
 use Rattle.ans_sauce.specs.declared.found.Found.TheVariants as found
 use Rattle.ans_sauce.specs.declared.parts.Parts.{Parts}
-use Rattle.ans_sauce.specs.Parts.{record_of, size_of}
+use Rattle.ans_sauce.specs.Parts.{notes_of, record_of, size_of}
+use Rattle.ans_walks.specs.Hints.{are_torn}
+use Rattle.ans_walks.specs.declared.hints.Hints.{Hints}
 use Rattle.ans_why.specs.HintsText.{hints_text}
+use Rattle.ans_why.specs.Known.{known_behind_end_mark, known_text}
 use Rattle.ans_sauce.specs.declared.judged.Judged.TheVariants.{NoContent, Refused, Passes}
 use Rattle.ans_why.specs.Explained.{Why}
+use Rattle.ans_why.specs.declared.known_bytes.Known.{Known}
+use Rattle.ans_why.specs.declared.why.Enough.{Enough}
 use Rattle.ans_why.specs.declared.why.Pass.{Pass}
 use Rattle.ans_why.specs.declared.why.Place.{Place}
 use Rattle.ans_why.specs.declared.why.Refusal.{Refusal}
@@ -71,10 +76,15 @@ abbrev pub reliance_lines : Option Reliance → List ℕ
 reliance_lines None = []
 reliance_lines (Some r) = fault_line r.fault ++ (bytes_line r.bytes.now ++ (shown_lines r.shown ++ mend_line r.mends))
 
--- the number of lines that is enough
-abbrev pub lines_line : Option ℕ → List ℕ
-lines_line None = []
-lines_line (Some n) = named_line (codes "lines") (decimal n)
+-- what the bytes are known as
+abbrev pub known_line : Option Known → List ℕ
+known_line None = []
+known_line (Some known) = named_line (codes "is") (known_text known)
+
+-- the number of lines that is enough; where the rows are torn, for the drawing as it is
+abbrev pub lines_line : Option ℕ → Bool → List ℕ
+lines_line None torn = []
+lines_line (Some n) torn = named_line (codes "lines") (decimal n ++ (if torn then codes " as it is" else []))
 
 -- so many of a thing, as `1 byte` and `2 bytes`
 abbrev pub counted_text : ℕ → List ℕ → List ℕ
@@ -99,8 +109,18 @@ found_line (found.Kind kind subkind) =
 found_line (found.Comments count) = named_line (codes "found") (counted_text count (codes "comment") ++ codes " stated")
 found_line (found.Lines lines) = named_line (codes "found") (counted_text lines (codes "line") ++ codes " stated")
 found_line (found.Width width) = named_line (codes "found") (counted_text width (codes "column") ++ codes " stated")
-found_line (found.AfterEndMark count holds_record) =
-    named_line (codes "found") (counted_text count (codes "byte") ++ after_end_mark_text holds_record)
+found_line (found.AfterEndMark bytes holds_record) =
+    named_line (codes "found") (counted_text (length bytes.now) (codes "byte") ++ after_end_mark_text holds_record)
+
+-- what it is known as
+abbrev pub known_found : Found → Option Known
+known_found (found.AfterEndMark bytes holds_record) = known_behind_end_mark holds_record bytes.now
+known_found _ = None
+
+-- the hints and the number of lines of a file that states none
+abbrev pub enough_lines : Option Enough → List ℕ
+enough_lines None = []
+enough_lines (Some e) = hints_text e.hints e.font.now ++ lines_line (Some e.lines) (are_torn e.hints)
 
 -- the size
 abbrev pub size_line : Parts → List ℕ
@@ -117,16 +137,26 @@ pass_lines parts pass =
     ++ (named_line (codes "taller") (answer_text pass.taller)
     ++ (reliance_lines pass.reliance ++ hints_text pass.hints (font_of parts))))
 
--- The rows at the end are none to speak of, since not all is played.
+-- The rows at the end are none to speak of where not all is played.
+abbrev pub told_hints : Refusal → Hints
+told_hints r = if is_some r.lines then r.hints else record r.hints { empty_rows = 0 }
+
 abbrev pub refusal_lines : Parts → Refusal → List ℕ
 refusal_lines parts r =
     refusal_text r.fault
     ++ (bytes_line r.bytes.now
+    ++ (known_line r.known
     ++ (named_line (codes "cleared start") (place_text r.cursor)
-    ++ (lines_line r.lines ++ hints_text (record r.hints { empty_rows = 0 }) (font_of parts))))
+    ++ (hints_text (told_hints r) (font_of parts) ++ lines_line r.lines (are_torn r.hints)))))
+
+-- the size, and what is odd about the record
+abbrev pub heading_lines : Parts → List ℕ
+heading_lines parts = size_line parts ++ flat_map note_line (notes_of parts)
 
 -- the text
 abbrev pub why_text : Why → List ℕ
-why_text (NoContent said) = refusal_text said.fault ++ found_line said.found
-why_text (Refused parts refusal) = size_line parts ++ refusal_lines parts refusal
-why_text (Passes parts pass) = size_line parts ++ pass_lines parts pass
+why_text (NoContent said) =
+    refusal_text said.fault
+    ++ (found_line said.found ++ (known_line (known_found said.found) ++ enough_lines said.enough))
+why_text (Refused parts refusal) = heading_lines parts ++ refusal_lines parts refusal
+why_text (Passes parts pass) = heading_lines parts ++ pass_lines parts pass

@@ -1,25 +1,32 @@
 //! What there is to say of a file.
 
-ghost use Rattle.std.specs.Prelude.{◌≡◌, ◌≢◌, ◌+◌, ◌≤◌, ◌↔◌, IsTrue, IfSome, IfNone, Some, None, length};
-ghost use Rattle.ans_model.specs.Bytes.{longest_file, most_columns};
-ghost use Rattle.ans_model.specs.Screen.State.{IsOnScreen};
+ghost use Rattle.std.specs.Prelude.{◌≡◌, ◌≢◌, ◌+◌, ◌≤◌, ◌↔◌, IsTrue, IfSome, IfNone, Some, None, length, [], true};
+ghost use Rattle.ans_model.specs.Bytes.{longest_file, most_columns, most_lines};
+ghost use Rattle.ans_model.specs.File.Layout.{content};
+ghost use Rattle.ans_model.specs.File.Record.{stated_width};
+ghost use Rattle.ans_model.specs.Screen.State.{IsOnScreen, sized};
 ghost use Rattle.ans_model.specs.Screen.StartClass.{none_known, all_known};
 ghost use Rattle.ans_model.specs.Verdict.Needs.{IsLeast};
-ghost use Rattle.ans_sauce.specs.Parts.{content_of, record_of, size_of};
+ghost use Rattle.ans_sauce.specs.Found.{body_in, record_in};
+ghost use Rattle.ans_sauce.specs.Parts.{content_of, record_of, size_of, width_of};
+ghost use Rattle.ans_sauce.specs.WithoutLines.{lacks_lines_alone};
+ghost use Rattle.ans_walks.specs.Lines.{IsLeastLines, IsNeverGood};
 ghost use Rattle.ans_sauce.specs.Judged.{IsRecordFault};
 ghost use Rattle.ans_model.specs.Verdict.LastFault.{IsDeserved};
 ghost use Rattle.ans_why.specs.Blamed.{AreToBlame};
 ghost use Rattle.ans_why.specs.Explained.{place_of, IsShown, AreHintsOf, IsReliance, IsPass};
-ghost use Rattle.ans_why.specs.Explained.{IsOfReading, AreLines, EndsHints, IsRecordRefusal, IsRefusal};
+ghost use Rattle.ans_why.specs.Explained.{IsOfReading, AreLines, AreRefusalHints, EndsHints, IsEnough};
+ghost use Rattle.ans_why.specs.Explained.{IsRecordRefusal, IsRefusal};
 
 use crate::blamed::bytes_to_blame;
-use crate::why::{Pass, Place, RecordRefusal, Refusal, Reliance, Shown};
+use crate::known_bytes::known_sequence;
+use crate::why::{Enough, Pass, Place, RecordRefusal, Refusal, Reliance, Shown};
 use ans_model::cell::Position;
 use ans_model::fault::{Cause, Fault};
 use ans_model::limits::MAX_FILE;
 use ans_model::size::Size;
 use ans_model::start::Start;
-use ans_sauce::{Parts, find};
+use ans_sauce::{Parts, WithoutLines, find, without_lines};
 use ans_walks::{Hints, cells_of_fault, cursors_before, is_taller, least_lines};
 
 /// How many bytes mend a drawing.
@@ -125,16 +132,70 @@ fn enough_lines(width: usize, content: &[u8], cause: &Cause) -> Option<u16>
     }
 }
 
+/// The hints of all of a content, on the least number of lines that is enough.
+fn hints_on(width: usize, lines: u16, non_blink: bool, content: &[u8]) -> Hints
+    requires some_columns { 1 ≤ width }
+    requires columns { width ≤ most_columns }
+    requires lines { lines ≤ most_lines }
+    requires least { IsLeastLines width content.now lines }
+    requires length { length content.now ≤ longest_file }
+    ensures { AreHintsOf (sized width lines) non_blink content.now [] result }
+{
+    let size = Size::new(width, lines as usize);
+    Hints::of(size, non_blink, content, content.len())
+}
+
+/// The number of lines that is enough for a file that lacks nothing but that.
+fn enough(file: &[u8]) -> Option<Enough<'_>>
+    requires { length file.now ≤ longest_file }
+    ensures some { IfSome result (IsEnough file.now) }
+    ensures none { IfNone result (lacks_lines_alone file.now ≡ true
+        → IsNeverGood (stated_width (record_in file.now)) (content (body_in file.now)) most_lines) }
+{
+    let WithoutLines { content, sauce } = without_lines(file)?;
+    let width = sauce.width();
+    let Some(lines) = least_lines(width, content) else {
+        return None;
+    };
+    Some(Enough {
+        lines,
+        hints: hints_on(width, lines, sauce.is_non_blink(), content),
+        font: sauce.font(),
+    })
+}
+
 impl<'a> RecordRefusal<'a> {
     /// Of a file that is refused for its record or its layout. It takes no memory.
     pub fn of(file: &'a [u8], fault: Fault) -> RecordRefusal<'a>
-        requires { IsRecordFault file.now fault }
+        requires length { length file.now ≤ longest_file }
+        requires refused { IsRecordFault file.now fault }
         ensures { IsRecordRefusal file.now result }
     {
         RecordRefusal {
             fault,
             found: find(file, fault),
+            enough: match fault.cause {
+                Cause::LinesUnstated => enough(file),
+                _ => None,
+            },
         }
+    }
+}
+
+/// The hints of a refused content: of all of it, where so many lines are enough, and else of its tokens
+/// up to the one to blame.
+fn refusal_hints(parts: &Parts<'_>, fault: &Fault, bytes: &[u8], lines: Option<u16>) -> Hints
+    requires length { length (content_of parts.now) ≤ longest_file }
+    requires within { fault.now.offset + length bytes.now ≤ length (content_of parts.now) }
+    requires least { IfSome lines (λ n. (n ≤ most_lines)
+        × IsLeastLines (width_of parts.now) (content_of parts.now) n) }
+    ensures { AreRefusalHints (record_of parts.now) (content_of parts.now) fault.now bytes.now lines result }
+{
+    let content = parts.content();
+    let non_blink = parts.sauce().is_non_blink();
+    match lines {
+        Some(lines) => hints_on(parts.width(), lines, non_blink, content),
+        None => Hints::of(parts.size(), non_blink, content, end_of_hints(fault, bytes)),
     }
 }
 
@@ -149,13 +210,14 @@ impl<'a> Refusal<'a> {
         let content = parts.content();
         let bytes = bytes_to_blame(content, size, Start::CLEARED, fault);
         let (cursor, _) = cursors_before(size, Start::CLEARED, content, fault);
-        let end = end_of_hints(&fault, bytes);
+        let lines = enough_lines(parts.width(), content, &fault.cause);
         Refusal {
             fault,
             bytes,
+            known: known_sequence(content.split_at(fault.offset).1, &fault.cause),
             cursor: place(size, cursor),
-            lines: enough_lines(parts.width(), content, &fault.cause),
-            hints: Hints::of(size, parts.sauce().is_non_blink(), content, end),
+            lines,
+            hints: refusal_hints(parts, &fault, bytes, lines),
         }
     }
 }

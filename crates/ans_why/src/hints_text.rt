@@ -1,11 +1,12 @@
 //! The lines of hints.
 
 ghost use Rattle.std.specs.Prelude.{◌≡◌};
-ghost use Rattle.ans_why.specs.HintsText.{times_text, times_line, font_line, empty_rows_line, hints_text};
+ghost use Rattle.ans_why.specs.HintsText.{colour_hints, empty_rows_line, font_line, foreign_hints, hints_text};
+ghost use Rattle.ans_why.specs.HintsText.{row_hints, times_line, times_text, wider_line};
 ghost use Rattle.ans_write.specs.Puts.{Puts};
 
 use crate::font::{font_name, has_other_code_page};
-use ans_walks::{Hints, Times};
+use ans_walks::{Hints, Times, WiderRows};
 use ans_write::{Outbox, put_characters};
 use std::io::Write;
 
@@ -67,11 +68,21 @@ fn put_empty_rows_line<W: Write>(out: &mut Outbox<'_, W>, rows: usize)
     out.put(b" lines\n");
 }
 
-/// Puts the lines of the hints: `hint: `, what it is about, how many times it comes, and the offset of
-/// the first time in bytes; each where there is something to say. Where the record's field of the font
-/// names one that is not of code page 437, a line says so.
-pub fn put_hints<W: Write>(out: &mut Outbox<'_, W>, hints: &Hints, font_field: &[u8])
-    ensures { Puts W.contents out.old out.new (hints_text hints.now font_field.now) }
+fn put_wider_line<W: Write>(out: &mut Outbox<'_, W>, rows: Option<WiderRows>)
+    ensures { Puts W.contents out.old out.new (wider_line rows) }
+{
+    let Some(rows) = rows else {
+        return;
+    };
+    out.put(b"hint: a row runs over the edge and then ends, ");
+    put_times(out, rows.times);
+    out.put(b": the widest has ");
+    out.put_decimal(rows.columns as u64);
+    out.put(b" columns\n");
+}
+
+fn put_row_hints<W: Write>(out: &mut Outbox<'_, W>, hints: &Hints)
+    ensures { Puts W.contents out.old out.new (row_hints hints.now) }
 {
     put_times_line(
         out,
@@ -82,15 +93,48 @@ pub fn put_hints<W: Write>(out: &mut Outbox<'_, W>, hints: &Hints, font_field: &
     put_times_line(
         out,
         b"a full row and a line end take two rows",
-        hints.full_rows,
+        hints.row_ends.ended,
         b"",
     );
+    put_wider_line(out, hints.row_ends.wider_rows());
+    put_times_line(
+        out,
+        b"with wrap off a character is printed over another in the last column",
+        hints.row_ends.overprints,
+        b"",
+    );
+}
+
+/// What to do with the text of another system.
+const CONVERT: &[u8] = b": convert the text to code page 437";
+
+fn put_foreign_hints<W: Write>(out: &mut Outbox<'_, W>, hints: &Hints)
+    ensures { Puts W.contents out.old out.new (foreign_hints hints.now) }
+{
     put_times_line(
         out,
         b"a character is in UTF-8",
         hints.wide_characters,
-        b": convert the text to code page 437",
+        CONVERT,
     );
+    put_times_line(
+        out,
+        b"a letter is in UTF-8",
+        hints.two_byte_letters,
+        CONVERT,
+    );
+    put_times_line(out, b"a letter is in Latin-1", hints.latin_letters, CONVERT);
+    put_times_line(
+        out,
+        b"a colour code of a bulletin board (|07, @X1F) is printed as text",
+        hints.board_codes,
+        b"",
+    );
+}
+
+fn put_colour_hints<W: Write>(out: &mut Outbox<'_, W>, hints: &Hints)
+    ensures { Puts W.contents out.old out.new (colour_hints hints.now) }
+{
     put_times_line(
         out,
         b"a sequence has a colour of later terminals (38, 48, 90 to 97 or 100 to 107)",
@@ -103,6 +147,17 @@ pub fn put_hints<W: Write>(out: &mut Outbox<'_, W>, hints: &Hints, font_field: &
         hints.blinking_glyphs,
         b": for bright backgrounds set the non-blink flag",
     );
+}
+
+/// Puts the lines of the hints: `hint: `, what it is about, how many times it comes, and the offset of
+/// the first time in bytes; each where there is something to say. Where the record's field of the font
+/// names one that is not of code page 437, a line says so.
+pub fn put_hints<W: Write>(out: &mut Outbox<'_, W>, hints: &Hints, font_field: &[u8])
+    ensures { Puts W.contents out.old out.new (hints_text hints.now font_field.now) }
+{
+    put_row_hints(out, hints);
+    put_foreign_hints(out, hints);
+    put_colour_hints(out, hints);
     put_font_line(out, font_field);
     put_empty_rows_line(out, hints.empty_rows);
 }

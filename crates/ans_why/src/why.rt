@@ -1,5 +1,6 @@
 //! What `why` says of a file.
 
+use crate::known_bytes::Known;
 use ans_model::cell::Cell;
 use ans_model::fault::Fault;
 use ans_model::start::Start;
@@ -51,11 +52,26 @@ pub struct Refusal<'a> {
     pub fault: Fault,
     /// The bytes to blame.
     pub bytes: &'a [u8],
+    /// What they are known as.
+    pub known: Option<Known>,
     /// Where the cursor stands before the fault.
     pub cursor: Place,
     /// For F19 to F21 the least number of lines with which it passes, where there is one.
     pub lines: Option<u16>,
+    /// Those of all of the content on so many lines; and where there is no such number, those of its tokens
+    /// up to the one to blame.
     pub hints: Hints,
+}
+
+/// How many lines are enough for a content whose record states none.
+#[derive(Debug, Clone, Copy, PartialEq, Eq)]
+pub struct Enough<'a> {
+    /// The least number of lines with which it passes from the cleared start.
+    pub lines: u16,
+    /// Those of all of the content on so many lines.
+    pub hints: Hints,
+    /// The record's field of the font, without its trailing blanks and zero bytes.
+    pub font: &'a [u8],
 }
 
 /// What there is to say of a record or a layout that is refused: what stands there.
@@ -63,6 +79,8 @@ pub struct Refusal<'a> {
 pub struct RecordRefusal<'a> {
     pub fault: Fault,
     pub found: Found<'a>,
+    /// For F5, where neither F6 nor F8 would follow: the number of lines, where one is enough.
+    pub enough: Option<Enough<'a>>,
 }
 
 /// What `why` says of a file: of its record or its layout, of a content that is refused even from the

@@ -4,17 +4,21 @@ ghost use Rattle.std.specs.List.{flat_map};
 ghost use Rattle.ans_model.specs.Text.Characters.{shown_bytes};
 ghost use Rattle.ans_model.specs.Text.RecordText.{named_line};
 ghost use Rattle.ans_sauce.specs.declared.found.Found.TheVariants as found;
+ghost use Rattle.ans_sauce.specs.declared.judged.Judged.TheVariants.{NoContent};
 ghost use Rattle.ans_write.specs.Puts.{Puts};
 ghost use Rattle.ans_why.specs.WhyText.{quoted_byte, quoted, bytes_line, place_text, cell_text, shown_lines};
-ghost use Rattle.ans_why.specs.WhyText.{mend_line, reliance_lines, lines_line, after_end_mark_text};
+ghost use Rattle.ans_why.specs.WhyText.{mend_line, reliance_lines, lines_line, after_end_mark_text, enough_lines};
+ghost use Rattle.ans_why.specs.WhyText.{heading_lines, known_found, known_line, told_hints};
+ghost use Rattle.ans_walks.specs.Hints.{are_torn};
 ghost use Rattle.ans_model.specs.Text.Words.{answer_text};
 ghost use Rattle.ans_why.specs.WhyText.{counted_text, found_line, pass_lines, refusal_lines, why_text};
 
 use crate::hints_text::put_hints;
-use crate::why::{Pass, Place, Refusal, Reliance, Shown, Why};
+use crate::known_bytes::{Known, known_behind_end_mark};
+use crate::why::{Enough, Pass, Place, RecordRefusal, Refusal, Reliance, Shown, Why};
 use ans_model::cell::Cell;
 use ans_report::{
-    answer_text, put_fault_line, put_named_line, put_needed_parts, put_number_line, put_refusal,
+    answer_text, put_fault_line, put_named_line, put_needed_parts, put_notes, put_refusal,
     put_size_line,
 };
 use ans_sauce::{Found, Judged, Parts};
@@ -167,11 +171,42 @@ fn put_pass<W: Write>(out: &mut Outbox<'_, W>, parts: &Parts<'_>, pass: &Pass<'_
     put_hints(out, &pass.hints, parts.sauce().font());
 }
 
-fn put_lines_line<W: Write>(out: &mut Outbox<'_, W>, lines: Option<u16>)
-    ensures { Puts W.contents out.old out.new (lines_line lines) }
+fn put_known_line<W: Write>(out: &mut Outbox<'_, W>, known: Option<Known>)
+    ensures { Puts W.contents out.old out.new (known_line known) }
 {
-    if let Some(lines) = lines {
-        put_number_line(out, b"lines", u64::from(lines));
+    if let Some(known) = known {
+        put_named_line(out, b"is", known.text().as_bytes());
+    }
+}
+
+fn as_it_is(torn: bool) -> &'static [u8]
+    ensures { result.now ≡ (if torn then codes " as it is" else []) }
+{
+    if torn { b" as it is" } else { b"" }
+}
+
+fn put_lines_line<W: Write>(out: &mut Outbox<'_, W>, lines: Option<u16>, hints: &Hints)
+    ensures { Puts W.contents out.old out.new (lines_line lines (are_torn hints.now)) }
+{
+    let Some(lines) = lines else {
+        return;
+    };
+    out.put(b"lines: ");
+    out.put_decimal(lines as u64);
+    out.put(as_it_is(hints.are_torn()));
+    out.put(b"\n");
+}
+
+/// The hints of a refusal that are told: none of empty rows where not all of the content is played.
+fn told_hints(refusal: &Refusal<'_>) -> Hints
+    ensures { result ≡ told_hints refusal.now }
+{
+    match refusal.lines {
+        Some(_) => refusal.hints,
+        None => Hints {
+            empty_rows: 0,
+            ..refusal.hints
+        },
     }
 }
 
@@ -180,13 +215,10 @@ fn put_refused<W: Write>(out: &mut Outbox<'_, W>, parts: &Parts<'_>, refusal: &R
 {
     put_refusal(out, &refusal.fault);
     put_bytes_line(out, refusal.bytes);
+    put_known_line(out, refusal.known);
     put_place_line(out, b"cleared start", refusal.cursor);
-    put_lines_line(out, refusal.lines);
-    let hints = Hints {
-        empty_rows: 0,
-        ..refusal.hints
-    };
-    put_hints(out, &hints, parts.sauce().font());
+    put_hints(out, &told_hints(refusal), parts.sauce().font());
+    put_lines_line(out, refusal.lines, &refusal.hints);
 }
 
 fn plural(count: u64) -> &'static [u8]
@@ -273,31 +305,66 @@ fn put_found<W: Write>(out: &mut Outbox<'_, W>, found: &Found<'_>)
         Found::Comments(count) => put_count(out, u64::from(count), b"comment", b" stated"),
         Found::Lines(lines) => put_count(out, u64::from(lines), b"line", b" stated"),
         Found::Width(width) => put_count(out, u64::from(width), b"column", b" stated"),
-        Found::AfterEndMark { count, record } => {
-            put_count(out, count as u64, b"byte", after_end_mark(record));
+        Found::AfterEndMark { bytes, record } => {
+            put_count(out, bytes.len() as u64, b"byte", after_end_mark(record));
         }
     }
 }
 
-/// Puts what `why` says of a file: lines of a key, a colon and a value. After the size and the verdict
-/// come, of a pass, what it needs, whether it plays on taller screens, and what it relies on; of a refusal
-/// the fault, the bytes to blame, where the cursor stands before them, and the number of lines that is
-/// enough; and of both the hints. Of a record or a layout that is refused come the fault and what stands
-/// there.
+/// What is known of what is found.
+fn known_found(found: &Found<'_>) -> Option<Known>
+    ensures { result ≡ known_found found.now }
+{
+    match *found {
+        Found::AfterEndMark { bytes, record } => known_behind_end_mark(bytes, record),
+        _ => None,
+    }
+}
+
+fn put_enough<W: Write>(out: &mut Outbox<'_, W>, enough: Option<Enough<'_>>)
+    ensures { Puts W.contents out.old out.new (enough_lines enough.entry) }
+{
+    let Some(enough) = enough else {
+        return;
+    };
+    put_hints(out, &enough.hints, enough.font);
+    put_lines_line(out, Some(enough.lines), &enough.hints);
+}
+
+fn put_record_refusal<W: Write>(out: &mut Outbox<'_, W>, said: &RecordRefusal<'_>)
+    ensures { Puts W.contents out.old out.new (why_text (NoContent said.now)) }
+{
+    put_refusal(out, &said.fault);
+    put_found(out, &said.found);
+    put_known_line(out, known_found(&said.found));
+    put_enough(out, said.enough);
+}
+
+/// Puts the size and what is odd about the record.
+fn put_heading<W: Write>(out: &mut Outbox<'_, W>, parts: &Parts<'_>)
+    ensures { Puts W.contents out.old out.new (heading_lines parts.now) }
+{
+    put_size_line(out, parts);
+    put_notes(out, parts.notes().as_slice());
+}
+
+/// Puts what `why` says of a file: lines of a key, a colon and a value. After the size, the notes and the
+/// verdict come, of a pass, what it needs, whether it plays on taller screens, what it relies on, and the
+/// hints; of a refusal the fault, the bytes to blame, what they are known as, where the cursor stands
+/// before them, the hints, and the number of lines that is enough. Of a record or a layout that is refused
+/// come the fault, what stands there, and what that is known as; and where it lacks nothing but the number
+/// of lines, the hints on as many as are enough, and that number.
 pub fn put_why<W: Write>(out: &mut Outbox<'_, W>, why: &Why<'_>)
     ensures { Puts W.contents out.old out.new (why_text why.now) }
 {
     match why {
-        Judged::NoContent(said) => {
-            put_refusal(out, &said.fault);
-            put_found(out, &said.found);
-        }
+        Judged::NoContent(said) => put_record_refusal(out, said),
         Judged::Refused(parts, refusal) => {
-            put_size_line(out, parts);
+            put_heading(out, parts);
             put_refused(out, parts, refusal);
         }
         Judged::Passes(parts, pass) => {
-            put_size_line(out, parts);
+            put_heading(out, parts);
             put_pass(out, parts, pass);
         }
     }

@@ -4,14 +4,12 @@ use Rattle.ans_why.specs.WhyText.{why_text}
 use Rattle.ans_why.proofs.why_text.put_why.Goals as goal
 
 pub returns-in-NoContent : goal.returns-in-NoContent
-returns-in-NoContent g c =
-    Puts-same (sym (ap why_text c.in-NoContent.is)) (Puts-then c.put_refusal.ensures c.put_found.ensures)
+returns-in-NoContent g c = Puts-same (sym (ap why_text c.in-NoContent.is)) c.put_record_refusal.ensures
 
 pub returns-in-Refused : goal.returns-in-Refused
 returns-in-Refused g c =
-    Puts-same (sym (ap why_text c.in-Refused.is)) (Puts-then c.put_size_line.ensures c.put_refused.ensures)
+    Puts-same (sym (ap why_text c.in-Refused.is)) (Puts-then c.put_heading.ensures c.put_refused.ensures)
 
 pub returns-in-Passes : goal.returns-in-Passes
 returns-in-Passes g c =
-    Puts-same (sym (ap why_text c.in-Passes.is))
-    (Puts-then c.put_size_line-in-Passes.ensures c.put_pass.ensures)
+    Puts-same (sym (ap why_text c.in-Passes.is)) (Puts-then c.put_heading-in-Passes.ensures c.put_pass.ensures)

@@ -1,5 +1,6 @@
-use Rattle.std.proofs.Common.{◌≡◌, sym, ap, ◌∙◌}
+use Rattle.std.proofs.Common.{◌≡◌, sym, ap, ◌∙◌, drop}
 use Rattle.ans_why.specs.Explained.{place_of}
+use Rattle.ans_why.specs.Known.{known_sequence}
 use Rattle.ans_why.proofs.why.Refusal.of.Goals as goal
 
 pub returns : goal.returns
@@ -16,9 +17,8 @@ returns c =
         low_is = c.place.ensures;
         high_is = c.place.ensures ∙ ap place_of (sym same);
       };
-      lines = rw (c.width.ensures.width, c.content-content.ensures) at c.enough_lines.ensures;
-      hints_end = c.end_of_hints-end.result;
-      ends = c.end_of_hints-end.ensures.ends;
-      hints = rw (c.content-content.ensures, c.size-size.ensures, c.is_non_blink.ensures, c.sauce.ensures)
-          at c.of.ensures;
+      lines = rw (c.width.ensures.width, c.content-content.ensures) at c.enough_lines-lines.ensures;
+      known = c.known_sequence.ensures ∙ ap (known_sequence c.args.fault.cause)
+          (c.split_at.ensures.back ∙ ap (drop c.args.fault.offset) c.content-content.ensures);
+      hints = c.refusal_hints.ensures;
     }

@@ -1,0 +1,5 @@
+use Rattle.ans_write.proofs.PutsLemmas.{Puts-then}
+use Rattle.ans_why.proofs.hints_text.put_colour_hints.Goals as goal
+
+pub returns : goal.returns
+returns g c = Puts-then c.put_times_line.ensures c.put_times_line-2.ensures
