@@ -18,7 +18,7 @@ use Rattle.ans_model.specs.Screen.Step.{final}
 use Rattle.ans_model.specs.Sequence.Reads.{Reads}
 use Rattle.ans_model.specs.Sequence.TokenKind.{TokenKind}
 use Rattle.ans_model.specs.Text.Characters.{shown_bytes}
-use Rattle.ans_model.specs.Text.FaultText.{line_of, fault_line}
+use Rattle.ans_model.specs.Text.FaultText.{line_of, fault_line, note_line}
 use Rattle.ans_model.specs.Text.Hexadecimal.{hex_byte}
 use Rattle.ans_model.specs.Text.NeedsText.{needed_parts}
 use Rattle.ans_model.specs.Text.RecordText.{named_line}
@@ -30,20 +30,28 @@ use Rattle.ans_sauce.specs.declared.found.Found.{Found}
 use Rattle.ans_sauce.specs.declared.found.Found.TheVariants as found
 use Rattle.ans_sauce.specs.declared.parts.Parts.{Parts}
 use Rattle.ans_sauce.specs.Found.{IsFound, record_in}
-use Rattle.ans_sauce.specs.Parts.{content_of, record_of, size_of}
+use Rattle.ans_sauce.specs.Parts.{content_of, notes_of, record_of, size_of}
 use Rattle.ans_sauce.specs.Split.{IsSplit}
 use Rattle.ans_model.specs.Verdict.LastFault.{IsDeserved}
 use Rattle.ans_walks.specs.Evidence.{ShowsNamed}
 use Rattle.ans_why.specs.Fonts.{font_name, has_other_code_page}
 use Rattle.ans_why.specs.HintsText.{hint_line, times_text, times_line, font_line, empty_rows_line, hints_text}
+use Rattle.ans_why.specs.HintsText.{colour_hints, convert_text, foreign_hints, row_hints, wider_line}
+use Rattle.ans_walks.specs.Hints.{are_torn}
+use Rattle.ans_walks.specs.RowEnds.{wider_rows}
+use Rattle.ans_walks.specs.declared.row_ends.WiderRows.{WiderRows}
 use Rattle.ans_walks.specs.declared.hints.Hints.{Hints}
 use Rattle.ans_walks.specs.declared.times.Times.{Times}
 use Rattle.ans_why.specs.Blamed.{AreToBlame}
-use Rattle.ans_why.specs.Explained.{IsShown, IsReliance, IsPass, IsRefusal, IsTrueOf, Why}
+use Rattle.ans_why.specs.Explained.{IsEnough, IsShown, IsReliance, IsPass, IsRefusal, IsSaidOfLines, IsTrueOf, Why}
 use Rattle.ans_why.specs.WhyText.{quoted_byte, quoted, bytes_line, place_text, cell_text, shown_lines, mend_line}
-use Rattle.ans_why.specs.WhyText.{reliance_lines, lines_line, after_end_mark_text, counted_text}
+use Rattle.ans_why.specs.WhyText.{reliance_lines, lines_line, after_end_mark_text, counted_text, enough_lines}
+use Rattle.ans_why.specs.WhyText.{heading_lines, known_found, known_line, told_hints}
 use Rattle.ans_model.specs.Text.Words.{answer_text}
 use Rattle.ans_why.specs.WhyText.{found_line, size_line, font_of, pass_lines, refusal_lines, why_text}
+use Rattle.ans_why.specs.declared.known_bytes.Known.{Known}
+use Rattle.ans_why.specs.declared.known_bytes.Known.TheVariants.{Music}
+use Rattle.ans_why.specs.declared.why.Enough.{Enough}
 use Rattle.ans_why.specs.declared.why.Pass.{Pass}
 use Rattle.ans_why.specs.declared.why.Place.{Place}
 use Rattle.ans_why.specs.declared.why.Refusal.{Refusal}
@@ -52,11 +60,12 @@ use Rattle.ans_why.specs.declared.why.Shown.{Shown}
 use Rattle.ans_why.specs.declared.why.Shown.TheVariants.{Cursors, Cells}
 use Rattle.ans_sauce.specs.declared.judged.Judged.TheVariants.{NoContent, Refused, Passes}
 use Rattle.ans_check_laws.specs.CleanTexts.{IsCleanText}
-use Rattle.ans_check_laws.proofs.CleanLines.{all_left, all_right, fault_line_clean, refusal_clean, size_clean}
+use Rattle.ans_check_laws.proofs.CleanLines.{all_left, all_right, fault_line_clean, note_line_clean, refusal_clean}
+use Rattle.ans_check_laws.proofs.CleanLines.{size_clean}
 use Rattle.ans_check_laws.proofs.CleanLines.{needed_parts_clean, parts_are_bytes, field_is_bytes, trimmed_is_bytes}
 use Rattle.ans_check_laws.proofs.CleanLines.{named_clean}
 use Rattle.ans_check_laws.proofs.CleanPieces.{clean_nil, clean_append, clean_if, plain_text, clean_line, clean_decimal}
-use Rattle.ans_check_laws.proofs.CleanPieces.{clean_hex_byte, clean_shown}
+use Rattle.ans_check_laws.proofs.CleanPieces.{clean_flat_map, clean_hex_byte, clean_shown}
 
 -- ---- bytes of a file
 
@@ -246,32 +255,69 @@ empty_rows_clean rows =
     (plain_text (codes "nothing is printed in the last ") refl)
     (clean_append (decimal rows) (codes " lines") (clean_decimal rows) (plain_text (codes " lines") refl)))))
 
-hints_clean : (hints : Hints) (font : List ℕ) → All IsByte font → IsCleanText (hints_text hints font)
-hints_clean hints font bytes =
+wider_clean : (rows : Option WiderRows) → IsCleanText (wider_line rows)
+wider_clean None = clean_nil
+wider_clean (Some rows) =
+    let columns = decimal rows.columns ++ codes " columns" in
+    let after = codes ": the widest has " ++ columns in
+    hint_clean (codes "a row runs over the edge and then ends, " ++ (times_text rows.times ++ after))
+    (clean_append (codes "a row runs over the edge and then ends, ") (times_text rows.times ++ after)
+    (plain_text (codes "a row runs over the edge and then ends, ") refl)
+    (clean_append (times_text rows.times) after (times_text_clean rows.times)
+    (clean_append (codes ": the widest has ") columns (plain_text (codes ": the widest has ") refl)
+    (clean_append (decimal rows.columns) (codes " columns") (clean_decimal rows.columns)
+    (plain_text (codes " columns") refl)))))
+
+row_hints_clean : (hints : Hints) → IsCleanText (row_hints hints)
+row_hints_clean hints =
     let loose = codes "a line feed with no return beside it goes straight down" in
     let full = codes "a full row and a line end take two rows" in
+    let over = codes "with wrap off a character is printed over another in the last column" in
+    let overprints = times_line over hints.row_ends.overprints [] in
+    let wider = wider_line (wider_rows hints.row_ends) ++ overprints in
+    let full_rows = times_line full hints.row_ends.ended [] ++ wider in
+    clean_append (times_line loose hints.loose_line_feeds []) full_rows
+    (times_clean loose hints.loose_line_feeds [] (plain_text loose refl) clean_nil)
+    (clean_append (times_line full hints.row_ends.ended []) wider
+    (times_clean full hints.row_ends.ended [] (plain_text full refl) clean_nil)
+    (clean_append (wider_line (wider_rows hints.row_ends)) overprints (wider_clean (wider_rows hints.row_ends))
+    (times_clean over hints.row_ends.overprints [] (plain_text over refl) clean_nil)))
+
+foreign_hints_clean : (hints : Hints) → IsCleanText (foreign_hints hints)
+foreign_hints_clean hints =
     let wide = codes "a character is in UTF-8" in
-    let converted = codes ": convert the text to code page 437" in
+    let letter = codes "a letter is in UTF-8" in
+    let latin = codes "a letter is in Latin-1" in
+    let code = codes "a colour code of a bulletin board (|07, @X1F) is printed as text" in
+    let board = times_line code hints.board_codes [] in
+    let letters = times_line latin hints.latin_letters convert_text ++ board in
+    let two_bytes = times_line letter hints.two_byte_letters convert_text ++ letters in
+    clean_append (times_line wide hints.wide_characters convert_text) two_bytes
+    (times_clean wide hints.wide_characters convert_text (plain_text wide refl) (plain_text convert_text refl))
+    (clean_append (times_line letter hints.two_byte_letters convert_text) letters
+    (times_clean letter hints.two_byte_letters convert_text (plain_text letter refl) (plain_text convert_text refl))
+    (clean_append (times_line latin hints.latin_letters convert_text) board
+    (times_clean latin hints.latin_letters convert_text (plain_text latin refl) (plain_text convert_text refl))
+    (times_clean code hints.board_codes [] (plain_text code refl) clean_nil)))
+
+colour_hints_clean : (hints : Hints) → IsCleanText (colour_hints hints)
+colour_hints_clean hints =
     let later = codes "a sequence has a colour of later terminals (38, 48, 90 to 97 or 100 to 107)" in
     let blinks = codes "a character blinks" in
     let bright = codes ": for bright backgrounds set the non-blink flag" in
-    let rows = font_line font ++ empty_rows_line hints.empty_rows in
-    let blinking = times_line blinks hints.blinking_glyphs bright ++ rows in
-    let colours = times_line later hints.later_colours [] ++ blinking in
-    let characters = times_line wide hints.wide_characters converted ++ colours in
-    let full_rows = times_line full hints.full_rows [] ++ characters in
-    clean_append (times_line loose hints.loose_line_feeds []) full_rows
-    (times_clean loose hints.loose_line_feeds [] (plain_text loose refl) clean_nil)
-    (clean_append (times_line full hints.full_rows []) characters
-    (times_clean full hints.full_rows [] (plain_text full refl) clean_nil)
-    (clean_append (times_line wide hints.wide_characters converted) colours
-    (times_clean wide hints.wide_characters converted (plain_text wide refl) (plain_text converted refl))
-    (clean_append (times_line later hints.later_colours []) blinking
+    clean_append (times_line later hints.later_colours []) (times_line blinks hints.blinking_glyphs bright)
     (times_clean later hints.later_colours [] (plain_text later refl) clean_nil)
-    (clean_append (times_line blinks hints.blinking_glyphs bright) rows
     (times_clean blinks hints.blinking_glyphs bright (plain_text blinks refl) (plain_text bright refl))
+
+hints_clean : (hints : Hints) (font : List ℕ) → All IsByte font → IsCleanText (hints_text hints font)
+hints_clean hints font bytes =
+    let rows = font_line font ++ empty_rows_line hints.empty_rows in
+    let colours = colour_hints hints ++ rows in
+    clean_append (row_hints hints) (foreign_hints hints ++ colours) (row_hints_clean hints)
+    (clean_append (foreign_hints hints) colours (foreign_hints_clean hints)
+    (clean_append (colour_hints hints) rows (colour_hints_clean hints)
     (clean_append (font_line font) (empty_rows_line hints.empty_rows) (font_clean font bytes)
-    (empty_rows_clean hints.empty_rows))))))
+    (empty_rows_clean hints.empty_rows))))
 
 -- ---- what is found
 
@@ -335,9 +381,9 @@ found_clean file (found.Lines lines) cause bytes h =
     stated_clean lines (codes "line") (plain_text (codes "line") refl)
 found_clean file (found.Width width) cause bytes h =
     stated_clean width (codes "column") (plain_text (codes "column") refl)
-found_clean file (found.AfterEndMark count holds_record) cause bytes h =
-    found_named (counted_text count (codes "byte") ++ after_end_mark_text holds_record)
-    (counted_clean count (codes "byte") (after_end_mark_text holds_record) (plain_text (codes "byte") refl)
+found_clean file (found.AfterEndMark after holds_record) cause bytes h =
+    found_named (counted_text (length after.now) (codes "byte") ++ after_end_mark_text holds_record)
+    (counted_clean (length after.now) (codes "byte") (after_end_mark_text holds_record) (plain_text (codes "byte") refl)
     (after_end_mark_clean holds_record))
 
 -- ---- the text
@@ -346,13 +392,41 @@ answer_clean : (answer : Bool) → IsCleanText (answer_text answer)
 answer_clean true = plain_text (codes "yes") refl
 answer_clean false = plain_text (codes "no") refl
 
-lines_clean : (lines : Option ℕ) → IsCleanText (lines_line lines)
-lines_clean None = clean_nil
-lines_clean (Some n) = named_clean (codes "lines") (decimal n) (plain_text (codes "lines") refl) (clean_decimal n)
-
 size_line_clean : (parts : Parts) → IsCleanText (size_line parts)
 size_line_clean parts =
     named_clean (codes "size") (size_text (size_of parts)) (plain_text (codes "size") refl) (size_clean (size_of parts))
+
+as_it_is_clean : (torn : Bool) → IsCleanText (if torn then codes " as it is" else [])
+as_it_is_clean true = plain_text (codes " as it is") refl
+as_it_is_clean false = clean_nil
+
+lines_clean : (lines : Option ℕ) (torn : Bool) → IsCleanText (lines_line lines torn)
+lines_clean None torn = clean_nil
+lines_clean (Some n) torn =
+    let after : List ℕ = if torn then codes " as it is" else [] in
+    named_clean (codes "lines") (decimal n ++ after) (plain_text (codes "lines") refl)
+    (clean_append (decimal n) after (clean_decimal n) (as_it_is_clean torn))
+
+known_clean : (known : Option Known) → IsCleanText (known_line known)
+known_clean None = clean_nil
+known_clean (Some Music) = plain_text (known_line (Some Music)) refl
+known_clean (Some known) = plain_text (known_line (Some known)) refl
+
+heading_lines_clean : (parts : Parts) → IsCleanText (heading_lines parts)
+heading_lines_clean parts =
+    clean_append (size_line parts) (flat_map note_line (notes_of parts)) (size_line_clean parts)
+    (clean_flat_map note_line (notes_of parts) note_line_clean)
+
+enough_clean : (file : List ℕ) (cause : Cause) (enough : Option Enough) → All IsByte file
+    → IsSaidOfLines file cause enough → IsCleanText (enough_lines enough)
+enough_clean file cause None bytes h = clean_nil
+enough_clean file cause (Some e) bytes h =
+    let said : IsEnough file e = h.some.1 in
+    let font : All IsByte e.font.now = subst (λ (v : List ℕ). All IsByte v) (sym said.font)
+    (trimmed_is_bytes (font_field (record_in file))
+    (field_is_bytes 106 22 (record_in file) (All-drop IsByte _ file bytes))) in
+    clean_append (hints_text e.hints e.font.now) (lines_line (Some e.lines) (are_torn e.hints))
+    (hints_clean e.hints e.font.now font) (lines_clean (Some e.lines) (are_torn e.hints))
 
 pass_clean : (file : List ℕ) (parts : Parts) (pass : Pass) → All IsByte file → IsSplit file parts
     → IsPass (length file) (record_of parts) (content_of parts) pass → IsCleanText (pass_lines parts pass)
@@ -378,28 +452,35 @@ pass_clean file parts pass bytes split h =
 refused_clean : (file : List ℕ) (parts : Parts) (r : Refusal) → All IsByte file → IsSplit file parts
     → IsRefusal (record_of parts) (content_of parts) r → IsCleanText (refusal_lines parts r)
 refused_clean file parts r bytes split h =
-    let shown : Hints = record r.hints { empty_rows = 0 } in
-    let hints = hints_text shown (font_of parts) in
-    let lines = lines_line r.lines ++ hints in
+    let hints = hints_text (told_hints r) (font_of parts) in
+    let told = hints ++ lines_line r.lines (are_torn r.hints) in
     let cursor = named_line (codes "cleared start") (place_text r.cursor) in
-    clean_append (refusal_text r.fault) (bytes_line r.bytes.now ++ (cursor ++ lines)) (refusal_clean r.fault)
-    (clean_append (bytes_line r.bytes.now) (cursor ++ lines)
+    clean_append (refusal_text r.fault) (bytes_line r.bytes.now ++ (known_line r.known ++ (cursor ++ told)))
+    (refusal_clean r.fault)
+    (clean_append (bytes_line r.bytes.now) (known_line r.known ++ (cursor ++ told))
     (bytes_line_clean r.bytes.now
     (blamed_is_bytes (size_of parts) all_known (content_of parts) r.fault r.bytes.now
     (content_is_bytes file parts split bytes) h.bytes))
-    (clean_append cursor lines
+    (clean_append (known_line r.known) (cursor ++ told) (known_clean r.known)
+    (clean_append cursor told
     (named_clean (codes "cleared start") (place_text r.cursor) (plain_text (codes "cleared start") refl)
     (place_clean r.cursor))
-    (clean_append (lines_line r.lines) hints (lines_clean r.lines)
-    (hints_clean shown (font_of parts) (font_is_bytes file parts split bytes)))))
+    (clean_append hints (lines_line r.lines (are_torn r.hints))
+    (hints_clean (told_hints r) (font_of parts) (font_is_bytes file parts split bytes))
+    (lines_clean r.lines (are_torn r.hints))))))
 
 pub why_clean : (file : List ℕ) (why : Why) → All IsByte file → IsTrueOf file why → IsCleanText (why_text why)
 why_clean file (NoContent said) bytes h =
-    clean_append (refusal_text said.fault) (found_line said.found) (refusal_clean said.fault)
+    let enough = enough_lines said.enough in
+    let known = known_line (known_found said.found) in
+    clean_append (refusal_text said.fault) (found_line said.found ++ (known ++ enough)) (refusal_clean said.fault)
+    (clean_append (found_line said.found) (known ++ enough)
     (found_clean file said.found said.fault.cause bytes h.found)
+    (clean_append known enough (known_clean (known_found said.found))
+    (enough_clean file said.fault.cause said.enough bytes h.enough)))
 why_clean file (Refused parts refusal) bytes (split, h) =
-    clean_append (size_line parts) (refusal_lines parts refusal) (size_line_clean parts)
+    clean_append (heading_lines parts) (refusal_lines parts refusal) (heading_lines_clean parts)
     (refused_clean file parts refusal bytes split h)
 why_clean file (Passes parts pass) bytes (split, h) =
-    clean_append (size_line parts) (pass_lines parts pass) (size_line_clean parts)
+    clean_append (heading_lines parts) (pass_lines parts pass) (heading_lines_clean parts)
     (pass_clean file parts pass bytes split h)

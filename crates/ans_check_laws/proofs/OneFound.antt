@@ -13,7 +13,9 @@ use Rattle.ans_model.specs.Text.RecordText.{named_line}
 use Rattle.ans_sauce.specs.declared.found.Found.{Found}
 use Rattle.ans_sauce.specs.declared.found.Found.TheVariants as found
 use Rattle.ans_sauce.specs.Found.{IsLastRecord, IsFound, record_in, after_end_mark, HoldsRecord}
-use Rattle.ans_why.specs.WhyText.{found_line}
+use Rattle.ans_why.specs.Known.{known_behind_end_mark}
+use Rattle.ans_why.specs.WhyText.{after_end_mark_text, counted_text, found_line, known_found}
+use Rattle.ans_why.specs.declared.known_bytes.Known.{Known}
 use Rattle.ans_check_laws.proofs.Covering.{same_truth}
 
 -- ---- the last record
@@ -39,6 +41,11 @@ record_told : List ℕ → Option ℕ → List ℕ
 record_told file None = []
 record_told file (Some offset) = found_line (found.Record offset (length file - (offset + 128)))
 
+-- of so many bytes behind the end mark
+after_told : ℕ → Bool → List ℕ
+after_told count holds_record =
+    named_line (codes "found") (counted_text count (codes "byte") ++ after_end_mark_text holds_record)
+
 -- the text tells what is found in the file for this cause
 abbrev IsToldOf : List ℕ → Cause → List ℕ → Type 0
 IsToldOf file NoRecord text = (place : Option ℕ) × IsLastRecord file place × (text ≡ record_told file place)
@@ -52,11 +59,11 @@ IsToldOf file WidthTooLarge text = text ≡ found_line (found.Width (tinfo 1 (re
 IsToldOf file LinesTooLarge text = text ≡ found_line (found.Lines (tinfo 2 (record_in file)))
 IsToldOf file BytesAfterEndMark text =
     (holds_record : Bool) × (IsTrue holds_record ↔ HoldsRecord (after_end_mark file))
-    × (text ≡ found_line (found.AfterEndMark (length (after_end_mark file)) holds_record))
+    × (text ≡ after_told (length (after_end_mark file)) holds_record)
 IsToldOf file _ text = ⊥
 
 told : (file : List ℕ) (x : Found) (cause : Cause) → IsFound file x cause → IsToldOf file cause (found_line x)
-unfolding record_told
+unfolding record_told after_told
 told file found.NoRecord cause h = rw h.0 (None, h.1, refl)
 told file (found.Record offset behind) cause h =
     let behind_is : behind ≡ length file - (offset + 128) = omega (arith, h.2) in
@@ -68,8 +75,8 @@ told file (found.Comments count) cause h = rw h.0 (ap (λ (n : ℕ). found_line 
 told file (found.Width width) cause h = rw h.0 (ap (λ (n : ℕ). found_line (found.Width n)) h.1)
 told file (found.Lines lines) cause (inl e, h) = rw e (ap (λ (n : ℕ). found_line (found.Lines n)) h)
 told file (found.Lines lines) cause (inr e, h) = rw e (ap (λ (n : ℕ). found_line (found.Lines n)) h)
-told file (found.AfterEndMark count holds_record) cause h =
-    rw h.0 (holds_record, h.2, ap (λ (n : ℕ). found_line (found.AfterEndMark n holds_record)) h.1)
+told file (found.AfterEndMark bytes holds_record) cause h =
+    rw h.0 (holds_record, h.2, ap (λ (v : List ℕ). after_told (length v) holds_record) h.1)
 
 one_told : (file : List ℕ) (cause : Cause) (text other : List ℕ) → IsToldOf file cause text
     → IsToldOf file cause other → text ≡ other
@@ -83,7 +90,7 @@ one_told file WidthTooLarge text other h g = h ∙ sym g
 one_told file LinesTooLarge text other h g = h ∙ sym g
 one_told file BytesAfterEndMark text other (p, a, h) (q, b, g) =
     h
-    ∙ ap (λ (v : Bool). found_line (found.AfterEndMark (length (after_end_mark file)) v))
+    ∙ ap (λ (v : Bool). after_told (length (after_end_mark file)) v)
     (same_truth p q (λ k. b.1 (a.0 k)) (λ k. a.1 (b.0 k)))
     ∙ sym g
 one_told file cause text other h g = absurd h
@@ -93,3 +100,39 @@ pub one_found : (file : List ℕ) (cause : Cause) (x y : Found) → IsFound file
     → found_line x ≡ found_line y
 one_found file cause x y h g =
     one_told file cause (found_line x) (found_line y) (told file x cause h) (told file y cause g)
+
+-- ---- what it is known as
+
+-- this is known of what is found in the file for this cause
+abbrev IsKnownOf : List ℕ → Cause → Option Known → Type 0
+IsKnownOf file BytesAfterEndMark known =
+    (holds_record : Bool) × (IsTrue holds_record ↔ HoldsRecord (after_end_mark file))
+    × (known ≡ known_behind_end_mark holds_record (after_end_mark file))
+IsKnownOf file _ known = known ≡ None
+
+known_of : (file : List ℕ) (x : Found) (cause : Cause) → IsFound file x cause → IsKnownOf file cause (known_found x)
+known_of file found.NoRecord cause h = rw h.0 refl
+known_of file (found.Record offset behind) cause h = rw h.0 refl
+known_of file (found.Version bytes) cause h = rw h.0 refl
+known_of file (found.Kind kind subkind) cause h = rw h.0 refl
+known_of file (found.Comments count) cause h = rw h.0 refl
+known_of file (found.Width width) cause h = rw h.0 refl
+known_of file (found.Lines lines) cause (inl e, h) = rw e refl
+known_of file (found.Lines lines) cause (inr e, h) = rw e refl
+known_of file (found.AfterEndMark bytes holds_record) cause h =
+    rw h.0 (holds_record, h.2, ap (λ (v : List ℕ). known_behind_end_mark holds_record v) h.1)
+
+one_of_known : (file : List ℕ) (cause : Cause) (k l : Option Known) → IsKnownOf file cause k → IsKnownOf file cause l
+    → k ≡ l
+one_of_known file BytesAfterEndMark k l (p, a, h) (q, b, g) =
+    h
+    ∙ ap (λ (v : Bool). known_behind_end_mark v (after_end_mark file))
+    (same_truth p q (λ k. b.1 (a.0 k)) (λ k. a.1 (b.0 k)))
+    ∙ sym g
+one_of_known file cause k l h g = h ∙ sym g
+
+-- what is found for a cause is known as one thing
+pub one_known : (file : List ℕ) (cause : Cause) (x y : Found) → IsFound file x cause → IsFound file y cause
+    → known_found x ≡ known_found y
+one_known file cause x y h g =
+    one_of_known file cause (known_found x) (known_found y) (known_of file x cause h) (known_of file y cause g)

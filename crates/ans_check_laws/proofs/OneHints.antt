@@ -1,6 +1,7 @@
 -- The hints of a content are one, and so is where they end in a refused one.
-use Rattle.std.proofs.Common.{◌≡◌, inl, inr, ℕ, ◌+◌, Bool, List, [], ◌∷◌, ◌++◌, length, take, refl, sym, ap, ◌∙◌, subst}
-use Rattle.std.specs.Prelude.{⊤}
+use Rattle.std.proofs.Common.{◌≡◌, inl, inr, ℕ, ◌+◌, Bool, List, [], ◌∷◌, ◌++◌, length, take, drop, refl, sym, ap, ◌∙◌, subst}
+use Rattle.std.proofs.Common.{Option, Some, None}
+use Rattle.std.specs.Prelude.{⊤, IfSome}
 use Rattle.std.specs.List.{AllZip, concat}
 use Rattle.std.proofs.Math.Seq.{take-append-add, take-append_seam}
 use Rattle.std.proofs.lemmas.List.{append-nil}
@@ -13,7 +14,8 @@ use Rattle.ans_model.specs.declared.fault.Cause.TheVariants.{PrintBelow, Scrolls
 use Rattle.ans_model.specs.declared.fault.Cause.TheVariants.{EraseUnknownPlace, MayScroll}
 use Rattle.ans_model.specs.declared.fault.Fault.{Fault}
 use Rattle.ans_model.specs.declared.start.Start.{Start}
-use Rattle.ans_model.specs.Screen.State.{Size, State, cell_at}
+use Rattle.ans_model.specs.File.Record.{is_non_blink, stated_size, stated_width}
+use Rattle.ans_model.specs.Screen.State.{Size, State, cell_at, sized}
 use Rattle.ans_model.specs.Screen.StartClass.{all_known}
 use Rattle.ans_model.specs.Screen.Step.{final}
 use Rattle.ans_model.specs.Sequence.Reads.{SpellsToken, Reads}
@@ -24,9 +26,10 @@ use Rattle.ans_model.specs.Verdict.TokenFault.{HasStaticFault, HasPrintFault, Ha
 use Rattle.ans_model.proofs.OneCause.{cleared_is_one}
 use Rattle.ans_model.proofs.Reading.{IsOfMeaning, means_well}
 use Rattle.ans_walks.specs.Hints.{AreHints}
+use Rattle.ans_walks.specs.Lines.{IsGoodOn}
 use Rattle.ans_walks.specs.declared.hints.Hints.{Hints}
 use Rattle.ans_why.specs.Blamed.{AreToBlame}
-use Rattle.ans_why.specs.Explained.{AreHintsOf, EndsHints, IsOfReading}
+use Rattle.ans_why.specs.Explained.{AreFrontHints, AreHintsOf, AreRefusalHints, EndsHints, IsOfReading}
 use Rattle.ans_check_laws.proofs.OneBlamed.{front_is}
 
 -- ---- what the reading refuses is of the reading
@@ -173,8 +176,11 @@ one_of_tokens : (z : Size) (flag : Bool) (tokens : List TokenKind) (texts : List
     (a b : Hints) → AreHints z flag tokens texts behind a → AreHints z flag tokens texts behind b → a ≡ b
 one_of_tokens z flag tokens texts behind a b h g = λ i. record {
   loose_line_feeds = (h.loose_line_feeds ∙ sym g.loose_line_feeds) i;
-  full_rows = (h.full_rows ∙ sym g.full_rows) i;
+  row_ends = (h.row_ends ∙ sym g.row_ends) i;
   wide_characters = (h.wide_characters ∙ sym g.wide_characters) i;
+  two_byte_letters = (h.two_byte_letters ∙ sym g.two_byte_letters) i;
+  latin_letters = (h.latin_letters ∙ sym g.latin_letters) i;
+  board_codes = (h.board_codes ∙ sym g.board_codes) i;
   later_colours = (h.later_colours ∙ sym g.later_colours) i;
   blinking_glyphs = (h.blinking_glyphs ∙ sym g.blinking_glyphs) i;
   empty_rows = (h.empty_rows ∙ sym g.empty_rows) i;
@@ -186,3 +192,23 @@ pub one_hints : (z : Size) (flag : Bool) (bytes behind : List ℕ) (tokens : Lis
     → Reads bytes tokens → AreHintsOf z flag bytes behind a → AreHintsOf z flag bytes behind b → a ≡ b
 one_hints z flag bytes behind tokens a b reads h g =
     one_of_tokens z flag tokens reads.0 behind a b (h tokens reads.0 reads.1) (g tokens reads.0 reads.1)
+
+-- of the tokens of a refused content up to where hints end
+one_front_hints : (z : Size) (flag : Bool) (content : List ℕ) (fault : Fault) (bytes : List ℕ) (a b : Hints)
+    → AreToBlame z all_known content fault bytes → AreFrontHints z flag content fault bytes a
+    → AreFrontHints z flag content fault bytes b → a ≡ b
+one_front_hints z flag content fault bytes a b blame h g =
+    let at = hints_end z content fault bytes blame in
+    one_hints z flag (take at.end content) (drop at.end content) at.tokens a b at.reads
+    (subst (λ (n : ℕ). AreHintsOf z flag (take n content) (drop n content) a) (at.only h.end h.ends) h.hints_are)
+    (subst (λ (n : ℕ). AreHintsOf z flag (take n content) (drop n content) b) (at.only g.end g.ends) g.hints_are)
+
+-- of a refused content, by the number of lines that is enough
+pub one_refusal_hints : (sauce content : List ℕ) (fault : Fault) (bytes : List ℕ) (lines : Option ℕ) (a b : Hints)
+    → AreToBlame (stated_size sauce) all_known content fault bytes
+    → IfSome lines (λ n. IsGoodOn (stated_width sauce) content n)
+    → AreRefusalHints sauce content fault bytes lines a → AreRefusalHints sauce content fault bytes lines b → a ≡ b
+one_refusal_hints sauce content fault bytes None a b blame good h g =
+    one_front_hints (stated_size sauce) (is_non_blink sauce) content fault bytes a b blame h g
+one_refusal_hints sauce content fault bytes (Some n) a b blame good h g =
+    one_hints (sized (stated_width sauce) n) (is_non_blink sauce) content [] good.1.tokens a b good.1.reads h g

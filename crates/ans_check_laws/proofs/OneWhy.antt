@@ -1,7 +1,7 @@
 -- What is true of a file has one text.
-use Rattle.std.proofs.Common.{◌≡◌, ◌≢◌, inl, inr, ℕ, Bool, List, [], ◌++◌, length, take, drop, codes, refl, sym, ap}
+use Rattle.std.proofs.Common.{◌≡◌, ◌≢◌, inl, inr, ℕ, Bool, List, [], ◌++◌, length, drop, codes, refl, sym, ap}
 use Rattle.std.proofs.Common.{ap₂, ◌∙◌, subst, subst₂, Option, Some, None, arith}
-use Rattle.std.specs.Prelude.{◌↔◌, IsTrue, IfSome, IfNone}
+use Rattle.std.specs.Prelude.{◌↔◌, IsTrue, IfSome, IfNone, is_some, flat_map, if◌then◌else◌}
 use Rattle.std.proofs.lemmas.Bool.{cases_lt}
 use Rattle.std.proofs.lemmas.Option.{same_Some}
 use Rattle.ans_model.specs.declared.fault.Cause.{Cause}
@@ -10,9 +10,11 @@ use Rattle.ans_model.specs.declared.start.Start.{Start}
 use Rattle.ans_model.specs.File.Layout.{FileParts, content}
 use Rattle.ans_model.specs.File.Record.{font_field, stated_width, trimmed, is_non_blink, stated_size}
 use Rattle.ans_model.specs.File.Refusals.{record_fault}
-use Rattle.ans_model.specs.Screen.State.{Size}
+use Rattle.ans_model.specs.Screen.State.{Size, sized}
 use Rattle.ans_model.specs.Screen.StartClass.{all_known, none_known}
-use Rattle.ans_model.specs.Text.FaultText.{fault_line, line_of}
+use Rattle.ans_model.specs.File.NoteConditions.{notes}
+use Rattle.ans_model.specs.Text.FaultText.{fault_line, line_of, note_line}
+use Rattle.ans_model.specs.declared.note.Note.{Note}
 use Rattle.ans_model.specs.Text.NeedsText.{needed_parts}
 use Rattle.ans_model.specs.Text.RecordText.{named_line}
 use Rattle.ans_model.specs.Text.ReportText.{refusal_text, size_text}
@@ -25,17 +27,23 @@ use Rattle.ans_sauce.specs.declared.parts.Parts.{Parts}
 use Rattle.ans_sauce.specs.Found.{IsFound}
 use Rattle.ans_sauce.specs.Judged.{is_pass}
 use Rattle.ans_sauce.specs.declared.judged.Judged.TheVariants.{NoContent, Refused, Passes}
-use Rattle.ans_sauce.specs.Parts.{content_of, record_of}
+use Rattle.ans_sauce.specs.Found.{body_in, record_in}
+use Rattle.ans_sauce.specs.Parts.{content_of, notes_of, record_of}
 use Rattle.ans_sauce.specs.Split.{IsSplit}
 use Rattle.ans_model.specs.Verdict.LastFault.{IsDeserved}
-use Rattle.ans_walks.specs.Lines.{IsLeastLines}
+use Rattle.ans_walks.specs.Hints.{are_torn}
+use Rattle.ans_walks.specs.Lines.{IsGoodOn, IsLeastLines}
 use Rattle.ans_walks.specs.Taller.{IsTaller}
 use Rattle.ans_why.specs.HintsText.{hints_text}
 use Rattle.ans_walks.specs.declared.hints.Hints.{Hints}
 use Rattle.ans_why.specs.Blamed.{AreToBlame}
-use Rattle.ans_why.specs.Explained.{AreHintsOf, AreLines, EndsHints, IsPass, IsRefusal, IsReliance, IsTrueOf}
-use Rattle.ans_why.specs.Explained.{IsRecordRefusal, IsShown, ShowsPlaces, Why}
-use Rattle.ans_why.specs.WhyText.{bytes_line, lines_line, mend_line, place_text}
+use Rattle.ans_why.specs.Explained.{AreHintsOf, AreLines, AreRefusalHints, IsEnough, IsPass, IsRefusal, IsReliance}
+use Rattle.ans_why.specs.Explained.{IsRecordRefusal, IsSaidOfLines, IsShown, IsTrueOf, ShowsPlaces, Why}
+use Rattle.ans_why.specs.Known.{known_sequence}
+use Rattle.ans_why.specs.WhyText.{bytes_line, enough_lines, found_line, known_found, known_line, lines_line, mend_line}
+use Rattle.ans_why.specs.WhyText.{place_text}
+use Rattle.ans_why.specs.declared.known_bytes.Known.{Known}
+use Rattle.ans_why.specs.declared.why.Enough.{Enough}
 use Rattle.ans_model.specs.Text.Words.{answer_text}
 use Rattle.ans_why.specs.WhyText.{reliance_lines, shown_lines, why_text}
 use Rattle.ans_why.specs.declared.why.Pass.{Pass}
@@ -47,8 +55,8 @@ use Rattle.ans_why.specs.declared.why.RecordRefusal.{RecordRefusal}
 use Rattle.ans_check_laws.proofs.Covering.{covers_both_ways, same_truth}
 use Rattle.ans_check_laws.proofs.OneBlamed.{one_blamed}
 use Rattle.ans_check_laws.proofs.OneEvidence.{one_places, one_shown}
-use Rattle.ans_check_laws.proofs.OneFound.{one_found}
-use Rattle.ans_check_laws.proofs.OneHints.{hints_end, one_hints}
+use Rattle.ans_check_laws.proofs.OneFound.{one_found, one_known}
+use Rattle.ans_check_laws.proofs.OneHints.{one_hints, one_refusal_hints}
 
 -- tests of one thing are one
 one_test : (P : Type 0) (p q : Bool) → IsTrue p ↔ P → IsTrue q ↔ P → p ≡ q
@@ -67,6 +75,13 @@ one_content file a b h g =
     h.shows.content
     ∙ ap (λ (v : FileParts). content v.body) (one_layout file h.apart g.apart h.accepts.laid g.accepts.laid)
     ∙ sym g.shows.content
+
+one_notes : (file : List ℕ) (a b : Parts) → IsSplit file a → IsSplit file b → notes_of a ≡ notes_of b
+one_notes file a b h g =
+    h.shows.notes
+    ∙ ap (λ (v : FileParts). notes v.body v.record_bytes)
+    (one_layout file h.apart g.apart h.accepts.laid g.accepts.laid)
+    ∙ sym g.shows.notes
 
 -- a file whose record is refused has no parts
 no_parts : (file : List ℕ) (fault : Fault) (parts : Parts) → record_fault file ≡ Some fault → IsSplit file parts → ⊥
@@ -112,18 +127,51 @@ module _ (width : ℕ) (bytes : List ℕ) (cause : Cause) where
   one_lines (Some n) (Some m) h g =
       ap (λ (k : ℕ). Some k) (one_least width bytes n m h.least.2 g.least.2)
 
-refusal_said : List ℕ → Fault → List ℕ → Place → Option ℕ → Hints → List ℕ
-refusal_said sauce fault bytes cursor lines hints =
-    named_line (codes "size") (size_text (stated_size sauce))
-    ++ (refusal_text fault
-    ++ (bytes_line bytes
-    ++ (named_line (codes "cleared start") (place_text cursor)
-    ++ (lines_line lines ++ hints_text (record hints { empty_rows = 0 }) (trimmed (font_field sauce))))))
+-- the number of lines is enough
+good_on : (width : ℕ) (bytes : List ℕ) (cause : Cause) (lines : Option ℕ) → AreLines width bytes cause lines
+    → IfSome lines (λ n. IsGoodOn width bytes n)
+good_on width bytes cause None h = tt
+good_on width bytes cause (Some n) h = h.least.2.enough
 
-same_refusal_said : (sauce : List ℕ) (f g : Fault) (a b : List ℕ) (p q : Place) (m n : Option ℕ) (s t : Hints)
-    → f ≡ g → a ≡ b → p ≡ q → m ≡ n → s ≡ t
-    → refusal_said sauce f a p m s ≡ refusal_said sauce g b q n t
-same_refusal_said sauce f g a b p q m n s t fault bytes cursor lines hints = cc
+-- what is said of the rest of a file, by its record and its notes
+record Said : Type 0 where
+  fault : Fault
+  bytes : List ℕ
+  known : Option Known
+  cursor : Place
+  lines : Option ℕ
+  hints : Hints
+
+said_of : Refusal → Said
+said_of r = record {
+  fault = r.fault;
+  bytes = r.bytes.now;
+  known = r.known;
+  cursor = r.cursor;
+  lines = r.lines;
+  hints = r.hints;
+}
+
+refusal_said : List ℕ → List Note → Said → List ℕ
+refusal_said sauce noted r =
+    (named_line (codes "size") (size_text (stated_size sauce)) ++ flat_map note_line noted)
+    ++ (refusal_text r.fault
+    ++ (bytes_line r.bytes
+    ++ (known_line r.known
+    ++ (named_line (codes "cleared start") (place_text r.cursor)
+    ++ (hints_text (if is_some r.lines then r.hints else record r.hints { empty_rows = 0 })
+    (trimmed (font_field sauce)) ++ lines_line r.lines (are_torn r.hints))))))
+
+same_said : (r s : Said) → r.fault ≡ s.fault → r.bytes ≡ s.bytes → r.known ≡ s.known → r.cursor ≡ s.cursor
+    → r.lines ≡ s.lines → r.hints ≡ s.hints → r ≡ s
+same_said r s fault bytes known cursor lines hints = λ i. record {
+  fault = fault i;
+  bytes = bytes i;
+  known = known i;
+  cursor = cursor i;
+  lines = lines i;
+  hints = hints i;
+}
 
 module _ (sauce bytes : List ℕ) (r s : Refusal) (h : IsRefusal sauce bytes r) (g : IsRefusal sauce bytes s) where
   same_fault : s.fault ≡ r.fault
@@ -145,26 +193,22 @@ module _ (sauce bytes : List ℕ) (r s : Refusal) (h : IsRefusal sauce bytes r) 
       one_lines (stated_width sauce) bytes r.fault.cause r.lines s.lines h.lines
       (subst (λ (f : Fault). AreLines (stated_width sauce) bytes f.cause s.lines) same_fault g.lines)
 
+  same_known : r.known ≡ s.known
+  same_known =
+      h.known ∙ ap (λ (f : Fault). known_sequence f.cause (drop f.offset bytes)) (sym same_fault) ∙ sym g.known
+
   same_hints : r.hints ≡ s.hints
   same_hints =
-      let at = hints_end (stated_size sauce) bytes r.fault r.bytes.now h.bytes in
-      let moved : EndsHints r.fault r.bytes.now g.hints_end =
-      subst₂ (λ (f : Fault) (v : List ℕ). EndsHints f v g.hints_end) same_fault (sym same_bytes) g.ends in
-      let end_is : g.hints_end ≡ at.end = at.only g.hints_end moved in
-      one_hints (stated_size sauce) (is_non_blink sauce) (take at.end bytes) (drop at.end bytes) at.tokens r.hints
-      s.hints
-      at.reads
-      (subst (λ (n : ℕ). AreHintsOf (stated_size sauce) (is_non_blink sauce) (take n bytes) (drop n bytes) r.hints)
-      (at.only h.hints_end h.ends) h.hints)
-      (subst (λ (n : ℕ). AreHintsOf (stated_size sauce) (is_non_blink sauce) (take n bytes) (drop n bytes) s.hints)
-      end_is
-      g.hints)
+      one_refusal_hints sauce bytes r.fault r.bytes.now r.lines r.hints s.hints h.bytes
+      (good_on (stated_width sauce) bytes r.fault.cause r.lines h.lines) h.hints
+      (subst (λ (f : Fault). AreRefusalHints sauce bytes f r.bytes.now r.lines s.hints) same_fault
+      (subst (λ (v : List ℕ). AreRefusalHints sauce bytes s.fault v r.lines s.hints) (sym same_bytes)
+      (subst (λ (n : Option ℕ). AreRefusalHints sauce bytes s.fault s.bytes.now n s.hints) (sym same_lines) g.hints)))
 
-  one_refusal : refusal_said sauce r.fault r.bytes.now r.cursor r.lines r.hints
-      ≡ refusal_said sauce s.fault s.bytes.now s.cursor s.lines s.hints
+  one_refusal : said_of r ≡ said_of s
+  unfolding said_of
   one_refusal =
-      same_refusal_said sauce r.fault s.fault r.bytes.now s.bytes.now r.cursor s.cursor r.lines s.lines r.hints s.hints
-      (sym same_fault) same_bytes same_cursor same_lines same_hints
+      same_said (said_of r) (said_of s) (sym same_fault) same_bytes same_known same_cursor same_lines same_hints
 
 -- ---- passes
 
@@ -204,17 +248,17 @@ module _ (z : Size) (file_length : ℕ) (bytes : List ℕ) where
   one_relied needs (Some r) None h g = absurd (h.1.0 g.0)
   one_relied needs (Some r) (Some s) h g = one_reliance r s h.1.1 g.1.1
 
-pass_said : List ℕ → Start → Bool → List ℕ → Hints → List ℕ
-pass_said sauce needs taller relied hints =
-    named_line (codes "size") (size_text (stated_size sauce))
+pass_said : List ℕ → List Note → Start → Bool → List ℕ → Hints → List ℕ
+pass_said sauce noted needs taller relied hints =
+    (named_line (codes "size") (size_text (stated_size sauce)) ++ flat_map note_line noted)
     ++ (line_of (codes "verdict: pass")
     ++ (line_of (codes "needs: " ++ needed_parts needs)
     ++ (named_line (codes "taller") (answer_text taller)
     ++ (relied ++ hints_text hints (trimmed (font_field sauce))))))
 
-same_pass_said : (sauce : List ℕ) (c d : Start) (p q : Bool) (a b : List ℕ) (s t : Hints) → c ≡ d → p ≡ q → a ≡ b
-    → s ≡ t → pass_said sauce c p a s ≡ pass_said sauce d q b t
-same_pass_said sauce c d p q a b s t needs taller relied hints = cc
+same_pass_said : (sauce : List ℕ) (noted : List Note) (c d : Start) (p q : Bool) (a b : List ℕ) (s t : Hints) → c ≡ d
+    → p ≡ q → a ≡ b → s ≡ t → pass_said sauce noted c p a s ≡ pass_said sauce noted d q b t
+same_pass_said sauce noted c d p q a b s t needs taller relied hints = cc
 
 module _ (file_length : ℕ) (sauce bytes : List ℕ) (p q : Pass) (h : IsPass file_length sauce bytes p)
     (g : IsPass file_length sauce bytes q) where
@@ -238,10 +282,10 @@ module _ (file_length : ℕ) (sauce bytes : List ℕ) (p q : Pass) (h : IsPass f
       one_hints (stated_size sauce) (is_non_blink sauce) bytes [] good.1.tokens p.hints q.hints good.1.reads h.hints
       g.hints
 
-  one_pass : pass_said sauce p.needs p.taller (reliance_lines p.reliance) p.hints
-      ≡ pass_said sauce q.needs q.taller (reliance_lines q.reliance) q.hints
-  one_pass =
-      same_pass_said sauce p.needs q.needs p.taller q.taller (reliance_lines p.reliance) (reliance_lines q.reliance)
+  one_pass : (noted : List Note) → pass_said sauce noted p.needs p.taller (reliance_lines p.reliance) p.hints
+      ≡ pass_said sauce noted q.needs q.taller (reliance_lines q.reliance) q.hints
+  one_pass noted =
+      same_pass_said sauce noted p.needs q.needs p.taller q.taller (reliance_lines p.reliance) (reliance_lines q.reliance)
       p.hints q.hints same_needs same_taller same_relied same_pass_hints
 
 -- ---- the text
@@ -251,13 +295,47 @@ abbrev pub IsOneSaid : Why → Why → Type 0
 IsOneSaid a b = (is_pass a ≡ is_pass b) × (why_text a ≡ why_text b)
 
 module _ (file : List ℕ) where
+  one_enough : (cause : Cause) (a b : Option Enough) → IsSaidOfLines file cause a → IsSaidOfLines file cause b
+      → enough_lines a ≡ enough_lines b
+  one_enough cause None None h g = refl
+  one_enough cause None (Some e) h g =
+      absurd (h.none g.some.0 g.some.1.lacks e.lines g.some.1.within g.some.1.least.enough)
+  one_enough cause (Some e) None h g =
+      absurd (g.none h.some.0 h.some.1.lacks e.lines h.some.1.within h.some.1.least.enough)
+  one_enough cause (Some e) (Some d) h g =
+      let width = stated_width (record_in file) in
+      let bytes = content (body_in file) in
+      let flag = is_non_blink (record_in file) in
+      let x : IsEnough file e = h.some.1 in
+      let y : IsEnough file d = g.some.1 in
+      let lines : e.lines ≡ d.lines = one_least width bytes e.lines d.lines x.least y.least in
+      let good : IsGoodOn width bytes e.lines = x.least.enough in
+      let hints : e.hints ≡ d.hints =
+      one_hints (sized width e.lines) flag bytes [] good.1.tokens e.hints d.hints good.1.reads x.hints
+      (subst (λ (n : ℕ). AreHintsOf (sized width n) flag bytes [] d.hints) (sym lines) y.hints) in
+      same_enough e.lines d.lines e.hints d.hints e.font.now d.font.now lines hints (x.font ∙ sym y.font)
+    where
+      same_enough : (n m : ℕ) (s t : Hints) (f g : List ℕ) → n ≡ m → s ≡ t → f ≡ g
+          → hints_text s f ++ lines_line (Some n) (are_torn s) ≡ hints_text t g ++ lines_line (Some m) (are_torn t)
+      same_enough n m s t f g lines hints font = cc
+
   both_no_content : (n m : RecordRefusal) → IsRecordRefusal file n → IsRecordRefusal file m
       → why_text (NoContent n) ≡ why_text (NoContent m)
   both_no_content n m h k =
       let same : m.fault ≡ n.fault = same_Some m.fault n.fault (sym k.refused ∙ h.refused) in
-      ap₂ (λ (v : Fault) (t : List ℕ). refusal_text v ++ t) (sym same)
-      (one_found file n.fault.cause n.found m.found h.found
-      (subst (λ (v : Fault). IsFound file m.found v.cause) same k.found))
+      let found : IsFound file m.found n.fault.cause =
+      subst (λ (v : Fault). IsFound file m.found v.cause) same k.found in
+      let enough : IsSaidOfLines file n.fault.cause m.enough =
+      subst (λ (v : Fault). IsSaidOfLines file v.cause m.enough) same k.enough in
+      same_parts n.fault m.fault (found_line n.found) (found_line m.found) (known_found n.found) (known_found m.found)
+      (enough_lines n.enough) (enough_lines m.enough) (sym same)
+      (one_found file n.fault.cause n.found m.found h.found found)
+      (one_known file n.fault.cause n.found m.found h.found found)
+      (one_enough n.fault.cause n.enough m.enough h.enough enough)
+    where
+      same_parts : (f g : Fault) (a b : List ℕ) (k l : Option Known) (x y : List ℕ) → f ≡ g → a ≡ b → k ≡ l → x ≡ y
+          → refusal_text f ++ (a ++ (known_line k ++ x)) ≡ refusal_text g ++ (b ++ (known_line l ++ y))
+      same_parts f g a b k l x y fault found known enough = cc
 
   same_file : (a b : Parts) → IsSplit file a → IsSplit file b
       → (record_of b ≡ record_of a) × (content_of b ≡ content_of a)
@@ -265,12 +343,14 @@ module _ (file : List ℕ) where
 
   both_refused : (a b : Parts) (r s : Refusal) → IsTrueOf file (Refused a r) → IsTrueOf file (Refused b s)
       → why_text (Refused a r) ≡ why_text (Refused b s)
-  unfolding refusal_said
+  unfolding refusal_said said_of
   both_refused a b r s (split, h) (other, g) =
       let (sauce, bytes) = same_file a b split other in
-      one_refusal (record_of a) (content_of a) r s h
-      (subst₂ (λ (v w : List ℕ). IsRefusal v w s) sauce bytes g)
-      ∙ ap (λ (v : List ℕ). refusal_said v s.fault s.bytes.now s.cursor s.lines s.hints) (sym sauce)
+      ap (λ (v : Said). refusal_said (record_of a) (notes_of a) v)
+      (one_refusal (record_of a) (content_of a) r s h
+      (subst₂ (λ (v w : List ℕ). IsRefusal v w s) sauce bytes g))
+      ∙ ap₂ (λ (v : List ℕ) (n : List Note). refusal_said v n (said_of s)) (sym sauce)
+      (one_notes file a b split other)
 
   both_pass : (a b : Parts) (p q : Pass) → IsTrueOf file (Passes a p) → IsTrueOf file (Passes b q)
       → why_text (Passes a p) ≡ why_text (Passes b q)
@@ -278,8 +358,9 @@ module _ (file : List ℕ) where
   both_pass a b p q (split, h) (other, g) =
       let (sauce, bytes) = same_file a b split other in
       one_pass (length file) (record_of a) (content_of a) p q h
-      (subst₂ (λ (v w : List ℕ). IsPass (length file) v w q) sauce bytes g)
-      ∙ ap (λ (v : List ℕ). pass_said v q.needs q.taller (reliance_lines q.reliance) q.hints) (sym sauce)
+      (subst₂ (λ (v w : List ℕ). IsPass (length file) v w q) sauce bytes g) (notes_of a)
+      ∙ ap₂ (λ (v : List ℕ) (n : List Note). pass_said v n q.needs q.taller (reliance_lines q.reliance) q.hints)
+      (sym sauce) (one_notes file a b split other)
 
   -- a content is refused from the cleared start, or passes from there
   refused_or_passes : (a b : Parts) (r : Refusal) (p : Pass) → IsTrueOf file (Refused a r)

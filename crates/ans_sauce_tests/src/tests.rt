@@ -4,7 +4,7 @@
 use ans_model::fault::{Cause, Fault};
 use ans_samples::records::{ACCEPTED, REFUSED};
 use ans_samples::sample_file;
-use ans_sauce::{Found, find, split};
+use ans_sauce::{Found, find, split, without_lines};
 use std::process::Abort;
 use std::test::Fail;
 
@@ -165,7 +165,7 @@ fn what_stands_in_place_of_a_record_is_found(rt: HostRuntime) -> Result<(), Fail
             b"Hi\x1aHo",
             &[],
             Found::AfterEndMark {
-                count: 2,
+                bytes: b"Ho",
                 record: false,
             },
         ),
@@ -173,7 +173,7 @@ fn what_stands_in_place_of_a_record_is_found(rt: HostRuntime) -> Result<(), Fail
             b"Hi\x1aSAUCE00 too short\x1a",
             &[],
             Found::AfterEndMark {
-                count: 18,
+                bytes: b"SAUCE00 too short\x1a",
                 record: false,
             },
         ),
@@ -181,7 +181,7 @@ fn what_stands_in_place_of_a_record_is_found(rt: HostRuntime) -> Result<(), Fail
             b"Hi\x1aHoCOMNT                                                                ",
             &[(104, b"\x01")],
             Found::AfterEndMark {
-                count: 2,
+                bytes: b"Ho",
                 record: false,
             },
         ),
@@ -211,9 +211,33 @@ fn records_before_the_end_are_found(rt: HostRuntime) -> Result<(), Fail> {
         &rt,
         &older,
         Found::AfterEndMark {
-            count: 128,
+            bytes: &twice[3..],
             record: true,
         },
     );
+    Ok(())
+}
+
+/// What stands before a record that states no lines, another field of it, and the content where the file lacks nothing
+/// but its lines.
+static UNSTATED: [(&[u8], usize, &[u8], Option<&[u8]>); 6] = [
+    (b"Hi\x1a", 98, b"\0\0", Some(b"Hi")),
+    (b"Hi\x1a\x1a", 98, b"\0\0", Some(b"Hi")),
+    (b"", 98, b"\0\0", Some(b"")),
+    (b"Hi\x1ax", 98, b"\0\0", None),
+    (b"Hi\x1a", 96, b"\x01\x04\0\0", None),
+    (b"Hi\x1a", 0, b"X", None),
+];
+
+#[test]
+fn a_file_may_lack_nothing_but_its_lines(rt: HostRuntime) -> Result<(), Fail> {
+    for (front, offset, bytes, content) in UNSTATED {
+        let file = sample_file(rt.alloc(), front, &[(offset, bytes)])?;
+        let found = without_lines(&file);
+        assert!(rt; found.map(|found| found.content) == content, "{front:?}");
+    }
+    let file = sample_file(rt.alloc(), b"Hi", &[(96, b"\x09\0\0\0"), (106, b"A")])?;
+    let found = without_lines(&file).ok_or("no content")?;
+    assert!(rt; found.sauce.width() == 9 && found.sauce.font() == b"A".as_slice());
     Ok(())
 }

@@ -1,5 +1,5 @@
 //! Why files are refused, and what they rely on, from end to end.
-use super::{WHY, expect_run, plain_file};
+use super::{WHY, behind, expect_run, plain_file, run_on};
 use ans_samples::sample_file;
 use std::alloc::AllocError;
 use std::process::Abort;
@@ -8,7 +8,7 @@ use std::process::Abort;
 type Row = (&'static [u8], u16, u16, &'static str);
 
 /// What is refused.
-static REFUSED: [Row; 19] = files! {
+static REFUSED: [Row; 23] = files! {
     file(2 x 1, b"\x1b7") => "at 0: F9 broken sequence\nbytes: <ESC>7\ncleared start: row 1, column 1\n";
     file(2 x 1, b"\x1b[ ") => "at 0: F9 broken sequence\nbytes: <ESC>[<SP>\ncleared start: row 1, column 1\n";
     file(2 x 1, b"\x1b[999D") => "at 0: F10 number above 255\nbytes: <ESC>[999\ncleared start: row 1, column 1\n";
@@ -23,13 +23,29 @@ static REFUSED: [Row; 19] = files! {
     file(2 x 1, b"H\x1b[13;\"dir\";13p")
         => "at 1: F15 key reassigned\n\
         bytes: <ESC>[13;\"dir\";13p\n\
+        is: a reassigned key\n\
         cleared start: row 1, column 2\n";
-    file(2 x 1, b"\x1b[?33h") => "at 0: F16 screen mode set\nbytes: <ESC>[?33h\ncleared start: row 1, column 1\n";
+    file(2 x 1, b"\x1b[?33h")
+        => "at 0: F16 screen mode set\n\
+        bytes: <ESC>[?33h\n\
+        is: the switch for bright backgrounds\n\
+        cleared start: row 1, column 1\n";
+    file(2 x 1, b"H\x1b[MFT120O3L8C#D-E+.>F<G 4\x0ei")
+        => "at 1: F13 unknown sequence\n\
+        bytes: <ESC>[M\n\
+        is: ANSI music\n\
+        cleared start: row 1, column 2\n";
+    file(2 x 1, b"\x1b[0;40 D")
+        => "at 0: F9 broken sequence\n\
+        bytes: <ESC>[0;40<SP>\n\
+        is: a font selection\n\
+        cleared start: row 1, column 1\n";
     file(2 x 1, b"\x1b[6n") => "at 0: F17 cursor report asked\nbytes: <ESC>[6n\ncleared start: row 1, column 1\n";
     file(2 x 1, b"\x1b[3;1H")
         => "at 0: F19 place outside the screen\n\
         bytes: <ESC>[3;1H\n\
         cleared start: row 1, column 1\n\
+        hint: nothing is printed in the last 2 lines\n\
         lines: 2\n";
     file(2 x 1, b"\x1b[1;3H")
         => "at 0: F19 place outside the screen\nbytes: <ESC>[1;3H\ncleared start: row 1, column 1\n";
@@ -47,15 +63,28 @@ static REFUSED: [Row; 19] = files! {
         => "at 3: F21 scrolls\n\
         bytes: <LF>\n\
         cleared start: row 2, column 1\n\
-        lines: 2\n\
-        hint: a full row and a line end take two rows, once, at 2\n";
+        hint: a full row and a line end take two rows, once, at 2\n\
+        hint: nothing is printed in the last line\n\
+        lines: 2\n";
+    file(2 x 2, b"Hi\x1b[0m\r\nHo\x1b[s\r\x07\n!")
+        => "at 8: F20 print below the stated lines\n\
+        bytes: H\n\
+        cleared start: row 3, column 1\n\
+        hint: a full row and a line end take two rows, 2 times, first at 6\n\
+        lines: 5 as it is\n";
+    file(2 x 1, b"abc\r\nabc\r\nabc\r\n")
+        => "at 2: F20 print below the stated lines\n\
+        bytes: c\n\
+        cleared start: row 2, column 1\n\
+        hint: a row runs over the edge and then ends, 3 times, first at 3: the widest has 3 columns\n\
+        lines: 6 as it is\n";
     file(2 x 1, b"\n\n\x1b[6n") => "at 1: F21 scrolls\nbytes: <LF>\ncleared start: row 2, column 1\n";
     file(3 x 1, b"a\nb\x07\n")
         => "at 2: F20 print below the stated lines\n\
         bytes: b\n\
         cleared start: row 2, column 2\n\
-        lines: 2\n\
-        hint: a line feed with no return beside it goes straight down, once, at 1\n";
+        hint: a line feed with no return beside it goes straight down, 2 times, first at 1\n\
+        lines: 2 as it is\n";
     file(8 x 1, b"\xe2\x96\x84\xe2\x96\x84\x1b[")
         => "at 6: F12 content ends in a sequence\n\
         bytes: <ESC>[\n\
@@ -70,7 +99,7 @@ static REFUSED: [Row; 19] = files! {
 };
 
 /// What passes from the cleared start.
-static PASSED: [Row; 11] = files! {
+static PASSED: [Row; 13] = files! {
     file(2 x 1, b"Hi")
         => "needs: cursor colours\n\
         taller: yes\n\
@@ -129,6 +158,16 @@ static PASSED: [Row; 11] = files! {
         taller: yes\n\
         hint: a character blinks, 2 times, first at 17: for bright backgrounds set the non-blink flag\n\
         hint: nothing is printed in the last 2 lines\n";
+    file(9 x 1, b"\x1b[?7h\x1b[0m\x1b[2J\x1b[?7l\x1b[9CH!Caf\xc3\xa9")
+        => "needs: nothing\n\
+        taller: yes\n\
+        hint: with wrap off a character is printed over another in the last column, 6 times, first at 23\n\
+        hint: a letter is in UTF-8, once, at 27: convert the text to code page 437\n";
+    file(12 x 1, b"\x1b[?7h\x1b[0m\x1b[2Jd\xe9j@X1F|07H")
+        => "needs: nothing\n\
+        taller: yes\n\
+        hint: a letter is in Latin-1, once, at 14: convert the text to code page 437\n\
+        hint: a colour code of a bulletin board (|07, @X1F) is printed as text, 2 times, first at 16\n";
 };
 
 /// Asserts the whole text of each row: the size, the verdict, and what is said.
@@ -182,7 +221,7 @@ static CHANGED: [(usize, &[u8], &str); 8] = [
     (
         98,
         b"\x00\x00",
-        "verdict: refused\nat 101: F5 number of lines not stated\nfound: 0 lines stated\n",
+        "verdict: refused\nat 101: F5 number of lines not stated\nfound: 0 lines stated\nlines: 1\n",
     ),
     (
         96,
@@ -210,7 +249,8 @@ fn bytes_after_the_end_mark_are_counted(rt: HostRuntime) -> Result<(), AllocErro
     let file = sample_file(rt.alloc(), b"Hi\x1ax", &[])?;
     let text = b"verdict: refused\n\
         at 3: F8 bytes after the end mark\n\
-        found: 1 byte after the end mark, without a record\n";
+        found: 1 byte after the end mark, without a record\n\
+        is: an arrow in the drawing\n";
     expect_run(&rt, file.as_slice(), &WHY, 512, Ok(false), text)
 }
 
@@ -232,8 +272,82 @@ fn an_older_record_is_found(rt: HostRuntime) -> Result<(), AllocError> {
     let file = sample_file(rt.alloc(), older.as_slice(), &[])?;
     let text = b"verdict: refused\n\
         at 3: F8 bytes after the end mark\n\
-        found: 128 bytes after the end mark, with an older record\n";
+        found: 128 bytes after the end mark, with an older record\n\
+        is: an older record\n";
     expect_run(&rt, file.as_slice(), &WHY, 512, Ok(false), text)
+}
+
+#[test]
+fn comments_that_are_not_counted_are_known(rt: HostRuntime) -> Result<(), AllocError> {
+    let mut front = [b' '; 72];
+    front[..8].copy_from_slice(b"Hi\x1aCOMNT");
+    let file = sample_file(rt.alloc(), &front, &[])?;
+    let text = b"verdict: refused\n\
+        at 3: F8 bytes after the end mark\n\
+        found: 69 bytes after the end mark, without a record\n\
+        is: comments that the record does not count\n";
+    expect_run(&rt, file.as_slice(), &WHY, 512, Ok(false), text)
+}
+
+/// Contents and what follows them up to a record of 2 columns that states no lines, another field of it, and what is
+/// said behind the fault.
+static UNSTATED: [(&[u8], usize, &[u8], &str); 5] = [
+    (
+        b"Hi!\r\n\r\n\x1a",
+        100,
+        b"\0",
+        "hint: nothing is printed in the last line\nlines: 3\n",
+    ),
+    (
+        b"a\nb",
+        100,
+        b"\0",
+        "hint: a line feed with no return beside it goes straight down, once, at 1\nlines: 2 as it is\n",
+    ),
+    (b"Hi\x1b[6n\x1a", 100, b"\0", ""),
+    (b"Hi\x1a", 96, b"\x01\x04", ""),
+    (b"Hi\x1ax", 100, b"\0", ""),
+];
+
+#[test]
+fn lines_that_are_not_stated_are_found(rt: HostRuntime) -> Result<(), AllocError> {
+    for (front, offset, bytes, said) in &UNSTATED {
+        let file = sample_file(rt.alloc(), front, &[(98, b"\0\0"), (*offset, bytes)])?;
+        let at = front.len() + 98;
+        let text = format!(in rt.alloc();
+            "verdict: refused\nat {at}: F5 number of lines not stated\nfound: 0 lines stated\n{said}"
+        )?;
+        expect_run(&rt, file.as_slice(), &WHY, 512, Ok(false), text.as_bytes())?;
+    }
+    Ok(())
+}
+
+/// Records of `Hi` that are odd, and the lines of their notes.
+static ODD: [(usize, &[u8], &str); 3] = [
+    (90, b"\x09", "note: file size differs from the content\n"),
+    (85, b" ", "note: date is not eight digits\n"),
+    (
+        105,
+        b"\x26",
+        "note: flag bits 5 to 7 are not zero\nnote: a flag pair is 11\n",
+    ),
+];
+
+#[test]
+fn notes_are_said_behind_the_size(rt: HostRuntime) -> Result<(), AllocError> {
+    for (offset, bytes, notes) in &ODD {
+        for (front, rest) in [
+            (b"\x1b[0mHi\x1a".as_slice(), "verdict: pass\nneeds: cursor"),
+            (b"\x1b[6nHi\x1a", "verdict: refused\n"),
+        ] {
+            let size = [front.len() as u8 - 1];
+            let file = sample_file(rt.alloc(), front, &[(90, &size), (*offset, bytes)])?;
+            let begin = format!(in rt.alloc(); "size: 2 x 1\n{notes}{rest}")?;
+            let ran = run_on(&rt, file.as_slice(), &WHY, 512)?;
+            let _ = behind(&rt, ran.writer.inner().held(), begin.as_bytes());
+        }
+    }
+    Ok(())
 }
 
 /// A content for one cell, the record's flags and the field of its font, in which a zero byte ends the name, and
