@@ -1,6 +1,6 @@
 //! What the hints of tokens are about.
 
-ghost use Rattle.std.specs.Prelude.{◌≡◌, ◌≤◌, ◌∷◌, ◌&&◌, take, slice_index};
+ghost use Rattle.std.specs.Prelude.{◌≡◌, ◌≢◌, ◌≤◌, ◌∷◌, ◌&&◌, false, take, slice_index};
 ghost use Rattle.std.specs.List.{list_any};
 ghost use Rattle.std.specs.Str.{is_utf8};
 ghost use Rattle.ans_walks.specs.Conditions.{begins_with_pipe_number, begins_with_two_byte_letter, begins_with_wide};
@@ -91,6 +91,21 @@ pub(crate) fn begins_with_latin_letter(bytes: &[u8]) -> bool
     match bytes {
         [first, second, ..] => is_latin_letter(*first) && is_small_letter(*second),
         _ => false,
+    }
+}
+
+/// Whether a glyph before these bytes may be the last letter before one of another system, or begin a code. It is
+/// asked of each glyph, and mostly it is not so.
+#[inline(always)]
+pub(crate) fn may_be_foreign(byte: u8, behind: &[u8]) -> bool
+    ensures letter { result ≡ false → begins_with_two_byte_letter behind.now ≡ false }
+    ensures latin { result ≡ false → is_latin_letter (slice_index behind.now 0) ≡ false }
+    ensures pipe { result ≡ false → byte ≢ 0x7C }
+    ensures at { result ≡ false → byte ≢ 0x40 }
+{
+    match behind {
+        [next, ..] if *next >= 0xC3 => true,
+        _ => matches!(byte, b'|' | b'@'),
     }
 }
 

@@ -2,11 +2,12 @@
 
 ghost use Rattle.std.specs.Prelude.{◌≡◌, ◌+◌, ◌≤◌};
 ghost use Rattle.ans_model.specs.Bytes.{longest_file};
+ghost use Rattle.ans_model.specs.Sequence.TokenKind.{Glyph};
 ghost use Rattle.ans_model.specs.Inside.ShownKind.{shown_kind};
 ghost use Rattle.ans_model.specs.Screen.State.{State};
 ghost use Rattle.ans_model.specs.Screen.Step.{step};
 ghost use Rattle.ans_walks.specs.Pens.{pen_of, StandsOn};
-ghost use Rattle.ans_walks.specs.RowEnds.{ended_by_line_feed, first_row, row_up_to, row_with, seam_behind, wraps};
+ghost use Rattle.ans_walks.specs.RowEnds.{ended_by_line_feed, is_stuck, row_up_to, row_with, wraps};
 
 use crate::pen::Pen;
 use ans_model::kind::Kind;
@@ -54,20 +55,6 @@ pub(crate) fn wraps(size: Size, pen: &Pen) -> bool
     pen.cursor.column == size.width() - 1 && pen.wrap
 }
 
-/// What stands behind a glyph that is printed next.
-#[inline(always)]
-fn seam_behind(size: Size, pen: &Pen) -> Seam
-    ensures { (s : State) → pen.now ≡ pen_of s → result ≡ seam_behind size s }
-{
-    if pen.cursor.column != size.width() - 1 {
-        Seam::Other
-    } else if pen.wrap {
-        Seam::Wrapped
-    } else {
-        Seam::Stuck
-    }
-}
-
 impl Row {
     /// That before the first token.
     pub(crate) const FIRST: Row = Row {
@@ -76,7 +63,16 @@ impl Row {
         seam: Seam::Other,
     };
 
+    /// Whether the cursor has stayed on a glyph in the last column.
+    #[inline(always)]
+    pub(crate) fn is_stuck(&self) -> bool
+        ensures { result ≡ is_stuck self.now.seam }
+    {
+        matches!(self.seam, Seam::Stuck)
+    }
+
     /// The row as one that ends here.
+    #[inline(always)]
     fn up_to(&self, size: Size, pen: &Pen, offset: usize) -> EndedRow
         requires stands { StandsOn size pen.now }
         requires few { self.now.wraps ≤ longest_file }
@@ -102,6 +98,27 @@ impl Row {
         }
     }
 
+    /// A glyph more.
+    #[inline(always)]
+    fn glyph(&mut self, size: Size, before: &Pen)
+        requires few { self.old.wraps ≤ longest_file }
+        ensures few { self.new.wraps ≤ self.old.wraps + 1 }
+        ensures row { (s : State) → before.now ≡ pen_of s
+            → self.new ≡ row_with size s 0 self.old (Glyph 0) }
+    {
+        if before.cursor.column != size.width() - 1 {
+            // Nothing is written where nothing changes: this is asked of each glyph.
+            if !matches!(self.seam, Seam::Other) {
+                self.seam = Seam::Other;
+            }
+        } else if before.wrap {
+            self.wraps += 1;
+            self.seam = Seam::Wrapped;
+        } else {
+            self.seam = Seam::Stuck;
+        }
+    }
+
     /// One token more, which stands at this offset. The pen is given as it was before the token, and
     /// the column to which the token took the cursor.
     #[inline(always)]
@@ -121,10 +138,7 @@ impl Row {
             → self.new ≡ row_with size s offset self.old (shown_kind kind.now) }
     {
         match kind {
-            Kind::Glyph(_) => {
-                self.wraps += usize::from(wraps(size, before));
-                self.seam = seam_behind(size, before);
-            }
+            Kind::Glyph(_) => self.glyph(size, before),
             Kind::CarriageReturn => {
                 let row = self.up_to(size, before, offset);
                 *self = Row {

@@ -14,10 +14,11 @@ ghost use Rattle.ans_walks.specs.Walks.{IsAt, CountsWithin, hints_with};
 use crate::conditions::{
     begins_with_latin_letter, begins_with_pipe_number, begins_with_two_byte_letter,
     begins_with_wide, begins_with_x_number, has_later_colour, is_letter, is_small_letter,
+    may_be_foreign,
 };
 use crate::hints::Hints;
 use crate::pen::Pen;
-use crate::row::{Row, Seam, wraps};
+use crate::row::{Row, wraps};
 use crate::times::count;
 use ans_model::kind::Kind;
 use ans_model::size::Size;
@@ -62,9 +63,9 @@ impl Walk {
         self.hints.empty_rows = self.hints.empty_rows.min(below);
     }
 
-    /// A glyph that may belong to a letter or a code of another system.
-    #[inline(always)]
-    fn foreign(&mut self, offset: usize, byte: u8, behind: &[u8])
+    /// A glyph before a letter of another system, or at a code of one.
+    #[inline(never)]
+    fn count_foreign(&mut self, offset: usize, byte: u8, behind: &[u8])
         requires room { offset < longest_file }
         requires within { CountsWithin self.old.hints offset }
         ensures within { CountsWithin self.new.hints (offset + 1) }
@@ -90,6 +91,30 @@ impl Walk {
         count(&mut self.hints.board_codes, is_code, offset);
     }
 
+    /// A glyph that may be one of these; most are not.
+    #[inline(always)]
+    fn foreign(&mut self, offset: usize, byte: u8, behind: &[u8])
+        requires room { offset < longest_file }
+        requires within { CountsWithin self.old.hints offset }
+        ensures within { CountsWithin self.new.hints (offset + 1) }
+        ensures hints { self.new ≡ record self.old {
+          hints = record self.old.hints {
+            two_byte_letters = counted self.old.hints.two_byte_letters
+                (is_letter byte && begins_with_two_byte_letter behind.now) (offset + 1);
+            latin_letters = counted self.old.hints.latin_letters
+                (is_small_letter byte && is_latin_letter (slice_index behind.now 0)
+                && is_small_letter (slice_index behind.now 1)) (offset + 1);
+            board_codes = counted self.old.hints.board_codes
+                ((byte == 0x7C && begins_with_pipe_number behind.now)
+                || (byte == 0x40 && begins_with_x_number behind.now)) offset;
+          };
+        } }
+    {
+        if may_be_foreign(byte, behind) {
+            self.count_foreign(offset, byte, behind);
+        }
+    }
+
     #[inline(always)]
     fn glyph(&mut self, offset: usize, byte: u8, behind: &[u8])
         requires room { offset < longest_file }
@@ -100,7 +125,7 @@ impl Walk {
             → self.new.hints ≡ hints_with self.old s offset (Glyph byte) behind.now }
     {
         let wraps = wraps(self.size, &self.pen);
-        let is_over = self.row.seam == Seam::Stuck;
+        let is_over = self.row.is_stuck();
         let wide = begins_with_wide(byte, behind);
         let blinks = !self.non_blink && self.pen.attribute >= 0x80;
         self.foreign(offset, byte, behind);

@@ -3,10 +3,13 @@
 ghost use Rattle.std.specs.Prelude.{◌≤◌, length};
 ghost use Rattle.ans_model.specs.Bytes.{longest_file};
 
+use ans_model::fault::Cause;
 use ans_model::size::Size;
 use ans_samples::Narrow;
 use ans_walks::Hints;
-use ans_why::{font_name, has_other_code_page, put_hints};
+use ans_why::{
+    Known, font_name, has_other_code_page, known_behind_end_mark, known_sequence, put_hints,
+};
 use ans_write::{Outbox, Tried};
 use std::process::Abort;
 
@@ -23,6 +26,19 @@ macro_rules! text {
     (nothing) => { "" };
     (loose $at:literal) => { concat!("hint: a line feed with no return beside it goes straight down, ", $at, "\n") };
     (full $at:literal) => { concat!("hint: a full row and a line end take two rows, ", $at, "\n") };
+    (wider $at:literal $columns:literal) => {
+        concat!("hint: a row runs over the edge and then ends, ", $at, ": the widest has ", $columns, " columns\n")
+    };
+    (over $at:literal) => {
+        concat!("hint: with wrap off a character is printed over another in the last column, ", $at, "\n")
+    };
+    (letter $at:literal) => { concat!("hint: a letter is in UTF-8, ", $at, ": convert the text to code page 437\n") };
+    (latin $at:literal) => {
+        concat!("hint: a letter is in Latin-1, ", $at, ": convert the text to code page 437\n")
+    };
+    (board $at:literal) => {
+        concat!("hint: a colour code of a bulletin board (|07, @X1F) is printed as text, ", $at, "\n")
+    };
     (wide $at:literal) => { concat!("hint: a character is in UTF-8, ", $at, ": convert the text to code page 437\n") };
     (later $at:literal) => {
         concat!("hint: a sequence has a colour of later terminals (38, 48, 90 to 97 or 100 to 107), ", $at, "\n")
@@ -36,16 +52,34 @@ macro_rules! text {
             hint: a character blinks, ", $second, ": for bright backgrounds set the non-blink flag\n"
         )
     };
+    (full $first:literal wider $at:literal $columns:literal) => {
+        concat!(
+            "hint: a full row and a line end take two rows, ", $first, "\n\
+            hint: a row runs over the edge and then ends, ", $at, ": the widest has ", $columns, " columns\n"
+        )
+    };
+    (full $at:literal empty $lines:literal) => {
+        concat!(
+            "hint: a full row and a line end take two rows, ", $at, "\n\
+            hint: nothing is printed in the ", $lines, "\n"
+        )
+    };
+    (over $at:literal empty $lines:literal) => {
+        concat!(
+            "hint: with wrap off a character is printed over another in the last column, ", $at, "\n\
+            hint: nothing is printed in the ", $lines, "\n"
+        )
+    };
     (empty $lines:literal) => { concat!("hint: nothing is printed in the ", $lines, "\n") };
 }
 
 macro_rules! rows {
-    ($(screen($width:literal x $lines:literal, $content:literal) => $($hint:ident $(($said:literal))?)+;)*) => {
+    ($(screen($width:literal x $lines:literal, $content:literal) => $($hint:ident $(($($said:literal),+))?)+;)*) => {
         [$(Row {
             width: $width,
             lines: $lines,
             content: $content,
-            text: text!($($hint $($said)?)+),
+            text: text!($($hint $($($said)+)?)+),
         }),*]
     };
 }
@@ -61,7 +95,7 @@ static LINE_FEEDS: [Row; 8] = rows! {
     screen(9 x 3, b"a\r\nb\n\x1b[D\nc") => loose("once, at 4");
 };
 
-static FULL_ROWS: [Row; 8] = rows! {
+static FULL_ROWS: [Row; 19] = rows! {
     screen(4 x 3, b"abcd\r\nab") => full("once, at 4");
     screen(4 x 3, b"abcd\nab") => full("once, at 4");
     screen(4 x 3, b"abcd\r\nabcd") => full("once, at 4");
@@ -70,6 +104,69 @@ static FULL_ROWS: [Row; 8] = rows! {
     screen(4 x 2, b"abc\r\nab") => nothing;
     screen(4 x 2, b"\x1b[?7labcd\r\nab") => nothing;
     screen(4 x 1, b"\x1b[1;4Hd\n") => full("once, at 7");
+    screen(4 x 3, b"abcd\x1b[0m\r\nab") => full("once, at 8");
+    screen(4 x 3, b"abcd\r\x1b[0m\nab") => full("once, at 4");
+    screen(4 x 3, b"abcd\x07\x1b[s\x1b[?7l\r\x1b[m\x07\nab") => full("once, at 13");
+    screen(4 x 3, b"abcd\x1b[0m\nab") => full("once, at 8");
+    screen(4 x 3, b"abcd\x1b[C\r\nab") => nothing;
+    screen(4 x 3, b"abcd\x1b[K\r\nab") => nothing;
+    screen(4 x 3, b"abcd\x08\r\nab") => nothing;
+    screen(4 x 3, b"abcd\r\r\nab") => nothing;
+    screen(4 x 3, b"abcd\r\x1b[C\n\ra") => nothing;
+    screen(4 x 3, b"abcd\x1b[2;1H\r\nab") => nothing;
+    screen(4 x 3, b"abcdefgh\r\nab") => full("once, at 8");
+};
+
+/// Three rows of one number of columns, or most of them, run over the edge, none of them twice.
+static WIDER_ROWS: [Row; 12] = rows! {
+    screen(4 x 6, b"abcde\r\nabcde\r\nabcde\r\n") => wider("3 times, first at 5", "5");
+    screen(4 x 6, b"abcde\nabcde\nabcde") => loose("2 times, first at 5");
+    screen(4 x 6, b"abcde\r\nabcde\r\nabcde") => nothing;
+    screen(4 x 8, b"abcde\r\nabcdef\r\nabcdef\r\nabcde\r\n") => wider("4 times, first at 5", "6");
+    screen(4 x 8, b"abcde\r\nabcdef\r\nabcde\r\n") => empty("last 2 lines");
+    screen(4 x 9, b"abcde\r\nabcde\r\nabcde\r\nabcdefghi\r\n") => nothing;
+    screen(4 x 8, b"abcdefgh\r\nabcdefgh\r\nabcdefgh\r\n") => full("3 times, first at 8") wider("3 times, first at 8", "8");
+    screen(4 x 6, b"abc\x1b[C\x1b[De\r\nabcde\r\nabcde\r\n") => empty("last line");
+    screen(4 x 6, b"\x1b[Cbcde\r\nabcd\x1b[0me\r\nabcde\r\x07\n") => wider("3 times, first at 7", "5");
+    screen(4 x 7, b"abcde\x1b[2;2Hb\r\nabcde\r\nabcde\r\n") => empty("last line");
+    screen(4 x 7, b"\x1b[?7labcde\r\nabcde\r\nabcde\r\n") => over("3 times, first at 9") empty("last 4 lines");
+    screen(4 x 7, b"abcd\r\nabcde\r\nabcde\r\n") => full("once, at 4") empty("last line");
+};
+
+static OVERPRINTS: [Row; 8] = rows! {
+    screen(4 x 1, b"\x1b[?7labcd") => nothing;
+    screen(4 x 1, b"\x1b[?7labcdef") => over("2 times, first at 9");
+    screen(4 x 1, b"\x1b[?7labcd\x1b[0me") => over("once, at 13");
+    screen(4 x 1, b"\x1b[?7labcd\x1b[?7he") => over("once, at 14");
+    screen(4 x 1, b"\x1b[?7labcd\x1b[De") => nothing;
+    screen(4 x 2, b"\x1b[?7labcd\r\nabcd") => nothing;
+    screen(4 x 1, b"abcd\x1b[?7l") => nothing;
+    screen(4 x 1, b"\x1b[?7labcd\tx") => nothing;
+};
+
+static FOREIGN_TEXT: [Row; 22] = rows! {
+    screen(9 x 1, b"Caf\xc3\xa9") => letter("once, at 3");
+    screen(9 x 1, b"\xc3\x89l\xc3\xa8ve") => letter("once, at 3");
+    screen(9 x 1, b"a\xc3\x97\xc3\xb7b") => nothing;
+    screen(9 x 1, b"a\xc3\x7fb\xc3\xc0c\xc2\xa9") => nothing;
+    screen(9 x 1, b"a\xc3\x80b\xc3\xbf") => letter("2 times, first at 1");
+    screen(9 x 1, b"[\xc3\xa9]") => nothing;
+    screen(9 x 1, b"d\xe9j\xe0 vu") => latin("once, at 1");
+    screen(9 x 1, b"\xfcber") => nothing;
+    screen(9 x 1, b"D\xe9J") => nothing;
+    screen(9 x 1, b"stra\xe1e w\xe0r") => nothing;
+    screen(9 x 1, b"a\xe4b\xf6c\xfcd") => latin("3 times, first at 1");
+    screen(9 x 1, b"a\xe7b\xf0c\xf5d") => nothing;
+    screen(9 x 1, b"a\xe4\xf6b") => nothing;
+    screen(9 x 1, b"\x82t\x82") => nothing;
+    screen(9 x 1, b"|07Hi") => board("once, at 0");
+    screen(9 x 1, b"|23a|24b") => board("once, at 0");
+    screen(9 x 1, b"|1|12|7a|") => nothing;
+    screen(9 x 1, b"|1aH||15b") => board("once, at 5");
+    screen(9 x 1, b"@X1fHi") => board("once, at 0");
+    screen(9 x 1, b"@X0G@x1F@") => nothing;
+    screen(9 x 1, b"a@Xaa.org") => board("once, at 1");
+    screen(9 x 1, b"a@bc.org") => nothing;
 };
 
 static WIDE_CHARACTERS: [Row; 13] = rows! {
@@ -145,7 +242,10 @@ fn expect_rows(rt: &impl Abort, rows: &[Row]) {
 fn contents_have_their_hints(rt: HostRuntime) {
     expect_rows(&rt, &LINE_FEEDS);
     expect_rows(&rt, &FULL_ROWS);
+    expect_rows(&rt, &WIDER_ROWS);
+    expect_rows(&rt, &OVERPRINTS);
     expect_rows(&rt, &WIDE_CHARACTERS);
+    expect_rows(&rt, &FOREIGN_TEXT);
     expect_rows(&rt, &COLOURS);
     expect_rows(&rt, &EMPTY_ROWS);
 }
@@ -191,9 +291,9 @@ macro_rules! fronts {
 static FRONTS: [(&[u8], usize, &str); 8] = fronts! {
     front(3, b"ab\ncd\n") => loose("once, at 2");
     front(3, b"ab\n\rcd") => nothing;
-    front(4, b"abcd\r\n") => full("once, at 4");
-    front(3, b"abcd\r\n") => nothing;
-    front(4, b"abcd\r") => nothing;
+    front(6, b"abcd\r\n") => full("once, at 4");
+    front(5, b"abcd\r\n") => nothing;
+    front(3, b"Caf\xc3\xa9") => letter("once, at 3");
     front(1, b"\xe2\x96\x88") => wide("once, at 0");
     front(2, b"a\xe2\x96") => nothing;
     front(4, b"a\xe2\x96\x88\xe2\x96\x88") => wide("once, at 1");
@@ -262,4 +362,127 @@ fn fonts_have_their_names_and_code_pages(rt: HostRuntime) {
     expect_content(&rt, (2, 1), b"Hi", b"\x03 Topaz", text);
     expect_content(&rt, (2, 1), b"Hi", b"\x03 Topaz\0rubbish", text);
     expect_content(&rt, (2, 1), b"Hi", b"IBM VGA\0rubbish", "");
+}
+
+/// Contents on 4 columns and 9 lines, and whether their rows are torn.
+static TORN: [(&[u8], bool); 16] = [
+    (b"ab\ncd", true),
+    (b"ab\ncd\r", false),
+    (b"\n\nab", false),
+    (b"abcd\r\nabcd\r\na", true),
+    (b"abcd\r\nabcd\r\n", false),
+    (b"abcd\r\nabcd\r\n\t", true),
+    (b"abcd\r\nabcdabcd\r\na", false),
+    (b"abcdabcd\r\nabcd\r\na", false),
+    (b"abcd\r\na", false),
+    (b"abcd\r\nabcd\r\nabcd", true),
+    (b"abcd\r\nabcd\r\n\x1b[2J", false),
+    (b"abcde\r\nabcde\r\nabcde\r\n", true),
+    (b"abcde\r\nabcde\r\nabcde", false),
+    (b"\xe2\x96\x88", true),
+    (b"a\xc3\xa9", false),
+    (b"", false),
+];
+
+#[test]
+fn some_rows_are_torn(rt: HostRuntime) {
+    for (content, are_torn) in TORN {
+        assert!(rt; content.len() < 100);
+        let hints = Hints::of(Size::new(4, 9), false, content, content.len());
+        assert!(rt; hints.are_torn() == are_torn, "{content:?}");
+    }
+}
+
+/// Bytes, and what they are known as where a content is refused for an unknown sequence.
+static KNOWN: [(&[u8], Option<Known>); 34] = [
+    (b"\x1b[MFT120O3L8CDE\x0e", Some(Known::Music)),
+    (b"\x1b[Na#b+c-d.e<f>g h\x0e", Some(Known::Music)),
+    (b"\x1b[|\x0erest", Some(Known::Music)),
+    (b"\x1b[MF", None),
+    (b"\x1b[MF!\x0e", None),
+    (b"\x1b[M\x1b[0m\x0e", None),
+    (b"\x1b[LF\x0e", None),
+    (b"\x1b[0;40 D", Some(Known::FontSelection)),
+    (b"\x1b[12;3 Dabc", Some(Known::FontSelection)),
+    (b"\x1b[0;0 ", None),
+    (b"\x1b[0;0D", None),
+    (b"\x1b[;0 D", None),
+    (b"\x1b[0; D", None),
+    (b"\x1b[0;1;2 D", None),
+    (b"\x1b[1;255;170;0t", Some(Known::TrueColour)),
+    (b"\x1b[0;1;2;3tx", Some(Known::TrueColour)),
+    (b"\x1b[2;255;170;0t", None),
+    (b"\x1b[1;255;170t", None),
+    (b"\x1b[?33h", Some(Known::BrightBackgrounds)),
+    (b"\x1b[?33l", Some(Known::BrightBackgrounds)),
+    (b"\x1b[?33", None),
+    (b"\x1b[?333h", None),
+    (b"\x1b[33h", None),
+    (b"\x1b[?25l", Some(Known::CursorSwitch)),
+    (b"\x1b[?25h", Some(Known::CursorSwitch)),
+    (b"\x1b[?25;1h", None),
+    (b"\x1b[=3h", Some(Known::DosMode)),
+    (b"\x1b[=255l", Some(Known::DosMode)),
+    (b"\x1b[=h", None),
+    (b"\x1b[3h", None),
+    (b"\x1b[6n", None),
+    (b"\x1b7", None),
+    (b"\x1b", None),
+    (b"", None),
+];
+
+#[test]
+fn sequences_are_known_by_their_form(rt: HostRuntime) {
+    for (bytes, known) in KNOWN {
+        assert!(rt;
+            known_sequence(bytes, &Cause::UnknownSequence) == known,
+            "{bytes:?}"
+        );
+    }
+    let key = known_sequence(b"\x1b[13;13p", &Cause::KeyReassigned);
+    assert!(rt; key == Some(Known::ReassignedKey));
+}
+
+/// Music of so many notes is known, or is too long to be.
+#[test]
+fn music_has_at_most_250_notes(rt: HostRuntime) {
+    let mut bytes = [b'c'; 255];
+    bytes[..3].copy_from_slice(b"\x1b[M");
+    bytes[253] = 0x0e;
+    assert!(rt; known_sequence(&bytes, &Cause::UnknownSequence) == Some(Known::Music));
+    bytes[253] = b'c';
+    bytes[254] = 0x0e;
+    assert!(rt; known_sequence(&bytes, &Cause::UnknownSequence).is_none());
+}
+
+/// What follows the first end mark, whether a record stands in it, and what it is known as.
+static BEHIND: [(&[u8], bool, Option<Known>); 9] = [
+    (b"SAUCE00", true, Some(Known::OlderRecord)),
+    (b"x", false, Some(Known::Arrow)),
+    (b"\x1a\x1a\x1b[0m", false, Some(Known::Arrow)),
+    (b"\r\n\0 \x1a", false, None),
+    (b"", false, None),
+    (COMMENT, false, Some(Known::UncountedComments)),
+    (COMMENT, true, Some(Known::OlderRecord)),
+    (b"COMNT", false, Some(Known::Arrow)),
+    (b"COMNT and more", false, Some(Known::Arrow)),
+];
+
+/// End marks, and a block of one comment.
+const COMMENT: &[u8] =
+    b"\x1a\x1aCOMNT                                                                ";
+
+#[test]
+fn what_follows_the_end_mark_is_known(rt: HostRuntime) {
+    for (bytes, holds_record, known) in BEHIND {
+        assert!(rt;
+            known_behind_end_mark(bytes, holds_record) == known,
+            "{bytes:?}"
+        );
+    }
+}
+
+#[test]
+fn what_is_known_has_its_name(rt: HostRuntime) {
+    assert_eq!(rt; Known::Music.text(), "ANSI music");
 }
