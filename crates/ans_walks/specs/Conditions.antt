@@ -62,9 +62,9 @@ abbrev pub two_byte_letter : Condition
 two_byte_letter z s (Glyph byte) rest = is_letter byte && begins_with_two_byte_letter rest
 two_byte_letter z s _ rest = false
 
--- A small letter of Latin-1 whose byte in code page 437 is no letter that words are written with: the small letters a
--- and u with two dots are, and so is the German double s. So these are left: a and o with two dots, e with three
--- accents, n with a tilde, o with three accents, u with two dots.
+-- A small letter of Latin-1 whose byte is no small letter in code page 437, where Greek ones and the German double s
+-- have these bytes and stand in words by intent. These are left: a, o and u with two dots, e with a grave and an acute
+-- accent and with a circumflex, n with a tilde, o with the three accents.
 abbrev pub is_latin_letter : ℕ → Bool
 is_latin_letter b =
     b == 0xE4 || is_in_range 0xE8 0xEA b || is_in_range 0xF1 0xF4 b || b == 0xF6 || b == 0xFC
