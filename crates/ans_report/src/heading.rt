@@ -62,7 +62,8 @@ fn put_length_line<W: Write>(out: &mut Outbox<'_, W>, length: usize)
     out.put(b" bytes\n");
 }
 
-pub(crate) fn put_notes<W: Write>(out: &mut Outbox<'_, W>, notes: &[Note])
+/// Puts the lines of notes, one for each, in their order.
+pub fn put_notes<W: Write>(out: &mut Outbox<'_, W>, notes: &[Note])
     ensures { Puts W.contents out.old out.new (flat_map note_line notes.now) }
 {
     for note in notes {
