@@ -81,7 +81,9 @@ no_topic_of_command program c = command_unnamed c
 
 -- so what has the name of a topic is no command
 no_command : (name : Text) → IsSome (topic_named name) → IsNoCommand name
-no_command name some c is = let none : topic_named name ≡ None = rw is (command_unnamed c) in absurd (true≢false (sym (rw none at some)))
+no_command name some c is =
+    let none : topic_named name ≡ None = rw is (command_unnamed c) in
+    absurd (true≢false (sym (rw none at some)))
 
 -- words that ask for a topic are a mistake to clap
 pub topic_mistaken : (words : List Text) → IsSome (topic_of words)
