@@ -154,8 +154,8 @@ To mend it, take the four bytes out.
 ";
 
 const F19: &str = "\
-A sequence names a row below the stated lines and the one below them, or a
-column right of the last one. Each screen would make something else of it.
+A sequence names a row more than one below the stated lines, or a column right
+of the last one. Each screen would make something else of it.
 
 To mend it, take the sequence out where it draws nothing: often it is the last
 one of a short drawing, and only goes to the bottom of a screen of 25 rows.
