@@ -16,12 +16,14 @@ import sys
 import textwrap
 
 HERE = pathlib.Path(__file__).resolve().parent
+sys.path.insert(0, str(HERE.parent / "tools" / "runs"))
+sys.dont_write_bytecode = True
+
+from meanings import meanings
+
 SOURCES = HERE / "src"
-FAULTS = HERE.parent / "docs" / "FAULTS.md"
 WORKER = ["ans.js", "worker.js"]
 SCRIPT = ["glyphs.js", "picture.js", "why.js", "mends.js", "table.js", "folders.js", "checks.js", "check.js"]
-FAULT = re.compile(r"^## F(\d+) [^\n]*\n\n(.*?)\n\n", re.DOTALL | re.MULTILINE)
-LINK = re.compile(r"\[([^]]*)\]\([^)]*\)")
 
 
 def source(name):
@@ -32,23 +34,17 @@ def source(name):
     return text
 
 
-def plain(paragraph):
-    """A paragraph of the page on faults without its marks, and without a last sentence that leads to an example."""
-    text = re.sub(r"[`*]", "", LINK.sub(r"\1", " ".join(paragraph.split())))
-    return re.sub(r"(?<=\.) [^.]*:$", "", text)
-
-
-def meanings():
-    """What each fault means: the first paragraph below its heading."""
-    found = FAULT.findall(FAULTS.read_text(encoding="utf-8"))
-    return {int(number): plain(paragraph) for number, paragraph in found}
+def faults():
+    """What each fault means, and how it is mended: the two paragraphs of its text."""
+    texts = {name[1:]: text.split("\n\n") for name, text in meanings().items() if name.startswith("F")}
+    return {number: [" ".join(part.split()) for part in parts] for number, parts in texts.items()}
 
 
 def script():
-    """The page's script, with the limit and the meanings before it."""
+    """The page's script, with the limit and the texts of the faults before it."""
     limit = re.search(r"^const LONGEST_FILE = .*$", source("ans.js"), re.MULTILINE)[0]
-    told = json.dumps(meanings(), ensure_ascii=False).replace("<", "\\u003c")
-    return "\n".join(['"use strict";', limit, f"const MEANINGS = {told};", *map(source, SCRIPT)])
+    told = json.dumps(faults(), ensure_ascii=False).replace("<", "\\u003c")
+    return "\n".join(['"use strict";', limit, f"const FAULT_TEXTS = {told};", *map(source, SCRIPT)])
 
 
 def hash_of(text):

@@ -91,10 +91,12 @@ def statuses(success):
     ).encode()
 
 
-STATUSES = statuses("The file passes, or help or the version was asked for")
+STATUSES = statuses("The file passes, or help was asked for")
 HELP = b"""Checks ANSI art files that end in a SAUCE record
 
 Usage: anscheck <COMMAND>
+
+  tip: to begin with a drawing, 'anscheck why drawing.ans'
 
 Commands:
   why     Say why a drawing is refused, what it relies on, and how to mend it
@@ -114,7 +116,8 @@ Examples:
   anscheck check --cleared drawing.ans
   anscheck show drawing.ans
   anscheck help check
-""" + STATUSES
+  anscheck help F20
+""" + statuses("The file passes, or help or the version was asked for")
 CHECK_HELP = b"""Check that a file always shows the same picture, and print it
 
 Usage: anscheck check [OPTIONS] [FILE]
@@ -129,6 +132,7 @@ Options:
       --known-colours  Assume the colours to be white on black
       --known-wrap     Assume wrap to be on
       --cleared        Assume all five: a screen that was just cleared
+      --any            Assume nothing but what the other flags say
       --cells          Print each cell too: its byte and its attribute, in hex
   -h, --help           Print help
 """ + STATUSES
@@ -142,7 +146,8 @@ Arguments:
 Options:
       --html           Write an HTML page, in the colours of a VGA
       --vga            Mix the colours of a VGA, whatever the terminal's are
-      --any            Assume nothing but what a --known flag says
+      --cleared        Assume all five: a screen that was just cleared
+      --any            Assume nothing but what the other flags say
       --known-screen   Assume the screen to be blank, white on black
       --known-cursor   Assume the cursor to be at the top left
       --known-saved    Assume the saved cursor to be at the top left
@@ -171,6 +176,20 @@ NEEDS_HELP = file_help("Print what a drawing relies on: screen, cursor, saved, c
                        "The file passes from the cleared screen, or help was asked for")
 TOKENS_HELP = file_help("Print the bytes and the escape sequences of a file, one a line", "tokens",
                         "The record is accepted and all of the content read, or help was asked for")
+REPORT_ASKED = b"""The terminal is asked where its cursor stands, and types the answer as if the
+reader had done so. Boards sent this to find out whether a caller has ANSI, and
+it was left in their login screens.
+
+To mend it, take the four bytes out.
+"""
+SIZE_DIFFERS = b"""The record says how many bytes the drawing had when it was saved, and it has
+another number of bytes now. Somebody changed the drawing and left the record,
+or bytes were lost or changed on the way.
+
+To mend it, see that the drawing is whole. Then set the file size, bytes 90 to
+93 of the record, the lowest first, to the number of bytes in the line
+'content:' of 'anscheck check'.
+"""
 VERSION = b"anscheck 0.1.0 (rattle logic dac8208d650f15bf)\n"
 
 
@@ -180,6 +199,7 @@ def mistake(what, usage):
 
 
 CHECK_USAGE = "check [OPTIONS] [FILE]"
+NO_COMMAND = "<COMMAND>\n\n  tip: to begin with a drawing, 'anscheck why drawing.ans'"
 ALL_PARTS = ["--known-screen", "--known-cursor", "--known-saved", "--known-colours", "--known-wrap"]
 
 RUNS = [
@@ -207,6 +227,9 @@ RUNS = [
         stdin=file_of(b"\x1b[?7h\x1b[0m\x1b[2JHi")),
     Run("picture with a known cursor", ["show", "--known-cursor"], 0, HI_SHOWN,
         stdin=file_of(b"\x1b[0mHi")),
+    Run("picture from the cleared screen", ["show", "--cleared", HI], 0, HI_SHOWN),
+    Run("picture from the cleared screen, beside other flags", ["show", "--known-wrap", "--cleared", "--any", HI], 0,
+        HI_SHOWN),
     Run("record of standard input", ["sauce"], 0, HI_RECORD, stdin=HI),
     Run("record of a named file", ["sauce", HI], 0, HI_RECORD),
     Run("tokens of standard input", ["tokens"], 0, HI_TOKENS, stdin=HI),
@@ -274,6 +297,8 @@ RUNS = [
     Run("check with each part known", ["check", *ALL_PARTS, HI], 0, HI_PASSES),
     Run("check from a cleared screen with wrap known",
         ["check", "--known-wrap", "--cleared", HI], 0, HI_PASSES),
+    Run("check from any start, by its flag", ["check", "--any", HI], 1, HI_IS_REFUSED),
+    Run("check from any start that knows the cleared screen", ["check", "--any", "--cleared", HI], 0, HI_PASSES),
     # Files that are refused.
     Run("refused content", ["check", HI], 1, HI_IS_REFUSED),
     Run("refused content of standard input", ["check"], 1, HI_IS_REFUSED, stdin=HI),
@@ -340,9 +365,17 @@ RUNS = [
     Run("help by its name", ["help"], 0, HELP, stdin=HI),
     Run("help of check by its name", ["help", "check"], 0, CHECK_HELP, stdin=HI),
     Run("help of tokens by its name", ["help", "tokens"], 0, TOKENS_HELP, stdin=HI),
+    Run("help of a fault", ["help", "F17"], 0, REPORT_ASKED, stdin=HI),
+    Run("help of a fault in a small letter", ["help", "f17"], 0, REPORT_ASKED),
+    Run("help of a note", ["help", "N3"], 0, SIZE_DIFFERS),
+    Run("help of a fault on a full device", ["help", "F17"], 2,
+        stderr=b"anscheck: cannot write the report\n", output="/dev/full"),
+    Run("help of no fault", ["help", "F18"], 2, stderr=mistake("unrecognized subcommand 'F18'", NO_COMMAND)),
+    Run("help of two faults", ["help", "F17", "F16"], 2, stderr=mistake(
+        "unrecognized subcommand 'F17'", NO_COMMAND)),
     Run("help of no command", ["help", "chek"], 2, stdin=HI, stderr=mistake(
         "unrecognized subcommand 'chek'\n\n"
-        "  tip: a similar subcommand exists: 'check'", "<COMMAND>")),
+        "  tip: a similar subcommand exists: 'check'", NO_COMMAND)),
     Run("help of two commands", ["help", "check", "sauce"], 2, stdin=HI, stderr=mistake(
         "unexpected argument 'sauce' found", CHECK_USAGE)),
     Run("the version", ["--version"], 0, VERSION, stdin=HI),
@@ -375,9 +408,11 @@ RUNS = [
         f"unexpected argument '{HI}' found", CHECK_USAGE)),
     Run("no subcommand", [], 2, stdin=HI, stderr=mistake(
         "'anscheck' requires a subcommand but one was not provided\n"
-        "  [subcommands: why, needs, check, show, sauce, tokens, table]", "<COMMAND>")),
+        "  [subcommands: why, needs, check, show, sauce, tokens, table]", NO_COMMAND)),
     Run("an unknown subcommand", ["other", HI], 2, stderr=mistake(
-        "unrecognized subcommand 'other'", "<COMMAND>")),
+        "unrecognized subcommand 'other'", NO_COMMAND)),
+    Run("a drawing without a command", [HI], 2, stderr=mistake(
+        f"unrecognized subcommand '{HI}'", NO_COMMAND)),
     Run("a word that is not text", ["check", b"\xff"], 2,
         stderr=b"anscheck: cannot read the command line\n"),
 ]

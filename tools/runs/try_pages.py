@@ -9,6 +9,7 @@ Run it in `crates/anscheck`, after `rt run -- check --cleared data/hi.ans` has b
   has to print of it what the block says. The record is made here, from SAUCE 00.5.
 - The page has one heading for each fault and each note of ans_model, and none more; it opens with
   the text that the examples below it print; and its table of contents leads to it.
+- What the page quotes below each heading is what `anscheck help` prints of that fault or note.
 - The examples of the page are those that the tests of ans_judge try, and the tests try none more.
 - The program sets each of the 256 colour numbers as the table of docs/PROFILE.md says.
 - Each command of a block of no language, on a line that begins with `$ `, has to print the lines
@@ -24,6 +25,10 @@ import re
 import subprocess
 import sys
 import tempfile
+
+sys.dont_write_bytecode = True
+
+from meanings import quoted, quotes_of
 
 TOP = pathlib.Path(__file__).resolve().parent.parent.parent
 HERE = TOP / "crates" / "anscheck"
@@ -162,6 +167,12 @@ def try_headings(tried, text):
         tried.compare(f"docs/FAULTS.md, an example that prints {said!r}", True, shown)
 
 
+def try_meanings(tried, text, program):
+    for name, quote in quotes_of(text).items():
+        said = printed([program, "help", name], program)
+        tried.compare(f"docs/FAULTS.md, {name}, what is quoted", quoted(said), quote)
+
+
 # The table of the tests.
 
 LITERAL = r'(b"(?:[^"\\]|\\.)*")'
@@ -264,6 +275,7 @@ def main(program):
     for example in examples:
         try_example(tried, program, example)
     try_headings(tried, text)
+    try_meanings(tried, text, program)
     try_tests(tried, examples)
     try_colours(tried, program)
     try_commands(tried, program)

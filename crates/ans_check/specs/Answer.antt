@@ -5,11 +5,15 @@ use Rattle.std.specs.List.{list_any}
 use Rattle.std.specs.Str.{bytes_eq}
 use Rattle.clap.specs.Words.{Text}
 use Rattle.ans_options.specs.CommandLine.{HasKindAmong, IsAskedBy, RanOutOfMemory, faults_of}
+use Rattle.ans_options.specs.Topics.{topic_of}
 use Rattle.ans_options.specs.declared.command.Asked.{Asked}
 use Rattle.ans_options.specs.declared.command.Asked.TheVariants as asked
 use Rattle.ans_options.specs.declared.command.TableForm.{TableForm}
 use Rattle.ans_options.specs.declared.command.Options.{Options}
 use Rattle.ans_options.specs.declared.command_line.WordsError.{WordsError}
+use Rattle.ans_options.specs.declared.topic.Topic.{Topic}
+use Rattle.ans_options.specs.declared.topic.Topic.TheVariants as topic
+use Rattle.ans_report.specs.Meanings.{fault_meaning, note_meaning}
 use Rattle.ans_report.specs.Message.{message_line}
 use Rattle.ans_table.specs.declared.counts.Counts.{Counts}
 use Rattle.ans_table.specs.Findings.{RowFinding}
@@ -107,7 +111,18 @@ EndsBy remaining contents is_standard found form [] output output_after ending =
 EndsBy remaining contents is_standard found form (name ∷ more) output output_after ending =
     EndsNamed contents found form (name ∷ more) output output_after ending
 
--- what is asked for was done: one command on one input, or a table of many files
+-- The text of help is on the output; or the output failed, and has a prefix of it.
+abbrev pub PrintsHelp : {W : Type 0} → (W → Option (List ℕ)) → Tried W → Tried W → List ℕ → Ending → Type 0
+PrintsHelp contents output output_after text ending =
+    ((ending ≡ Help) × Wrote contents output output_after text)
+    ⊎ ((ending ≡ Run (Err error.Write)) × WrotePrefix contents output output_after text)
+
+-- what a fault or a note means, and how it is mended
+abbrev pub meaning_text : Topic → List ℕ
+meaning_text (topic.Fault cause) = fault_meaning cause
+meaning_text (topic.Note note) = note_meaning note
+
+-- what is asked for was done: one command on one input, a table of many files, or what a fault or a note means
 abbrev pub EndsAs : {R W : Type 0} → (R → Option (List ℕ)) → (W → Option (List ℕ)) → (Text → R → Type 0)
     → (R → Type 0) → (Text → Type 0) → Asked → Tried W → Tried W → Ending → Type 0
 EndsAs remaining contents is_file is_standard is_missing (asked.One options file) output output_after ending =
@@ -116,26 +131,22 @@ EndsAs remaining contents is_file is_standard is_missing (asked.One options file
 EndsAs remaining contents is_file is_standard is_missing (asked.Table form names) output output_after ending =
     EndsBy remaining contents is_standard (IsFoundByName remaining is_file is_missing) form
     (map string_bytes names.items) output output_after ending
+EndsAs remaining contents is_file is_standard is_missing (asked.Meaning topic) output output_after ending =
+    PrintsHelp contents output output_after (meaning_text topic) ending
 
--- The words ask for something, and the program ends with it.
+-- The words ask for something, and the program ends with it. Words that clap reads have no fault.
 pub record EndsAsAsked {R W : Type 0} (remaining : R → Option (List ℕ)) (contents : W → Option (List ℕ))
     (is_file : Text → R → Type 0) (is_standard : R → Type 0) (is_missing : Text → Type 0) (words : List Text)
     (output output_after : Tried W) (ending : Ending) : Type 0 where
   pub asked : Asked
   pub asked_by : IsAskedBy words asked
-  pub faultless : faults_of words ≡ []
+  pub faultless : topic_of words ≡ None → faults_of words ≡ []
   pub ends : EndsAs remaining contents is_file is_standard is_missing asked output output_after ending
 
 -- The error is one that these words can have. Where they have no fault, it is want of memory.
 pub record IsRefusalOf (words : List Text) (refusal : WordsError) : Type 0 where
   pub kind : HasKindAmong (faults_of words) refusal
   pub memory : faults_of words ≡ [] → RanOutOfMemory refusal
-
--- The text of help is on the output; or the output failed, and has a prefix of it.
-abbrev pub PrintsHelp : {W : Type 0} → (W → Option (List ℕ)) → Tried W → Tried W → List ℕ → Ending → Type 0
-PrintsHelp contents output output_after text ending =
-    ((ending ≡ Help) × Wrote contents output output_after text)
-    ⊎ ((ending ≡ Run (Err error.Write)) × WrotePrefix contents output output_after text)
 
 -- Help was asked for, and is printed; or there was no memory for its text. Which text it is, is clap's.
 abbrev pub EndsHelp : {W : Type 0} → (W → Option (List ℕ)) → Tried W → Tried W → Ending → Type 0
@@ -150,9 +161,10 @@ EndsAfter contents Usage output output_after ending =
     ((ending ≡ Usage) ⊎ (ending ≡ UnreadableWords)) × (output_after ≡ output)
 EndsAfter contents told output output_after ending = (ending ≡ told) × (output_after ≡ output)
 
--- The words ask for nothing, and the program ends as their error says.
+-- The words ask for nothing, not for what a fault or a note means either, and the program ends as their error says.
 pub record EndsRefused {W : Type 0} (contents : W → Option (List ℕ)) (words : List Text) (output output_after : Tried W)
     (ending : Ending) : Type 0 where
+  pub topicless : topic_of words ≡ None
   pub refusal : WordsError
   pub refused : IsRefusalOf words refusal
   pub ends : EndsAfter contents (ending_of_words refusal) output output_after ending

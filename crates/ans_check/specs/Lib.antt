@@ -1,4 +1,5 @@
 pub use Rattle.ans_options.specs.CommandLine
+pub use Rattle.ans_options.specs.Topics
 pub mod Rows
 pub mod Run
 pub mod Ending

@@ -1,10 +1,11 @@
 -- What the program reads on a system, and how it answers its words there.
-use Rattle.std.specs.Prelude.{◌≡◌, ℕ, Bool, true, false, List, Option, None, ⊤}
+use Rattle.std.specs.Prelude.{◌≡◌, ◌⊎◌, ℕ, Bool, true, false, List, Option, None, ⊤}
 use Rattle.clap.specs.Words.{Text}
 use Rattle.ans_write.specs.declared.tried.Tried.{Tried}
 use Rattle.ans_check.specs.Answer.{EndsSo, Says}
 use Rattle.ans_check.specs.Ending.{ending_status}
 use Rattle.ans_check.specs.declared.exit_status.Ending.{Ending}
+use Rattle.ans_check.specs.declared.exit_status.Ending.TheVariants.{UnreadableWords}
 use Rattle.ans_check.specs.declared.system.Input.{Input}
 use Rattle.ans_check.specs.declared.system.Input.TheVariants.{Named, Standard}
 
@@ -13,12 +14,13 @@ abbrev pub is_named : Input → Bool
 is_named (Named file) = true
 is_named (Standard stdin) = false
 
--- The words come to an ending on the system's inputs, and the errors and the status are that ending's. Which bytes a
--- file of the system holds, and which files it has, is not known.
+-- The words come to an ending on the system's inputs, or there is no memory to list them; and the errors and the status
+-- are that ending's. Which bytes a file of the system holds, and which files it has, is not known.
 abbrev pub AnswersOnSystem : {W E : Type 0} → (W → Option (List ℕ)) → (E → Option (List ℕ)) → List Text
     → Tried W → Tried W → Tried E → Tried E → ℕ → Type 0
 AnswersOnSystem contents told words output output_after errors errors_after status = (ending : Ending)
-    × EndsSo {R = Input} (λ _. None) contents (λ _ input. is_named input ≡ true) (λ input. is_named input ≡ false)
+    × (EndsSo {R = Input} (λ _. None) contents (λ _ input. is_named input ≡ true) (λ input. is_named input ≡ false)
     (λ _. ⊤) words output output_after ending
+    ⊎ ((ending ≡ UnreadableWords) × (output_after ≡ output)))
     × Says told errors errors_after ending
     × (status ≡ ending_status ending)

@@ -7,7 +7,7 @@ ghost use Rattle.ans_model.specs.Text.Words.{texts_of};
 ghost use Rattle.ans_write.specs.Tried.{has_failed};
 ghost use Rattle.ans_check.specs.Answer.{EndsAfter, EndsAs, EndsBy, EndsNamed, EndsRun, EndsSo, EndsWritten};
 ghost use Rattle.ans_check.specs.Answer.{IsNamed, PrintsHelp, Says, Tells, TellsFailure, ending_of_table};
-ghost use Rattle.ans_check.specs.Answer.{names_standard};
+ghost use Rattle.ans_check.specs.Answer.{meaning_text, names_standard};
 ghost use Rattle.ans_check.specs.Ending.{ending_of_words};
 ghost use Rattle.ans_check.specs.Listing.{is_whole, names_in, listed_bytes};
 ghost use Rattle.ans_check.specs.Table.{IsFoundByName};
@@ -18,8 +18,8 @@ use crate::inputs::Inputs;
 use crate::listing::Listing;
 use crate::rows::table;
 use crate::streams::serve;
-use ans_options::{Asked, Options, TableForm, WordsError, asked};
-use ans_report::{Tried, put_message};
+use ans_options::{Asked, Options, TableForm, Topic, WordsError, asked};
+use ans_report::{Tried, fault_meaning, note_meaning, put_message};
 use ans_table::{Counts, put_counts};
 use ans_write::Outbox;
 use std::alloc::{AllocError, Global};
@@ -246,6 +246,16 @@ fn serve_one<I: Inputs, W: Write>(
     Ending::Run(serve(alloc, &mut reader, output, options))
 }
 
+/// What a fault or a note means, and how it is mended.
+fn meaning_text(topic: Topic) -> &'static str
+    ensures { result.now ≡ meaning_text topic }
+{
+    match topic {
+        Topic::Fault(cause) => fault_meaning(&cause),
+        Topic::Note(note) => note_meaning(note),
+    }
+}
+
 /// Does what the words ask for.
 fn serve_asked<I: Inputs, W: Write>(
     alloc: Global,
@@ -261,6 +271,7 @@ fn serve_asked<I: Inputs, W: Write>(
     match asked {
         Asked::One(options, name) => serve_one(alloc, inputs, options, name, output),
         Asked::Table(form, names) => serve_table(alloc, inputs, names.as_slice(), *form, output),
+        Asked::Meaning(topic) => print_help(output, meaning_text(*topic)),
     }
 }
 
@@ -291,7 +302,9 @@ fn end_of_words<I: Inputs, W: Write, E: Write>(
 /// reads all files that they name, or those whose names stand on standard input, each ended by 00h. On `errors` it
 /// says why there is no answer: `anscheck: ` and the ending's message, or `clap`'s text where the
 /// words are rejected. Where help is asked for, its text goes to `output`. Which text `clap` gives is
-/// promised nowhere and only tested; so is it that `output` is flushed after its text.
+/// promised nowhere and only tested; so is it that `output` is flushed after its text. Where the words ask
+/// what a fault or a note means, as `help F20`, its text goes there by itself: that takes no memory and
+/// reads no input.
 ///
 /// The ending is that of the run; `UnopenedFile` where the named file cannot be opened; and where
 /// the words give no options, what their error says, or `UnreadableWords` where there is no memory

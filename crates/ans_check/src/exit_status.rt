@@ -26,7 +26,8 @@ pub fn status(answer: &Result<bool, RunError>) -> u8
 pub enum Ending {
     /// A run has returned this.
     Run(Result<bool, RunError>),
-    /// Help or the version was asked for: `clap`'s text goes to standard output.
+    /// Help or the version was asked for: `clap`'s text goes to standard output, or what a fault or a
+    /// note means.
     Help,
     /// The words are rejected: `clap`'s text goes to standard error.
     Usage,

@@ -34,7 +34,9 @@ mod verdict;
 mod why;
 
 pub use ans_model::start::Start;
-pub use ans_options::{Asked, Command, Form, Options, TableForm, WordsError, asked, options};
+pub use ans_options::{
+    Asked, Command, Form, Options, TableForm, Topic, WordsError, asked, options,
+};
 pub use ans_report::Needs;
 pub use ans_sauce::Judged;
 pub use ans_table::{

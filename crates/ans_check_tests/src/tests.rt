@@ -38,6 +38,7 @@ mod devices;
 mod endings;
 mod large;
 mod long_tables;
+mod meanings;
 mod needs;
 mod pictures;
 mod records;

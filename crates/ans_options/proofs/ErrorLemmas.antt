@@ -1,5 +1,5 @@
 -- What an error of the words tells.
-use Rattle.std.proofs.Common.{◌≡◌, List, [], ◌∷◌, Option, Some, None, inl, inr, option_map, refl}
+use Rattle.std.proofs.Common.{◌≡◌, List, [], ◌∷◌, inl, inr}
 use Rattle.clap.specs.Words.{Kinds, Text}
 use Rattle.ans_options.specs.CommandLine.{HasKindAmong, IsErrorOf, RanOutOfMemory}
 use Rattle.ans_options.specs.declared.command_line.WordsError.{WordsError}

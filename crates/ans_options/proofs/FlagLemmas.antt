@@ -17,7 +17,8 @@ use Rattle.ans_options.specs.declared.command.Command.{Command}
 use Rattle.ans_options.specs.declared.command.Command.TheVariants.{Why, Check, Show, Sauce, Tokens, Needs, Table}
 use Rattle.ans_options.specs.declared.command.Options.{Options}
 use Rattle.ans_options.specs.declared.command.TableForm.{TableForm}
-use Rattle.ans_options.specs.CommandLine.{AreOptionsOf, AsksAs, AsksFor, IsAskedBy, anscheck}
+use Rattle.ans_options.specs.declared.topic.Topic.{Topic}
+use Rattle.ans_options.specs.CommandLine.{AreOptionsOf, AsksAs, AsksFor, IsReadAs, anscheck}
 use Rattle.ans_options.specs.CommandLine.{command_name, table_options}
 use Rattle.ans_options.specs.CommandLine.{words_meant}
 use Rattle.ans_options.specs.CommandLine.{holds_flag, named_start, part_flags, start_asked, takes_flags}
@@ -146,7 +147,7 @@ no_cells words o file asked other =
     not_true o.cells (λ on. true≢false (sym (m.asks.3.0 on) ∙ none))
 
 -- where the words ask for a command on one input, these are its options
-pub one_asked : (words : List Text) (a : Asked) (o : Options) (file : Option (String Global)) → IsAskedBy words a
+pub one_asked : (words : List Text) (a : Asked) (o : Options) (file : Option (String Global)) → IsReadAs words a
     → a ≡ asked.One o file → AreOptionsOf words o (option_map string_bytes file)
 one_asked words a o file asks is = go (subcommand_of anscheck (words_meant words)) (rw (sym is) asks)
   where
@@ -157,7 +158,7 @@ one_asked words a o file asks is = go (subcommand_of anscheck (words_meant words
 
 -- where the words ask for a table, its options are theirs
 pub table_asked : (words : List Text) (a : Asked) (form : TableForm) (names : Vec (String Global) Global)
-    → IsAskedBy words a → a ≡ asked.Table form names → AreOptionsOf words (table_options form) None
+    → IsReadAs words a → a ≡ asked.Table form names → AreOptionsOf words (table_options form) None
 table_asked words a form names asks is =
     let m = met_by words (Table form) (AsksAs (asked.Table form names)) (λ sub asks. asks.0) (rw (sym is) asks) in
     let start = none_asked (Table form) m.met.1 refl m.lacks in
@@ -165,3 +166,11 @@ table_asked words a form names asks is =
     let file = unfound (codes "file") m.met.1 (m.lacks (codes "file") refl) in
     subst (λ (s : Option (Text × List Row)). IsSomeAnd s (λ sub. AsksFor sub (table_options form) None)) (sym m.found)
     (m.asks.0, m.asks.1, sym start, rw cells ((λ on. on), (λ on. on)), sym file)
+
+-- clap reads no topic
+pub no_topic : (words : List Text) (a : Asked) (topic : Topic) → IsReadAs words a → a ≡ asked.Meaning topic → ⊥
+no_topic words a topic asks is = go (subcommand_of anscheck (words_meant words)) (rw (sym is) asks)
+  where
+    go : (sub : Option (Text × List Row)) → IsSomeAnd sub (AsksAs (asked.Meaning topic)) → ⊥
+    go None asks = absurd asks
+    go (Some met) asks = asks

@@ -5,3 +5,4 @@ pub mod ErrorLemmas
 pub mod HelpLemmas
 pub mod MeaningLemmas
 pub mod HelpWords
+pub mod TopicLemmas

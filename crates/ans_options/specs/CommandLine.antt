@@ -1,6 +1,7 @@
 -- The command line, and the options that its words give.
 use Rattle.std.specs.Prelude.{map, fold, ◌≡◌, ◌≢◌, ◌↔◌, not, Bool, true, false, List, [], ◌∷◌, Option, Some, codes}
-use Rattle.std.specs.Prelude.{option_map, string_bytes, IsSomeAnd, IsTrue, if◌then◌else◌, unwrap_or, ⊤}
+use Rattle.std.specs.Prelude.{option_map, string_bytes, IsSomeAnd, IsTrue, MatchOption, if◌then◌else◌, unwrap_or, ⊤}
+use Rattle.std.specs.Prelude.{◌||◌}
 use Rattle.std.specs.List.{list_any}
 use Rattle.std.specs.Option.{option_map_or}
 use Rattle.std.specs.Str.{bytes_eq}
@@ -22,6 +23,7 @@ use Rattle.ans_options.specs.declared.command.Form.TheVariants.{Terminal, Vga, P
 use Rattle.ans_options.specs.declared.command.TableForm.{TableForm}
 use Rattle.ans_options.specs.declared.command.TableForm.TheVariants.{Headed, Bare, Json}
 use Rattle.ans_options.specs.declared.command.Options.{Options}
+use Rattle.ans_options.specs.Topics.{topic_of}
 
 -- `--NAME`
 abbrev pub flag_rule : Text → Rule
@@ -61,9 +63,11 @@ command_name (Table form) = codes "table"
 -- a command's subcommand: its name, its flags in the order of its help, and `[FILE]` or `[FILE]..`
 abbrev pub command_app : Command → App
 command_app Check =
-    with_flags (with_flags (file_app (command_name Check)) part_flags) (codes "cleared" ∷ codes "cells" ∷ [])
+    with_flags (with_flags (file_app (command_name Check)) part_flags)
+    (codes "cleared" ∷ codes "any" ∷ codes "cells" ∷ [])
 command_app (Show form) =
-    with_flags (with_flags (file_app (command_name (Show form))) (codes "html" ∷ codes "vga" ∷ codes "any" ∷ []))
+    with_flags (with_flags (file_app (command_name (Show form)))
+    (codes "html" ∷ codes "vga" ∷ codes "cleared" ∷ codes "any" ∷ []))
     part_flags
 command_app (Table form) =
     with_flags (with_rule (new_app (command_name (Table form))) files_rule) (codes "json" ∷ codes "no-header" ∷ [])
@@ -145,10 +149,12 @@ named_start rows = record {
   wrap = holds_flag (codes "known-wrap") rows;
 }
 
--- Whether all parts are known. A picture is shown from the cleared start unless a flag says otherwise, which names a
--- part or is `--any`; another command asks for it by `--cleared`.
+-- Whether all parts are known: where `--cleared` says so, whatever other flags say; and a picture is shown so where no
+-- flag says otherwise, which names a part or is `--any`.
 abbrev pub asks_for_cleared : Command → List Row → Bool
-asks_for_cleared (Show form) rows = not (list_any (λ flag. holds_flag flag rows) (codes "any" ∷ part_flags))
+asks_for_cleared (Show form) rows =
+    holds_flag (codes "cleared") rows
+    || not (list_any (λ flag. holds_flag flag rows) (codes "any" ∷ part_flags))
 asks_for_cleared _ rows = holds_flag (codes "cleared") rows
 
 -- what is known of the start: all of it, or the parts that the flags name
@@ -202,15 +208,20 @@ abbrev pub AsksForTable : (Text × List Row) → TableForm → List Text → Typ
 AsksForTable sub form names =
     (sub.0 ≡ command_name (Table form)) × (form ≡ table_form_asked sub.1) × (names ≡ files_of sub.1)
 
--- the subcommand asks for a table of many files, or for a command on one
+-- the subcommand asks for a table of many files, or for a command on one; no subcommand asks for a meaning
 abbrev pub AsksAs : Asked → (Text × List Row) → Type 0
 AsksAs (asked.One options file) sub =
     AsksFor sub options (option_map string_bytes file) × (is_table options.command ≡ false)
 AsksAs (asked.Table form names) sub = AsksForTable sub form (map string_bytes names.items)
+AsksAs (asked.Meaning topic) sub = ⊥
 
 -- clap finds a subcommand in what the words mean, which asks for this
+abbrev pub IsReadAs : List Text → Asked → Type 0
+IsReadAs words a = IsSomeAnd (subcommand_of anscheck (words_meant words)) (AsksAs a)
+
+-- the words ask for this: where they name a topic for what it means, and else for what clap reads in them
 abbrev pub IsAskedBy : List Text → Asked → Type 0
-IsAskedBy words a = IsSomeAnd (subcommand_of anscheck (words_meant words)) (AsksAs a)
+IsAskedBy words a = MatchOption (topic_of words) (IsReadAs words a) (λ topic. a ≡ asked.Meaning topic)
 
 -- the kinds that the first fault of what the words mean may have; to ask for help or for the version counts as a fault
 abbrev pub faults_of : List Text → Kinds

@@ -3,6 +3,7 @@
 ghost use Rattle.std.specs.Prelude.{◌≡◌};
 ghost use Rattle.ans_options.specs.CommandLine.{table_options};
 
+use crate::topic::Topic;
 use ans_model::start::Start;
 
 /// The form in which a picture is shown.
@@ -76,4 +77,6 @@ pub enum Asked {
     One(Options, Option<String>),
     /// A table, and the names of its files as they are given, in their order.
     Table(TableForm, Vec<String>),
+    /// What a fault or a note means, and how it is mended.
+    Meaning(Topic),
 }

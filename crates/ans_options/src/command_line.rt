@@ -11,13 +11,15 @@ ghost use Rattle.ans_options.specs.CommandLine.{with_flags, with_subcommands};
 ghost use Rattle.ans_options.specs.CommandLine.{words_meant, anscheck, command_app, command_name, file_app};
 ghost use Rattle.ans_options.specs.CommandLine.{asks_for_cleared, holds_flag};
 ghost use Rattle.ans_model.specs.Text.Words.{texts_of};
-ghost use Rattle.ans_options.specs.CommandLine.{AsksAs, IsAskedBy, files_of, is_table, table_form_asked};
+ghost use Rattle.ans_options.specs.CommandLine.{AsksAs, IsAskedBy, IsReadAs, files_of, is_table, table_form_asked};
+ghost use Rattle.ans_options.specs.Topics.{topic_of};
 ghost use Rattle.ans_options.specs.declared.command.Command.TheVariants.{Check, Show, Table};
 ghost use Rattle.ans_options.specs.declared.command.Form.TheVariants.{Terminal};
 ghost use Rattle.ans_options.specs.declared.command.TableForm.TheVariants.{Headed};
 ghost use Rattle.ans_options.specs.declared.command_line.WordsError.TheVariants.{Clap};
 
 use crate::command::{Asked, Command, Form, Options, TableForm};
+use crate::topic::topic_of;
 use ans_model::start::Start;
 use clap::{Arg, ArgAction, ArgMatches};
 use std::alloc::{AllocError, Global};
@@ -66,10 +68,7 @@ const NEEDS_END: &str = with_exit_statuses!(
 );
 
 /// The last lines of the help of `check`.
-const CHECK_END: &str = with_exit_statuses!(
-    "",
-    "The file passes, or help or the version was asked for"
-);
+const CHECK_END: &str = with_exit_statuses!("", "The file passes, or help was asked for");
 
 /// The last lines of the help of `show`.
 const SHOW_END: &str = with_exit_statuses!(
@@ -77,7 +76,7 @@ const SHOW_END: &str = with_exit_statuses!(
 Without --any or a --known flag all five are assumed: a screen just cleared.
 
 ",
-    "The file passes, or help or the version was asked for"
+    "The file passes, or help was asked for"
 );
 
 /// The last lines of the help of `sauce`.
@@ -100,6 +99,12 @@ Exit status:
   1  A file is refused, and every file was read
   2  A file could not be read, or the table could not be written";
 
+/// How the program is used, where words name no command. A drawing's name alone is such a word.
+const PROGRAM_USAGE: &str = "\
+anscheck <COMMAND>
+
+  tip: to begin with a drawing, 'anscheck why drawing.ans'";
+
 /// The last lines of the program's help.
 const PROGRAM_END: &str = with_exit_statuses!(
     "\
@@ -108,6 +113,7 @@ Examples:
   anscheck check --cleared drawing.ans
   anscheck show drawing.ans
   anscheck help check
+  anscheck help F20
 
 ",
     "The file passes, or help or the version was asked for"
@@ -155,8 +161,9 @@ const PART_FLAGS: [(&str, &str); 5] = [
 ];
 
 /// The other flags of `check`.
-const CHECK_FLAGS: [(&str, &str); 2] = [
+const CHECK_FLAGS: [(&str, &str); 3] = [
     ("cleared", "Assume all five: a screen that was just cleared"),
+    ("any", "Assume nothing but what the other flags say"),
     (
         "cells",
         "Print each cell too: its byte and its attribute, in hex",
@@ -164,13 +171,14 @@ const CHECK_FLAGS: [(&str, &str); 2] = [
 ];
 
 /// The other flags of `show`.
-const SHOW_FLAGS: [(&str, &str); 3] = [
+const SHOW_FLAGS: [(&str, &str); 4] = [
     ("html", "Write an HTML page, in the colours of a VGA"),
     (
         "vga",
         "Mix the colours of a VGA, whatever the terminal's are",
     ),
-    ("any", "Assume nothing but what a --known flag says"),
+    ("cleared", "Assume all five: a screen that was just cleared"),
+    ("any", "Assume nothing but what the other flags say"),
 ];
 
 /// The flags of `table`.
@@ -284,6 +292,7 @@ fn program<'a>(alloc: Global) -> Result<clap::Command<'a>, AllocError>
         .version(VERSION)
         .about("Checks ANSI art files that end in a SAUCE record")
         .after_help(PROGRAM_END)
+        .override_usage(PROGRAM_USAGE)
         .subcommand_required(true)
         .disable_help_subcommand(true);
     with_subcommands(alloc, top, &COMMANDS)
@@ -364,9 +373,12 @@ fn asks_for_cleared(command: Command, named: Start, matches: &ArgMatches<'_>) ->
     requires { named ≡ named_start (rows_of (found_of matches.now)) }
     ensures { result ≡ asks_for_cleared command (rows_of (found_of matches.now)) }
 {
+    if holds(matches, "cleared") {
+        return true;
+    }
     match command {
         Command::Show(_) => named == Start::ANY && !holds(matches, "any"),
-        _ => holds(matches, "cleared"),
+        _ => false,
     }
 }
 
@@ -495,22 +507,9 @@ fn matches_of<'a>(alloc: Global, meant: &'a [&'a str]) -> Result<ArgMatches<'a>,
     Ok(program.try_get_matches_from(meant)?)
 }
 
-/// Reads the program's words, its own name first: `anscheck why [FILE]`, `anscheck needs [FILE]`,
-/// `anscheck check` or `anscheck show` with its flags and `[FILE]`, `anscheck sauce [FILE]`,
-/// `anscheck tokens [FILE]`, or `anscheck table` with its flags and `[FILE]..`.
-/// A part of the start is known where its flag is given, as `--known-cursor`. With `check` all are known
-/// where `--cleared` is given, and cells are asked for where `--cells` is. With `show` all are known where
-/// neither such a flag nor `--any` is given, and the picture comes as a page where `--html` is, else in a
-/// VGA's colours where `--vga` is. A table's rows are JSON where `--json` is given, and else have a line
-/// of names above them unless `--no-header` is. With the other commands nothing is known.
-///
-/// Fails where `clap` rejects the words, where they ask for help or for the version, and where memory
-/// runs out. Help is asked for by `--help`, `-h`, `help` and `help COMMAND`, the version by
-/// `--version` and `-V`; the error then has the text that was asked for. But for want of memory the
-/// words alone decide: there is an answer exactly where they have no fault, and else the error has one
-/// of the kinds that their first fault may have. To ask for help or for the version counts as a fault.
-pub fn asked(alloc: Global, words: &[&str]) -> Result<Asked, WordsError>
-    ensures ok { IfOk result (λ a. IsAskedBy (texts_of words.now) a) }
+/// What `clap` reads in the program's words. It reads no topic.
+fn read_words(alloc: Global, words: &[&str]) -> Result<Asked, WordsError>
+    ensures ok { IfOk result (IsReadAs (texts_of words.now)) }
     ensures accepted { IfOk result (λ a. faults_of (texts_of words.now) ≡ []) }
     ensures errors { IfErr result (IsErrorOf (texts_of words.now)) }
 {
@@ -521,8 +520,38 @@ pub fn asked(alloc: Global, words: &[&str]) -> Result<Asked, WordsError>
     read_matches(alloc, &matches)
 }
 
+/// Reads the program's words, its own name first: `anscheck why [FILE]`, `anscheck needs [FILE]`,
+/// `anscheck check` or `anscheck show` with its flags and `[FILE]`, `anscheck sauce [FILE]`,
+/// `anscheck tokens [FILE]`, or `anscheck table` with its flags and `[FILE]..`.
+/// A part of the start is known where its flag is given, as `--known-cursor`, and all are where `--cleared`
+/// is. With `show` all are known, too, where neither such a flag nor `--any` is given; with `check` `--any`
+/// changes nothing. Cells are asked for where `--cells` is given. A picture comes as a page where `--html`
+/// is, else in a VGA's colours where `--vga` is. A table's rows are JSON where `--json` is given, and else
+/// have a line of names above them unless `--no-header` is. With the other commands nothing is known.
+///
+/// `help` with the name of a fault or a note alone, as `anscheck help F20`, asks for its meaning. These
+/// words are told before `clap` reads any, need no memory, and never fail. Other words `clap` reads.
+///
+/// Fails where `clap` rejects the words, where they ask for help or for the version, and where memory
+/// runs out. Help is asked for by `--help`, `-h`, `help` and `help COMMAND`, the version by
+/// `--version` and `-V`; the error then has the text that was asked for. But for want of memory the
+/// words alone decide: there is an answer exactly where they have no fault, and else the error has one
+/// of the kinds that their first fault may have. To ask for help or for the version counts as a fault.
+pub fn asked(alloc: Global, words: &[&str]) -> Result<Asked, WordsError>
+    ensures ok { IfOk result (IsAskedBy (texts_of words.now)) }
+    ensures accepted { IfOk result (λ a. topic_of (texts_of words.now) ≡ None → faults_of (texts_of words.now) ≡ []) }
+    ensures errors { IfErr result (λ e.
+        (topic_of (texts_of words.now) ≡ None) × IsErrorOf (texts_of words.now) e) }
+{
+    match topic_of(words) {
+        Some(topic) => Ok(Asked::Meaning(topic)),
+        None => read_words(alloc, words),
+    }
+}
+
 /// Reads the options and the file from the program's words, as [`asked`] does, and fails as it does.
-/// The file's name comes as it is given, `-` too. Of a table the options alone come, and no name.
+/// The file's name comes as it is given, `-` too. Of a table the options alone come, and no name. Words that
+/// ask what a fault or a note means have no options: of them comes what `clap` says, which knows no such help.
 pub fn options(alloc: Global, words: &[&str]) -> Result<(Options, Option<String>), WordsError>
     ensures ok { IfOk result (λ r.
         AreOptionsOf (texts_of words.now) r.0 (option_map string_bytes r.1)) }
@@ -532,8 +561,9 @@ pub fn options(alloc: Global, words: &[&str]) -> Result<(Options, Option<String>
     ensures accepted { IfOk result (λ r. faults_of (texts_of words.now) ≡ []) }
     ensures errors { IfErr result (IsErrorOf (texts_of words.now)) }
 {
-    match asked(alloc, words)? {
+    match read_words(alloc, words)? {
         Asked::One(options, file) => Ok((options, file)),
         Asked::Table(form, _) => Ok((Options::of_table(form), None)),
+        Asked::Meaning(_) => unreachable!(),
     }
 }

@@ -1,12 +1,14 @@
 //! Laws of the command line: each is the contract of a function without a body.
 
-ghost use Rattle.std.specs.Prelude.{◌≡◌, true, false, List, [], ◌∷◌, codes};
+ghost use Rattle.std.specs.Prelude.{◌≡◌, true, false, List, [], ◌∷◌, Some, None, IsSome, codes, option_map};
 ghost use Rattle.clap.specs.Words.{Text, fault_of, is_simple, is_simple_and_free};
 ghost use Rattle.clap.specs.declared.error.ErrorKind.TheVariants.{DisplayHelp, DisplayVersion};
 ghost use Rattle.clap.specs.declared.error.ErrorKind.TheVariants.{InvalidSubcommand, UnknownArgument};
 ghost use Rattle.ans_options.specs.declared.command.Command.{Command};
 ghost use Rattle.ans_options.specs.CommandLine.{IsNoCommand, IsRequestAloneOrNotAtAll, anscheck, command_name};
 ghost use Rattle.ans_options.specs.CommandLine.{faults_of, is_table};
+ghost use Rattle.ans_options.specs.Topics.{topic_name, topic_of};
+ghost use Rattle.ans_options.specs.declared.topic.Topic.{Topic};
 
 /// The command line is of `clap`'s simple kind: one level of subcommands, flags, one optional FILE or,
 /// for a table, any number of them, and no rules between arguments. So its matches are a function of
@@ -31,8 +33,9 @@ pub fn version_is_asked_for()
         → faults_of (program ∷ codes "-V" ∷ more) ≡ DisplayVersion ∷ [] }
 {}
 
-/// `help` asks for help where it stands alone, or where a command's name alone follows it. All else
-/// that follows it is a mistake.
+/// To `clap`, `help` asks for help where it stands alone, or where a command's name alone follows it. All
+/// else that follows it is a mistake. The names of faults and notes never come to it: [`crate::asked`] answers
+/// them before `clap` reads.
 pub fn help_takes_one_command()
     ensures alone { (program : Text) → faults_of (program ∷ codes "help" ∷ []) ≡ DisplayHelp ∷ [] }
     ensures command { (program : Text) → (c : Command)
@@ -44,4 +47,15 @@ pub fn help_takes_one_command()
     ensures more_of_table { (program word : Text) → (more : List Text)
         → faults_of (program ∷ codes "help" ∷ codes "table" ∷ word ∷ more)
         ≡ UnknownArgument ∷ InvalidSubcommand ∷ [] }
+{}
+
+/// The name of each fault and each note asks for what it means, and the name of a command asks for none. What
+/// asks for a meaning is a mistake to `clap`, so that nothing that `clap` takes means something else.
+pub fn topics_have_their_names()
+    ensures found { (program : Text) → (t : Topic)
+        → option_map topic_name (topic_of (program ∷ codes "help" ∷ topic_name t ∷ [])) ≡ Some (topic_name t) }
+    ensures command { (program : Text) → (c : Command)
+        → topic_of (program ∷ codes "help" ∷ command_name c ∷ []) ≡ None }
+    ensures mistake { (words : List Text) → IsSome (topic_of words)
+        → faults_of words ≡ UnknownArgument ∷ InvalidSubcommand ∷ [] }
 {}

@@ -1,10 +1,12 @@
 //! The command line, and what its words ask for.
 //!
 //! [`asked`] has `clap` read what the words mean, and returns what they ask for: the [`Options`] and the
-//! name of one file, or the form of a table and the names of many; or a [`WordsError`]. [`options`] gives
-//! the options alone with the one name. Which words ask for what stands in `specs/CommandLine.antt`;
-//! there `help` stands for `--help`, and `help COMMAND` for `COMMAND --help`. That the command line is of
-//! `clap`'s simple kind, and no argument has a rule on another, is a law, in [`laws`].
+//! name of one file, or the form of a table and the names of many; or a [`WordsError`]. Before that it sees
+//! whether they ask for help on a [`Topic`], a fault or a note by its name, which `clap` knows nothing of.
+//! [`options`] gives the options alone with the one name. Which words ask for what stands in
+//! `specs/CommandLine.antt`, the topics in `specs/Topics.antt`; there `help` stands for `--help`, and
+//! `help COMMAND` for `COMMAND --help`. That the command line is of `clap`'s simple kind, and no argument has
+//! a rule on another, is a law, in [`laws`]; so is it that help on a topic takes no words from `clap`.
 //!
 //! But for want of memory the answer is a function of the words: there are options exactly where the
 //! words have no fault (`faults_of`), and an error has one of the kinds that their first fault may
@@ -15,6 +17,8 @@
 mod command;
 mod command_line;
 pub mod laws;
+mod topic;
 
 pub use command::{Asked, Command, Form, Options, TableForm};
 pub use command_line::{WordsError, asked, options};
+pub use topic::Topic;

@@ -18,6 +18,7 @@ mod command_line;
 mod faults;
 mod tables;
 mod texts;
+mod topics;
 
 use ans_options::{Options, WordsError, options};
 use clap::error::ErrorKind;

@@ -6,3 +6,4 @@ pub mod NeedsBytes
 pub mod RecordLines
 pub mod TokenLines
 pub mod Message
+pub mod Meanings

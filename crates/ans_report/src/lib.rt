@@ -5,7 +5,8 @@
 //! prefix of it, and `Err` comes exactly where the device failed in the call. The texts are defined in
 //! `ans_model`; which of them tells what is in `specs/ReportBytes.antt`, `specs/NeedsBytes.antt`,
 //! `specs/RecordLines.antt` and `specs/TokenLines.antt`, and that of the line that says why there is no
-//! answer in `specs/Message.antt`.
+//! answer in `specs/Message.antt`. What a fault or a note means stands in `src/meanings.rt`, which
+//! `specs/Meanings.antt` cites.
 //!
 //! The text of `why` (`ans_why`) is put by some of the same lines.
 #![tactic(auto)]
@@ -13,6 +14,7 @@
 mod fault_lines;
 mod heading;
 mod lines;
+mod meanings;
 mod message;
 mod needs_text;
 mod picture_text;
@@ -24,6 +26,7 @@ pub use ans_write::{DeviceFault, Tried, WriteFault, glyph_text};
 pub use fault_lines::{fault_text, put_fault_line, put_refusal};
 pub use heading::{note_text, put_notes};
 pub use lines::{answer_text, put_named_line, put_number_line, put_size_line};
+pub use meanings::{fault_meaning, note_meaning};
 pub use message::put_message;
 pub use needs_text::{Needs, put_needed_parts, put_needs};
 pub use record_text::{put_record, write_record};

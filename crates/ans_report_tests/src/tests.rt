@@ -1,6 +1,7 @@
 //! The tables of texts by example, and each writer on a device that takes one byte a call, also one
 //! of which a call fails.
 mod headings;
+mod meanings;
 mod messages;
 mod needs;
 mod records;

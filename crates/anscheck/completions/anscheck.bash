@@ -7,13 +7,13 @@ _anscheck() {
     if [ "$COMP_CWORD" -eq 1 ]; then
         mapfile -t COMPREPLY < <(compgen -W "$commands help --help --version" -- "$word")
     elif [ "$command" = help ]; then
-        mapfile -t COMPREPLY < <(compgen -W "$commands" -- "$word")
+        mapfile -t COMPREPLY < <(compgen -W "$commands $(echo F{1..17} F{19..25} N{1..6})" -- "$word")
     elif [ "${word#-}" != "$word" ]; then
         local flags="--help"
         local parts="--known-screen --known-cursor --known-saved --known-colours --known-wrap"
         case $command in
-            check) flags="--cleared --cells $parts --help" ;;
-            show) flags="--html --vga --any $parts --help" ;;
+            check) flags="--cleared --any --cells $parts --help" ;;
+            show) flags="--html --vga --cleared --any $parts --help" ;;
             table) flags="--json --no-header --help" ;;
         esac
         mapfile -t COMPREPLY < <(compgen -W "$flags" -- "$word")

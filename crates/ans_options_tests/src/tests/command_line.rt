@@ -50,7 +50,7 @@ static TAKEN: [(&[&str], Options, Option<&str>); 22] = rows! {
 };
 
 /// Words with flags that say what is known, and their options.
-static STARTS: [(&[&str], Options); 13] = words! {
+static STARTS: [(&[&str], Options); 17] = words! {
     "check" "--known-screen" => asked!(Check known screen);
     "check" "--known-cursor" => asked!(Check known cursor);
     "check" "--known-saved" => asked!(Check known saved);
@@ -65,10 +65,14 @@ static STARTS: [(&[&str], Options); 13] = words! {
     "check" "--cleared" => asked!(Check cleared);
     "check" "--cleared" "--known-saved" => asked!(Check cleared);
     "check" "--known-wrap" "--cleared" => asked!(Check cleared);
+    "check" "--any" => asked!(Check any);
+    "check" "--any" "--known-cursor" => asked!(Check known cursor);
+    "check" "--known-saved" "--known-wrap" "--any" => asked!(Check known saved wrap);
+    "check" "--any" "--cleared" => asked!(Check cleared);
 };
 
 /// Words that ask for a picture, their options, and the file.
-static SHOWN: [(&[&str], Options, Option<&str>); 18] = words! {
+static SHOWN: [(&[&str], Options, Option<&str>); 23] = words! {
     "show" => shown!(Terminal cleared), None;
     "show" "f" => shown!(Terminal cleared), Some("f");
     "show" "-" => shown!(Terminal cleared), Some("-");
@@ -88,6 +92,11 @@ static SHOWN: [(&[&str], Options, Option<&str>); 18] = words! {
     "show" "--html" "--known-cursor" "f" "--known-screen" "--any" => shown!(Page known screen cursor), Some("f");
     "show" "--known-screen" "--known-cursor" "--known-saved" "--known-colours" "--known-wrap"
         => shown!(Terminal cleared), None;
+    "show" "--cleared" => shown!(Terminal cleared), None;
+    "show" "--cleared" "--known-wrap" "f" => shown!(Terminal cleared), Some("f");
+    "show" "--any" "--cleared" => shown!(Terminal cleared), None;
+    "show" "--known-saved" "--any" "--cleared" "--html" => shown!(Page cleared), None;
+    "show" "--vga" "--cleared" => shown!(Vga cleared), None;
 };
 
 /// Asserts which options words give, and which file.

@@ -73,9 +73,9 @@ static MISTAKES: [Row; 29] = words! {
     "check" "--known-wrap" "--known-wrap" => ArgumentConflict;
     "check" "--known" => UnknownArgument;
     "check" "--html" => UnknownArgument;
-    "check" "--any" => UnknownArgument;
+    "check" "--any" "--any" => ArgumentConflict;
     "show" "--cells" => UnknownArgument;
-    "show" "--cleared" => UnknownArgument;
+    "show" "--cleared" "--cleared" => ArgumentConflict;
     "show" "f" "g" => UnknownArgument;
     "show" "--html" "--html" => ArgumentConflict;
     "tokens" "--vga" => UnknownArgument;
@@ -97,8 +97,8 @@ macro_rules! after_help {
     };
 }
 
-/// What may not follow `help`, and of which kind that mistake is.
-static HELP_MISTAKES: [Row; 12] = after_help! {
+/// What may not follow `help`, and of which kind that mistake is. To `clap` the name of a fault is one.
+static HELP_MISTAKES: [Row; 16] = after_help! {
     "nonsense" => InvalidSubcommand;
     "need" => InvalidSubcommand;
     "help" => InvalidSubcommand;
@@ -111,6 +111,10 @@ static HELP_MISTAKES: [Row; 12] = after_help! {
     "check" "more" => UnknownArgument;
     "check" "sauce" => UnknownArgument;
     "needs" "--help" => UnknownArgument;
+    "F20" => InvalidSubcommand;
+    "n3" => InvalidSubcommand;
+    "F20" "F21" => InvalidSubcommand;
+    "check" "F20" => UnknownArgument;
 };
 
 /// Asserts so of each row.

@@ -51,11 +51,23 @@ macro_rules! mistake {
     };
 }
 
+/// A mistake before any command, by what `clap` says of it.
+macro_rules! no_command {
+    ($what:literal) => {
+        mistake!(
+            $what,
+            "<COMMAND>\n\n  tip: to begin with a drawing, 'anscheck why drawing.ans'"
+        )
+    };
+}
+
 const PROGRAM_HELP: &str = help!(
     "The file passes, or help or the version was asked for",
     "Checks ANSI art files that end in a SAUCE record\n\
     \n\
     Usage: anscheck <COMMAND>\n\
+    \n\
+    \x20 tip: to begin with a drawing, 'anscheck why drawing.ans'\n\
     \n\
     Commands:\n\
     \x20 why     Say why a drawing is refused, what it relies on, and how to mend it\n\
@@ -74,7 +86,8 @@ const PROGRAM_HELP: &str = help!(
     \x20 anscheck why drawing.ans\n\
     \x20 anscheck check --cleared drawing.ans\n\
     \x20 anscheck show drawing.ans\n\
-    \x20 anscheck help check\n"
+    \x20 anscheck help check\n\
+    \x20 anscheck help F20\n"
 );
 
 /// Commands, and the help of each.
@@ -95,14 +108,16 @@ static COMMANDS: [(&str, &str); 6] = command_helps! {
         \x20     --known-colours  Assume the colours to be white on black\n\
         \x20     --known-wrap     Assume wrap to be on\n\
         \x20     --cleared        Assume all five: a screen that was just cleared\n\
+        \x20     --any            Assume nothing but what the other flags say\n\
         \x20     --cells          Print each cell too: its byte and its attribute, in hex\n\
         \x20 -h, --help           Print help\n",
-        "The file passes, or help or the version was asked for";
+        "The file passes, or help was asked for";
     "show":
         "Show the picture in its colours, for a terminal or as a page", " [OPTIONS] [FILE]",
         "\x20     --html           Write an HTML page, in the colours of a VGA\n\
         \x20     --vga            Mix the colours of a VGA, whatever the terminal's are\n\
-        \x20     --any            Assume nothing but what a --known flag says\n\
+        \x20     --cleared        Assume all five: a screen that was just cleared\n\
+        \x20     --any            Assume nothing but what the other flags say\n\
         \x20     --known-screen   Assume the screen to be blank, white on black\n\
         \x20     --known-cursor   Assume the cursor to be at the top left\n\
         \x20     --known-saved    Assume the saved cursor to be at the top left\n\
@@ -111,7 +126,7 @@ static COMMANDS: [(&str, &str); 6] = command_helps! {
         \x20 -h, --help           Print help\n\
         \n\
         Without --any or a --known flag all five are assumed: a screen just cleared.\n",
-        "The file passes, or help or the version was asked for";
+        "The file passes, or help was asked for";
     "sauce":
         "Print what a file's SAUCE record says", " [FILE]",
         "  -h, --help  Print help\n",
@@ -147,24 +162,23 @@ const TABLE_HELP: &str = "\
 const VERSION: &str = "anscheck 0.1.0 (rattle logic dac8208d650f15bf)\n";
 
 /// Words that are rejected, and the text.
-static REJECTED: [(&[&str], &str); 8] = words! {
+static REJECTED: [(&[&str], &str); 9] = words! {
     "check" "--bogus" => mistake!(
         "unexpected argument '--bogus' found\n\n  tip: to pass '--bogus' as a value, use '-- --bogus'",
         "check [OPTIONS] [FILE]"
     );
     "check" "f" "g" => mistake!("unexpected argument 'g' found", "check [OPTIONS] [FILE]");
-    => mistake!(
+    => no_command!(
         "'anscheck' requires a subcommand but one was not provided\n\
-        \x20 [subcommands: why, needs, check, show, sauce, tokens, table]",
-        "<COMMAND>"
+        \x20 [subcommands: why, needs, check, show, sauce, tokens, table]"
     );
-    "other" => mistake!("unrecognized subcommand 'other'", "<COMMAND>");
-    "help" "nonsense" => mistake!("unrecognized subcommand 'nonsense'", "<COMMAND>");
-    "help" "chek" => mistake!(
-        "unrecognized subcommand 'chek'\n\n  tip: a similar subcommand exists: 'check'",
-        "<COMMAND>"
+    "drawing.ans" => no_command!("unrecognized subcommand 'drawing.ans'");
+    "help" "nonsense" => no_command!("unrecognized subcommand 'nonsense'");
+    "help" "F18" => no_command!("unrecognized subcommand 'F18'");
+    "help" "chek" => no_command!(
+        "unrecognized subcommand 'chek'\n\n  tip: a similar subcommand exists: 'check'"
     );
-    "help" "--cleared" => mistake!("unrecognized subcommand '--cleared'", "<COMMAND>");
+    "help" "--cleared" => no_command!("unrecognized subcommand '--cleared'");
     "help" "check" "more" => mistake!("unexpected argument 'more' found", "check [OPTIONS] [FILE]");
 };
 

@@ -1,6 +1,5 @@
-use Rattle.std.proofs.Common.{refl, subst, inr, ap, ◌∙◌}
+use Rattle.std.proofs.Common.{refl, subst, inl, inr, ap, ◌∙◌}
 use Rattle.ans_model.specs.Text.Words.{texts_of}
-use Rattle.ans_options.specs.declared.command_line.WordsError.TheVariants as words_error
 use Rattle.ans_check.specs.SystemInput.{AnswersOnSystem}
 use Rattle.ans_check.specs.declared.exit_status.Ending.TheVariants.{UnreadableWords}
 use Rattle.ans_check.proofs.system.answer_texts.Goals as goal
@@ -8,11 +7,7 @@ use Rattle.ans_check.proofs.system.answer_texts.Goals as goal
 pub returns-in_default : goal.returns-in_default
 returns-in_default g c = (
   UnreadableWords,
-  inr (record {
-    refusal = words_error.Memory;
-    refused = record { kind = tt; memory = λ _. tt };
-    ends = (refl, refl);
-  }),
+  inr (refl, refl),
   c.say.ensures,
   c.status.ensures,
 )
@@ -21,4 +16,4 @@ pub returns : goal.returns
 returns g c = subst (λ words. AnswersOnSystem g.W.Write.contents g.E.Write.contents words c.args.output.now
     c.answer.new.output c.args.errors.now c.answer.new.errors c.status-2.result)
     (ap texts_of c.as_slice.ensures.value ∙ c.in-Ok.ensures)
-    (c.answer.result, c.answer.ensures.ends, c.answer.ensures.says, c.status-2.ensures)
+    (c.answer.result, inl c.answer.ensures.ends, c.answer.ensures.says, c.status-2.ensures)

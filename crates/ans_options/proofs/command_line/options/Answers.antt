@@ -2,7 +2,7 @@ use Rattle.std.proofs.Common.{option_map}
 use Rattle.std.specs.Prelude.{string_bytes}
 use Rattle.ans_model.specs.Text.Words.{texts_of}
 use Rattle.ans_options.specs.CommandLine.{AreOptionsOf}
-use Rattle.ans_options.proofs.FlagLemmas.{flagless, no_cells, one_asked, table_asked}
+use Rattle.ans_options.proofs.FlagLemmas.{flagless, no_cells, no_topic, one_asked, table_asked}
 use Rattle.ans_options.proofs.command_line.options.Goals as goal
 
 one : (c : goal.In-One) → AreOptionsOf (texts_of c.args.words.now) c.in-One.options
@@ -18,7 +18,11 @@ returns-in-One-clause-flagless c = flagless (texts_of c.args.words.now) _ _ (one
 pub returns-in-One-clause-cells : goal.returns-in-One-clause-cells
 returns-in-One-clause-cells c = no_cells (texts_of c.args.words.now) _ _ (one c)
 
-pub returns-clause-ok : goal.returns-clause-ok
-returns-clause-ok c =
+pub returns-in-Table-clause-ok : goal.returns-in-Table-clause-ok
+returns-in-Table-clause-ok c =
     rw c.of_table.ensures
     (table_asked (texts_of c.args.words.now) c.in_ok-options.field-0 _ _ c.in_ok-options.ensures.ok c.in-Table.is)
+
+pub unreachable-requires : goal.unreachable-requires
+unreachable-requires c =
+    no_topic (texts_of c.args.words.now) c.in_ok-options.field-0 _ c.in_ok-options.ensures.ok c.in-Meaning.is

@@ -20,6 +20,7 @@ returns c =
     let top_is : app_of c.disable_help_subcommand-top.result ≡ anscheck_top =
     ap app_of_fields c.disable_help_subcommand-top.ensures
     ∙ ap unhelped (ap app_of_fields c.subcommand_required.ensures
-    ∙ ap required (ap app_of_fields c.after_help.ensures ∙ ap app_of_fields c.about.ensures ∙ named_is)) in
+    ∙ ap required (ap app_of_fields c.override_usage.ensures ∙ ap app_of_fields c.after_help.ensures
+    ∙ ap app_of_fields c.about.ensures ∙ named_is)) in
     IfOk-weaker c.with_subcommands.result _ _
     (λ r is. is ∙ ap (λ (a : App). with_subcommands a commands) top_is) c.with_subcommands.ensures

@@ -5,7 +5,7 @@ use Rattle.ans_options.specs.CommandLine.{part_flags, with_flags}
 use Rattle.ans_options.proofs.command_line.show_command.Goals as goal
 
 abbrev show_flags : List Text
-show_flags = codes "html" ∷ codes "vga" ∷ codes "any" ∷ []
+show_flags = codes "html" ∷ codes "vga" ∷ codes "cleared" ∷ codes "any" ∷ []
 
 pub returns : goal.returns
 returns c =

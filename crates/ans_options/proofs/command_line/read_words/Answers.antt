@@ -6,7 +6,7 @@ use Rattle.ans_options.specs.CommandLine.{AsksAs, HasKindAmong, anscheck, faults
 use Rattle.ans_model.specs.Text.Words.{texts_of}
 use Rattle.ans_options.proofs.CommandLineLemmas.{command_found}
 use Rattle.ans_options.proofs.ErrorLemmas.{out_of_memory, ran_out}
-use Rattle.ans_options.proofs.command_line.asked.Goals as goal
+use Rattle.ans_options.proofs.command_line.read_words.Goals as goal
 
 pub read_matches-requires : goal.read_matches-requires
 read_matches-requires c =
