@@ -55,9 +55,11 @@ function showAdvice({ answer, why }) {
   element("advice").hidden = !fault;
   if (!fault) return;
   const passes = answer === "pass";
-  const mend = passes ? valueOf(why, "mend") : MENDS[fault.number];
+  const known = valueOf(why, "is");
+  const mend = passes ? valueOf(why, "mend") : KNOWN_MENDS[known] ?? MENDS[fault.number];
   const about = passes ? "From other starts it has the fault" : "About";
-  element("meaning").textContent = `${about} F${fault.number}: ${MEANINGS[fault.number]}`;
+  const here = known === "" ? "" : ` Here it is ${known}.`;
+  element("meaning").textContent = `${about} F${fault.number}: ${MEANINGS[fault.number]}${here}`;
   const advice = passes ? `To pass from every start, ${mend}, without the blanks.` : `To mend it: ${mend}`;
   element("mend").textContent = advice;
   element("mend").hidden = !mend;
@@ -66,7 +68,7 @@ function showAdvice({ answer, why }) {
 /** What the picture is, where it is not that of the file as it stands. */
 function partShown({ lines, upTo, moreLines }, stated) {
   if (upTo !== undefined) return `What stands before byte ${upTo.toLocaleString("en")}, on ${stated}.`;
-  if (moreLines !== undefined) return `As it is with ${lines} lines. The record states ${stated}.`;
+  if (moreLines !== undefined) return `As it is with ${lines} lines. The record states ${stated || "none"}.`;
   return `${stated}.`;
 }
 

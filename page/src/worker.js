@@ -28,14 +28,19 @@ function withLines(file, lines) {
   return changed;
 }
 
+/** How many lines `why` says would do, or NaN. */
+function linesIn(why) {
+  return Number(/^lines: (\d+)( as it is)?$/m.exec(why)?.[1]);
+}
+
 /**
- * The picture from the cleared screen. Of a content that is refused, the picture with as many lines as `why` says would
- * do, and else what stands before the fault. Both come of a check of a changed copy.
+ * The picture from the cleared screen. Of what is refused, the picture with as many lines as `why` says would do, and
+ * else of a content what stands before the fault. Both come of a check of a changed copy.
  */
 function pictureOf(file, why) {
   const whole = checker.check(CLEARED);
   if (whole.answer === "pass") return whole;
-  const lines = Number(/^lines: (\d+)$/m.exec(why)?.[1]);
+  const lines = linesIn(why);
   checker.open(lines ? withLines(file, lines) : shortened(file, whole.fault.offset));
   const changed = checker.check(CLEARED);
   if (changed.answer !== "pass") return null;
@@ -46,7 +51,7 @@ function study(file, wantsPicture) {
   checker.open(file);
   const why = checker.why();
   const record = checker.record();
-  const hasPicture = wantsPicture && checker.size().answer === "pass";
+  const hasPicture = wantsPicture && (checker.size().answer === "pass" || linesIn(why.text) > 0);
   const picture = hasPicture ? pictureOf(file, why.text) : null;
   if (picture) picture.blinks = picture.attributes.some((attribute) => attribute >= BLINK);
   return { answer: why.answer, why: why.text, record: record.answer === "pass" ? record.text : "", picture };
