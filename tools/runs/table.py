@@ -238,8 +238,9 @@ RUNS = [
     Run("why, of a named file", ["why", HI], 0, HI_WHY),
     Run("why, of a drawing that is refused", ["why", "data/rows.ans"], 1,
         b"size: 80 x 5\nverdict: refused\nat 249: F21 scrolls\nbytes: <LF>\n"
-        b"cleared start: row 6, column 1\nlines: 10\n"
-        b"hint: a full row and a line end take two rows, 3 times, first at 84\n"),
+        b"cleared start: row 6, column 1\n"
+        b"hint: a full row and a line end take two rows, 5 times, first at 84\n"
+        b"hint: nothing is printed in the last line\nlines: 10 as it is\n"),
     Run("why, without a record", ["why"], 1, NO_RECORD, stdin=b"S" * 127),
     Run("needs of standard input", ["needs"], 0, HI_NEEDS, stdin=HI),
     Run("needs of a named file", ["needs", HI], 0, HI_NEEDS),

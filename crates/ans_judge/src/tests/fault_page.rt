@@ -172,8 +172,8 @@ static CONTENTS: [Example; 34] = contents! {
         b"size: 2 x 2\nstart: cleared\ncontent: 6 bytes\nverdict: refused\nat 4: F20 print below the stated lines\n";
     "F20" why any 2 x 2, b"Hi\r\nHo" => refused
         b"size: 2 x 2\nverdict: refused\nat 4: F20 print below the stated lines\nbytes: H\n\
-        cleared start: row 3, column 1\nlines: 3\n\
-        hint: a full row and a line end take two rows, once, at 2\n";
+        cleared start: row 3, column 1\n\
+        hint: a full row and a line end take two rows, once, at 2\nlines: 3\n";
     "F20" check cleared 2 x 2, b"HiHo" => passes
         b"size: 2 x 2\nstart: cleared\ncontent: 4 bytes\nverdict: pass\npicture:\nHi\nHo\n";
     "F20" check cleared 4 x 2, b"ab\ncdef" => refused
