@@ -18,3 +18,5 @@ pub mod WatchedSoFar
 pub mod TextTests
 pub mod EmptyRows
 pub mod HintsFound
+pub mod FullRows
+pub mod LastPrint

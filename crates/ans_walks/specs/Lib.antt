@@ -15,3 +15,4 @@ pub mod RowEnds
 pub mod Hints
 pub mod Walks
 pub mod RowLaws
+pub mod RowEndLaws

@@ -3,6 +3,7 @@
 ghost use Rattle.ans_walks.specs.Lines.{OneLineMoreIsGood};
 ghost use Rattle.ans_walks.specs.Mend.{LeavesClearedScreen, MakesGood};
 ghost use Rattle.ans_walks.specs.MendedFile.{MendedFilePasses};
+ghost use Rattle.ans_walks.specs.RowEndLaws.{CountsBeforeLastPrint, LineFeedEndsFullRow};
 ghost use Rattle.ans_walks.specs.RowLaws.{EmptyRowsHoldNothing, NoMoreRowsAreEmpty};
 ghost use Rattle.ans_walks.specs.Taller.{TallerShowsTheSame};
 
@@ -40,4 +41,17 @@ pub fn taller_screens_show_the_same()
 pub fn rows_at_the_end_are_empty()
     ensures nothing { EmptyRowsHoldNothing }
     ensures no_more { NoMoreRowsAreEmpty }
+{}
+
+/// A line feed ends a full row exactly where the tokens before it end in a glyph that wraps, or in such
+/// a glyph and then a return. A bell, a save, colours and wrap may stand behind each of the two, and
+/// nothing else.
+pub fn full_rows_end_in_a_line_end()
+    ensures { LineFeedEndsFullRow }
+{}
+
+/// Whether all full rows are ended is asked of the rows in front of the last glyph or tab: the full rows
+/// and the line ends behind them that are compared are those counted up to there.
+pub fn rows_are_counted_up_to_the_last_print()
+    ensures { CountsBeforeLastPrint }
 {}
