@@ -518,16 +518,17 @@ def a_line_end(chance):
 
 
 def some_rows(chance, width):
-    """Rows of one length, which is that of the screen or not, and their line ends, mostly of one kind."""
-    over = chance.choice([0, 0, 0, -1, -2, 1, 1, 2, width // 2, width, width + 1])
+    """Rows of one length or two, which are that of the screen or not, and their line ends, mostly of one kind."""
+    over = chance.choices([0, 0, 0, -1, -2, 1, 1, 2, width // 2, width, width + 1], k=chance.choice([1, 1, 1, 2]))
     end, text = a_line_end(chance), b""
-    for _ in range(chance.choice([1, 1, 2, 3, 3, 4, 5])):
-        count = max(0, width + (over if chance.random() < 0.9 else chance.choice([-1, 0, 1, 2, 3])))
+    for number in range(chance.choice([1, 1, 2, 3, 3, 4, 4, 5])):
+        usual = over[number % len(over)]
+        count = max(0, width + (usual if chance.random() < 0.9 else chance.choice([-1, 0, 1, 2, 3])))
         row = bytes([chance.choice(b"AB\xdb")]) * count
         cut = chance.randrange(count + 1)
         text += row[:cut] + a_silent_piece(chance) * (chance.random() < 0.2) + row[cut:]
         text += end if chance.random() < 0.9 else a_line_end(chance)
-    return text
+    return text if chance.random() < 0.7 else text.removesuffix(end)
 
 
 def a_wrap_off_row(chance, width):
@@ -567,7 +568,7 @@ def a_known_form(chance):
     return form if chance.random() < 0.9 else form[:chance.randrange(2, len(form) + 1)]
 
 
-def a_foreign_text(chance):
+def a_foreign_code(chance):
     """A letter or a code of another system, or what is nearly one."""
     kind = chance.random()
     if kind < 0.3:
@@ -575,7 +576,7 @@ def a_foreign_text(chance):
         return bytes([chance.choice(b"AZaz@[`{"), chance.choice([0xC3, 0xC3, 0xC3, 0xC2, 0xC4]), second])
     if kind < 0.6:
         middle = chance.choice([0xE3, 0xE4, 0xE5, 0xE7, 0xE8, 0xE9, 0xEA, 0xEB, 0xF0, *range(0xF1, 0xFE)])
-        return bytes([chance.choice(b"azazmA`{"), middle, chance.choice(b"azazmZ`{")])
+        return bytes([chance.choice(b"amzamzA`{"), middle, chance.choice(b"amzamzZ`{")])
     if kind < 0.8:
         number = chance.choice([b"00", b"07", b"15", b"19", b"20", b"23", b"24", b"30", b"7", b"0a", b""])
         return b"|" + number + chance.choice([b"T", b"z", b"A", b"[", b"1", b"\xdb", b""])
@@ -596,7 +597,7 @@ def a_why_piece(chance, width, lines):
         text = chance.choice(characters + characters + wrong)
         return text if chance.random() < 0.8 else text[:-1]
     if kind < 0.57:
-        return a_foreign_text(chance)
+        return b"".join(a_foreign_code(chance) for _ in range(chance.choice([1, 2, 3])))
     if kind < 0.66:
         numbers = [b"5", b"5", b"38;5;208", b"48", b"37", b"39", b"89", b"90", b"97", b"98", b"100", b"107", b"108"]
         return b"\x1b[" + chance.choice(numbers) + b"m"
