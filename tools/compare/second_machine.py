@@ -334,14 +334,19 @@ def needs_answer(chance, content, width, lines):
     return " ".join(["needs:"] + [part for part in PARTS if part in least]) if least else "needs: nothing"
 
 
-def printed_lines(words, content, width, lines, flags=0, font=b""):
-    """What the program prints of the content as a file with a plain record, and its status."""
+def printed_of(words, file):
+    """What the program prints of a file, line by line, and its status."""
+    run = subprocess.run(words, input=file, stdout=subprocess.PIPE)
+    return run.stdout.decode().splitlines(), run.returncode
+
+
+def printed_lines(words, content, width, lines):
+    """What it prints of the content as a file with a plain record, and its status."""
     record = (
         b"SAUCE00" + b" " * 75 + b"19960101" + struct.pack("<I", len(content))
-        + bytes([1, 1]) + struct.pack("<4H", width, lines, 0, 0) + bytes([0, flags]) + font.ljust(22, b"\0")
+        + bytes([1, 1]) + struct.pack("<4H", width, lines, 0, 0) + bytes(24)
     )
-    run = subprocess.run(words, input=content + b"\x1a" + record, stdout=subprocess.PIPE)
-    return run.stdout.decode().splitlines(), run.returncode
+    return printed_of(words, content + b"\x1a" + record)
 
 
 def asked(program, content, width, lines, known):

@@ -1,41 +1,46 @@
 #!/usr/bin/env python3
-"""Plays random contents on the machine of `second_machine.py`, and compares with the whole text of `why`.
+"""Plays random files on the machine of `second_machine.py`, and compares with the whole text of `why`.
 
 It finds each line of that text by itself, from the words of its definitions:
 
+- `note`, `found` and the faults of the record: it takes the file apart by itself;
 - the evidence: where the cursors stand in the plays from the low and the high start before the fault, or
   what the named cell holds in both; and on a refusal where the one from the cleared start stands;
+- `is`: by patterns over the bytes from the fault's place on, or over those behind the end mark;
 - `lines`: it plays the content on 1 to 24 lines, and then halves what is left up to 8192. A number is
   right where the content passes with it and is refused with one less, and with a few others below; none
-  is right where it is refused with 8192;
+  is right where it is refused with 8192. `as it is` stands behind it where the rows are torn;
 - `taller`: it asks at each move of eight starts of the class that `needs` names. Where that makes `yes` it
   also plays the content from eight starts of the class on taller screens: there is no fault, nothing
   scrolls, and the first lines show the picture;
 - `mend`: behind these bytes it plays the content from eight starts of any kind: there is no fault, and
   the picture is that from the cleared start;
-- the bytes to blame, and each hint with its count and its first offset. On a refusal the tokens count up to
-  the one to blame; what they are judged by may stand behind it.
+- the bytes to blame, and each hint with its count and its first offset. Where so many lines are enough, all
+  tokens count, on a screen of as many; on another refusal those up to the one to blame. What they are judged
+  by may stand behind it.
 
 It follows the rules as this project states them, so it cannot tell a rule that both misread. Run it in
-`crates/anscheck`, on the built program, with a number that seeds the contents and how many there shall be:
+`crates/anscheck`, on the built program, with a number that seeds the files and how many there shall be:
 
     python3 ../../tools/compare/second_why.py out/anscheck 1 10000
 
-It prints each content of which a line or the status differs, and then how often each thing was said. Its
+It prints each file of which a line or the status differs, and then how often each thing was said. Its
 status is 1 where one differs.
 """
 import collections
 import random
+import re
+import struct
 import sys
 
 sys.dont_write_bytecode = True
 
 from second_machine import (
     FAULTS, PARTS, Machine, Refused, a_content, a_piece, answer, fault_in, known_parts, needs_answer, play,
-    printed_lines, read, read_sequence, starts, unknown_cell,
+    printed_of, read, read_sequence, starts, unknown_cell,
 )
 
-MOST_LINES, TRIED_ONE_BY_ONE = 8192, 24
+MOST_LINES, MOST_COLUMNS, TRIED_ONE_BY_ONE = 8192, 1024, 24
 MENDING = b"\x1b[?7h\x1b[0m\x1b[2J\x1b[s"
 NAMES = {7: "<BEL>", 8: "<BS>", 9: "<TAB>", 10: "<LF>", 13: "<CR>", 27: "<ESC>", 32: "<SP>"}
 LOW_GLYPHS = " ☺☻♥♦♣♠•◘○◙♂♀♪♫☼►◄↕‼¶§▬↨↑↓→←∟↔▲▼"
@@ -44,16 +49,45 @@ FONTS_OF_437 = [
     for name in [b"IBM VGA", b"IBM VGA50", b"IBM VGA25G", b"IBM EGA", b"IBM EGA43"] for page in [b"", b" 437"]
 ]
 LATER_COLOURS = {38, 48, *range(90, 98), *range(100, 108)}
+CONVERT = ": convert the text to code page 437"
 COUNTED_HINTS = [
     ("loose line feed", "a line feed with no return beside it goes straight down", ""),
     ("full row", "a full row and a line end take two rows", ""),
-    ("UTF-8", "a character is in UTF-8", ": convert the text to code page 437"),
+    ("wider row", "a row runs over the edge and then ends", ": the widest has {widest} columns"),
+    ("overprint", "with wrap off a character is printed over another in the last column", ""),
+    ("UTF-8", "a character is in UTF-8", CONVERT),
+    ("letter in UTF-8", "a letter is in UTF-8", CONVERT),
+    ("letter in Latin-1", "a letter is in Latin-1", CONVERT),
+    ("board code", "a colour code of a bulletin board (|07, @X1F) is printed as text", ""),
     ("later colour", "a sequence has a colour of later terminals (38, 48, 90 to 97 or 100 to 107)", ""),
     ("blinking", "a character blinks", ": for bright backgrounds set the non-blink flag"),
 ]
+LATIN_LETTERS = "äèéêñòóôöü".encode("latin-1")
+LETTER_IN_UTF8 = re.compile(rb"[A-Za-z]\xc3[\x80-\x96\x98-\xb6\xb8-\xbf]")
+LETTER_IN_LATIN1 = re.compile(rb"[a-z][" + LATIN_LETTERS + rb"][a-z]")
+BOARD_CODE = re.compile(rb"\|(?:[01][0-9]|2[0-3])[A-Za-z]|@X[0-9A-Fa-f]{2}")
+KNOWN_FORMS = {
+    "ANSI music": re.compile(rb"\x1b\[[MN|][A-Za-z0-9#+\-.<> ]{0,250}\x0e"),
+    "a font selection": re.compile(rb"\x1b\[[0-9]+;[0-9]+ D"),
+    "a 24-bit colour": re.compile(rb"\x1b\[[01];[0-9]+;[0-9]+;[0-9]+t"),
+    "the switch for bright backgrounds": re.compile(rb"\x1b\[\?33[hl]"),
+    "the switch that hides or shows the cursor": re.compile(rb"\x1b\[\?25[hl]"),
+    "a screen mode of DOS": re.compile(rb"\x1b\[=[0-9]+[hl]"),
+}
+# Tokens that neither print nor move, and tokens that move within a row, or erase.
+SILENT = {"bell", "save", "colours", "wrap"}
+IN_A_ROW = {"backspace", "tab", "C", "D", "erase"}
+RECORD_FAULTS = {
+    1: "no SAUCE record", 2: "SAUCE version is not 00", 3: "not Character/ANSi", 4: "comment block missing",
+    5: "number of lines not stated", 6: "width above 1024", 7: "lines above 8192", 8: "bytes after the end mark",
+}
+LAYOUT = "<5s2s35s20s20s8sIBB4HBB22s"
+Record = collections.namedtuple(
+    "Record", "id version title author group date size kind subkind width lines info3 info4 comments flags font"
+)
 
 
-# What is shown of bytes, places and cells.
+# What is shown of bytes, places, cells and numbers.
 
 
 def shown(byte):
@@ -79,7 +113,11 @@ def cell_text(machine, row, column):
 
 def fault_line(offset, number, cell=None):
     place = f" (row {cell[0] + 1}, column {cell[1] + 1})" if cell else ""
-    return f"at {offset}: F{number} {FAULTS[number]}{place}"
+    return f"at {offset}: F{number} {({**RECORD_FAULTS, **FAULTS})[number]}{place}"
+
+
+def many(count, thing):
+    return f"{count} {thing}" if count == 1 else f"{count} {thing}s"
 
 
 # The bytes to blame, the lines, the mending and taller screens.
@@ -95,6 +133,13 @@ def to_blame(content, offset):
         return content[offset:refused.args[1]]
 
 
+def known_sequence(content, offset, number):
+    """What the bytes from here on are known as, or None."""
+    if number == 15:
+        return "a reassigned key"
+    return next((name for name, form in KNOWN_FORMS.items() if form.match(content, offset)), None)
+
+
 def cleared(width, lines):
     machine = Machine(width, 0, lambda: 0x00, lambda: (0, 0), True)
     machine.lines = lines
@@ -107,7 +152,7 @@ def passes_with(content, width, lines):
 
 
 def least_lines(chance, content, width):
-    """The least number of lines with which the content passes, or None."""
+    """The least number of lines with which the content passes, or None; or one below, if that is found to do."""
     for lines in range(1, TRIED_ONE_BY_ONE + 1):
         if passes_with(content, width, lines):
             return lines
@@ -118,7 +163,7 @@ def least_lines(chance, content, width):
         middle = (refused + passes) // 2
         refused, passes = (refused, middle) if passes_with(content, width, middle) else (middle, passes)
     below = [n for n in chance.choices(range(1, passes), k=3) if passes_with(content, width, n)]
-    return f"{passes}, but passes with {below}" if below else passes
+    return min(below, default=passes)
 
 
 def moves_freely(content, machines):
@@ -161,6 +206,66 @@ def mend_text(chance, content, width, lines, picture):
 # Hints.
 
 
+class Rows:
+    """The row that is being written, and the line ends before it.
+
+    A line end is a line feed, or a return and then a line feed. What neither prints nor moves may stand before it
+    and inside it. A row that ended is told by its offset, its columns, and whether its last glyph wrapped."""
+
+    def __init__(self, width):
+        self.width = width
+        self.begun = self.wraps = 0
+        # Of the last token that prints or moves: a glyph that wrapped, or stayed in the last column; a return.
+        self.has_wrapped, self.is_stuck, self.returned = False, False, None
+        self.full, self.ended, self.over, self.overprints, self.returns = 0, [], [], [], False
+        # The full rows, and those with a line end, that something is printed behind.
+        self.followed = 0, 0
+
+    def meet(self, offset, token, machine):
+        """A token that stands here, before it is played."""
+        name = token[0]
+        if name in SILENT:
+            return
+        if name in ("glyph", "tab"):
+            self.followed = self.full, len(self.ended)
+        here = offset, max(0, self.wraps * self.width + machine.column - self.begun), self.has_wrapped
+        row, was_stuck = self.returned or here, self.is_stuck
+        self.has_wrapped, self.is_stuck, self.returned = False, False, None
+        if name == "glyph":
+            is_last = machine.column == self.width - 1
+            self.has_wrapped, self.is_stuck = is_last and machine.wrap, is_last and not machine.wrap
+            self.full += self.has_wrapped
+            self.wraps += self.has_wrapped
+            self.overprints += [offset] if was_stuck else []
+        elif name == "return":
+            self.returned, self.returns = here, True
+        elif name == "linefeed":
+            self.end(*row)
+
+    def end(self, offset, columns, is_full):
+        self.ended += [offset] if is_full else []
+        self.over += [(offset, columns)] if columns > self.width else []
+
+    def leave(self, token, machine):
+        """The same token, after it is played: a row begins where it moved to another, or returned."""
+        if token[0] not in SILENT | IN_A_ROW | {"glyph"}:
+            self.begun, self.wraps = machine.column, 0
+
+    def widest(self):
+        """The columns of the drawing that these are the rows of, where it was made for more."""
+        columns = [columns for _, columns in self.over]
+        widest = max(columns, default=0)
+        is_so = len(columns) >= 3 and widest <= 2 * self.width and 2 * columns.count(widest) >= len(columns)
+        return widest if is_so else None
+
+    def all_end(self):
+        return self.followed[1] >= 2 and self.followed[0] == self.followed[1]
+
+    def offsets(self):
+        over = [offset for offset, _ in self.over] if self.widest() else []
+        return {"full row": self.ended, "wider row": over, "overprint": self.overprints}
+
+
 def is_wide(text):
     """The bytes begin with a character that takes three or four bytes in UTF-8."""
     try:
@@ -169,22 +274,23 @@ def is_wide(text):
         return False
 
 
-def hints_of_token(token, machine, content, end):
-    """The hints of a token, with its offset or that of the line end behind it. It ends at `end` of the content."""
-    rest = content[end:]
+def hints_of_token(token, machine, content, offset, end):
+    """The hints of a token that stands from here to there, each with its offset."""
     if token[0] == "linefeed":
-        return {"loose line feed": end - 1} if machine.column > 0 and rest[:1] != b"\r" else {}
+        is_loose = machine.column > 0 and content[end:end + 1] != b"\r"
+        return {"loose line feed": offset} if is_loose else {}
     if token[0] == "colours":
-        return {"later colour": None} if LATER_COLOURS & set(token[1]) else {}
+        return {"later colour": offset} if LATER_COLOURS & set(token[1]) else {}
     if token[0] != "glyph":
         return {}
-    wraps = machine.column == machine.width - 1 and machine.wrap
     found = {
-        "full row": wraps and (rest[:1] == b"\n" or rest[:2] == b"\r\n"),
-        "UTF-8": is_wide(content[end - 1:]),
-        "blinking": machine.attribute & 0x80,
+        "UTF-8": (is_wide(content[offset:offset + 4]), offset),
+        "letter in UTF-8": (LETTER_IN_UTF8.match(content, offset), end),
+        "letter in Latin-1": (LETTER_IN_LATIN1.match(content, offset), end),
+        "board code": (BOARD_CODE.match(content, offset), offset),
+        "blinking": (machine.attribute & 0x80, offset),
     }
-    return {what: end if what == "full row" else end - 1 for what in found if found[what]}
+    return {what: place for what, (is_there, place) in found.items() if is_there}
 
 
 def rows_printed(token, machine):
@@ -199,33 +305,125 @@ def rows_printed(token, machine):
     return rows
 
 
-def hint_lines(content, last, width, lines, flags, font, all_is_played):
-    """The lines of the hints of the bytes before `last`, which are read as tokens, and of the font."""
-    machine, offsets, printed = cleared(width, lines), collections.defaultdict(list), {-1}
-    tokens = read(content[:last])[0]
-    ends = [offset for offset, _ in tokens[1:]] + [last]
-    for (offset, token), end in zip(tokens, ends):
-        for what, place in hints_of_token(token, machine, content, end).items():
-            offsets[what].append(offset if place is None else place)
-        printed.update(rows_printed(token, machine))
-    if flags & 1:
-        offsets["blinking"] = []
-    hints = [
-        f"hint: {what}, {times_text(offsets[key])}{advice}"
-        for key, what, advice in COUNTED_HINTS if offsets[key]
-    ]
-    name = font.partition(b"\0")[0].rstrip(b" ")
-    if name and name not in FONTS_OF_437:
-        characters = "".join(map(shown, name))
-        hints.append(f"hint: the font {characters} is not one of code page 437, so other characters may show")
-    empty = lines - 1 - max(printed) if all_is_played else 0
-    if empty > 0:
-        hints.append(f"hint: nothing is printed in the last {'line' if empty == 1 else f'{empty} lines'}")
-    return hints
+class Hints:
+    """The hints of the bytes before `last`, which are read as tokens and played on a screen of this size."""
+
+    def __init__(self, content, last, width, lines):
+        machine, rows, printed = cleared(width, lines), Rows(width), {-1}
+        self.offsets = collections.defaultdict(list)
+        tokens = read(content[:last])[0]
+        ends = [offset for offset, _ in tokens[1:]] + [last]
+        for (offset, token), end in zip(tokens, ends):
+            for what, place in hints_of_token(token, machine, content, offset, end).items():
+                self.offsets[what].append(place)
+            rows.meet(offset, token, machine)
+            printed.update(rows_printed(token, machine))
+            rows.leave(token, machine)
+        self.offsets.update(rows.offsets())
+        self.widest, self.empty = rows.widest(), lines - 1 - max(printed)
+        straight_down = self.offsets["loose line feed"] and not rows.returns
+        self.torn = bool(straight_down or rows.all_end() or self.widest or self.offsets["UTF-8"])
+
+    def lines(self, record, all_is_played):
+        """The lines of the hints, and that of the font."""
+        if record.flags & 1:
+            self.offsets["blinking"] = []
+        said = [
+            f"hint: {what}, {times_text(self.offsets[key])}{advice.format(widest=self.widest)}"
+            for key, what, advice in COUNTED_HINTS if self.offsets[key]
+        ]
+        name = record.font.partition(b"\0")[0].rstrip(b" ")
+        if name and name not in FONTS_OF_437:
+            characters = "".join(map(shown, name))
+            said.append(f"hint: the font {characters} is not one of code page 437, so other characters may show")
+        if all_is_played and self.empty > 0:
+            rows = "line" if self.empty == 1 else f"{self.empty} lines"
+            said.append(f"hint: nothing is printed in the last {rows}")
+        return said
 
 
 def times_text(offsets):
     return f"once, at {offsets[0]}" if len(offsets) == 1 else f"{len(offsets)} times, first at {offsets[0]}"
+
+
+def enough_lines(content, width, least, record):
+    """The hints of all of the content on so many lines, and the line that tells how many."""
+    hints = Hints(content, len(content), width, least)
+    return hints.lines(record, True) + [f"lines: {least}" + (" as it is" if hints.torn else "")]
+
+
+# The record.
+
+
+def record_of(file):
+    return Record._make(struct.unpack(LAYOUT, file[-128:]))
+
+
+def block_size(record):
+    return 5 + 64 * record.comments if record.comments else 0
+
+
+def body_of(file, record):
+    """What stands before the comments that the record counts."""
+    return file[:max(0, len(file) - 128 - block_size(record))]
+
+
+def note_lines(body, record):
+    size = len(body.partition(b"\x1a")[0])
+    notes = {
+        "width 0 taken as 80": record.width == 0,
+        "no end mark after the content": b"\x1a" not in body,
+        "file size differs from the content": record.size not in (size, size + 1),
+        "date is not eight digits": not record.date.isdigit(),
+        "flag bits 5 to 7 are not zero": record.flags >> 5,
+        "a flag pair is 11": record.flags & 0x06 == 0x06 or record.flags & 0x18 == 0x18,
+    }
+    return [f"note: {note}" for note in notes if notes[note]]
+
+
+def known_behind(behind):
+    """What the bytes behind the end mark are known as, or None."""
+    if has_whole_record(behind):
+        return "an older record"
+    rest = behind.lstrip(b"\x1a")
+    if rest.startswith(b"COMNT") and len(rest) > 5 and len(rest) % 64 == 5:
+        return "comments that the record does not count"
+    return "an arrow in the drawing" if any(byte > 0x20 for byte in rest) else None
+
+
+def has_whole_record(behind):
+    """The first `SAUCE00`, if there is one, has 121 bytes behind it."""
+    return 0 <= behind.find(b"SAUCE00") <= len(behind) - 128
+
+
+def missing_record(file):
+    """F1, and where a record stands all the same."""
+    place = file.rfind(b"SAUCE00", 0, max(0, len(file) - 121))
+    behind = many(len(file) - place - 128, "byte")
+    return len(file), 1, f"a record at {place}, and {behind} behind it" if place >= 0 else None
+
+
+def record_fault(file):
+    """The first fault of the record or the layout, with its offset and with what is found; or None."""
+    at = len(file) - 128
+    if at < 0 or file[at:at + 5] != b"SAUCE":
+        return missing_record(file)
+    record = record_of(file)
+    body, size = body_of(file, record), block_size(record)
+    behind = body.partition(b"\x1a")[2]
+    rest = behind.lstrip(b"\x1a")
+    has_comments = size <= at and file.startswith(b"COMNT", at - size)
+    has_record = "with an older record" if has_whole_record(behind) else "without a record"
+    faults = [
+        (record.version != b"00", at + 5, 2, "version " + "".join(map(shown, record.version))),
+        ((record.kind, record.subkind) != (1, 1), at + 94, 3, f"data type {record.kind}, file type {record.subkind}"),
+        (size and not has_comments, at + 104, 4, many(record.comments, "comment") + " stated"),
+        (record.lines == 0, at + 98, 5, "0 lines stated"),
+        (record.width > MOST_COLUMNS, at + 96, 6, many(record.width, "column") + " stated"),
+        (record.lines > MOST_LINES, at + 98, 7, many(record.lines, "line") + " stated"),
+        (rest, len(body) - len(rest), 8, many(len(behind), "byte") + " after the end mark, " + has_record),
+    ]
+    return next((fault[1:] for fault in faults if fault[0]), None)
 
 
 # The text.
@@ -253,43 +451,97 @@ def pass_lines(chance, content, width, lines, needs, picture):
     return said + (reliance_lines(chance, content, width, lines, picture) if known else [])
 
 
-def refusal_lines(chance, content, width, lines):
-    """The lines of a refusal but those of hints, and where the tokens end of which hints are given."""
+def refusal_lines(chance, content, width, lines, record):
+    """The lines of a refusal. Where no number of lines is enough, the hints are those of a front."""
     machine = cleared(width, lines)
     offset, number = fault_in(content, [machine])
-    blamed = to_blame(content, offset)
+    blamed, known = to_blame(content, offset), known_sequence(content, offset, number)
     said = ["verdict: refused", fault_line(offset, number), "bytes: " + quoted(blamed)]
+    said += ["is: " + known] if known else []
     said.append("cleared start: " + place_text(machine))
     least = least_lines(chance, content, width) if 19 <= number <= 21 else None
-    said += [f"lines: {least}"] if least else []
-    return said, offset if 9 <= number <= 14 else offset + len(blamed)
+    if least:
+        return said + enough_lines(content, width, least, record)
+    last = offset if 9 <= number <= 14 else offset + len(blamed)
+    return said + Hints(content, last, width, lines).lines(record, False)
 
 
-def why(chance, content, width, lines, flags, font):
+def record_lines(chance, file, offset, number, found):
+    """The lines of a file whose record or layout is refused."""
+    said = ["verdict: refused", fault_line(offset, number)] + ([f"found: {found}"] if found else [])
+    if number not in (5, 8):
+        return said
+    record = record_of(file)
+    content, mark, behind = body_of(file, record).partition(b"\x1a")
+    if number == 8:
+        known = known_behind(behind)
+        return said + (["is: " + known] if known else [])
+    if record.width > MOST_COLUMNS or behind.strip(b"\x1a"):
+        return said
+    width = record.width or 80
+    least = least_lines(chance, content, width)
+    return said + (enough_lines(content, width, least, record) if least else [])
+
+
+def why(chance, file):
     """The whole text, line by line, and the status."""
-    size = f"size: {width} x {lines}"
+    fault = record_fault(file)
+    if fault:
+        return record_lines(chance, file, *fault), 1
+    record = record_of(file)
+    body = body_of(file, record)
+    content, width, lines = body.partition(b"\x1a")[0], record.width or 80, record.lines
+    heading = [f"size: {width} x {lines}"] + note_lines(body, record)
     picture = answer(content, [cleared(width, lines)])
     if isinstance(picture, str):
-        said, end = refusal_lines(chance, content, width, lines)
-        return [size] + said + hint_lines(content, end, width, lines, flags, font, False), 1
+        return heading + refusal_lines(chance, content, width, lines, record), 1
     needs = needs_answer(chance, content, width, lines)
     said = pass_lines(chance, content, width, lines, needs, picture)
-    return [size] + said + hint_lines(content, len(content), width, lines, flags, font, True), 0
+    return heading + said + Hints(content, len(content), width, lines).lines(record, True), 0
 
 
 # Contents.
 
 
-def a_line(chance, width):
-    """A row of glyphs, full or nearly, and a line end."""
-    count = max(0, width - chance.choice([0, 0, 0, 1, 2]))
-    return bytes([chance.choice(b"AB\xdb")]) * count + chance.choice([b"\r\n", b"\r\n", b"\n", b"\n\r", b""])
+def a_silent_piece(chance):
+    """Nothing, or something that mostly neither prints nor moves."""
+    if chance.random() < 0.6:
+        return b""
+    silent = [b"\x1b[0m", b"\x1b[0m", b"\x1b[1;33m", b"\x1b[s", b"\x07", b"\x1b[?7h"]
+    return b"".join(chance.choices(silent * 3 + [b"\x1b[K", b"\x1b[C", b"\b", b"\x1b[u"], k=chance.choice([1, 1, 2])))
+
+
+def a_line_end(chance):
+    """A line end, or what is nearly one."""
+    end = chance.choice([b"\r\n"] * 6 + [b"\n"] * 3 + [b"\n\r", b"\r", b"\r\r\n", b""])
+    return a_silent_piece(chance) + a_silent_piece(chance).join(bytes([byte]) for byte in end)
+
+
+def some_rows(chance, width):
+    """Rows of one length or two, which are that of the screen or not, and their line ends, mostly of one kind."""
+    over = chance.choices([0, 0, 0, -1, -2, 1, 1, 2, width // 2, width, width + 1], k=chance.choice([1, 1, 1, 2]))
+    end, text = a_line_end(chance), b""
+    for number in range(chance.choice([1, 1, 2, 3, 3, 4, 4, 5])):
+        usual = over[number % len(over)]
+        count = max(0, width + (usual if chance.random() < 0.9 else chance.choice([-1, 0, 1, 2, 3])))
+        row = bytes([chance.choice(b"AB\xdb")]) * count
+        cut = chance.randrange(count + 1)
+        text += row[:cut] + a_silent_piece(chance) * (chance.random() < 0.2) + row[cut:]
+        text += end if chance.random() < 0.9 else a_line_end(chance)
+    return text if chance.random() < 0.7 else text.removesuffix(end)
+
+
+def a_wrap_off_row(chance, width):
+    """A row that goes on over the edge with wrap off."""
+    row = [b"A"] * (width + chance.choice([-1, 0, 1, 1, 2]))
+    row.insert(chance.randrange(len(row) + 1), a_silent_piece(chance))
+    return b"\x1b[?7l" + b"".join(row) + chance.choice([b"\r\n", b"\x1b[?7h", b""])
 
 
 def a_far_move(chance, width):
     """Moves far down, and now and then more of them than any screen has lines for."""
-    many = chance.choice([1, 1, 1, 2, 5, 31, 32, 33])
-    return b"\x1b[255B" * many + b"\x1b[%dB" % chance.randrange(1, 256)
+    many_moves = chance.choice([1, 1, 1, 2, 5, 31, 32, 33])
+    return b"\x1b[255B" * many_moves + b"\x1b[%dB" % chance.randrange(1, 256)
 
 
 def a_long_sequence(chance):
@@ -299,38 +551,78 @@ def a_long_sequence(chance):
     return chance.choice([text + b"A", text + b"m", text + b"?", text + b"257A", text + b"m", keys])
 
 
+def a_known_form(chance):
+    """A sequence of which `why` says what it is, or one that is nearly so."""
+    digits = [b"%d" % chance.choice([0, 1, 3, 25, 33, 255, 256, 70000]) for _ in range(3)]
+    notes = chance.choices(b"ABCDEFGLMNOPTmno0123456789#+-.<> ", k=chance.choice([0, 1, 9, 30, 249, 250, 251]))
+    forms = [
+        chance.choice([b"M", b"M", b"N", b"|", b"L"]) + bytes(notes) + chance.choice([b"\x0e"] * 3 + [b"", b"!"]),
+        digits[0] + b";" + digits[1] + chance.choice([b" D", b" D", b" D", b"D", b"  D", b" E"]),
+        chance.choice([b"0", b"1", b"1", b"2", b"01"]) + b";" + b";".join(digits[:chance.choice([2, 3, 3, 3])]) + b"t",
+        b"?33" + chance.choice([b"h", b"l", b"h", b";h", b"m"]),
+        b"?25" + chance.choice([b"l", b"h", b"l", b"5l", b"n"]),
+        chance.choice([b"=", b"=", b"=", b"?", b""]) + digits[0] + chance.choice([b"h", b"l", b"h", b"m"]),
+        b"13;" + chance.choice([b'"dir"', b"65", b"'p'", b""]) + b"p",
+    ]
+    form = b"\x1b[" + chance.choice(forms)
+    return form if chance.random() < 0.9 else form[:chance.randrange(2, len(form) + 1)]
+
+
+def a_foreign_code(chance):
+    """A letter or a code of another system, or what is nearly one."""
+    kind = chance.random()
+    if kind < 0.3:
+        second = chance.choice([0x7F, 0x80, 0x96, 0x97, 0x98, 0xA9, 0xB6, 0xB7, 0xB8, 0xBF, 0xC0])
+        return bytes([chance.choice(b"AZaz@[`{"), chance.choice([0xC3, 0xC3, 0xC3, 0xC2, 0xC4]), second])
+    if kind < 0.6:
+        middle = chance.choice([0xE3, 0xE4, 0xE5, 0xE7, 0xE8, 0xE9, 0xEA, 0xEB, 0xF0, *range(0xF1, 0xFE)])
+        return bytes([chance.choice(b"amzamzA`{"), middle, chance.choice(b"amzamzZ`{")])
+    if kind < 0.8:
+        number = chance.choice([b"00", b"07", b"15", b"19", b"20", b"23", b"24", b"30", b"7", b"0a", b""])
+        return b"|" + number + chance.choice([b"T", b"z", b"A", b"[", b"1", b"\xdb", b""])
+    number = chance.choice([b"1F", b"0a", b"F9", b"1G", b"g1", b"7"])
+    return b"@" + chance.choice([b"X", b"X", b"X", b"x", b""]) + number
+
+
 def a_why_piece(chance, width, lines):
     """A few bytes of which something is said besides the verdict."""
     kind = chance.random()
-    if kind < 0.40:
-        return a_line(chance, width)
-    if kind < 0.52:
+    if kind < 0.34:
+        return some_rows(chance, width)
+    if kind < 0.38:
+        return a_wrap_off_row(chance, width)
+    if kind < 0.45:
         characters = [chr(n).encode() for n in (0x7F, 0x80, 0x7FF, 0x800, 0x2588, 0xFFFF, 0x10000, 0x10FFFF)]
         wrong = [b"\xe0\x80\x80", b"\xed\xa0\x80", b"\xf0\x80\x80\x80", b"\xf4\x90\x80\x80", b"\xf8\x88\x80\x80\x80"]
         text = chance.choice(characters + characters + wrong)
         return text if chance.random() < 0.8 else text[:-1]
-    if kind < 0.68:
+    if kind < 0.57:
+        return b"".join(a_foreign_code(chance) for _ in range(chance.choice([1, 2, 3])))
+    if kind < 0.66:
         numbers = [b"5", b"5", b"38;5;208", b"48", b"37", b"39", b"89", b"90", b"97", b"98", b"100", b"107", b"108"]
         return b"\x1b[" + chance.choice(numbers) + b"m"
-    if kind < 0.76:
+    if kind < 0.71:
         return b"\x1b[%d;1H" % chance.randrange(lines, lines + 30)
-    if kind < 0.84:
+    if kind < 0.76:
         return b"\x1b[%d%c" % (chance.randrange(1, 2 * lines), chance.choice(b"AB"))
-    if kind < 0.88:
+    if kind < 0.80:
         return chance.choice([b"\x1b[u", b"\x1b[s", b"\x1b[255A\x1b[255D", b"\x1b[2J"])
-    if kind < 0.95:
+    if kind < 0.86:
         return a_far_move(chance, width) if chance.random() < 0.3 else b"\t" * chance.randrange(1, 3)
-    return a_long_sequence(chance)
+    return a_known_form(chance) if chance.random() < 0.85 else a_long_sequence(chance)
 
 
 def a_why_content(chance, width, lines):
     """A content as `check` is tried on, or one of more pieces."""
     known = chance.sample(PARTS, chance.randrange(len(PARTS) + 1))
-    content = a_content(chance, width, lines, known)
+    content = a_content(chance, width, lines, known) if chance.random() < 0.7 else b""
     for _ in range(chance.choice([0, 0, 1, 2, 3, 5, 8])):
         piece = a_why_piece(chance, width, lines) if chance.random() < 0.7 else a_piece(chance, width, lines)
         content = content + piece if chance.random() < 0.9 else piece + content
     return content
+
+
+# Files.
 
 
 def a_font(chance):
@@ -342,6 +634,75 @@ def a_font(chance):
     return (field + chance.choice(behind))[:22]
 
 
+def a_record(chance, width, lines, size):
+    """A record of a content of this size, mostly with a font and flags alone."""
+    flags, font = chance.choice([0, 0, 0, 1, 2, 8]), a_font(chance)
+    plain = Record(
+        b"SAUCE", b"00", b" " * 35, b" " * 20, b" " * 20, b"19960101", size, 1, 1, width, lines, 0, 0, 0, flags, font
+    )
+    if chance.random() < 0.7:
+        return plain
+    dates = [b"19960101", b"1996010a", b"        ", bytes(8), b"/9960101", b"1996010:", b"00000000"]
+    sizes = [size, size + 1, size + 2, max(0, size - 1), 0, size + 65536, size + 128]
+    return plain._replace(
+        date=chance.choice(dates), size=chance.choice(sizes), flags=chance.choice([flags, chance.randrange(256)]),
+        width=0 if chance.random() < 0.1 else width,
+    )
+
+
+def packed(record):
+    return struct.pack(LAYOUT, *record)
+
+
+def behind_the_end_mark(chance, record):
+    """Bytes that are no end marks alone, or that are."""
+    older = packed(record)
+    notes = b"COMNT" + b"a comment".ljust(64 * chance.choice([0, 1, 1, 2]) + chance.choice([0, 0, 0, 1, -1]))
+    some = [
+        older, older + b"\x1a", older[:127], b"COMNT".ljust(69) + older, older[5:], notes, notes, notes + b"\x1a",
+        b"\x1b[0mAB\r\n", b" ", b"\r\n \0", b"!", b"AB\x1aAB", b"\x1a" + b"A" * chance.randrange(70), b"",
+    ]
+    return b"\x1a" * chance.choice([0, 0, 1, 2]) + chance.choice(some)
+
+
+def a_broken_file(chance, content, record):
+    """A file whose record is refused, or the layout of which is odd."""
+    kind = chance.random()
+    if kind < 0.2:
+        file = content + b"\x1a" + packed(record)
+        cut = file[:-chance.randrange(1, 129)]
+        return file + b"\n" * chance.choice([1, 1, 2, 130]) if chance.random() < 0.7 else cut
+    if kind < 0.3:
+        return content + b"\x1a" + packed(record._replace(version=chance.choice([b"01", b"0 ", b"\x00\xdb"])))
+    if kind < 0.4:
+        return content + b"\x1a" + packed(record._replace(kind=chance.randrange(7), subkind=chance.randrange(4)))
+    if kind < 0.7:
+        count, there = chance.choice([1, 1, 2, 255]), chance.choice([0, 1, 1, 2])
+        block = (b"COMNT" + b"a comment".ljust(64 * there)) * (there > 0)
+        return content + b"\x1a" + block + packed(record._replace(comments=count))
+    if kind < 0.8:
+        return content + b"\x1a" + packed(record._replace(width=chance.choice([1024, 1025, 65535]), lines=0))
+    if kind < 0.9:
+        return content + b"\x1a" + packed(record._replace(width=chance.choice([1025, 65535])))
+    return content + b"\x1a" + packed(record._replace(lines=chance.choice([8193, 65535])))
+
+
+def a_file(chance):
+    """A content with its record. Some are refused for that record, or for what stands between the two."""
+    width = chance.randrange(*chance.choices([(1, 5), (5, 21), (21, 81)], [50, 47, 3])[0])
+    lines = chance.randrange(1, 7)
+    content = a_why_content(chance, width, lines)
+    record = a_record(chance, width, lines, len(content))
+    kind = chance.random()
+    if kind < 0.04:
+        return a_broken_file(chance, content, record)
+    if kind < 0.16:
+        record = record._replace(lines=0)
+    if kind < 0.08 or 0.16 < kind < 0.22:
+        return content + b"\x1a" + behind_the_end_mark(chance, record) + packed(record)
+    return content + b"\x1a" * chance.choice([1] * 18 + [0, 2]) + packed(record)
+
+
 def kinds_of(said):
     """What the lines are counted as."""
     keys = [line.partition(": ")[0] for line in said]
@@ -350,14 +711,17 @@ def kinds_of(said):
         if key.startswith("at "):
             number = rest.split()[0]
             yield number + (" in a tab" if "bytes: <TAB>" in said else "")
-            if number in ("F19", "F20", "F21") and "lines" not in keys:
-                yield "no lines"
+            if number in ("F5", "F19", "F20", "F21") and "lines" not in keys:
+                yield "no lines for F5" if number == "F5" else "no lines"
         elif key == "lines":
-            yield "lines above 24" if int(rest.split(",")[0]) > TRIED_ONE_BY_ONE else "lines up to 24"
+            yield "lines above 24" if int(rest.split()[0]) > TRIED_ONE_BY_ONE else "lines up to 24"
+            yield ("torn" if rest.endswith(" as it is") else "not torn") + (" of F5" if "size" not in keys else "")
         elif key == "hint":
             others = "font" if rest.startswith("the font") else "empty lines"
             yield "hint: " + next((name for name, what, _ in COUNTED_HINTS if rest.startswith(what)), others)
-        elif key in ("verdict", "taller"):
+        elif key == "found":
+            yield "found: " + re.search("a record at|version|data type|comment|line|column|with.*", rest)[0]
+        elif key in ("verdict", "taller", "is", "note"):
             yield line
 
 
@@ -365,16 +729,14 @@ def main(program, seed, count):
     chance = random.Random(int(seed))
     seen, met, differing = collections.Counter(), set(), 0
     for _ in range(int(count)):
-        width = chance.randrange(*chance.choices([(1, 5), (5, 21), (21, 81)], [50, 47, 3])[0])
-        lines, flags, font = chance.randrange(1, 7), chance.choice([0, 0, 0, 1, 2, 8]), a_font(chance)
-        content = a_why_content(chance, width, lines)
-        expected = why(chance, content, width, lines, flags, font)
-        printed = printed_lines([program, "why"], content, width, lines, flags, font)
+        file = a_file(chance)
+        expected = why(chance, file)
+        printed = printed_of([program, "why"], file)
         seen.update(kinds_of(expected[0]))
         met.update(line for line in expected[0] if line.startswith("needs: "))
         if expected != printed:
             differing += 1
-            print(f"{width} x {lines} flags={flags} font={font} {content}: {expected}, not {printed}")
+            print(f"{file}: {expected}, not {printed}")
     counts = ", ".join(f"{n} {kind}" for kind, n in seen.most_common())
     print(f"{differing} of {count} differ, in {len(met)} classes; {counts}")
     return differing > 0
