@@ -4,7 +4,7 @@ use Rattle.std.proofs.Common.{ap, arith, sym, ◌∙◌, length-append}
 use Rattle.std.specs.Prelude.{◌&&◌, ◌==◌, if◌then◌else◌, IsTrue}
 use Rattle.std.specs.List.{AllByRecursion}
 use Rattle.std.proofs.lemmas.Bool.{false≢true}
-use Rattle.ans_model.specs.Sequence.TokenKind.{TokenKind, Glyph, Bell, CarriageReturn}
+use Rattle.ans_model.specs.Sequence.TokenKind.{TokenKind, Glyph, Bell, CarriageReturn, EraseLine}
 use Rattle.ans_model.specs.Sequence.TokenKind.{Save, Colours, Wrap}
 use Rattle.ans_model.specs.Screen.State.{Size, State}
 use Rattle.ans_model.specs.Screen.Step.{step, final}
@@ -29,6 +29,7 @@ record LastLoud (tokens : List TokenKind) : Type 0 where
 
 quiet_or_loud : (t : TokenKind) → IsQuiet t ⊎ (IsQuiet t → ⊥)
 quiet_or_loud Bell = inl tt
+quiet_or_loud EraseLine = inl tt
 quiet_or_loud Save = inl tt
 quiet_or_loud (Colours parameters) = inl tt
 quiet_or_loud (Wrap on) = inl tt
@@ -56,6 +57,7 @@ last_loud (t ∷ tokens) = elim (last_loud tokens) [
 quiet_keeps : (z : Size) (s : State) (offset : ℕ) (row : Row) (t : TokenKind) → IsQuiet t
     → row_with z s offset row t ≡ row
 quiet_keeps z s offset row Bell quiet = refl
+quiet_keeps z s offset row EraseLine quiet = refl
 quiet_keeps z s offset row Save quiet = refl
 quiet_keeps z s offset row (Colours parameters) quiet = refl
 quiet_keeps z s offset row (Wrap on) quiet = refl
@@ -113,6 +115,7 @@ wrapped_by : (z : Size) (s : State) (offset : ℕ) (row : Row) (t : TokenKind) �
 wrapped_by z s offset row (Glyph byte) loud h =
     (byte, refl, sym (wrapped_behind (s.cursor.column + 1 == z.width) s.wrap) ∙ h)
 wrapped_by z s offset row Bell loud h = absurd (loud tt)
+wrapped_by z s offset row EraseLine loud h = absurd (loud tt)
 wrapped_by z s offset row Save loud h = absurd (loud tt)
 wrapped_by z s offset row (Colours parameters) loud h = absurd (loud tt)
 wrapped_by z s offset row (Wrap on) loud h = absurd (loud tt)
@@ -132,6 +135,7 @@ full_by z s here offset at row (Glyph byte) loud h =
     inl (byte, refl, sym (glyph_fills z s here offset at row byte) ∙ h)
 full_by z s here offset at row CarriageReturn loud h = inr (refl, h)
 full_by z s here offset at row Bell loud h = absurd (loud tt)
+full_by z s here offset at row EraseLine loud h = absurd (loud tt)
 full_by z s here offset at row Save loud h = absurd (loud tt)
 full_by z s here offset at row (Colours parameters) loud h = absurd (loud tt)
 full_by z s here offset at row (Wrap on) loud h = absurd (loud tt)

@@ -17,10 +17,12 @@ loose_line_feed z s _ rest = false
 abbrev pub wide_size : ℕ → ℕ
 wide_size first = if nat_lt first 0xF0 then 3 else 4
 
--- the bytes begin with such a character
+-- The bytes begin with such a character. One whose second byte is from B0h on is none to speak of: in code page 437 these
+-- are shades and boxes, and stand behind other characters by intent.
 abbrev pub begins_with_wide : List ℕ → Bool
 begins_with_wide bytes =
-    nat_le 0xE0 (slice_index bytes 0) && is_utf8 (take (wide_size (slice_index bytes 0)) bytes)
+    nat_le 0xE0 (slice_index bytes 0) && nat_lt (slice_index bytes 1) 0xB0
+    && is_utf8 (take (wide_size (slice_index bytes 0)) bytes)
 
 -- A glyph is the first byte of such a character. Its other bytes are below C0h, so none begins inside another.
 abbrev pub wide_character : Condition
@@ -50,12 +52,17 @@ is_small_letter b = is_in_range 0x61 0x7A b
 abbrev pub is_letter : ℕ → Bool
 is_letter b = is_in_range 0x41 0x5A b || is_small_letter b
 
--- The bytes begin with a letter that takes two bytes in UTF-8 and is one of Latin-1, U+00C0 to U+00FF; multiplied by and
--- divided by are none.
+-- the second byte of a letter that takes two bytes in UTF-8 and is one of Latin-1, U+00C0 to U+00FF; multiplied by and
+-- divided by are none
+abbrev pub is_second_byte : ℕ → Bool
+is_second_byte b = is_in_range 0x80 0xBF b && not (b == 0x97) && not (b == 0xB7)
+
+-- The bytes begin with such a letter. One whose second byte is from B0h on, a shade or a box in code page 437, has a
+-- letter behind it.
 abbrev pub begins_with_two_byte_letter : List ℕ → Bool
 begins_with_two_byte_letter bytes =
-    slice_index bytes 0 == 0xC3 && is_in_range 0x80 0xBF (slice_index bytes 1)
-    && not (slice_index bytes 1 == 0x97) && not (slice_index bytes 1 == 0xB7)
+    slice_index bytes 0 == 0xC3 && is_second_byte (slice_index bytes 1)
+    && (nat_lt (slice_index bytes 1) 0xB0 || is_letter (slice_index bytes 2))
 
 -- a letter, and behind it such a one
 abbrev pub two_byte_letter : Condition
@@ -75,12 +82,12 @@ latin_letter z s (Glyph byte) rest =
     is_small_letter byte && is_latin_letter (slice_index rest 0) && is_small_letter (slice_index rest 1)
 latin_letter z s _ rest = false
 
--- a decimal and a hexadecimal digit
+-- a decimal digit, and a hexadecimal one with a capital letter
 abbrev pub is_digit : ℕ → Bool
 is_digit b = is_in_range 0x30 0x39 b
 
 abbrev pub is_hex_digit : ℕ → Bool
-is_hex_digit b = is_digit b || is_in_range 0x41 0x46 b || is_in_range 0x61 0x66 b
+is_hex_digit b = is_digit b || is_in_range 0x41 0x46 b
 
 -- the two digits of a number up to 23, and a letter: behind `|`, a pipe code and what it colours
 abbrev pub begins_with_pipe_number : List ℕ → Bool

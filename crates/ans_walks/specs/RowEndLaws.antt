@@ -1,7 +1,7 @@
 -- Laws of full rows: by which tokens a line end stands behind one, and up to which token they are counted.
 use Rattle.std.specs.Prelude.{◌≡◌, ◌⊎◌, ◌↔◌, ℕ, List, ◌∷◌, ◌++◌, length, take, IsTrue}
 use Rattle.std.specs.List.{AllByRecursion}
-use Rattle.ans_model.specs.Sequence.TokenKind.{TokenKind, Glyph, Bell, CarriageReturn, Tab, Save, Colours, Wrap}
+use Rattle.ans_model.specs.Sequence.TokenKind.{TokenKind, Glyph, Bell, CarriageReturn, Tab, EraseLine, Save, Colours, Wrap}
 use Rattle.ans_model.specs.Screen.State.{Size, State}
 use Rattle.ans_model.specs.Screen.Step.{final}
 use Rattle.ans_model.specs.Screen.StartClass.{cleared}
@@ -13,6 +13,7 @@ use Rattle.ans_walks.specs.RowEnds.{Written, ended_by_line_feed, nothing_written
 abbrev pub IsQuiet : TokenKind → Type 0
 IsQuiet Bell = Unit {0}
 IsQuiet Save = Unit {0}
+IsQuiet EraseLine = Unit {0}
 IsQuiet (Colours parameters) = Unit {0}
 IsQuiet (Wrap on) = Unit {0}
 IsQuiet _ = ⊥

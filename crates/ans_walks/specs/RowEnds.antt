@@ -1,9 +1,9 @@
--- Rows as they are written, and their line ends. A line end is a line feed, or a return and then a line feed. Tokens
--- that neither print nor move may stand before it and inside it: colours, wrap, a save, a bell.
+-- Rows as they are written, and their line ends. A line end is a line feed, or a return and then a line feed. Colours,
+-- wrap, a save, a bell and an erased line may stand before it and inside it.
 use Rattle.std.specs.Prelude.{ℕ, ◌+◌, ◌-◌, ◌*◌, ◌≤◌, Bool, true, false, ◌&&◌, ◌==◌, nat_le, nat_lt, max, List, []}
 use Rattle.std.specs.Prelude.{◌∷◌, length, Option, None, Some, if◌then◌else◌}
 use Rattle.ans_model.specs.Sequence.TokenKind.{TokenKind, Glyph, Bell, LineFeed, CarriageReturn, Tab, Up, Down, Place}
-use Rattle.ans_model.specs.Sequence.TokenKind.{Clear, Save, Restore, Colours, Wrap}
+use Rattle.ans_model.specs.Sequence.TokenKind.{Clear, EraseLine, Save, Restore, Colours, Wrap}
 use Rattle.ans_model.specs.Screen.State.{Size, State}
 use Rattle.ans_model.specs.Screen.Step.{step}
 use Rattle.ans_walks.specs.Counted.{count_of, counted}
@@ -77,6 +77,7 @@ row_with z s offset row Clear = row_from z s Clear Other
 row_with z s offset row Restore = row_from z s Restore Other
 row_with z s offset row Bell = row
 row_with z s offset row Save = row
+row_with z s offset row EraseLine = row
 row_with z s offset row (Colours parameters) = row
 row_with z s offset row (Wrap on) = row
 row_with z s offset row _ = record row { seam = Other }
@@ -91,6 +92,7 @@ no_row_ends width = record {
   ended = None;
   full_before = 0;
   ended_before = 0;
+  line_ends = 0;
   over = record { times = None; widest = 0; as_wide = 0 };
   overprints = None;
   returns = false;
@@ -125,6 +127,7 @@ with_glyph ends offset wraps is_over = record (printed_behind ends) {
 -- a row ends with a line end
 abbrev pub with_end : RowEnds → EndedRow → RowEnds
 with_end ends row = record ends {
+  line_ends = ends.line_ends + 1;
   ended = counted ends.ended row.is_full row.offset;
   over = over_with ends.width ends.over row;
 }
@@ -166,11 +169,12 @@ nothing_written z = record { row = first_row; ends = no_row_ends z.width }
 abbrev pub are_all_ended : RowEnds → Bool
 are_all_ended ends = nat_le 2 ends.ended_before && ends.ended_before == ends.full_before
 
--- Three rows run over the edge and then end, none of them twice, and at least half of them are as wide as the widest.
+-- Three rows run over the edge and then end, none of them twice; they are at least half of all that end, and at least
+-- half of them are as wide as the widest.
 abbrev pub are_wider : RowEnds → ℕ → Bool
 are_wider ends count =
     nat_le 3 count && nat_le (ends.over.widest - ends.width) ends.width
-    && nat_le (count - ends.over.as_wide) ends.over.as_wide
+    && nat_le (ends.line_ends - count) count && nat_le (count - ends.over.as_wide) ends.over.as_wide
 
 -- the rows of a drawing that was made for more columns
 abbrev pub wider_of : RowEnds → Option Times → Option WiderRows
@@ -184,6 +188,7 @@ wider_rows ends = wider_of ends ends.over.times
 -- no more was counted than there are bytes so far
 pub record CountsRows (ends : RowEnds) (offset : ℕ) : Type 0 where
   pub full : ends.full ≤ offset
+  pub line_ends : ends.line_ends ≤ offset
   pub ended : count_of ends.ended ≤ offset
   pub over : count_of ends.over.times ≤ offset
   pub as_wide : ends.over.as_wide ≤ offset

@@ -1,11 +1,12 @@
 //! What the hints of tokens are about.
 
-ghost use Rattle.std.specs.Prelude.{◌≡◌, ◌≢◌, ◌≤◌, ◌∷◌, ◌&&◌, false, take, slice_index};
+ghost use Rattle.std.specs.Prelude.{◌≡◌, ◌≢◌, ◌≤◌, ◌∷◌, ◌&&◌, false, nat_lt, take, slice_index};
 ghost use Rattle.std.specs.List.{list_any};
 ghost use Rattle.std.specs.Str.{is_utf8};
 ghost use Rattle.ans_walks.specs.Conditions.{begins_with_pipe_number, begins_with_two_byte_letter, begins_with_wide};
 ghost use Rattle.ans_walks.specs.Conditions.{begins_with_x_number, is_digit, is_hex_digit, is_later_colour};
-ghost use Rattle.ans_walks.specs.Conditions.{is_latin_letter, is_letter, is_small_letter, wide_size};
+ghost use Rattle.ans_walks.specs.Conditions.{is_latin_letter, is_letter, is_second_byte, is_small_letter};
+ghost use Rattle.ans_walks.specs.Conditions.{wide_size};
 
 fn is_utf8(bytes: &[u8]) -> bool
     ensures { result ≡ is_utf8 bytes.now }
@@ -34,12 +35,23 @@ fn wide_size(first: u8) -> usize
     if first < 0xF0 { 3 } else { 4 }
 }
 
+/// Whether the first of the bytes, if there is one, stands before the shades and boxes of code page 437.
+#[inline(always)]
+fn is_below_shades(bytes: &[u8]) -> bool
+    ensures { result ≡ nat_lt (slice_index bytes.now 0) 0xB0 }
+{
+    match bytes {
+        [first, ..] => *first < 0xB0,
+        [] => true,
+    }
+}
+
 /// Whether the bytes begin with a character of UTF-8 (RFC 3629) that takes three bytes or four.
 #[inline(always)]
 pub(crate) fn begins_with_wide(first: u8, rest: &[u8]) -> bool
     ensures { result ≡ begins_with_wide (first ∷ rest.now) }
 {
-    first >= 0xE0 && front_is_utf8(first, rest, wide_size(first))
+    first >= 0xE0 && is_below_shades(rest) && front_is_utf8(first, rest, wide_size(first))
 }
 
 fn is_later_colour(number: u8) -> bool
@@ -67,12 +79,29 @@ pub(crate) fn is_letter(byte: u8) -> bool
     matches!(byte, b'A'..=b'Z' | b'a'..=b'z')
 }
 
+fn begins_with_letter(bytes: &[u8]) -> bool
+    ensures { result ≡ is_letter (slice_index bytes.now 0) }
+{
+    match bytes {
+        [first, ..] => is_letter(*first),
+        [] => false,
+    }
+}
+
+fn is_second_byte(byte: u8) -> bool
+    ensures { result ≡ is_second_byte byte }
+{
+    matches!(byte, 0x80..=0x96 | 0x98..=0xB6 | 0xB8..=0xBF)
+}
+
 /// Whether the bytes begin with a letter of Latin-1 in two bytes of UTF-8.
 pub(crate) fn begins_with_two_byte_letter(bytes: &[u8]) -> bool
     ensures { result ≡ begins_with_two_byte_letter bytes.now }
 {
     match bytes {
-        [0xC3, second, ..] => matches!(*second, 0x80..=0x96 | 0x98..=0xB6 | 0xB8..=0xBF),
+        [0xC3, second, rest @ ..] => {
+            is_second_byte(*second) && (*second < 0xB0 || begins_with_letter(rest))
+        }
         _ => false,
     }
 }
@@ -118,7 +147,7 @@ fn is_digit(byte: u8) -> bool
 fn is_hex_digit(byte: u8) -> bool
     ensures { result ≡ is_hex_digit byte }
 {
-    matches!(byte, b'0'..=b'9' | b'A'..=b'F' | b'a'..=b'f')
+    matches!(byte, b'0'..=b'9' | b'A'..=b'F')
 }
 
 /// Whether the bytes begin with the number of a pipe code, and a letter.

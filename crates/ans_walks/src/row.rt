@@ -24,7 +24,7 @@ pub(crate) struct EndedRow {
     pub(crate) is_full: bool,
 }
 
-/// What stands right behind in a row; tokens that neither print nor move may stand between.
+/// What stands right behind in a row; colours, wrap, a save, a bell and an erased line may stand between.
 #[derive(Debug, Clone, Copy, PartialEq, Eq)]
 pub(crate) enum Seam {
     /// Something else.
@@ -158,7 +158,7 @@ impl Row {
                     ..Row::FIRST
                 }
             }
-            Kind::Bell | Kind::Save | Kind::Colours(_) | Kind::Wrap(_) => {}
+            Kind::Bell | Kind::Save | Kind::EraseLine | Kind::Colours(_) | Kind::Wrap(_) => {}
             _ => self.seam = Seam::Other,
         }
     }

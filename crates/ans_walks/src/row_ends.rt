@@ -29,14 +29,16 @@ pub struct WiderRows {
 }
 
 /// What the ends of a drawing's rows tell. A *line end* is a line feed, or a return and then a line feed;
-/// a row is *full* where its last glyph wraps. Colours, wrap, a save or a bell may stand between the glyph
-/// and the line end, and between return and line feed.
+/// a row is *full* where its last glyph wraps. Colours, wrap, a save, a bell or an erased line may stand
+/// between the glyph and the line end, and between return and line feed.
 #[derive(Debug, Clone, Copy, PartialEq, Eq)]
 pub struct RowEnds {
     /// How many columns the screen has.
     pub width: usize,
     /// How many glyphs wrap: the full rows.
     pub full: usize,
+    /// How many line ends there are.
+    pub line_ends: usize,
     /// Full rows with a line end behind them, at the offset of the line end.
     pub ended: Option<Times>,
     /// How many rows were full when something was printed last.
@@ -80,6 +82,7 @@ impl RowEnds {
         RowEnds {
             width,
             full: 0,
+            line_ends: 0,
             ended: None,
             full_before: 0,
             ended_before: 0,
@@ -125,6 +128,7 @@ impl RowEnds {
         ensures rows { self.new ≡ with_end self.old row }
         ensures within { CountsRows self.new (offset + 1) }
     {
+        self.line_ends += 1;
         count(&mut self.ended, row.is_full, row.offset);
         self.over.end(self.width, row);
     }
@@ -138,14 +142,16 @@ impl RowEnds {
     }
 
     /// The rows of a drawing that was made for more columns: three rows run over the edge and then end,
-    /// none of them twice, and at least half of them are as wide as the widest. None where it is not so.
+    /// none of them twice, they are at least half of all that end, and at least half of them are as wide
+    /// as the widest. None where it is not so.
     pub fn wider_rows(&self) -> Option<WiderRows>
         ensures { result ≡ wider_rows self.now }
     {
         let times = self.over.times?;
         let is_regular = times.count.saturating_sub(self.over.as_wide) <= self.over.as_wide;
         let is_once_over = self.over.widest.saturating_sub(self.width) <= self.width;
-        if times.count >= 3 && is_once_over && is_regular {
+        let are_most = self.line_ends.saturating_sub(times.count) <= times.count;
+        if times.count >= 3 && is_once_over && are_most && is_regular {
             Some(WiderRows {
                 times,
                 columns: self.over.widest,

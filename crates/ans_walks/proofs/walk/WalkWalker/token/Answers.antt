@@ -25,6 +25,7 @@ returns-clause-ready c =
         loose_line_feeds = omega (arith, w.loose_line_feeds, c.start-offset.ensures);
         row_ends = record {
           full = omega (arith, w.row_ends.full, c.start-offset.ensures);
+          line_ends = omega (arith, w.row_ends.line_ends, c.start-offset.ensures);
           ended = omega (arith, w.row_ends.ended, c.start-offset.ensures);
           over = omega (arith, w.row_ends.over, c.start-offset.ensures);
           as_wide = omega (arith, w.row_ends.as_wide, c.start-offset.ensures);
