@@ -109,7 +109,7 @@ static FULL_ROWS: [Row; 19] = rows! {
     screen(4 x 3, b"abcd\x07\x1b[s\x1b[?7l\r\x1b[m\x07\nab") => full("once, at 13");
     screen(4 x 3, b"abcd\x1b[0m\nab") => full("once, at 8");
     screen(4 x 3, b"abcd\x1b[C\r\nab") => nothing;
-    screen(4 x 3, b"abcd\x1b[K\r\nab") => nothing;
+    screen(4 x 3, b"abcd\x1b[K\r\nab") => full("once, at 7");
     screen(4 x 3, b"abcd\x08\r\nab") => nothing;
     screen(4 x 3, b"abcd\r\r\nab") => nothing;
     screen(4 x 3, b"abcd\r\x1b[C\n\ra") => nothing;
@@ -118,7 +118,7 @@ static FULL_ROWS: [Row; 19] = rows! {
 };
 
 /// Three rows of one number of columns, or most of them, run over the edge, none of them twice.
-static WIDER_ROWS: [Row; 12] = rows! {
+static WIDER_ROWS: [Row; 14] = rows! {
     screen(4 x 6, b"abcde\r\nabcde\r\nabcde\r\n") => wider("3 times, first at 5", "5");
     screen(4 x 6, b"abcde\nabcde\nabcde") => loose("2 times, first at 5");
     screen(4 x 6, b"abcde\r\nabcde\r\nabcde") => nothing;
@@ -131,6 +131,8 @@ static WIDER_ROWS: [Row; 12] = rows! {
     screen(4 x 7, b"abcde\x1b[2;2Hb\r\nabcde\r\nabcde\r\n") => empty("last line");
     screen(4 x 7, b"\x1b[?7labcde\r\nabcde\r\nabcde\r\n") => over("3 times, first at 9") empty("last 4 lines");
     screen(4 x 7, b"abcd\r\nabcde\r\nabcde\r\n") => full("once, at 4") empty("last line");
+    screen(4 x 9, b"a\r\na\r\na\r\nabcde\r\nabcde\r\nabcde\r\n") => wider("3 times, first at 14", "5");
+    screen(4 x 10, b"a\r\na\r\na\r\na\r\nabcde\r\nabcde\r\nabcde\r\n") => nothing;
 };
 
 static OVERPRINTS: [Row; 8] = rows! {
@@ -144,12 +146,14 @@ static OVERPRINTS: [Row; 8] = rows! {
     screen(4 x 1, b"\x1b[?7labcd\tx") => nothing;
 };
 
-static FOREIGN_TEXT: [Row; 22] = rows! {
+static FOREIGN_TEXT: [Row; 25] = rows! {
     screen(9 x 1, b"Caf\xc3\xa9") => letter("once, at 3");
     screen(9 x 1, b"\xc3\x89l\xc3\xa8ve") => letter("once, at 3");
     screen(9 x 1, b"a\xc3\x97\xc3\xb7b") => nothing;
     screen(9 x 1, b"a\xc3\x7fb\xc3\xc0c\xc2\xa9") => nothing;
-    screen(9 x 1, b"a\xc3\x80b\xc3\xbf") => letter("2 times, first at 1");
+    screen(9 x 1, b"a\xc3\x80b\xc3\xbf") => letter("once, at 1");
+    screen(9 x 1, b"gr\xc3\xbcn\xc3\xaf") => letter("2 times, first at 2");
+    screen(9 x 1, b"e\xc3\xbf\xc4\xb4") => nothing;
     screen(9 x 1, b"[\xc3\xa9]") => nothing;
     screen(9 x 1, b"d\xe9j\xe0 vu") => latin("once, at 1");
     screen(9 x 1, b"\xfcber") => nothing;
@@ -163,13 +167,14 @@ static FOREIGN_TEXT: [Row; 22] = rows! {
     screen(9 x 1, b"|23a|24b") => board("once, at 0");
     screen(9 x 1, b"|1|12|7a|") => nothing;
     screen(9 x 1, b"|1aH||15b") => board("once, at 5");
-    screen(9 x 1, b"@X1fHi") => board("once, at 0");
+    screen(9 x 1, b"@X1FHi") => board("once, at 0");
+    screen(9 x 1, b"@X1fHi") => nothing;
     screen(9 x 1, b"@X0G@x1F@") => nothing;
-    screen(9 x 1, b"a@Xaa.org") => board("once, at 1");
+    screen(9 x 1, b"a@Xactor") => nothing;
     screen(9 x 1, b"a@bc.org") => nothing;
 };
 
-static WIDE_CHARACTERS: [Row; 13] = rows! {
+static WIDE_CHARACTERS: [Row; 15] = rows! {
     screen(9 x 1, b"\xe2\x96\x88") => wide("once, at 0");
     screen(9 x 1, b"a\xf0\x9f\x98\x80\xe2\x96\x88") => wide("2 times, first at 1");
     screen(9 x 1, b"\xed\x9f\xbf\xee\x80\x80\xf4\x8f") => wide("2 times, first at 0");
@@ -179,6 +184,8 @@ static WIDE_CHARACTERS: [Row; 13] = rows! {
     screen(9 x 1, b"\xed\xa0\x80") => nothing;
     screen(9 x 1, b"\xf0\x8f\xbf\xbf") => nothing;
     screen(9 x 1, b"\xf4\x90\x80\x80") => nothing;
+    screen(9 x 1, b"\xf0\xb0\xb1\xb2\xdb") => nothing;
+    screen(9 x 1, b"\xea\xb0\xb1") => nothing;
     screen(9 x 1, b"\xe2\x96") => nothing;
     screen(9 x 1, b"\xf0\x9f\x98") => nothing;
     screen(9 x 1, b"\xe2\x96\x07\x88") => nothing;
