@@ -63,9 +63,9 @@ COUNTED_HINTS = [
     ("blinking", "a character blinks", ": for bright backgrounds set the non-blink flag"),
 ]
 LATIN_LETTERS = "äèéêñòóôöü".encode("latin-1")
-LETTER_IN_UTF8 = re.compile(rb"[A-Za-z]\xc3[\x80-\x96\x98-\xb6\xb8-\xbf]")
+LETTER_IN_UTF8 = re.compile(rb"[A-Za-z]\xc3(?:[\x80-\x96\x98-\xaf]|[\xb0-\xb6\xb8-\xbf](?=[A-Za-z]))")
 LETTER_IN_LATIN1 = re.compile(rb"[a-z][" + LATIN_LETTERS + rb"][a-z]")
-BOARD_CODE = re.compile(rb"\|(?:[01][0-9]|2[0-3])[A-Za-z]|@X[0-9A-Fa-f]{2}")
+BOARD_CODE = re.compile(rb"\|(?:[01][0-9]|2[0-3])[A-Za-z]|@X[0-9A-F]{2}")
 KNOWN_FORMS = {
     "ANSI music": re.compile(rb"\x1b\[[MN|][A-Za-z0-9#+\-.<> ]{0,250}\x0e"),
     "a font selection": re.compile(rb"\x1b\[[0-9]+;[0-9]+ D"),
@@ -74,9 +74,9 @@ KNOWN_FORMS = {
     "the switch that hides or shows the cursor": re.compile(rb"\x1b\[\?25[hl]"),
     "a screen mode of DOS": re.compile(rb"\x1b\[=[0-9]+[hl]"),
 }
-# Tokens that neither print nor move, and tokens that move within a row, or erase.
-SILENT = {"bell", "save", "colours", "wrap"}
-IN_A_ROW = {"backspace", "tab", "C", "D", "erase"}
+# Tokens that may stand between a glyph and its line end, and tokens that move within a row.
+SILENT = {"bell", "save", "colours", "wrap", "erase"}
+IN_A_ROW = {"backspace", "tab", "C", "D"}
 RECORD_FAULTS = {
     1: "no SAUCE record", 2: "SAUCE version is not 00", 3: "not Character/ANSi", 4: "comment block missing",
     5: "number of lines not stated", 6: "width above 1024", 7: "lines above 8192", 8: "bytes after the end mark",
@@ -209,15 +209,15 @@ def mend_text(chance, content, width, lines, picture):
 class Rows:
     """The row that is being written, and the line ends before it.
 
-    A line end is a line feed, or a return and then a line feed. What neither prints nor moves may stand before it
-    and inside it. A row that ended is told by its offset, its columns, and whether its last glyph wrapped."""
+    A line end is a line feed, or a return and then a line feed. Silent tokens may stand before it and inside it. A row that ended is told by its offset, its columns, and whether its last glyph wrapped."""
 
     def __init__(self, width):
         self.width = width
         self.begun = self.wraps = 0
         # Of the last token that prints or moves: a glyph that wrapped, or stayed in the last column; a return.
         self.has_wrapped, self.is_stuck, self.returned = False, False, None
-        self.full, self.ended, self.over, self.overprints, self.returns = 0, [], [], [], False
+        self.full, self.line_ends = 0, 0
+        self.ended, self.over, self.overprints, self.returns = [], [], [], False
         # The full rows, and those with a line end, that something is printed behind.
         self.followed = 0, 0
 
@@ -243,6 +243,7 @@ class Rows:
             self.end(*row)
 
     def end(self, offset, columns, is_full):
+        self.line_ends += 1
         self.ended += [offset] if is_full else []
         self.over += [(offset, columns)] if columns > self.width else []
 
@@ -255,8 +256,9 @@ class Rows:
         """The columns of the drawing that these are the rows of, where it was made for more."""
         columns = [columns for _, columns in self.over]
         widest = max(columns, default=0)
-        is_so = len(columns) >= 3 and widest <= 2 * self.width and 2 * columns.count(widest) >= len(columns)
-        return widest if is_so else None
+        are_most = 2 * len(columns) >= self.line_ends
+        is_regular = widest <= 2 * self.width and 2 * columns.count(widest) >= len(columns)
+        return widest if len(columns) >= 3 and are_most and is_regular else None
 
     def all_end(self):
         return self.followed[1] >= 2 and self.followed[0] == self.followed[1]
@@ -267,9 +269,9 @@ class Rows:
 
 
 def is_wide(text):
-    """The bytes begin with a character that takes three or four bytes in UTF-8."""
+    """The bytes begin with a character that takes three or four bytes in UTF-8, and the second is no shade."""
     try:
-        return bool(text) and text[0] >= 0xE0 and bool(text[:3 if text[0] < 0xF0 else 4].decode())
+        return len(text) > 1 and text[0] >= 0xE0 and text[1] < 0xB0 and bool(text[:3 if text[0] < 0xF0 else 4].decode())
     except UnicodeDecodeError:
         return False
 

@@ -156,6 +156,8 @@ MISTAKES = [
             (below(873), full(20, 97), EMPTY_LAST, "lines: 40 as it is")),
     Drawing("full rows with a colour between CR and LF", SAFE + rows(80, b"\r\x1b[0m\n"),
             (below(873), full(20, 93), EMPTY_LAST, "lines: 40 as it is")),
+    Drawing("full rows with an erased line before CR LF", SAFE + rows(80, b"\x1b[K\r\n"),
+            (below(863), full(20, 96), EMPTY_LAST, "lines: 40 as it is")),
     Drawing("full rows with LF", SAFE + rows(80, b"\n"),
             (below(823), full(20, 93), EMPTY_LAST, "lines: 40 as it is")),
     Drawing("130 columns, and 80 stated", SAFE + rows(130), (below(1333), wider(20, 143, 130), "lines: 40 as it is")),
@@ -233,11 +235,15 @@ MEANT = [
     Drawing("a table with rules, and rows under each", SAFE + b"".join(
         table_of("  " + name) + rows(60, count=2) for name in ("Monday", "Friday", "Sunday", "Holiday", "Someday")
     )),
+    Drawing("a table with headings of one length under its rules, and rows under each", SAFE + b"".join(
+        table_of("  Name     Size     Date") + rows(60, count=2) for _ in range(5)
+    )),
     Drawing("letters of code page 437", SAFE + texts(WORDS)),
     Drawing("Greek letters", SAFE + texts("  2πr, Σx = 0, 5 kΩ, απδ, ±2, sin φ, σ², 5 µm, a ≤ b, √n")),
-    Drawing("titles in boxes", SAFE + texts("╔═╡Name╞═╗ ┌─┤Size├─┐ ║Date║ │Time│ ░Day▒")),
+    Drawing("titles in boxes", SAFE + texts("╔═╡Name╞═╗ ┌─┤Size├─┐ ║Date║ │Time│ ░Day▒ ┌─┤Size├┐")),
+    Drawing("shades behind a sign", SAFE + texts("≡░▒▓█ α▒▒ π░░")),
     Drawing("a calendar", SAFE + texts("| 1 | 02 |03|04|05 | Mo|Tu|07|")),
-    Drawing("addresses", SAFE + texts("sysop@example.org, @home, @ X1F, me@Xanadu")),
+    Drawing("addresses", SAFE + texts("sysop@example.org, @home, @ X1F, me@Xanadu, me@Xactly")),
     Drawing("wrap off, rows up to the edge with CR LF", SAFE + b"\x1b[?7l" + rows(80)),
     Drawing("sixteen colours", SAFE + rows(60, b"\x1b[0;1;31;44m\r\n")),
     Drawing("bright backgrounds with their flag", SAFE + b"\x1b[5;44m" + rows(60), flags=1),
@@ -253,9 +259,8 @@ SPOKEN_OF = [
     Drawing("a table with headings of one length under its rules", SAFE + table_of(*["  Name     Size     Date"] * 10),
             (wider(10, 117, 104),)),
     Drawing("a blank row by the line end of a full one", SAFE + rows([60] * 17 + [80, 60], count=19), (full(1, 1147),)),
-    Drawing("a title at the edge of its box", SAFE + texts("┌─┤Size├┐"), (foreign("a letter is in UTF-8", 20, 20),)),
+    Drawing("titles edge to edge", SAFE + texts("┤Size├┤Date├"), (foreign("a letter is in UTF-8", 20, 18),)),
     Drawing("a sign between letters", SAFE + texts("  x≤y"), (foreign("a letter is in Latin-1", 20, 16),)),
-    Drawing("shades behind a sign", SAFE + texts("≡░▒▓█"), (foreign("a character is in UTF-8", 20, 13),)),
     Drawing("a calendar without blanks", SAFE + texts("|01Mo|02Tu|03We"), (board(60, 13),)),
 ]
 
