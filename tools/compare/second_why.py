@@ -209,7 +209,8 @@ def mend_text(chance, content, width, lines, picture):
 class Rows:
     """The row that is being written, and the line ends before it.
 
-    A line end is a line feed, or a return and then a line feed. Silent tokens may stand before it and inside it. A row that ended is told by its offset, its columns, and whether its last glyph wrapped."""
+    A line end is a line feed, or a return and then a line feed. Silent tokens may stand before it and inside it. A
+    row that ended is told by its offset, its columns, and whether its last glyph wrapped."""
 
     def __init__(self, width):
         self.width = width

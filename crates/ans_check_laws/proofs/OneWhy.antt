@@ -285,8 +285,8 @@ module _ (file_length : ℕ) (sauce bytes : List ℕ) (p q : Pass) (h : IsPass f
   one_pass : (noted : List Note) → pass_said sauce noted p.needs p.taller (reliance_lines p.reliance) p.hints
       ≡ pass_said sauce noted q.needs q.taller (reliance_lines q.reliance) q.hints
   one_pass noted =
-      same_pass_said sauce noted p.needs q.needs p.taller q.taller (reliance_lines p.reliance) (reliance_lines q.reliance)
-      p.hints q.hints same_needs same_taller same_relied same_pass_hints
+      same_pass_said sauce noted p.needs q.needs p.taller q.taller (reliance_lines p.reliance)
+      (reliance_lines q.reliance) p.hints q.hints same_needs same_taller same_relied same_pass_hints
 
 -- ---- the text
 

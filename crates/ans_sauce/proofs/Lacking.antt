@@ -1,5 +1,5 @@
 -- A file that lacks nothing but its lines.
-use Rattle.std.proofs.Common.{◌≡◌, ℕ, ◌-◌, Bool, true, false, not, nat_lt, List, length, take, sym, ap, ap₂, ◌∙◌}
+use Rattle.std.proofs.Common.{◌≡◌, ℕ, ◌-◌, Bool, false, not, nat_lt, List, length, take, sym, ap, ap₂, ◌∙◌}
 use Rattle.std.proofs.Common.{Option}
 use Rattle.std.specs.Prelude.{is_some}
 use Rattle.std.specs.List.{list_all, position}

@@ -1,5 +1,6 @@
 //! How a file is laid out, and which files are refused.
-ghost use Rattle.std.specs.Prelude.{◌≡◌, ◌≤◌, ◌-◌, not, length, is_some, IsFalse, IfOk, IfErr, IfSome, IfNone, Some, take};
+ghost use Rattle.std.specs.Prelude.{◌≡◌, ◌≤◌, ◌-◌, not, length, is_some, IsFalse, IfOk, IfErr, IfSome, IfNone};
+ghost use Rattle.std.specs.Prelude.{Some, take};
 ghost use Rattle.ans_model.specs.File.Record.{comment_count};
 ghost use Rattle.std.specs.List.{position};
 ghost use Rattle.ans_model.specs.File.Layout.{content, after_content, is_end_mark};

@@ -17,8 +17,8 @@ loose_line_feed z s _ rest = false
 abbrev pub wide_size : ℕ → ℕ
 wide_size first = if nat_lt first 0xF0 then 3 else 4
 
--- The bytes begin with such a character. One whose second byte is from B0h on is none to speak of: in code page 437 these
--- are shades and boxes, and stand behind other characters by intent.
+-- The bytes begin with such a character. One whose second byte is from B0h on is none to speak of: in code page 437
+-- these are shades and boxes, and stand behind other characters by intent.
 abbrev pub begins_with_wide : List ℕ → Bool
 begins_with_wide bytes =
     nat_le 0xE0 (slice_index bytes 0) && nat_lt (slice_index bytes 1) 0xB0

@@ -12,8 +12,8 @@ use Rattle.ans_walks.specs.RowMoves.{moves_rows}
 use Rattle.ans_walks.specs.declared.hints.Hints.{Hints}
 
 -- The hints of bytes that are read as these tokens with these texts, in the play from the cleared start. Other bytes
--- may stand behind them: no token there counts, but what stands there tells of the tokens before it. A letter of UTF-8 or
--- of Latin-1 has its own offset, one byte after the letter before it.
+-- may stand behind them: no token there counts, but what stands there tells of the tokens before it. A letter of UTF-8
+-- or of Latin-1 has its own offset, one byte after the letter before it.
 pub record AreHints (z : Size) (non_blink : Bool) (tokens : List TokenKind) (texts : List (List ℕ)) (behind : List ℕ)
     (hints : Hints) : Type 0 where
   pub loose_line_feeds : hints.loose_line_feeds ≡ times_of (places loose_line_feed z (cleared z) 0 tokens texts behind)

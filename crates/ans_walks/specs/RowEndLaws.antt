@@ -1,7 +1,8 @@
 -- Laws of full rows: by which tokens a line end stands behind one, and up to which token they are counted.
 use Rattle.std.specs.Prelude.{◌≡◌, ◌⊎◌, ◌↔◌, ℕ, List, ◌∷◌, ◌++◌, length, take, IsTrue}
 use Rattle.std.specs.List.{AllByRecursion}
-use Rattle.ans_model.specs.Sequence.TokenKind.{TokenKind, Glyph, Bell, CarriageReturn, Tab, EraseLine, Save, Colours, Wrap}
+use Rattle.ans_model.specs.Sequence.TokenKind.{TokenKind, Glyph, Bell, CarriageReturn, Tab, EraseLine, Save}
+use Rattle.ans_model.specs.Sequence.TokenKind.{Colours, Wrap}
 use Rattle.ans_model.specs.Screen.State.{Size, State}
 use Rattle.ans_model.specs.Screen.Step.{final}
 use Rattle.ans_model.specs.Screen.StartClass.{cleared}

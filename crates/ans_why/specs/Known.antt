@@ -8,8 +8,8 @@ use Rattle.ans_model.specs.declared.fault.Cause.TheVariants.{KeyReassigned}
 use Rattle.ans_model.specs.File.Layout.{is_end_mark}
 use Rattle.ans_why.specs.declared.known_bytes.Known.{Known}
 use Rattle.ans_why.specs.declared.known_bytes.Known.TheVariants.{Music, FontSelection, TrueColour, BrightBackgrounds}
-use Rattle.ans_why.specs.declared.known_bytes.Known.TheVariants.{CursorSwitch, DosMode, ReassignedKey, UncountedComments}
-use Rattle.ans_why.specs.declared.known_bytes.Known.TheVariants.{OlderRecord, Arrow}
+use Rattle.ans_why.specs.declared.known_bytes.Known.TheVariants.{CursorSwitch, DosMode, ReassignedKey}
+use Rattle.ans_why.specs.declared.known_bytes.Known.TheVariants.{UncountedComments, OlderRecord, Arrow}
 use Rattle.ans_why.specs.declared.known_bytes.Piece.{Piece}
 use Rattle.ans_why.specs.declared.known_bytes.Piece.TheVariants.{Byte, Either, MusicLetter, Digits, Notes}
 use Rattle.ans_why.specs.declared.known_bytes.TheConstants.{MUSIC, FONT_SELECTION, TRUE_COLOUR, BRIGHT_BACKGROUNDS}

@@ -125,7 +125,8 @@ static WIDER_ROWS: [Row; 14] = rows! {
     screen(4 x 8, b"abcde\r\nabcdef\r\nabcdef\r\nabcde\r\n") => wider("4 times, first at 5", "6");
     screen(4 x 8, b"abcde\r\nabcdef\r\nabcde\r\n") => empty("last 2 lines");
     screen(4 x 9, b"abcde\r\nabcde\r\nabcde\r\nabcdefghi\r\n") => nothing;
-    screen(4 x 8, b"abcdefgh\r\nabcdefgh\r\nabcdefgh\r\n") => full("3 times, first at 8") wider("3 times, first at 8", "8");
+    screen(4 x 8, b"abcdefgh\r\nabcdefgh\r\nabcdefgh\r\n")
+        => full("3 times, first at 8") wider("3 times, first at 8", "8");
     screen(4 x 6, b"abc\x1b[C\x1b[De\r\nabcde\r\nabcde\r\n") => empty("last line");
     screen(4 x 6, b"\x1b[Cbcde\r\nabcd\x1b[0me\r\nabcde\r\x07\n") => wider("3 times, first at 7", "5");
     screen(4 x 7, b"abcde\x1b[2;2Hb\r\nabcde\r\nabcde\r\n") => empty("last line");

@@ -1,4 +1,4 @@
-use Rattle.std.proofs.Common.{ℕ, List, length, refl, ap, subst}
+use Rattle.std.proofs.Common.{ℕ, List, refl, subst}
 use Rattle.std.specs.Prelude.{◌↔◌, IsTrue}
 use Rattle.ans_sauce.specs.Found.{HoldsRecord}
 use Rattle.ans_sauce.proofs.FoundLemmas.{some_last}

@@ -50,8 +50,8 @@ returns-clause-ready c =
 pub returns-clause-walked : goal.returns-clause-walked
 returns-clause-walked c first front text next h =
     let kept = c.look.ensures.kept in
-    walked_token first c.args.self.now front _ text _ h next.whole _ c.start-offset.result (c.start-offset.ensures ∙ next.starts)
-    (ap (λ (w : Walk). w.size) kept) (ap (λ (w : Walk). w.non_blink) kept)
+    walked_token first c.args.self.now front _ text _ h next.whole _ c.start-offset.result
+    (c.start-offset.ensures ∙ next.starts) (ap (λ (w : Walk). w.size) kept) (ap (λ (w : Walk). w.non_blink) kept)
     (λ s e. subst (λ (z : Size). c.step.new.self ≡ pen_of (step z s (shown_kind (kind_of c.args.token.now))))
     (ap (λ (w : Walk). w.size) kept)
     (rw c.kind-kind.ensures at (c.step.ensures.pen s (ap (λ (w : Walk). w.pen) kept ∙ e))))
