@@ -133,7 +133,8 @@ pub(crate) fn may_be_foreign(byte: u8, behind: &[u8]) -> bool
     ensures at { result ≡ false → byte ≢ 0x40 }
 {
     match behind {
-        [next, ..] if *next >= 0xC3 => true,
+        // Not the blocks, which many drawings are made of.
+        [next, ..] if matches!(*next, 0xC3 | 0xE4..=0xFF) => true,
         _ => matches!(byte, b'|' | b'@'),
     }
 }
