@@ -1,5 +1,5 @@
 -- A pen: what is kept of a state, which is all but its screen.
-use Rattle.std.specs.Prelude.{◌-◌, fold, replicate}
+use Rattle.std.specs.Prelude.{◌+◌, ◌-◌, Bool, ◌&&◌, ◌==◌, fold, replicate}
 use Rattle.ans_model.specs.Bytes.{blank}
 use Rattle.ans_model.specs.Screen.State.{Size, State, IsOnScreen, sized}
 use Rattle.ans_model.specs.Screen.Step.{put, tab_blanks}
@@ -18,6 +18,10 @@ cleared_pen = pen_of (cleared (sized 0 0))
 pub record StandsOn (z : Size) (pen : Pen) : Type 0 where
   pub cursor : IsOnScreen z pen.cursor
   pub saved : IsOnScreen z pen.saved
+
+-- a glyph that is printed next wraps
+abbrev pub glyph_wraps : Size → Pen → Bool
+glyph_wraps z pen = pen.cursor.column + 1 == z.width && pen.wrap
 
 -- the state before the last blank of a tab
 abbrev pub before_last_blank : Size → State → State

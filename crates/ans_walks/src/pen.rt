@@ -5,7 +5,7 @@ ghost use Rattle.ans_model.specs.Bytes.{blank};
 ghost use Rattle.ans_model.specs.Screen.State.{Size, State};
 ghost use Rattle.ans_model.specs.Screen.Step.{advanced, line_feed, put, step};
 ghost use Rattle.ans_model.specs.Inside.ShownKind.{shown_kind};
-ghost use Rattle.ans_walks.specs.Pens.{pen_of, cleared_pen, before_last_blank, StandsOn};
+ghost use Rattle.ans_walks.specs.Pens.{pen_of, cleared_pen, before_last_blank, glyph_wraps, StandsOn};
 
 use ans_model::attribute::attribute_after_all;
 use ans_model::cell::Position;
@@ -37,6 +37,13 @@ impl Pen {
             attribute: 0x07,
             wrap: true,
         }
+    }
+
+    /// Whether a glyph that is printed next wraps.
+    pub(crate) fn glyph_wraps(&self, size: Size) -> bool
+        ensures { result ≡ glyph_wraps size self.now }
+    {
+        self.cursor.column == size.width() - 1 && self.wrap
     }
 
     /// One row down; in the spare row it stays.

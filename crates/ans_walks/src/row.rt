@@ -7,7 +7,7 @@ ghost use Rattle.ans_model.specs.Inside.ShownKind.{shown_kind};
 ghost use Rattle.ans_model.specs.Screen.State.{State};
 ghost use Rattle.ans_model.specs.Screen.Step.{step};
 ghost use Rattle.ans_walks.specs.Pens.{pen_of, StandsOn};
-ghost use Rattle.ans_walks.specs.RowEnds.{ended_by_line_feed, is_stuck, row_up_to, row_with, wraps};
+ghost use Rattle.ans_walks.specs.RowEnds.{ended_by_line_feed, is_stuck, row_up_to, row_with};
 
 use crate::pen::Pen;
 use ans_model::kind::Kind;
@@ -45,14 +45,6 @@ pub(crate) struct Row {
     /// How many of its glyphs have wrapped.
     pub(crate) wraps: usize,
     pub(crate) seam: Seam,
-}
-
-/// Whether a glyph that is printed next wraps.
-#[inline(always)]
-pub(crate) fn wraps(size: Size, pen: &Pen) -> bool
-    ensures { (s : State) → pen.now ≡ pen_of s → result ≡ wraps size s }
-{
-    pen.cursor.column == size.width() - 1 && pen.wrap
 }
 
 impl Row {

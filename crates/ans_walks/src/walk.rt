@@ -1,6 +1,6 @@
 //! A walk over the tokens of a content that finds its hints.
 
-ghost use Rattle.std.specs.Prelude.{◌≡◌, ◌+◌, ◌-◌, ◌<◌, ◌≤◌, ◌&&◌, ◌||◌, ◌==◌, min, slice_index};
+ghost use Rattle.std.specs.Prelude.{◌≡◌, ◌+◌, ◌-◌, ◌<◌, ◌≤◌, ◌&&◌, ◌||◌, ◌==◌, false, min, slice_index};
 ghost use Rattle.ans_model.specs.Bytes.{longest_file};
 ghost use Rattle.ans_model.specs.Sequence.TokenKind.{Glyph, LineFeed};
 ghost use Rattle.ans_model.specs.Screen.State.{State};
@@ -8,7 +8,8 @@ ghost use Rattle.ans_model.specs.Inside.ShownKind.{shown_kind};
 ghost use Rattle.ans_walks.specs.Conditions.{begins_with_pipe_number, begins_with_two_byte_letter, is_latin_letter};
 ghost use Rattle.ans_walks.specs.Conditions.{begins_with_x_number, is_letter, is_small_letter};
 ghost use Rattle.ans_walks.specs.Counted.{counted};
-ghost use Rattle.ans_walks.specs.Pens.{pen_of};
+ghost use Rattle.ans_walks.specs.Pens.{glyph_wraps, pen_of};
+ghost use Rattle.ans_walks.specs.RowEnds.{is_stuck, with_glyph, CountsRows};
 ghost use Rattle.ans_walks.specs.Walks.{IsAt, CountsWithin, hints_with};
 
 use crate::conditions::{
@@ -18,7 +19,7 @@ use crate::conditions::{
 };
 use crate::hints::Hints;
 use crate::pen::Pen;
-use crate::row::{Row, wraps};
+use crate::row::Row;
 use crate::times::count;
 use ans_model::kind::Kind;
 use ans_model::size::Size;
@@ -60,7 +61,9 @@ impl Walk {
         } }
     {
         let below = self.size.lines().saturating_sub(row + 1);
-        self.hints.empty_rows = self.hints.empty_rows.min(below);
+        if below < self.hints.empty_rows {
+            self.hints.empty_rows = below;
+        }
     }
 
     /// A glyph before a letter of another system, or at a code of one.
@@ -115,6 +118,52 @@ impl Walk {
         }
     }
 
+    /// Whether the next glyph may be printed in the last column, or over the one before it.
+    #[inline(always)]
+    fn is_at_edge(&self) -> bool
+        ensures inside { result ≡ false → glyph_wraps self.now.size self.now.pen ≡ false }
+        ensures beside { result ≡ false → is_stuck self.now.row.seam ≡ false }
+    {
+        self.pen.cursor.column == self.size.width() - 1 || self.row.is_stuck()
+    }
+
+    #[inline(never)]
+    fn glyph_at_edge(&mut self, offset: usize)
+        requires room { offset < longest_file }
+        requires within { CountsRows self.old.hints.row_ends offset }
+        ensures within { CountsRows self.new.hints.row_ends (offset + 1) }
+        ensures hints { self.new ≡ record self.old {
+          hints = record self.old.hints {
+            row_ends = with_glyph self.old.hints.row_ends offset
+                (glyph_wraps self.old.size self.old.pen) (is_stuck self.old.row.seam);
+          };
+        } }
+    {
+        let wraps = self.pen.glyph_wraps(self.size);
+        let is_over = self.row.is_stuck();
+        self.hints.row_ends.glyph(offset, wraps, is_over);
+    }
+
+    /// A glyph of its row; most stand inside.
+    #[inline(always)]
+    fn glyph_in_row(&mut self, offset: usize)
+        requires room { offset < longest_file }
+        requires within { CountsRows self.old.hints.row_ends offset }
+        ensures within { CountsRows self.new.hints.row_ends (offset + 1) }
+        ensures hints { self.new ≡ record self.old {
+          hints = record self.old.hints {
+            row_ends = with_glyph self.old.hints.row_ends offset
+                (glyph_wraps self.old.size self.old.pen) (is_stuck self.old.row.seam);
+          };
+        } }
+    {
+        if self.is_at_edge() {
+            self.glyph_at_edge(offset);
+        } else {
+            self.hints.row_ends.print();
+        }
+    }
+
     #[inline(always)]
     fn glyph(&mut self, offset: usize, byte: u8, behind: &[u8])
         requires room { offset < longest_file }
@@ -124,12 +173,10 @@ impl Walk {
         ensures hints { (s : State) → self.old.pen ≡ pen_of s
             → self.new.hints ≡ hints_with self.old s offset (Glyph byte) behind.now }
     {
-        let wraps = wraps(self.size, &self.pen);
-        let is_over = self.row.is_stuck();
         let wide = begins_with_wide(byte, behind);
         let blinks = !self.non_blink && self.pen.attribute >= 0x80;
         self.foreign(offset, byte, behind);
-        self.hints.row_ends.glyph(offset, wraps, is_over);
+        self.glyph_in_row(offset);
         count(&mut self.hints.wide_characters, wide, offset);
         count(&mut self.hints.blinking_glyphs, blinks, offset);
         self.print_in(self.pen.cursor.row);
