@@ -15,6 +15,7 @@ fn is_utf8(bytes: &[u8]) -> bool
 }
 
 /// Whether the first `count` bytes, or all where there are fewer, are UTF-8.
+#[cold]
 #[inline(never)]
 fn front_is_utf8(first: u8, rest: &[u8], count: usize) -> bool
     requires some { 1 ≤ count }

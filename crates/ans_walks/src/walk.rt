@@ -67,6 +67,7 @@ impl Walk {
     }
 
     /// A glyph before a letter of another system, or at a code of one.
+    #[cold]
     #[inline(never)]
     fn count_foreign(&mut self, offset: usize, byte: u8, behind: &[u8])
         requires room { offset < longest_file }
@@ -127,6 +128,7 @@ impl Walk {
         self.pen.cursor.column == self.size.width() - 1 || self.row.is_stuck()
     }
 
+    #[cold]
     #[inline(never)]
     fn glyph_at_edge(&mut self, offset: usize)
         requires room { offset < longest_file }
