@@ -12,13 +12,13 @@ const MENDS = Object.fromEntries(
 // How it is mended where `why` knows what the bytes are, by what its line `is:` says.
 const KNOWN_MENDS = {
   "ANSI music": "take the sequence out with its notes, up to the byte 0Eh and with it.",
-  "a font selection": "take the sequence out. The font is named in the record.",
+  "a font selection": "take the sequence out, and name the font in the record.",
   "a 24-bit colour": "save the drawing with the 16 colours of DOS, or take the sequence out.",
   "the switch for bright backgrounds": "take the sequence out, and set the record's non-blink flag, iCE colours.",
   "the switch that hides or shows the cursor": "take the sequence out. It draws nothing.",
   "a screen mode of DOS": "take the sequence out. The size of the screen stands in the record.",
   "a reassigned key": "take the sequence out with all between its quotes, and be wary of where the file came from.",
-  "comments that the record does not count": "set the number of comments in the record, or cut the comments out.",
-  "an older record": "cut out what stands from that byte up to the last record.",
+  "comments that the record does not count": "if the record counts no comments, set their number in it; else cut these out.",
+  "an older record": "cut out what stands from that byte up to the comments of the last record, or up to that record where it counts none.",
   "an arrow in the drawing": "choose another character for the arrow, as > or the byte 10h: 1Ah ends the drawing.",
 };

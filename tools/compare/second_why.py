@@ -391,7 +391,8 @@ def known_behind(behind):
     rest = behind.lstrip(b"\x1a")
     if rest.startswith(b"COMNT") and len(rest) > 5 and len(rest) % 64 == 5:
         return "comments that the record does not count"
-    return "an arrow in the drawing" if any(byte > 0x20 for byte in rest) else None
+    is_drawing = not rest.startswith((b"COMNT", b"SAUCE")) and any(byte > 0x20 for byte in rest)
+    return "an arrow in the drawing" if is_drawing else None
 
 
 def has_whole_record(behind):

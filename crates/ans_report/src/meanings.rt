@@ -26,8 +26,8 @@ set the two bytes to 00.
 ";
 
 const F3: &str = "\
-The record says that the file is something else than a still ANSI drawing: its
-data type has to be 1, Character, and its file type 1, ANSi.
+The record says that the file is something other than a still ANSI drawing:
+its data type has to be 1, Character, and its file type 1, ANSi.
 
 To mend it, set both bytes to 1 if the file is a plain text or a still drawing
 all the same. From an animation or another format, export a still ANSI drawing.
@@ -90,8 +90,9 @@ A number is at most 255, what fits into one byte. Programs differ in what they
 make of a larger one.
 
 To mend it, write a carriage return (0Dh) for ESC[999D, the way to the left,
-and ESC[255C for ESC[999C, the way to the right. What switches a later
-terminal's screen, as ESC[?1049h, does nothing for a drawing: take it out.
+and ESC[255C for ESC[999C, the way to the right, more than once where a row has
+more than 256 columns. What switches a later terminal's screen, as ESC[?1049h,
+does nothing for a drawing: take it out.
 ";
 
 const F11: &str = "\
@@ -99,7 +100,7 @@ A sequence has at most 16 numbers, its parameters. Programs have room for so
 many, and differ in how many.
 
 To mend it, write two sequences for the one. Colours are set one after the
-other, so that is the same.
+other, so the result is the same.
 ";
 
 const F12: &str = "\
@@ -141,8 +142,8 @@ The sequence switches something of the reader's screen: bright backgrounds,
 whether the cursor shows, or a screen mode of DOS.
 
 To mend it, take the sequence out. Bright backgrounds, the iCE colours, are set
-in the record's flags: bit 0 of byte 105. To hide the cursor does nothing for a
-drawing, and the size of the screen stands in the record.
+in the record's flags: bit 0 of byte 105. Hiding the cursor changes nothing in
+a drawing, and the size of the screen stands in the record.
 ";
 
 const F17: &str = "\

@@ -9,8 +9,8 @@ ghost use Rattle.ans_sauce.specs.WithoutLines.{IsWithoutLines, lacks_lines_alone
 use crate::layout::{body_before, cut_content, cut_record, first_other_byte};
 use crate::record::Record;
 
-/// The content and the record of a file that is refused for F5, and would not be for F6 or F8: only its
-/// lines are not stated.
+/// The content and the record of a file that, if it is refused for F5, lacks nothing else: neither F6
+/// nor F8 would follow.
 #[derive(Debug, Clone, Copy)]
 pub struct WithoutLines<'a> {
     /// The bytes up to the first end mark, the comment block or the record.
@@ -19,7 +19,8 @@ pub struct WithoutLines<'a> {
 }
 
 /// What there is of a file but for its lines, where it has a record, its width is within the limit, and
-/// nothing but end marks follows its content. It takes no memory.
+/// nothing but end marks follows its content. That it is refused for F5 is the caller's to know: version,
+/// kind, comments and lines are not looked at. It takes no memory.
 pub fn without_lines(file: &[u8]) -> Option<WithoutLines<'_>>
     ensures some { IfSome result (IsWithoutLines file.now) }
     ensures lacks { IfSome result (λ found. lacks_lines_alone file.now ≡ true) }

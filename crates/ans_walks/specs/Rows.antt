@@ -6,7 +6,7 @@ use Rattle.ans_model.specs.Screen.Step.{step}
 use Rattle.ans_model.specs.Screen.StartClass.{cleared}
 use Rattle.ans_walks.specs.Pens.{before_last_blank}
 
--- How many of the stated lines lie below all that is printed: by the tokens so far, and by this one. The last blank of
+-- How many lines of the size lie below all that is printed: by the tokens so far, and by this one. The last blank of
 -- a tab is its lowest.
 abbrev pub empty_with : Size → State → ℕ → TokenKind → ℕ
 empty_with z s empty (Glyph byte) = min empty (z.lines - (s.cursor.row + 1))

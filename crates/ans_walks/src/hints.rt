@@ -24,7 +24,7 @@ pub struct Hints {
     pub wide_characters: Option<Times>,
     /// Letters of Latin-1 in two bytes of UTF-8, behind a letter.
     pub two_byte_letters: Option<Times>,
-    /// Small letters of Latin-1 in one byte, between small letters.
+    /// The letters ä è é ê ñ ò ó ô ö ü of Latin-1 in one byte, between small letters.
     pub latin_letters: Option<Times>,
     /// Colour codes of programs for bulletin boards, `|07` and `@X1F`, that are printed.
     pub board_codes: Option<Times>,
@@ -32,7 +32,7 @@ pub struct Hints {
     pub later_colours: Option<Times>,
     /// Glyphs that blink.
     pub blinking_glyphs: Option<Times>,
-    /// How many of the stated lines lie below all that is printed.
+    /// How many lines of the given size lie below all that is printed.
     pub empty_rows: usize,
     /// Whether some sequence moves the cursor up or down by rows. It is no hint and has no line.
     pub moves_rows: bool,
@@ -40,9 +40,11 @@ pub struct Hints {
 
 impl Hints {
     /// The hints of the first bytes of a content, as many as `end` says, which are read as tokens: of
-    /// all of a content that passes, or of a refused one up to the end of the token to blame. What
-    /// stands behind them tells of the last of them. Glyphs that blink are none where the record sets
-    /// the non-blink flag. It takes no memory, and reads the bytes once.
+    /// all of a content, or of a refused one up to the end of the token to blame, or up to the sequence
+    /// that means nothing. What stands behind them tells of the last of them. Where these bytes are not
+    /// read as tokens, nothing is promised. Offsets are in bytes from the content's start. Glyphs that
+    /// blink are none where the record sets the non-blink flag. It takes no memory, and reads the bytes
+    /// once.
     pub fn of(size: Size, non_blink: bool, content: &[u8], end: usize) -> Hints
         requires length { length content.now ≤ longest_file }
         requires end { end ≤ length content.now }

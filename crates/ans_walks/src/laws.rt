@@ -44,8 +44,8 @@ pub fn rows_at_the_end_are_empty()
 {}
 
 /// A line feed ends a full row exactly where the tokens before it end in a glyph that wraps, or in such
-/// a glyph and then a return. A bell, a save, colours and wrap may stand behind each of the two, and
-/// nothing else.
+/// a glyph and then a return. A bell, a save, colours, wrap and an erased line may stand behind each of
+/// the two, and nothing else.
 pub fn full_rows_end_in_a_line_end()
     ensures { LineFeedEndsFullRow }
 {}

@@ -37,7 +37,7 @@ font_line field =
     ++ (shown_bytes (font_name field) ++ codes " is not one of code page 437, so other characters may show"))
     else []
 
--- the stated lines below all that is printed
+-- the lines below all that is printed
 abbrev pub empty_rows_line : ℕ → List ℕ
 empty_rows_line rows =
     if rows == 0 then []

@@ -92,12 +92,18 @@ abbrev pub is_comment_block : List ℕ → Bool
 is_comment_block bytes =
     starts_with nat_eq bytes (codes "COMNT") && nat_lt 5 (length bytes) && (length bytes - 5) % 64 == 0
 
+-- They begin neither as comments do nor as a record does, and print something.
+abbrev pub may_be_drawing : List ℕ → Bool
+may_be_drawing bytes =
+    not (starts_with nat_eq bytes (codes "COMNT")) && not (starts_with nat_eq bytes (codes "SAUCE"))
+    && list_any (λ b. nat_lt 0x20 b) bytes
+
 -- the bytes behind the first end mark, among which a record stands or not
 abbrev pub known_behind_end_mark : Bool → List ℕ → Option Known
 known_behind_end_mark true bytes = Some OlderRecord
 known_behind_end_mark false bytes =
     if is_comment_block (behind_end_marks bytes) then Some UncountedComments
-    else if list_any (λ b. nat_lt 0x20 b) (behind_end_marks bytes) then Some Arrow
+    else if may_be_drawing (behind_end_marks bytes) then Some Arrow
     else None
 
 -- what they are, as a text

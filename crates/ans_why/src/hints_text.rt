@@ -150,8 +150,9 @@ fn put_colour_hints<W: Write>(out: &mut Outbox<'_, W>, hints: &Hints)
 }
 
 /// Puts the lines of the hints: `hint: `, what it is about, how many times it comes, and the offset of
-/// the first time in bytes; each where there is something to say. Where the record's field of the font
-/// names one that is not of code page 437, a line says so.
+/// the first time in bytes from the content's start; each where there is something to say. Lines without
+/// a count tell of empty rows at the end, and of the font, where the record's field names one that is
+/// not of code page 437.
 pub fn put_hints<W: Write>(out: &mut Outbox<'_, W>, hints: &Hints, font_field: &[u8])
     ensures { Puts W.contents out.old out.new (hints_text hints.now font_field.now) }
 {

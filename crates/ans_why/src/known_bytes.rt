@@ -6,7 +6,7 @@ ghost use Rattle.std.specs.Option.{option_copied};
 ghost use Rattle.ans_model.specs.File.Layout.{is_end_mark};
 ghost use Rattle.ans_why.specs.Known.{allows, begins_with_form, behind_byte, behind_end_marks, behind_piece};
 ghost use Rattle.ans_why.specs.Known.{count_front, is_comment_block, is_digit, is_note, known_behind_end_mark};
-ghost use Rattle.ans_why.specs.Known.{known_form, known_sequence, known_text};
+ghost use Rattle.ans_why.specs.Known.{known_form, known_sequence, known_text, may_be_drawing};
 
 use ans_model::fault::Cause;
 
@@ -288,8 +288,17 @@ fn prints_something(bytes: &[u8]) -> bool
     bytes.iter().any(|byte| *byte > b' ')
 }
 
-/// What the bytes behind the first end mark are known as, among which a record stands or not: comments
-/// that the record does not count, an older record, or an arrow, behind which something is printed.
+/// Whether the bytes may be more of a drawing: they begin neither as comments do nor as a record does,
+/// and print something.
+fn may_be_drawing(bytes: &[u8]) -> bool
+    ensures { result ≡ may_be_drawing bytes.now }
+{
+    !bytes.starts_with(b"COMNT") && !bytes.starts_with(b"SAUCE") && prints_something(bytes)
+}
+
+/// What the bytes behind the first end mark are known as, among which a record stands or not: an older
+/// record where one does, else comments that the record does not count, else an arrow where more of a
+/// drawing may stand there; and nothing where none of these fits.
 pub fn known_behind_end_mark(bytes: &[u8], holds_record: bool) -> Option<Known>
     ensures { result ≡ known_behind_end_mark holds_record bytes.now }
 {
@@ -298,7 +307,7 @@ pub fn known_behind_end_mark(bytes: &[u8], holds_record: bool) -> Option<Known>
         Some(Known::OlderRecord)
     } else if is_comment_block(rest) {
         Some(Known::UncountedComments)
-    } else if prints_something(rest) {
+    } else if may_be_drawing(rest) {
         Some(Known::Arrow)
     } else {
         None

@@ -464,7 +464,7 @@ fn music_has_at_most_250_notes(rt: HostRuntime) {
 }
 
 /// What follows the first end mark, whether a record stands in it, and what it is known as.
-static BEHIND: [(&[u8], bool, Option<Known>); 9] = [
+static BEHIND: [(&[u8], bool, Option<Known>); 11] = [
     (b"SAUCE00", true, Some(Known::OlderRecord)),
     (b"x", false, Some(Known::Arrow)),
     (b"\x1a\x1a\x1b[0m", false, Some(Known::Arrow)),
@@ -472,8 +472,10 @@ static BEHIND: [(&[u8], bool, Option<Known>); 9] = [
     (b"", false, None),
     (COMMENT, false, Some(Known::UncountedComments)),
     (COMMENT, true, Some(Known::OlderRecord)),
-    (b"COMNT", false, Some(Known::Arrow)),
-    (b"COMNT and more", false, Some(Known::Arrow)),
+    (b"COMNT", false, None),
+    (b"COMNT and more", false, None),
+    (b"\x1aSAUCE01 and more", false, None),
+    (b" COMNT", false, Some(Known::Arrow)),
 ];
 
 /// End marks, and a block of one comment.
