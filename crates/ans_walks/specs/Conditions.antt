@@ -69,9 +69,9 @@ abbrev pub two_byte_letter : Condition
 two_byte_letter z s (Glyph byte) rest = is_letter byte && begins_with_two_byte_letter rest
 two_byte_letter z s _ rest = false
 
--- A small letter of Latin-1: a, o and u with two dots, e with a grave and an acute accent and with a circumflex, n with a
--- tilde, o with the three accents. In code page 437 their bytes are capital Greek letters and signs, which seldom stand
--- between small letters. Others are left out: their bytes are small Greek letters or signs that stand in words by intent.
+-- A small letter of Latin-1: a, o and u with two dots, e with a grave and an acute accent and with a circumflex, n with
+-- a tilde, o with the three accents. In code page 437 their bytes are capital Greek letters and signs, which seldom
+-- stand between small letters. Others are left out: theirs are small Greek letters, or signs that stand so by intent.
 abbrev pub is_latin_letter : ℕ → Bool
 is_latin_letter b =
     b == 0xE4 || is_in_range 0xE8 0xEA b || is_in_range 0xF1 0xF4 b || b == 0xF6 || b == 0xFC
