@@ -41,7 +41,7 @@ from second_machine import (
 )
 
 MOST_LINES, MOST_COLUMNS, TRIED_ONE_BY_ONE = 8192, 1024, 24
-MENDING = b"\x1b[?7h\x1b[0m\x1b[2J\x1b[s"
+MENDING = b"\x1b[?7h\x1b[0m\x1b[2J\x1b[H\x1b[s"
 NAMES = {7: "<BEL>", 8: "<BS>", 9: "<TAB>", 10: "<LF>", 13: "<CR>", 27: "<ESC>", 32: "<SP>"}
 LOW_GLYPHS = " ☺☻♥♦♣♠•◘○◙♂♀♪♫☼►◄↕‼¶§▬↨↑↓→←∟↔▲▼"
 FONTS_OF_437 = [
@@ -199,7 +199,7 @@ def cells_of(machine, lines):
 def mend_text(chance, content, width, lines, picture):
     """What the program says of the mending; and what speaks against it."""
     mended = answer(MENDING + content, starts(chance, width, lines, []))
-    what = "begin with ESC[?7h ESC[0m ESC[2J ESC[s"
+    what = "begin with ESC[?7h ESC[0m ESC[2J ESC[H ESC[s"
     return what if mended == picture else f"{what}, but then {mended}"
 
 

@@ -23,7 +23,7 @@ import sys
 
 EXAMPLES = "/usr/share/doc/ansilove/examples/*/*.ans"
 COMPARED = ("at", "found", "is", "note", "hint", "lines")
-# The mending without ESC[s, 13 bytes. So what follows stands at offset 13.
+# The mending without ESC[H and ESC[s, 13 bytes. So what follows stands at offset 13.
 SAFE = b"\x1b[?7h\x1b[0m\x1b[2J"
 CRLF = b"\r\n"
 

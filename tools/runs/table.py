@@ -58,7 +58,7 @@ HI_WHY = (
     b"size: 2 x 1\nverdict: pass\nneeds: cursor colours\ntaller: yes\n"
     b"at 0: F22 print at an unknown place\nbytes: H\n"
     b"low start: row 1, column 1\nhigh start: row 2, column 2\n"
-    b"mend: begin with ESC[?7h ESC[0m ESC[2J ESC[s\n"
+    b"mend: begin with ESC[?7h ESC[0m ESC[2J ESC[H ESC[s\n"
 )
 HI_NEEDS = b"size: 2 x 1\ncontent: 2 bytes\nneeds: cursor colours\n"
 TABLE_HEADER = (

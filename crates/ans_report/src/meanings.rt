@@ -189,26 +189,26 @@ screen where it stands elsewhere, the drawing is moved. The place is also
 unknown behind a full row if wrap was not switched on, and behind ESC[u if
 nothing was saved.
 
-To mend it, put the safe beginning in front: ESC[?7h ESC[0m ESC[2J ESC[s,
-without the blanks.
+To mend it, put the safe beginning in front:
+ESC[?7h ESC[0m ESC[2J ESC[H ESC[s, without the blanks.
 ";
 
 const F23: &str = "\
 ESC[K blanks the rest of the cursor's row, and the drawing has not yet said
 where the cursor stands. It would blank another row on another screen.
 
-To mend it, put the safe beginning in front: ESC[?7h ESC[0m ESC[2J ESC[s,
-without the blanks. Where the rest of the screen is to stay, place the cursor
-first: ESC[1;1H.
+To mend it, put the safe beginning in front:
+ESC[?7h ESC[0m ESC[2J ESC[H ESC[s, without the blanks. Where the rest of
+the screen is to stay, place the cursor first: ESC[1;1H.
 ";
 
 const F24: &str = "\
 A line feed comes where the cursor may stand below the stated lines. From some
 starts the screen scrolls and loses its top row.
 
-To mend it, put the safe beginning in front: ESC[?7h ESC[0m ESC[2J ESC[s,
-without the blanks. If the line feed then scrolls from every start, it is F21:
-take it out.
+To mend it, put the safe beginning in front:
+ESC[?7h ESC[0m ESC[2J ESC[H ESC[s, without the blanks. If the line feed
+then scrolls from every start, it is F21: take it out.
 ";
 
 const F25: &str = "\
@@ -216,9 +216,9 @@ At the end there is a cell in which nothing was printed, or something in
 colours that the drawing never set. What was on the screen before shows
 through, or its colours do.
 
-To mend it, put the safe beginning in front: ESC[?7h ESC[0m ESC[2J ESC[s,
-without the blanks. The colours have to come before the clearing, which fills
-the screen with them.
+To mend it, put the safe beginning in front:
+ESC[?7h ESC[0m ESC[2J ESC[H ESC[s, without the blanks. The colours have
+to come before the clearing, which fills the screen with them.
 ";
 
 const N1: &str = "\

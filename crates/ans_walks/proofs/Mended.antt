@@ -1,5 +1,7 @@
 -- Content behind the mending.
-use Rattle.std.proofs.Common.{◌≡◌, ◌⊎◌, inl, inr, ℕ, zero, suc, true, List, [], ◌∷◌, ◌++◌, length, codes, refl, ap}
+use Rattle.std.proofs.Common.{◌≡◌, ◌⊎◌, inl, inr, ℕ, zero, suc, true, List, [], ◌∷◌, ◌++◌, length, codes, refl, ap, ap₂}
+use Rattle.std.proofs.Common.{min, ◌+◌, ◌-◌, ◌<◌}
+use native.Mathlib.Numerals.{unary_clauses}
 use Rattle.std.proofs.Common.{sym, ◌∙◌, Some, Ok, arith, take, replicate, ◌≤◌}
 use Rattle.std.specs.Prelude.{IsTrue, slice_get, bit_or}
 use Rattle.std.specs.Int.Bits.{and_zero_r}
@@ -9,12 +11,13 @@ use Rattle.ans_model.specs.Bytes.{escape, bracket, semicolon, most_parameters}
 use Rattle.ans_model.specs.declared.mark.Mark.{Mark}
 use Rattle.ans_model.specs.declared.mark.Mark.TheVariants.{Unmarked, Question}
 use Rattle.ans_model.specs.declared.fault.Cause.{Cause}
-use Rattle.ans_model.specs.Sequence.TokenKind.{TokenKind, Glyph, LineFeed, Tab, EraseLine, Clear, Save, Colours, Wrap}
+use Rattle.ans_model.specs.declared.fault.Cause.TheVariants.{OutsideScreen}
+use Rattle.ans_model.specs.Sequence.TokenKind.{TokenKind, Glyph, LineFeed, Tab, EraseLine, Clear, Place, Save, Colours, Wrap}
 use Rattle.ans_model.specs.Sequence.Spelling.{Member, Number, Omitted, Raw, SpellsMember, IsInLimit, mark_bytes}
 use Rattle.ans_model.specs.Sequence.Meaning.{meaning}
 use Rattle.ans_model.specs.Sequence.Reads.{SpellsToken, Reads}
 use Rattle.ans_model.specs.Screen.Attribute.{attribute_after_all}
-use Rattle.ans_model.specs.Screen.State.{Size, State, cell_at, cell_count}
+use Rattle.ans_model.specs.Screen.State.{Size, IsSize, State, at, cell_at, cell_count}
 use Rattle.ans_model.specs.Screen.Step.{blank_cell, final}
 use Rattle.ans_model.specs.declared.cell.Position.{Position}
 use Rattle.ans_model.specs.Screen.StartClass.{IsStart, cleared, all_known, none_known}
@@ -28,11 +31,20 @@ use Rattle.ans_walks.specs.Mend.{mending, mending_tokens, LeavesClearedScreen, M
 reset : (a : ℕ) → attribute_after_all a (0 ∷ []) ≡ 0x07
 reset a = ap (λ (v : ℕ). bit_or v 0x07) (and_zero_r a)
 
-abbrev cleared_with : Size → ℕ → State
-cleared_with z a = record (cleared z) { screen = replicate (cell_count z) (blank_cell a); attribute = a }
+-- the place of row 1 and column 1 is home on each screen
+home_position : (z : Size) → at (min 0 z.lines) (min 0 (z.width - 1)) ≡ at 0 0
+home_position z = simp unary_clauses refl
+
+abbrev cleared_with : Size → ℕ → Position → State
+cleared_with z a p = record (cleared z) {
+  screen = replicate (cell_count z) (blank_cell a);
+  cursor = p;
+  saved = p;
+  attribute = a;
+}
 
 pub leaves_cleared : LeavesClearedScreen
-leaves_cleared z s = ap (cleared_with z) (reset s.attribute)
+leaves_cleared z s = ap₂ (cleared_with z) (reset s.attribute) (home_position z)
 
 -- what is played behind the mending is played from the cleared state
 behind_is_cleared : (z : Size) (s : State) (ts : List TokenKind)
@@ -75,15 +87,19 @@ clear =
     spelled (sequence Unmarked (Number 2 ∷ []) 0x4A) (codes "2" ∷ []) ((omega arith, refl, refl), tt) (λ e. cc) refl
     (omega arith, tt) (omega arith) Clear refl
 
+home : SpellsToken (Place 1 1) (escape ∷ codes "[H")
+home = spelled (sequence Unmarked [] 0x48) [] tt (λ e. cc) refl tt (omega arith) (Place 1 1) refl
+
 save : SpellsToken Save (escape ∷ codes "[s")
 save = spelled (sequence Unmarked [] 0x73) [] tt (λ e. cc) refl tt (omega arith) Save refl
 
 reads_behind : (content : List ℕ) (tokens : List TokenKind) → Reads content tokens
     → Reads (mending ++ content) (mending_tokens ++ tokens)
 reads_behind content tokens h = (
-  (escape ∷ codes "[?7h") ∷ (escape ∷ codes "[0m") ∷ (escape ∷ codes "[2J") ∷ (escape ∷ codes "[s") ∷ h.0,
+  (escape ∷ codes "[?7h") ∷ (escape ∷ codes "[0m") ∷ (escape ∷ codes "[2J") ∷ (escape ∷ codes "[H") ∷ (escape ∷ codes "[s")
+  ∷ h.0,
   record {
-    each = (wrap_on, (white_on_black, (clear, (save, h.1.each))));
+    each = (wrap_on, (white_on_black, (clear, (home, (save, h.1.each)))));
     whole = ap (λ (v : List ℕ). mending ++ v) h.1.whole;
   },
 )
@@ -96,7 +112,19 @@ IsQuiet (Glyph byte) = ⊥
 IsQuiet LineFeed = ⊥
 IsQuiet Tab = ⊥
 IsQuiet EraseLine = ⊥
-IsQuiet t = (z : Size) (cause : Cause) → ¬ HasStaticFault z t cause
+IsQuiet t = (z : Size) (cause : Cause) → IsSize z → ¬ HasStaticFault z t cause
+
+-- home lies on each screen
+home_is_quiet : IsQuiet (Place 1 1)
+home_is_quiet z OutsideScreen some (inl below) = absurd (below_none below)
+  where
+    below_none : z.lines + 1 < 1 → ⊥
+    below_none h = omega arith
+home_is_quiet z OutsideScreen some (inr beside) = absurd (beside_none some.some_columns beside)
+  where
+    beside_none : 0 < z.width → z.width < 1 → ⊥
+    beside_none h beside = omega arith
+home_is_quiet z _ some h = h
 
 -- a token stands in the content
 record IsBehind (tokens : List TokenKind) (k : ℕ) (t : TokenKind) : Type 0 where
@@ -106,14 +134,17 @@ record IsBehind (tokens : List TokenKind) (k : ℕ) (t : TokenKind) : Type 0 whe
 
 quiet_or_behind : (tokens : List TokenKind) (k : ℕ) (t : TokenKind) → slice_get (mending_tokens ++ tokens) k ≡ Some t
     → IsQuiet t ⊎ IsBehind tokens k t
-quiet_or_behind tokens zero t e = let same : t ≡ Wrap true = cc in inl (rw same (λ z cause h. h))
-quiet_or_behind tokens (suc zero) t e = let same : t ≡ Colours (0 ∷ []) = cc in inl (rw same (λ z cause h. h))
-quiet_or_behind tokens (suc (suc zero)) t e = let same : t ≡ Clear = cc in inl (rw same (λ z cause h. h))
-quiet_or_behind tokens (suc (suc (suc zero))) t e = let same : t ≡ Save = cc in inl (rw same (λ z cause h. h))
-quiet_or_behind tokens (suc (suc (suc (suc j)))) t e = inr (record { j = j; there = e; front = refl })
+quiet_or_behind tokens zero t e = let same : t ≡ Wrap true = cc in inl (rw same (λ z cause some h. h))
+quiet_or_behind tokens (suc zero) t e = let same : t ≡ Colours (0 ∷ []) = cc in inl (rw same (λ z cause some h. h))
+quiet_or_behind tokens (suc (suc zero)) t e = let same : t ≡ Clear = cc in inl (rw same (λ z cause some h. h))
+quiet_or_behind tokens (suc (suc (suc zero))) t e =
+    let same : t ≡ Place 1 1 = cc in inl (rw same home_is_quiet)
+quiet_or_behind tokens (suc (suc (suc (suc zero)))) t e =
+    let same : t ≡ Save = cc in inl (rw same (λ z cause some h. h))
+quiet_or_behind tokens (suc (suc (suc (suc (suc j))))) t e = inr (record { j = j; there = e; front = refl })
 
 -- and has no fault of its own
-quiet_has_none : (t : TokenKind) → IsQuiet t → (z : Size) (cause : Cause) → ¬ HasStaticFault z t cause
+quiet_has_none : (t : TokenKind) → IsQuiet t → (z : Size) (cause : Cause) → IsSize z → ¬ HasStaticFault z t cause
 quiet_has_none (Glyph byte) h = absurd h
 quiet_has_none LineFeed h = absurd h
 quiet_has_none Tab h = absurd h
@@ -131,7 +162,7 @@ of_content tokens k t P e loud h = go (quiet_or_behind tokens k t e)
     go (inl quiet) = absurd (loud quiet)
     go (inr b) = rw b.front (h b.j b.there)
 
-module _ (z : Size) (start : IsStart z all_known (cleared z)) where
+module _ (z : Size) (is_size : IsSize z) (start : IsStart z all_known (cleared z)) where
   -- after the same tokens behind the mending, each start's cursor is the cleared start's
   one_cursor : (s : State) (played : List TokenKind)
       → (final z s (mending_tokens ++ played)).cursor ≡ (final z (cleared z) played).cursor
@@ -171,7 +202,7 @@ module _ (z : Size) (start : IsStart z all_known (cleared z)) where
   }
     where
       none : (k : ℕ) (t : TokenKind) (cause : Cause) → IsQuiet t ⊎ IsBehind tokens k t → ¬ HasStaticFault z t cause
-      none k t cause (inl quiet) = quiet_has_none t quiet z cause
+      none k t cause (inl quiet) = quiet_has_none t quiet z cause is_size
       none k t cause (inr b) = h.no_static_fault b.j t cause b.there
 
   shows_behind : (tokens : List TokenKind) (picture : Picture) → Shows z all_known tokens picture
@@ -189,6 +220,6 @@ makes_good z content picture h =
       size = h.size;
       tokens = mending_tokens ++ h.tokens;
       reads = reads_behind content h.tokens h.reads;
-      plays = plays_behind z start h.tokens h.plays;
-      shows = shows_behind z start h.tokens picture h.shows;
+      plays = plays_behind z h.size start h.tokens h.plays;
+      shows = shows_behind z h.size start h.tokens picture h.shows;
     }

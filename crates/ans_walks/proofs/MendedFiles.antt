@@ -92,14 +92,14 @@ clean_end_behind : (body : List ℕ) → is_clean_end (mending ++ body) ≡ is_c
 clean_end_behind body = ap (list_all is_end_mark) (after_behind body)
 
 -- ---- the notes
-same_difference : (a b c d : ℕ) → a ≡ c + 16 → b ≡ d + 16 → (a == b) ≡ (c == d)
+same_difference : (a b c d : ℕ) → a ≡ c + 19 → b ≡ d + 19 → (a == b) ≡ (c == d)
 same_difference a b c d more too = elim (cases_eq c d) [
   | inl same ↦ eq-eqb a b (omega arith) ∙ sym (eq-eqb c d same)
   | inr other ↦ ne_eqb a b (λ e. other (omega arith)) ∙ sym (ne_eqb c d other)
 ]
 
 module _ (file : List ℕ) (apart : FileParts) (accepts : Accepts file apart)
-    (room : file_size apart.record_bytes + 16 < 4294967296) where
+    (room : file_size apart.record_bytes + 19 < 4294967296) where
   abbrev r : List ℕ
   r = apart.record_bytes
 
@@ -107,10 +107,10 @@ module _ (file : List ℕ) (apart : FileParts) (accepts : Accepts file apart)
   mended = mended_parts apart
 
   before : (offset size : ℕ) → offset + size ≤ 90 → field offset size mended.record_bytes ≡ field offset size r
-  before = field_before r accepts.laid.size (file_size r + 16)
+  before = field_before r accepts.laid.size (file_size r + 19)
 
   behind : (offset size : ℕ) → 94 ≤ offset → field offset size mended.record_bytes ≡ field offset size r
-  behind = field_behind r accepts.laid.size (file_size r + 16)
+  behind = field_behind r accepts.laid.size (file_size r + 19)
 
   same_number : (offset size : ℕ) → 94 ≤ offset
       → number (field offset size mended.record_bytes) ≡ number (field offset size r)
@@ -119,7 +119,7 @@ module _ (file : List ℕ) (apart : FileParts) (accepts : Accepts file apart)
   mended_accepted : Accepts (laid_file mended) mended
   mended_accepted = record {
     laid = record {
-      size = its_length r accepts.laid.size (file_size r + 16);
+      size = its_length r accepts.laid.size (file_size r + 19);
       id = before 0 5 (omega arith) ∙ accepts.laid.id;
       comments = accepts.laid.comments ∙ ap (λ (v : ℕ). 64 * v) (sym (same_number 104 1 (omega arith)));
       whole = refl;
@@ -138,10 +138,10 @@ module _ (file : List ℕ) (apart : FileParts) (accepts : Accepts file apart)
       ap₂ (λ (w l : ℕ). sized (if w == 0 then 80 else w) l) (same_number 96 2 (omega arith))
       (same_number 98 2 (omega arith))
 
-  -- the content has 16 bytes more
-  its_count : length (content mended.body) ≡ length (content apart.body) + 16
+  -- the content has 19 bytes more
+  its_count : length (content mended.body) ≡ length (content apart.body) + 19
   its_count =
-      let front : length mending ≡ 16 = refl in
+      let front : length mending ≡ 19 = refl in
       let all : length (content mended.body) ≡ length mending + length (content apart.body) =
       ap length (content_behind apart.body) ∙ length-append mending (content apart.body) in
       omega (arith, front, all)
@@ -150,7 +150,7 @@ module _ (file : List ℕ) (apart : FileParts) (accepts : Accepts file apart)
       || file_size mended.record_bytes == length (content mended.body) + 1)
       ≡ (file_size r == length (content apart.body) || file_size r == length (content apart.body) + 1)
   its_difference =
-      let size = its_file_size r accepts.laid.size (file_size r + 16) room in
+      let size = its_file_size r accepts.laid.size (file_size r + 19) room in
       ap₂ (λ (a b : Bool). a || b)
       (same_difference (file_size mended.record_bytes) (length (content mended.body)) (file_size r)
       (length (content apart.body)) size its_count)

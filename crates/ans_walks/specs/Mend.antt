@@ -1,19 +1,22 @@
 -- How a drawing that is good from the cleared start is mended.
 use Rattle.std.specs.Prelude.{◌≡◌, true, List, ℕ, [], ◌∷◌, ◌++◌, codes}
 use Rattle.ans_model.specs.Bytes.{escape}
-use Rattle.ans_model.specs.Sequence.TokenKind.{TokenKind, Clear, Save, Colours, Wrap}
+use Rattle.ans_model.specs.Sequence.TokenKind.{TokenKind, Clear, Place, Save, Colours, Wrap}
 use Rattle.ans_model.specs.Screen.State.{Size, State}
 use Rattle.ans_model.specs.Screen.Step.{final}
 use Rattle.ans_model.specs.Screen.StartClass.{cleared, all_known, none_known}
 use Rattle.ans_model.specs.Verdict.Good.{Picture, GoodWith}
 
--- ESC[?7h ESC[0m ESC[2J ESC[s
+-- ESC[?7h ESC[0m ESC[2J ESC[H ESC[s
 abbrev pub mending : List ℕ
-mending = (escape ∷ codes "[?7h") ++ (escape ∷ codes "[0m") ++ (escape ∷ codes "[2J") ++ (escape ∷ codes "[s")
+mending =
+    (escape ∷ codes "[?7h") ++ (escape ∷ codes "[0m") ++ (escape ∷ codes "[2J") ++ (escape ∷ codes "[H")
+    ++ (escape ∷ codes "[s")
 
--- wrap on, white on black, a blank screen with the cursor at home, and the cursor saved there
+-- Wrap on, white on black, a blank screen, the cursor at home, and saved there. Clear takes it home too in ANSI.SYS, and
+-- in no terminal of today.
 abbrev pub mending_tokens : List TokenKind
-mending_tokens = Wrap true ∷ Colours (0 ∷ []) ∷ Clear ∷ Save ∷ []
+mending_tokens = Wrap true ∷ Colours (0 ∷ []) ∷ Clear ∷ Place 1 1 ∷ Save ∷ []
 
 -- played from any state, they leave the cleared one
 abbrev pub LeavesClearedScreen : Type 0

@@ -7,16 +7,16 @@ ghost use Rattle.ans_walks.specs.RowEndLaws.{CountsBeforeLastPrint, LineFeedEnds
 ghost use Rattle.ans_walks.specs.RowLaws.{EmptyRowsHoldNothing, NoMoreRowsAreEmpty};
 ghost use Rattle.ans_walks.specs.Taller.{TallerShowsTheSame};
 
-/// `ESC[?7h ESC[0m ESC[2J ESC[s`, 16 bytes without the blanks between them, leave exactly the cleared
-/// state, whatever state they are played from. So content that is good from the cleared start is good
-/// from every start behind them, with the same picture.
+/// `ESC[?7h ESC[0m ESC[2J ESC[H ESC[s`, 19 bytes without the blanks between them, leave exactly the
+/// cleared state, whatever state they are played from. So content that is good from the cleared start is
+/// good from every start behind them, with the same picture.
 pub fn mended_content_is_good()
     ensures cleared { LeavesClearedScreen }
     ensures good { MakesGood }
 {}
 
-/// An accepted file that passes from the cleared start passes from every start once these 16 bytes
-/// stand before its content and its FileSize is 16 more. It keeps its size and its notes.
+/// An accepted file that passes from the cleared start passes from every start once these 19 bytes
+/// stand before its content and its FileSize is 19 more. It keeps its size and its notes.
 pub fn mended_file_passes()
     ensures { MendedFilePasses }
 {}

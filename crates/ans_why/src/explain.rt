@@ -30,7 +30,7 @@ use ans_sauce::{Parts, WithoutLines, find, without_lines};
 use ans_walks::{Hints, cells_of_fault, cursors_before, is_taller, least_lines};
 
 /// How many bytes mend a drawing.
-const MENDING: usize = 16;
+const MENDING: usize = 19;
 
 fn place(size: Size, position: Position) -> Place
     requires { IsOnScreen size position }

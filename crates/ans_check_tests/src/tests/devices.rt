@@ -24,7 +24,7 @@ const HI_WHY: &[u8] = b"size: 2 x 1\n\
     bytes: H\n\
     low start: row 1, column 1\n\
     high start: row 2, column 2\n\
-    mend: begin with ESC[?7h ESC[0m ESC[2J ESC[s\n";
+    mend: begin with ESC[?7h ESC[0m ESC[2J ESC[H ESC[s\n";
 
 /// Gives one byte a read, and fails at one of the reads alone.
 #[derive(Clone, Copy)]

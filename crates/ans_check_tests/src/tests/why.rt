@@ -107,7 +107,7 @@ static PASSED: [Row; 13] = files! {
         bytes: H\n\
         low start: row 1, column 1\n\
         high start: row 2, column 2\n\
-        mend: begin with ESC[?7h ESC[0m ESC[2J ESC[s\n";
+        mend: begin with ESC[?7h ESC[0m ESC[2J ESC[H ESC[s\n";
     file(4 x 3, b"\x1b[0m\x1b[2J\t")
         => "needs: wrap\n\
         taller: yes\n\
@@ -115,7 +115,7 @@ static PASSED: [Row; 13] = files! {
         bytes: <TAB>\n\
         low start: row 1, column 4\n\
         high start: row 2, column 1\n\
-        mend: begin with ESC[?7h ESC[0m ESC[2J ESC[s\n\
+        mend: begin with ESC[?7h ESC[0m ESC[2J ESC[H ESC[s\n\
         hint: nothing is printed in the last line\n";
     file(2 x 1, b"\x1b[K")
         => "needs: cursor colours\n\
@@ -124,7 +124,7 @@ static PASSED: [Row; 13] = files! {
         bytes: <ESC>[K\n\
         low start: row 1, column 1\n\
         high start: row 2, column 2\n\
-        mend: begin with ESC[?7h ESC[0m ESC[2J ESC[s\n\
+        mend: begin with ESC[?7h ESC[0m ESC[2J ESC[H ESC[s\n\
         hint: nothing is printed in the last line\n";
     file(1 x 2, b"\n\x1b[0m\x1b[2J")
         => "needs: cursor\n\
@@ -133,7 +133,7 @@ static PASSED: [Row; 13] = files! {
         bytes: <LF>\n\
         low start: row 1, column 1\n\
         high start: row 3, column 1\n\
-        mend: begin with ESC[?7h ESC[0m ESC[2J ESC[s\n\
+        mend: begin with ESC[?7h ESC[0m ESC[2J ESC[H ESC[s\n\
         hint: nothing is printed in the last 2 lines\n";
     file(2 x 1, b"\x1b[2JHi")
         => "needs: colours\n\
@@ -141,14 +141,14 @@ static PASSED: [Row; 13] = files! {
         at 6: F25 cell stays unknown (row 1, column 1)\n\
         low start: byte 48, attribute 00\n\
         high start: byte 48, attribute ff\n\
-        mend: begin with ESC[?7h ESC[0m ESC[2J ESC[s\n";
+        mend: begin with ESC[?7h ESC[0m ESC[2J ESC[H ESC[s\n";
     file(2 x 1, b"\x1b[0m\x1b[1;1HH")
         => "needs: screen\n\
         taller: yes\n\
         at 11: F25 cell stays unknown (row 1, column 2)\n\
         low start: byte 00, attribute 00\n\
         high start: byte ff, attribute ff\n\
-        mend: begin with ESC[?7h ESC[0m ESC[2J ESC[s\n";
+        mend: begin with ESC[?7h ESC[0m ESC[2J ESC[H ESC[s\n";
     file(2 x 1, b"\x1b[?7h\x1b[0m\x1b[2JHi") => "needs: nothing\ntaller: yes\n";
     file(2 x 1, b"\x1b[?7h\x1b[0m\x1b[255A\x1b[255DHi") => "needs: nothing\ntaller: no\n";
     file(2 x 1, b"\x1b[?7h\x1b[0m\x1b[2J\x1b[255B\x1b[1;1HHi") => "needs: nothing\ntaller: no\n";
@@ -374,7 +374,7 @@ static FONTS: [(&[u8], u8, &[u8], &[u8]); 2] = [
         at 14: F25 cell stays unknown (row 1, column 1)\n\
         low start: byte 48, attribute 80\n\
         high start: byte 48, attribute ff\n\
-        mend: begin with ESC[?7h ESC[0m ESC[2J ESC[s\n",
+        mend: begin with ESC[?7h ESC[0m ESC[2J ESC[H ESC[s\n",
     ),
 ];
 

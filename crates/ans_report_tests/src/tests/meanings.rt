@@ -28,9 +28,9 @@ static FAULTS: [(Cause, &str); 3] = [
         colours that the drawing never set. What was on the screen before shows\n\
         through, or its colours do.\n\
         \n\
-        To mend it, put the safe beginning in front: ESC[?7h ESC[0m ESC[2J ESC[s,\n\
-        without the blanks. The colours have to come before the clearing, which fills\n\
-        the screen with them.\n",
+        To mend it, put the safe beginning in front:\n\
+        ESC[?7h ESC[0m ESC[2J ESC[H ESC[s, without the blanks. The colours have\n\
+        to come before the clearing, which fills the screen with them.\n",
     ),
 ];
 
