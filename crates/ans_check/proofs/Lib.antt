@@ -8,3 +8,5 @@ pub mod AnswerLemmas
 pub mod ListingLemmas
 pub mod TableLemmas
 pub mod LeastLemmas
+pub mod MendLemmas
+pub mod MendedLemmas

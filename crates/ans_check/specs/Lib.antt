@@ -16,3 +16,4 @@ pub mod Table
 pub mod Listing
 pub mod Answer
 pub mod SystemInput
+pub mod Mending

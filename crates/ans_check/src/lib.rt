@@ -21,6 +21,7 @@ mod exit_status;
 mod inputs;
 mod least_class;
 mod listing;
+mod mend;
 mod part;
 mod parts_needed;
 mod pipeline;

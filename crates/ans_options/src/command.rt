@@ -28,6 +28,16 @@ pub enum TableForm {
     Json,
 }
 
+/// What `mend` may change of a file, besides what it mends by itself.
+#[derive(Debug, Clone, Copy, PartialEq, Eq)]
+pub struct Mends {
+    /// The number of lines to be stated where those that the record states are too few, or none are: 1 to
+    /// 8192.
+    pub lines: Option<u16>,
+    /// The same, where no number is given: the least with which the drawing passes.
+    pub least_lines: bool,
+}
+
 /// What the program does with a file, or with many.
 #[derive(Debug, Clone, Copy, PartialEq, Eq)]
 pub enum Command {

@@ -19,6 +19,6 @@ mod command_line;
 pub mod laws;
 mod topic;
 
-pub use command::{Asked, Command, Form, Options, TableForm};
+pub use command::{Asked, Command, Form, Mends, Options, TableForm};
 pub use command_line::{WordsError, asked, options};
 pub use topic::Topic;

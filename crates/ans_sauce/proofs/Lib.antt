@@ -1,3 +1,4 @@
 pub mod Splitting
 pub mod FoundLemmas
 pub mod Lacking
+pub mod LaidParts

@@ -37,8 +37,9 @@ pub enum Found<'a> {
 /// How a record of version 00 begins.
 const IDENTIFIER: &[u8] = b"SAUCE00";
 
-/// The last place at which `SAUCE00` and 121 more bytes stand.
-fn last_record_place(bytes: &[u8]) -> Option<usize>
+/// The last place at which `SAUCE00` and 121 more bytes stand, in bytes from the first one: a record of
+/// version 00, whatever stands behind it.
+pub fn last_record_place(bytes: &[u8]) -> Option<usize>
     ensures { IsLastRecord bytes.now result }
 {
     let end = bytes.len().checked_sub(121)?;

@@ -60,8 +60,9 @@ fn cut_block(front: &[u8], count: u8) -> Option<(&[u8], &[u8])>
     Some((body, block.strip_prefix(b"COMNT")?))
 }
 
-/// What stands before a record and before where the comment block that it counts would begin.
-pub(crate) fn body_before<'a>(front: &'a [u8], sauce: &Record<'_>) -> &'a [u8]
+/// What stands before a record and before where the comment block that it counts would begin (SAUCE
+/// 00.5, file layout). `front` is what stands before the record.
+pub fn body_before<'a>(front: &'a [u8], sauce: &Record<'_>) -> &'a [u8]
     ensures { result.now ≡ take (length front.now - block_size (comment_count (bytes_of sauce.now)))
         front.now }
 {

@@ -5,7 +5,7 @@ use Rattle.std.proofs.lemmas.Bool.{cases_eq, eq-eqb, ne_eqb}
 use Rattle.std.proofs.lemmas.List.{length-append, length-drop, length-take-le, take-append-drop, take-append-le}
 use Rattle.std.proofs.lemmas.List.{drop-append-le}
 use Rattle.std.proofs.lemmas.Slice.{drop-append-drop}
-use Rattle.std.proofs.Math.Seq.{drop-append_seam}
+use Rattle.std.proofs.Math.Seq.{drop-append-add, drop-append_seam}
 use Rattle.std.specs.Prelude.{if◌then◌else◌, not, ◌||◌, bit_and}
 use Rattle.std.specs.Char.{is_ascii_digit}
 use Rattle.std.specs.List.{list_any, list_all, position_or_len}
@@ -14,11 +14,11 @@ use Rattle.ans_model.specs.File.NoteConditions.{note_if, notes, unused_flags}
 use Rattle.ans_model.specs.declared.note.Note.{Note}
 use Rattle.ans_model.specs.declared.note.Note.TheVariants.{WidthAssumed, NoEndMark, SizeDiffers, OddDate, FlagBits}
 use Rattle.ans_model.specs.declared.note.Note.TheVariants.{FlagPair}
-use Rattle.ans_model.specs.File.Record.{date_field, field, file_size, flags, number, stated_size, tinfo}
+use Rattle.ans_model.specs.File.Record.{comment_count, date_field, field, file_size, flags, number, stated_size, tinfo}
 use Rattle.ans_model.specs.File.Refusals.{Accepts}
 use Rattle.ans_model.specs.Screen.State.{sized}
 use Rattle.ans_walks.specs.Mend.{mending}
-use Rattle.ans_walks.specs.MendedFile.{MendedFilePasses, four_bytes, mended_parts, with_file_size}
+use Rattle.ans_walks.specs.MendedFile.{MendedFilePasses, four_bytes, mended_parts, resized_parts, with_file_size}
 use Rattle.ans_walks.proofs.Mended.{makes_good}
 
 -- ---- the record
@@ -81,45 +81,38 @@ content_append (b ∷ front) body none = go (is_end_mark b) refl (content_append
         ap (λ (v : List ℕ). b ∷ v) (more behind) in
         rw is (one_more (position_or_len is_end_mark (front ++ body)) ∙ tail)
 
-content_behind : (body : List ℕ) → content (mending ++ body) ≡ mending ++ content body
-content_behind body = content_append mending body refl
-
-after_behind : (body : List ℕ) → after_content (mending ++ body) ≡ after_content body
-after_behind body =
-    ap (λ (v : List ℕ). drop (length v) (mending ++ body)) (content_behind body)
-
-clean_end_behind : (body : List ℕ) → is_clean_end (mending ++ body) ≡ is_clean_end body
-clean_end_behind body = ap (list_all is_end_mark) (after_behind body)
-
--- ---- the notes
-same_difference : (a b c d : ℕ) → a ≡ c + 19 → b ≡ d + 19 → (a == b) ≡ (c == d)
-same_difference a b c d more too = elim (cases_eq c d) [
-  | inl same ↦ eq-eqb a b (omega arith) ∙ sym (eq-eqb c d same)
-  | inr other ↦ ne_eqb a b (λ e. other (omega arith)) ∙ sym (ne_eqb c d other)
-]
-
-module _ (file : List ℕ) (apart : FileParts) (accepts : Accepts file apart)
-    (room : file_size apart.record_bytes + 19 < 4294967296) where
+-- ---- a file with bytes in front that have no end mark, and with this FileSize
+module _ (front : List ℕ) (unmarked : list_any is_end_mark front ≡ false) (n : ℕ) (file : List ℕ) (apart : FileParts)
+    (accepts : Accepts file apart) where
   abbrev r : List ℕ
   r = apart.record_bytes
 
-  abbrev mended : FileParts
-  mended = mended_parts apart
+  abbrev resized : FileParts
+  resized = resized_parts front n apart
 
-  before : (offset size : ℕ) → offset + size ≤ 90 → field offset size mended.record_bytes ≡ field offset size r
-  before = field_before r accepts.laid.size (file_size r + 19)
+  before : (offset size : ℕ) → offset + size ≤ 90 → field offset size resized.record_bytes ≡ field offset size r
+  before = field_before r accepts.laid.size n
 
-  behind : (offset size : ℕ) → 94 ≤ offset → field offset size mended.record_bytes ≡ field offset size r
-  behind = field_behind r accepts.laid.size (file_size r + 19)
+  behind : (offset size : ℕ) → 94 ≤ offset → field offset size resized.record_bytes ≡ field offset size r
+  behind = field_behind r accepts.laid.size n
 
   same_number : (offset size : ℕ) → 94 ≤ offset
-      → number (field offset size mended.record_bytes) ≡ number (field offset size r)
+      → number (field offset size resized.record_bytes) ≡ number (field offset size r)
   same_number offset size le = ap number (behind offset size le)
 
-  mended_accepted : Accepts (laid_file mended) mended
-  mended_accepted = record {
+  pub resized_content : content resized.body ≡ front ++ content apart.body
+  resized_content = content_append front apart.body unmarked
+
+  resized_after : after_content resized.body ≡ after_content apart.body
+  resized_after =
+      ap (λ (v : List ℕ). drop (length v) (front ++ apart.body)) resized_content
+      ∙ ap (λ (v : ℕ). drop v (front ++ apart.body)) (length-append front (content apart.body))
+      ∙ drop-append-add front apart.body (length (content apart.body))
+
+  pub resized_accepted : Accepts (laid_file resized) resized
+  resized_accepted = record {
     laid = record {
-      size = its_length r accepts.laid.size (file_size r + 19);
+      size = its_length r accepts.laid.size n;
       id = before 0 5 (omega arith) ∙ accepts.laid.id;
       comments = accepts.laid.comments ∙ ap (λ (v : ℕ). 64 * v) (sym (same_number 104 1 (omega arith)));
       whole = refl;
@@ -130,32 +123,66 @@ module _ (file : List ℕ) (apart : FileParts) (accepts : Accepts file apart)
     lines_stated = rw (same_number 98 2 (omega arith)) accepts.lines_stated;
     width_in_limit = rw (same_number 96 2 (omega arith)) accepts.width_in_limit;
     lines_in_limit = rw (same_number 98 2 (omega arith)) accepts.lines_in_limit;
-    clean_end = clean_end_behind apart.body ∙ accepts.clean_end;
+    clean_end = ap (list_all is_end_mark) resized_after ∙ accepts.clean_end;
   }
 
-  its_size : stated_size mended.record_bytes ≡ stated_size apart.record_bytes
-  its_size =
+  pub resized_size : stated_size resized.record_bytes ≡ stated_size r
+  resized_size =
       ap₂ (λ (w l : ℕ). sized (if w == 0 then 80 else w) l) (same_number 96 2 (omega arith))
       (same_number 98 2 (omega arith))
+
+  pub resized_file_size : n < 4294967296 → file_size resized.record_bytes ≡ n
+  resized_file_size = its_file_size r accepts.laid.size n
+
+  pub resized_date : date_field resized.record_bytes ≡ date_field r
+  resized_date = before 82 8 (omega arith)
+
+  pub resized_flags : flags resized.record_bytes ≡ flags r
+  resized_flags = same_number 105 1 (omega arith)
+
+  pub resized_comments : comment_count resized.record_bytes ≡ comment_count r
+  resized_comments = same_number 104 1 (omega arith)
+
+  pub resized_width : tinfo 1 resized.record_bytes ≡ tinfo 1 r
+  resized_width = same_number 96 2 (omega arith)
+
+-- ---- the notes
+same_difference : (a b c d : ℕ) → a ≡ c + 19 → b ≡ d + 19 → (a == b) ≡ (c == d)
+same_difference a b c d more too = elim (cases_eq c d) [
+  | inl same ↦ eq-eqb a b (omega arith) ∙ sym (eq-eqb c d same)
+  | inr other ↦ ne_eqb a b (λ e. other (omega arith)) ∙ sym (ne_eqb c d other)
+]
+
+module _ (file : List ℕ) (apart : FileParts) (accepts : Accepts file apart)
+    (room : file_size apart.record_bytes + 19 < 4294967296) where
+  abbrev size : ℕ
+  size = file_size apart.record_bytes + 19
+
+  abbrev mended : FileParts
+  mended = mended_parts apart
+
+  its_content : content mended.body ≡ mending ++ content apart.body
+  its_content = resized_content mending refl size file apart accepts
 
   -- the content has 19 bytes more
   its_count : length (content mended.body) ≡ length (content apart.body) + 19
   its_count =
       let front : length mending ≡ 19 = refl in
       let all : length (content mended.body) ≡ length mending + length (content apart.body) =
-      ap length (content_behind apart.body) ∙ length-append mending (content apart.body) in
+      ap length its_content ∙ length-append mending (content apart.body) in
       omega (arith, front, all)
 
   its_difference : (file_size mended.record_bytes == length (content mended.body)
       || file_size mended.record_bytes == length (content mended.body) + 1)
-      ≡ (file_size r == length (content apart.body) || file_size r == length (content apart.body) + 1)
+      ≡ (file_size apart.record_bytes == length (content apart.body)
+      || file_size apart.record_bytes == length (content apart.body) + 1)
   its_difference =
-      let size = its_file_size r accepts.laid.size (file_size r + 19) room in
+      let counted = resized_file_size mending refl size file apart accepts room in
       ap₂ (λ (a b : Bool). a || b)
-      (same_difference (file_size mended.record_bytes) (length (content mended.body)) (file_size r)
-      (length (content apart.body)) size its_count)
-      (same_difference (file_size mended.record_bytes) (length (content mended.body) + 1) (file_size r)
-      (length (content apart.body) + 1) size (omega (arith, its_count)))
+      (same_difference (file_size mended.record_bytes) (length (content mended.body)) (file_size apart.record_bytes)
+      (length (content apart.body)) counted its_count)
+      (same_difference (file_size mended.record_bytes) (length (content mended.body) + 1)
+      (file_size apart.record_bytes) (length (content apart.body) + 1) counted (omega (arith, its_count)))
 
   -- the notes by what they depend on
   abbrev notes_by : ℕ → Bool → Bool → List ℕ → ℕ → List Note
@@ -167,21 +194,25 @@ module _ (file : List ℕ) (apart : FileParts) (accepts : Accepts file apart)
       ++ note_if (not (bit_and bits unused_flags == 0)) FlagBits
       ++ note_if (bits / 8 % 4 == 3 || bits / 2 % 4 == 3) FlagPair
 
-  its_notes : notes mended.body mended.record_bytes ≡ notes apart.body r
+  its_notes : notes mended.body mended.record_bytes ≡ notes apart.body apart.record_bytes
   its_notes =
       ap (λ (v : ℕ). notes_by v (list_any is_end_mark apart.body) (file_size mended.record_bytes == length (content
       mended.body) || file_size mended.record_bytes == length (content mended.body) + 1)
-      (date_field mended.record_bytes) (flags mended.record_bytes)) (same_number 96 2 (omega arith))
-      ∙ ap (λ (v : Bool). notes_by (tinfo 1 r) (list_any is_end_mark apart.body) v (date_field mended.record_bytes)
-      (flags mended.record_bytes)) its_difference
-      ∙ ap₂ (λ (v : List ℕ) (w : ℕ). notes_by (tinfo 1 r) (list_any is_end_mark apart.body)
-      (file_size r == length (content apart.body) || file_size r == length (content apart.body) + 1) v w)
-      (before 82 8 (omega arith)) (same_number 105 1 (omega arith))
+      (date_field mended.record_bytes) (flags mended.record_bytes)) (resized_width mending refl size file apart accepts)
+      ∙ ap (λ (v : Bool). notes_by (tinfo 1 apart.record_bytes) (list_any is_end_mark apart.body) v
+      (date_field mended.record_bytes) (flags mended.record_bytes)) its_difference
+      ∙ ap₂ (λ (v : List ℕ) (w : ℕ). notes_by (tinfo 1 apart.record_bytes) (list_any is_end_mark apart.body)
+      (file_size apart.record_bytes == length (content apart.body)
+      || file_size apart.record_bytes == length (content apart.body) + 1) v w)
+      (resized_date mending refl size file apart accepts) (resized_flags mending refl size file apart accepts)
 
 pub mended_file_passes : MendedFilePasses
-mended_file_passes file apart picture accepts good room = record {
-  accepts = mended_accepted file apart accepts room;
-  size = its_size file apart accepts room;
-  notes = its_notes file apart accepts room;
-  good = rw (content_behind apart.body) (makes_good (stated_size apart.record_bytes) (content apart.body) picture good);
-}
+mended_file_passes file apart picture accepts good room =
+    let size : ℕ = file_size apart.record_bytes + 19 in
+    record {
+      accepts = resized_accepted mending refl size file apart accepts;
+      size = resized_size mending refl size file apart accepts;
+      notes = its_notes file apart accepts room;
+      good = rw (its_content file apart accepts room)
+          (makes_good (stated_size apart.record_bytes) (content apart.body) picture good);
+    }

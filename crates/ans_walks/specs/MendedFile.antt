@@ -16,10 +16,14 @@ four_bytes n = n % 256 ∷ n / 256 % 256 ∷ n / 65536 % 256 ∷ n / 16777216 % 
 abbrev pub with_file_size : ℕ → List ℕ → List ℕ
 with_file_size n record_bytes = take 90 record_bytes ++ (four_bytes n ++ drop 94 record_bytes)
 
+-- the file with these bytes before its content, and with this FileSize
+abbrev pub resized_parts : List ℕ → ℕ → FileParts → FileParts
+resized_parts front n apart =
+    file_parts (front ++ apart.body) apart.comment_bytes (with_file_size n apart.record_bytes)
+
 -- the file with the mending before its content, and a FileSize that counts it
 abbrev pub mended_parts : FileParts → FileParts
-mended_parts apart = file_parts (mending ++ apart.body) apart.comment_bytes
-    (with_file_size (file_size apart.record_bytes + length mending) apart.record_bytes)
+mended_parts apart = resized_parts mending (file_size apart.record_bytes + length mending) apart
 
 -- The mended file is accepted, has the same size and the same notes, and passes from every start with this picture.
 pub record IsMended (apart : FileParts) (picture : Picture) : Type 0 where

@@ -28,7 +28,7 @@ mod watch;
 
 pub use evidence::{cells_of_fault, cursors_before};
 pub use hints::Hints;
-pub use lines::least_lines;
+pub use lines::{is_good, least_lines};
 pub use row_ends::{RowEnds, RowsOver, WiderRows};
 pub use taller::is_taller;
 pub use times::Times;

@@ -60,8 +60,8 @@ impl Walker for ClearedPlay {
     }
 }
 
-/// Whether the content is good from the cleared start.
-fn is_good(size: Size, content: &[u8]) -> bool
+/// Whether the content is good from the cleared start on a screen of this size. It takes no memory.
+pub fn is_good(size: Size, content: &[u8]) -> bool
     requires length { length content.now ≤ longest_file }
     ensures { IsTrue result ↔ IsGood size all_known content.now }
 {

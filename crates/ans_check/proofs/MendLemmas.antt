@@ -1,0 +1,145 @@
+-- What a file's parts say of mending.
+use Rattle.std.proofs.Common.{◌≡◌, ◌≢◌, ◌⊎◌, inl, inr, ℕ, ◌≤◌, Bool, true, false, List, [], length, refl, sym, ap, ◌∙◌}
+use Rattle.std.proofs.Common.{Option, Some, None, true≢false}
+use Rattle.std.proofs.Common.{subst₂, ap₂, Result, Ok, Err, ◌+◌, ◌==◌}
+use Rattle.std.specs.Prelude.{is_some, not, IsTrue, ◌↔◌, IfOk, IfErr, IfSome, IfNone, if◌then◌else◌}
+use mir.Val.{bool_byte}
+use Rattle.ans_model.specs.Bytes.{most_lines}
+use Rattle.ans_walks.specs.Lines.{IsNeverGood}
+use Rattle.ans_model.specs.Verdict.Good.{IsGood}
+use Rattle.ans_check.specs.StartParts.{EndsFrom}
+use Rattle.ans_check.specs.Mending.{AreLinesFor, AsksForLeast, HasLeast, IsJudgement, IsPlan, IsWithoutNumber, KeepsLines}
+use Rattle.ans_check.specs.Mending.{TakesLines, WantsLines}
+use Rattle.ans_check.specs.declared.mend.Plan.{Plan}
+use Rattle.ans_check.specs.declared.mend.Judgement.{Judgement}
+use Rattle.ans_check.proofs.VerdictLemmas.{not_good}
+use Rattle.ans_model.specs.File.Layout.{FileParts, Laid, content}
+use Rattle.ans_model.specs.File.Record.{file_size, stated_lines, stated_size, stated_width}
+use Rattle.ans_model.specs.Screen.StartClass.{all_known, none_known}
+use Rattle.ans_model.specs.declared.fault.Fault.{Fault}
+use Rattle.ans_sauce.specs.Found.{body_in, record_in}
+use Rattle.ans_sauce.specs.Parts.{content_of, lines_of, record_of, size_of}
+use Rattle.ans_sauce.specs.Split.{IsSplit}
+use Rattle.ans_sauce.specs.declared.parts.Parts.{Parts}
+use Rattle.ans_sauce.proofs.LaidParts.{laid_body, laid_record}
+use Rattle.ans_mend.specs.declared.outcome.Unmended.{Unmended}
+use Rattle.ans_mend.specs.declared.outcome.Unmended.TheVariants.{Refused, Torn, NoLines, TooLong}
+use Rattle.ans_options.specs.declared.command.Mends.{Mends}
+use Rattle.ans_check.specs.Mending.{IsFaulty, IsNoPlan, IsReasonOfLines, content_in}
+use Rattle.ans_check.specs.FileVerdict.{Deserves}
+
+-- a file's parts have its record and its content
+pub split_record : (file : List ℕ) (parts : Parts) → IsSplit file parts → record_of parts ≡ record_in file
+split_record file parts h = h.shows.sauce ∙ sym (laid_record file h.apart h.accepts.laid)
+
+pub split_content : (file : List ℕ) (parts : Parts) → IsSplit file parts → content_of parts ≡ content_in file
+split_content file parts h = h.shows.content ∙ ap content (sym (laid_body file h.apart h.accepts.laid))
+
+-- the fault of its play from the cleared start is one of the file
+pub split_fault : (file : List ℕ) (parts : Parts) (fault : Fault) → IsSplit file parts
+    → Deserves (size_of parts) all_known (content_of parts) fault → IsFaulty file fault
+split_fault file parts fault h deserved =
+    inr (subst₂ (λ (sauce bytes : List ℕ). Deserves (stated_size sauce) all_known bytes fault)
+    (split_record file parts h) (split_content file parts h) deserved)
+
+-- its parts pass from the cleared start, and this is what they come to from every start
+pub judged : (file : List ℕ) (parts : Parts) (every : Option Fault) (judgement : Judgement) → IsSplit file parts
+    → IsGood (size_of parts) all_known (content_of parts) → EndsFrom (size_of parts) (content_of parts) none_known every
+    → judgement.front ≡ is_some every → judgement.content ≡ length (content_of parts)
+    → judgement.lines ≡ lines_of parts → IsJudgement file judgement
+judged file parts every judgement h cleared ends front count lines = record {
+  apart = h.apart;
+  accepts = h.accepts;
+  cleared = subst₂ (λ (sauce bytes : List ℕ). IsGood (stated_size sauce) all_known bytes) h.shows.sauce h.shows.content
+      cleared;
+  every = go_every every ends front;
+  some = go_some every ends front;
+  count = count ∙ ap length h.shows.content;
+  lines = lines ∙ ap stated_lines h.shows.sauce;
+}
+  where
+    go_every : (o : Option Fault) → EndsFrom (size_of parts) (content_of parts) none_known o → judgement.front ≡ is_some o
+        → judgement.front ≡ false → IsGood (stated_size h.apart.record_bytes) none_known (content h.apart.body)
+    go_every None good is off =
+        subst₂ (λ (sauce bytes : List ℕ). IsGood (stated_size sauce) none_known bytes) h.shows.sauce h.shows.content good
+    go_every (Some fault) deserved is off = absurd (true≢false (sym is ∙ off))
+
+    go_some : (o : Option Fault) → EndsFrom (size_of parts) (content_of parts) none_known o → judgement.front ≡ is_some o
+        → judgement.front ≡ true → ¬ IsGood (stated_size h.apart.record_bytes) none_known (content h.apart.body)
+    go_some None good is on = absurd (true≢false (sym on ∙ is))
+    go_some (Some fault) deserved is on =
+        subst₂ (λ (sauce bytes : List ℕ). ¬ IsGood (stated_size sauce) none_known bytes) h.shows.sauce h.shows.content
+        (not_good (size_of parts) none_known (content_of parts) fault deserved)
+
+-- a reason by its parts is one of the file
+pub split_reason : (mends : Mends) (lacks : Bool) (file : List ℕ) (parts : Parts) (reason : Unmended)
+    → IsSplit file parts → IsReasonOfLines mends lacks (record_of parts) (content_of parts) reason
+    → IsNoPlan mends lacks file reason
+split_reason mends lacks file parts reason h is =
+    inr (subst₂ (λ (sauce bytes : List ℕ). IsReasonOfLines mends lacks sauce bytes reason) (split_record file parts h)
+    (split_content file parts h) is)
+
+-- ---- what is taken
+
+pub kept_of : (good : Bool) (P : Type 0) → IsTrue good ↔ P → not good ≡ false → P
+kept_of true P h is = h.0 refl
+kept_of false P h is = absurd (true≢false is)
+
+pub wanted_of : (good : Bool) (P : Type 0) → IsTrue good ↔ P → not good ≡ true → ¬ P
+wanted_of true P h is = absurd (true≢false (sym is))
+wanted_of false P h is = λ p. true≢false (sym (h.1 p))
+
+pub none_of : (o : Option ℕ) → is_some o ≡ false → o ≡ None
+none_of None is = refl
+none_of (Some n) is = absurd (true≢false is)
+
+pub one_if : (b : Bool) → bool_byte b ≡ (if b then 1 else 0)
+one_if true = refl
+one_if false = refl
+
+module _ (mends : Mends) (lacks : Bool) (sauce bytes : List ℕ) (wanted : WantsLines lacks sauce bytes)
+    (asks : AsksForLeast mends) where
+  pub least_taken : (r : Result (Option ℕ) Unmended) → IfOk r (λ n. IfSome n (HasLeast false sauce bytes))
+      → IfOk r (λ n. IfSome n (TakesLines mends lacks sauce bytes))
+  least_taken (Ok None) h = h
+  least_taken (Ok (Some n)) h = (wanted, inr (asks, h))
+  least_taken (Err reason) h = h
+
+  pub least_kept : (r : Result (Option ℕ) Unmended)
+      → IfOk r (λ n. IfNone n ((lacks ≡ false) × IsNeverGood (stated_width sauce) bytes most_lines))
+      → IfOk r (λ n. IfNone n (KeepsLines mends lacks sauce bytes))
+  least_kept (Ok None) h = (h.0, inr (inr (asks, h.1)))
+  least_kept (Ok (Some n)) h = h
+  least_kept (Err reason) h = h
+
+  pub least_reason : (r : Result (Option ℕ) Unmended) → IfErr r (IsWithoutNumber lacks sauce bytes)
+      → IfErr r (IsReasonOfLines mends lacks sauce bytes)
+  least_reason (Ok n) h = h
+  least_reason (Err reason) h = (wanted, asks, h)
+
+-- what is to be done with the file of these parts
+pub planned : (mends : Mends) (lacks : Bool) (file : List ℕ) (parts : Parts) (plan : Plan) → IsSplit file parts
+    → IfNone plan.lines (KeepsLines mends lacks (record_of parts) (content_of parts))
+    → IfSome plan.lines (TakesLines mends lacks (record_of parts) (content_of parts))
+    → plan.stated ≡ (if lacks then 0 else stated_lines (record_of parts))
+    → plan.file_size ≡ file_size (record_of parts)
+    → plan.end_mark_counted ≡ (if file_size (record_of parts) == length (content_of parts) + 1 then 1 else 0)
+    → IsPlan mends lacks file plan
+planned mends lacks file parts plan h kept taken stated size counted =
+    let sauce = split_record file parts h in
+    let bytes = split_content file parts h in
+    record {
+      apart = h.apart;
+      accepts = h.accepts;
+      lines = go plan.lines kept taken;
+      stated = stated ∙ ap (λ (v : List ℕ). if lacks then 0 else stated_lines v) sauce;
+      size = size ∙ ap file_size sauce;
+      counted = counted ∙ ap₂ (λ (v w : List ℕ). if file_size v == length w + 1 then 1 else 0) sauce bytes;
+    }
+  where
+    go : (n : Option ℕ) → IfNone n (KeepsLines mends lacks (record_of parts) (content_of parts))
+        → IfSome n (TakesLines mends lacks (record_of parts) (content_of parts)) → AreLinesFor mends lacks file n
+    go None k t = subst₂ (λ (v w : List ℕ). KeepsLines mends lacks v w) (split_record file parts h)
+        (split_content file parts h) k
+    go (Some n) k t = subst₂ (λ (v w : List ℕ). TakesLines mends lacks v w n) (split_record file parts h)
+        (split_content file parts h) t

@@ -1,0 +1,258 @@
+-- A file that is mended passes from every start.
+use Rattle.std.proofs.Common.{◌≡◌, ◌⊎◌, inl, inr, ℕ, ◌+◌, ◌-◌, ◌≤◌, ◌<◌, ◌==◌, Bool, true, false, List, [], ◌∷◌, ◌++◌}
+use Rattle.std.proofs.Common.{length, take, drop, refl, sym, ap, ap₂, ◌∙◌, arith, subst, subst₂, append_assoc, true≢false}
+use Rattle.std.proofs.Common.{Option, Some, None, Result, Ok, Err}
+use Rattle.std.specs.Prelude.{if◌then◌else◌, ◌&&◌, ◌||◌, not, IfOk, IfErr, IsTrue, nat_le, bytes_eq, codes}
+use Rattle.std.specs.List.{list_any}
+use Rattle.std.proofs.lemmas.Bool.{eqb-true, leb-true}
+use Rattle.std.proofs.lemmas.List.{length-append, length-drop, length-take-le, take-append-drop}
+use Rattle.std.proofs.lemmas.List.Folds.{list_any-append}
+use Rattle.ans_model.specs.Bytes.{longest_file, most_lines}
+use Rattle.ans_model.specs.File.Layout.{FileParts, Laid, comment_block, content, is_end_mark, laid_file}
+use Rattle.ans_model.specs.File.Record.{comment_count, file_size, stated_lines, stated_size}
+use Rattle.ans_model.specs.File.Refusals.{Accepts, has_record}
+use Rattle.ans_model.specs.Screen.State.{Size}
+use Rattle.ans_model.specs.Screen.StartClass.{all_known, none_known}
+use Rattle.ans_model.specs.Verdict.Good.{Picture, GoodWith, IsGood}
+use Rattle.ans_model.proofs.ClassLemmas.{covers_all_known, covers_good}
+use Rattle.ans_sauce.specs.Found.{body_in, front_in, record_in}
+use Rattle.ans_sauce.proofs.LaidParts.{laid_body, laid_front, laid_record}
+use Rattle.ans_walks.specs.Mend.{mending}
+use Rattle.ans_walks.specs.MendedFile.{resized_parts, with_file_size}
+use Rattle.ans_walks.proofs.Mended.{makes_good}
+use Rattle.ans_walks.proofs.MendedFiles.{resized_accepted, resized_comments, resized_content, resized_size}
+use Rattle.ans_mend.specs.Drafts.{overwritten}
+use Rattle.ans_mend.specs.EndMark.{with_end_mark}
+use Rattle.ans_mend.specs.Fields.{two_bytes, with_lines, with_record}
+use Rattle.ans_mend.specs.declared.outcome.Mended.{Mended}
+use Rattle.ans_mend.specs.declared.outcome.Unmended.{Unmended}
+use Rattle.ans_mend.specs.declared.outcome.Unmended.TheVariants.{Refused, TooLong}
+use Rattle.ans_model.specs.declared.fault.Fault.{Fault}
+use Rattle.ans_mend.proofs.EndMarks.{ended}
+use Rattle.ans_options.specs.declared.command.Mends.{Mends}
+use Rattle.ans_check.specs.Mending.{IsFaulty, IsFinished, IsJudgement, IsMended, IsPlan, IsPrepared, IsReason, IsTooLong}
+use Rattle.ans_check.specs.Mending.{asks_for_lines, content_in, end_mark_counted, front_bytes, lacks_lines, lined, opened}
+use Rattle.ans_check.specs.declared.mend.Judgement.{Judgement}
+use Rattle.ans_check.specs.declared.mend.Plan.{Plan}
+use Rattle.ans_check.specs.declared.mend.Prepared.{Prepared}
+
+-- ---- the opened file
+
+overwritten_length : (offset : ℕ) (bytes file : List ℕ) → offset + length bytes ≤ length file
+    → length (overwritten offset bytes file) ≡ length file
+overwritten_length offset bytes file within =
+    length-append (take offset file) (bytes ++ drop (offset + length bytes) file)
+    ∙ ap₂ (λ (v w : ℕ). v + w) (length-take-le offset file (omega (arith, within)))
+    (length-append bytes (drop (offset + length bytes) file)
+    ∙ ap (λ (v : ℕ). length bytes + v) (length-drop (offset + length bytes) file))
+    ∙ omega (arith, within)
+
+both : (a b : Bool) → (a && b) ≡ true → (a ≡ true) × (b ≡ true)
+both true true is = (refl, refl)
+both true false is = absurd (true≢false (sym is))
+both false b is = absurd (true≢false (sym is))
+
+-- a record has 128 bytes
+long_of_record : (file : List ℕ) → has_record file ≡ true → 128 ≤ length file
+long_of_record file is =
+    leb-true 128 (length file) (both (nat_le 128 (length file)) (bytes_eq (take 5 (record_in file)) (codes "SAUCE")) is).0
+
+pub opened_length : (mends : Mends) (file : List ℕ) → length (opened mends file) ≡ length file
+opened_length mends file = go (lacks_lines mends file) refl
+  where
+    go : (lacks : Bool) → lacks_lines mends file ≡ lacks
+        → length (if lacks then with_record (with_lines most_lines (record_in file)) file else file) ≡ length file
+    go false is = refl
+    go true is =
+        let long : 128 ≤ length file = long_of_record file
+        (both (has_record file) (stated_lines (record_in file) == 0 && asks_for_lines mends) is).0 in
+        let record_long : length (record_in file) ≡ 128 = length-drop (length file - 128) file ∙ omega (arith, long) in
+        let front_long : length (front_in file) ≡ length file - 128 =
+        length-take-le (length file - 128) file (omega arith) in
+        let new_long : length (with_lines most_lines (record_in file)) ≡ 128 =
+        overwritten_length 98 (two_bytes most_lines) (record_in file) (omega (arith, record_long)) ∙ record_long in
+        length-append (front_in file) (with_lines most_lines (record_in file)) ∙ omega (arith, long, front_long, new_long)
+
+-- the lines that were stated before
+pub opened_stated : (mends : Mends) (file : List ℕ) (stated : ℕ)
+    → stated ≡ (if lacks_lines mends file then 0 else stated_lines (record_in (opened mends file)))
+    → stated ≡ stated_lines (record_in file)
+opened_stated mends file stated = go (lacks_lines mends file) refl
+  where
+    go : (lacks : Bool) → lacks_lines mends file ≡ lacks
+        → stated ≡ (if lacks then 0 else stated_lines (record_in (if lacks
+        then with_record (with_lines most_lines (record_in file)) file else file)))
+        → stated ≡ stated_lines (record_in file)
+    go false is same = same
+    go true is same =
+        let inner = (both (has_record file) (stated_lines (record_in file) == 0 && asks_for_lines mends) is).1 in
+        let none : stated_lines (record_in file) ≡ 0 =
+        eqb-true (stated_lines (record_in file)) 0 (both (stated_lines (record_in file) == 0) (asks_for_lines mends) inner).0 in
+        same ∙ sym none
+
+-- ---- the numbers of a plan
+
+pub planned_stated : (mends : Mends) (lacks : Bool) (file : List ℕ) (plan : Plan) → IsPlan mends lacks file plan
+    → plan.stated ≤ most_lines
+planned_stated mends lacks file plan h =
+    let limit : stated_lines (record_in file) ≤ most_lines =
+    rw (laid_record file h.apart h.accepts.laid) h.accepts.lines_in_limit in
+    go lacks h.stated limit
+  where
+    go : (lacks : Bool) → plan.stated ≡ (if lacks then 0 else stated_lines (record_in file))
+        → stated_lines (record_in file) ≤ most_lines → plan.stated ≤ most_lines
+    go true is limit = omega (arith, is)
+    go false is limit = omega (arith, is, limit)
+
+pub planned_counted : (mends : Mends) (lacks : Bool) (file : List ℕ) (plan : Plan) → IsPlan mends lacks file plan
+    → plan.end_mark_counted ≤ 1
+planned_counted mends lacks file plan h =
+    go (file_size (record_in file) == length (content_in file) + 1) h.counted
+  where
+    go : (more : Bool) → plan.end_mark_counted ≡ (if more then 1 else 0) → plan.end_mark_counted ≤ 1
+    go true is = omega (arith, is)
+    go false is = omega (arith, is)
+
+-- ---- the file that is written
+
+unmarked : (front : Bool) → list_any is_end_mark (front_bytes front) ≡ false
+unmarked true = refl
+unmarked false = refl
+
+any_behind : (xs ys : List ℕ) → list_any is_end_mark ys ≡ true → list_any is_end_mark (xs ++ ys) ≡ true
+any_behind xs ys there =
+    list_any-append is_end_mark xs ys ∙ ap (λ (b : Bool). list_any is_end_mark xs || b) there
+    ∙ or_on (list_any is_end_mark xs)
+  where
+    or_on : (b : Bool) → (b || true) ≡ true
+    or_on true = refl
+    or_on false = refl
+
+-- the bytes in front and the file with another FileSize are laid out as its parts are
+laid_behind : (front : List ℕ) (none : list_any is_end_mark front ≡ false) (n : ℕ) (file : List ℕ) (apart : FileParts)
+    (accepts : Accepts file apart)
+    → front ++ with_record (with_file_size n (record_in file)) file ≡ laid_file (resized_parts front n apart)
+laid_behind front none n file apart accepts =
+    let r : List ℕ = with_file_size n apart.record_bytes in
+    let block : List ℕ = comment_block (comment_count apart.record_bytes) apart.comment_bytes in
+    let record_is : with_file_size n (record_in file) ≡ r = ap (with_file_size n) (laid_record file apart accepts.laid) in
+    let same_block : comment_block (comment_count r) apart.comment_bytes ≡ block =
+    ap (λ (v : ℕ). comment_block v apart.comment_bytes) (resized_comments front none n file apart accepts) in
+    ap₂ (λ (f v : List ℕ). front ++ (f ++ v)) (laid_front file apart accepts.laid) record_is
+    ∙ ap (λ (v : List ℕ). front ++ v) (append_assoc apart.body block r)
+    ∙ sym (append_assoc front apart.body (block ++ r))
+    ∙ ap (λ (v : List ℕ). (front ++ apart.body) ++ (v ++ r)) (sym same_block)
+
+-- a content that passes from the cleared start passes from every start, behind the mending where it is wanted
+record Passing (z : Size) (front : Bool) (bytes : List ℕ) : Type 0 where
+  picture : Picture
+  cleared : GoodWith z all_known bytes picture
+  every : GoodWith z none_known (front_bytes front ++ bytes) picture
+
+passing : (z : Size) (front : Bool) (bytes : List ℕ) → IsGood z all_known bytes
+    → (front ≡ false → IsGood z none_known bytes) → Passing z front bytes
+passing z true bytes good every = record {
+  picture = good.0;
+  cleared = good.1;
+  every = makes_good z bytes good.0 good.1;
+}
+passing z false bytes good every =
+    let from_every = every refl in
+    record {
+      picture = from_every.0;
+      cleared = covers_good z none_known all_known bytes from_every.0 (covers_all_known none_known) from_every.1;
+      every = from_every.1;
+    }
+
+pub mended : (mends : Mends) (file : List ℕ) (prepared : Prepared) (settled : List ℕ) (judgement : Judgement)
+    (m : Mended) (draft : List ℕ) → IsPrepared mends file prepared settled → IsJudgement settled judgement
+    → IsFinished prepared judgement settled m draft → IsMended mends file m draft
+mended mends file prepared settled judgement m draft prep judged done =
+    let front : List ℕ = front_bytes m.front in
+    let none : list_any is_end_mark front ≡ false = unmarked m.front in
+    let n : ℕ = m.file_size.is in
+    let apart : FileParts = judged.apart in
+    let accepts : Accepts settled apart = judged.accepts in
+    let whole : front ++ draft ≡ laid_file (resized_parts front n apart) =
+    ap (λ (v : List ℕ). front ++ v) done.draft_is ∙ laid_behind front none n settled apart accepts in
+    let body_is : content_in settled ≡ content apart.body = ap content (laid_body settled apart accepts.laid) in
+    let content_is : content (front ++ apart.body) ≡ front ++ content apart.body =
+    resized_content front none n settled apart accepts in
+    let size_is : stated_size (with_file_size n apart.record_bytes) ≡ stated_size apart.record_bytes =
+    resized_size front none n settled apart accepts in
+    let passes : Passing (stated_size apart.record_bytes) m.front (content apart.body) =
+    passing (stated_size apart.record_bytes) m.front (content apart.body) judged.cleared
+    (λ off. judged.every (sym done.front ∙ off)) in
+    record {
+      cut = prep.cut;
+      is_cut = prep.is_cut;
+      settled = settled;
+      lines = prepared.plan.lines;
+      are_lines = prep.plan.lines;
+      settled_is = prep.settled_is;
+      draft_is = done.draft_is;
+      apart = resized_parts front n apart;
+      accepts = subst (λ (v : List ℕ). Accepts v (resized_parts front n apart)) (sym whole)
+          (resized_accepted front none n settled apart accepts);
+      content_is = content_is ∙ ap (λ (v : List ℕ). front ++ v) (sym body_is);
+      fits =
+          let all : length (content (front ++ apart.body)) ≡ length front + length (content apart.body) =
+          ap length content_is ∙ length-append front (content apart.body) in
+          let same : length front ≡ length (front_bytes judgement.front) =
+          ap (λ (b : Bool). length (front_bytes b)) done.front in
+          let size = done.size in
+          let count = judged.count in
+          let counted = prep.plan.counted in omega (arith, all, same, size, count, counted);
+      ended = any_behind front apart.body
+          (ended (lined prepared.plan.lines (opened mends prep.cut)) apart
+          (subst (λ (v : List ℕ). Laid v apart) prep.settled_is accepts.laid));
+      picture = passes.picture;
+      from_cleared = subst₂ (λ (z : Size) (bytes : List ℕ). GoodWith z all_known bytes passes.picture) (sym size_is)
+          (sym body_is) passes.cleared;
+      from_every = subst₂ (λ (z : Size) (bytes : List ℕ). GoodWith z none_known bytes passes.picture) (sym size_is)
+          (sym content_is) passes.every;
+      front = λ on. subst₂ (λ (z : Size) (bytes : List ℕ). ¬ IsGood z none_known bytes) (sym size_is) (sym body_is)
+          (judged.some (sym done.front ∙ on));
+      tail = ap (λ (v : ℕ). length prep.cut + v) done.tail ∙ prep.tail;
+      end_mark = done.end_mark ∙ prep.end_mark;
+      lines_were = done.lines_were ∙ prep.stated;
+      lines_are = done.lines_are ∙ judged.lines ∙ ap stated_lines (sym (laid_record settled apart accepts.laid));
+      size_was = done.size_was ∙ prep.plan.size;
+    }
+
+-- ---- and where it is not
+
+-- a fault of the settled file is a reason
+pub faulty : (mends : Mends) (file : List ℕ) (prepared : Prepared) (settled : List ℕ) (fault : Fault)
+    → IsPrepared mends file prepared settled → IsFaulty settled fault → IsReason mends file (Refused fault)
+faulty mends file prepared settled fault prep is =
+    (prep.cut, prep.is_cut, inr (settled, (prepared.plan.lines, prep.plan.lines, prep.settled_is), is))
+
+-- and so is want of room for the mending
+pub too_long : (mends : Mends) (file : List ℕ) (prepared : Prepared) (settled : List ℕ) (judgement : Judgement)
+    (reason : Unmended) → IsPrepared mends file prepared settled → IsJudgement settled judgement
+    → IsTooLong judgement settled reason → IsReason mends file reason
+too_long mends file prepared settled judgement reason prep judged is =
+    let apart : FileParts = judged.apart in
+    let not_good : ¬ IsGood (stated_size (record_in settled)) none_known (content_in settled) =
+    subst₂ (λ (r b : List ℕ). ¬ IsGood (stated_size r) none_known (content b))
+    (sym (laid_record settled apart judged.accepts.laid)) (sym (laid_body settled apart judged.accepts.laid))
+    (judged.some is.1) in
+    subst (λ (r : Unmended). IsReason mends file r) (sym is.0) (
+      prep.cut,
+      prep.is_cut,
+      inr (settled, (prepared.plan.lines, prep.plan.lines, prep.settled_is), inr (is.2, not_good)),
+    )
+
+-- what finishing comes to
+module _ (mends : Mends) (file : List ℕ) (prepared : Prepared) (settled : List ℕ) (judgement : Judgement)
+    (prep : IsPrepared mends file prepared settled) (judged : IsJudgement settled judgement) (draft : List ℕ) where
+  pub finished : (r : Result Mended Unmended) → IfOk r (λ m. IsFinished prepared judgement settled m draft)
+      → IfOk r (λ m. IsMended mends file m draft)
+  finished (Ok m) done = mended mends file prepared settled judgement m draft prep judged done
+  finished (Err reason) done = done
+
+  pub unfinished : (r : Result Mended Unmended) → IfErr r (IsTooLong judgement settled)
+      → IfErr r (IsReason mends file)
+  unfinished (Ok m) is = is
+  unfinished (Err reason) is = too_long mends file prepared settled judgement reason prep judged is

@@ -1,0 +1,25 @@
+use Rattle.std.proofs.Common.{◌≡◌, rules, ◌∙◌, sym}
+use Rattle.ans_sauce.specs.Parts.{content_of, record_of}
+use Rattle.ans_check.specs.Mending.{AsksForLeast, WantsLines}
+use Rattle.ans_check.proofs.MendLemmas.{least_taken, least_reason, none_of}
+use Rattle.ans_check.proofs.mend.number_wanted.Goals as goal
+
+pub returns-clause-taken : goal.returns-clause-taken
+returns-clause-taken c =
+    let sauce = record_of c.args.parts.now in
+    let content = content_of c.args.parts.now in
+    let wanted : WantsLines c.args.lacks sauce content = c.wants_lines.ensures.wanted c.if-not-wants_lines.false in
+    let asks : AsksForLeast c.args.mends.now =
+    (none_of c.args.mends.now.lines (sym c.is_some.ensures ∙ c.if-is_some.false), c.if-not-mends.false) in
+    least_taken c.args.mends.now c.args.lacks sauce content wanted asks c.least_wanted.result
+    c.least_wanted.ensures.least
+
+pub returns-clause-reason : goal.returns-clause-reason
+returns-clause-reason c =
+    let sauce = record_of c.args.parts.now in
+    let content = content_of c.args.parts.now in
+    let wanted : WantsLines c.args.lacks sauce content = c.wants_lines.ensures.wanted c.if-not-wants_lines.false in
+    let asks : AsksForLeast c.args.mends.now =
+    (none_of c.args.mends.now.lines (sym c.is_some.ensures ∙ c.if-is_some.false), c.if-not-mends.false) in
+    least_reason c.args.mends.now c.args.lacks sauce content wanted asks c.least_wanted.result
+    c.least_wanted.ensures.reason

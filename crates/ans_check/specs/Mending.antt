@@ -1,0 +1,244 @@
+-- How a file is mended, and why it is not.
+use Rattle.std.specs.Prelude.{◌≡◌, ◌⊎◌, ℕ, ◌+◌, ◌<◌, ◌≤◌, Bool, true, false, not, ◌&&◌, ◌||◌, ◌==◌, IsTrue, List, [], ◌++◌}
+use Rattle.std.specs.Prelude.{length, Option, None, Some, is_some, MatchOption, if◌then◌else◌}
+use Rattle.std.specs.List.{list_any}
+use Rattle.ans_model.specs.Bytes.{longest_file, most_lines}
+use Rattle.ans_model.specs.File.Layout.{FileParts, content, is_end_mark}
+use Rattle.ans_model.specs.File.Record.{file_size, is_non_blink, stated_lines, stated_size, stated_width}
+use Rattle.ans_model.specs.File.Refusals.{Accepts, has_record}
+use Rattle.ans_model.specs.Screen.State.{sized}
+use Rattle.ans_model.specs.Screen.StartClass.{all_known, none_known}
+use Rattle.ans_model.specs.Verdict.Good.{Picture, GoodWith, IsGood}
+use Rattle.ans_model.specs.declared.fault.Fault.{Fault}
+use Rattle.ans_sauce.specs.Found.{body_in, record_in}
+use Rattle.ans_sauce.specs.Judged.{IsRecordFault}
+use Rattle.ans_walks.specs.Hints.{are_torn}
+use Rattle.ans_walks.specs.Lines.{IsLeastLines, IsNeverGood}
+use Rattle.ans_walks.specs.Mend.{mending}
+use Rattle.ans_walks.specs.MendedFile.{with_file_size}
+use Rattle.ans_walks.specs.declared.hints.Hints.{Hints}
+use Rattle.ans_why.specs.Explained.{AreHintsOf}
+use Rattle.ans_mend.specs.EndMark.{end_mark_put, with_end_mark}
+use Rattle.ans_mend.specs.Fields.{with_lines, with_record}
+use Rattle.ans_mend.specs.Tail.{IsTailCut}
+use Rattle.ans_mend.specs.declared.outcome.Mended.{Mended}
+use Rattle.ans_mend.specs.declared.outcome.Unmended.{Unmended}
+use Rattle.ans_mend.specs.declared.outcome.Unmended.TheVariants.{Refused, Torn, NoLines, TooLong}
+use Rattle.ans_options.specs.declared.command.Mends.{Mends}
+use Rattle.ans_check.specs.FileVerdict.{Deserves}
+use Rattle.ans_check.specs.declared.mend.Judgement.{Judgement}
+use Rattle.ans_check.specs.declared.mend.Plan.{Plan}
+use Rattle.ans_check.specs.declared.mend.Prepared.{Prepared}
+
+-- ---- the file of which the tail was cut
+
+-- a number of lines is asked for
+abbrev pub asks_for_lines : Mends → Bool
+asks_for_lines mends = is_some mends.lines || mends.least_lines
+
+-- the record states no lines, and a number is asked for
+abbrev pub lacks_lines : Mends → List ℕ → Bool
+lacks_lines mends file = has_record file && (stated_lines (record_in file) == 0 && asks_for_lines mends)
+
+-- until that is settled, it states the most
+abbrev pub opened : Mends → List ℕ → List ℕ
+opened mends file = if lacks_lines mends file then with_record (with_lines most_lines (record_in file)) file else file
+
+-- the content of a file with a record
+abbrev pub content_in : List ℕ → List ℕ
+content_in file = content (body_in file)
+
+-- ---- the lines, by the record and the content of what is left
+
+-- the hints of the whole content on so many lines say that its rows are torn, or that they are not
+abbrev pub TellsTorn : Bool → List ℕ → List ℕ → ℕ → Type 0
+TellsTorn torn sauce content lines = (hints : Hints)
+    × AreHintsOf (sized (stated_width sauce) lines) (is_non_blink sauce) content [] hints × (are_torn hints ≡ torn)
+
+-- the least number of lines with which the content passes from the cleared start, and whether its rows are torn on them
+abbrev pub HasLeast : Bool → List ℕ → List ℕ → ℕ → Type 0
+HasLeast torn sauce content lines =
+    IsLeastLines (stated_width sauce) content lines × TellsTorn torn sauce content lines
+
+-- the least number is asked for, and no other
+abbrev pub AsksForLeast : Mends → Type 0
+AsksForLeast mends = (mends.lines ≡ None) × IsTrue mends.least_lines
+
+-- The number that is asked for: the one that is given; else the least one, if the rows are not torn.
+abbrev pub IsAskedNumber : Mends → List ℕ → List ℕ → ℕ → Type 0
+IsAskedNumber mends sauce content lines =
+    (mends.lines ≡ Some lines) ⊎ (AsksForLeast mends × HasLeast false sauce content lines)
+
+-- the least number is asked for, and there is none
+abbrev pub HasNoNumber : Mends → List ℕ → List ℕ → Type 0
+HasNoNumber mends sauce content = AsksForLeast mends × IsNeverGood (stated_width sauce) content most_lines
+
+-- the content passes from the cleared start on the lines that the record states
+abbrev pub PassesAsStated : List ℕ → List ℕ → Type 0
+PassesAsStated sauce content = IsGood (stated_size sauce) all_known content
+
+-- The record states some lines, and is left as it is: the content passes with them, or no number is asked for, or none
+-- would do.
+abbrev pub KeepsLines : Mends → Bool → List ℕ → List ℕ → Type 0
+KeepsLines mends lacks sauce content = (lacks ≡ false)
+    × (PassesAsStated sauce content ⊎ (asks_for_lines mends ≡ false) ⊎ HasNoNumber mends sauce content)
+
+-- none are stated, or the content does not pass with those that are
+abbrev pub WantsLines : Bool → List ℕ → List ℕ → Type 0
+WantsLines lacks sauce content = (lacks ≡ true) ⊎ (¬ PassesAsStated sauce content)
+
+-- others are wanted, and the number that is asked for is this one
+abbrev pub TakesLines : Mends → Bool → List ℕ → List ℕ → ℕ → Type 0
+TakesLines mends lacks sauce content lines = WantsLines lacks sauce content × IsAskedNumber mends sauce content lines
+
+-- the file with these lines, where some are taken
+abbrev pub lined : Option ℕ → List ℕ → List ℕ
+lined None file = file
+lined (Some lines) file = with_record (with_lines lines (record_in file)) file
+
+-- so many lines are taken, or none, and those that are stated stay
+abbrev pub AreLinesFor : Mends → Bool → List ℕ → Option ℕ → Type 0
+AreLinesFor mends lacks file lines = MatchOption lines (KeepsLines mends lacks (record_in file) (content_in file))
+    (TakesLines mends lacks (record_in file) (content_in file))
+
+-- The file with its lines settled, and with an end mark behind its content.
+abbrev pub IsSettled : Mends → List ℕ → List ℕ → Type 0
+IsSettled mends cut settled = (lines : Option ℕ) × AreLinesFor mends (lacks_lines mends cut) (opened mends cut) lines
+    × (settled ≡ with_end_mark (lined lines (opened mends cut)))
+
+-- ---- the file that is written
+
+-- the bytes before those of the draft
+abbrev pub front_bytes : Bool → List ℕ
+front_bytes front = if front then mending else []
+
+-- one where the stated FileSize was one more than the content's length, as some programs count the end mark
+abbrev pub end_mark_counted : List ℕ → ℕ
+end_mark_counted file = if file_size (record_in file) == length (content_in file) + 1 then 1 else 0
+
+-- what is to be done with a file of which some lines are stated: it is accepted, so many lines are taken, and the FileSize
+-- is this one
+pub record IsPlan (mends : Mends) (lacks : Bool) (file : List ℕ) (plan : Plan) : Type 0 where
+  pub apart : FileParts
+  pub accepts : Accepts file apart
+  pub lines : AreLinesFor mends lacks file plan.lines
+  pub stated : plan.stated ≡ (if lacks then 0 else stated_lines (record_in file))
+  pub size : plan.file_size ≡ file_size (record_in file)
+  pub counted : plan.end_mark_counted ≡ end_mark_counted file
+
+-- the file is accepted, and its content passes from the cleared start; the front is wanted where it does not from every
+-- start
+pub record IsJudgement (file : List ℕ) (judgement : Judgement) : Type 0 where
+  pub apart : FileParts
+  pub accepts : Accepts file apart
+  pub cleared : IsGood (stated_size apart.record_bytes) all_known (content apart.body)
+  pub every : judgement.front ≡ false → IsGood (stated_size apart.record_bytes) none_known (content apart.body)
+  pub some : judgement.front ≡ true → ¬ IsGood (stated_size apart.record_bytes) none_known (content apart.body)
+  pub count : judgement.content ≡ length (content apart.body)
+  pub lines : judgement.lines ≡ stated_lines apart.record_bytes
+
+-- all that is done before the content is judged
+pub record IsPrepared (mends : Mends) (file : List ℕ) (prepared : Prepared) (settled : List ℕ) : Type 0 where
+  pub cut : List ℕ
+  pub is_cut : IsTailCut file cut
+  pub plan : IsPlan mends (lacks_lines mends cut) (opened mends cut) prepared.plan
+  pub settled_is : settled ≡ with_end_mark (lined prepared.plan.lines (opened mends cut))
+  pub tail : length cut + prepared.tail ≡ length file
+  pub end_mark : prepared.end_mark ≡ end_mark_put (lined prepared.plan.lines (opened mends cut))
+  pub stated : prepared.plan.stated ≡ stated_lines (record_in cut)
+
+-- the FileSize that counts the mending, where it is wanted
+abbrev pub size_for : Prepared → Judgement → ℕ
+size_for prepared judgement =
+    judgement.content + length (front_bytes judgement.front) + prepared.plan.end_mark_counted
+
+-- the FileSize was set so, and what was changed in all is told
+pub record IsFinished (prepared : Prepared) (judgement : Judgement) (settled : List ℕ) (mended : Mended)
+    (draft : List ℕ) : Type 0 where
+  pub draft_is : draft ≡ with_record (with_file_size mended.file_size.is (record_in settled)) settled
+  pub size : mended.file_size.is ≡ size_for prepared judgement
+  pub size_was : mended.file_size.was ≡ prepared.plan.file_size
+  pub front : mended.front ≡ judgement.front
+  pub tail : mended.tail ≡ prepared.tail
+  pub end_mark : mended.end_mark ≡ prepared.end_mark
+  pub lines_were : mended.lines.was ≡ prepared.plan.stated
+  pub lines_are : mended.lines.is ≡ judgement.lines
+  pub room : length settled + length (front_bytes judgement.front) ≤ longest_file
+
+-- the mending is wanted, and there is no room for it
+abbrev pub IsTooLong : Judgement → List ℕ → Unmended → Type 0
+IsTooLong judgement settled reason = (reason ≡ TooLong) × (judgement.front ≡ true)
+    × (longest_file < length settled + length mending)
+
+-- The bytes in front and those of the draft are a file that passes from every start, and shows what the changed content
+-- shows from the cleared one. Its record is that of the file but for the lines and the FileSize, which fits.
+pub record IsMended (mends : Mends) (file : List ℕ) (mended : Mended) (draft : List ℕ) : Type 0 where
+  pub cut : List ℕ
+  pub is_cut : IsTailCut file cut
+  pub settled : List ℕ
+  pub lines : Option ℕ
+  pub are_lines : AreLinesFor mends (lacks_lines mends cut) (opened mends cut) lines
+  pub settled_is : settled ≡ with_end_mark (lined lines (opened mends cut))
+  pub draft_is : draft ≡ with_record (with_file_size mended.file_size.is (record_in settled)) settled
+  pub apart : FileParts
+  pub accepts : Accepts (front_bytes mended.front ++ draft) apart
+  pub content_is : content apart.body ≡ front_bytes mended.front ++ content_in settled
+  pub fits : mended.file_size.is ≡ length (content apart.body) + end_mark_counted (opened mends cut)
+  pub ended : IsTrue (list_any is_end_mark apart.body)
+  pub picture : Picture
+  pub from_cleared : GoodWith (stated_size apart.record_bytes) all_known (content_in settled) picture
+  pub from_every : GoodWith (stated_size apart.record_bytes) none_known (content apart.body) picture
+  -- the mending stands in front where the content does not pass from every start by itself
+  pub front : IsTrue mended.front → ¬ IsGood (stated_size apart.record_bytes) none_known (content_in settled)
+  pub tail : length cut + mended.tail ≡ length file
+  pub end_mark : mended.end_mark ≡ end_mark_put (lined lines (opened mends cut))
+  pub lines_were : mended.lines.was ≡ stated_lines (record_in cut)
+  pub lines_are : mended.lines.is ≡ stated_lines (record_in settled)
+  pub size_was : mended.file_size.was ≡ file_size (record_in (opened mends cut))
+
+-- ---- why there is none
+
+-- the rows are torn on the least number; or no lines are stated, and no number does
+abbrev pub IsWithoutNumber : Bool → List ℕ → List ℕ → Unmended → Type 0
+IsWithoutNumber lacks sauce content Torn = (lines : ℕ) × HasLeast true sauce content lines
+IsWithoutNumber lacks sauce content NoLines = (lacks ≡ true) × IsNeverGood (stated_width sauce) content most_lines
+IsWithoutNumber lacks sauce content _ = ⊥
+
+-- the number of lines is why: others than those that are stated are wanted, the least number is asked for, and there is
+-- none to take
+abbrev pub IsReasonOfLines : Mends → Bool → List ℕ → List ℕ → Unmended → Type 0
+IsReasonOfLines mends lacks sauce content reason =
+    WantsLines lacks sauce content × AsksForLeast mends × IsWithoutNumber lacks sauce content reason
+
+-- The file has this fault: its record has, or its content from the cleared start.
+abbrev pub IsFaulty : List ℕ → Fault → Type 0
+IsFaulty file fault =
+    IsRecordFault file fault ⊎ Deserves (stated_size (record_in file)) all_known (content_in file) fault
+
+-- the record has this fault, or the number of lines is why
+abbrev pub IsNoPlan : Mends → Bool → List ℕ → Unmended → Type 0
+IsNoPlan mends lacks file reason = ((fault : Fault) × (reason ≡ Refused fault) × IsRecordFault file fault)
+    ⊎ IsReasonOfLines mends lacks (record_in file) (content_in file) reason
+
+-- With all done that was asked for, the content does not pass; or there is no room for it, or for the mending that it
+-- needs.
+abbrev pub IsReasonOfContent : List ℕ → Unmended → Type 0
+IsReasonOfContent settled (Refused fault) = IsFaulty settled fault
+IsReasonOfContent settled TooLong = (longest_file < length settled) ⊎ ((longest_file < length settled + length mending)
+    × (¬ IsGood (stated_size (record_in settled)) none_known (content_in settled)))
+IsReasonOfContent settled _ = ⊥
+
+-- what is true of a settled file is true of one to which this one may come
+abbrev pub HasSettled : Mends → List ℕ → (List ℕ → Type 0) → Type 0
+HasSettled mends cut holds =
+    (settled : List ℕ) × IsSettled mends cut settled × holds settled
+
+-- The reason is true of the file of which the tail was cut.
+abbrev pub IsReasonFor : Mends → List ℕ → Unmended → Type 0
+IsReasonFor mends cut reason =
+    IsNoPlan mends (lacks_lines mends cut) (opened mends cut) reason
+    ⊎ HasSettled mends cut (λ settled. IsReasonOfContent settled reason)
+
+-- the reason is true of the file
+abbrev pub IsReason : Mends → List ℕ → Unmended → Type 0
+IsReason mends file reason = (cut : List ℕ) × IsTailCut file cut × IsReasonFor mends cut reason

@@ -1,0 +1,4 @@
+mod Pushing
+mod Overwriting
+mod LastRecord
+pub mod EndMarks

@@ -1,0 +1,4 @@
+pub mod Drafts
+pub mod Fields
+pub mod Tail
+pub mod EndMark

@@ -1,0 +1,20 @@
+-- What stands behind a record and is none of the drawing.
+use Rattle.std.specs.Prelude.{◌≡◌, ◌⊎◌, ℕ, ◌+◌, IsTrue, Bool, ◌||◌, ◌==◌, List, take, drop, Some}
+use Rattle.std.specs.List.{list_all}
+use Rattle.ans_model.specs.File.Layout.{is_end_mark}
+use Rattle.ans_sauce.specs.Found.{IsLastRecord}
+
+-- 00h, a line feed, a return, an end mark: what transfers and editors put behind a file
+abbrev pub is_tail_byte : ℕ → Bool
+is_tail_byte b = b == 0x00 || b == 0x0A || b == 0x0D || is_end_mark b
+
+-- behind the last record of version 00, which stands here, stand only such bytes
+pub record HasTail (file : List ℕ) (place : ℕ) : Type 0 where
+  pub last : IsLastRecord file (Some place)
+  pub tail : IsTrue (list_all is_tail_byte (drop (place + 128) file))
+
+-- They are cut, where only such bytes stand there; and else nothing is.
+abbrev pub IsTailCut : List ℕ → List ℕ → Type 0
+IsTailCut file cut =
+    ((place : ℕ) × HasTail file place × (cut ≡ take (place + 128) file))
+    ⊎ (((place : ℕ) → ¬ HasTail file place) × (cut ≡ file))

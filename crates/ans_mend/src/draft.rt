@@ -1,0 +1,106 @@
+//! A file that is changed in place.
+
+ghost use Rattle.std.specs.Prelude.{◌≡◌, ◌+◌, ◌-◌, ◌≤◌, ◌<◌, ◌∷◌, ◌++◌, length, take, drop};
+ghost use Rattle.ans_sauce.specs.Found.{front_in, record_in};
+ghost use Rattle.ans_mend.specs.Drafts.{draft_of, overwritten, with_byte};
+
+use std::marker::Model;
+
+/// SAUCE 00.5, record layout: how many bytes a record has.
+pub(crate) const RECORD_SIZE: usize = 128;
+
+/// A file in memory that is lent, with room for more bytes behind it. It is changed in place.
+#[derive(Drop)]
+pub struct Draft<'a> {
+    memory: &'a mut [u8],
+    used: usize,
+}
+
+impl<'a> Model for Draft<'a> {
+    ghost use Rattle.std.specs.Prelude.{◌-◌, ◌≤◌, length, take};
+    ghost use Rattle.ans_mend.specs.Drafts.{DraftView, draft_of};
+
+    ghost Value = { DraftView };
+
+    ghost view = { λ d. draft_of (take d.used d.memory.now) (length d.memory.now - d.used) };
+
+    ghost invariant = { λ d. d.used ≤ length d.memory.now };
+}
+
+impl<'a> Draft<'a> {
+    /// The file in the first `count` bytes of a memory. The bytes behind it are room.
+    pub fn new(memory: &'a mut [u8], count: usize) -> Draft<'a>
+        requires { count ≤ length memory.old }
+        ensures { result ≡ draft_of (take count memory.old) (length memory.old - count) }
+    {
+        Draft {
+            memory,
+            used: count,
+        }
+    }
+
+    /// The file as it is now.
+    pub fn file(&self) -> &[u8]
+        ensures { result.now ≡ self.now.file }
+    {
+        &self.memory[..self.used]
+    }
+
+    /// Cuts off what stands behind the first `count` bytes. It is room then.
+    pub(crate) fn cut(&mut self, count: usize)
+        requires { count ≤ length self.old.file }
+        ensures { self.new ≡ draft_of (take count self.old.file)
+            (self.old.room + (length self.old.file - count)) }
+    {
+        self.used = count;
+    }
+
+    /// Puts a byte at the offset, before what stands there.
+    pub(crate) fn insert(&mut self, offset: usize, byte: u8)
+        requires within { offset ≤ length self.old.file }
+        requires room { 1 ≤ self.old.room }
+        ensures { self.new ≡ draft_of (with_byte offset byte self.old.file) (self.old.room - 1) }
+    {
+        push_in(self.memory, self.used, offset, byte);
+        self.used += 1;
+    }
+
+    /// Writes bytes over as many of the record, from this offset in it on.
+    #[tactic(auto, using(crate::proofs::Overwriting::of_record))]
+    pub(crate) fn write_in_record(&mut self, offset: usize, bytes: &[u8])
+        requires record { 128 ≤ length self.old.file }
+        requires within { offset + length bytes.now ≤ 128 }
+        ensures { self.new
+            ≡ draft_of (front_in self.old.file ++ overwritten offset bytes.now (record_in self.old.file))
+            self.old.room }
+    {
+        let start = self.file().len() - RECORD_SIZE;
+        self.write(start + offset, bytes);
+    }
+
+    fn write(&mut self, offset: usize, bytes: &[u8])
+        requires { offset + length bytes.now ≤ length self.old.file }
+        ensures { self.new ≡ draft_of (overwritten offset bytes.now self.old.file) self.old.room }
+    {
+        overwrite(&mut self.memory[..self.used], offset, bytes);
+    }
+}
+
+fn overwrite(file: &mut [u8], offset: usize, bytes: &[u8])
+    requires { offset + length bytes.now ≤ length file.old }
+    ensures { file.new ≡ overwritten offset bytes.now file.old }
+{
+    file[offset..offset + bytes.len()].copy_from_slice(bytes);
+}
+
+/// Puts a byte at the offset in the first `count` bytes, and moves those from there on by one.
+#[tactic(auto, using(crate::proofs::Pushing::pushed_in))]
+fn push_in(memory: &mut [u8], count: usize, offset: usize, byte: u8)
+    requires within { offset ≤ count }
+    requires room { count < length memory.old }
+    ensures same_length { length memory.new ≡ length memory.old }
+    ensures pushed { take (count + 1) memory.new ≡ with_byte offset byte (take count memory.old) }
+{
+    memory.copy_within(offset..count, offset + 1);
+    memory[offset] = byte;
+}

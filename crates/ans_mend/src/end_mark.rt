@@ -1,0 +1,49 @@
+//! The end mark behind the content.
+
+ghost use Rattle.std.specs.Prelude.{◌≡◌, ◌≤◌, IsTrue, not};
+ghost use Rattle.std.specs.List.{list_any};
+ghost use Rattle.ans_model.specs.File.Layout.{is_end_mark};
+ghost use Rattle.ans_model.specs.File.Refusals.{has_record};
+ghost use Rattle.ans_sauce.specs.Found.{body_in};
+ghost use Rattle.ans_mend.specs.Drafts.{memory_of};
+ghost use Rattle.ans_mend.specs.EndMark.{end_mark_put, with_end_mark};
+
+use crate::draft::Draft;
+use ans_sauce::{body_before, cut_record};
+
+/// SAUCE 00.5: the end of file character.
+const END_MARK: u8 = 0x1A;
+
+fn has_end_mark(body: &[u8]) -> bool
+    ensures { result ≡ list_any is_end_mark body.now }
+{
+    body.iter().any(|byte| *byte == END_MARK)
+}
+
+/// Where the end mark is to be put, in bytes from the file's start.
+fn place_of_end_mark(file: &[u8]) -> Option<usize>
+    ensures { result ≡ end_mark_put file.now }
+{
+    let (front, sauce) = cut_record(file)?;
+    let body = body_before(front, &sauce);
+    if has_end_mark(body) {
+        return None;
+    }
+    Some(body.len())
+}
+
+impl<'a> Draft<'a> {
+    /// Puts an end mark behind the content of a file that has a record, before the comments that the
+    /// record counts, where there is none (SAUCE 00.5, file layout). Returns its offset, in bytes from the
+    /// file's start.
+    pub fn put_end_mark(&mut self) -> Option<usize>
+        requires { 1 ≤ self.old.room }
+        ensures file { self.new.file ≡ with_end_mark self.old.file }
+        ensures offset { result ≡ end_mark_put self.old.file }
+        ensures memory { memory_of self.new ≡ memory_of self.old }
+    {
+        let place = place_of_end_mark(self.file())?;
+        self.insert(place, END_MARK);
+        Some(place)
+    }
+}

@@ -1,0 +1,39 @@
+//! What comes of mending.
+
+use ans_model::fault::Fault;
+
+/// What was changed of a file that is mended.
+#[derive(Debug, Clone, Copy, PartialEq, Eq)]
+pub struct Mended {
+    /// How many bytes were cut off behind the record.
+    pub tail: usize,
+    /// Where an end mark was put, as an offset in bytes from the file's start.
+    pub end_mark: Option<usize>,
+    /// The number of lines that the record stated, and the one that it states now.
+    pub lines: Reset,
+    /// Whether the safe beginning is to stand before the bytes of the draft.
+    pub front: bool,
+    /// The size of the file that the record stated, and the one that it states now, in bytes.
+    pub file_size: Reset,
+}
+
+/// A number in a record that was set anew, to the same or to another one.
+#[derive(Debug, Clone, Copy, PartialEq, Eq)]
+pub struct Reset {
+    pub was: u32,
+    pub is: u32,
+}
+
+/// Why a file is not mended.
+#[derive(Debug, Clone, Copy, PartialEq, Eq)]
+pub enum Unmended {
+    /// Its record or its layout has this fault, or its content has it from the cleared start, when all that
+    /// was asked for is done.
+    Refused(Fault),
+    /// The least number of lines was asked for, and its rows are torn.
+    Torn,
+    /// It states no lines. The least number was asked for, and it passes with none up to 8192.
+    NoLines,
+    /// With the safe beginning it would have more than 16,777,216 bytes.
+    TooLong,
+}

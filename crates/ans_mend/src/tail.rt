@@ -1,0 +1,41 @@
+//! What stands behind a record and is none of the drawing.
+
+ghost use Rattle.std.specs.Prelude.{◌≡◌, ◌+◌, ◌-◌, length};
+ghost use Rattle.std.specs.List.{list_all};
+ghost use Rattle.ans_mend.specs.Drafts.{memory_of};
+ghost use Rattle.ans_mend.specs.Tail.{IsTailCut, is_tail_byte};
+
+use crate::draft::{Draft, RECORD_SIZE};
+use ans_sauce::last_record_place;
+
+fn is_tail_byte(byte: u8) -> bool
+    ensures { result ≡ is_tail_byte byte }
+{
+    matches!(byte, 0x00 | b'\n' | b'\r' | 0x1A)
+}
+
+fn is_tail(bytes: &[u8]) -> bool
+    ensures { result ≡ list_all is_tail_byte bytes.now }
+{
+    bytes.iter().all(|byte| is_tail_byte(*byte))
+}
+
+impl<'a> Draft<'a> {
+    /// Cuts off what stands behind the last record of version 00, where that is nothing but zero bytes,
+    /// line feeds, returns and end marks. Returns how many bytes were cut.
+    pub fn cut_tail(&mut self) -> usize
+        ensures cut { IsTailCut self.old.file self.new.file }
+        ensures count { length self.new.file + result ≡ length self.old.file }
+        ensures memory { memory_of self.new ≡ memory_of self.old }
+    {
+        let file = self.file();
+        let length = file.len();
+        match last_record_place(file) {
+            Some(place) if is_tail(file.split_at(place + RECORD_SIZE).1) => {
+                self.cut(place + RECORD_SIZE);
+                length - (place + RECORD_SIZE)
+            }
+            _ => 0,
+        }
+    }
+}
