@@ -1,5 +1,5 @@
 -- What a file's parts say of mending.
-use Rattle.std.proofs.Common.{◌≡◌, ◌≢◌, ◌⊎◌, inl, inr, ℕ, ◌≤◌, Bool, true, false, List, [], length, refl, sym, ap, ◌∙◌}
+use Rattle.std.proofs.Common.{◌≡◌, inr, ℕ, Bool, true, false, List, length, refl, sym, ap, ◌∙◌}
 use Rattle.std.proofs.Common.{Option, Some, None, true≢false}
 use Rattle.std.proofs.Common.{subst₂, ap₂, Result, Ok, Err, ◌+◌, ◌==◌}
 use Rattle.std.specs.Prelude.{is_some, not, IsTrue, ◌↔◌, IfOk, IfErr, IfSome, IfNone, if◌then◌else◌}
@@ -8,22 +8,22 @@ use Rattle.ans_model.specs.Bytes.{most_lines}
 use Rattle.ans_walks.specs.Lines.{IsNeverGood}
 use Rattle.ans_model.specs.Verdict.Good.{IsGood}
 use Rattle.ans_check.specs.StartParts.{EndsFrom}
-use Rattle.ans_check.specs.Mending.{AreLinesFor, AsksForLeast, HasLeast, IsJudgement, IsPlan, IsWithoutNumber, KeepsLines}
+use Rattle.ans_check.specs.Mending.{AreLinesFor, AsksForLeast, HasLeast, IsWithoutNumber, KeepsLines}
+use Rattle.ans_check.specs.MendingSteps.{IsJudgement, IsPlan}
 use Rattle.ans_check.specs.Mending.{TakesLines, WantsLines}
 use Rattle.ans_check.specs.declared.mend.Plan.{Plan}
 use Rattle.ans_check.specs.declared.mend.Judgement.{Judgement}
 use Rattle.ans_check.proofs.VerdictLemmas.{not_good}
-use Rattle.ans_model.specs.File.Layout.{FileParts, Laid, content}
+use Rattle.ans_model.specs.File.Layout.{content}
 use Rattle.ans_model.specs.File.Record.{file_size, stated_lines, stated_size, stated_width}
 use Rattle.ans_model.specs.Screen.StartClass.{all_known, none_known}
 use Rattle.ans_model.specs.declared.fault.Fault.{Fault}
-use Rattle.ans_sauce.specs.Found.{body_in, record_in}
+use Rattle.ans_sauce.specs.Found.{record_in}
 use Rattle.ans_sauce.specs.Parts.{content_of, lines_of, record_of, size_of}
 use Rattle.ans_sauce.specs.Split.{IsSplit}
 use Rattle.ans_sauce.specs.declared.parts.Parts.{Parts}
 use Rattle.ans_sauce.proofs.LaidParts.{laid_body, laid_record}
 use Rattle.ans_mend.specs.declared.outcome.Unmended.{Unmended}
-use Rattle.ans_mend.specs.declared.outcome.Unmended.TheVariants.{Refused, Torn, NoLines, TooLong}
 use Rattle.ans_options.specs.declared.command.Mends.{Mends}
 use Rattle.ans_check.specs.Mending.{IsFaulty, IsNoPlan, IsReasonOfLines, content_in}
 use Rattle.ans_check.specs.FileVerdict.{Deserves}

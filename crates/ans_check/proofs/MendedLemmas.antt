@@ -1,13 +1,13 @@
 -- A file that is mended passes from every start.
-use Rattle.std.proofs.Common.{◌≡◌, ◌⊎◌, inl, inr, ℕ, ◌+◌, ◌-◌, ◌≤◌, ◌<◌, ◌==◌, Bool, true, false, List, [], ◌∷◌, ◌++◌}
+use Rattle.std.proofs.Common.{◌≡◌, inr, ℕ, ◌+◌, ◌-◌, ◌≤◌, ◌==◌, Bool, true, false, List, ◌++◌}
 use Rattle.std.proofs.Common.{length, take, drop, refl, sym, ap, ap₂, ◌∙◌, arith, subst, subst₂, append_assoc, true≢false}
-use Rattle.std.proofs.Common.{Option, Some, None, Result, Ok, Err}
-use Rattle.std.specs.Prelude.{if◌then◌else◌, ◌&&◌, ◌||◌, not, IfOk, IfErr, IsTrue, nat_le, bytes_eq, codes}
+use Rattle.std.proofs.Common.{Result, Ok, Err}
+use Rattle.std.specs.Prelude.{if◌then◌else◌, ◌&&◌, ◌||◌, IfOk, IfErr, nat_le, bytes_eq, codes}
 use Rattle.std.specs.List.{list_any}
 use Rattle.std.proofs.lemmas.Bool.{eqb-true, leb-true}
-use Rattle.std.proofs.lemmas.List.{length-append, length-drop, length-take-le, take-append-drop}
+use Rattle.std.proofs.lemmas.List.{length-append, length-drop, length-take-le}
 use Rattle.std.proofs.lemmas.List.Folds.{list_any-append}
-use Rattle.ans_model.specs.Bytes.{longest_file, most_lines}
+use Rattle.ans_model.specs.Bytes.{most_lines}
 use Rattle.ans_model.specs.File.Layout.{FileParts, Laid, comment_block, content, is_end_mark, laid_file}
 use Rattle.ans_model.specs.File.Record.{comment_count, file_size, stated_lines, stated_size}
 use Rattle.ans_model.specs.File.Refusals.{Accepts, has_record}
@@ -15,23 +15,22 @@ use Rattle.ans_model.specs.Screen.State.{Size}
 use Rattle.ans_model.specs.Screen.StartClass.{all_known, none_known}
 use Rattle.ans_model.specs.Verdict.Good.{Picture, GoodWith, IsGood}
 use Rattle.ans_model.proofs.ClassLemmas.{covers_all_known, covers_good}
-use Rattle.ans_sauce.specs.Found.{body_in, front_in, record_in}
+use Rattle.ans_sauce.specs.Found.{front_in, record_in}
 use Rattle.ans_sauce.proofs.LaidParts.{laid_body, laid_front, laid_record}
-use Rattle.ans_walks.specs.Mend.{mending}
 use Rattle.ans_walks.specs.MendedFile.{resized_parts, with_file_size}
 use Rattle.ans_walks.proofs.Mended.{makes_good}
 use Rattle.ans_walks.proofs.MendedFiles.{resized_accepted, resized_comments, resized_content, resized_size}
 use Rattle.ans_mend.specs.Drafts.{overwritten}
-use Rattle.ans_mend.specs.EndMark.{with_end_mark}
 use Rattle.ans_mend.specs.Fields.{two_bytes, with_lines, with_record}
 use Rattle.ans_mend.specs.declared.outcome.Mended.{Mended}
 use Rattle.ans_mend.specs.declared.outcome.Unmended.{Unmended}
-use Rattle.ans_mend.specs.declared.outcome.Unmended.TheVariants.{Refused, TooLong}
+use Rattle.ans_mend.specs.declared.outcome.Unmended.TheVariants.{Refused}
 use Rattle.ans_model.specs.declared.fault.Fault.{Fault}
 use Rattle.ans_mend.proofs.EndMarks.{ended}
 use Rattle.ans_options.specs.declared.command.Mends.{Mends}
-use Rattle.ans_check.specs.Mending.{IsFaulty, IsFinished, IsJudgement, IsMended, IsPlan, IsPrepared, IsReason, IsTooLong}
-use Rattle.ans_check.specs.Mending.{asks_for_lines, content_in, end_mark_counted, front_bytes, lacks_lines, lined, opened}
+use Rattle.ans_check.specs.Mending.{IsFaulty, IsMended, IsReason}
+use Rattle.ans_check.specs.MendingSteps.{IsFinished, IsJudgement, IsPlan, IsPrepared, IsTooLong}
+use Rattle.ans_check.specs.Mending.{asks_for_lines, content_in, front_bytes, lacks_lines, lined, opened}
 use Rattle.ans_check.specs.declared.mend.Judgement.{Judgement}
 use Rattle.ans_check.specs.declared.mend.Plan.{Plan}
 use Rattle.ans_check.specs.declared.mend.Prepared.{Prepared}

@@ -17,3 +17,4 @@ pub mod Listing
 pub mod Answer
 pub mod SystemInput
 pub mod Mending
+pub mod MendingSteps

@@ -1,5 +1,5 @@
 -- How a file is mended, and why it is not.
-use Rattle.std.specs.Prelude.{◌≡◌, ◌⊎◌, ℕ, ◌+◌, ◌<◌, ◌≤◌, Bool, true, false, not, ◌&&◌, ◌||◌, ◌==◌, IsTrue, List, [], ◌++◌}
+use Rattle.std.specs.Prelude.{◌≡◌, ◌⊎◌, ℕ, ◌+◌, ◌<◌, Bool, true, false, ◌&&◌, ◌||◌, ◌==◌, IsTrue, List, [], ◌++◌}
 use Rattle.std.specs.Prelude.{length, Option, None, Some, is_some, MatchOption, if◌then◌else◌}
 use Rattle.std.specs.List.{list_any}
 use Rattle.ans_model.specs.Bytes.{longest_file, most_lines}
@@ -26,9 +26,6 @@ use Rattle.ans_mend.specs.declared.outcome.Unmended.{Unmended}
 use Rattle.ans_mend.specs.declared.outcome.Unmended.TheVariants.{Refused, Torn, NoLines, TooLong}
 use Rattle.ans_options.specs.declared.command.Mends.{Mends}
 use Rattle.ans_check.specs.FileVerdict.{Deserves}
-use Rattle.ans_check.specs.declared.mend.Judgement.{Judgement}
-use Rattle.ans_check.specs.declared.mend.Plan.{Plan}
-use Rattle.ans_check.specs.declared.mend.Prepared.{Prepared}
 
 -- ---- the file of which the tail was cut
 
@@ -115,60 +112,6 @@ front_bytes front = if front then mending else []
 -- one where the stated FileSize was one more than the content's length, as some programs count the end mark
 abbrev pub end_mark_counted : List ℕ → ℕ
 end_mark_counted file = if file_size (record_in file) == length (content_in file) + 1 then 1 else 0
-
--- what is to be done with a file of which some lines are stated: it is accepted, so many lines are taken, and the FileSize
--- is this one
-pub record IsPlan (mends : Mends) (lacks : Bool) (file : List ℕ) (plan : Plan) : Type 0 where
-  pub apart : FileParts
-  pub accepts : Accepts file apart
-  pub lines : AreLinesFor mends lacks file plan.lines
-  pub stated : plan.stated ≡ (if lacks then 0 else stated_lines (record_in file))
-  pub size : plan.file_size ≡ file_size (record_in file)
-  pub counted : plan.end_mark_counted ≡ end_mark_counted file
-
--- the file is accepted, and its content passes from the cleared start; the front is wanted where it does not from every
--- start
-pub record IsJudgement (file : List ℕ) (judgement : Judgement) : Type 0 where
-  pub apart : FileParts
-  pub accepts : Accepts file apart
-  pub cleared : IsGood (stated_size apart.record_bytes) all_known (content apart.body)
-  pub every : judgement.front ≡ false → IsGood (stated_size apart.record_bytes) none_known (content apart.body)
-  pub some : judgement.front ≡ true → ¬ IsGood (stated_size apart.record_bytes) none_known (content apart.body)
-  pub count : judgement.content ≡ length (content apart.body)
-  pub lines : judgement.lines ≡ stated_lines apart.record_bytes
-
--- all that is done before the content is judged
-pub record IsPrepared (mends : Mends) (file : List ℕ) (prepared : Prepared) (settled : List ℕ) : Type 0 where
-  pub cut : List ℕ
-  pub is_cut : IsTailCut file cut
-  pub plan : IsPlan mends (lacks_lines mends cut) (opened mends cut) prepared.plan
-  pub settled_is : settled ≡ with_end_mark (lined prepared.plan.lines (opened mends cut))
-  pub tail : length cut + prepared.tail ≡ length file
-  pub end_mark : prepared.end_mark ≡ end_mark_put (lined prepared.plan.lines (opened mends cut))
-  pub stated : prepared.plan.stated ≡ stated_lines (record_in cut)
-
--- the FileSize that counts the mending, where it is wanted
-abbrev pub size_for : Prepared → Judgement → ℕ
-size_for prepared judgement =
-    judgement.content + length (front_bytes judgement.front) + prepared.plan.end_mark_counted
-
--- the FileSize was set so, and what was changed in all is told
-pub record IsFinished (prepared : Prepared) (judgement : Judgement) (settled : List ℕ) (mended : Mended)
-    (draft : List ℕ) : Type 0 where
-  pub draft_is : draft ≡ with_record (with_file_size mended.file_size.is (record_in settled)) settled
-  pub size : mended.file_size.is ≡ size_for prepared judgement
-  pub size_was : mended.file_size.was ≡ prepared.plan.file_size
-  pub front : mended.front ≡ judgement.front
-  pub tail : mended.tail ≡ prepared.tail
-  pub end_mark : mended.end_mark ≡ prepared.end_mark
-  pub lines_were : mended.lines.was ≡ prepared.plan.stated
-  pub lines_are : mended.lines.is ≡ judgement.lines
-  pub room : length settled + length (front_bytes judgement.front) ≤ longest_file
-
--- the mending is wanted, and there is no room for it
-abbrev pub IsTooLong : Judgement → List ℕ → Unmended → Type 0
-IsTooLong judgement settled reason = (reason ≡ TooLong) × (judgement.front ≡ true)
-    × (longest_file < length settled + length mending)
 
 -- The bytes in front and those of the draft are a file that passes from every start, and shows what the changed content
 -- shows from the cleared one. Its record is that of the file but for the lines and the FileSize, which fits.

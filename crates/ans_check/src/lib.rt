@@ -36,7 +36,7 @@ mod why;
 
 pub use ans_model::start::Start;
 pub use ans_options::{
-    Asked, Command, Form, Options, TableForm, Topic, WordsError, asked, options,
+    Asked, Command, Form, Mends, Options, TableForm, Topic, WordsError, asked, options,
 };
 pub use ans_report::Needs;
 pub use ans_sauce::Judged;
@@ -47,6 +47,7 @@ pub use answering::answer;
 pub use errors::RunError;
 pub use exit_status::{Ending, status};
 pub use inputs::Inputs;
+pub use mend::mend_on;
 pub use parts_needed::{needs, needs_on};
 pub use pipeline::run;
 pub use rows::table;

@@ -10,9 +10,11 @@ ghost use Rattle.ans_sauce.specs.Found.{record_in};
 ghost use Rattle.ans_sauce.specs.Parts.{content_of, record_of, width_of};
 ghost use Rattle.ans_walks.specs.Lines.{IsNeverGood};
 ghost use Rattle.ans_mend.specs.Drafts.{draft_of, memory_of};
-ghost use Rattle.ans_check.specs.Mending.{IsMended, IsReason, IsSettled, lacks_lines, opened, content_in, IsPlan, IsNoPlan};
+ghost use Rattle.ans_check.specs.Mending.{IsMended, IsReason, IsSettled, lacks_lines, opened, content_in, IsNoPlan};
+ghost use Rattle.ans_check.specs.MendingSteps.{IsPlan};
 ghost use Rattle.ans_check.specs.Mending.{HasLeast, IsWithoutNumber, PassesAsStated, WantsLines, KeepsLines, TakesLines, IsReasonOfLines};
-ghost use Rattle.ans_check.specs.Mending.{IsFaulty, IsFinished, IsJudgement, IsPrepared, IsTooLong, asks_for_lines, lined};
+ghost use Rattle.ans_check.specs.Mending.{IsFaulty, asks_for_lines, lined};
+ghost use Rattle.ans_check.specs.MendingSteps.{IsFinished, IsJudgement, IsPrepared, IsTooLong};
 
 use crate::screens::Screens;
 use ans_mend::{Draft, Mended, Reset, Unmended};

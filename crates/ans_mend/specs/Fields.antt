@@ -1,6 +1,6 @@
 -- Fields of a record that are set anew (SAUCE 00.5, record layout).
 use Rattle.std.specs.Prelude.{ℕ, ◌/◌, ◌%◌, List, [], ◌∷◌, ◌++◌}
-use Rattle.ans_sauce.specs.Found.{front_in, record_in}
+use Rattle.ans_sauce.specs.Found.{front_in}
 use Rattle.ans_mend.specs.Drafts.{overwritten}
 
 -- a number of two bytes, the least first

@@ -9,7 +9,7 @@ use Rattle.std.proofs.Math.Seq.{drop-append-add, drop-append_seam}
 use Rattle.std.specs.Prelude.{if◌then◌else◌, not, ◌||◌, bit_and}
 use Rattle.std.specs.Char.{is_ascii_digit}
 use Rattle.std.specs.List.{list_any, list_all, position_or_len}
-use Rattle.ans_model.specs.File.Layout.{FileParts, after_content, content, is_clean_end, is_end_mark, laid_file}
+use Rattle.ans_model.specs.File.Layout.{FileParts, after_content, content, is_end_mark, laid_file}
 use Rattle.ans_model.specs.File.NoteConditions.{note_if, notes, unused_flags}
 use Rattle.ans_model.specs.declared.note.Note.{Note}
 use Rattle.ans_model.specs.declared.note.Note.TheVariants.{WidthAssumed, NoEndMark, SizeDiffers, OddDate, FlagBits}

@@ -1,4 +1,4 @@
-use Rattle.std.proofs.Common.{◌≡◌, true}
+use Rattle.std.proofs.Common.{true}
 use Rattle.ans_model.specs.Screen.State.{sized}
 use Rattle.ans_model.specs.File.Record.{is_non_blink, stated_width}
 use Rattle.ans_sauce.specs.Parts.{content_of, record_of}

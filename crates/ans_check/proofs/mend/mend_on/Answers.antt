@@ -1,5 +1,5 @@
-use Rattle.std.proofs.Common.{◌≡◌}
-use Rattle.ans_check.specs.Mending.{IsJudgement, lacks_lines, opened}
+use Rattle.ans_check.specs.Mending.{lacks_lines, opened}
+use Rattle.ans_check.specs.MendingSteps.{IsJudgement}
 use Rattle.ans_check.proofs.MendedLemmas.{faulty, finished, planned_counted, planned_stated, unfinished}
 use Rattle.ans_check.proofs.mend.mend_on.Goals as goal
 

@@ -1,4 +1,4 @@
-use Rattle.std.proofs.Common.{◌≡◌, rules, ◌∙◌, sym}
+use Rattle.std.proofs.Common.{◌∙◌, sym}
 use Rattle.ans_sauce.specs.Parts.{content_of, record_of}
 use Rattle.ans_check.specs.Mending.{AsksForLeast, WantsLines}
 use Rattle.ans_check.proofs.MendLemmas.{least_taken, least_reason, none_of}

@@ -1,4 +1,4 @@
-use Rattle.std.proofs.Common.{◌≡◌, ap, ap₂, ◌∙◌, length, ◌+◌, ◌==◌, ℕ, List, if◌then◌else◌, rules}
+use Rattle.std.proofs.Common.{◌≡◌, ap, ap₂, ◌∙◌, length, ◌+◌, ◌==◌, ℕ, if◌then◌else◌}
 use Rattle.ans_model.specs.File.Record.{file_size, stated_lines}
 use Rattle.ans_sauce.specs.Parts.{record_of}
 use Rattle.ans_check.proofs.MendLemmas.{one_if, planned, split_reason}

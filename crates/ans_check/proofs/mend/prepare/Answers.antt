@@ -1,7 +1,8 @@
-use Rattle.std.proofs.Common.{◌≡◌, inl, inr, ℕ, ◌<◌, ◌≤◌, List, length, ap, arith, ◌∙◌, sym}
+use Rattle.std.proofs.Common.{◌≡◌, inl, inr, ℕ, ◌<◌, List, length, arith}
 use Rattle.ans_model.specs.Bytes.{longest_file}
-use Rattle.ans_mend.specs.EndMark.{end_mark_put, with_end_mark}
-use Rattle.ans_check.specs.Mending.{IsNoPlan, IsPlan, lacks_lines, lined, opened}
+use Rattle.ans_mend.specs.EndMark.{with_end_mark}
+use Rattle.ans_check.specs.Mending.{IsNoPlan, lacks_lines, lined, opened}
+use Rattle.ans_check.specs.MendingSteps.{IsPlan}
 use Rattle.ans_check.proofs.MendedLemmas.{opened_length, opened_stated}
 use Rattle.ans_check.proofs.mend.prepare.Goals as goal
 

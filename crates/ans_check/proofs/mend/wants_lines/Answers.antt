@@ -1,4 +1,3 @@
-use Rattle.std.proofs.Common.{◌≡◌, false}
 use Rattle.ans_check.proofs.MendLemmas.{kept_of}
 use Rattle.ans_check.specs.Mending.{PassesAsStated}
 use Rattle.ans_sauce.specs.Parts.{content_of, record_of}

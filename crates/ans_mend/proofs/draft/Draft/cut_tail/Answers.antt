@@ -1,4 +1,4 @@
-use Rattle.std.proofs.Common.{◌≡◌, sym, ◌∙◌, Some, None}
+use Rattle.std.proofs.Common.{sym, ◌∙◌, Some, None}
 use Rattle.ans_sauce.specs.Found.{IsLastRecord}
 use Rattle.ans_mend.proofs.LastRecord.{none_cut, not_cut}
 use Rattle.ans_mend.proofs.draft.Draft.cut_tail.Goals as goal

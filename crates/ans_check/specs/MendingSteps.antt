@@ -1,0 +1,77 @@
+-- What is done on the way to a mended file. Only private contracts cite it.
+use Rattle.std.specs.Prelude.{◌≡◌, ℕ, ◌+◌, ◌<◌, ◌≤◌, Bool, true, false, List}
+use Rattle.std.specs.Prelude.{length, if◌then◌else◌}
+use Rattle.ans_model.specs.Bytes.{longest_file}
+use Rattle.ans_model.specs.File.Layout.{FileParts, content}
+use Rattle.ans_model.specs.File.Record.{file_size, stated_lines, stated_size}
+use Rattle.ans_model.specs.File.Refusals.{Accepts}
+use Rattle.ans_model.specs.Screen.StartClass.{all_known, none_known}
+use Rattle.ans_model.specs.Verdict.Good.{IsGood}
+use Rattle.ans_sauce.specs.Found.{record_in}
+use Rattle.ans_walks.specs.Mend.{mending}
+use Rattle.ans_walks.specs.MendedFile.{with_file_size}
+use Rattle.ans_mend.specs.EndMark.{end_mark_put, with_end_mark}
+use Rattle.ans_mend.specs.Fields.{with_record}
+use Rattle.ans_mend.specs.Tail.{IsTailCut}
+use Rattle.ans_mend.specs.declared.outcome.Mended.{Mended}
+use Rattle.ans_mend.specs.declared.outcome.Unmended.{Unmended}
+use Rattle.ans_mend.specs.declared.outcome.Unmended.TheVariants.{TooLong}
+use Rattle.ans_options.specs.declared.command.Mends.{Mends}
+use Rattle.ans_check.specs.declared.mend.Judgement.{Judgement}
+use Rattle.ans_check.specs.declared.mend.Plan.{Plan}
+use Rattle.ans_check.specs.declared.mend.Prepared.{Prepared}
+use Rattle.ans_check.specs.Mending.{AreLinesFor, end_mark_counted, front_bytes, lacks_lines, lined, opened}
+
+-- what is to be done with a file of which some lines are stated: it is accepted, so many lines are taken, and the FileSize
+-- is this one
+pub record IsPlan (mends : Mends) (lacks : Bool) (file : List ℕ) (plan : Plan) : Type 0 where
+  pub apart : FileParts
+  pub accepts : Accepts file apart
+  pub lines : AreLinesFor mends lacks file plan.lines
+  pub stated : plan.stated ≡ (if lacks then 0 else stated_lines (record_in file))
+  pub size : plan.file_size ≡ file_size (record_in file)
+  pub counted : plan.end_mark_counted ≡ end_mark_counted file
+
+-- the file is accepted, and its content passes from the cleared start; the front is wanted where it does not from every
+-- start
+pub record IsJudgement (file : List ℕ) (judgement : Judgement) : Type 0 where
+  pub apart : FileParts
+  pub accepts : Accepts file apart
+  pub cleared : IsGood (stated_size apart.record_bytes) all_known (content apart.body)
+  pub every : judgement.front ≡ false → IsGood (stated_size apart.record_bytes) none_known (content apart.body)
+  pub some : judgement.front ≡ true → ¬ IsGood (stated_size apart.record_bytes) none_known (content apart.body)
+  pub count : judgement.content ≡ length (content apart.body)
+  pub lines : judgement.lines ≡ stated_lines apart.record_bytes
+
+-- all that is done before the content is judged
+pub record IsPrepared (mends : Mends) (file : List ℕ) (prepared : Prepared) (settled : List ℕ) : Type 0 where
+  pub cut : List ℕ
+  pub is_cut : IsTailCut file cut
+  pub plan : IsPlan mends (lacks_lines mends cut) (opened mends cut) prepared.plan
+  pub settled_is : settled ≡ with_end_mark (lined prepared.plan.lines (opened mends cut))
+  pub tail : length cut + prepared.tail ≡ length file
+  pub end_mark : prepared.end_mark ≡ end_mark_put (lined prepared.plan.lines (opened mends cut))
+  pub stated : prepared.plan.stated ≡ stated_lines (record_in cut)
+
+-- the FileSize that counts the mending, where it is wanted
+abbrev pub size_for : Prepared → Judgement → ℕ
+size_for prepared judgement =
+    judgement.content + length (front_bytes judgement.front) + prepared.plan.end_mark_counted
+
+-- the FileSize was set so, and what was changed in all is told
+pub record IsFinished (prepared : Prepared) (judgement : Judgement) (settled : List ℕ) (mended : Mended)
+    (draft : List ℕ) : Type 0 where
+  pub draft_is : draft ≡ with_record (with_file_size mended.file_size.is (record_in settled)) settled
+  pub size : mended.file_size.is ≡ size_for prepared judgement
+  pub size_was : mended.file_size.was ≡ prepared.plan.file_size
+  pub front : mended.front ≡ judgement.front
+  pub tail : mended.tail ≡ prepared.tail
+  pub end_mark : mended.end_mark ≡ prepared.end_mark
+  pub lines_were : mended.lines.was ≡ prepared.plan.stated
+  pub lines_are : mended.lines.is ≡ judgement.lines
+  pub room : length settled + length (front_bytes judgement.front) ≤ longest_file
+
+-- the mending is wanted, and there is no room for it
+abbrev pub IsTooLong : Judgement → List ℕ → Unmended → Type 0
+IsTooLong judgement settled reason = (reason ≡ TooLong) × (judgement.front ≡ true)
+    × (longest_file < length settled + length mending)
