@@ -106,13 +106,16 @@ module _ (file : List ℕ) (long : 128 ≤ length file) where
         where
           block : List ℕ
           block = comment_block (comment_count parts.record_bytes) parts.comment_bytes
+
           mark_first : slice_index marked 0 ≡ 0x1A
           mark_first = ap (λ (v : ℕ). slice_index (with_byte v end_mark file) 0) at_once
+
           block_first : slice_index marked 0 ≡ slice_index (block ++ parts.record_bytes) 0
           block_first =
               ap (λ (v : List ℕ). slice_index v 0) laid.whole
               ∙ ap (λ (v : List ℕ). slice_index (v ++ (block ++ parts.record_bytes)) 0)
               (nil_from_length parts.body none)
+
           go : (uncounted : Bool) → (comment_count parts.record_bytes == 0) ≡ uncounted → ⊥
           go true is =
               let no_block : block_size (comment_count parts.record_bytes) ≡ 0 = rw is refl in
@@ -133,9 +136,11 @@ ended file parts laid = go (lacks_end_mark file) refl laid
     has true true is on = refl
     has true false is on = absurd (true≢false is)
     has false marks is on = absurd (true≢false (sym on))
+
     first : (a b c : Bool) → ((a && b) && c) ≡ true → a ≡ true
     first true b c is = refl
     first false b c is = absurd (true≢false (sym is))
+
     go : (lacks : Bool) → lacks_end_mark file ≡ lacks
         → Laid (if lacks then with_byte (length (body_in file)) end_mark file else file) parts
         → list_any is_end_mark parts.body ≡ true

@@ -2,3 +2,4 @@ mod Pushing
 mod Overwriting
 mod LastRecord
 pub mod EndMarks
+mod Returns

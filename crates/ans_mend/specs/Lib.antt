@@ -2,3 +2,5 @@ pub mod Drafts
 pub mod Fields
 pub mod Tail
 pub mod EndMark
+pub mod Contents
+pub mod LineEnds

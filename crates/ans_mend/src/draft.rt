@@ -12,8 +12,8 @@ pub(crate) const RECORD_SIZE: usize = 128;
 /// A file in memory that is lent, with room for more bytes behind it. It is changed in place.
 #[derive(Drop)]
 pub struct Draft<'a> {
-    memory: &'a mut [u8],
-    used: usize,
+    pub(crate) memory: &'a mut [u8],
+    pub(crate) used: usize,
 }
 
 impl<'a> Model for Draft<'a> {

@@ -8,6 +8,7 @@
 mod draft;
 mod end_mark;
 mod fields;
+mod line_ends;
 mod outcome;
 mod tail;
 

@@ -106,7 +106,8 @@ fn first_end_mark(body: &[u8]) -> Option<usize>
     memchr(END_MARK, body)
 }
 
-pub(crate) fn cut_content(body: &[u8]) -> (&[u8], &[u8])
+/// The content of a body, and what stands behind it, from the first end mark on.
+pub fn cut_content(body: &[u8]) -> (&[u8], &[u8])
     ensures content { result.0.now ≡ content body.now }
     ensures rest { result.1.now ≡ after_content body.now }
 {

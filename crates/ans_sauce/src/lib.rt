@@ -24,7 +24,7 @@ pub use ans_model::limits::MAX_FILE;
 pub use ans_model::note::Note;
 pub use found::{Found, find, last_record_place};
 pub use judged::Judged;
-pub use layout::{body_before, cut_record, split};
+pub use layout::{body_before, cut_content, cut_record, split};
 pub use no_lines::{WithoutLines, without_lines};
 pub use parts::Parts;
 pub use record::Record;

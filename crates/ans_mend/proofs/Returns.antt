@@ -1,0 +1,132 @@
+-- A turn of the loop that closes the gap.
+use Rattle.std.proofs.Common.{◌≡◌, ◌⊎◌, inl, inr, ℕ, ◌+◌, ◌-◌, ◌≤◌, ◌<◌, Bool, true, false, List, [], ◌∷◌, ◌++◌, length, take}
+use Rattle.std.proofs.Common.{drop, refl, sym, ap, ap₂, ◌∙◌, arith, slice_index_or}
+use Rattle.std.specs.Prelude.{if◌then◌else◌}
+use Rattle.std.specs.List.{count_by, flat_map}
+use Rattle.std.proofs.lemmas.List.{get_or-drop, get_or-take, length-drop, length-take-le, take_more, take-append-drop, drop-drop}
+use Rattle.std.proofs.lemmas.List.{append-nil, drop-take, take-take}
+use Rattle.std.proofs.lemmas.List.Edits.{take-paste}
+use Rattle.std.proofs.Math.Seq.{drop-append_seam, paste, take-add}
+use Rattle.std.proofs.lemmas.List.Sums.{count_by_more_no, count_by_more_yes, sum_by-take-le}
+use Rattle.std.proofs.lemmas.Grind.{flat_map-append}
+use Rattle.ans_mend.specs.LineEnds.{is_line_feed, line_feeds, returned, with_returns}
+
+-- one byte more
+feeds_more : (xs : List ℕ) (i : ℕ) → i < length xs
+    → line_feeds (take (i + 1) xs) + 1 ≡ line_feeds (take i xs) + length (returned (slice_index_or xs i 0))
+feeds_more xs i within = go (is_line_feed (slice_index_or xs i 0)) refl
+  where
+    go : (feed : Bool) → is_line_feed (slice_index_or xs i 0) ≡ feed
+        → line_feeds (take (i + 1) xs) + 1
+        ≡ line_feeds (take i xs) + length (if feed then 0x0D ∷ slice_index_or xs i 0 ∷ [] else slice_index_or xs i 0 ∷ [])
+    go true is = let more = count_by_more_yes is_line_feed xs i 0 within is in omega (arith, more)
+    go false is = let more = count_by_more_no is_line_feed xs i 0 within is in omega (arith, more)
+
+returns_more : (xs : List ℕ) (i : ℕ) → i < length xs
+    → with_returns (take (i + 1) xs) ≡ with_returns (take i xs) ++ returned (slice_index_or xs i 0)
+returns_more xs i within =
+    ap with_returns (take_more xs i 0 within)
+    ∙ flat_map-append returned (take i xs) (slice_index_or xs i 0 ∷ [])
+    ∙ ap (λ (v : List ℕ). with_returns (take i xs) ++ v) (append-nil (returned (slice_index_or xs i 0)))
+
+module _ (start memory : List ℕ) (gap count index written : ℕ) (more : index < count)
+    (within : gap + count ≤ length start) (room : line_feeds (take count (drop gap start)) ≤ gap)
+    (same_length : length memory ≡ length start)
+    (place : written ≡ index + line_feeds (take index (take count (drop gap start))))
+    (done : take written memory ≡ with_returns (take index (take count (drop gap start))))
+    (left : drop (gap + index) memory ≡ drop (gap + index) start) where
+  abbrev content : List ℕ
+  content = take count (drop gap start)
+
+  abbrev byte : ℕ
+  byte = slice_index_or memory (gap + index) 0
+
+  content_length : length content ≡ count
+  content_length = length-take-le count (drop gap start) (rw (length-drop gap start) (omega (arith, within)))
+
+  same_byte : byte ≡ slice_index_or content index 0
+  same_byte =
+      ap (λ (v : ℕ). slice_index_or memory v 0) (omega arith) ∙ sym (get_or-drop (gap + index) memory 0 0)
+      ∙ ap (λ (v : List ℕ). slice_index_or v 0 0) left ∙ get_or-drop (gap + index) start 0 0
+      ∙ ap (λ (v : ℕ). slice_index_or start v 0) (omega arith) ∙ sym (get_or-drop gap start index 0)
+      ∙ sym (get_or-take count (drop gap start) index 0 more)
+
+  feeds_within : (n : ℕ) → line_feeds (take n content) ≤ gap
+  feeds_within n =
+      let front = sum_by-take-le (λ (b : ℕ). if is_line_feed b then 1 else 0) content n in omega (arith, front, room)
+
+  pub has_room : written + length (returned byte) ≤ length memory
+  has_room =
+      let feeds = feeds_more content index (omega (arith, more, content_length)) in
+      let limit = feeds_within (index + 1) in
+      rw same_byte (omega (arith, feeds, limit, place, within, same_length, more))
+
+  module _ (result : ℕ) (new : List ℕ) (counted : result ≡ written + length (returned byte))
+      (new_length : length new ≡ length memory) (wrote : take result new ≡ take written memory ++ returned byte)
+      (behind : (at : ℕ) → result ≤ at → drop at new ≡ drop at memory) where
+    pub next_place : result ≡ index + 1 + line_feeds (take (index + 1) content)
+    next_place =
+        let feeds = feeds_more content index (omega (arith, more, content_length)) in
+        let long : result ≡ written + length (returned (slice_index_or content index 0)) =
+        counted ∙ ap (λ (b : ℕ). written + length (returned b)) same_byte in
+        omega (arith, feeds, long, place)
+
+    pub next_done : take result new ≡ with_returns (take (index + 1) content)
+    next_done =
+        wrote ∙ ap₂ (λ (v : List ℕ) (b : ℕ). v ++ returned b) done same_byte
+        ∙ sym (returns_more content index (omega (arith, more, content_length)))
+
+    pub next_left : drop (gap + (index + 1)) new ≡ drop (gap + (index + 1)) start
+    next_left =
+        let limit = feeds_within (index + 1) in
+        let at = next_place in
+        behind (gap + (index + 1)) (omega (arith, at, limit)) ∙ one_less memory ∙ ap (drop 1) left ∙ sym (one_less start)
+      where
+        one_less : (xs : List ℕ) → drop (gap + (index + 1)) xs ≡ drop 1 (drop (gap + index) xs)
+        one_less xs = ap (λ (v : ℕ). drop v xs) (omega arith) ∙ sym (drop-drop 1 (gap + index) xs)
+
+-- ---- the whole
+
+module _ (memory : List ℕ) (used count gap : ℕ) (room : used + gap ≤ length memory) (within : count ≤ used)
+    (feeds : gap ≡ line_feeds (take count memory)) where
+  -- the bytes that are used have moved by as much as the gap
+  abbrev moved : List ℕ
+  moved = paste memory gap (drop 0 memory) used
+
+  -- they stand behind the gap
+  moved_behind : take used (drop gap moved) ≡ take used memory
+  moved_behind =
+      let long : length (take gap memory) ≡ gap = length-take-le gap memory (omega (arith, room)) in
+      sym (drop-take gap used moved)
+      ∙ ap (drop gap) (take-paste memory gap (drop 0 memory) used (omega (arith, room)) (omega (arith, room)))
+      ∙ ap (λ (v : ℕ). drop v (take gap memory ++ take used memory)) (sym long)
+      ∙ drop-append_seam (take gap memory) (take used memory)
+
+  moved_content : take count (drop gap moved) ≡ take count memory
+  moved_content =
+      sym (take-take count used (drop gap moved) within) ∙ ap (take count) moved_behind
+      ∙ take-take count used memory within
+
+  moved_rest : take (used - count) (drop (gap + count) moved) ≡ drop count (take used memory)
+  moved_rest =
+      let sum : used ≡ count + (used - count) = omega (arith, within) in
+      ap (λ (v : List ℕ). take (used - count) v)
+      (ap (λ (v : ℕ). drop v moved) (omega arith) ∙ sym (drop-drop count gap moved))
+      ∙ sym (drop-take count (used - count) (drop gap moved))
+      ∙ ap (λ (v : ℕ). drop count (take v (drop gap moved))) (sym sum) ∙ ap (drop count) moved_behind
+
+  pub moved_feeds : line_feeds (take count (drop gap moved)) ≤ gap
+  moved_feeds = let same = ap line_feeds moved_content in omega (arith, feeds, same)
+
+  pub returned_front : (new : List ℕ)
+      → take (count + line_feeds (take count (drop gap moved))) new ≡ with_returns (take count (drop gap moved))
+      → drop (gap + count) new ≡ drop (gap + count) moved
+      → take (used + gap) new ≡ with_returns (take count memory) ++ drop count (take used memory)
+  returned_front new written left =
+      let same = ap line_feeds moved_content in
+      let sum : used + gap ≡ (gap + count) + (used - count) = omega (arith, within) in
+      let first : gap + count ≡ count + line_feeds (take count (drop gap moved)) = omega (arith, feeds, same) in
+      ap (λ (v : ℕ). take v new) sum ∙ take-add (gap + count) (used - count) new
+      ∙ ap₂ (λ (v w : List ℕ). v ++ w)
+      (ap (λ (v : ℕ). take v new) first ∙ written ∙ ap with_returns moved_content)
+      (ap (take (used - count)) left ∙ moved_rest)
