@@ -9,9 +9,9 @@ use Rattle.ans_walks.specs.Lines.{IsNeverGood}
 use Rattle.ans_model.specs.Verdict.Good.{IsGood}
 use Rattle.ans_check.specs.StartParts.{EndsFrom}
 use Rattle.ans_check.specs.Mending.{AreLinesFor, AsksForLeast, HasLeast, IsWithoutNumber, KeepsLines}
-use Rattle.ans_check.specs.MendingSteps.{IsJudgement, IsPlan}
+use Rattle.ans_check.specs.MendingSteps.{IsJudgement, IsSurvey}
 use Rattle.ans_check.specs.Mending.{TakesLines, WantsLines}
-use Rattle.ans_check.specs.declared.mend.Plan.{Plan}
+use Rattle.ans_check.specs.declared.mend.Survey.{Survey}
 use Rattle.ans_check.specs.declared.mend.Judgement.{Judgement}
 use Rattle.ans_check.proofs.VerdictLemmas.{not_good}
 use Rattle.ans_model.specs.File.Layout.{content}
@@ -23,9 +23,10 @@ use Rattle.ans_sauce.specs.Parts.{content_of, lines_of, record_of, size_of}
 use Rattle.ans_sauce.specs.Split.{IsSplit}
 use Rattle.ans_sauce.specs.declared.parts.Parts.{Parts}
 use Rattle.ans_sauce.proofs.LaidParts.{laid_body, laid_record}
+use Rattle.ans_mend.specs.Contents.{content_in}
 use Rattle.ans_mend.specs.declared.outcome.Unmended.{Unmended}
 use Rattle.ans_options.specs.declared.command.Mends.{Mends}
-use Rattle.ans_check.specs.Mending.{IsFaulty, IsNoPlan, IsReasonOfLines, content_in}
+use Rattle.ans_check.specs.Mending.{IsFaulty, IsReasonOfEdited, IsReasonOfLines}
 use Rattle.ans_check.specs.FileVerdict.{Deserves}
 
 -- a file's parts have its record and its content
@@ -74,10 +75,10 @@ judged file parts every judgement h cleared ends front count lines = record {
 -- a reason by its parts is one of the file
 pub split_reason : (mends : Mends) (lacks : Bool) (file : List ℕ) (parts : Parts) (reason : Unmended)
     → IsSplit file parts → IsReasonOfLines mends lacks (record_of parts) (content_of parts) reason
-    → IsNoPlan mends lacks file reason
+    → IsReasonOfEdited mends lacks file reason
 split_reason mends lacks file parts reason h is =
-    inr (subst₂ (λ (sauce bytes : List ℕ). IsReasonOfLines mends lacks sauce bytes reason) (split_record file parts h)
-    (split_content file parts h) is)
+    inr (inr (subst₂ (λ (sauce bytes : List ℕ). IsReasonOfLines mends lacks sauce bytes reason)
+    (split_record file parts h) (split_content file parts h) is))
 
 -- ---- what is taken
 
@@ -117,29 +118,37 @@ module _ (mends : Mends) (lacks : Bool) (sauce bytes : List ℕ) (wanted : Wants
   least_reason (Ok n) h = h
   least_reason (Err reason) h = (wanted, asks, h)
 
--- what is to be done with the file of these parts
-pub planned : (mends : Mends) (lacks : Bool) (file : List ℕ) (parts : Parts) (plan : Plan) → IsSplit file parts
-    → IfNone plan.lines (KeepsLines mends lacks (record_of parts) (content_of parts))
-    → IfSome plan.lines (TakesLines mends lacks (record_of parts) (content_of parts))
-    → plan.stated ≡ (if lacks then 0 else stated_lines (record_of parts))
-    → plan.file_size ≡ file_size (record_of parts)
-    → plan.end_mark_counted ≡ (if file_size (record_of parts) == length (content_of parts) + 1 then 1 else 0)
-    → IsPlan mends lacks file plan
-planned mends lacks file parts plan h kept taken stated size counted =
+-- what the record of these parts says
+pub surveyed : (lacks : Bool) (file : List ℕ) (parts : Parts) (survey : Survey) → IsSplit file parts
+    → survey.stated ≡ (if lacks then 0 else stated_lines (record_of parts))
+    → survey.file_size ≡ file_size (record_of parts)
+    → survey.end_mark_counted ≡ (if file_size (record_of parts) == length (content_of parts) + 1 then 1 else 0)
+    → IsSurvey lacks file survey
+surveyed lacks file parts survey h stated size counted =
     let sauce = split_record file parts h in
     let bytes = split_content file parts h in
     record {
       apart = h.apart;
       accepts = h.accepts;
-      lines = go plan.lines kept taken;
       stated = stated ∙ ap (λ (v : List ℕ). if lacks then 0 else stated_lines v) sauce;
       size = size ∙ ap file_size sauce;
       counted = counted ∙ ap₂ (λ (v w : List ℕ). if file_size v == length w + 1 then 1 else 0) sauce bytes;
     }
-  where
-    go : (n : Option ℕ) → IfNone n (KeepsLines mends lacks (record_of parts) (content_of parts))
-        → IfSome n (TakesLines mends lacks (record_of parts) (content_of parts)) → AreLinesFor mends lacks file n
-    go None k t = subst₂ (λ (v w : List ℕ). KeepsLines mends lacks v w) (split_record file parts h)
-        (split_content file parts h) k
-    go (Some n) k t = subst₂ (λ (v w : List ℕ). TakesLines mends lacks v w n) (split_record file parts h)
-        (split_content file parts h) t
+
+-- the lines that are taken, and those for which they are
+module _ (mends : Mends) (lacks : Bool) (file : List ℕ) (parts : Parts) (h : IsSplit file parts) where
+  pub lines_taken : (r : Result (Option ℕ) Unmended)
+      → IfOk r (λ n. IfNone n (KeepsLines mends lacks (record_of parts) (content_of parts)))
+      → IfOk r (λ n. IfSome n (TakesLines mends lacks (record_of parts) (content_of parts)))
+      → IfOk r (AreLinesFor mends lacks file)
+  lines_taken (Ok None) kept taken = subst₂ (λ (v w : List ℕ). KeepsLines mends lacks v w) (split_record file parts h)
+      (split_content file parts h) kept
+  lines_taken (Ok (Some n)) kept taken = subst₂ (λ (v w : List ℕ). TakesLines mends lacks v w n)
+      (split_record file parts h) (split_content file parts h) taken
+  lines_taken (Err reason) kept taken = kept
+
+  pub lines_refused : (r : Result (Option ℕ) Unmended)
+      → IfErr r (IsReasonOfLines mends lacks (record_of parts) (content_of parts))
+      → IfErr r (IsReasonOfEdited mends lacks file)
+  lines_refused (Ok n) is = is
+  lines_refused (Err reason) is = split_reason mends lacks file parts reason h is

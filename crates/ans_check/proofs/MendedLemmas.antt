@@ -23,16 +23,18 @@ use Rattle.ans_walks.proofs.MendedFiles.{resized_accepted, resized_comments, res
 use Rattle.ans_mend.specs.Drafts.{overwritten}
 use Rattle.ans_mend.specs.Fields.{two_bytes, with_lines, with_record}
 use Rattle.ans_mend.specs.declared.outcome.Mended.{Mended}
+use Rattle.ans_mend.specs.Contents.{content_in}
 use Rattle.ans_mend.specs.declared.outcome.Unmended.{Unmended}
 use Rattle.ans_mend.specs.declared.outcome.Unmended.TheVariants.{Refused}
 use Rattle.ans_model.specs.declared.fault.Fault.{Fault}
 use Rattle.ans_mend.proofs.EndMarks.{ended}
 use Rattle.ans_options.specs.declared.command.Mends.{Mends}
+use Rattle.ans_check.specs.Mending.{TellsReturns, edited}
 use Rattle.ans_check.specs.Mending.{IsFaulty, IsMended, IsReason}
-use Rattle.ans_check.specs.MendingSteps.{IsFinished, IsJudgement, IsPlan, IsPrepared, IsTooLong}
-use Rattle.ans_check.specs.Mending.{asks_for_lines, content_in, front_bytes, lacks_lines, lined, opened}
+use Rattle.ans_check.specs.MendingSteps.{IsFinished, IsJudgement, IsSurvey, IsPrepared, IsTooLong}
+use Rattle.ans_check.specs.Mending.{asks_for_lines, front_bytes, lacks_lines, lined, opened}
 use Rattle.ans_check.specs.declared.mend.Judgement.{Judgement}
-use Rattle.ans_check.specs.declared.mend.Plan.{Plan}
+use Rattle.ans_check.specs.declared.mend.Survey.{Survey}
 use Rattle.ans_check.specs.declared.mend.Prepared.{Prepared}
 
 -- ---- the opened file
@@ -72,6 +74,12 @@ opened_length mends file = go (lacks_lines mends file) refl
         overwritten_length 98 (two_bytes most_lines) (record_in file) (omega (arith, record_long)) ∙ record_long in
         length-append (front_in file) (with_lines most_lines (record_in file)) ∙ omega (arith, long, front_long, new_long)
 
+-- it lacks lines where a number is asked for
+pub lacking_asks : (mends : Mends) (file : List ℕ) → lacks_lines mends file ≡ true → asks_for_lines mends ≡ true
+lacking_asks mends file is =
+    (both (stated_lines (record_in file) == 0) (asks_for_lines mends)
+    (both (has_record file) (stated_lines (record_in file) == 0 && asks_for_lines mends) is).1).1
+
 -- the lines that were stated before
 pub opened_stated : (mends : Mends) (file : List ℕ) (stated : ℕ)
     → stated ≡ (if lacks_lines mends file then 0 else stated_lines (record_in (opened mends file)))
@@ -89,26 +97,26 @@ opened_stated mends file stated = go (lacks_lines mends file) refl
         eqb-true (stated_lines (record_in file)) 0 (both (stated_lines (record_in file) == 0) (asks_for_lines mends) inner).0 in
         same ∙ sym none
 
--- ---- the numbers of a plan
+-- ---- the numbers of a survey
 
-pub planned_stated : (mends : Mends) (lacks : Bool) (file : List ℕ) (plan : Plan) → IsPlan mends lacks file plan
-    → plan.stated ≤ most_lines
-planned_stated mends lacks file plan h =
+pub surveyed_stated : (lacks : Bool) (file : List ℕ) (survey : Survey) → IsSurvey lacks file survey
+    → survey.stated ≤ most_lines
+surveyed_stated lacks file survey h =
     let limit : stated_lines (record_in file) ≤ most_lines =
     rw (laid_record file h.apart h.accepts.laid) h.accepts.lines_in_limit in
     go lacks h.stated limit
   where
-    go : (lacks : Bool) → plan.stated ≡ (if lacks then 0 else stated_lines (record_in file))
-        → stated_lines (record_in file) ≤ most_lines → plan.stated ≤ most_lines
+    go : (lacks : Bool) → survey.stated ≡ (if lacks then 0 else stated_lines (record_in file))
+        → stated_lines (record_in file) ≤ most_lines → survey.stated ≤ most_lines
     go true is limit = omega (arith, is)
     go false is limit = omega (arith, is, limit)
 
-pub planned_counted : (mends : Mends) (lacks : Bool) (file : List ℕ) (plan : Plan) → IsPlan mends lacks file plan
-    → plan.end_mark_counted ≤ 1
-planned_counted mends lacks file plan h =
+pub surveyed_counted : (lacks : Bool) (file : List ℕ) (survey : Survey) → IsSurvey lacks file survey
+    → survey.end_mark_counted ≤ 1
+surveyed_counted lacks file survey h =
     go (file_size (record_in file) == length (content_in file) + 1) h.counted
   where
-    go : (more : Bool) → plan.end_mark_counted ≡ (if more then 1 else 0) → plan.end_mark_counted ≤ 1
+    go : (more : Bool) → survey.end_mark_counted ≡ (if more then 1 else 0) → survey.end_mark_counted ≤ 1
     go true is = omega (arith, is)
     go false is = omega (arith, is)
 
@@ -186,8 +194,8 @@ mended mends file prepared settled judgement m draft prep judged done =
       cut = prep.cut;
       is_cut = prep.is_cut;
       settled = settled;
-      lines = prepared.plan.lines;
-      are_lines = prep.plan.lines;
+      lines = prepared.lines;
+      are_lines = prep.lines;
       settled_is = prep.settled_is;
       draft_is = done.draft_is;
       apart = resized_parts front n apart;
@@ -201,9 +209,9 @@ mended mends file prepared settled judgement m draft prep judged done =
           ap (λ (b : Bool). length (front_bytes b)) done.front in
           let size = done.size in
           let count = judged.count in
-          let counted = prep.plan.counted in omega (arith, all, same, size, count, counted);
+          let counted = prep.survey.counted in omega (arith, all, same, size, count, counted);
       ended = any_behind front apart.body
-          (ended (lined prepared.plan.lines (opened mends prep.cut)) apart
+          (ended (lined prepared.lines (edited mends (opened mends prep.cut))) apart
           (subst (λ (v : List ℕ). Laid v apart) prep.settled_is accepts.laid));
       picture = passes.picture;
       from_cleared = subst₂ (λ (z : Size) (bytes : List ℕ). GoodWith z all_known bytes passes.picture) (sym size_is)
@@ -213,10 +221,11 @@ mended mends file prepared settled judgement m draft prep judged done =
       front = λ on. subst₂ (λ (z : Size) (bytes : List ℕ). ¬ IsGood z none_known bytes) (sym size_is) (sym body_is)
           (judged.some (sym done.front ∙ on));
       tail = ap (λ (v : ℕ). length prep.cut + v) done.tail ∙ prep.tail;
+      returns = subst (TellsReturns mends (opened mends prep.cut)) (sym done.returns) prep.returns;
       end_mark = done.end_mark ∙ prep.end_mark;
       lines_were = done.lines_were ∙ prep.stated;
       lines_are = done.lines_are ∙ judged.lines ∙ ap stated_lines (sym (laid_record settled apart accepts.laid));
-      size_was = done.size_was ∙ prep.plan.size;
+      size_was = done.size_was ∙ prep.survey.size;
     }
 
 -- ---- and where it is not
@@ -225,7 +234,7 @@ mended mends file prepared settled judgement m draft prep judged done =
 pub faulty : (mends : Mends) (file : List ℕ) (prepared : Prepared) (settled : List ℕ) (fault : Fault)
     → IsPrepared mends file prepared settled → IsFaulty settled fault → IsReason mends file (Refused fault)
 faulty mends file prepared settled fault prep is =
-    (prep.cut, prep.is_cut, inr (settled, (prepared.plan.lines, prep.plan.lines, prep.settled_is), is))
+    (prep.cut, prep.is_cut, inr (inr (settled, (prepared.lines, prep.lines, prep.settled_is), is)))
 
 -- and so is want of room for the mending
 pub too_long : (mends : Mends) (file : List ℕ) (prepared : Prepared) (settled : List ℕ) (judgement : Judgement)
@@ -240,7 +249,7 @@ too_long mends file prepared settled judgement reason prep judged is =
     subst (λ (r : Unmended). IsReason mends file r) (sym is.0) (
       prep.cut,
       prep.is_cut,
-      inr (settled, (prepared.plan.lines, prep.plan.lines, prep.settled_is), inr (is.2, not_good)),
+      inr (inr (settled, (prepared.lines, prep.lines, prep.settled_is), inr (is.2, not_good))),
     )
 
 -- what finishing comes to

@@ -1,6 +1,6 @@
 -- How a file is mended, and why it is not.
 use Rattle.std.specs.Prelude.{◌≡◌, ◌⊎◌, ℕ, ◌+◌, ◌<◌, Bool, true, false, ◌&&◌, ◌||◌, ◌==◌, IsTrue, List, [], ◌++◌}
-use Rattle.std.specs.Prelude.{length, Option, None, Some, is_some, MatchOption, if◌then◌else◌}
+use Rattle.std.specs.Prelude.{length, Option, None, Some, is_some, MatchBool, MatchOption, if◌then◌else◌}
 use Rattle.std.specs.List.{list_any}
 use Rattle.ans_model.specs.Bytes.{longest_file, most_lines}
 use Rattle.ans_model.specs.File.Layout.{FileParts, content, is_end_mark}
@@ -17,9 +17,12 @@ use Rattle.ans_walks.specs.Lines.{IsLeastLines, IsNeverGood}
 use Rattle.ans_walks.specs.Mend.{mending}
 use Rattle.ans_walks.specs.MendedFile.{with_file_size}
 use Rattle.ans_walks.specs.declared.hints.Hints.{Hints}
+use Rattle.ans_walks.specs.declared.times.Times.{Times}
 use Rattle.ans_why.specs.Explained.{AreHintsOf}
 use Rattle.ans_mend.specs.EndMark.{end_mark_put, with_end_mark}
+use Rattle.ans_mend.specs.Contents.{content_in}
 use Rattle.ans_mend.specs.Fields.{with_lines, with_record}
+use Rattle.ans_mend.specs.LineEnds.{ArePut, with_line_ends}
 use Rattle.ans_mend.specs.Tail.{IsTailCut}
 use Rattle.ans_mend.specs.declared.outcome.Mended.{Mended}
 use Rattle.ans_mend.specs.declared.outcome.Unmended.{Unmended}
@@ -41,9 +44,13 @@ lacks_lines mends file = has_record file && (stated_lines (record_in file) == 0 
 abbrev pub opened : Mends → List ℕ → List ℕ
 opened mends file = if lacks_lines mends file then with_record (with_lines most_lines (record_in file)) file else file
 
--- the content of a file with a record
-abbrev pub content_in : List ℕ → List ℕ
-content_in file = content (body_in file)
+-- what is changed of its content
+abbrev pub edited : Mends → List ℕ → List ℕ
+edited mends file = if mends.line_ends then with_line_ends file else file
+
+-- the returns that were put into it are told
+abbrev pub TellsReturns : Mends → List ℕ → Option Times → Type 0
+TellsReturns mends file times = MatchBool mends.line_ends (ArePut file times) (times ≡ None)
 
 -- ---- the lines, by the record and the content of what is left
 
@@ -100,8 +107,9 @@ AreLinesFor mends lacks file lines = MatchOption lines (KeepsLines mends lacks (
 
 -- The file with its lines settled, and with an end mark behind its content.
 abbrev pub IsSettled : Mends → List ℕ → List ℕ → Type 0
-IsSettled mends cut settled = (lines : Option ℕ) × AreLinesFor mends (lacks_lines mends cut) (opened mends cut) lines
-    × (settled ≡ with_end_mark (lined lines (opened mends cut)))
+IsSettled mends cut settled = (lines : Option ℕ)
+    × AreLinesFor mends (lacks_lines mends cut) (edited mends (opened mends cut)) lines
+    × (settled ≡ with_end_mark (lined lines (edited mends (opened mends cut))))
 
 -- ---- the file that is written
 
@@ -120,8 +128,8 @@ pub record IsMended (mends : Mends) (file : List ℕ) (mended : Mended) (draft :
   pub is_cut : IsTailCut file cut
   pub settled : List ℕ
   pub lines : Option ℕ
-  pub are_lines : AreLinesFor mends (lacks_lines mends cut) (opened mends cut) lines
-  pub settled_is : settled ≡ with_end_mark (lined lines (opened mends cut))
+  pub are_lines : AreLinesFor mends (lacks_lines mends cut) (edited mends (opened mends cut)) lines
+  pub settled_is : settled ≡ with_end_mark (lined lines (edited mends (opened mends cut)))
   pub draft_is : draft ≡ with_record (with_file_size mended.file_size.is (record_in settled)) settled
   pub apart : FileParts
   pub accepts : Accepts (front_bytes mended.front ++ draft) apart
@@ -134,7 +142,8 @@ pub record IsMended (mends : Mends) (file : List ℕ) (mended : Mended) (draft :
   -- the mending stands in front where the content does not pass from every start by itself
   pub front : IsTrue mended.front → ¬ IsGood (stated_size apart.record_bytes) none_known (content_in settled)
   pub tail : length cut + mended.tail ≡ length file
-  pub end_mark : mended.end_mark ≡ end_mark_put (lined lines (opened mends cut))
+  pub returns : TellsReturns mends (opened mends cut) mended.returns
+  pub end_mark : mended.end_mark ≡ end_mark_put (lined lines (edited mends (opened mends cut)))
   pub lines_were : mended.lines.was ≡ stated_lines (record_in cut)
   pub lines_are : mended.lines.is ≡ stated_lines (record_in settled)
   pub size_was : mended.file_size.was ≡ file_size (record_in (opened mends cut))
@@ -158,10 +167,14 @@ abbrev pub IsFaulty : List ℕ → Fault → Type 0
 IsFaulty file fault =
     IsRecordFault file fault ⊎ Deserves (stated_size (record_in file)) all_known (content_in file) fault
 
--- the record has this fault, or the number of lines is why
-abbrev pub IsNoPlan : Mends → Bool → List ℕ → Unmended → Type 0
-IsNoPlan mends lacks file reason = ((fault : Fault) × (reason ≡ Refused fault) × IsRecordFault file fault)
-    ⊎ IsReasonOfLines mends lacks (record_in file) (content_in file) reason
+-- its record or its layout has the fault for which it is refused
+abbrev pub HasRecordFault : List ℕ → Unmended → Type 0
+HasRecordFault file reason = (fault : Fault) × (reason ≡ Refused fault) × IsRecordFault file fault
+
+-- Of the file with its content changed: it is too long, or has a fault of its own, or the number of lines is why.
+abbrev pub IsReasonOfEdited : Mends → Bool → List ℕ → Unmended → Type 0
+IsReasonOfEdited mends lacks file reason = ((reason ≡ TooLong) × (longest_file < length file))
+    ⊎ HasRecordFault file reason ⊎ IsReasonOfLines mends lacks (record_in file) (content_in file) reason
 
 -- With all done that was asked for, the content does not pass; or there is no room for it, or for the mending that it
 -- needs.
@@ -179,7 +192,8 @@ HasSettled mends cut holds =
 -- The reason is true of the file of which the tail was cut.
 abbrev pub IsReasonFor : Mends → List ℕ → Unmended → Type 0
 IsReasonFor mends cut reason =
-    IsNoPlan mends (lacks_lines mends cut) (opened mends cut) reason
+    HasRecordFault (opened mends cut) reason
+    ⊎ IsReasonOfEdited mends (lacks_lines mends cut) (edited mends (opened mends cut)) reason
     ⊎ HasSettled mends cut (λ settled. IsReasonOfContent settled reason)
 
 -- the reason is true of the file

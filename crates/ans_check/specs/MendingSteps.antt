@@ -18,19 +18,17 @@ use Rattle.ans_mend.specs.declared.outcome.Unmended.{Unmended}
 use Rattle.ans_mend.specs.declared.outcome.Unmended.TheVariants.{TooLong}
 use Rattle.ans_options.specs.declared.command.Mends.{Mends}
 use Rattle.ans_check.specs.declared.mend.Judgement.{Judgement}
-use Rattle.ans_check.specs.declared.mend.Plan.{Plan}
+use Rattle.ans_check.specs.declared.mend.Survey.{Survey}
 use Rattle.ans_check.specs.declared.mend.Prepared.{Prepared}
-use Rattle.ans_check.specs.Mending.{AreLinesFor, end_mark_counted, front_bytes, lacks_lines, lined, opened}
+use Rattle.ans_check.specs.Mending.{AreLinesFor, TellsReturns, edited, end_mark_counted, front_bytes, lacks_lines, lined, opened}
 
--- what is to be done with a file of which some lines are stated: it is accepted, so many lines are taken, and the FileSize
--- is this one
-pub record IsPlan (mends : Mends) (lacks : Bool) (file : List ℕ) (plan : Plan) : Type 0 where
+-- what the record of an accepted file says that is to be set anew, or told
+pub record IsSurvey (lacks : Bool) (file : List ℕ) (survey : Survey) : Type 0 where
   pub apart : FileParts
   pub accepts : Accepts file apart
-  pub lines : AreLinesFor mends lacks file plan.lines
-  pub stated : plan.stated ≡ (if lacks then 0 else stated_lines (record_in file))
-  pub size : plan.file_size ≡ file_size (record_in file)
-  pub counted : plan.end_mark_counted ≡ end_mark_counted file
+  pub stated : survey.stated ≡ (if lacks then 0 else stated_lines (record_in file))
+  pub size : survey.file_size ≡ file_size (record_in file)
+  pub counted : survey.end_mark_counted ≡ end_mark_counted file
 
 -- the file is accepted, and its content passes from the cleared start; the front is wanted where it does not from every
 -- start
@@ -47,27 +45,30 @@ pub record IsJudgement (file : List ℕ) (judgement : Judgement) : Type 0 where
 pub record IsPrepared (mends : Mends) (file : List ℕ) (prepared : Prepared) (settled : List ℕ) : Type 0 where
   pub cut : List ℕ
   pub is_cut : IsTailCut file cut
-  pub plan : IsPlan mends (lacks_lines mends cut) (opened mends cut) prepared.plan
-  pub settled_is : settled ≡ with_end_mark (lined prepared.plan.lines (opened mends cut))
+  pub survey : IsSurvey (lacks_lines mends cut) (opened mends cut) prepared.survey
+  pub lines : AreLinesFor mends (lacks_lines mends cut) (edited mends (opened mends cut)) prepared.lines
+  pub settled_is : settled ≡ with_end_mark (lined prepared.lines (edited mends (opened mends cut)))
   pub tail : length cut + prepared.tail ≡ length file
-  pub end_mark : prepared.end_mark ≡ end_mark_put (lined prepared.plan.lines (opened mends cut))
-  pub stated : prepared.plan.stated ≡ stated_lines (record_in cut)
+  pub returns : TellsReturns mends (opened mends cut) prepared.returns
+  pub end_mark : prepared.end_mark ≡ end_mark_put (lined prepared.lines (edited mends (opened mends cut)))
+  pub stated : prepared.survey.stated ≡ stated_lines (record_in cut)
 
 -- the FileSize that counts the mending, where it is wanted
 abbrev pub size_for : Prepared → Judgement → ℕ
 size_for prepared judgement =
-    judgement.content + length (front_bytes judgement.front) + prepared.plan.end_mark_counted
+    judgement.content + length (front_bytes judgement.front) + prepared.survey.end_mark_counted
 
 -- the FileSize was set so, and what was changed in all is told
 pub record IsFinished (prepared : Prepared) (judgement : Judgement) (settled : List ℕ) (mended : Mended)
     (draft : List ℕ) : Type 0 where
   pub draft_is : draft ≡ with_record (with_file_size mended.file_size.is (record_in settled)) settled
   pub size : mended.file_size.is ≡ size_for prepared judgement
-  pub size_was : mended.file_size.was ≡ prepared.plan.file_size
+  pub size_was : mended.file_size.was ≡ prepared.survey.file_size
   pub front : mended.front ≡ judgement.front
   pub tail : mended.tail ≡ prepared.tail
+  pub returns : mended.returns ≡ prepared.returns
   pub end_mark : mended.end_mark ≡ prepared.end_mark
-  pub lines_were : mended.lines.was ≡ prepared.plan.stated
+  pub lines_were : mended.lines.was ≡ prepared.survey.stated
   pub lines_are : mended.lines.is ≡ judgement.lines
   pub room : length settled + length (front_bytes judgement.front) ≤ longest_file
 

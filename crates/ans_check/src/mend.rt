@@ -1,30 +1,25 @@
 //! A file that is mended.
-ghost use Rattle.std.specs.Prelude.{◌≡◌, ◌↔◌, ◌⊎◌, ◌+◌, ◌≤◌, ◌<◌, ℕ, List, [], true, false, length, IfOk, IfErr, IsTrue};
+ghost use Rattle.std.specs.Prelude.{◌≡◌, ◌≤◌, true, false, length, IfOk, IfErr};
 ghost use Rattle.std.specs.Prelude.{IfSome, IfNone, OnOk};
 ghost use Rattle.ans_model.specs.Bytes.{longest_file, most_lines};
-ghost use Rattle.ans_model.specs.File.Record.{file_size, stated_lines};
-ghost use Rattle.ans_model.specs.File.Refusals.{has_record};
-ghost use Rattle.ans_model.specs.File.Layout.{FileParts};
-ghost use Rattle.ans_model.specs.File.Refusals.{Accepts};
-ghost use Rattle.ans_sauce.specs.Found.{record_in};
+ghost use Rattle.ans_sauce.specs.Judged.{IsRecordFault};
 ghost use Rattle.ans_sauce.specs.Parts.{content_of, record_of, width_of};
 ghost use Rattle.ans_walks.specs.Lines.{IsNeverGood};
-ghost use Rattle.ans_mend.specs.Drafts.{draft_of, memory_of};
-ghost use Rattle.ans_check.specs.Mending.{IsMended, IsReason, IsSettled, lacks_lines, opened, content_in, IsNoPlan};
-ghost use Rattle.ans_check.specs.MendingSteps.{IsPlan};
-ghost use Rattle.ans_check.specs.Mending.{HasLeast, IsWithoutNumber, PassesAsStated, WantsLines, KeepsLines, TakesLines, IsReasonOfLines};
-ghost use Rattle.ans_check.specs.Mending.{IsFaulty, asks_for_lines, lined};
-ghost use Rattle.ans_check.specs.MendingSteps.{IsFinished, IsJudgement, IsPrepared, IsTooLong};
+ghost use Rattle.ans_mend.specs.Drafts.{draft_of};
+ghost use Rattle.ans_check.specs.Mending.{AreLinesFor, HasLeast, IsFaulty, IsMended, IsReason, IsReasonOfEdited};
+ghost use Rattle.ans_check.specs.Mending.{IsReasonOfLines, IsWithoutNumber, KeepsLines, PassesAsStated, TakesLines};
+ghost use Rattle.ans_check.specs.Mending.{TellsReturns, WantsLines, asks_for_lines, edited, lacks_lines, lined, opened};
+ghost use Rattle.ans_check.specs.MendingSteps.{IsFinished, IsJudgement, IsPrepared, IsSurvey, IsTooLong};
 
 use crate::screens::Screens;
-use ans_mend::{Draft, Mended, Reset, Unmended};
+use ans_mend::{Draft, Mended, NoRoom, Reset, Unmended};
 use ans_model::fault::Fault;
 use ans_model::limits::{MAX_FILE, MAX_LINES};
 use ans_model::size::Size;
 use ans_model::start::Start;
 use ans_options::Mends;
 use ans_sauce::{Parts, cut_record, split};
-use ans_walks::{Hints, is_good, least_lines};
+use ans_walks::{Hints, Times, is_good, least_lines};
 use std::alloc::AllocError;
 
 /// How many bytes mend a drawing.
@@ -110,41 +105,45 @@ fn number_wanted(parts: &Parts<'_>, mends: &Mends, lacks: bool) -> Result<Option
     least_wanted(parts, lacks)
 }
 
-/// What is to be done with the record of a file.
+/// What the record of a file says that is to be set anew, or told.
 #[derive(Clone, Copy)]
-struct Plan {
-    // the lines to be stated, if others
-    lines: Option<u16>,
-    // the lines that were stated
+struct Survey {
+    // how many lines were stated
     stated: usize,
     file_size: u32,
     // 1 where the FileSize is one more than the content's length
     end_mark_counted: u32,
 }
 
-/// Looks what is to be done with a file of which lines are stated.
-fn plan_for(file: &[u8], mends: &Mends, lacks: bool) -> Result<Plan, Unmended>
+/// Looks what the record of a file says, of which lines are stated by now.
+fn survey_of(file: &[u8], lacks: bool) -> Result<Survey, Fault>
+    requires { length file.now ≤ longest_file }
+    ensures survey { IfOk result (IsSurvey lacks file.now) }
+    ensures fault { IfErr result (IsRecordFault file.now) }
+{
+    let parts = split(file)?;
+    let sauce = parts.sauce();
+    let counted = sauce.file_size() as usize == parts.content().len() + 1;
+    Ok(Survey {
+        stated: if lacks { 0 } else { parts.lines() },
+        file_size: sauce.file_size(),
+        end_mark_counted: counted as u32,
+    })
+}
+
+/// The number of lines to be stated in a file whose content is changed.
+fn lines_for(file: &[u8], mends: &Mends, lacks: bool) -> Result<Option<u16>, Unmended>
     requires length { length file.now ≤ longest_file }
     requires asked { lacks ≡ true → asks_for_lines mends.now ≡ true }
-    ensures plan { IfOk result (IsPlan mends.now lacks file.now) }
-    ensures reason { IfErr result (IsNoPlan mends.now lacks file.now) }
+    ensures lines { IfOk result (AreLinesFor mends.now lacks file.now) }
+    ensures record { OnOk result (128 ≤ length file.now) }
+    ensures reason { IfErr result (IsReasonOfEdited mends.now lacks file.now) }
 {
     let parts = match split(file) {
         Ok(parts) => parts,
         Err(fault) => return Err(Unmended::Refused(fault)),
     };
-    let lines = match number_wanted(&parts, mends, lacks) {
-        Ok(lines) => lines,
-        Err(reason) => return Err(reason),
-    };
-    let sauce = parts.sauce();
-    let counted = sauce.file_size() as usize == parts.content().len() + 1;
-    Ok(Plan {
-        lines,
-        stated: if lacks { 0 } else { parts.lines() },
-        file_size: sauce.file_size(),
-        end_mark_counted: counted as u32,
-    })
+    number_wanted(&parts, mends, lacks)
 }
 
 /// How a drawing comes out that passes from the cleared start.
@@ -186,34 +185,59 @@ fn judge<S: Screens>(screens: &mut S, file: &[u8]) -> Result<Result<Judgement, F
 struct Prepared {
     // how many bytes were cut off behind the record
     tail: usize,
+    survey: Survey,
+    returns: Option<Times>,
+    // the lines that were taken, if others than were stated
+    lines: Option<u16>,
     end_mark: Option<usize>,
-    plan: Plan,
 }
 
-/// Does all that is done before the content is judged: the tail, the lines and the end mark.
-fn prepare(draft: &mut Draft<'_>, mends: &Mends) -> Result<Prepared, Unmended>
-    requires length { length draft.old.file ≤ longest_file }
-    requires room { 1 ≤ draft.old.room }
-    ensures prepared { IfOk result (λ p. IsPrepared mends.now draft.old.file p draft.new.file) }
-    ensures length { OnOk result (length draft.new.file ≤ longest_file) }
-    ensures reason { IfErr result (IsReason mends.now draft.old.file) }
+/// Changes what is asked for in the content.
+fn edit(draft: &mut Draft<'_>, mends: &Mends) -> Result<Option<Times>, NoRoom>
+    ensures file { OnOk result (draft.new.file ≡ edited mends.now draft.old.file) }
+    ensures returns { IfOk result (TellsReturns mends.now draft.old.file) }
+{
+    if mends.line_ends {
+        return draft.put_returns();
+    }
+    Ok(None)
+}
+
+/// Does all that is done before the content is judged: the tail, the content, the lines and the end mark.
+/// `Err` says that the draft has no room for it.
+fn prepare(draft: &mut Draft<'_>, mends: &Mends) -> Result<Result<Prepared, Unmended>, NoRoom>
+    requires { length draft.old.file ≤ longest_file }
+    ensures prepared { IfOk result (λ answer. IfOk answer
+        (λ p. IsPrepared mends.now draft.old.file p draft.new.file)) }
+    ensures length { IfOk result (λ answer. OnOk answer (length draft.new.file ≤ longest_file)) }
+    ensures reason { IfOk result (λ answer. IfErr answer (IsReason mends.now draft.old.file)) }
 {
     let tail = draft.cut_tail();
     let lacks = open_lines(draft, mends);
-    let plan = match plan_for(draft.file(), mends, lacks) {
-        Ok(plan) => plan,
-        Err(reason) => return Err(reason),
+    let survey = match survey_of(draft.file(), lacks) {
+        Ok(survey) => survey,
+        Err(fault) => return Ok(Err(Unmended::Refused(fault))),
     };
-    take_lines(draft, plan.lines);
-    let end_mark = draft.put_end_mark();
+    let returns = edit(draft, mends)?;
     if draft.file().len() > MAX_FILE {
-        return Err(Unmended::TooLong);
+        return Ok(Err(Unmended::TooLong));
     }
-    Ok(Prepared {
+    let lines = match lines_for(draft.file(), mends, lacks) {
+        Ok(lines) => lines,
+        Err(reason) => return Ok(Err(reason)),
+    };
+    take_lines(draft, lines);
+    let end_mark = draft.put_end_mark()?;
+    if draft.file().len() > MAX_FILE {
+        return Ok(Err(Unmended::TooLong));
+    }
+    Ok(Ok(Prepared {
         tail,
+        survey,
+        returns,
+        lines,
         end_mark,
-        plan,
-    })
+    }))
 }
 
 /// States these lines, where there are some.
@@ -236,8 +260,8 @@ fn finish(
     requires length { length draft.old.file ≤ longest_file }
     requires within { judgement.content ≤ length draft.old.file }
     requires lines { judgement.lines ≤ most_lines }
-    requires stated { prepared.plan.stated ≤ most_lines }
-    requires counted { prepared.plan.end_mark_counted ≤ 1 }
+    requires stated { prepared.survey.stated ≤ most_lines }
+    requires counted { prepared.survey.end_mark_counted ≤ 1 }
     ensures mended { IfOk result (λ m. IsFinished prepared judgement draft.old.file m draft.new.file) }
     ensures long { IfErr result (IsTooLong judgement draft.old.file) }
 {
@@ -245,45 +269,47 @@ fn finish(
     if draft.file().len() + front > MAX_FILE {
         return Err(Unmended::TooLong);
     }
-    let size = (judgement.content + front) as u32 + prepared.plan.end_mark_counted;
+    let size = (judgement.content + front) as u32 + prepared.survey.end_mark_counted;
     draft.state_file_size(size);
     Ok(Mended {
         tail: prepared.tail,
+        returns: prepared.returns,
         end_mark: prepared.end_mark,
         lines: Reset {
-            was: prepared.plan.stated as u32,
+            was: prepared.survey.stated as u32,
             is: judgement.lines as u32,
         },
         front: judgement.front,
         file_size: Reset {
-            was: prepared.plan.file_size,
+            was: prepared.survey.file_size,
             is: size,
         },
     })
 }
 
-/// Mends a file in its draft: cuts off what stands behind the record and is none of the drawing, states
-/// the lines that are asked for where the drawing does not pass with those that are stated, puts an end
-/// mark behind the content, and sets the file size anew. What is left passes from every start, with the
+/// Mends a file in its draft: cuts off what stands behind the record and is none of the drawing, changes
+/// of the content what is asked for, states the lines that are asked for where the drawing does not pass
+/// with those that are stated, puts an end mark behind the content, and sets the file size anew. What is left passes from every start, with the
 /// picture that its content has from the cleared one, behind the mending where `front` says so: that is
 /// for the caller to write first.
 ///
 /// The answer is an error where the file cannot be mended so. The draft then holds a file that is half
-/// changed. `Err` says that there is no room for the screen.
+/// changed. `Err` says that there is no room for the screen, or none in the draft for what is put into the
+/// file: a byte for each return and one for the end mark.
 pub fn mend_on<S: Screens>(
     screens: &mut S,
     draft: &mut Draft<'_>,
     mends: &Mends,
 ) -> Result<Result<Mended, Unmended>, AllocError>
-    requires length { length draft.old.file ≤ longest_file }
-    requires room { 1 ≤ draft.old.room }
+    requires { length draft.old.file ≤ longest_file }
     ensures mended { IfOk result (λ answer. IfOk answer
         (λ m. IsMended mends.now draft.old.file m draft.new.file)) }
     ensures reason { IfOk result (λ answer. IfErr answer (IsReason mends.now draft.old.file)) }
 {
     let prepared = match prepare(draft, mends) {
-        Ok(prepared) => prepared,
-        Err(reason) => return Ok(Err(reason)),
+        Ok(Ok(prepared)) => prepared,
+        Ok(Err(reason)) => return Ok(Err(reason)),
+        Err(NoRoom) => return Err(AllocError),
     };
     let judgement = match judge(screens, draft.file())? {
         Ok(judgement) => judgement,

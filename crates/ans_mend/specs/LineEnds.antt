@@ -37,3 +37,7 @@ AreReturns bytes times = MatchOption times (wants_returns bytes ≡ false)
 abbrev pub with_line_ends : List ℕ → List ℕ
 with_line_ends file = if has_record file && wants_returns (content_in file)
     then with_content (with_returns (content_in file)) file else file
+
+-- what was put into the file
+abbrev pub ArePut : List ℕ → Option Times → Type 0
+ArePut file times = MatchOption times (with_line_ends file ≡ file) (λ t. AreReturns (content_in file) (Some t))

@@ -9,6 +9,10 @@ use std::marker::Model;
 /// SAUCE 00.5, record layout: how many bytes a record has.
 pub(crate) const RECORD_SIZE: usize = 128;
 
+/// There is no room in the memory for what is to be put into the file.
+#[derive(Debug, Clone, Copy, PartialEq, Eq)]
+pub struct NoRoom;
+
 /// A file in memory that is lent, with room for more bytes behind it. It is changed in place.
 #[derive(Drop)]
 pub struct Draft<'a> {

@@ -12,5 +12,5 @@ mod line_ends;
 mod outcome;
 mod tail;
 
-pub use draft::Draft;
+pub use draft::{Draft, NoRoom};
 pub use outcome::{Mended, Reset, Unmended};

@@ -1,12 +1,16 @@
 //! What comes of mending.
 
 use ans_model::fault::Fault;
+use ans_walks::Times;
 
 /// What was changed of a file that is mended.
 #[derive(Debug, Clone, Copy, PartialEq, Eq)]
 pub struct Mended {
     /// How many bytes were cut off behind the record.
     pub tail: usize,
+    /// How many returns were put before line feeds, and where the first of these stood, in bytes from the
+    /// file's start.
+    pub returns: Option<Times>,
     /// Where an end mark was put, as an offset in bytes from the file's start.
     pub end_mark: Option<usize>,
     /// The number of lines that the record stated, and the one that it states now.

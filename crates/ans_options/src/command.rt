@@ -36,6 +36,8 @@ pub struct Mends {
     pub lines: Option<u16>,
     /// The same, where no number is given: the least with which the drawing passes.
     pub least_lines: bool,
+    /// Whether a return is put before each line feed of a drawing that has none.
+    pub line_ends: bool,
 }
 
 /// What the program does with a file, or with many.

@@ -10,11 +10,18 @@ use std::alloc::AllocError;
 const ITSELF: Mends = Mends {
     lines: None,
     least_lines: false,
+    line_ends: false,
 };
 
 /// The least number of lines too.
 const LEAST: Mends = Mends {
     least_lines: true,
+    ..ITSELF
+};
+
+/// Returns before line feeds too.
+const LINE_ENDS: Mends = Mends {
+    line_ends: true,
     ..ITSELF
 };
 
@@ -47,7 +54,7 @@ type Sample = (
 
 /// Files, what is asked for, whether the beginning is to stand in front, and the file behind it. The
 /// plain record states 2 columns, 1 line and a file size of 2.
-static MENDED: [(Sample, Mends, bool, Sample); 13] = [
+static MENDED: [(Sample, Mends, bool, Sample); 17] = [
     // from every start already: nothing is changed
     (
         (b"\x1b[?7h\x1b[0m\x1b[2JHi\x1a", &[(90, b"\x0f")], b""),
@@ -135,12 +142,41 @@ static MENDED: [(Sample, Mends, bool, Sample); 13] = [
         true,
         (b"Hi!\x1a", &[(90, b"\x16"), (98, b"\x02\x01")], b""),
     ),
+    // line feeds alone, and line feeds with returns
+    (
+        (b"H\ni\n\x1a", &[(90, b"\x05"), (98, b"\x03")], b""),
+        LINE_ENDS,
+        true,
+        (b"H\r\ni\r\n\x1a", &[(90, b"\x1a"), (98, b"\x03")], b""),
+    ),
+    (
+        (b"\n\n", &[(90, b"\x02"), (98, b"\x03")], b"\n"),
+        LINE_ENDS,
+        true,
+        (b"\r\n\r\n\x1a", &[(90, b"\x17"), (98, b"\x03")], b""),
+    ),
+    (
+        (b"H\r\ni\n\x1a", &[(90, b"\x05"), (98, b"\x03")], b""),
+        LINE_ENDS,
+        true,
+        (b"H\r\ni\n\x1a", &[(90, b"\x18"), (98, b"\x03")], b""),
+    ),
+    // torn rows are not when they have returns
+    (
+        (b"H\ni\n!\x1a", &[(96, b"\x09")], b""),
+        Mends {
+            least_lines: true,
+            ..LINE_ENDS
+        },
+        true,
+        (b"H\r\ni\r\n!\x1a", &[(90, b"\x1a"), (96, b"\x09"), (98, b"\x03")], b""),
+    ),
     // a number that is given counts, though the least is asked for too
     (
         (b"Hi!\x1a", &[(90, b"\x03")], b""),
         Mends {
             lines: Some(4),
-            least_lines: true,
+            ..LEAST
         },
         true,
         (b"Hi!\x1a", &[(90, b"\x16"), (98, b"\x04")], b""),
@@ -154,11 +190,11 @@ fn bytes_of(rt: &impl AllocGlobal, (front, edits, behind): &Sample) -> Result<Ve
     Ok(file)
 }
 
-/// A file in memory that has room for a byte more, and how long it is.
+/// A file in memory that has room for three bytes more, and how long it is.
 fn with_room(rt: &impl AllocGlobal, sample: &Sample) -> Result<(Vec<u8>, usize), AllocError> {
     let mut memory = bytes_of(rt, sample)?;
     let count = memory.len();
-    memory.push(0)?;
+    memory.extend_from_slice(b"???")?;
     Ok((memory, count))
 }
 

@@ -1,36 +1,44 @@
-use Rattle.ans_check.specs.Mending.{lacks_lines, opened}
-use Rattle.ans_check.specs.MendingSteps.{IsJudgement}
-use Rattle.ans_check.proofs.MendedLemmas.{faulty, finished, planned_counted, planned_stated, unfinished}
+use Rattle.std.proofs.Common.{◌≡◌}
+use Rattle.ans_check.specs.Mending.{edited, lacks_lines, opened}
+use Rattle.ans_check.specs.MendingSteps.{IsJudgement, IsPrepared}
+use Rattle.ans_check.proofs.MendedLemmas.{faulty, finished, surveyed_counted, surveyed_stated, unfinished}
 use Rattle.ans_check.proofs.mend.mend_on.Goals as goal
 
 pub returns-in-Err-2-clause-reason : goal.returns-in-Err-2-clause-reason
 returns-in-Err-2-clause-reason g c =
-    faulty c.args.mends.now c.args.draft.now.file c.in-Ok.prepared c.prepare.new.draft.file c.in-Err-2.fault
-    c.in-Ok.ensures.prepared
-    (rw c.file.ensures at (rw c.in-Err-2.is at c.in_ok-judgement.ensures.fault))
+    let prep : IsPrepared c.args.mends.now c.args.draft.now.file c.in-Ok-Ok.prepared c.prepare.new.draft.file =
+    rw c.in-Ok-Ok.field-0-is at c.in-Ok-Ok.ensures.prepared in
+    faulty c.args.mends.now c.args.draft.now.file c.in-Ok-Ok.prepared c.prepare.new.draft.file c.in-Err-2.fault
+    prep (rw c.file.ensures at (rw c.in-Err-2.is at c.in_ok-judgement.ensures.fault))
 
 pub finish-requires-clause-stated : goal.finish-requires-clause-stated
 finish-requires-clause-stated g c =
-    let prep = c.in-Ok.ensures.prepared in
-    planned_stated c.args.mends.now (lacks_lines c.args.mends.now prep.cut) (opened c.args.mends.now prep.cut)
-    c.in-Ok.prepared.plan prep.plan
+    let mends = c.args.mends.now in
+    let prep : IsPrepared mends c.args.draft.now.file c.in-Ok-Ok.prepared c.prepare.new.draft.file =
+    rw c.in-Ok-Ok.field-0-is at c.in-Ok-Ok.ensures.prepared in
+    surveyed_stated (lacks_lines mends prep.cut) (opened mends prep.cut) c.in-Ok-Ok.prepared.survey prep.survey
 
 pub finish-requires-clause-counted : goal.finish-requires-clause-counted
 finish-requires-clause-counted g c =
-    let prep = c.in-Ok.ensures.prepared in
-    planned_counted c.args.mends.now (lacks_lines c.args.mends.now prep.cut) (opened c.args.mends.now prep.cut)
-    c.in-Ok.prepared.plan prep.plan
+    let mends = c.args.mends.now in
+    let prep : IsPrepared mends c.args.draft.now.file c.in-Ok-Ok.prepared c.prepare.new.draft.file =
+    rw c.in-Ok-Ok.field-0-is at c.in-Ok-Ok.ensures.prepared in
+    surveyed_counted (lacks_lines mends prep.cut) (opened mends prep.cut) c.in-Ok-Ok.prepared.survey prep.survey
 
 pub returns-clause-mended : goal.returns-clause-mended
 returns-clause-mended g c =
-    let judged : IsJudgement c.prepare.new.draft.file c.in-Ok-2.judgement =
-    rw c.file.ensures at (rw c.in-Ok-2.is at c.in_ok-judgement.ensures.passes) in
-    finished c.args.mends.now c.args.draft.now.file c.in-Ok.prepared c.prepare.new.draft.file c.in-Ok-2.judgement
-    c.in-Ok.ensures.prepared judged c.finish.new.draft.file c.finish.result c.finish.ensures.mended
+    let prep : IsPrepared c.args.mends.now c.args.draft.now.file c.in-Ok-Ok.prepared c.prepare.new.draft.file =
+    rw c.in-Ok-Ok.field-0-is at c.in-Ok-Ok.ensures.prepared in
+    let judged : IsJudgement c.prepare.new.draft.file c.in-Ok.judgement =
+    rw c.file.ensures at (rw c.in-Ok.is at c.in_ok-judgement.ensures.passes) in
+    finished c.args.mends.now c.args.draft.now.file c.in-Ok-Ok.prepared c.prepare.new.draft.file c.in-Ok.judgement
+    prep judged c.finish.new.draft.file c.finish.result c.finish.ensures.mended
 
 pub returns-clause-reason : goal.returns-clause-reason
 returns-clause-reason g c =
-    let judged : IsJudgement c.prepare.new.draft.file c.in-Ok-2.judgement =
-    rw c.file.ensures at (rw c.in-Ok-2.is at c.in_ok-judgement.ensures.passes) in
-    unfinished c.args.mends.now c.args.draft.now.file c.in-Ok.prepared c.prepare.new.draft.file c.in-Ok-2.judgement
-    c.in-Ok.ensures.prepared judged c.finish.new.draft.file c.finish.result c.finish.ensures.long
+    let prep : IsPrepared c.args.mends.now c.args.draft.now.file c.in-Ok-Ok.prepared c.prepare.new.draft.file =
+    rw c.in-Ok-Ok.field-0-is at c.in-Ok-Ok.ensures.prepared in
+    let judged : IsJudgement c.prepare.new.draft.file c.in-Ok.judgement =
+    rw c.file.ensures at (rw c.in-Ok.is at c.in_ok-judgement.ensures.passes) in
+    unfinished c.args.mends.now c.args.draft.now.file c.in-Ok-Ok.prepared c.prepare.new.draft.file c.in-Ok.judgement
+    prep judged c.finish.new.draft.file c.finish.result c.finish.ensures.long
