@@ -10,7 +10,7 @@ use Rattle.ans_model.specs.Screen.State.{sized}
 use Rattle.ans_model.specs.Screen.StartClass.{all_known, none_known}
 use Rattle.ans_model.specs.Verdict.Good.{Picture, GoodWith, IsGood}
 use Rattle.ans_model.specs.declared.fault.Fault.{Fault}
-use Rattle.ans_sauce.specs.Found.{body_in, record_in}
+use Rattle.ans_sauce.specs.Found.{record_in}
 use Rattle.ans_sauce.specs.Judged.{IsRecordFault}
 use Rattle.ans_walks.specs.Hints.{are_torn}
 use Rattle.ans_walks.specs.Lines.{IsLeastLines, IsNeverGood}

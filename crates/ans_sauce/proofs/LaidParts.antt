@@ -41,8 +41,10 @@ module _ (file : List ℕ) (parts : FileParts) (laid : Laid file parts) where
   pub laid_body : body_in file ≡ parts.body
   laid_body =
       let size : length (parts.body ++ block) - block_size (comment_count parts.record_bytes) ≡ length parts.body =
-      rw (length-append parts.body block,
-      block_length (comment_count parts.record_bytes) parts.comment_bytes laid.comments) (omega arith) in
+      rw (
+        length-append parts.body block,
+        block_length (comment_count parts.record_bytes) parts.comment_bytes laid.comments,
+      ) (omega arith) in
       ap₂ (λ (f r : List ℕ). take (length f - block_size (comment_count r)) f) laid_front laid_record
       ∙ ap (λ (v : ℕ). take v (parts.body ++ block)) size ∙ take-append_seam parts.body block
 

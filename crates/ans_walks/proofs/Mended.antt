@@ -97,7 +97,7 @@ reads_behind : (content : List ℕ) (tokens : List TokenKind) → Reads content 
     → Reads (mending ++ content) (mending_tokens ++ tokens)
 reads_behind content tokens h = (
   (escape ∷ codes "[?7h") ∷ (escape ∷ codes "[0m") ∷ (escape ∷ codes "[2J") ∷ (escape ∷ codes "[H") ∷ (escape ∷ codes "[s")
-  ∷ h.0,
+      ∷ h.0,
   record {
     each = (wrap_on, (white_on_black, (clear, (home, (save, h.1.each)))));
     whole = ap (λ (v : List ℕ). mending ++ v) h.1.whole;

@@ -169,7 +169,11 @@ static MENDED: [(Sample, Mends, bool, Sample); 17] = [
             ..LINE_ENDS
         },
         true,
-        (b"H\r\ni\r\n!\x1a", &[(90, b"\x1a"), (96, b"\x09"), (98, b"\x03")], b""),
+        (
+            b"H\r\ni\r\n!\x1a",
+            &[(90, b"\x1a"), (96, b"\x09"), (98, b"\x03")],
+            b"",
+        ),
     ),
     // a number that is given counts, though the least is asked for too
     (

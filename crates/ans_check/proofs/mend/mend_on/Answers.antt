@@ -1,5 +1,4 @@
-use Rattle.std.proofs.Common.{◌≡◌}
-use Rattle.ans_check.specs.Mending.{edited, lacks_lines, opened}
+use Rattle.ans_check.specs.Mending.{lacks_lines, opened}
 use Rattle.ans_check.specs.MendingSteps.{IsJudgement, IsPrepared}
 use Rattle.ans_check.proofs.MendedLemmas.{faulty, finished, surveyed_counted, surveyed_stated, unfinished}
 use Rattle.ans_check.proofs.mend.mend_on.Goals as goal

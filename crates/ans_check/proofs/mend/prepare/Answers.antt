@@ -1,7 +1,7 @@
-use Rattle.std.proofs.Common.{◌≡◌, inl, inr, ℕ, ◌<◌, ◌≤◌, List, length, ap, arith, ◌∙◌, sym, refl, true}
+use Rattle.std.proofs.Common.{◌≡◌, inl, inr, ℕ, ◌<◌, List, length, arith, ◌∙◌, sym, refl}
 use Rattle.ans_model.specs.Bytes.{longest_file}
 use Rattle.ans_sauce.specs.Judged.{IsRecordFault}
-use Rattle.ans_mend.specs.EndMark.{end_mark_put, with_end_mark}
+use Rattle.ans_mend.specs.EndMark.{with_end_mark}
 use Rattle.ans_check.specs.Mending.{AreLinesFor, IsReasonOfEdited, edited, lacks_lines, lined, opened}
 use Rattle.ans_check.specs.MendingSteps.{IsSurvey}
 use Rattle.ans_check.proofs.MendedLemmas.{lacking_asks, opened_length, opened_stated}

@@ -1,4 +1,4 @@
-use Rattle.std.proofs.Common.{◌≡◌, ap, ap₂, ◌∙◌, length, ◌+◌, ◌==◌, ℕ, List}
+use Rattle.std.proofs.Common.{◌≡◌, ap, ap₂, ◌∙◌, length, ◌+◌, ◌==◌, ℕ}
 use Rattle.std.specs.Prelude.{if◌then◌else◌}
 use Rattle.ans_model.specs.File.Record.{file_size, stated_lines}
 use Rattle.ans_sauce.specs.Parts.{record_of}

@@ -1,4 +1,4 @@
-use Rattle.std.proofs.Common.{◌≡◌, ◌∙◌}
+use Rattle.std.proofs.Common.{◌∙◌}
 use Rattle.ans_mend.proofs.Returns.{has_room, next_done, next_left, next_place}
 use Rattle.ans_mend.proofs.line_ends.close_gap.Goals as goal
 
