@@ -4,3 +4,4 @@ pub mod Tail
 pub mod EndMark
 pub mod Contents
 pub mod LineEnds
+pub mod NewRecord

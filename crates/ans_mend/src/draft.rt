@@ -59,6 +59,17 @@ impl<'a> Draft<'a> {
         self.used = count;
     }
 
+    /// Puts bytes behind the file.
+    pub(crate) fn append(&mut self, bytes: &[u8])
+        requires { length bytes.now ≤ self.old.room }
+        ensures { self.new
+            ≡ draft_of (self.old.file ++ bytes.now) (self.old.room - length bytes.now) }
+    {
+        let end = self.used + bytes.len();
+        self.memory[self.used..end].copy_from_slice(bytes);
+        self.used = end;
+    }
+
     /// Puts a byte at the offset, before what stands there.
     pub(crate) fn insert(&mut self, offset: usize, byte: u8)
         requires within { offset ≤ length self.old.file }

@@ -12,7 +12,7 @@ use crate::draft::{Draft, NoRoom};
 use ans_sauce::{body_before, cut_record};
 
 /// SAUCE 00.5: the end of file character.
-const END_MARK: u8 = 0x1A;
+pub(crate) const END_MARK: u8 = 0x1A;
 
 fn has_end_mark(body: &[u8]) -> bool
     ensures { result ≡ list_any is_end_mark body.now }

@@ -9,6 +9,7 @@ mod draft;
 mod end_mark;
 mod fields;
 mod line_ends;
+mod new_record;
 mod outcome;
 mod tail;
 

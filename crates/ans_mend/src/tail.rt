@@ -14,7 +14,7 @@ fn is_tail_byte(byte: u8) -> bool
     matches!(byte, 0x00 | b'\n' | b'\r' | 0x1A)
 }
 
-fn is_tail(bytes: &[u8]) -> bool
+pub(crate) fn is_tail(bytes: &[u8]) -> bool
     ensures { result ≡ list_all is_tail_byte bytes.now }
 {
     bytes.iter().all(|byte| is_tail_byte(*byte))
