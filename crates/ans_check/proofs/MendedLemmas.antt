@@ -29,7 +29,7 @@ use Rattle.ans_mend.specs.declared.outcome.Unmended.TheVariants.{Refused}
 use Rattle.ans_model.specs.declared.fault.Fault.{Fault}
 use Rattle.ans_mend.proofs.EndMarks.{ended}
 use Rattle.ans_options.specs.declared.command.Mends.{Mends}
-use Rattle.ans_check.specs.Mending.{TellsReturns, edited}
+use Rattle.ans_check.specs.Mending.{TellsReturns, asked_for, edited, recorded}
 use Rattle.ans_check.specs.Mending.{IsFaulty, IsMended, IsReason}
 use Rattle.ans_check.specs.MendingSteps.{IsFinished, IsJudgement, IsSurvey, IsPrepared, IsTooLong}
 use Rattle.ans_check.specs.Mending.{asks_for_lines, front_bytes, lacks_lines, lined, opened}
@@ -193,10 +193,14 @@ mended mends file prepared settled judgement m draft prep judged done =
     record {
       cut = prep.cut;
       is_cut = prep.is_cut;
+      asked = asked_for mends prep.cut;
+      asked_is = refl;
+      based = recorded mends prep.cut;
+      based_is = refl;
       settled = settled;
-      lines = prepared.lines;
-      are_lines = prep.lines;
-      settled_is = prep.settled_is;
+      lines = prepared.done.lines;
+      are_lines = prep.done.lines;
+      settled_is = prep.done.settled_is;
       draft_is = done.draft_is;
       apart = resized_parts front n apart;
       accepts = subst (λ (v : List ℕ). Accepts v (resized_parts front n apart)) (sym whole)
@@ -209,10 +213,11 @@ mended mends file prepared settled judgement m draft prep judged done =
           ap (λ (b : Bool). length (front_bytes b)) done.front in
           let size = done.size in
           let count = judged.count in
-          let counted = prep.survey.counted in omega (arith, all, same, size, count, counted);
+          let counted = prep.done.survey.counted in omega (arith, all, same, size, count, counted);
       ended = any_behind front apart.body
-          (ended (lined prepared.lines (edited mends (opened mends prep.cut))) apart
-          (subst (λ (v : List ℕ). Laid v apart) prep.settled_is accepts.laid));
+          (ended (lined prepared.done.lines (edited (asked_for mends prep.cut) (opened (asked_for mends prep.cut)
+          (recorded mends prep.cut)))) apart
+          (subst (λ (v : List ℕ). Laid v apart) prep.done.settled_is accepts.laid));
       picture = passes.picture;
       from_cleared = subst₂ (λ (z : Size) (bytes : List ℕ). GoodWith z all_known bytes passes.picture) (sym size_is)
           (sym body_is) passes.cleared;
@@ -221,11 +226,13 @@ mended mends file prepared settled judgement m draft prep judged done =
       front = λ on. subst₂ (λ (z : Size) (bytes : List ℕ). ¬ IsGood z none_known bytes) (sym size_is) (sym body_is)
           (judged.some (sym done.front ∙ on));
       tail = ap (λ (v : ℕ). length prep.cut + v) done.tail ∙ prep.tail;
-      returns = subst (TellsReturns mends (opened mends prep.cut)) (sym done.returns) prep.returns;
-      end_mark = done.end_mark ∙ prep.end_mark;
-      lines_were = done.lines_were ∙ prep.stated;
+      given_record = done.given_record ∙ prep.given_record;
+      returns = subst (TellsReturns (asked_for mends prep.cut) (opened (asked_for mends prep.cut) (recorded mends
+          prep.cut))) (sym done.returns) prep.done.returns;
+      end_mark = done.end_mark ∙ prep.done.end_mark;
+      lines_were = done.lines_were ∙ prep.done.stated;
       lines_are = done.lines_are ∙ judged.lines ∙ ap stated_lines (sym (laid_record settled apart accepts.laid));
-      size_was = done.size_was ∙ prep.survey.size;
+      size_was = done.size_was ∙ prep.done.survey.size;
     }
 
 -- ---- and where it is not
@@ -234,7 +241,7 @@ mended mends file prepared settled judgement m draft prep judged done =
 pub faulty : (mends : Mends) (file : List ℕ) (prepared : Prepared) (settled : List ℕ) (fault : Fault)
     → IsPrepared mends file prepared settled → IsFaulty settled fault → IsReason mends file (Refused fault)
 faulty mends file prepared settled fault prep is =
-    (prep.cut, prep.is_cut, inr (inr (settled, (prepared.lines, prep.lines, prep.settled_is), is)))
+    (prep.cut, prep.is_cut, inr (inr (inr (settled, (prepared.done.lines, prep.done.lines, prep.done.settled_is), is))))
 
 -- and so is want of room for the mending
 pub too_long : (mends : Mends) (file : List ℕ) (prepared : Prepared) (settled : List ℕ) (judgement : Judgement)
@@ -249,7 +256,7 @@ too_long mends file prepared settled judgement reason prep judged is =
     subst (λ (r : Unmended). IsReason mends file r) (sym is.0) (
       prep.cut,
       prep.is_cut,
-      inr (inr (settled, (prepared.lines, prep.lines, prep.settled_is), inr (is.2, not_good))),
+      inr (inr (inr (settled, (prepared.done.lines, prep.done.lines, prep.done.settled_is), inr (is.2, not_good)))),
     )
 
 -- what finishing comes to

@@ -23,6 +23,8 @@ use Rattle.ans_mend.specs.EndMark.{end_mark_put, with_end_mark}
 use Rattle.ans_mend.specs.Contents.{content_in}
 use Rattle.ans_mend.specs.Fields.{with_lines, with_record}
 use Rattle.ans_mend.specs.LineEnds.{ArePut, with_line_ends}
+use Rattle.ans_mend.specs.NewRecord.{takes_record, with_new_record}
+use Rattle.std.specs.Option.{option_map_or}
 use Rattle.ans_mend.specs.Tail.{IsTailCut}
 use Rattle.ans_mend.specs.declared.outcome.Mended.{Mended}
 use Rattle.ans_mend.specs.declared.outcome.Unmended.{Unmended}
@@ -31,6 +33,18 @@ use Rattle.ans_options.specs.declared.command.Mends.{Mends}
 use Rattle.ans_check.specs.FileVerdict.{Deserves}
 
 -- ---- the file of which the tail was cut
+
+-- a record is asked for, and the file takes it
+abbrev pub gives_record : Mends → List ℕ → Bool
+gives_record mends cut = is_some mends.width && takes_record cut
+
+-- the file with a record of the width that is asked for, where it takes one
+abbrev pub recorded : Mends → List ℕ → List ℕ
+recorded mends cut = option_map_or (λ width. with_new_record width cut) mends.width cut
+
+-- where a record is given, the least number of lines is asked for too
+abbrev pub asked_for : Mends → List ℕ → Mends
+asked_for mends cut = record mends { least_lines = mends.least_lines || gives_record mends cut }
 
 -- a number of lines is asked for
 abbrev pub asks_for_lines : Mends → Bool
@@ -107,9 +121,9 @@ AreLinesFor mends lacks file lines = MatchOption lines (KeepsLines mends lacks (
 
 -- The file with its lines settled, and with an end mark behind its content.
 abbrev pub IsSettled : Mends → List ℕ → List ℕ → Type 0
-IsSettled mends cut settled = (lines : Option ℕ)
-    × AreLinesFor mends (lacks_lines mends cut) (edited mends (opened mends cut)) lines
-    × (settled ≡ with_end_mark (lined lines (edited mends (opened mends cut))))
+IsSettled asked based settled = (lines : Option ℕ)
+    × AreLinesFor asked (lacks_lines asked based) (edited asked (opened asked based)) lines
+    × (settled ≡ with_end_mark (lined lines (edited asked (opened asked based))))
 
 -- ---- the file that is written
 
@@ -127,14 +141,18 @@ pub record IsMended (mends : Mends) (file : List ℕ) (mended : Mended) (draft :
   pub cut : List ℕ
   pub is_cut : IsTailCut file cut
   pub settled : List ℕ
+  pub asked : Mends
+  pub asked_is : asked ≡ asked_for mends cut
+  pub based : List ℕ
+  pub based_is : based ≡ recorded mends cut
   pub lines : Option ℕ
-  pub are_lines : AreLinesFor mends (lacks_lines mends cut) (edited mends (opened mends cut)) lines
-  pub settled_is : settled ≡ with_end_mark (lined lines (edited mends (opened mends cut)))
+  pub are_lines : AreLinesFor asked (lacks_lines asked based) (edited asked (opened asked based)) lines
+  pub settled_is : settled ≡ with_end_mark (lined lines (edited asked (opened asked based)))
   pub draft_is : draft ≡ with_record (with_file_size mended.file_size.is (record_in settled)) settled
   pub apart : FileParts
   pub accepts : Accepts (front_bytes mended.front ++ draft) apart
   pub content_is : content apart.body ≡ front_bytes mended.front ++ content_in settled
-  pub fits : mended.file_size.is ≡ length (content apart.body) + end_mark_counted (opened mends cut)
+  pub fits : mended.file_size.is ≡ length (content apart.body) + end_mark_counted (opened asked based)
   pub ended : IsTrue (list_any is_end_mark apart.body)
   pub picture : Picture
   pub from_cleared : GoodWith (stated_size apart.record_bytes) all_known (content_in settled) picture
@@ -142,11 +160,12 @@ pub record IsMended (mends : Mends) (file : List ℕ) (mended : Mended) (draft :
   -- the mending stands in front where the content does not pass from every start by itself
   pub front : IsTrue mended.front → ¬ IsGood (stated_size apart.record_bytes) none_known (content_in settled)
   pub tail : length cut + mended.tail ≡ length file
-  pub returns : TellsReturns mends (opened mends cut) mended.returns
-  pub end_mark : mended.end_mark ≡ end_mark_put (lined lines (edited mends (opened mends cut)))
-  pub lines_were : mended.lines.was ≡ stated_lines (record_in cut)
+  pub given_record : mended.given_record ≡ gives_record mends cut
+  pub returns : TellsReturns asked (opened asked based) mended.returns
+  pub end_mark : mended.end_mark ≡ end_mark_put (lined lines (edited asked (opened asked based)))
+  pub lines_were : mended.lines.was ≡ stated_lines (record_in based)
   pub lines_are : mended.lines.is ≡ stated_lines (record_in settled)
-  pub size_was : mended.file_size.was ≡ file_size (record_in (opened mends cut))
+  pub size_was : mended.file_size.was ≡ file_size (record_in (opened asked based))
 
 -- ---- why there is none
 
@@ -186,16 +205,17 @@ IsReasonOfContent settled _ = ⊥
 
 -- what is true of a settled file is true of one to which this one may come
 abbrev pub HasSettled : Mends → List ℕ → (List ℕ → Type 0) → Type 0
-HasSettled mends cut holds =
-    (settled : List ℕ) × IsSettled mends cut settled × holds settled
+HasSettled asked based holds =
+    (settled : List ℕ) × IsSettled asked based settled × holds settled
 
--- The reason is true of the file of which the tail was cut.
+-- The reason is true of the file with a record, where one was given, for what is then asked for.
 abbrev pub IsReasonFor : Mends → List ℕ → Unmended → Type 0
-IsReasonFor mends cut reason =
-    HasRecordFault (opened mends cut) reason
-    ⊎ IsReasonOfEdited mends (lacks_lines mends cut) (edited mends (opened mends cut)) reason
-    ⊎ HasSettled mends cut (λ settled. IsReasonOfContent settled reason)
+IsReasonFor asked based reason = ((reason ≡ TooLong) × (longest_file < length based))
+    ⊎ HasRecordFault (opened asked based) reason
+    ⊎ IsReasonOfEdited asked (lacks_lines asked based) (edited asked (opened asked based)) reason
+    ⊎ HasSettled asked based (λ settled. IsReasonOfContent settled reason)
 
 -- the reason is true of the file
 abbrev pub IsReason : Mends → List ℕ → Unmended → Type 0
-IsReason mends file reason = (cut : List ℕ) × IsTailCut file cut × IsReasonFor mends cut reason
+IsReason mends file reason = (cut : List ℕ) × IsTailCut file cut
+    × IsReasonFor (asked_for mends cut) (recorded mends cut) reason

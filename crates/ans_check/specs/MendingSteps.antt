@@ -16,8 +16,10 @@ use Rattle.ans_mend.specs.Tail.{IsTailCut}
 use Rattle.ans_mend.specs.declared.outcome.Mended.{Mended}
 use Rattle.ans_mend.specs.declared.outcome.Unmended.{Unmended}
 use Rattle.ans_mend.specs.declared.outcome.Unmended.TheVariants.{TooLong}
+use Rattle.ans_check.specs.Mending.{asked_for, gives_record, recorded}
 use Rattle.ans_options.specs.declared.command.Mends.{Mends}
 use Rattle.ans_check.specs.declared.mend.Judgement.{Judgement}
+use Rattle.ans_check.specs.declared.mend.Done.{Done}
 use Rattle.ans_check.specs.declared.mend.Survey.{Survey}
 use Rattle.ans_check.specs.declared.mend.Prepared.{Prepared}
 use Rattle.ans_check.specs.Mending.{AreLinesFor, TellsReturns, edited, end_mark_counted, front_bytes, lacks_lines, lined, opened}
@@ -41,34 +43,40 @@ pub record IsJudgement (file : List ℕ) (judgement : Judgement) : Type 0 where
   pub count : judgement.content ≡ length (content apart.body)
   pub lines : judgement.lines ≡ stated_lines apart.record_bytes
 
+-- what was done with the content, the lines and the end mark
+pub record IsDone (asked : Mends) (based : List ℕ) (done : Done) (settled : List ℕ) : Type 0 where
+  pub survey : IsSurvey (lacks_lines asked based) (opened asked based) done.survey
+  pub lines : AreLinesFor asked (lacks_lines asked based) (edited asked (opened asked based)) done.lines
+  pub settled_is : settled ≡ with_end_mark (lined done.lines (edited asked (opened asked based)))
+  pub returns : TellsReturns asked (opened asked based) done.returns
+  pub end_mark : done.end_mark ≡ end_mark_put (lined done.lines (edited asked (opened asked based)))
+  pub stated : done.survey.stated ≡ stated_lines (record_in based)
+
 -- all that is done before the content is judged
 pub record IsPrepared (mends : Mends) (file : List ℕ) (prepared : Prepared) (settled : List ℕ) : Type 0 where
   pub cut : List ℕ
   pub is_cut : IsTailCut file cut
-  pub survey : IsSurvey (lacks_lines mends cut) (opened mends cut) prepared.survey
-  pub lines : AreLinesFor mends (lacks_lines mends cut) (edited mends (opened mends cut)) prepared.lines
-  pub settled_is : settled ≡ with_end_mark (lined prepared.lines (edited mends (opened mends cut)))
   pub tail : length cut + prepared.tail ≡ length file
-  pub returns : TellsReturns mends (opened mends cut) prepared.returns
-  pub end_mark : prepared.end_mark ≡ end_mark_put (lined prepared.lines (edited mends (opened mends cut)))
-  pub stated : prepared.survey.stated ≡ stated_lines (record_in cut)
+  pub given_record : prepared.given_record ≡ gives_record mends cut
+  pub done : IsDone (asked_for mends cut) (recorded mends cut) prepared.done settled
 
 -- the FileSize that counts the mending, where it is wanted
 abbrev pub size_for : Prepared → Judgement → ℕ
 size_for prepared judgement =
-    judgement.content + length (front_bytes judgement.front) + prepared.survey.end_mark_counted
+    judgement.content + length (front_bytes judgement.front) + prepared.done.survey.end_mark_counted
 
 -- the FileSize was set so, and what was changed in all is told
 pub record IsFinished (prepared : Prepared) (judgement : Judgement) (settled : List ℕ) (mended : Mended)
     (draft : List ℕ) : Type 0 where
   pub draft_is : draft ≡ with_record (with_file_size mended.file_size.is (record_in settled)) settled
   pub size : mended.file_size.is ≡ size_for prepared judgement
-  pub size_was : mended.file_size.was ≡ prepared.survey.file_size
+  pub size_was : mended.file_size.was ≡ prepared.done.survey.file_size
   pub front : mended.front ≡ judgement.front
   pub tail : mended.tail ≡ prepared.tail
-  pub returns : mended.returns ≡ prepared.returns
-  pub end_mark : mended.end_mark ≡ prepared.end_mark
-  pub lines_were : mended.lines.was ≡ prepared.survey.stated
+  pub given_record : mended.given_record ≡ prepared.given_record
+  pub returns : mended.returns ≡ prepared.done.returns
+  pub end_mark : mended.end_mark ≡ prepared.done.end_mark
+  pub lines_were : mended.lines.was ≡ prepared.done.survey.stated
   pub lines_are : mended.lines.is ≡ judgement.lines
   pub room : length settled + length (front_bytes judgement.front) ≤ longest_file
 

@@ -1,15 +1,15 @@
 //! A file that is mended.
 ghost use Rattle.std.specs.Prelude.{◌≡◌, ◌≤◌, true, false, length, IfOk, IfErr};
-ghost use Rattle.std.specs.Prelude.{IfSome, IfNone, OnOk};
+ghost use Rattle.std.specs.Prelude.{IfSome, IfNone, OnOk, ◌||◌};
 ghost use Rattle.ans_model.specs.Bytes.{longest_file, most_lines};
 ghost use Rattle.ans_sauce.specs.Judged.{IsRecordFault};
 ghost use Rattle.ans_sauce.specs.Parts.{content_of, record_of, width_of};
 ghost use Rattle.ans_walks.specs.Lines.{IsNeverGood};
 ghost use Rattle.ans_mend.specs.Drafts.{draft_of};
-ghost use Rattle.ans_check.specs.Mending.{AreLinesFor, HasLeast, IsFaulty, IsMended, IsReason, IsReasonOfEdited};
+ghost use Rattle.ans_check.specs.Mending.{AreLinesFor, HasLeast, IsFaulty, IsMended, IsReason, IsReasonFor, IsReasonOfEdited};
 ghost use Rattle.ans_check.specs.Mending.{IsReasonOfLines, IsWithoutNumber, KeepsLines, PassesAsStated, TakesLines};
-ghost use Rattle.ans_check.specs.Mending.{TellsReturns, WantsLines, asks_for_lines, edited, lacks_lines, lined, opened};
-ghost use Rattle.ans_check.specs.MendingSteps.{IsFinished, IsJudgement, IsPrepared, IsSurvey, IsTooLong};
+ghost use Rattle.ans_check.specs.Mending.{TellsReturns, WantsLines, asks_for_lines, edited, gives_record, lacks_lines, lined, opened, recorded};
+ghost use Rattle.ans_check.specs.MendingSteps.{IsDone, IsFinished, IsJudgement, IsPrepared, IsSurvey, IsTooLong};
 
 use crate::screens::Screens;
 use ans_mend::{Draft, Mended, NoRoom, Reset, Unmended};
@@ -180,16 +180,23 @@ fn judge<S: Screens>(screens: &mut S, file: &[u8]) -> Result<Result<Judgement, F
     }))
 }
 
-/// What was done with a file whose content is still to be judged.
+/// What was done with the content, the lines and the end mark of a file.
 #[derive(Clone, Copy)]
-struct Prepared {
-    // how many bytes were cut off behind the record
-    tail: usize,
+struct Done {
     survey: Survey,
     returns: Option<Times>,
     // the lines that were taken, if others than were stated
     lines: Option<u16>,
     end_mark: Option<usize>,
+}
+
+/// What was done with a file whose content is still to be judged.
+#[derive(Clone, Copy)]
+struct Prepared {
+    // how many bytes were cut off behind the record
+    tail: usize,
+    given_record: bool,
+    done: Done,
 }
 
 /// Changes what is asked for in the content.
@@ -203,26 +210,35 @@ fn edit(draft: &mut Draft<'_>, mends: &Mends) -> Result<Option<Times>, NoRoom>
     Ok(None)
 }
 
-/// Does all that is done before the content is judged: the tail, the content, the lines and the end mark.
-/// `Err` says that the draft has no room for it.
-fn prepare(draft: &mut Draft<'_>, mends: &Mends) -> Result<Result<Prepared, Unmended>, NoRoom>
-    requires { length draft.old.file ≤ longest_file }
-    ensures prepared { IfOk result (λ answer. IfOk answer
-        (λ p. IsPrepared mends.now draft.old.file p draft.new.file)) }
-    ensures length { IfOk result (λ answer. OnOk answer (length draft.new.file ≤ longest_file)) }
-    ensures reason { IfOk result (λ answer. IfErr answer (IsReason mends.now draft.old.file)) }
+/// Gives the file a record of the width that is asked for, where it takes one. Returns whether it does.
+fn give_record(draft: &mut Draft<'_>, mends: &Mends) -> Result<bool, NoRoom>
+    ensures file { OnOk result (draft.new.file ≡ recorded mends.now draft.old.file) }
+    ensures given { IfOk result (λ given. given ≡ gives_record mends.now draft.old.file) }
 {
-    let tail = draft.cut_tail();
-    let lacks = open_lines(draft, mends);
+    match mends.width {
+        Some(width) => draft.give_record(width),
+        None => Ok(false),
+    }
+}
+
+/// Changes the content, settles the lines and puts the end mark. `Err` says that the draft has no room.
+fn settle(draft: &mut Draft<'_>, asked: &Mends) -> Result<Result<Done, Unmended>, NoRoom>
+    requires { length draft.old.file ≤ longest_file }
+    ensures done { IfOk result (λ answer. IfOk answer
+        (λ d. IsDone asked.now draft.old.file d draft.new.file)) }
+    ensures length { IfOk result (λ answer. OnOk answer (length draft.new.file ≤ longest_file)) }
+    ensures reason { IfOk result (λ answer. IfErr answer (IsReasonFor asked.now draft.old.file)) }
+{
+    let lacks = open_lines(draft, asked);
     let survey = match survey_of(draft.file(), lacks) {
         Ok(survey) => survey,
         Err(fault) => return Ok(Err(Unmended::Refused(fault))),
     };
-    let returns = edit(draft, mends)?;
+    let returns = edit(draft, asked)?;
     if draft.file().len() > MAX_FILE {
         return Ok(Err(Unmended::TooLong));
     }
-    let lines = match lines_for(draft.file(), mends, lacks) {
+    let lines = match lines_for(draft.file(), asked, lacks) {
         Ok(lines) => lines,
         Err(reason) => return Ok(Err(reason)),
     };
@@ -231,13 +247,46 @@ fn prepare(draft: &mut Draft<'_>, mends: &Mends) -> Result<Result<Prepared, Unme
     if draft.file().len() > MAX_FILE {
         return Ok(Err(Unmended::TooLong));
     }
-    Ok(Ok(Prepared {
-        tail,
+    Ok(Ok(Done {
         survey,
         returns,
         lines,
         end_mark,
     }))
+}
+
+/// What is asked for of a file, of which it is known whether a record was given to it.
+fn asked_where(mends: &Mends, given_record: bool) -> Mends
+    ensures { result ≡ record mends.now { least_lines = mends.now.least_lines || given_record } }
+{
+    Mends {
+        least_lines: mends.least_lines || given_record,
+        ..*mends
+    }
+}
+
+/// Does all that is done before the content is judged: the tail, the record, the content, the lines and
+/// the end mark. `Err` says that the draft has no room for it.
+fn prepare(draft: &mut Draft<'_>, mends: &Mends) -> Result<Result<Prepared, Unmended>, NoRoom>
+    requires { length draft.old.file ≤ longest_file }
+    ensures prepared { IfOk result (λ answer. IfOk answer
+        (λ p. IsPrepared mends.now draft.old.file p draft.new.file)) }
+    ensures length { IfOk result (λ answer. OnOk answer (length draft.new.file ≤ longest_file)) }
+    ensures reason { IfOk result (λ answer. IfErr answer (IsReason mends.now draft.old.file)) }
+{
+    let tail = draft.cut_tail();
+    let given_record = give_record(draft, mends)?;
+    if draft.file().len() > MAX_FILE {
+        return Ok(Err(Unmended::TooLong));
+    }
+    match settle(draft, &asked_where(mends, given_record))? {
+        Ok(done) => Ok(Ok(Prepared {
+            tail,
+            given_record,
+            done,
+        })),
+        Err(reason) => Ok(Err(reason)),
+    }
 }
 
 /// States these lines, where there are some.
@@ -260,8 +309,8 @@ fn finish(
     requires length { length draft.old.file ≤ longest_file }
     requires within { judgement.content ≤ length draft.old.file }
     requires lines { judgement.lines ≤ most_lines }
-    requires stated { prepared.survey.stated ≤ most_lines }
-    requires counted { prepared.survey.end_mark_counted ≤ 1 }
+    requires stated { prepared.done.survey.stated ≤ most_lines }
+    requires counted { prepared.done.survey.end_mark_counted ≤ 1 }
     ensures mended { IfOk result (λ m. IsFinished prepared judgement draft.old.file m draft.new.file) }
     ensures long { IfErr result (IsTooLong judgement draft.old.file) }
 {
@@ -269,19 +318,20 @@ fn finish(
     if draft.file().len() + front > MAX_FILE {
         return Err(Unmended::TooLong);
     }
-    let size = (judgement.content + front) as u32 + prepared.survey.end_mark_counted;
+    let size = (judgement.content + front) as u32 + prepared.done.survey.end_mark_counted;
     draft.state_file_size(size);
     Ok(Mended {
         tail: prepared.tail,
-        returns: prepared.returns,
-        end_mark: prepared.end_mark,
+        given_record: prepared.given_record,
+        returns: prepared.done.returns,
+        end_mark: prepared.done.end_mark,
         lines: Reset {
-            was: prepared.survey.stated as u32,
+            was: prepared.done.survey.stated as u32,
             is: judgement.lines as u32,
         },
         front: judgement.front,
         file_size: Reset {
-            was: prepared.survey.file_size,
+            was: prepared.done.survey.file_size,
             is: size,
         },
     })

@@ -8,6 +8,8 @@ use ans_walks::Times;
 pub struct Mended {
     /// How many bytes were cut off behind the record.
     pub tail: usize,
+    /// Whether a record was put behind the content.
+    pub given_record: bool,
     /// How many returns were put before line feeds, and where the first of these stood, in bytes from the
     /// file's start.
     pub returns: Option<Times>,

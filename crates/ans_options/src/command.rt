@@ -31,6 +31,9 @@ pub enum TableForm {
 /// What `mend` may change of a file, besides what it mends by itself.
 #[derive(Debug, Clone, Copy, PartialEq, Eq)]
 pub struct Mends {
+    /// The width of the record that a file without one is given, in columns: 1 to 1024. Its lines are
+    /// those of `lines`, and where there is no number the least with which the drawing passes.
+    pub width: Option<u16>,
     /// The number of lines to be stated where those that the record states are too few, or none are: 1 to
     /// 8192.
     pub lines: Option<u16>,

@@ -8,6 +8,7 @@ use std::alloc::AllocError;
 
 /// Nothing but what is mended by itself.
 const ITSELF: Mends = Mends {
+    width: None,
     lines: None,
     least_lines: false,
     line_ends: false,
@@ -16,6 +17,12 @@ const ITSELF: Mends = Mends {
 /// The least number of lines too.
 const LEAST: Mends = Mends {
     least_lines: true,
+    ..ITSELF
+};
+
+/// A record of two columns too.
+const WIDTH: Mends = Mends {
+    width: Some(2),
     ..ITSELF
 };
 
@@ -187,6 +194,54 @@ static MENDED: [(Sample, Mends, bool, Sample); 17] = [
     ),
 ];
 
+/// Files without a record, what is asked for, and the file behind the safe beginning.
+static GIVEN: [(&[u8], Mends, Sample); 4] = [
+    (
+        b"Hi",
+        WIDTH,
+        (b"Hi\x1a", &[(82, b"00000000"), (90, b"\x15")], b""),
+    ),
+    (
+        b"Hi!\x1a\r\n\x00\x1a",
+        WIDTH,
+        (
+            b"Hi!\x1a",
+            &[(82, b"00000000"), (90, b"\x16"), (98, b"\x02")],
+            b"",
+        ),
+    ),
+    (
+        b"Hi!\x1a",
+        Mends {
+            lines: Some(4),
+            ..WIDTH
+        },
+        (
+            b"Hi!\x1a",
+            &[(82, b"00000000"), (90, b"\x16"), (98, b"\x04")],
+            b"",
+        ),
+    ),
+    (
+        b"H\ni\n",
+        Mends {
+            line_ends: true,
+            width: Some(258),
+            ..WIDTH
+        },
+        (
+            b"H\r\ni\r\n\x1a",
+            &[
+                (82, b"00000000"),
+                (90, b"\x19"),
+                (96, b"\x02\x01"),
+                (98, b"\x02"),
+            ],
+            b"",
+        ),
+    ),
+];
+
 /// The bytes of a sample.
 fn bytes_of(rt: &impl AllocGlobal, (front, edits, behind): &Sample) -> Result<Vec<u8>, AllocError> {
     let mut file = sample_file(rt.alloc(), front, edits)?;
@@ -216,8 +271,28 @@ fn files_are_mended(rt: HostRuntime) -> Result<(), AllocError> {
     Ok(())
 }
 
+#[test]
+fn files_without_a_record_are_given_one(rt: HostRuntime) -> Result<(), AllocError> {
+    for (file, mends, expected) in &GIVEN {
+        let mut memory = file.to_vec(rt.alloc())?;
+        memory.extend_from_slice(&[b'?'; 131])?;
+        let mut draft = Draft::new(memory.as_mut_slice(), file.len());
+        let mut screens = NewScreens::<PlaneGrid>::new(rt.alloc());
+        let answer = mend_on(&mut screens, &mut draft, mends)?;
+        assert_eq!(rt;
+            answer
+                .map(|mended| mended.front && mended.given_record)
+                .ok(),
+            Some(true)
+        );
+        let expected = bytes_of(&rt, expected)?;
+        assert_eq!(rt; draft.file(), expected.as_slice());
+    }
+    Ok(())
+}
+
 /// Files, what is asked for, and why they are not mended so.
-static REFUSED: [(Sample, Mends, Unmended); 9] = [
+static REFUSED: [(Sample, Mends, Unmended); 11] = [
     ((b"Hi\x1a", &[], b"\r\n "), LEAST, refused!(134, NoRecord)),
     (
         (b"Hi\x1a", &[(5, b"01")], b""),
@@ -247,6 +322,14 @@ static REFUSED: [(Sample, Mends, Unmended); 9] = [
         LEAST,
         Unmended::Torn,
     ),
+    // a record that is there is not another
+    (
+        (b"Hi\x1a", &[(98, b"\x00")], b""),
+        WIDTH,
+        refused!(101, LinesUnstated),
+    ),
+    // and what stands behind an end mark may be the drawing
+    ((b"Hi\x1a", &[], b"?"), WIDTH, refused!(132, NoRecord)),
 ];
 
 #[test]

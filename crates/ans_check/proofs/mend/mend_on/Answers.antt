@@ -1,4 +1,4 @@
-use Rattle.ans_check.specs.Mending.{lacks_lines, opened}
+use Rattle.ans_check.specs.Mending.{asked_for, lacks_lines, opened, recorded}
 use Rattle.ans_check.specs.MendingSteps.{IsJudgement, IsPrepared}
 use Rattle.ans_check.proofs.MendedLemmas.{faulty, finished, surveyed_counted, surveyed_stated, unfinished}
 use Rattle.ans_check.proofs.mend.mend_on.Goals as goal
@@ -15,14 +15,18 @@ finish-requires-clause-stated g c =
     let mends = c.args.mends.now in
     let prep : IsPrepared mends c.args.draft.now.file c.in-Ok-Ok.prepared c.prepare.new.draft.file =
     rw c.in-Ok-Ok.field-0-is at c.in-Ok-Ok.ensures.prepared in
-    surveyed_stated (lacks_lines mends prep.cut) (opened mends prep.cut) c.in-Ok-Ok.prepared.survey prep.survey
+    let asked = asked_for mends prep.cut in
+    let based = recorded mends prep.cut in
+    surveyed_stated (lacks_lines asked based) (opened asked based) c.in-Ok-Ok.prepared.done.survey prep.done.survey
 
 pub finish-requires-clause-counted : goal.finish-requires-clause-counted
 finish-requires-clause-counted g c =
     let mends = c.args.mends.now in
     let prep : IsPrepared mends c.args.draft.now.file c.in-Ok-Ok.prepared c.prepare.new.draft.file =
     rw c.in-Ok-Ok.field-0-is at c.in-Ok-Ok.ensures.prepared in
-    surveyed_counted (lacks_lines mends prep.cut) (opened mends prep.cut) c.in-Ok-Ok.prepared.survey prep.survey
+    let asked = asked_for mends prep.cut in
+    let based = recorded mends prep.cut in
+    surveyed_counted (lacks_lines asked based) (opened asked based) c.in-Ok-Ok.prepared.done.survey prep.done.survey
 
 pub returns-clause-mended : goal.returns-clause-mended
 returns-clause-mended g c =
