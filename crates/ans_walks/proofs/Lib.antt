@@ -20,3 +20,4 @@ pub mod EmptyRows
 pub mod HintsFound
 pub mod FullRows
 pub mod LastPrint
+pub mod HomingFound

@@ -15,6 +15,7 @@
 mod conditions;
 mod evidence;
 mod hints;
+mod homing;
 pub mod laws;
 mod lines;
 mod pen;
@@ -28,6 +29,7 @@ mod watch;
 
 pub use evidence::{cells_of_fault, cursors_before};
 pub use hints::Hints;
+pub use homing::clears_away;
 pub use lines::{is_good, least_lines};
 pub use row_ends::{RowEnds, RowsOver, WiderRows};
 pub use taller::is_taller;
