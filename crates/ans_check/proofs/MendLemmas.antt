@@ -1,13 +1,17 @@
 -- What a file's parts say of mending.
 use Rattle.std.proofs.Common.{◌≡◌, inr, ℕ, Bool, true, false, List, length, refl, sym, ap, ◌∙◌}
 use Rattle.std.proofs.Common.{Option, Some, None, true≢false}
-use Rattle.std.proofs.Common.{subst₂, ap₂, Result, Ok, Err, ◌+◌, ◌==◌}
+use Rattle.std.proofs.Common.{inl, subst₂, ap₂, Result, Ok, Err, ◌+◌, ◌==◌}
 use Rattle.std.specs.Prelude.{is_some, not, IsTrue, ◌↔◌, IfOk, IfErr, IfSome, IfNone, if◌then◌else◌}
 use mir.Val.{bool_byte}
+use Rattle.ans_model.specs.Screen.State.{Size}
+use Rattle.ans_model.specs.Sequence.TokenKind.{TokenKind}
+use Rattle.ans_model.specs.Sequence.Reads.{Reads}
+use Rattle.ans_walks.specs.Homing.{ClearsAway}
+use Rattle.ans_check.specs.Mending.{WantsMending}
 use Rattle.ans_model.specs.Bytes.{most_lines}
 use Rattle.ans_walks.specs.Lines.{IsNeverGood}
 use Rattle.ans_model.specs.Verdict.Good.{IsGood}
-use Rattle.ans_check.specs.StartParts.{EndsFrom}
 use Rattle.ans_check.specs.Mending.{AreLinesFor, AsksForLeast, HasLeast, IsWithoutNumber, KeepsLines}
 use Rattle.ans_check.specs.MendingSteps.{IsJudgement, IsSurvey}
 use Rattle.ans_check.specs.Mending.{TakesLines, WantsLines}
@@ -43,34 +47,40 @@ split_fault file parts fault h deserved =
     inr (subst₂ (λ (sauce bytes : List ℕ). Deserves (stated_size sauce) all_known bytes fault)
     (split_record file parts h) (split_content file parts h) deserved)
 
--- its parts pass from the cleared start, and this is what they come to from every start
-pub judged : (file : List ℕ) (parts : Parts) (every : Option Fault) (judgement : Judgement) → IsSplit file parts
-    → IsGood (size_of parts) all_known (content_of parts) → EndsFrom (size_of parts) (content_of parts) none_known every
-    → judgement.front ≡ is_some every → judgement.content ≡ length (content_of parts)
-    → judgement.lines ≡ lines_of parts → IsJudgement file judgement
-judged file parts every judgement h cleared ends front count lines = record {
+-- its parts pass from the cleared start, and this is what they want
+pub judged : (file : List ℕ) (parts : Parts) (judgement : Judgement) → IsSplit file parts
+    → IsGood (size_of parts) all_known (content_of parts)
+    → (judgement.front ≡ false → IsGood (size_of parts) none_known (content_of parts))
+    → IsTrue judgement.front ↔ WantsMending (size_of parts) (content_of parts)
+    → judgement.content ≡ length (content_of parts) → judgement.lines ≡ lines_of parts → IsJudgement file judgement
+judged file parts judgement h cleared every wants count lines = record {
   apart = h.apart;
   accepts = h.accepts;
   cleared = subst₂ (λ (sauce bytes : List ℕ). IsGood (stated_size sauce) all_known bytes) h.shows.sauce h.shows.content
       cleared;
-  every = go_every every ends front;
-  some = go_some every ends front;
+  every = λ off. subst₂ (λ (sauce bytes : List ℕ). IsGood (stated_size sauce) none_known bytes) h.shows.sauce
+      h.shows.content (every off);
+  wants = subst₂ (λ (sauce bytes : List ℕ). IsTrue judgement.front ↔ WantsMending (stated_size sauce) bytes)
+      h.shows.sauce h.shows.content wants;
   count = count ∙ ap length h.shows.content;
   lines = lines ∙ ap stated_lines h.shows.sauce;
 }
-  where
-    go_every : (o : Option Fault) → EndsFrom (size_of parts) (content_of parts) none_known o → judgement.front ≡ is_some o
-        → judgement.front ≡ false → IsGood (stated_size h.apart.record_bytes) none_known (content h.apart.body)
-    go_every None good is off =
-        subst₂ (λ (sauce bytes : List ℕ). IsGood (stated_size sauce) none_known bytes) h.shows.sauce h.shows.content good
-    go_every (Some fault) deserved is off = absurd (true≢false (sym is ∙ off))
 
-    go_some : (o : Option Fault) → EndsFrom (size_of parts) (content_of parts) none_known o → judgement.front ≡ is_some o
-        → judgement.front ≡ true → ¬ IsGood (stated_size h.apart.record_bytes) none_known (content h.apart.body)
-    go_some None good is on = absurd (true≢false (sym on ∙ is))
-    go_some (Some fault) deserved is on =
-        subst₂ (λ (sauce bytes : List ℕ). ¬ IsGood (stated_size sauce) none_known bytes) h.shows.sauce h.shows.content
-        (not_good (size_of parts) none_known (content_of parts) fault deserved)
+-- what a content wants whose play from all starts has come to this
+module _ (z : Size) (content : List ℕ) (cleared : IsGood z all_known content) where
+  pub faulty_wants : (fault : Fault) → Deserves z none_known content fault → WantsMending z content
+  faulty_wants fault deserved = inl (not_good z none_known content fault deserved)
+
+  pub away_wants : (away : Bool) → ((tokens : List TokenKind) → Reads content tokens → IsTrue away ↔ ClearsAway z tokens)
+      → IsGood z none_known content → IsTrue away ↔ WantsMending z content
+  away_wants away tells good = (to, from)
+    where
+      to : IsTrue away → WantsMending z content
+      to is = inr (cleared.1.tokens, cleared.1.reads, (tells cleared.1.tokens cleared.1.reads).0 is)
+
+      from : WantsMending z content → IsTrue away
+      from (inl bad) = absurd (bad good)
+      from (inr (tokens, reads, clears)) = (tells tokens reads).1 clears
 
 -- a reason by its parts is one of the file
 pub split_reason : (mends : Mends) (lacks : Bool) (file : List ℕ) (parts : Parts) (reason : Unmended)

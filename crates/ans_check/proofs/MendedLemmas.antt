@@ -29,7 +29,8 @@ use Rattle.ans_mend.specs.declared.outcome.Unmended.TheVariants.{Refused}
 use Rattle.ans_model.specs.declared.fault.Fault.{Fault}
 use Rattle.ans_mend.proofs.EndMarks.{ended}
 use Rattle.ans_options.specs.declared.command.Mends.{Mends}
-use Rattle.ans_check.specs.Mending.{TellsReturns, asked_for, edited, recorded}
+use Rattle.std.specs.Prelude.{IsTrue, ◌↔◌}
+use Rattle.ans_check.specs.Mending.{TellsReturns, WantsMending, asked_for, edited, recorded}
 use Rattle.ans_check.specs.Mending.{IsFaulty, IsMended, IsReason}
 use Rattle.ans_check.specs.MendingSteps.{IsFinished, IsJudgement, IsSurvey, IsPrepared, IsTooLong}
 use Rattle.ans_check.specs.Mending.{asks_for_lines, front_bytes, lacks_lines, lined, opened}
@@ -223,8 +224,10 @@ mended mends file prepared settled judgement m draft prep judged done =
           (sym body_is) passes.cleared;
       from_every = subst₂ (λ (z : Size) (bytes : List ℕ). GoodWith z none_known bytes passes.picture) (sym size_is)
           (sym content_is) passes.every;
-      front = λ on. subst₂ (λ (z : Size) (bytes : List ℕ). ¬ IsGood z none_known bytes) (sym size_is) (sym body_is)
-          (judged.some (sym done.front ∙ on));
+      front = subst (λ (b : Bool). IsTrue b ↔ WantsMending (stated_size (resized_parts front n apart).record_bytes)
+          (content_in settled)) (sym done.front)
+          (subst₂ (λ (z : Size) (bytes : List ℕ). IsTrue judgement.front ↔ WantsMending z bytes) (sym size_is)
+          (sym body_is) judged.wants);
       tail = ap (λ (v : ℕ). length prep.cut + v) done.tail ∙ prep.tail;
       given_record = done.given_record ∙ prep.given_record;
       returns = subst (TellsReturns (asked_for mends prep.cut) (opened (asked_for mends prep.cut) (recorded mends
@@ -249,14 +252,14 @@ pub too_long : (mends : Mends) (file : List ℕ) (prepared : Prepared) (settled 
     → IsTooLong judgement settled reason → IsReason mends file reason
 too_long mends file prepared settled judgement reason prep judged is =
     let apart : FileParts = judged.apart in
-    let not_good : ¬ IsGood (stated_size (record_in settled)) none_known (content_in settled) =
-    subst₂ (λ (r b : List ℕ). ¬ IsGood (stated_size r) none_known (content b))
+    let wants : WantsMending (stated_size (record_in settled)) (content_in settled) =
+    subst₂ (λ (r b : List ℕ). WantsMending (stated_size r) (content b))
     (sym (laid_record settled apart judged.accepts.laid)) (sym (laid_body settled apart judged.accepts.laid))
-    (judged.some is.1) in
+    (judged.wants.0 is.1) in
     subst (λ (r : Unmended). IsReason mends file r) (sym is.0) (
       prep.cut,
       prep.is_cut,
-      inr (inr (inr (settled, (prepared.done.lines, prep.done.lines, prep.done.settled_is), inr (is.2, not_good)))),
+      inr (inr (inr (settled, (prepared.done.lines, prep.done.lines, prep.done.settled_is), inr (is.2, wants)))),
     )
 
 -- what finishing comes to

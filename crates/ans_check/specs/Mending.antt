@@ -1,12 +1,15 @@
 -- How a file is mended, and why it is not.
 use Rattle.std.specs.Prelude.{◌≡◌, ◌⊎◌, ℕ, ◌+◌, ◌<◌, Bool, true, false, ◌&&◌, ◌||◌, ◌==◌, IsTrue, List, [], ◌++◌}
-use Rattle.std.specs.Prelude.{length, Option, None, Some, is_some, MatchBool, MatchOption, if◌then◌else◌}
+use Rattle.std.specs.Prelude.{length, Option, None, Some, is_some, ◌↔◌, MatchBool, MatchOption, if◌then◌else◌}
 use Rattle.std.specs.List.{list_any}
 use Rattle.ans_model.specs.Bytes.{longest_file, most_lines}
 use Rattle.ans_model.specs.File.Layout.{FileParts, content, is_end_mark}
 use Rattle.ans_model.specs.File.Record.{file_size, is_non_blink, stated_lines, stated_size, stated_width}
 use Rattle.ans_model.specs.File.Refusals.{Accepts, has_record}
-use Rattle.ans_model.specs.Screen.State.{sized}
+use Rattle.ans_model.specs.Screen.State.{Size, sized}
+use Rattle.ans_model.specs.Sequence.TokenKind.{TokenKind}
+use Rattle.ans_model.specs.Sequence.Reads.{Reads}
+use Rattle.ans_walks.specs.Homing.{ClearsAway}
 use Rattle.ans_model.specs.Screen.StartClass.{all_known, none_known}
 use Rattle.ans_model.specs.Verdict.Good.{Picture, GoodWith, IsGood}
 use Rattle.ans_model.specs.declared.fault.Fault.{Fault}
@@ -127,6 +130,12 @@ IsSettled asked based settled = (lines : Option ℕ)
 
 -- ---- the file that is written
 
+-- From some start something arises that does not from the cleared one: a fault, or a clear away from home, which the
+-- terminals of today take otherwise than ANSI.SYS.
+abbrev pub WantsMending : Size → List ℕ → Type 0
+WantsMending z content = (¬ IsGood z none_known content)
+    ⊎ ((tokens : List TokenKind) × Reads content tokens × ClearsAway z tokens)
+
 -- the bytes before those of the draft
 abbrev pub front_bytes : Bool → List ℕ
 front_bytes front = if front then mending else []
@@ -157,8 +166,7 @@ pub record IsMended (mends : Mends) (file : List ℕ) (mended : Mended) (draft :
   pub picture : Picture
   pub from_cleared : GoodWith (stated_size apart.record_bytes) all_known (content_in settled) picture
   pub from_every : GoodWith (stated_size apart.record_bytes) none_known (content apart.body) picture
-  -- the mending stands in front where the content does not pass from every start by itself
-  pub front : IsTrue mended.front → ¬ IsGood (stated_size apart.record_bytes) none_known (content_in settled)
+  pub front : IsTrue mended.front ↔ WantsMending (stated_size apart.record_bytes) (content_in settled)
   pub tail : length cut + mended.tail ≡ length file
   pub given_record : mended.given_record ≡ gives_record mends cut
   pub returns : TellsReturns asked (opened asked based) mended.returns
@@ -200,7 +208,7 @@ IsReasonOfEdited mends lacks file reason = ((reason ≡ TooLong) × (longest_fil
 abbrev pub IsReasonOfContent : List ℕ → Unmended → Type 0
 IsReasonOfContent settled (Refused fault) = IsFaulty settled fault
 IsReasonOfContent settled TooLong = (longest_file < length settled) ⊎ ((longest_file < length settled + length mending)
-    × (¬ IsGood (stated_size (record_in settled)) none_known (content_in settled)))
+    × WantsMending (stated_size (record_in settled)) (content_in settled))
 IsReasonOfContent settled _ = ⊥
 
 -- what is true of a settled file is true of one to which this one may come

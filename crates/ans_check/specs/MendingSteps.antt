@@ -16,7 +16,8 @@ use Rattle.ans_mend.specs.Tail.{IsTailCut}
 use Rattle.ans_mend.specs.declared.outcome.Mended.{Mended}
 use Rattle.ans_mend.specs.declared.outcome.Unmended.{Unmended}
 use Rattle.ans_mend.specs.declared.outcome.Unmended.TheVariants.{TooLong}
-use Rattle.ans_check.specs.Mending.{asked_for, gives_record, recorded}
+use Rattle.std.specs.Prelude.{IsTrue, ◌↔◌}
+use Rattle.ans_check.specs.Mending.{WantsMending, asked_for, gives_record, recorded}
 use Rattle.ans_options.specs.declared.command.Mends.{Mends}
 use Rattle.ans_check.specs.declared.mend.Judgement.{Judgement}
 use Rattle.ans_check.specs.declared.mend.Done.{Done}
@@ -39,7 +40,7 @@ pub record IsJudgement (file : List ℕ) (judgement : Judgement) : Type 0 where
   pub accepts : Accepts file apart
   pub cleared : IsGood (stated_size apart.record_bytes) all_known (content apart.body)
   pub every : judgement.front ≡ false → IsGood (stated_size apart.record_bytes) none_known (content apart.body)
-  pub some : judgement.front ≡ true → ¬ IsGood (stated_size apart.record_bytes) none_known (content apart.body)
+  pub wants : IsTrue judgement.front ↔ WantsMending (stated_size apart.record_bytes) (content apart.body)
   pub count : judgement.content ≡ length (content apart.body)
   pub lines : judgement.lines ≡ stated_lines apart.record_bytes
 

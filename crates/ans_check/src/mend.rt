@@ -1,14 +1,17 @@
 //! A file that is mended.
-ghost use Rattle.std.specs.Prelude.{◌≡◌, ◌≤◌, true, false, length, IfOk, IfErr};
+ghost use Rattle.std.specs.Prelude.{◌≡◌, ◌≤◌, ◌↔◌, IsTrue, true, false, length, IfOk, IfErr};
 ghost use Rattle.std.specs.Prelude.{IfSome, IfNone, OnOk, ◌||◌};
 ghost use Rattle.ans_model.specs.Bytes.{longest_file, most_lines};
 ghost use Rattle.ans_sauce.specs.Judged.{IsRecordFault};
-ghost use Rattle.ans_sauce.specs.Parts.{content_of, record_of, width_of};
+ghost use Rattle.ans_model.specs.Screen.StartClass.{all_known, none_known};
+ghost use Rattle.ans_model.specs.Verdict.Good.{IsGood};
+ghost use Rattle.ans_sauce.specs.Parts.{content_of, record_of, size_of, width_of};
+ghost use Rattle.ans_check.specs.StartParts.{EndsFrom};
 ghost use Rattle.ans_walks.specs.Lines.{IsNeverGood};
 ghost use Rattle.ans_mend.specs.Drafts.{draft_of};
 ghost use Rattle.ans_check.specs.Mending.{AreLinesFor, HasLeast, IsFaulty, IsMended, IsReason, IsReasonFor, IsReasonOfEdited};
 ghost use Rattle.ans_check.specs.Mending.{IsReasonOfLines, IsWithoutNumber, KeepsLines, PassesAsStated, TakesLines};
-ghost use Rattle.ans_check.specs.Mending.{TellsReturns, WantsLines, asks_for_lines, edited, gives_record, lacks_lines, lined, opened, recorded};
+ghost use Rattle.ans_check.specs.Mending.{TellsReturns, WantsLines, WantsMending, asks_for_lines, edited, gives_record, lacks_lines, lined, opened, recorded};
 ghost use Rattle.ans_check.specs.MendingSteps.{IsDone, IsFinished, IsJudgement, IsPrepared, IsSurvey, IsTooLong};
 
 use crate::screens::Screens;
@@ -19,7 +22,7 @@ use ans_model::size::Size;
 use ans_model::start::Start;
 use ans_options::Mends;
 use ans_sauce::{Parts, cut_record, split};
-use ans_walks::{Hints, Times, is_good, least_lines};
+use ans_walks::{Hints, Times, clears_away, is_good, least_lines};
 use std::alloc::AllocError;
 
 /// How many bytes mend a drawing.
@@ -157,6 +160,21 @@ struct Judgement {
     lines: usize,
 }
 
+/// Whether a content that passes from the cleared start wants the mending in front, by its fault from all
+/// starts.
+fn wants_mending(parts: &Parts<'_>, fault: Option<Fault>) -> bool
+    requires length { length (content_of parts.now) ≤ longest_file }
+    requires cleared { IsGood (size_of parts.now) all_known (content_of parts.now) }
+    requires ends { EndsFrom (size_of parts.now) (content_of parts.now) none_known fault }
+    ensures wants { IsTrue result ↔ WantsMending (size_of parts.now) (content_of parts.now) }
+    ensures every { result ≡ false → IsGood (size_of parts.now) none_known (content_of parts.now) }
+{
+    match fault {
+        Some(_) => true,
+        None => clears_away(parts.size(), parts.content()),
+    }
+}
+
 /// Plays the content of a file from the cleared start and from all starts. An error in the answer is the
 /// fault of the record, or of the play from the cleared start. `Err` says that there is no room for the
 /// screen.
@@ -174,7 +192,7 @@ fn judge<S: Screens>(screens: &mut S, file: &[u8]) -> Result<Result<Judgement, F
     }
     let fault = screens.fault_from(&parts, Start::ANY)?;
     Ok(Ok(Judgement {
-        front: fault.is_some(),
+        front: wants_mending(&parts, fault),
         content: parts.content().len(),
         lines: parts.lines(),
     }))

@@ -1,15 +1,15 @@
 -- How the clears of a content stand to home, token by token.
-use Rattle.std.proofs.Common.{◌≡◌, ℕ, Bool, true, false, List, [], ◌∷◌, ◌++◌, length, take, refl, sym, ap, ◌∙◌, subst}
-use Rattle.std.specs.Prelude.{Result, IsTrue}
+use Rattle.std.proofs.Common.{◌≡◌, ℕ, Bool, true, List, [], ◌∷◌, ◌++◌, length, take, refl, sym, ap, ◌∙◌}
+use Rattle.std.specs.Prelude.{Result}
 use Rattle.std.proofs.lemmas.Bool.{false≢true}
 use Rattle.std.proofs.lemmas.List.Sums.{fold-append}
 use Rattle.std.proofs.Math.Seq.{take-length}
 use Rattle.ans_model.specs.Sequence.TokenKind.{TokenKind}
-use Rattle.ans_model.specs.Sequence.Reads.{Reads, ReadsAs}
+use Rattle.ans_model.specs.Sequence.Reads.{Reads}
 use Rattle.ans_model.specs.Screen.State.{Size, State}
 use Rattle.ans_model.specs.Screen.Step.{step, final}
 use Rattle.ans_model.specs.declared.fault.Fault.{Fault}
-use Rattle.ans_tokens.specs.Walk.{Front, WalksTo}
+use Rattle.ans_tokens.specs.Walk.{WalksTo}
 use Rattle.ans_tokens.proofs.Walked.{walked_whole}
 use Rattle.ans_walks.specs.Cleared.{Follows, HasHomed}
 use Rattle.ans_walks.specs.Homing.{homing_after, homing_with, is_home_by_start}

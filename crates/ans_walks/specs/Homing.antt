@@ -1,5 +1,5 @@
 -- Clears away from home. ANSI.SYS takes the cursor home where it clears, and the terminals of today leave it in place.
-use Rattle.std.specs.Prelude.{◌≡◌, ℕ, Bool, true, false, not, ◌&&◌, ◌==◌, List, [], ◌∷◌, if◌then◌else◌}
+use Rattle.std.specs.Prelude.{◌≡◌, Bool, not, ◌&&◌, ◌==◌, List, [], ◌∷◌, if◌then◌else◌}
 use Rattle.ans_model.specs.Sequence.TokenKind.{TokenKind, Bell, Clear, Colours, Place}
 use Rattle.ans_model.specs.Screen.State.{Size, State}
 use Rattle.ans_model.specs.Screen.Step.{step}

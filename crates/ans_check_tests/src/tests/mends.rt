@@ -61,26 +61,67 @@ type Sample = (
 
 /// Files, what is asked for, whether the beginning is to stand in front, and the file behind it. The
 /// plain record states 2 columns, 1 line and a file size of 2.
-static MENDED: [(Sample, Mends, bool, Sample); 17] = [
+static MENDED: [(Sample, Mends, bool, Sample); 19] = [
     // from every start already: nothing is changed
     (
-        (b"\x1b[?7h\x1b[0m\x1b[2JHi\x1a", &[(90, b"\x0f")], b""),
+        (
+            b"\x1b[?7h\x1b[0m\x1b[2J\x1b[H\x1b[sHi\x1a",
+            &[(90, b"\x15")],
+            b"",
+        ),
         ITSELF,
         false,
-        (b"\x1b[?7h\x1b[0m\x1b[2JHi\x1a", &[(90, b"\x0f")], b""),
+        (
+            b"\x1b[?7h\x1b[0m\x1b[2J\x1b[H\x1b[sHi\x1a",
+            &[(90, b"\x15")],
+            b"",
+        ),
     ),
     // a file size that counts the end mark, and one that is wrong
     (
-        (b"\x1b[?7h\x1b[0m\x1b[2JHi\x1a\x1a", &[(90, b"\x10")], b""),
+        (
+            b"\x1b[?7h\x1b[0m\x1b[2J\x1b[H\x1b[sHi\x1a\x1a",
+            &[(90, b"\x16")],
+            b"",
+        ),
         ITSELF,
         false,
-        (b"\x1b[?7h\x1b[0m\x1b[2JHi\x1a\x1a", &[(90, b"\x10")], b""),
+        (
+            b"\x1b[?7h\x1b[0m\x1b[2J\x1b[H\x1b[sHi\x1a\x1a",
+            &[(90, b"\x16")],
+            b"",
+        ),
     ),
     (
-        (b"\x1b[?7h\x1b[0m\x1b[2JHi\x1a", &[(90, b"\x11\x02")], b""),
+        (
+            b"\x1b[?7h\x1b[0m\x1b[2J\x1b[HHi\x1a",
+            &[(90, b"\x17\x02")],
+            b"",
+        ),
         ITSELF,
         false,
+        (b"\x1b[?7h\x1b[0m\x1b[2J\x1b[HHi\x1a", &[(90, b"\x12")], b""),
+    ),
+    // a clear away from home, before something else than a place and before one
+    (
         (b"\x1b[?7h\x1b[0m\x1b[2JHi\x1a", &[(90, b"\x0f")], b""),
+        ITSELF,
+        true,
+        (b"\x1b[?7h\x1b[0m\x1b[2JHi\x1a", &[(90, b"\x22")], b""),
+    ),
+    (
+        (
+            b"\x1b[?7h\x1b[0m\x1b[2J\x1b[0m\x07\x1b[1HHi\x1a",
+            &[(90, b"\x18")],
+            b"",
+        ),
+        ITSELF,
+        false,
+        (
+            b"\x1b[?7h\x1b[0m\x1b[2J\x1b[0m\x07\x1b[1HHi\x1a",
+            &[(90, b"\x18")],
+            b"",
+        ),
     ),
     // the beginning is counted
     (

@@ -11,9 +11,13 @@ returns-in-Some-clause-fault g c =
 pub fault_from-requires-2 : goal.fault_from-requires-2
 fault_from-requires-2 g c = content_within c.args.file.now c.in-Ok.parts c.in-Ok.ensures.ok c.requires
 
+pub wants_mending-requires-clause-length : goal.wants_mending-requires-clause-length
+wants_mending-requires-clause-length g c =
+    content_within c.args.file.now c.in-Ok.parts c.in-Ok.ensures.ok c.requires
+
 pub returns-clause-passes : goal.returns-clause-passes
 returns-clause-passes g c =
-    judged c.args.file.now c.in-Ok.parts c.in_ok-fault-2.fault
-    record { front = c.is_some.result; content = length c.content.result.now; lines = c.lines.result } c.in-Ok.ensures.ok
-    (rw c.in_default.is at c.in_ok-fault.ensures.fault) c.in_ok-fault-2.ensures.fault c.is_some.ensures
+    judged c.args.file.now c.in-Ok.parts
+    record { front = c.wants_mending.result; content = length c.content.result.now; lines = c.lines.result } c.in-Ok.ensures.ok
+    (rw c.in_default.is at c.in_ok-fault.ensures.fault) c.wants_mending.ensures.every c.wants_mending.ensures.wants
     (ap length c.content.ensures) c.lines.ensures.lines

@@ -1,7 +1,5 @@
-use Rattle.std.proofs.Common.{◌≡◌, ap, refl, sym, ◌∙◌}
+use Rattle.std.proofs.Common.{ap}
 use Rattle.ans_model.specs.Screen.StartClass.{cleared, high_start, low_start, none_known}
-use Rattle.ans_walks.specs.Homing.{homing_after}
-use Rattle.ans_walks.specs.declared.homing.Homing.TheVariants.{Home}
 use Rattle.ans_walks.specs.declared.watch.Watch.{Watch}
 use Rattle.ans_walks.proofs.HomingFound.{homed_whole}
 use Rattle.ans_walks.proofs.homing.clears_away.Goals as goal

@@ -1,4 +1,4 @@
-use Rattle.std.proofs.Common.{◌≡◌, refl}
+use Rattle.std.proofs.Common.{refl}
 use Rattle.ans_walks.proofs.HomingFound.{homed_token}
 use Rattle.ans_walks.proofs.homing.ClearsWalker.token.Goals as goal
 
