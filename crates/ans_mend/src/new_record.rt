@@ -1,6 +1,6 @@
 //! A record for a file that has none.
 
-ghost use Rattle.std.specs.Prelude.{◌≡◌, IfOk, IfNone, IfSome, OnErr, OnOk, true, false};
+ghost use Rattle.std.specs.Prelude.{◌≡◌, ◌+◌, ◌<◌, IfOk, IfNone, IfSome, OnErr, OnOk, length, true, false};
 ghost use Rattle.ans_model.specs.File.Layout.{content};
 ghost use Rattle.ans_mend.specs.Drafts.{memory_of};
 ghost use Rattle.ans_mend.specs.NewRecord.{new_record, takes_record, with_new_record};
@@ -50,7 +50,8 @@ impl<'a> Draft<'a> {
         ensures file { OnOk result (self.new.file ≡ with_new_record width self.old.file) }
         ensures given { IfOk result (λ given. given ≡ takes_record self.old.file) }
         ensures memory { memory_of self.new ≡ memory_of self.old }
-        ensures no_room { OnErr result (self.new ≡ self.old) }
+        ensures no_room { OnErr result ((self.new ≡ self.old)
+            × (memory_of self.old < length (content self.old.file) + 129)) }
     {
         let Some(content) = content_for_record(self.file()) else {
             return Ok(false);
