@@ -3,6 +3,7 @@ use ans_check::{Mends, NewScreens, mend_on};
 use ans_mend::{Draft, Unmended};
 use ans_model::fault::{Cause, Fault};
 use ans_samples::sample_file;
+use ans_sauce::MAX_FILE;
 use ans_screen::PlaneGrid;
 use std::alloc::AllocError;
 
@@ -302,6 +303,7 @@ fn with_room(rt: &impl AllocGlobal, sample: &Sample) -> Result<(Vec<u8>, usize),
 fn files_are_mended(rt: HostRuntime) -> Result<(), AllocError> {
     for (sample, mends, front, expected) in &MENDED {
         let (mut memory, count) = with_room(&rt, sample)?;
+        assert!(rt; count <= memory.len() && count <= MAX_FILE);
         let mut draft = Draft::new(memory.as_mut_slice(), count);
         let mut screens = NewScreens::<PlaneGrid>::new(rt.alloc());
         let answer = mend_on(&mut screens, &mut draft, mends)?;
@@ -317,6 +319,7 @@ fn files_without_a_record_are_given_one(rt: HostRuntime) -> Result<(), AllocErro
     for (file, mends, expected) in &GIVEN {
         let mut memory = file.to_vec(rt.alloc())?;
         memory.extend_from_slice(&[b'?'; 131])?;
+        assert!(rt; file.len() <= memory.len() && file.len() <= MAX_FILE);
         let mut draft = Draft::new(memory.as_mut_slice(), file.len());
         let mut screens = NewScreens::<PlaneGrid>::new(rt.alloc());
         let answer = mend_on(&mut screens, &mut draft, mends)?;
@@ -377,6 +380,7 @@ static REFUSED: [(Sample, Mends, Unmended); 11] = [
 fn others_are_not(rt: HostRuntime) -> Result<(), AllocError> {
     for (sample, mends, reason) in &REFUSED {
         let (mut memory, count) = with_room(&rt, sample)?;
+        assert!(rt; count <= memory.len() && count <= MAX_FILE);
         let mut draft = Draft::new(memory.as_mut_slice(), count);
         let mut screens = NewScreens::<PlaneGrid>::new(rt.alloc());
         let answer = mend_on(&mut screens, &mut draft, mends)?;
