@@ -71,7 +71,8 @@ module _ (z : Size) (content : List ℕ) (cleared : IsGood z all_known content) 
   pub faulty_wants : (fault : Fault) → Deserves z none_known content fault → WantsMending z content
   faulty_wants fault deserved = inl (not_good z none_known content fault deserved)
 
-  pub away_wants : (away : Bool) → ((tokens : List TokenKind) → Reads content tokens → IsTrue away ↔ ClearsAway z tokens)
+  pub away_wants : (away : Bool)
+      → ((tokens : List TokenKind) → Reads content tokens → IsTrue away ↔ ClearsAway z tokens)
       → IsGood z none_known content → IsTrue away ↔ WantsMending z content
   away_wants away tells good = (to, from)
     where

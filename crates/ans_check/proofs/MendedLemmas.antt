@@ -1,7 +1,7 @@
 -- A file that is mended passes from every start.
 use Rattle.std.proofs.Common.{◌≡◌, inr, ℕ, ◌+◌, ◌-◌, ◌≤◌, ◌==◌, Bool, true, false, List, ◌++◌}
-use Rattle.std.proofs.Common.{length, take, drop, refl, sym, ap, ap₂, ◌∙◌, arith, subst, subst₂, append_assoc, true≢false}
-use Rattle.std.proofs.Common.{Result, Ok, Err}
+use Rattle.std.proofs.Common.{length, take, drop, refl, sym, ap, ap₂, ◌∙◌, arith, subst, subst₂}
+use Rattle.std.proofs.Common.{append_assoc, true≢false, Result, Ok, Err}
 use Rattle.std.specs.Prelude.{if◌then◌else◌, ◌&&◌, ◌||◌, IfOk, IfErr, nat_le, bytes_eq, codes}
 use Rattle.std.specs.List.{list_any}
 use Rattle.std.proofs.lemmas.Bool.{eqb-true, leb-true}
@@ -57,7 +57,8 @@ both false b is = absurd (true≢false (sym is))
 -- a record has 128 bytes
 long_of_record : (file : List ℕ) → has_record file ≡ true → 128 ≤ length file
 long_of_record file is =
-    leb-true 128 (length file) (both (nat_le 128 (length file)) (bytes_eq (take 5 (record_in file)) (codes "SAUCE")) is).0
+    let starts : Bool = bytes_eq (take 5 (record_in file)) (codes "SAUCE") in
+    leb-true 128 (length file) (both (nat_le 128 (length file)) starts is).0
 
 pub opened_length : (mends : Mends) (file : List ℕ) → length (opened mends file) ≡ length file
 opened_length mends file = go (lacks_lines mends file) refl
@@ -73,7 +74,8 @@ opened_length mends file = go (lacks_lines mends file) refl
         length-take-le (length file - 128) file (omega arith) in
         let new_long : length (with_lines most_lines (record_in file)) ≡ 128 =
         overwritten_length 98 (two_bytes most_lines) (record_in file) (omega (arith, record_long)) ∙ record_long in
-        length-append (front_in file) (with_lines most_lines (record_in file)) ∙ omega (arith, long, front_long, new_long)
+        length-append (front_in file) (with_lines most_lines (record_in file))
+        ∙ omega (arith, long, front_long, new_long)
 
 -- it lacks lines where a number is asked for
 pub lacking_asks : (mends : Mends) (file : List ℕ) → lacks_lines mends file ≡ true → asks_for_lines mends ≡ true
@@ -95,7 +97,8 @@ opened_stated mends file stated = go (lacks_lines mends file) refl
     go true is same =
         let inner = (both (has_record file) (stated_lines (record_in file) == 0 && asks_for_lines mends) is).1 in
         let none : stated_lines (record_in file) ≡ 0 =
-        eqb-true (stated_lines (record_in file)) 0 (both (stated_lines (record_in file) == 0) (asks_for_lines mends) inner).0 in
+        eqb-true (stated_lines (record_in file)) 0
+        (both (stated_lines (record_in file) == 0) (asks_for_lines mends) inner).0 in
         same ∙ sym none
 
 -- ---- the numbers of a survey
@@ -143,7 +146,8 @@ laid_behind : (front : List ℕ) (none : list_any is_end_mark front ≡ false) (
 laid_behind front none n file apart accepts =
     let r : List ℕ = with_file_size n apart.record_bytes in
     let block : List ℕ = comment_block (comment_count apart.record_bytes) apart.comment_bytes in
-    let record_is : with_file_size n (record_in file) ≡ r = ap (with_file_size n) (laid_record file apart accepts.laid) in
+    let record_is : with_file_size n (record_in file) ≡ r =
+    ap (with_file_size n) (laid_record file apart accepts.laid) in
     let same_block : comment_block (comment_count r) apart.comment_bytes ≡ block =
     ap (λ (v : ℕ). comment_block v apart.comment_bytes) (resized_comments front none n file apart accepts) in
     ap₂ (λ (f v : List ℕ). front ++ (f ++ v)) (laid_front file apart accepts.laid) record_is

@@ -23,7 +23,8 @@ use Rattle.ans_check.specs.declared.mend.Judgement.{Judgement}
 use Rattle.ans_check.specs.declared.mend.Done.{Done}
 use Rattle.ans_check.specs.declared.mend.Survey.{Survey}
 use Rattle.ans_check.specs.declared.mend.Prepared.{Prepared}
-use Rattle.ans_check.specs.Mending.{AreLinesFor, TellsReturns, edited, end_mark_counted, front_bytes, lacks_lines, lined, opened}
+use Rattle.ans_check.specs.Mending.{AreLinesFor, TellsReturns, edited, end_mark_counted, front_bytes}
+use Rattle.ans_check.specs.Mending.{lacks_lines, lined, opened}
 
 -- what the record of an accepted file says that is to be set anew, or told
 pub record IsSurvey (lacks : Bool) (file : List ℕ) (survey : Survey) : Type 0 where

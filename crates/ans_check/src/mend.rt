@@ -9,9 +9,11 @@ ghost use Rattle.ans_sauce.specs.Parts.{content_of, record_of, size_of, width_of
 ghost use Rattle.ans_check.specs.StartParts.{EndsFrom};
 ghost use Rattle.ans_walks.specs.Lines.{IsNeverGood};
 ghost use Rattle.ans_mend.specs.Drafts.{draft_of};
-ghost use Rattle.ans_check.specs.Mending.{AreLinesFor, HasLeast, IsFaulty, IsMended, IsReason, IsReasonFor, IsReasonOfEdited};
-ghost use Rattle.ans_check.specs.Mending.{IsReasonOfLines, IsWithoutNumber, KeepsLines, PassesAsStated, TakesLines};
-ghost use Rattle.ans_check.specs.Mending.{TellsReturns, WantsLines, WantsMending, asks_for_lines, edited, gives_record, lacks_lines, lined, opened, recorded};
+ghost use Rattle.ans_check.specs.Mending.{AreLinesFor, HasLeast, IsFaulty, IsMended, IsReason, IsReasonFor};
+ghost use Rattle.ans_check.specs.Mending.{IsReasonOfEdited, IsReasonOfLines, IsWithoutNumber, KeepsLines};
+ghost use Rattle.ans_check.specs.Mending.{PassesAsStated, TakesLines, TellsReturns, WantsLines, WantsMending};
+ghost use Rattle.ans_check.specs.Mending.{asks_for_lines, edited, gives_record, lacks_lines, lined, opened};
+ghost use Rattle.ans_check.specs.Mending.{recorded};
 ghost use Rattle.ans_check.specs.MendingSteps.{IsDone, IsFinished, IsJudgement, IsPrepared, IsSurvey, IsTooLong};
 
 use crate::screens::Screens;
@@ -91,7 +93,8 @@ fn least_wanted(parts: &Parts<'_>, lacks: bool) -> Result<Option<u16>, Unmended>
 fn number_wanted(parts: &Parts<'_>, mends: &Mends, lacks: bool) -> Result<Option<u16>, Unmended>
     requires length { length (content_of parts.now) ≤ longest_file }
     requires asked { lacks ≡ true → asks_for_lines mends.now ≡ true }
-    ensures kept { IfOk result (λ n. IfNone n (KeepsLines mends.now lacks (record_of parts.now) (content_of parts.now))) }
+    ensures kept { IfOk result (λ n. IfNone n
+        (KeepsLines mends.now lacks (record_of parts.now) (content_of parts.now))) }
     ensures taken { IfOk result (λ n. IfSome n
         (TakesLines mends.now lacks (record_of parts.now) (content_of parts.now))) }
     ensures reason { IfErr result (IsReasonOfLines mends.now lacks (record_of parts.now) (content_of parts.now)) }
@@ -357,9 +360,9 @@ fn finish(
 
 /// Mends a file in its draft: cuts off what stands behind the record and is none of the drawing, changes
 /// of the content what is asked for, states the lines that are asked for where the drawing does not pass
-/// with those that are stated, puts an end mark behind the content, and sets the file size anew. What is left passes from every start, with the
-/// picture that its content has from the cleared one, behind the mending where `front` says so: that is
-/// for the caller to write first.
+/// with those that are stated, puts an end mark behind the content, and sets the file size anew. What is
+/// left passes from every start, with the picture that its content has from the cleared one, behind the
+/// mending where `front` says so: that is for the caller to write first.
 ///
 /// The answer is an error where the file cannot be mended so. The draft then holds a file that is half
 /// changed. `Err` says that there is no room for the screen, or none in the draft for what is put into the

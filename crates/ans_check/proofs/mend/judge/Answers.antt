@@ -18,6 +18,7 @@ wants_mending-requires-clause-length g c =
 pub returns-clause-passes : goal.returns-clause-passes
 returns-clause-passes g c =
     judged c.args.file.now c.in-Ok.parts
-    record { front = c.wants_mending.result; content = length c.content.result.now; lines = c.lines.result } c.in-Ok.ensures.ok
+    record { front = c.wants_mending.result; content = length c.content.result.now; lines = c.lines.result }
+    c.in-Ok.ensures.ok
     (rw c.in_default.is at c.in_ok-fault.ensures.fault) c.wants_mending.ensures.every c.wants_mending.ensures.wants
     (ap length c.content.ensures) c.lines.ensures.lines

@@ -31,7 +31,8 @@ returns-in-Err-lines_for-clause-reason c =
     let cut : List ℕ = c.args.draft.now.file in
     let edited_is : c.edit.new.draft.file ≡ edited mends (opened mends cut) =
     rw c.open_lines-lacks.ensures.draft at c.in_ok-returns.ensures.file in
-    let reason : IsReasonOfEdited mends (lacks_lines mends cut) (edited mends (opened mends cut)) c.in-Err-lines_for.reason =
+    let reason : IsReasonOfEdited mends (lacks_lines mends cut) (edited mends (opened mends cut))
+    c.in-Err-lines_for.reason =
     rw (c.open_lines-lacks.ensures.lacks, c.file-3.ensures, edited_is) at c.in-Err-lines_for.ensures.reason in
     inr (inr (inl reason))
 
@@ -50,7 +51,8 @@ returns-then-file-gt-MAX_FILE-2-clause-reason c =
     ≡ with_end_mark (lined c.in-Ok-lines_for.lines (edited mends (opened mends cut))) =
     rw (c.take_lines.ensures, edited_is) at c.in_ok-end_mark.ensures.file in
     let long : longest_file < length c.put_end_mark.new.self.file =
-    rw c.file-4.ensures at c.if-file-gt-MAX_FILE-2.true in inr (inr (inr (c.put_end_mark.new.self.file, (c.in-Ok-lines_for.lines, lines, settled_is), inl long)))
+    rw c.file-4.ensures at c.if-file-gt-MAX_FILE-2.true in
+    inr (inr (inr (c.put_end_mark.new.self.file, (c.in-Ok-lines_for.lines, lines, settled_is), inl long)))
 
 pub returns-clause-done : goal.returns-clause-done
 returns-clause-done c =
