@@ -2,7 +2,7 @@
 use Rattle.std.proofs.Common.{◌≡◌, inr, ℕ, Bool, true, false, List, length, refl, sym, ap, ◌∙◌}
 use Rattle.std.proofs.Common.{Option, Some, None, true≢false}
 use Rattle.std.proofs.Common.{inl, subst₂, ap₂, Result, Ok, Err, ◌+◌, ◌==◌}
-use Rattle.std.specs.Prelude.{is_some, not, IsTrue, ◌↔◌, IfOk, IfErr, IfSome, IfNone, if◌then◌else◌}
+use Rattle.std.specs.Prelude.{is_some, not, ◌||◌, IsTrue, ◌↔◌, IfOk, IfErr, IfSome, IfNone, if◌then◌else◌}
 use mir.Val.{bool_byte}
 use Rattle.ans_model.specs.Screen.State.{Size}
 use Rattle.ans_model.specs.Sequence.TokenKind.{TokenKind}
@@ -12,6 +12,7 @@ use Rattle.ans_check.specs.Mending.{WantsMending}
 use Rattle.ans_model.specs.Bytes.{most_lines}
 use Rattle.ans_walks.specs.Lines.{IsNeverGood}
 use Rattle.ans_model.specs.Verdict.Good.{IsGood}
+use Rattle.ans_check.specs.Mending.{asks_for_lines}
 use Rattle.ans_check.specs.Mending.{AreLinesFor, AsksForLeast, HasLeast, IsWithoutNumber, KeepsLines}
 use Rattle.ans_check.specs.MendingSteps.{IsJudgement, IsSurvey}
 use Rattle.ans_check.specs.Mending.{TakesLines, WantsLines}
@@ -104,6 +105,11 @@ wanted_of false P h is = λ p. true≢false (sym (h.1 p))
 pub none_of : (o : Option ℕ) → is_some o ≡ false → o ≡ None
 none_of None is = refl
 none_of (Some n) is = absurd (true≢false is)
+
+-- a number is asked for, and none is given: the least is
+pub least_asked : (mends : Mends) → asks_for_lines mends ≡ true → is_some mends.lines ≡ false → AsksForLeast mends
+least_asked mends asks none =
+    (none_of mends.lines none, ap (λ (v : Bool). v || mends.least_lines) (sym none) ∙ asks)
 
 pub one_if : (b : Bool) → bool_byte b ≡ (if b then 1 else 0)
 one_if true = refl

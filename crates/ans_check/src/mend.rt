@@ -30,12 +30,19 @@ use std::alloc::AllocError;
 /// How many bytes mend a drawing.
 const MENDING: usize = 19;
 
+/// Whether a number of lines is asked for: one that is given, or the least.
+fn asks_for_lines(mends: &Mends) -> bool
+    ensures { result ≡ asks_for_lines mends.now }
+{
+    mends.lines.is_some() || mends.least_lines
+}
+
 /// Whether the record states no lines, and a number is asked for.
 fn lacks_lines(file: &[u8], mends: &Mends) -> bool
     ensures { result ≡ lacks_lines mends.now file.now }
 {
     match cut_record(file) {
-        Some((_, sauce)) => sauce.lines() == 0 && (mends.lines.is_some() || mends.least_lines),
+        Some((_, sauce)) => sauce.lines() == 0 && asks_for_lines(mends),
         None => false,
     }
 }
@@ -99,14 +106,14 @@ fn number_wanted(parts: &Parts<'_>, mends: &Mends, lacks: bool) -> Result<Option
         (TakesLines mends.now lacks (record_of parts.now) (content_of parts.now))) }
     ensures reason { IfErr result (IsReasonOfLines mends.now lacks (record_of parts.now) (content_of parts.now)) }
 {
+    if !asks_for_lines(mends) {
+        return Ok(None);
+    }
     if !wants_lines(parts, lacks) {
         return Ok(None);
     }
     if mends.lines.is_some() {
         return Ok(mends.lines);
-    }
-    if !mends.least_lines {
-        return Ok(None);
     }
     least_wanted(parts, lacks)
 }

@@ -1,7 +1,7 @@
 use Rattle.std.proofs.Common.{◌∙◌, sym}
 use Rattle.ans_sauce.specs.Parts.{content_of, record_of}
 use Rattle.ans_check.specs.Mending.{AsksForLeast, WantsLines}
-use Rattle.ans_check.proofs.MendLemmas.{least_taken, least_reason, none_of}
+use Rattle.ans_check.proofs.MendLemmas.{least_asked, least_taken, least_reason}
 use Rattle.ans_check.proofs.mend.number_wanted.Goals as goal
 
 pub returns-clause-taken : goal.returns-clause-taken
@@ -10,7 +10,8 @@ returns-clause-taken c =
     let content = content_of c.args.parts.now in
     let wanted : WantsLines c.args.lacks sauce content = c.wants_lines.ensures.wanted c.if-not-wants_lines.false in
     let asks : AsksForLeast c.args.mends.now =
-    (none_of c.args.mends.now.lines (sym c.is_some.ensures ∙ c.if-is_some.false), c.if-not-mends.false) in
+    least_asked c.args.mends.now (sym c.asks_for_lines.ensures ∙ c.if-not-asks_for_lines.false)
+    (sym c.is_some.ensures ∙ c.if-is_some.false) in
     least_taken c.args.mends.now c.args.lacks sauce content wanted asks c.least_wanted.result
     c.least_wanted.ensures.least
 
@@ -20,6 +21,7 @@ returns-clause-reason c =
     let content = content_of c.args.parts.now in
     let wanted : WantsLines c.args.lacks sauce content = c.wants_lines.ensures.wanted c.if-not-wants_lines.false in
     let asks : AsksForLeast c.args.mends.now =
-    (none_of c.args.mends.now.lines (sym c.is_some.ensures ∙ c.if-is_some.false), c.if-not-mends.false) in
+    least_asked c.args.mends.now (sym c.asks_for_lines.ensures ∙ c.if-not-asks_for_lines.false)
+    (sym c.is_some.ensures ∙ c.if-is_some.false) in
     least_reason c.args.mends.now c.args.lacks sauce content wanted asks c.least_wanted.result
     c.least_wanted.ensures.reason
