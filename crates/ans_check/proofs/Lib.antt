@@ -10,3 +10,4 @@ pub mod TableLemmas
 pub mod LeastLemmas
 pub mod MendLemmas
 pub mod MendedLemmas
+mod EditLemmas

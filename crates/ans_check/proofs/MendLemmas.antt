@@ -16,11 +16,11 @@ use Rattle.ans_check.specs.Mending.{asks_for_lines}
 use Rattle.ans_check.specs.Mending.{AreLinesFor, AsksForLeast, HasLeast, IsWithoutNumber, KeepsLines}
 use Rattle.ans_check.specs.MendingSteps.{IsJudgement, IsSurvey}
 use Rattle.ans_check.specs.Mending.{TakesLines, WantsLines}
-use Rattle.ans_check.specs.declared.mend.Survey.{Survey}
-use Rattle.ans_check.specs.declared.mend.Judgement.{Judgement}
+use Rattle.ans_check.specs.declared.mend_judge.Survey.{Survey}
+use Rattle.ans_check.specs.declared.mend_judge.Judgement.{Judgement}
 use Rattle.ans_check.proofs.VerdictLemmas.{not_good}
 use Rattle.ans_model.specs.File.Layout.{content}
-use Rattle.ans_model.specs.File.Record.{file_size, stated_lines, stated_size, stated_width}
+use Rattle.ans_model.specs.File.Record.{file_size, is_non_blink, stated_lines, stated_size, stated_width}
 use Rattle.ans_model.specs.Screen.StartClass.{all_known, none_known}
 use Rattle.ans_model.specs.declared.fault.Fault.{Fault}
 use Rattle.ans_sauce.specs.Found.{record_in}
@@ -53,8 +53,9 @@ pub judged : (file : List ℕ) (parts : Parts) (judgement : Judgement) → IsSpl
     → IsGood (size_of parts) all_known (content_of parts)
     → (judgement.front ≡ false → IsGood (size_of parts) none_known (content_of parts))
     → IsTrue judgement.front ↔ WantsMending (size_of parts) (content_of parts)
-    → judgement.content ≡ length (content_of parts) → judgement.lines ≡ lines_of parts → IsJudgement file judgement
-judged file parts judgement h cleared every wants count lines = record {
+    → judgement.content ≡ length (content_of parts) → judgement.lines ≡ lines_of parts
+    → judgement.non_blink ≡ is_non_blink (record_of parts) → IsJudgement file judgement
+judged file parts judgement h cleared every wants count lines non_blink = record {
   apart = h.apart;
   accepts = h.accepts;
   cleared = subst₂ (λ (sauce bytes : List ℕ). IsGood (stated_size sauce) all_known bytes) h.shows.sauce h.shows.content
@@ -65,6 +66,7 @@ judged file parts judgement h cleared every wants count lines = record {
       h.shows.sauce h.shows.content wants;
   count = count ∙ ap length h.shows.content;
   lines = lines ∙ ap stated_lines h.shows.sauce;
+  non_blink = non_blink ∙ ap is_non_blink h.shows.sauce;
 }
 
 -- what a content wants whose play from all starts has come to this
@@ -89,8 +91,8 @@ pub split_reason : (mends : Mends) (lacks : Bool) (file : List ℕ) (parts : Par
     → IsSplit file parts → IsReasonOfLines mends lacks (record_of parts) (content_of parts) reason
     → IsReasonOfEdited mends lacks file reason
 split_reason mends lacks file parts reason h is =
-    inr (inr (subst₂ (λ (sauce bytes : List ℕ). IsReasonOfLines mends lacks sauce bytes reason)
-    (split_record file parts h) (split_content file parts h) is))
+    inr (subst₂ (λ (sauce bytes : List ℕ). IsReasonOfLines mends lacks sauce bytes reason)
+    (split_record file parts h) (split_content file parts h) is)
 
 -- ---- what is taken
 
@@ -137,16 +139,19 @@ module _ (mends : Mends) (lacks : Bool) (sauce bytes : List ℕ) (wanted : Wants
 
 -- what the record of these parts says
 pub surveyed : (lacks : Bool) (file : List ℕ) (parts : Parts) (survey : Survey) → IsSplit file parts
+    → survey.size ≡ size_of parts → survey.non_blink ≡ is_non_blink (record_of parts)
     → survey.stated ≡ (if lacks then 0 else stated_lines (record_of parts))
     → survey.file_size ≡ file_size (record_of parts)
     → survey.end_mark_counted ≡ (if file_size (record_of parts) == length (content_of parts) + 1 then 1 else 0)
     → IsSurvey lacks file survey
-surveyed lacks file parts survey h stated size counted =
+surveyed lacks file parts survey h screen non_blink stated size counted =
     let sauce = split_record file parts h in
     let bytes = split_content file parts h in
     record {
       apart = h.apart;
       accepts = h.accepts;
+      screen = screen ∙ ap stated_size sauce;
+      non_blink = non_blink ∙ ap is_non_blink sauce;
       stated = stated ∙ ap (λ (v : List ℕ). if lacks then 0 else stated_lines v) sauce;
       size = size ∙ ap file_size sauce;
       counted = counted ∙ ap₂ (λ (v w : List ℕ). if file_size v == length w + 1 then 1 else 0) sauce bytes;

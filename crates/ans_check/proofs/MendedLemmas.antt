@@ -2,14 +2,14 @@
 use Rattle.std.proofs.Common.{◌≡◌, inr, ℕ, ◌+◌, ◌-◌, ◌≤◌, ◌==◌, Bool, true, false, List, ◌++◌}
 use Rattle.std.proofs.Common.{length, take, drop, refl, sym, ap, ap₂, ◌∙◌, arith, subst, subst₂}
 use Rattle.std.proofs.Common.{append_assoc, true≢false, Result, Ok, Err}
-use Rattle.std.specs.Prelude.{if◌then◌else◌, ◌&&◌, ◌||◌, IfOk, IfErr, nat_le, bytes_eq, codes}
+use Rattle.std.specs.Prelude.{if◌then◌else◌, ◌&&◌, ◌||◌, IfOk, IfErr, nat_le, bytes_eq, codes, Option, None}
 use Rattle.std.specs.List.{list_any}
 use Rattle.std.proofs.lemmas.Bool.{eqb-true, leb-true}
 use Rattle.std.proofs.lemmas.List.{length-append, length-drop, length-take-le}
 use Rattle.std.proofs.lemmas.List.Folds.{list_any-append}
 use Rattle.ans_model.specs.Bytes.{most_lines}
 use Rattle.ans_model.specs.File.Layout.{FileParts, Laid, comment_block, content, is_end_mark, laid_file}
-use Rattle.ans_model.specs.File.Record.{comment_count, file_size, stated_lines, stated_size}
+use Rattle.ans_model.specs.File.Record.{comment_count, file_size, is_non_blink, stated_lines, stated_size}
 use Rattle.ans_model.specs.File.Refusals.{Accepts, has_record}
 use Rattle.ans_model.specs.Screen.State.{Size}
 use Rattle.ans_model.specs.Screen.StartClass.{all_known, none_known}
@@ -28,26 +28,18 @@ use Rattle.ans_mend.specs.declared.outcome.Unmended.{Unmended}
 use Rattle.ans_mend.specs.declared.outcome.Unmended.TheVariants.{Refused}
 use Rattle.ans_model.specs.declared.fault.Fault.{Fault}
 use Rattle.ans_mend.proofs.EndMarks.{ended}
+use Rattle.ans_mend.proofs.SameLength.{overwritten_length}
 use Rattle.ans_options.specs.declared.command.Mends.{Mends}
 use Rattle.std.specs.Prelude.{IsTrue, ◌↔◌}
-use Rattle.ans_check.specs.Mending.{TellsReturns, WantsMending, asked_for, edited, recorded}
+use Rattle.ans_check.specs.Mending.{IsEditedAsStated, IsSettled, WantsMending, asked_for, recorded}
 use Rattle.ans_check.specs.Mending.{IsFaulty, IsMended, IsReason}
 use Rattle.ans_check.specs.MendingSteps.{IsFinished, IsJudgement, IsSurvey, IsPrepared, IsTooLong}
 use Rattle.ans_check.specs.Mending.{asks_for_lines, front_bytes, lacks_lines, lined, opened}
-use Rattle.ans_check.specs.declared.mend.Judgement.{Judgement}
-use Rattle.ans_check.specs.declared.mend.Survey.{Survey}
-use Rattle.ans_check.specs.declared.mend.Prepared.{Prepared}
+use Rattle.ans_check.specs.declared.mend_judge.Judgement.{Judgement}
+use Rattle.ans_check.specs.declared.mend_judge.Survey.{Survey}
+use Rattle.ans_check.specs.declared.mend_steps.Prepared.{Prepared}
 
 -- ---- the opened file
-
-overwritten_length : (offset : ℕ) (bytes file : List ℕ) → offset + length bytes ≤ length file
-    → length (overwritten offset bytes file) ≡ length file
-overwritten_length offset bytes file within =
-    length-append (take offset file) (bytes ++ drop (offset + length bytes) file)
-    ∙ ap₂ (λ (v w : ℕ). v + w) (length-take-le offset file (omega (arith, within)))
-    (length-append bytes (drop (offset + length bytes) file)
-    ∙ ap (λ (v : ℕ). length bytes + v) (length-drop (offset + length bytes) file))
-    ∙ omega (arith, within)
 
 both : (a b : Bool) → (a && b) ≡ true → (a ≡ true) × (b ≡ true)
 both true true is = (refl, refl)
@@ -178,7 +170,7 @@ passing z false bytes good every =
 
 pub mended : (mends : Mends) (file : List ℕ) (prepared : Prepared) (settled : List ℕ) (judgement : Judgement)
     (m : Mended) (draft : List ℕ) → IsPrepared mends file prepared settled → IsJudgement settled judgement
-    → IsFinished prepared judgement settled m draft → IsMended mends file m draft
+    → IsFinished mends prepared judgement settled m draft → IsMended mends file m draft
 mended mends file prepared settled judgement m draft prep judged done =
     let front : List ℕ = front_bytes m.front in
     let none : list_any is_end_mark front ≡ false = unmarked m.front in
@@ -203,6 +195,9 @@ mended mends file prepared settled judgement m draft prep judged done =
       based = recorded mends prep.cut;
       based_is = refl;
       settled = settled;
+      edited = prep.done.edited;
+      is_edited = subst (IsEditedAsStated (asked_for mends prep.cut) (opened (asked_for mends prep.cut) (recorded mends
+          prep.cut)) prep.done.edited) (sym done.edits) prep.done.is_edited;
       lines = prepared.done.lines;
       are_lines = prep.done.lines;
       settled_is = prep.done.settled_is;
@@ -220,8 +215,7 @@ mended mends file prepared settled judgement m draft prep judged done =
           let count = judged.count in
           let counted = prep.done.survey.counted in omega (arith, all, same, size, count, counted);
       ended = any_behind front apart.body
-          (ended (lined prepared.done.lines (edited (asked_for mends prep.cut) (opened (asked_for mends prep.cut)
-          (recorded mends prep.cut)))) apart
+          (ended (lined prepared.done.lines prep.done.edited) apart
           (subst (λ (v : List ℕ). Laid v apart) prep.done.settled_is accepts.laid));
       picture = passes.picture;
       from_cleared = subst₂ (λ (z : Size) (bytes : List ℕ). GoodWith z all_known bytes passes.picture) (sym size_is)
@@ -233,9 +227,11 @@ mended mends file prepared settled judgement m draft prep judged done =
           (subst₂ (λ (z : Size) (bytes : List ℕ). IsTrue judgement.front ↔ WantsMending z bytes) (sym size_is)
           (sym body_is) judged.wants);
       tail = ap (λ (v : ℕ). length prep.cut + v) done.tail ∙ prep.tail;
-      given_record = done.given_record ∙ prep.given_record;
-      returns = subst (TellsReturns (asked_for mends prep.cut) (opened (asked_for mends prep.cut) (recorded mends
-          prep.cut))) (sym done.returns) prep.done.returns;
+      given_record = done.given_record
+          ∙ ap (λ (b : Bool). if b then mends.width else None) prep.given_record;
+      flag_was = done.flag_was ∙ prep.done.survey.non_blink;
+      flag_is = done.flag_is ∙ judged.non_blink
+          ∙ ap is_non_blink (sym (laid_record settled apart accepts.laid));
       end_mark = done.end_mark ∙ prep.done.end_mark;
       lines_were = done.lines_were ∙ prep.done.stated;
       lines_are = done.lines_are ∙ judged.lines ∙ ap stated_lines (sym (laid_record settled apart accepts.laid));
@@ -244,11 +240,23 @@ mended mends file prepared settled judgement m draft prep judged done =
 
 -- ---- and where it is not
 
+was_settled : (mends : Mends) (file : List ℕ) (prepared : Prepared) (settled : List ℕ)
+    → (prep : IsPrepared mends file prepared settled)
+    → IsSettled (asked_for mends prep.cut) (recorded mends prep.cut) settled
+was_settled mends file prepared settled prep = record {
+  edited = prep.done.edited;
+  edits = prepared.done.edits;
+  is_edited = prep.done.is_edited;
+  lines = prepared.done.lines;
+  are_lines = prep.done.lines;
+  settled_is = prep.done.settled_is;
+}
+
 -- a fault of the settled file is a reason
 pub faulty : (mends : Mends) (file : List ℕ) (prepared : Prepared) (settled : List ℕ) (fault : Fault)
     → IsPrepared mends file prepared settled → IsFaulty settled fault → IsReason mends file (Refused fault)
 faulty mends file prepared settled fault prep is =
-    (prep.cut, prep.is_cut, inr (inr (inr (settled, (prepared.done.lines, prep.done.lines, prep.done.settled_is), is))))
+    (prep.cut, prep.is_cut, inr (inr (inr (settled, was_settled mends file prepared settled prep, is))))
 
 -- and so is want of room for the mending
 pub too_long : (mends : Mends) (file : List ℕ) (prepared : Prepared) (settled : List ℕ) (judgement : Judgement)
@@ -263,13 +271,13 @@ too_long mends file prepared settled judgement reason prep judged is =
     subst (λ (r : Unmended). IsReason mends file r) (sym is.0) (
       prep.cut,
       prep.is_cut,
-      inr (inr (inr (settled, (prepared.done.lines, prep.done.lines, prep.done.settled_is), inr (is.2, wants)))),
+      inr (inr (inr (settled, was_settled mends file prepared settled prep, inr (is.2, wants)))),
     )
 
 -- what finishing comes to
 module _ (mends : Mends) (file : List ℕ) (prepared : Prepared) (settled : List ℕ) (judgement : Judgement)
     (prep : IsPrepared mends file prepared settled) (judged : IsJudgement settled judgement) (draft : List ℕ) where
-  pub finished : (r : Result Mended Unmended) → IfOk r (λ m. IsFinished prepared judgement settled m draft)
+  pub finished : (r : Result Mended Unmended) → IfOk r (λ m. IsFinished mends prepared judgement settled m draft)
       → IfOk r (λ m. IsMended mends file m draft)
   finished (Ok m) done = mended mends file prepared settled judgement m draft prep judged done
   finished (Err reason) done = done

@@ -25,11 +25,16 @@ use Rattle.ans_why.specs.Explained.{AreHintsOf}
 use Rattle.ans_mend.specs.EndMark.{end_mark_put, with_end_mark}
 use Rattle.ans_mend.specs.Contents.{content_in}
 use Rattle.ans_mend.specs.Fields.{with_lines, with_record}
+use Rattle.ans_mend.specs.LastEnds.{HasFewerEnds}
 use Rattle.ans_mend.specs.LineEnds.{ArePut, with_line_ends}
+use Rattle.ans_mend.specs.FullRows.{HasFullRows}
 use Rattle.ans_mend.specs.NewRecord.{takes_record, with_new_record}
 use Rattle.std.specs.Option.{option_map_or}
 use Rattle.ans_mend.specs.Tail.{IsTailCut}
+use Rattle.ans_mend.specs.TakingOut.{AreTakenOut, nothing_told}
+use Rattle.ans_mend.specs.declared.outcome.Edits.{Edits}
 use Rattle.ans_mend.specs.declared.outcome.Mended.{Mended}
+use Rattle.ans_mend.specs.declared.taking_out.Told.{Told}
 use Rattle.ans_mend.specs.declared.outcome.Unmended.{Unmended}
 use Rattle.ans_mend.specs.declared.outcome.Unmended.TheVariants.{Refused, Torn, NoLines, TooLong}
 use Rattle.ans_options.specs.declared.command.Mends.{Mends}
@@ -61,13 +66,43 @@ lacks_lines mends file = has_record file && (stated_lines (record_in file) == 0 
 abbrev pub opened : Mends → List ℕ → List ℕ
 opened mends file = if lacks_lines mends file then with_record (with_lines most_lines (record_in file)) file else file
 
--- what is changed of its content
-abbrev pub edited : Mends → List ℕ → List ℕ
-edited mends file = if mends.line_ends then with_line_ends file else file
+-- with a return before each line feed, where that is asked for and wanted
+abbrev pub returned : Mends → List ℕ → List ℕ
+returned mends file = if mends.line_ends then with_line_ends file else file
 
 -- the returns that were put into it are told
 abbrev pub TellsReturns : Mends → List ℕ → Option Times → Type 0
 TellsReturns mends file times = MatchBool mends.line_ends (ArePut file times) (times ≡ None)
+
+-- the sequences that go are taken out and told, where that is asked for
+abbrev pub AreSequencesOut : Mends → List ℕ → List ℕ → Told → Type 0
+AreSequencesOut mends file out told =
+    MatchBool mends.take_out (AreTakenOut file out told) ((out ≡ file) × (told ≡ nothing_told))
+
+-- the line ends behind full rows are taken out and told, where that is asked for; the number of lines does not matter
+abbrev pub AreRowsJoined : Mends → Size → List ℕ → List ℕ → Option Times → Type 0
+AreRowsJoined mends z file joined times =
+    MatchBool mends.full_rows (HasFullRows (sized z.width most_lines) file joined times)
+    ((joined ≡ file) × (times ≡ None))
+
+-- As few line ends at the very end are taken out, and told, as must go for the content to pass from the cleared start,
+-- where sequences are to be taken out.
+abbrev pub AreLastEndsGone : Mends → Size → List ℕ → List ℕ → Option Times → Type 0
+AreLastEndsGone mends z file new times =
+    MatchBool mends.take_out (HasFewerEnds z file new times) ((new ≡ file) × (times ≡ None))
+
+-- The file with its content changed as it is asked for, on a screen of this size, and what is told of that.
+pub record IsEdited (mends : Mends) (z : Size) (file edited : List ℕ) (edits : Edits) : Type 0 where
+  pub returns : TellsReturns mends file edits.returns
+  pub out : List ℕ
+  pub sequences : AreSequencesOut mends (returned mends file) out edits.told
+  pub joined : List ℕ
+  pub rows : AreRowsJoined mends z out joined edits.row_ends
+  pub ends : AreLastEndsGone mends z joined edited edits.last_ends
+
+-- the same on the screen that its record states
+abbrev pub IsEditedAsStated : Mends → List ℕ → List ℕ → Edits → Type 0
+IsEditedAsStated mends file edited edits = IsEdited mends (stated_size (record_in file)) file edited edits
 
 -- ---- the lines, by the record and the content of what is left
 
@@ -122,11 +157,14 @@ abbrev pub AreLinesFor : Mends → Bool → List ℕ → Option ℕ → Type 0
 AreLinesFor mends lacks file lines = MatchOption lines (KeepsLines mends lacks (record_in file) (content_in file))
     (TakesLines mends lacks (record_in file) (content_in file))
 
--- The file with its lines settled, and with an end mark behind its content.
-abbrev pub IsSettled : Mends → List ℕ → List ℕ → Type 0
-IsSettled asked based settled = (lines : Option ℕ)
-    × AreLinesFor asked (lacks_lines asked based) (edited asked (opened asked based)) lines
-    × (settled ≡ with_end_mark (lined lines (edited asked (opened asked based))))
+-- The file with its content changed, its lines settled, and with an end mark behind its content.
+pub record IsSettled (asked : Mends) (based settled : List ℕ) : Type 0 where
+  pub edited : List ℕ
+  pub edits : Edits
+  pub is_edited : IsEditedAsStated asked (opened asked based) edited edits
+  pub lines : Option ℕ
+  pub are_lines : AreLinesFor asked (lacks_lines asked based) edited lines
+  pub settled_is : settled ≡ with_end_mark (lined lines edited)
 
 -- ---- the file that is written
 
@@ -154,9 +192,11 @@ pub record IsMended (mends : Mends) (file : List ℕ) (mended : Mended) (draft :
   pub asked_is : asked ≡ asked_for mends cut
   pub based : List ℕ
   pub based_is : based ≡ recorded mends cut
+  pub edited : List ℕ
+  pub is_edited : IsEditedAsStated asked (opened asked based) edited mended.edits
   pub lines : Option ℕ
-  pub are_lines : AreLinesFor asked (lacks_lines asked based) (edited asked (opened asked based)) lines
-  pub settled_is : settled ≡ with_end_mark (lined lines (edited asked (opened asked based)))
+  pub are_lines : AreLinesFor asked (lacks_lines asked based) edited lines
+  pub settled_is : settled ≡ with_end_mark (lined lines edited)
   pub draft_is : draft ≡ with_record (with_file_size mended.file_size.is (record_in settled)) settled
   pub apart : FileParts
   pub accepts : Accepts (front_bytes mended.front ++ draft) apart
@@ -168,9 +208,10 @@ pub record IsMended (mends : Mends) (file : List ℕ) (mended : Mended) (draft :
   pub from_every : GoodWith (stated_size apart.record_bytes) none_known (content apart.body) picture
   pub front : IsTrue mended.front ↔ WantsMending (stated_size apart.record_bytes) (content_in settled)
   pub tail : length cut + mended.tail ≡ length file
-  pub given_record : mended.given_record ≡ gives_record mends cut
-  pub returns : TellsReturns asked (opened asked based) mended.returns
-  pub end_mark : mended.end_mark ≡ end_mark_put (lined lines (edited asked (opened asked based)))
+  pub given_record : mended.given_record ≡ (if gives_record mends cut then mends.width else None)
+  pub flag_was : mended.non_blink.was ≡ is_non_blink (record_in (opened asked based))
+  pub flag_is : mended.non_blink.is ≡ is_non_blink (record_in settled)
+  pub end_mark : mended.end_mark ≡ end_mark_put (lined lines edited)
   pub lines_were : mended.lines.was ≡ stated_lines (record_in based)
   pub lines_are : mended.lines.is ≡ stated_lines (record_in settled)
   pub size_was : mended.file_size.was ≡ file_size (record_in (opened asked based))
@@ -198,10 +239,10 @@ IsFaulty file fault =
 abbrev pub HasRecordFault : List ℕ → Unmended → Type 0
 HasRecordFault file reason = (fault : Fault) × (reason ≡ Refused fault) × IsRecordFault file fault
 
--- Of the file with its content changed: it is too long, or has a fault of its own, or the number of lines is why.
+-- Of the file with its content changed: it has a fault of its own, or the number of lines is why.
 abbrev pub IsReasonOfEdited : Mends → Bool → List ℕ → Unmended → Type 0
-IsReasonOfEdited mends lacks file reason = ((reason ≡ TooLong) × (longest_file < length file))
-    ⊎ HasRecordFault file reason ⊎ IsReasonOfLines mends lacks (record_in file) (content_in file) reason
+IsReasonOfEdited mends lacks file reason =
+    HasRecordFault file reason ⊎ IsReasonOfLines mends lacks (record_in file) (content_in file) reason
 
 -- With all done that was asked for, the content does not pass; or there is no room for it, or for the mending that it
 -- needs.
@@ -211,16 +252,24 @@ IsReasonOfContent settled TooLong = (longest_file < length settled) ⊎ ((longes
     × WantsMending (stated_size (record_in settled)) (content_in settled))
 IsReasonOfContent settled _ = ⊥
 
--- what is true of a settled file is true of one to which this one may come
+-- what is true of a file whose content is changed is true of one to which this one may come
+abbrev pub HasEdited : Mends → List ℕ → (List ℕ → Type 0) → Type 0
+HasEdited asked based holds = (edited : List ℕ) × (edits : Edits)
+    × IsEditedAsStated asked (opened asked based) edited edits × holds edited
+
+-- and so it is with a settled file
 abbrev pub HasSettled : Mends → List ℕ → (List ℕ → Type 0) → Type 0
-HasSettled asked based holds =
-    (settled : List ℕ) × IsSettled asked based settled × holds settled
+HasSettled asked based holds = (settled : List ℕ) × IsSettled asked based settled × holds settled
+
+-- The file, with a record where one was given, is too long, or it is with its returns.
+abbrev pub IsTooLongFor : Mends → List ℕ → Unmended → Type 0
+IsTooLongFor asked based reason = (reason ≡ TooLong)
+    × ((longest_file < length based) ⊎ (longest_file < length (returned asked (opened asked based))))
 
 -- The reason is true of the file with a record, where one was given, for what is then asked for.
 abbrev pub IsReasonFor : Mends → List ℕ → Unmended → Type 0
-IsReasonFor asked based reason = ((reason ≡ TooLong) × (longest_file < length based))
-    ⊎ HasRecordFault (opened asked based) reason
-    ⊎ IsReasonOfEdited asked (lacks_lines asked based) (edited asked (opened asked based)) reason
+IsReasonFor asked based reason = IsTooLongFor asked based reason ⊎ HasRecordFault (opened asked based) reason
+    ⊎ HasEdited asked based (λ edited. IsReasonOfEdited asked (lacks_lines asked based) edited reason)
     ⊎ HasSettled asked based (λ settled. IsReasonOfContent settled reason)
 
 -- the reason is true of the file

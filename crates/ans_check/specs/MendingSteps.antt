@@ -1,9 +1,9 @@
 -- What is done on the way to a mended file. Only private contracts cite it.
-use Rattle.std.specs.Prelude.{◌≡◌, ℕ, ◌+◌, ◌<◌, ◌≤◌, Bool, true, false, List}
+use Rattle.std.specs.Prelude.{◌≡◌, ℕ, ◌+◌, ◌<◌, ◌≤◌, Bool, true, false, List, Option, None}
 use Rattle.std.specs.Prelude.{length, if◌then◌else◌}
 use Rattle.ans_model.specs.Bytes.{longest_file}
 use Rattle.ans_model.specs.File.Layout.{FileParts, content}
-use Rattle.ans_model.specs.File.Record.{file_size, stated_lines, stated_size}
+use Rattle.ans_model.specs.File.Record.{file_size, is_non_blink, stated_lines, stated_size}
 use Rattle.ans_model.specs.File.Refusals.{Accepts}
 use Rattle.ans_model.specs.Screen.StartClass.{all_known, none_known}
 use Rattle.ans_model.specs.Verdict.Good.{IsGood}
@@ -19,17 +19,19 @@ use Rattle.ans_mend.specs.declared.outcome.Unmended.TheVariants.{TooLong}
 use Rattle.std.specs.Prelude.{IsTrue, ◌↔◌}
 use Rattle.ans_check.specs.Mending.{WantsMending, asked_for, gives_record, recorded}
 use Rattle.ans_options.specs.declared.command.Mends.{Mends}
-use Rattle.ans_check.specs.declared.mend.Judgement.{Judgement}
-use Rattle.ans_check.specs.declared.mend.Done.{Done}
-use Rattle.ans_check.specs.declared.mend.Survey.{Survey}
-use Rattle.ans_check.specs.declared.mend.Prepared.{Prepared}
-use Rattle.ans_check.specs.Mending.{AreLinesFor, TellsReturns, edited, end_mark_counted, front_bytes}
+use Rattle.ans_check.specs.declared.mend_judge.Judgement.{Judgement}
+use Rattle.ans_check.specs.declared.mend_steps.Done.{Done}
+use Rattle.ans_check.specs.declared.mend_judge.Survey.{Survey}
+use Rattle.ans_check.specs.declared.mend_steps.Prepared.{Prepared}
+use Rattle.ans_check.specs.Mending.{AreLinesFor, IsEditedAsStated, end_mark_counted, front_bytes}
 use Rattle.ans_check.specs.Mending.{lacks_lines, lined, opened}
 
 -- what the record of an accepted file says that is to be set anew, or told
 pub record IsSurvey (lacks : Bool) (file : List ℕ) (survey : Survey) : Type 0 where
   pub apart : FileParts
   pub accepts : Accepts file apart
+  pub screen : survey.size ≡ stated_size (record_in file)
+  pub non_blink : survey.non_blink ≡ is_non_blink (record_in file)
   pub stated : survey.stated ≡ (if lacks then 0 else stated_lines (record_in file))
   pub size : survey.file_size ≡ file_size (record_in file)
   pub counted : survey.end_mark_counted ≡ end_mark_counted file
@@ -44,14 +46,16 @@ pub record IsJudgement (file : List ℕ) (judgement : Judgement) : Type 0 where
   pub wants : IsTrue judgement.front ↔ WantsMending (stated_size apart.record_bytes) (content apart.body)
   pub count : judgement.content ≡ length (content apart.body)
   pub lines : judgement.lines ≡ stated_lines apart.record_bytes
+  pub non_blink : judgement.non_blink ≡ is_non_blink apart.record_bytes
 
 -- what was done with the content, the lines and the end mark
 pub record IsDone (asked : Mends) (based : List ℕ) (done : Done) (settled : List ℕ) : Type 0 where
   pub survey : IsSurvey (lacks_lines asked based) (opened asked based) done.survey
-  pub lines : AreLinesFor asked (lacks_lines asked based) (edited asked (opened asked based)) done.lines
-  pub settled_is : settled ≡ with_end_mark (lined done.lines (edited asked (opened asked based)))
-  pub returns : TellsReturns asked (opened asked based) done.returns
-  pub end_mark : done.end_mark ≡ end_mark_put (lined done.lines (edited asked (opened asked based)))
+  pub edited : List ℕ
+  pub is_edited : IsEditedAsStated asked (opened asked based) edited done.edits
+  pub lines : AreLinesFor asked (lacks_lines asked based) edited done.lines
+  pub settled_is : settled ≡ with_end_mark (lined done.lines edited)
+  pub end_mark : done.end_mark ≡ end_mark_put (lined done.lines edited)
   pub stated : done.survey.stated ≡ stated_lines (record_in based)
 
 -- all that is done before the content is judged
@@ -68,15 +72,17 @@ size_for prepared judgement =
     judgement.content + length (front_bytes judgement.front) + prepared.done.survey.end_mark_counted
 
 -- the FileSize was set so, and what was changed in all is told
-pub record IsFinished (prepared : Prepared) (judgement : Judgement) (settled : List ℕ) (mended : Mended)
+pub record IsFinished (mends : Mends) (prepared : Prepared) (judgement : Judgement) (settled : List ℕ) (mended : Mended)
     (draft : List ℕ) : Type 0 where
   pub draft_is : draft ≡ with_record (with_file_size mended.file_size.is (record_in settled)) settled
   pub size : mended.file_size.is ≡ size_for prepared judgement
   pub size_was : mended.file_size.was ≡ prepared.done.survey.file_size
   pub front : mended.front ≡ judgement.front
   pub tail : mended.tail ≡ prepared.tail
-  pub given_record : mended.given_record ≡ prepared.given_record
-  pub returns : mended.returns ≡ prepared.done.returns
+  pub given_record : mended.given_record ≡ (if prepared.given_record then mends.width else None)
+  pub edits : mended.edits ≡ prepared.done.edits
+  pub flag_was : mended.non_blink.was ≡ prepared.done.survey.non_blink
+  pub flag_is : mended.non_blink.is ≡ judgement.non_blink
   pub end_mark : mended.end_mark ≡ prepared.done.end_mark
   pub lines_were : mended.lines.was ≡ prepared.done.survey.stated
   pub lines_are : mended.lines.is ≡ judgement.lines

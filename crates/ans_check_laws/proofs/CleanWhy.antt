@@ -44,8 +44,10 @@ use Rattle.ans_walks.specs.declared.hints.Hints.{Hints}
 use Rattle.ans_walks.specs.declared.times.Times.{Times}
 use Rattle.ans_why.specs.Blamed.{AreToBlame}
 use Rattle.ans_why.specs.Explained.{IsEnough, IsShown, IsReliance, IsPass, IsRefusal, IsSaidOfLines, IsTrueOf, Why}
-use Rattle.ans_why.specs.WhyText.{quoted_byte, quoted, bytes_line, place_text, cell_text, shown_lines, mend_line}
-use Rattle.ans_why.specs.WhyText.{reliance_lines, lines_line, after_end_mark_text, counted_text, enough_lines}
+use Rattle.ans_report.specs.Counted.{counted_text}
+use Rattle.ans_report.specs.Quoted.{quoted, quoted_byte}
+use Rattle.ans_why.specs.WhyText.{bytes_line, place_text, cell_text, shown_lines, mend_line}
+use Rattle.ans_why.specs.WhyText.{reliance_lines, lines_line, after_end_mark_text, enough_lines}
 use Rattle.ans_why.specs.WhyText.{heading_lines, known_found, known_line, told_hints}
 use Rattle.ans_model.specs.Text.Words.{answer_text}
 use Rattle.ans_why.specs.WhyText.{found_line, size_line, font_of, pass_lines, refusal_lines, why_text}

@@ -14,7 +14,8 @@ use Rattle.ans_sauce.specs.declared.found.Found.{Found}
 use Rattle.ans_sauce.specs.declared.found.Found.TheVariants as found
 use Rattle.ans_sauce.specs.Found.{IsLastRecord, IsFound, record_in, after_end_mark, HoldsRecord}
 use Rattle.ans_why.specs.Known.{known_behind_end_mark}
-use Rattle.ans_why.specs.WhyText.{after_end_mark_text, counted_text, found_line, known_found}
+use Rattle.ans_report.specs.Counted.{counted_text}
+use Rattle.ans_why.specs.WhyText.{after_end_mark_text, found_line, known_found}
 use Rattle.ans_why.specs.declared.known_bytes.Known.{Known}
 use Rattle.ans_check_laws.proofs.Covering.{same_truth}
 

@@ -47,11 +47,13 @@ reaches file place count within behind =
     let front : List ℕ = take place file in
     let long : length front ≡ place = length-take-le place file within in
     let sum : count ≡ length front + suc (count - place - 1) = omega (arith, behind, long) in
-    let cut : take count (with_byte place end_mark file) ≡ front ++ end_mark ∷ take (count - place - 1) (drop place file) =
+    let cut : take count (with_byte place end_mark file) ≡
+        front ++ end_mark ∷ take (count - place - 1) (drop place file) =
     ap (λ (v : ℕ). take v (with_byte place end_mark file)) sum
     ∙ take-append-add front (end_mark ∷ drop place file) (suc (count - place - 1)) in
     ap (list_any is_end_mark) cut
-    ∙ list_any-append is_end_mark front (end_mark ∷ take (count - place - 1) (drop place file)) ∙ or_true (list_any is_end_mark front)
+    ∙ list_any-append is_end_mark front (end_mark ∷ take (count - place - 1) (drop place file))
+    ∙ or_true (list_any is_end_mark front)
 
 module _ (file : List ℕ) (long : 128 ≤ length file) where
   abbrev place : ℕ

@@ -17,7 +17,8 @@ feeds_more xs i within = go (is_line_feed (slice_index_or xs i 0)) refl
   where
     go : (feed : Bool) → is_line_feed (slice_index_or xs i 0) ≡ feed
         → line_feeds (take (i + 1) xs) + 1
-        ≡ line_feeds (take i xs) + length (if feed then 0x0D ∷ slice_index_or xs i 0 ∷ [] else slice_index_or xs i 0 ∷ [])
+        ≡ line_feeds (take i xs) + length (if feed then 0x0D ∷ slice_index_or xs i 0 ∷ []
+            else slice_index_or xs i 0 ∷ [])
     go true is = let more = count_by_more_yes is_line_feed xs i 0 within is in omega (arith, more)
     go false is = let more = count_by_more_no is_line_feed xs i 0 within is in omega (arith, more)
 
@@ -79,7 +80,8 @@ module _ (start memory : List ℕ) (gap count index written : ℕ) (more : index
     next_left =
         let limit = feeds_within (index + 1) in
         let at = next_place in
-        behind (gap + (index + 1)) (omega (arith, at, limit)) ∙ one_less memory ∙ ap (drop 1) left ∙ sym (one_less start)
+        behind (gap + (index + 1)) (omega (arith, at, limit)) ∙ one_less memory ∙ ap (drop 1) left
+            ∙ sym (one_less start)
       where
         one_less : (xs : List ℕ) → drop (gap + (index + 1)) xs ≡ drop 1 (drop (gap + index) xs)
         one_less xs = ap (λ (v : ℕ). drop v xs) (omega arith) ∙ sym (drop-drop 1 (gap + index) xs)

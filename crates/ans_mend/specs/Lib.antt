@@ -5,3 +5,7 @@ pub mod EndMark
 pub mod Contents
 pub mod LineEnds
 pub mod NewRecord
+pub mod FullRows
+pub mod TakingOut
+pub mod MendedText
+pub mod LastEnds

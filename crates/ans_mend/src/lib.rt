@@ -8,10 +8,17 @@
 mod draft;
 mod end_mark;
 mod fields;
+mod full_rows;
+mod keeping;
+mod last_ends;
 mod line_ends;
+mod mended_text;
 mod new_record;
 mod outcome;
 mod tail;
+mod taking_out;
 
 pub use draft::{Draft, NoRoom};
-pub use outcome::{Mended, Reset, Unmended};
+pub use mended_text::{put_mended, put_unmended};
+pub use outcome::{Edits, Mended, NonBlink, Reset, Unmended};
+pub use taking_out::{Excerpt, TakenOut, Told};

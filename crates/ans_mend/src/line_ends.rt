@@ -1,6 +1,7 @@
 //! Returns before line feeds that have none.
 
-ghost use Rattle.std.specs.Prelude.{◌≡◌, ◌+◌, ◌≤◌, ◌++◌, ℕ, length, take, drop, IfSome, IfNone, IfOk, OnOk, OnErr, ◌<◌, true, false};
+ghost use Rattle.std.specs.Prelude.{◌≡◌, ◌+◌, ◌≤◌, ◌++◌, ℕ, length, take, drop, IfSome, IfNone, IfOk, OnOk, OnErr};
+ghost use Rattle.std.specs.Prelude.{◌<◌, true, false};
 ghost use Rattle.ans_model.specs.File.Refusals.{has_record};
 ghost use Rattle.std.specs.List.{list_any, position};
 ghost use Rattle.ans_mend.specs.Drafts.{memory_of};
@@ -20,7 +21,7 @@ fn is_line_feed(byte: u8) -> bool
 }
 
 /// How many line feeds there are.
-pub fn count_line_feeds(bytes: &[u8]) -> usize
+fn count_line_feeds(bytes: &[u8]) -> usize
     ensures count { result ≡ line_feeds bytes.now }
     ensures within { result ≤ length bytes.now }
 {
@@ -109,7 +110,7 @@ fn wanted_returns(content: &[u8]) -> Option<Times>
 }
 
 /// The content of a file that has a record.
-fn content_of(file: &[u8]) -> Option<&[u8]>
+pub(crate) fn content_of(file: &[u8]) -> Option<&[u8]>
     ensures some { IfSome result (λ bytes. (has_record file.now ≡ true) × (bytes.now ≡ content_in file.now)) }
     ensures none { IfNone result (has_record file.now ≡ false) }
 {

@@ -1,26 +1,48 @@
 //! What comes of mending.
 
+use crate::taking_out::Told;
 use ans_model::fault::Fault;
 use ans_walks::Times;
+
+/// What was changed of a content. Offsets are in bytes from the file's start, in the file as the changes
+/// before this one left it.
+#[derive(Debug, Clone, Copy, PartialEq, Eq)]
+pub struct Edits {
+    /// How many returns were put before line feeds, and where the first of these stood.
+    pub returns: Option<Times>,
+    /// The sequences that were taken out.
+    pub told: Told,
+    /// How many line ends behind full rows were taken out, and where the first began.
+    pub row_ends: Option<Times>,
+    /// How many line ends at the very end were taken out, and where the first began.
+    pub last_ends: Option<Times>,
+}
 
 /// What was changed of a file that is mended.
 #[derive(Debug, Clone, Copy, PartialEq, Eq)]
 pub struct Mended {
     /// How many bytes were cut off behind the record.
     pub tail: usize,
-    /// Whether a record was put behind the content.
-    pub given_record: bool,
-    /// How many returns were put before line feeds, and where the first of these stood, in bytes from the
-    /// file's start.
-    pub returns: Option<Times>,
-    /// Where an end mark was put, as an offset in bytes from the file's start.
-    pub end_mark: Option<usize>,
+    /// The width of the record that was put behind the content, in columns, if one was.
+    pub given_record: Option<u16>,
+    pub edits: Edits,
+    /// The record's non-blink flag, before and now.
+    pub non_blink: NonBlink,
     /// The number of lines that the record stated, and the one that it states now.
     pub lines: Reset,
+    /// Where an end mark was put, as an offset in bytes from the file's start.
+    pub end_mark: Option<usize>,
     /// Whether the safe beginning is to stand before the bytes of the draft.
     pub front: bool,
     /// The size of the file that the record stated, and the one that it states now, in bytes.
     pub file_size: Reset,
+}
+
+/// A flag in a record that was set anew, to the same or to the other value.
+#[derive(Debug, Clone, Copy, PartialEq, Eq)]
+pub struct NonBlink {
+    pub was: bool,
+    pub is: bool,
 }
 
 /// A number in a record that was set anew, to the same or to another one.

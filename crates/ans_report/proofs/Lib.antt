@@ -5,3 +5,4 @@ pub mod StartNames
 pub mod CellsTold
 pub mod TokensPut
 pub mod TokensFinished
+pub mod QuotedTexts

@@ -7,3 +7,5 @@ pub mod RecordLines
 pub mod TokenLines
 pub mod Message
 pub mod Meanings
+pub mod Counted
+pub mod Quoted

@@ -8,9 +8,11 @@
 //! answer in `specs/Message.antt`. What a fault or a note means stands in `src/meanings.rt`, which
 //! `specs/Meanings.antt` cites.
 //!
-//! The text of `why` (`ans_why`) is put by some of the same lines.
+//! The text of `why` (`ans_why`) is put by some of the same lines. How bytes are quoted stands in `specs/Quoted.antt`,
+//! and how many there are of a thing, and how often it comes, in `specs/Counted.antt`.
 #![tactic(auto)]
 
+mod counted;
 mod fault_lines;
 mod heading;
 mod lines;
@@ -18,17 +20,20 @@ mod meanings;
 mod message;
 mod needs_text;
 mod picture_text;
+mod quoted;
 mod record_text;
 mod report;
 mod tokens_text;
 
 pub use ans_write::{DeviceFault, Tried, WriteFault, glyph_text};
+pub use counted::{put_counted, put_times};
 pub use fault_lines::{fault_text, put_fault_line, put_refusal};
 pub use heading::{note_text, put_notes};
 pub use lines::{answer_text, put_named_line, put_number_line, put_size_line};
 pub use meanings::{fault_meaning, note_meaning};
 pub use message::put_message;
 pub use needs_text::{Needs, put_needed_parts, put_needs};
+pub use quoted::{put_quoted, put_quoted_byte, put_quoted_bytes};
 pub use record_text::{put_record, write_record};
 pub use report::{Report, put_report, write_refusal, write_report};
 pub use tokens_text::{put_tokens, write_tokens};

@@ -21,3 +21,7 @@ pub mod HintsFound
 pub mod FullRows
 pub mod LastPrint
 pub mod HomingFound
+mod FrontsPass
+mod LineEndBytes
+mod FullRowsFound
+mod FullRowsEnded

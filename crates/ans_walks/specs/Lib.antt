@@ -18,3 +18,6 @@ pub mod Hints
 pub mod Walks
 pub mod RowLaws
 pub mod RowEndLaws
+pub mod FullRowEnds
+pub mod FullRowSearch
+pub mod LastEnds

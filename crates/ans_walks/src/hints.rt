@@ -52,24 +52,7 @@ impl Hints {
             → ReadsAs (take end content.now) tokens texts
             → AreHints size non_blink tokens texts (drop end content.now) result }
     {
-        let mut walk = Walk {
-            size,
-            non_blink,
-            pen: Pen::cleared(),
-            row: Row::FIRST,
-            hints: Hints {
-                loose_line_feeds: None,
-                row_ends: RowEnds::none(size.width()),
-                wide_characters: None,
-                two_byte_letters: None,
-                latin_letters: None,
-                board_codes: None,
-                later_colours: None,
-                blinking_glyphs: None,
-                empty_rows: size.lines(),
-                moves_rows: false,
-            },
-        };
+        let mut walk = Walk::begun(size, non_blink);
         let _ = ans_tokens::walk(content, end, &mut walk);
         walk.hints
     }

@@ -2,9 +2,11 @@
 //!
 //! Of a fault that is deserved, [`cursors_before`] and [`cells_of_fault`] give what the plays from the
 //! low and the high start of a class show. [`least_lines`] says with how many lines a content passes
-//! from the cleared start, and [`is_taller`] whether it plays on taller screens as on the stated one.
-//! [`Hints::of`] counts what is worth a look in a drawing, though it changes no verdict. Each law is the
-//! contract of a function without a body. Nothing here takes memory.
+//! from the cleared start, [`count_passing`] how few line ends at its end have to go for it to pass, and
+//! [`is_taller`] whether it plays on taller screens as on the stated one. [`ends_full_rows`] says whether
+//! all full rows end in line ends, and [`RowPlay`] finds these one by one. [`Hints::of`] counts what is
+//! worth a look in a drawing, though it changes no verdict. Each law is the contract of a function without
+//! a body. Nothing here takes memory.
 //!
 //! A `Pen` is all of a state but its cells. No cell tells where a token takes it, so it goes on without
 //! them, also where the screen scrolls (`specs/Pens.antt`). What each hint is about stands in
@@ -14,13 +16,16 @@
 
 mod conditions;
 mod evidence;
+mod full_row_ends;
 mod hints;
 mod homing;
+mod last_ends;
 pub mod laws;
 mod lines;
 mod pen;
 mod row;
 mod row_ends;
+mod row_play;
 mod taller;
 mod times;
 mod two_watches;
@@ -28,9 +33,12 @@ mod walk;
 mod watch;
 
 pub use evidence::{cells_of_fault, cursors_before};
+pub use full_row_ends::{FullRowEnd, ends_full_rows};
 pub use hints::Hints;
 pub use homing::clears_away;
+pub use last_ends::{count_line_ends, count_passing};
 pub use lines::{is_good, least_lines};
 pub use row_ends::{RowEnds, RowsOver, WiderRows};
+pub use row_play::RowPlay;
 pub use taller::is_taller;
 pub use times::Times;

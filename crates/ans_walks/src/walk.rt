@@ -1,6 +1,6 @@
 //! A walk over the tokens of a content that finds its hints.
 
-ghost use Rattle.std.specs.Prelude.{◌≡◌, ◌+◌, ◌-◌, ◌<◌, ◌≤◌, ◌&&◌, ◌||◌, ◌==◌, false, min, slice_index};
+ghost use Rattle.std.specs.Prelude.{◌≡◌, ◌+◌, ◌-◌, ◌<◌, ◌≤◌, ◌&&◌, ◌||◌, ◌==◌, ℕ, List, true, false, min, slice_index};
 ghost use Rattle.ans_model.specs.Bytes.{longest_file};
 ghost use Rattle.ans_model.specs.Sequence.TokenKind.{Glyph, LineFeed};
 ghost use Rattle.ans_model.specs.Screen.State.{State};
@@ -10,7 +10,8 @@ ghost use Rattle.ans_walks.specs.Conditions.{begins_with_x_number, is_letter, is
 ghost use Rattle.ans_walks.specs.Counted.{counted};
 ghost use Rattle.ans_walks.specs.Pens.{glyph_wraps, pen_of};
 ghost use Rattle.ans_walks.specs.RowEnds.{is_stuck, with_glyph, CountsRows};
-ghost use Rattle.ans_walks.specs.Walks.{IsAt, CountsWithin, hints_with};
+ghost use Rattle.ans_walks.specs.Walks.{HasWalked, IsAt, CountsWithin, hints_with};
+ghost use Rattle.ans_tokens.specs.Walk.{no_front};
 
 use crate::conditions::{
     begins_with_latin_letter, begins_with_pipe_number, begins_with_two_byte_letter,
@@ -20,6 +21,7 @@ use crate::conditions::{
 use crate::hints::Hints;
 use crate::pen::Pen;
 use crate::row::Row;
+use crate::row_ends::RowEnds;
 use crate::times::count;
 use ans_model::kind::Kind;
 use ans_model::size::Size;
@@ -36,6 +38,33 @@ pub(crate) struct Walk {
 }
 
 impl Walk {
+    /// Before the first token.
+    pub(crate) fn begun(size: Size, non_blink: bool) -> Walk
+        ensures at { IsAt result 0 }
+        ensures walked { (content : List ℕ) → HasWalked result (no_front content) true result }
+        ensures size { result.size ≡ size }
+        ensures non_blink { result.non_blink ≡ non_blink }
+    {
+        Walk {
+            size,
+            non_blink,
+            pen: Pen::cleared(),
+            row: Row::FIRST,
+            hints: Hints {
+                loose_line_feeds: None,
+                row_ends: RowEnds::none(size.width()),
+                wide_characters: None,
+                two_byte_letters: None,
+                latin_letters: None,
+                board_codes: None,
+                later_colours: None,
+                blinking_glyphs: None,
+                empty_rows: size.lines(),
+                moves_rows: false,
+            },
+        }
+    }
+
     fn line_feed(&mut self, offset: usize, behind: &[u8])
         requires room { offset < longest_file }
         requires at { IsAt self.old offset }

@@ -6,6 +6,8 @@ ghost use Rattle.ans_model.specs.Screen.State.{sized};
 ghost use Rattle.ans_model.specs.Verdict.Good.{IsGood};
 ghost use Rattle.ans_model.specs.Verdict.LastFault.{IsDeserved};
 
+mod full_rows;
+mod last_ends;
 mod lines;
 mod taller;
 

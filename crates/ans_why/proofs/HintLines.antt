@@ -1,17 +1,9 @@
 -- The lines of hints as they are put, piece by piece.
-use Rattle.std.proofs.Common.{◌≡◌, ℕ, true, List, ◌++◌, codes, decimal, sym, ap, ◌∙◌, append_assoc, refl}
-use Rattle.std.proofs.lemmas.Bool.{eq-eqb, ne_eqb}
+use Rattle.std.proofs.Common.{◌≡◌, ℕ, true, List, ◌++◌, codes, decimal, sym, ap, ◌∙◌, append_assoc}
+use Rattle.std.proofs.lemmas.Bool.{ne_eqb}
 use Rattle.ans_model.specs.Text.Characters.{shown_bytes}
 use Rattle.ans_why.specs.Fonts.{font_name, has_other_code_page}
-use Rattle.ans_why.specs.HintsText.{times_text, hint_line, font_line, empty_rows_line}
-use Rattle.ans_walks.specs.declared.times.Times.{Times}
-
-pub once : (t : Times) → t.count ≡ 1 → codes "once, at " ++ decimal t.first ≡ times_text t
-once t e = rw (eq-eqb t.count 1 e) refl
-
-pub often : (t : Times) → (t.count ≡ 1 → ⊥)
-    → decimal t.count ++ (codes " times, first at " ++ decimal t.first) ≡ times_text t
-often t e = rw (ne_eqb t.count 1 e) refl
+use Rattle.ans_why.specs.HintsText.{hint_line, font_line, empty_rows_line}
 
 -- the line of what comes, by its parts
 pub times_line_is : (what times advice : List ℕ)

@@ -5,5 +5,4 @@ pub mod WhyLines
 pub mod Relying
 pub mod AllHints
 pub mod NoMoves
-pub mod Forms
 pub mod EnoughLines

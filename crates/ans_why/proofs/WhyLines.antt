@@ -1,12 +1,9 @@
 -- The lines of `why`, by the pieces that are put.
-use Rattle.std.proofs.Common.{◌≡◌, ℕ, ◌≤◌, ◌<◌, List, [], ◌∷◌, ◌++◌, length, take, codes}
-use Rattle.std.proofs.Common.{refl, sym, arith, append_assoc, append-nil}
-use Rattle.std.specs.List.{flat_map}
-use Rattle.std.proofs.lemmas.Bool.{lt-ltb, le-ltb}
-use Rattle.std.proofs.lemmas.List.{take_all}
+use Rattle.std.proofs.Common.{◌≡◌, ℕ, ◌<◌, List, [], ◌∷◌, ◌++◌, length, codes}
+use Rattle.std.proofs.Common.{refl, arith, append_assoc}
 use Rattle.ans_model.specs.Text.Characters.{shown_bytes}
 use Rattle.ans_model.specs.Text.RecordText.{named_line}
-use Rattle.ans_why.specs.WhyText.{quoted_byte, quoted, bytes_line}
+use Rattle.ans_why.specs.WhyText.{quoted, bytes_line}
 
 pub named_line_is : (name text : List ℕ) → name ++ (codes ": " ++ (text ++ codes "\n")) ≡ named_line name text
 named_line_is name text = simp append_assoc
@@ -16,15 +13,7 @@ pub keyed_line_is : (key name text : List ℕ) → key ≡ name ++ codes ": "
     → key ++ (text ++ codes "\n") ≡ named_line name text
 keyed_line_is key name text e = rw e (simp append_assoc)
 
--- ---- quoted bytes
-pub quoted_long : (bytes : List ℕ) → 32 < length bytes
-    → flat_map quoted_byte (take 32 bytes) ++ codes " .." ≡ quoted bytes
-quoted_long bytes lt = rw (lt-ltb 32 (length bytes) lt) refl
-
-pub quoted_short : (bytes : List ℕ) → length bytes ≤ 32 → flat_map quoted_byte bytes ≡ quoted bytes
-quoted_short bytes le =
-    rw (le-ltb 32 (length bytes) le, take_all 32 bytes le) (sym (append-nil (flat_map quoted_byte bytes)))
-
+-- ---- the bytes to blame
 pub bytes_line_is : (bytes : List ℕ) → 0 < length bytes
     → codes "bytes: " ++ (quoted bytes ++ codes "\n") ≡ bytes_line bytes
 bytes_line_is [] some = absurd (omega (arith, some))

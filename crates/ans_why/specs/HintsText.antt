@@ -2,6 +2,7 @@
 use Rattle.std.specs.Prelude.{ℕ, ◌==◌, List, [], ◌++◌, codes, decimal, Option, None, Some, if◌then◌else◌}
 use Rattle.ans_model.specs.Text.Characters.{shown_bytes}
 use Rattle.ans_model.specs.Text.FaultText.{line_of}
+use Rattle.ans_report.specs.Counted as counted
 use Rattle.ans_why.specs.Fonts.{font_name, has_other_code_page}
 use Rattle.ans_walks.specs.RowEnds.{wider_rows}
 use Rattle.ans_walks.specs.declared.hints.Hints.{Hints}
@@ -14,9 +15,7 @@ hint_line text = line_of (codes "hint: " ++ text)
 
 -- how many times, and where first
 abbrev pub times_text : Times → List ℕ
-times_text times =
-    if times.count == 1 then codes "once, at " ++ decimal times.first
-    else decimal times.count ++ (codes " times, first at " ++ decimal times.first)
+times_text times = counted.times_text times.count times.first
 
 -- what comes, how often, and what to do; no line where it never comes
 abbrev pub times_line : List ℕ → Option Times → List ℕ → List ℕ

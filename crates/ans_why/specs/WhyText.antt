@@ -1,5 +1,5 @@
 -- The text of `why`.
-use Rattle.std.specs.Prelude.{ℕ, ◌==◌, Bool, true, false, nat_lt, List, [], ◌∷◌, ◌++◌, length, take, codes, decimal}
+use Rattle.std.specs.Prelude.{ℕ, Bool, true, false, List, [], ◌∷◌, ◌++◌, length, codes, decimal}
 use Rattle.std.specs.Prelude.{Option, Some, None, is_some, if◌then◌else◌}
 use Rattle.std.specs.List.{flat_map}
 use Rattle.ans_model.specs.declared.cell.Cell.{Cell}
@@ -15,6 +15,8 @@ use Rattle.ans_sauce.specs.declared.found.Found.{Found}
 use Rattle.ans_sauce.specs.declared.found.Found.TheVariants as found
 use Rattle.ans_sauce.specs.declared.parts.Parts.{Parts}
 use Rattle.ans_sauce.specs.Parts.{notes_of, record_of, size_of}
+pub use Rattle.ans_report.specs.Counted.{counted_text}
+pub use Rattle.ans_report.specs.Quoted.{quoted, quoted_byte}
 use Rattle.ans_walks.specs.Hints.{are_torn}
 use Rattle.ans_walks.specs.declared.hints.Hints.{Hints}
 use Rattle.ans_why.specs.HintsText.{hints_text}
@@ -29,22 +31,6 @@ use Rattle.ans_why.specs.declared.why.Refusal.{Refusal}
 use Rattle.ans_why.specs.declared.why.Reliance.{Reliance}
 use Rattle.ans_why.specs.declared.why.Shown.{Shown}
 use Rattle.ans_why.specs.declared.why.Shown.TheVariants.{Cursors, Cells}
-
--- a control byte of ANSI.SYS and a blank by their names, and another byte by its character
-abbrev pub quoted_byte : ℕ → List ℕ
-quoted_byte byte =
-    if byte == 0x07 then codes "<BEL>"
-    else if byte == 0x08 then codes "<BS>"
-    else if byte == 0x09 then codes "<TAB>"
-    else if byte == 0x0A then codes "<LF>"
-    else if byte == 0x0D then codes "<CR>"
-    else if byte == 0x1B then codes "<ESC>"
-    else if byte == 0x20 then codes "<SP>"
-    else shown_bytes (byte ∷ [])
-
--- at most 32 bytes
-abbrev pub quoted : List ℕ → List ℕ
-quoted bytes = flat_map quoted_byte (take 32 bytes) ++ (if nat_lt 32 (length bytes) then codes " .." else [])
 
 -- the line of the bytes to blame, where there are some
 abbrev pub bytes_line : List ℕ → List ℕ
@@ -85,10 +71,6 @@ known_line (Some known) = named_line (codes "is") (known_text known)
 abbrev pub lines_line : Option ℕ → Bool → List ℕ
 lines_line None torn = []
 lines_line (Some n) torn = named_line (codes "lines") (decimal n ++ (if torn then codes " as it is" else []))
-
--- so many of a thing, as `1 byte` and `2 bytes`
-abbrev pub counted_text : ℕ → List ℕ → List ℕ
-counted_text count thing = decimal count ++ (codes " " ++ (thing ++ (if count == 1 then [] else codes "s")))
 
 -- what follows the end mark
 abbrev pub after_end_mark_text : Bool → List ℕ

@@ -2,26 +2,14 @@
 
 ghost use Rattle.std.specs.Prelude.{◌≡◌};
 ghost use Rattle.ans_why.specs.HintsText.{colour_hints, empty_rows_line, font_line, foreign_hints, hints_text};
-ghost use Rattle.ans_why.specs.HintsText.{row_hints, times_line, times_text, wider_line};
+ghost use Rattle.ans_why.specs.HintsText.{row_hints, times_line, wider_line};
 ghost use Rattle.ans_write.specs.Puts.{Puts};
 
 use crate::font::{font_name, has_other_code_page};
+use ans_report::put_times;
 use ans_walks::{Hints, Times, WiderRows};
 use ans_write::{Outbox, put_characters};
 use std::io::Write;
-
-fn put_times<W: Write>(out: &mut Outbox<'_, W>, times: Times)
-    ensures { Puts W.contents out.old out.new (times_text times) }
-{
-    if times.count == 1 {
-        out.put(b"once, at ");
-        out.put_decimal(times.first as u64);
-        return;
-    }
-    out.put_decimal(times.count as u64);
-    out.put(b" times, first at ");
-    out.put_decimal(times.first as u64);
-}
 
 fn put_times_line<W: Write>(
     out: &mut Outbox<'_, W>,
@@ -37,7 +25,7 @@ fn put_times_line<W: Write>(
     out.put(b"hint: ");
     out.put(what);
     out.put(b", ");
-    put_times(out, times);
+    put_times(out, times.count, times.first);
     out.put(advice);
     out.put(b"\n");
 }
@@ -75,7 +63,7 @@ fn put_wider_line<W: Write>(out: &mut Outbox<'_, W>, rows: Option<WiderRows>)
         return;
     };
     out.put(b"hint: a row runs over the edge and then ends, ");
-    put_times(out, rows.times);
+    put_times(out, rows.times.count, rows.times.first);
     out.put(b": the widest has ");
     out.put_decimal(rows.columns as u64);
     out.put(b" columns\n");

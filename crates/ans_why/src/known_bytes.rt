@@ -1,13 +1,15 @@
 //! What the bytes to blame are known as.
 
-ghost use Rattle.std.specs.Prelude.{◌≡◌, ◌≤◌, length, nat_lt, not};
+ghost use Rattle.std.specs.Prelude.{◌≡◌, nat_lt, not};
 ghost use Rattle.std.specs.List.{list_any, position};
-ghost use Rattle.std.specs.Option.{option_copied};
 ghost use Rattle.ans_model.specs.File.Layout.{is_end_mark};
-ghost use Rattle.ans_why.specs.Known.{allows, begins_with_form, behind_byte, behind_end_marks, behind_piece};
-ghost use Rattle.ans_why.specs.Known.{count_front, is_comment_block, is_digit, is_note, known_behind_end_mark};
-ghost use Rattle.ans_why.specs.Known.{known_form, known_sequence, known_text, may_be_drawing};
+ghost use Rattle.ans_why.specs.Known.{behind_end_marks, is_comment_block, known_behind_end_mark, known_form};
+ghost use Rattle.ans_why.specs.Known.{known_sequence, known_text, may_be_drawing};
 
+use ans_forms::{
+    BRIGHT_BACKGROUNDS, CURSOR_SWITCH, DOS_MODE, FONT_SELECTION, MUSIC, TRUE_COLOUR,
+    begins_with_form,
+};
 use ans_model::fault::Cause;
 
 /// What bytes are that are refused: things that artists and their programs are known to write.
@@ -35,75 +37,6 @@ pub enum Known {
     Arrow,
 }
 
-/// A piece of the form of a sequence.
-#[derive(Debug, Clone, Copy)]
-pub(crate) enum Piece {
-    /// This byte.
-    Byte(u8),
-    /// One of these two bytes.
-    Either(u8, u8),
-    /// `M`, `N` or `|`.
-    MusicLetter,
-    /// Digits, at least one.
-    Digits,
-    /// Notes of a melody, at most 250 bytes.
-    Notes,
-}
-
-use Piece::{Byte, Digits, Either, MusicLetter, Notes};
-
-// The forms of sequences that are known.
-pub(crate) const MUSIC: [Piece; 5] = [Byte(0x1B), Byte(b'['), MusicLetter, Notes, Byte(0x0E)];
-
-pub(crate) const FONT_SELECTION: [Piece; 7] = [
-    Byte(0x1B),
-    Byte(b'['),
-    Digits,
-    Byte(b';'),
-    Digits,
-    Byte(b' '),
-    Byte(b'D'),
-];
-
-pub(crate) const TRUE_COLOUR: [Piece; 10] = [
-    Byte(0x1B),
-    Byte(b'['),
-    Either(b'0', b'1'),
-    Byte(b';'),
-    Digits,
-    Byte(b';'),
-    Digits,
-    Byte(b';'),
-    Digits,
-    Byte(b't'),
-];
-
-pub(crate) const BRIGHT_BACKGROUNDS: [Piece; 6] = [
-    Byte(0x1B),
-    Byte(b'['),
-    Byte(b'?'),
-    Byte(b'3'),
-    Byte(b'3'),
-    Either(b'h', b'l'),
-];
-
-pub(crate) const CURSOR_SWITCH: [Piece; 6] = [
-    Byte(0x1B),
-    Byte(b'['),
-    Byte(b'?'),
-    Byte(b'2'),
-    Byte(b'5'),
-    Either(b'h', b'l'),
-];
-
-pub(crate) const DOS_MODE: [Piece; 5] = [
-    Byte(0x1B),
-    Byte(b'['),
-    Byte(b'='),
-    Digits,
-    Either(b'h', b'l'),
-];
-
 impl Known {
     /// What they are, as the line `is:` says it.
     pub fn text(self) -> &'static str
@@ -126,107 +59,6 @@ impl Known {
 
 /// SAUCE 00.5: the end of file character.
 const END_MARK: u8 = 0x1A;
-
-/// How many bytes the notes of a melody have at most.
-const MOST_NOTES: usize = 250;
-
-fn is_digit(byte: u8) -> bool
-    ensures { result ≡ is_digit byte }
-{
-    byte.is_ascii_digit()
-}
-
-/// A note's length and pitch, an octave, a tempo, a rest and the like.
-fn is_note(byte: u8) -> bool
-    ensures { result ≡ is_note byte }
-{
-    matches!(byte, b'A'..=b'Z' | b'a'..=b'z' | b'0'..=b'9')
-        || matches!(byte, b'#' | b'+' | b'-' | b'.' | b'<' | b'>' | b' ')
-}
-
-fn first_no_digit(bytes: &[u8]) -> Option<usize>
-    ensures { result ≡ position (λ b. not (is_digit b)) bytes.now }
-{
-    bytes.iter().position(|byte| !is_digit(*byte))
-}
-
-fn first_no_note(bytes: &[u8]) -> Option<usize>
-    ensures { result ≡ position (λ b. not (is_note b)) bytes.now }
-{
-    bytes.iter().position(|byte| !is_note(*byte))
-}
-
-/// How many digits the bytes begin with.
-fn count_digits(bytes: &[u8]) -> usize
-    ensures count { result ≡ count_front is_digit bytes.now }
-    ensures within { result ≤ length bytes.now }
-{
-    first_no_digit(bytes).unwrap_or(bytes.len())
-}
-
-/// How many notes the bytes begin with.
-fn count_notes(bytes: &[u8]) -> usize
-    ensures count { result ≡ count_front is_note bytes.now }
-    ensures within { result ≤ length bytes.now }
-{
-    first_no_note(bytes).unwrap_or(bytes.len())
-}
-
-/// What stands behind the first byte, where there is one and it is allowed.
-fn behind_byte(bytes: &[u8], piece: Piece) -> Option<&[u8]>
-    ensures { option_copied result ≡ behind_byte piece bytes.now }
-{
-    match bytes {
-        [first, rest @ ..] if allows(piece, *first) => Some(rest),
-        _ => None,
-    }
-}
-
-/// Whether a byte is one that a piece of one byte may be.
-fn allows(piece: Piece, byte: u8) -> bool
-    ensures { result ≡ allows piece byte }
-{
-    match piece {
-        Byte(only) => byte == only,
-        Either(one, other) => byte == one || byte == other,
-        MusicLetter => matches!(byte, b'M' | b'N' | b'|'),
-        Digits | Notes => false,
-    }
-}
-
-/// What stands behind a piece, where the bytes begin with it.
-fn behind_piece(bytes: &[u8], piece: Piece) -> Option<&[u8]>
-    ensures { option_copied result ≡ behind_piece piece bytes.now }
-{
-    match piece {
-        Digits => match count_digits(bytes) {
-            0 => None,
-            count => Some(&bytes[count..]),
-        },
-        Notes => {
-            let count = count_notes(bytes);
-            if count > MOST_NOTES {
-                return None;
-            }
-            Some(&bytes[count..])
-        }
-        _ => behind_byte(bytes, piece),
-    }
-}
-
-/// Whether the bytes begin with the pieces, one after the other.
-fn begins_with_form(bytes: &[u8], pieces: &[Piece]) -> bool
-    ensures { result ≡ begins_with_form pieces.now bytes.now }
-{
-    let mut rest = bytes;
-    for piece in pieces {
-        let Some(behind) = behind_piece(rest, *piece) else {
-            return false;
-        };
-        rest = behind;
-    }
-    true
-}
 
 /// The first form that the bytes begin with.
 fn known_form(bytes: &[u8]) -> Option<Known>

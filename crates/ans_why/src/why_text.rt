@@ -1,67 +1,30 @@
 //! The text of `why`.
-ghost use Rattle.std.specs.Prelude.{◌≡◌, ◌++◌, ◌==◌, [], codes, decimal, if◌then◌else◌};
-ghost use Rattle.std.specs.List.{flat_map};
+ghost use Rattle.std.specs.Prelude.{◌≡◌, ◌++◌, [], codes, decimal, if◌then◌else◌};
 ghost use Rattle.ans_model.specs.Text.Characters.{shown_bytes};
 ghost use Rattle.ans_model.specs.Text.RecordText.{named_line};
 ghost use Rattle.ans_sauce.specs.declared.found.Found.TheVariants as found;
 ghost use Rattle.ans_sauce.specs.declared.judged.Judged.TheVariants.{NoContent};
 ghost use Rattle.ans_write.specs.Puts.{Puts};
-ghost use Rattle.ans_why.specs.WhyText.{quoted_byte, quoted, bytes_line, place_text, cell_text, shown_lines};
+ghost use Rattle.ans_report.specs.Counted.{counted_text};
+ghost use Rattle.ans_why.specs.WhyText.{bytes_line, place_text, cell_text, shown_lines};
 ghost use Rattle.ans_why.specs.WhyText.{mend_line, reliance_lines, lines_line, after_end_mark_text, enough_lines};
 ghost use Rattle.ans_why.specs.WhyText.{heading_lines, known_found, known_line, told_hints};
 ghost use Rattle.ans_walks.specs.Hints.{are_torn};
 ghost use Rattle.ans_model.specs.Text.Words.{answer_text};
-ghost use Rattle.ans_why.specs.WhyText.{counted_text, found_line, pass_lines, refusal_lines, why_text};
+ghost use Rattle.ans_why.specs.WhyText.{found_line, pass_lines, refusal_lines, why_text};
 
 use crate::hints_text::put_hints;
 use crate::known_bytes::{Known, known_behind_end_mark};
 use crate::why::{Enough, Pass, Place, RecordRefusal, Refusal, Reliance, Shown, Why};
 use ans_model::cell::Cell;
 use ans_report::{
-    answer_text, put_fault_line, put_named_line, put_needed_parts, put_notes, put_refusal,
-    put_size_line,
+    answer_text, put_counted, put_fault_line, put_named_line, put_needed_parts, put_notes,
+    put_quoted, put_refusal, put_size_line,
 };
 use ans_sauce::{Found, Judged, Parts};
 use ans_walks::Hints;
 use ans_write::{Outbox, hex_byte, put_characters};
 use std::io::Write;
-
-/// How many bytes are quoted at most.
-const QUOTED: usize = 32;
-
-fn put_quoted_byte<W: Write>(out: &mut Outbox<'_, W>, byte: u8)
-    ensures { Puts W.contents out.old out.new (quoted_byte byte) }
-{
-    match byte {
-        0x07 => out.put(b"<BEL>"),
-        0x08 => out.put(b"<BS>"),
-        b'\t' => out.put(b"<TAB>"),
-        b'\n' => out.put(b"<LF>"),
-        b'\r' => out.put(b"<CR>"),
-        0x1B => out.put(b"<ESC>"),
-        b' ' => out.put(b"<SP>"),
-        _ => put_characters(out, &[byte]),
-    }
-}
-
-fn put_quoted_bytes<W: Write>(out: &mut Outbox<'_, W>, bytes: &[u8])
-    ensures { Puts W.contents out.old out.new (flat_map quoted_byte bytes.now) }
-{
-    for byte in bytes {
-        put_quoted_byte(out, *byte);
-    }
-}
-
-fn put_quoted<W: Write>(out: &mut Outbox<'_, W>, bytes: &[u8])
-    ensures { Puts W.contents out.old out.new (quoted bytes.now) }
-{
-    if bytes.len() > QUOTED {
-        put_quoted_bytes(out, &bytes[..QUOTED]);
-        out.put(b" ..");
-        return;
-    }
-    put_quoted_bytes(out, bytes);
-}
 
 fn put_bytes_line<W: Write>(out: &mut Outbox<'_, W>, bytes: &[u8])
     ensures { Puts W.contents out.old out.new (bytes_line bytes.now) }
@@ -219,22 +182,6 @@ fn put_refused<W: Write>(out: &mut Outbox<'_, W>, parts: &Parts<'_>, refusal: &R
     put_place_line(out, b"cleared start", refusal.cursor);
     put_hints(out, &told_hints(refusal), parts.sauce().font());
     put_lines_line(out, refusal.lines, &refusal.hints);
-}
-
-fn plural(count: u64) -> &'static [u8]
-    ensures { result.now ≡ (if count == 1 then [] else codes "s") }
-{
-    if count == 1 { b"" } else { b"s" }
-}
-
-/// Puts so many of a thing, as `1 byte` and `2 bytes`.
-fn put_counted<W: Write>(out: &mut Outbox<'_, W>, count: u64, thing: &[u8])
-    ensures { Puts W.contents out.old out.new (counted_text count thing.now) }
-{
-    out.put_decimal(count);
-    out.put(b" ");
-    out.put(thing);
-    out.put(plural(count));
 }
 
 fn put_count<W: Write>(out: &mut Outbox<'_, W>, count: u64, thing: &[u8], what: &[u8])

@@ -6,14 +6,10 @@ use ans_samples::sample_file;
 use ans_sauce::MAX_FILE;
 use ans_screen::PlaneGrid;
 use std::alloc::AllocError;
+use std::process::Abort;
 
 /// Nothing but what is mended by itself.
-const ITSELF: Mends = Mends {
-    width: None,
-    lines: None,
-    least_lines: false,
-    line_ends: false,
-};
+const ITSELF: Mends = Mends::NONE;
 
 /// The least number of lines too.
 const LEAST: Mends = Mends {
@@ -31,6 +27,24 @@ const WIDTH: Mends = Mends {
 const LINE_ENDS: Mends = Mends {
     line_ends: true,
     ..ITSELF
+};
+
+/// Sequences taken out, and line ends at the very end, too.
+const TAKE_OUT: Mends = Mends {
+    take_out: true,
+    ..ITSELF
+};
+
+/// Line ends behind full rows taken out too.
+const FULL_ROWS: Mends = Mends {
+    full_rows: true,
+    ..ITSELF
+};
+
+/// Both.
+const BOTH: Mends = Mends {
+    full_rows: true,
+    ..TAKE_OUT
 };
 
 /// This number of lines too.
@@ -60,9 +74,11 @@ type Sample = (
     &'static [u8],
 );
 
-/// Files, what is asked for, whether the beginning is to stand in front, and the file behind it. The
-/// plain record states 2 columns, 1 line and a file size of 2.
-static MENDED: [(Sample, Mends, bool, Sample); 19] = [
+/// A file, what is asked for, whether the beginning is to stand in front, and the file behind it.
+type Row = (Sample, Mends, bool, Sample);
+
+/// The plain record states 2 columns, 1 line and a file size of 2.
+static MENDED: [Row; 20] = [
     // from every start already: nothing is changed
     (
         (
@@ -158,6 +174,21 @@ static MENDED: [(Sample, Mends, bool, Sample); 19] = [
             b"",
         ),
     ),
+    // a comment that is like the begin of a block
+    (
+        (
+            b"Hi\x1aCOMNTCOMNT, and what else stands in a line of sixty-four bytes.      ",
+            &[(104, b"\x01")],
+            b"",
+        ),
+        ITSELF,
+        true,
+        (
+            b"Hi\x1aCOMNTCOMNT, and what else stands in a line of sixty-four bytes.      ",
+            &[(90, b"\x15"), (104, b"\x01")],
+            b"",
+        ),
+    ),
     // what stands behind the record
     (
         (b"Hi\x1a", &[], b"\r\n\x1a\x00"),
@@ -236,8 +267,193 @@ static MENDED: [(Sample, Mends, bool, Sample); 19] = [
     ),
 ];
 
+/// Sequences that go, and line ends at the very end.
+static TAKEN_OUT: [Row; 16] = [
+    // bright backgrounds: the last switch is the flag, and the other flags stay
+    (
+        (b"\x1b[?33hHi\x1a", &[], b""),
+        TAKE_OUT,
+        true,
+        (b"Hi\x1a", &[(90, b"\x15"), (105, b"\x01")], b""),
+    ),
+    (
+        (b"\x1b[?33hHi\x1b[?33l\x1a", &[(105, b"\x0b")], b""),
+        TAKE_OUT,
+        true,
+        (b"Hi\x1a", &[(90, b"\x15"), (105, b"\x0a")], b""),
+    ),
+    (
+        (b"\x1b[?33lH\x1b[?33hi\x1a", &[(105, b"\x0a")], b""),
+        TAKE_OUT,
+        true,
+        (b"Hi\x1a", &[(90, b"\x15"), (105, b"\x0b")], b""),
+    ),
+    // other switches
+    (
+        (b"\x1b[?25lH\x1b[?12hi\x1b[?35l\x1a", &[], b""),
+        TAKE_OUT,
+        true,
+        (b"Hi\x1a", &[(90, b"\x15")], b""),
+    ),
+    // modes before anything shows
+    (
+        (b"\x1b[=3h\x1b[0m\x1b[2;5lHi\x1a", &[], b""),
+        TAKE_OUT,
+        true,
+        (b"\x1b[0mHi\x1a", &[(90, b"\x19")], b""),
+    ),
+    // a font
+    (
+        (b"H\x1b[0;40 Di\x1a", &[], b""),
+        TAKE_OUT,
+        true,
+        (b"Hi\x1a", &[(90, b"\x15")], b""),
+    ),
+    // melodies, of 11 bytes, of none and of 250
+    (
+        (b"\x1b[MFT120O3L4C#\x0eH\x1b[N\x0ei\x1a", &[], b""),
+        TAKE_OUT,
+        true,
+        (b"Hi\x1a", &[(90, b"\x15")], b""),
+    ),
+    (
+        (
+            b"H\x1b[|\
+            CDEFGABCDEFGABCDEFGABCDEFGABCDEFGABCDEFGABCDEFGABC\
+            CDEFGABCDEFGABCDEFGABCDEFGABCDEFGABCDEFGABCDEFGABC\
+            CDEFGABCDEFGABCDEFGABCDEFGABCDEFGABCDEFGABCDEFGABC\
+            CDEFGABCDEFGABCDEFGABCDEFGABCDEFGABCDEFGABCDEFGABC\
+            CDEFGABCDEFGABCDEFGABCDEFGABCDEFGABCDEFGABCDEFGABC\
+            \x0ei\x1a",
+            &[],
+            b"",
+        ),
+        TAKE_OUT,
+        true,
+        (b"Hi\x1a", &[(90, b"\x15")], b""),
+    ),
+    // colours of 24 bits behind a colour
+    (
+        (b"\x1b[0;31m\x1b[1;170;0;0t\x1b[0;0;0;0tHi\x1a", &[], b""),
+        TAKE_OUT,
+        true,
+        (b"\x1b[0;31mHi\x1a", &[(90, b"\x1c")], b""),
+    ),
+    // what is asked of the terminal
+    (
+        (b"\x1b[6nH\x1b[5n\x1b[ci\x1b[0c\x1a", &[], b""),
+        TAKE_OUT,
+        true,
+        (b"Hi\x1a", &[(90, b"\x15")], b""),
+    ),
+    // keys
+    (
+        (b"\x1b[65;\"Ha\"pH\x1b[0;59;13pi\x1a", &[], b""),
+        TAKE_OUT,
+        true,
+        (b"Hi\x1a", &[(90, b"\x15")], b""),
+    ),
+    // sequences that are not finished
+    (
+        (b"Hi\x1b[1;3\x1a", &[], b""),
+        TAKE_OUT,
+        true,
+        (b"Hi\x1a", &[(90, b"\x15")], b""),
+    ),
+    (
+        (b"Hi\x1b", &[], b""),
+        TAKE_OUT,
+        true,
+        (b"Hi\x1a", &[(90, b"\x15")], b""),
+    ),
+    // as few line ends at the end as must go
+    (
+        (b"Hi\r\n\r\n\x1a", &[], b""),
+        TAKE_OUT,
+        true,
+        (b"Hi\x1a", &[(90, b"\x15")], b""),
+    ),
+    (
+        (b"H\r\n\r\n\n\x1a", &[], b""),
+        TAKE_OUT,
+        true,
+        (b"H\r\n\x1a", &[(90, b"\x16")], b""),
+    ),
+    // and none where lines are wanted for what is left
+    (
+        (b"\x1b[?25lHi!\r\n\x1a", &[], b""),
+        Mends {
+            take_out: true,
+            ..LEAST
+        },
+        true,
+        (b"Hi!\r\n\x1a", &[(90, b"\x18"), (98, b"\x02")], b""),
+    ),
+];
+
+/// Line ends behind full rows.
+static JOINED: [Row; 7] = [
+    (
+        (b"Hi\r\nHo\r\n!!\x1a", &[(98, b"\x03")], b""),
+        FULL_ROWS,
+        true,
+        (b"HiHo!!\x1a", &[(90, b"\x19"), (98, b"\x03")], b""),
+    ),
+    // with colours between, without a return, and behind the last row too
+    (
+        (b"Hi\x1b[1m\r\x1b[0m\nHo\n!!\r\n\x1a", &[(98, b"\x03")], b""),
+        FULL_ROWS,
+        true,
+        (
+            b"Hi\x1b[1m\x1b[0mHo!!\x1a",
+            &[(90, b"\x21"), (98, b"\x03")],
+            b"",
+        ),
+    ),
+    // one alone, and a full row that has none
+    (
+        (b"Hi\r\nH\x1a", &[(98, b"\x03")], b""),
+        FULL_ROWS,
+        true,
+        (b"Hi\r\nH\x1a", &[(90, b"\x18"), (98, b"\x03")], b""),
+    ),
+    (
+        (b"HiHo\r\nHa\r\n!\x1a", &[(98, b"\x06")], b""),
+        FULL_ROWS,
+        true,
+        (b"HiHo\r\nHa\r\n!\x1a", &[(90, b"\x1e"), (98, b"\x06")], b""),
+    ),
+    // behind sequences that go, and before line ends at the very end
+    (
+        (b"Hi\r\x1b[6n\nHo\r\n!\r\n\r\n\x1a", &[(98, b"\x03")], b""),
+        BOTH,
+        true,
+        (b"HiHo!\r\n\x1a", &[(90, b"\x1a"), (98, b"\x03")], b""),
+    ),
+    // behind returns that are put
+    (
+        (b"Hi\nHo\n!\x1a", &[(98, b"\x03")], b""),
+        Mends {
+            line_ends: true,
+            ..FULL_ROWS
+        },
+        true,
+        (b"HiHo!\x1a", &[(90, b"\x18"), (98, b"\x03")], b""),
+    ),
+    // the least number of lines is that of what is left
+    (
+        (b"Hi\r\nHo\r\n!\x1a", &[(98, b"\x00")], b""),
+        Mends {
+            least_lines: true,
+            ..FULL_ROWS
+        },
+        true,
+        (b"HiHo!\x1a", &[(90, b"\x18"), (98, b"\x03")], b""),
+    ),
+];
+
 /// Files without a record, what is asked for, and the file behind the safe beginning.
-static GIVEN: [(&[u8], Mends, Sample); 4] = [
+static GIVEN: [(&[u8], Mends, Sample); 5] = [
     (
         b"Hi",
         WIDTH,
@@ -282,6 +498,18 @@ static GIVEN: [(&[u8], Mends, Sample); 4] = [
             b"",
         ),
     ),
+    (
+        b"\x1b[?33hHi",
+        Mends {
+            take_out: true,
+            ..WIDTH
+        },
+        (
+            b"Hi\x1a",
+            &[(82, b"00000000"), (90, b"\x15"), (105, b"\x01")],
+            b"",
+        ),
+    ),
 ];
 
 /// The bytes of a sample.
@@ -299,19 +527,34 @@ fn with_room(rt: &impl AllocGlobal, sample: &Sample) -> Result<(Vec<u8>, usize),
     Ok((memory, count))
 }
 
-#[test]
-fn files_are_mended(rt: HostRuntime) -> Result<(), AllocError> {
-    for (sample, mends, front, expected) in &MENDED {
-        let (mut memory, count) = with_room(&rt, sample)?;
+/// Asserts what comes of files.
+fn expect_mended(rt: &(impl Abort + AllocGlobal), rows: &[Row]) -> Result<(), AllocError> {
+    for (sample, mends, front, expected) in rows {
+        let (mut memory, count) = with_room(rt, sample)?;
         assert!(rt; count <= memory.len() && count <= MAX_FILE);
         let mut draft = Draft::new(memory.as_mut_slice(), count);
         let mut screens = NewScreens::<PlaneGrid>::new(rt.alloc());
         let answer = mend_on(&mut screens, &mut draft, mends)?;
-        assert_eq!(rt; answer.map(|mended| mended.front).ok(), Some(*front));
-        let expected = bytes_of(&rt, expected)?;
-        assert_eq!(rt; draft.file(), expected.as_slice());
+        let put = answer.map(|mended| mended.front);
+        let expected = bytes_of(rt, expected)?;
+        assert_eq!(rt; (put, draft.file()), (Ok(*front), expected.as_slice()));
     }
     Ok(())
+}
+
+#[test]
+fn files_are_mended(rt: HostRuntime) -> Result<(), AllocError> {
+    expect_mended(&rt, &MENDED)
+}
+
+#[test]
+fn sequences_are_taken_out(rt: HostRuntime) -> Result<(), AllocError> {
+    expect_mended(&rt, &TAKEN_OUT)
+}
+
+#[test]
+fn full_rows_are_joined(rt: HostRuntime) -> Result<(), AllocError> {
+    expect_mended(&rt, &JOINED)
 }
 
 #[test]
@@ -323,20 +566,18 @@ fn files_without_a_record_are_given_one(rt: HostRuntime) -> Result<(), AllocErro
         let mut draft = Draft::new(memory.as_mut_slice(), file.len());
         let mut screens = NewScreens::<PlaneGrid>::new(rt.alloc());
         let answer = mend_on(&mut screens, &mut draft, mends)?;
-        assert_eq!(rt;
-            answer
-                .map(|mended| mended.front && mended.given_record)
-                .ok(),
-            Some(true)
-        );
+        let given = answer.map(|mended| (mended.front, mended.given_record));
         let expected = bytes_of(&rt, expected)?;
-        assert_eq!(rt; draft.file(), expected.as_slice());
+        assert_eq!(rt;
+            (given, draft.file()),
+            (Ok((true, mends.width)), expected.as_slice())
+        );
     }
     Ok(())
 }
 
 /// Files, what is asked for, and why they are not mended so.
-static REFUSED: [(Sample, Mends, Unmended); 11] = [
+static REFUSED: [(Sample, Mends, Unmended); 23] = [
     ((b"Hi\x1a", &[], b"\r\n "), LEAST, refused!(134, NoRecord)),
     (
         (b"Hi\x1a", &[(5, b"01")], b""),
@@ -365,6 +606,105 @@ static REFUSED: [(Sample, Mends, Unmended); 11] = [
         (b"H\ni\n!\x1a", &[(96, b"\x09")], b""),
         LEAST,
         Unmended::Torn,
+    ),
+    // an arrow, an older record, and two drawings
+    (
+        (b"H\x1ai\x1a", &[], b""),
+        BOTH,
+        refused!(2, BytesAfterEndMark),
+    ),
+    (
+        (
+            b"Hi\x1aSAUCE00\
+            \x20                                  \
+            \x20                                       19960101\
+            \x02\x00\x00\x00\x01\x01\x02\x00\x01\x00\x00\x00\x00\x00\x00\x00\
+            \x00\x00\x00\x00\x00\x00\x00\x00\x00\x00\x00\x00\x00\x00\x00\x00\
+            \x00\x00\x00\x00\x00\x00",
+            &[],
+            b"",
+        ),
+        BOTH,
+        refused!(3, BytesAfterEndMark),
+    ),
+    (
+        (
+            b"Hi\x1aSAUCE00\
+            \x20                                  \
+            \x20                                       19960101\
+            \x02\x00\x00\x00\x01\x01\x02\x00\x01\x00\x00\x00\x00\x00\x00\x00\
+            \x00\x00\x00\x00\x00\x00\x00\x00\x00\x00\x00\x00\x00\x00\x00\x00\
+            \x00\x00\x00\x00\x00\x00Ho\x1a",
+            &[],
+            b"",
+        ),
+        BOTH,
+        refused!(3, BytesAfterEndMark),
+    ),
+    // a mode behind what is printed, and behind a clear; what stands before it is taken out
+    (
+        (b"Hi\x1b[=3h\x1a", &[], b""),
+        TAKE_OUT,
+        refused!(2, ScreenMode),
+    ),
+    (
+        (b"\x1b[=3h\x1b[2J\x1b[=3hHi\x1a", &[], b""),
+        TAKE_OUT,
+        refused!(4, ScreenMode),
+    ),
+    // too many notes, and something else among them
+    (
+        (
+            b"H\x1b[M\
+            CDEFGABCDEFGABCDEFGABCDEFGABCDEFGABCDEFGABCDEFGABC\
+            CDEFGABCDEFGABCDEFGABCDEFGABCDEFGABCDEFGABCDEFGABC\
+            CDEFGABCDEFGABCDEFGABCDEFGABCDEFGABCDEFGABCDEFGABC\
+            CDEFGABCDEFGABCDEFGABCDEFGABCDEFGABCDEFGABCDEFGABC\
+            CDEFGABCDEFGABCDEFGABCDEFGABCDEFGABCDEFGABCDEFGABC\
+            C\x0ei\x1a",
+            &[],
+            b"",
+        ),
+        TAKE_OUT,
+        refused!(1, UnknownSequence),
+    ),
+    (
+        (b"\x1b[MCDE,\x0eHi\x1a", &[], b""),
+        TAKE_OUT,
+        refused!(0, UnknownSequence),
+    ),
+    // a colour of 24 bits that is not behind a colour
+    (
+        (b"\x1b[0;31mH\x1b[1;170;0;0ti\x1a", &[], b""),
+        TAKE_OUT,
+        refused!(8, UnknownSequence),
+    ),
+    // a text that is not closed
+    (
+        (b"Hi\x1b[\"ab\x1a", &[], b""),
+        TAKE_OUT,
+        refused!(2, EndInSequence),
+    ),
+    // line ends that pass on the most lines, while none are stated, and not on the one that is then
+    (
+        (b"Hi\r\n\r\n\x1a", &[(98, b"\x00")], b""),
+        Mends {
+            take_out: true,
+            ..lines!(1)
+        },
+        refused!(3, Scrolls),
+    ),
+    // line ends before the very end
+    (
+        (b"H\r\n\r\ni\x1a", &[], b""),
+        TAKE_OUT,
+        refused!(4, Scrolls),
+    ),
+    // full rows of which one has none
+    (
+        (b"HiHo\r\nHa\r\n!\x1a", &[(98, b"\x04")], b""),
+        FULL_ROWS,
+        refused!(9, Scrolls),
     ),
     // a record that is there is not another
     (

@@ -15,7 +15,8 @@ close_gap-requires-clause-room c =
 
 pub returns-clause-returned : goal.returns-clause-returned
 returns-clause-returned c =
-    returned_front c.args.memory.now c.args.used c.args.count c.args.gap c.requires.room c.requires.within c.requires.gap
+    returned_front c.args.memory.now c.args.used c.args.count c.args.gap c.requires.room c.requires.within
+    c.requires.gap
     c.close_gap.new.memory
     (rw (c.copy_within.ensures.after ∙ from_start c.args.memory.now c.args.used c.args.gap)
     at c.close_gap.ensures.written)

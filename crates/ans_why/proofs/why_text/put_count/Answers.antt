@@ -1,5 +1,5 @@
 use Rattle.ans_write.proofs.PutsLemmas.{Puts-same, Puts-then}
-use Rattle.ans_why.specs.WhyText.{counted_text}
+use Rattle.ans_report.specs.Counted.{counted_text}
 use Rattle.ans_why.proofs.WhyLines.{found_count}
 use Rattle.ans_why.proofs.why_text.put_count.Goals as goal
 

@@ -1,6 +1,6 @@
 use Rattle.std.proofs.Common.{codes, decimal}
 use Rattle.ans_write.proofs.PutsLemmas.{Puts-same, Puts-then}
-use Rattle.ans_why.specs.WhyText.{counted_text}
+use Rattle.ans_report.specs.Counted.{counted_text}
 use Rattle.ans_why.proofs.WhyLines.{found_record}
 use Rattle.ans_why.proofs.why_text.put_record_found.Goals as goal
 

@@ -1,0 +1,26 @@
+use Rattle.std.proofs.Common.{ap, length, ◌∙◌}
+use Rattle.ans_model.specs.File.Record.{is_non_blink}
+use Rattle.ans_check.proofs.MendLemmas.{judged, split_fault}
+use Rattle.ans_check.proofs.VerdictLemmas.{content_within}
+use Rattle.ans_check.proofs.mend_judge.judge.Goals as goal
+
+pub returns-in-Some-clause-fault : goal.returns-in-Some-clause-fault
+returns-in-Some-clause-fault g c =
+    split_fault c.args.file.now c.in-Ok.parts c.in-Some.fault c.in-Ok.ensures.ok
+    (rw c.in-Some.is at c.in_ok-fault.ensures.fault)
+
+pub fault_from-requires-2 : goal.fault_from-requires-2
+fault_from-requires-2 g c = content_within c.args.file.now c.in-Ok.parts c.in-Ok.ensures.ok c.requires
+
+pub wants_mending-requires-clause-length : goal.wants_mending-requires-clause-length
+wants_mending-requires-clause-length g c =
+    content_within c.args.file.now c.in-Ok.parts c.in-Ok.ensures.ok c.requires
+
+pub returns-clause-passes : goal.returns-clause-passes
+returns-clause-passes g c =
+    judged c.args.file.now c.in-Ok.parts
+    _
+    c.in-Ok.ensures.ok
+    (rw c.in_default.is at c.in_ok-fault.ensures.fault) c.wants_mending.ensures.every c.wants_mending.ensures.wants
+    (ap length c.content.ensures) c.lines.ensures.lines
+    (c.is_non_blink.ensures ∙ ap is_non_blink c.sauce.ensures)

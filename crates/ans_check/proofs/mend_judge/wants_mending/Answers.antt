@@ -1,0 +1,16 @@
+use Rattle.std.proofs.Common.{refl}
+use Rattle.ans_sauce.specs.Parts.{content_of, size_of}
+use Rattle.ans_check.proofs.MendLemmas.{away_wants, faulty_wants}
+use Rattle.ans_check.proofs.mend_judge.wants_mending.Goals as goal
+
+pub returns-in-Some-clause-wants : goal.returns-in-Some-clause-wants
+returns-in-Some-clause-wants c = (
+  λ on. faulty_wants (size_of c.args.parts.now) (content_of c.args.parts.now) c.requires.cleared _
+      (rw c.in-Some.is at c.requires.ends),
+  λ wants. refl,
+)
+
+pub returns-in-None-clause-wants : goal.returns-in-None-clause-wants
+returns-in-None-clause-wants c =
+    away_wants (size_of c.args.parts.now) (content_of c.args.parts.now) c.requires.cleared c.clears_away.result
+    (rw (c.size.ensures, c.content.ensures) at c.clears_away.ensures) (rw c.in-None.is at c.requires.ends)

@@ -1,0 +1,5 @@
+pub mod FrontCounted
+pub mod FormEnds
+mod SomeText
+pub mod HereLemmas
+pub mod KeptSteps

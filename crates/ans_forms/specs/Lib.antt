@@ -1,0 +1,5 @@
+pub mod Pieces
+pub mod Unwanted
+pub mod Table
+pub mod Here
+pub mod Keeping

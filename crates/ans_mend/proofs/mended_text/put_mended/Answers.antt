@@ -1,0 +1,15 @@
+use Rattle.ans_write.proofs.PutsLemmas.{Puts-same, Puts-then}
+use Rattle.ans_mend.proofs.mended_text.put_mended.Goals as goal
+
+pub returns : goal.returns
+returns g c =
+    Puts-then c.put_tail_line.ensures
+    (Puts-then c.put_record_line.ensures
+    (Puts-then c.put_times_line.ensures
+    (Puts-then c.put_taken_lines.ensures
+    (Puts-then c.put_flag_line.ensures
+    (Puts-then c.put_times_line-2.ensures
+    (Puts-then c.put_times_line-3.ensures
+    (Puts-then c.put_reset_line.ensures
+    (Puts-then c.put_end_mark_line.ensures
+    (Puts-then c.put_front_line.ensures c.put_reset_line-2.ensures)))))))))

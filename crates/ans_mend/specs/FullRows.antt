@@ -1,0 +1,40 @@
+-- Line ends behind full rows, which take a row of their own where the full row has wrapped.
+use Rattle.std.specs.Prelude.{◌≡◌, ◌⊎◌, ℕ, true, List, fold, Option, None, unwrap_or, MatchBool}
+use Rattle.ans_model.specs.File.Refusals.{has_record}
+use Rattle.ans_model.specs.Screen.State.{Size}
+use Rattle.ans_model.specs.Sequence.TokenKind.{TokenKind}
+use Rattle.ans_walks.specs.Counted.{counted}
+use Rattle.ans_walks.specs.FullRowEnds.{EndsFullRows, full_row_ends, without_ends}
+use Rattle.ans_walks.specs.declared.full_row_ends.FullRowEnd.{FullRowEnd}
+use Rattle.ans_walks.specs.declared.times.Times.{Times}
+use Rattle.ans_mend.specs.Contents.{content_in, with_content}
+
+-- the offset of the return, or else of the line feed
+abbrev pub first_byte : FullRowEnd → ℕ
+first_byte e = unwrap_or e.return_at e.line_feed
+
+-- so many more, by where each begins
+abbrev pub times_with : Option Times → List FullRowEnd → Option Times
+times_with times ends = fold (λ (t : Option Times) (e : FullRowEnd). counted t true (first_byte e)) times ends
+
+-- the line ends behind the full rows of a content are taken out, so often
+pub record TakesRowEnds (z : Size) (content left : List ℕ) (times : Option Times) : Type 0 where
+  pub tokens : List TokenKind
+  pub texts : List (List ℕ)
+  pub ended : EndsFullRows z content tokens texts
+  pub left_is : left ≡ without_ends 0 (full_row_ends z tokens texts) content
+  pub times_are : times ≡ times_with None (full_row_ends z tokens texts)
+
+-- they are, where a line end stands behind every full row that something is printed behind, and there are two of these;
+-- and else nothing is
+abbrev pub AreRowEndsOut : Size → List ℕ → List ℕ → Option Times → Type 0
+AreRowEndsOut z content left times =
+    TakesRowEnds z content left times
+    ⊎ (((tokens : List TokenKind) (texts : List (List ℕ)) → ¬ EndsFullRows z content tokens texts)
+    × (left ≡ content) × (times ≡ None))
+
+-- the same of the content of a file that has a record
+abbrev pub HasFullRows : Size → List ℕ → List ℕ → Option Times → Type 0
+HasFullRows z file new times = MatchBool (has_record file)
+    ((left : List ℕ) × AreRowEndsOut z (content_in file) left times × (new ≡ with_content left file))
+    ((new ≡ file) × (times ≡ None))

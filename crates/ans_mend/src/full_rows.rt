@@ -1,0 +1,116 @@
+//! Line ends behind full rows that are taken out.
+
+ghost use Rattle.std.specs.Prelude.{◌≡◌, ◌+◌, ◌-◌, ◌≤◌, ◌<◌, ◌++◌, ℕ, List, length, take, drop, true};
+ghost use Rattle.ans_model.specs.Bytes.{longest_file};
+ghost use Rattle.ans_walks.specs.Counted.{count_of, counted};
+ghost use Rattle.ans_walks.specs.FullRowEnds.{AreEndsOver, StandsBetween, bytes_of, without, without_ends};
+ghost use Rattle.ans_walks.specs.declared.full_row_ends.FullRowEnd.{FullRowEnd};
+ghost use Rattle.ans_mend.specs.Drafts.{memory_of};
+ghost use Rattle.ans_mend.specs.FullRows.{HasFullRows, first_byte, times_with};
+
+use crate::draft::Draft;
+use crate::keeping::keep;
+use crate::line_ends::content_of;
+use ans_model::size::Size;
+use ans_walks::{FullRowEnd, RowPlay, Times, ends_full_rows};
+
+/// What was taken out, how often, and how many bytes are left of those that were looked at.
+#[derive(Clone, Copy)]
+struct Left {
+    times: Option<Times>,
+    count: usize,
+}
+
+fn first_byte(end: &FullRowEnd) -> usize
+    ensures { result ≡ first_byte end.now }
+{
+    end.return_at.unwrap_or(end.line_feed)
+}
+
+/// One time more, at this offset.
+pub(crate) fn once_more(times: Option<Times>, offset: usize) -> Option<Times>
+    requires { count_of times ≤ longest_file }
+    ensures { result ≡ counted times true offset }
+{
+    match times {
+        None => Some(Times {
+            count: 1,
+            first: offset,
+        }),
+        Some(times) => Some(Times {
+            count: times.count + 1,
+            first: times.first,
+        }),
+    }
+}
+
+/// Takes a line end out: the bytes from an offset up to it are moved behind the first ones, whose number
+/// is given. Returns how many there are then.
+fn take_out_end(memory: &mut [u8], count: usize, from: usize, end: &FullRowEnd) -> usize
+    requires behind { count ≤ from }
+    requires stands { StandsBetween from end.now.return_at end.now.line_feed }
+    requires within { end.now.line_feed < length memory.old }
+    ensures few { result ≤ end.now.line_feed }
+    ensures same_length { length memory.new ≡ length memory.old }
+    ensures kept { take result memory.new ≡ take count memory.old
+        ++ without from (bytes_of end.now) (take (end.now.line_feed + 1 - from) (drop from memory.old)) }
+    ensures left { drop (end.now.line_feed + 1) memory.new ≡ drop (end.now.line_feed + 1) memory.old }
+{
+    match end.return_at {
+        None => keep(memory, count, from, end.line_feed),
+        Some(at) => {
+            let kept = keep(memory, count, from, at);
+            keep(memory, kept, at + 1, end.line_feed)
+        }
+    }
+}
+
+/// Takes the line ends behind full rows out of the first `count` bytes, which a play is to go over.
+fn take_out_ends(memory: &mut [u8], count: usize, mut rows: RowPlay) -> Left
+    requires within { count ≤ length memory.old }
+    requires limit { count ≤ longest_file }
+    requires begins { rows.played ≡ 0 }
+    ensures few { result.count ≤ count }
+    ensures same_length { length memory.new ≡ length memory.old }
+    ensures left { (ends : List FullRowEnd) → AreEndsOver rows (take count memory.old) ends
+        → take result.count memory.new ≡ without_ends 0 ends (take count memory.old) }
+    ensures times { (ends : List FullRowEnd) → AreEndsOver rows (take count memory.old) ends
+        → result.times ≡ times_with None ends }
+    ensures behind { drop count memory.new ≡ drop count memory.old }
+{
+    let mut kept = 0;
+    let mut read = 0;
+    let mut times = None;
+    'ends: while let Some(end) = rows.next_end(&memory[read..count]) {
+        times = once_more(times, first_byte(&end));
+        kept = take_out_end(memory, kept, read, &end);
+        read = rows.played;
+    }
+    Left {
+        times,
+        count: keep(memory, kept, read, count),
+    }
+}
+
+impl<'a> Draft<'a> {
+    /// Takes the line ends behind full rows out of the content of a file that has a record, in the play
+    /// from the cleared start on a screen of this size: where a line end stands behind every full row that
+    /// something is printed behind, and there are two of these. Behind a full row the cursor stands in the
+    /// next row already, so a line end there makes an empty one. Returns how many line ends, and the offset of
+    /// the first, in bytes from the file's start.
+    pub fn take_out_row_ends(&mut self, size: Size) -> Option<Times>
+        requires { length self.old.file ≤ longest_file }
+        ensures file { HasFullRows size self.old.file self.new.file result }
+        ensures no_longer { length self.new.file ≤ length self.old.file }
+        ensures memory { memory_of self.new ≡ memory_of self.old }
+    {
+        let content = content_of(self.file())?;
+        let count = content.len();
+        if !ends_full_rows(size, content) {
+            return None;
+        }
+        let left = take_out_ends(self.memory, count, RowPlay::new(size));
+        self.used = keep(self.memory, left.count, count, self.used);
+        left.times
+    }
+}

@@ -1,0 +1,206 @@
+//! What mending says: what was changed, or why there is none.
+ghost use Rattle.std.specs.Prelude.{◌≡◌};
+ghost use Rattle.std.specs.List.{flat_map};
+ghost use Rattle.ans_mend.specs.MendedText.{at_text, end_mark_line, flag_line, front_line, help_text, mended_text};
+ghost use Rattle.ans_mend.specs.MendedText.{quoted_excerpt, record_line, reset_line, tail_line, taken_line};
+ghost use Rattle.ans_mend.specs.MendedText.{times_line, unmended_text};
+ghost use Rattle.ans_write.specs.Puts.{Puts};
+
+use crate::outcome::{Mended, NonBlink, Reset, Unmended};
+use crate::taking_out::{Excerpt, TakenOut};
+use ans_model::fault::Cause;
+use ans_report::{put_counted, put_fault_line, put_quoted_bytes, put_times};
+use ans_walks::Times;
+use ans_write::Outbox;
+use std::io::Write;
+
+fn put_at<W: Write>(out: &mut Outbox<'_, W>, times: &Times)
+    ensures { Puts W.contents out.old out.new (at_text times.now) }
+{
+    if times.count == 1 {
+        out.put(b" at ");
+        out.put_decimal(times.first as u64);
+        return;
+    }
+    out.put(b", ");
+    put_times(out, times.count, times.first);
+}
+
+fn put_times_line<W: Write>(out: &mut Outbox<'_, W>, what: &[u8], times: &Option<Times>)
+    ensures { Puts W.contents out.old out.new (times_line what.now times.now) }
+{
+    if let Some(times) = times {
+        out.put(what);
+        put_at(out, times);
+        out.put(b"\n");
+    }
+}
+
+fn put_excerpt<W: Write>(out: &mut Outbox<'_, W>, text: &Excerpt)
+    ensures { Puts W.contents out.old out.new (quoted_excerpt text.now) }
+{
+    put_quoted_bytes(out, &text.bytes[..text.length.min(32)]);
+    if text.length > 32 {
+        out.put(b" ..");
+    }
+}
+
+fn put_taken_line<W: Write>(out: &mut Outbox<'_, W>, taken: &Option<TakenOut>)
+    ensures { Puts W.contents out.old out.new (taken_line taken.now) }
+{
+    if let Some(taken) = taken {
+        out.put(b"took out ");
+        put_excerpt(out, &taken.text);
+        put_at(out, &taken.times);
+        out.put(b"\n");
+    }
+}
+
+fn put_taken_lines<W: Write>(out: &mut Outbox<'_, W>, kinds: &[Option<TakenOut>])
+    ensures { Puts W.contents out.old out.new (flat_map taken_line kinds.now) }
+{
+    for taken in kinds {
+        put_taken_line(out, taken);
+    }
+}
+
+fn put_tail_line<W: Write>(out: &mut Outbox<'_, W>, count: usize)
+    ensures { Puts W.contents out.old out.new (tail_line count) }
+{
+    if count == 0 {
+        return;
+    }
+    out.put(b"cut ");
+    put_counted(out, count as u64, b"byte");
+    out.put(b" behind the record\n");
+}
+
+fn put_record_line<W: Write>(out: &mut Outbox<'_, W>, width: Option<u16>)
+    ensures { Puts W.contents out.old out.new (record_line width) }
+{
+    if let Some(width) = width {
+        out.put(b"put a record of ");
+        put_counted(out, u64::from(width), b"column");
+        out.put(b"\n");
+    }
+}
+
+fn put_flag_line<W: Write>(out: &mut Outbox<'_, W>, flag: &NonBlink)
+    ensures { Puts W.contents out.old out.new (flag_line flag.now.was flag.now.is) }
+{
+    match (flag.was, flag.is) {
+        (false, true) => out.put(b"set the non-blink flag\n"),
+        (true, false) => out.put(b"cleared the non-blink flag\n"),
+        _ => {}
+    }
+}
+
+fn put_reset_line<W: Write>(out: &mut Outbox<'_, W>, what: &[u8], number: &Reset)
+    ensures { Puts W.contents out.old out.new (reset_line what.now number.now) }
+{
+    if number.was == number.is {
+        return;
+    }
+    out.put(what);
+    out.put_decimal(u64::from(number.is));
+    out.put(b", was ");
+    out.put_decimal(u64::from(number.was));
+    out.put(b"\n");
+}
+
+fn put_end_mark_line<W: Write>(out: &mut Outbox<'_, W>, place: Option<usize>)
+    ensures { Puts W.contents out.old out.new (end_mark_line place) }
+{
+    if let Some(place) = place {
+        out.put(b"put an end mark at ");
+        out.put_decimal(place as u64);
+        out.put(b"\n");
+    }
+}
+
+fn put_front_line<W: Write>(out: &mut Outbox<'_, W>, front: bool)
+    ensures { Puts W.contents out.old out.new (front_line front) }
+{
+    if front {
+        out.put(b"put 19 bytes in front\n");
+    }
+}
+
+/// Puts what was changed of a file that is mended, a line for each kind of change, in the order in which it
+/// is mended.
+pub fn put_mended<W: Write>(out: &mut Outbox<'_, W>, mended: &Mended)
+    ensures { Puts W.contents out.old out.new (mended_text mended.now) }
+{
+    put_tail_line(out, mended.tail);
+    put_record_line(out, mended.given_record);
+    put_times_line(
+        out,
+        b"put a return before a line feed",
+        &mended.edits.returns,
+    );
+    put_taken_lines(out, &mended.edits.told.kinds);
+    put_flag_line(out, &mended.non_blink);
+    put_times_line(
+        out,
+        b"took out a line end behind a full row",
+        &mended.edits.row_ends,
+    );
+    put_times_line(
+        out,
+        b"took out a line end at the end",
+        &mended.edits.last_ends,
+    );
+    put_reset_line(out, b"lines ", &mended.lines);
+    put_end_mark_line(out, mended.end_mark);
+    put_front_line(out, mended.front);
+    put_reset_line(out, b"file size ", &mended.file_size);
+}
+
+fn help_text(cause: &Cause) -> &'static [u8]
+    ensures { result.now ≡ help_text cause.now }
+{
+    match cause {
+        Cause::NoRecord => b"help: --width N gives a drawing without a record one for N columns\n",
+        Cause::LinesUnstated => {
+            b"help: --least-lines states the least number of lines that is enough\n"
+        }
+        Cause::BrokenSequence
+        | Cause::NumberTooLarge
+        | Cause::TooManyParameters
+        | Cause::EndInSequence
+        | Cause::UnknownSequence
+        | Cause::WrongParameters
+        | Cause::KeyReassigned
+        | Cause::ScreenMode
+        | Cause::ReportAsked => b"help: --take-out takes out what is known of such sequences\n",
+        Cause::OutsideScreen | Cause::PrintBelow | Cause::Scrolls => {
+            b"help: --line-ends, --full-rows, --take-out or --least-lines, as why says\n"
+        }
+        _ => b"help: why shows the place, and help tells of the fault\n",
+    }
+}
+
+/// Why there is none where the rows are torn.
+const TORN: &[u8] = b"the rows are torn\n\
+    help: --line-ends or --full-rows, as why says; or --lines N\n";
+
+/// Why there is none where no number of lines is enough.
+const NO_LINES: &[u8] = b"no number of lines up to 8192 is enough\nhelp: why shows the place\n";
+
+/// Why there is none where the file would be too long.
+const TOO_LONG: &[u8] = b"the file would be longer than 16777216 bytes\n";
+
+/// Puts why a file is not mended, and what may help: the line of a fault as `check` has it, or the reason.
+pub fn put_unmended<W: Write>(out: &mut Outbox<'_, W>, reason: &Unmended)
+    ensures { Puts W.contents out.old out.new (unmended_text reason.now) }
+{
+    match reason {
+        Unmended::Refused(fault) => {
+            put_fault_line(out, fault);
+            out.put(help_text(&fault.cause));
+        }
+        Unmended::Torn => out.put(TORN),
+        Unmended::NoLines => out.put(NO_LINES),
+        Unmended::TooLong => out.put(TOO_LONG),
+    }
+}

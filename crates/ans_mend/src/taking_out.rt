@@ -1,0 +1,199 @@
+//! Sequences that are taken out of a drawing.
+
+ghost use Rattle.std.specs.Prelude.{◌≡◌, ◌≤◌, ℕ, List, length, take, drop, IfSome};
+ghost use Rattle.ans_model.specs.Bytes.{longest_file};
+ghost use Rattle.ans_mend.specs.Drafts.{draft_of, memory_of};
+ghost use Rattle.ans_forms.specs.declared.kinds.TheConstants.Before as before;
+ghost use Rattle.ans_mend.specs.TakingOut.{AreTakenOut, CountsWithin, Gone, TakesOut, excerpt_of, gone_at, index_of};
+ghost use Rattle.ans_mend.specs.TakingOut.{flagged, is_on, nothing_told, one_more, switched, told_of, told_with};
+
+use crate::draft::Draft;
+use crate::keeping::keep;
+use crate::line_ends::content_of;
+use ans_forms::{Before, Unwanted, next_unwanted};
+use ans_walks::Times;
+
+/// The first bytes of a text.
+#[derive(Debug, Clone, Copy, PartialEq, Eq)]
+pub struct Excerpt {
+    /// The first 32 bytes of the text, or all of it and zero bytes.
+    pub bytes: [u8; 32],
+    /// How many bytes the text has.
+    pub length: usize,
+}
+
+/// The sequences of one kind that were taken out.
+#[derive(Debug, Clone, Copy, PartialEq, Eq)]
+pub struct TakenOut {
+    /// How many, and the offset of the first, in bytes from the file's start, as it was before any was
+    /// taken out.
+    pub times: Times,
+    /// The first of them.
+    pub text: Excerpt,
+}
+
+/// What is told of the sequences that were taken out.
+#[derive(Debug, Clone, Copy, PartialEq, Eq)]
+pub struct Told {
+    /// Those of each kind, in the order of the kinds.
+    pub kinds: [Option<TakenOut>; 9],
+    /// Whether the last switch for bright backgrounds was on, if there was one.
+    pub bright_backgrounds: Option<bool>,
+}
+
+fn index_of(kind: Unwanted) -> usize
+    ensures { result ≡ index_of kind }
+{
+    match kind {
+        Unwanted::BrightBackgrounds => 0,
+        Unwanted::Switch => 1,
+        Unwanted::Mode => 2,
+        Unwanted::FontSelection => 3,
+        Unwanted::Music => 4,
+        Unwanted::TrueColour => 5,
+        Unwanted::Report => 6,
+        Unwanted::ReassignedKey => 7,
+        Unwanted::Unfinished => 8,
+    }
+}
+
+fn excerpt_of(text: &[u8]) -> Excerpt
+    ensures { result ≡ excerpt_of text.now }
+{
+    let count = text.len().min(32);
+    let mut bytes = [0; 32];
+    bytes[..count].copy_from_slice(&text[..count]);
+    Excerpt {
+        bytes,
+        length: text.len(),
+    }
+}
+
+fn one_more(taken: Option<TakenOut>, kind: Unwanted, place: usize, text: &[u8]) -> TakenOut
+    requires { IfSome taken (λ t. t.times.count ≤ longest_file) }
+    ensures { result ≡ one_more taken (gone_at kind place text.now) }
+{
+    match taken {
+        None => TakenOut {
+            times: Times {
+                count: 1,
+                first: place,
+            },
+            text: excerpt_of(text),
+        },
+        Some(taken) => TakenOut {
+            times: Times {
+                count: taken.times.count + 1,
+                first: taken.times.first,
+            },
+            text: taken.text,
+        },
+    }
+}
+
+/// Whether a switch is on: with an `h`.
+fn is_on(text: &[u8]) -> bool
+    ensures { result ≡ is_on text.now }
+{
+    matches!(text, [_, _, _, _, _, b'h', ..])
+}
+
+fn switched(on: Option<bool>, kind: Unwanted, text: &[u8]) -> Option<bool>
+    ensures { (place : ℕ) → result ≡ switched on (gone_at kind place text.now) }
+{
+    match kind {
+        Unwanted::BrightBackgrounds => Some(is_on(text)),
+        _ => on,
+    }
+}
+
+impl Told {
+    /// Before the first sequence.
+    pub fn nothing() -> Told
+        ensures { result ≡ nothing_told }
+    {
+        Told {
+            kinds: [None; 9],
+            bright_backgrounds: None,
+        }
+    }
+
+    /// One sequence more, which stands at this offset.
+    fn count(&mut self, kind: Unwanted, place: usize, text: &[u8])
+        requires { CountsWithin self.old longest_file }
+        ensures { self.new ≡ told_with self.old (gone_at kind place text.now) }
+    {
+        let index = index_of(kind);
+        let taken = one_more(self.kinds[index], kind, place, text);
+        self.kinds[index] = Some(taken);
+        self.bright_backgrounds = switched(self.bright_backgrounds, kind, text);
+    }
+}
+
+/// What is told of the sequences that were taken out, and how many bytes are left of those that were looked
+/// at.
+#[derive(Clone, Copy)]
+struct Left {
+    told: Told,
+    count: usize,
+}
+
+/// Takes sequences out of the first `count` bytes.
+fn take_out_sequences(memory: &mut [u8], count: usize) -> Left
+    requires within { count ≤ length memory.old }
+    requires limit { count ≤ longest_file }
+    ensures few { result.count ≤ count }
+    ensures same_length { length memory.new ≡ length memory.old }
+    ensures left { (gone : List Gone) × TakesOut before.NOTHING 0 gone (take count memory.old)
+        (take result.count memory.new) × (result.told ≡ told_of gone) }
+    ensures behind { drop count memory.new ≡ drop count memory.old }
+{
+    let mut before = Before::NOTHING;
+    let mut kept = 0;
+    let mut read = 0;
+    let mut told = Told::nothing();
+    'sequences: while let Some(going) = next_unwanted(&memory[read..count], &mut before) {
+        let place = read + going.place;
+        let end = place + going.length;
+        told.count(going.kind, place, &memory[place..end]);
+        kept = keep(memory, kept, read, place);
+        read = end;
+    }
+    Left {
+        told,
+        count: keep(memory, kept, read, count),
+    }
+}
+
+impl<'a> Draft<'a> {
+    /// Sets the non-blink flag of the record as a switch for bright backgrounds says, if there was one.
+    fn state_switch(&mut self, on: Option<bool>)
+        requires { 128 ≤ length self.old.file }
+        ensures draft { self.new ≡ draft_of (flagged on self.old.file) self.old.room }
+        ensures memory { memory_of self.new ≡ memory_of self.old }
+    {
+        if let Some(on) = on {
+            self.state_non_blink(on);
+        }
+    }
+
+    /// Takes sequences out of the content of a file that has a record, those that `ans_forms` names, where
+    /// they are refused: the content is read token by token up to what is refused, and goes on behind it if
+    /// it is one of these. What the last switch for bright backgrounds says becomes the record's non-blink
+    /// flag. Returns what is told of them; offsets are in bytes from the file's start, as it was before.
+    pub fn take_out(&mut self) -> Told
+        requires { length self.old.file ≤ longest_file }
+        ensures file { AreTakenOut self.old.file self.new.file result }
+        ensures no_longer { length self.new.file ≤ length self.old.file }
+        ensures memory { memory_of self.new ≡ memory_of self.old }
+    {
+        let Some(content) = content_of(self.file()) else {
+            return Told::nothing();
+        };
+        let count = content.len();
+        let left = take_out_sequences(self.memory, count);
+        self.used = keep(self.memory, left.count, count, self.used);
+        self.state_switch(left.told.bright_backgrounds);
+        left.told
+    }
+}

@@ -1,0 +1,340 @@
+//! What mending says, byte for byte.
+use ans_mend::{
+    Edits, Excerpt, Mended, NonBlink, Reset, TakenOut, Told, Unmended, put_mended, put_unmended,
+};
+use ans_model::fault::{Cause, Fault};
+use ans_samples::puts;
+use ans_walks::Times;
+
+/// Of a file that is mended nothing was changed.
+const UNCHANGED: Mended = Mended {
+    tail: 0,
+    given_record: None,
+    edits: Edits {
+        returns: None,
+        told: Told {
+            kinds: [None; 9],
+            bright_backgrounds: None,
+        },
+        row_ends: None,
+        last_ends: None,
+    },
+    non_blink: NonBlink {
+        was: true,
+        is: true,
+    },
+    lines: Reset { was: 25, is: 25 },
+    end_mark: None,
+    front: false,
+    file_size: Reset { was: 2, is: 2 },
+};
+
+fn times(count: usize, first: usize) -> Option<Times> {
+    Some(Times { count, first })
+}
+
+/// A sequence that was taken out. The bytes behind its own are none of it.
+fn taken(text: &[u8], count: usize, first: usize) -> Option<TakenOut> {
+    let mut bytes = [b'?'; 32];
+    let length = text.len().min(32);
+    bytes[..length].copy_from_slice(&text[..length]);
+    Some(TakenOut {
+        times: Times { count, first },
+        text: Excerpt {
+            bytes,
+            length: text.len(),
+        },
+    })
+}
+
+/// Each change, once.
+fn changed_once() -> Mended {
+    let told = Told {
+        kinds: [
+            taken(b"\x1b[?33h", 1, 0),
+            None,
+            None,
+            None,
+            None,
+            None,
+            None,
+            None,
+            None,
+        ],
+        bright_backgrounds: Some(true),
+    };
+    Mended {
+        tail: 1,
+        given_record: Some(1),
+        edits: Edits {
+            returns: times(1, 4),
+            told,
+            row_ends: times(1, 2),
+            last_ends: times(1, 7),
+        },
+        non_blink: NonBlink {
+            was: false,
+            is: true,
+        },
+        lines: Reset { was: 1, is: 2 },
+        end_mark: Some(9),
+        front: true,
+        file_size: Reset { was: 0, is: 28 },
+    }
+}
+
+const SAID_ONCE: &[u8] = b"cut 1 byte behind the record\n\
+    put a record of 1 column\n\
+    put a return before a line feed at 4\n\
+    took out <ESC>[?33h at 0\n\
+    set the non-blink flag\n\
+    took out a line end behind a full row at 2\n\
+    took out a line end at the end at 7\n\
+    lines 2, was 1\n\
+    put an end mark at 9\n\
+    put 19 bytes in front\n\
+    file size 28, was 0\n";
+
+/// Changes, several times each, with texts of 32 bytes and of more.
+fn changed_often() -> Mended {
+    let told = Told {
+        kinds: [
+            None,
+            taken(b"\x1b[?25l", 2, 5),
+            taken(b"\x1b[=3h", 1, 0),
+            taken(b"\x1b[0;40 D", 3, 17),
+            taken(b"\x1b[MCDEFGABCDEFGABCDEFGABCDEFGAB\x0e", 1, 30),
+            taken(b"\x1b[0;171;0;0t", 999, 70),
+            taken(b"\x1b[6n", 1, 16777215),
+            taken(b"\x1b[65;\"\x07\x08\t\n\r and what else is typed\"p", 4, 80),
+            taken(b"\x1b", 1, 131),
+        ],
+        bright_backgrounds: None,
+    };
+    Mended {
+        tail: 2,
+        given_record: Some(1024),
+        edits: Edits {
+            returns: times(2, 4),
+            told,
+            row_ends: times(24, 81),
+            last_ends: times(3, 1999),
+        },
+        non_blink: NonBlink {
+            was: true,
+            is: false,
+        },
+        lines: Reset { was: 0, is: 8192 },
+        end_mark: Some(16777215),
+        front: false,
+        file_size: Reset {
+            was: 4294967295,
+            is: 0,
+        },
+    }
+}
+
+const SAID_OFTEN: &[u8] = b"cut 2 bytes behind the record\n\
+    put a record of 1024 columns\n\
+    put a return before a line feed, 2 times, first at 4\n\
+    took out <ESC>[?25l, 2 times, first at 5\n\
+    took out <ESC>[=3h at 0\n\
+    took out <ESC>[0;40<SP>D, 3 times, first at 17\n\
+    took out <ESC>[MCDEFGABCDEFGABCDEFGABCDEFGAB\xe2\x99\xab at 30\n\
+    took out <ESC>[0;171;0;0t, 999 times, first at 70\n\
+    took out <ESC>[6n at 16777215\n\
+    took out <ESC>[65;\"<BEL><BS><TAB><LF><CR><SP>and<SP>what<SP>else<SP>is<SP>typ .., 4 times, first at 80\n\
+    took out <ESC> at 131\n\
+    cleared the non-blink flag\n\
+    took out a line end behind a full row, 24 times, first at 81\n\
+    took out a line end at the end, 3 times, first at 1999\n\
+    lines 8192, was 0\n\
+    put an end mark at 16777215\n\
+    file size 0, was 4294967295\n";
+
+#[test]
+fn changes_are_said(rt: HostRuntime) {
+    for (mended, text) in [
+        (changed_once(), SAID_ONCE),
+        (changed_often(), SAID_OFTEN),
+        (UNCHANGED, b""),
+    ] {
+        assert!(rt;
+            puts(text, |out| put_mended(out, &mended)),
+            "{}",
+            mended.tail
+        );
+    }
+}
+
+/// A fault, and what is said of it: its line, and what may help.
+macro_rules! refused {
+    (record, $offset:literal, $cause:expr, $line:literal) => {
+        refused!($offset, $cause, concat!($line, "\nhelp: --width N gives a drawing without a record one for N columns\n"))
+    };
+    (lines, $offset:literal, $cause:expr, $line:literal) => {
+        refused!($offset, $cause, concat!($line, "\nhelp: --least-lines states the least number of lines that is enough\n"))
+    };
+    (take_out, $offset:literal, $cause:expr, $line:literal) => {
+        refused!($offset, $cause, concat!($line, "\nhelp: --take-out takes out what is known of such sequences\n"))
+    };
+    (rows, $offset:literal, $cause:expr, $line:literal) => {
+        refused!($offset, $cause, concat!($line, "\nhelp: --line-ends, --full-rows, --take-out or --least-lines, as why says\n"))
+    };
+    (other, $offset:literal, $cause:expr, $line:literal) => {
+        refused!($offset, $cause, concat!($line, "\nhelp: why shows the place, and help tells of the fault\n"))
+    };
+    ($offset:literal, $cause:expr, $text:expr) => {
+        (Unmended::Refused(Fault { offset: $offset, cause: $cause }), $text)
+    };
+}
+
+/// Why a file is not mended, and what is said.
+static REASONS: [(Unmended, &str); 27] = [
+    refused!(
+        record,
+        16777216,
+        Cause::NoRecord,
+        "at 16777216: F1 no SAUCE record"
+    ),
+    refused!(
+        other,
+        8,
+        Cause::WrongVersion,
+        "at 8: F2 SAUCE version is not 00"
+    ),
+    refused!(other, 97, Cause::WrongKind, "at 97: F3 not Character/ANSi"),
+    refused!(
+        other,
+        107,
+        Cause::CommentsMissing,
+        "at 107: F4 comment block missing"
+    ),
+    refused!(
+        lines,
+        101,
+        Cause::LinesUnstated,
+        "at 101: F5 number of lines not stated"
+    ),
+    refused!(
+        other,
+        99,
+        Cause::WidthTooLarge,
+        "at 99: F6 width above 1024"
+    ),
+    refused!(
+        other,
+        101,
+        Cause::LinesTooLarge,
+        "at 101: F7 lines above 8192"
+    ),
+    refused!(
+        other,
+        3,
+        Cause::BytesAfterEndMark,
+        "at 3: F8 bytes after the end mark"
+    ),
+    refused!(
+        take_out,
+        0,
+        Cause::BrokenSequence,
+        "at 0: F9 broken sequence"
+    ),
+    refused!(
+        take_out,
+        1,
+        Cause::NumberTooLarge,
+        "at 1: F10 number above 255"
+    ),
+    refused!(
+        take_out,
+        2,
+        Cause::TooManyParameters,
+        "at 2: F11 more than 16 parameters"
+    ),
+    refused!(
+        take_out,
+        3,
+        Cause::EndInSequence,
+        "at 3: F12 content ends in a sequence"
+    ),
+    refused!(
+        take_out,
+        4,
+        Cause::UnknownSequence,
+        "at 4: F13 unknown sequence"
+    ),
+    refused!(
+        take_out,
+        5,
+        Cause::WrongParameters,
+        "at 5: F14 wrong parameters"
+    ),
+    refused!(
+        take_out,
+        6,
+        Cause::KeyReassigned,
+        "at 6: F15 key reassigned"
+    ),
+    refused!(take_out, 7, Cause::ScreenMode, "at 7: F16 screen mode set"),
+    refused!(
+        take_out,
+        8,
+        Cause::ReportAsked,
+        "at 8: F17 cursor report asked"
+    ),
+    refused!(
+        rows,
+        9,
+        Cause::OutsideScreen,
+        "at 9: F19 place outside the screen"
+    ),
+    refused!(
+        rows,
+        10,
+        Cause::PrintBelow,
+        "at 10: F20 print below the stated lines"
+    ),
+    refused!(rows, 11, Cause::Scrolls, "at 11: F21 scrolls"),
+    refused!(
+        other,
+        12,
+        Cause::PrintUnknownPlace,
+        "at 12: F22 print at an unknown place"
+    ),
+    refused!(
+        other,
+        13,
+        Cause::EraseUnknownPlace,
+        "at 13: F23 erase at an unknown place"
+    ),
+    refused!(other, 14, Cause::MayScroll, "at 14: F24 may scroll"),
+    refused!(
+        other,
+        15,
+        Cause::UnknownCell { row: 1, col: 2 },
+        "at 15: F25 cell stays unknown (row 1, column 2)"
+    ),
+    (
+        Unmended::Torn,
+        "the rows are torn\nhelp: --line-ends or --full-rows, as why says; or --lines N\n",
+    ),
+    (
+        Unmended::NoLines,
+        "no number of lines up to 8192 is enough\nhelp: why shows the place\n",
+    ),
+    (
+        Unmended::TooLong,
+        "the file would be longer than 16777216 bytes\n",
+    ),
+];
+
+#[test]
+fn reasons_are_said(rt: HostRuntime) {
+    for (reason, text) in &REASONS {
+        assert!(rt;
+            puts(text.as_bytes(), |out| put_unmended(out, reason)),
+            "{text}"
+        );
+    }
+}

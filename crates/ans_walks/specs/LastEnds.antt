@@ -1,0 +1,44 @@
+-- Line ends at the very end of a content, of which some may have to go.
+use Rattle.std.specs.Prelude.{◌≡◌, ℕ, ◌+◌, ◌-◌, ◌<◌, ◌≤◌, Bool, false, ◌&&◌, ◌||◌, ◌==◌, List, [], ◌∷◌, length, take}
+use Rattle.std.specs.Prelude.{drop}
+use Rattle.std.specs.Prelude.{IsTrue, slice_index, if◌then◌else◌}
+use Rattle.std.specs.List.{list_all}
+use Rattle.ans_model.specs.Screen.State.{Size}
+use Rattle.ans_model.specs.Screen.StartClass.{all_known}
+use Rattle.ans_model.specs.Verdict.Good.{IsGood}
+
+-- a line feed or a return
+abbrev pub is_line_end : ℕ → Bool
+is_line_end b = b == 0x0A || b == 0x0D
+
+-- a return stands before the offset, and its line feed behind it
+abbrev pub splits_line_end : List ℕ → ℕ → Bool
+splits_line_end bytes at = slice_index bytes (at - 1) == 0x0D && slice_index bytes at == 0x0A
+
+-- So many of the first bytes stay. What goes is line feeds and returns, and no return stays whose line feed goes.
+pub record LeavesOutEnds (bytes : List ℕ) (count : ℕ) : Type 0 where
+  pub within : count ≤ length bytes
+  pub ends : IsTrue (list_all is_line_end (drop count bytes))
+  pub whole : splits_line_end bytes count ≡ false
+
+-- they pass from the cleared start
+abbrev pub FrontPasses : Size → List ℕ → ℕ → Type 0
+FrontPasses z bytes count = IsGood z all_known (take count bytes)
+
+-- As few line ends go as must for what is left to pass from the cleared start.
+pub record LeavesMost (z : Size) (bytes : List ℕ) (count : ℕ) : Type 0 where
+  pub leaves : LeavesOutEnds bytes count
+  pub passes : FrontPasses z bytes count
+  pub most : (more : ℕ) → count < more → LeavesOutEnds bytes more → ¬ FrontPasses z bytes more
+
+-- It does not pass, however many of them go.
+abbrev pub NeverPasses : Size → List ℕ → Type 0
+NeverPasses z bytes = (count : ℕ) → LeavesOutEnds bytes count → ¬ FrontPasses z bytes count
+
+-- how many line ends the bytes are, behind this one: a return, a line feed, or both
+abbrev pub line_ends_behind : ℕ → List ℕ → ℕ
+line_ends_behind last [] = 0
+line_ends_behind last (b ∷ bytes) = (if last == 0x0D && b == 0x0A then 0 else 1) + line_ends_behind b bytes
+
+abbrev pub line_ends : List ℕ → ℕ
+line_ends bytes = line_ends_behind 0 bytes

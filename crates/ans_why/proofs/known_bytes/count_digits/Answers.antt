@@ -1,8 +1,0 @@
-use Rattle.ans_why.specs.Known.{is_digit}
-use Rattle.ans_why.proofs.Forms.{front_counted}
-use Rattle.ans_why.proofs.known_bytes.count_digits.Goals as goal
-
-pub returns-clause-count : goal.returns-clause-count
-returns-clause-count c =
-    front_counted is_digit c.args.bytes.now c.first_no_digit.result c.unwrap_or.result c.first_no_digit.ensures
-    c.unwrap_or.ensures

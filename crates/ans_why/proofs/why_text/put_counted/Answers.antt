@@ -1,7 +1,0 @@
-use Rattle.ans_write.proofs.PutsLemmas.{Puts-then}
-use Rattle.ans_why.proofs.why_text.put_counted.Goals as goal
-
-pub returns : goal.returns
-returns g c =
-    Puts-then c.put_decimal.ensures
-    (Puts-then c.put.ensures (Puts-then c.put-2.ensures (rw c.plural.ensures at c.put-3.ensures)))

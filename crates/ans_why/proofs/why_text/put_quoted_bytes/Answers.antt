@@ -1,8 +1,0 @@
-use Rattle.ans_write.proofs.PutsLemmas.{Puts-next}
-use Rattle.ans_why.specs.WhyText.{quoted_byte}
-use Rattle.ans_why.proofs.why_text.put_quoted_bytes.Goals as goal
-
-pub loop-byte-preserved : goal.loop-byte-preserved
-loop-byte-preserved g c =
-    Puts-next quoted_byte c.args.bytes.now c.loop-byte.byte-index 0 c.loop-byte-test.true c.loop-byte.invariant
-    c.put_quoted_byte.ensures

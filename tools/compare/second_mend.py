@@ -1,0 +1,489 @@
+#!/usr/bin/env python3
+"""Mends random files by the machine of `second_machine.py`, and compares with what `mend` writes and says.
+
+It mends by itself, step by step, from the words of the rules:
+
+- the record is taken apart and refused as `second_why.py` does it, and its bytes are written over in place;
+- what is taken out is found by patterns over the bytes, where the content's own reader is refused;
+- full rows and their line ends are those that the hint of `why` counts;
+- whether a content passes, and on how many lines, is found by playing it without its cells;
+- whether the beginning is wanted is found by playing it from eight starts of any kind, and where the cursors of
+  the low and the high start stand at each clear.
+
+The files are those of `mend_files.py`. Each is mended by itself, with each flag alone, and with some at random.
+Standard output, the status, and standard error are compared; of standard error the first line where nothing is
+written. Of each file that is written it plays the content from eight starts of any kind: there is no fault, and the
+picture is the one that the changed content has from the cleared start. A file that was changed is mended once more
+with the same flags but `--full-rows`, and `--line-ends` where the last return was taken out of it: nothing is changed.
+
+It follows the rules as this project states them, so it cannot tell a rule that both misread. Run it in
+`crates/anscheck`, on the built program, with a number that seeds the files and how many there shall be:
+
+    python3 ../../tools/compare/second_mend.py out/anscheck 1 10000
+
+It prints each file and its flags where something differs, and then how often each thing was said. Its status is 1
+where one differs. With `--model` in the program's place nothing is compared: it says what it finds by itself. With
+`long` as a fourth word a few files are mended besides that come near the limit of a file, in a minute or two.
+"""
+import collections
+import functools
+import itertools
+import multiprocessing
+import random
+import re
+import subprocess
+import sys
+
+sys.dont_write_bytecode = True
+
+from mend_files import a_mend_file, long_files, some_asked
+from pens import MOST_LINES, Pen, first_fault, least_lines, passes, tokens_of
+from second_machine import CONTROLS, REFUSED, Machine, Refused, answer, play, read_sequence
+from second_why import (
+    MENDING, Hints, Rows, body_of, cleared, fault_line, many, quoted, record_fault, record_of, rows_printed,
+)
+
+MOST_BYTES = 16777216
+TAIL = b"\x00\x0a\x0d\x1a"
+# Where fields stand in the record, and how many bytes they have.
+FILE_SIZE, LINES, FLAGS = (90, 4), (98, 2), (105, 1)
+DRAWS = {"glyph", "tab", "clear", "erase"}
+SEQUENCES = [
+    ("bright backgrounds", re.compile(rb"\x1b\[\?33[hl]")),
+    ("another switch", re.compile(rb"\x1b\[\?(12|25|35)[hl]")),
+    ("another mode", re.compile(rb"\x1b\[[=?]?[0-9;]*[hl]")),
+    ("a font selection", re.compile(rb"\x1b\[[0-9]+;[0-9]+ D")),
+    ("music", re.compile(rb"\x1b\[[MN|][A-Za-z0-9#+\-.<> ]{0,250}\x0e")),
+    ("a 24-bit colour", re.compile(rb"\x1b\[[01];[0-9]+;[0-9]+;[0-9]+t")),
+    ("a report", re.compile(rb"\x1b\[(5n|6n|c|0c)")),
+]
+TAKEN_OUT = [kind for kind, _ in SEQUENCES] + ["a key", "an unfinished sequence"]
+
+
+class NotMended(Exception):
+    """The reason why nothing is written, as the first line of standard error says it."""
+
+
+# A file that is being changed.
+
+
+class Draft:
+    """The content, what stands between it and the record, the record, and what was said of the changes."""
+
+    def __init__(self, content, behind, record, said):
+        self.content, self.behind, self.record, self.said = content, behind, record, said
+
+    def say(self, what, line):
+        self.said.append((what, line))
+
+    def say_of_each(self, what, line, offsets):
+        """A line of one change or more, with its place or its first one."""
+        if offsets:
+            times = f" at {offsets[0]}" if len(offsets) == 1 else f", {len(offsets)} times, first at {offsets[0]}"
+            self.say(what, line + times)
+
+    def field(self, place):
+        at, size = place
+        return int.from_bytes(self.record[at:at + size], "little")
+
+    def put(self, place, number):
+        at, size = place
+        self.record = self.record[:at] + number.to_bytes(size, "little") + self.record[at + size:]
+
+    def width(self):
+        return record_of(self.record).width or 80
+
+    def file(self):
+        """Its bytes, if they are not too many."""
+        file = self.content + self.behind + self.record
+        if len(file) > MOST_BYTES:
+            raise NotMended(f"the file would be longer than {MOST_BYTES} bytes")
+        return file
+
+
+def without(text, places):
+    """A text without the bytes from here to there, for each pair of places, from the front."""
+    kept, at = [], 0
+    for begin, end in places:
+        kept.append(text[at:begin])
+        at = end
+    return b"".join(kept) + text[at:]
+
+
+# The record.
+
+
+def without_tail(file, said):
+    """The file, without what stands behind its last record and is none of the drawing."""
+    place = file.rfind(b"SAUCE00", 0, max(0, len(file) - 121))
+    behind = file[place + 128:] if place >= 0 else b""
+    if not behind or behind.strip(TAIL):
+        return file
+    said.append(("cut behind the record", f"cut {many(len(behind), 'byte')} behind the record"))
+    return file[:place + 128]
+
+
+def with_record(file, width, said):
+    """The file with a record of so many columns and no lines, where it has none; or None where it gets none."""
+    content, _, behind = file.partition(b"\x1a")
+    if file[-128:].startswith(b"SAUCE") and len(file) >= 128 or behind.strip(TAIL):
+        return None
+    said.append(("put a record", f"put a record of {many(width, 'column')}"))
+    numbers = [(0, 4), (1, 1), (1, 1), (width, 2), (0, 2), (0, 2), (0, 2), (0, 1), (0, 1)]
+    fields = b"".join(number.to_bytes(size, "little") for number, size in numbers)
+    return content + b"\x1aSAUCE00" + b" " * 75 + b"0" * 8 + fields + bytes(22)
+
+
+def draft_of(file, are_lines_asked, said):
+    """The file taken apart, if its record is accepted. One that states no lines may get some."""
+    stated = file
+    if are_lines_asked and len(file) >= 128 and record_of(file).lines == 0:
+        stated = file[:-30] + MOST_LINES.to_bytes(2, "little") + file[-28:]
+    fault = record_fault(stated)
+    if fault:
+        raise NotMended(fault_line(*fault[:2]))
+    content = body_of(file, record_of(file)).partition(b"\x1a")[0]
+    return Draft(content, file[len(content):-128], file[-128:], said)
+
+
+# What is asked for by name.
+
+
+def put_returns(draft):
+    """A return before each line feed, where there is none in all of the content."""
+    content = draft.content
+    if b"\n" in content and b"\r" not in content:
+        feeds = [at for at, byte in enumerate(content) if byte == 0x0A]
+        draft.say_of_each("put returns", "put a return before a line feed", feeds)
+        draft.content = content.replace(b"\n", b"\r\n")
+
+
+def token_at(content, at):
+    """The token that begins here, and the place behind it; or the number of the fault, and None."""
+    byte = content[at]
+    if byte != 0x1B:
+        name = CONTROLS.get(byte)
+        return (name,) if name else ("glyph", byte), at + 1
+    try:
+        return read_sequence(content, at)
+    except Refused as refused:
+        return refused.args[0], None
+
+
+def form_at(content, at, refused, has_drawn, is_behind_colour):
+    """What the bytes from here on are that may be taken out, and the place behind them; or None."""
+    if refused == 12:
+        return None if set(content[at:]) & set(b"\"'") else ("an unfinished sequence", len(content))
+    for kind, form in SEQUENCES:
+        found = form.match(content, at)
+        if found and not (kind == "another mode" and has_drawn or kind == "a 24-bit colour" and not is_behind_colour):
+            return kind, found.end()
+    return None
+
+
+def to_take_out(content):
+    """The sequences that are taken out, from the front: of each its kind, and from where to where it stands."""
+    taken, at, has_drawn, is_behind_colour = [], 0, False, False
+    while at < len(content):
+        token, after = token_at(content, at)
+        if after and token[0] not in REFUSED:
+            has_drawn, is_behind_colour = has_drawn or token[0] in DRAWS, token[0] == "colours"
+            at = after
+            continue
+        is_key = after and token[0] == "keys"
+        form = ("a key", after) if is_key else form_at(content, at, token, has_drawn, is_behind_colour)
+        if not form:
+            break
+        kind, after = form
+        taken.append((kind, at, after))
+        is_behind_colour, at = kind == "a 24-bit colour", after
+    return taken
+
+
+def take_sequences_out(draft):
+    """Each kind is told by its first sequence. The last switch for bright backgrounds goes into the record."""
+    content, taken = draft.content, to_take_out(draft.content)
+    for kind in TAKEN_OUT:
+        places = [(begin, end) for its_kind, begin, end in taken if its_kind == kind]
+        if places:
+            line = "took out " + quoted(content[slice(*places[0])])
+            draft.say_of_each(f"took out {kind}", line, [begin for begin, _ in places])
+    switches = [content[end - 1:end] for kind, _, end in taken if kind == "bright backgrounds"]
+    flags = draft.field(FLAGS)
+    if switches and flags & 1 != (switches[-1] == b"h"):
+        draft.put(FLAGS, flags ^ 1)
+        draft.say("flag", "cleared the non-blink flag" if flags & 1 else "set the non-blink flag")
+    draft.content = without(content, [(begin, end) for _, begin, end in taken])
+
+
+class FullRows(Rows):
+    """The rows, and of each full one with a line end where the return and the line feed stand, or the feed alone."""
+
+    def __init__(self, width):
+        super().__init__(width)
+        self.line_ends_of_full = []
+
+    def meet(self, offset, token, machine):
+        before = len(self.ended)
+        super().meet(offset, token, machine)
+        if len(self.ended) > before:
+            self.line_ends_of_full.append(sorted({self.ended[-1], offset}))
+
+
+def take_ends_of_full_rows_out(draft):
+    """The line ends behind full rows, where each full row that is followed has one and two have."""
+    tokens, ending = tokens_of(draft.content)
+    if ending:
+        return
+    pen, rows = Pen(draft.width(), MOST_LINES), FullRows(draft.width())
+    for offset, token in tokens:
+        rows.meet(offset, token, pen)
+        rows_printed(token, pen)
+        rows.leave(token, pen)
+    if rows.all_end():
+        ends = rows.line_ends_of_full
+        draft.say_of_each("full rows", "took out a line end behind a full row", [end[0] for end in ends])
+        draft.content = without(draft.content, [(at, at + 1) for end in ends for at in end])
+
+
+def take_last_line_ends_out(draft, lines):
+    """As few line ends at the very end as have to go for the content to pass."""
+    rest, count = draft.content, 0
+    while not passes(rest, draft.width(), lines):
+        end = re.search(rb"(\r\n|\r|\n)\Z", rest)
+        if not end:
+            return
+        rest, count = rest[:end.start()], count + 1
+    draft.say_of_each("last line ends", "took out a line end at the end", [len(rest)] * count)
+    draft.content = rest
+
+
+def settle_lines(draft, least_is_asked, lines):
+    """States other lines where those are too few, or where none are stated."""
+    stated, width = draft.field(LINES), draft.width()
+    if stated and passes(draft.content, width, stated):
+        return
+    if not lines and least_is_asked:
+        lines = least_lines(draft.content, width)
+        if lines and Hints(draft.content, len(draft.content), width, lines).torn:
+            raise NotMended("the rows are torn")
+        if not lines and not stated:
+            raise NotMended(f"no number of lines up to {MOST_LINES} is enough")
+    if lines and lines != stated:
+        draft.put(LINES, lines)
+        draft.say("lines", f"lines {lines}, was {stated}")
+
+
+# What is done by itself.
+
+
+def put_end_mark(draft):
+    if not draft.behind.startswith(b"\x1a"):
+        draft.behind = b"\x1a" + draft.behind
+        draft.say("end mark", f"put an end mark at {len(draft.content)}")
+
+
+def eight_starts(chance, width, lines):
+    """The lowest start of any, the highest, and six between, whose cells come from a text of random bytes."""
+    machines = [
+        Machine(width, lines, lambda: 0x00, lambda: (0, 0), False),
+        Machine(width, lines, lambda: 0xFF, lambda: (lines, width - 1), True),
+    ]
+    for _ in range(6):
+        number = iter(chance.randbytes(2 * width * (lines + 1) + 1)).__next__
+        wrap, place = chance.random() < 0.5, lambda: (chance.randrange(lines + 1), chance.randrange(width))
+        machines.append(Machine(width, lines, number, place, wrap))
+    return machines
+
+
+def clears_away_from_home(content, width, lines):
+    """A clear comes where the cursor is at home by the start alone, and no place follows it."""
+    pens = [Pen(width, lines), Pen(width, lines, wrap=False), Pen(width, lines, (lines, width - 1))]
+    tokens = [token for _, token in tokens_of(content)[0]]
+    for number, token in enumerate(tokens):
+        if token[0] == "clear":
+            at_home = [(pen.row, pen.column) == (0, 0) for pen in pens]
+            following = next((name for name, *_ in tokens[number + 1:] if name not in ("colours", "bell")), None)
+            if at_home[0] and not all(at_home) and following != "place":
+                return True
+        play(token, pens)
+    return False
+
+
+def put_beginning(draft, chance):
+    """The beginning, where the picture is not the same from every start, or a clear is away from home."""
+    content, width, lines = draft.content, draft.width(), draft.field(LINES)
+    from_any = answer(content, eight_starts(chance, width, lines))
+    if isinstance(from_any, str) or clears_away_from_home(content, width, lines):
+        draft.content = MENDING + content
+        draft.say("beginning", f"put {len(MENDING)} bytes in front")
+
+
+def set_file_size(draft, old_content):
+    size = draft.field(FILE_SIZE)
+    new = len(draft.content) + (size == len(old_content) + 1)
+    if new != size:
+        draft.put(FILE_SIZE, new)
+        draft.say("file size", f"file size {new}, was {size}")
+
+
+# A file mended.
+
+
+def mended(file, asked, chance):
+    """The mended file; the content as it was changed, without the beginning; and what is said, with what it is."""
+    said = []
+    file = without_tail(file, said)
+    given = with_record(file, asked.width, said) if asked.width else None
+    least_is_asked = asked.least_lines or bool(given) and not asked.lines
+    draft = draft_of(given or file, bool(given or asked.lines or asked.least_lines), said)
+    draft.file()
+    old_content = draft.content
+    if asked.line_ends:
+        put_returns(draft)
+        draft.file()
+    if asked.take_out:
+        take_sequences_out(draft)
+    if asked.full_rows:
+        take_ends_of_full_rows_out(draft)
+    if asked.take_out:
+        take_last_line_ends_out(draft, draft.field(LINES) or MOST_LINES)
+    settle_lines(draft, least_is_asked, asked.lines)
+    put_end_mark(draft)
+    draft.file()
+    fault = first_fault(draft.content, draft.width(), draft.field(LINES))
+    if fault:
+        raise NotMended(fault_line(*fault))
+    changed = draft.content
+    put_beginning(draft, chance)
+    set_file_size(draft, old_content)
+    return draft.file(), changed, said
+
+
+def finding(file, asked, chance):
+    """What the rules say of a file, or the reason why it is not mended, as a line."""
+    try:
+        return mended(file, asked, chance)
+    except NotMended as reason:
+        return reason.args[0]
+
+
+def expected_of(found):
+    """The status, standard output, the lines of standard error, and what each of them is."""
+    if isinstance(found, str):
+        what = found.split()[2] if found.startswith("at ") else found
+        return (1, b"", [found]), [f"reason {what}"]
+    after, _, said = found
+    return (0, after, [line for _, line in said]), [what for what, _ in said] or ["as it is"]
+
+
+def broken_promise(file, asked, chance, found):
+    """What is wrong with the file that is written, or None; and None where none is written."""
+    if isinstance(found, str):
+        return None
+    after, changed, _ = found
+    fault = record_fault(after)
+    if fault:
+        return "its record is refused: " + fault_line(*fault[:2])
+    record = record_of(after)
+    content, width = body_of(after, record).partition(b"\x1a")[0], record.width or 80
+    picture = answer(changed, [cleared(width, record.lines)])
+    if isinstance(picture, str) or answer(content, eight_starts(chance, width, record.lines)) != picture:
+        return "it does not show the picture from every start"
+    if after != file:
+        again = finding(after, asked_again(asked, after), chance)
+        return None if again[0] == after else f"by the rules, once more gives {again}"
+    return None
+
+
+def asked_again(asked, file):
+    """What is asked for when it is mended once more, and nothing is to be changed."""
+    content = body_of(file, record_of(file)).partition(b"\x1a")[0]
+    return asked._replace(full_rows=False, line_ends=asked.line_ends and b"\r" in content)
+
+
+# The program.
+
+
+def words_of(asked):
+    """The flags, as words."""
+    flags = [field for field in ("line_ends", "take_out", "full_rows", "least_lines") if getattr(asked, field)]
+    words = ["--" + field.replace("_", "-") for field in flags]
+    words += ["--width", str(asked.width)] if asked.width else []
+    return words + (["--lines", str(asked.lines)] if asked.lines else [])
+
+
+def printed_of(program, asked, file):
+    """The status, standard output, and the lines of standard error, or the first where nothing is written."""
+    run = subprocess.run([program, "mend", *words_of(asked)], input=file, capture_output=True)
+    lines = run.stderr.decode(errors="replace").splitlines()
+    return run.returncode, run.stdout, lines if run.returncode == 0 else lines[:1]
+
+
+def shown_bytes(text):
+    """In hexadecimal, so that it can be tried again; of a long file how it begins."""
+    return text.hex() if len(text) < 100000 else f"{len(text)} bytes, {text[:16].hex()}.."
+
+
+def shown_answer(answered):
+    status, output, lines = answered
+    return f"status {status}, {lines}, {shown_bytes(output)}"
+
+
+def tried(program, file, asked, chance):
+    """What each line is, and what is wrong: of the program, or of the rules alone where there is none."""
+    found = finding(file, asked, chance)
+    expected, kinds = expected_of(found)
+    wrong = [broken_promise(file, asked, chance, found)]
+    if program:
+        printed = printed_of(program, asked, file)
+        if printed != expected:
+            wrong.append(f"expected {shown_answer(expected)}\n  not {shown_answer(printed)}")
+        elif expected[0] == 0 and expected[1] != file:
+            again = printed_of(program, asked_again(asked, expected[1]), expected[1])
+            wrong.append(None if again == (0, expected[1], []) else f"once more gives {shown_answer(again)}")
+    return kinds, [what for what in wrong if what]
+
+
+def shown_wrong(asked, file, what):
+    return f"{' '.join(words_of(asked)) or 'no flags'}, {shown_bytes(file)}:\n  {what}"
+
+
+def try_one(program, seed, number):
+    """Tries a file with several flags: what each line is, how often one was asked, and what is wrong."""
+    chance = random.Random(f"{seed} {number}")
+    file, seen, wrong = a_mend_file(chance), collections.Counter(), []
+    several = some_asked(chance, file)
+    for asked in several:
+        kinds, found = tried(program, file, asked, chance)
+        seen.update(kinds)
+        wrong += [shown_wrong(asked, file, what) for what in found]
+    return seen, len(several), wrong
+
+
+def try_long_files(program):
+    """Tries each file near the limit."""
+    for file, asked in long_files(MOST_BYTES):
+        kinds, found = tried(program, file, asked, random.Random(0))
+        yield collections.Counter(kinds), 1, [shown_wrong(asked, file, what) for what in found]
+
+
+def main(program, seed, count, what=None):
+    program = None if program == "--model" else program
+    seen, asked, differing = collections.Counter(), 0, 0
+    long_ones = try_long_files(program) if what == "long" else []
+    with multiprocessing.Pool(2) as pool:
+        tries = pool.imap_unordered(functools.partial(try_one, program, seed), range(int(count)), 16)
+        for its_seen, its_asked, wrong in itertools.chain(tries, long_ones):
+            seen.update(its_seen)
+            asked += its_asked
+            differing += bool(wrong)
+            for difference in wrong:
+                print(difference, flush=True)
+    counts = ", ".join(f"{n} {kind}" for kind, n in seen.most_common())
+    print(f"{differing} of {count} differ; {asked} times mended; {counts}")
+    return differing > 0
+
+
+if __name__ == "__main__":
+    sys.exit(main(*sys.argv[1:]))
