@@ -1,7 +1,7 @@
 -- What is said of an ending.
 use Rattle.std.proofs.Common.{◌≡◌, ℕ, ◌≤◌, Bool, true, false, List, [], ◌∷◌, length, Option, Some, None, Ok, Err}
 use Rattle.std.proofs.Common.{arith, refl, subst, sym, true≢false}
-use Rattle.std.specs.Prelude.{◌↔◌, Result, IsErr, IsTrue, MatchOption, OnOk}
+use Rattle.std.specs.Prelude.{◌↔◌, ◌≢◌, Result, IsErr, IsTrue, MatchOption, OnOk}
 use Rattle.ans_report.specs.Message.{message_line}
 use Rattle.ans_write.specs.Puts.{HandsOn, Puts, device_failed, device_of, waiting_of}
 use Rattle.ans_write.specs.Writes.{AppendsUnless, WritesText}
@@ -10,13 +10,16 @@ use Rattle.ans_write.specs.declared.outbox.WriteFault.{WriteFault}
 use Rattle.ans_write.proofs.PutsLemmas.{WritesText-finished}
 use Rattle.ans_write.specs.declared.tried.Tried.{Tried}
 use Rattle.clap.specs.Words.{Text}
+use Rattle.ans_mend.specs.declared.outcome.Mended as outcome
+use Rattle.ans_mend.specs.declared.outcome.Unmended.{Unmended}
 use Rattle.ans_options.specs.declared.command.TableForm.{TableForm}
+use Rattle.ans_table.specs.declared.counts.Counts.{Counts}
 use Rattle.ans_table.specs.Findings.{RowFinding}
-use Rattle.ans_check.specs.Answer.{EndsBy, EndsNamed, Says, Tells}
+use Rattle.ans_check.specs.Answer.{EndsBy, EndsNamed, Says, SaysMessage, Tells}
 use Rattle.ans_check.specs.Ending.{ending_message}
 use Rattle.ans_check.specs.declared.exit_status.Ending.{Ending}
 use Rattle.ans_check.specs.declared.exit_status.Ending.TheVariants.{Run, Help, Usage, UnreadableWords, UnopenedFile}
-use Rattle.ans_check.specs.declared.exit_status.Ending.TheVariants.{Table, NamedInput, UnreadNames}
+use Rattle.ans_check.specs.declared.exit_status.Ending.TheVariants.{Table, NamedInput, UnreadNames, Mended, NotMended}
 
 -- what was written by its result is what was written by whether the device has failed
 written_unless : {T E : Type 0} (old new : Option (List ℕ)) (r : Result T E) (failed : Bool) (text : List ℕ)
@@ -44,21 +47,25 @@ in_some P A (Some t) text e h = let same : text ≡ t = cc in subst P same h
 -- where the ending has a message, and its line is told, this is what it says
 pub says_message : {E : Type 0} (contents : E → Option (List ℕ)) (errors after : Tried E) (ending : Ending)
     (text : List ℕ) → ending_message ending ≡ Some text → Tells contents errors after (message_line text)
+    → SaysMessage contents errors after ending
+says_message contents errors after ending text e h =
+    in_some (λ t. Tells contents errors after (message_line t)) (after ≡ errors) (ending_message ending) text e h
+
+-- of an ending of which nothing else is told
+pub says_else : {E : Type 0} (contents : E → Option (List ℕ)) (errors after : Tried E) (ending : Ending)
+    → ending ≢ Usage → ((counts : Counts) → ending ≢ Table counts)
+    → ((mended : outcome.Mended) → ending ≢ Mended mended) → ((reason : Unmended) → ending ≢ NotMended reason) → SaysMessage contents errors after ending
     → Says contents errors after ending
-says_message contents errors after Usage text e h = absurd (cc)
-says_message contents errors after Help text e h = absurd (cc)
-says_message contents errors after (Run answer) text e h =
-    in_some (λ t. Tells contents errors after (message_line t)) (after ≡ errors) (ending_message (Run answer)) text e h
-says_message contents errors after UnreadableWords text e h =
-    in_some (λ t. Tells contents errors after (message_line t)) (after ≡ errors) (ending_message UnreadableWords)
-    text e h
-says_message contents errors after UnopenedFile text e h =
-    in_some (λ t. Tells contents errors after (message_line t)) (after ≡ errors) (ending_message UnopenedFile) text e h
-says_message contents errors after (Table counts) text e h = absurd (cc)
-says_message contents errors after NamedInput text e h =
-    in_some (λ t. Tells contents errors after (message_line t)) (after ≡ errors) (ending_message NamedInput) text e h
-says_message contents errors after UnreadNames text e h =
-    in_some (λ t. Tells contents errors after (message_line t)) (after ≡ errors) (ending_message UnreadNames) text e h
+says_else contents errors after Usage told table mended unmended h = absurd (told refl)
+says_else contents errors after Help told table mended unmended h = h
+says_else contents errors after (Run answer) told table mended unmended h = h
+says_else contents errors after UnreadableWords told table mended unmended h = h
+says_else contents errors after UnopenedFile told table mended unmended h = h
+says_else contents errors after (Table counts) told table mended unmended h = absurd (table counts refl)
+says_else contents errors after NamedInput told table mended unmended h = h
+says_else contents errors after UnreadNames told table mended unmended h = h
+says_else contents errors after (Mended m) told table mended unmended h = absurd (mended m refl)
+says_else contents errors after (NotMended r) told table mended unmended h = absurd (unmended r refl)
 
 -- the table of names that the words give
 pub ends_by_names : {R W : Type 0} (remaining : R → Option (List ℕ)) (contents : W → Option (List ℕ))

@@ -3,7 +3,6 @@ use Rattle.std.proofs.Common.{◌≡◌, ◌↔◌, ◌+◌, ◌<◌, ◌≤◌,
 use Rattle.std.proofs.Common.{Ok, Err, refl, sym, ◌∙◌, true≢false}
 use Rattle.std.specs.Prelude.{IfSome, IsErrOf, IsTrue}
 use Rattle.ans_model.specs.Bytes.{longest_file}
-use Rattle.ans_options.specs.declared.command.Options.{Options}
 use Rattle.ans_table.specs.declared.finding.Unread.{Unread}
 use Rattle.ans_table.specs.declared.finding.Unread.TheVariants as why
 use Rattle.ans_write.specs.Puts.{Puts}
@@ -11,10 +10,9 @@ use Rattle.ans_write.specs.Tried.{call_count, has_failed, inner_of}
 use Rattle.ans_write.specs.Writes.{Wrote, WrotePrefix}
 use Rattle.ans_write.specs.declared.outbox.Outbox.{Outbox}
 use Rattle.ans_write.specs.declared.tried.Tried.{Tried}
-use Rattle.ans_check.specs.CommandText.{Reports}
 use Rattle.ans_check.specs.Reported.{IsPut}
 use Rattle.ans_check.specs.Run.{HasRead}
-use Rattle.ans_check.specs.Served.{Serves}
+use Rattle.ans_check.specs.Served.{ServesAs}
 use Rattle.ans_check.specs.declared.errors.RunError.{RunError}
 use Rattle.ans_check.specs.declared.errors.RunError.TheVariants as error
 
@@ -33,15 +31,16 @@ works_before true after h works = absurd (true≢false (sym (h refl) ∙ works))
 abbrev read_of : {V : Type 0} → V → Result V Unread
 read_of v = Ok v
 
-module _ {R W V : Type 0} (remaining : R → Option (List ℕ)) (contents : W → Option (List ℕ)) (options : Options)
-    (reader reader_after : Tried R) (writer writer_after : Tried W) (file : List ℕ) (v : V)
+module _ {R W A V : Type 0} (remaining : R → Option (List ℕ)) (contents : W → Option (List ℕ))
+    (tells : List ℕ → A → List ℕ → Type 0) (reader reader_after : Tried R) (writer writer_after : Tried W)
+    (file : List ℕ) (v : V)
     (whole : HasRead (remaining (inner_of reader)) (remaining (inner_of reader_after)) file)
     (reads : IsErrOf (read_of v) why.ReadFailed ↔ IsTrue (has_failed reader_after))
     (long : IfSome (remaining (inner_of reader)) (λ xs. IfSome (remaining (inner_of reader_after)) (λ ys.
     IsErrOf (read_of v) why.TooLong ↔ (longest_file + length ys < length xs))))
     (calls : call_count reader_after ≤ call_count reader + (longest_file + 2))
-    (passed : Bool) (text : List ℕ) (reported : Reports options file passed text) where
-  never_long : (r : Result Bool RunError) → (IsErrOf r error.TooLong → ⊥) → (a b : Option (List ℕ))
+    (answer : A) (text : List ℕ) (told : tells file answer text) where
+  never_long : (r : Result A RunError) → (IsErrOf r error.TooLong → ⊥) → (a b : Option (List ℕ))
       → IfSome a (λ xs. IfSome b (λ ys. IsErrOf (read_of v) why.TooLong ↔ (longest_file + length ys < length xs)))
       → IfSome a (λ xs. IfSome b (λ ys. IsErrOf r error.TooLong ↔ (longest_file + length ys < length xs)))
   never_long r other None b h = tt
@@ -59,23 +58,23 @@ module _ {R W V : Type 0} (remaining : R → Option (List ℕ)) (contents : W �
 
   -- the whole text was written
   pub served_whole : Wrote contents writer writer_after text → has_failed writer_after ≡ false
-      → Serves remaining contents options reader reader_after writer writer_after (Ok passed)
+      → ServesAs remaining contents tells reader reader_after writer writer_after (Ok answer)
   served_whole wrote works = record {
-    ok = (file, text, whole, reported, wrote);
+    ok = (file, text, whole, told, wrote);
     prefix = λ e. absurd (cc);
     unwritten = tt;
     read = (λ e. absurd (cc), λ failed. absurd (never_failed failed));
     write = (λ e. absurd (cc), λ failed. absurd (true≢false (sym failed ∙ works)));
-    too_long = never_long (Ok passed) (λ e. cc) _ _ long;
+    too_long = never_long (Ok answer) (λ e. cc) _ _ long;
     calls = calls;
   }
 
   -- a prefix of it was
   pub served_in_part : WrotePrefix contents writer writer_after text → has_failed writer_after ≡ true
-      → Serves remaining contents options reader reader_after writer writer_after (Err error.Write)
+      → ServesAs remaining contents tells reader reader_after writer writer_after (Err error.Write)
   served_in_part wrote failed = record {
     ok = tt;
-    prefix = λ e. (file, passed, text, whole, reported, wrote);
+    prefix = λ e. (file, answer, text, whole, told, wrote);
     unwritten = λ other. absurd (other refl);
     read = (λ e. absurd (cc), λ gone. absurd (never_failed gone));
     write = (λ e. failed, λ e. refl);

@@ -5,10 +5,9 @@ use Rattle.std.specs.Prelude.{◌+◌, ◌<◌, ◌↔◌, length, Ok, Err, IfSo
 use Rattle.std.specs.Io.KnownBytes.{Appends, Keeps}
 use Rattle.std.proofs.lemmas.List.{take_all}
 use Rattle.ans_model.specs.Bytes.{longest_file}
-use Rattle.ans_options.specs.declared.command.Options.{Options}
 use Rattle.ans_write.specs.Tried.{has_failed, inner_of}
 use Rattle.ans_write.specs.declared.tried.Tried.{Tried}
-use Rattle.ans_check.specs.Served.{Serves}
+use Rattle.ans_check.specs.Served.{ServesAs}
 use Rattle.ans_check.specs.declared.errors.RunError.{RunError}
 use Rattle.ans_check.specs.declared.errors.RunError.TheVariants as error
 
@@ -22,16 +21,16 @@ appended_and_kept (Some xs) (Some ys) None text h k = absurd k
 appended_and_kept (Some xs) (Some ys) (Some zs) text h k = k ∙ h
 
 -- a failed write leaves open no more than an answer whether the input is too long
-never_longer : (a b : Option (List ℕ)) (passed : Bool)
+never_longer : {A : Type 0} (a b : Option (List ℕ)) (answer : A)
     → IfSome a (λ xs. IfSome b (λ ys.
-    IsErrOf {E = RunError} (Ok passed) error.TooLong ↔ (longest_file + length ys < length xs)))
+    IsErrOf {E = RunError} (Ok answer) error.TooLong ↔ (longest_file + length ys < length xs)))
     → IfSome a (λ xs. IfSome b (λ ys.
-    IsErrOf {T = Bool} (Err error.Write) error.TooLong ↔ (longest_file + length ys < length xs)))
-never_longer None b passed h = tt
-never_longer (Some xs) None passed h = tt
-never_longer (Some xs) (Some ys) passed h = (λ e. absurd (cc), λ longer. absurd (never (h.1 longer)))
+    IsErrOf {T = A} (Err error.Write) error.TooLong ↔ (longest_file + length ys < length xs)))
+never_longer None b answer h = tt
+never_longer (Some xs) None answer h = tt
+never_longer (Some xs) (Some ys) answer h = (λ e. absurd (cc), λ longer. absurd (never (h.1 longer)))
   where
-    never : IsErrOf {E = RunError} (Ok passed) error.TooLong → ⊥
+    never : IsErrOf {E = RunError} (Ok answer) error.TooLong → ⊥
     never e = cc
 
 -- a device whose call did not fail still works
@@ -40,12 +39,12 @@ works_on false error h e = refl
 works_on true error h e = absurd (true≢false (sym (h refl) ∙ e))
 
 -- the answer stands where the flush did not fail
-pub flushed : {R W : Type 0} (remaining : R → Option (List ℕ)) (contents : W → Option (List ℕ)) (options : Options)
-    (reader reader_after : Tried R) (writer between after : Tried W) (passed : Bool)
-    → Serves remaining contents options reader reader_after writer between (Ok passed)
+pub flushed : {R W A : Type 0} (remaining : R → Option (List ℕ)) (contents : W → Option (List ℕ))
+    (tells : List ℕ → A → List ℕ → Type 0) (reader reader_after : Tried R) (writer between after : Tried W) (answer : A)
+    → ServesAs remaining contents tells reader reader_after writer between (Ok answer)
     → Keeps (contents (inner_of between)) (contents (inner_of after)) → has_failed after ≡ false
-    → Serves remaining contents options reader reader_after writer after (Ok passed)
-flushed remaining contents options reader reader_after writer between after passed h keeps works = record {
+    → ServesAs remaining contents tells reader reader_after writer after (Ok answer)
+flushed remaining contents options reader reader_after writer between after answer h keeps works = record {
   ok = (
     h.ok.0,
     h.ok.1,
@@ -63,16 +62,16 @@ flushed remaining contents options reader reader_after writer between after pass
 }
 
 -- where it failed, the text was written nonetheless
-pub unflushed : {R W : Type 0} (remaining : R → Option (List ℕ)) (contents : W → Option (List ℕ)) (options : Options)
-    (reader reader_after : Tried R) (writer between after : Tried W) (passed : Bool)
-    → Serves remaining contents options reader reader_after writer between (Ok passed)
+pub unflushed : {R W A : Type 0} (remaining : R → Option (List ℕ)) (contents : W → Option (List ℕ))
+    (tells : List ℕ → A → List ℕ → Type 0) (reader reader_after : Tried R) (writer between after : Tried W) (answer : A)
+    → ServesAs remaining contents tells reader reader_after writer between (Ok answer)
     → Keeps (contents (inner_of between)) (contents (inner_of after)) → has_failed after ≡ true
-    → Serves remaining contents options reader reader_after writer after (Err error.Write)
-unflushed remaining contents options reader reader_after writer between after passed h keeps failed = record {
+    → ServesAs remaining contents tells reader reader_after writer after (Err error.Write)
+unflushed remaining contents options reader reader_after writer between after answer h keeps failed = record {
   ok = tt;
   prefix = λ _. (
     h.ok.0,
-    passed,
+    answer,
     h.ok.1,
     h.ok.2,
     h.ok.3,
@@ -88,9 +87,9 @@ unflushed remaining contents options reader reader_after writer between after pa
   unwritten = λ e. absurd (e refl);
   read = (λ e. absurd (cc), λ gone. absurd (no_read (h.read.1 gone)));
   write = (λ _. failed, λ _. refl);
-  too_long = never_longer (remaining (inner_of reader)) (remaining (inner_of reader_after)) passed h.too_long;
+  too_long = never_longer (remaining (inner_of reader)) (remaining (inner_of reader_after)) answer h.too_long;
   calls = h.calls;
 }
   where
-    no_read : IsErrOf {E = RunError} (Ok passed) error.Read → ⊥
+    no_read : IsErrOf {E = RunError} (Ok answer) error.Read → ⊥
     no_read e = cc

@@ -4,11 +4,13 @@ use Rattle.std.specs.Prelude.{◌↔◌, IsSomeAnd, IsTrue, MatchBool, MatchOpti
 use Rattle.std.specs.List.{list_any}
 use Rattle.std.specs.Str.{bytes_eq}
 use Rattle.clap.specs.Words.{Text}
+use Rattle.ans_mend.specs.MendedText.{mended_text, unmended_text}
 use Rattle.ans_options.specs.CommandLine.{HasKindAmong, IsAskedBy, RanOutOfMemory, faults_of}
 use Rattle.ans_options.specs.Topics.{topic_of}
 use Rattle.ans_options.specs.declared.command.Asked.{Asked}
 use Rattle.ans_options.specs.declared.command.Asked.TheVariants as asked
 use Rattle.ans_options.specs.declared.command.TableForm.{TableForm}
+use Rattle.ans_options.specs.declared.command.Mends.{Mends}
 use Rattle.ans_options.specs.declared.command.Options.{Options}
 use Rattle.ans_options.specs.declared.command_line.WordsError.{WordsError}
 use Rattle.ans_options.specs.declared.topic.Topic.{Topic}
@@ -21,16 +23,17 @@ use Rattle.ans_table.specs.Counting.{counts_text}
 use Rattle.ans_write.specs.Tried.{call_count, has_failed, inner_of}
 use Rattle.ans_write.specs.Writes.{AppendsUnless, Wrote, WrotePrefix}
 use Rattle.ans_write.specs.declared.tried.Tried.{Tried}
-use Rattle.ans_check.specs.Ending.{ending_message, ending_of_words}
+use Rattle.ans_check.specs.CommandText.{Reports}
+use Rattle.ans_check.specs.Ending.{ending_message, ending_of_mending, ending_of_words}
 use Rattle.ans_check.specs.Listing.{IsListing, is_whole, names_in, listed_bytes}
-use Rattle.ans_check.specs.Served.{Serves}
+use Rattle.ans_check.specs.Served.{ServesAs, TellsMended}
 use Rattle.ans_check.specs.Table.{WritesTable, header, IsFoundByName}
 use Rattle.ans_check.specs.declared.listing.Listing.{Listing}
 use Rattle.ans_check.specs.declared.errors.RunError.{RunError}
 use Rattle.ans_check.specs.declared.errors.RunError.TheVariants as error
 use Rattle.ans_check.specs.declared.exit_status.Ending.{Ending}
 use Rattle.ans_check.specs.declared.exit_status.Ending.TheVariants.{Run, Help, Usage, UnreadableWords, UnopenedFile}
-use Rattle.ans_check.specs.declared.exit_status.Ending.TheVariants.{Table, NamedInput, UnreadNames}
+use Rattle.ans_check.specs.declared.exit_status.Ending.TheVariants.{Table, NamedInput, UnreadNames, Mended, NotMended}
 
 -- `-` names standard input
 abbrev pub names_standard : Text → Bool
@@ -42,17 +45,19 @@ IsNamed is_file is_standard (Some name) reader =
     MatchBool (names_standard name) (is_standard reader) (is_file name reader)
 IsNamed is_file is_standard None reader = is_standard reader
 
--- The program ends as a run with these options on the input of this name.
-pub record EndsAsServed {R W : Type 0} (remaining : R → Option (List ℕ)) (contents : W → Option (List ℕ))
-    (is_file : Text → R → Type 0) (is_standard : R → Type 0) (options : Options) (file : Option Text)
-    (output output_after : Tried W) (ending : Ending) : Type 0 where
+-- The program ends as a run on the input of this name. `tells` says what the run tells of a file, and `ending_of` how
+-- the program ends at its answer.
+pub record EndsAsServed {R W A : Type 0} (remaining : R → Option (List ℕ)) (contents : W → Option (List ℕ))
+    (is_file : Text → R → Type 0) (is_standard : R → Type 0) (tells : List ℕ → A → List ℕ → Type 0)
+    (ending_of : Result A RunError → Ending) (file : Option Text) (output output_after : Tried W) (ending : Ending)
+    : Type 0 where
   pub reader : Tried R
   pub reader_after : Tried R
   pub input : IsNamed is_file is_standard file (inner_of reader)
   pub unread : call_count reader ≡ 0
-  pub answer : Result Bool RunError
-  pub serves : Serves remaining contents options reader reader_after output output_after answer
-  pub ends : ending ≡ Run answer
+  pub answer : Result A RunError
+  pub serves : ServesAs remaining contents tells reader reader_after output output_after answer
+  pub ends : ending ≡ ending_of answer
 
 -- The input is a file that cannot be opened.
 pub record EndsUnopened {W : Type 0} (is_missing : Text → Type 0) (file : Option Text) (output output_after : Tried W)
@@ -65,7 +70,15 @@ pub record EndsUnopened {W : Type 0} (is_missing : Text → Type 0) (file : Opti
 abbrev pub EndsRun : {R W : Type 0} → (R → Option (List ℕ)) → (W → Option (List ℕ)) → (Text → R → Type 0)
     → (R → Type 0) → (Text → Type 0) → Options → Option Text → Tried W → Tried W → Ending → Type 0
 EndsRun remaining contents is_file is_standard is_missing options file output output_after ending =
-    EndsAsServed remaining contents is_file is_standard options file output output_after ending
+    EndsAsServed remaining contents is_file is_standard (Reports options) Run file output output_after ending
+    ⊎ EndsUnopened is_missing file output output_after ending
+
+-- the input of this name was mended, or there is a reason why not; or it cannot be opened
+abbrev pub EndsMended : {R W : Type 0} → (R → Option (List ℕ)) → (W → Option (List ℕ)) → (Text → R → Type 0)
+    → (R → Type 0) → (Text → Type 0) → Mends → Option Text → Tried W → Tried W → Ending → Type 0
+EndsMended remaining contents is_file is_standard is_missing mends file output output_after ending =
+    EndsAsServed remaining contents is_file is_standard (TellsMended mends) ending_of_mending file output output_after
+    ending
     ⊎ EndsUnopened is_missing file output output_after ending
 
 -- how a table ends, by whether all names were read and what its writing came to
@@ -122,7 +135,8 @@ abbrev pub meaning_text : Topic → List ℕ
 meaning_text (topic.Fault cause) = fault_meaning cause
 meaning_text (topic.Note note) = note_meaning note
 
--- what is asked for was done: one command on one input, a table of many files, or what a fault or a note means
+-- what is asked for was done: one command on one input, a file mended, a table of many files, or what a fault or a note
+-- means
 abbrev pub EndsAs : {R W : Type 0} → (R → Option (List ℕ)) → (W → Option (List ℕ)) → (Text → R → Type 0)
     → (R → Type 0) → (Text → Type 0) → Asked → Tried W → Tried W → Ending → Type 0
 EndsAs remaining contents is_file is_standard is_missing (asked.One options file) output output_after ending =
@@ -186,11 +200,17 @@ abbrev pub Tells : {E : Type 0} → (E → Option (List ℕ)) → Tried E → Tr
 Tells contents errors errors_after text =
     AppendsUnless (has_failed errors_after) (contents (inner_of errors)) (contents (inner_of errors_after)) text
 
--- What the errors took: the line of the ending's message; that of a table's counts; clap's text, where the words are
--- rejected; else nothing.
+-- the errors took the line of the ending's message, or nothing where it has none
+abbrev pub SaysMessage : {E : Type 0} → (E → Option (List ℕ)) → Tried E → Tried E → Ending → Type 0
+SaysMessage contents errors errors_after ending = MatchOption (ending_message ending) (errors_after ≡ errors)
+    (λ text. Tells contents errors errors_after (message_line text))
+
+-- What the errors took: the line of the ending's message; that of a table's counts; what was changed of a file that was
+-- mended, or why it was not; clap's text, where the words are rejected; else nothing.
 abbrev pub Says : {E : Type 0} → (E → Option (List ℕ)) → Tried E → Tried E → Ending → Type 0
 Says contents errors errors_after Usage = (text : List ℕ) × Tells contents errors errors_after text
 Says contents errors errors_after (Table counts) =
     Tells contents errors errors_after (message_line (counts_text counts))
-Says contents errors errors_after ending = MatchOption (ending_message ending) (errors_after ≡ errors)
-    (λ text. Tells contents errors errors_after (message_line text))
+Says contents errors errors_after (Mended mended) = Tells contents errors errors_after (mended_text mended)
+Says contents errors errors_after (NotMended reason) = Tells contents errors errors_after (unmended_text reason)
+Says contents errors errors_after ending = SaysMessage contents errors errors_after ending

@@ -1,16 +1,19 @@
 -- How the program ends: its exit status, and what it says on standard error.
-use Rattle.std.specs.Prelude.{ℕ, List, Option, Some, None, Ok, Err, codes}
+use Rattle.std.specs.Prelude.{ℕ, List, Option, Some, None, Result, Ok, Err, codes}
 use Rattle.clap.specs.Words.{kind_of}
 use Rattle.clap.specs.declared.error.ErrorKind.{ErrorKind}
 use Rattle.clap.specs.declared.error.ErrorKind.TheVariants.{DisplayHelp, DisplayVersion, OutOfMemory}
+use Rattle.ans_mend.specs.declared.outcome.Mended as outcome
+use Rattle.ans_mend.specs.declared.outcome.Unmended.{Unmended}
 use Rattle.ans_options.specs.declared.command_line.WordsError.{WordsError}
 use Rattle.ans_options.specs.declared.command_line.WordsError.TheVariants as words_error
 use Rattle.ans_table.specs.Counting.{counts_status}
 use Rattle.ans_table.specs.Findings.{unread_text}
 use Rattle.ans_table.specs.declared.finding.Unread.TheVariants as why
+use Rattle.ans_check.specs.declared.errors.RunError.{RunError}
 use Rattle.ans_check.specs.declared.exit_status.Ending.{Ending}
 use Rattle.ans_check.specs.declared.exit_status.Ending.TheVariants.{Run, Help, Usage, UnreadableWords, UnopenedFile}
-use Rattle.ans_check.specs.declared.exit_status.Ending.TheVariants.{Table, NamedInput, UnreadNames}
+use Rattle.ans_check.specs.declared.exit_status.Ending.TheVariants.{Table, NamedInput, UnreadNames, Mended, NotMended}
 use Rattle.ans_check.specs.Run.{run_error_text, status_of}
 
 -- the exit status of each ending
@@ -23,6 +26,8 @@ ending_status UnopenedFile = 2
 ending_status (Table counts) = counts_status counts
 ending_status NamedInput = 2
 ending_status UnreadNames = 2
+ending_status (Mended mended) = 0
+ending_status (NotMended reason) = 1
 
 -- what each ending says on standard error after `anscheck: `, if anything
 abbrev pub ending_message : Ending → Option (List ℕ)
@@ -35,6 +40,8 @@ ending_message UnopenedFile = Some (unread_text why.Unopened)
 ending_message (Table counts) = None
 ending_message NamedInput = Some (codes "- names no file of a table; without FILE, names are read")
 ending_message UnreadNames = Some (codes "cannot read the names")
+ending_message (Mended mended) = None
+ending_message (NotMended reason) = None
 
 -- how the program ends at each kind of clap's errors
 abbrev pub ending_of_kind : ErrorKind → Ending
@@ -47,3 +54,9 @@ ending_of_kind _ = Usage
 abbrev pub ending_of_words : WordsError → Ending
 ending_of_words (words_error.Clap error) = ending_of_kind (kind_of error)
 ending_of_words words_error.Memory = UnreadableWords
+
+-- how the program ends at what came of mending
+abbrev pub ending_of_mending : Result (Result outcome.Mended Unmended) RunError → Ending
+ending_of_mending (Ok (Ok mended)) = Mended mended
+ending_of_mending (Ok (Err reason)) = NotMended reason
+ending_of_mending (Err error) = Run (Err error)

@@ -1,8 +1,12 @@
 -- What a command has put when it returns.
 use Rattle.std.specs.declared.alloc.AllocError.{AllocError}
 use Rattle.std.specs.Prelude.{◌≡◌, ℕ, Bool, false, List, Option, Result, Ok, Err}
+use Rattle.ans_mend.specs.declared.outcome.Mended.{Mended}
+use Rattle.ans_mend.specs.declared.outcome.Unmended.{Unmended}
+use Rattle.ans_options.specs.declared.command.Mends.{Mends}
 use Rattle.ans_write.specs.Puts.{Puts, device_failed}
 use Rattle.ans_write.specs.declared.outbox.Outbox.{Outbox}
+use Rattle.ans_check.specs.Served.{TellsMended}
 
 -- `reports` says, of whether the file passes and of a text, that they are what the command is to write. Such a text was
 -- put, and while the device works the answer is that of the text.
@@ -19,3 +23,10 @@ abbrev pub PutsReport : {W : Type 0} → (W → Option (List ℕ)) → (Bool →
     → Result Bool AllocError → Type 0
 PutsReport contents reports old new (Ok answer) = IsPut contents reports old new answer
 PutsReport contents reports old new (Err e) = new ≡ old
+
+-- What is to be told of a file that was to be mended was put; or memory ran out, and nothing was.
+abbrev pub PutsMended : {W : Type 0} → (W → Option (List ℕ)) → Mends → List ℕ → Outbox W → Outbox W
+    → Result (Result Mended Unmended) AllocError → Type 0
+PutsMended contents mends file old new (Ok answer) =
+    (text : List ℕ) × TellsMended mends file answer text × Puts contents old new text
+PutsMended contents mends file old new (Err e) = new ≡ old

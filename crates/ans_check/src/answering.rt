@@ -4,10 +4,13 @@ ghost use Rattle.std.specs.Prelude.{◌≡◌, ◌≢◌, [], None, false, IfSom
 ghost use Rattle.std.specs.Prelude.{option_map, string_bytes, true, map, IfOk};
 ghost use Rattle.std.specs.List.{list_any};
 ghost use Rattle.ans_model.specs.Text.Words.{texts_of};
+ghost use Rattle.ans_mend.specs.MendedText.{mended_text, unmended_text};
+ghost use Rattle.ans_report.specs.Message.{message_line};
+ghost use Rattle.ans_table.specs.Counting.{counts_text};
 ghost use Rattle.ans_write.specs.Tried.{has_failed};
-ghost use Rattle.ans_check.specs.Answer.{EndsAfter, EndsAs, EndsBy, EndsNamed, EndsRun, EndsSo, EndsWritten};
-ghost use Rattle.ans_check.specs.Answer.{IsNamed, PrintsHelp, Says, Tells, TellsFailure, ending_of_table};
-ghost use Rattle.ans_check.specs.Answer.{meaning_text, names_standard};
+ghost use Rattle.ans_check.specs.Answer.{EndsAfter, EndsAs, EndsBy, EndsMended, EndsNamed, EndsRun, EndsSo, EndsWritten};
+ghost use Rattle.ans_check.specs.Answer.{IsNamed, PrintsHelp, Says, SaysMessage, Tells, TellsFailure};
+ghost use Rattle.ans_check.specs.Answer.{ending_of_table, meaning_text, names_standard};
 ghost use Rattle.ans_check.specs.Ending.{ending_of_words};
 ghost use Rattle.ans_check.specs.Listing.{is_whole, names_in, listed_bytes};
 ghost use Rattle.ans_check.specs.Table.{IsFoundByName};
@@ -17,31 +20,70 @@ use crate::exit_status::Ending;
 use crate::inputs::Inputs;
 use crate::listing::Listing;
 use crate::rows::table;
-use crate::streams::serve;
-use ans_options::{Asked, Options, TableForm, Topic, WordsError, asked};
+use crate::streams::{mend, serve};
+use ans_mend::{Mended, Unmended, put_mended, put_unmended};
+use ans_options::{Asked, Mends, Options, TableForm, Topic, WordsError, asked};
 use ans_report::{Tried, fault_meaning, note_meaning, put_message};
 use ans_table::{Counts, put_counts};
 use ans_write::Outbox;
 use std::alloc::{AllocError, Global};
 use std::io::Write;
 
-/// Says why there is no answer, if there is none: `anscheck: ` and the ending's message; and of a table
-/// how many files came out how. What is wrong with rejected words is `clap`'s to say.
+/// Says how many files of a table came out how.
+fn say_counts<E: Write>(errors: &mut Tried<E>, counts: &Counts)
+    requires { has_failed errors.old ≡ false }
+    ensures { Tells E.contents errors.old errors.new (message_line (counts_text counts.now)) }
+{
+    let mut out = Outbox::new(errors);
+    put_counts(&mut out, counts);
+    let _ = out.finish();
+}
+
+/// Says what was changed of a file that was mended.
+fn say_mended<E: Write>(errors: &mut Tried<E>, mended: &Mended)
+    requires { has_failed errors.old ≡ false }
+    ensures { Tells E.contents errors.old errors.new (mended_text mended.now) }
+{
+    let mut out = Outbox::new(errors);
+    put_mended(&mut out, mended);
+    let _ = out.finish();
+}
+
+/// Says why a file is not mended.
+fn say_unmended<E: Write>(errors: &mut Tried<E>, reason: &Unmended)
+    requires { has_failed errors.old ≡ false }
+    ensures { Tells E.contents errors.old errors.new (unmended_text reason.now) }
+{
+    let mut out = Outbox::new(errors);
+    put_unmended(&mut out, reason);
+    let _ = out.finish();
+}
+
+/// Says `anscheck: ` and the ending's message, if it has one.
+fn say_message<E: Write>(errors: &mut Tried<E>, ending: Ending)
+    requires { has_failed errors.old ≡ false }
+    ensures { SaysMessage E.contents errors.old errors.new ending }
+{
+    if let Some(text) = ending.message() {
+        let mut out = Outbox::new(errors);
+        put_message(&mut out, text);
+        let _ = out.finish();
+    }
+}
+
+/// Says why there is no answer, if there is none: `anscheck: ` and the ending's message; of a table how many
+/// files came out how; and of a file that was to be mended what was changed of it, or why it is not mended.
+/// What is wrong with rejected words is `clap`'s to say.
 pub(crate) fn say<E: Write>(errors: &mut Tried<E>, ending: Ending)
     requires works { has_failed errors.old ≡ false }
     requires told { ending ≢ Ending.Usage }
     ensures { Says E.contents errors.old errors.new ending }
 {
-    if let Ending::Table(counts) = ending {
-        let mut out = Outbox::new(errors);
-        put_counts(&mut out, &counts);
-        let _ = out.finish();
-        return;
-    }
-    if let Some(text) = ending.message() {
-        let mut out = Outbox::new(errors);
-        put_message(&mut out, text);
-        let _ = out.finish();
+    match &ending {
+        Ending::Table(counts) => say_counts(errors, counts),
+        Ending::Mended(mended) => say_mended(errors, mended),
+        Ending::NotMended(reason) => say_unmended(errors, reason),
+        _ => say_message(errors, ending),
     }
 }
 
@@ -246,6 +288,26 @@ fn serve_one<I: Inputs, W: Write>(
     Ending::Run(serve(alloc, &mut reader, output, options))
 }
 
+/// Mends the file that the words name, and writes it.
+fn serve_mend<I: Inputs, W: Write>(
+    alloc: Global,
+    inputs: I,
+    mends: &Mends,
+    name: &Option<String>,
+    output: &mut Tried<W>,
+) -> Ending
+    requires { has_failed output.old ≡ false }
+    ensures ends { EndsMended I.Reader.remaining W.contents (I.is_file inputs) (I.is_standard inputs)
+        (I.is_missing inputs) mends.now (option_map string_bytes name.now) output.old output.new result }
+    ensures write { TellsFailure output.new result }
+{
+    let Some(input) = input_named(inputs, name) else {
+        return Ending::UnopenedFile;
+    };
+    let mut reader = Tried::new(input);
+    Ending::of_mending(&mend(alloc, &mut reader, output, mends))
+}
+
 /// What a fault or a note means, and how it is mended.
 fn meaning_text(topic: Topic) -> &'static str
     ensures { result.now ≡ meaning_text topic }
@@ -306,12 +368,15 @@ fn end_of_words<I: Inputs, W: Write, E: Write>(
 /// what a fault or a note means, as `help F20`, its text goes there by itself: that takes no memory and
 /// reads no input.
 ///
-/// The ending is that of the run; `UnopenedFile` where the named file cannot be opened; and where
-/// the words give no options, what their error says, or `UnreadableWords` where there is no memory
-/// for its text. Of a table it is `Table`, with how its files came out; `NamedInput` where `-` stands
-/// among the names; `UnreadNames` where standard input fails before the names end; and
-/// `Run(Err(Memory))` where there is no memory for the names or a row. `Run(Err(Write))` comes exactly
-/// where `output` fails. What fails on `errors` changes no ending.
+/// Where the words ask for a file to be mended, `output` has the mended file, and then `errors` what was
+/// changed of it, a line for each kind of change; or nothing was written, and `errors` has the reason.
+///
+/// The ending is that of the run; `Mended` or `NotMended` where a file was to be mended; `UnopenedFile` where
+/// the named file cannot be opened; and where the words give no options, what their error says, or
+/// `UnreadableWords` where there is no memory for its text. Of a table it is `Table`, with how its files
+/// came out; `NamedInput` where `-` stands among the names; `UnreadNames` where standard input fails before
+/// the names end; and `Run(Err(Memory))` where there is no memory for the names or a row. `Run(Err(Write))`
+/// comes exactly where `output` fails. What fails on `errors` changes no ending.
 pub fn answer<I: Inputs, W: Write, E: Write>(
     alloc: Global,
     words: &[&str],

@@ -1,10 +1,11 @@
 //! How the program ends: its exit status, and what it says on standard error.
 
 ghost use Rattle.std.specs.Prelude.{◌≡◌, option_map};
-ghost use Rattle.ans_check.specs.Ending.{ending_message, ending_of_words, ending_status};
+ghost use Rattle.ans_check.specs.Ending.{ending_message, ending_of_mending, ending_of_words, ending_status};
 ghost use Rattle.ans_check.specs.Run.{status_of};
 
 use crate::errors::RunError;
+use ans_mend::{Mended, Unmended};
 use ans_options::WordsError;
 use ans_table::{Counts, Unread};
 use clap::error::ErrorKind;
@@ -41,6 +42,10 @@ pub enum Ending {
     NamedInput,
     /// The names for a table could not be read to their end. The rows of those that were read are written.
     UnreadNames,
+    /// A file was mended and written, and this was changed of it.
+    Mended(Mended),
+    /// The file is not mended, for this reason, and nothing was written.
+    NotMended(Unmended),
 }
 
 impl Ending {
@@ -60,14 +65,26 @@ impl Ending {
         }
     }
 
-    /// The exit status: that of the run or of the table's counts, 0 for help, and 2 where no run began
-    /// and where the names for a table were not all read.
+    /// How the program ends at what came of mending a file.
+    pub fn of_mending(answer: &Result<Result<Mended, Unmended>, RunError>) -> Ending
+        ensures { result ≡ ending_of_mending answer.now }
+    {
+        match answer {
+            Ok(Ok(mended)) => Ending::Mended(*mended),
+            Ok(Err(reason)) => Ending::NotMended(*reason),
+            Err(error) => Ending::Run(Err(*error)),
+        }
+    }
+
+    /// The exit status: that of the run or of the table's counts, 0 for help and for a mended file, 1 for one
+    /// that is not mended, and 2 where no run began and where the names for a table were not all read.
     pub fn status(&self) -> u8
         ensures { result ≡ ending_status self.now }
     {
         match self {
             Ending::Run(answer) => status(answer),
-            Ending::Help => 0,
+            Ending::Help | Ending::Mended(_) => 0,
+            Ending::NotMended(_) => 1,
             Ending::Table(counts) => counts.status(),
             Ending::Usage | Ending::UnreadableWords | Ending::UnopenedFile => 2,
             Ending::NamedInput | Ending::UnreadNames => 2,
@@ -75,13 +92,15 @@ impl Ending {
     }
 
     /// Why there is no answer, for standard error after `anscheck: `. There is none where the file
-    /// has an answer, none where `clap`'s text says it, and none for a table, whose counts are told.
+    /// has an answer, none where `clap`'s text says it, none for a table, whose counts are told, and none
+    /// for mending, of which more is told.
     pub fn message(&self) -> Option<&'static str>
         ensures { option_map (λ text. text.now) result ≡ ending_message self.now }
     {
         match self {
             Ending::Run(Err(error)) => Some(error.text()),
             Ending::Run(Ok(_)) | Ending::Help | Ending::Usage | Ending::Table(_) => None,
+            Ending::Mended(_) | Ending::NotMended(_) => None,
             Ending::UnreadableWords => Some("cannot read the command line"),
             Ending::UnopenedFile => Some(Unread::Unopened.text()),
             Ending::NamedInput => Some("- names no file of a table; without FILE, names are read"),

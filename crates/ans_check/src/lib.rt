@@ -22,6 +22,7 @@ mod inputs;
 mod least_class;
 mod listing;
 mod mend_edits;
+mod mend_file;
 mod mend_judge;
 mod mend_lines;
 mod mend_steps;
@@ -37,6 +38,7 @@ mod system;
 mod verdict;
 mod why;
 
+pub use ans_mend::{Mended, Unmended};
 pub use ans_model::start::Start;
 pub use ans_options::{
     Asked, Command, Form, Mends, Options, TableForm, Topic, WordsError, asked, options,
@@ -55,7 +57,7 @@ pub use parts_needed::{needs, needs_on};
 pub use pipeline::run;
 pub use rows::table;
 pub use screens::{LentScreens, NewScreens, Screens};
-pub use streams::serve;
+pub use streams::{mend, serve};
 pub use system::program;
 pub use verdict::{Verdict, check, play_on};
 pub use why::why_on;

@@ -2,7 +2,8 @@
 ghost use Rattle.std.specs.Prelude.{◌≡◌, ◌≤◌, ◌<◌, length, IfOk, IfErr, OnErr, OnOk};
 ghost use Rattle.ans_model.specs.Bytes.{longest_file};
 ghost use Rattle.ans_mend.specs.declared.outcome.Unmended.TheVariants.{TooLong};
-ghost use Rattle.ans_check.specs.Mending.{AreLastEndsGone, AreRowsJoined, AreSequencesOut, IsEdited, TellsReturns, returned};
+ghost use Rattle.ans_check.specs.Mending.{AreLastEndsGone, AreRowsJoined, AreSequencesOut, IsEdited, TellsReturns};
+ghost use Rattle.ans_check.specs.Mending.{returned};
 
 use ans_mend::{Draft, Edits, NoRoom, Told, Unmended};
 use ans_model::limits::{MAX_FILE, MAX_LINES};

@@ -2,11 +2,13 @@
 
 ghost use Rattle.std.specs.Prelude.{◌≡◌, false};
 ghost use Rattle.ans_write.specs.Tried.{has_failed};
-ghost use Rattle.ans_check.specs.Served.{Serves};
+ghost use Rattle.ans_check.specs.Served.{Serves, ServesMended};
 
 use crate::errors::RunError;
+use crate::mend_file::run_mend;
 use crate::pipeline::run;
-use ans_options::Options;
+use ans_mend::{Mended, Unmended};
+use ans_options::{Mends, Options};
 use ans_report::Tried;
 use std::alloc::Global;
 use std::io::{Read, Write};
@@ -30,4 +32,30 @@ pub fn serve<R: Read, W: Write>(
         return Err(RunError::Write);
     }
     Ok(passed)
+}
+
+/// Reads the whole input, mends it, and writes the mended file, of which the writer then hands on what it
+/// holds back. The file is judged whole before its first byte is written: it passes from every start, with
+/// the picture that its remaining content has from the cleared one. `Ok` says what was changed of it, in
+/// the order in which it was; or why it is not mended, and then nothing is written.
+///
+/// `Read` comes exactly where the reader failed in the call, `Write` exactly where the writer did, and
+/// `TooLong` as soon as more than 16,777,216 bytes were read. `Memory` comes where memory runs out for the
+/// file, for what is put into it, or for its screen. After `Write` a prefix of the mended file was written,
+/// and after any other error nothing. It makes at most 16,777,218 reads.
+pub fn mend<R: Read, W: Write>(
+    alloc: Global,
+    reader: &mut Tried<R>,
+    writer: &mut Tried<W>,
+    mends: &Mends,
+) -> Result<Result<Mended, Unmended>, RunError>
+    requires reads { has_failed reader.old ≡ false }
+    requires writes { has_failed writer.old ≡ false }
+    ensures { ServesMended R.remaining W.contents mends.now reader.old reader.new writer.old writer.new result }
+{
+    let answer = run_mend(alloc, reader, writer, mends)?;
+    if writer.flush().is_err() {
+        return Err(RunError::Write);
+    }
+    Ok(answer)
 }

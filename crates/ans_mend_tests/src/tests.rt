@@ -170,16 +170,37 @@ fn changes_are_said(rt: HostRuntime) {
 /// A fault, and what is said of it: its line, and what may help.
 macro_rules! refused {
     (record, $offset:literal, $cause:expr, $line:literal) => {
-        refused!($offset, $cause, concat!($line, "\nhelp: --width N gives a drawing without a record one for N columns\n"))
+        refused!(
+            $offset,
+            $cause,
+            concat!(
+                $line,
+                "\nhelp: --width N gives a drawing without a record one for N columns\n"
+            )
+        )
     };
     (lines, $offset:literal, $cause:expr, $line:literal) => {
-        refused!($offset, $cause, concat!($line, "\nhelp: --least-lines states the least number of lines that is enough\n"))
+        refused!(
+            $offset,
+            $cause,
+            concat!(
+                $line,
+                "\nhelp: --least-lines states the least number of lines that is enough\n"
+            )
+        )
     };
     (take_out, $offset:literal, $cause:expr, $line:literal) => {
         refused!($offset, $cause, concat!($line, "\nhelp: --take-out takes out what is known of such sequences\n"))
     };
     (rows, $offset:literal, $cause:expr, $line:literal) => {
-        refused!($offset, $cause, concat!($line, "\nhelp: --line-ends, --full-rows, --take-out or --least-lines, as why says\n"))
+        refused!(
+            $offset,
+            $cause,
+            concat!(
+                $line,
+                "\nhelp: --line-ends, --full-rows, --take-out or --least-lines, as why says\n"
+            )
+        )
     };
     (other, $offset:literal, $cause:expr, $line:literal) => {
         refused!($offset, $cause, concat!($line, "\nhelp: why shows the place, and help tells of the fault\n"))

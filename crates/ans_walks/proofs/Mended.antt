@@ -12,7 +12,8 @@ use Rattle.ans_model.specs.declared.mark.Mark.{Mark}
 use Rattle.ans_model.specs.declared.mark.Mark.TheVariants.{Unmarked, Question}
 use Rattle.ans_model.specs.declared.fault.Cause.{Cause}
 use Rattle.ans_model.specs.declared.fault.Cause.TheVariants.{OutsideScreen}
-use Rattle.ans_model.specs.Sequence.TokenKind.{TokenKind, Glyph, LineFeed, Tab, EraseLine, Clear, Place, Save, Colours, Wrap}
+use Rattle.ans_model.specs.Sequence.TokenKind.{TokenKind, Glyph, LineFeed, Tab, EraseLine, Clear, Place, Save}
+use Rattle.ans_model.specs.Sequence.TokenKind.{Colours, Wrap}
 use Rattle.ans_model.specs.Sequence.Spelling.{Member, Number, Omitted, Raw, SpellsMember, IsInLimit, mark_bytes}
 use Rattle.ans_model.specs.Sequence.Meaning.{meaning}
 use Rattle.ans_model.specs.Sequence.Reads.{SpellsToken, Reads}
@@ -96,8 +97,8 @@ save = spelled (sequence Unmarked [] 0x73) [] tt (λ e. cc) refl tt (omega arith
 reads_behind : (content : List ℕ) (tokens : List TokenKind) → Reads content tokens
     → Reads (mending ++ content) (mending_tokens ++ tokens)
 reads_behind content tokens h = (
-  (escape ∷ codes "[?7h") ∷ (escape ∷ codes "[0m") ∷ (escape ∷ codes "[2J") ∷ (escape ∷ codes "[H") ∷ (escape ∷ codes "[s")
-      ∷ h.0,
+  (escape ∷ codes "[?7h") ∷ (escape ∷ codes "[0m") ∷ (escape ∷ codes "[2J") ∷ (escape ∷ codes "[H")
+      ∷ (escape ∷ codes "[s") ∷ h.0,
   record {
     each = (wrap_on, (white_on_black, (clear, (home, (save, h.1.each)))));
     whole = ap (λ (v : List ℕ). mending ++ v) h.1.whole;

@@ -16,8 +16,8 @@ is_home p = p.row == 0 && p.column == 0
 abbrev pub is_home_by_start : Position → Position → Position → Bool
 is_home_by_start cleared_at low_at high_at = is_home cleared_at && not (is_home low_at && is_home high_at)
 
--- what comes of such a clear with the next token: a place takes the cursor home after all or elsewhere, colours and a bell
--- leave that open, and with anything else the drawing has gone on
+-- what comes of such a clear with the next token: a place takes the cursor home after all or elsewhere, colours and a
+-- bell leave that open, and with anything else the drawing has gone on
 abbrev pub left_open : TokenKind → Homing
 left_open (Place row column) = Home
 left_open (Colours parameters) = Away

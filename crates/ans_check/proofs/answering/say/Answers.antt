@@ -1,19 +1,6 @@
-use Rattle.std.proofs.Common.{rules, sym}
-use Rattle.ans_write.specs.Puts.{device_of}
-use Rattle.ans_check.proofs.AnswerLemmas.{put_out, says_message}
+use Rattle.std.proofs.Common.{rules}
+use Rattle.ans_check.proofs.AnswerLemmas.{says_else}
 use Rattle.ans_check.proofs.answering.say.Goals as goal
 
 pub returns-in-Table : goal.returns-in-Table
-returns-in-Table g c =
-    let told = put_out c.args.errors.now c.finish.result c.new-out.ensures.unchanged c.new-out.ensures.empty
-    c.put_counts.ensures c.finish.ensures.handed c.finish.ensures.device c.finish.ensures.empty in
-    rw c.in-Table.is (search (rules, told))
-
-pub returns-in-Some : goal.returns-in-Some
-returns-in-Some g c =
-    let done = c.finish-in-Some.ensures in
-    let told = put_out c.args.errors.now c.finish-in-Some.result c.new-out-in-Some.ensures.unchanged
-    c.new-out-in-Some.ensures.empty c.put_message.ensures done.handed done.device done.empty in
-    let said = says_message g.E.Write.contents c.args.errors.now (device_of c.finish-in-Some.new.self) c.args.ending
-    c.in-Some.text.now (sym c.in-Some.ensures) told in
-    search (rules, said)
+returns-in-Table g c = rw c.in-Table.is (search (rules, c.say_counts.ensures))

@@ -17,6 +17,8 @@ returns-clause-survey c =
     let size : c.file_size.result ≡ file_size (record_of parts) =
     c.file_size.ensures ∙ ap file_size c.sauce-sauce.ensures in
     surveyed c.args.lacks c.args.file.now parts
-    _ c.in_ok-parts.ensures.ok c.size.ensures (c.is_non_blink.ensures ∙ ap is_non_blink c.sauce-sauce.ensures) stated (c.file_size-2.ensures ∙ ap file_size c.sauce-sauce.ensures)
+    _ c.in_ok-parts.ensures.ok c.size.ensures
+    (c.is_non_blink.ensures ∙ ap is_non_blink c.sauce-sauce.ensures) stated
+    (c.file_size-2.ensures ∙ ap file_size c.sauce-sauce.ensures)
     (one_if (c.file_size.result == length c.content.result.now + 1)
     ∙ ap₂ (λ (v w : ℕ). if v == w + 1 then 1 else 0) size (ap length c.content.ensures))

@@ -15,7 +15,7 @@ returns-in-Ok-finish g c =
     let before : device_failed c.run_command.new.out ≡ false =
     works_before _ _ (λ failed. (c.finish.ensures.handed.stays_failed failed).0) works in
     let served =
-    served_whole g.R.Read.remaining g.W.Write.contents c.args.options.now c.args.reader.now c.read_all.new.r
+    served_whole g.R.Read.remaining g.W.Write.contents (Reports c.args.options.now) c.args.reader.now c.read_all.new.r
     c.args.writer.now (device_of c.finish.new.self) file c.in_ok-file.file
     (rw c.as_slice.ensures.value c.in_ok-file.ensures.whole) c.in_ok-file.ensures.device
     c.in_ok-file.ensures.too_long c.in_ok-file.ensures.calls c.in-Ok.passed put.text
@@ -31,7 +31,7 @@ returns g c =
     c.new-out.ensures.empty put.puts c.finish.ensures.handed c.finish.ensures.device c.finish.ensures.empty in
     let failed : device_failed c.finish.new.self ≡ true = search rules in
     let served =
-    served_in_part g.R.Read.remaining g.W.Write.contents c.args.options.now c.args.reader.now c.read_all.new.r
+    served_in_part g.R.Read.remaining g.W.Write.contents (Reports c.args.options.now) c.args.reader.now c.read_all.new.r
     c.args.writer.now (device_of c.finish.new.self) file c.in_ok-file.file
     (rw c.as_slice.ensures.value c.in_ok-file.ensures.whole) c.in_ok-file.ensures.device
     c.in_ok-file.ensures.too_long c.in_ok-file.ensures.calls put.passed put.text put.reported

@@ -1,0 +1,103 @@
+//! A file that is read to be mended, and what is written of it.
+ghost use Rattle.std.specs.Prelude.{◌≡◌, ◌≤◌, ◌++◌, false, length, take};
+ghost use Rattle.ans_model.specs.Bytes.{longest_file};
+ghost use Rattle.ans_write.specs.Puts.{Puts};
+ghost use Rattle.ans_write.specs.Tried.{has_failed};
+ghost use Rattle.ans_check.specs.Mending.{front_bytes};
+ghost use Rattle.ans_check.specs.Reported.{PutsMended};
+ghost use Rattle.ans_check.specs.Served.{ServesMended};
+
+use crate::errors::RunError;
+use crate::mend_steps::mend_on;
+use crate::reading::read_all;
+use crate::screens::KeptScreens;
+use ans_mend::{Draft, Mended, Unmended};
+use ans_options::Mends;
+use ans_report::{Tried, WriteFault};
+use ans_write::Outbox;
+use std::alloc::{AllocError, Global};
+use std::io::{Read, Write};
+
+/// The bytes that stand in front of a drawing that wants them.
+const SAFE_BEGINNING: &[u8] = b"\x1b[?7h\x1b[0m\x1b[2J\x1b[H\x1b[s";
+
+/// How many bytes a record takes with its end mark, and an end mark behind the content.
+const RECORD_ROOM: usize = 130;
+
+/// Puts a mended file: the bytes in front, where there are some, and those of its draft.
+fn put_file<W: Write>(out: &mut Outbox<'_, W>, front: bool, draft: &[u8])
+    ensures { Puts W.contents out.old out.new (front_bytes front ++ draft.now) }
+{
+    if front {
+        out.put(SAFE_BEGINNING);
+    }
+    out.put(draft);
+}
+
+/// How many bytes are put into a file at most: a return before each line feed, a record and end marks.
+fn room_for(file: &[u8], mends: &Mends) -> usize {
+    if !mends.line_ends {
+        return RECORD_ROOM;
+    }
+    let line_feeds = file.iter().filter(|byte| **byte == b'\n').count();
+    line_feeds.saturating_add(RECORD_ROOM)
+}
+
+/// Mends the file in the first `count` bytes of a memory, and puts it.
+fn mend_in<W: Write>(
+    alloc: Global,
+    out: &mut Outbox<'_, W>,
+    memory: &mut [u8],
+    count: usize,
+    mends: &Mends,
+) -> Result<Result<Mended, Unmended>, AllocError>
+    requires within { count ≤ length memory.old }
+    requires length { count ≤ longest_file }
+    ensures { PutsMended W.contents mends.now (take count memory.old) out.old out.new result }
+{
+    let mut draft = Draft::new(memory, count);
+    let answer = mend_on(&mut KeptScreens::new(alloc), &mut draft, mends)?;
+    if let Ok(mended) = &answer {
+        put_file(out, mended.front, draft.file());
+    }
+    Ok(answer)
+}
+
+/// Mends a file, and puts it.
+fn mend_file<W: Write>(
+    alloc: Global,
+    out: &mut Outbox<'_, W>,
+    mut file: Vec<u8>,
+    mends: &Mends,
+) -> Result<Result<Mended, Unmended>, AllocError>
+    requires { length file.items ≤ longest_file }
+    ensures { PutsMended W.contents mends.now file.items out.old out.new result }
+{
+    let count = file.len();
+    let room = room_for(file.as_slice(), mends);
+    file.resize(count.saturating_add(room), 0)?;
+    mend_in(alloc, out, file.as_mut_slice(), count, mends)
+}
+
+/// Reads the whole input, mends it, and writes the mended file. Nothing is written before it is known to
+/// pass from every start.
+pub(crate) fn run_mend<R: Read, W: Write>(
+    alloc: Global,
+    reader: &mut Tried<R>,
+    writer: &mut Tried<W>,
+    mends: &Mends,
+) -> Result<Result<Mended, Unmended>, RunError>
+    requires reads { has_failed reader.old ≡ false }
+    requires writes { has_failed writer.old ≡ false }
+    ensures { ServesMended R.remaining W.contents mends.now reader.old reader.new writer.old writer.new result }
+{
+    let file = read_all(alloc, reader)?;
+    let mut out = Outbox::new(writer);
+    let Ok(answer) = mend_file(alloc, &mut out, file, mends) else {
+        return Err(RunError::Memory);
+    };
+    match out.finish() {
+        Ok(()) => Ok(answer),
+        Err(WriteFault) => Err(RunError::Write),
+    }
+}
