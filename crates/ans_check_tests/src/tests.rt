@@ -39,6 +39,7 @@ mod endings;
 mod large;
 mod long_tables;
 mod meanings;
+mod mended_files;
 mod mends;
 mod needs;
 mod pictures;

@@ -1,14 +1,38 @@
 //! How the program ends.
 use super::{CLEARED, expect_memory, plain_file};
-use ans_check::{Ending, RunError, WordsError, options, serve, status};
+use ans_check::{Ending, Mended, RunError, Unmended, WordsError, options, serve, status};
+use ans_mend::{Edits, NonBlink, Reset, Told};
 use ans_report::Tried;
 use ans_samples::{FailingOnce, Failure};
 use std::alloc::AllocError;
 use std::io::{self, Read, Write};
 use std::process::Abort;
 
+/// Of a file that is mended a byte was cut off behind the record, and nothing else was changed.
+const CUT: Mended = Mended {
+    tail: 1,
+    given_record: None,
+    edits: Edits {
+        returns: None,
+        told: Told {
+            kinds: [None; 9],
+            bright_backgrounds: None,
+        },
+        row_ends: None,
+        last_ends: None,
+    },
+    non_blink: NonBlink {
+        was: false,
+        is: false,
+    },
+    lines: Reset { was: 1, is: 1 },
+    end_mark: None,
+    front: false,
+    file_size: Reset { was: 2, is: 2 },
+};
+
 /// An ending, its exit status, and what it says.
-static ENDINGS: [(Ending, u8, Option<&str>); 10] = [
+static ENDINGS: [(Ending, u8, Option<&str>); 12] = [
     (Ending::Run(Ok(true)), 0, None),
     (Ending::Run(Ok(false)), 1, None),
     (
@@ -35,6 +59,8 @@ static ENDINGS: [(Ending, u8, Option<&str>); 10] = [
         Some("cannot read the command line"),
     ),
     (Ending::UnopenedFile, 2, Some("cannot open the file")),
+    (Ending::Mended(CUT), 0, None),
+    (Ending::NotMended(Unmended::Torn), 1, None),
 ];
 
 #[test]
@@ -51,6 +77,24 @@ fn endings_have_their_statuses_and_texts(rt: HostRuntime) -> Result<(), AllocErr
         }
     }
     Ok(())
+}
+
+#[test]
+fn mending_has_its_endings(rt: HostRuntime) {
+    let endings = [
+        (Ok(Ok(CUT)), Ending::Mended(CUT)),
+        (
+            Ok(Err(Unmended::NoLines)),
+            Ending::NotMended(Unmended::NoLines),
+        ),
+        (
+            Err(RunError::TooLong),
+            Ending::Run(Err(RunError::TooLong)),
+        ),
+    ];
+    for (answer, ending) in &endings {
+        assert_eq!(rt; Ending::of_mending(answer), *ending);
+    }
 }
 
 /// Words that give no options, of each kind that the tests of `ans_options` meet, and how the program
