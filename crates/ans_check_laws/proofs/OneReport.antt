@@ -20,7 +20,7 @@ use Rattle.ans_model.proofs.AcceptedFiles.{no_fault, one_layout}
 use Rattle.ans_model.proofs.ClassLemmas.{covers_all_known, covers_itself}
 use Rattle.ans_model.proofs.OneAnswer.{one_first_fault, one_last_fault, first_or_last}
 use Rattle.ans_laws.proofs.OneTokensText.{one_fault_of_tokens, one_text_of_tokens}
-use Rattle.ans_options.specs.declared.command.Command.TheVariants.{Why, Check, Show, Sauce, Tokens, Needs, Table}
+use Rattle.ans_options.specs.declared.command.Command.TheVariants.{Why, Check, Show, Sauce, Tokens, Needs, Table, Mend}
 use Rattle.ans_options.specs.declared.command.Form.{Form}
 use Rattle.ans_options.specs.declared.command.Command.{Command}
 use Rattle.ans_options.specs.declared.command.Options.{Options}
@@ -245,6 +245,7 @@ one_by Sauce start cells file text other passed again h g = one_sauce file passe
 one_by Tokens start cells file text other passed again h g = one_tokens file passed again text other h g
 one_by Needs start cells file text other passed again h g = one_needs file passed again text other h g
 one_by (Table form) start cells file text other passed again h g = one_needs file passed again text other h g
+one_by (Mend mends) start cells file text other passed again h g = one_needs file passed again text other h g
 
 pub one_report : (options : Options) (file text other : List ℕ) (passed again : Bool)
     → Reports options file passed text → Reports options file again other → (passed ≡ again) × (text ≡ other)

@@ -201,7 +201,7 @@ fn there_is_room_for_a_return_before_each_line_feed(rt: HostRuntime) -> Result<(
     let answer = mend(rt.alloc(), &mut reader, &mut writer, &line_ends);
     assert_eq!(rt; came(&rt, answer, writer.calls())?, Ok(Ok(true)));
     let rest = behind(&rt, writer.inner().held(), MENDING);
-    assert!(rt; rest.len() == 729 && rest.chunks(2).take(300).all(|end| end == b"\r\n"));
+    assert!(rt; rest.len() == 729 && rest.chunks(2).take(300).all(|end| end == b"\r\n".as_slice()));
     Ok(())
 }
 
