@@ -48,7 +48,7 @@ reaches file place count within behind =
     let long : length front ≡ place = length-take-le place file within in
     let sum : count ≡ length front + suc (count - place - 1) = omega (arith, behind, long) in
     let cut : take count (with_byte place end_mark file) ≡
-        front ++ end_mark ∷ take (count - place - 1) (drop place file) =
+    front ++ end_mark ∷ take (count - place - 1) (drop place file) =
     ap (λ (v : ℕ). take v (with_byte place end_mark file)) sum
     ∙ take-append-add front (end_mark ∷ drop place file) (suc (count - place - 1)) in
     ap (list_any is_end_mark) cut

@@ -18,7 +18,7 @@ feeds_more xs i within = go (is_line_feed (slice_index_or xs i 0)) refl
     go : (feed : Bool) → is_line_feed (slice_index_or xs i 0) ≡ feed
         → line_feeds (take (i + 1) xs) + 1
         ≡ line_feeds (take i xs) + length (if feed then 0x0D ∷ slice_index_or xs i 0 ∷ []
-            else slice_index_or xs i 0 ∷ [])
+        else slice_index_or xs i 0 ∷ [])
     go true is = let more = count_by_more_yes is_line_feed xs i 0 within is in omega (arith, more)
     go false is = let more = count_by_more_no is_line_feed xs i 0 within is in omega (arith, more)
 
@@ -81,7 +81,7 @@ module _ (start memory : List ℕ) (gap count index written : ℕ) (more : index
         let limit = feeds_within (index + 1) in
         let at = next_place in
         behind (gap + (index + 1)) (omega (arith, at, limit)) ∙ one_less memory ∙ ap (drop 1) left
-            ∙ sym (one_less start)
+        ∙ sym (one_less start)
       where
         one_less : (xs : List ℕ) → drop (gap + (index + 1)) xs ≡ drop 1 (drop (gap + index) xs)
         one_less xs = ap (λ (v : ℕ). drop v xs) (omega arith) ∙ sym (drop-drop 1 (gap + index) xs)

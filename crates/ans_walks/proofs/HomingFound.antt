@@ -54,10 +54,10 @@ homed_token first old new tokens t h same homing cleared_steps low_steps high_st
 -- over all of a content
 pub homed_whole : (content : List ℕ) (first now : Clears) (result : Result Bool Fault) (tokens : List TokenKind)
     → WalksTo (λ first front now goes_on. HasHomed first front.tokens goes_on now) content (length content)
-        first now result
+    first now result
     → Reads content tokens → HasHomed first tokens true now
 homed_whole content first now result tokens h reads =
     let whole : Reads (take (length content) content) tokens = rw (take-length content) reads in
     walked_whole _ content (length content) first now result tokens whole.0
-        (λ front stops. false≢true stops.never_stops)
+    (λ front stops. false≢true stops.never_stops)
     h whole.1

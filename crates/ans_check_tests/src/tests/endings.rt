@@ -87,10 +87,7 @@ fn mending_has_its_endings(rt: HostRuntime) {
             Ok(Err(Unmended::NoLines)),
             Ending::NotMended(Unmended::NoLines),
         ),
-        (
-            Err(RunError::TooLong),
-            Ending::Run(Err(RunError::TooLong)),
-        ),
+        (Err(RunError::TooLong), Ending::Run(Err(RunError::TooLong))),
     ];
     for (answer, ending) in &endings {
         assert_eq!(rt; Ending::of_mending(answer), *ending);

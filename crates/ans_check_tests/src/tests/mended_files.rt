@@ -62,7 +62,10 @@ fn words_mend_files(rt: HostRuntime) -> Result<(), AllocError> {
         let answered = answer_drawings(&rt, words, (4096, 4096))?;
         let expected = sample_file(rt.alloc(), front, edits)?;
         let rest = behind(&rt, answered.output.held(), MENDING);
-        assert_eq!(rt; (rest, answered.errors.held()), (expected.as_slice(), *said));
+        assert_eq!(rt;
+            (rest, answered.errors.held()),
+            (expected.as_slice(), *said)
+        );
         assert!(rt; answered.ending.status() == 0);
     }
     Ok(())
@@ -86,7 +89,10 @@ static NOT_MENDED: [(&[&str], u8, &[u8]); 7] = words! {
 fn words_say_why_a_file_is_not_mended(rt: HostRuntime) -> Result<(), AllocError> {
     for (words, status, said) in &NOT_MENDED {
         let answered = answer_drawings(&rt, words, (4096, 4096))?;
-        assert_eq!(rt; (answered.output.held(), answered.errors.held()), (b"".as_slice(), *said));
+        assert_eq!(rt;
+            (answered.output.held(), answered.errors.held()),
+            (b"".as_slice(), *said)
+        );
         assert!(rt; answered.ending.status() == *status);
     }
     Ok(())
@@ -201,7 +207,13 @@ fn there_is_room_for_a_return_before_each_line_feed(rt: HostRuntime) -> Result<(
     let answer = mend(rt.alloc(), &mut reader, &mut writer, &line_ends);
     assert_eq!(rt; came(&rt, answer, writer.calls())?, Ok(Ok(true)));
     let rest = behind(&rt, writer.inner().held(), MENDING);
-    assert!(rt; rest.len() == 729 && rest.chunks(2).take(300).all(|end| end == b"\r\n".as_slice()));
+    assert!(rt;
+        rest.len() == 729
+            && rest
+                .chunks(2)
+                .take(300)
+                .all(|end| end == b"\r\n".as_slice())
+    );
     Ok(())
 }
 

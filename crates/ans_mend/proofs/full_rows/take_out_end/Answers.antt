@@ -23,5 +23,5 @@ returns-in-Some-clause-kept c =
     ∙ append_assoc (take c.args.count m0) (take (at - from) (drop from m0)) (take (feed - (at + 1)) (drop (at + 1) m0))
     ∙ ap (λ (v : List ℕ). take c.args.count m0 ++ v) (pair_out m0 from at feed low lt c.requires.within)
     ∙ ap (λ (o : Option ℕ). take c.args.count m0 ++ without from (bytes_by o feed)
-        (take (feed + 1 - from) (drop from m0)))
+    (take (feed + 1 - from) (drop from m0)))
     (sym c.in-Some.is)

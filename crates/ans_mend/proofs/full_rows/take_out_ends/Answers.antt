@@ -53,7 +53,7 @@ ends-preserved c =
           let o = i.over ends h in
           let first : IsFirstEnd c.ends.rows (take (count - read) (drop read memory)) o.0 c.next_end.new.self e =
           c.in-Some.ensures.ends o.0 (over_window m0 c.ends.rows memory count read within place i.within
-              i.left o.0 o.1) in
+          i.left o.0 o.1) in
           let total : take c.take_out_end-kept.result c.take_out_end-kept.new.memory
           ++ without (e.line_feed + 1) (flat_map bytes_of first.later) (drop (e.line_feed + 1) (take count m0))
           ≡ without_ends 0 ends (take count m0) =

@@ -43,7 +43,7 @@ sequences-preserved c =
     let kept : take c.keep-kept.result c.keep-kept.new.memory ≡ take c.sequences.kept memory ++ next.kept =
     k.kept ∙ ap (λ (v : List ℕ). take c.sequences.kept memory ++ v)
     (kept_there m0 memory count read c.requires.within i.within i.same_length i.left old c.next_unwanted.new.before
-     going
+    going
     next) in
     let g : Gone = gone_at going.kind place next.text in
     let sum = k.count in

@@ -16,13 +16,13 @@ returns-then-is_read-clause-ended c is =
 pub returns-then-is_read-clause-other : goal.returns-then-is_read-clause-other
 returns-then-is_read-clause-other c is tokens texts rows =
     let w = read_whole c.args.content.now c.begun-rows.result c.walk.new.walker c.walk.result tokens texts
-        c.walk.ensures
+    c.walk.ensures
     (subst (λ (z : Size). EndsFullRows z c.args.content.now tokens texts) (sym c.begun-rows.ensures.size) rows) in
     true≢false (sym w.1 ∙ (sym c.are_all_ended.ensures ∙ is))
 
 pub returns-else-is_read-clause-other : goal.returns-else-is_read-clause-other
 returns-else-is_read-clause-other c is tokens texts rows =
     let w = read_whole c.args.content.now c.begun-rows.result c.walk.new.walker c.walk.result tokens texts
-        c.walk.ensures
+    c.walk.ensures
     (subst (λ (z : Size). EndsFullRows z c.args.content.now tokens texts) (sym c.begun-rows.ensures.size) rows) in
     true≢false (sym w.0 ∙ (sym c.unwrap_or-is_read.ensures ∙ is))

@@ -21,7 +21,7 @@ returns-clause-file c =
     rw takes (
     ap (λ v. v.file) c.append-2.ensures
     ∙ ap (λ (v : List ℕ). v ++ c.new_record.result)
-        (ap (λ v. v.file) c.append.ensures ∙ ap (λ (v : List ℕ). v ++ end_mark ∷ []) front)
+    (ap (λ v. v.file) c.append.ensures ∙ ap (λ (v : List ℕ). v ++ end_mark ∷ []) front)
     ∙ ap (λ (v : List ℕ). (content file ++ end_mark ∷ []) ++ v) c.new_record.ensures
     ∙ append_assoc (content file) (end_mark ∷ []) (new_record c.args.width)
     )

@@ -24,7 +24,7 @@ invariant_of-self c = record {
 pub returns-clause-behind : goal.returns-clause-behind
 returns-clause-behind c =
     found_behind c.args.bytes.now _ c.walk.new.walker c.args.self.now _ c.walk.result c.in_ok-end.end refl
-        c.walk.ensures
+    c.walk.ensures
     c.in_ok-end.was refl
 
 pub returns-clause-ends : goal.returns-clause-ends
