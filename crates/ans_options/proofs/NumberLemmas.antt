@@ -1,34 +1,40 @@
 -- Where words have no fault, each value of an option has passed the parser of the option. So a number of `mend` is in
 -- its range.
 use Rattle.std.proofs.Common.{◌≡◌, ℕ, zero, suc, Bool, true, false, true≢false, List, [], ◌∷◌, ◌++◌, Option, Some, None}
-use Rattle.std.proofs.Common.{◌∙◌, ◌+◌, ◌&&◌, ◌==◌, not, cond, length, drop, min, is_some, ap, refl, sym, subst, arith, codes}
-use Rattle.std.specs.Prelude.{IfSome, find, fold, if◌then◌else◌, slice_get, encode_utf8, option_map, pos, ◌≤◌, ⊤}
+use Rattle.std.proofs.Common.{◌∙◌, ◌+◌, ◌&&◌, ◌==◌, not, cond, length, drop, min, is_some, ap, refl, sym, subst}
+use Rattle.std.proofs.Common.{arith, codes}
+use Rattle.std.specs.Prelude.{IfSome, find, fold, if◌then◌else◌, slice_get, encode_utf8, option_map, pos, ⊤}
 use Rattle.std.specs.Prelude.{IsSome, IsSomeAnd, Ok, Err, Result, get_or, ◌<◌, ◌^◌, unwrap_or, option_and_then}
 use Rattle.std.specs.List.{list_any}
 use Rattle.std.specs.Option.{option_map_or}
 use Rattle.std.specs.Str.{bytes_eq, chars}
-use Rattle.std.specs.Str.Parse.{IsNumeral, ParsesUnsigned, digits_value, starts_with_minus, without_leading_plus}
+use Rattle.std.specs.Str.Parse.{ParsesUnsigned, digits_value, starts_with_minus, without_leading_plus}
 use Rattle.std.proofs.lemmas.Int.{ints}
 use Rattle.std.proofs.lemmas.Slice.Eq.{bytes_eq-Decides}
 use Rattle.clap.specs.Facts.{parser_of_value, unwrap_or_range}
-use Rattle.clap.specs.Faults.{action_fault, bundle_fault, bundle_step_fault, entered_fault, flag_word_fault, flags_fault}
+use Rattle.clap.specs.Faults.{action_fault, bundle_fault, bundle_step_fault, entered_fault, flag_word_fault}
+use Rattle.clap.specs.Faults.{flags_fault}
 use Rattle.clap.specs.Faults.{level_fault, long_fault, option_fault, other_fault, positional_fault, react_fault}
-use Rattle.clap.specs.Faults.{repeat_fault, set_fault, settle_fault, short_fault, step_fault, stray_fault, turn_fault, use_fault}
+use Rattle.clap.specs.Faults.{repeat_fault, set_fault, settle_fault, short_fault, step_fault, stray_fault, turn_fault}
+use Rattle.clap.specs.Faults.{use_fault}
 use Rattle.clap.specs.Faults.{walk_fault, word_fault}
 use Rattle.clap.specs.Kinds.{or_else, range_kinds, value_kinds, values_kinds}
 use Rattle.clap.specs.Lexer.{long_of, short_of, without_minus}
 use Rattle.clap.specs.Matches.{ReadsOne, count_text, one_text}
 use Rattle.clap.specs.Simple.{argument_words, built, entered, label_of, names_of, rows_at}
-use Rattle.clap.specs.Values.{Accepts, IsSignedIn, read_as, reading_of}
+use Rattle.clap.specs.Values.{IsSignedIn, read_as, reading_of}
 use Rattle.clap.specs.ValueTests.{accepts}
 use Rattle.clap.specs.Walk.{Held, Names, Outcome, Row, Rule, Step, Text, Waiting, Walk, done, idle, next, option, plain}
 use Rattle.clap.specs.Walk.{positional, refused, subcommand, trailing, value, waits, action_of, after_flag, after_step}
 use Rattle.clap.specs.Walk.{answers_to, arg_by_id, arg_by_index, arg_by_long, arg_by_short, at_row, attached_value}
-use Rattle.clap.specs.Walk.{bundle, bundle_met, bundle_step, count_of, counted, default_rows, flag_met, has_long, has_row}
-use Rattle.clap.specs.Walk.{has_short, is_pending, most_values, long_met, long_or_other, long_word, more_values, new_count}
+use Rattle.clap.specs.Walk.{bundle, bundle_met, bundle_step, count_of, counted, default_rows, flag_met, has_long}
+use Rattle.clap.specs.Walk.{has_row}
+use Rattle.clap.specs.Walk.{has_short, is_pending, most_values, long_met, long_or_other, long_word, more_values}
+use Rattle.clap.specs.Walk.{new_count}
 use Rattle.clap.specs.Walk.{nothing_held, option_met, option_word, plain_word, positional_held, reacted, reading_by}
-use Rattle.clap.specs.Walk.{row_text, rows_after, rows_of, settled, first_of, one_of, settled_rows, short_met}
-use Rattle.clap.specs.Walk.{short_or_plain, short_word, subcommand_met, subcommand_or_other, takes_several, takes_values}
+use Rattle.clap.specs.Walk.{row_text, rows_after, rows_of, settled, first_of, settled_rows, short_met}
+use Rattle.clap.specs.Walk.{short_or_plain, short_word, subcommand_met, subcommand_or_other, takes_several}
+use Rattle.clap.specs.Walk.{takes_values}
 use Rattle.clap.specs.Walk.{to_positional, used, used_as, used_by_id, values_or_missing, walk, walk_from, walked}
 use Rattle.clap.specs.Walk.{walked_from, with_count, with_default, with_values, without, word_met}
 use Rattle.clap.specs.Words.{App, Kinds, Shape, fault_of, subcommand_of}
@@ -189,10 +195,11 @@ used-passed id p again a values rows is none all =
     given : Gives id p a.id (action_of a) (reading_by a) texts
     given e =
         let own = is e in
-        let fault : action_fault (action_of a) again a texts rows ≡ [] = (both_none kinds_of_range (action_fault (action_of a) again a texts rows) none).1 in
+        let fault : action_fault (action_of a) again a texts rows ≡ [] = (both_none kinds_of_range _ none).1 in
         let set : set_fault again a texts rows ≡ [] =
         subst (λ (x : ArgAction). action_fault x again a texts rows ≡ []) own.0 fault in
-        let kinds : values_kinds a.ignore_case (parser_of_value a.parser) texts ≡ [] = (both_none kinds_of_repeat (values_kinds a.ignore_case (parser_of_value a.parser) texts) set).1 in
+        let kinds : values_kinds a.ignore_case (parser_of_value a.parser) texts ≡ [] =
+        (both_none kinds_of_repeat _ set).1 in
         let cased = subst (λ (b : Bool). values_kinds b (parser_of_value a.parser) texts ≡ []) own.1 kinds in
         (own.0, subst (λ (q : ValueParser). values_kinds false q texts ≡ []) own.2 cased, ap reading_of own.2)
 

@@ -20,8 +20,7 @@ use Rattle.ans_options.specs.declared.command.Asked.TheVariants as asked
 use Rattle.ans_options.specs.declared.command_line.WordsError.{WordsError}
 use Rattle.ans_options.specs.declared.command_line.WordsError.TheVariants as words_error
 use Rattle.ans_options.specs.declared.command.Command.{Command}
-use Rattle.ans_options.specs.declared.command.Command.TheVariants.{Why, Check, Show, Sauce, Tokens, Needs, Table}
-use Rattle.ans_options.specs.declared.command.Command.TheVariants.{Mend}
+use Rattle.ans_options.specs.declared.command.Command.TheVariants.{Why, Check, Show, Sauce, Tokens, Needs, Table, Mend}
 use Rattle.ans_options.specs.declared.command.TheConstants.Mends as no_mends
 use Rattle.ans_options.specs.declared.command.Mends.{Mends}
 use Rattle.ans_options.specs.declared.command.Form.{Form}
@@ -247,8 +246,8 @@ IsInFormAsked (Mend mends) rows = (mends ≡ mends_asked rows) × AreInRange men
 IsInFormAsked _ rows = ⊤
 
 -- The subcommand is named as the command, and its matches say in which form a picture is shown or a table is written,
--- what is changed to mend, and which parts of the start are known. They hold `--cells` exactly where the cells are asked for, and the file
--- exactly where one is given, with that text.
+-- what may be changed to mend, and which parts of the start are known. They hold `--cells` exactly where the cells are
+-- asked for, and the file exactly where one is given, with that text.
 abbrev pub AsksFor : (Text × List Row) → Options → Option Text → Type 0
 AsksFor sub o file = (sub.0 ≡ command_name o.command)
     × IsInFormAsked o.command sub.1
@@ -277,7 +276,8 @@ AsksForTable sub form names =
 abbrev pub mend_options : Mends → Options
 mend_options mends = record { command = Mend mends; start = none_known; cells = false }
 
--- the subcommand is `mend`, its matches say what may be changed, and hold the file exactly where one is given
+-- The subcommand is `mend`, and its matches say what may be changed, with each number in its range. They hold the file
+-- exactly where one is given, with that text.
 abbrev pub AsksForMend : (Text × List Row) → Mends → Option Text → Type 0
 AsksForMend sub mends file =
     (sub.0 ≡ command_name (Mend mends))

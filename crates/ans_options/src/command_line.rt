@@ -174,7 +174,7 @@ const MEND_FLAGS: [(&str, &str); 4] = [
     ),
     (
         "full-rows",
-        "Take out the line ends behind full rows, where each has one",
+        "Take out the line ends behind full rows, if each has one",
     ),
     (
         "least-lines",
@@ -186,7 +186,7 @@ const MEND_FLAGS: [(&str, &str); 4] = [
 const LINES: &str = "State N lines, where too few or none are stated: 1 to 8192";
 
 /// What `--width` of `mend` does.
-const WIDTH: &str = "Give a drawing without a record one for N columns: 1 to 1024";
+const WIDTH: &str = "Give a drawing with no record one for N columns: 1 to 1024";
 
 /// The flags that name a part of the start, each with its help.
 const PART_FLAGS: [(&str, &str); 5] = [
