@@ -1,8 +1,6 @@
 -- What comes of a file that is mended by itself.
 use Rattle.std.proofs.Common.{◌≡◌, inl, inr, ℕ, ◌+◌, ◌-◌, ◌==◌, Bool, true, false, List, [], ◌++◌, length, refl, sym}
-use Rattle.std.proofs.Common.{ap}
-use Rattle.std.proofs.Common.{ap₂, ◌∙◌, arith, append_assoc, subst, subst₂, true≢false, Option, None, Some}
-use Rattle.std.proofs.Common.{drop}
+use Rattle.std.proofs.Common.{ap, ap₂, ◌∙◌, arith, append_assoc, drop, subst, subst₂, true≢false, Option, None, Some}
 use Rattle.std.specs.Prelude.{if◌then◌else◌, ◌&&◌}
 use Rattle.std.proofs.lemmas.List.{length-append}
 use Rattle.std.proofs.Math.Seq.{drop-append_seam}
