@@ -1,6 +1,5 @@
 use Rattle.std.proofs.Common.{rules, ◌≡◌, true, false, Ok, Err, subst}
 use Rattle.ans_write.specs.Puts.{device_failed, device_of}
-use Rattle.ans_write.specs.declared.tried.Tried.{Tried}
 use Rattle.ans_write.proofs.PutsLemmas.{WritesText-finished}
 use Rattle.ans_check.specs.Served.{ServesAs, TellsMended}
 use Rattle.ans_check.specs.declared.errors.RunError.TheVariants.{Write}
