@@ -72,6 +72,7 @@ OF_REJECTED_WORDS = {
     "tests::endings::words_without_options_have_their_endings",
     "tests::faults::help_takes_one_command",
     "tests::faults::mistakes_have_their_kinds",
+    "tests::mends::wrong_words_of_mending_have_their_kind",
     "tests::tables::wrong_words_of_a_table_have_their_kind",
     "tests::texts::rejected_words_have_their_texts",
 }
@@ -90,7 +91,8 @@ FILES = {
 COMMANDS = [
     ["check"], ["check", "--cleared"], ["check", "--cleared", "--cells"],
     ["check", "--known-cursor", "--known-colours"], ["show"], ["show", "--html", "--any"], ["why"], ["needs"],
-    ["sauce"], ["tokens"], ["table"], ["table", "--json"],
+    ["sauce"], ["tokens"], ["table"], ["table", "--json"], ["mend"],
+    ["mend", "--take-out", "--line-ends", "--full-rows", "--least-lines", "--width", "80"],
 ]
 OTHER_WORDS = [["--help"], ["check", "--help"], ["check", "--bogus"], []]
 
