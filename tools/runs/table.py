@@ -38,6 +38,12 @@ def file_of(content, width=2, lines=1):
     return content + b"\x1a" + plain_record(width, lines, len(content))
 
 
+def in_front(content, width=2, lines=1):
+    """The bytes that make a content safe, the content, one end mark and its record."""
+    return file_of(MENDING + content, width, lines)
+
+
+MENDING = b"\x1b[?7h\x1b[0m\x1b[2J\x1b[H\x1b[s"
 HI = "data/hi.ans"
 BOX = "data/box.ans"
 HARBOUR = "data/harbour.ans"
@@ -100,6 +106,7 @@ Usage: anscheck <COMMAND>
 
 Commands:
   why     Say why a drawing is refused, what it relies on, and how to mend it
+  mend    Write a drawing mended, so that it shows the same everywhere
   needs   Print what a drawing relies on: screen, cursor, saved, colours, wrap
   check   Check that a file always shows the same picture, and print it
   show    Show the picture in its colours, for a terminal or as a page
@@ -113,6 +120,7 @@ Options:
 
 Examples:
   anscheck why drawing.ans
+  anscheck mend drawing.ans > mended.ans
   anscheck check --cleared drawing.ans
   anscheck show drawing.ans
   anscheck help check
@@ -136,6 +144,32 @@ Options:
       --cells          Print each cell too: its byte and its attribute, in hex
   -h, --help           Print help
 """ + STATUSES
+MEND_HELP = b"""Write a drawing mended, so that it shows the same everywhere
+
+Usage: anscheck mend [OPTIONS] [FILE]
+
+Arguments:
+  [FILE]  The file to read; - or none is standard input
+
+Options:
+      --take-out     Take out the sequences that players differ in
+      --line-ends    Put a return before each line feed, where there is none
+      --full-rows    Take out the line ends behind full rows, if each has one
+      --least-lines  State the least number of lines that is enough
+      --lines <N>    State N lines, where too few or none are stated: 1 to 8192
+      --width <N>    Give a drawing with no record one for N columns: 1 to 1024
+  -h, --help         Print help
+
+The mended file goes to standard output: give it another name, as in
+  anscheck mend drawing.ans > mended.ans
+since the shell empties a file before it is read. Each change is told on
+standard error; without a flag only what is safe is changed.
+
+Exit status:
+  0  A file was written, or help was asked for
+  1  No file could be mended so; standard error says why
+  2  There is no answer; standard error says why
+"""
 SHOW_HELP = b"""Show the picture in its colours, for a terminal or as a page
 
 Usage: anscheck show [OPTIONS] [FILE]
@@ -194,8 +228,9 @@ VERSION = b"anscheck 0.1.0 (rattle logic dac8208d650f15bf)\n"
 
 
 def mistake(what, usage):
-    """clap's text on words that it rejects."""
-    return (f"error: {what}\n\nUsage: anscheck {usage}\n\nFor more information, try '--help'.\n").encode()
+    """clap's text on words that it rejects. On a value that it rejects it shows no usage."""
+    shown = f"Usage: anscheck {usage}\n\n" if usage else ""
+    return f"error: {what}\n\n{shown}For more information, try '--help'.\n".encode()
 
 
 CHECK_USAGE = "check [OPTIONS] [FILE]"
@@ -276,6 +311,52 @@ RUNS = [
         stderr=b"anscheck: - names no file of a table; without FILE, names are read\n", stdin=HI),
     Run("table on a full device", ["table", HI], 2,
         stderr=b"anscheck: cannot write the report\n", output="/dev/full"),
+    # Files that are mended, and what is said of them.
+    Run("mended, from standard input", ["mend"], 0, in_front(b"Hi"),
+        b"put 19 bytes in front\nfile size 21, was 2\n", stdin=HI),
+    Run("mended, a named file", ["mend", HI], 0, in_front(b"Hi"),
+        b"put 19 bytes in front\nfile size 21, was 2\n"),
+    Run("mended, a file that passes already", ["mend"], 0, in_front(b"Hi"), stdin=in_front(b"Hi")),
+    Run("mended with each flag, where none is wanted",
+        ["mend", "--take-out", "--line-ends", "--full-rows", "--least-lines", "--lines", "9", "--width=80", HI], 0,
+        in_front(b"Hi"), b"put 19 bytes in front\nfile size 21, was 2\n"),
+    Run("mended, with bytes behind the record", ["mend"], 0, in_front(b"Hi"),
+        b"cut 2 bytes behind the record\nput 19 bytes in front\nfile size 21, was 2\n",
+        stdin=file_of(b"Hi") + b"\r\n"),
+    Run("mended, without an end mark", ["mend"], 0, in_front(b"Hi"),
+        b"put an end mark at 2\nput 19 bytes in front\nfile size 21, was 2\n",
+        stdin=b"Hi" + plain_record(2, 1, 2)),
+    Run("mended, a sequence taken out", ["mend", "--take-out"], 0, in_front(b"Hi"),
+        b"took out <ESC>[?25l at 0\nput 19 bytes in front\nfile size 21, was 8\n", stdin=file_of(b"\x1b[?25lHi")),
+    Run("mended, returns put", ["mend", "--line-ends"], 0, in_front(b"a\r\nb", 2, 2),
+        b"put a return before a line feed at 1\nput 19 bytes in front\nfile size 23, was 3\n",
+        stdin=file_of(b"a\nb", 2, 2)),
+    Run("mended, full rows joined", ["mend", "--full-rows"], 0, in_front(b"HiHoHu", 2, 3),
+        b"took out a line end behind a full row, 2 times, first at 2\nput 19 bytes in front\n"
+        b"file size 25, was 10\n", stdin=file_of(b"Hi\r\nHo\r\nHu", 2, 3)),
+    Run("mended, the least lines", ["mend", "--least-lines"], 0, in_front(b"Hi!", 2, 2),
+        b"lines 2, was 1\nput 19 bytes in front\nfile size 22, was 3\n", stdin=file_of(b"Hi!")),
+    Run("mended, so many lines", ["mend", "--lines", "8192"], 0, in_front(b"Hi!", 2, 8192),
+        b"lines 8192, was 1\nput 19 bytes in front\nfile size 22, was 3\n", stdin=file_of(b"Hi!")),
+    Run("mended, with a record", ["mend", "--width", "2"], 0,
+        in_front(b"Hi").replace(b"19960101", b"00000000"),
+        b"put a record of 2 columns\nlines 1, was 0\nput 19 bytes in front\nfile size 21, was 0\n", stdin=b"Hi"),
+    Run("mended no more than in front, a refused drawing", ["mend"], 1,
+        stderr=b"at 2: F20 print below the stated lines\n"
+        b"help: --line-ends, --full-rows, --take-out or --least-lines, as why says\n", stdin=file_of(b"Hi!")),
+    Run("mended without a record", ["mend"], 1, stderr=b"at 127: F1 no SAUCE record\n"
+        b"help: --width N gives a drawing without a record one for N columns\n", stdin=b"S" * 127),
+    Run("mended, the longest file", ["mend", "--width", "80"], 1,
+        stderr=b"the file would be longer than 16777216 bytes\n", stdin=b" " * LARGEST_FILE),
+    Run("mended, too long a file", ["mend"], 2,
+        stderr=b"anscheck: file above 16777216 bytes\n", stdin=bytes(LARGEST_FILE + 1)),
+    Run("mended, a file that is not there", ["mend", "data/none.ans"], 2,
+        stderr=b"anscheck: cannot open the file\n", stdin=HI),
+    Run("mended, a folder", ["mend", "data"], 2, stderr=b"anscheck: cannot read the file\n"),
+    Run("mended on a full device", ["mend", HI], 2,
+        stderr=b"anscheck: cannot write the report\n", output="/dev/full"),
+    Run("no file for a full device", ["mend"], 1, stderr=b"at 0: F1 no SAUCE record\n"
+        b"help: --width N gives a drawing without a record one for N columns\n", output="/dev/full"),
     # Files that pass from the starts of which some parts are known, and not from every start.
     Run("check with a known screen", ["check", "--known-screen"], 0,
         b"size: 1 x 1\nstart: known screen\ncontent: 0 bytes\nverdict: pass\npicture:\n \n",
@@ -386,6 +467,16 @@ RUNS = [
     Run("help of sauce", ["sauce", "-h"], 0, SAUCE_HELP, stdin=HI),
     Run("help of why", ["why", "--help"], 0, WHY_HELP, stdin=HI),
     Run("help of needs", ["needs", "--help"], 0, NEEDS_HELP, stdin=HI),
+    Run("help of mend", ["mend", "--help"], 0, MEND_HELP, stdin=HI),
+    Run("help of mend by its name", ["help", "mend"], 0, MEND_HELP),
+    Run("too few lines to state", ["mend", "--lines", "0", HI], 2, stderr=mistake(
+        "invalid value '0' for '--lines <N>': 0 is not in 1..=8192", None)),
+    Run("too many lines to state", ["mend", "--lines", "8193", HI], 2, stderr=mistake(
+        "invalid value '8193' for '--lines <N>': 8193 is not in 1..=8192", None)),
+    Run("too wide a record", ["mend", "--width", "1025", HI], 2, stderr=mistake(
+        "invalid value '1025' for '--width <N>': 1025 is not in 1..=1024", None)),
+    Run("a width that is no number", ["mend", "--width", "x", HI], 2, stderr=mistake(
+        "invalid value 'x' for '--width <N>': invalid digit found in string", None)),
     Run("an unknown flag", ["check", "--bogus"], 2, stdin=HI, stderr=mistake(
         "unexpected argument '--bogus' found\n\n"
         "  tip: to pass '--bogus' as a value, use '-- --bogus'", CHECK_USAGE)),
@@ -409,7 +500,7 @@ RUNS = [
         f"unexpected argument '{HI}' found", CHECK_USAGE)),
     Run("no subcommand", [], 2, stdin=HI, stderr=mistake(
         "'anscheck' requires a subcommand but one was not provided\n"
-        "  [subcommands: why, needs, check, show, sauce, tokens, table]", NO_COMMAND)),
+        "  [subcommands: why, mend, needs, check, show, sauce, tokens, table]", NO_COMMAND)),
     Run("an unknown subcommand", ["other", HI], 2, stderr=mistake(
         "unrecognized subcommand 'other'", NO_COMMAND)),
     Run("a drawing without a command", [HI], 2, stderr=mistake(

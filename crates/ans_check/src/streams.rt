@@ -9,7 +9,7 @@ use crate::mend_file::run_mend;
 use crate::pipeline::run;
 use ans_mend::{Mended, Unmended};
 use ans_options::{Mends, Options};
-use ans_report::Tried;
+use ans_report::{DeviceFault, Tried};
 use std::alloc::Global;
 use std::io::{Read, Write};
 
@@ -54,8 +54,8 @@ pub fn mend<R: Read, W: Write>(
     ensures { ServesMended R.remaining W.contents mends.now reader.old reader.new writer.old writer.new result }
 {
     let answer = run_mend(alloc, reader, writer, mends)?;
-    if writer.flush().is_err() {
-        return Err(RunError::Write);
+    match writer.flush() {
+        Ok(()) => Ok(answer),
+        Err(DeviceFault) => Err(RunError::Write),
     }
-    Ok(answer)
 }

@@ -227,6 +227,6 @@ fn a_reason_leaves_nothing_written(rt: HostRuntime) -> Result<(), AllocError> {
         cause: Cause::NoRecord,
     });
     assert_eq!(rt; came(&rt, answer, writer.calls())?, Ok(Err(reason)));
-    assert!(rt; writer.calls() == 0);
+    assert!(rt; writer.inner().held().is_empty());
     Ok(())
 }
