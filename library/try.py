@@ -4,7 +4,8 @@
 PROGRAM is the built anscheck, ARCHIVE the built libans_c.a. `tell` is built in C, in C++ and in Rust and run in Python; of
 each FILE (by default the drawings of conformance/ and of crates/anscheck/data, and a file that is too long) each must say
 what the program says: the verdict and each cell from three classes of starts, what the file needs, the text of why, what
-the record says, and the mended file, by itself and with all that may be changed. It wants cc, c++ and rustc. The last line is 'N files in 4 languages, M differ'."""
+the record says, and the mended file with what is said of it, mended by itself and with all that may be changed. It wants
+cc, c++ and rustc. The last line is 'N files in 4 languages, M differ'."""
 import re
 import subprocess
 import sys
