@@ -27,20 +27,19 @@ fn front_bytes(front: bool) -> &'static [u8]
     if front { SAFE_BEGINNING } else { b"" }
 }
 
-/// Copies a mended file to the front of an array: the bytes in front, where there are some, and those of
-/// its draft. Returns how many these are, or nothing where the array has no room for them.
-fn place(front: bool, draft: &[u8], mended: &mut [u8]) -> Option<usize>
-    ensures placed { IfSome result (λ size. take size mended.new ≡ front_bytes front ++ draft.now) }
-    ensures room { IsNone result → length mended.old < length (front_bytes front ++ draft.now) }
+/// Copies two texts to the front of an array, one behind the other. Returns how many bytes they have, or
+/// nothing where the array has no room for them.
+fn place(beginning: &[u8], rest: &[u8], array: &mut [u8]) -> Option<usize>
+    ensures placed { IfSome result (λ size. take size array.new ≡ beginning.now ++ rest.now) }
+    ensures room { IsNone result → length array.old < length (beginning.now ++ rest.now) }
 {
-    let beginning = front_bytes(front);
     let start = beginning.len();
-    let size = start + draft.len();
-    if mended.len() < size {
+    let size = start + rest.len();
+    if array.len() < size {
         return None;
     }
-    mended[..start].copy_from_slice(beginning);
-    mended[start..size].copy_from_slice(draft);
+    array[..start].copy_from_slice(beginning);
+    array[start..size].copy_from_slice(rest);
     Some(size)
 }
 
@@ -64,7 +63,7 @@ fn mend_in(
     let mut draft = Draft::new(memory, count);
     match mend_on(screens, &mut draft, mends) {
         Ok(Ok(changed)) => {
-            let size = place(changed.front, draft.file(), mended)?;
+            let size = place(front_bytes(changed.front), draft.file(), mended)?;
             Some((Ok(changed), size))
         }
         Ok(Err(reason)) => Some((Err(reason), 0)),
