@@ -142,6 +142,9 @@ abbrev pub EndsAs : {R W : Type 0} → (R → Option (List ℕ)) → (W → Opti
 EndsAs remaining contents is_file is_standard is_missing (asked.One options file) output output_after ending =
     EndsRun remaining contents is_file is_standard is_missing options (option_map string_bytes file) output output_after
     ending
+EndsAs remaining contents is_file is_standard is_missing (asked.Mend mends file) output output_after ending =
+    EndsMended remaining contents is_file is_standard is_missing mends (option_map string_bytes file) output
+    output_after ending
 EndsAs remaining contents is_file is_standard is_missing (asked.Table form names) output output_after ending =
     EndsBy remaining contents is_standard (IsFoundByName remaining is_file is_missing) form
     (map string_bytes names.items) output output_after ending

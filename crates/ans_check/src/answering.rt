@@ -8,8 +8,8 @@ ghost use Rattle.ans_mend.specs.MendedText.{mended_text, unmended_text};
 ghost use Rattle.ans_report.specs.Message.{message_line};
 ghost use Rattle.ans_table.specs.Counting.{counts_text};
 ghost use Rattle.ans_write.specs.Tried.{has_failed};
-ghost use Rattle.ans_check.specs.Answer.{EndsAfter, EndsAs, EndsBy, EndsMended, EndsNamed, EndsRun, EndsSo, EndsWritten};
-ghost use Rattle.ans_check.specs.Answer.{IsNamed, PrintsHelp, Says, SaysMessage, Tells, TellsFailure};
+ghost use Rattle.ans_check.specs.Answer.{EndsAfter, EndsAs, EndsBy, EndsMended, EndsNamed, EndsRun, EndsSo};
+ghost use Rattle.ans_check.specs.Answer.{EndsWritten, IsNamed, PrintsHelp, Says, SaysMessage, Tells, TellsFailure};
 ghost use Rattle.ans_check.specs.Answer.{ending_of_table, meaning_text, names_standard};
 ghost use Rattle.ans_check.specs.Ending.{ending_of_words};
 ghost use Rattle.ans_check.specs.Listing.{is_whole, names_in, listed_bytes};
@@ -332,6 +332,7 @@ fn serve_asked<I: Inputs, W: Write>(
 {
     match asked {
         Asked::One(options, name) => serve_one(alloc, inputs, options, name, output),
+        Asked::Mend(mends, name) => serve_mend(alloc, inputs, mends, name, output),
         Asked::Table(form, names) => serve_table(alloc, inputs, names.as_slice(), *form, output),
         Asked::Meaning(topic) => print_help(output, meaning_text(*topic)),
     }

@@ -17,8 +17,9 @@ use Rattle.clap.specs.declared.parser.matches.ArgMatches.TheViews.{out-ArgMatche
 use Rattle.clap.specs.declared.parser.matches.SubCommand.{SubCommand}
 use Rattle.clap.specs.Walk.{answers_to, stop_after}
 use Rattle.clap.specs.Simple.{argument_words, built, entered, label_of, names_of, rows_at}
-use Rattle.ans_options.specs.declared.command.Command.TheVariants.{Why, Check, Show, Sauce, Tokens, Needs, Table}
+use Rattle.ans_options.specs.declared.command.Command.TheVariants.{Why, Check, Show, Sauce, Tokens, Needs, Table, Mend}
 use Rattle.ans_options.specs.declared.command.Form.TheVariants.{Terminal}
+use Rattle.ans_options.specs.declared.command.TheConstants.Mends as no_mends
 use Rattle.ans_options.specs.declared.command.TableForm.TheVariants.{Headed}
 use Rattle.clap.specs.declared.builder.command.Command.{Command}
 use Rattle.clap.proofs.CallerLemmas.{subcommand_required}
@@ -74,7 +75,7 @@ abbrev pub MetIn : Text × List Row → List Text → List Shape → Type 0
 MetIn met w [] = ⊥
 MetIn met w (s ∷ xs) = (rows_at s w ≡ met) ⊎ MetIn met w xs
 
-some_same : {X : Type 0} {x y : X} → Some x ≡ Some y → x ≡ y
+pub some_same : {X : Type 0} {x y : X} → Some x ≡ Some y → x ≡ y
 some_same {X} {x} {y} h = ap (λ o. unwrap_or o x) h
 
 found_met : (w : List Text) (f : Shape → Bool) (xs : List Shape) (met : Text × List Row)
@@ -115,13 +116,14 @@ command_found words (Some p) e some = let (w, met) = program_met words p e in co
   where
     command_of : (w : List Text) → MetIn p w (built anscheck).subs → IsCommand p
     command_of w (inl why) = (Why, name_met why)
-    command_of w (inr (inl needs)) = (Needs, name_met needs)
-    command_of w (inr (inr (inl check))) = (Check, name_met check)
-    command_of w (inr (inr (inr (inl show)))) = (Show Terminal, name_met show)
-    command_of w (inr (inr (inr (inr (inl sauce))))) = (Sauce, name_met sauce)
-    command_of w (inr (inr (inr (inr (inr (inl tokens)))))) = (Tokens, name_met tokens)
-    command_of w (inr (inr (inr (inr (inr (inr (inl table))))))) = (Table Headed, name_met table)
-    command_of w (inr (inr (inr (inr (inr (inr (inr never))))))) = absurd never
+    command_of w (inr (inl mend)) = (Mend no_mends.NONE, name_met mend)
+    command_of w (inr (inr (inl needs))) = (Needs, name_met needs)
+    command_of w (inr (inr (inr (inl check)))) = (Check, name_met check)
+    command_of w (inr (inr (inr (inr (inl show))))) = (Show Terminal, name_met show)
+    command_of w (inr (inr (inr (inr (inr (inl sauce)))))) = (Sauce, name_met sauce)
+    command_of w (inr (inr (inr (inr (inr (inr (inl tokens))))))) = (Tokens, name_met tokens)
+    command_of w (inr (inr (inr (inr (inr (inr (inr (inl table)))))))) = (Table Headed, name_met table)
+    command_of w (inr (inr (inr (inr (inr (inr (inr (inr never)))))))) = absurd never
 
 -- the third of the facts that make a command plain
 no_globals : (groups external globals rest : Bool) → (groups && (not external && (not globals && rest))) ≡ true

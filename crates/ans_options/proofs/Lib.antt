@@ -6,3 +6,4 @@ pub mod HelpLemmas
 pub mod MeaningLemmas
 pub mod HelpWords
 pub mod TopicLemmas
+pub mod NumberLemmas

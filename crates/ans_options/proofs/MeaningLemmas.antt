@@ -8,10 +8,12 @@ use Rattle.std.specs.Str.{bytes_eq}
 use Rattle.std.proofs.lemmas.Slice.Eq.{bytes_eq-Decides}
 use Rattle.clap.specs.Words.{Text}
 use Rattle.ans_options.specs.declared.command.Command.{Command}
-use Rattle.ans_options.specs.declared.command.Command.TheVariants.{Why, Check, Show, Sauce, Tokens, Needs, Table}
+use Rattle.ans_options.specs.declared.command.Command.TheVariants.{Why, Check, Show, Sauce, Tokens, Needs, Table, Mend}
 use Rattle.ans_options.specs.declared.command.Form.TheVariants.{Terminal}
+use Rattle.ans_options.specs.declared.command.TheConstants.Mends as no_mends
 use Rattle.ans_options.specs.declared.command.TableForm.TheVariants.{Headed}
-use Rattle.ans_options.specs.CommandLine.{IsNoCommand, command_names, help_on, is_table, words_meant}
+use Rattle.ans_options.specs.CommandLine.{IsNoCommand, command_names, help_on, is_mend, is_table, words_meant}
+use Rattle.ans_options.specs.declared.command.Mends.{Mends}
 use Rattle.ans_options.specs.declared.command.TableForm.{TableForm}
 use Rattle.ans_model.specs.Text.Words.{texts_of}
 use Rattle.ans_options.proofs.CommandLineLemmas.{not_true}
@@ -24,6 +26,7 @@ pub no_command_name : (name : Text) → IsNoCommand name → list_any (bytes_eq 
 no_command_name name h =
     rw (
       unequal name (codes "why") (h Why),
+      unequal name (codes "mend") (h (Mend no_mends.NONE)),
       unequal name (codes "needs") (h Needs),
       unequal name (codes "check") (h Check),
       unequal name (codes "show") (h (Show Terminal)),
@@ -62,3 +65,15 @@ no_table (Show form) other = refl
 no_table Sauce other = refl
 no_table Tokens other = refl
 no_table Needs other = refl
+no_table (Mend mends) other = refl
+
+-- and what does not mend in any way does not mend
+pub no_mend : (c : Command) → ((mends : Mends) → c ≡ Mend mends → ⊥) → is_mend c ≡ false
+no_mend (Mend mends) other = absurd (other mends refl)
+no_mend Why other = refl
+no_mend Check other = refl
+no_mend (Show form) other = refl
+no_mend Sauce other = refl
+no_mend Tokens other = refl
+no_mend Needs other = refl
+no_mend (Table form) other = refl

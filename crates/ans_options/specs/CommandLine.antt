@@ -1,13 +1,16 @@
 -- The command line, and the options that its words give.
 use Rattle.std.specs.Prelude.{map, fold, ◌≡◌, ◌≢◌, ◌↔◌, not, Bool, true, false, List, [], ◌∷◌, Option, Some, codes}
 use Rattle.std.specs.Prelude.{option_map, string_bytes, IsSomeAnd, IsTrue, MatchOption, if◌then◌else◌, unwrap_or, ⊤}
-use Rattle.std.specs.Prelude.{◌||◌}
+use Rattle.std.specs.Prelude.{◌||◌, ◌≤◌, ℕ, IfSome, pos}
 use Rattle.std.specs.List.{list_any}
 use Rattle.std.specs.Option.{option_map_or}
 use Rattle.std.specs.Str.{bytes_eq}
+use Rattle.std.specs.Str.Parse.{IsNumeral, digits_value, without_leading_plus}
 use Rattle.clap.specs.Words.{App, Row, Rule, Text, all_of, first_of, kind_of, one_of, new_app, new_rule, subcommand_of}
 use Rattle.clap.specs.Words.{HasKind, IsAmong, Kinds, fault_of, takes, with_rule, with_subcommand}
 use Rattle.clap.specs.declared.builder.ArgAction.TheVariants.{Append, SetTrue}
+use Rattle.clap.specs.declared.builder.value_parser.ValueParser.{ValueParser}
+use Rattle.clap.specs.declared.builder.value_parser.ValueParser.TheVariants as value_parser
 use Rattle.clap.specs.declared.error.ErrorKind.TheVariants.{DisplayHelp, DisplayVersion, OutOfMemory}
 use Rattle.clap.specs.declared.error.ErrorKind.{ErrorKind}
 use Rattle.ans_model.specs.declared.start.Start.{Start}
@@ -17,7 +20,9 @@ use Rattle.ans_options.specs.declared.command.Asked.TheVariants as asked
 use Rattle.ans_options.specs.declared.command_line.WordsError.{WordsError}
 use Rattle.ans_options.specs.declared.command_line.WordsError.TheVariants as words_error
 use Rattle.ans_options.specs.declared.command.Command.{Command}
-use Rattle.ans_options.specs.declared.command.Command.TheVariants.{Why, Check, Show, Sauce, Tokens, Needs, Table}
+use Rattle.ans_options.specs.declared.command.Command.TheVariants.{Why, Check, Show, Sauce, Tokens, Needs, Table, Mend}
+use Rattle.ans_options.specs.declared.command.TheConstants.Mends as no_mends
+use Rattle.ans_options.specs.declared.command.Mends.{Mends}
 use Rattle.ans_options.specs.declared.command.Form.{Form}
 use Rattle.ans_options.specs.declared.command.Form.TheVariants.{Terminal, Vga, Page}
 use Rattle.ans_options.specs.declared.command.TableForm.{TableForm}
@@ -28,6 +33,14 @@ use Rattle.ans_options.specs.Topics.{topic_of}
 -- `--NAME`
 abbrev pub flag_rule : Text → Rule
 flag_rule name = record (new_rule name) { long = Some name; action = Some SetTrue }
+
+-- `--NAME N`, with the parser of N
+abbrev pub number_rule : Text → ValueParser → Rule
+number_rule name numbers = record (new_rule name) { long = Some name; value_names = 1; parser = Some numbers }
+
+-- the parser of the numbers from 1 to `most`
+abbrev pub numbers_up_to : ℕ → ValueParser
+numbers_up_to most = value_parser.Signed (pos 1) (pos most)
 
 -- `[FILE]`
 abbrev pub file_rule : Rule
@@ -59,8 +72,10 @@ command_name (Show form) = codes "show"
 command_name Sauce = codes "sauce"
 command_name Tokens = codes "tokens"
 command_name (Table form) = codes "table"
+command_name (Mend mends) = codes "mend"
 
--- a command's subcommand: its name, its flags in the order of its help, and `[FILE]` or `[FILE]..`
+-- a command's subcommand: its name, its flags in the order of its help, `[FILE]` or `[FILE]..`, and of `mend` the
+-- options with a number
 abbrev pub command_app : Command → App
 command_app Check =
     with_flags (with_flags (file_app (command_name Check)) part_flags)
@@ -71,11 +86,17 @@ command_app (Show form) =
     part_flags
 command_app (Table form) =
     with_flags (with_rule (new_app (command_name (Table form))) files_rule) (codes "json" ∷ codes "no-header" ∷ [])
+command_app (Mend mends) =
+    let flags = codes "take-out" ∷ codes "line-ends" ∷ codes "full-rows" ∷ codes "least-lines" ∷ [] in
+    with_rule
+    (with_rule (with_flags (file_app (command_name (Mend mends))) flags)
+    (number_rule (codes "lines") (numbers_up_to 8192)))
+    (number_rule (codes "width") (numbers_up_to 1024))
 command_app command = file_app (command_name command)
 
 -- the commands, in the order of the help
 abbrev pub commands : List Command
-commands = Why ∷ Needs ∷ Check ∷ Show Terminal ∷ Sauce ∷ Tokens ∷ Table Headed ∷ []
+commands = Why ∷ Mend no_mends.NONE ∷ Needs ∷ Check ∷ Show Terminal ∷ Sauce ∷ Tokens ∷ Table Headed ∷ []
 
 -- their names
 abbrev pub command_names : List Text
@@ -98,6 +119,11 @@ anscheck = with_subcommands anscheck_top commands
 abbrev pub is_table : Command → Bool
 is_table (Table form) = true
 is_table _ = false
+
+-- whether a command writes a file mended
+abbrev pub is_mend : Command → Bool
+is_mend (Mend mends) = true
+is_mend _ = false
 
 -- whether a command takes flags that say what is known of the start
 abbrev pub takes_flags : Command → Bool
@@ -175,15 +201,53 @@ table_form_asked rows =
     else if holds_flag (codes "no-header") rows then Bare
     else Headed
 
--- where the command shows a picture or writes a table, it is in the form that the flags ask for
+-- the number that a text writes in decimal digits, with a `+` before them or none
+abbrev pub number_written : Text → ℕ
+number_written text = digits_value 10 (without_leading_plus text)
+
+-- the text writes a number from 1 to `most`
+abbrev pub IsNumberUpTo : ℕ → Text → Type 0
+IsNumberUpTo most text =
+    IsNumeral 10 (without_leading_plus text) × (1 ≤ number_written text) × (number_written text ≤ most)
+
+-- the number that the option is given: none exactly where the option is not given
+abbrev pub number_asked : Text → List Row → Option ℕ
+number_asked id rows = option_map number_written (first_of id rows)
+
+-- where the option is given, its text writes a number from 1 to `most`, and is read as it is written
+abbrev pub HasNumberUpTo : ℕ → Text → List Row → Type 0
+HasNumberUpTo most id rows = (one_of id rows ≡ first_of id rows) × IfSome (first_of id rows) (IsNumberUpTo most)
+
+-- the numbers of `--width` and `--lines`, where they are given, are those that clap lets through
+abbrev pub HasNumbersOfMend : List Row → Type 0
+HasNumbersOfMend rows = HasNumberUpTo 1024 (codes "width") rows × HasNumberUpTo 8192 (codes "lines") rows
+
+-- what may be changed of a file that is mended: what the flags name, and the numbers that the options are given
+abbrev pub mends_asked : List Row → Mends
+mends_asked rows = record {
+  width = number_asked (codes "width") rows;
+  line_ends = holds_flag (codes "line-ends") rows;
+  take_out = holds_flag (codes "take-out") rows;
+  full_rows = holds_flag (codes "full-rows") rows;
+  least_lines = holds_flag (codes "least-lines") rows;
+  lines = number_asked (codes "lines") rows;
+}
+
+-- a width is 1 to 1024 columns, and a number of lines 1 to 8192
+abbrev pub AreInRange : Mends → Type 0
+AreInRange mends =
+    IfSome mends.width (λ n. (1 ≤ n) × (n ≤ 1024)) × IfSome mends.lines (λ n. (1 ≤ n) × (n ≤ 8192))
+
+-- where the command shows a picture, writes a table or mends, it does so as the flags and the numbers ask
 abbrev pub IsInFormAsked : Command → List Row → Type 0
 IsInFormAsked (Show form) rows = form ≡ form_asked rows
 IsInFormAsked (Table form) rows = form ≡ table_form_asked rows
+IsInFormAsked (Mend mends) rows = (mends ≡ mends_asked rows) × AreInRange mends
 IsInFormAsked _ rows = ⊤
 
 -- The subcommand is named as the command, and its matches say in which form a picture is shown or a table is written,
--- and which parts of the start are known. They hold `--cells` exactly where the cells are asked for, and the file
--- exactly where one is given, with that text.
+-- what may be changed to mend, and which parts of the start are known. They hold `--cells` exactly where the cells are
+-- asked for, and the file exactly where one is given, with that text.
 abbrev pub AsksFor : (Text × List Row) → Options → Option Text → Type 0
 AsksFor sub o file = (sub.0 ≡ command_name o.command)
     × IsInFormAsked o.command sub.1
@@ -208,11 +272,28 @@ abbrev pub AsksForTable : (Text × List Row) → TableForm → List Text → Typ
 AsksForTable sub form names =
     (sub.0 ≡ command_name (Table form)) × (form ≡ table_form_asked sub.1) × (names ≡ files_of sub.1)
 
--- the subcommand asks for a table of many files, or for a command on one; no subcommand asks for a meaning
+-- the options of mending: nothing is known, and no cells are asked for
+abbrev pub mend_options : Mends → Options
+mend_options mends = record { command = Mend mends; start = none_known; cells = false }
+
+-- The subcommand is `mend`, and its matches say what may be changed, with each number in its range. They hold the file
+-- exactly where one is given, with that text.
+abbrev pub AsksForMend : (Text × List Row) → Mends → Option Text → Type 0
+AsksForMend sub mends file =
+    (sub.0 ≡ command_name (Mend mends))
+    × (mends ≡ mends_asked sub.1)
+    × (file ≡ first_of (codes "file") sub.1)
+    × AreInRange mends
+
+-- The subcommand asks for a table of many files, for one file mended, or for another command on one file. No
+-- subcommand asks for a meaning.
 abbrev pub AsksAs : Asked → (Text × List Row) → Type 0
 AsksAs (asked.One options file) sub =
-    AsksFor sub options (option_map string_bytes file) × (is_table options.command ≡ false)
+    AsksFor sub options (option_map string_bytes file)
+    × (is_table options.command ≡ false)
+    × (is_mend options.command ≡ false)
 AsksAs (asked.Table form names) sub = AsksForTable sub form (map string_bytes names.items)
+AsksAs (asked.Mend mends file) sub = AsksForMend sub mends (option_map string_bytes file)
 AsksAs (asked.Meaning topic) sub = ⊥
 
 -- clap finds a subcommand in what the words mean, which asks for this

@@ -1,7 +1,7 @@
 //! What the program is asked to do.
 
 ghost use Rattle.std.specs.Prelude.{◌≡◌};
-ghost use Rattle.ans_options.specs.CommandLine.{table_options};
+ghost use Rattle.ans_options.specs.CommandLine.{mend_options, table_options};
 
 use crate::topic::Topic;
 use ans_model::start::Start;
@@ -79,6 +79,8 @@ pub enum Command {
     Needs,
     /// Writes a row for each of many files: the verdict, what it needs, its fault, and its record.
     Table(TableForm),
+    /// Writes the file mended, so that it passes from every start.
+    Mend(Mends),
 }
 
 /// What the command line asks for.
@@ -102,6 +104,17 @@ impl Options {
             cells: false,
         }
     }
+
+    /// The options of mending. It reads neither what is known of the start nor whether cells are told.
+    pub(crate) fn of_mend(mends: Mends) -> Options
+        ensures { result ≡ mend_options mends }
+    {
+        Options {
+            command: Command::Mend(mends),
+            start: Start::ANY,
+            cells: false,
+        }
+    }
 }
 
 /// What the words ask for.
@@ -111,6 +124,8 @@ pub enum Asked {
     One(Options, Option<String>),
     /// A table, and the names of its files as they are given, in their order.
     Table(TableForm, Vec<String>),
+    /// A file mended, and the name of its input as it is given, `-` too.
+    Mend(Mends, Option<String>),
     /// What a fault or a note means, and how it is mended.
     Meaning(Topic),
 }

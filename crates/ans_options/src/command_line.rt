@@ -10,18 +10,22 @@ ghost use Rattle.ans_options.specs.CommandLine.{faults_of, form_asked, help_on, 
 ghost use Rattle.ans_options.specs.CommandLine.{with_flags, with_subcommands};
 ghost use Rattle.ans_options.specs.CommandLine.{words_meant, anscheck, command_app, command_name, file_app};
 ghost use Rattle.ans_options.specs.CommandLine.{asks_for_cleared, holds_flag};
+ghost use Rattle.ans_options.specs.CommandLine.{AreInRange, HasNumberUpTo, HasNumbersOfMend, is_mend, mends_asked};
+ghost use Rattle.ans_options.specs.CommandLine.{number_asked, number_rule};
 ghost use Rattle.ans_model.specs.Text.Words.{texts_of};
 ghost use Rattle.ans_options.specs.CommandLine.{AsksAs, IsAskedBy, IsReadAs, files_of, is_table, table_form_asked};
 ghost use Rattle.ans_options.specs.Topics.{topic_of};
-ghost use Rattle.ans_options.specs.declared.command.Command.TheVariants.{Check, Show, Table};
+ghost use Rattle.ans_options.specs.declared.command.Command.TheVariants.{Check, Show, Table, Mend};
+ghost use Rattle.ans_options.specs.declared.command.TheConstants.Mends as no_mends;
 ghost use Rattle.ans_options.specs.declared.command.Form.TheVariants.{Terminal};
 ghost use Rattle.ans_options.specs.declared.command.TableForm.TheVariants.{Headed};
 ghost use Rattle.ans_options.specs.declared.command_line.WordsError.TheVariants.{Clap};
 
-use crate::command::{Asked, Command, Form, Options, TableForm};
+use crate::command::{Asked, Command, Form, Mends, Options, TableForm};
 use crate::topic::topic_of;
 use ans_model::start::Start;
-use clap::{Arg, ArgAction, ArgMatches};
+use clap::builder::ValueParser;
+use clap::{Arg, ArgAction, ArgMatches, value_parser};
 use std::alloc::{AllocError, Global};
 
 /// Why the words give no options.
@@ -99,6 +103,18 @@ Exit status:
   1  A file is refused, and every file was read
   2  A file could not be read, or the table could not be written";
 
+/// The last lines of the help of `mend`.
+const MEND_END: &str = "\
+The mended file goes to standard output: give it another name, as in
+  anscheck mend drawing.ans > mended.ans
+since the shell empties a file before it is read. Each change is told on
+standard error; without a flag only what is safe is changed.
+
+Exit status:
+  0  A file was written, or help was asked for
+  1  No file could be mended so; standard error says why
+  2  There is no answer; standard error says why";
+
 /// How the program is used, where words name no command. A drawing's name alone is such a word.
 const PROGRAM_USAGE: &str = "\
 anscheck <COMMAND>
@@ -110,6 +126,7 @@ const PROGRAM_END: &str = with_exit_statuses!(
     "\
 Examples:
   anscheck why drawing.ans
+  anscheck mend drawing.ans > mended.ans
   anscheck check --cleared drawing.ans
   anscheck show drawing.ans
   anscheck help check
@@ -121,6 +138,8 @@ Examples:
 
 // What the commands do, in the order of the program's help.
 const WHY: &str = "Say why a drawing is refused, what it relies on, and how to mend it";
+
+const MEND: &str = "Write a drawing mended, so that it shows the same everywhere";
 
 const NEEDS: &str = "Print what a drawing relies on: screen, cursor, saved, colours, wrap";
 
@@ -135,8 +154,9 @@ const TOKENS: &str = "Print the bytes and the escape sequences of a file, one a 
 const TABLE: &str = "Print one row for each file: its verdict, its needs, its record";
 
 /// The commands, in the order of the program's help.
-const COMMANDS: [Command; 7] = [
+const COMMANDS: [Command; 8] = [
     Command::Why,
+    Command::Mend(Mends::NONE),
     Command::Needs,
     Command::Check,
     Command::Show(Form::Terminal),
@@ -144,6 +164,29 @@ const COMMANDS: [Command; 7] = [
     Command::Tokens,
     Command::Table(TableForm::Headed),
 ];
+
+/// The flags of `mend`.
+const MEND_FLAGS: [(&str, &str); 4] = [
+    ("take-out", "Take out the sequences that players differ in"),
+    (
+        "line-ends",
+        "Put a return before each line feed, where there is none",
+    ),
+    (
+        "full-rows",
+        "Take out the line ends behind full rows, if each has one",
+    ),
+    (
+        "least-lines",
+        "State the least number of lines that is enough",
+    ),
+];
+
+/// What `--lines` of `mend` does.
+const LINES: &str = "State N lines, where too few or none are stated: 1 to 8192";
+
+/// What `--width` of `mend` does.
+const WIDTH: &str = "Give a drawing with no record one for N columns: 1 to 1024";
 
 /// The flags that name a part of the start, each with its help.
 const PART_FLAGS: [(&str, &str); 5] = [
@@ -214,6 +257,18 @@ fn flag<'a>(alloc: Global, name: &'a str, help: &'a str) -> Arg<'a>
         .help(help)
 }
 
+/// `--NAME N`, where the parser says which numbers N may be.
+fn number<'a>(alloc: Global, name: &'a str, numbers: ValueParser<'a>, help: &'a str) -> Arg<'a>
+    ensures rule { rule_of result ≡ number_rule name.now numbers.entry }
+    ensures local { result.global ≡ false }
+{
+    Arg::new(alloc, name)
+        .long(name)
+        .value_name("N")
+        .value_parser(numbers)
+        .help(help)
+}
+
 fn with_flags<'a>(
     alloc: Global,
     mut command: clap::Command<'a>,
@@ -244,6 +299,16 @@ fn show_command<'a>(alloc: Global) -> Result<clap::Command<'a>, AllocError>
     with_flags(alloc, command, &PART_FLAGS)
 }
 
+fn mend_command<'a>(alloc: Global) -> Result<clap::Command<'a>, AllocError>
+    ensures { IfOk result (λ c. app_of c ≡ command_app (Mend no_mends.NONE)) }
+{
+    let command = file_command(alloc, "mend", MEND, MEND_END)?;
+    let command = with_flags(alloc, command, &MEND_FLAGS)?;
+    let lines = number(alloc, "lines", value_parser!(u16).range(1..=8192), LINES);
+    let width = number(alloc, "width", value_parser!(u16).range(1..=1024), WIDTH);
+    command.arg(lines)?.arg(width)
+}
+
 fn table_command<'a>(alloc: Global) -> Result<clap::Command<'a>, AllocError>
     ensures { IfOk result (λ c. app_of c ≡ command_app (Table Headed)) }
 {
@@ -263,6 +328,7 @@ fn subcommand<'a>(alloc: Global, command: Command) -> Result<clap::Command<'a>, 
 {
     match command {
         Command::Why => file_command(alloc, "why", WHY, NEEDS_END),
+        Command::Mend(_) => mend_command(alloc),
         Command::Needs => file_command(alloc, "needs", NEEDS, NEEDS_END),
         Command::Check => check_command(alloc),
         Command::Show(_) => show_command(alloc),
@@ -310,6 +376,7 @@ fn command_named(name: &str) -> Option<Command>
 {
     match name {
         "why" => Some(Command::Why),
+        "mend" => Some(Command::Mend(Mends::NONE)),
         "needs" => Some(Command::Needs),
         "check" => Some(Command::Check),
         "show" => Some(Command::Show(Form::Terminal)),
@@ -344,15 +411,41 @@ fn table_form_asked(matches: &ArgMatches<'_>) -> TableForm
     }
 }
 
+/// The number that an option is given.
+fn number_asked(matches: &ArgMatches<'_>, id: &str) -> Option<u16>
+    requires { HasNumberUpTo 65535 id.now (rows_of (found_of matches.now)) }
+    ensures { result ≡ number_asked id.now (rows_of (found_of matches.now)) }
+{
+    matches.get_one::<u16>(id)
+}
+
+fn mends_asked(matches: &ArgMatches<'_>) -> Mends
+    requires { HasNumbersOfMend (rows_of (found_of matches.now)) }
+    ensures is { result ≡ mends_asked (rows_of (found_of matches.now)) }
+    ensures range { AreInRange result }
+{
+    Mends {
+        width: number_asked(matches, "width"),
+        line_ends: holds(matches, "line-ends"),
+        take_out: holds(matches, "take-out"),
+        full_rows: holds(matches, "full-rows"),
+        least_lines: holds(matches, "least-lines"),
+        lines: number_asked(matches, "lines"),
+    }
+}
+
 /// The command, with the form that the flags ask for.
 fn in_form_asked(command: Command, matches: &ArgMatches<'_>) -> Command
+    requires { HasNumbersOfMend (rows_of (found_of matches.now)) }
     ensures name { command_name result ≡ command_name command }
     ensures table { is_table result ≡ is_table command }
+    ensures mend { is_mend result ≡ is_mend command }
     ensures form { IsInFormAsked result (rows_of (found_of matches.now)) }
 {
     match command {
         Command::Show(_) => Command::Show(form_asked(matches)),
         Command::Table(_) => Command::Table(table_form_asked(matches)),
+        Command::Mend(_) => Command::Mend(mends_asked(matches)),
         _ => command,
     }
 }
@@ -408,8 +501,10 @@ fn file_of(alloc: Global, matches: &ArgMatches<'_>) -> Result<Option<String>, Wo
 }
 
 fn options_of(command: Command, matches: &ArgMatches<'_>) -> Options
+    requires { HasNumbersOfMend (rows_of (found_of matches.now)) }
     ensures name { command_name result.command ≡ command_name command }
     ensures table { is_table result.command ≡ is_table command }
+    ensures mend { is_mend result.command ≡ is_mend command }
     ensures form { IsInFormAsked result.command (rows_of (found_of matches.now)) }
     ensures start { result.start ≡ start_asked result.command (rows_of (found_of matches.now)) }
     ensures cells { IsTrue result.cells
@@ -447,7 +542,8 @@ fn files_of(alloc: Global, matches: &ArgMatches<'_>) -> Result<Vec<String>, Word
 }
 
 fn read_matches(alloc: Global, matches: &ArgMatches<'_>) -> Result<Asked, WordsError>
-    requires { IsSomeAnd (subcommand_rows_of matches.now) IsCommand }
+    requires command { IsSomeAnd (subcommand_rows_of matches.now) IsCommand }
+    requires numbers { IsSomeAnd (subcommand_rows_of matches.now) (λ sub. HasNumbersOfMend sub.1) }
     ensures memory { IfErr result (λ e. e ≡ WordsError.Memory) }
     ensures ok { IfOk result (λ a. IsSomeAnd (subcommand_rows_of matches.now) (AsksAs a)) }
 {
@@ -462,6 +558,9 @@ fn read_matches(alloc: Global, matches: &ArgMatches<'_>) -> Result<Asked, WordsE
         return Ok(Asked::Table(table_form_asked(found), names));
     }
     let file = file_of(alloc, found)?;
+    if let Command::Mend(_) = command {
+        return Ok(Asked::Mend(mends_asked(found), file));
+    }
     Ok(Asked::One(options_of(command, found), file))
 }
 
@@ -520,14 +619,16 @@ fn read_words(alloc: Global, words: &[&str]) -> Result<Asked, WordsError>
     read_matches(alloc, &matches)
 }
 
-/// Reads the program's words, its own name first: `anscheck why [FILE]`, `anscheck needs [FILE]`,
-/// `anscheck check` or `anscheck show` with its flags and `[FILE]`, `anscheck sauce [FILE]`,
-/// `anscheck tokens [FILE]`, or `anscheck table` with its flags and `[FILE]..`.
+/// Reads the program's words, its own name first: `anscheck why [FILE]`, `anscheck mend` with its flags and
+/// `[FILE]`, `anscheck needs [FILE]`, `anscheck check` or `anscheck show` with its flags and `[FILE]`,
+/// `anscheck sauce [FILE]`, `anscheck tokens [FILE]`, or `anscheck table` with its flags and `[FILE]..`.
 /// A part of the start is known where its flag is given, as `--known-cursor`, and all are where `--cleared`
 /// is. With `show` all are known, too, where neither such a flag nor `--any` is given; with `check` `--any`
 /// changes nothing. Cells are asked for where `--cells` is given. A picture comes as a page where `--html`
 /// is, else in a VGA's colours where `--vga` is. A table's rows are JSON where `--json` is given, and else
-/// have a line of names above them unless `--no-header` is. With the other commands nothing is known.
+/// have a line of names above them unless `--no-header` is. With the other commands nothing is known. What
+/// may be changed to mend is what the flags of `mend` name; `--width` has a number from 1 to 1024, and
+/// `--lines` one from 1 to 8192, where they are given.
 ///
 /// `help` with the name of a fault or a note alone, as `anscheck help F20`, asks for its meaning. These
 /// words are told before `clap` reads any, need no memory, and never fail. Other words `clap` reads.
@@ -564,6 +665,7 @@ pub fn options(alloc: Global, words: &[&str]) -> Result<(Options, Option<String>
     match read_words(alloc, words)? {
         Asked::One(options, file) => Ok((options, file)),
         Asked::Table(form, _) => Ok((Options::of_table(form), None)),
+        Asked::Mend(mends, file) => Ok((Options::of_mend(mends), file)),
         Asked::Meaning(_) => unreachable!(),
     }
 }

@@ -10,9 +10,9 @@ ghost use Rattle.ans_options.specs.CommandLine.{faults_of, is_table};
 ghost use Rattle.ans_options.specs.Topics.{topic_name, topic_of};
 ghost use Rattle.ans_options.specs.declared.topic.Topic.{Topic};
 
-/// The command line is of `clap`'s simple kind: one level of subcommands, flags, one optional FILE or,
-/// for a table, any number of them, and no rules between arguments. So its matches are a function of
-/// the words, and so are the kinds that an error may have.
+/// The command line is of `clap`'s simple kind: one level of subcommands, flags, options that take a
+/// number, one optional FILE or, for a table, any number of them, and no rules between arguments. So its
+/// matches are a function of the words, and so are the kinds that an error may have.
 pub fn command_line_is_simple()
     ensures simple { is_simple anscheck ≡ true }
     ensures free { is_simple_and_free anscheck ≡ true }

@@ -16,6 +16,7 @@ macro_rules! words {
 
 mod command_line;
 mod faults;
+mod mends;
 mod tables;
 mod texts;
 mod topics;

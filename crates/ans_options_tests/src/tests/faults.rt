@@ -29,10 +29,11 @@ fn expect_kind(
 pub(super) type Row = (&'static [&'static str], ErrorKind);
 
 /// Words that ask for help or for the version, and which.
-static REQUESTS: [Row; 19] = words! {
+static REQUESTS: [Row; 21] = words! {
     "--help" => DisplayHelp;
     "-h" => DisplayHelp;
     "help" => DisplayHelp;
+    "mend" "--help" => DisplayHelp;
     "needs" "--help" => DisplayHelp;
     "check" "--help" => DisplayHelp;
     "check" "-h" => DisplayHelp;
@@ -41,6 +42,7 @@ static REQUESTS: [Row; 19] = words! {
     "sauce" "--help" => DisplayHelp;
     "tokens" "--help" => DisplayHelp;
     "help" "why" => DisplayHelp;
+    "help" "mend" => DisplayHelp;
     "help" "needs" => DisplayHelp;
     "help" "check" => DisplayHelp;
     "help" "show" => DisplayHelp;
@@ -98,7 +100,7 @@ macro_rules! after_help {
 }
 
 /// What may not follow `help`, and of which kind that mistake is. To `clap` the name of a fault is one.
-static HELP_MISTAKES: [Row; 16] = after_help! {
+static HELP_MISTAKES: [Row; 17] = after_help! {
     "nonsense" => InvalidSubcommand;
     "need" => InvalidSubcommand;
     "help" => InvalidSubcommand;
@@ -110,6 +112,7 @@ static HELP_MISTAKES: [Row; 16] = after_help! {
     "nonsense" "check" => InvalidSubcommand;
     "check" "more" => UnknownArgument;
     "check" "sauce" => UnknownArgument;
+    "mend" "--lines" => UnknownArgument;
     "needs" "--help" => UnknownArgument;
     "F20" => InvalidSubcommand;
     "n3" => InvalidSubcommand;

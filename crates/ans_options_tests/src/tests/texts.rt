@@ -61,6 +61,17 @@ macro_rules! no_command {
     };
 }
 
+/// A number that is missing or wrong, by what `clap` says of it.
+macro_rules! no_number {
+    ($what:literal) => {
+        concat!(
+            "error: ",
+            $what,
+            "\n\nFor more information, try '--help'.\n"
+        )
+    };
+}
+
 const PROGRAM_HELP: &str = help!(
     "The file passes, or help or the version was asked for",
     "Checks ANSI art files that end in a SAUCE record\n\
@@ -71,6 +82,7 @@ const PROGRAM_HELP: &str = help!(
     \n\
     Commands:\n\
     \x20 why     Say why a drawing is refused, what it relies on, and how to mend it\n\
+    \x20 mend    Write a drawing mended, so that it shows the same everywhere\n\
     \x20 needs   Print what a drawing relies on: screen, cursor, saved, colours, wrap\n\
     \x20 check   Check that a file always shows the same picture, and print it\n\
     \x20 show    Show the picture in its colours, for a terminal or as a page\n\
@@ -84,6 +96,7 @@ const PROGRAM_HELP: &str = help!(
     \n\
     Examples:\n\
     \x20 anscheck why drawing.ans\n\
+    \x20 anscheck mend drawing.ans > mended.ans\n\
     \x20 anscheck check --cleared drawing.ans\n\
     \x20 anscheck show drawing.ans\n\
     \x20 anscheck help check\n\
@@ -159,10 +172,37 @@ const TABLE_HELP: &str = "\
     \x20 1  A file is refused, and every file was read\n\
     \x20 2  A file could not be read, or the table could not be written\n";
 
+const MEND_HELP: &str = "\
+    Write a drawing mended, so that it shows the same everywhere\n\
+    \n\
+    Usage: anscheck mend [OPTIONS] [FILE]\n\
+    \n\
+    Arguments:\n\
+    \x20 [FILE]  The file to read; - or none is standard input\n\
+    \n\
+    Options:\n\
+    \x20     --take-out     Take out the sequences that players differ in\n\
+    \x20     --line-ends    Put a return before each line feed, where there is none\n\
+    \x20     --full-rows    Take out the line ends behind full rows, if each has one\n\
+    \x20     --least-lines  State the least number of lines that is enough\n\
+    \x20     --lines <N>    State N lines, where too few or none are stated: 1 to 8192\n\
+    \x20     --width <N>    Give a drawing with no record one for N columns: 1 to 1024\n\
+    \x20 -h, --help         Print help\n\
+    \n\
+    The mended file goes to standard output: give it another name, as in\n\
+    \x20 anscheck mend drawing.ans > mended.ans\n\
+    since the shell empties a file before it is read. Each change is told on\n\
+    standard error; without a flag only what is safe is changed.\n\
+    \n\
+    Exit status:\n\
+    \x20 0  A file was written, or help was asked for\n\
+    \x20 1  No file could be mended so; standard error says why\n\
+    \x20 2  There is no answer; standard error says why\n";
+
 const VERSION: &str = "anscheck 0.1.0 (rattle logic dac8208d650f15bf)\n";
 
 /// Words that are rejected, and the text.
-static REJECTED: [(&[&str], &str); 9] = words! {
+static REJECTED: [(&[&str], &str); 13] = words! {
     "check" "--bogus" => mistake!(
         "unexpected argument '--bogus' found\n\n  tip: to pass '--bogus' as a value, use '-- --bogus'",
         "check [OPTIONS] [FILE]"
@@ -170,7 +210,7 @@ static REJECTED: [(&[&str], &str); 9] = words! {
     "check" "f" "g" => mistake!("unexpected argument 'g' found", "check [OPTIONS] [FILE]");
     => no_command!(
         "'anscheck' requires a subcommand but one was not provided\n\
-        \x20 [subcommands: why, needs, check, show, sauce, tokens, table]"
+        \x20 [subcommands: why, mend, needs, check, show, sauce, tokens, table]"
     );
     "drawing.ans" => no_command!("unrecognized subcommand 'drawing.ans'");
     "help" "nonsense" => no_command!("unrecognized subcommand 'nonsense'");
@@ -180,6 +220,10 @@ static REJECTED: [(&[&str], &str); 9] = words! {
     );
     "help" "--cleared" => no_command!("unrecognized subcommand '--cleared'");
     "help" "check" "more" => mistake!("unexpected argument 'more' found", "check [OPTIONS] [FILE]");
+    "help" "mend" "more" => mistake!("unexpected argument 'more' found", "mend [OPTIONS] [FILE]");
+    "mend" "--lines" "8193" => no_number!("invalid value '8193' for '--lines <N>': 8193 is not in 1..=8192");
+    "mend" "--width" "x" => no_number!("invalid value 'x' for '--width <N>': invalid digit found in string");
+    "mend" "--lines" => no_number!("a value is required for '--lines <N>' but none was supplied");
 };
 
 /// What `clap` says of words. It fails where memory runs out.
@@ -209,11 +253,9 @@ fn help_has_its_texts(rt: HostRuntime) -> Result<(), AllocError> {
     for word in ["--help", "-h", "help"] {
         expect_help(&rt, &["anscheck", word], PROGRAM_HELP)?;
     }
-    for words in [
-        ["anscheck", "table", "--help"],
-        ["anscheck", "help", "table"],
-    ] {
-        expect_help(&rt, &words, TABLE_HELP)?;
+    for (command, text) in [("table", TABLE_HELP), ("mend", MEND_HELP)] {
+        expect_help(&rt, &["anscheck", command, "--help"], text)?;
+        expect_help(&rt, &["anscheck", "help", command], text)?;
     }
     for (command, text) in &COMMANDS {
         expect_help(&rt, &["anscheck", command, "--help"], text)?;

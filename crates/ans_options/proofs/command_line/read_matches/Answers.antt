@@ -1,18 +1,38 @@
 use Rattle.std.proofs.Common.{◌∙◌, rules, subst, sym, List, Option}
 use Rattle.std.specs.Prelude.{IsSomeAnd}
 use Rattle.clap.specs.Words.{Row, Text, found_of, rows_of}
-use Rattle.ans_options.specs.CommandLine.{AsksAs, IsCommand}
-use Rattle.ans_options.specs.declared.command.Asked.TheVariants.{One, Table}
+use Rattle.ans_options.specs.CommandLine.{AsksAs, HasNumbersOfMend, IsCommand}
+use Rattle.ans_options.specs.declared.command.Asked.TheVariants.{Mend, One, Table}
 use Rattle.ans_options.proofs.CommandLineLemmas.{rows_met}
-use Rattle.ans_options.proofs.MeaningLemmas.{no_table}
+use Rattle.ans_options.proofs.MeaningLemmas.{no_mend, no_table}
 use Rattle.ans_options.proofs.command_line.read_matches.Goals as goal
 
 pub unreachable-requires-in_default-command_named : goal.unreachable-requires-in_default-command_named
 unreachable-requires-in_default-command_named c =
     let met = rows_met c.args.matches.now c.in-Some.name.now (rows_of (found_of c.in-Some.found.now))
     c.in-Some.ensures.name c.in-Some.ensures.rows in
-    let command = subst (λ (s : Option (Text × List Row)). IsSomeAnd s IsCommand) met c.requires in
+    let command = subst (λ (s : Option (Text × List Row)). IsSomeAnd s IsCommand) met c.requires.command in
     c.in_default-command_named.ensures.none command.0 command.1
+
+pub mends_asked-requires : goal.mends_asked-requires
+mends_asked-requires c =
+    let met = rows_met c.args.matches.now c.in-Some.name.now (rows_of (found_of c.in-Some.found.now))
+    c.in-Some.ensures.name c.in-Some.ensures.rows in
+    subst (λ (s : Option (Text × List Row)). IsSomeAnd s (λ sub. HasNumbersOfMend sub.1)) met c.requires.numbers
+
+pub options_of-requires : goal.options_of-requires
+options_of-requires c =
+    let met = rows_met c.args.matches.now c.in-Some.name.now (rows_of (found_of c.in-Some.found.now))
+    c.in-Some.ensures.name c.in-Some.ensures.rows in
+    subst (λ (s : Option (Text × List Row)). IsSomeAnd s (λ sub. HasNumbersOfMend sub.1)) met c.requires.numbers
+
+pub returns-in-Mend-clause-ok : goal.returns-in-Mend-clause-ok
+returns-in-Mend-clause-ok c =
+    let met = rows_met c.args.matches.now c.in-Some.name.now (rows_of (found_of c.in-Some.found.now))
+    c.in-Some.ensures.name c.in-Some.ensures.rows in
+    subst (λ (s : Option (Text × List Row)). IsSomeAnd s (AsksAs (Mend c.mends_asked.result c.in_ok-file.file)))
+    (sym met)
+    (search rules, c.mends_asked.ensures.is, c.in_ok-file.ensures.ok, c.mends_asked.ensures.range)
 
 pub returns-in-Table-clause-ok : goal.returns-in-Table-clause-ok
 returns-in-Table-clause-ok c =
@@ -36,4 +56,5 @@ returns-clause-ok c =
         c.in_ok-file.ensures.ok,
       ),
       c.options_of.ensures.table ∙ no_table _ c.in_default-command.not-Table,
+      c.options_of.ensures.mend ∙ no_mend _ c.in_default-command-2.not-Mend,
     )

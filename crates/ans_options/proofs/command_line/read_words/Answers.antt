@@ -5,15 +5,21 @@ use Rattle.clap.specs.Words.{Kinds, Row, Text, fault_of, subcommand_of, subcomma
 use Rattle.ans_options.specs.CommandLine.{AsksAs, HasKindAmong, anscheck, faults_of, words_meant}
 use Rattle.ans_model.specs.Text.Words.{texts_of}
 use Rattle.ans_options.proofs.CommandLineLemmas.{command_found}
+use Rattle.ans_options.proofs.NumberLemmas.{numbers_met}
 use Rattle.ans_options.proofs.ErrorLemmas.{out_of_memory, ran_out}
 use Rattle.ans_options.proofs.command_line.read_words.Goals as goal
 
-pub read_matches-requires : goal.read_matches-requires
-read_matches-requires c =
+pub read_matches-requires-clause-command : goal.read_matches-requires-clause-command
+read_matches-requires-clause-command c =
     let is = ap texts_of c.as_slice.ensures.value ∙ c.in-Ok.ensures in
     let same = c.in_ok-matches.ensures.met ∙ ap (λ (w : List Text). subcommand_of anscheck w) is in
     command_found (words_meant (texts_of c.args.words.now)) (subcommand_rows_of c.in_ok-matches.matches) (sym same)
     c.in_ok-matches.ensures.some
+
+pub read_matches-requires-clause-numbers : goal.read_matches-requires-clause-numbers
+read_matches-requires-clause-numbers c =
+    numbers_met (texts_of c.as_slice.result.now) (subcommand_rows_of c.in_ok-matches.matches)
+    c.in_ok-matches.ensures.accepted (sym c.in_ok-matches.ensures.met) c.in_ok-matches.ensures.some
 
 pub returns-clause-ok : goal.returns-clause-ok
 returns-clause-ok c =

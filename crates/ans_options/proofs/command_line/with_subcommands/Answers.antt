@@ -3,7 +3,7 @@ use Rattle.std.proofs.lemmas.List.{at_drop_more}
 use Rattle.clap.specs.Words.{App, app_of, with_subcommand}
 use Rattle.clap.proofs.SimpleLemmas.{plain_fields}
 use Rattle.ans_options.specs.declared.command.Command.{Command}
-use Rattle.ans_options.specs.declared.command.Command.TheVariants.{Why, Check, Show, Sauce, Tokens, Needs, Table}
+use Rattle.ans_options.specs.declared.command.Command.TheVariants.{Why, Check, Show, Sauce, Tokens, Needs, Table, Mend}
 use Rattle.ans_options.specs.CommandLine.{command_app, with_subcommands}
 use Rattle.ans_options.proofs.command_line.with_subcommands.Goals as goal
 
@@ -16,6 +16,7 @@ plain_command (Show form) = refl
 plain_command Sauce = refl
 plain_command Tokens = refl
 plain_command (Table form) = refl
+plain_command (Mend mends) = refl
 
 pub loop-command-preserved : goal.loop-command-preserved
 loop-command-preserved c =

@@ -1,0 +1,151 @@
+//! What may be changed of a file that is mended.
+use super::faults::{Row, expect_kinds};
+use super::read_words;
+use ans_options::{Asked, Command, Mends, Options, WordsError, asked};
+use ans_samples::start;
+use clap::error::ErrorKind::{
+    ArgumentConflict, InvalidValue, OutOfMemory, TooManyValues, UnknownArgument, ValueValidation,
+};
+use std::alloc::AllocError;
+use std::process::Abort;
+
+/// What may be changed, by what is more than nothing.
+macro_rules! mends {
+    ($($field:ident: $value:expr),*) => {
+        Mends { $($field: $value,)* ..Mends::NONE }
+    };
+}
+
+/// All that may be changed.
+const EVERYTHING: Mends = Mends {
+    width: Some(80),
+    line_ends: true,
+    take_out: true,
+    full_rows: true,
+    least_lines: true,
+    lines: Some(25),
+};
+
+/// Words that ask for a file mended, what may be changed, and the file.
+static MENDED: [(&[&str], Mends, Option<&str>); 26] = words! {
+    "mend" => mends!(), None;
+    "mend" "f" => mends!(), Some("f");
+    "mend" "-" => mends!(), Some("-");
+    "mend" "help" => mends!(), Some("help");
+    "mend" "--take-out" => mends!(take_out: true), None;
+    "mend" "--line-ends" => mends!(line_ends: true), None;
+    "mend" "--full-rows" => mends!(full_rows: true), None;
+    "mend" "--least-lines" => mends!(least_lines: true), None;
+    "mend" "--lines" "1" => mends!(lines: Some(1)), None;
+    "mend" "--lines" "8192" => mends!(lines: Some(8192)), None;
+    "mend" "--lines=25" "f" => mends!(lines: Some(25)), Some("f");
+    "mend" "--lines" "0025" "f" => mends!(lines: Some(25)), Some("f");
+    "mend" "--lines" "1025" => mends!(lines: Some(1025)), None;
+    "mend" "--width" "1" => mends!(width: Some(1)), None;
+    "mend" "--width" "1024" => mends!(width: Some(1024)), None;
+    "mend" "f" "--width=80" => mends!(width: Some(80)), Some("f");
+    "mend" "--width" "+80" "f" => mends!(width: Some(80)), Some("f");
+    "mend" "--width" "132" "--lines" "50" => mends!(width: Some(132), lines: Some(50)), None;
+    "mend" "--lines" "50" "f" "--width" "132" => mends!(width: Some(132), lines: Some(50)), Some("f");
+    "mend" "--take-out" "f" "--full-rows" => mends!(take_out: true, full_rows: true), Some("f");
+    "mend" "--line-ends" "--least-lines" => mends!(line_ends: true, least_lines: true), None;
+    "mend" "--take-out" "--line-ends" "--full-rows" "--least-lines" "--lines" "25" "--width" "80" "f"
+        => EVERYTHING, Some("f");
+    "mend" "f" "--width" "80" "--lines" "25" "--least-lines" "--full-rows" "--line-ends" "--take-out"
+        => EVERYTHING, Some("f");
+    "mend" "--" "--take-out" => mends!(), Some("--take-out");
+    "mend" "--" "--lines" => mends!(), Some("--lines");
+    "mend" "--width" "80" "--" "25" => mends!(width: Some(80)), Some("25");
+};
+
+/// Words that are wrong, and the kind of the mistake.
+static FAULTS: [Row; 36] = words! {
+    "mend" "--lines" "0" => ValueValidation;
+    "mend" "--lines" "8193" => ValueValidation;
+    "mend" "--lines" "65537" => ValueValidation;
+    "mend" "--lines=-1" => ValueValidation;
+    "mend" "--lines=-0" => ValueValidation;
+    "mend" "--lines" "-1" => UnknownArgument;
+    "mend" "--lines" "f" => ValueValidation;
+    "mend" "--lines" "" => ValueValidation;
+    "mend" "--lines=" => ValueValidation;
+    "mend" "--lines" => InvalidValue;
+    "mend" "f" "--lines" => InvalidValue;
+    "mend" "--lines" "--take-out" => InvalidValue;
+    "mend" "--lines" "--" "25" => InvalidValue;
+    "mend" "--width" "0" => ValueValidation;
+    "mend" "--width" "1025" => ValueValidation;
+    "mend" "--width" "8192" => ValueValidation;
+    "mend" "--width" "65616" => ValueValidation;
+    "mend" "--width" "18446744073709551696" => ValueValidation;
+    "mend" "--width" "x" => ValueValidation;
+    "mend" "--width" "80x" => ValueValidation;
+    "mend" "--width" " 80" => ValueValidation;
+    "mend" "--width" "50h" => ValueValidation;
+    "mend" "--width" => InvalidValue;
+    "mend" "--width" "80" "--width" "80" => ArgumentConflict;
+    "mend" "--lines" "25" "--lines" "50" => ArgumentConflict;
+    "mend" "--take-out" "--take-out" => ArgumentConflict;
+    "mend" "--line-ends=yes" => TooManyValues;
+    "mend" "--width" "80" "f" "g" => UnknownArgument;
+    "mend" "f" "g" => UnknownArgument;
+    "mend" "--cleared" => UnknownArgument;
+    "mend" "--cells" => UnknownArgument;
+    "mend" "--known-wrap" => UnknownArgument;
+    "why" "--take-out" => UnknownArgument;
+    "check" "--width" "80" => UnknownArgument;
+    "show" "--lines=25" => UnknownArgument;
+    "table" "--least-lines" => UnknownArgument;
+};
+
+/// What words ask to be changed, and the file's name. It fails where memory runs out.
+fn mends_of(
+    rt: &(impl Abort + AllocGlobal),
+    words: &[&str],
+) -> Result<(Mends, Option<String>), AllocError> {
+    match asked(rt.alloc(), words) {
+        Ok(Asked::Mend(mends, file)) => Ok((mends, file)),
+        Ok(Asked::One(_, _) | Asked::Table(_, _) | Asked::Meaning(_)) => {
+            panic!(rt; "nothing to mend")
+        }
+        Err(WordsError::Memory) => Err(AllocError),
+        Err(WordsError::Clap(error)) => {
+            assert_eq!(rt; error.kind(), OutOfMemory);
+            Err(AllocError)
+        }
+    }
+}
+
+#[test]
+fn words_say_what_is_mended(rt: HostRuntime) -> Result<(), AllocError> {
+    for (words, expected, file) in &MENDED {
+        let (mends, name) = mends_of(&rt, words)?;
+        assert_eq!(rt; mends, *expected);
+        assert!(rt; name.as_ref().map(|f| f.as_str()) == *file);
+    }
+    Ok(())
+}
+
+#[test]
+fn words_give_the_options_of_mending(rt: HostRuntime) -> Result<(), AllocError> {
+    for (words, expected, file) in &MENDED {
+        match read_words(&rt, words)? {
+            Ok((found, name)) => {
+                let options = Options {
+                    command: Command::Mend(*expected),
+                    start: start!(any),
+                    cells: false,
+                };
+                assert!(rt; found == options);
+                assert!(rt; name.as_ref().map(|f| f.as_str()) == *file);
+            }
+            Err(_) => panic!(rt; "no options"),
+        }
+    }
+    Ok(())
+}
+
+#[test]
+fn wrong_words_of_mending_have_their_kind(rt: HostRuntime) -> Result<(), AllocError> {
+    expect_kinds(&rt, &FAULTS)
+}
