@@ -8,6 +8,7 @@ pub mod AnswerLemmas
 pub mod ListingLemmas
 pub mod TableLemmas
 pub mod LeastLemmas
+pub mod MendFileLemmas
 pub mod MendLemmas
 pub mod MendedLemmas
 mod EditLemmas

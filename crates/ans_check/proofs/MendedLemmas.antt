@@ -1,8 +1,8 @@
 -- A file that is mended passes from every start.
 use Rattle.std.proofs.Common.{◌≡◌, inr, ℕ, ◌+◌, ◌-◌, ◌≤◌, ◌==◌, Bool, true, false, List, ◌++◌}
-use Rattle.std.proofs.Common.{length, take, drop, refl, sym, ap, ap₂, ◌∙◌, arith, subst, subst₂}
+use Rattle.std.proofs.Common.{length, take, refl, sym, ap, ap₂, ◌∙◌, arith, subst, subst₂}
 use Rattle.std.proofs.Common.{append_assoc, true≢false, Result, Ok, Err}
-use Rattle.std.specs.Prelude.{if◌then◌else◌, ◌&&◌, ◌||◌, IfOk, IfErr, nat_le, bytes_eq, codes, Option, None}
+use Rattle.std.specs.Prelude.{if◌then◌else◌, ◌&&◌, ◌||◌, IfOk, IfErr, nat_le, bytes_eq, codes, None}
 use Rattle.std.specs.List.{list_any}
 use Rattle.std.proofs.lemmas.Bool.{eqb-true, leb-true}
 use Rattle.std.proofs.lemmas.List.{length-append, length-drop, length-take-le}
@@ -20,7 +20,6 @@ use Rattle.ans_sauce.proofs.LaidParts.{laid_body, laid_front, laid_record}
 use Rattle.ans_walks.specs.MendedFile.{resized_parts, with_file_size}
 use Rattle.ans_walks.proofs.Mended.{makes_good}
 use Rattle.ans_walks.proofs.MendedFiles.{resized_accepted, resized_comments, resized_content, resized_size}
-use Rattle.ans_mend.specs.Drafts.{overwritten}
 use Rattle.ans_mend.specs.Fields.{two_bytes, with_lines, with_record}
 use Rattle.ans_mend.specs.declared.outcome.Mended.{Mended}
 use Rattle.ans_mend.specs.Contents.{content_in}

@@ -93,3 +93,16 @@ unflushed remaining contents options reader reader_after writer between after an
   where
     no_read : IsErrOf {E = RunError} (Ok answer) error.Read → ⊥
     no_read e = cc
+
+-- where an answer came, the writer still works
+pub still_works : {R W A : Type 0} (remaining : R → Option (List ℕ)) (contents : W → Option (List ℕ))
+    (tells : List ℕ → A → List ℕ → Type 0) (reader reader_after : Tried R) (writer after : Tried W) (answer : A)
+    → ServesAs remaining contents tells reader reader_after writer after (Ok answer) → has_failed after ≡ false
+still_works remaining contents tells reader reader_after writer after answer h = go (has_failed after) h.write
+  where
+    never : IsErrOf {E = RunError} (Ok answer) error.Write → ⊥
+    never e = cc
+
+    go : (failed : Bool) → IsErrOf {E = RunError} (Ok answer) error.Write ↔ IsTrue failed → failed ≡ false
+    go false d = refl
+    go true d = absurd (never (d.1 refl))

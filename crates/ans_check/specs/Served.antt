@@ -46,11 +46,16 @@ abbrev pub Serves : {R W : Type 0} → (R → Option (List ℕ)) → (W → Opti
 Serves remaining contents options reader reader_after writer writer_after result =
     ServesAs remaining contents (Reports options) reader reader_after writer writer_after result
 
--- what is told of a file that was to be mended: the mended file is the text; or for this reason there is none
+-- the mended file, by what came of mending and the draft; or nothing
+abbrev pub mended_bytes : Result Mended Unmended → List ℕ → List ℕ
+mended_bytes (Ok mended) draft = front_bytes mended.front ++ draft
+mended_bytes (Err reason) draft = []
+
+-- What is told of a file that was to be mended: what was changed of it, and the text is the mended file; or there is no
+-- text, for this reason.
 abbrev pub TellsMended : Mends → List ℕ → Result Mended Unmended → List ℕ → Type 0
-TellsMended mends file (Ok mended) text =
-    (draft : List ℕ) × IsMended mends file mended draft × (text ≡ front_bytes mended.front ++ draft)
-TellsMended mends file (Err reason) text = IsReason mends file reason × (text ≡ [])
+TellsMended mends file answer text = (draft : List ℕ) × IfOk answer (λ mended. IsMended mends file mended draft)
+    × IfErr answer (IsReason mends file) × (text ≡ mended_bytes answer draft)
 
 -- A run mended a file in this way.
 abbrev pub ServesMended : {R W : Type 0} → (R → Option (List ℕ)) → (W → Option (List ℕ)) → Mends → Tried R → Tried R

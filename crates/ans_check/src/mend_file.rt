@@ -5,7 +5,7 @@ ghost use Rattle.ans_write.specs.Puts.{Puts};
 ghost use Rattle.ans_write.specs.Tried.{has_failed};
 ghost use Rattle.ans_check.specs.Mending.{front_bytes};
 ghost use Rattle.ans_check.specs.Reported.{PutsMended};
-ghost use Rattle.ans_check.specs.Served.{ServesMended};
+ghost use Rattle.ans_check.specs.Served.{ServesMended, mended_bytes};
 
 use crate::errors::RunError;
 use crate::mend_steps::mend_on;
@@ -24,14 +24,30 @@ const SAFE_BEGINNING: &[u8] = b"\x1b[?7h\x1b[0m\x1b[2J\x1b[H\x1b[s";
 /// How many bytes a record takes with its end mark, and an end mark behind the content.
 const RECORD_ROOM: usize = 130;
 
-/// Puts a mended file: the bytes in front, where there are some, and those of its draft.
-fn put_file<W: Write>(out: &mut Outbox<'_, W>, front: bool, draft: &[u8])
-    ensures { Puts W.contents out.old out.new (front_bytes front ++ draft.now) }
+/// Puts the bytes that stand in front, where they are wanted.
+fn put_front<W: Write>(out: &mut Outbox<'_, W>, front: bool)
+    ensures { Puts W.contents out.old out.new (front_bytes front) }
 {
     if front {
         out.put(SAFE_BEGINNING);
     }
+}
+
+/// Puts a mended file: the bytes in front, where they are wanted, and those of its draft.
+fn put_file<W: Write>(out: &mut Outbox<'_, W>, front: bool, draft: &[u8])
+    ensures { Puts W.contents out.old out.new (front_bytes front ++ draft.now) }
+{
+    put_front(out, front);
     out.put(draft);
+}
+
+/// Puts what came of mending: the file, or nothing where there is none.
+fn put_answer<W: Write>(out: &mut Outbox<'_, W>, answer: &Result<Mended, Unmended>, draft: &[u8])
+    ensures { Puts W.contents out.old out.new (mended_bytes answer.now draft.now) }
+{
+    if let Ok(mended) = answer {
+        put_file(out, mended.front, draft);
+    }
 }
 
 /// How many bytes are put into a file at most: a return before each line feed, a record and end marks.
@@ -57,9 +73,7 @@ fn mend_in<W: Write>(
 {
     let mut draft = Draft::new(memory, count);
     let answer = mend_on(&mut KeptScreens::new(alloc), &mut draft, mends)?;
-    if let Ok(mended) = &answer {
-        put_file(out, mended.front, draft.file());
-    }
+    put_answer(out, &answer, draft.file());
     Ok(answer)
 }
 

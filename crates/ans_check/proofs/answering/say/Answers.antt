@@ -1,6 +1,7 @@
-use Rattle.std.proofs.Common.{rules}
 use Rattle.ans_check.proofs.AnswerLemmas.{says_else}
 use Rattle.ans_check.proofs.answering.say.Goals as goal
 
-pub returns-in-Table : goal.returns-in-Table
-returns-in-Table g c = rw c.in-Table.is (search (rules, c.say_counts.ensures))
+pub returns-in_default : goal.returns-in_default
+returns-in_default g c =
+    says_else g.E.Write.contents c.args.errors.now c.say_message.new.errors c.args.ending c.requires.told
+    c.in_default.not-Table c.in_default.not-Mended c.in_default.not-NotMended c.say_message.ensures

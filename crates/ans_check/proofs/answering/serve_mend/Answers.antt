@@ -1,4 +1,4 @@
-use Rattle.std.proofs.Common.{refl, subst, sym, inl}
+use Rattle.std.proofs.Common.{subst, sym, inl}
 use Rattle.std.specs.Prelude.{option_map, string_bytes}
 use Rattle.ans_check.specs.Answer.{IsNamed}
 use Rattle.ans_check.proofs.answering.serve_mend.Goals as goal

@@ -1,8 +1,14 @@
 use Rattle.std.proofs.Common.{◌≡◌, rules, true, false}
 use Rattle.ans_write.specs.Tried.{has_failed}
 use Rattle.ans_check.specs.Served.{TellsMended}
-use Rattle.ans_check.proofs.ServedLemmas.{flushed, unflushed}
+use Rattle.ans_check.proofs.ServedLemmas.{flushed, still_works, unflushed}
 use Rattle.ans_check.proofs.streams.mend.Goals as goal
+
+pub flush-requires : goal.flush-requires
+flush-requires g c = record {
+  works = still_works g.R.Read.remaining g.W.Write.contents (TellsMended c.args.mends.now) c.args.reader.now
+      c.run_mend.new.reader c.args.writer.now c.run_mend.new.writer c.in_ok-answer.answer c.in_ok-answer.ensures;
+}
 
 pub returns-in-Ok : goal.returns-in-Ok
 returns-in-Ok g c =

@@ -1,0 +1,34 @@
+-- A file in memory with room behind it, and how its writing ends.
+use Rattle.std.proofs.Common.{◌≡◌, ◌∙◌, ℕ, ◌+◌, ◌≤◌, Bool, true, false, List, ◌++◌, length, take, Ok, Err}
+use Rattle.std.proofs.Common.{ap, arith, refl, subst, sym, true≢false}
+use Rattle.std.specs.Prelude.{◌↔◌, Result, IsErr, IsTrue, min}
+use Rattle.std.proofs.Math.Nat.{le-min}
+use Rattle.std.proofs.Math.Seq.{take-append_seam}
+use Rattle.std.proofs.lemmas.List.{take_all}
+use Rattle.ans_model.specs.Bytes.{longest_file}
+
+-- room behind the bytes leaves them at the front
+pub grown_front : (bytes : List ℕ) (n : ℕ) (room : List ℕ) → length bytes ≤ n
+    → take (length bytes) (take n bytes ++ room) ≡ bytes
+grown_front bytes n room within =
+    ap (λ (v : List ℕ). take (length bytes) (v ++ room)) (take_all n bytes within) ∙ take-append_seam bytes room
+
+-- a sum that stops at the largest number is as much as the length of a file at least
+pub saturated : (bytes : List ℕ) (count room sum : ℕ) → count ≡ length bytes
+    → sum ≡ min (count + room) 18446744073709551615 → length bytes ≤ longest_file → length bytes ≤ sum
+saturated bytes count room sum is total within =
+    subst (λ (v : ℕ). length bytes ≤ v) (sym total) (le-min (omega (arith, is)) (omega (arith, within)))
+
+-- a device works where what was written on it last did not fail
+pub finished_works : {T E : Type 0} (failed : Bool) (r : Result T E) (v : T) → IsErr r ↔ IsTrue failed → r ≡ Ok v
+    → failed ≡ false
+finished_works false r v device is = refl
+finished_works true (Ok w) v device is = absurd (true≢false (sym (device.1 refl)))
+finished_works true (Err e) v device is = absurd (cc)
+
+-- and has failed where it did
+pub finished_fails : {T E : Type 0} (failed : Bool) (r : Result T E) (e : E) → IsErr r ↔ IsTrue failed → r ≡ Err e
+    → failed ≡ true
+finished_fails true r e device is = refl
+finished_fails false (Err x) e device is = absurd (true≢false (sym (device.0 refl)))
+finished_fails false (Ok v) e device is = absurd (cc)

@@ -1,0 +1,18 @@
+use Rattle.std.proofs.Common.{◌≡◌, ◌≤◌, ◌∙◌, ℕ, List, length, take, ap, ap₂, subst, sym}
+use Rattle.ans_check.specs.Reported.{PutsMended}
+use Rattle.ans_check.proofs.MendFileLemmas.{grown_front, saturated}
+use Rattle.ans_check.proofs.mend_file.mend_file.Goals as goal
+
+pub returns : goal.returns
+returns g c =
+    let bytes = c.args.file.items in
+    let count : c.len-count.result ≡ length bytes =
+    c.len-count.ensures ∙ sym c.as_slice.ensures.len ∙ ap length c.as_slice.ensures.value in
+    let within : length bytes ≤ c.saturating_add.result =
+    saturated bytes c.len-count.result c.room_for-room.result c.saturating_add.result count c.saturating_add.ensures
+    c.requires in
+    let front : take c.len-count.result c.as_mut_slice.result.now ≡ bytes =
+    ap₂ (λ (n : ℕ) (v : List ℕ). take n v) count (c.as_mut_slice.ensures.value ∙ c.in_ok-resize.ensures.items)
+    ∙ grown_front bytes c.saturating_add.result _ within in
+    subst (λ (file : List ℕ). PutsMended g.W.Write.contents c.args.mends.now file c.args.out.now c.mend_in.new.out
+    c.mend_in.result) front c.mend_in.ensures
