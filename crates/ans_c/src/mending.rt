@@ -10,9 +10,10 @@ ghost use Rattle.ans_c.specs.Told.{HandsReport, ReportsMending, mending_text};
 
 use crate::numbers::{NO_ROOM, TOO_LONG, WRONG_NUMBER, mends_of};
 use crate::texts::{Nowhere, hand_over};
-use ans_check::{LentScreens, Mended, Mends, Unmended, mend_on};
-use ans_mend::{Draft, put_mended, put_unmended};
+use ans_check::{LentScreens, mend_on};
+use ans_mend::{Draft, Mended, Unmended, put_mended, put_unmended};
 use ans_model::limits::{MAX_FILE, MAX_LINES, MAX_WIDTH};
+use ans_options::Mends;
 use ans_screen::LentRow;
 use ans_write::{Outbox, Tried};
 use std::io::Write;
@@ -27,7 +28,7 @@ fn front_bytes(front: bool) -> &'static [u8]
     if front { SAFE_BEGINNING } else { b"" }
 }
 
-/// Copies two texts to the front of an array, one behind the other. Returns how many bytes they have, or
+/// Copies bytes to the front of an array, and others behind them. Returns how many they are together, or
 /// nothing where the array has no room for them.
 fn place(beginning: &[u8], rest: &[u8], array: &mut [u8]) -> Option<usize>
     ensures placed { IfSome result (λ size. take size array.new ≡ beginning.now ++ rest.now) }
@@ -43,6 +44,18 @@ fn place(beginning: &[u8], rest: &[u8], array: &mut [u8]) -> Option<usize>
     Some(size)
 }
 
+/// A copy of a file, as a draft in this memory; none where the memory has no room for it.
+fn copied<'a>(memory: &'a mut [u8], file: &[u8]) -> Option<Draft<'a>>
+    ensures { IfSome result (λ draft. draft.file ≡ file.now) }
+{
+    let count = file.len();
+    if memory.len() < count {
+        return None;
+    }
+    memory[..count].copy_from_slice(file);
+    Some(Draft::new(memory, count))
+}
+
 /// Mends a file in a draft, and places it. Returns what was changed or why it is not mended, and how many
 /// bytes the mended file has; nothing where there is too little room.
 fn mend_in(
@@ -55,12 +68,7 @@ fn mend_in(
     requires { length file.now ≤ longest_file }
     ensures { IfSome result (λ r. TellsMended mends.now file.now r.0 (take r.1 mended.new)) }
 {
-    let count = file.len();
-    if memory.len() < count {
-        return None;
-    }
-    memory[..count].copy_from_slice(file);
-    let mut draft = Draft::new(memory, count);
+    let mut draft = copied(memory, file)?;
     match mend_on(screens, &mut draft, mends) {
         Ok(Ok(changed)) => {
             let size = place(front_bytes(changed.front), draft.file(), mended)?;
