@@ -81,8 +81,8 @@ static inline uint32_t ans_mend_easily(const uint8_t *file, size_t file_len, uin
     draft = (uint8_t *)malloc(room);
     *mended = (uint8_t *)malloc(room);
     if (rows && bytes && draft && *mended)
-        answer = ans_mend(file, file_len, classes, width, lines, rows, ANS_MOST_ROWS, bytes, ANS_MOST_BYTES, draft, room,
-                          *mended, room, size, text, text_len, length);
+        answer = ans_mend(file, file_len, classes, width, lines, rows, ANS_MOST_ROWS, bytes, ANS_MOST_BYTES, draft,
+                          room, *mended, room, size, text, text_len, length);
     free(rows);
     free(bytes);
     free(draft);
