@@ -74,7 +74,24 @@ fn wants_mending(parts: &Parts<'_>, fault: Option<Fault>) -> bool
     }
 }
 
-/// Plays the content of a file from the cleared start and from all starts. An error in the answer is the
+/// The fault of a content from the cleared start, by its fault from all starts. It is not played again where
+/// it passes from all.
+fn cleared_fault<S: Screens>(
+    screens: &mut S,
+    parts: &Parts<'_>,
+    fault: Option<Fault>,
+) -> Result<Option<Fault>, AllocError>
+    requires length { length (content_of parts.now) ≤ longest_file }
+    requires ends { EndsFrom (size_of parts.now) (content_of parts.now) none_known fault }
+    ensures { IfOk result (EndsFrom (size_of parts.now) (content_of parts.now) all_known) }
+{
+    match fault {
+        Some(_) => screens.fault_from(parts, Start::CLEARED),
+        None => Ok(None),
+    }
+}
+
+/// Plays the content of a file from all starts, and where that fails from the cleared one. An error in the answer is the
 /// fault of the record, or of the play from the cleared start. `Err` says that there is no room for the
 /// screen.
 pub(crate) fn judge<S: Screens>(
@@ -89,10 +106,10 @@ pub(crate) fn judge<S: Screens>(
         Ok(parts) => parts,
         Err(fault) => return Ok(Err(fault)),
     };
-    if let Some(fault) = screens.fault_from(&parts, Start::CLEARED)? {
-        return Ok(Err(fault));
-    }
     let fault = screens.fault_from(&parts, Start::ANY)?;
+    if let Some(cleared) = cleared_fault(screens, &parts, fault)? {
+        return Ok(Err(cleared));
+    }
     Ok(Ok(Judgement {
         non_blink: parts.sauce().is_non_blink(),
         front: wants_mending(&parts, fault),

@@ -12,3 +12,8 @@ pub mod CleanLines
 pub mod CleanWhy
 pub mod CleanReports
 pub mod CleanBytes
+pub mod WholeFiles
+pub mod MarkedContents
+pub mod MendingHomes
+pub mod MendedItself
+pub mod MendedTwice

@@ -6,11 +6,12 @@ use Rattle.ans_check.proofs.mend_judge.judge.Goals as goal
 
 pub returns-in-Some-clause-fault : goal.returns-in-Some-clause-fault
 returns-in-Some-clause-fault g c =
-    split_fault c.args.file.now c.in-Ok.parts c.in-Some.fault c.in-Ok.ensures.ok
-    (rw c.in-Some.is at c.in_ok-fault.ensures.fault)
+    split_fault c.args.file.now c.in-Ok.parts c.in-Some.cleared c.in-Ok.ensures.ok
+    (rw c.in-Some.is at c.in_ok-cleared.ensures)
 
-pub fault_from-requires-2 : goal.fault_from-requires-2
-fault_from-requires-2 g c = content_within c.args.file.now c.in-Ok.parts c.in-Ok.ensures.ok c.requires
+pub cleared_fault-requires-clause-length : goal.cleared_fault-requires-clause-length
+cleared_fault-requires-clause-length g c =
+    content_within c.args.file.now c.in-Ok.parts c.in-Ok.ensures.ok c.requires
 
 pub wants_mending-requires-clause-length : goal.wants_mending-requires-clause-length
 wants_mending-requires-clause-length g c =
@@ -21,6 +22,6 @@ returns-clause-passes g c =
     judged c.args.file.now c.in-Ok.parts
     _
     c.in-Ok.ensures.ok
-    (rw c.in_default.is at c.in_ok-fault.ensures.fault) c.wants_mending.ensures.every c.wants_mending.ensures.wants
+    (rw c.in_default.is at c.in_ok-cleared.ensures) c.wants_mending.ensures.every c.wants_mending.ensures.wants
     (ap length c.content.ensures) c.lines.ensures.lines
     (c.is_non_blink.ensures ∙ ap is_non_blink c.sauce.ensures)

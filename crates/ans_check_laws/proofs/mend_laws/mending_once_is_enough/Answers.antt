@@ -1,0 +1,5 @@
+use Rattle.ans_check_laws.proofs.MendedTwice.{mending_twice}
+use Rattle.ans_check_laws.proofs.mend_laws.mending_once_is_enough.Goals as goal
+
+pub returns : goal.returns
+returns c = mending_twice
