@@ -120,9 +120,9 @@ uint32_t ans_record(const uint8_t *file, size_t file_len, uint8_t *text, size_t 
  * was changed, a line for each kind of change. A file that wants nothing stands there as it is, and the text is empty.
  * ANS_REFUSED: the file is not mended so, `size` is 0, and the text says why. After both the text stands at the front
  * of `text`, and `length` says how many bytes it has. ANS_TOO_LONG. ANS_WRONG_NUMBER: the file is not too long, and
- * `width` or `lines` is above its largest. ANS_NO_ROOM: `text` has fewer bytes than `length` then says, and `mended` and
- * `size` are as after ANS_PASS or ANS_REFUSED; or `length` is 0, and another array is too small. Where neither a mended
- * file nor a text is told of, `size` and `length` are 0. */
+ * `width` or `lines` is above its largest. ANS_NO_ROOM: `text` has fewer bytes than `length` then says, and `mended`
+ * and `size` are as after ANS_PASS or ANS_REFUSED; or `length` is 0, and another array is too small. Where neither a
+ * mended file nor a text is told of, `size` and `length` are 0. */
 uint32_t ans_mend(const uint8_t *file, size_t file_len, uint32_t classes, uint32_t width, uint32_t lines,
                   struct ans_row *rows, size_t rows_len, uint8_t *bytes, size_t bytes_len, uint8_t *draft,
                   size_t draft_len, uint8_t *mended, size_t mended_len, size_t *size, uint8_t *text, size_t text_len,
