@@ -46,7 +46,8 @@ fn place(beginning: &[u8], rest: &[u8], array: &mut [u8]) -> Option<usize>
 
 /// A copy of a file, as a draft in this memory; none where the memory has no room for it.
 fn copied<'a>(memory: &'a mut [u8], file: &[u8]) -> Option<Draft<'a>>
-    ensures { IfSome result (λ draft. draft.file ≡ file.now) }
+    ensures file { IfSome result (λ draft. draft.file ≡ file.now) }
+    ensures room { IsNone result → length memory.old < length file.now }
 {
     let count = file.len();
     if memory.len() < count {
