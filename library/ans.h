@@ -23,7 +23,7 @@ extern "C" {
 /* The longest file that is checked, in bytes. */
 #define ANS_LONGEST_FILE 16777216
 
-/* Room for any text of ans_why and ans_record. */
+/* Room for any text of ans_why, ans_record and ans_mend. */
 #define ANS_LONGEST_TEXT 65536
 
 /* What a call answers. ANS_NO_MEMORY comes from ans_easy.h alone. */
@@ -31,8 +31,9 @@ enum {
     ANS_PASS = 0,
     ANS_REFUSED = 1,
     ANS_NO_MEMORY = 2,
-    ANS_TOO_LONG = 3, /* the file has more than ANS_LONGEST_FILE bytes */
-    ANS_NO_ROOM = 4   /* an array is too small */
+    ANS_TOO_LONG = 3,    /* the file has more than ANS_LONGEST_FILE bytes */
+    ANS_NO_ROOM = 4,     /* an array is too small */
+    ANS_WRONG_NUMBER = 5 /* of ans_mend: a number is above its largest */
 };
 
 /* Parts of the start, added up. A part that is known is as on a cleared screen: blank cells, white on black; the cursor
@@ -45,6 +46,21 @@ enum {
     ANS_WRAP = 16,
     ANS_CLEARED = 31
 };
+
+/* What ans_mend may change besides what is mended by itself, added up. */
+enum {
+    ANS_TAKE_OUT = 1,   /* sequences that are refused are taken out, and as few line ends at the very end as must go */
+    ANS_LINE_ENDS = 2,  /* a return is put before each line feed, where there is no return */
+    ANS_FULL_ROWS = 4,  /* the line ends behind full rows are taken out, where each full row has one */
+    ANS_LEAST_LINES = 8 /* the least number of lines is stated, where those that are stated are too few, or none are */
+};
+
+/* How many bytes more than the file has ans_mend may want. */
+#define ANS_MENDING_ROOM 149
+
+/* The most rows of a screen, and its most bytes. */
+#define ANS_MOST_ROWS 8193
+#define ANS_MOST_BYTES 33558528
 
 /* Why a file is refused: n for the fault Fn, and its offset in bytes from the file's start. For F25 the row and the
  * column of the cell, counted from 1, and else 0. */
@@ -94,6 +110,23 @@ uint32_t ans_why(const uint8_t *file, size_t file_len, struct ans_row *rows, siz
 /* The text of `anscheck sauce`, in UTF-8: what a file's record says, ANS_PASS, or why it is refused, ANS_REFUSED. Else the
  * answers are those of ans_why. */
 uint32_t ans_record(const uint8_t *file, size_t file_len, uint8_t *text, size_t text_len, size_t *length);
+
+/* Mends a file as `anscheck mend` does, so that it passes from every start, and tells what that says, in UTF-8.
+ * `classes` is a sum of the classes above. `width` is the columns of the record that a file without one is given, 1 to
+ * 1024, or 0 for no record; `lines` the number of lines that is stated where others are wanted, 1 to 8192, or 0 for
+ * none. `draft` and `mended` want file_len + ANS_MENDING_ROOM bytes, and with ANS_LINE_ENDS one more for each line feed
+ * of the file; `rows` and `bytes` what ans_size tells of the mended file, at most ANS_MOST_ROWS and ANS_MOST_BYTES.
+ * ANS_PASS: the mended file stands at the front of `mended`, `size` says how many bytes it has, and the text says what
+ * was changed, a line for each kind of change. A file that wants nothing stands there as it is, and the text is empty.
+ * ANS_REFUSED: the file is not mended so, `size` is 0, and the text says why. After both the text stands at the front
+ * of `text`, and `length` says how many bytes it has. ANS_TOO_LONG. ANS_WRONG_NUMBER: the file is not too long, and
+ * `width` or `lines` is above its largest. ANS_NO_ROOM: `text` has fewer bytes than `length` then says, and `mended`
+ * and `size` are as after ANS_PASS or ANS_REFUSED; or `length` is 0, and another array is too small. Where neither a
+ * mended file nor a text is told of, `size` and `length` are 0. */
+uint32_t ans_mend(const uint8_t *file, size_t file_len, uint32_t classes, uint32_t width, uint32_t lines,
+                  struct ans_row *rows, size_t rows_len, uint8_t *bytes, size_t bytes_len, uint8_t *draft,
+                  size_t draft_len, uint8_t *mended, size_t mended_len, size_t *size, uint8_t *text, size_t text_len,
+                  size_t *length);
 
 /* The text of the fault Fn ("F21 scrolls") and of the note Nn. ANS_REFUSED: there is none of this number. ANS_NO_ROOM:
  * `text` has fewer bytes than `length` then says. */

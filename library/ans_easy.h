@@ -65,4 +65,32 @@ static inline uint32_t ans_needs_easily(const uint8_t *file, size_t file_len, ui
     return answer;
 }
 
+/* Mends a file as ans_mend does. ANS_PASS: `mended` has `size` bytes, and is freed by free. ANS_NO_MEMORY: malloc gave
+ * none. After all else there is nothing to free. Of ANS_LONGEST_TEXT bytes `text` is never too short. */
+static inline uint32_t ans_mend_easily(const uint8_t *file, size_t file_len, uint32_t classes, uint32_t width,
+                                       uint32_t lines, uint8_t **mended, size_t *size, uint8_t *text, size_t text_len,
+                                       size_t *length) {
+    size_t room = file_len + ANS_MENDING_ROOM;
+    struct ans_row *rows = (struct ans_row *)malloc(ANS_MOST_ROWS * sizeof *rows);
+    uint8_t *bytes = (uint8_t *)malloc(ANS_MOST_BYTES);
+    uint8_t *draft;
+    uint32_t answer = ANS_NO_MEMORY;
+    if (classes & ANS_LINE_ENDS)
+        for (size_t i = 0; i < file_len; i++)
+            room += file[i] == '\n';
+    draft = (uint8_t *)malloc(room);
+    *mended = (uint8_t *)malloc(room);
+    if (rows && bytes && draft && *mended)
+        answer = ans_mend(file, file_len, classes, width, lines, rows, ANS_MOST_ROWS, bytes, ANS_MOST_BYTES, draft,
+                          room, *mended, room, size, text, text_len, length);
+    free(rows);
+    free(bytes);
+    free(draft);
+    if (answer != ANS_PASS) {
+        free(*mended);
+        *mended = NULL;
+    }
+    return answer;
+}
+
 #endif

@@ -58,6 +58,17 @@ static void tell_why(size_t file_len) {
     free(bytes);
 }
 
+static void tell_mend(size_t file_len, uint32_t classes, uint32_t width) {
+    uint8_t *mended;
+    size_t size = 0, length = 0;
+    uint32_t answer = ans_mend_easily(file, file_len, classes, width, 0, &mended, &size, text, sizeof text, &length);
+    printf("mend %u %u %zu\n", classes, width, size);
+    if (answer == ANS_PASS)
+        fwrite(mended, 1, size, stdout);
+    free(mended);
+    tell_text("mended", answer, length);
+}
+
 int main(int argc, char **argv) {
     size_t length = 0;
     FILE *input = argc == 2 ? fopen(argv[1], "rb") : NULL;
@@ -76,5 +87,7 @@ int main(int argc, char **argv) {
     length = 0;
     answer = ans_record(file, file_len, text, sizeof text, &length);
     tell_text("record", answer, length);
+    tell_mend(file_len, 0, 0);
+    tell_mend(file_len, ANS_TAKE_OUT | ANS_LINE_ENDS | ANS_FULL_ROWS | ANS_LEAST_LINES, 80);
     return 0;
 }

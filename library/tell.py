@@ -7,6 +7,7 @@ from ctypes import POINTER, c_size_t, c_uint8, c_uint32
 
 PASS, REFUSED = 0, 1
 LONGEST_TEXT = 65536
+MENDING_ROOM, MOST_ROWS, MOST_BYTES = 149, 8193, 33558528
 
 
 class Fault(ctypes.Structure):
@@ -31,6 +32,7 @@ CALLS = {
     "ans_needs": [*FILE, *SCREEN, POINTER(c_uint32), POINTER(Fault)],
     "ans_why": [*FILE, *SCREEN, *TEXT],
     "ans_record": [*FILE, *TEXT],
+    "ans_mend": [*FILE, c_uint32, c_uint32, c_uint32, *SCREEN, *BYTES, *BYTES, POINTER(c_size_t), *TEXT],
     "ans_version": TEXT,
 }
 
@@ -65,6 +67,14 @@ class Checker:
         answer = getattr(self.library, name)(*words, *text, ctypes.byref(length))
         return answer, bytes(text[0][: length.value]) if answer in (PASS, REFUSED) else b"", length.value
 
+    def mend(self, classes, width):
+        count = self.file[1] + self.file[0].count(b"\n") + MENDING_ROOM
+        screen = ((Row * MOST_ROWS)(), MOST_ROWS, *self.room(MOST_BYTES))
+        mended, size = self.room(count), c_size_t()
+        answer, text, length = self.text(
+            "ans_mend", *self.file, classes, width, 0, *screen, *self.room(count), *mended, ctypes.byref(size))
+        return answer, bytes(mended[0][: size.value]) if answer == PASS else b"", text, length
+
 
 def tell(checker):
     """Returns what is said of the file, a line for each call."""
@@ -91,6 +101,12 @@ def tell(checker):
     put_answer("needs", *checker.needs())
     put_text("why", "ans_why", *checker.file, *checker.screen)
     put_text("record", "ans_record", *checker.file)
+    for classes, width in ((0, 0), (15, 80)):
+        answer, mended, text, length = checker.mend(classes, width)
+        put(f"mend {classes} {width} {len(mended)}".encode())
+        told.append(mended)
+        put(f"mended {answer} {length}".encode())
+        told.append(text)
     return b"".join(told)
 
 

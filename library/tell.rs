@@ -5,6 +5,9 @@ use std::{env, fs, io};
 const PASS: u32 = 0;
 const REFUSED: u32 = 1;
 const LONGEST_TEXT: usize = 65_536;
+const MENDING_ROOM: usize = 149;
+const MOST_ROWS: usize = 8193;
+const MOST_BYTES: usize = 33_558_528;
 
 #[repr(C)]
 #[derive(Default)]
@@ -41,6 +44,7 @@ unsafe extern "C" {
     fn ans_needs(file: *const u8, file_len: usize, rows: *mut Row, rows_len: usize, bytes: *mut u8, bytes_len: usize, parts: &mut u32, fault: &mut Fault) -> u32;
     fn ans_why(file: *const u8, file_len: usize, rows: *mut Row, rows_len: usize, bytes: *mut u8, bytes_len: usize, text: *mut u8, text_len: usize, length: &mut usize) -> u32;
     fn ans_record(file: *const u8, file_len: usize, text: *mut u8, text_len: usize, length: &mut usize) -> u32;
+    fn ans_mend(file: *const u8, file_len: usize, classes: u32, width: u32, lines: u32, rows: *mut Row, rows_len: usize, bytes: *mut u8, bytes_len: usize, draft: *mut u8, draft_len: usize, mended: *mut u8, mended_len: usize, size: &mut usize, text: *mut u8, text_len: usize, length: &mut usize) -> u32;
     fn ans_version(text: *mut u8, text_len: usize, length: &mut usize) -> u32;
 }
 
@@ -96,6 +100,34 @@ impl Checker {
         }
     }
 
+    /// What `ans_mend` answers, and the mended file.
+    fn mend(&self, classes: u32, width: u32, text: &mut [u8], length: &mut usize) -> (u32, Vec<u8>) {
+        let room = self.file.len() + self.file.iter().filter(|&&byte| byte == b'\n').count() + MENDING_ROOM;
+        let (mut rows, mut bytes) = (vec![Row::default(); MOST_ROWS], vec![0u8; MOST_BYTES]);
+        let (mut draft, mut mended, mut size) = (vec![0u8; room], vec![0u8; room], 0);
+        let answer = unsafe {
+            ans_mend(
+                self.file.as_ptr(), self.file.len(), classes, width, 0, rows.as_mut_ptr(), rows.len(),
+                bytes.as_mut_ptr(), bytes.len(), draft.as_mut_ptr(), draft.len(), mended.as_mut_ptr(), mended.len(),
+                &mut size, text.as_mut_ptr(), text.len(), length,
+            )
+        };
+        mended.truncate(size);
+        (answer, mended)
+    }
+
+    fn put_mend(&self, out: &mut impl Write, classes: u32, width: u32) -> io::Result<()> {
+        let (mut mended, mut told) = (Vec::new(), Vec::new());
+        put_text(&mut told, "mended", |text, length| {
+            let (answer, file) = self.mend(classes, width, text, length);
+            mended = file;
+            answer
+        })?;
+        writeln!(out, "mend {classes} {width} {}", mended.len())?;
+        out.write_all(&mended)?;
+        out.write_all(&told)
+    }
+
     fn put_answer(&self, out: &mut impl Write, name: &str, (answer, passed): (u32, String)) -> io::Result<()> {
         let fault = &self.fault;
         match answer {
@@ -130,5 +162,7 @@ fn main() -> io::Result<()> {
     let file = &checker.file;
     put_text(out, "record", |text, length| unsafe {
         ans_record(file.as_ptr(), file.len(), text.as_mut_ptr(), text.len(), length)
-    })
+    })?;
+    checker.put_mend(out, 0, 0)?;
+    checker.put_mend(out, 15, 80)
 }

@@ -3,8 +3,9 @@
 
 PROGRAM is the built anscheck, ARCHIVE the built libans_c.a. `tell` is built in C, in C++ and in Rust and run in Python; of
 each FILE (by default the drawings of conformance/ and of crates/anscheck/data, and a file that is too long) each must say
-what the program says: the verdict and each cell from three classes of starts, what the file needs, the text of why, and
-what the record says. It wants cc, c++ and rustc. The last line is 'N files in 4 languages, M differ'."""
+what the program says: the verdict and each cell from three classes of starts, what the file needs, the text of why, what
+the record says, and the mended file with what is said of it, mended by itself and with all that may be changed. It wants
+cc, c++ and rustc. The last line is 'N files in 4 languages, M differ'."""
 import re
 import subprocess
 import sys
@@ -15,6 +16,8 @@ HERE = Path(__file__).resolve().parent
 TOP = HERE.parent
 PARTS = {"screen": 1, "cursor": 2, "saved": 4, "colours": 8, "wrap": 16}
 CLASSES = {0: [], 3: ["--known-screen", "--known-cursor"], 31: ["--cleared"]}
+ALL_CHANGES = ["--take-out", "--line-ends", "--full-rows", "--least-lines", "--width", "80"]
+CHANGES = {(0, 0): [], (15, 80): ALL_CHANGES}
 TOO_LONG, LONGEST_FILE = 3, 16_777_216
 STRICT = ["-O2", "-Wall", "-Wextra", "-Werror"]
 
@@ -62,12 +65,18 @@ def wanted(program, file):
     for name, command in (("why", "why"), ("record", "sauce")):
         ran = run([program, command, file])
         told.append(f"{name} {ran.returncode} {len(ran.stdout)}\n".encode() + ran.stdout)
+    for (classes, width), flags in CHANGES.items():
+        ran = run([program, "mend", *flags, file])
+        told.append(f"mend {classes} {width} {len(ran.stdout)}\n".encode() + ran.stdout)
+        told.append(f"mended {ran.returncode} {len(ran.stderr)}\n".encode() + ran.stderr)
     return b"".join(told)
 
 
 def wanted_of_too_long():
     answers = [f"check {known} answer {TOO_LONG}\n" for known in CLASSES] + [f"needs answer {TOO_LONG}\n"]
-    return ("version 0 5\n0.1.0\n" + "".join(answers) + f"why {TOO_LONG} 0\nrecord {TOO_LONG} 0\n").encode()
+    texts = [f"why {TOO_LONG} 0\nrecord {TOO_LONG} 0\n"]
+    mends = [f"mend {classes} {width} 0\nmended {TOO_LONG} 0\n" for classes, width in CHANGES]
+    return "".join(["version 0 5\n0.1.0\n", *answers, *texts, *mends]).encode()
 
 
 def main(program, archive, *names):

@@ -1,11 +1,12 @@
 -- What is told in numbers.
-use Rattle.std.specs.Prelude.{◌≡◌, ℕ, ◌+◌, ◌*◌, Bool, not, ◌==◌, bit_and}
+use Rattle.std.specs.Prelude.{◌≡◌, ℕ, ◌+◌, ◌*◌, Bool, not, ◌==◌, bit_and, Option, None, Some, if◌then◌else◌}
 use Rattle.ans_model.specs.Screen.State.{Size}
 use Rattle.ans_model.specs.declared.fault.Cause.{Cause}
 use Rattle.ans_model.specs.declared.fault.Cause.TheVariants.{UnknownCell}
 use Rattle.ans_model.specs.declared.fault.Fault.{Fault}
 use Rattle.ans_model.specs.declared.start.Start.{Start}
 use Rattle.ans_model.specs.Text.FaultText.{cause_number}
+use Rattle.ans_options.specs.declared.command.Mends.{Mends}
 use Rattle.ans_c.specs.declared.numbers.PictureSize.{PictureSize}
 use Rattle.ans_c.specs.declared.numbers.ToldFault.{ToldFault}
 
@@ -37,6 +38,21 @@ class_of known = record {
   saved = has_bit known 4;
   colours = has_bit known 8;
   wrap = has_bit known 16;
+}
+
+-- a number that is asked for; 0 asks for none
+abbrev pub number_or_none : ℕ → Option ℕ
+number_or_none number = if number == 0 then None else Some number
+
+-- what bits and numbers ask for of a file that is mended
+abbrev pub mends_of : ℕ → ℕ → ℕ → Mends
+mends_of classes width lines = record {
+  width = number_or_none width;
+  line_ends = has_bit classes 2;
+  take_out = has_bit classes 1;
+  full_rows = has_bit classes 4;
+  least_lines = has_bit classes 8;
+  lines = number_or_none lines;
 }
 
 -- the size, and what is to be lent for a play of it and for its picture

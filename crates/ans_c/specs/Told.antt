@@ -1,6 +1,6 @@
 -- What a caller in C is told of a file.
 use Rattle.std.specs.Prelude.{◌≡◌, ◌≢◌, ◌⊎◌, ℕ, ◌+◌, ◌*◌, ◌<◌, ◌≤◌, min, Bool, true, false, List, length, map, take}
-use Rattle.std.specs.Prelude.{Some}
+use Rattle.std.specs.Prelude.{Some, Result, Ok, Err, is_ok}
 use Rattle.ans_model.specs.File.Record.{stated_size}
 use Rattle.ans_model.specs.File.Layout.{FileParts}
 use Rattle.ans_model.specs.File.Refusals.{Accepts, record_fault}
@@ -9,9 +9,14 @@ use Rattle.ans_model.specs.Verdict.Good.{Picture, GoodWith}
 use Rattle.ans_model.specs.declared.cell.Cell.{Cell}
 use Rattle.ans_model.specs.declared.fault.Fault.{Fault}
 use Rattle.ans_model.specs.declared.start.Start.{Start}
+use Rattle.ans_mend.specs.MendedText.{mended_text, unmended_text}
+use Rattle.ans_mend.specs.declared.outcome.Mended.{Mended}
+use Rattle.ans_mend.specs.declared.outcome.Unmended.{Unmended}
+use Rattle.ans_options.specs.declared.command.Mends.{Mends}
 use Rattle.ans_check.specs.FileNeeds.{NeedsClass}
 use Rattle.ans_check.specs.FileVerdict.{Deserves, Passes, IsRefusedFor, IsGoodFile}
 use Rattle.ans_check.specs.LentScreen.{HasScreen}
+use Rattle.ans_check.specs.Served.{TellsMended}
 use Rattle.ans_c.specs.Numbers.{IsSizeOf, TellsFault, class_of}
 use Rattle.ans_c.specs.declared.numbers.PictureSize.{PictureSize}
 use Rattle.ans_c.specs.declared.numbers.TheConstants.{PASS, REFUSED, NO_ROOM}
@@ -87,6 +92,19 @@ pub record HandsReport (reports : Bool → List ℕ → Type 0) (room result tol
   pub text : List ℕ
   pub reported : reports passed text
   pub handed : HandsOver text (code_of passed) room result told buffer
+
+-- what was changed of a file that is mended, or why it is not
+abbrev pub mending_text : Result Mended Unmended → List ℕ
+mending_text (Ok mended) = mended_text mended
+mending_text (Err reason) = unmended_text reason
+
+-- Asked for this, the file is mended, and `new` is the mended one; or it is not, and `new` is empty. The text says what
+-- was changed, or why it is not.
+pub record ReportsMending (mends : Mends) (file new : List ℕ) (is_mended : Bool) (text : List ℕ) : Type 0 where
+  pub answer : Result Mended Unmended
+  pub tells : TellsMended mends file answer new
+  pub is_mended_is : is_mended ≡ is_ok answer
+  pub text_is : text ≡ mending_text answer
 
 -- what is told of a play of the content from the starts of a class
 pub record TellsPlay (z : Size) (start : Start) (content : List ℕ) (result : ℕ) (glyphs attributes : List ℕ)

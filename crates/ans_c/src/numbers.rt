@@ -1,15 +1,17 @@
 //! What is told in numbers.
 
-ghost use Rattle.std.specs.Prelude.{◌≡◌, ◌<◌, ◌≢◌, if◌then◌else◌, IfSome, IsNone};
+ghost use Rattle.std.specs.Prelude.{◌≡◌, ◌<◌, ◌≤◌, ◌≢◌, if◌then◌else◌, IfSome, IsNone};
+ghost use Rattle.ans_model.specs.Bytes.{most_columns, most_lines};
 ghost use Rattle.ans_model.specs.declared.fault.Cause.{Cause};
 ghost use Rattle.ans_model.specs.declared.note.Note.{Note};
 ghost use Rattle.ans_sauce.specs.Parts.{size_of};
 ghost use Rattle.ans_model.specs.Text.FaultText.{cause_number, note_number};
-ghost use Rattle.ans_c.specs.Numbers.{class_of, IsSizeOf, TellsFault};
+ghost use Rattle.ans_c.specs.Numbers.{class_of, IsSizeOf, mends_of, number_or_none, TellsFault};
 
 use ans_model::fault::{Cause, Fault};
 use ans_model::note::Note;
 use ans_model::start::Start;
+use ans_options::Mends;
 use ans_sauce::Parts;
 
 /// The file passes; of a call that judges nothing, it is answered.
@@ -23,6 +25,9 @@ pub const TOO_LONG: u32 = 3;
 
 /// An array has no room for what it is lent for.
 pub const NO_ROOM: u32 = 4;
+
+/// A number is above the largest that the call takes.
+pub const WRONG_NUMBER: u32 = 5;
 
 /// Why a file is refused.
 #[repr(C)]
@@ -82,6 +87,31 @@ pub(crate) fn bits_of(class: Start) -> u32
         | bit(class.saved, 4)
         | bit(class.colours, 8)
         | bit(class.wrap, 16)
+}
+
+/// A number, or none where it is 0.
+fn number_or_none(number: u16) -> Option<u16>
+    ensures { result ≡ number_or_none number }
+{
+    if number == 0 { None } else { Some(number) }
+}
+
+/// What these bits and numbers ask for of a file that is mended: 1 that sequences are taken out, 2 line ends,
+/// 4 full rows, 8 the least lines; the columns of a record, and a number of lines, where they are not 0.
+/// Other bits count for nothing.
+pub(crate) fn mends_of(classes: u32, width: u32, lines: u32) -> Mends
+    requires width { width ≤ most_columns }
+    requires lines { lines ≤ most_lines }
+    ensures { result ≡ mends_of classes width lines }
+{
+    Mends {
+        width: number_or_none(width as u16),
+        line_ends: classes & 2 != 0,
+        take_out: classes & 1 != 0,
+        full_rows: classes & 4 != 0,
+        least_lines: classes & 8 != 0,
+        lines: number_or_none(lines as u16),
+    }
 }
 
 /// A cause of a number.

@@ -147,3 +147,115 @@ fn names_are_handed_over(rt: HostRuntime) {
     let answer = ans_version(&mut text, &mut length);
     expect(&rt, answer, text.get(..length), (PASS, b"0.1.0"));
 }
+
+/// The drawing with the safe beginning in front, which its file size counts.
+fn mended_drawing() -> [u8; 150] {
+    let mut file = [0u8; 150];
+    file[..19].copy_from_slice(b"\x1b[?7h\x1b[0m\x1b[2J\x1b[H\x1b[s");
+    file[19..].copy_from_slice(&drawing());
+    file[112] = 21;
+    file
+}
+
+/// What is lent to have a small drawing mended.
+#[derive(Drop)]
+struct LentForMending {
+    rows: [LentRow; 2],
+    bytes: [u8; 16],
+    draft: [u8; 131],
+    mended: [u8; 150],
+    size: usize,
+    text: [u8; 96],
+    told: usize,
+}
+
+impl LentForMending {
+    fn new() -> LentForMending {
+        LentForMending {
+            rows: [LentRow::new(); 2],
+            bytes: [0x55; 16],
+            draft: [0x55; 131],
+            mended: [0x55; 150],
+            size: 7,
+            text: [0x55; 96],
+            told: 7,
+        }
+    }
+
+    /// What `ans_mend` answers about a file.
+    fn mend(&mut self, file: &[u8], classes: u32, width: u32, lines: u32) -> u32 {
+        ans_mend(
+            file,
+            classes,
+            width,
+            lines,
+            &mut self.rows,
+            &mut self.bytes,
+            &mut self.draft,
+            &mut self.mended,
+            &mut self.size,
+            &mut self.text,
+            &mut self.told,
+        )
+    }
+}
+
+#[test]
+fn files_are_mended(rt: HostRuntime) {
+    let mut lent = LentForMending::new();
+    let answer = lent.mend(&drawing(), 0, 0, 0);
+    let mended = lent.mended.get(..lent.size);
+    expect(&rt, answer, mended, (PASS, &mended_drawing()));
+    let told = b"put 19 bytes in front\nfile size 21, was 2\n";
+    expect(&rt, answer, lent.text.get(..lent.told), (PASS, told));
+    let answer = lent.mend(b"Hi", 0, 2, 1);
+    let told =
+        b"put a record of 2 columns\nlines 1, was 0\nput 19 bytes in front\nfile size 21, was 0\n";
+    expect(&rt, answer, lent.text.get(..lent.told), (PASS, told));
+    let answer = lent.mend(b"Hi", 15, 0, 0);
+    let told = b"at 2: F1 no SAUCE record\n\
+        help: --width N gives a drawing without a record one for N columns\n";
+    expect(&rt, answer, lent.text.get(..lent.told), (REFUSED, told));
+    assert_eq!(rt; lent.size, 0);
+    let wide = (lent.mend(&drawing(), 0, 1025, 0), lent.size, lent.told);
+    let long = (lent.mend(&drawing(), 0, 0, 8193), lent.size, lent.told);
+    assert_eq!(rt; (wide, long), ((WRONG_NUMBER, 0, 0), (WRONG_NUMBER, 0, 0)));
+}
+
+/// How much is lent to have the drawing mended.
+type Room = (usize, usize, usize, usize, usize);
+
+/// What `ans_mend` answers about the drawing within some room, and the lengths that it tells.
+fn mended_within(room: Room) -> (u32, usize, usize) {
+    let mut lent = LentForMending::new();
+    let (rows, bytes, draft, mended, text) = room;
+    let answer = ans_mend(
+        &drawing(),
+        0,
+        0,
+        0,
+        &mut lent.rows[..rows.min(2)],
+        &mut lent.bytes[..bytes.min(16)],
+        &mut lent.draft[..draft.min(131)],
+        &mut lent.mended[..mended.min(150)],
+        &mut lent.size,
+        &mut lent.text[..text.min(96)],
+        &mut lent.told,
+    );
+    (answer, lent.size, lent.told)
+}
+
+#[test]
+fn mending_wants_room(rt: HostRuntime) {
+    assert_eq!(rt; mended_within((2, 16, 131, 150, 42)), (PASS, 150, 42));
+    assert_eq!(rt; mended_within((2, 16, 131, 150, 41)), (NO_ROOM, 150, 42));
+    let few = [
+        (1, 16, 131, 150, 42),
+        (2, 15, 131, 150, 42),
+        (2, 16, 130, 150, 42),
+        (2, 16, 131, 149, 42),
+    ];
+    for room in few {
+        assert_eq!(rt; mended_within(room), (NO_ROOM, 0, 0));
+    }
+}

@@ -26,7 +26,7 @@ const LONGEST: usize = 65_536;
 
 /// A device that takes no byte, so that what is put waits in the outbox as long as it fits.
 #[derive(Drop)]
-struct Nowhere;
+pub(crate) struct Nowhere;
 
 impl Write for Nowhere {
     ghost contents = { λ _. Some [] };
@@ -67,7 +67,12 @@ fn hand(text: &[u8], code: u32, buffer: &mut [u8], told: &mut usize) -> u32
 }
 
 /// Hands over what was put in an outbox. It all waits there, unless it is above the longest text.
-fn hand_over(out: &Outbox<'_, Nowhere>, passed: bool, buffer: &mut [u8], told: &mut usize) -> u32
+pub(crate) fn hand_over(
+    out: &Outbox<'_, Nowhere>,
+    passed: bool,
+    buffer: &mut [u8],
+    told: &mut usize,
+) -> u32
     ensures handed { (begun : Outbox Nowhere) (text : List ℕ) → waiting_of begun ≡ [] → device_failed begun ≡ false
         → Puts (⟦<Nowhere as Write>⟧.contents) begun out.now text
         → HandsOver text (code_of passed) (length buffer.old) result told.new buffer.new }
