@@ -91,9 +91,9 @@ fn cleared_fault<S: Screens>(
     }
 }
 
-/// Plays the content of a file from all starts, and where that fails from the cleared one. An error in the answer is the
-/// fault of the record, or of the play from the cleared start. `Err` says that there is no room for the
-/// screen.
+/// Plays the content of a file from all starts, and where that fails from the cleared one. An error in the
+/// answer is the fault of the record, or of the play from the cleared start. `Err` says that there is no
+/// room for the screen.
 pub(crate) fn judge<S: Screens>(
     screens: &mut S,
     file: &[u8],
