@@ -23,7 +23,8 @@ from meanings import meanings
 
 SOURCES = HERE / "src"
 WORKER = ["ans.js", "worker.js"]
-SCRIPT = ["glyphs.js", "picture.js", "why.js", "mends.js", "table.js", "folders.js", "checks.js", "check.js"]
+SCRIPT = ["glyphs.js", "picture.js", "why.js", "mends.js", "table.js", "folders.js", "checks.js", "mending.js",
+          "check.js"]
 
 
 def source(name):

@@ -4,7 +4,7 @@
 //
 // PROGRAM is the built `anscheck`. The module is the one inside page/check.html, and src/ans.js calls it. Of each drawing
 // of conformance/ and crates/anscheck/data, and of each that is named, it must say what PROGRAM says: the lines of why,
-// the record, what is needed, and each cell from three classes of starts. The last line is `N drawings, M differ`, and
+// the record, what is needed, each cell from three classes of starts, and the drawing mended in three ways. The last line is `N drawings, M differ`, and
 // the status is 1 where one differs. (Newer versions of Node need no flag.)
 import { spawnSync } from "node:child_process";
 import { readdirSync, readFileSync } from "node:fs";
@@ -43,6 +43,21 @@ function cellLines({ columns, lines, glyphs, attributes }) {
 
 const isSaid = (report, fault) => report.includes(`verdict: refused\nat ${fault.offset}: F${fault.number} `);
 
+/** What may be changed to mend, by the sums and numbers of the module and by the flags of the program. */
+const MENDS = [
+  [0, 0, 0, []],
+  [15, 80, 0, ["--take-out", "--line-ends", "--full-rows", "--least-lines", "--width", "80"]],
+  [3, 0, 30, ["--take-out", "--line-ends", "--lines", "30"]],
+];
+
+/** Whether a drawing comes out mended as the program has it, to the byte, and what was changed is told as there. */
+function isMendedAlike(told, program, flags, path) {
+  const { status, stdout, stderr } = spawnSync(program, ["mend", ...flags, path], { maxBuffer: 1 << 28 });
+  const bytes = status === 0 ? stdout : null;
+  const isSame = bytes === null ? told.bytes === null : told.bytes !== null && bytes.equals(told.bytes);
+  return isSame && told.changes === stderr.toString();
+}
+
 /** What the module says otherwise than the program of the drawing that is open. */
 function differences(checker, program, path) {
   const found = [];
@@ -59,6 +74,10 @@ function differences(checker, program, path) {
   const names = PART_NAMES.filter((_, part) => (needs.parts >> part) & 1).join(" ") || "nothing";
   const agrees = needs.answer === "pass" ? report.endsWith(`needs: ${names}\n`) : isSaid(report, needs.fault);
   if (!agrees) found.push("needs");
+  for (const [classes, width, lines, flags] of MENDS) {
+    const told = checker.mend(classes, width, lines);
+    if (!isMendedAlike(told, program, flags, path)) found.push(["mend", ...flags].join(" "));
+  }
   return found;
 }
 

@@ -4,7 +4,8 @@
 const PARTS = { screen: 1, cursor: 2, saved: 4, colours: 8, wrap: 16 };
 const CLEARED = 31;
 const LONGEST_FILE = 16777216;
-const ANSWERS = { 0: "pass", 1: "refused", 3: "too long", 4: "no room" };
+const CLASSES = { takeOut: 1, lineEnds: 2, fullRows: 4, leastLines: 8 };
+const ANSWERS = { 0: "pass", 1: "refused", 3: "too long", 4: "no room", 5: "wrong number" };
 
 const FAULT_BYTES = 24;
 const SIZE_BYTES = 32;
@@ -13,6 +14,10 @@ const ROW_BYTES = 24;
 const ALIGNMENT = 16;
 const MEMORY_PAGE = 65536;
 const FIRST_TEXT_ROOM = 65536;
+const MENDING_ROOM = 149;
+const MOST_ROWS = 8193;
+const MOST_BYTES = 33558528;
+const LINE_FEED = 0x0a;
 
 /** One instance of the module. After a trap it is dead, and a new one has to be made. */
 class Checker {
@@ -69,6 +74,34 @@ class Checker {
     return this.text("ans_record", this.file);
   }
 
+  /**
+   * The file mended, and what was changed of it; or why it is not. What may be changed besides what is mended by itself
+   * is a sum of CLASSES, a width of the record for a file without one, and a number of lines, each 0 for none.
+   */
+  mend(classes, width, lines) {
+    return this.borrowing(() => {
+      const room = this.mendingRoom(classes);
+      const screen = [this.take(MOST_ROWS * ROW_BYTES), BigInt(MOST_ROWS), ...this.array(MOST_BYTES)];
+      const draft = this.array(room);
+      const mended = this.array(room);
+      const text = this.array(FIRST_TEXT_ROOM);
+      const size = this.take(LENGTH_BYTES);
+      const answer = ANSWERS[this.exports.ans_mend(
+        ...this.file, classes, width, lines, ...screen, ...draft, ...mended, size, ...text, this.length)];
+      if (answer === "no room") throw new Error("ans_mend has too little room");
+      const changes = new TextDecoder().decode(this.bytesOf(text).subarray(0, this.numberAt(this.length)));
+      const bytes = answer === "pass" ? this.bytesOf(mended).slice(0, this.numberAt(size)) : null;
+      return { answer, changes, bytes };
+    });
+  }
+
+  /** How many bytes the mended file may have: with line ends one more for each line feed. */
+  mendingRoom(classes) {
+    const file = this.bytesOf(this.file);
+    const more = classes & CLASSES.lineEnds ? file.reduce((count, byte) => count + (byte === LINE_FEED), 0) : 0;
+    return file.length + MENDING_ROOM + more;
+  }
+
   faultText(number) {
     return this.text("ans_fault_text", [number]);
   }
@@ -95,7 +128,7 @@ class Checker {
       const text = this.array(room);
       this.view().setBigUint64(Number(this.length), 0n, true);
       const answer = ANSWERS[this.exports[name](...words, ...text, this.length)];
-      const length = Number(this.view().getBigUint64(Number(this.length), true));
+      const length = this.numberAt(this.length);
       return { answer, length, text: new TextDecoder().decode(this.bytesOf(text).subarray(0, length)) };
     });
   }
@@ -158,6 +191,11 @@ class Checker {
 
   bytesOf([at, length]) {
     return new Uint8Array(this.exports.memory.buffer, Number(at), Number(length));
+  }
+
+  /** A length that an export has told. */
+  numberAt(pointer) {
+    return Number(this.view().getBigUint64(Number(pointer), true));
   }
 
   view() {

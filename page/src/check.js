@@ -18,6 +18,12 @@ const checks = new Checks(packedModule, element("worker").textContent, (version)
 const pictureView = new PictureView(element("view"), element("space"), element("canvas"));
 const drawingTable = new DrawingTable(element("headings"), element("rows"), (drawing) => showDrawing(drawing));
 
+const mending = new Mending(
+  element("mend-part"), (file, mends) => busyWith(checks.mend(file, mends)), (mended) => takeMended(mended));
+
+/** The drawing that is looked at, what the checker says of it, and the mended one where there is one. */
+let looked = null;
+
 /** What is shown now: the last choice of drawings, and the last drawing. Answers for earlier ones are left aside. */
 let choice = 0;
 let shown = 0;
@@ -80,13 +86,12 @@ function noteOn(picture, why) {
   return partShown(picture, stated) + marked;
 }
 
-function showPicture(name, { answer, picture, why, record }) {
+function showPicture(name, { answer, picture, why, record, note = picture && noteOn(picture, why) }) {
   element("picture-part").hidden = !picture;
   pictureView.clear();
   if (!picture) return;
   picture.brightBackgrounds = parseInt(valueOf(record, "flags"), 16) % 2 === 1;
   const marks = placesOf(why);
-  const note = noteOn(picture, why);
   element("picture-note").textContent = note;
   element("canvas").setAttribute("aria-label", `Picture of ${name}, ${note}`);
   element("blink-part").hidden = !picture.blinks || picture.brightBackgrounds;
@@ -94,6 +99,26 @@ function showPicture(name, { answer, picture, why, record }) {
   element("text").textContent = "";
   pictureView.show(picture, marks);
   if (answer === "refused" && marks.length > 0) pictureView.goTo(marks[0]);
+}
+
+/** The picture of the drawing as it is, or mended. */
+function choosePicture(isMended) {
+  element("show-before").setAttribute("aria-pressed", String(!isMended));
+  element("show-after").setAttribute("aria-pressed", String(isMended));
+  const { drawing, result, mended } = looked;
+  const after = () => ({ answer: "pass", why: "", ...mended, note: `${valueOf(mended.record, "size")}, mended.` });
+  showPicture(drawing.path, isMended ? after() : result);
+}
+
+/** The mended drawing is there to be looked at, or it is not any more. */
+function takeMended(mended) {
+  if (!looked) return;
+  const hadOne = looked.mended !== null && element("show-after").getAttribute("aria-pressed") === "true";
+  looked.mended = mended;
+  element("picture-choice").hidden = !mended;
+  element("show-before").disabled = !looked.result.picture;
+  if (mended && (hadOne || !looked.result.picture)) choosePicture(true);
+  else if (hadOne) choosePicture(false);
 }
 
 function showText() {
@@ -113,7 +138,11 @@ function showResult(drawing, result) {
   const record = linesOf(result.record);
   element("record").replaceChildren(...(record.length > 0 ? record : ["none that is accepted"]).map(lineElement));
   showAdvice(result);
-  showPicture(drawing.path, result);
+  looked = { drawing, result, mended: null };
+  element("picture-choice").hidden = true;
+  choosePicture(false);
+  if (FAILURES[result.answer]) mending.close();
+  else mending.open(drawing);
   element("name").focus({ preventScroll: true });
   element("name").scrollIntoView({ block: "start" });
   say(`${drawing.path}: ${sentenceOf(result)}`);
@@ -177,13 +206,17 @@ function take({ drawings, others }) {
   return drawings.length === 1 ? showDrawing(drawings[0]) : showFolder(drawings, others);
 }
 
-function save() {
-  const address = URL.createObjectURL(new Blob(["\ufeff", csvOf(drawingTable.rows)], { type: "text/csv" }));
+function saveAs(blob, name) {
+  const address = URL.createObjectURL(blob);
   const link = document.createElement("a");
   link.href = address;
-  link.download = "drawings.csv";
+  link.download = name;
   link.click();
   setTimeout(() => URL.revokeObjectURL(address), STATUS_PERIOD);
+}
+
+function save() {
+  saveAs(new Blob(["\ufeff", csvOf(drawingTable.rows)], { type: "text/csv" }), "drawings.csv");
 }
 
 function takeDrops() {
@@ -223,6 +256,8 @@ function begin() {
   takeChoices(element("choose-folder"), element("folder"));
   element("stop").addEventListener("click", () => checks.stop());
   element("save").addEventListener("click", save);
+  element("show-before").addEventListener("click", () => choosePicture(false));
+  element("show-after").addEventListener("click", () => choosePicture(true));
   element("zoom").addEventListener("change", () => pictureView.setZoom(element("zoom").value));
   element("blink").checked = !lessMotion.matches;
   element("blink").addEventListener("change", () => pictureView.setBlinking(element("blink").checked));

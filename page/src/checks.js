@@ -16,9 +16,18 @@ class Checks {
 
   /** What the checker says of a file. A drawing that somebody looks at goes before those of a folder. */
   study(file, wantsPicture) {
+    return this.asked({ file, wantsPicture }, wantsPicture);
+  }
+
+  /** What comes of a file that is mended. Somebody looks at it. */
+  mend(file, mends) {
+    return this.asked({ file, mends }, true);
+  }
+
+  asked(question, goesFirst) {
     return new Promise((resolve) => {
-      const job = { file, wantsPicture, resolve, number: ++this.count };
-      if (wantsPicture) this.waiting.unshift(job);
+      const job = { ...question, resolve, number: ++this.count };
+      if (goesFirst) this.waiting.unshift(job);
       else this.waiting.push(job);
       this.next();
     });
@@ -32,7 +41,7 @@ class Checks {
   }
 
   nothing(answer, error = "") {
-    return { answer, why: "", record: "", picture: null, error };
+    return { answer, why: "", record: "", changes: "", bytes: null, picture: null, error };
   }
 
   start() {
@@ -55,7 +64,8 @@ class Checks {
     if (!file) return this.answered({ number: job.number, ...this.nothing("unread") });
     if (!this.worker) this.start();
     this.timer = setTimeout(() => this.end({ answer: "late" }), this.longestWait);
-    this.worker.postMessage({ number: job.number, file, wantsPicture: job.wantsPicture }, [file]);
+    const { number, wantsPicture, mends } = job;
+    this.worker.postMessage({ number, file, wantsPicture, mends }, [file]);
   }
 
   answered(result) {

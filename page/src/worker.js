@@ -53,8 +53,19 @@ function study(file, wantsPicture) {
   const record = checker.record();
   const hasPicture = wantsPicture && (checker.size().answer === "pass" || linesIn(why.text) > 0);
   const picture = hasPicture ? pictureOf(file, why.text) : null;
-  if (picture) picture.blinks = picture.attributes.some((attribute) => attribute >= BLINK);
-  return { answer: why.answer, why: why.text, record: record.answer === "pass" ? record.text : "", picture };
+  const shown = picture ? withBlinks(picture) : null;
+  return { answer: why.answer, why: why.text, record: record.answer === "pass" ? record.text : "", picture: shown };
+}
+
+const withBlinks = (picture) => ({ ...picture, blinks: picture.attributes.some((attribute) => attribute >= BLINK) });
+
+/** The file mended, what was changed, and its record and its picture; or why it is not mended. */
+function mend(file, { classes, width, lines }) {
+  checker.open(file);
+  const { answer, changes, bytes } = checker.mend(classes, width, lines);
+  if (answer !== "pass") return { answer, changes, bytes: null, record: "", picture: null };
+  checker.open(bytes);
+  return { answer, changes, bytes, record: checker.record().text, picture: withBlinks(checker.check(CLEARED)) };
 }
 
 async function unpacked(bytes) {
@@ -67,14 +78,14 @@ async function begin(packedModule) {
   postMessage({ version: checker.version().text });
 }
 
-async function studied(file, wantsPicture) {
+async function answered(file, { wantsPicture, mends }) {
   try {
     await begun;
     checker ??= new Checker(module);
-    return study(file, wantsPicture);
+    return mends ? mend(file, mends) : study(file, wantsPicture);
   } catch (error) {
     checker = null;
-    return { answer: "stopped", why: "", record: "", picture: null, error: String(error) };
+    return { answer: "stopped", why: "", record: "", changes: "", picture: null, error: String(error) };
   }
 }
 
@@ -83,7 +94,7 @@ onmessage = async ({ data }) => {
     begun = begin(data.packedModule);
     return;
   }
-  const result = await studied(new Uint8Array(data.file), data.wantsPicture);
+  const result = await answered(new Uint8Array(data.file), data);
   const arrays = result.picture ? [result.picture.glyphs.buffer, result.picture.attributes.buffer] : [];
   postMessage({ number: data.number, ...result }, arrays);
 };

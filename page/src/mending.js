@@ -1,0 +1,82 @@
+// The drawing mended: what may be changed of it, what is, and the file to save.
+
+const WRONG_NUMBER = "Lines are a number from 1 to 8192, and columns one from 1 to 1024.";
+
+/** What comes of mending, for people who draw. */
+function sentenceOfMending(answer, changes) {
+  if (answer === "pass" && changes === "") return "Nothing has to be changed: it shows the same picture from every start.";
+  if (answer === "pass") return "So changed it shows the same picture from every start:";
+  if (answer === "refused") return "It cannot be mended so:";
+  return answer === "wrong number" ? WRONG_NUMBER : FAILURES[answer];
+}
+
+const hasWrongNumber = (inputs) => inputs.some((input) => !input.checkValidity());
+
+class Mending {
+  /** `mend` answers what comes of a file, and `onMended` is told of the mended drawing, or of null. */
+  constructor(part, mend, onMended) {
+    this.mend = mend;
+    this.onMended = onMended;
+    this.part = part;
+    this.inputs = [...part.querySelectorAll("input")];
+    this.sentence = part.querySelector("#mended-sentence");
+    this.changes = part.querySelector("#changes");
+    this.button = part.querySelector("#save-mended");
+    this.asked = 0;
+    for (const input of this.inputs) input.addEventListener("change", () => this.ask());
+    this.button.addEventListener("click", () => this.save());
+  }
+
+  /** Nothing is asked for yet but what is mended by itself. */
+  open(drawing) {
+    this.drawing = drawing;
+    for (const input of this.inputs) {
+      input.checked = false;
+      if (input.type === "number") input.value = "";
+    }
+    this.part.hidden = false;
+    return this.ask();
+  }
+
+  close() {
+    this.asked++;
+    this.part.hidden = true;
+    this.onMended(null);
+  }
+
+  wanted() {
+    const boxes = this.inputs.filter((input) => input.type === "checkbox" && input.checked);
+    const numberIn = (name) => Number(this.inputs.find((input) => input.name === name).value);
+    return {
+      classes: boxes.reduce((sum, box) => sum + Number(box.value), 0),
+      width: numberIn("width"),
+      lines: numberIn("lines"),
+    };
+  }
+
+  async ask() {
+    const mine = ++this.asked;
+    this.button.disabled = true;
+    if (hasWrongNumber(this.inputs)) return this.show({ answer: "wrong number", changes: "" });
+    const result = await this.mend(this.drawing.file, this.wanted());
+    if (mine === this.asked) this.show(result);
+  }
+
+  show({ answer, changes, bytes, record, picture }) {
+    this.bytes = bytes;
+    this.sentence.textContent = sentenceOfMending(answer, changes);
+    this.changes.replaceChildren(...linesOf(changes).map((line) => {
+      const item = document.createElement("li");
+      item.textContent = line;
+      return item;
+    }));
+    this.button.disabled = answer !== "pass";
+    this.onMended(answer === "pass" ? { picture, record } : null);
+  }
+
+  /** The drawing under another name, so that the one it was made from stays. */
+  save() {
+    const name = this.drawing.path.split("/").at(-1);
+    saveAs(new Blob([this.bytes], { type: "application/octet-stream" }), `mended-${name}`);
+  }
+}
