@@ -4,8 +4,8 @@
     python3 page/try.py PROGRAM [--page PAGE] [--stand-in HEADER] [--pictures FOLDER] [--browser NAME] [DRAWING ..]
 
 PROGRAM is the built `anscheck`. Each drawing of conformance/ and crates/anscheck/data, and each that is named, is given
-to the page. Compared are the lines of why, the record, the cells of the picture, its text, and the colours that are
-painted: `N drawings, 0 differ`. Then come the table, the keyboard, touch, files that cannot be read or take too long,
+to the page. Compared are the lines of why, the record, what is changed to mend it, the cells of the picture, its text,
+and the colours that are painted: `N drawings, 0 differ`. Then come mending with its boxes, the table, the keyboard, touch, files that cannot be read or take too long,
 and a browser that is too old. The status is 1 where something differs.
 
 PAGE is page/check.html where it is not named. With --stand-in no module is needed but `clang` and `lld` for wasm64: the
@@ -40,6 +40,7 @@ SHADES = {0xb0: 32, 0xb1: 64, 0xb2: 96}
 SHOWN = """({
   why: [...element("why").children].map((line) => line.textContent + "\\n").join(""),
   record: [...element("record").children].map((line) => line.textContent + "\\n").join(""),
+  changes: [...element("changes").children].map((line) => line.textContent + "\\n").join(""),
   picture: element("picture-part").hidden ? null : {
     columns: pictureView.picture.columns, lines: pictureView.picture.lines,
     upTo: pictureView.picture.upTo, moreLines: pictureView.picture.moreLines,
@@ -119,7 +120,9 @@ def said(program, words, path):
 def expected(program, path):
     """What the program says of a drawing, in the form of SHOWN."""
     record, record_status = said(program, ["sauce"], path)
-    told = {"why": said(program, ["why"], path)[0], "record": "none that is accepted\n" if record_status else record}
+    mended, changes = stand_in.mended(program, path)
+    told = {"why": said(program, ["why"], path)[0], "record": "none that is accepted\n" if record_status else record,
+            "changes": changes.decode()}
     report, change = said(program, ["check", "--cleared", "--cells"], path)[0], {}
     if "verdict: refused" in report and "size: " in report:
         file, change = stand_in.changed(path.read_bytes(), told["why"], stand_in.fault_in(report)[3])
@@ -128,7 +131,17 @@ def expected(program, path):
             copy.flush()
             report = said(program, ["check", "--cleared", "--cells"], copy.name)[0]
     told["picture"] = picture_in(report, change)
+    if told["picture"] is None and mended is not None:
+        told["picture"] = picture_of(program, mended)
     return told
+
+
+def picture_of(program, file):
+    """The picture of a file that passes from every start."""
+    with tempfile.NamedTemporaryFile(suffix=".ans") as copy:
+        copy.write(file)
+        copy.flush()
+        return picture_in(said(program, ["check", "--cells"], copy.name)[0], {})
 
 
 def picture_in(report, change):
@@ -206,7 +219,7 @@ def compare(browser, tries, program, paths):
         show(browser, [path])
         shown, wanted = browser.value(SHOWN), expected(program, path)
         same = tries.want(f"{path.name}: name", browser.value("element('name').textContent"), path.name)
-        for key in ("why", "record"):
+        for key in ("why", "record", "changes"):
             same &= tries.want(f"{path.name}: {key}", shown[key], wanted[key])
         trimmed = [None if each is None else {**each, "text": [row.rstrip() for row in each["text"].split("\n")]}
                    for each in (shown["picture"], wanted["picture"])]
@@ -253,14 +266,43 @@ def try_table(browser, tries, program, paths):
     tries.want("what is saved", saved_names(browser), ["name", *column(browser, "name")])
 
 
-def saved_names(browser):
-    """The first column of the CSV that the page saves."""
-    browser.value("element('save').click()")
-    path, end = browser.downloads / "drawings.csv", time.monotonic() + 20
+def saved(browser, button, name):
+    """The file of this name that the page saves."""
+    browser.value(f"element('{button}').click()")
+    path, end = browser.downloads / name, time.monotonic() + 20
     while not (path.exists() and path.stat().st_size) and time.monotonic() < end:
         time.sleep(0.1)
-    with open(path, encoding="utf-8-sig", newline="") as file:
+    return path
+
+
+def saved_names(browser):
+    """The first column of the CSV that the page saves."""
+    with open(saved(browser, "save", "drawings.csv"), encoding="utf-8-sig", newline="") as file:
         return [row[0] for row in csv.reader(file)]
+
+
+def try_mending(browser, tries, program, is_stand_in):
+    """A drawing mended by itself and by a box: the file that is saved, the picture, and a number out of range."""
+    show(browser, [DATA / "hi.ans"])
+    mended = stand_in.mended(program, DATA / "hi.ans")[0]
+    tries.want("hi.ans: mended", saved(browser, "save-mended", "mended-hi.ans").read_bytes(), mended)
+    browser.value("element('show-after').click()")
+    picture = picture_of(program, mended)
+    tries.want("hi.ans: mended cells", browser.value(SHOWN)["picture"]["cells"], picture["cells"])
+    tries.want("hi.ans: its note", browser.value("element('picture-note').textContent"), "2 x 1, mended.")
+    show(browser, [DATA / "rows.ans"])
+    tries.want("rows.ans: not by itself", browser.value("element('save-mended').disabled"))
+    browser.value("document.querySelector('#mend-part [value=\"4\"]').click()")
+    browser.wait("busy === 0")
+    if not is_stand_in:
+        run = subprocess.run([program, "mend", "--full-rows", DATA / "rows.ans"], capture_output=True, check=True)
+        tries.want("rows.ans: changes", browser.value(SHOWN)["changes"], run.stderr.decode())
+        tries.want("rows.ans: mended", saved(browser, "save-mended", "mended-rows.ans").read_bytes(), run.stdout)
+    browser.value("(() => { const lines = document.querySelector('#mend-part [name=lines]'); lines.value = '8193'; "
+                  "lines.dispatchEvent(new Event('change')); })()")
+    tries.want("a number out of range", browser.value("element('mended-sentence').textContent"),
+               "Lines are a number from 1 to 8192, and columns one from 1 to 1024.")
+    tries.want("no file for it", browser.value("element('save-mended').disabled"))
 
 
 def try_bad_files(browser, tries, folder, is_stand_in):
@@ -432,6 +474,7 @@ def try_in(kind, page, program, paths, is_stand_in, folder):
         browser.look(1000, 900)
         browser.open(page.as_uri())
         compare(browser, tries, program, paths)
+        try_mending(browser, tries, program, is_stand_in)
         try_blink(browser, tries, folder)
         try_table(browser, tries, program, paths[::9])
         try_bad_files(browser, tries, folder, is_stand_in)

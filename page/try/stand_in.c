@@ -10,6 +10,11 @@ struct stored {
     const uint8_t *cells;
     const char *why, *record;
     size_t why_len, record_len;
+    uint32_t mend_answer;
+    const uint8_t *mended;
+    size_t mended_len;
+    const char *changes;
+    size_t changes_len;
 };
 #include "answers.h"
 
@@ -113,6 +118,23 @@ uint32_t ans_why(const uint8_t *file, size_t file_len, struct ans_row *rows, siz
 uint32_t ans_record(const uint8_t *file, size_t file_len, uint8_t *text, size_t text_len, size_t *length) {
     const struct stored *it = find(file, file_len);
     return write(it->record, it->record_len, text, text_len, length, it->record_answer);
+}
+
+/* By itself a file is mended as is stored, and with what else is asked for it is not mended. */
+uint32_t ans_mend(const uint8_t *file, size_t file_len, uint32_t classes, uint32_t width, uint32_t lines,
+                  struct ans_row *rows, size_t rows_len, uint8_t *bytes, size_t bytes_len, uint8_t *draft,
+                  size_t draft_len, uint8_t *mended, size_t mended_len, size_t *size, uint8_t *text, size_t text_len,
+                  size_t *length) {
+    const struct stored *it = find(file, file_len);
+    *size = 0;
+    if (classes || width || lines) return write("asked\n", 6, text, text_len, length, ANS_REFUSED);
+    if (!has_room(it, rows_len, bytes_len)) return ANS_NO_ROOM;
+    if (draft_len < file_len + ANS_MENDING_ROOM || mended_len < it->mended_len) return ANS_NO_ROOM;
+    use(rows, rows_len, bytes, bytes_len);
+    for (size_t i = 0; i < draft_len; i++) draft[i] = 0xAA;
+    for (size_t i = 0; i < it->mended_len; i++) mended[i] = it->mended[i];
+    *size = it->mended_len;
+    return write(it->changes, it->changes_len, text, text_len, length, it->mend_answer);
 }
 
 uint32_t ans_version(uint8_t *text, size_t text_len, size_t *length) {

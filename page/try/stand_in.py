@@ -5,7 +5,7 @@ import struct
 import subprocess
 
 HERE = pathlib.Path(__file__).resolve().parent
-EXPORTS = ("ans_size", "ans_check", "ans_needs", "ans_why", "ans_record", "ans_version", "__heap_base")
+EXPORTS = ("ans_size", "ans_check", "ans_needs", "ans_why", "ans_record", "ans_mend", "ans_version", "__heap_base")
 PARTS = ("screen", "cursor", "saved", "colours", "wrap")
 RECORD, LINES, COMMENT_COUNT = 128, 98, 104
 
@@ -38,7 +38,7 @@ def with_lines(file, lines):
 
 def changed(file, why, offset):
     """The file of which the page shows the picture, where this one is refused; and what the page calls it."""
-    lines = re.search(r"^lines: (\d+)$", why, re.MULTILINE)
+    lines = re.search(r"^lines: (\d+)( as it is)?$", why, re.MULTILINE)
     if lines:
         return with_lines(file, int(lines[1])), {"moreLines": int(lines[1])}
     return shortened(file, offset), {"upTo": offset}
@@ -54,8 +54,14 @@ def literal(data):
     return '"' + "".join(f"\\{byte:03o}" for byte in data) + '"'
 
 
+def mended(program, path):
+    """The file mended by itself, or nothing, and what is said of it."""
+    run = subprocess.run([program, "mend", path], capture_output=True, check=False)
+    return run.stdout if run.returncode == 0 else None, run.stderr
+
+
 def answer(program, path, file):
-    """The stored answers about one file, and the changed file that the page asks about next."""
+    """The stored answers about one file, and the changed files that the page asks about next."""
     why, why_status = said(program, ["why"], path)
     record, record_status = said(program, ["sauce"], path)
     report = said(program, ["check", "--cleared", "--cells"], path)[0].decode()
@@ -69,9 +75,13 @@ def answer(program, path, file):
     numbers = ", ".join(map(str, answers))
     faults = ", ".join("{" + ", ".join(map(str, each)) + "}" for each in ((0, 0, 0, 0) if size else fault, fault))
     cells = f"(const uint8_t *){literal(cells_in(report))}"
+    mended_file, changes = mended(program, path)
     row = (f"{{(const uint8_t *){literal(file)}, {len(file)}, {numbers}, {faults}, {cells}, "
-           f"{literal(why)}, {literal(record)}, {len(why)}, {len(record)}}},")
-    return row, changed(file, why.decode(), fault[3])[0] if size and not passes else None
+           f"{literal(why)}, {literal(record)}, {len(why)}, {len(record)}, {int(mended_file is None)}, "
+           f"(const uint8_t *){literal(mended_file or b'')}, {len(mended_file or b'')}, "
+           f"{literal(changes)}, {len(changes)}}},")
+    shown = [changed(file, why.decode(), fault[3])[0]] if size and not passes else []
+    return row, shown + ([] if mended_file is None else [mended_file])
 
 
 def largest():
@@ -85,19 +95,22 @@ def answer_to_largest():
     why = b"size: 1024 x 8192\nverdict: pass\nneeds: nothing\n"
     record = b"title: Largest\nsize: 1024 x 8192\nflags: 00\n"
     return (f"{{0, 0, 0, 0, 0, 0, 1024, 8192, 0, {{0}}, {{0}}, 0, "
-            f"{literal(why)}, {literal(record)}, {len(why)}, {len(record)}}},")
+            f"{literal(why)}, {literal(record)}, {len(why)}, {len(record)}, 1, 0, 0, \"\", 0}},")
 
 
 def build(program, paths, header, folder):
     """Builds the module in a folder."""
     rows, seen = [], set()
-    for path in paths:
-        file = pathlib.Path(path).read_bytes()
-        while file is not None and file not in seen:
-            seen.add(file)
-            (folder / "short.ans").write_bytes(file)
-            row, file = answer(program, folder / "short.ans", file)
-            rows.append(row)
+    waiting = [pathlib.Path(path).read_bytes() for path in paths]
+    while waiting:
+        file = waiting.pop()
+        if file in seen:
+            continue
+        seen.add(file)
+        (folder / "asked.ans").write_bytes(file)
+        row, more = answer(program, folder / "asked.ans", file)
+        rows.append(row)
+        waiting += more
     rows.append(answer_to_largest())
     (folder / "answers.h").write_text("static const struct stored answers[] = {\n" + "\n".join(rows) + "\n};\n")
     module = folder / "stand_in.wasm"
