@@ -1,12 +1,12 @@
 //! Clears away from home, which terminals take otherwise than ANSI.SYS.
 
-ghost use Rattle.std.specs.Prelude.{◌≡◌, ◌≢◌, ◌≤◌, ◌↔◌, List, length, IsTrue};
+ghost use Rattle.std.specs.Prelude.{◌≡◌, ◌≢◌, ◌≤◌, ◌↔◌, List, false, length, true, IsTrue};
 ghost use Rattle.ans_model.specs.Bytes.{longest_file};
 ghost use Rattle.ans_model.specs.Inside.ShownKind.{shown_kind};
 ghost use Rattle.ans_model.specs.Screen.State.{IsSize};
 ghost use Rattle.ans_model.specs.Sequence.TokenKind.{TokenKind};
 ghost use Rattle.ans_model.specs.Sequence.Reads.{Reads};
-ghost use Rattle.ans_walks.specs.declared.homing.Homing.TheVariants.{Home};
+ghost use Rattle.ans_walks.specs.declared.homing.Homing.TheVariants.{Gone, Home};
 ghost use Rattle.ans_walks.specs.Homing.{ClearsAway, homing_at, homing_with, is_home, is_home_by_start, left_open};
 
 use crate::pen::{HOME, Pen};
@@ -70,6 +70,17 @@ impl Homing {
         }
     }
 
+    /// Whether the next tokens may change it.
+    fn is_open(self) -> bool
+        ensures gone { result ≡ false → self ≡ Gone }
+        ensures open { result ≡ true → self ≢ Gone }
+    {
+        match self {
+            Homing::Home | Homing::Away => true,
+            Homing::Gone => false,
+        }
+    }
+
     fn with(self, by_start: bool, kind: &Kind) -> Homing
         ensures { result ≡ homing_with by_start self (shown_kind kind.now) }
     {
@@ -107,14 +118,14 @@ impl Walker for Clears {
         self.cleared.step(self.size, kind);
         self.low.step(self.size, kind);
         self.high.step(self.size, kind);
-        true
+        self.homing.is_open()
     }
 }
 
 /// Whether a content that is read as tokens clears the screen where the cursor is at home by the start
 /// alone: from the cleared one, and not from the low and the high one of all; and no place follows but
 /// behind colours and bells. ANSI.SYS takes the cursor home where it clears, and terminals of today do
-/// not. It takes no memory.
+/// not. It reads no further than to where that is known, and takes no memory.
 pub fn clears_away(size: Size, content: &[u8]) -> bool
     requires length { length content.now ≤ longest_file }
     requires size { IsSize size }

@@ -7,7 +7,7 @@ use Rattle.ans_walks.proofs.homing.clears_away.Goals as goal
 pub returns : goal.returns
 returns c tokens reads =
     let z = c.args.size in
-    let over = homed_whole c.args.content.now _ c.walk.new.walker c.walk.result tokens c.walk.ensures reads in
-    let follows = over.follows (cleared z) (low_start z none_known) (high_start z none_known) c.cleared.ensures
-    (ap (λ (w : Watch). w.pen) c.low.ensures.watch) (ap (λ (w : Watch). w.pen) c.high.ensures.watch) in
-    rw follows.homing at c.is_away.ensures
+    let homing = homed_whole c.args.content.now _ c.walk.new.walker (cleared z) (low_start z none_known)
+    (high_start z none_known) c.cleared.ensures (ap (λ (w : Watch). w.pen) c.low.ensures.watch)
+    (ap (λ (w : Watch). w.pen) c.high.ensures.watch) tokens reads c.walk.result c.walk.ensures in
+    rw homing at c.is_away.ensures
