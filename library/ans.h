@@ -55,7 +55,7 @@ enum {
     ANS_LEAST_LINES = 8 /* the least number of lines is stated, where those that are stated are too few, or none are */
 };
 
-/* How many bytes more than the file has ans_mend may want. */
+/* How many bytes more than the file has ans_mend may want, but for the returns of ANS_LINE_ENDS. */
 #define ANS_MENDING_ROOM 149
 
 /* The most rows of a screen, and its most bytes. */
@@ -115,14 +115,14 @@ uint32_t ans_record(const uint8_t *file, size_t file_len, uint8_t *text, size_t 
  * `classes` is a sum of the classes above. `width` is the columns of the record that a file without one is given, 1 to
  * 1024, or 0 for no record; `lines` the number of lines that is stated where others are wanted, 1 to 8192, or 0 for
  * none. `draft` and `mended` want file_len + ANS_MENDING_ROOM bytes, and with ANS_LINE_ENDS one more for each line feed
- * of the file; `rows` and `bytes` what ans_size tells of the mended file, at most ANS_MOST_ROWS and ANS_MOST_BYTES.
- * ANS_PASS: the mended file stands at the front of `mended`, `size` says how many bytes it has, and the text says what
- * was changed, a line for each kind of change. A file that wants nothing stands there as it is, and the text is empty.
- * ANS_REFUSED: the file is not mended so, `size` is 0, and the text says why. After both the text stands at the front
- * of `text`, and `length` says how many bytes it has. ANS_TOO_LONG. ANS_WRONG_NUMBER: the file is not too long, and
- * `width` or `lines` is above its largest. ANS_NO_ROOM: `text` has fewer bytes than `length` then says, and `mended`
- * and `size` are as after ANS_PASS or ANS_REFUSED; or `length` is 0, and another array is too small. Where neither a
- * mended file nor a text is told of, `size` and `length` are 0. */
+ * of the file; `rows` and `bytes` what the screen of the file wants with the lines that it then states, at most
+ * ANS_MOST_ROWS and ANS_MOST_BYTES. ANS_PASS: the mended file stands at the front of `mended`, `size` says how many
+ * bytes it has, and the text says what was changed, a line for each kind of change. A file that wants nothing stands
+ * there as it is, and the text is empty. ANS_REFUSED: the file is not mended so, `size` is 0, and the text says why.
+ * After both the text stands at the front of `text`, and `length` says how many bytes it has. ANS_TOO_LONG.
+ * ANS_WRONG_NUMBER: the file is not too long, and `width` or `lines` is above its largest. ANS_NO_ROOM: `text` has
+ * fewer bytes than `length` then says, and `mended` and `size` are as after ANS_PASS or ANS_REFUSED; or `length` is 0,
+ * and another array is too small. Where neither a mended file nor a text is told of, `size` and `length` are 0. */
 uint32_t ans_mend(const uint8_t *file, size_t file_len, uint32_t classes, uint32_t width, uint32_t lines,
                   struct ans_row *rows, size_t rows_len, uint8_t *bytes, size_t bytes_len, uint8_t *draft,
                   size_t draft_len, uint8_t *mended, size_t mended_len, size_t *size, uint8_t *text, size_t text_len,
