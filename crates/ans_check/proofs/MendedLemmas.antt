@@ -10,13 +10,13 @@ use Rattle.std.proofs.lemmas.List.Folds.{list_any-append}
 use Rattle.ans_model.specs.Bytes.{most_lines}
 use Rattle.ans_model.specs.File.Layout.{FileParts, Laid, comment_block, content, is_end_mark, laid_file}
 use Rattle.ans_model.specs.File.Record.{comment_count, file_size, is_non_blink, stated_lines, stated_size}
-use Rattle.ans_model.specs.File.Refusals.{Accepts, has_record}
+use Rattle.ans_model.specs.File.Refusals.{Accepts, block_size, has_record}
 use Rattle.ans_model.specs.Screen.State.{Size}
 use Rattle.ans_model.specs.Screen.StartClass.{all_known, none_known}
 use Rattle.ans_model.specs.Verdict.Good.{Picture, GoodWith, IsGood}
 use Rattle.ans_model.proofs.ClassLemmas.{covers_all_known, covers_good}
 use Rattle.ans_sauce.specs.Found.{front_in, record_in}
-use Rattle.ans_sauce.proofs.LaidParts.{laid_body, laid_front, laid_record}
+use Rattle.ans_sauce.proofs.LaidParts.{laid_body, laid_front, laid_has_record, laid_lengths, laid_record}
 use Rattle.ans_walks.specs.MendedFile.{resized_parts, with_file_size}
 use Rattle.ans_walks.proofs.Mended.{makes_good}
 use Rattle.ans_walks.proofs.MendedFiles.{resized_accepted, resized_comments, resized_content, resized_size}
@@ -146,6 +146,15 @@ laid_behind front none n file apart accepts =
     ∙ sym (append_assoc front apart.body (block ++ r))
     ∙ ap (λ (v : List ℕ). (front ++ apart.body) ++ (v ++ r)) (sym same_block)
 
+-- the length of a file by its parts
+parts_length : (file : List ℕ) (apart : FileParts) → Accepts file apart
+    → length file ≡ length apart.body + block_size (comment_count apart.record_bytes) + 128
+parts_length file apart accepts =
+    let long : 128 ≤ length file = long_of_record file (laid_has_record file apart accepts.laid) in
+    let front : length (front_in file) ≡ length file - 128 =
+    length-take-le (length file - 128) file (omega arith) in
+    let parts = laid_lengths file apart accepts.laid in omega (arith, long, front, parts)
+
 -- a content that passes from the cleared start passes from every start, behind the mending where it is wanted
 record Passing (z : Size) (front : Bool) (bytes : List ℕ) : Type 0 where
   picture : Picture
@@ -183,6 +192,9 @@ mended mends file prepared settled judgement m draft prep judged done =
     resized_content front none n settled apart accepts in
     let size_is : stated_size (with_file_size n apart.record_bytes) ≡ stated_size apart.record_bytes =
     resized_size front none n settled apart accepts in
+    let accepted : Accepts (front ++ draft) (resized_parts front n apart) =
+    subst (λ (v : List ℕ). Accepts v (resized_parts front n apart)) (sym whole)
+    (resized_accepted front none n settled apart accepts) in
     let passes : Passing (stated_size apart.record_bytes) m.front (content apart.body) =
     passing (stated_size apart.record_bytes) m.front (content apart.body) judged.cleared
     (λ off. judged.every (sym done.front ∙ off)) in
@@ -202,9 +214,16 @@ mended mends file prepared settled judgement m draft prep judged done =
       settled_is = prep.done.settled_is;
       draft_is = done.draft_is;
       apart = resized_parts front n apart;
-      accepts = subst (λ (v : List ℕ). Accepts v (resized_parts front n apart)) (sym whole)
-          (resized_accepted front none n settled apart accepts);
+      accepts = accepted;
       content_is = content_is ∙ ap (λ (v : List ℕ). front ++ v) (sym body_is);
+      room =
+          let now = parts_length (front ++ draft) (resized_parts front n apart) accepted in
+          let was = parts_length settled apart accepts in
+          let body = length-append front apart.body in
+          let block = ap block_size (resized_comments front none n settled apart accepts) in
+          let same : length front ≡ length (front_bytes judgement.front) =
+          ap (λ (b : Bool). length (front_bytes b)) done.front in
+          let room = done.room in omega (arith, now, was, body, block, same, room);
       fits =
           let all : length (content (front ++ apart.body)) ≡ length front + length (content apart.body) =
           ap length content_is ∙ length-append front (content apart.body) in
@@ -267,10 +286,14 @@ too_long mends file prepared settled judgement reason prep judged is =
     subst₂ (λ (r b : List ℕ). WantsMending (stated_size r) (content b))
     (sym (laid_record settled apart judged.accepts.laid)) (sym (laid_body settled apart judged.accepts.laid))
     (judged.wants.0 is.1) in
+    let passes : IsGood (stated_size (record_in settled)) all_known (content_in settled) =
+    subst₂ (λ (r b : List ℕ). IsGood (stated_size r) all_known (content b))
+    (sym (laid_record settled apart judged.accepts.laid)) (sym (laid_body settled apart judged.accepts.laid))
+    judged.cleared in
     subst (λ (r : Unmended). IsReason mends file r) (sym is.0) (
       prep.cut,
       prep.is_cut,
-      inr (inr (inr (settled, was_settled mends file prepared settled prep, inr (is.2, wants)))),
+      inr (inr (inr (settled, was_settled mends file prepared settled prep, inr (is.2, wants, passes)))),
     )
 
 -- what finishing comes to

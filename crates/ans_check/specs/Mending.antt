@@ -1,6 +1,6 @@
 -- How a file is mended, and why it is not.
-use Rattle.std.specs.Prelude.{◌≡◌, ◌⊎◌, ℕ, ◌+◌, ◌<◌, Bool, true, false, ◌&&◌, ◌||◌, ◌==◌, IsTrue, List, [], ◌++◌}
-use Rattle.std.specs.Prelude.{length, Option, None, Some, is_some, ◌↔◌, MatchBool, MatchOption, if◌then◌else◌}
+use Rattle.std.specs.Prelude.{◌≡◌, ◌⊎◌, ℕ, ◌+◌, ◌<◌, ◌≤◌, Bool, true, false, ◌&&◌, ◌||◌, ◌==◌, IsTrue, List, []}
+use Rattle.std.specs.Prelude.{◌++◌, length, Option, None, Some, is_some, ◌↔◌, MatchBool, MatchOption, if◌then◌else◌}
 use Rattle.std.specs.List.{list_any}
 use Rattle.ans_model.specs.Bytes.{longest_file, most_lines}
 use Rattle.ans_model.specs.File.Layout.{FileParts, content, is_end_mark}
@@ -201,6 +201,7 @@ pub record IsMended (mends : Mends) (file : List ℕ) (mended : Mended) (draft :
   pub apart : FileParts
   pub accepts : Accepts (front_bytes mended.front ++ draft) apart
   pub content_is : content apart.body ≡ front_bytes mended.front ++ content_in settled
+  pub room : length (front_bytes mended.front ++ draft) ≤ longest_file
   pub fits : mended.file_size.is ≡ length (content apart.body) + end_mark_counted (opened asked based)
   pub ended : IsTrue (list_any is_end_mark apart.body)
   pub picture : Picture
@@ -244,12 +245,13 @@ abbrev pub IsReasonOfEdited : Mends → Bool → List ℕ → Unmended → Type 
 IsReasonOfEdited mends lacks file reason =
     HasRecordFault file reason ⊎ IsReasonOfLines mends lacks (record_in file) (content_in file) reason
 
--- With all done that was asked for, the content does not pass; or there is no room for it, or for the mending that it
--- needs.
+-- With all done that was asked for, the content does not pass; or there is no room for it, or it passes and there is
+-- none for the mending that it needs.
 abbrev pub IsReasonOfContent : List ℕ → Unmended → Type 0
 IsReasonOfContent settled (Refused fault) = IsFaulty settled fault
 IsReasonOfContent settled TooLong = (longest_file < length settled) ⊎ ((longest_file < length settled + length mending)
-    × WantsMending (stated_size (record_in settled)) (content_in settled))
+    × WantsMending (stated_size (record_in settled)) (content_in settled)
+    × PassesAsStated (record_in settled) (content_in settled))
 IsReasonOfContent settled _ = ⊥
 
 -- what is true of a file whose content is changed is true of one to which this one may come
