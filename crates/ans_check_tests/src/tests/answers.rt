@@ -29,7 +29,12 @@ static ANSWERS: [(&[&str], u8, &[u8], &[u8]); 8] = words! {
 const NO_RECORD: Stored<'_> = Stored::Bytes(b"abc");
 
 /// Asserts what is printed on each stream.
-fn expect_printed(rt: &impl Abort, answered: &Answered<Narrow>, output: &[u8], errors: &[u8]) {
+pub(super) fn expect_printed(
+    rt: &impl Abort,
+    answered: &Answered<Narrow>,
+    output: &[u8],
+    errors: &[u8],
+) {
     let printed = (answered.output.held(), answered.errors.held());
     assert_eq!(rt; printed, (output, errors));
 }

@@ -31,41 +31,43 @@ const CUT: Mended = Mended {
     file_size: Reset { was: 2, is: 2 },
 };
 
-/// An ending, its exit status, and what it says.
-static ENDINGS: [(Ending, u8, Option<&str>); 12] = [
-    (Ending::Run(Ok(true)), 0, None),
-    (Ending::Run(Ok(false)), 1, None),
-    (
+/// The endings that are looked at.
+fn endings() -> [Ending; 12] {
+    [
+        Ending::Run(Ok(true)),
+        Ending::Run(Ok(false)),
         Ending::Run(Err(RunError::Read)),
-        2,
-        Some("cannot read the file"),
-    ),
-    (
         Ending::Run(Err(RunError::TooLong)),
-        2,
-        Some("file above 16777216 bytes"),
-    ),
-    (Ending::Run(Err(RunError::Memory)), 2, Some("out of memory")),
-    (
+        Ending::Run(Err(RunError::Memory)),
         Ending::Run(Err(RunError::Write)),
-        2,
-        Some("cannot write the report"),
-    ),
-    (Ending::Help, 0, None),
-    (Ending::Usage, 2, None),
-    (
+        Ending::Help,
+        Ending::Usage,
         Ending::UnreadableWords,
-        2,
-        Some("cannot read the command line"),
-    ),
-    (Ending::UnopenedFile, 2, Some("cannot open the file")),
-    (Ending::Mended(CUT), 0, None),
-    (Ending::NotMended(Unmended::Torn), 1, None),
+        Ending::UnopenedFile,
+        Ending::Mended(CUT),
+        Ending::NotMended(Unmended::Torn),
+    ]
+}
+
+/// The exit status of each, and what it says.
+static ENDS: [(u8, Option<&str>); 12] = [
+    (0, None),
+    (1, None),
+    (2, Some("cannot read the file")),
+    (2, Some("file above 16777216 bytes")),
+    (2, Some("out of memory")),
+    (2, Some("cannot write the report")),
+    (0, None),
+    (2, None),
+    (2, Some("cannot read the command line")),
+    (2, Some("cannot open the file")),
+    (0, None),
+    (1, None),
 ];
 
 #[test]
 fn endings_have_their_statuses_and_texts(rt: HostRuntime) -> Result<(), AllocError> {
-    for (ending, expected, message) in &ENDINGS {
+    for (ending, (expected, message)) in endings().iter().zip(&ENDS) {
         let end = (ending.status(), ending.message());
         assert_eq!(rt; end, (*expected, *message));
         if let Ending::Run(answer) = ending {
@@ -94,16 +96,16 @@ fn mending_has_its_endings(rt: HostRuntime) {
     }
 }
 
-/// Words that give no options, of each kind that the tests of `ans_options` meet, and how the program
-/// ends.
-static REFUSED_WORDS: [(&[&str], Ending); 7] = words! {
-    "--help" => Ending::Help;
-    "check" "--help" => Ending::Help;
-    => Ending::Usage;
-    "other" => Ending::Usage;
-    "check" "--bogus" => Ending::Usage;
-    "check" "f" "g" => Ending::Usage;
-    "check" "--cells" "--cells" => Ending::Usage;
+/// Words that give no options, of each kind that the tests of `ans_options` meet, and whether the program
+/// ends with help, or else with what is wrong with them.
+static REFUSED_WORDS: [(&[&str], bool); 7] = words! {
+    "--help" => true;
+    "check" "--help" => true;
+    => false;
+    "other" => false;
+    "check" "--bogus" => false;
+    "check" "f" "g" => false;
+    "check" "--cells" "--cells" => false;
 };
 
 /// How the program ends at words that give no options. It fails where memory runs out.
@@ -119,8 +121,13 @@ fn ending_at(rt: &(impl Abort + AllocGlobal), words: &[&str]) -> Result<Ending, 
 
 #[test]
 fn words_without_options_have_their_endings(rt: HostRuntime) -> Result<(), AllocError> {
-    for (words, ending) in &REFUSED_WORDS {
-        assert_eq!(rt; ending_at(&rt, words)?, *ending);
+    for (words, is_help) in &REFUSED_WORDS {
+        let ending = if *is_help {
+            Ending::Help
+        } else {
+            Ending::Usage
+        };
+        assert_eq!(rt; ending_at(&rt, words)?, ending);
     }
     let refused = WordsError::Clap(clap::Error::from(AllocError));
     assert!(rt; Ending::of_words(&refused) == Ending::UnreadableWords);

@@ -1,8 +1,8 @@
 //! From words, and from readers, to mended files, byte for byte, and what is said of them.
 
-use super::answers::UNWRITTEN;
+use super::answers::{UNWRITTEN, expect_printed};
 use super::endings::Output;
-use super::shelf::{Answered, Drawings, Shelf, Stored, answer_in};
+use super::shelf::{Drawings, Shelf, Stored, answer_in};
 use super::{behind, plain_file};
 use ans_check::{Ending, Mends, RunError, Unmended, mend};
 use ans_model::fault::{Cause, Fault};
@@ -46,20 +46,13 @@ static MENDED: [(&[&str], Behind, &[u8]); 6] = words! {
 /// What standard input gives: no record.
 const NO_RECORD: Stored<'_> = Stored::Bytes(b"Hi");
 
-/// Answers words over the drawings, on devices with this much room.
-fn answer_drawings(
-    rt: &(impl Abort + AllocGlobal),
-    words: &[&str],
-    room: (usize, usize),
-) -> Result<Answered<Narrow>, AllocError> {
-    let drawings = Drawings::new(rt)?;
-    answer_in(rt, words, Shelf::new(&drawings.files(), NO_RECORD), room)
-}
-
 #[test]
 fn words_mend_files(rt: HostRuntime) -> Result<(), AllocError> {
+    let drawings = Drawings::new(&rt)?;
+    let files = drawings.files();
     for (words, (front, edits), said) in &MENDED {
-        let answered = answer_drawings(&rt, words, (4096, 4096))?;
+        let shelf = Shelf::new(&files, NO_RECORD);
+        let answered = answer_in(&rt, words, shelf, (4096, 4096))?;
         let expected = sample_file(rt.alloc(), front, edits)?;
         let rest = behind(&rt, answered.output.held(), MENDING);
         assert_eq!(rt;
@@ -87,12 +80,12 @@ static NOT_MENDED: [(&[&str], u8, &[u8]); 7] = words! {
 
 #[test]
 fn words_say_why_a_file_is_not_mended(rt: HostRuntime) -> Result<(), AllocError> {
+    let drawings = Drawings::new(&rt)?;
+    let files = drawings.files();
     for (words, status, said) in &NOT_MENDED {
-        let answered = answer_drawings(&rt, words, (4096, 4096))?;
-        assert_eq!(rt;
-            (answered.output.held(), answered.errors.held()),
-            (b"".as_slice(), *said)
-        );
+        let shelf = Shelf::new(&files, NO_RECORD);
+        let answered = answer_in(&rt, words, shelf, (4096, 4096))?;
+        expect_printed(&rt, &answered, b"", said);
         assert!(rt; answered.ending.status() == *status);
     }
     Ok(())
@@ -108,14 +101,14 @@ fn mended_hi(rt: &impl AllocGlobal) -> Result<Vec<u8>, AllocError> {
 
 #[test]
 fn a_mended_file_that_is_cut_off_is_an_error(rt: HostRuntime) -> Result<(), AllocError> {
+    let drawings = Drawings::new(&rt)?;
+    let files = drawings.files();
     let whole = mended_hi(&rt)?;
     assert!(rt; whole.len() == 150);
     for room in 0..150 {
-        let answered = answer_drawings(&rt, &["anscheck", "mend", "hi.ans"], (room, 4096))?;
-        assert_eq!(rt;
-            (answered.output.held(), answered.errors.held()),
-            (&whole.as_slice()[..room], UNWRITTEN)
-        );
+        let shelf = Shelf::new(&files, NO_RECORD);
+        let answered = answer_in(&rt, &["anscheck", "mend", "hi.ans"], shelf, (room, 4096))?;
+        expect_printed(&rt, &answered, &whole.as_slice()[..room], UNWRITTEN);
         assert!(rt; answered.ending == Ending::Run(Err(RunError::Write)));
     }
     Ok(())
@@ -123,13 +116,13 @@ fn a_mended_file_that_is_cut_off_is_an_error(rt: HostRuntime) -> Result<(), Allo
 
 #[test]
 fn what_is_said_of_it_may_be_cut_off(rt: HostRuntime) -> Result<(), AllocError> {
+    let drawings = Drawings::new(&rt)?;
+    let files = drawings.files();
     let whole = mended_hi(&rt)?;
     for room in 0..HI_SAID.len() {
-        let answered = answer_drawings(&rt, &["anscheck", "mend", "hi.ans"], (4096, room))?;
-        assert_eq!(rt;
-            (answered.output.held(), answered.errors.held()),
-            (whole.as_slice(), &HI_SAID[..room])
-        );
+        let shelf = Shelf::new(&files, NO_RECORD);
+        let answered = answer_in(&rt, &["anscheck", "mend", "hi.ans"], shelf, (4096, room))?;
+        expect_printed(&rt, &answered, whole.as_slice(), &HI_SAID[..room]);
         assert!(rt; answered.ending.status() == 0);
     }
     Ok(())
