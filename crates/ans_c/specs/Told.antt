@@ -16,6 +16,7 @@ use Rattle.ans_options.specs.declared.command.Mends.{Mends}
 use Rattle.ans_check.specs.FileNeeds.{NeedsClass}
 use Rattle.ans_check.specs.FileVerdict.{Deserves, Passes, IsRefusedFor, IsGoodFile}
 use Rattle.ans_check.specs.LentScreen.{HasScreen}
+use Rattle.ans_check.specs.MendingRoom.{LacksScreenInTheEnd, most_put}
 use Rattle.ans_check.specs.Served.{TellsMended}
 use Rattle.ans_c.specs.Numbers.{IsSizeOf, TellsFault, class_of}
 use Rattle.ans_c.specs.declared.numbers.PictureSize.{PictureSize}
@@ -93,10 +94,10 @@ pub record HandsReport (reports : Bool → List ℕ → Type 0) (room result tol
   pub reported : reports passed text
   pub handed : HandsOver text (code_of passed) room result told buffer
 
--- what was changed of a file that is mended, or why it is not
-abbrev pub mending_text : Result Mended Unmended → List ℕ
-mending_text (Ok mended) = mended_text mended
-mending_text (Err reason) = unmended_text reason
+-- what was changed of a file that is mended, or why it is not by what was asked for
+abbrev pub mending_text : Mends → Result Mended Unmended → List ℕ
+mending_text asked (Ok mended) = mended_text mended
+mending_text asked (Err reason) = unmended_text asked reason
 
 -- Asked for this, the file is mended, and `new` is the mended one; or it is not, and `new` is empty. The text says what
 -- was changed, or why it is not.
@@ -104,7 +105,15 @@ pub record ReportsMending (mends : Mends) (file new : List ℕ) (is_mended : Boo
   pub answer : Result Mended Unmended
   pub tells : TellsMended mends file answer new
   pub is_mended_is : is_mended ≡ is_ok answer
-  pub text_is : text ≡ mending_text answer
+  pub text_is : text ≡ mending_text mends answer
+
+-- There is no room in the memory for the file and for what is put into it; or among so many rows and bytes none for the
+-- screen that the file has in the end; or none for the mended file.
+abbrev pub LacksMendingRoom : Mends → List ℕ → ℕ → ℕ → ℕ → ℕ → Type 0
+LacksMendingRoom mends file rows bytes memory mended =
+    (memory < length file + most_put mends file)
+    ⊎ LacksScreenInTheEnd (λ z. ¬ HasScreen z rows bytes) mends file
+    ⊎ ((answer : Result Mended Unmended) × (new : List ℕ) × TellsMended mends file answer new × (mended < length new))
 
 -- what is told of a play of the content from the starts of a class
 pub record TellsPlay (z : Size) (start : Start) (content : List ℕ) (result : ℕ) (glyphs attributes : List ℕ)

@@ -1,12 +1,14 @@
 //! A file that is mended.
 
-ghost use Rattle.std.specs.Prelude.{◌≡◌, ◌≢◌, ◌↔◌, ◌⊎◌, ◌<◌, ◌≤◌, ◌++◌, IfSome, IsNone, length, take};
+ghost use Rattle.std.specs.Prelude.{◌≡◌, ◌≢◌, ◌↔◌, ◌⊎◌, ◌-◌, ◌<◌, ◌≤◌, ◌++◌, IfSome, IsNone, length, take};
+ghost use Rattle.ans_mend.specs.Drafts.{draft_of};
 ghost use Rattle.ans_model.specs.Bytes.{longest_file, most_columns, most_lines};
 ghost use Rattle.ans_write.specs.Puts.{Puts};
+ghost use Rattle.ans_check.specs.LentScreen.{byte_count, row_count};
 ghost use Rattle.ans_check.specs.Mending.{front_bytes};
 ghost use Rattle.ans_check.specs.Served.{TellsMended};
 ghost use Rattle.ans_c.specs.Numbers.{mends_of};
-ghost use Rattle.ans_c.specs.Told.{HandsReport, ReportsMending, mending_text};
+ghost use Rattle.ans_c.specs.Told.{HandsReport, LacksMendingRoom, ReportsMending, mending_text};
 
 use crate::numbers::{NO_ROOM, TOO_LONG, WRONG_NUMBER, mends_of};
 use crate::texts::{Nowhere, hand_over};
@@ -46,7 +48,8 @@ fn place(beginning: &[u8], rest: &[u8], array: &mut [u8]) -> Option<usize>
 
 /// A copy of a file, as a draft in this memory; none where the memory has no room for it.
 fn copied<'a>(memory: &'a mut [u8], file: &[u8]) -> Option<Draft<'a>>
-    ensures file { IfSome result (λ draft. draft.file ≡ file.now) }
+    ensures draft { IfSome result (λ draft. draft
+        ≡ draft_of file.now (length memory.old - length file.now)) }
     ensures room { IsNone result → length memory.old < length file.now }
 {
     let count = file.len();
@@ -67,7 +70,9 @@ fn mend_in(
     mended: &mut [u8],
 ) -> Option<(Result<Mended, Unmended>, usize)>
     requires { length file.now ≤ longest_file }
-    ensures { IfSome result (λ r. TellsMended mends.now file.now r.0 (take r.1 mended.new)) }
+    ensures tells { IfSome result (λ r. TellsMended mends.now file.now r.0 (take r.1 mended.new)) }
+    ensures room { IsNone result → LacksMendingRoom mends.now file.now (row_count screens.old)
+        (byte_count screens.old) (length memory.old) (length mended.old) }
 {
     let mut draft = copied(memory, file)?;
     match mend_on(screens, &mut draft, mends) {
@@ -81,12 +86,12 @@ fn mend_in(
 }
 
 /// Puts what was changed of a file that is mended, or why it is not.
-fn put_answer<W: Write>(out: &mut Outbox<'_, W>, answer: &Result<Mended, Unmended>)
-    ensures { Puts W.contents out.old out.new (mending_text answer.now) }
+fn put_answer<W: Write>(out: &mut Outbox<'_, W>, asked: &Mends, answer: &Result<Mended, Unmended>)
+    ensures { Puts W.contents out.old out.new (mending_text asked.now answer.now) }
 {
     match answer {
         Ok(mended) => put_mended(out, mended),
-        Err(reason) => put_unmended(out, reason),
+        Err(reason) => put_unmended(out, asked, reason),
     }
 }
 
@@ -121,7 +126,9 @@ pub extern "C" fn ans_mend(
     ensures handed { result ≢ TOO_LONG → result ≢ WRONG_NUMBER
         → (HandsReport (ReportsMending (mends_of classes width lines) file.now (take size.new mended.new))
         (length text.old) result told.new text.new
-        ⊎ ((result ≡ NO_ROOM) × (told.new ≡ 0) × (size.new ≡ 0))) }
+        ⊎ ((result ≡ NO_ROOM) × (told.new ≡ 0) × (size.new ≡ 0)
+        × LacksMendingRoom (mends_of classes width lines) file.now (length rows.old) (length bytes.old)
+        (length draft.old) (length mended.old))) }
     ensures too_long { (result ≡ TOO_LONG) ↔ (longest_file < length file.now) }
     ensures wrong_number { (result ≡ WRONG_NUMBER)
         ↔ ((length file.now ≤ longest_file) × ((most_columns < width) ⊎ (most_lines < lines))) }
@@ -144,6 +151,6 @@ pub extern "C" fn ans_mend(
     *size = count;
     let mut nowhere = Tried::new(Nowhere);
     let mut out = Outbox::new(&mut nowhere);
-    put_answer(&mut out, &answer);
+    put_answer(&mut out, &mends, &answer);
     hand_over(&out, answer.is_ok(), text, told)
 }

@@ -77,8 +77,8 @@ EndsRun remaining contents is_file is_standard is_missing options file output ou
 abbrev pub EndsMended : {R W : Type 0} → (R → Option (List ℕ)) → (W → Option (List ℕ)) → (Text → R → Type 0)
     → (R → Type 0) → (Text → Type 0) → Mends → Option Text → Tried W → Tried W → Ending → Type 0
 EndsMended remaining contents is_file is_standard is_missing mends file output output_after ending =
-    EndsAsServed remaining contents is_file is_standard (TellsMended mends) ending_of_mending file output output_after
-    ending
+    EndsAsServed remaining contents is_file is_standard (TellsMended mends) (ending_of_mending mends) file
+    output output_after ending
     ⊎ EndsUnopened is_missing file output output_after ending
 
 -- how a table ends, by whether all names were read and what its writing came to
@@ -215,5 +215,6 @@ Says contents errors errors_after Usage = (text : List ℕ) × Tells contents er
 Says contents errors errors_after (Table counts) =
     Tells contents errors errors_after (message_line (counts_text counts))
 Says contents errors errors_after (Mended mended) = Tells contents errors errors_after (mended_text mended)
-Says contents errors errors_after (NotMended reason) = Tells contents errors errors_after (unmended_text reason)
+Says contents errors errors_after (NotMended asked reason) =
+    Tells contents errors errors_after (unmended_text asked reason)
 Says contents errors errors_after ending = SaysMessage contents errors errors_after ending

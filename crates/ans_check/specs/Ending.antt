@@ -5,6 +5,7 @@ use Rattle.clap.specs.declared.error.ErrorKind.{ErrorKind}
 use Rattle.clap.specs.declared.error.ErrorKind.TheVariants.{DisplayHelp, DisplayVersion, OutOfMemory}
 use Rattle.ans_mend.specs.declared.outcome.Mended as outcome
 use Rattle.ans_mend.specs.declared.outcome.Unmended.{Unmended}
+use Rattle.ans_options.specs.declared.command.Mends.{Mends}
 use Rattle.ans_options.specs.declared.command_line.WordsError.{WordsError}
 use Rattle.ans_options.specs.declared.command_line.WordsError.TheVariants as words_error
 use Rattle.ans_table.specs.Counting.{counts_status}
@@ -27,7 +28,7 @@ ending_status (Table counts) = counts_status counts
 ending_status NamedInput = 2
 ending_status UnreadNames = 2
 ending_status (Mended mended) = 0
-ending_status (NotMended reason) = 1
+ending_status (NotMended asked reason) = 1
 
 -- what each ending says on standard error after `anscheck: `, if anything
 abbrev pub ending_message : Ending → Option (List ℕ)
@@ -41,7 +42,7 @@ ending_message (Table counts) = None
 ending_message NamedInput = Some (codes "- names no file of a table; without FILE, names are read")
 ending_message UnreadNames = Some (codes "cannot read the names")
 ending_message (Mended mended) = None
-ending_message (NotMended reason) = None
+ending_message (NotMended asked reason) = None
 
 -- how the program ends at each kind of clap's errors
 abbrev pub ending_of_kind : ErrorKind → Ending
@@ -55,8 +56,8 @@ abbrev pub ending_of_words : WordsError → Ending
 ending_of_words (words_error.Clap error) = ending_of_kind (kind_of error)
 ending_of_words words_error.Memory = UnreadableWords
 
--- how the program ends at what came of mending
-abbrev pub ending_of_mending : Result (Result outcome.Mended Unmended) RunError → Ending
-ending_of_mending (Ok (Ok mended)) = Mended mended
-ending_of_mending (Ok (Err reason)) = NotMended reason
-ending_of_mending (Err error) = Run (Err error)
+-- how the program ends at what came of mending, for which this was asked
+abbrev pub ending_of_mending : Mends → Result (Result outcome.Mended Unmended) RunError → Ending
+ending_of_mending asked (Ok (Ok mended)) = Mended mended
+ending_of_mending asked (Ok (Err reason)) = NotMended asked reason
+ending_of_mending asked (Err error) = Run (Err error)

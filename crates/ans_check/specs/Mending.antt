@@ -1,6 +1,6 @@
 -- How a file is mended, and why it is not.
-use Rattle.std.specs.Prelude.{◌≡◌, ◌⊎◌, ℕ, ◌+◌, ◌<◌, ◌≤◌, Bool, true, false, ◌&&◌, ◌||◌, ◌==◌, IsTrue, List, []}
-use Rattle.std.specs.Prelude.{◌++◌, length, Option, None, Some, is_some, ◌↔◌, MatchBool, MatchOption, if◌then◌else◌}
+use Rattle.std.specs.Prelude.{◌≡◌, ◌⊎◌, ℕ, ◌+◌, ◌-◌, ◌<◌, ◌≤◌, Bool, true, false, ◌&&◌, ◌||◌, ◌==◌, IsTrue, List, []}
+use Rattle.std.specs.Prelude.{◌++◌, length, Option, None, Some, is_some, unwrap_or, option_and_then, ◌↔◌, MatchBool, MatchOption, if◌then◌else◌}
 use Rattle.std.specs.List.{list_any}
 use Rattle.ans_model.specs.Bytes.{longest_file, most_lines}
 use Rattle.ans_model.specs.File.Layout.{FileParts, content, is_end_mark}
@@ -25,14 +25,15 @@ use Rattle.ans_why.specs.Explained.{AreHintsOf}
 use Rattle.ans_mend.specs.EndMark.{end_mark_put, with_end_mark}
 use Rattle.ans_mend.specs.Contents.{content_in}
 use Rattle.ans_mend.specs.Fields.{with_lines, with_record}
-use Rattle.ans_mend.specs.LastEnds.{HasFewerEnds}
+use Rattle.ans_mend.specs.LastEnds.{HasFewerEnds, times_at}
 use Rattle.ans_mend.specs.LineEnds.{ArePut, with_line_ends}
 use Rattle.ans_mend.specs.FullRows.{HasFullRows}
-use Rattle.ans_mend.specs.NewRecord.{takes_record, with_new_record}
+use Rattle.ans_mend.specs.NewRecord.{record_given, takes_record, with_new_record}
 use Rattle.std.specs.Option.{option_map_or}
 use Rattle.ans_mend.specs.Tail.{IsTailCut}
 use Rattle.ans_mend.specs.TakingOut.{AreTakenOut, nothing_told}
 use Rattle.ans_mend.specs.declared.outcome.Edits.{Edits}
+use Rattle.ans_mend.specs.declared.outcome.GivenRecord.{GivenRecord}
 use Rattle.ans_mend.specs.declared.outcome.Mended.{Mended}
 use Rattle.ans_mend.specs.declared.taking_out.Told.{Told}
 use Rattle.ans_mend.specs.declared.outcome.Unmended.{Unmended}
@@ -50,6 +51,10 @@ gives_record mends cut = is_some mends.width && takes_record cut
 abbrev pub recorded : Mends → List ℕ → List ℕ
 recorded mends cut = option_map_or (λ width. with_new_record width cut) mends.width cut
 
+-- the record that is put, where one is
+abbrev pub record_put : Mends → List ℕ → Option GivenRecord
+record_put mends cut = option_and_then (λ width. record_given width cut) mends.width
+
 -- where a record is given, the least number of lines is asked for too
 abbrev pub asked_for : Mends → List ℕ → Mends
 asked_for mends cut = record mends { least_lines = mends.least_lines || gives_record mends cut }
@@ -62,9 +67,14 @@ asks_for_lines mends = is_some mends.lines || mends.least_lines
 abbrev pub lacks_lines : Mends → List ℕ → Bool
 lacks_lines mends file = has_record file && (stated_lines (record_in file) == 0 && asks_for_lines mends)
 
--- until that is settled, it states the most
+-- on how many lines it is played until that is settled: on the number that is given, or on the most
+abbrev pub first_lines : Mends → ℕ
+first_lines mends = unwrap_or mends.lines most_lines
+
+-- the file that states them, where it lacks lines
 abbrev pub opened : Mends → List ℕ → List ℕ
-opened mends file = if lacks_lines mends file then with_record (with_lines most_lines (record_in file)) file else file
+opened mends file =
+    if lacks_lines mends file then with_record (with_lines (first_lines mends) (record_in file)) file else file
 
 -- with a return before each line feed, where that is asked for and wanted
 abbrev pub returned : Mends → List ℕ → List ℕ
@@ -208,8 +218,8 @@ pub record IsMended (mends : Mends) (file : List ℕ) (mended : Mended) (draft :
   pub from_cleared : GoodWith (stated_size apart.record_bytes) all_known (content_in settled) picture
   pub from_every : GoodWith (stated_size apart.record_bytes) none_known (content apart.body) picture
   pub front : IsTrue mended.front ↔ WantsMending (stated_size apart.record_bytes) (content_in settled)
-  pub tail : length cut + mended.tail ≡ length file
-  pub given_record : mended.given_record ≡ (if gives_record mends cut then mends.width else None)
+  pub tail : mended.tail ≡ times_at (length file - length cut) (length cut)
+  pub given_record : mended.given_record ≡ record_put mends cut
   pub flag_was : mended.non_blink.was ≡ is_non_blink (record_in (opened asked based))
   pub flag_is : mended.non_blink.is ≡ is_non_blink (record_in settled)
   pub end_mark : mended.end_mark ≡ end_mark_put (lined lines edited)

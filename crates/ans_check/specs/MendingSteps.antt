@@ -1,5 +1,5 @@
 -- What is done on the way to a mended file. Only private contracts cite it.
-use Rattle.std.specs.Prelude.{◌≡◌, ℕ, ◌+◌, ◌<◌, ◌≤◌, Bool, true, false, List, None}
+use Rattle.std.specs.Prelude.{◌≡◌, ℕ, ◌+◌, ◌-◌, ◌<◌, ◌≤◌, Bool, true, false, List}
 use Rattle.std.specs.Prelude.{length, if◌then◌else◌}
 use Rattle.ans_model.specs.Bytes.{longest_file}
 use Rattle.ans_model.specs.File.Layout.{FileParts, content}
@@ -12,12 +12,13 @@ use Rattle.ans_walks.specs.Mend.{mending}
 use Rattle.ans_walks.specs.MendedFile.{with_file_size}
 use Rattle.ans_mend.specs.EndMark.{end_mark_put, with_end_mark}
 use Rattle.ans_mend.specs.Fields.{with_record}
+use Rattle.ans_mend.specs.LastEnds.{times_at}
 use Rattle.ans_mend.specs.Tail.{IsTailCut}
 use Rattle.ans_mend.specs.declared.outcome.Mended.{Mended}
 use Rattle.ans_mend.specs.declared.outcome.Unmended.{Unmended}
 use Rattle.ans_mend.specs.declared.outcome.Unmended.TheVariants.{TooLong}
 use Rattle.std.specs.Prelude.{IsTrue, ◌↔◌}
-use Rattle.ans_check.specs.Mending.{WantsMending, asked_for, gives_record, recorded}
+use Rattle.ans_check.specs.Mending.{WantsMending, asked_for, record_put, recorded}
 use Rattle.ans_options.specs.declared.command.Mends.{Mends}
 use Rattle.ans_check.specs.declared.mend_judge.Judgement.{Judgement}
 use Rattle.ans_check.specs.declared.mend_steps.Done.{Done}
@@ -62,8 +63,8 @@ pub record IsDone (asked : Mends) (based : List ℕ) (done : Done) (settled : Li
 pub record IsPrepared (mends : Mends) (file : List ℕ) (prepared : Prepared) (settled : List ℕ) : Type 0 where
   pub cut : List ℕ
   pub is_cut : IsTailCut file cut
-  pub tail : length cut + prepared.tail ≡ length file
-  pub given_record : prepared.given_record ≡ gives_record mends cut
+  pub tail : prepared.tail ≡ times_at (length file - length cut) (length cut)
+  pub given_record : prepared.given_record ≡ record_put mends cut
   pub done : IsDone (asked_for mends cut) (recorded mends cut) prepared.done settled
 
 -- the FileSize that counts the mending, where it is wanted
@@ -72,14 +73,14 @@ size_for prepared judgement =
     judgement.content + length (front_bytes judgement.front) + prepared.done.survey.end_mark_counted
 
 -- the FileSize was set so, and what was changed in all is told
-pub record IsFinished (mends : Mends) (prepared : Prepared) (judgement : Judgement) (settled : List ℕ) (mended : Mended)
+pub record IsFinished (prepared : Prepared) (judgement : Judgement) (settled : List ℕ) (mended : Mended)
     (draft : List ℕ) : Type 0 where
   pub draft_is : draft ≡ with_record (with_file_size mended.file_size.is (record_in settled)) settled
   pub size : mended.file_size.is ≡ size_for prepared judgement
   pub size_was : mended.file_size.was ≡ prepared.done.survey.file_size
   pub front : mended.front ≡ judgement.front
   pub tail : mended.tail ≡ prepared.tail
-  pub given_record : mended.given_record ≡ (if prepared.given_record then mends.width else None)
+  pub given_record : mended.given_record ≡ prepared.given_record
   pub edits : mended.edits ≡ prepared.done.edits
   pub flag_was : mended.non_blink.was ≡ prepared.done.survey.non_blink
   pub flag_is : mended.non_blink.is ≡ judgement.non_blink

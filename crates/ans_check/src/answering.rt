@@ -49,13 +49,13 @@ fn say_mended<E: Write>(errors: &mut Tried<E>, mended: &Mended)
     let _ = out.finish();
 }
 
-/// Says why a file is not mended.
-fn say_unmended<E: Write>(errors: &mut Tried<E>, reason: &Unmended)
+/// Says why a file is not mended by what was asked for.
+fn say_unmended<E: Write>(errors: &mut Tried<E>, asked: &Mends, reason: &Unmended)
     requires { has_failed errors.old ≡ false }
-    ensures { Tells E.contents errors.old errors.new (unmended_text reason.now) }
+    ensures { Tells E.contents errors.old errors.new (unmended_text asked.now reason.now) }
 {
     let mut out = Outbox::new(errors);
-    put_unmended(&mut out, reason);
+    put_unmended(&mut out, asked, reason);
     let _ = out.finish();
 }
 
@@ -82,7 +82,7 @@ pub(crate) fn say<E: Write>(errors: &mut Tried<E>, ending: Ending)
     match &ending {
         Ending::Table(counts) => say_counts(errors, counts),
         Ending::Mended(mended) => say_mended(errors, mended),
-        Ending::NotMended(reason) => say_unmended(errors, reason),
+        Ending::NotMended(asked, reason) => say_unmended(errors, asked, reason),
         _ => say_message(errors, ending),
     }
 }
@@ -305,7 +305,7 @@ fn serve_mend<I: Inputs, W: Write>(
         return Ending::UnopenedFile;
     };
     let mut reader = Tried::new(input);
-    Ending::of_mending(&mend(alloc, &mut reader, output, mends))
+    Ending::of_mending(mends, &mend(alloc, &mut reader, output, mends))
 }
 
 /// What a fault or a note means, and how it is mended.

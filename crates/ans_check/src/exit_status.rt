@@ -6,7 +6,7 @@ ghost use Rattle.ans_check.specs.Run.{status_of};
 
 use crate::errors::RunError;
 use ans_mend::{Mended, Unmended};
-use ans_options::WordsError;
+use ans_options::{Mends, WordsError};
 use ans_table::{Counts, Unread};
 use clap::error::ErrorKind;
 
@@ -44,8 +44,8 @@ pub enum Ending {
     UnreadNames,
     /// A file was mended and written, and this was changed of it.
     Mended(Mended),
-    /// The file is not mended, for this reason, and nothing was written.
-    NotMended(Unmended),
+    /// The file is not mended, for this reason, by what was asked for, and nothing was written.
+    NotMended(Mends, Unmended),
 }
 
 impl Ending {
@@ -65,13 +65,13 @@ impl Ending {
         }
     }
 
-    /// How the program ends at what came of mending a file.
-    pub fn of_mending(answer: &Result<Result<Mended, Unmended>, RunError>) -> Ending
-        ensures { result ≡ ending_of_mending answer.now }
+    /// How the program ends at what came of mending a file, for which this was asked.
+    pub fn of_mending(asked: &Mends, answer: &Result<Result<Mended, Unmended>, RunError>) -> Ending
+        ensures { result ≡ ending_of_mending asked.now answer.now }
     {
         match answer {
             Ok(Ok(mended)) => Ending::Mended(*mended),
-            Ok(Err(reason)) => Ending::NotMended(*reason),
+            Ok(Err(reason)) => Ending::NotMended(*asked, *reason),
             Err(error) => Ending::Run(Err(*error)),
         }
     }
@@ -84,7 +84,7 @@ impl Ending {
         match self {
             Ending::Run(answer) => status(answer),
             Ending::Help | Ending::Mended(_) => 0,
-            Ending::NotMended(_) => 1,
+            Ending::NotMended(..) => 1,
             Ending::Table(counts) => counts.status(),
             Ending::Usage | Ending::UnreadableWords | Ending::UnopenedFile => 2,
             Ending::NamedInput | Ending::UnreadNames => 2,
@@ -100,7 +100,7 @@ impl Ending {
         match self {
             Ending::Run(Err(error)) => Some(error.text()),
             Ending::Run(Ok(_)) | Ending::Help | Ending::Usage | Ending::Table(_) => None,
-            Ending::Mended(_) | Ending::NotMended(_) => None,
+            Ending::Mended(_) | Ending::NotMended(..) => None,
             Ending::UnreadableWords => Some("cannot read the command line"),
             Ending::UnopenedFile => Some(Unread::Unopened.text()),
             Ending::NamedInput => Some("- names no file of a table; without FILE, names are read"),

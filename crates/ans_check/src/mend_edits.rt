@@ -1,9 +1,12 @@
 //! What is changed of the content of a file that is mended.
-ghost use Rattle.std.specs.Prelude.{◌≡◌, ◌≤◌, ◌<◌, length, IfOk, IfErr, OnErr, OnOk};
+ghost use Rattle.std.specs.Prelude.{◌≡◌, ◌+◌, ◌≤◌, ◌<◌, length, IfOk, IfErr, OnErr, OnOk};
 ghost use Rattle.ans_model.specs.Bytes.{longest_file};
 ghost use Rattle.ans_mend.specs.declared.outcome.Unmended.TheVariants.{TooLong};
 ghost use Rattle.ans_check.specs.Mending.{AreLastEndsGone, AreRowsJoined, AreSequencesOut, IsEdited, TellsReturns};
 ghost use Rattle.ans_check.specs.Mending.{returned};
+ghost use Rattle.ans_check.specs.MendingRoom.{most_returns};
+ghost use Rattle.ans_mend.specs.Drafts.{memory_of};
+ghost use Rattle.ans_sauce.specs.Found.{front_in};
 
 use ans_mend::{Draft, Edits, NoRoom, Told, Unmended};
 use ans_model::limits::{MAX_FILE, MAX_LINES};
@@ -15,6 +18,10 @@ use ans_walks::Times;
 fn put_returns(draft: &mut Draft<'_>, mends: &Mends) -> Result<Option<Times>, NoRoom>
     ensures file { OnOk result (draft.new.file ≡ returned mends.now draft.old.file) }
     ensures returns { IfOk result (TellsReturns mends.now draft.old.file) }
+    ensures longer { OnOk result
+        (length draft.new.file ≤ length draft.old.file + most_returns mends.now (front_in draft.old.file)) }
+    ensures memory { memory_of draft.new ≡ memory_of draft.old }
+    ensures no_room { OnErr result (draft.old.room < most_returns mends.now (front_in draft.old.file)) }
 {
     if mends.line_ends {
         return draft.put_returns();
@@ -27,6 +34,7 @@ fn take_out_sequences(draft: &mut Draft<'_>, mends: &Mends) -> Told
     requires { length draft.old.file ≤ longest_file }
     ensures file { AreSequencesOut mends.now draft.old.file draft.new.file result }
     ensures no_longer { length draft.new.file ≤ length draft.old.file }
+    ensures memory { memory_of draft.new ≡ memory_of draft.old }
 {
     if mends.take_out {
         return draft.take_out();
@@ -39,6 +47,7 @@ fn join_rows(draft: &mut Draft<'_>, mends: &Mends, size: Size) -> Option<Times>
     requires { length draft.old.file ≤ longest_file }
     ensures file { AreRowsJoined mends.now size draft.old.file draft.new.file result }
     ensures no_longer { length draft.new.file ≤ length draft.old.file }
+    ensures memory { memory_of draft.new ≡ memory_of draft.old }
 {
     if mends.full_rows {
         return draft.take_out_row_ends(Size::new(size.width(), MAX_LINES));
@@ -51,6 +60,7 @@ fn take_out_last_ends(draft: &mut Draft<'_>, mends: &Mends, size: Size) -> Optio
     requires { length draft.old.file ≤ longest_file }
     ensures file { AreLastEndsGone mends.now size draft.old.file draft.new.file result }
     ensures no_longer { length draft.new.file ≤ length draft.old.file }
+    ensures memory { memory_of draft.new ≡ memory_of draft.old }
 {
     if mends.take_out {
         return draft.take_out_last_ends(size);
@@ -69,6 +79,10 @@ pub(crate) fn edit(
     ensures length { IfOk result (λ answer. OnOk answer (length draft.new.file ≤ longest_file)) }
     ensures reason { IfOk result (λ answer. IfErr answer (λ reason.
         (reason ≡ TooLong) × (longest_file < length (returned mends.now draft.old.file)))) }
+    ensures longer { IfOk result (λ answer. OnOk answer
+        (length draft.new.file ≤ length draft.old.file + most_returns mends.now (front_in draft.old.file))) }
+    ensures memory { memory_of draft.new ≡ memory_of draft.old }
+    ensures no_room { OnErr result (draft.old.room < most_returns mends.now (front_in draft.old.file)) }
 {
     let returns = put_returns(draft, mends)?;
     if draft.file().len() > MAX_FILE {

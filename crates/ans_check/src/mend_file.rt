@@ -4,6 +4,7 @@ ghost use Rattle.ans_model.specs.Bytes.{longest_file};
 ghost use Rattle.ans_write.specs.Puts.{Puts};
 ghost use Rattle.ans_write.specs.Tried.{has_failed};
 ghost use Rattle.ans_check.specs.Mending.{front_bytes};
+ghost use Rattle.ans_check.specs.MendingRoom.{most_put};
 ghost use Rattle.ans_check.specs.Reported.{PutsMended};
 ghost use Rattle.ans_check.specs.Served.{ServesMended, mended_bytes};
 
@@ -11,7 +12,7 @@ use crate::errors::RunError;
 use crate::mend_steps::mend_on;
 use crate::reading::read_all;
 use crate::screens::KeptScreens;
-use ans_mend::{Draft, Mended, Unmended};
+use ans_mend::{Draft, Mended, Unmended, count_line_feeds};
 use ans_options::Mends;
 use ans_report::{Tried, WriteFault};
 use ans_write::Outbox;
@@ -51,12 +52,14 @@ fn put_answer<W: Write>(out: &mut Outbox<'_, W>, answer: &Result<Mended, Unmende
 }
 
 /// How many bytes are put into a file at most: a return before each line feed, a record and end marks.
-fn room_for(file: &[u8], mends: &Mends) -> usize {
+fn room_for(file: &[u8], mends: &Mends) -> usize
+    requires { length file.now ≤ longest_file }
+    ensures { result ≡ most_put mends.now file.now }
+{
     if !mends.line_ends {
         return RECORD_ROOM;
     }
-    let line_feeds = file.iter().filter(|byte| **byte == b'\n').count();
-    line_feeds.saturating_add(RECORD_ROOM)
+    count_line_feeds(file) + RECORD_ROOM
 }
 
 /// Mends the file in the first `count` bytes of a memory, and puts it.

@@ -8,6 +8,7 @@ ghost use Rattle.ans_sauce.specs.Parts.{content_of, size_of};
 ghost use Rattle.ans_check.specs.StartParts.{EndsFrom};
 ghost use Rattle.ans_check.specs.Mending.{IsFaulty, WantsMending};
 ghost use Rattle.ans_check.specs.MendingSteps.{IsJudgement, IsSurvey};
+ghost use Rattle.ans_check.specs.ScreenRoom.{AnswersWithin, TakesRoom};
 
 use crate::screens::Screens;
 use ans_model::fault::Fault;
@@ -83,7 +84,8 @@ fn cleared_fault<S: Screens>(
 ) -> Result<Option<Fault>, AllocError>
     requires length { length (content_of parts.now) ≤ longest_file }
     requires ends { EndsFrom (size_of parts.now) (content_of parts.now) none_known fault }
-    ensures { IfOk result (EndsFrom (size_of parts.now) (content_of parts.now) all_known) }
+    ensures fault { IfOk result (EndsFrom (size_of parts.now) (content_of parts.now) all_known) }
+    ensures room { TakesRoom S.has_room S.may_lack (size_of parts.now) screens.old screens.new result }
 {
     match fault {
         Some(_) => screens.fault_from(parts, Start::CLEARED),
@@ -101,6 +103,7 @@ pub(crate) fn judge<S: Screens>(
     requires { length file.now ≤ longest_file }
     ensures passes { IfOk result (λ answer. IfOk answer (IsJudgement file.now)) }
     ensures fault { IfOk result (λ answer. IfErr answer (IsFaulty file.now)) }
+    ensures room { AnswersWithin S.has_room S.may_lack file.now screens.old result }
 {
     let parts = match split(file) {
         Ok(parts) => parts,

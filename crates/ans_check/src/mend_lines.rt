@@ -32,8 +32,8 @@ fn lacks_lines(file: &[u8], mends: &Mends) -> bool
     }
 }
 
-/// Has the record state the most lines, until they are settled, where it states none and a number is
-/// asked for. Returns whether that is so.
+/// Has the record state the lines that are given, or else the most, until they are settled, where it states
+/// none and a number is asked for. Returns whether that is so.
 pub(crate) fn open_lines(draft: &mut Draft<'_>, mends: &Mends) -> bool
     ensures draft { draft.new ≡ draft_of (opened mends.now draft.old.file) draft.old.room }
     ensures lacks { result ≡ lacks_lines mends.now draft.old.file }
@@ -41,7 +41,7 @@ pub(crate) fn open_lines(draft: &mut Draft<'_>, mends: &Mends) -> bool
     if !lacks_lines(draft.file(), mends) {
         return false;
     }
-    draft.state_lines(MAX_LINES as u16);
+    draft.state_lines(mends.lines.unwrap_or(MAX_LINES as u16));
     true
 }
 

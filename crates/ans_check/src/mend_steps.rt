@@ -1,16 +1,20 @@
 //! A file that is mended.
-ghost use Rattle.std.specs.Prelude.{◌≡◌, ◌≤◌, ◌||◌, None, length, IfOk, IfErr, OnOk, if◌then◌else◌};
+ghost use Rattle.std.specs.Prelude.{◌≡◌, ◌⊎◌, ◌≤◌, ◌||◌, length, IfOk, IfErr, IsErr, OnErr, OnOk};
 ghost use Rattle.ans_model.specs.Bytes.{longest_file, most_lines};
-ghost use Rattle.ans_check.specs.Mending.{IsMended, IsReason, IsReasonFor, gives_record, recorded};
+ghost use Rattle.ans_mend.specs.Drafts.{memory_of};
+ghost use Rattle.ans_sauce.specs.Found.{front_in};
+ghost use Rattle.ans_check.specs.Mending.{IsMended, IsReason, IsReasonFor, record_put, recorded};
+ghost use Rattle.ans_check.specs.MendingRoom.{LacksRoom, LacksScreenInTheEnd, most_returns};
 ghost use Rattle.ans_check.specs.MendingSteps.{IsDone, IsFinished, IsPrepared, IsTooLong};
 
 use crate::mend_edits::edit;
 use crate::mend_judge::{Judgement, Survey, judge, survey_of};
 use crate::mend_lines::{lines_for, open_lines, take_lines};
 use crate::screens::Screens;
-use ans_mend::{Draft, Edits, Mended, NoRoom, NonBlink, Reset, Unmended};
+use ans_mend::{Draft, Edits, GivenRecord, Mended, NoRoom, NonBlink, Reset, Unmended};
 use ans_model::limits::MAX_FILE;
 use ans_options::Mends;
+use ans_walks::Times;
 use std::alloc::AllocError;
 
 /// How many bytes mend a drawing.
@@ -29,20 +33,22 @@ struct Done {
 /// What was done with a file whose content is still to be judged.
 #[derive(Clone, Copy)]
 struct Prepared {
-    // how many bytes were cut off behind the record
-    tail: usize,
-    given_record: bool,
+    // what was cut off behind the record
+    tail: Option<Times>,
+    given_record: Option<GivenRecord>,
     done: Done,
 }
 
-/// Gives the file a record of the width that is asked for, where it takes one. Returns whether it does.
-fn give_record(draft: &mut Draft<'_>, mends: &Mends) -> Result<bool, NoRoom>
+/// Gives the file a record of the width that is asked for, where it takes one. Returns what was put.
+fn give_record(draft: &mut Draft<'_>, mends: &Mends) -> Result<Option<GivenRecord>, NoRoom>
     ensures file { OnOk result (draft.new.file ≡ recorded mends.now draft.old.file) }
-    ensures given { IfOk result (λ given. given ≡ gives_record mends.now draft.old.file) }
+    ensures given { IfOk result (λ given. given ≡ record_put mends.now draft.old.file) }
+    ensures memory { memory_of draft.new ≡ memory_of draft.old }
+    ensures no_room { OnErr result (memory_of draft.old < length draft.old.file + 129) }
 {
     match mends.width {
         Some(width) => draft.give_record(width),
-        None => Ok(false),
+        None => Ok(None),
     }
 }
 
@@ -53,6 +59,7 @@ fn settle(draft: &mut Draft<'_>, asked: &Mends) -> Result<Result<Done, Unmended>
         (λ d. IsDone asked.now draft.old.file d draft.new.file)) }
     ensures length { IfOk result (λ answer. OnOk answer (length draft.new.file ≤ longest_file)) }
     ensures reason { IfOk result (λ answer. IfErr answer (IsReasonFor asked.now draft.old.file)) }
+    ensures no_room { OnErr result (draft.old.room ≤ most_returns asked.now (front_in draft.old.file)) }
 {
     let lacks = open_lines(draft, asked);
     let survey = match survey_of(draft.file(), lacks) {
@@ -98,13 +105,14 @@ fn prepare(draft: &mut Draft<'_>, mends: &Mends) -> Result<Result<Prepared, Unme
         (λ p. IsPrepared mends.now draft.old.file p draft.new.file)) }
     ensures length { IfOk result (λ answer. OnOk answer (length draft.new.file ≤ longest_file)) }
     ensures reason { IfOk result (λ answer. IfErr answer (IsReason mends.now draft.old.file)) }
+    ensures no_room { OnErr result (LacksRoom mends.now draft.old) }
 {
     let tail = draft.cut_tail();
     let given_record = give_record(draft, mends)?;
     if draft.file().len() > MAX_FILE {
         return Ok(Err(Unmended::TooLong));
     }
-    match settle(draft, &asked_where(mends, given_record))? {
+    match settle(draft, &asked_where(mends, given_record.is_some()))? {
         Ok(done) => Ok(Ok(Prepared {
             tail,
             given_record,
@@ -114,17 +122,9 @@ fn prepare(draft: &mut Draft<'_>, mends: &Mends) -> Result<Result<Prepared, Unme
     }
 }
 
-/// The width of the record that was given, if one was.
-fn width_given(mends: &Mends, given_record: bool) -> Option<u16>
-    ensures { result ≡ (if given_record then mends.now.width else None) }
-{
-    if given_record { mends.width } else { None }
-}
-
 /// Sets the file size for a content that passes, and says what was changed in all.
 fn finish(
     draft: &mut Draft<'_>,
-    mends: &Mends,
     prepared: Prepared,
     judgement: Judgement,
 ) -> Result<Mended, Unmended>
@@ -134,7 +134,7 @@ fn finish(
     requires lines { judgement.lines ≤ most_lines }
     requires stated { prepared.done.survey.stated ≤ most_lines }
     requires counted { prepared.done.survey.end_mark_counted ≤ 1 }
-    ensures mended { IfOk result (λ m. IsFinished mends.now prepared judgement draft.old.file m draft.new.file) }
+    ensures mended { IfOk result (λ m. IsFinished prepared judgement draft.old.file m draft.new.file) }
     ensures long { IfErr result (IsTooLong judgement draft.old.file) }
 {
     let front = if judgement.front { MENDING } else { 0 };
@@ -145,7 +145,7 @@ fn finish(
     draft.state_file_size(size);
     Ok(Mended {
         tail: prepared.tail,
-        given_record: width_given(mends, prepared.given_record),
+        given_record: prepared.given_record,
         edits: prepared.done.edits,
         non_blink: NonBlink {
             was: prepared.done.survey.non_blink,
@@ -172,7 +172,7 @@ fn finish(
 ///
 /// The answer is an error where the file cannot be mended so. The draft then holds a file that is half
 /// changed. `Err` says that there is no room for the screen, or none in the draft for what is put into the
-/// file: a byte for each return and one for the end mark.
+/// file: a byte for each return, 129 for an end mark and a record, and one for an end mark.
 pub fn mend_on<S: Screens>(
     screens: &mut S,
     draft: &mut Draft<'_>,
@@ -182,6 +182,8 @@ pub fn mend_on<S: Screens>(
     ensures mended { IfOk result (λ answer. IfOk answer
         (λ m. IsMended mends.now draft.old.file m draft.new.file)) }
     ensures reason { IfOk result (λ answer. IfErr answer (IsReason mends.now draft.old.file)) }
+    ensures room { IsErr result → LacksRoom mends.now draft.old
+        ⊎ LacksScreenInTheEnd (S.may_lack screens.old) mends.now draft.old.file }
 {
     let prepared = match prepare(draft, mends) {
         Ok(Ok(prepared)) => prepared,
@@ -192,5 +194,5 @@ pub fn mend_on<S: Screens>(
         Ok(judgement) => judgement,
         Err(fault) => return Ok(Err(Unmended::Refused(fault))),
     };
-    Ok(finish(draft, mends, prepared, judgement))
+    Ok(finish(draft, prepared, judgement))
 }

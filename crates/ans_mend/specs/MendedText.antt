@@ -1,7 +1,6 @@
 -- What mending says: what was changed, or why there is none.
-use Rattle.std.specs.Prelude.{ℕ, Bool, true, false, ◌==◌, nat_lt, min, List, [], ◌++◌, take, codes, decimal, Option}
-use Rattle.std.specs.Prelude.{None}
-use Rattle.std.specs.Prelude.{Some, if◌then◌else◌}
+use Rattle.std.specs.Prelude.{ℕ, ◌-◌, Bool, true, false, ◌&&◌, ◌||◌, ◌==◌, nat_lt, nat_le, min, List, [], ◌++◌, take}
+use Rattle.std.specs.Prelude.{codes, decimal, Option, None, Some, is_some, if◌then◌else◌}
 use Rattle.std.specs.List.{flat_map}
 use Rattle.ans_model.specs.Text.FaultText.{fault_line}
 use Rattle.ans_model.specs.declared.fault.Cause.{Cause}
@@ -9,6 +8,7 @@ use Rattle.ans_model.specs.declared.fault.Cause.TheVariants as cause
 use Rattle.ans_report.specs.Counted.{counted_text, times_text}
 use Rattle.ans_report.specs.Quoted.{quoted_byte}
 use Rattle.ans_walks.specs.declared.times.Times.{Times}
+use Rattle.ans_mend.specs.declared.outcome.GivenRecord.{GivenRecord}
 use Rattle.ans_mend.specs.declared.outcome.Mended.{Mended}
 use Rattle.ans_mend.specs.declared.outcome.NonBlink.{NonBlink}
 use Rattle.ans_mend.specs.declared.outcome.Reset.{Reset}
@@ -17,6 +17,7 @@ use Rattle.ans_mend.specs.declared.outcome.Unmended.TheVariants as unmended
 use Rattle.ans_mend.specs.declared.taking_out.Excerpt.{Excerpt}
 use Rattle.ans_mend.specs.declared.taking_out.TakenOut.{TakenOut}
 use Rattle.ans_mend.specs.declared.taking_out.Told.{Told}
+use Rattle.ans_options.specs.declared.command.Mends.{Mends}
 
 -- ---- what was changed, a line each
 
@@ -36,17 +37,33 @@ quoted_excerpt text =
     flat_map quoted_byte (take (min text.length 32) text.bytes)
     ++ (if nat_lt 32 text.length then codes " .." else [])
 
+-- how many of the kind went besides the first
+abbrev pub others_text : ℕ → List ℕ
+others_text count =
+    if nat_le count 1 then [] else codes ", and " ++ (decimal (count - 1) ++ codes " more of its kind")
+
 abbrev pub taken_line : Option TakenOut → List ℕ
 taken_line None = []
-taken_line (Some taken) = codes "took out " ++ (quoted_excerpt taken.text ++ (at_text taken.times ++ codes "\n"))
+taken_line (Some taken) =
+    codes "took out " ++ (quoted_excerpt taken.text ++ (codes " at " ++ (decimal taken.times.first
+    ++ (others_text taken.times.count ++ codes "\n"))))
 
-abbrev pub tail_line : ℕ → List ℕ
-tail_line count =
-    if count == 0 then [] else codes "cut " ++ (counted_text count (codes "byte") ++ codes " behind the record\n")
+abbrev pub tail_line : Option Times → List ℕ
+tail_line None = []
+tail_line (Some cut) =
+    codes "cut " ++ (counted_text cut.count (codes "byte") ++ (codes " at " ++ (decimal cut.first
+    ++ codes ", behind the record\n")))
 
-abbrev pub record_line : Option ℕ → List ℕ
+-- how many bytes stood in the place of a record
+abbrev pub replaced_text : ℕ → List ℕ
+replaced_text count =
+    if count == 0 then [] else codes ", in the place of " ++ counted_text count (codes "byte")
+
+abbrev pub record_line : Option GivenRecord → List ℕ
 record_line None = []
-record_line (Some width) = codes "put a record of " ++ (counted_text width (codes "column") ++ codes "\n")
+record_line (Some given) =
+    codes "put a record of " ++ (counted_text given.width (codes "column") ++ (codes " at " ++ (decimal given.place
+    ++ (replaced_text given.cut ++ codes "\n"))))
 
 -- the flag is set, cleared, or stays
 abbrev pub flag_line : Bool → Bool → List ℕ
@@ -83,27 +100,68 @@ mended_text m =
 
 -- ---- why there is none
 
--- what may help against a fault
-abbrev pub help_text : Cause → List ℕ
-help_text cause.NoRecord = codes "help: --width N gives a drawing without a record one for N columns\n"
-help_text cause.LinesUnstated = codes "help: --least-lines states the least number of lines that is enough\n"
-help_text cause.BrokenSequence = codes "help: --take-out takes out what is known of such sequences\n"
-help_text cause.NumberTooLarge = codes "help: --take-out takes out what is known of such sequences\n"
-help_text cause.TooManyParameters = codes "help: --take-out takes out what is known of such sequences\n"
-help_text cause.EndInSequence = codes "help: --take-out takes out what is known of such sequences\n"
-help_text cause.UnknownSequence = codes "help: --take-out takes out what is known of such sequences\n"
-help_text cause.WrongParameters = codes "help: --take-out takes out what is known of such sequences\n"
-help_text cause.KeyReassigned = codes "help: --take-out takes out what is known of such sequences\n"
-help_text cause.ScreenMode = codes "help: --take-out takes out what is known of such sequences\n"
-help_text cause.ReportAsked = codes "help: --take-out takes out what is known of such sequences\n"
-help_text cause.OutsideScreen = codes "help: --line-ends, --full-rows, --take-out or --least-lines, as why says\n"
-help_text cause.PrintBelow = codes "help: --line-ends, --full-rows, --take-out or --least-lines, as why says\n"
-help_text cause.Scrolls = codes "help: --line-ends, --full-rows, --take-out or --least-lines, as why says\n"
-help_text _ = codes "help: why shows the place, and help tells of the fault\n"
+-- where no flag is left that may help
+abbrev pub look_text : List ℕ
+look_text = codes "help: why shows the place, and help tells of the fault\n"
 
-abbrev pub unmended_text : Unmended → List ℕ
-unmended_text (unmended.Refused fault) = fault_line fault ++ help_text fault.cause
-unmended_text unmended.Torn =
-    codes "the rows are torn\nhelp: --line-ends or --full-rows, as why says; or --lines N\n"
-unmended_text unmended.NoLines = codes "no number of lines up to 8192 is enough\nhelp: why shows the place\n"
-unmended_text unmended.TooLong = codes "the file would be longer than 16777216 bytes\n"
+-- a drawing without a record wants one, or --width stands and puts none
+abbrev pub record_help : Mends → List ℕ
+record_help asked =
+    if is_some asked.width
+    then codes "help: --width puts none where SAUCE00 stands, or other bytes than 00h, 0Ah, 0Dh and 1Ah behind a 1Ah\n"
+    else codes "help: --width N gives a drawing without a record one for N columns\n"
+
+abbrev pub sequence_help : Mends → List ℕ
+sequence_help asked =
+    if asked.take_out then look_text else codes "help: --take-out takes out what is known of such sequences\n"
+
+-- a flag, but where it is given
+abbrev pub offered : Bool → List ℕ → List ℕ
+offered given flag = if given then [] else codes " " ++ flag
+
+-- a number of lines is asked for
+abbrev pub asks_lines : Mends → Bool
+asks_lines asked = is_some asked.lines || asked.least_lines
+
+abbrev pub all_given : Mends → Bool
+all_given asked = asked.line_ends && (asked.full_rows && (asked.take_out && asks_lines asked))
+
+-- the flags that change the rows, but those that are given
+abbrev pub rows_help : Mends → List ℕ
+rows_help asked =
+    if all_given asked then look_text
+    else codes "help: one of these, as why says:" ++ (offered asked.line_ends (codes "--line-ends")
+    ++ (offered asked.full_rows (codes "--full-rows") ++ (offered asked.take_out (codes "--take-out")
+    ++ (offered (asks_lines asked) (codes "--least-lines") ++ codes "\n"))))
+
+-- what may help against a fault, of what is not asked for yet
+abbrev pub help_text : Mends → Cause → List ℕ
+help_text asked cause.NoRecord = record_help asked
+help_text asked cause.LinesUnstated =
+    codes "help: --least-lines states the least number of lines that is enough\n"
+help_text asked cause.BrokenSequence = sequence_help asked
+help_text asked cause.NumberTooLarge = sequence_help asked
+help_text asked cause.TooManyParameters = sequence_help asked
+help_text asked cause.EndInSequence = sequence_help asked
+help_text asked cause.UnknownSequence = sequence_help asked
+help_text asked cause.WrongParameters = sequence_help asked
+help_text asked cause.KeyReassigned = sequence_help asked
+help_text asked cause.ScreenMode = sequence_help asked
+help_text asked cause.ReportAsked = sequence_help asked
+help_text asked cause.OutsideScreen = rows_help asked
+help_text asked cause.PrintBelow = rows_help asked
+help_text asked cause.Scrolls = rows_help asked
+help_text asked _ = look_text
+
+-- what may help where the rows are torn: whole rows, or a number that is given all the same
+abbrev pub torn_help : Mends → List ℕ
+torn_help asked =
+    codes "help: one of these, as why says:" ++ (offered asked.line_ends (codes "--line-ends")
+    ++ (offered asked.full_rows (codes "--full-rows") ++ codes " --lines N\n"))
+
+abbrev pub unmended_text : Mends → Unmended → List ℕ
+unmended_text asked (unmended.Refused fault) = fault_line fault ++ help_text asked fault.cause
+unmended_text asked unmended.Torn = codes "the rows are torn\n" ++ torn_help asked
+unmended_text asked unmended.NoLines = codes "no number of lines up to 8192 is enough\nhelp: why shows the place\n"
+unmended_text asked unmended.TooLong =
+    codes "the file would be longer than 16777216 bytes\nhelp: only a shorter drawing can be mended so\n"

@@ -1,11 +1,13 @@
 -- A record for a file that has none.
-use Rattle.std.specs.Prelude.{ℕ, Bool, not, ◌&&◌, List, ◌∷◌, ◌++◌, codes, replicate, if◌then◌else◌}
+use Rattle.std.specs.Prelude.{ℕ, Bool, false, not, ◌&&◌, ◌||◌, List, [], ◌∷◌, ◌++◌, length, take, codes, replicate}
+use Rattle.std.specs.Prelude.{bytes_eq, Option, None, Some, if◌then◌else◌}
 use Rattle.std.specs.List.{list_all}
 use Rattle.ans_model.specs.Bytes.{blank, end_mark}
 use Rattle.ans_model.specs.File.Layout.{after_content, content}
 use Rattle.ans_model.specs.File.Refusals.{has_record}
 use Rattle.ans_mend.specs.Fields.{two_bytes}
 use Rattle.ans_mend.specs.Tail.{is_tail_byte}
+use Rattle.ans_mend.specs.declared.outcome.GivenRecord.{GivenRecord}
 
 -- SAUCE 00.5, record layout: version 00, blank texts, a date of eight zeros, FileSize 0, Character/ANSi, this width in
 -- columns, and no lines, comments, flags or font
@@ -14,10 +16,27 @@ new_record width =
     codes "SAUCE00" ++ (replicate 75 blank ++ (codes "00000000" ++ (replicate 4 0x00 ++ (0x01 ∷ 0x01 ∷ (two_bytes width
     ++ replicate 30 0x00)))))
 
--- there is no record, and behind the content stand only end marks, zero bytes and line ends
+-- a record of version 00 begins here
+abbrev pub begins_sauce : List ℕ → Bool
+begins_sauce bytes = bytes_eq (take 7 bytes) (codes "SAUCE00")
+
+-- or somewhere behind
+abbrev pub holds_sauce : List ℕ → Bool
+holds_sauce [] = false
+holds_sauce (b ∷ bytes) = begins_sauce (b ∷ bytes) || holds_sauce bytes
+
+-- There is no record, at the end or elsewhere, whole or in part; and behind the content stand only end marks, zero bytes
+-- and line ends.
 abbrev pub takes_record : List ℕ → Bool
-takes_record file = not (has_record file) && list_all is_tail_byte (after_content file)
+takes_record file = not (has_record file) && (not (holds_sauce file) && list_all is_tail_byte (after_content file))
 
 -- the file with such a record behind its content and an end mark, where it takes one
 abbrev pub with_new_record : ℕ → List ℕ → List ℕ
 with_new_record width file = if takes_record file then content file ++ end_mark ∷ new_record width else file
+
+-- the record that is put, where one is
+abbrev pub record_given : ℕ → List ℕ → Option GivenRecord
+record_given width file =
+    if takes_record file
+    then Some (record { width = width; place = length (content file); cut = length (after_content file) })
+    else None

@@ -12,16 +12,22 @@ use crate::line_ends::content_of;
 use ans_model::size::Size;
 use ans_walks::{Times, count_line_ends, count_passing};
 
+/// So many, from this offset on.
+pub(crate) fn times_at(count: usize, first: usize) -> Option<Times>
+    ensures { result ≡ times_at count first }
+{
+    if count == 0 {
+        return None;
+    }
+    Some(Times { count, first })
+}
+
 /// How many line ends the bytes behind an offset are, and that offset.
 fn ends_behind(content: &[u8], left: usize) -> Option<Times>
     requires { left ≤ length content.now }
     ensures { result ≡ times_at (line_ends (drop left content.now)) left }
 {
-    let count = count_line_ends(&content[left..]);
-    if count == 0 {
-        return None;
-    }
-    Some(Times { count, first: left })
+    times_at(count_line_ends(&content[left..]), left)
 }
 
 impl<'a> Draft<'a> {

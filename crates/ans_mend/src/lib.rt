@@ -19,6 +19,7 @@ mod tail;
 mod taking_out;
 
 pub use draft::{Draft, NoRoom};
+pub use line_ends::count_line_feeds;
 pub use mended_text::{put_mended, put_unmended};
-pub use outcome::{Edits, Mended, NonBlink, Reset, Unmended};
+pub use outcome::{Edits, GivenRecord, Mended, NonBlink, Reset, Unmended};
 pub use taking_out::{Excerpt, TakenOut, Told};

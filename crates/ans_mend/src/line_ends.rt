@@ -21,7 +21,7 @@ fn is_line_feed(byte: u8) -> bool
 }
 
 /// How many line feeds there are.
-fn count_line_feeds(bytes: &[u8]) -> usize
+pub fn count_line_feeds(bytes: &[u8]) -> usize
     ensures count { result ≡ line_feeds bytes.now }
     ensures within { result ≤ length bytes.now }
 {

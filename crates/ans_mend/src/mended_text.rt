@@ -1,14 +1,17 @@
 //! What mending says: what was changed, or why there is none.
 ghost use Rattle.std.specs.Prelude.{◌≡◌};
 ghost use Rattle.std.specs.List.{flat_map};
-ghost use Rattle.ans_mend.specs.MendedText.{at_text, end_mark_line, flag_line, front_line, help_text, mended_text};
-ghost use Rattle.ans_mend.specs.MendedText.{quoted_excerpt, record_line, reset_line, tail_line, taken_line};
-ghost use Rattle.ans_mend.specs.MendedText.{times_line, unmended_text};
+ghost use Rattle.ans_mend.specs.MendedText.{all_given, asks_lines, at_text, end_mark_line, flag_line, front_line};
+ghost use Rattle.ans_mend.specs.MendedText.{help_text, mended_text, offered, others_text, quoted_excerpt};
+ghost use Rattle.ans_mend.specs.MendedText.{record_help, record_line, replaced_text, reset_line, rows_help};
+ghost use Rattle.ans_mend.specs.MendedText.{sequence_help, tail_line, taken_line, times_line, torn_help};
+ghost use Rattle.ans_mend.specs.MendedText.{unmended_text};
 ghost use Rattle.ans_write.specs.Puts.{Puts};
 
-use crate::outcome::{Mended, NonBlink, Reset, Unmended};
+use crate::outcome::{GivenRecord, Mended, NonBlink, Reset, Unmended};
 use crate::taking_out::{Excerpt, TakenOut};
 use ans_model::fault::Cause;
+use ans_options::Mends;
 use ans_report::{put_counted, put_fault_line, put_quoted_bytes, put_times};
 use ans_walks::Times;
 use ans_write::Outbox;
@@ -45,13 +48,26 @@ fn put_excerpt<W: Write>(out: &mut Outbox<'_, W>, text: &Excerpt)
     }
 }
 
+fn put_others<W: Write>(out: &mut Outbox<'_, W>, count: usize)
+    ensures { Puts W.contents out.old out.new (others_text count) }
+{
+    if count <= 1 {
+        return;
+    }
+    out.put(b", and ");
+    out.put_decimal((count - 1) as u64);
+    out.put(b" more of its kind");
+}
+
 fn put_taken_line<W: Write>(out: &mut Outbox<'_, W>, taken: &Option<TakenOut>)
     ensures { Puts W.contents out.old out.new (taken_line taken.now) }
 {
     if let Some(taken) = taken {
         out.put(b"took out ");
         put_excerpt(out, &taken.text);
-        put_at(out, &taken.times);
+        out.put(b" at ");
+        out.put_decimal(taken.times.first as u64);
+        put_others(out, taken.times.count);
         out.put(b"\n");
     }
 }
@@ -64,23 +80,37 @@ fn put_taken_lines<W: Write>(out: &mut Outbox<'_, W>, kinds: &[Option<TakenOut>]
     }
 }
 
-fn put_tail_line<W: Write>(out: &mut Outbox<'_, W>, count: usize)
-    ensures { Puts W.contents out.old out.new (tail_line count) }
+fn put_tail_line<W: Write>(out: &mut Outbox<'_, W>, cut: &Option<Times>)
+    ensures { Puts W.contents out.old out.new (tail_line cut.now) }
+{
+    if let Some(cut) = cut {
+        out.put(b"cut ");
+        put_counted(out, cut.count as u64, b"byte");
+        out.put(b" at ");
+        out.put_decimal(cut.first as u64);
+        out.put(b", behind the record\n");
+    }
+}
+
+fn put_replaced<W: Write>(out: &mut Outbox<'_, W>, count: usize)
+    ensures { Puts W.contents out.old out.new (replaced_text count) }
 {
     if count == 0 {
         return;
     }
-    out.put(b"cut ");
+    out.put(b", in the place of ");
     put_counted(out, count as u64, b"byte");
-    out.put(b" behind the record\n");
 }
 
-fn put_record_line<W: Write>(out: &mut Outbox<'_, W>, width: Option<u16>)
-    ensures { Puts W.contents out.old out.new (record_line width) }
+fn put_record_line<W: Write>(out: &mut Outbox<'_, W>, given: &Option<GivenRecord>)
+    ensures { Puts W.contents out.old out.new (record_line given.now) }
 {
-    if let Some(width) = width {
+    if let Some(given) = given {
         out.put(b"put a record of ");
-        put_counted(out, u64::from(width), b"column");
+        put_counted(out, u64::from(given.width), b"column");
+        out.put(b" at ");
+        out.put_decimal(given.place as u64);
+        put_replaced(out, given.cut);
         out.put(b"\n");
     }
 }
@@ -131,8 +161,8 @@ fn put_front_line<W: Write>(out: &mut Outbox<'_, W>, front: bool)
 pub fn put_mended<W: Write>(out: &mut Outbox<'_, W>, mended: &Mended)
     ensures { Puts W.contents out.old out.new (mended_text mended.now) }
 {
-    put_tail_line(out, mended.tail);
-    put_record_line(out, mended.given_record);
+    put_tail_line(out, &mended.tail);
+    put_record_line(out, &mended.given_record);
     put_times_line(
         out,
         b"put a return before a line feed",
@@ -156,14 +186,90 @@ pub fn put_mended<W: Write>(out: &mut Outbox<'_, W>, mended: &Mended)
     put_reset_line(out, b"file size ", &mended.file_size);
 }
 
-fn help_text(cause: &Cause) -> &'static [u8]
-    ensures { result.now ≡ help_text cause.now }
+/// Where no flag is left that may help.
+const LOOK: &[u8] = b"help: why shows the place, and help tells of the fault\n";
+
+/// What a drawing without a record wants.
+const WIDTH: &[u8] = b"help: --width N gives a drawing without a record one for N columns\n";
+
+/// Why `--width` puts no record.
+const NO_WIDTH: &[u8] = b"help: --width puts none where SAUCE00 stands, \
+    or other bytes than 00h, 0Ah, 0Dh and 1Ah behind a 1Ah\n";
+
+/// What a drawing without lines wants.
+const LEAST_LINES: &[u8] = b"help: --least-lines states the least number of lines that is enough\n";
+
+/// What a drawing wants that has sequences which are refused.
+const TAKE_OUT: &[u8] = b"help: --take-out takes out what is known of such sequences\n";
+
+fn record_help(asked: &Mends) -> &'static [u8]
+    ensures { result.now ≡ record_help asked.now }
+{
+    if asked.width.is_some() {
+        NO_WIDTH
+    } else {
+        WIDTH
+    }
+}
+
+fn sequence_help(asked: &Mends) -> &'static [u8]
+    ensures { result.now ≡ sequence_help asked.now }
+{
+    if asked.take_out { LOOK } else { TAKE_OUT }
+}
+
+fn asks_lines(asked: &Mends) -> bool
+    ensures { result ≡ asks_lines asked.now }
+{
+    asked.lines.is_some() || asked.least_lines
+}
+
+fn all_given(asked: &Mends) -> bool
+    ensures { result ≡ all_given asked.now }
+{
+    asked.line_ends && asked.full_rows && asked.take_out && asks_lines(asked)
+}
+
+/// Puts a flag, but where it is given.
+fn put_offered<W: Write>(out: &mut Outbox<'_, W>, given: bool, flag: &[u8])
+    ensures { Puts W.contents out.old out.new (offered given flag.now) }
+{
+    if !given {
+        out.put(b" ");
+        out.put(flag);
+    }
+}
+
+fn put_rows_help<W: Write>(out: &mut Outbox<'_, W>, asked: &Mends)
+    ensures { Puts W.contents out.old out.new (rows_help asked.now) }
+{
+    if all_given(asked) {
+        out.put(LOOK);
+        return;
+    }
+    out.put(b"help: one of these, as why says:");
+    put_offered(out, asked.line_ends, b"--line-ends");
+    put_offered(out, asked.full_rows, b"--full-rows");
+    put_offered(out, asked.take_out, b"--take-out");
+    put_offered(out, asks_lines(asked), b"--least-lines");
+    out.put(b"\n");
+}
+
+fn put_torn_help<W: Write>(out: &mut Outbox<'_, W>, asked: &Mends)
+    ensures { Puts W.contents out.old out.new (torn_help asked.now) }
+{
+    out.put(b"help: one of these, as why says:");
+    put_offered(out, asked.line_ends, b"--line-ends");
+    put_offered(out, asked.full_rows, b"--full-rows");
+    out.put(b" --lines N\n");
+}
+
+fn put_help<W: Write>(out: &mut Outbox<'_, W>, asked: &Mends, cause: &Cause)
+    ensures { Puts W.contents out.old out.new (help_text asked.now cause.now) }
 {
     match cause {
-        Cause::NoRecord => b"help: --width N gives a drawing without a record one for N columns\n",
-        Cause::LinesUnstated => {
-            b"help: --least-lines states the least number of lines that is enough\n"
-        }
+        Cause::NoRecord => out.put(record_help(asked)),
+        Cause::LinesUnstated => out.put(LEAST_LINES),
         Cause::BrokenSequence
         | Cause::NumberTooLarge
         | Cause::TooManyParameters
@@ -172,34 +278,33 @@ fn help_text(cause: &Cause) -> &'static [u8]
         | Cause::WrongParameters
         | Cause::KeyReassigned
         | Cause::ScreenMode
-        | Cause::ReportAsked => b"help: --take-out takes out what is known of such sequences\n",
-        Cause::OutsideScreen | Cause::PrintBelow | Cause::Scrolls => {
-            b"help: --line-ends, --full-rows, --take-out or --least-lines, as why says\n"
-        }
-        _ => b"help: why shows the place, and help tells of the fault\n",
+        | Cause::ReportAsked => out.put(sequence_help(asked)),
+        Cause::OutsideScreen | Cause::PrintBelow | Cause::Scrolls => put_rows_help(out, asked),
+        _ => out.put(LOOK),
     }
 }
-
-/// Why there is none where the rows are torn.
-const TORN: &[u8] = b"the rows are torn\n\
-    help: --line-ends or --full-rows, as why says; or --lines N\n";
 
 /// Why there is none where no number of lines is enough.
 const NO_LINES: &[u8] = b"no number of lines up to 8192 is enough\nhelp: why shows the place\n";
 
 /// Why there is none where the file would be too long.
-const TOO_LONG: &[u8] = b"the file would be longer than 16777216 bytes\n";
+const TOO_LONG: &[u8] = b"the file would be longer than 16777216 bytes\n\
+    help: only a shorter drawing can be mended so\n";
 
-/// Puts why a file is not mended, and what may help: the line of a fault as `check` has it, or the reason.
-pub fn put_unmended<W: Write>(out: &mut Outbox<'_, W>, reason: &Unmended)
-    ensures { Puts W.contents out.old out.new (unmended_text reason.now) }
+/// Puts why a file is not mended, and what may help, of what was not asked for: the line of a fault as
+/// `check` has it, or the reason.
+pub fn put_unmended<W: Write>(out: &mut Outbox<'_, W>, asked: &Mends, reason: &Unmended)
+    ensures { Puts W.contents out.old out.new (unmended_text asked.now reason.now) }
 {
     match reason {
         Unmended::Refused(fault) => {
             put_fault_line(out, fault);
-            out.put(help_text(&fault.cause));
+            put_help(out, asked, &fault.cause);
         }
-        Unmended::Torn => out.put(TORN),
+        Unmended::Torn => {
+            out.put(b"the rows are torn\n");
+            put_torn_help(out, asked);
+        }
         Unmended::NoLines => out.put(NO_LINES),
         Unmended::TooLong => out.put(TOO_LONG),
     }

@@ -1,12 +1,14 @@
 //! A record for a file that has none.
 
 ghost use Rattle.std.specs.Prelude.{◌≡◌, ◌+◌, ◌<◌, IfOk, IfNone, IfSome, OnErr, OnOk, length, true, false};
-ghost use Rattle.ans_model.specs.File.Layout.{content};
+ghost use Rattle.ans_model.specs.File.Layout.{after_content, content};
 ghost use Rattle.ans_mend.specs.Drafts.{memory_of};
-ghost use Rattle.ans_mend.specs.NewRecord.{new_record, takes_record, with_new_record};
+ghost use Rattle.ans_mend.specs.NewRecord.{begins_sauce, holds_sauce, new_record, record_given};
+ghost use Rattle.ans_mend.specs.NewRecord.{takes_record, with_new_record};
 
 use crate::draft::{Draft, NoRoom, RECORD_SIZE};
 use crate::end_mark::END_MARK;
+use crate::outcome::GivenRecord;
 use crate::tail::is_tail;
 use ans_sauce::{cut_content, cut_record};
 
@@ -29,40 +31,66 @@ fn new_record(width: u16) -> [u8; 128]
     bytes
 }
 
-/// The content of a file that takes a record.
-fn content_for_record(file: &[u8]) -> Option<&[u8]>
-    ensures some { IfSome result (λ bytes. (takes_record file.now ≡ true) × (bytes.now ≡ content file.now)) }
+fn begins_sauce(bytes: &[u8]) -> bool
+    ensures { result ≡ begins_sauce bytes.now }
+{
+    matches!(bytes, [b'S', b'A', b'U', b'C', b'E', b'0', b'0', ..])
+}
+
+fn holds_sauce(bytes: &[u8]) -> bool
+    ensures { result ≡ holds_sauce bytes.now }
+{
+    let mut rest = bytes;
+    'bytes: while let [_, behind @ ..] = rest {
+        if begins_sauce(rest) {
+            return true;
+        }
+        rest = behind;
+    }
+    false
+}
+
+/// The content of a file that takes a record, and what stands behind it.
+fn cut_for_record(file: &[u8]) -> Option<(&[u8], &[u8])>
+    ensures takes { IfSome result (λ cut. takes_record file.now ≡ true) }
+    ensures content { IfSome result (λ cut. cut.0.now ≡ content file.now) }
+    ensures rest { IfSome result (λ cut. cut.1.now ≡ after_content file.now) }
     ensures none { IfNone result (takes_record file.now ≡ false) }
 {
     let (content, rest) = cut_content(file);
-    if cut_record(file).is_some() || !is_tail(rest) {
+    if cut_record(file).is_some() || holds_sauce(file) || !is_tail(rest) {
         return None;
     }
-    Some(content)
+    Some((content, rest))
 }
 
 impl<'a> Draft<'a> {
-    /// Puts an end mark and a record of this width behind the content of a file that has no record, in the
-    /// place of what stands behind the content, where that is only end marks, zero bytes, line feeds and
-    /// returns. Returns whether it was put. `Err` says that there is no room for it; the draft is then as
-    /// it was.
-    pub fn give_record(&mut self, width: u16) -> Result<bool, NoRoom>
+    /// Puts an end mark and a record of this width, in columns, behind the content of a file that has no
+    /// record, in the place of what stands there, where that is only end marks, zero bytes, line feeds and
+    /// returns, and `SAUCE00` stands nowhere in the file. Returns what was put. `Err` says that there is no
+    /// room for it; the draft is then as it was.
+    pub fn give_record(&mut self, width: u16) -> Result<Option<GivenRecord>, NoRoom>
         ensures file { OnOk result (self.new.file ≡ with_new_record width self.old.file) }
-        ensures given { IfOk result (λ given. given ≡ takes_record self.old.file) }
+        ensures given { IfOk result (λ given. given ≡ record_given width self.old.file) }
         ensures memory { memory_of self.new ≡ memory_of self.old }
         ensures no_room { OnErr result ((self.new ≡ self.old)
             × (memory_of self.old < length (content self.old.file) + 129)) }
     {
-        let Some(content) = content_for_record(self.file()) else {
-            return Ok(false);
+        let Some((content, rest)) = cut_for_record(self.file()) else {
+            return Ok(None);
         };
         let count = content.len();
+        let cut = rest.len();
         if self.memory.len() - count < RECORD_SIZE + 1 {
             return Err(NoRoom);
         }
         self.cut(count);
         self.append(&[END_MARK]);
         self.append(&new_record(width));
-        Ok(true)
+        Ok(Some(GivenRecord {
+            width,
+            place: count,
+            cut,
+        }))
     }
 }

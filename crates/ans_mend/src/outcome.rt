@@ -21,21 +21,33 @@ pub struct Edits {
 /// What was changed of a file that is mended.
 #[derive(Debug, Clone, Copy, PartialEq, Eq)]
 pub struct Mended {
-    /// How many bytes were cut off behind the record.
-    pub tail: usize,
-    /// The width of the record that was put behind the content, in columns, if one was.
-    pub given_record: Option<u16>,
+    /// How many bytes were cut off behind the record, and where the first of them stood, in bytes from the
+    /// file's start.
+    pub tail: Option<Times>,
+    /// The record that was put behind the content, if one was.
+    pub given_record: Option<GivenRecord>,
     pub edits: Edits,
     /// The record's non-blink flag, before and now.
     pub non_blink: NonBlink,
     /// The number of lines that the record stated, and the one that it states now.
     pub lines: Reset,
-    /// Where an end mark was put, as an offset in bytes from the file's start.
+    /// Where an end mark was put, in bytes from the file's start, without the safe beginning.
     pub end_mark: Option<usize>,
     /// Whether the safe beginning is to stand before the bytes of the draft.
     pub front: bool,
     /// The size of the file that the record stated, and the one that it states now, in bytes.
     pub file_size: Reset,
+}
+
+/// A record that was put behind a content, with an end mark before it.
+#[derive(Debug, Clone, Copy, PartialEq, Eq)]
+pub struct GivenRecord {
+    /// Its width, in columns.
+    pub width: u16,
+    /// Where the end mark stands, in bytes from the file's start.
+    pub place: usize,
+    /// How many bytes stood there before: end marks, zero bytes, line feeds and returns.
+    pub cut: usize,
 }
 
 /// A flag in a record that was set anew, to the same or to the other value.
@@ -62,6 +74,7 @@ pub enum Unmended {
     Torn,
     /// It states no lines. The least number was asked for, and it passes with none up to 8192.
     NoLines,
-    /// With the safe beginning it would have more than 16,777,216 bytes.
+    /// With what is put into it, a record, returns, an end mark or the safe beginning, it would have more
+    /// than 16,777,216 bytes.
     TooLong,
 }

@@ -6,4 +6,7 @@ use Rattle.ans_mend.proofs.mended_text.put_record_line.Goals as goal
 pub returns-in-Some : goal.returns-in-Some
 returns-in-Some g c =
     Puts-same (sym (ap record_line c.in-Some.is))
-    (Puts-then c.put.ensures (Puts-then (rw c.from.ensures at c.put_counted.ensures) c.put-in-Some.ensures))
+    (Puts-then c.put.ensures
+    (Puts-then (rw c.from.ensures at c.put_counted.ensures)
+    (Puts-then c.put-2.ensures
+    (Puts-then c.put_decimal.ensures (Puts-then c.put_replaced.ensures c.put-in-Some.ensures)))))

@@ -1,10 +1,11 @@
-use Rattle.std.proofs.Common.{rules, ◌≡◌}
+use Rattle.std.proofs.Common.{ap, sym}
 use Rattle.ans_write.proofs.PutsLemmas.{Puts-same, Puts-then}
-use Rattle.ans_mend.proofs.MendedTexts.{tail_some}
+use Rattle.ans_mend.specs.MendedText.{tail_line}
 use Rattle.ans_mend.proofs.mended_text.put_tail_line.Goals as goal
 
-pub returns : goal.returns
-returns g c =
-    let some : c.args.count ≡ 0 → ⊥ = search rules in
-    Puts-same (tail_some c.args.count some)
-    (Puts-then c.put.ensures (Puts-then c.put_counted.ensures c.put-2.ensures))
+pub returns-in-Some : goal.returns-in-Some
+returns-in-Some g c =
+    Puts-same (sym (ap tail_line c.in-Some.is))
+    (Puts-then c.put.ensures
+    (Puts-then c.put_counted.ensures
+    (Puts-then c.put-2.ensures (Puts-then c.put_decimal.ensures c.put-in-Some.ensures))))

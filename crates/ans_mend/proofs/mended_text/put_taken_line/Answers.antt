@@ -6,4 +6,7 @@ use Rattle.ans_mend.proofs.mended_text.put_taken_line.Goals as goal
 pub returns-in-Some : goal.returns-in-Some
 returns-in-Some g c =
     Puts-same (sym (ap taken_line c.in-Some.is))
-    (Puts-then c.put.ensures (Puts-then c.put_excerpt.ensures (Puts-then c.put_at.ensures c.put-in-Some.ensures)))
+    (Puts-then c.put.ensures
+    (Puts-then c.put_excerpt.ensures
+    (Puts-then c.put-2.ensures
+    (Puts-then c.put_decimal.ensures (Puts-then c.put_others.ensures c.put-in-Some.ensures)))))
