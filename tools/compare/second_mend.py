@@ -119,16 +119,18 @@ def without_tail(file, said):
     behind = file[place + 128:] if place >= 0 else b""
     if not behind or behind.strip(TAIL):
         return file
-    said.append(("cut behind the record", f"cut {many(len(behind), 'byte')} behind the record"))
+    said.append(("cut behind the record", f"cut {many(len(behind), 'byte')} at {place + 128}, behind the record"))
     return file[:place + 128]
 
 
 def with_record(file, width, said):
     """The file with a record of so many columns and no lines, where it has none; or None where it gets none."""
     content, _, behind = file.partition(b"\x1a")
-    if file[-128:].startswith(b"SAUCE") and len(file) >= 128 or behind.strip(TAIL):
+    if file[-128:].startswith(b"SAUCE") and len(file) >= 128 or b"SAUCE00" in file or behind.strip(TAIL):
         return None
-    said.append(("put a record", f"put a record of {many(width, 'column')}"))
+    size = len(file) - len(content)
+    place = f" at {len(content)}" + (f", in the place of {many(size, 'byte')}" if size else "")
+    said.append(("put a record", f"put a record of {many(width, 'column')}{place}"))
     numbers = [(0, 4), (1, 1), (1, 1), (width, 2), (0, 2), (0, 2), (0, 2), (0, 1), (0, 1)]
     fields = b"".join(number.to_bytes(size, "little") for number, size in numbers)
     return content + b"\x1aSAUCE00" + b" " * 75 + b"0" * 8 + fields + bytes(22)
@@ -206,8 +208,9 @@ def take_sequences_out(draft):
     for kind in TAKEN_OUT:
         places = [(begin, end) for its_kind, begin, end in taken if its_kind == kind]
         if places:
-            line = "took out " + quoted(content[slice(*places[0])])
-            draft.say_of_each(f"took out {kind}", line, [begin for begin, _ in places])
+            line = f"took out {quoted(content[slice(*places[0])])} at {places[0][0]}"
+            more = f", and {len(places) - 1} more of its kind" if places[1:] else ""
+            draft.say(f"took out {kind}", line + more)
     switches = [content[end - 1:end] for kind, _, end in taken if kind == "bright backgrounds"]
     flags = draft.field(FLAGS)
     if switches and flags & 1 != (switches[-1] == b"h"):
@@ -347,7 +350,7 @@ def mended(file, asked, chance):
     if asked.full_rows:
         take_ends_of_full_rows_out(draft)
     if asked.take_out:
-        take_last_line_ends_out(draft, draft.field(LINES) or MOST_LINES)
+        take_last_line_ends_out(draft, draft.field(LINES) or asked.lines or MOST_LINES)
     settle_lines(draft, least_is_asked, asked.lines)
     put_end_mark(draft)
     draft.file()

@@ -10,13 +10,11 @@ use Rattle.ans_report.specs.Quoted.{quoted_byte}
 use Rattle.ans_walks.specs.declared.times.Times.{Times}
 use Rattle.ans_mend.specs.declared.outcome.GivenRecord.{GivenRecord}
 use Rattle.ans_mend.specs.declared.outcome.Mended.{Mended}
-use Rattle.ans_mend.specs.declared.outcome.NonBlink.{NonBlink}
 use Rattle.ans_mend.specs.declared.outcome.Reset.{Reset}
 use Rattle.ans_mend.specs.declared.outcome.Unmended.{Unmended}
 use Rattle.ans_mend.specs.declared.outcome.Unmended.TheVariants as unmended
 use Rattle.ans_mend.specs.declared.taking_out.Excerpt.{Excerpt}
 use Rattle.ans_mend.specs.declared.taking_out.TakenOut.{TakenOut}
-use Rattle.ans_mend.specs.declared.taking_out.Told.{Told}
 use Rattle.ans_options.specs.declared.command.Mends.{Mends}
 
 -- ---- what was changed, a line each

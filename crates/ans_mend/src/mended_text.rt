@@ -280,7 +280,16 @@ fn put_help<W: Write>(out: &mut Outbox<'_, W>, asked: &Mends, cause: &Cause)
         | Cause::ScreenMode
         | Cause::ReportAsked => out.put(sequence_help(asked)),
         Cause::OutsideScreen | Cause::PrintBelow | Cause::Scrolls => put_rows_help(out, asked),
-        _ => out.put(LOOK),
+        Cause::WrongVersion
+        | Cause::WrongKind
+        | Cause::CommentsMissing
+        | Cause::WidthTooLarge
+        | Cause::LinesTooLarge
+        | Cause::BytesAfterEndMark
+        | Cause::PrintUnknownPlace
+        | Cause::EraseUnknownPlace
+        | Cause::MayScroll
+        | Cause::UnknownCell { .. } => out.put(LOOK),
     }
 }
 

@@ -1,14 +1,16 @@
 //! What mending says, byte for byte.
 use ans_mend::{
-    Edits, Excerpt, Mended, NonBlink, Reset, TakenOut, Told, Unmended, put_mended, put_unmended,
+    Edits, Excerpt, GivenRecord, Mended, NonBlink, Reset, TakenOut, Told, Unmended, put_mended,
+    put_unmended,
 };
 use ans_model::fault::{Cause, Fault};
+use ans_options::Mends;
 use ans_samples::puts;
 use ans_walks::Times;
 
 /// Of a file that is mended nothing was changed.
 const UNCHANGED: Mended = Mended {
-    tail: 0,
+    tail: None,
     given_record: None,
     edits: Edits {
         returns: None,
@@ -64,8 +66,12 @@ fn changed_once() -> Mended {
         bright_backgrounds: Some(true),
     };
     Mended {
-        tail: 1,
-        given_record: Some(1),
+        tail: times(1, 137),
+        given_record: Some(GivenRecord {
+            width: 1,
+            place: 9,
+            cut: 0,
+        }),
         edits: Edits {
             returns: times(1, 4),
             told,
@@ -83,8 +89,8 @@ fn changed_once() -> Mended {
     }
 }
 
-const SAID_ONCE: &[u8] = b"cut 1 byte behind the record\n\
-    put a record of 1 column\n\
+const SAID_ONCE: &[u8] = b"cut 1 byte at 137, behind the record\n\
+    put a record of 1 column at 9\n\
     put a return before a line feed at 4\n\
     took out <ESC>[?33h at 0\n\
     set the non-blink flag\n\
@@ -112,8 +118,12 @@ fn changed_often() -> Mended {
         bright_backgrounds: None,
     };
     Mended {
-        tail: 2,
-        given_record: Some(1024),
+        tail: times(2, 2724),
+        given_record: Some(GivenRecord {
+            width: 1024,
+            place: 2596,
+            cut: 3,
+        }),
         edits: Edits {
             returns: times(2, 4),
             told,
@@ -134,16 +144,16 @@ fn changed_often() -> Mended {
     }
 }
 
-const SAID_OFTEN: &[u8] = b"cut 2 bytes behind the record\n\
-    put a record of 1024 columns\n\
+const SAID_OFTEN: &[u8] = b"cut 2 bytes at 2724, behind the record\n\
+    put a record of 1024 columns at 2596, in the place of 3 bytes\n\
     put a return before a line feed, 2 times, first at 4\n\
-    took out <ESC>[?25l, 2 times, first at 5\n\
+    took out <ESC>[?25l at 5, and 1 more of its kind\n\
     took out <ESC>[=3h at 0\n\
-    took out <ESC>[0;40<SP>D, 3 times, first at 17\n\
+    took out <ESC>[0;40<SP>D at 17, and 2 more of its kind\n\
     took out <ESC>[MCDEFGABCDEFGABCDEFGABCDEFGAB\xe2\x99\xab at 30\n\
-    took out <ESC>[0;171;0;0t, 999 times, first at 70\n\
+    took out <ESC>[0;171;0;0t at 70, and 998 more of its kind\n\
     took out <ESC>[6n at 16777215\n\
-    took out <ESC>[65;\"<BEL><BS><TAB><LF><CR><SP>and<SP>what<SP>else<SP>is<SP>typ .., 4 times, first at 80\n\
+    took out <ESC>[65;\"<BEL><BS><TAB><LF><CR><SP>and<SP>what<SP>else<SP>is<SP>typ .. at 80, and 3 more of its kind\n\
     took out <ESC> at 131\n\
     cleared the non-blink flag\n\
     took out a line end behind a full row, 24 times, first at 81\n\
@@ -162,7 +172,7 @@ fn changes_are_said(rt: HostRuntime) {
         assert!(rt;
             puts(text, |out| put_mended(out, &mended)),
             "{}",
-            mended.tail
+            text.len()
         );
     }
 }
@@ -198,7 +208,7 @@ macro_rules! refused {
             $cause,
             concat!(
                 $line,
-                "\nhelp: --line-ends, --full-rows, --take-out or --least-lines, as why says\n"
+                "\nhelp: one of these, as why says: --line-ends --full-rows --take-out --least-lines\n"
             )
         )
     };
@@ -338,7 +348,7 @@ static REASONS: [(Unmended, &str); 27] = [
     ),
     (
         Unmended::Torn,
-        "the rows are torn\nhelp: --line-ends or --full-rows, as why says; or --lines N\n",
+        "the rows are torn\nhelp: one of these, as why says: --line-ends --full-rows --lines N\n",
     ),
     (
         Unmended::NoLines,
@@ -346,7 +356,7 @@ static REASONS: [(Unmended, &str); 27] = [
     ),
     (
         Unmended::TooLong,
-        "the file would be longer than 16777216 bytes\n",
+        "the file would be longer than 16777216 bytes\nhelp: only a shorter drawing can be mended so\n",
     ),
 ];
 
@@ -354,7 +364,105 @@ static REASONS: [(Unmended, &str); 27] = [
 fn reasons_are_said(rt: HostRuntime) {
     for (reason, text) in &REASONS {
         assert!(rt;
-            puts(text.as_bytes(), |out| put_unmended(out, reason)),
+            puts(
+                text.as_bytes(),
+                |out| put_unmended(out, &Mends::NONE, reason)
+            ),
+            "{text}"
+        );
+    }
+}
+
+/// Everything that can be asked for.
+const ALL: Mends = Mends {
+    width: Some(80),
+    line_ends: true,
+    take_out: true,
+    full_rows: true,
+    least_lines: true,
+    lines: None,
+};
+
+/// A fault at 7.
+macro_rules! at_7 {
+    ($cause:ident) => {
+        Unmended::Refused(Fault { offset: 7, cause: Cause::$cause })
+    };
+}
+
+/// What was asked for, why a file is not mended, and what is said.
+static HELP: [(Mends, Unmended, &str); 9] = [
+    (
+        ALL,
+        at_7!(NoRecord),
+        "at 7: F1 no SAUCE record\n\
+            help: --width puts none where SAUCE00 stands, \
+            or other bytes than 00h, 0Ah, 0Dh and 1Ah behind a 1Ah\n",
+    ),
+    (
+        ALL,
+        at_7!(KeyReassigned),
+        "at 7: F15 key reassigned\nhelp: why shows the place, and help tells of the fault\n",
+    ),
+    (
+        ALL,
+        at_7!(OutsideScreen),
+        "at 7: F19 place outside the screen\nhelp: why shows the place, and help tells of the fault\n",
+    ),
+    (
+        Mends {
+            take_out: false,
+            ..ALL
+        },
+        at_7!(PrintBelow),
+        "at 7: F20 print below the stated lines\nhelp: one of these, as why says: --take-out\n",
+    ),
+    (
+        Mends {
+            line_ends: false,
+            ..ALL
+        },
+        at_7!(Scrolls),
+        "at 7: F21 scrolls\nhelp: one of these, as why says: --line-ends\n",
+    ),
+    (
+        Mends {
+            full_rows: false,
+            least_lines: false,
+            ..ALL
+        },
+        at_7!(Scrolls),
+        "at 7: F21 scrolls\nhelp: one of these, as why says: --full-rows --least-lines\n",
+    ),
+    (
+        Mends {
+            least_lines: false,
+            lines: Some(25),
+            ..ALL
+        },
+        at_7!(Scrolls),
+        "at 7: F21 scrolls\nhelp: why shows the place, and help tells of the fault\n",
+    ),
+    (
+        Mends {
+            full_rows: false,
+            ..ALL
+        },
+        Unmended::Torn,
+        "the rows are torn\nhelp: one of these, as why says: --full-rows --lines N\n",
+    ),
+    (
+        ALL,
+        Unmended::Torn,
+        "the rows are torn\nhelp: one of these, as why says: --lines N\n",
+    ),
+];
+
+#[test]
+fn what_was_asked_for_is_not_offered_again(rt: HostRuntime) {
+    for (asked, reason, text) in &HELP {
+        assert!(rt;
+            puts(text.as_bytes(), |out| put_unmended(out, asked, reason)),
             "{text}"
         );
     }

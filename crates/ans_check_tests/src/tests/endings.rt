@@ -2,15 +2,20 @@
 use super::{CLEARED, expect_memory, plain_file};
 use ans_check::{Ending, Mended, RunError, Unmended, WordsError, options, serve, status};
 use ans_mend::{Edits, NonBlink, Reset, Told};
+use ans_options::Mends;
 use ans_report::Tried;
 use ans_samples::{FailingOnce, Failure};
+use ans_walks::Times;
 use std::alloc::AllocError;
 use std::io::{self, Read, Write};
 use std::process::Abort;
 
 /// Of a file that is mended a byte was cut off behind the record, and nothing else was changed.
 const CUT: Mended = Mended {
-    tail: 1,
+    tail: Some(Times {
+        count: 1,
+        first: 131,
+    }),
     given_record: None,
     edits: Edits {
         returns: None,
@@ -45,7 +50,7 @@ fn endings() -> [Ending; 12] {
         Ending::UnreadableWords,
         Ending::UnopenedFile,
         Ending::Mended(CUT),
-        Ending::NotMended(Unmended::Torn),
+        Ending::NotMended(Mends::NONE, Unmended::Torn),
     ]
 }
 
@@ -87,12 +92,12 @@ fn mending_has_its_endings(rt: HostRuntime) {
         (Ok(Ok(CUT)), Ending::Mended(CUT)),
         (
             Ok(Err(Unmended::NoLines)),
-            Ending::NotMended(Unmended::NoLines),
+            Ending::NotMended(Mends::NONE, Unmended::NoLines),
         ),
         (Err(RunError::TooLong), Ending::Run(Err(RunError::TooLong))),
     ];
     for (answer, ending) in &endings {
-        assert_eq!(rt; Ending::of_mending(answer), *ending);
+        assert_eq!(rt; Ending::of_mending(&Mends::NONE, answer), *ending);
     }
 }
 

@@ -268,7 +268,17 @@ static MENDED: [Row; 20] = [
 ];
 
 /// Sequences that go, and line ends at the very end.
-static TAKEN_OUT: [Row; 16] = [
+static TAKEN_OUT: [Row; 17] = [
+    // line ends that go on the lines that are given, where none are stated
+    (
+        (b"Hi\r\n\r\n\x1a", &[(98, b"\x00")], b""),
+        Mends {
+            take_out: true,
+            ..lines!(1)
+        },
+        true,
+        (b"Hi\x1a", &[(90, b"\x15")], b""),
+    ),
     // bright backgrounds: the last switch is the flag, and the other flags stay
     (
         (b"\x1b[?33hHi\x1a", &[], b""),
@@ -566,7 +576,10 @@ fn files_without_a_record_are_given_one(rt: HostRuntime) -> Result<(), AllocErro
         let mut draft = Draft::new(memory.as_mut_slice(), file.len());
         let mut screens = NewScreens::<PlaneGrid>::new(rt.alloc());
         let answer = mend_on(&mut screens, &mut draft, mends)?;
-        let given = answer.map(|mended| (mended.front, mended.given_record));
+        let given = answer.map(|mended| (
+            mended.front,
+            mended.given_record.map(|given| given.width),
+        ));
         let expected = bytes_of(&rt, expected)?;
         assert_eq!(rt;
             (given, draft.file()),
@@ -685,15 +698,6 @@ static REFUSED: [(Sample, Mends, Unmended); 23] = [
         TAKE_OUT,
         refused!(2, EndInSequence),
     ),
-    // line ends that pass on the most lines, while none are stated, and not on the one that is then
-    (
-        (b"Hi\r\n\r\n\x1a", &[(98, b"\x00")], b""),
-        Mends {
-            take_out: true,
-            ..lines!(1)
-        },
-        refused!(3, Scrolls),
-    ),
     // line ends before the very end
     (
         (b"H\r\n\r\ni\x1a", &[], b""),
@@ -714,6 +718,8 @@ static REFUSED: [(Sample, Mends, Unmended); 23] = [
     ),
     // and what stands behind an end mark may be the drawing
     ((b"Hi\x1a", &[], b"?"), WIDTH, refused!(132, NoRecord)),
+    // a record before it is none of the drawing
+    ((b"Hi", &[], b"?"), WIDTH, refused!(131, NoRecord)),
 ];
 
 #[test]

@@ -1,4 +1,4 @@
-use Rattle.ans_write.proofs.PutsLemmas.{Puts-same, Puts-then}
+use Rattle.ans_write.proofs.PutsLemmas.{Puts-then}
 use Rattle.ans_mend.proofs.mended_text.put_mended.Goals as goal
 
 pub returns : goal.returns

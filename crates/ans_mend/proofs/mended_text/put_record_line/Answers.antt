@@ -8,5 +8,5 @@ returns-in-Some g c =
     Puts-same (sym (ap record_line c.in-Some.is))
     (Puts-then c.put.ensures
     (Puts-then (rw c.from.ensures at c.put_counted.ensures)
-    (Puts-then c.put-2.ensures
-    (Puts-then c.put_decimal.ensures (Puts-then c.put_replaced.ensures c.put-in-Some.ensures)))))
+    (Puts-then c.put-in-Some.ensures
+    (Puts-then c.put_decimal.ensures (Puts-then c.put_replaced.ensures c.put-in-Some-2.ensures)))))

@@ -8,4 +8,4 @@ returns-in-Some g c =
     Puts-same (sym (ap tail_line c.in-Some.is))
     (Puts-then c.put.ensures
     (Puts-then c.put_counted.ensures
-    (Puts-then c.put-2.ensures (Puts-then c.put_decimal.ensures c.put-in-Some.ensures))))
+    (Puts-then c.put-in-Some.ensures (Puts-then c.put_decimal.ensures c.put-in-Some-2.ensures))))

@@ -8,5 +8,5 @@ returns-in-Some g c =
     Puts-same (sym (ap taken_line c.in-Some.is))
     (Puts-then c.put.ensures
     (Puts-then c.put_excerpt.ensures
-    (Puts-then c.put-2.ensures
-    (Puts-then c.put_decimal.ensures (Puts-then c.put_others.ensures c.put-in-Some.ensures)))))
+    (Puts-then c.put-in-Some.ensures
+    (Puts-then c.put_decimal.ensures (Puts-then c.put_others.ensures c.put-in-Some-2.ensures)))))

@@ -5,5 +5,17 @@ use Rattle.ans_mend.proofs.mended_text.put_unmended.Goals as goal
 
 pub returns-in-Refused : goal.returns-in-Refused
 returns-in-Refused g c =
-    Puts-same (sym (ap unmended_text c.in-Refused.is))
-    (Puts-then c.put_fault_line.ensures (rw c.help_text.ensures at c.put.ensures))
+    Puts-same (sym (ap (unmended_text c.args.asked.now) c.in-Refused.is))
+    (Puts-then c.put_fault_line.ensures c.put_help.ensures)
+
+pub returns-in-Torn : goal.returns-in-Torn
+returns-in-Torn g c =
+    Puts-same (sym (ap (unmended_text c.args.asked.now) c.in-Torn.is)) (Puts-then c.put.ensures c.put_torn_help.ensures)
+
+pub returns-in-NoLines : goal.returns-in-NoLines
+returns-in-NoLines g c =
+    Puts-same (sym (ap (unmended_text c.args.asked.now) c.in-NoLines.is)) c.put-in-NoLines.ensures
+
+pub returns-in-TooLong : goal.returns-in-TooLong
+returns-in-TooLong g c =
+    Puts-same (sym (ap (unmended_text c.args.asked.now) c.in-TooLong.is)) c.put-in-TooLong.ensures

@@ -14,8 +14,8 @@ front_again xs n =
 pub returns-clause-file : goal.returns-clause-file
 returns-clause-file c =
     let file = c.args.self.now.file in
-    let takes : takes_record file ≡ true = rw c.file.ensures at c.in-Some.ensures.some.0 in
-    let bytes : c.in-Some.content.now ≡ content file = rw c.file.ensures at c.in-Some.ensures.some.1 in
+    let takes : takes_record file ≡ true = rw c.file.ensures at c.in-Some.ensures.takes in
+    let bytes : c.in-Some.content.now ≡ content file = rw c.file.ensures at c.in-Some.ensures.content in
     let front : c.cut.new.self.file ≡ content file =
     ap (λ v. v.file) c.cut.ensures ∙ ap (λ (v : List ℕ). take (length v) file) bytes ∙ front_again file _ in
     rw takes (
