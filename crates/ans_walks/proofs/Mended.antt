@@ -48,7 +48,7 @@ pub leaves_cleared : LeavesClearedScreen
 leaves_cleared z s = ap₂ (cleared_with z) (reset s.attribute) (home_position z)
 
 -- what is played behind the mending is played from the cleared state
-behind_is_cleared : (z : Size) (s : State) (ts : List TokenKind)
+pub behind_is_cleared : (z : Size) (s : State) (ts : List TokenKind)
     → final z s (mending_tokens ++ ts) ≡ final z (cleared z) ts
 behind_is_cleared z s ts = ap (λ (v : State). final z v ts) (leaves_cleared z s)
 
@@ -94,7 +94,8 @@ home = spelled (sequence Unmarked [] 0x48) [] tt (λ e. cc) refl tt (omega arith
 save : SpellsToken Save (escape ∷ codes "[s")
 save = spelled (sequence Unmarked [] 0x73) [] tt (λ e. cc) refl tt (omega arith) Save refl
 
-reads_behind : (content : List ℕ) (tokens : List TokenKind) → Reads content tokens
+-- what stands behind the mending is read behind its tokens
+pub reads_behind : (content : List ℕ) (tokens : List TokenKind) → Reads content tokens
     → Reads (mending ++ content) (mending_tokens ++ tokens)
 reads_behind content tokens h = (
   (escape ∷ codes "[?7h") ∷ (escape ∷ codes "[0m") ∷ (escape ∷ codes "[2J") ∷ (escape ∷ codes "[H")

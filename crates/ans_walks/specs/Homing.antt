@@ -1,12 +1,11 @@
 -- Clears away from home. ANSI.SYS takes the cursor home where it clears, and the terminals of today leave it in place.
-use Rattle.std.specs.Prelude.{◌≡◌, Bool, not, ◌&&◌, ◌==◌, List, [], ◌∷◌, if◌then◌else◌}
+use Rattle.std.specs.Prelude.{◌≡◌, Bool, IsTrue, not, ◌&&◌, ◌==◌, ℕ, List, ◌∷◌, ◌++◌, ⊤}
+use Rattle.std.specs.List.{AllByRecursion}
 use Rattle.ans_model.specs.Sequence.TokenKind.{TokenKind, Bell, Clear, Colours, Place}
-use Rattle.ans_model.specs.Screen.State.{Size, State}
-use Rattle.ans_model.specs.Screen.Step.{step}
+use Rattle.ans_model.specs.Screen.State.{Size}
+use Rattle.ans_model.specs.Screen.Step.{final}
 use Rattle.ans_model.specs.Screen.StartClass.{cleared, high_start, low_start, none_known}
 use Rattle.ans_model.specs.declared.cell.Position.{Position}
-use Rattle.ans_walks.specs.declared.homing.Homing.{Homing}
-use Rattle.ans_walks.specs.declared.homing.Homing.TheVariants.{Home, Away, Gone}
 
 -- the first column of the first row
 abbrev pub is_home : Position → Bool
@@ -16,34 +15,33 @@ is_home p = p.row == 0 && p.column == 0
 abbrev pub is_home_by_start : Position → Position → Position → Bool
 is_home_by_start cleared_at low_at high_at = is_home cleared_at && not (is_home low_at && is_home high_at)
 
--- what comes of such a clear with the next token: a place takes the cursor home after all or elsewhere, colours and a
--- bell leave that open, and with anything else the drawing has gone on
-abbrev pub left_open : TokenKind → Homing
-left_open (Place row column) = Home
-left_open (Colours parameters) = Away
-left_open Bell = Away
-left_open _ = Gone
+-- so it is at the end of these tokens, from the low and the high start of all
+abbrev pub EndsHomeByStart : Size → List TokenKind → Type 0
+EndsHomeByStart z before =
+    IsTrue (is_home_by_start (final z (cleared z) before).cursor (final z (low_start z none_known) before).cursor
+    (final z (high_start z none_known) before).cursor)
 
--- a clear where the cursor is at home by the start alone
-abbrev pub homing_at : Bool → TokenKind → Homing
-homing_at by_start Clear = if by_start then Away else Home
-homing_at by_start _ = Home
+-- these leave open where the cursor goes
+abbrev pub IsColoursOrBell : TokenKind → Type 0
+IsColoursOrBell (Colours parameters) = ⊤
+IsColoursOrBell Bell = ⊤
+IsColoursOrBell _ = ⊥
 
--- how it stands after one token more
-abbrev pub homing_with : Bool → Homing → TokenKind → Homing
-homing_with by_start Home t = homing_at by_start t
-homing_with by_start Away t = left_open t
-homing_with by_start Gone t = Gone
+-- The first of these tokens that is neither colours nor a bell is a place. It takes the cursor home after all, or
+-- elsewhere.
+pub record PlaceComes (tokens : List TokenKind) : Type 0 where
+  pub front : List TokenKind
+  pub row : ℕ
+  pub column : ℕ
+  pub later : List TokenKind
+  pub whole : tokens ≡ front ++ Place row column ∷ later
+  pub quiet : AllByRecursion IsColoursOrBell front
 
--- how it stands after tokens that are played from three states
-abbrev pub homing_after : Size → State → State → State → Homing → List TokenKind → Homing
-homing_after z cleared_state low high homing [] = homing
-homing_after z cleared_state low high homing (t ∷ tokens) =
-    homing_after z (step z cleared_state t) (step z low t) (step z high t)
-    (homing_with (is_home_by_start cleared_state.cursor low.cursor high.cursor) homing t) tokens
-
--- At some clear the cursor is at home from the cleared start, and not from the low and the high start of all; and no
--- place follows before anything but colours and bells.
-abbrev pub ClearsAway : Size → List TokenKind → Type 0
-ClearsAway z tokens =
-    ¬ (homing_after z (cleared z) (low_start z none_known) (high_start z none_known) Home tokens ≡ Home)
+-- Some clear finds the cursor at home from the cleared start, and not from both the low and the high start of all. Of
+-- the tokens behind it the first that is neither colours nor a bell is no place, or there is none.
+pub record ClearsAway (z : Size) (tokens : List TokenKind) : Type 0 where
+  pub before : List TokenKind
+  pub after : List TokenKind
+  pub whole : tokens ≡ before ++ Clear ∷ after
+  pub by_start : EndsHomeByStart z before
+  pub no_place : ¬ PlaceComes after

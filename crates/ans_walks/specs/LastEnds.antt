@@ -35,10 +35,9 @@ pub record LeavesMost (z : Size) (bytes : List ℕ) (count : ℕ) : Type 0 where
 abbrev pub NeverPasses : Size → List ℕ → Type 0
 NeverPasses z bytes = (count : ℕ) → LeavesOutEnds bytes count → ¬ FrontPasses z bytes count
 
--- how many line ends the bytes are, behind this one: a return, a line feed, or both
-abbrev pub line_ends_behind : ℕ → List ℕ → ℕ
-line_ends_behind last [] = 0
-line_ends_behind last (b ∷ bytes) = (if last == 0x0D && b == 0x0A then 0 else 1) + line_ends_behind b bytes
-
+-- how many line ends the bytes are: a return with its line feed behind it is one, and every other byte is one
 abbrev pub line_ends : List ℕ → ℕ
-line_ends bytes = line_ends_behind 0 bytes
+line_ends [] = 0
+line_ends (b ∷ []) = 1
+line_ends (b ∷ next ∷ bytes) =
+    1 + (if b == 0x0D && next == 0x0A then line_ends bytes else line_ends (next ∷ bytes))

@@ -7,7 +7,8 @@ ghost use Rattle.ans_model.specs.Screen.State.{IsSize};
 ghost use Rattle.ans_model.specs.Sequence.TokenKind.{TokenKind};
 ghost use Rattle.ans_model.specs.Sequence.Reads.{Reads};
 ghost use Rattle.ans_walks.specs.declared.homing.Homing.TheVariants.{Gone, Home};
-ghost use Rattle.ans_walks.specs.Homing.{ClearsAway, homing_at, homing_with, is_home, is_home_by_start, left_open};
+ghost use Rattle.ans_walks.specs.Cleared.{homing_at, homing_with, left_open};
+ghost use Rattle.ans_walks.specs.Homing.{ClearsAway, is_home, is_home_by_start};
 
 use crate::pen::{HOME, Pen};
 use crate::watch::Watch;

@@ -5,8 +5,9 @@
 //! from the cleared start, [`count_passing`] how few line ends at its end have to go for it to pass, and
 //! [`is_taller`] whether it plays on taller screens as on the stated one. [`ends_full_rows`] says whether
 //! all full rows end in line ends, and [`RowPlay`] finds these one by one. [`Hints::of`] counts what is
-//! worth a look in a drawing, though it changes no verdict. Each law is the contract of a function without
-//! a body. Nothing here takes memory.
+//! worth a look in a drawing, though it changes no verdict. [`SAFE_BEGINNING`] stands in front of a
+//! drawing that is mended. Each law is the contract of a function without a body. Nothing here takes
+//! memory.
 //!
 //! A `Pen` is all of a state but its cells. No cell tells where a token takes it, so it goes on without
 //! them, also where the screen scrolls (`specs/Pens.antt`). What each hint is about stands in
@@ -14,6 +15,7 @@
 //! `specs/Places.antt`.
 #![tactic(auto)]
 
+mod beginning;
 mod conditions;
 mod evidence;
 mod full_row_ends;
@@ -32,6 +34,7 @@ mod two_watches;
 mod walk;
 mod watch;
 
+pub use beginning::SAFE_BEGINNING;
 pub use evidence::{cells_of_fault, cursors_before};
 pub use full_row_ends::{FullRowEnd, ends_full_rows};
 pub use hints::Hints;
