@@ -17,11 +17,9 @@ use ans_mend::{Draft, Mended, Unmended, put_mended, put_unmended};
 use ans_model::limits::{MAX_FILE, MAX_LINES, MAX_WIDTH};
 use ans_options::Mends;
 use ans_screen::LentRow;
+use ans_walks::SAFE_BEGINNING;
 use ans_write::{Outbox, Tried};
 use std::io::Write;
-
-/// The bytes that stand in front of a drawing that wants them.
-const SAFE_BEGINNING: &[u8] = b"\x1b[?7h\x1b[0m\x1b[2J\x1b[H\x1b[s";
 
 /// What stands before the bytes of a draft.
 fn front_bytes(front: bool) -> &'static [u8]

@@ -27,10 +27,7 @@ use ans_model::limits::MAX_FILE;
 use ans_model::size::Size;
 use ans_model::start::Start;
 use ans_sauce::{Parts, WithoutLines, find, without_lines};
-use ans_walks::{Hints, cells_of_fault, cursors_before, is_taller, least_lines};
-
-/// How many bytes mend a drawing.
-const MENDING: usize = 19;
+use ans_walks::{Hints, SAFE_BEGINNING, cells_of_fault, cursors_before, is_taller, least_lines};
 
 fn place(size: Size, position: Position) -> Place
     requires { IsOnScreen size position }
@@ -69,7 +66,7 @@ fn reliance(size: Size, file_length: usize, content: &[u8], fault: Fault) -> Rel
         fault,
         bytes: bytes_to_blame(content, size, Start::ANY, fault),
         shown: shown(size, content, fault),
-        mends: file_length + MENDING <= MAX_FILE,
+        mends: file_length + SAFE_BEGINNING.len() <= MAX_FILE,
     }
 }
 
