@@ -10,6 +10,7 @@ use Rattle.ans_model.specs.declared.cell.Cell.{Cell}
 use Rattle.ans_model.specs.declared.fault.Fault.{Fault}
 use Rattle.ans_model.specs.declared.start.Start.{Start}
 use Rattle.ans_mend.specs.MendedText.{mended_text, unmended_text}
+use Rattle.ans_walks.specs.Mend.{mending}
 use Rattle.ans_mend.specs.declared.outcome.Mended.{Mended}
 use Rattle.ans_mend.specs.declared.outcome.Unmended.{Unmended}
 use Rattle.ans_options.specs.declared.command.Mends.{Mends}
@@ -108,12 +109,12 @@ pub record ReportsMending (mends : Mends) (file new : List ℕ) (is_mended : Boo
   pub text_is : text ≡ mending_text mends answer
 
 -- There is no room in the memory for the file and for what is put into it; or among so many rows and bytes none for the
--- screen that the file has in the end; or none for the mended file.
+-- screen that the file has in the end; or none in the array for a mended file.
 abbrev pub LacksMendingRoom : Mends → List ℕ → ℕ → ℕ → ℕ → ℕ → Type 0
 LacksMendingRoom mends file rows bytes memory mended =
     (memory < length file + most_put mends file)
     ⊎ LacksScreenInTheEnd (λ z. ¬ HasScreen z rows bytes) mends file
-    ⊎ ((answer : Result Mended Unmended) × (new : List ℕ) × TellsMended mends file answer new × (mended < length new))
+    ⊎ (mended < length file + most_put mends file + length mending)
 
 -- what is told of a play of the content from the starts of a class
 pub record TellsPlay (z : Size) (start : Start) (content : List ℕ) (result : ℕ) (glyphs attributes : List ℕ)
