@@ -1,5 +1,4 @@
-use Rattle.std.proofs.Common.{◌≡◌, ap, ◌∙◌, Bool, List, ℕ}
-use Rattle.std.specs.Prelude.{◌||◌, is_some}
+use Rattle.std.proofs.Common.{◌≡◌, List, ℕ}
 use Rattle.ans_check.specs.Mending.{IsReasonFor, asked_for, recorded}
 use Rattle.ans_check.specs.MendingSteps.{IsDone}
 use Rattle.ans_check.proofs.DraftRoomLemmas.{lacks_record, lacks_rest, of_error}
