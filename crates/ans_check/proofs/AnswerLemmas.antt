@@ -12,6 +12,7 @@ use Rattle.ans_write.specs.declared.tried.Tried.{Tried}
 use Rattle.clap.specs.Words.{Text}
 use Rattle.ans_mend.specs.declared.outcome.Mended as outcome
 use Rattle.ans_mend.specs.declared.outcome.Unmended.{Unmended}
+use Rattle.ans_options.specs.declared.command.Mends.{Mends}
 use Rattle.ans_options.specs.declared.command.TableForm.{TableForm}
 use Rattle.ans_table.specs.declared.counts.Counts.{Counts}
 use Rattle.ans_table.specs.Findings.{RowFinding}
@@ -54,7 +55,7 @@ says_message contents errors after ending text e h =
 -- of an ending of which nothing else is told
 pub says_else : {E : Type 0} (contents : E → Option (List ℕ)) (errors after : Tried E) (ending : Ending)
     → ending ≢ Usage → ((counts : Counts) → ending ≢ Table counts)
-    → ((mended : outcome.Mended) → ending ≢ Mended mended) → ((reason : Unmended) → ending ≢ NotMended reason)
+    → ((mended : outcome.Mended) → ending ≢ Mended mended) → ((asked : Mends) (reason : Unmended) → ending ≢ NotMended asked reason)
     → SaysMessage contents errors after ending → Says contents errors after ending
 says_else contents errors after Usage told table mended unmended h = absurd (told refl)
 says_else contents errors after Help told table mended unmended h = h
@@ -65,7 +66,7 @@ says_else contents errors after (Table counts) told table mended unmended h = ab
 says_else contents errors after NamedInput told table mended unmended h = h
 says_else contents errors after UnreadNames told table mended unmended h = h
 says_else contents errors after (Mended m) told table mended unmended h = absurd (mended m refl)
-says_else contents errors after (NotMended r) told table mended unmended h = absurd (unmended r refl)
+says_else contents errors after (NotMended a r) told table mended unmended h = absurd (unmended a r refl)
 
 -- the table of names that the words give
 pub ends_by_names : {R W : Type 0} (remaining : R → Option (List ℕ)) (contents : W → Option (List ℕ))

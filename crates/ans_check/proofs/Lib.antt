@@ -11,4 +11,6 @@ pub mod LeastLemmas
 pub mod MendFileLemmas
 pub mod MendLemmas
 pub mod MendedLemmas
+mod MendRoomLemmas
 mod EditLemmas
+mod DraftRoomLemmas

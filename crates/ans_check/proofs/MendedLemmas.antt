@@ -2,13 +2,14 @@
 use Rattle.std.proofs.Common.{◌≡◌, inr, ℕ, ◌+◌, ◌-◌, ◌≤◌, ◌==◌, Bool, true, false, List, ◌++◌}
 use Rattle.std.proofs.Common.{length, take, refl, sym, ap, ap₂, ◌∙◌, arith, subst, subst₂}
 use Rattle.std.proofs.Common.{append_assoc, true≢false, Result, Ok, Err}
-use Rattle.std.specs.Prelude.{if◌then◌else◌, ◌&&◌, ◌||◌, IfOk, IfErr, nat_le, bytes_eq, codes, None}
+use Rattle.std.specs.Prelude.{if◌then◌else◌, ◌&&◌, ◌||◌, IfOk, IfErr, nat_le, bytes_eq, codes, Option, None, Some}
+use Rattle.std.specs.Prelude.{is_some, option_and_then}
 use Rattle.std.specs.List.{list_any}
 use Rattle.std.proofs.lemmas.Bool.{eqb-true, leb-true}
 use Rattle.std.proofs.lemmas.List.{length-append, length-drop, length-take-le}
 use Rattle.std.proofs.lemmas.List.Folds.{list_any-append}
 use Rattle.ans_model.specs.Bytes.{most_lines}
-use Rattle.ans_model.specs.File.Layout.{FileParts, Laid, comment_block, content, is_end_mark, laid_file}
+use Rattle.ans_model.specs.File.Layout.{FileParts, Laid, after_content, comment_block, content, is_end_mark, laid_file}
 use Rattle.ans_model.specs.File.Record.{comment_count, file_size, is_non_blink, stated_lines, stated_size}
 use Rattle.ans_model.specs.File.Refusals.{Accepts, block_size, has_record}
 use Rattle.ans_model.specs.Screen.State.{Size}
@@ -23,20 +24,48 @@ use Rattle.ans_walks.proofs.MendedFiles.{resized_accepted, resized_comments, res
 use Rattle.ans_mend.specs.Fields.{two_bytes, with_lines, with_record}
 use Rattle.ans_mend.specs.declared.outcome.Mended.{Mended}
 use Rattle.ans_mend.specs.Contents.{content_in}
+use Rattle.ans_mend.specs.NewRecord.{takes_record}
+use Rattle.ans_mend.specs.declared.outcome.GivenRecord.{GivenRecord}
 use Rattle.ans_mend.specs.declared.outcome.Unmended.{Unmended}
 use Rattle.ans_mend.specs.declared.outcome.Unmended.TheVariants.{Refused}
 use Rattle.ans_model.specs.declared.fault.Fault.{Fault}
 use Rattle.ans_mend.proofs.EndMarks.{ended}
-use Rattle.ans_mend.proofs.SameLength.{overwritten_length}
+use Rattle.ans_mend.proofs.SameLength.{overwritten_length, recorded_length}
 use Rattle.ans_options.specs.declared.command.Mends.{Mends}
 use Rattle.std.specs.Prelude.{IsTrue, ◌↔◌}
 use Rattle.ans_check.specs.Mending.{IsEditedAsStated, IsSettled, WantsMending, asked_for, recorded}
 use Rattle.ans_check.specs.Mending.{IsFaulty, IsMended, IsReason}
 use Rattle.ans_check.specs.MendingSteps.{IsFinished, IsJudgement, IsSurvey, IsPrepared, IsTooLong}
-use Rattle.ans_check.specs.Mending.{asks_for_lines, front_bytes, lacks_lines, lined, opened}
+use Rattle.ans_check.specs.Mending.{asks_for_lines, first_lines, front_bytes, gives_record, lacks_lines, lined, opened}
+use Rattle.ans_check.specs.Mending.{record_put}
+use Rattle.ans_check.specs.MendingRoom.{LacksScreenFor, LacksScreenInTheEnd}
+use Rattle.ans_check.proofs.MendRoomLemmas.{front_before}
 use Rattle.ans_check.specs.declared.mend_judge.Judgement.{Judgement}
 use Rattle.ans_check.specs.declared.mend_judge.Survey.{Survey}
 use Rattle.ans_check.specs.declared.mend_steps.Prepared.{Prepared}
+
+-- ---- the record that is put
+
+pub put_where_given : (mends : Mends) (cut : List ℕ) → is_some (record_put mends cut) ≡ gives_record mends cut
+put_where_given mends cut = go mends.width (takes_record cut)
+  where
+    given : ℕ → GivenRecord
+    given width = record { width = width; place = length (content cut); cut = length (after_content cut) }
+
+    go : (width : Option ℕ) (takes : Bool)
+        → is_some (option_and_then (λ w. if takes then Some (given w) else None) width) ≡ (is_some width && takes)
+    go None takes = refl
+    go (Some width) true = refl
+    go (Some width) false = refl
+
+-- what is then asked for
+pub asked_where_given : (mends : Mends) (cut : List ℕ) (put : Option GivenRecord) (is_put : Bool) (asked : Mends)
+    → put ≡ record_put mends cut → is_put ≡ is_some put
+    → asked ≡ record mends { least_lines = mends.least_lines || is_put } → asked ≡ asked_for mends cut
+asked_where_given mends cut put is_put asked put_is some asked_is =
+    asked_is
+    ∙ ap (λ (b : Bool). record mends { least_lines = mends.least_lines || b })
+    (some ∙ ap is_some put_is ∙ put_where_given mends cut)
 
 -- ---- the opened file
 
@@ -51,22 +80,47 @@ long_of_record file is =
     let starts : Bool = bytes_eq (take 5 (record_in file)) (codes "SAUCE") in
     leb-true 128 (length file) (both (nat_le 128 (length file)) starts is).0
 
+-- so has the one that lacks lines
+long_of_lacking : (mends : Mends) (file : List ℕ) → lacks_lines mends file ≡ true → 128 ≤ length file
+long_of_lacking mends file is =
+    long_of_record file (both (has_record file) (stated_lines (record_in file) == 0 && asks_for_lines mends) is).0
+
+-- a record that states other lines has as many bytes
+lines_record_length : (n : ℕ) (file : List ℕ) → 128 ≤ length file → length (with_lines n (record_in file)) ≡ 128
+lines_record_length n file long =
+    let record_long : length (record_in file) ≡ 128 = length-drop (length file - 128) file ∙ omega (arith, long) in
+    overwritten_length 98 (two_bytes n) (record_in file) (omega (arith, record_long)) ∙ record_long
+
+lines_length : (n : ℕ) (file : List ℕ) → 128 ≤ length file
+    → length (with_record (with_lines n (record_in file)) file) ≡ length file
+lines_length n file long = recorded_length 98 (two_bytes n) file long (omega arith)
+
 pub opened_length : (mends : Mends) (file : List ℕ) → length (opened mends file) ≡ length file
 opened_length mends file = go (lacks_lines mends file) refl
   where
     go : (lacks : Bool) → lacks_lines mends file ≡ lacks
-        → length (if lacks then with_record (with_lines most_lines (record_in file)) file else file) ≡ length file
+        → length (if lacks then with_record (with_lines (first_lines mends) (record_in file)) file else file)
+        ≡ length file
+    go false is = refl
+    go true is = lines_length (first_lines mends) file (long_of_lacking mends file is)
+
+-- it begins as the file does
+pub opened_front : (mends : Mends) (file : List ℕ) → front_in (opened mends file) ≡ front_in file
+opened_front mends file = go (lacks_lines mends file) refl
+  where
+    go : (lacks : Bool) → lacks_lines mends file ≡ lacks
+        → front_in (if lacks then with_record (with_lines (first_lines mends) (record_in file)) file else file)
+        ≡ front_in file
     go false is = refl
     go true is =
-        let long : 128 ≤ length file = long_of_record file
-        (both (has_record file) (stated_lines (record_in file) == 0 && asks_for_lines mends) is).0 in
-        let record_long : length (record_in file) ≡ 128 = length-drop (length file - 128) file ∙ omega (arith, long) in
-        let front_long : length (front_in file) ≡ length file - 128 =
-        length-take-le (length file - 128) file (omega arith) in
-        let new_long : length (with_lines most_lines (record_in file)) ≡ 128 =
-        overwritten_length 98 (two_bytes most_lines) (record_in file) (omega (arith, record_long)) ∙ record_long in
-        length-append (front_in file) (with_lines most_lines (record_in file))
-        ∙ omega (arith, long, front_long, new_long)
+        let long : 128 ≤ length file = long_of_lacking mends file is in
+        front_before (front_in file) (with_lines (first_lines mends) (record_in file))
+        (lines_record_length (first_lines mends) file long)
+
+-- and so long is the file of which the lines are settled
+pub lined_length : (lines : Option ℕ) (file : List ℕ) → 128 ≤ length file → length (lined lines file) ≡ length file
+lined_length None file long = refl
+lined_length (Some lines) file long = lines_length lines file long
 
 -- it lacks lines where a number is asked for
 pub lacking_asks : (mends : Mends) (file : List ℕ) → lacks_lines mends file ≡ true → asks_for_lines mends ≡ true
@@ -82,7 +136,7 @@ opened_stated mends file stated = go (lacks_lines mends file) refl
   where
     go : (lacks : Bool) → lacks_lines mends file ≡ lacks
         → stated ≡ (if lacks then 0 else stated_lines (record_in (if lacks
-        then with_record (with_lines most_lines (record_in file)) file else file)))
+        then with_record (with_lines (first_lines mends) (record_in file)) file else file)))
         → stated ≡ stated_lines (record_in file)
     go false is same = same
     go true is same =
@@ -178,7 +232,7 @@ passing z false bytes good every =
 
 pub mended : (mends : Mends) (file : List ℕ) (prepared : Prepared) (settled : List ℕ) (judgement : Judgement)
     (m : Mended) (draft : List ℕ) → IsPrepared mends file prepared settled → IsJudgement settled judgement
-    → IsFinished mends prepared judgement settled m draft → IsMended mends file m draft
+    → IsFinished prepared judgement settled m draft → IsMended mends file m draft
 mended mends file prepared settled judgement m draft prep judged done =
     let front : List ℕ = front_bytes m.front in
     let none : list_any is_end_mark front ≡ false = unmarked m.front in
@@ -244,9 +298,8 @@ mended mends file prepared settled judgement m draft prep judged done =
           (content_in settled)) (sym done.front)
           (subst₂ (λ (z : Size) (bytes : List ℕ). IsTrue judgement.front ↔ WantsMending z bytes) (sym size_is)
           (sym body_is) judged.wants);
-      tail = ap (λ (v : ℕ). length prep.cut + v) done.tail ∙ prep.tail;
-      given_record = done.given_record
-          ∙ ap (λ (b : Bool). if b then mends.width else None) prep.given_record;
+      tail = done.tail ∙ prep.tail;
+      given_record = done.given_record ∙ prep.given_record;
       flag_was = done.flag_was ∙ prep.done.survey.non_blink;
       flag_is = done.flag_is ∙ judged.non_blink
           ∙ ap is_non_blink (sym (laid_record settled apart accepts.laid));
@@ -296,10 +349,16 @@ too_long mends file prepared settled judgement reason prep judged is =
       inr (inr (inr (settled, was_settled mends file prepared settled prep, inr (is.2, wants, passes)))),
     )
 
+-- nor is there a screen for it in the end, where there is none for the settled file
+pub lacks_screen : (lacks : Size → Type 0) (mends : Mends) (file : List ℕ) (prepared : Prepared) (settled : List ℕ)
+    → IsPrepared mends file prepared settled → LacksScreenFor lacks settled → LacksScreenInTheEnd lacks mends file
+lacks_screen lacks mends file prepared settled prep none =
+    (prep.cut, prep.is_cut, (settled, was_settled mends file prepared settled prep, none))
+
 -- what finishing comes to
 module _ (mends : Mends) (file : List ℕ) (prepared : Prepared) (settled : List ℕ) (judgement : Judgement)
     (prep : IsPrepared mends file prepared settled) (judged : IsJudgement settled judgement) (draft : List ℕ) where
-  pub finished : (r : Result Mended Unmended) → IfOk r (λ m. IsFinished mends prepared judgement settled m draft)
+  pub finished : (r : Result Mended Unmended) → IfOk r (λ m. IsFinished prepared judgement settled m draft)
       → IfOk r (λ m. IsMended mends file m draft)
   finished (Ok m) done = mended mends file prepared settled judgement m draft prep judged done
   finished (Err reason) done = done

@@ -17,4 +17,5 @@ pub mod Listing
 pub mod Answer
 pub mod SystemInput
 pub mod Mending
+pub mod MendingRoom
 pub mod MendingSteps

@@ -3,16 +3,16 @@
 //! [`check`] finds the verdict on a file and [`needs`] which parts of the start it needs. [`play_on`]
 //! plays on a screen that is there already; [`needs_on`] and [`why_on`] take theirs from [`Screens`],
 //! [`NewScreens`] or [`LentScreens`]. [`run`] reads a file and writes what a command tells of it, and
-//! [`serve`] also has the writer hand on what it holds back. [`table`] reads many files and writes a row
-//! for each. [`answer`] goes from the program's words, over the [`Inputs`] that they can name, to the
-//! [`Ending`]: its exit status and what it says. [`program`] is that on the system's own words, files and
-//! streams.
+//! [`serve`] also has the writer hand on what it holds back. [`mend`] reads a file and writes it mended,
+//! and [`mend_on`] mends one in a draft. [`table`] reads many files and writes a row for each. [`answer`]
+//! goes from the program's words, over the [`Inputs`] that they can name, to the [`Ending`]: its exit
+//! status and what it says. [`program`] is that on the system's own words, files and streams.
 //!
 //! What a verdict says of a file stands in `specs/FileVerdict.antt`, what its needs say in
 //! `specs/FileNeeds.antt`, what each command writes in `specs/CommandText.antt`, what a run has done
-//! when it returns in `specs/Served.antt`, what a table has in `specs/Table.antt`, how words are
-//! answered in `specs/Answer.antt`, and the endings in `specs/Ending.antt`. The command line is read
-//! by `ans_options`, whose public names are passed on.
+//! when it returns in `specs/Served.antt`, what a mended file is in `specs/Mending.antt`, what a table
+//! has in `specs/Table.antt`, how words are answered in `specs/Answer.antt`, and the endings in
+//! `specs/Ending.antt`. The command line is read by `ans_options`, whose public names are passed on.
 #![tactic(auto)]
 
 mod answering;

@@ -6,3 +6,6 @@ returns-in-One-clause-ends g c = rw c.in-One.is c.serve_one.ensures.ends
 pub returns-in-Table-clause-ends : goal.returns-in-Table-clause-ends
 returns-in-Table-clause-ends g c =
     rw c.in-Table.is (rw c.as_slice.ensures.value at c.serve_table.ensures.ends)
+
+pub returns-in-Mend-clause-ends : goal.returns-in-Mend-clause-ends
+returns-in-Mend-clause-ends g c = rw c.in-Mend.is c.serve_mend.ensures.ends

@@ -1,6 +1,8 @@
+use Rattle.std.proofs.Common.{inr, refl}
 use Rattle.ans_check.specs.Mending.{asked_for, lacks_lines, opened, recorded}
+use Rattle.ans_check.specs.MendingRoom.{LacksScreenFor}
 use Rattle.ans_check.specs.MendingSteps.{IsJudgement, IsPrepared}
-use Rattle.ans_check.proofs.MendedLemmas.{faulty, finished, surveyed_counted, surveyed_stated, unfinished}
+use Rattle.ans_check.proofs.MendedLemmas.{faulty, finished, lacks_screen, surveyed_counted, surveyed_stated, unfinished}
 use Rattle.ans_check.proofs.mend_steps.mend_on.Goals as goal
 
 pub returns-in-Err-2-clause-reason : goal.returns-in-Err-2-clause-reason
@@ -45,3 +47,13 @@ returns-clause-reason g c =
     rw c.file.ensures at (rw c.in-Ok.is at c.in_ok-judgement.ensures.passes) in
     unfinished c.args.mends.now c.args.draft.now.file c.in-Ok-Ok.prepared c.prepare.new.draft.file c.in-Ok.judgement
     prep judged c.finish.new.draft.file c.finish.result c.finish.ensures.long
+
+pub returns-in_err-judgement-clause-room : goal.returns-in_err-judgement-clause-room
+returns-in_err-judgement-clause-room g c told =
+    let mends = c.args.mends.now in
+    let prep : IsPrepared mends c.args.draft.now.file c.in-Ok-Ok.prepared c.prepare.new.draft.file =
+    rw c.in-Ok-Ok.field-0-is at c.in-Ok-Ok.ensures.prepared in
+    let none : LacksScreenFor (g.S.Screens.may_lack c.args.screens.now) c.prepare.new.draft.file =
+    rw c.file.ensures at (c.in_err-judgement.ensures.room.want refl) in
+    inr (lacks_screen (g.S.Screens.may_lack c.args.screens.now) mends c.args.draft.now.file c.in-Ok-Ok.prepared
+    c.prepare.new.draft.file prep none)

@@ -6,6 +6,7 @@ use Rattle.ans_mend.specs.EndMark.{with_end_mark}
 use Rattle.ans_check.specs.Mending.{AreLinesFor, IsEdited, IsEditedAsStated, IsReasonOfEdited, IsSettled, lacks_lines}
 use Rattle.ans_check.specs.Mending.{lined, opened}
 use Rattle.ans_check.specs.MendingSteps.{IsSurvey}
+use Rattle.ans_check.proofs.DraftRoomLemmas.{lacks_mark, lacks_returns, of_error}
 use Rattle.ans_check.proofs.MendedLemmas.{lacking_asks, opened_length, opened_stated}
 use Rattle.ans_check.proofs.mend_steps.settle.Goals as goal
 
@@ -87,3 +88,19 @@ returns-clause-done c =
       end_mark = rw c.take_lines.ensures at c.in_ok-end_mark.ensures.offset;
       stated = opened_stated mends cut c.in-Ok.survey.stated survey.stated;
     }
+
+pub returns-in_err-edits-clause-no_room : goal.returns-in_err-edits-clause-no_room
+returns-in_err-edits-clause-no_room c =
+    of_error c.from_residual.result (
+    lacks_returns c.args.asked.now c.args.draft.now.file c.args.draft.now.room c.open_lines-lacks.new.draft
+    c.open_lines-lacks.ensures.draft c.in_err-edits.ensures.no_room
+    )
+
+pub returns-in_err-end_mark-clause-no_room : goal.returns-in_err-end_mark-clause-no_room
+returns-in_err-end_mark-clause-no_room c =
+    of_error c.from_residual-in_err-end_mark.result (
+    lacks_mark c.args.asked.now c.args.draft.now.file c.args.draft.now.room c.open_lines-lacks.new.draft
+    c.open_lines-lacks.ensures.draft c.edit.new.draft c.take_lines.new.draft c.in-Ok-lines_for.lines
+    c.edit.ensures.memory (rw c.in-Ok-2.is at c.in_ok-edits.ensures.longer) c.take_lines.ensures
+    c.in_err-end_mark.ensures.no_room.1
+    )
