@@ -1,12 +1,19 @@
 -- What is known of the room in a draft where what is to be put does not fit in.
-use Rattle.std.proofs.Common.{◌≡◌, ℕ, ◌+◌, ◌<◌, ◌≤◌, List, length, sym, ap, ap₂, ◌∙◌, arith, Option, Ok, Err}
-use Rattle.std.specs.Prelude.{OnErr, Result}
-use Rattle.ans_sauce.specs.Found.{front_in}
-use Rattle.ans_mend.specs.Drafts.{DraftView, draft_of, memory_of}
+use Rattle.std.proofs.Common.{◌≡◌, ℕ, ◌+◌, ◌<◌, ◌≤◌, Bool, true, false, List, ◌∷◌, length, take, drop, refl, sym, ap, ap₂}
+use Rattle.std.proofs.Common.{◌∙◌, arith, Option, None, Some, Ok, Err}
+use Rattle.std.specs.Prelude.{OnErr, OnOk, Result, if◌then◌else◌}
+use Rattle.std.proofs.lemmas.List.{length-append, take-append-drop}
+use Rattle.ans_model.specs.Bytes.{end_mark}
+use Rattle.ans_sauce.specs.Found.{body_in, front_in, record_in}
+use Rattle.ans_walks.specs.MendedFile.{four_bytes, with_file_size}
+use Rattle.ans_mend.specs.Drafts.{DraftView, draft_of, memory_of, with_byte}
+use Rattle.ans_mend.specs.EndMark.{lacks_end_mark, with_end_mark}
+use Rattle.ans_mend.specs.Fields.{two_bytes, with_record}
+use Rattle.ans_mend.proofs.SameLength.{recorded_length as same_length}
 use Rattle.ans_mend.specs.Tail.{IsTailCut}
 use Rattle.ans_options.specs.declared.command.Mends.{Mends}
 use Rattle.ans_check.specs.Mending.{asked_for, lined, opened, recorded}
-use Rattle.ans_check.specs.MendingRoom.{LacksRoom, most_returns}
+use Rattle.ans_check.specs.MendingRoom.{LacksRoom, most_put, most_returns}
 use Rattle.ans_check.proofs.MendRoomLemmas.{few_returns, recorded_length}
 use Rattle.ans_check.proofs.MendedLemmas.{opened_front, opened_length}
 
@@ -14,6 +21,35 @@ use Rattle.ans_check.proofs.MendedLemmas.{opened_front, opened_length}
 pub of_error : {T E : Type 0} {P : Type 0} (r : Result T E) → P → OnErr r P
 of_error (Ok v) p = tt
 of_error (Err e) p = p
+
+-- what follows from what is so of any answer is so of any
+pub of_answer : {T E : Type 0} {P Q : Type 0} (r : Result T E) → (P → Q) → OnOk r P → OnOk r Q
+of_answer (Ok v) f p = f p
+of_answer (Err e) f p = tt
+
+-- ---- how long a file is
+
+mark_length : (file : List ℕ) → length (with_end_mark file) ≤ length file + 1
+mark_length file = go (lacks_end_mark file)
+  where
+    place : ℕ
+    place = length (body_in file)
+
+    go : (lacks : Bool) → length (if lacks then with_byte place end_mark file else file) ≤ length file + 1
+    go false = omega arith
+    go true =
+        let sum = length-append (take place file) (end_mark ∷ drop place file) in
+        let all = length-append (take place file) (drop place file) in
+        let whole = ap length (take-append-drop place file) in
+        omega (arith, sum, all, whole)
+
+lined_length : (lines : Option ℕ) (file : List ℕ) → 128 ≤ length file → length (lined lines file) ≡ length file
+lined_length None file long = refl
+lined_length (Some lines) file long = same_length 98 (two_bytes lines) file long (omega arith)
+
+pub sized_length : (size : ℕ) (file : List ℕ) → 128 ≤ length file
+    → length (with_record (with_file_size size (record_in file)) file) ≡ length file
+sized_length size file long = same_length 90 (four_bytes size) file long (omega arith)
 
 -- ---- of a file with its record, on the lines that are stated first
 
@@ -45,6 +81,22 @@ module _ (asked : Mends) (file : List ℕ) (room : ℕ) (first : DraftView)
       let first_long = ap (λ (d : DraftView). length d.file) is in
       omega (arith, same, as_many, long, nothing, first_long, memory, longer)
 
+  -- all that is put makes it longer by the returns and the end mark
+  pub not_longer : (edited last : DraftView) (lines : Option ℕ) (settled : List ℕ)
+      → length edited.file ≤ length first.file + most_returns asked (front_in first.file)
+      → last ≡ draft_of (lined lines edited.file) edited.room → 128 ≤ length edited.file
+      → settled ≡ with_end_mark last.file
+      → length settled ≤ length file + (most_returns asked (front_in file) + 1)
+  not_longer edited last lines settled longer settled_lines long marked =
+      let same = same_returns in
+      let as_long = opened_length asked file in
+      let first_long = ap (λ (d : DraftView). length d.file) is in
+      let lined_long = lined_length lines edited.file long in
+      let last_long = ap (λ (d : DraftView). length d.file) settled_lines in
+      let mark_long = mark_length last.file in
+      let settled_long = ap length marked in
+      omega (arith, same, as_long, first_long, lined_long, last_long, mark_long, settled_long, longer)
+
 -- ---- of the whole file
 
 module _ (mends : Mends) (whole cut : DraftView) (shorter : length cut.file ≤ length whole.file)
@@ -66,3 +118,17 @@ module _ (mends : Mends) (whole cut : DraftView) (shorter : length cut.file ≤ 
       let long = recorded_length mends cut.file in
       let as_long = ap length file_is in
       omega (arith, shorter, same_memory, memory, few, returns, same, long, as_long)
+
+  -- and all that is put makes it longer by no more than it may
+  pub grows_so : (based : DraftView) (asked : Mends) (new : List ℕ) → IsTailCut whole.file cut.file
+      → based.file ≡ recorded mends cut.file → asked ≡ asked_for mends cut.file
+      → length new ≤ length based.file + (most_returns asked (front_in based.file) + 1)
+      → length new ≤ length whole.file + most_put mends whole.file
+  grows_so based asked new is_cut file_is asked_is longer =
+      let returns = few_returns mends whole.file cut.file is_cut in
+      let same : most_returns asked (front_in based.file)
+      ≡ most_returns (asked_for mends cut.file) (front_in (recorded mends cut.file)) =
+      ap₂ (λ (a : Mends) (v : List ℕ). most_returns a (front_in v)) asked_is file_is in
+      let long = recorded_length mends cut.file in
+      let as_long = ap length file_is in
+      omega (arith, shorter, returns, same, long, as_long, longer)

@@ -15,12 +15,10 @@ use crate::screens::KeptScreens;
 use ans_mend::{Draft, Mended, Unmended, count_line_feeds};
 use ans_options::Mends;
 use ans_report::{Tried, WriteFault};
+use ans_walks::SAFE_BEGINNING;
 use ans_write::Outbox;
 use std::alloc::{AllocError, Global};
 use std::io::{Read, Write};
-
-/// The bytes that stand in front of a drawing that wants them.
-const SAFE_BEGINNING: &[u8] = b"\x1b[?7h\x1b[0m\x1b[2J\x1b[H\x1b[s";
 
 /// How many bytes a record takes with its end mark, and an end mark behind the content.
 const RECORD_ROOM: usize = 130;

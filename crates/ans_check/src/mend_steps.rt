@@ -5,7 +5,7 @@ ghost use Rattle.ans_model.specs.Bytes.{longest_file, most_lines};
 ghost use Rattle.ans_mend.specs.Drafts.{memory_of};
 ghost use Rattle.ans_sauce.specs.Found.{front_in};
 ghost use Rattle.ans_check.specs.Mending.{IsMended, IsReason, IsReasonFor, record_put, recorded};
-ghost use Rattle.ans_check.specs.MendingRoom.{LacksRoom, LacksScreenInTheEnd, most_returns};
+ghost use Rattle.ans_check.specs.MendingRoom.{LacksRoom, LacksScreenInTheEnd, most_put, most_returns};
 ghost use Rattle.ans_check.specs.MendingSteps.{IsDone, IsFinished, IsPrepared, IsTooLong};
 
 use crate::mend_edits::edit;
@@ -15,11 +15,8 @@ use crate::screens::Screens;
 use ans_mend::{Draft, Edits, GivenRecord, Mended, NoRoom, NonBlink, Reset, Unmended};
 use ans_model::limits::MAX_FILE;
 use ans_options::Mends;
-use ans_walks::Times;
+use ans_walks::{SAFE_BEGINNING, Times};
 use std::alloc::AllocError;
-
-/// How many bytes mend a drawing.
-const MENDING: usize = 19;
 
 /// What was done with the content, the lines and the end mark of a file.
 #[derive(Clone, Copy)]
@@ -60,6 +57,8 @@ fn settle(draft: &mut Draft<'_>, asked: &Mends) -> Result<Result<Done, Unmended>
         (λ d. IsDone asked.now draft.old.file d draft.new.file)) }
     ensures length { IfOk result (λ answer. OnOk answer (length draft.new.file ≤ longest_file)) }
     ensures reason { IfOk result (λ answer. IfErr answer (IsReasonFor asked.now draft.old.file)) }
+    ensures longer { IfOk result (λ answer. OnOk answer
+        (length draft.new.file ≤ length draft.old.file + (most_returns asked.now (front_in draft.old.file) + 1))) }
     ensures no_room { OnErr result (draft.old.room ≤ most_returns asked.now (front_in draft.old.file)) }
 {
     let lacks = open_lines(draft, asked);
@@ -106,6 +105,8 @@ fn prepare(draft: &mut Draft<'_>, mends: &Mends) -> Result<Result<Prepared, Unme
         (λ p. IsPrepared mends.now draft.old.file p draft.new.file)) }
     ensures length { IfOk result (λ answer. OnOk answer (length draft.new.file ≤ longest_file)) }
     ensures reason { IfOk result (λ answer. IfErr answer (IsReason mends.now draft.old.file)) }
+    ensures longer { IfOk result (λ answer. OnOk answer
+        (length draft.new.file ≤ length draft.old.file + most_put mends.now draft.old.file)) }
     ensures no_room { OnErr result (LacksRoom mends.now draft.old) }
 {
     let tail = draft.cut_tail();
@@ -136,9 +137,14 @@ fn finish(
     requires stated { prepared.done.survey.stated ≤ most_lines }
     requires counted { prepared.done.survey.end_mark_counted ≤ 1 }
     ensures mended { IfOk result (λ m. IsFinished prepared judgement draft.old.file m draft.new.file) }
+    ensures same_length { OnOk result (length draft.new.file ≡ length draft.old.file) }
     ensures long { IfErr result (IsTooLong judgement draft.old.file) }
 {
-    let front = if judgement.front { MENDING } else { 0 };
+    let front = if judgement.front {
+        SAFE_BEGINNING.len()
+    } else {
+        0
+    };
     if draft.file().len() + front > MAX_FILE {
         return Err(Unmended::TooLong);
     }
@@ -183,6 +189,8 @@ pub fn mend_on<S: Screens>(
     ensures mended { IfOk result (λ answer. IfOk answer
         (λ m. IsMended mends.now draft.old.file m draft.new.file)) }
     ensures reason { IfOk result (λ answer. IfErr answer (IsReason mends.now draft.old.file)) }
+    ensures longer { IfOk result (λ answer. OnOk answer
+        (length draft.new.file ≤ length draft.old.file + most_put mends.now draft.old.file)) }
     ensures room { IsErr result → LacksRoom mends.now draft.old
         ⊎ LacksScreenInTheEnd (S.may_lack screens.old) mends.now draft.old.file }
 {

@@ -1,7 +1,8 @@
-use Rattle.std.proofs.Common.{inr, refl}
+use Rattle.std.proofs.Common.{◌≡◌, ◌+◌, ◌≤◌, ℕ, List, inr, refl, arith, length}
 use Rattle.ans_check.specs.Mending.{asked_for, lacks_lines, opened, recorded}
-use Rattle.ans_check.specs.MendingRoom.{LacksScreenFor}
+use Rattle.ans_check.specs.MendingRoom.{LacksScreenFor, most_put}
 use Rattle.ans_check.specs.MendingSteps.{IsJudgement, IsPrepared}
+use Rattle.ans_check.proofs.DraftRoomLemmas.{of_answer}
 use Rattle.ans_check.proofs.MendedLemmas.{faulty, finished, lacks_screen, surveyed_counted, surveyed_stated, unfinished}
 use Rattle.ans_check.proofs.mend_steps.mend_on.Goals as goal
 
@@ -57,3 +58,14 @@ returns-in_err-judgement-clause-room g c told =
     rw c.file.ensures at (c.in_err-judgement.ensures.room.want refl) in
     inr (lacks_screen (g.S.Screens.may_lack c.args.screens.now) mends c.args.draft.now.file c.in-Ok-Ok.prepared
     c.prepare.new.draft.file prep none)
+
+pub returns-clause-longer : goal.returns-clause-longer
+returns-clause-longer g c =
+    let longer : length c.prepare.new.draft.file
+    ≤ length c.args.draft.now.file + most_put c.args.mends.now c.args.draft.now.file =
+    rw c.in-Ok-Ok.field-0-is at c.in-Ok-Ok.ensures.longer in
+    of_answer c.finish.result (grows c.prepare.new.draft.file c.finish.new.draft.file longer)
+    c.finish.ensures.same_length
+  where
+    grows : {most : ℕ} (old new : List ℕ) → length old ≤ most → length new ≡ length old → length new ≤ most
+    grows old new longer same = omega (arith, longer, same)

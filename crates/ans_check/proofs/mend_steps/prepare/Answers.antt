@@ -1,7 +1,7 @@
 use Rattle.std.proofs.Common.{◌≡◌, List, ℕ}
 use Rattle.ans_check.specs.Mending.{IsReasonFor, asked_for, recorded}
 use Rattle.ans_check.specs.MendingSteps.{IsDone}
-use Rattle.ans_check.proofs.DraftRoomLemmas.{lacks_record, lacks_rest, of_error}
+use Rattle.ans_check.proofs.DraftRoomLemmas.{grows_so, lacks_record, lacks_rest, of_error}
 use Rattle.ans_check.proofs.MendedLemmas.{asked_where_given}
 use Rattle.ans_check.proofs.mend_steps.prepare.Goals as goal
 
@@ -49,3 +49,13 @@ returns-in-Ok-clause-prepared c =
       given_record = c.in_ok-given_record.ensures.given;
       done = done;
     }
+
+pub returns-in-Ok-clause-longer : goal.returns-in-Ok-clause-longer
+returns-in-Ok-clause-longer c =
+    let mends = c.args.mends.now in
+    let cut : List ℕ = c.cut_tail-tail.new.self.file in
+    grows_so mends c.args.draft.now c.cut_tail-tail.new.self c.cut_tail-tail.ensures.no_longer
+    c.cut_tail-tail.ensures.memory c.give_record.new.draft c.asked_where.result c.settle.new.draft.file
+    c.cut_tail-tail.ensures.cut c.in_ok-given_record.ensures.file
+    (asked_where_given mends cut _ _ _ c.in_ok-given_record.ensures.given c.is_some.ensures c.asked_where.ensures)
+    (rw c.in-Ok.is at c.in_ok-done.ensures.longer)

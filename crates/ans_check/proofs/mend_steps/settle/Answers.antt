@@ -6,7 +6,7 @@ use Rattle.ans_mend.specs.EndMark.{with_end_mark}
 use Rattle.ans_check.specs.Mending.{AreLinesFor, IsEdited, IsEditedAsStated, IsReasonOfEdited, IsSettled, lacks_lines}
 use Rattle.ans_check.specs.Mending.{lined, opened}
 use Rattle.ans_check.specs.MendingSteps.{IsSurvey}
-use Rattle.ans_check.proofs.DraftRoomLemmas.{lacks_mark, lacks_returns, of_error}
+use Rattle.ans_check.proofs.DraftRoomLemmas.{lacks_mark, lacks_returns, not_longer, of_error}
 use Rattle.ans_check.proofs.MendedLemmas.{lacking_asks, opened_length, opened_stated}
 use Rattle.ans_check.proofs.mend_steps.settle.Goals as goal
 
@@ -104,3 +104,10 @@ returns-in_err-end_mark-clause-no_room c =
     c.edit.ensures.memory (rw c.in-Ok-2.is at c.in_ok-edits.ensures.longer) c.take_lines.ensures
     c.in_err-end_mark.ensures.no_room.1
     )
+
+pub returns-clause-longer : goal.returns-clause-longer
+returns-clause-longer c =
+    not_longer c.args.asked.now c.args.draft.now.file c.args.draft.now.room c.open_lines-lacks.new.draft
+    c.open_lines-lacks.ensures.draft c.edit.new.draft c.take_lines.new.draft c.in-Ok-lines_for.lines
+    c.put_end_mark.new.self.file (rw c.in-Ok-2.is at c.in_ok-edits.ensures.longer) c.take_lines.ensures
+    (rw c.file-2.ensures at c.in-Ok-lines_for.ensures.record) c.in_ok-end_mark.ensures.file
