@@ -3,3 +3,4 @@ pub mod Bits
 pub mod Rows
 pub mod Room
 pub mod Verdicts
+pub mod MendingRooms

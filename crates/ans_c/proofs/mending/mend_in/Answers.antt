@@ -1,11 +1,14 @@
-use Rattle.std.proofs.Common.{◌∙◌, ◌++◌, ap₂, List, ℕ, [], refl, subst}
+use Rattle.std.proofs.Common.{◌≡◌, ◌∙◌, ◌+◌, ◌≤◌, ◌++◌, ap, ap₂, length, List, ℕ, [], refl, subst, subst₂, sym}
 use Rattle.ans_check.specs.Mending.{IsMended, IsReason}
+use Rattle.ans_check.specs.MendingRoom.{most_put}
+use Rattle.ans_c.proofs.MendingRooms.{lacks_draft, lacks_place}
 use Rattle.ans_c.proofs.mending.mend_in.Goals as goal
 
-pub returns-in_ok-size-in-Ok-Ok : goal.returns-in_ok-size-in-Ok-Ok
-returns-in_ok-size-in-Ok-Ok c =
+pub returns-in_ok-size-in-Ok-Ok-clause-tells : goal.returns-in_ok-size-in-Ok-Ok-clause-tells
+returns-in_ok-size-in-Ok-Ok-clause-tells c =
+    let file : c.in_ok-draft.draft.file ≡ c.args.file.now = ap (λ d. d.file) c.in_ok-draft.ensures.draft in
     let mended = subst (λ (xs : List ℕ). IsMended c.args.mends.now xs c.in-Ok-Ok.changed c.mend_on.new.draft.file)
-    c.in_ok-draft.ensures.file (rw c.in-Ok-Ok.field-0-is at c.in-Ok-Ok.ensures.mended) in (
+    file (rw c.in-Ok-Ok.field-0-is at c.in-Ok-Ok.ensures.mended) in (
       c.mend_on.new.draft.file,
       mended,
       tt,
@@ -13,8 +16,26 @@ returns-in_ok-size-in-Ok-Ok c =
           ∙ ap₂ (λ (xs ys : List ℕ). xs ++ ys) c.front_bytes.ensures c.file.ensures,
     )
 
-pub returns-in-Ok-Err : goal.returns-in-Ok-Err
-returns-in-Ok-Err c =
-    let reason = subst (λ (xs : List ℕ). IsReason c.args.mends.now xs c.in-Ok-Err.reason)
-    c.in_ok-draft.ensures.file (rw c.in-Ok-Err.field-0-is at c.in-Ok-Err.ensures.reason) in
+pub returns-in-Ok-Err-clause-tells : goal.returns-in-Ok-Err-clause-tells
+returns-in-Ok-Err-clause-tells c =
+    let file : c.in_ok-draft.draft.file ≡ c.args.file.now = ap (λ d. d.file) c.in_ok-draft.ensures.draft in
+    let reason = subst (λ (xs : List ℕ). IsReason c.args.mends.now xs c.in-Ok-Err.reason) file
+    (rw c.in-Ok-Err.field-0-is at c.in-Ok-Err.ensures.reason) in
     ([], tt, reason, refl)
+
+pub returns-in_err-size-in-Ok-Ok-clause-room : goal.returns-in_err-size-in-Ok-Ok-clause-room
+returns-in_err-size-in-Ok-Ok-clause-room c told =
+    let file : c.in_ok-draft.draft.file ≡ c.args.file.now = ap (λ d. d.file) c.in_ok-draft.ensures.draft in
+    let drafted : length c.mend_on.new.draft.file
+    ≤ length c.in_ok-draft.draft.file + most_put c.args.mends.now c.in_ok-draft.draft.file =
+    rw c.in-Ok-Ok.field-0-is at c.in-Ok-Ok.ensures.longer in
+    let longer : length c.file.result.now ≤ length c.args.file.now + most_put c.args.mends.now c.args.file.now =
+    subst₂ (λ (xs ys : List ℕ). length ys ≤ length xs + most_put c.args.mends.now xs) file (sym c.file.ensures)
+    drafted in
+    lacks_place c.args.mends.now c.args.file.now c.front_bytes.result.now c.file.result.now _ _ _ _ _
+    c.front_bytes.ensures longer (c.in_err-size-in-Ok-Ok.ensures.room refl)
+
+pub returns-in-Err-clause-room : goal.returns-in-Err-clause-room
+returns-in-Err-clause-room c told =
+    lacks_draft c.args.mends.now c.args.file.now _ _ _ _ c.in_ok-draft.draft c.in_ok-draft.ensures.draft
+    (c.in-Err.ensures.room refl)
