@@ -13,6 +13,8 @@ pub mod CleanWhy
 pub mod CleanReports
 pub mod CleanBytes
 pub mod ReturnsPut
+pub mod CleanMended
+pub mod BytesTold
 pub mod WholeFiles
 pub mod MarkedContents
 pub mod CutFiles
