@@ -376,7 +376,7 @@ message_clean UnopenedFile text e =
     given_clean (codes "cannot open the file") text (plain_text (codes "cannot open the file") refl) e
 message_clean (ended.Table counts) text e = absurd (cc)
 message_clean (ended.Mended mended) text e = absurd (cc)
-message_clean (ended.NotMended reason) text e = absurd (cc)
+message_clean (ended.NotMended asked reason) text e = absurd (cc)
 message_clean ended.NamedInput text e =
     given_clean (codes "- names no file of a table; without FILE, names are read") text
     (plain_text (codes "- names no file of a table; without FILE, names are read") refl) e

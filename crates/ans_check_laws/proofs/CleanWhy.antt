@@ -108,7 +108,7 @@ quoted_byte_clean byte h =
     (clean_if (byte == 0x20) _ _ (plain_text (codes "<SP>") refl)
     (clean_shown (byte ∷ []) (All-cons IsByte byte [] h (All-nil IsByte)))))))))
 
-quoted_bytes_clean : (bytes : List ℕ) → All IsByte bytes → IsCleanText (flat_map quoted_byte bytes)
+pub quoted_bytes_clean : (bytes : List ℕ) → All IsByte bytes → IsCleanText (flat_map quoted_byte bytes)
 quoted_bytes_clean [] h = clean_nil
 quoted_bytes_clean (byte ∷ bytes) h =
     clean_append (quoted_byte byte) (flat_map quoted_byte bytes)

@@ -12,8 +12,14 @@ pub mod CleanLines
 pub mod CleanWhy
 pub mod CleanReports
 pub mod CleanBytes
+pub mod ReturnsPut
+pub mod CleanMended
+pub mod BytesTold
 pub mod WholeFiles
 pub mod MarkedContents
+pub mod CutFiles
+pub mod NothingGone
 pub mod MendingHomes
 pub mod MendedItself
+pub mod MendedAgain
 pub mod MendedTwice

@@ -17,7 +17,7 @@ use Rattle.ans_mend.specs.EndMark.{lacks_end_mark, with_end_mark}
 one_and : (n : ℕ) → 1 + n ≡ suc n
 one_and n = omega arith
 
-content_marked : (body : List ℕ) → list_any is_end_mark body ≡ false
+pub content_marked : (body : List ℕ) → list_any is_end_mark body ≡ false
     → content (body ++ end_mark ∷ []) ≡ content body
 content_marked [] none = refl
 content_marked (b ∷ body) none = go (is_end_mark b) refl (content_marked body)
@@ -36,7 +36,7 @@ content_marked (b ∷ body) none = go (is_end_mark b) refl (content_marked body)
         rw is (one_more marked (position_or_len is_end_mark marked) ∙ same
         ∙ sym (one_more body (position_or_len is_end_mark body)))
 
-unmarked : (recorded marks : Bool) → (recorded && not marks) ≡ true → marks ≡ false
+pub unmarked : (recorded marks : Bool) → (recorded && not marks) ≡ true → marks ≡ false
 unmarked true true is = absurd (true≢false (sym is))
 unmarked true false is = refl
 unmarked false marks is = absurd (true≢false (sym is))

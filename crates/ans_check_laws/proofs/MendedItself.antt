@@ -1,9 +1,7 @@
 -- What comes of a file that is mended by itself.
-use Rattle.std.proofs.Common.{◌≡◌, inl, inr, ℕ, ◌+◌, ◌-◌, ◌==◌, Bool, true, false, List, [], ◌++◌, length, refl, sym}
-use Rattle.std.proofs.Common.{ap, ap₂, ◌∙◌, arith, append_assoc, drop, subst, subst₂, true≢false, Option, None, Some}
+use Rattle.std.proofs.Common.{◌≡◌, inl, inr, ℕ, ◌==◌, Bool, true, false, List, [], ◌++◌, length, refl, sym}
+use Rattle.std.proofs.Common.{ap, ap₂, ◌∙◌, append_assoc, subst, subst₂, true≢false, Option, None, Some}
 use Rattle.std.specs.Prelude.{if◌then◌else◌, ◌&&◌}
-use Rattle.std.proofs.lemmas.List.{length-append}
-use Rattle.std.proofs.Math.Seq.{drop-append_seam}
 use Rattle.ans_model.specs.Bytes.{most_lines}
 use Rattle.ans_model.specs.File.Layout.{FileParts, content}
 use Rattle.ans_model.specs.File.Record.{stated_lines, stated_size}
@@ -27,6 +25,7 @@ use Rattle.ans_check.specs.FileVerdict.{Passes}
 use Rattle.ans_check.specs.Mending.{AreLinesFor, IsEdited, IsEditedAsStated, IsMended, TakesLines, front_bytes}
 use Rattle.ans_check.specs.Mending.{lacks_lines, lined, opened}
 use Rattle.ans_check_laws.proofs.WholeFiles.{nothing_cut}
+use Rattle.ans_check_laws.proofs.CutFiles.{record_behind}
 use Rattle.ans_check_laws.proofs.MarkedContents.{marked_content, marked_record}
 
 -- ---- nothing is asked for
@@ -60,19 +59,47 @@ not_lined : (lacks : Bool) (file : List ℕ) (lines : Option ℕ) → AreLinesFo
 not_lined lacks file None h = refl
 not_lined lacks file (Some lines) h = absurd (not_asked lacks (record_in file) (content_in file) lines h)
 
--- what stands behind any bytes is the record of the whole, where it is as long as one
-pub record_behind : (bytes record_bytes : List ℕ) → length record_bytes ≡ 128
-    → record_in (bytes ++ record_bytes) ≡ record_bytes
-record_behind bytes record_bytes size =
-    let all : length (bytes ++ record_bytes) ≡ length bytes + length record_bytes = length-append bytes record_bytes in
-    let cut : length (bytes ++ record_bytes) - 128 ≡ length bytes = omega (arith, all, size) in
-    ap (λ (v : ℕ). drop v (bytes ++ record_bytes)) cut ∙ drop-append_seam bytes record_bytes
-
-module _ (file : List ℕ) (mended : Mended) (draft : List ℕ) (h : IsMended no_mends.NONE file mended draft) where
+-- ---- an accepted file that is settled as it is, but for an end mark
+module _ (mends : Mends) (file : List ℕ) (mended : Mended) (draft : List ℕ) (h : IsMended mends file mended draft)
+    (apart : FileParts) (accepts : Accepts file apart) (stays : h.settled ≡ with_end_mark file) where
   abbrev written : List ℕ
   written = front_bytes mended.front ++ draft
 
-  pub itself_opened : opened h.asked h.based ≡ h.cut
+  settled_record : record_in h.settled ≡ apart.record_bytes
+  settled_record = ap record_in stays ∙ marked_record file apart accepts.laid
+
+  pub settled_content : content_in h.settled ≡ content apart.body
+  settled_content = ap content_in stays ∙ marked_content file apart accepts.laid
+
+  abbrev resized_record : List ℕ
+  resized_record = with_file_size mended.file_size.is apart.record_bytes
+
+  written_record : h.apart.record_bytes ≡ resized_record
+  written_record =
+      let size : length resized_record ≡ 128 =
+      (resized_accepted [] refl mended.file_size.is file apart accepts).laid.size in
+      let whole : written ≡ (front_bytes mended.front ++ front_in h.settled) ++ resized_record =
+      ap (λ (v : List ℕ). front_bytes mended.front ++ v)
+      (h.draft_is ∙ ap (λ (v : List ℕ). front_in h.settled ++ with_file_size mended.file_size.is v) settled_record)
+      ∙ sym (append_assoc (front_bytes mended.front) (front_in h.settled) resized_record) in
+      sym (laid_record written h.apart h.accepts.laid) ∙ ap record_in whole
+      ∙ record_behind (front_bytes mended.front ++ front_in h.settled) resized_record size
+
+  pub same_size : stated_size h.apart.record_bytes ≡ stated_size apart.record_bytes
+  same_size = ap stated_size written_record ∙ resized_size [] refl mended.file_size.is file apart accepts
+
+  pub same_picture : (picture : Picture)
+      → GoodWith (stated_size apart.record_bytes) all_known (content apart.body) picture → h.picture ≡ picture
+  same_picture picture good =
+      let z : Size = stated_size apart.record_bytes in
+      let moved : GoodWith z all_known (content apart.body) h.picture =
+      subst₂ (λ (v : Size) (bytes : List ℕ). GoodWith v all_known bytes h.picture) same_size settled_content
+      h.from_cleared in
+      one_picture z all_known all_known (content apart.body) h.picture picture moved good
+
+-- ---- by itself
+module _ (file : List ℕ) (mended : Mended) (draft : List ℕ) (h : IsMended no_mends.NONE file mended draft) where
+  itself_opened : opened h.asked h.based ≡ h.cut
   itself_opened =
       ap₂ (λ (m : Mends) (v : List ℕ). opened m v) h.asked_is h.based_is ∙ not_opened h.cut
 
@@ -92,58 +119,22 @@ module _ (file : List ℕ) (mended : Mended) (draft : List ℕ) (h : IsMended no
   itself_settled : h.settled ≡ with_end_mark h.cut
   itself_settled = h.settled_is ∙ ap with_end_mark itself_lined
 
-  -- ---- of an accepted file
-  module _ (apart : FileParts) (accepts : Accepts file apart) where
-    pub accepted_cut : h.cut ≡ file
-    accepted_cut = nothing_cut file apart accepts h.cut h.is_cut
-
-    pub accepted_settled : h.settled ≡ with_end_mark file
-    accepted_settled = itself_settled ∙ ap with_end_mark accepted_cut
-
-    pub settled_record : record_in h.settled ≡ apart.record_bytes
-    settled_record = ap record_in accepted_settled ∙ marked_record file apart accepts.laid
-
-    pub settled_content : content_in h.settled ≡ content apart.body
-    settled_content = ap content_in accepted_settled ∙ marked_content file apart accepts.laid
-
-    abbrev resized_record : List ℕ
-    resized_record = with_file_size mended.file_size.is apart.record_bytes
-
-    written_record : h.apart.record_bytes ≡ resized_record
-    written_record =
-        let size : length resized_record ≡ 128 =
-        (resized_accepted [] refl mended.file_size.is file apart accepts).laid.size in
-        let whole : written ≡ (front_bytes mended.front ++ front_in h.settled) ++ resized_record =
-        ap (λ (v : List ℕ). front_bytes mended.front ++ v)
-        (h.draft_is ∙ ap (λ (v : List ℕ). front_in h.settled ++ with_file_size mended.file_size.is v) settled_record)
-        ∙ sym (append_assoc (front_bytes mended.front) (front_in h.settled) resized_record) in
-        sym (laid_record written h.apart h.accepts.laid) ∙ ap record_in whole
-        ∙ record_behind (front_bytes mended.front ++ front_in h.settled) resized_record size
-
-    pub same_size : stated_size h.apart.record_bytes ≡ stated_size apart.record_bytes
-    same_size =
-        ap stated_size written_record ∙ resized_size [] refl mended.file_size.is file apart accepts
-
-    pub same_picture : (picture : Picture)
-        → GoodWith (stated_size apart.record_bytes) all_known (content apart.body) picture → h.picture ≡ picture
-    same_picture picture good =
-        let z : Size = stated_size apart.record_bytes in
-        let moved : GoodWith z all_known (content apart.body) h.picture =
-        subst₂ (λ (v : Size) (bytes : List ℕ). GoodWith v all_known bytes h.picture) same_size settled_content
-        h.from_cleared in
-        one_picture z all_known all_known (content apart.body) h.picture picture moved good
+  accepted_settled : (apart : FileParts) → Accepts file apart → h.settled ≡ with_end_mark file
+  accepted_settled apart accepts = itself_settled ∙ ap with_end_mark (nothing_cut file apart accepts h.cut h.is_cut)
 
 -- A file that passes from the cleared start, mended by itself, passes from every start with the same picture.
 pub mending_keeps : (file draft : List ℕ) (apart : FileParts) (picture : Picture) (mended : Mended)
     → Passes file all_known apart picture → IsMended no_mends.NONE file mended draft
     → (new : FileParts) × Passes (front_bytes mended.front ++ draft) none_known new picture
     × (stated_size new.record_bytes ≡ stated_size apart.record_bytes)
-mending_keeps file draft apart picture mended passes h = (
-  h.apart,
-  record {
-    accepts = h.accepts;
-    good = subst (λ (v : Picture). GoodWith (stated_size h.apart.record_bytes) none_known (content h.apart.body) v)
-        (same_picture file mended draft h apart passes.accepts picture passes.good) h.from_every;
-  },
-  same_size file mended draft h apart passes.accepts,
-)
+mending_keeps file draft apart picture mended passes h =
+    let stays = accepted_settled file mended draft h apart passes.accepts in (
+      h.apart,
+      record {
+        accepts = h.accepts;
+        good = subst (λ (v : Picture). GoodWith (stated_size h.apart.record_bytes) none_known (content h.apart.body) v)
+            (same_picture no_mends.NONE file mended draft h apart passes.accepts stays picture passes.good)
+            h.from_every;
+      },
+      same_size no_mends.NONE file mended draft h apart passes.accepts stays,
+    )

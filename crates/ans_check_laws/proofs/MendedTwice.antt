@@ -1,46 +1,38 @@
--- A file that is mended by itself is not changed by being mended so again.
+-- A file that is mended is not changed by being mended again in the same way.
 use Rattle.std.proofs.Common.{◌≡◌, inl, inr, ℕ, ◌+◌, ◌-◌, ◌^◌, ◌≤◌, ◌<◌, ◌==◌, Bool, true, false, List, [], ◌++◌}
 use Rattle.std.proofs.Common.{length, take, drop, refl, sym, ap, ap₂, ◌∙◌, arith, append_assoc, subst, subst₂}
 use Rattle.std.proofs.Common.{true≢false}
-use Rattle.std.specs.Prelude.{if◌then◌else◌, IsTrue, ◌↔◌}
-use Rattle.std.specs.List.{position_or_len}
+use Rattle.std.specs.Prelude.{if◌then◌else◌, IsTrue, ◌↔◌, ◌&&◌, bytes_eq, codes, Option, Some, None}
 use Rattle.std.proofs.lemmas.Bool.{cases_lt, eq-eqb, ne_eqb}
 use Rattle.std.proofs.lemmas.List.{length-append, length-drop, length-take-le, take-append-drop}
 use Rattle.std.proofs.Math.Seq.{take-append_seam, drop-append_seam}
-use Rattle.ans_model.specs.File.Layout.{content, is_end_mark}
-use Rattle.ans_model.specs.File.Record.{comment_count, file_size, stated_size}
-use Rattle.ans_model.specs.File.Refusals.{block_size}
+use Rattle.ans_model.specs.File.Layout.{content}
+use Rattle.ans_model.specs.File.Record.{file_size, stated_size}
+use Rattle.ans_model.specs.File.Refusals.{has_record}
 use Rattle.ans_model.specs.Screen.State.{Size}
 use Rattle.ans_model.specs.Sequence.Reads.{Reads}
-use Rattle.ans_sauce.specs.Found.{body_in, front_in, record_in}
+use Rattle.ans_sauce.specs.Found.{front_in, record_in}
 use Rattle.ans_sauce.proofs.LaidParts.{laid_body, laid_record}
 use Rattle.ans_walks.specs.MendedFile.{four_bytes, with_file_size}
 use Rattle.ans_walks.proofs.MendedFiles.{resized_file_size}
-use Rattle.ans_mend.specs.Contents.{content_in}
+use Rattle.ans_walks.specs.Mend.{mending}
+use Rattle.ans_mend.specs.Contents.{content_in, with_content}
+use Rattle.ans_mend.specs.EndMark.{with_end_mark}
+use Rattle.ans_mend.specs.LineEnds.{wants_returns, with_line_ends, with_returns}
 use Rattle.ans_mend.specs.declared.outcome.Mended.{Mended}
-use Rattle.ans_options.specs.declared.command.TheConstants.Mends as no_mends
-use Rattle.ans_check.specs.Mending.{IsMended, WantsMending, end_mark_counted, front_bytes, opened}
+use Rattle.ans_options.specs.declared.command.Mends.{Mends}
+use Rattle.ans_check.specs.Mending.{IsMended, WantsMending, end_mark_counted, front_bytes, lined, opened}
 use Rattle.ans_check_laws.proofs.WholeFiles.{accepted_long}
 use Rattle.ans_check_laws.proofs.MarkedContents.{marked_stays}
-use Rattle.ans_check_laws.proofs.MendedItself.{accepted_cut, accepted_settled, itself_opened, same_size}
-use Rattle.ans_check_laws.proofs.MendedItself.{record_behind, settled_content}
+use Rattle.ans_check_laws.proofs.CutFiles.{content_before, front_of_front, has_by, length_front, lines_had, lines_kept}
+use Rattle.ans_check_laws.proofs.CutFiles.{mark_had, mark_kept, record_behind, returned_wants_none}
+use Rattle.ans_check_laws.proofs.MendedAgain.{off, opened_stays, settled_stays}
+use Rattle.ans_check_laws.proofs.MendedItself.{same_size, settled_content}
+use Rattle.ans_check_laws.proofs.ReturnsPut.{wants_behind}
+use Rattle.ans_check_laws.specs.KeptReturns.{KeepsReturns}
 use Rattle.ans_check_laws.proofs.MendingHomes.{never_away}
 
 -- ---- numbers
-
-length_front : (xs : List ℕ) (n : ℕ) → length (take n xs) + (length xs - n) ≡ length xs
-length_front xs n =
-    ap (λ (v : ℕ). length (take n xs) + v) (sym (length-drop n xs)) ∙ sym (length-append (take n xs) (drop n xs))
-    ∙ ap length (take-append-drop n xs)
-
-front_shorter : (xs : List ℕ) (n : ℕ) → length (take n xs) ≤ length xs
-front_shorter xs n = let few = length_front xs n in omega (arith, few)
-
-content_before : (file : List ℕ) → length (content_in file) ≤ length (front_in file)
-content_before file =
-    let body = front_shorter (front_in file) (length (front_in file) - block_size (comment_count (record_in file))) in
-    let few = front_shorter (body_in file) (position_or_len is_end_mark (body_in file)) in
-    omega (arith, body, few)
 
 -- what counts the end mark once counts it again
 counts_again : (counted : Bool) (size n : ℕ) → size ≡ n + (if counted then 1 else 0)
@@ -76,8 +68,8 @@ resized_again m n r size =
     ∙ drop-append_seam (front ++ four_bytes m) (drop 94 r) in
     ap₂ (λ (v w : List ℕ). v ++ (four_bytes n ++ w)) first last
 
--- ---- what is written by itself
-module _ (file : List ℕ) (mended : Mended) (draft : List ℕ) (h : IsMended no_mends.NONE file mended draft) where
+-- ---- what is written
+module _ (mends : Mends) (file : List ℕ) (mended : Mended) (draft : List ℕ) (h : IsMended mends file mended draft) where
   abbrev written : List ℕ
   written = front_bytes mended.front ++ draft
 
@@ -173,15 +165,87 @@ module _ (file : List ℕ) (mended : Mended) (draft : List ℕ) (h : IsMended no
       go false tells is =
           true≢false (sym (tells.1 (inr (tokens, subst (λ (v : List ℕ). Reads v tokens) is reads, away))))
 
+  -- ---- its returns
+  settled_id : bytes_eq (take 5 (record_in h.settled)) (codes "SAUCE") ≡ true
+  settled_id =
+      let r : List ℕ = record_in h.settled in
+      let first : take 5 resized ≡ take 5 r =
+      front_of_front 5 90 r (four_bytes size ++ drop 94 r) (omega arith) (omega (arith, record_size)) in
+      ap (λ (v : List ℕ). bytes_eq v (codes "SAUCE"))
+      (sym first ∙ ap (take 5) (sym its_record) ∙ h.accepts.laid.id)
+
+  abbrev with_its_lines : List ℕ
+  with_its_lines = lined h.lines h.edited
+
+  has_lined : has_record with_its_lines ≡ true
+  has_lined = mark_had with_its_lines (ap has_record (sym h.settled_is) ∙ has_by h.settled settled_long settled_id)
+
+  had : (lines : Option ℕ) → has_record (lined lines h.edited) ≡ true → has_record h.edited ≡ true
+  had None has = has
+  had (Some n) has = lines_had n h.edited has
+
+  kept : (lines : Option ℕ) → has_record h.edited ≡ true → content_in (lined lines h.edited) ≡ content_in h.edited
+  kept None has = refl
+  kept (Some n) has = lines_kept n h.edited has
+
+  has_edited : has_record h.edited ≡ true
+  has_edited = had h.lines has_lined
+
+  same_content : content_in h.settled ≡ content_in h.edited
+  same_content = ap content_in h.settled_is ∙ mark_kept with_its_lines has_lined ∙ kept h.lines has_edited
+
+  -- where returns are put and none is taken out, none is wanted
+  module _ (no_rows : mends.full_rows ≡ false) (keeps : KeepsReturns mends) (puts : mends.line_ends ≡ true) where
+    keeps_all : h.asked.take_out ≡ false
+    keeps_all =
+        ap (λ (m : Mends). m.take_out) h.asked_is
+        ∙ sym (ap (λ (b : Bool). b && mends.take_out) puts) ∙ keeps
+
+    edited_is : h.edited ≡ with_line_ends was
+    edited_is =
+        let rows_off : h.asked.full_rows ≡ false =
+        ap (λ (m : Mends). m.full_rows) h.asked_is ∙ no_rows in
+        let ends_on : h.asked.line_ends ≡ true = ap (λ (m : Mends). m.line_ends) h.asked_is ∙ puts in
+        (off h.asked.take_out _ keeps_all h.is_edited.ends).0
+        ∙ (off h.asked.full_rows _ rows_off h.is_edited.rows).0
+        ∙ (off h.asked.take_out _ keeps_all h.is_edited.sequences).0
+        ∙ ap (λ (b : Bool). if b then with_line_ends was else was) ends_on
+
+    has_was : has_record was ≡ true
+    has_was = go (has_record was) refl
+      where
+        go : (recorded : Bool) → has_record was ≡ recorded → has_record was ≡ true
+        go true is = is
+        go false is =
+            let same : with_line_ends was ≡ was =
+            ap (λ (b : Bool). if b && wants_returns (content_in was)
+            then with_content (with_returns (content_in was)) was else was) is in
+            ap has_record (sym same ∙ sym edited_is) ∙ has_edited
+
+    settled_wants_none : wants_returns (content_in h.settled) ≡ false
+    settled_wants_none =
+        ap wants_returns (same_content ∙ ap content_in edited_is) ∙ returned_wants_none was has_was
+
+    shown_wants_none : wants_returns shown ≡ false
+    shown_wants_none = ap wants_returns h.content_is ∙ go mended.front
+      where
+        go : (front : Bool) → wants_returns (front_bytes front ++ content_in h.settled) ≡ false
+        go true = wants_behind mending (content_in h.settled) refl refl ∙ settled_wants_none
+        go false = settled_wants_none
+
   -- ---- mended again
-  module _ (again : Mended) (draft_again : List ℕ) (k : IsMended no_mends.NONE written again draft_again) where
-    settled_stays : k.settled ≡ written
-    settled_stays =
-        accepted_settled written again draft_again k h.apart h.accepts
-        ∙ marked_stays written h.apart h.accepts.laid h.ended
+  module _ (no_rows : mends.full_rows ≡ false) (keeps : KeepsReturns mends) (again : Mended) (draft_again : List ℕ)
+      (k : IsMended mends written again draft_again) where
+    stays : k.settled ≡ with_end_mark written
+    stays =
+        settled_stays mends no_rows written h.apart h.accepts h.picture h.from_every (shown_wants_none no_rows keeps) again
+        draft_again k
+
+    settled_is_written : k.settled ≡ written
+    settled_is_written = stays ∙ marked_stays written h.apart h.accepts.laid h.ended
 
     content_stays : content_in k.settled ≡ shown
-    content_stays = settled_content written again draft_again k h.apart h.accepts
+    content_stays = settled_content mends written again draft_again k h.apart h.accepts stays
 
     no_front : again.front ≡ false
     no_front = go again.front k.front
@@ -190,7 +254,7 @@ module _ (file : List ℕ) (mended : Mended) (draft : List ℕ) (h : IsMended no
             → front ≡ false
         go true tells =
             absurd (calm (subst₂ (λ (v : Size) (bytes : List ℕ). WantsMending v bytes)
-            (same_size written again draft_again k h.apart h.accepts) content_stays (tells.0 refl)))
+            (same_size mends written again draft_again k h.apart h.accepts stays) content_stays (tells.0 refl)))
         go false tells = refl
 
     same_file_size : size < 4294967296 → again.file_size.is ≡ size
@@ -198,7 +262,8 @@ module _ (file : List ℕ) (mended : Mended) (draft : List ℕ) (h : IsMended no
         let content_again : content k.apart.body ≡ shown =
         k.content_is ∙ ap₂ (λ (b : Bool) (v : List ℕ). front_bytes b ++ v) no_front content_stays in
         let opened_again : opened k.asked k.based ≡ written =
-        itself_opened written again draft_again k ∙ accepted_cut written again draft_again k h.apart h.accepts in
+        opened_stays mends no_rows written h.apart h.accepts h.picture h.from_every (shown_wants_none no_rows keeps) again
+        draft_again k in
         let stated : file_size (record_in written) ≡ size =
         ap file_size (laid_record written h.apart h.accepts.laid) ∙ states_size room in
         let counted : length (content_in written) ≡ length shown =
@@ -213,14 +278,15 @@ module _ (file : List ℕ) (mended : Mended) (draft : List ℕ) (h : IsMended no
     twice_as_once room =
         let its : record_in written ≡ h.apart.record_bytes = laid_record written h.apart h.accepts.laid in
         let record_again : with_file_size again.file_size.is (record_in k.settled) ≡ record_in written =
-        ap₂ (λ (n : ℕ) (v : List ℕ). with_file_size n v) (same_file_size room) (ap record_in settled_stays ∙ its)
+        ap₂ (λ (n : ℕ) (v : List ℕ). with_file_size n v) (same_file_size room) (ap record_in settled_is_written ∙ its)
         ∙ same_again ∙ sym its in
         ap (λ (b : Bool). front_bytes b ++ draft_again) no_front ∙ k.draft_is
-        ∙ ap₂ (λ (v w : List ℕ). front_in v ++ w) settled_stays record_again
+        ∙ ap₂ (λ (v w : List ℕ). front_in v ++ w) settled_is_written record_again
         ∙ take-append-drop (length written - 128) written
 
-pub mending_twice : (file draft draft_again : List ℕ) (mended again : Mended) → mended.file_size.is < 2 ^ 32
-    → IsMended no_mends.NONE file mended draft
-    → IsMended no_mends.NONE (front_bytes mended.front ++ draft) again draft_again
+pub mending_twice : (mends : Mends) (file draft draft_again : List ℕ) (mended again : Mended)
+    → mends.full_rows ≡ false → KeepsReturns mends → mended.file_size.is < 2 ^ 32 → IsMended mends file mended draft
+    → IsMended mends (front_bytes mended.front ++ draft) again draft_again
     → front_bytes again.front ++ draft_again ≡ front_bytes mended.front ++ draft
-mending_twice file draft draft_again mended again room h k = twice_as_once file mended draft h again draft_again k room
+mending_twice mends file draft draft_again mended again no_rows keeps room h k =
+    twice_as_once mends file mended draft h no_rows keeps again draft_again k room

@@ -1,14 +1,16 @@
-//! Laws of mending by itself, with nothing else asked for.
+//! Laws of mending: by itself, and with what is asked for.
 
-ghost use Rattle.std.specs.Prelude.{◌≡◌, ℕ, ◌^◌, ◌<◌, List, ◌++◌};
+ghost use Rattle.std.specs.Prelude.{◌≡◌, ℕ, ◌^◌, ◌<◌, false, List, ◌++◌};
 ghost use Rattle.ans_model.specs.File.Layout.{FileParts};
 ghost use Rattle.ans_model.specs.File.Record.{stated_size};
 ghost use Rattle.ans_model.specs.Screen.StartClass.{all_known, none_known};
 ghost use Rattle.ans_model.specs.Verdict.Good.{Picture};
 ghost use Rattle.ans_mend.specs.declared.outcome.Mended.{Mended};
+ghost use Rattle.ans_options.specs.declared.command.Mends.{Mends};
 ghost use Rattle.ans_options.specs.declared.command.TheConstants.Mends as no_mends;
 ghost use Rattle.ans_check.specs.FileVerdict.{Passes};
 ghost use Rattle.ans_check.specs.Mending.{IsMended, front_bytes};
+ghost use Rattle.ans_check_laws.specs.KeptReturns.{KeepsReturns};
 
 /// Mending by itself changes no cell of a drawing. What is written of a file that passes from the
 /// cleared start is accepted, states the same size, and passes from every start with the same picture.
@@ -19,12 +21,15 @@ pub fn mending_keeps_the_picture()
         × (stated_size new.record_bytes ≡ stated_size apart.record_bytes) }
 {}
 
-/// Mending by itself once is enough: of what is written, mended by itself again, the same bytes are
-/// written.
+/// To mend once is enough: of what is written, mended again in the same way, the same bytes are written.
+/// That is so whatever is asked for, but for two things. No line ends behind full rows are taken out, of
+/// which a row may have more than one; and where returns are to be put, nothing is taken out with which
+/// the last return might go.
 pub fn mending_once_is_enough()
     // the FileSize is a `u32`
-    ensures { (file draft draft_again : List ℕ) (mended again : Mended)
-        → mended.file_size.is < 2 ^ 32 → IsMended no_mends.NONE file mended draft
-        → IsMended no_mends.NONE (front_bytes mended.front ++ draft) again draft_again
+    ensures { (mends : Mends) (file draft draft_again : List ℕ) (mended again : Mended)
+        → mends.full_rows ≡ false → KeepsReturns mends
+        → mended.file_size.is < 2 ^ 32 → IsMended mends file mended draft
+        → IsMended mends (front_bytes mended.front ++ draft) again draft_again
         → front_bytes again.front ++ draft_again ≡ front_bytes mended.front ++ draft }
 {}

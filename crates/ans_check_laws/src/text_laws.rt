@@ -6,7 +6,12 @@ ghost use Rattle.ans_model.specs.Text.Characters.{glyph_text, shown_bytes};
 ghost use Rattle.ans_model.specs.Text.RecordText.{named_line};
 ghost use Rattle.ans_check.specs.CommandText.{Reports};
 ghost use Rattle.ans_check.specs.Ending.{ending_message};
+ghost use Rattle.ans_check.specs.Mending.{IsMended};
 ghost use Rattle.ans_check.specs.declared.exit_status.Ending.{Ending};
+ghost use Rattle.ans_mend.specs.MendedText.{mended_text, unmended_text};
+ghost use Rattle.ans_mend.specs.declared.outcome.Mended.{Mended};
+ghost use Rattle.ans_mend.specs.declared.outcome.Unmended.{Unmended};
+ghost use Rattle.ans_options.specs.declared.command.Mends.{Mends};
 ghost use Rattle.ans_options.specs.declared.command.Options.{Options};
 ghost use Rattle.ans_report.specs.Message.{message_line};
 ghost use Rattle.ans_check_laws.specs.CleanTexts.{IsCleanByte, IsCleanText, HasNoControls};
@@ -38,6 +43,14 @@ pub fn texts_are_clean()
         → All IsByte file → Reports options file passed text → IsColouredText text }
     ensures messages { (ending : Ending) (text : List ℕ)
         → ending_message ending ≡ Some text → IsCleanText (message_line text) }
+{}
+
+/// What mending says is clean, whatever bytes the file has: what was changed of it, and why there is
+/// none.
+pub fn what_mending_says_is_clean()
+    ensures changes { (mends : Mends) (file draft : List ℕ) (mended : Mended)
+        → All IsByte file → IsMended mends file mended draft → IsCleanText (mended_text mended) }
+    ensures reasons { (asked : Mends) (reason : Unmended) → IsCleanText (unmended_text asked reason) }
 {}
 
 /// Of the bytes of a clean text that stand below 20h each is a line feed, and none is 7Fh. A text

@@ -1,0 +1,8 @@
+-- Which changes keep the returns of a drawing.
+use Rattle.std.specs.Prelude.{◌≡◌, false, ◌&&◌}
+use Rattle.ans_options.specs.declared.command.Mends.{Mends}
+
+-- where returns are to be put, neither sequences nor last line ends are taken out: the last return might go with them,
+-- and then returns would be wanted again
+abbrev pub KeepsReturns : Mends → Type 0
+KeepsReturns mends = (mends.line_ends && mends.take_out) ≡ false
