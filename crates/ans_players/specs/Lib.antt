@@ -1,0 +1,5 @@
+-- Where players part, and what is the same on all of them.
+pub mod Kinds
+pub mod Grips
+pub mod Situations
+pub mod Players
