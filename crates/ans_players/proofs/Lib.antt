@@ -1,1 +1,9 @@
 pub mod Everywhere
+pub mod Strict
+pub mod NamedKinds
+pub mod Afters
+pub mod OneOfTwo
+pub mod Meets
+pub mod OneSpelling
+pub mod Search
+pub mod LeastSame

@@ -3,3 +3,7 @@ pub mod Kinds
 pub mod Grips
 pub mod Situations
 pub mod Players
+pub mod Named
+pub mod Classes
+pub mod OwnKind
+pub mod Witnesses

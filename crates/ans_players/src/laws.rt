@@ -3,8 +3,11 @@
 ghost use Rattle.std.specs.Prelude.{ℕ, List};
 ghost use Rattle.ans_model.specs.declared.start.Start.{Start};
 ghost use Rattle.ans_model.specs.Verdict.Good.{Picture, GoodWith};
+ghost use Rattle.ans_players.specs.Classes.{AgreedMeet, LeastSameExists, LeastSameIsFound, LeastSameIsOne};
+ghost use Rattle.ans_players.specs.Named.{NamedAreLeast};
 ghost use Rattle.ans_players.specs.Players.{IsShown};
 ghost use Rattle.ans_players.specs.Situations.{AreAgreed, spelled};
+ghost use Rattle.ans_players.specs.Witnesses.{IsStrictPlayer, StrictTells};
 
 use crate::player::Player;
 
@@ -15,4 +18,33 @@ pub fn shows_everywhere<P: Player>()
         → (good : GoodWith P.size class content picture)
         → AreAgreed P.agreed P.size class (spelled good.tokens good.reads.0)
         → IsShown P.behaviour P.size class (spelled good.tokens good.reads.0) picture }
+{}
+
+/// The strictest player shows nothing any more once a kind has arisen that is not agreed. So good content
+/// shows its picture on every player exactly where it does on this one, which is where no kinds but agreed
+/// ones arise.
+pub fn strictest_player_tells()
+    ensures player { IsStrictPlayer }
+    ensures tells { StrictTells }
+{}
+
+/// The kinds that arise from the cleared start are the least that have to be agreed for the picture to be
+/// the same on every player.
+pub fn named_kinds_are_least()
+    ensures { NamedAreLeast }
+{}
+
+/// Where no kinds but agreed ones arise from the starts of two classes, none arise from the starts that
+/// have the parts known in both, if the tokens play well from there.
+pub fn agreed_classes_meet()
+    ensures { AgreedMeet }
+{}
+
+/// Content in which no kinds but agreed ones arise from the cleared start is the same on every player for
+/// one least class of starts: for exactly those classes in which each part is known that is known in this
+/// one. It knows the cells where the content needs them, and each other part is found by itself.
+pub fn one_least_class_of_players()
+    ensures exists { LeastSameExists }
+    ensures unique { LeastSameIsOne }
+    ensures found { LeastSameIsFound }
 {}
