@@ -7,3 +7,5 @@ pub mod Meets
 pub mod OneSpelling
 pub mod Search
 pub mod LeastSame
+pub mod Spellings
+pub mod MendedPlayers

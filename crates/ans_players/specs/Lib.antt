@@ -5,5 +5,6 @@ pub mod Situations
 pub mod Players
 pub mod Named
 pub mod Classes
+pub mod Mends
 pub mod OwnKind
 pub mod Witnesses

@@ -4,6 +4,7 @@ ghost use Rattle.std.specs.Prelude.{ℕ, List};
 ghost use Rattle.ans_model.specs.declared.start.Start.{Start};
 ghost use Rattle.ans_model.specs.Verdict.Good.{Picture, GoodWith};
 ghost use Rattle.ans_players.specs.Classes.{AgreedMeet, LeastSameExists, LeastSameIsFound, LeastSameIsOne};
+ghost use Rattle.ans_players.specs.Mends.{MendedIsAgreed, MendedIsShown, MendingIsRead};
 ghost use Rattle.ans_players.specs.Named.{NamedAreLeast};
 ghost use Rattle.ans_players.specs.Players.{IsShown};
 ghost use Rattle.ans_players.specs.Situations.{AreAgreed, spelled};
@@ -47,4 +48,17 @@ pub fn one_least_class_of_players()
     ensures exists { LeastSameExists }
     ensures unique { LeastSameIsOne }
     ensures found { LeastSameIsFound }
+{}
+
+/// `ESC[?7h ESC[0m ESC[2J ESC[H ESC[s`, 19 bytes without the blanks between them, are read as five tokens
+/// at which no kind arises, from whichever start; and behind them those that arise from the cleared start.
+pub fn mended_tokens_are_agreed()
+    ensures read { MendingIsRead }
+    ensures agreed { MendedIsAgreed }
+{}
+
+/// So good content in which no kinds but agreed ones arise from the cleared start shows its picture behind
+/// these bytes on every player, from every start.
+pub fn mended_content_shows_everywhere<P: Player>()
+    ensures { MendedIsShown P.behaviour P.size P.agreed }
 {}
