@@ -9,3 +9,10 @@ pub mod Search
 pub mod LeastSame
 pub mod Spellings
 pub mod MendedPlayers
+pub mod Waits
+pub mod Staying
+pub mod Feeding
+pub mod Tall
+pub mod Parting
+pub mod Tiny
+pub mod Else

@@ -19,11 +19,11 @@ use Rattle.ans_players.proofs.Meets.{agreed_of_two, firm_place, mixed_is_start}
 
 -- ---- numbers below a bound
 -- the test holds at each
-abbrev all_below : ℕ → (ℕ → Bool) → Bool
+abbrev pub all_below : ℕ → (ℕ → Bool) → Bool
 all_below zero test = true
 all_below (suc n) test = test n && all_below n test
 
-at_each : (n : ℕ) (test : ℕ → Bool) → IsTrue (all_below n test) → (i : ℕ) → i < n → IsTrue (test i)
+pub at_each : (n : ℕ) (test : ℕ → Bool) → IsTrue (all_below n test) → (i : ℕ) → i < n → IsTrue (test i)
 at_each zero test all i lt = absurd (let no : ⊥ = omega arith in no)
 at_each (suc n) test all i lt = elim (cases_eq i n) [
   | inl same ↦ rw same (and_parts _ _ all).0
@@ -36,7 +36,7 @@ from_each (suc n) test each = and_from _ _ (each n (omega arith)) (from_each n t
 
 -- ---- tokens
 -- all of them are agreed from this stand on
-abbrev all_agreed : (Kind → Bool) → Size → Stand → List Spelled → Bool
+abbrev pub all_agreed : (Kind → Bool) → Size → Stand → List Spelled → Bool
 all_agreed agreed z h [] = true
 all_agreed agreed z h (x ∷ xs) = is_agreed agreed z h x && all_agreed agreed z (stand_behind z h x) xs
 

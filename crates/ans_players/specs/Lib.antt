@@ -8,3 +8,4 @@ pub mod Classes
 pub mod Mends
 pub mod OwnKind
 pub mod Witnesses
+pub mod WitnessesByToken

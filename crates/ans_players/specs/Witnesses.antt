@@ -21,17 +21,17 @@ abbrev pub cells_of : Size → State → Position → Option Cell
 cells_of z s p = cell_at z s.screen p
 
 -- ---- the profile
--- one whose memory is a state, and stands for itself at any grip
-abbrev pub stepping : (State → TokenKind → State) → Size → Behaviour
+-- what plays tokens so: its memory is a state, which stands for itself at any grip
+abbrev pub stepping : (Size → State → TokenKind → State) → Size → Behaviour
 stepping plays z = record {
   Memory = State;
   shows = cells_of z;
-  plays = λ m x. plays m x.token;
+  plays = λ m x. plays z m x.token;
   StandsFor = λ m h. m ≡ h.state;
 }
 
 abbrev pub profile : Size → Behaviour
-profile z = stepping (step z) z
+profile = stepping step
 
 -- it does as the profile does in whatever is agreed
 abbrev pub IsProfilePlayer : Type 0

@@ -4,3 +4,4 @@
 pub mod kind;
 pub mod laws;
 pub mod player;
+pub mod witnesses;

@@ -1,0 +1,60 @@
+-- Players that part from the profile at a token alone.
+use Rattle.std.specs.Prelude.{◌≡◌, ◌+◌, ◌-◌, min, Bool, false, IsTrue, if◌then◌else◌, filter}
+use Rattle.std.specs.List.{list_all}
+use Rattle.ans_model.specs.Sequence.TokenKind.{TokenKind, Glyph, Bell, BackSpace, Tab, Clear, EraseLine, Restore, Colours}
+use Rattle.ans_model.specs.Sequence.TokenKind.{Wrap}
+use Rattle.ans_model.specs.Screen.State.{Size, State, at}
+use Rattle.ans_model.specs.Screen.Step.{step, put, tab_blanks}
+use Rattle.ans_players.specs.declared.kind.Kind.{Kind}
+use Rattle.ans_players.specs.Players.{IsPlayer}
+use Rattle.ans_players.specs.Situations.{is_common_colour, is_terminal_control, token_kinds}
+use Rattle.ans_players.specs.Witnesses.{stepping}
+
+-- What plays each token as the profile does where all kinds of the token are agreed is a player.
+abbrev pub PartsWhereKindsArise : Type 0
+PartsWhereKindsArise = (z : Size) (agreed : Kind → Bool) (plays : Size → State → TokenKind → State)
+    → ((s : State) (t : TokenKind) → IsTrue (list_all agreed (token_kinds z s t)) → plays z s t ≡ step z s t)
+    → IsPlayer z agreed (stepping plays z)
+
+-- what is cleared or erased is white on black
+abbrev pub grey_step : Size → State → TokenKind → State
+grey_step z s Clear = record (step z (record s { attribute = 0x07 }) Clear) { attribute = s.attribute }
+grey_step z s EraseLine = record (step z (record s { attribute = 0x07 }) EraseLine) { attribute = s.attribute }
+grey_step z s t = step z s t
+
+-- ESC[u does nothing
+abbrev pub unrestored_step : Size → State → TokenKind → State
+unrestored_step z s Restore = s
+unrestored_step z s t = step z s t
+
+-- numbers of colours that are not common do nothing
+abbrev pub few_colours_step : Size → State → TokenKind → State
+few_colours_step z s (Colours parameters) = step z s (Colours (filter is_common_colour parameters))
+few_colours_step z s t = step z s t
+
+-- a tab goes to the next stop or the last column, and prints nothing
+abbrev pub skipping_step : Size → State → TokenKind → State
+skipping_step z s Tab =
+    record s { cursor = at s.cursor.row (min (s.cursor.column + tab_blanks s.cursor.column) (z.width - 1)) }
+skipping_step z s t = step z s t
+
+-- no line is erased
+abbrev pub unerased_step : Size → State → TokenKind → State
+unerased_step z s EraseLine = s
+unerased_step z s t = step z s t
+
+-- wrap is never turned off
+abbrev pub wrapping_step : Size → State → TokenKind → State
+wrapping_step z s (Wrap false) = s
+wrapping_step z s t = step z s t
+
+-- 07h and 08h are drawn
+abbrev pub bell_drawn_step : Size → State → TokenKind → State
+bell_drawn_step z s Bell = put z s 0x07
+bell_drawn_step z s BackSpace = put z s 0x08
+bell_drawn_step z s t = step z s t
+
+-- bytes that terminals do not draw do nothing
+abbrev pub undrawn_step : Size → State → TokenKind → State
+undrawn_step z s (Glyph byte) = if is_terminal_control byte then s else step z s (Glyph byte)
+undrawn_step z s t = step z s t

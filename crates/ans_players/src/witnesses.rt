@@ -1,0 +1,95 @@
+//! Players: the profile, and one for each kind that parts from it in that kind alone.
+//!
+//! Each is a player that does as the profile does in all other kinds, and shows something else where the
+//! content named is played from the cleared start, in which no other kind arises. So no kind can be left
+//! out, and to agree on a kind says something.
+
+ghost use Rattle.std.specs.Prelude.{[], ◌∷◌, ◌++◌, codes};
+ghost use Rattle.ans_model.specs.Bytes.{escape};
+ghost use Rattle.ans_model.specs.Screen.State.{sized};
+ghost use Rattle.ans_players.specs.declared.kind.Kind.TheVariants.{WrapAtOnce, LineEnds, HomeOnClear, ClearInColour};
+ghost use Rattle.ans_players.specs.declared.kind.Kind.TheVariants.{SavePlaceOnly, DosColours, TabPrints, LineErased};
+ghost use Rattle.ans_players.specs.declared.kind.Kind.TheVariants.{WrapOff, StopsAtEdge, PageControls};
+ghost use Rattle.ans_players.specs.declared.kind.Kind.TheVariants.{TerminalControls};
+ghost use Rattle.ans_players.specs.OwnKind.{PartsIn};
+ghost use Rattle.ans_players.specs.Witnesses.{IsProfilePlayer, IsTallPlayer, feeding, staying, stepping, taller, waiting};
+ghost use Rattle.ans_players.specs.WitnessesByToken.{PartsWhereKindsArise, bell_drawn_step, few_colours_step, grey_step};
+ghost use Rattle.ans_players.specs.WitnessesByToken.{skipping_step, undrawn_step, unerased_step, unrestored_step};
+ghost use Rattle.ans_players.specs.WitnessesByToken.{wrapping_step};
+
+/// The profile is a player, whatever is agreed.
+pub fn profile_is_a_player()
+    ensures { IsProfilePlayer }
+{}
+
+/// What plays each token as the profile does where all kinds of the token are agreed is a player.
+pub fn players_may_part_where_kinds_arise()
+    ensures { PartsWhereKindsArise }
+{}
+
+/// A player waits in the last column for the next byte, as terminals do. On a screen of one column `A`, CR,
+/// LF and `B` show something else on it.
+pub fn waiting_player_parts()
+    ensures { PartsIn WrapAtOnce waiting (sized 1 3) (codes "A\r\nB") }
+{}
+
+/// On a player a line feed returns, and a return does nothing, as in ansilove. In two columns `A`, LF and `B`
+/// show something else on it.
+pub fn feeding_player_parts()
+    ensures { PartsIn LineEnds feeding (sized 2 2) (codes "A\nB") }
+{}
+
+/// A player's cursor stays where it is on a clear, as in terminals. In two columns `A ESC[2J B` shows
+/// something else on it.
+pub fn staying_player_parts()
+    ensures { PartsIn HomeOnClear staying (sized 2 1) (codes "A" ++ (escape ∷ codes "[2J") ++ codes "B") }
+{}
+
+/// On a player what is cleared or erased is white on black. `ESC[41m ESC[2J` shows something else on it.
+pub fn grey_player_parts()
+    ensures { PartsIn ClearInColour (stepping grey_step) (sized 1 1) ((escape ∷ codes "[41m") ++ (escape ∷ codes "[2J")) }
+{}
+
+/// On a player `ESC[u` does nothing. In two columns `A ESC[u B` shows something else on it.
+pub fn unrestored_player_parts()
+    ensures { PartsIn SavePlaceOnly (stepping unrestored_step) (sized 2 1) (codes "A" ++ (escape ∷ codes "[u") ++ codes "B") }
+{}
+
+/// On a player the numbers of colours that not all take alike do nothing. `ESC[4m A` shows something else
+/// on it.
+pub fn few_colours_player_parts()
+    ensures { PartsIn DosColours (stepping few_colours_step) (sized 1 1) ((escape ∷ codes "[4m") ++ codes "A") }
+{}
+
+/// On a player a tab goes to the next stop and prints nothing. In eight columns `ESC[41m ESC[7C` and a tab
+/// show something else on it.
+pub fn skipping_player_parts()
+    ensures { PartsIn TabPrints (stepping skipping_step) (sized 8 1) ((escape ∷ codes "[41m") ++ (escape ∷ codes "[7C") ++ codes "\t") }
+{}
+
+/// On a player `ESC[K` does nothing. `A ESC[H ESC[K` shows something else on it.
+pub fn unerased_player_parts()
+    ensures { PartsIn LineErased (stepping unerased_step) (sized 1 1) (codes "A" ++ (escape ∷ codes "[H") ++ (escape ∷ codes "[K")) }
+{}
+
+/// On a player `ESC[?7l` does nothing. In one column `ESC[?7l AB` shows something else on it.
+pub fn wrapping_player_parts()
+    ensures { PartsIn WrapOff (stepping wrapping_step) (sized 1 2) ((escape ∷ codes "[?7l") ++ codes "AB") }
+{}
+
+/// A screen of more lines than are stated is a player. With one line more, `ESC[2B ESC[A A` shows something
+/// else on it where one line is stated.
+pub fn taller_player_parts()
+    ensures taller { IsTallPlayer }
+    ensures parts { PartsIn StopsAtEdge taller (sized 1 1) ((escape ∷ codes "[2B") ++ (escape ∷ codes "[A") ++ codes "A") }
+{}
+
+/// On a player 07h and 08h are drawn. 07h shows something else on it.
+pub fn bell_drawing_player_parts()
+    ensures { PartsIn PageControls (stepping bell_drawn_step) (sized 1 1) (0x07 ∷ []) }
+{}
+
+/// On a player the control bytes that terminals alone do not draw do nothing. 01h shows something else on it.
+pub fn undrawing_player_parts()
+    ensures { PartsIn TerminalControls (stepping undrawn_step) (sized 1 1) (0x01 ∷ []) }
+{}
