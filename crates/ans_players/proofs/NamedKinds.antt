@@ -1,12 +1,13 @@
 -- The named kinds are the least that can be agreed.
 use Rattle.std.proofs.Common.{◌≡◌, inl, inr, ℕ, zero, suc, ◌<◌, Bool, true, false, refl, ap, ◌∙◌, sym, List, [], ◌∷◌}
 use Rattle.std.proofs.Common.{fold, take, Some, arith, subst}
-use Rattle.std.proofs.lemmas.Bool.{cases_Bool, eqb-true, eq-eqb, and_parts, and_from, or_left, or_right}
+use Rattle.std.proofs.lemmas.Bool.{cases_Bool, cases_lt, eqb-true, eq-eqb, and_parts, and_from, or_left, or_right}
 use Rattle.std.specs.Prelude.{IsTrue, slice_get, ◌||◌, if◌then◌else◌}
 use Rattle.std.specs.List.{list_any, list_all}
 use Rattle.ans_model.specs.Screen.State.{Size, State}
 use Rattle.ans_model.specs.Screen.StartClass.{cleared, all_known}
 use Rattle.ans_model.proofs.OneCause.{is_cleared}
+use Rattle.ans_model.proofs.Slices.{slice_get-take}
 use Rattle.ans_model.proofs.StartLemmas.{low_is_start}
 use Rattle.ans_players.specs.declared.kind.Kind.{Kind}
 use Rattle.ans_players.specs.declared.kind.Kind.TheVariants.{WrapAtOnce, LineEnds, HomeOnClear, ClearInColour, SavePlaceOnly, DosColours}
@@ -14,7 +15,9 @@ use Rattle.ans_players.specs.declared.kind.Kind.TheVariants.{TabPrints, LineEras
 use Rattle.ans_players.specs.Grips.{Stand, firmly}
 use Rattle.ans_players.specs.Situations.{Spelled, situations, is_agreed, spelled, stand_behind, stand_of, AreAgreed}
 use Rattle.ans_players.specs.Kinds.{all_kinds, is_kind, kind_number}
-use Rattle.ans_players.specs.Named.{arises, times, NamedAreLeast}
+use Rattle.ans_players.specs.Named.{arises, times, times_cleared, bytes_before, ArisesFirst, NamedAreLeast}
+use Rattle.ans_players.specs.Named.{NamedOneWay}
+use Rattle.ans_players.proofs.OneSpelling.{one_spelling}
 
 -- kinds of one number are one
 at_number : (kind : Kind) → slice_get all_kinds (kind_number kind) ≡ Some kind
@@ -101,3 +104,49 @@ named_are_least z content agreed good = (
   there z agreed (spelled good.1.tokens good.1.reads.0) good.1.size.some_columns,
   and_back z agreed (spelled good.1.tokens good.1.reads.0) good.1.size.some_columns,
 )
+
+-- ---- one count, and one first offset
+-- a token of the first k is one of the list, and what is before it is the same
+taken_there : (xs : List Spelled) (k j : ℕ) (x : Spelled) → j < k → slice_get xs j ≡ Some x
+    → slice_get (take k xs) j ≡ Some x
+taken_there xs k j x lt e = slice_get-take k xs j lt ∙ e
+
+taken_before : (xs : List Spelled) (k j : ℕ) → j < k → take j (take k xs) ≡ take j xs
+taken_before xs k zero lt = refl
+taken_before [] zero (suc j) lt = refl
+taken_before [] (suc k) (suc j) lt = refl
+taken_before (x ∷ xs) zero (suc j) lt = absurd (let no : ⊥ = omega arith in no)
+taken_before (x ∷ xs) (suc k) (suc j) lt =
+    ap (λ (ys : List Spelled). x ∷ ys) (taken_before xs k j (omega arith))
+
+module _ (kind : Kind) (z : Size) (xs : List Spelled) where
+  -- before the first there is none
+  none_before : (o p : ℕ) (first : ArisesFirst kind z xs o) (other : ArisesFirst kind z xs p) → first.k < other.k → ⊥
+  none_before o p first other lt =
+      let some : 0 < times_cleared kind z (take other.k xs) =
+      counted (λ k. true) kind z (take other.k xs) (firmly (cleared z)) first.k first.x
+      (taken_there xs other.k first.k first.x lt first.there)
+      (subst (λ (ys : List Spelled). IsTrue (arises kind z (fold (stand_behind z) (firmly (cleared z)) ys) first.x))
+      (sym (taken_before xs other.k first.k lt)) first.arises_there) in
+      omega (arith, some, other.not_before)
+
+  one_first : (o p : ℕ) → ArisesFirst kind z xs o → ArisesFirst kind z xs p → o ≡ p
+  one_first o p first other =
+      first.offset_is ∙ ap (λ (k : ℕ). bytes_before k xs) (elim (cases_lt first.k other.k) [
+        | inl lt ↦ absurd (none_before o p first other lt)
+        | inr not_lt ↦ elim (cases_lt other.k first.k) [
+          | inl gt ↦ absurd (none_before p o other first gt)
+          | inr not_gt ↦ omega (arith, not_lt, not_gt)
+        ]
+      ]) ∙ sym other.offset_is
+
+pub named_one_way : NamedOneWay
+named_one_way z content kind count offset other_count other_offset h g =
+    let same : spelled g.good.1.tokens g.good.1.reads.0 ≡ spelled h.good.1.tokens h.good.1.reads.0 =
+    one_spelling content g.good.1.tokens h.good.1.tokens g.good.1.reads h.good.1.reads in
+    let one : count ≡ other_count = sym h.count_is
+    ∙ sym (ap (λ (xs : List Spelled). times_cleared kind z xs) same) ∙ g.count_is in (
+      one,
+      λ some. one_first kind z (spelled h.good.1.tokens h.good.1.reads.0) offset other_offset (h.first some)
+          (subst (λ (xs : List Spelled). ArisesFirst kind z xs other_offset) same (g.first (omega (arith, some, one)))),
+    )

@@ -7,11 +7,14 @@ use Rattle.std.proofs.lemmas.Nat.{mul-le}
 use Rattle.std.specs.Prelude.{slice_get, if◌then◌else◌, IsTrue}
 use Rattle.ans_model.specs.Screen.State.{Size, at, cell_at}
 use Rattle.ans_model.specs.declared.cell.Position.{Position}
-use Rattle.ans_model.specs.Verdict.Good.{Picture, IsPictureOf}
+use Rattle.ans_model.specs.declared.start.Start.{Start}
+use Rattle.ans_model.specs.Verdict.Good.{Picture, GoodWith, IsPictureOf}
 use Rattle.ans_players.specs.declared.kind.Kind.{Kind}
 use Rattle.ans_players.specs.Grips.{Stand, firmly}
-use Rattle.ans_players.specs.Situations.{Spelled, is_agreed, spelled, stand_behind, stand_of}
-use Rattle.ans_players.specs.Witnesses.{strict_step, strict_cells, IsStrictPlayer, StrictTells}
+use Rattle.ans_players.specs.Players.{IsShown}
+use Rattle.ans_players.specs.Situations.{Spelled, AreAgreed, is_agreed, spelled, stand_behind, stand_of}
+use Rattle.ans_players.specs.Witnesses.{strictest, strict_step, strict_cells, IsStrictPlayer, StrictTells}
+use Rattle.ans_players.proofs.Everywhere.{good_is_shown}
 
 module _ (z : Size) (agreed : Kind → Bool) where
   shows_cells : (m : Option Stand) (h : Stand) (p : Position) → m ≡ Some h
@@ -63,11 +66,21 @@ first_cell z picture w l is e =
     let there = slice_get-get_or picture.cells (0 * z.width + 0) (record { byte = 0; attribute = 0 }) within in
     cc
 
-pub strict_tells : StrictTells
-strict_tells z class agreed content picture good shown s k t start e = elim (cases_Bool
+shown_is_agreed : (z : Size) (class : Start) (agreed : Kind → Bool) (content : List ℕ) (picture : Picture)
+    → (good : GoodWith z class content picture)
+    → IsShown (strictest agreed z) z class (spelled good.tokens good.reads.0) picture
+    → AreAgreed agreed z class (spelled good.tokens good.reads.0)
+shown_is_agreed z class agreed content picture good shown s k t start e = elim (cases_Bool
     (is_agreed agreed z (stand_of z s (take k (spelled good.tokens good.reads.0))) t)) [
       | inl goes ↦ goes
       | inr stops ↦ absurd (first_cell z picture good.size.some_columns good.size.some_lines good.shows.is_picture
-          (sym (ap (λ (m : Option Stand). strict_cells z m (at 0 0)) (breaks z agreed (spelled good.tokens good.reads.0) (firmly s) k t e stops))
+          (sym (ap (λ (m : Option Stand). strict_cells z m (at 0 0))
+          (breaks z agreed (spelled good.tokens good.reads.0) (firmly s) k t e stops))
           ∙ shown (Some (firmly s)) s (at 0 0) start refl (good.size.some_lines, good.size.some_columns)))
     ]
+
+pub strict_tells : StrictTells
+strict_tells z class agreed content picture good = (
+  shown_is_agreed z class agreed content picture good,
+  good_is_shown z agreed (strictest agreed z) (strict z agreed) class content picture good,
+)

@@ -1,7 +1,8 @@
 -- A player whose screen has more lines than are stated.
-use Rattle.std.proofs.Common.{◌≡◌, ◌≢◌, inl, inr, ℕ, zero, suc, ◌+◌, ◌-◌, ◌*◌, ◌<◌, ◌≤◌, List, length, replicate, set, fold}
-use Rattle.std.proofs.Common.{Some, refl, ap, ap₂, sym, subst, ◌∙◌, arith, Bool, true, false}
+use Rattle.std.proofs.Common.{◌≡◌, ◌≢◌, inl, inr, ℕ, zero, suc, ◌+◌, ◌-◌, ◌*◌, ◌<◌, ◌≤◌, List, ◌++◌, length, replicate, set}
+use Rattle.std.proofs.Common.{Some, refl, ap, ap₂, sym, subst, ◌∙◌, arith, Bool, true, false, fold, add-mul, one-mul}
 use Rattle.std.proofs.lemmas.Bool.{cases_eq, cases_lt, lt-ltb}
+use Rattle.std.proofs.lemmas.List.{length-append, length-replicate}
 use Rattle.std.proofs.lemmas.Nat.{mul-le}
 use Rattle.std.specs.Prelude.{slice_get, min, IsTrue, nat_lt}
 use Rattle.std.specs.List.{list_all}
@@ -12,11 +13,12 @@ use Rattle.ans_model.specs.declared.fault.Cause.TheVariants.{OutsideScreen}
 use Rattle.ans_model.specs.Sequence.TokenKind.{TokenKind, Glyph, LineFeed, Tab, Down, Place, Clear, EraseLine}
 use Rattle.ans_model.specs.Sequence.TokenKind.{Save, Restore, Colours, Wrap}
 use Rattle.ans_model.specs.Screen.Attribute.{attribute_after_all}
-use Rattle.ans_model.specs.Screen.State.{Size, State, at, cell, cell_count, index, sized}
+use Rattle.ans_model.specs.Screen.State.{Size, State, FitsScreen, at, cell, cell_count, index, sized}
 use Rattle.ans_model.specs.Screen.Step.{blank_cell, destination, filled, next_row_start, put, step, tab_blanks}
 use Rattle.ans_model.proofs.FilledLemmas.{filled_before, filled_within, filled_after}
 use Rattle.ans_model.proofs.PositionLemmas.{index-le_row_end, index-lt, index-lt_stated, row_end_le}
-use Rattle.ans_model.proofs.Slices.{slice_get-replicate, slice_get-set_same, slice_get-set_other}
+use Rattle.ans_model.proofs.Slices.{slice_get-append_left, slice_get-replicate, slice_get-set_same}
+use Rattle.ans_model.proofs.Slices.{slice_get-set_other}
 use Rattle.ans_model.proofs.WellFormed.{fits_after_put, fits_after_step}
 use Rattle.ans_players.specs.declared.kind.Kind.TheVariants.{StopsAtEdge}
 use Rattle.ans_players.specs.Situations.{token_kinds, kind_if}
@@ -211,3 +213,29 @@ tall_player z lines w taller = record {
   goes_along = λ m h x stands allowed a. tall_step z lines w taller m h.state x.token stands allowed
       (parts_agreed z (all_but StopsAtEdge) h x a).token;
 }
+
+-- with a blank row below it, a state stands for itself
+pub taller_may_stand : (z : Size) (s : State) → 0 < z.width → FitsScreen z s
+    → (m : State) × TallStandsFor z (z.lines + 1) m s
+taller_may_stand z s w fits =
+    let below : List Cell = replicate z.width (blank_cell 0x07) in
+    let more : (z.lines + 1 + 1) * z.width ≡ (z.lines + 1) * z.width + z.width =
+    add-mul (z.lines + 1) 1 z.width ∙ ap (λ (n : ℕ). (z.lines + 1) * z.width + n) (one-mul z.width) in
+    let some : z.lines * z.width ≤ (z.lines + 1) * z.width =
+    mul-le z.lines z.width (z.lines + 1) z.width (omega arith) (omega arith) in (
+      record s { screen = s.screen ++ below },
+      record {
+        fits_there = record {
+          cells = length-append s.screen below
+              ∙ ap₂ (λ (a b : ℕ). a + b) fits.cells (length-replicate z.width (blank_cell 0x07)) ∙ sym more;
+          cursor = (omega (arith, fits.cursor.0), fits.cursor.1);
+          saved = (omega (arith, fits.saved.0), fits.saved.1);
+        };
+        fits_here = fits;
+        cursor = refl;
+        saved = refl;
+        attribute = refl;
+        wrap = refl;
+        cells = λ i lt. slice_get-append_left s.screen below i (omega (arith, lt, some, fits.cells));
+      },
+    )

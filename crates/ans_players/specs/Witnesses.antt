@@ -1,6 +1,6 @@
 -- Players: the profile, the strictest one, and some that part from the profile in one kind.
-use Rattle.std.specs.Prelude.{◌≡◌, ◌≢◌, ℕ, ◌+◌, ◌*◌, ◌<◌, ◌≤◌, Bool, true, false, Option, Some, None, List, fold, replicate}
-use Rattle.std.specs.Prelude.{slice_get, nat_lt, if◌then◌else◌}
+use Rattle.std.specs.Prelude.{◌≡◌, ◌≢◌, ◌↔◌, ℕ, ◌+◌, ◌*◌, ◌<◌, ◌≤◌, Bool, true, false, Option, Some, None, List, fold}
+use Rattle.std.specs.Prelude.{replicate, slice_get, nat_lt, if◌then◌else◌}
 use Rattle.ans_model.specs.Bytes.{blank}
 use Rattle.ans_model.specs.Sequence.TokenKind.{TokenKind, Glyph, Bell, LineFeed, CarriageReturn, Tab, Clear, Colours}
 use Rattle.ans_model.specs.Screen.State.{Size, State, FitsScreen, at, cell_at, cell_count, sized}
@@ -59,13 +59,12 @@ strictest agreed z = record {
 abbrev pub IsStrictPlayer : Type 0
 IsStrictPlayer = (z : Size) (agreed : Kind → Bool) → IsPlayer z agreed (strictest agreed z)
 
--- In what it shows from each start of the class, no kinds but agreed ones arise. So good content shows its picture on
--- every player exactly where it does on this one.
+-- Good content shows its picture on it exactly where no kinds but agreed ones arise from any start of the class.
 abbrev pub StrictTells : Type 0
 StrictTells = (z : Size) (class : Start) (agreed : Kind → Bool) (content : List ℕ) (picture : Picture)
     → (good : GoodWith z class content picture)
     → IsShown (strictest agreed z) z class (spelled good.tokens good.reads.0) picture
-    → AreAgreed agreed z class (spelled good.tokens good.reads.0)
+    ↔ AreAgreed agreed z class (spelled good.tokens good.reads.0)
 
 -- ---- one that waits at the right edge for the next byte, and forgets it at all else but colours and BEL
 pub record Waiting : Type 0 where

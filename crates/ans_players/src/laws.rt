@@ -5,7 +5,7 @@ ghost use Rattle.ans_model.specs.declared.start.Start.{Start};
 ghost use Rattle.ans_model.specs.Verdict.Good.{Picture, GoodWith};
 ghost use Rattle.ans_players.specs.Classes.{AgreedMeet, LeastSameExists, LeastSameIsFound, LeastSameIsOne};
 ghost use Rattle.ans_players.specs.Mends.{MendedIsAgreed, MendedIsShown, MendingIsRead};
-ghost use Rattle.ans_players.specs.Named.{NamedAreLeast};
+ghost use Rattle.ans_players.specs.Named.{NamedAreLeast, NamedOneWay};
 ghost use Rattle.ans_players.specs.Players.{IsShown};
 ghost use Rattle.ans_players.specs.Situations.{AreAgreed, spelled};
 ghost use Rattle.ans_players.specs.Witnesses.{IsStrictPlayer, StrictTells};
@@ -21,18 +21,19 @@ pub fn shows_everywhere<P: Player>()
         → IsShown P.behaviour P.size class (spelled good.tokens good.reads.0) picture }
 {}
 
-/// The strictest player shows nothing any more once a kind has arisen that is not agreed. So good content
-/// shows its picture on every player exactly where it does on this one, which is where no kinds but agreed
-/// ones arise.
+/// The strictest player shows nothing any more once a kind has arisen that is not agreed. Good content
+/// shows its picture on it exactly where no kinds but agreed ones arise from any start of the class, and so
+/// does content that shows its picture on every player.
 pub fn strictest_player_tells()
     ensures player { IsStrictPlayer }
     ensures tells { StrictTells }
 {}
 
 /// The kinds that arise from the cleared start are the least that have to be agreed for the picture to be
-/// the same on every player.
+/// the same on every player. How often each arises, and where first, is said in one way.
 pub fn named_kinds_are_least()
-    ensures { NamedAreLeast }
+    ensures least { NamedAreLeast }
+    ensures one { NamedOneWay }
 {}
 
 /// Where no kinds but agreed ones arise from the starts of two classes, none arise from the starts that

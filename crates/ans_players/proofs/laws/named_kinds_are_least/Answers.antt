@@ -1,5 +1,5 @@
-use Rattle.ans_players.proofs.NamedKinds.{named_are_least}
+use Rattle.ans_players.proofs.NamedKinds.{named_are_least, named_one_way}
 use Rattle.ans_players.proofs.laws.named_kinds_are_least.Goals as goal
 
 pub returns : goal.returns
-returns c = named_are_least
+returns c = record { least = named_are_least; one = named_one_way }
