@@ -3,7 +3,7 @@ use Rattle.std.proofs.Common.{◌≡◌, ℕ, zero, suc, ◌+◌, ◌*◌, ◌<�
 use Rattle.std.specs.Prelude.{slice_get}
 use Rattle.ans_model.specs.Bytes.{escape}
 use Rattle.ans_model.specs.Sequence.TokenKind.{Glyph, Bell, LineFeed, CarriageReturn, Tab, Up, Down, Forward}
-use Rattle.ans_model.specs.Sequence.TokenKind.{Place, Clear, EraseLine, Restore, Colours, Wrap}
+use Rattle.ans_model.specs.Sequence.TokenKind.{Place, Clear, EraseLine, Save, Restore, Colours, Wrap}
 use Rattle.ans_model.specs.Sequence.Reads.{SpellsToken}
 use Rattle.ans_model.specs.Screen.State.{IsSize, at, sized}
 use Rattle.ans_model.specs.Screen.StartClass.{cleared, all_known}
@@ -12,11 +12,11 @@ use Rattle.ans_players.specs.declared.kind.Kind.TheVariants.{WrapAtOnce, LineEnd
 use Rattle.ans_players.specs.declared.kind.Kind.TheVariants.{SavePlaceOnly, DosColours, TabPrints, LineErased, WrapOff}
 use Rattle.ans_players.specs.declared.kind.Kind.TheVariants.{StopsAtEdge, PageControls, TerminalControls}
 use Rattle.ans_players.specs.OwnKind.{ShowsElse}
-use Rattle.ans_players.specs.Witnesses.{waiting, staying, feeding, taller, stepping, TallStandsFor}
+use Rattle.ans_players.specs.Witnesses.{waiting, staying, saving, feeding, taller, stepping, TallStandsFor}
 use Rattle.ans_players.specs.WitnessesByToken.{grey_step, unrestored_step, few_colours_step}
 use Rattle.ans_players.specs.WitnessesByToken.{skipping_step, unerased_step, wrapping_step, bell_drawn_step, undrawn_step}
 use Rattle.ans_players.proofs.Spellings.{of_byte, wrap_off, on_red, underlined, clear, seven_right, two_down, one_up}
-use Rattle.ans_players.proofs.Spellings.{home, line_erased, restore}
+use Rattle.ans_players.proofs.Spellings.{home, line_erased, save, restore}
 use Rattle.ans_players.proofs.Tiny.{else_by}
 
 spells_a : SpellsToken (Glyph 0x41) (codes "A")
@@ -60,6 +60,15 @@ staying_else =
     else_by HomeOnClear (sized 2 1) (staying (sized 2 1)) (codes "A" ++ (escape ∷ codes "[2J") ++ codes "B")
     (Glyph 0x41 ∷ Clear ∷ Glyph 0x42 ∷ []) ((codes "A") ∷ (escape ∷ codes "[2J") ∷ (codes "B") ∷ [])
     (some 1 0) (spells_a, (clear, (spells_b, tt))) refl refl refl
+    (cleared (sized 2 1)) refl (at 0 0) (omega arith, omega arith) refl
+
+-- in two columns A, ESC[s and B
+pub saving_else : ShowsElse SavePlaceOnly (sized 2 1) (saving (sized 2 1))
+    (codes "A" ++ (escape ∷ codes "[s") ++ codes "B")
+saving_else =
+    else_by SavePlaceOnly (sized 2 1) (saving (sized 2 1)) (codes "A" ++ (escape ∷ codes "[s") ++ codes "B")
+    (Glyph 0x41 ∷ Save ∷ Glyph 0x42 ∷ []) ((codes "A") ∷ (escape ∷ codes "[s") ∷ (codes "B") ∷ [])
+    (some 1 0) (spells_a, (save, (spells_b, tt))) refl refl refl
     (cleared (sized 2 1)) refl (at 0 0) (omega arith, omega arith) refl
 
 -- on red a clear

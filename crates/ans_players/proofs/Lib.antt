@@ -10,7 +10,7 @@ pub mod LeastSame
 pub mod Spellings
 pub mod MendedPlayers
 pub mod Waits
-pub mod Staying
+pub mod Drifting
 pub mod Feeding
 pub mod Tall
 pub mod Parting

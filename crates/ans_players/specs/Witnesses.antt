@@ -1,8 +1,9 @@
 -- Players: the profile, the strictest one, and some that part from the profile in one kind.
 use Rattle.std.specs.Prelude.{◌≡◌, ◌≢◌, ◌↔◌, ℕ, ◌+◌, ◌*◌, ◌<◌, ◌≤◌, Bool, true, false, Option, Some, None, List, fold}
-use Rattle.std.specs.Prelude.{replicate, slice_get, nat_lt, if◌then◌else◌}
+use Rattle.std.specs.Prelude.{replicate, slice_get, nat_lt, if◌then◌else◌, MatchBool}
 use Rattle.ans_model.specs.Bytes.{blank}
 use Rattle.ans_model.specs.Sequence.TokenKind.{TokenKind, Glyph, Bell, LineFeed, CarriageReturn, Tab, Clear, Colours}
+use Rattle.ans_model.specs.Sequence.TokenKind.{Save}
 use Rattle.ans_model.specs.Screen.State.{Size, State, FitsScreen, at, cell_at, cell_count, sized}
 use Rattle.ans_model.specs.Screen.Step.{step, blank_cell, line_feed, printed, tab_blanks}
 use Rattle.ans_model.specs.declared.cell.Cell.{Cell}
@@ -10,7 +11,8 @@ use Rattle.ans_model.specs.declared.cell.Position.{Position}
 use Rattle.ans_model.specs.declared.start.Start.{Start}
 use Rattle.ans_model.specs.Verdict.Good.{Picture, GoodWith}
 use Rattle.ans_players.specs.declared.kind.Kind.{Kind}
-use Rattle.ans_players.specs.declared.kind.Kind.TheVariants.{HomeOnClear, StopsAtEdge}
+use Rattle.ans_players.specs.declared.kind.Kind.TheVariants.{HomeOnClear, SavePlaceOnly, StopsAtEdge}
+use Rattle.ans_players.specs.Kinds.{is_kind}
 use Rattle.ans_players.specs.Grips.{Grip, Wrapped, BehindFeed, BehindReturn, Adrift, Stand}
 use Rattle.ans_players.specs.OwnKind.{all_but}
 use Rattle.ans_players.specs.Players.{Behaviour, IsPlayer, IsShown}
@@ -112,24 +114,40 @@ waiting z = record {
   StandsFor = λ m h. WaitingStandsFor z h.grip m h.state;
 }
 
--- ---- one whose cursor stays on a clear
--- a token played
+-- ---- two of which the cursor is elsewhere adrift in one kind
+-- players are adrift in this kind
+abbrev pub is_adrift : Kind → Grip → Bool
+is_adrift kind (Adrift other) = is_kind kind other
+is_adrift kind g = false
+
+-- it is where the profile is, but for the cursor where players are adrift in this kind
+abbrev pub DriftsFor : Kind → Grip → State → State → Type 0
+DriftsFor kind g m s = MatchBool (is_adrift kind g) (record m { cursor = s.cursor } ≡ s) (m ≡ s)
+
+-- what plays tokens so, and drifts in this kind
+abbrev pub drifting : Kind → (Size → State → TokenKind → State) → Size → Behaviour
+drifting kind plays z = record {
+  Memory = State;
+  shows = cells_of z;
+  plays = λ m x. plays z m x.token;
+  StandsFor = λ m h. DriftsFor kind h.grip m h.state;
+}
+
+-- the cursor stays on a clear
 abbrev pub staying_step : Size → State → TokenKind → State
 staying_step z s Clear = record s { screen = replicate (cell_count z) (blank_cell s.attribute) }
 staying_step z s t = step z s t
 
--- its cursor may be elsewhere where the profile has gone home
-abbrev pub StayingStandsFor : Grip → State → State → Type 0
-StayingStandsFor (Adrift HomeOnClear) m s = record m { cursor = s.cursor } ≡ s
-StayingStandsFor g m s = m ≡ s
-
 abbrev pub staying : Size → Behaviour
-staying z = record {
-  Memory = State;
-  shows = cells_of z;
-  plays = λ m x. staying_step z m x.token;
-  StandsFor = λ m h. StayingStandsFor h.grip m h.state;
-}
+staying = drifting HomeOnClear staying_step
+
+-- the cursor goes home on a save
+abbrev pub saving_step : Size → State → TokenKind → State
+saving_step z s Save = record s { saved = s.cursor; cursor = at 0 0 }
+saving_step z s t = step z s t
+
+abbrev pub saving : Size → Behaviour
+saving = drifting SavePlaceOnly saving_step
 
 -- ---- one for which a line feed returns, and a return does nothing
 -- a token played

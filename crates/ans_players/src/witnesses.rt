@@ -12,7 +12,7 @@ ghost use Rattle.ans_players.specs.declared.kind.Kind.TheVariants.{SavePlaceOnly
 ghost use Rattle.ans_players.specs.declared.kind.Kind.TheVariants.{WrapOff, StopsAtEdge, PageControls};
 ghost use Rattle.ans_players.specs.declared.kind.Kind.TheVariants.{TerminalControls};
 ghost use Rattle.ans_players.specs.OwnKind.{PartsIn};
-ghost use Rattle.ans_players.specs.Witnesses.{IsProfilePlayer, IsTallPlayer, feeding, staying, stepping, taller, waiting};
+ghost use Rattle.ans_players.specs.Witnesses.{IsProfilePlayer, IsTallPlayer, feeding, saving, staying, stepping, taller, waiting};
 ghost use Rattle.ans_players.specs.WitnessesByToken.{PartsWhereKindsArise, bell_drawn_step, few_colours_step, grey_step};
 ghost use Rattle.ans_players.specs.WitnessesByToken.{skipping_step, undrawn_step, unerased_step, unrestored_step};
 ghost use Rattle.ans_players.specs.WitnessesByToken.{wrapping_step};
@@ -48,6 +48,11 @@ pub fn staying_player_parts()
 /// On a player what is cleared or erased is white on black. `ESC[41m ESC[2J` shows something else on it.
 pub fn grey_player_parts()
     ensures { PartsIn ClearInColour (stepping grey_step) (sized 1 1) ((escape ∷ codes "[41m") ++ (escape ∷ codes "[2J")) }
+{}
+
+/// A player's cursor goes home on a save. In two columns `A ESC[s B` shows something else on it.
+pub fn saving_player_parts()
+    ensures { PartsIn SavePlaceOnly saving (sized 2 1) (codes "A" ++ (escape ∷ codes "[s") ++ codes "B") }
 {}
 
 /// On a player `ESC[u` does nothing. In two columns `A ESC[u B` shows something else on it.

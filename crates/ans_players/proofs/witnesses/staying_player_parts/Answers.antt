@@ -1,5 +1,5 @@
 use Rattle.std.proofs.Common.{refl}
-use Rattle.ans_players.proofs.Staying.{stays}
+use Rattle.ans_players.proofs.Drifting.{stays}
 use Rattle.ans_players.proofs.Else.{staying_else}
 use Rattle.ans_players.proofs.witnesses.staying_player_parts.Goals as goal
 
