@@ -72,7 +72,8 @@ parts_of : (z : Size) (s t : State) → PartsAfter z s t t.cursor t.saved t.attr
 parts_of z s t = record { cursor = refl; saved_is = refl; attribute = refl; wrap_is = refl }
 
 module _ (z : Size) where
-  pub fed_is : (s : State) → s.cursor.row ≢ z.lines → line_feed z s ≡ record s { cursor = at (s.cursor.row + 1) s.cursor.column }
+  pub fed_is : (s : State) → s.cursor.row ≢ z.lines
+      → line_feed z s ≡ record s { cursor = at (s.cursor.row + 1) s.cursor.column }
   fed_is s above = rw (ne_eqb s.cursor.row z.lines above) refl
 
   advanced_is : (s : State) → s.cursor.row ≢ z.lines → advanced z s ≡ record s { cursor = next z s.wrap s.cursor }

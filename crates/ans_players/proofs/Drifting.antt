@@ -92,7 +92,8 @@ module _ (z : Size) where
       → DriftsFor HomeOnClear (grip_after z g s t) (staying_step z s t) (step z s t)
   stays_from g s Clear agrees =
       goes_adrift HomeOnClear (is_home s.cursor) (staying_step z s Clear) (step z s Clear)
-      (λ home. ap (λ (p : Position). record s { screen = replicate (cell_count z) (blank_cell s.attribute); cursor = p })
+      (λ home. ap (λ (p : Position).
+      record s { screen = replicate (cell_count z) (blank_cell s.attribute); cursor = p })
       (home_is s.cursor home)) refl
   stays_from g s t agrees = same_drifts HomeOnClear (grip_after z g s t) (step z s t) (step z s t) refl
 

@@ -14,7 +14,8 @@ use Rattle.ans_players.specs.declared.kind.Kind.TheVariants.{StopsAtEdge, PageCo
 use Rattle.ans_players.specs.OwnKind.{ShowsElse}
 use Rattle.ans_players.specs.Witnesses.{waiting, staying, saving, feeding, taller, stepping, TallStandsFor}
 use Rattle.ans_players.specs.WitnessesByToken.{grey_step, unrestored_step, few_colours_step}
-use Rattle.ans_players.specs.WitnessesByToken.{skipping_step, unerased_step, wrapping_step, bell_drawn_step, undrawn_step}
+use Rattle.ans_players.specs.WitnessesByToken.{skipping_step, unerased_step, wrapping_step, bell_drawn_step}
+use Rattle.ans_players.specs.WitnessesByToken.{undrawn_step}
 use Rattle.ans_players.proofs.Spellings.{of_byte, wrap_off, on_red, underlined, clear, seven_right, two_down, one_up}
 use Rattle.ans_players.proofs.Spellings.{home, line_erased, save, restore}
 use Rattle.ans_players.proofs.Tiny.{else_by}
@@ -75,7 +76,8 @@ saving_else =
 pub grey_else : ShowsElse ClearInColour (sized 1 1) (stepping grey_step (sized 1 1))
     ((escape ∷ codes "[41m") ++ (escape ∷ codes "[2J"))
 grey_else =
-    else_by ClearInColour (sized 1 1) (stepping grey_step (sized 1 1)) ((escape ∷ codes "[41m") ++ (escape ∷ codes "[2J"))
+    else_by ClearInColour (sized 1 1) (stepping grey_step (sized 1 1))
+    ((escape ∷ codes "[41m") ++ (escape ∷ codes "[2J"))
     (Colours (41 ∷ []) ∷ Clear ∷ []) ((escape ∷ codes "[41m") ∷ (escape ∷ codes "[2J") ∷ [])
     (some 0 0) (on_red, (clear, tt)) refl refl refl (cleared (sized 1 1)) refl (at 0 0) (omega arith, omega arith) refl
 
@@ -83,7 +85,8 @@ grey_else =
 pub unrestored_else : ShowsElse SavePlaceOnly (sized 2 1) (stepping unrestored_step (sized 2 1))
     (codes "A" ++ (escape ∷ codes "[u") ++ codes "B")
 unrestored_else =
-    else_by SavePlaceOnly (sized 2 1) (stepping unrestored_step (sized 2 1)) (codes "A" ++ (escape ∷ codes "[u") ++ codes "B")
+    else_by SavePlaceOnly (sized 2 1) (stepping unrestored_step (sized 2 1))
+    (codes "A" ++ (escape ∷ codes "[u") ++ codes "B")
     (Glyph 0x41 ∷ Restore ∷ Glyph 0x42 ∷ []) ((codes "A") ∷ (escape ∷ codes "[u") ∷ (codes "B") ∷ [])
     (some 1 0) (spells_a, (restore, (spells_b, tt))) refl refl refl
     (cleared (sized 2 1)) refl (at 0 0) (omega arith, omega arith) refl
@@ -94,7 +97,8 @@ pub few_colours_else : ShowsElse DosColours (sized 1 1) (stepping few_colours_st
 few_colours_else =
     else_by DosColours (sized 1 1) (stepping few_colours_step (sized 1 1)) ((escape ∷ codes "[4m") ++ codes "A")
     (Colours (4 ∷ []) ∷ Glyph 0x41 ∷ []) ((escape ∷ codes "[4m") ∷ (codes "A") ∷ [])
-    (some 0 0) (underlined, (spells_a, tt)) refl refl refl (cleared (sized 1 1)) refl (at 0 0) (omega arith, omega arith)
+    (some 0 0) (underlined, (spells_a, tt)) refl refl refl
+    (cleared (sized 1 1)) refl (at 0 0) (omega arith, omega arith)
     refl
 
 -- on red, seven columns on, a tab of one blank
@@ -136,7 +140,8 @@ bell_drawn_else =
 -- 01h
 pub undrawn_else : ShowsElse TerminalControls (sized 1 1) (stepping undrawn_step (sized 1 1)) (0x01 ∷ [])
 undrawn_else =
-    else_by TerminalControls (sized 1 1) (stepping undrawn_step (sized 1 1)) (0x01 ∷ []) (Glyph 0x01 ∷ []) ((0x01 ∷ []) ∷ [])
+    else_by TerminalControls (sized 1 1) (stepping undrawn_step (sized 1 1)) (0x01 ∷ []) (Glyph 0x01 ∷ [])
+    ((0x01 ∷ []) ∷ [])
     (some 0 0) (of_byte 0x01 (Glyph 0x01) (lit< tt) (λ e. cc) refl, tt) refl refl refl
     (cleared (sized 1 1)) refl (at 0 0) (omega arith, omega arith) refl
 

@@ -31,7 +31,8 @@ module _ (z : Size) where
   same_stands g m s e column = e
 
   behind_feed : (s : State) → s.cursor.row ≢ z.lines
-      → FeedingStandsFor (if s.cursor.column == 0 then Firm else BehindFeed) (feeding_step z s LineFeed) (step z s LineFeed)
+      → FeedingStandsFor (if s.cursor.column == 0 then Firm else BehindFeed) (feeding_step z s LineFeed)
+      (step z s LineFeed)
   behind_feed s above =
       rw (fed_is z s above, fed_is z (record s { cursor = at s.cursor.row 0 }) above) (go (s.cursor.column == 0) refl)
     where
@@ -96,7 +97,8 @@ module _ (z : Size) where
       other_stands (grip_after z g s t) _ _ (other_after g s t other tt) (ap (λ (v : State). step z v t) e)
 
   from_feed : (m s : State) (t : TokenKind) (text : List ℕ) → FeedingStandsFor BehindFeed m s
-      → IsTrue (is_agreed (all_but LineEnds) z (record { grip = BehindFeed; state = s }) (record { token = t; text = text }))
+      → IsTrue (is_agreed (all_but LineEnds) z (record { grip = BehindFeed; state = s })
+      (record { token = t; text = text }))
       → FeedingStandsFor (grip_after z BehindFeed s t) (feeding_step z m t) (step z s t)
   from_feed m s (Place row column) text h a = ap (λ (v : State). step z v (Place row column)) h.1
   from_feed m s (Colours parameters) text h a = (h.0, ap (λ (v : State). step z v (Colours parameters)) h.1)
@@ -107,7 +109,8 @@ module _ (z : Size) where
   from_feed m s t text h a = let no : false ≡ true = a in absurd (let none : ⊥ = cc in none)
 
   from_return : (m s : State) (t : TokenKind) (text : List ℕ) → FeedingStandsFor BehindReturn m s
-      → IsTrue (is_agreed (all_but LineEnds) z (record { grip = BehindReturn; state = s }) (record { token = t; text = text }))
+      → IsTrue (is_agreed (all_but LineEnds) z (record { grip = BehindReturn; state = s })
+      (record { token = t; text = text }))
       → FeedingStandsFor (grip_after z BehindReturn s t) (feeding_step z m t) (step z s t)
   from_return m s (Place row column) text h a = ap (λ (v : State). step z v (Place row column)) h.2
   from_return m s (Colours parameters) text h a = (h.0, h.1, ap (λ (v : State). step z v (Colours parameters)) h.2)

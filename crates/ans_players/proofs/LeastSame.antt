@@ -68,7 +68,8 @@ covered_same agreed z content a b covers same =
           (one_spelling content same.0.1.tokens good.tokens same.0.1.reads good.reads) each,
     )
 
-module _ (agreed : Kind → Bool) (z : Size) (content : List ℕ) (needs : Start) (calm : IsCalm agreed z content needs) where
+module _ (agreed : Kind → Bool) (z : Size) (content : List ℕ) (needs : Start)
+    (calm : IsCalm agreed z content needs) where
   abbrev xs : List Spelled
   xs = spelled calm.same.0.1.tokens calm.same.0.1.reads.0
 
@@ -207,7 +208,8 @@ least_same_exists agreed z content needs calm =
     let part : (c : Start) → IsGood z c content ⊎ ¬ IsGood z c content
     → (needed : Bool) × ((needed ≡ false) ↔ IsSame agreed z c content) =
     λ c known. truth_of (same_or_not agreed z content needs calm c known) in
-    let good : (c : Start) (needed : Bool) → (Covers needs c ↔ (needed ≡ false)) → IsGood z c content ⊎ ¬ IsGood z c content =
+    let good : (c : Start) (needed : Bool) → (Covers needs c ↔ (needed ≡ false))
+    → IsGood z c content ⊎ ¬ IsGood z c content =
     λ c needed covers. good_or_not needed (λ e. (calm.least c).1 (covers.1 e)) (λ g. covers.0 ((calm.least c).0 g)) in
     let cursor = part all_but_cursor (good all_but_cursor needs.cursor (covers_all_but_cursor needs)) in
     let saved = part all_but_saved (good all_but_saved needs.saved (covers_all_but_saved needs)) in

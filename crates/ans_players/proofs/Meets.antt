@@ -22,7 +22,8 @@ use Rattle.ans_players.specs.Situations.{Spelled, is_agreed, stand_of}
 use Rattle.ans_players.specs.Players.{StaysAbove}
 use Rattle.ans_players.specs.Classes.{AgreedMeet}
 use Rattle.ans_players.proofs.Everywhere.{above_at, kinds_of, kind_at, state_is}
-use Rattle.ans_players.proofs.OneOfTwo.{IsOneOf, IsBeside, PrintsAtOne, GoTogether, beside_along, agreed_beside, Footing}
+use Rattle.ans_players.proofs.OneOfTwo.{IsOneOf, IsBeside, PrintsAtOne, GoTogether, beside_along, agreed_beside}
+use Rattle.ans_players.proofs.OneOfTwo.{Footing}
 
 -- ---- a start of a class from any state
 of_either : {X : Type 0} (P : X → Type 0) (b : Bool) (x y : X) → P x → P y → P (if b then x else y)

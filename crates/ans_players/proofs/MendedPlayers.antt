@@ -1,5 +1,6 @@
 -- Behind the mending.
-use Rattle.std.proofs.Common.{◌≡◌, inl, inr, ℕ, zero, suc, ◌+◌, ◌-◌, ◌<◌, Bool, true, refl, ap, ap₂, sym, subst, List, [], ◌∷◌, ◌++◌}
+use Rattle.std.proofs.Common.{◌≡◌, inl, inr, ℕ, zero, suc, ◌+◌, ◌-◌, ◌<◌, Bool, true, refl, ap, ap₂, sym, subst, List}
+use Rattle.std.proofs.Common.{[], ◌∷◌, ◌++◌}
 use Rattle.std.proofs.Common.{arith, take, fold, replicate, Some}
 use Rattle.std.specs.Prelude.{IsTrue, bit_or, min, codes, not, slice_get, ◌==◌, if◌then◌else◌}
 use Rattle.std.specs.Int.Bits.{and_zero_r}
@@ -48,7 +49,8 @@ module _ (z : Size) (s : State) where
   pub mending_leaves : stand_of z s mending_spelled ≡ firmly (cleared z)
   mending_leaves = ap₂ left (reset s.attribute) home_is
 
-  no_colour : (agreed : Kind → Bool) (a : ℕ) → a ≡ 0x07 → IsTrue (list_all agreed (kind_if (not (a == 0x07)) ClearInColour))
+  no_colour : (agreed : Kind → Bool) (a : ℕ) → a ≡ 0x07
+      → IsTrue (list_all agreed (kind_if (not (a == 0x07)) ClearInColour))
   no_colour agreed a e = rw e refl
 
 -- no kind arises in it, and behind it no others than from the cleared start
@@ -137,6 +139,7 @@ module _ (z : Size) (agreed : Kind → Bool) (p : Behaviour) (player : IsPlayer 
 
   pub mended_is_shown : MendedIsShown p z agreed
   mended_is_shown content picture good each m s at start stands stated =
-      good_is_shown z agreed p player all_known content picture good each (fold p.plays m mending_spelled) (cleared z) at
+      good_is_shown z agreed p player all_known content picture good each
+      (fold p.plays m mending_spelled) (cleared z) at
       (low_is_start z all_known good.size.some_columns)
       (stands_cleared good.size.some_columns m s start stands) stated

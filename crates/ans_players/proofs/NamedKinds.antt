@@ -10,8 +10,10 @@ use Rattle.ans_model.proofs.OneCause.{is_cleared}
 use Rattle.ans_model.proofs.Slices.{slice_get-take}
 use Rattle.ans_model.proofs.StartLemmas.{low_is_start}
 use Rattle.ans_players.specs.declared.kind.Kind.{Kind}
-use Rattle.ans_players.specs.declared.kind.Kind.TheVariants.{WrapAtOnce, LineEnds, HomeOnClear, ClearInColour, SavePlaceOnly, DosColours}
-use Rattle.ans_players.specs.declared.kind.Kind.TheVariants.{TabPrints, LineErased, WrapOff, StopsAtEdge, PageControls, TerminalControls}
+use Rattle.ans_players.specs.declared.kind.Kind.TheVariants.{WrapAtOnce, LineEnds, HomeOnClear, ClearInColour}
+use Rattle.ans_players.specs.declared.kind.Kind.TheVariants.{SavePlaceOnly, DosColours}
+use Rattle.ans_players.specs.declared.kind.Kind.TheVariants.{TabPrints, LineErased, WrapOff, StopsAtEdge}
+use Rattle.ans_players.specs.declared.kind.Kind.TheVariants.{PageControls, TerminalControls}
 use Rattle.ans_players.specs.Grips.{Stand, firmly}
 use Rattle.ans_players.specs.Situations.{Spelled, situations, is_agreed, spelled, stand_behind, stand_of, AreAgreed}
 use Rattle.ans_players.specs.Kinds.{all_kinds, is_kind, kind_number}
@@ -51,7 +53,8 @@ module _ (agreed : Kind → Bool) (kind : Kind) where
   ]
 
   module _ (z : Size) where
-    times_here : (h : Stand) (x : Spelled) (xs : List Spelled) → IsTrue (arises kind z h x) → 0 < times kind z h (x ∷ xs)
+    times_here : (h : Stand) (x : Spelled) (xs : List Spelled) → IsTrue (arises kind z h x)
+        → 0 < times kind z h (x ∷ xs)
     times_here h x xs here =
         let one : ◌≡◌ {A = ℕ} (if arises kind z h x then 1 else 0) 1 = ap one_if here in
         omega (arith, one)

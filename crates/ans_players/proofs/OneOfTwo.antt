@@ -51,7 +51,8 @@ PrintsAtOne t h p q = Unit {0}
 module _ (z : Size) where
   -- where a token leads
   abbrev leads : TokenKind → Footing → Position → Bool → Footing
-  leads t w saved wrap = record { grip = grip_of z t w.grip w.cursor wrap; cursor = cursor_after z t w.cursor saved wrap }
+  leads t w saved wrap =
+      record { grip = grip_of z t w.grip w.cursor wrap; cursor = cursor_after z t w.cursor saved wrap }
 
   same_place : (g g' : Grip) (c c' : Position) → g ≡ g' → c ≡ c'
       → ◌≡◌ {A = Footing} (record { grip = g; cursor = c }) (record { grip = g'; cursor = c' })

@@ -4,7 +4,8 @@ use Rattle.std.proofs.lemmas.Bool.{eqb-true, and_parts}
 use Rattle.std.proofs.lemmas.List.Folds.{list_all-append}
 use Rattle.std.specs.Prelude.{IsTrue, not, ◌==◌, filter, if◌then◌else◌}
 use Rattle.std.specs.List.{list_all}
-use Rattle.ans_model.specs.Sequence.TokenKind.{TokenKind, Glyph, Bell, BackSpace, Tab, Clear, EraseLine, Restore, Colours}
+use Rattle.ans_model.specs.Sequence.TokenKind.{TokenKind, Glyph, Bell, BackSpace, Tab, Clear, EraseLine, Restore}
+use Rattle.ans_model.specs.Sequence.TokenKind.{Colours}
 use Rattle.ans_model.specs.Sequence.TokenKind.{Wrap}
 use Rattle.ans_model.specs.Screen.State.{Size, State, cell_at}
 use Rattle.ans_model.specs.Screen.Step.{step}
@@ -17,7 +18,8 @@ use Rattle.ans_players.specs.Situations.{token_kinds, kind_if, is_common_colour,
 use Rattle.ans_players.specs.Situations.{is_terminal_control}
 use Rattle.ans_players.specs.Witnesses.{IsProfilePlayer, stepping}
 use Rattle.ans_players.specs.WitnessesByToken.{PartsWhereKindsArise, grey_step, unrestored_step, few_colours_step}
-use Rattle.ans_players.specs.WitnessesByToken.{skipping_step, unerased_step, wrapping_step, bell_drawn_step, undrawn_step}
+use Rattle.ans_players.specs.WitnessesByToken.{skipping_step, unerased_step, wrapping_step, bell_drawn_step}
+use Rattle.ans_players.specs.WitnessesByToken.{undrawn_step}
 use Rattle.ans_players.proofs.OneOfTwo.{parts_agreed}
 
 pub parting : PartsWhereKindsArise

@@ -1,4 +1,4 @@
--- Whether tokens are agreed from every start of a class can be looked up, since kinds look at the parts of a start alone.
+-- Whether tokens are agreed from every start of a class can be looked up, since no kind looks at a cell.
 use Rattle.std.proofs.Common.{◌≡◌, inl, inr, ℕ, zero, suc, ◌+◌, ◌<◌, Bool, true, false, refl, ap, sym, ◌∙◌, List}
 use Rattle.std.proofs.Common.{[], ◌∷◌, take, fold, Some, arith, replicate, ◌⊎◌, lit<}
 use Rattle.std.proofs.lemmas.Bool.{and_parts, and_from, cases_Bool, cases_eq}

@@ -14,7 +14,8 @@ use Rattle.ans_model.specs.Sequence.Meaning.{meaning}
 use Rattle.ans_model.specs.Sequence.Reads.{SpellsToken, kind_of_byte}
 
 -- a byte outside sequences
-pub of_byte : (byte : ℕ) (t : TokenKind) → byte < 256 → byte ≢ escape → t ≡ kind_of_byte byte → SpellsToken t (byte ∷ [])
+pub of_byte : (byte : ℕ) (t : TokenKind) → byte < 256 → byte ≢ escape → t ≡ kind_of_byte byte
+    → SpellsToken t (byte ∷ [])
 of_byte byte t lt not_escape e =
     inl (record { byte = byte; is_byte = lt; not_escape = not_escape; whole = refl; means = e })
 

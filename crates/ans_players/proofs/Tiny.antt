@@ -1,5 +1,6 @@
 -- Content on tiny screens: tests that compute say that it is good, and of which kind.
-use Rattle.std.proofs.Common.{◌≡◌, ◌≢◌, ℕ, zero, suc, ◌+◌, ◌*◌, ◌<◌, ◌≤◌, Bool, true, false, List, [], ◌∷◌, take, refl, ap}
+use Rattle.std.proofs.Common.{◌≡◌, ◌≢◌, ℕ, zero, suc, ◌+◌, ◌*◌, ◌<◌, ◌≤◌, Bool, true, false, List, [], ◌∷◌, take}
+use Rattle.std.proofs.Common.{refl, ap}
 use Rattle.std.proofs.Common.{sym, ◌∙◌, Option, Some, None, arith, subst, fold, replicate, All, inl, inr}
 use Rattle.std.proofs.lemmas.Bool.{and_parts, eq-eqb, lt-ltb}
 use Rattle.std.proofs.lemmas.List.{length-take-le}
@@ -73,7 +74,8 @@ above_is z s above e = fails (s.cursor.row == z.lines) above (eq-eqb s.cursor.ro
 
 no_static : (z : Size) (s : State) (t : TokenKind) (cause : Cause) → IsTrue (is_fine z s t) → ¬ HasStaticFault z t cause
 no_static z s (Place row column) OutsideScreen fine (inl below) =
-    fails (nat_lt (z.lines + 1) row) (and_parts (not (nat_lt (z.lines + 1) row)) _ fine).0 (lt-ltb (z.lines + 1) row below)
+    fails (nat_lt (z.lines + 1) row) (and_parts (not (nat_lt (z.lines + 1) row)) _ fine).0
+    (lt-ltb (z.lines + 1) row below)
 no_static z s (Place row column) OutsideScreen fine (inr beside) =
     fails (nat_lt z.width column) (and_parts (not (nat_lt (z.lines + 1) row)) _ fine).1 (lt-ltb z.width column beside)
 no_static z s Mode cause fine h = absurd (let none : ⊥ = cc in none)
@@ -167,7 +169,8 @@ cell_number (Some c) = 1 + c.byte + 256 * c.attribute
 abbrev pub are_other : Size → Behaviour → List TokenKind → Position → Option Cell → Bool
 are_other z p tokens at shown = not (cell_number shown == cell_number (cell_at z (picture_of z tokens).cells at))
 
-pub else_by : (kind : Kind) (z : Size) (p : Behaviour) (content : List ℕ) (tokens : List TokenKind) (texts : List (List ℕ))
+pub else_by : (kind : Kind) (z : Size) (p : Behaviour) (content : List ℕ) (tokens : List TokenKind)
+    → (texts : List (List ℕ))
     → IsSize z → AllZip SpellsToken tokens texts → content ≡ concat texts → IsTrue (all_fine z (cleared z) tokens)
     → IsTrue (all_agreed (is_kind kind) z (firmly (cleared z)) (spelled tokens texts))
     → (m : p.Memory) → p.StandsFor m (firmly (cleared z)) → (at : Position) → IsStated z at

@@ -4,7 +4,8 @@ use Rattle.std.proofs.Common.{fold, replicate, arith}
 use Rattle.std.proofs.lemmas.Bool.{ne_eqb}
 use Rattle.std.specs.Prelude.{IsTrue, if◌then◌else◌, nat_lt, ◌==◌}
 use Rattle.ans_model.specs.Bytes.{blank}
-use Rattle.ans_model.specs.Sequence.TokenKind.{TokenKind, Glyph, Bell, Tab, Place, Colours, CarriageReturn, LineFeed, Clear}
+use Rattle.ans_model.specs.Sequence.TokenKind.{TokenKind, Glyph, Bell, Tab, Place, Colours, CarriageReturn, LineFeed}
+use Rattle.ans_model.specs.Sequence.TokenKind.{Clear}
 use Rattle.ans_model.specs.Sequence.TokenKind.{Save}
 use Rattle.ans_model.specs.Screen.State.{Size, State, at, cell_at}
 use Rattle.ans_model.specs.Screen.Step.{step, line_feed, put, printed, tab_blanks}
@@ -124,8 +125,10 @@ module _ (z : Size) where
       (still_after g s t still tt) refl (ap (λ (v : State). step z v t) e)
 
   -- from where it waits
-  from_waiting : (m : Waiting) (s : State) (t : TokenKind) (text : List ℕ) → WaitingStandsFor z Wrapped m s → StaysAbove z s t
-      → IsTrue (is_agreed (all_but WrapAtOnce) z (record { grip = Wrapped; state = s }) (record { token = t; text = text }))
+  from_waiting : (m : Waiting) (s : State) (t : TokenKind) (text : List ℕ) → WaitingStandsFor z Wrapped m s
+      → StaysAbove z s t
+      → IsTrue (is_agreed (all_but WrapAtOnce) z (record { grip = Wrapped; state = s })
+      (record { token = t; text = text }))
       → WaitingStandsFor z (grip_after z Wrapped s t) (waiting_step z m t) (step z s t)
   from_waiting m s (Glyph byte) text h above a = put_stands Wrapped m s byte h above
   from_waiting m s (Place row column) text h above a = (refl, ap (λ (v : State). step z v (Place row column)) h.2)
@@ -134,7 +137,8 @@ module _ (z : Size) where
   from_waiting m s Bell text h above a = h
   from_waiting m s t text h above a = let no : false ≡ true = a in absurd (let none : ⊥ = cc in none)
 
-  along : (g : Grip) (m : Waiting) (s : State) (t : TokenKind) (text : List ℕ) → WaitingStandsFor z g m s → StaysAbove z s t
+  along : (g : Grip) (m : Waiting) (s : State) (t : TokenKind) (text : List ℕ) → WaitingStandsFor z g m s
+      → StaysAbove z s t
       → IsTrue (is_agreed (all_but WrapAtOnce) z (record { grip = g; state = s }) (record { token = t; text = text }))
       → WaitingStandsFor z (grip_after z g s t) (waiting_step z m t) (step z s t)
   along Wrapped m s t text h above a = from_waiting m s t text h above a

@@ -1,6 +1,7 @@
 -- How firmly players stand where the profile stands.
 use Rattle.std.specs.Prelude.{Bool, true, false, ◌&&◌, ◌==◌, List, [], ◌∷◌, if◌then◌else◌}
-use Rattle.ans_model.specs.Sequence.TokenKind.{TokenKind, Glyph, Bell, LineFeed, CarriageReturn, Tab, Place, Clear, Save}
+use Rattle.ans_model.specs.Sequence.TokenKind.{TokenKind, Glyph, Bell, LineFeed, CarriageReturn, Tab, Place, Clear}
+use Rattle.ans_model.specs.Sequence.TokenKind.{Save}
 use Rattle.ans_model.specs.Sequence.TokenKind.{Colours}
 use Rattle.ans_model.specs.Screen.State.{Size, State}
 use Rattle.ans_model.specs.Screen.Step.{step}

@@ -38,8 +38,8 @@ abbrev pub MendedIsAgreed : Type 0
 MendedIsAgreed = (agreed : Kind → Bool) (z : Size) (class : Start) (xs : List Spelled) → 0 < z.width
     → AreAgreed agreed z all_known xs ↔ AreAgreed agreed z class (mending_spelled ++ xs)
 
--- Good content in which no kinds but agreed ones arise from the cleared start shows its picture behind the mending, from
--- every start.
+-- Good content in which no kinds but agreed ones arise from the cleared start shows its picture behind the mending,
+-- from every start.
 abbrev pub MendedIsShown : Behaviour → Size → (Kind → Bool) → Type 0
 MendedIsShown p z agreed = (content : List ℕ) (picture : Picture) (good : GoodWith z all_known content picture)
     → AreAgreed agreed z all_known (spelled good.tokens good.reads.0)

@@ -1,7 +1,8 @@
 -- Players that part from the profile at a token alone.
 use Rattle.std.specs.Prelude.{◌≡◌, ◌+◌, ◌-◌, min, Bool, false, IsTrue, if◌then◌else◌, filter}
 use Rattle.std.specs.List.{list_all}
-use Rattle.ans_model.specs.Sequence.TokenKind.{TokenKind, Glyph, Bell, BackSpace, Tab, Clear, EraseLine, Restore, Colours}
+use Rattle.ans_model.specs.Sequence.TokenKind.{TokenKind, Glyph, Bell, BackSpace, Tab, Clear, EraseLine, Restore}
+use Rattle.ans_model.specs.Sequence.TokenKind.{Colours}
 use Rattle.ans_model.specs.Sequence.TokenKind.{Wrap}
 use Rattle.ans_model.specs.Screen.State.{Size, State, at}
 use Rattle.ans_model.specs.Screen.Step.{step, put, tab_blanks}

@@ -4,18 +4,23 @@
 //! content named is played from the cleared start, in which no other kind arises. So no kind can be left
 //! out, and to agree on a kind says something.
 
-ghost use Rattle.std.specs.Prelude.{[], ◌∷◌, ◌++◌, codes};
+ghost use Rattle.std.proofs.Common.{ap};
+ghost use Rattle.std.specs.Prelude.{[], ◌∷◌, ◌++◌, codes, false};
 ghost use Rattle.ans_model.specs.Bytes.{escape};
-ghost use Rattle.ans_model.specs.Screen.State.{sized};
+ghost use Rattle.ans_model.specs.Screen.State.{State, cell_at, sized};
+ghost use Rattle.ans_model.specs.Screen.Step.{step};
 ghost use Rattle.ans_players.specs.declared.kind.Kind.TheVariants.{WrapAtOnce, LineEnds, HomeOnClear, ClearInColour};
 ghost use Rattle.ans_players.specs.declared.kind.Kind.TheVariants.{SavePlaceOnly, DosColours, TabPrints, LineErased};
 ghost use Rattle.ans_players.specs.declared.kind.Kind.TheVariants.{WrapOff, StopsAtEdge, PageControls};
 ghost use Rattle.ans_players.specs.declared.kind.Kind.TheVariants.{TerminalControls};
 ghost use Rattle.ans_players.specs.OwnKind.{PartsIn};
-ghost use Rattle.ans_players.specs.Witnesses.{IsProfilePlayer, IsTallPlayer, feeding, saving, staying, stepping, taller, waiting};
+ghost use Rattle.ans_players.specs.Witnesses.{IsProfilePlayer, IsTallPlayer, feeding, profile, saving};
+ghost use Rattle.ans_players.specs.Witnesses.{staying, stepping, taller, waiting};
 ghost use Rattle.ans_players.specs.WitnessesByToken.{PartsWhereKindsArise, bell_drawn_step, few_colours_step, grey_step};
 ghost use Rattle.ans_players.specs.WitnessesByToken.{skipping_step, undrawn_step, unerased_step, unrestored_step};
 ghost use Rattle.ans_players.specs.WitnessesByToken.{wrapping_step};
+
+use crate::player::Player;
 
 /// The profile is a player, whatever is agreed.
 pub fn profile_is_a_player()
@@ -98,3 +103,19 @@ pub fn bell_drawing_player_parts()
 pub fn undrawing_player_parts()
     ensures { PartsIn TerminalControls (stepping undrawn_step) (sized 1 1) (0x01 ∷ []) }
 {}
+
+/// The profile as a player, on a screen of 80 columns and 25 lines.
+pub struct Profile;
+
+impl Player for Profile {
+    ghost size = { sized 80 25 };
+
+    ghost agreed = { λ kind. false };
+
+    ghost behaviour = { profile (sized 80 25) };
+
+    ghost is_player = { record {
+      shows_the_same = λ m h p e stated. ap (λ (v : State). cell_at (sized 80 25) v.screen p) e;
+      goes_along = λ m h x e allowed a. ap (λ (v : State). step (sized 80 25) v x.token) e;
+    } };
+}
