@@ -33,22 +33,22 @@ pub record IsFoundBySame (agreed : Kind → Bool) (z : Size) (content : List ℕ
   pub colours : (class.colours ≡ false) ↔ IsSame agreed z all_but_colours content
   pub wrap : (class.wrap ≡ false) ↔ IsSame agreed z all_but_wrap content
 
--- content in which no kinds but agreed ones arise from the cleared start, and the least class for which it is good
+-- no kinds but agreed ones arise in the content from the cleared start, and this is the least class for which it is good
 pub record IsCalm (agreed : Kind → Bool) (z : Size) (content : List ℕ) (needs : Start) : Type 0 where
   pub same : IsSame agreed z all_known content
   pub least : IsLeast z content needs
 
--- It is the same for one least class,
+-- Such content is the same for one least class.
 abbrev pub LeastSameExists : Type 0
 LeastSameExists = (agreed : Kind → Bool) (z : Size) (content : List ℕ) (needs : Start) → IsCalm agreed z content needs
     → (class : Start) × IsLeastSame agreed z content class
 
--- the only one,
+-- A content has one such class at most.
 abbrev pub LeastSameIsOne : Type 0
 LeastSameIsOne = (agreed : Kind → Bool) (z : Size) (content : List ℕ) (a b : Start)
     → IsLeastSame agreed z content a → IsLeastSame agreed z content b → a ≡ b
 
--- which is found part by part.
+-- It is found part by part.
 abbrev pub LeastSameIsFound : Type 0
 LeastSameIsFound = (agreed : Kind → Bool) (z : Size) (content : List ℕ) (needs class : Start)
     → IsCalm agreed z content needs → IsFoundBySame agreed z content needs class → IsLeastSame agreed z content class

@@ -3,36 +3,36 @@
 ghost use Rattle.std.specs.Prelude.{◌≡◌};
 ghost use Rattle.ans_players.specs.Kinds.{all_kinds, kind_number, kind_word};
 
-/// A kind of behaviour in which players part: what the profile does there, and what some player does
-/// otherwise.
+/// A kind of behaviour in which players part: what the profile does, and what some players do otherwise.
 #[derive(Debug, Clone, Copy, PartialEq, Eq)]
 pub enum Kind {
-    /// A byte printed in the last column takes the cursor to the next row at once. Terminals wait at the
-    /// edge for the next byte.
+    /// A byte printed in the last column takes the cursor to the next row at once. Terminals wait there
+    /// for the next byte.
     WrapAtOnce,
-    /// A line feed goes straight down, and a return goes back in its row. Some players return at a line
-    /// feed too, and of those one does nothing at a return.
+    /// A line feed goes straight down, and a return goes back in its row. For some players a line feed
+    /// returns too, and for one of them a return does nothing.
     LineEnds,
-    /// A clear takes the cursor home. In terminals it stays where it was.
+    /// A clear takes the cursor home. In terminals it stays where it is.
     HomeOnClear,
-    /// What is cleared or erased has the current colours. Some players clear in grey on black.
+    /// What is cleared or erased has the current attribute. Some players clear white on black.
     ClearInColour,
-    /// `ESC[s` and `ESC[u` keep the place of the cursor and nothing else. Terminals keep the colours too;
-    /// some know neither, and in some `ESC[s` goes home.
+    /// `ESC[s` keeps the cursor's place, `ESC[u` goes back to it, and neither does anything else. Many
+    /// terminals keep the colours too, some know neither, and one goes home at `ESC[s`.
     SavePlaceOnly,
     /// Numbers of colours other than 0, 1, 5, 30 to 37 and 40 to 47 do what ANSI.SYS does, and an omitted
-    /// one is 0. Players give them other meanings, and one sees no omitted number.
+    /// one is 0. Players give them other meanings or none, and one does nothing at an omitted number.
     DosColours,
-    /// A tab prints blanks. Terminals move on and print nothing.
+    /// A tab prints blanks. Terminals move to the next stop and print nothing.
     TabPrints,
     /// `ESC[K` blanks the rest of the row. One player does nothing.
     LineErased,
     /// `ESC[?7l` turns wrap off. Some players go on wrapping.
     WrapOff,
-    /// A move right stops in the last column, and a move down in the last row. Some players go on to the
-    /// next row, and most screens have more rows than a drawing states.
+    /// A move right stops in the last column, and a move down in the spare row. One player goes on past
+    /// the last column, and most screens have more rows than a drawing states.
     StopsAtEdge,
-    /// 00h, 0Bh and 0Ch are drawn, 07h and 08h are heeded. Players of code page 437 differ in these too.
+    /// 00h, 0Bh and 0Ch are drawn, 07h does nothing and 08h goes back. Players of code page 437 do
+    /// otherwise too.
     PageControls,
     /// 01h to 06h, 0Eh to 19h, 1Ch to 1Fh and 7Fh are drawn. Terminals alone do not draw them.
     TerminalControls,

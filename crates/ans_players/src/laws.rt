@@ -13,7 +13,8 @@ ghost use Rattle.ans_players.specs.Witnesses.{IsStrictPlayer, StrictTells};
 use crate::player::Player;
 
 /// Where no kinds but agreed ones arise from any start of the class, good content shows its picture on
-/// every player, from every memory that stands firmly for a start of the class.
+/// every player that does as the profile does in those, from every memory that stands firmly for a start
+/// of the class.
 pub fn shows_everywhere<P: Player>()
     ensures { (class : Start) (content : List ℕ) (picture : Picture)
         → (good : GoodWith P.size class content picture)
@@ -21,9 +22,8 @@ pub fn shows_everywhere<P: Player>()
         → IsShown P.behaviour P.size class (spelled good.tokens good.reads.0) picture }
 {}
 
-/// The strictest player shows nothing any more once a kind has arisen that is not agreed. Good content
-/// shows its picture on it exactly where no kinds but agreed ones arise from any start of the class, and so
-/// does content that shows its picture on every player.
+/// And only there. The strictest player shows nothing any more once a kind has arisen that is not agreed,
+/// so good content shows its picture on it exactly where no kinds but agreed ones arise.
 pub fn strictest_player_tells()
     ensures player { IsStrictPlayer }
     ensures tells { StrictTells }
@@ -51,8 +51,8 @@ pub fn one_least_class_of_players()
     ensures found { LeastSameIsFound }
 {}
 
-/// `ESC[?7h ESC[0m ESC[2J ESC[H ESC[s`, 19 bytes without the blanks between them, are read as five tokens
-/// at which no kind arises, from whichever start; and behind them those that arise from the cleared start.
+/// `ESC[?7h ESC[0m ESC[2J ESC[H ESC[s`, 19 bytes without the blanks between them, are read as five tokens.
+/// No kind arises at them from any start, and behind them those that arise from the cleared start.
 pub fn mended_tokens_are_agreed()
     ensures read { MendingIsRead }
     ensures agreed { MendedIsAgreed }

@@ -1,8 +1,9 @@
-//! Players: the profile, and one for each kind that parts from it in that kind alone.
+//! Players: the profile, and for each kind one that parts from it in that kind alone.
 //!
-//! Each is a player that does as the profile does in all other kinds, and shows something else where the
-//! content named is played from the cleared start, in which no other kind arises. So no kind can be left
-//! out, and to agree on a kind says something.
+//! Each of these is a player that does as the profile does in all other kinds, and may stand firmly for
+//! each state. In the content that is named, played from the cleared start, no kind but its own arises, and
+//! it shows something else. So no kind can be left out, and the players of which the laws speak are not
+//! the profile alone. Where no size is named, one column and one line are stated.
 
 ghost use Rattle.std.proofs.Common.{ap};
 ghost use Rattle.std.specs.Prelude.{[], ◌∷◌, ◌++◌, codes, false};
@@ -32,74 +33,83 @@ pub fn players_may_part_where_kinds_arise()
     ensures { PartsWhereKindsArise }
 {}
 
-/// A player waits in the last column for the next byte, as terminals do. On a screen of one column `A`, CR,
-/// LF and `B` show something else on it.
+/// One that waits in the last column for the next byte, as terminals do. In one column `A`, CR, LF and `B`
+/// show something else on it.
 pub fn waiting_player_parts()
     ensures { PartsIn WrapAtOnce waiting (sized 1 3) (codes "A\r\nB") }
 {}
 
-/// On a player a line feed returns, and a return does nothing, as in ansilove. In two columns `A`, LF and `B`
-/// show something else on it.
+/// One for which a line feed returns and a return does nothing. In two columns `A`, LF and `B` show
+/// something else on it.
 pub fn feeding_player_parts()
     ensures { PartsIn LineEnds feeding (sized 2 2) (codes "A\nB") }
 {}
 
-/// A player's cursor stays where it is on a clear, as in terminals. In two columns `A ESC[2J B` shows
-/// something else on it.
+/// One whose cursor stays on a clear, as in terminals. In two columns `A ESC[2J B` shows something else on
+/// it.
 pub fn staying_player_parts()
-    ensures { PartsIn HomeOnClear staying (sized 2 1) (codes "A" ++ (escape ∷ codes "[2J") ++ codes "B") }
+    ensures { PartsIn HomeOnClear staying (sized 2 1)
+        (codes "A" ++ (escape ∷ codes "[2J") ++ codes "B") }
 {}
 
-/// On a player what is cleared or erased is white on black. `ESC[41m ESC[2J` shows something else on it.
+/// One on which what is cleared or erased is white on black. `ESC[41m ESC[2J` shows something else on it.
 pub fn grey_player_parts()
-    ensures { PartsIn ClearInColour (stepping grey_step) (sized 1 1) ((escape ∷ codes "[41m") ++ (escape ∷ codes "[2J")) }
+    ensures { PartsIn ClearInColour (stepping grey_step) (sized 1 1)
+        ((escape ∷ codes "[41m") ++ (escape ∷ codes "[2J")) }
 {}
 
-/// A player's cursor goes home on a save. In two columns `A ESC[s B` shows something else on it.
+/// One whose cursor goes home on a save. In two columns `A ESC[s B` shows something else on it.
 pub fn saving_player_parts()
-    ensures { PartsIn SavePlaceOnly saving (sized 2 1) (codes "A" ++ (escape ∷ codes "[s") ++ codes "B") }
+    ensures { PartsIn SavePlaceOnly saving (sized 2 1)
+        (codes "A" ++ (escape ∷ codes "[s") ++ codes "B") }
 {}
 
-/// On a player `ESC[u` does nothing. In two columns `A ESC[u B` shows something else on it.
+/// One that does nothing at `ESC[u`. In two columns `A ESC[u B` shows something else on it.
 pub fn unrestored_player_parts()
-    ensures { PartsIn SavePlaceOnly (stepping unrestored_step) (sized 2 1) (codes "A" ++ (escape ∷ codes "[u") ++ codes "B") }
+    ensures { PartsIn SavePlaceOnly (stepping unrestored_step) (sized 2 1)
+        (codes "A" ++ (escape ∷ codes "[u") ++ codes "B") }
 {}
 
-/// On a player the numbers of colours that not all take alike do nothing. `ESC[4m A` shows something else
-/// on it.
+/// One for which a number of a colour that not all players take alike does nothing. `ESC[4m A` shows
+/// something else on it.
 pub fn few_colours_player_parts()
-    ensures { PartsIn DosColours (stepping few_colours_step) (sized 1 1) ((escape ∷ codes "[4m") ++ codes "A") }
+    ensures { PartsIn DosColours (stepping few_colours_step) (sized 1 1)
+        ((escape ∷ codes "[4m") ++ codes "A") }
 {}
 
-/// On a player a tab goes to the next stop and prints nothing. In eight columns `ESC[41m ESC[7C` and a tab
+/// One that goes to the next stop at a tab and prints nothing. In eight columns `ESC[41m ESC[7C` and a tab
 /// show something else on it.
 pub fn skipping_player_parts()
-    ensures { PartsIn TabPrints (stepping skipping_step) (sized 8 1) ((escape ∷ codes "[41m") ++ (escape ∷ codes "[7C") ++ codes "\t") }
+    ensures { PartsIn TabPrints (stepping skipping_step) (sized 8 1)
+        ((escape ∷ codes "[41m") ++ (escape ∷ codes "[7C") ++ codes "\t") }
 {}
 
-/// On a player `ESC[K` does nothing. `A ESC[H ESC[K` shows something else on it.
+/// One that erases no line. `A ESC[H ESC[K` shows something else on it.
 pub fn unerased_player_parts()
-    ensures { PartsIn LineErased (stepping unerased_step) (sized 1 1) (codes "A" ++ (escape ∷ codes "[H") ++ (escape ∷ codes "[K")) }
+    ensures { PartsIn LineErased (stepping unerased_step) (sized 1 1)
+        (codes "A" ++ (escape ∷ codes "[H") ++ (escape ∷ codes "[K")) }
 {}
 
-/// On a player `ESC[?7l` does nothing. In one column `ESC[?7l AB` shows something else on it.
+/// One that never turns wrap off. In one column and two lines `ESC[?7l AB` shows something else on it.
 pub fn wrapping_player_parts()
-    ensures { PartsIn WrapOff (stepping wrapping_step) (sized 1 2) ((escape ∷ codes "[?7l") ++ codes "AB") }
+    ensures { PartsIn WrapOff (stepping wrapping_step) (sized 1 2)
+        ((escape ∷ codes "[?7l") ++ codes "AB") }
 {}
 
-/// A screen of more lines than are stated is a player. With one line more, `ESC[2B ESC[A A` shows something
-/// else on it where one line is stated.
+/// The profile on a screen of more lines than are stated. With one line more `ESC[2B ESC[A A` shows
+/// something else on it than where one line is stated.
 pub fn taller_player_parts()
     ensures taller { IsTallPlayer }
-    ensures parts { PartsIn StopsAtEdge taller (sized 1 1) ((escape ∷ codes "[2B") ++ (escape ∷ codes "[A") ++ codes "A") }
+    ensures parts { PartsIn StopsAtEdge taller (sized 1 1)
+        ((escape ∷ codes "[2B") ++ (escape ∷ codes "[A") ++ codes "A") }
 {}
 
-/// On a player 07h and 08h are drawn. 07h shows something else on it.
+/// One that draws 07h and 08h. 07h shows something else on it.
 pub fn bell_drawing_player_parts()
     ensures { PartsIn PageControls (stepping bell_drawn_step) (sized 1 1) (0x07 ∷ []) }
 {}
 
-/// On a player the control bytes that terminals alone do not draw do nothing. 01h shows something else on it.
+/// One that draws no control byte that terminals do not draw. 01h shows something else on it.
 pub fn undrawing_player_parts()
     ensures { PartsIn TerminalControls (stepping undrawn_step) (sized 1 1) (0x01 ∷ []) }
 {}
