@@ -12,12 +12,12 @@ use Rattle.ans_players.specs.declared.kind.Kind.TheVariants.{WrapAtOnce, LineEnd
 use Rattle.ans_players.specs.declared.kind.Kind.TheVariants.{SavePlaceOnly, DosColours, TabPrints, LineErased, WrapOff}
 use Rattle.ans_players.specs.declared.kind.Kind.TheVariants.{StopsAtEdge, PageControls, TerminalControls}
 use Rattle.ans_players.specs.OwnKind.{ShowsElse}
-use Rattle.ans_players.specs.Witnesses.{waiting, staying, saving, feeding, taller, stepping, TallStandsFor}
-use Rattle.ans_players.specs.WitnessesByToken.{grey_step, unrestored_step, few_colours_step}
+use Rattle.ans_players.specs.Witnesses.{waiting, staying, saving, feeding, taller, by_token, stepping, TallStandsFor}
+use Rattle.ans_players.specs.WitnessesByToken.{unseen_step, grey_step, unrestored_step, few_colours_step}
 use Rattle.ans_players.specs.WitnessesByToken.{skipping_step, unerased_step, wrapping_step, bell_drawn_step}
 use Rattle.ans_players.specs.WitnessesByToken.{undrawn_step}
 use Rattle.ans_players.proofs.Spellings.{of_byte, wrap_off, on_red, underlined, clear, seven_right, two_down, one_up}
-use Rattle.ans_players.proofs.Spellings.{home, line_erased, save, restore}
+use Rattle.ans_players.proofs.Spellings.{home, no_number, line_erased, save, restore}
 use Rattle.ans_players.proofs.Tiny.{else_by}
 
 spells_a : SpellsToken (Glyph 0x41) (codes "A")
@@ -73,74 +73,85 @@ saving_else =
     (cleared (sized 2 1)) refl (at 0 0) (omega arith, omega arith) refl
 
 -- on red a clear
-pub grey_else : ShowsElse ClearInColour (sized 1 1) (stepping grey_step (sized 1 1))
+pub grey_else : ShowsElse ClearInColour (sized 1 1) (by_token grey_step (sized 1 1))
     ((escape ∷ codes "[41m") ++ (escape ∷ codes "[2J"))
 grey_else =
-    else_by ClearInColour (sized 1 1) (stepping grey_step (sized 1 1))
+    else_by ClearInColour (sized 1 1) (by_token grey_step (sized 1 1))
     ((escape ∷ codes "[41m") ++ (escape ∷ codes "[2J"))
     (Colours (41 ∷ []) ∷ Clear ∷ []) ((escape ∷ codes "[41m") ∷ (escape ∷ codes "[2J") ∷ [])
     (some 0 0) (on_red, (clear, tt)) refl refl refl (cleared (sized 1 1)) refl (at 0 0) (omega arith, omega arith) refl
 
 -- in two columns A, ESC[u and B
-pub unrestored_else : ShowsElse SavePlaceOnly (sized 2 1) (stepping unrestored_step (sized 2 1))
+pub unrestored_else : ShowsElse SavePlaceOnly (sized 2 1) (by_token unrestored_step (sized 2 1))
     (codes "A" ++ (escape ∷ codes "[u") ++ codes "B")
 unrestored_else =
-    else_by SavePlaceOnly (sized 2 1) (stepping unrestored_step (sized 2 1))
+    else_by SavePlaceOnly (sized 2 1) (by_token unrestored_step (sized 2 1))
     (codes "A" ++ (escape ∷ codes "[u") ++ codes "B")
     (Glyph 0x41 ∷ Restore ∷ Glyph 0x42 ∷ []) ((codes "A") ∷ (escape ∷ codes "[u") ∷ (codes "B") ∷ [])
     (some 1 0) (spells_a, (restore, (spells_b, tt))) refl refl refl
     (cleared (sized 2 1)) refl (at 0 0) (omega arith, omega arith) refl
 
 -- ESC[4m, which is blue, and A
-pub few_colours_else : ShowsElse DosColours (sized 1 1) (stepping few_colours_step (sized 1 1))
+pub few_colours_else : ShowsElse DosColours (sized 1 1) (by_token few_colours_step (sized 1 1))
     ((escape ∷ codes "[4m") ++ codes "A")
 few_colours_else =
-    else_by DosColours (sized 1 1) (stepping few_colours_step (sized 1 1)) ((escape ∷ codes "[4m") ++ codes "A")
+    else_by DosColours (sized 1 1) (by_token few_colours_step (sized 1 1)) ((escape ∷ codes "[4m") ++ codes "A")
     (Colours (4 ∷ []) ∷ Glyph 0x41 ∷ []) ((escape ∷ codes "[4m") ∷ (codes "A") ∷ [])
     (some 0 0) (underlined, (spells_a, tt)) refl refl refl
     (cleared (sized 1 1)) refl (at 0 0) (omega arith, omega arith)
     refl
 
+-- on red ESC[m and A
+pub unseen_else : ShowsElse DosColours (sized 1 1) (stepping unseen_step (sized 1 1))
+    ((escape ∷ codes "[41m") ++ (escape ∷ codes "[m") ++ codes "A")
+unseen_else =
+    else_by DosColours (sized 1 1) (stepping unseen_step (sized 1 1))
+    ((escape ∷ codes "[41m") ++ (escape ∷ codes "[m") ++ codes "A")
+    (Colours (41 ∷ []) ∷ Colours (0 ∷ []) ∷ Glyph 0x41 ∷ [])
+    ((escape ∷ codes "[41m") ∷ (escape ∷ codes "[m") ∷ (codes "A") ∷ [])
+    (some 0 0) (on_red, (no_number, (spells_a, tt))) refl refl refl
+    (cleared (sized 1 1)) refl (at 0 0) (omega arith, omega arith) refl
+
 -- on red, seven columns on, a tab of one blank
-pub skipping_else : ShowsElse TabPrints (sized 8 1) (stepping skipping_step (sized 8 1))
+pub skipping_else : ShowsElse TabPrints (sized 8 1) (by_token skipping_step (sized 8 1))
     ((escape ∷ codes "[41m") ++ (escape ∷ codes "[7C") ++ codes "\t")
 skipping_else =
-    else_by TabPrints (sized 8 1) (stepping skipping_step (sized 8 1))
+    else_by TabPrints (sized 8 1) (by_token skipping_step (sized 8 1))
     ((escape ∷ codes "[41m") ++ (escape ∷ codes "[7C") ++ codes "\t") (Colours (41 ∷ []) ∷ Forward 7 ∷ Tab ∷ [])
     ((escape ∷ codes "[41m") ∷ (escape ∷ codes "[7C") ∷ (0x09 ∷ []) ∷ [])
     (some 7 0) (on_red, (seven_right, (tab, tt))) refl refl refl
     (cleared (sized 8 1)) refl (at 0 7) (omega arith, omega arith) refl
 
 -- A, home and ESC[K
-pub unerased_else : ShowsElse LineErased (sized 1 1) (stepping unerased_step (sized 1 1))
+pub unerased_else : ShowsElse LineErased (sized 1 1) (by_token unerased_step (sized 1 1))
     (codes "A" ++ (escape ∷ codes "[H") ++ (escape ∷ codes "[K"))
 unerased_else =
-    else_by LineErased (sized 1 1) (stepping unerased_step (sized 1 1))
+    else_by LineErased (sized 1 1) (by_token unerased_step (sized 1 1))
     (codes "A" ++ (escape ∷ codes "[H") ++ (escape ∷ codes "[K")) (Glyph 0x41 ∷ Place 1 1 ∷ EraseLine ∷ [])
     ((codes "A") ∷ (escape ∷ codes "[H") ∷ (escape ∷ codes "[K") ∷ [])
     (some 0 0) (spells_a, (home, (line_erased, tt))) refl refl refl
     (cleared (sized 1 1)) refl (at 0 0) (omega arith, omega arith) refl
 
 -- in one column wrap turned off, A and B
-pub wrapping_else : ShowsElse WrapOff (sized 1 2) (stepping wrapping_step (sized 1 2))
+pub wrapping_else : ShowsElse WrapOff (sized 1 2) (by_token wrapping_step (sized 1 2))
     ((escape ∷ codes "[?7l") ++ codes "AB")
 wrapping_else =
-    else_by WrapOff (sized 1 2) (stepping wrapping_step (sized 1 2)) ((escape ∷ codes "[?7l") ++ codes "AB")
+    else_by WrapOff (sized 1 2) (by_token wrapping_step (sized 1 2)) ((escape ∷ codes "[?7l") ++ codes "AB")
     (Wrap false ∷ Glyph 0x41 ∷ Glyph 0x42 ∷ []) ((escape ∷ codes "[?7l") ∷ (codes "A") ∷ (codes "B") ∷ [])
     (some 0 1) (wrap_off, (spells_a, (spells_b, tt))) refl refl refl
     (cleared (sized 1 2)) refl (at 0 0) (omega arith, omega arith) refl
 
 -- 07h
-pub bell_drawn_else : ShowsElse PageControls (sized 1 1) (stepping bell_drawn_step (sized 1 1)) (0x07 ∷ [])
+pub bell_drawn_else : ShowsElse PageControls (sized 1 1) (by_token bell_drawn_step (sized 1 1)) (0x07 ∷ [])
 bell_drawn_else =
-    else_by PageControls (sized 1 1) (stepping bell_drawn_step (sized 1 1)) (0x07 ∷ []) (Bell ∷ []) ((0x07 ∷ []) ∷ [])
+    else_by PageControls (sized 1 1) (by_token bell_drawn_step (sized 1 1)) (0x07 ∷ []) (Bell ∷ []) ((0x07 ∷ []) ∷ [])
     (some 0 0) (of_byte 0x07 Bell (lit< tt) (λ e. cc) refl, tt) refl refl refl
     (cleared (sized 1 1)) refl (at 0 0) (omega arith, omega arith) refl
 
 -- 01h
-pub undrawn_else : ShowsElse TerminalControls (sized 1 1) (stepping undrawn_step (sized 1 1)) (0x01 ∷ [])
+pub undrawn_else : ShowsElse TerminalControls (sized 1 1) (by_token undrawn_step (sized 1 1)) (0x01 ∷ [])
 undrawn_else =
-    else_by TerminalControls (sized 1 1) (stepping undrawn_step (sized 1 1)) (0x01 ∷ []) (Glyph 0x01 ∷ [])
+    else_by TerminalControls (sized 1 1) (by_token undrawn_step (sized 1 1)) (0x01 ∷ []) (Glyph 0x01 ∷ [])
     ((0x01 ∷ []) ∷ [])
     (some 0 0) (of_byte 0x01 (Glyph 0x01) (lit< tt) (λ e. cc) refl, tt) refl refl refl
     (cleared (sized 1 1)) refl (at 0 0) (omega arith, omega arith) refl

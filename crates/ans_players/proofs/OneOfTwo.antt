@@ -1,6 +1,6 @@
 -- A play beside two others: each of its parts is that of one of the two.
 use Rattle.std.proofs.Common.{◌≡◌, ◌⊎◌, inl, inr, ℕ, zero, suc, Bool, true, refl, ap, ap₂, ◌∙◌, sym, List}
-use Rattle.std.proofs.Common.{[], ◌∷◌, ◌++◌, fold, take, Some}
+use Rattle.std.proofs.Common.{[], ◌∷◌, fold, take, Some}
 use Rattle.std.proofs.lemmas.Bool.{and_parts, and_from}
 use Rattle.std.proofs.lemmas.List.Folds.{list_all-append}
 use Rattle.std.specs.Prelude.{slice_get, if◌then◌else◌, IsTrue}
@@ -11,7 +11,7 @@ use Rattle.ans_model.specs.Screen.State.{Size}
 use Rattle.ans_model.specs.declared.cell.Position.{Position}
 use Rattle.ans_players.specs.declared.kind.Kind.{Kind}
 use Rattle.ans_players.specs.Grips.{Grip, Stand, stand_after, is_held, loose_kinds}
-use Rattle.ans_players.specs.Situations.{Spelled, is_agreed, token_kinds, spelling_kinds, stand_behind}
+use Rattle.ans_players.specs.Situations.{Spelled, is_agreed, token_kinds, spelling_kinds, own_kinds, stand_behind}
 use Rattle.ans_players.specs.Players.{StaysAbove}
 use Rattle.ans_players.proofs.Afters.{next, cursor_after, saved_after, attribute_after_token, wrap_after}
 use Rattle.ans_players.proofs.Afters.{grip_of, parts_after, grip_is}
@@ -135,13 +135,16 @@ module _ (z : Size) where
     pub token : IsTrue (list_all agreed (token_kinds z h.state x.token))
     pub spelling : IsTrue (list_all agreed (spelling_kinds h.state x.token x.text))
 
-  abbrev other_kinds : Stand → Spelled → List Kind
-  other_kinds h x = token_kinds z h.state x.token ++ spelling_kinds h.state x.token x.text
+  -- the kinds of the token itself are agreed
+  pub own_agreed : (agreed : Kind → Bool) (h : Stand) (x : Spelled) → IsTrue (is_agreed agreed z h x)
+      → IsTrue (list_all agreed (own_kinds z h.state x))
+  own_agreed agreed h x agrees =
+      (and_parts _ _ (sym (list_all-append agreed (grip_kinds h.grip x.token) (own_kinds z h.state x)) ∙ agrees)).1
 
   pub parts_agreed : (agreed : Kind → Bool) (h : Stand) (x : Spelled) → IsTrue (is_agreed agreed z h x)
       → PartsAgreed agreed h x
   parts_agreed agreed h x agrees =
-      let all = and_parts _ _ (sym (list_all-append agreed (grip_kinds h.grip x.token) (other_kinds h x)) ∙ agrees) in
+      let all = and_parts _ _ (sym (list_all-append agreed (grip_kinds h.grip x.token) (own_kinds z h.state x)) ∙ agrees) in
       let others = and_parts _ _ (sym (list_all-append agreed (token_kinds z h.state x.token)
       (spelling_kinds h.state x.token x.text)) ∙ all.1) in
       record { grip = all.0; token = others.0; spelling = others.1 }
@@ -149,7 +152,7 @@ module _ (z : Size) where
   from_parts : (agreed : Kind → Bool) (h : Stand) (x : Spelled) → PartsAgreed agreed h x
       → IsTrue (is_agreed agreed z h x)
   from_parts agreed h x parts =
-      list_all-append agreed (grip_kinds h.grip x.token) (other_kinds h x)
+      list_all-append agreed (grip_kinds h.grip x.token) (own_kinds z h.state x)
       ∙ and_from _ _ parts.grip (list_all-append agreed (token_kinds z h.state x.token)
       (spelling_kinds h.state x.token x.text) ∙ and_from _ _ parts.token parts.spelling)
 

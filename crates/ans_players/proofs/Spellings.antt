@@ -80,6 +80,9 @@ two_down =
     (omega arith, tt) (omega arith) (Down 2) refl
 
 -- a sequence without numbers
+pub no_number : SpellsToken (Colours (0 ∷ [])) (escape ∷ codes "[m")
+no_number = of_sequence (raw_of Unmarked [] 0x6D) [] tt (λ e. cc) refl tt (omega arith) (Colours (0 ∷ [])) refl
+
 pub one_up : SpellsToken (Up 1) (escape ∷ codes "[A")
 one_up = of_sequence (raw_of Unmarked [] 0x41) [] tt (λ e. cc) refl tt (omega arith) (Up 1) refl
 

@@ -39,7 +39,7 @@ is_terminal_control byte =
 abbrev pub is_grey : State → Bool
 is_grey s = s.attribute == 0x07
 
--- The kinds of a token, at whichever grip. Each looks at one part of the state at most.
+-- The kinds of a token, however it is spelled and at whichever grip. Each looks at one part of the state at most.
 abbrev pub token_kinds : Size → State → TokenKind → List Kind
 token_kinds z s (Glyph byte) =
     kind_if (is_page_control byte) PageControls ++ kind_if (is_terminal_control byte) TerminalControls
@@ -77,10 +77,13 @@ spelling_kinds s (Colours parameters) text =
     kind_if (omits text && not (is_grey s && list_all (λ n. n == 0) parameters)) DosColours
 spelling_kinds s t text = []
 
+-- the kinds of a spelled token, at whichever grip
+abbrev pub own_kinds : Size → State → Spelled → List Kind
+own_kinds z s x = token_kinds z s x.token ++ spelling_kinds s x.token x.text
+
 -- The kinds in which players that stand so may part at the token: mostly none.
 abbrev pub situations : Size → Grip → State → Spelled → List Kind
-situations z g s x =
-    (if is_held g x.token then [] else loose_kinds g) ++ (token_kinds z s x.token ++ spelling_kinds s x.token x.text)
+situations z g s x = (if is_held g x.token then [] else loose_kinds g) ++ own_kinds z s x
 
 -- all kinds that arise at the token are agreed
 abbrev pub is_agreed : (Kind → Bool) → Size → Stand → Spelled → Bool

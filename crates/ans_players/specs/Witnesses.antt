@@ -23,17 +23,21 @@ abbrev pub cells_of : Size → State → Position → Option Cell
 cells_of z s p = cell_at z s.screen p
 
 -- ---- the profile
--- what plays tokens so: its memory is a state, which stands for itself at any grip
-abbrev pub stepping : (Size → State → TokenKind → State) → Size → Behaviour
+-- what plays spelled tokens so: its memory is a state, which stands for itself at any grip
+abbrev pub stepping : (Size → State → Spelled → State) → Size → Behaviour
 stepping plays z = record {
   Memory = State;
   shows = cells_of z;
-  plays = λ m x. plays z m x.token;
+  plays = plays z;
   StandsFor = λ m h. m ≡ h.state;
 }
 
+-- what plays tokens so, however they are spelled
+abbrev pub by_token : (Size → State → TokenKind → State) → Size → Behaviour
+by_token plays = stepping (λ z s x. plays z s x.token)
+
 abbrev pub profile : Size → Behaviour
-profile = stepping step
+profile = by_token step
 
 -- it does as the profile does in whatever is agreed
 abbrev pub IsProfilePlayer : Type 0

@@ -1,5 +1,5 @@
 -- Players that part from the profile at a token alone.
-use Rattle.std.specs.Prelude.{◌≡◌, ◌+◌, ◌-◌, min, Bool, false, IsTrue, if◌then◌else◌, filter}
+use Rattle.std.specs.Prelude.{◌≡◌, ℕ, ◌+◌, ◌-◌, min, Bool, false, IsTrue, if◌then◌else◌, List, filter}
 use Rattle.std.specs.List.{list_all}
 use Rattle.ans_model.specs.Sequence.TokenKind.{TokenKind, Glyph, Bell, BackSpace, Tab, Clear, EraseLine, Restore}
 use Rattle.ans_model.specs.Sequence.TokenKind.{Colours}
@@ -8,13 +8,13 @@ use Rattle.ans_model.specs.Screen.State.{Size, State, at}
 use Rattle.ans_model.specs.Screen.Step.{step, put, tab_blanks}
 use Rattle.ans_players.specs.declared.kind.Kind.{Kind}
 use Rattle.ans_players.specs.Players.{IsPlayer}
-use Rattle.ans_players.specs.Situations.{is_common_colour, is_terminal_control, token_kinds}
+use Rattle.ans_players.specs.Situations.{is_common_colour, is_terminal_control, omits, own_kinds, Spelled}
 use Rattle.ans_players.specs.Witnesses.{stepping}
 
--- What plays each token as the profile does where all kinds of the token are agreed is a player.
+-- What plays each spelled token as the profile does where all kinds of the token are agreed is a player.
 abbrev pub PartsWhereKindsArise : Type 0
-PartsWhereKindsArise = (z : Size) (agreed : Kind → Bool) (plays : Size → State → TokenKind → State)
-    → ((s : State) (t : TokenKind) → IsTrue (list_all agreed (token_kinds z s t)) → plays z s t ≡ step z s t)
+PartsWhereKindsArise = (z : Size) (agreed : Kind → Bool) (plays : Size → State → Spelled → State)
+    → ((s : State) (x : Spelled) → IsTrue (list_all agreed (own_kinds z s x)) → plays z s x ≡ step z s x.token)
     → IsPlayer z agreed (stepping plays z)
 
 -- what is cleared or erased is white on black
@@ -32,6 +32,14 @@ unrestored_step z s t = step z s t
 abbrev pub few_colours_step : Size → State → TokenKind → State
 few_colours_step z s (Colours parameters) = step z s (Colours (filter is_common_colour parameters))
 few_colours_step z s t = step z s t
+
+-- a sequence of colours in which a number is omitted does nothing
+abbrev pub unseen_colours : Size → State → TokenKind → List ℕ → State
+unseen_colours z s (Colours parameters) text = if omits text then s else step z s (Colours parameters)
+unseen_colours z s t text = step z s t
+
+abbrev pub unseen_step : Size → State → Spelled → State
+unseen_step z s x = unseen_colours z s x.token x.text
 
 -- a tab goes to the next stop or the last column, and prints nothing
 abbrev pub skipping_step : Size → State → TokenKind → State

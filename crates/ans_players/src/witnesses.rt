@@ -16,9 +16,10 @@ ghost use Rattle.ans_players.specs.declared.kind.Kind.TheVariants.{WrapOff, Stop
 ghost use Rattle.ans_players.specs.declared.kind.Kind.TheVariants.{TerminalControls};
 ghost use Rattle.ans_players.specs.OwnKind.{PartsIn};
 ghost use Rattle.ans_players.specs.Witnesses.{IsProfilePlayer, IsTallPlayer, feeding, profile, saving};
-ghost use Rattle.ans_players.specs.Witnesses.{staying, stepping, taller, waiting};
+ghost use Rattle.ans_players.specs.Witnesses.{by_token, staying, stepping, taller, waiting};
 ghost use Rattle.ans_players.specs.WitnessesByToken.{PartsWhereKindsArise, bell_drawn_step, few_colours_step, grey_step};
 ghost use Rattle.ans_players.specs.WitnessesByToken.{skipping_step, undrawn_step, unerased_step, unrestored_step};
+ghost use Rattle.ans_players.specs.WitnessesByToken.{unseen_step};
 ghost use Rattle.ans_players.specs.WitnessesByToken.{wrapping_step};
 
 use crate::player::Player;
@@ -54,7 +55,7 @@ pub fn staying_player_parts()
 
 /// One on which what is cleared or erased is white on black. `ESC[41m ESC[2J` shows something else on it.
 pub fn grey_player_parts()
-    ensures { PartsIn ClearInColour (stepping grey_step) (sized 1 1)
+    ensures { PartsIn ClearInColour (by_token grey_step) (sized 1 1)
         ((escape ∷ codes "[41m") ++ (escape ∷ codes "[2J")) }
 {}
 
@@ -66,33 +67,40 @@ pub fn saving_player_parts()
 
 /// One that does nothing at `ESC[u`. In two columns `A ESC[u B` shows something else on it.
 pub fn unrestored_player_parts()
-    ensures { PartsIn SavePlaceOnly (stepping unrestored_step) (sized 2 1)
+    ensures { PartsIn SavePlaceOnly (by_token unrestored_step) (sized 2 1)
         (codes "A" ++ (escape ∷ codes "[u") ++ codes "B") }
 {}
 
 /// One for which a number of a colour that not all players take alike does nothing. `ESC[4m A` shows
 /// something else on it.
 pub fn few_colours_player_parts()
-    ensures { PartsIn DosColours (stepping few_colours_step) (sized 1 1)
+    ensures { PartsIn DosColours (by_token few_colours_step) (sized 1 1)
         ((escape ∷ codes "[4m") ++ codes "A") }
+{}
+
+/// One that does nothing at a sequence of colours in which a number is omitted. `ESC[41m ESC[m A` shows
+/// something else on it.
+pub fn unseen_colours_player_parts()
+    ensures { PartsIn DosColours (stepping unseen_step) (sized 1 1)
+        ((escape ∷ codes "[41m") ++ (escape ∷ codes "[m") ++ codes "A") }
 {}
 
 /// One that goes to the next stop at a tab and prints nothing. In eight columns `ESC[41m ESC[7C` and a tab
 /// show something else on it.
 pub fn skipping_player_parts()
-    ensures { PartsIn TabPrints (stepping skipping_step) (sized 8 1)
+    ensures { PartsIn TabPrints (by_token skipping_step) (sized 8 1)
         ((escape ∷ codes "[41m") ++ (escape ∷ codes "[7C") ++ codes "\t") }
 {}
 
 /// One that erases no line. `A ESC[H ESC[K` shows something else on it.
 pub fn unerased_player_parts()
-    ensures { PartsIn LineErased (stepping unerased_step) (sized 1 1)
+    ensures { PartsIn LineErased (by_token unerased_step) (sized 1 1)
         (codes "A" ++ (escape ∷ codes "[H") ++ (escape ∷ codes "[K")) }
 {}
 
 /// One that never turns wrap off. In one column and two lines `ESC[?7l AB` shows something else on it.
 pub fn wrapping_player_parts()
-    ensures { PartsIn WrapOff (stepping wrapping_step) (sized 1 2)
+    ensures { PartsIn WrapOff (by_token wrapping_step) (sized 1 2)
         ((escape ∷ codes "[?7l") ++ codes "AB") }
 {}
 
@@ -106,12 +114,12 @@ pub fn taller_player_parts()
 
 /// One that draws 07h and 08h. 07h shows something else on it.
 pub fn bell_drawing_player_parts()
-    ensures { PartsIn PageControls (stepping bell_drawn_step) (sized 1 1) (0x07 ∷ []) }
+    ensures { PartsIn PageControls (by_token bell_drawn_step) (sized 1 1) (0x07 ∷ []) }
 {}
 
 /// One that draws no control byte that terminals do not draw. 01h shows something else on it.
 pub fn undrawing_player_parts()
-    ensures { PartsIn TerminalControls (stepping undrawn_step) (sized 1 1) (0x01 ∷ []) }
+    ensures { PartsIn TerminalControls (by_token undrawn_step) (sized 1 1) (0x01 ∷ []) }
 {}
 
 /// The profile as a player, on a screen of 80 columns and 25 lines.
