@@ -13,11 +13,12 @@ use Rattle.ans_players.specs.declared.kind.Kind.TheVariants.{SavePlaceOnly, DosC
 use Rattle.ans_players.specs.declared.kind.Kind.TheVariants.{StopsAtEdge, PageControls, TerminalControls}
 use Rattle.ans_players.specs.OwnKind.{ShowsElse}
 use Rattle.ans_players.specs.Witnesses.{waiting, staying, saving, feeding, taller, by_token, stepping, TallStandsFor}
-use Rattle.ans_players.specs.WitnessesByToken.{unseen_step, grey_step, unrestored_step, few_colours_step}
+use Rattle.ans_players.specs.WitnessesByToken.{over_the_edge_step, page_undrawn_step, unseen_step}
+use Rattle.ans_players.specs.WitnessesByToken.{grey_step, unrestored_step, few_colours_step}
 use Rattle.ans_players.specs.WitnessesByToken.{skipping_step, unerased_step, wrapping_step, bell_drawn_step}
 use Rattle.ans_players.specs.WitnessesByToken.{undrawn_step}
 use Rattle.ans_players.proofs.Spellings.{of_byte, wrap_off, on_red, underlined, clear, seven_right, two_down, one_up}
-use Rattle.ans_players.proofs.Spellings.{home, no_number, line_erased, save, restore}
+use Rattle.ans_players.proofs.Spellings.{home, one_right, no_number, line_erased, save, restore}
 use Rattle.ans_players.proofs.Tiny.{else_by}
 
 spells_a : SpellsToken (Glyph 0x41) (codes "A")
@@ -140,6 +141,23 @@ wrapping_else =
     (Wrap false ∷ Glyph 0x41 ∷ Glyph 0x42 ∷ []) ((escape ∷ codes "[?7l") ∷ (codes "A") ∷ (codes "B") ∷ [])
     (some 0 1) (wrap_off, (spells_a, (spells_b, tt))) refl refl refl
     (cleared (sized 1 2)) refl (at 0 0) (omega arith, omega arith) refl
+
+-- in one column, one column on and A
+pub over_the_edge_else : ShowsElse StopsAtEdge (sized 1 2) (by_token over_the_edge_step (sized 1 2))
+    ((escape ∷ codes "[C") ++ codes "A")
+over_the_edge_else =
+    else_by StopsAtEdge (sized 1 2) (by_token over_the_edge_step (sized 1 2)) ((escape ∷ codes "[C") ++ codes "A")
+    (Forward 1 ∷ Glyph 0x41 ∷ []) ((escape ∷ codes "[C") ∷ (codes "A") ∷ [])
+    (some 0 1) (one_right, (spells_a, tt)) refl refl refl
+    (cleared (sized 1 2)) refl (at 0 0) (omega arith, omega arith) refl
+
+-- 00h
+pub page_undrawn_else : ShowsElse PageControls (sized 1 1) (by_token page_undrawn_step (sized 1 1)) (0x00 ∷ [])
+page_undrawn_else =
+    else_by PageControls (sized 1 1) (by_token page_undrawn_step (sized 1 1)) (0x00 ∷ []) (Glyph 0x00 ∷ [])
+    ((0x00 ∷ []) ∷ [])
+    (some 0 0) (of_byte 0x00 (Glyph 0x00) (lit< tt) (λ e. cc) refl, tt) refl refl refl
+    (cleared (sized 1 1)) refl (at 0 0) (omega arith, omega arith) refl
 
 -- 07h
 pub bell_drawn_else : ShowsElse PageControls (sized 1 1) (by_token bell_drawn_step (sized 1 1)) (0x07 ∷ [])

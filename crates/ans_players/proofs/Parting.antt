@@ -1,18 +1,18 @@
 -- Players that part from the profile at a token alone.
-use Rattle.std.proofs.Common.{◌≡◌, ap, ◌∙◌, sym, refl, Bool, true, false, ℕ, List, [], ◌∷◌}
+use Rattle.std.proofs.Common.{◌≡◌, ◌+◌, ap, ◌∙◌, sym, refl, Bool, true, false, ℕ, List, [], ◌∷◌}
 use Rattle.std.proofs.lemmas.Bool.{eqb-true, and_parts}
 use Rattle.std.proofs.lemmas.List.Folds.{list_all-append}
-use Rattle.std.specs.Prelude.{IsTrue, not, ◌&&◌, ◌==◌, filter, if◌then◌else◌}
+use Rattle.std.specs.Prelude.{IsTrue, not, nat_lt, ◌&&◌, ◌==◌, filter, if◌then◌else◌}
 use Rattle.std.specs.List.{list_all}
 use Rattle.ans_model.specs.Sequence.TokenKind.{TokenKind, Glyph, Bell, BackSpace, Tab, Clear, EraseLine, Restore}
 use Rattle.ans_model.specs.Sequence.TokenKind.{Colours}
-use Rattle.ans_model.specs.Sequence.TokenKind.{Wrap}
+use Rattle.ans_model.specs.Sequence.TokenKind.{Forward, Wrap}
 use Rattle.ans_model.specs.Screen.Attribute.{attribute_after, attribute_after_all}
-use Rattle.ans_model.specs.Screen.State.{Size, State, cell_at}
+use Rattle.ans_model.specs.Screen.State.{Size, State, at, cell_at}
 use Rattle.ans_model.specs.Screen.Step.{step}
 use Rattle.ans_players.specs.declared.kind.Kind.{Kind}
 use Rattle.ans_players.specs.declared.kind.Kind.TheVariants.{ClearInColour, SavePlaceOnly, DosColours, TabPrints}
-use Rattle.ans_players.specs.declared.kind.Kind.TheVariants.{LineErased, WrapOff, PageControls, TerminalControls}
+use Rattle.ans_players.specs.declared.kind.Kind.TheVariants.{LineErased, WrapOff, StopsAtEdge, PageControls, TerminalControls}
 use Rattle.ans_players.specs.OwnKind.{all_but}
 use Rattle.ans_players.specs.Players.{IsPlayer}
 use Rattle.ans_players.specs.Situations.{token_kinds, kind_if, is_common_colour, is_page_control}
@@ -21,7 +21,7 @@ use Rattle.ans_players.specs.Witnesses.{IsProfilePlayer, by_token, stepping}
 use Rattle.ans_players.specs.WitnessesByToken.{PartsWhereKindsArise, grey_step, unrestored_step, few_colours_step}
 use Rattle.ans_players.specs.WitnessesByToken.{skipping_step, unerased_step, wrapping_step, bell_drawn_step}
 use Rattle.ans_players.specs.WitnessesByToken.{undrawn_step}
-use Rattle.ans_players.specs.WitnessesByToken.{unseen_colours, unseen_step}
+use Rattle.ans_players.specs.WitnessesByToken.{over_the_edge_step, page_undrawn_step, unseen_colours, unseen_step}
 use Rattle.ans_players.proofs.OneOfTwo.{own_agreed}
 
 pub parting : PartsWhereKindsArise
@@ -172,6 +172,17 @@ wrapping_same z s t agrees = refl
 pub goes_on_wrapping : (z : Size) → IsPlayer z (all_but WrapOff) (by_token wrapping_step z)
 goes_on_wrapping z = parting_by_token z (all_but WrapOff) wrapping_step (wrapping_same z)
 
+-- ---- goes over the edge
+over_the_edge_same : (z : Size) (s : State) (t : TokenKind)
+    → IsTrue (list_all (all_but StopsAtEdge) (token_kinds z s t)) → over_the_edge_step z s t ≡ step z s t
+over_the_edge_same z s (Forward n) agrees =
+    ap (λ (b : Bool). if b then step z s (Forward n) else record s { cursor = at (s.cursor.row + 1) 0 })
+    (test_holds (all_but StopsAtEdge) StopsAtEdge (nat_lt (s.cursor.column + n) z.width) refl agrees)
+over_the_edge_same z s t agrees = refl
+
+pub goes_over_the_edge : (z : Size) → IsPlayer z (all_but StopsAtEdge) (by_token over_the_edge_step z)
+goes_over_the_edge z = parting_by_token z (all_but StopsAtEdge) over_the_edge_step (over_the_edge_same z)
+
 -- ---- draws a bell
 bell_drawn_same : (z : Size) (s : State) (t : TokenKind)
     → IsTrue (list_all (all_but PageControls) (token_kinds z s t)) → bell_drawn_step z s t ≡ step z s t
@@ -181,6 +192,19 @@ bell_drawn_same z s t agrees = refl
 
 pub draws_bells : (z : Size) → IsPlayer z (all_but PageControls) (by_token bell_drawn_step z)
 draws_bells z = parting_by_token z (all_but PageControls) bell_drawn_step (bell_drawn_same z)
+
+-- ---- does not draw 00h, 0Bh and 0Ch
+page_undrawn_same : (z : Size) (s : State) (t : TokenKind)
+    → IsTrue (list_all (all_but PageControls) (token_kinds z s t)) → page_undrawn_step z s t ≡ step z s t
+page_undrawn_same z s (Glyph byte) agrees =
+    ap (λ (b : Bool). if b then s else step z s (Glyph byte))
+    (test_fails (all_but PageControls) PageControls (is_page_control byte) refl
+    (and_parts _ _ (sym (list_all-append (all_but PageControls) (kind_if (is_page_control byte) PageControls)
+    (kind_if (is_terminal_control byte) TerminalControls)) ∙ agrees)).0)
+page_undrawn_same z s t agrees = refl
+
+pub draws_no_page_controls : (z : Size) → IsPlayer z (all_but PageControls) (by_token page_undrawn_step z)
+draws_no_page_controls z = parting_by_token z (all_but PageControls) page_undrawn_step (page_undrawn_same z)
 
 -- ---- draws no control byte
 undrawn_same : (z : Size) (s : State) (t : TokenKind)

@@ -86,6 +86,9 @@ no_number = of_sequence (raw_of Unmarked [] 0x6D) [] tt (λ e. cc) refl tt (omeg
 pub one_up : SpellsToken (Up 1) (escape ∷ codes "[A")
 one_up = of_sequence (raw_of Unmarked [] 0x41) [] tt (λ e. cc) refl tt (omega arith) (Up 1) refl
 
+pub one_right : SpellsToken (Forward 1) (escape ∷ codes "[C")
+one_right = of_sequence (raw_of Unmarked [] 0x43) [] tt (λ e. cc) refl tt (omega arith) (Forward 1) refl
+
 pub home : SpellsToken (Place 1 1) (escape ∷ codes "[H")
 home = of_sequence (raw_of Unmarked [] 0x48) [] tt (λ e. cc) refl tt (omega arith) (Place 1 1) refl
 

@@ -1,14 +1,14 @@
 -- Players that part from the profile at a token alone.
-use Rattle.std.specs.Prelude.{◌≡◌, ℕ, ◌+◌, ◌-◌, min, Bool, false, IsTrue, if◌then◌else◌, List, filter}
+use Rattle.std.specs.Prelude.{◌≡◌, ℕ, ◌+◌, ◌-◌, min, nat_lt, Bool, false, IsTrue, if◌then◌else◌, List, filter}
 use Rattle.std.specs.List.{list_all}
 use Rattle.ans_model.specs.Sequence.TokenKind.{TokenKind, Glyph, Bell, BackSpace, Tab, Clear, EraseLine, Restore}
 use Rattle.ans_model.specs.Sequence.TokenKind.{Colours}
-use Rattle.ans_model.specs.Sequence.TokenKind.{Wrap}
+use Rattle.ans_model.specs.Sequence.TokenKind.{Forward, Wrap}
 use Rattle.ans_model.specs.Screen.State.{Size, State, at}
 use Rattle.ans_model.specs.Screen.Step.{step, put, tab_blanks}
 use Rattle.ans_players.specs.declared.kind.Kind.{Kind}
 use Rattle.ans_players.specs.Players.{IsPlayer}
-use Rattle.ans_players.specs.Situations.{is_common_colour, is_terminal_control, omits, own_kinds, Spelled}
+use Rattle.ans_players.specs.Situations.{is_common_colour, is_page_control, is_terminal_control, omits, own_kinds, Spelled}
 use Rattle.ans_players.specs.Witnesses.{stepping}
 
 -- What plays each spelled token as the profile does where all kinds of the token are agreed is a player.
@@ -57,11 +57,23 @@ abbrev pub wrapping_step : Size → State → TokenKind → State
 wrapping_step z s (Wrap false) = s
 wrapping_step z s t = step z s t
 
+-- a move right that would be stopped goes to the next row
+abbrev pub over_the_edge_step : Size → State → TokenKind → State
+over_the_edge_step z s (Forward n) =
+    if nat_lt (s.cursor.column + n) z.width then step z s (Forward n)
+    else record s { cursor = at (s.cursor.row + 1) 0 }
+over_the_edge_step z s t = step z s t
+
 -- 07h and 08h are drawn
 abbrev pub bell_drawn_step : Size → State → TokenKind → State
 bell_drawn_step z s Bell = put z s 0x07
 bell_drawn_step z s BackSpace = put z s 0x08
 bell_drawn_step z s t = step z s t
+
+-- 00h, 0Bh and 0Ch do nothing
+abbrev pub page_undrawn_step : Size → State → TokenKind → State
+page_undrawn_step z s (Glyph byte) = if is_page_control byte then s else step z s (Glyph byte)
+page_undrawn_step z s t = step z s t
 
 -- bytes that terminals do not draw do nothing
 abbrev pub undrawn_step : Size → State → TokenKind → State

@@ -19,7 +19,7 @@ ghost use Rattle.ans_players.specs.Witnesses.{IsProfilePlayer, IsTallPlayer, fee
 ghost use Rattle.ans_players.specs.Witnesses.{by_token, staying, stepping, taller, waiting};
 ghost use Rattle.ans_players.specs.WitnessesByToken.{PartsWhereKindsArise, bell_drawn_step, few_colours_step, grey_step};
 ghost use Rattle.ans_players.specs.WitnessesByToken.{skipping_step, undrawn_step, unerased_step, unrestored_step};
-ghost use Rattle.ans_players.specs.WitnessesByToken.{unseen_step};
+ghost use Rattle.ans_players.specs.WitnessesByToken.{over_the_edge_step, page_undrawn_step, unseen_step};
 ghost use Rattle.ans_players.specs.WitnessesByToken.{wrapping_step};
 
 use crate::player::Player;
@@ -112,9 +112,20 @@ pub fn taller_player_parts()
         ((escape ∷ codes "[2B") ++ (escape ∷ codes "[A") ++ codes "A") }
 {}
 
+/// One that goes to the next row at a move right that would be stopped. In one column and two lines
+/// `ESC[C A` shows something else on it.
+pub fn over_the_edge_player_parts()
+    ensures { PartsIn StopsAtEdge (by_token over_the_edge_step) (sized 1 2) ((escape ∷ codes "[C") ++ codes "A") }
+{}
+
 /// One that draws 07h and 08h. 07h shows something else on it.
 pub fn bell_drawing_player_parts()
     ensures { PartsIn PageControls (by_token bell_drawn_step) (sized 1 1) (0x07 ∷ []) }
+{}
+
+/// One that does not draw 00h, 0Bh and 0Ch. 00h shows something else on it.
+pub fn page_undrawing_player_parts()
+    ensures { PartsIn PageControls (by_token page_undrawn_step) (sized 1 1) (0x00 ∷ []) }
 {}
 
 /// One that draws no control byte that terminals do not draw. 01h shows something else on it.
