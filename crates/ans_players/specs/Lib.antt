@@ -9,3 +9,4 @@ pub mod Mends
 pub mod OwnKind
 pub mod Witnesses
 pub mod WitnessesByToken
+pub mod Examples

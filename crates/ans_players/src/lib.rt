@@ -9,9 +9,11 @@
 //! At which tokens which kinds arise stands in `specs/Situations.antt`, how firmly players stand where the
 //! profile stands in `specs/Grips.antt`, and what a player is in `specs/Players.antt`. `specs/Named.antt`
 //! and `specs/Classes.antt` say what is said of a drawing. Each law is the contract of a function without a
-//! body: in [`laws`] those of all players, in [`witnesses`] a player for each kind that parts in it alone.
+//! body: in [`laws`] those of all players, in [`witnesses`] players that part in one kind alone, one or more
+//! for each, and in [`examples`] the kinds of short contents.
 #![tactic(auto)]
 
+pub mod examples;
 pub mod kind;
 pub mod laws;
 pub mod player;
