@@ -81,17 +81,17 @@ module _ (agreed : Kind → Bool) (z : Size) (content : List ℕ) (needs : Start
   spelled_is class good =
       one_spelling content good.1.tokens calm.same.0.1.tokens good.1.reads calm.same.0.1.reads
 
-  plays_of : (class : Start) → IsGood z class content → PlaysWell z class (kinds_of xs)
+  pub plays_of : (class : Start) → IsGood z class content → PlaysWell z class (kinds_of xs)
   plays_of class good =
       subst (λ (us : List TokenKind). PlaysWell z class us)
       (sym (kinds_of_spelled good.1.tokens good.1.reads.0 good.1.reads.1.each)
       ∙ ap kinds_of (spelled_is class good)) good.1.plays
 
-  agreed_is : (class : Start) → IsSame agreed z class content → AreAgreed agreed z class xs
+  pub agreed_is : (class : Start) → IsSame agreed z class content → AreAgreed agreed z class xs
   agreed_is class same =
       subst (λ (ys : List Spelled). AreAgreed agreed z class ys) (spelled_is class same.0) same.1
 
-  same_is : (class : Start) (good : IsGood z class content) → AreAgreed agreed z class xs
+  pub same_is : (class : Start) (good : IsGood z class content) → AreAgreed agreed z class xs
       → IsSame agreed z class content
   same_is class good each = (
     good,

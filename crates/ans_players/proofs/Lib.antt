@@ -16,3 +16,5 @@ pub mod Tall
 pub mod Parting
 pub mod Tiny
 pub mod Else
+pub mod Under
+pub mod TwoStarts

@@ -101,16 +101,16 @@ module _ (z : Size) (class : Start) (xs : List Spelled) (plays : PlaysWell z cla
       ∙ same u v start_u start_v
       ∙ ap (λ (x : State). x.cursor) (final_then_blanks z v played 0)
 
-  one_place : (k : ℕ) (t : TokenKind) → slice_get (kinds_of xs) k ≡ Some t → PrintsAtOne t
+  pub prints_at_one : (k : ℕ) (t : TokenKind) → slice_get (kinds_of xs) k ≡ Some t → PrintsAtOne t
       (stand_of z s (take k xs)) (stand_of z p (take k xs)) (stand_of z q (take k xs))
-  one_place k (Glyph byte) e =
+  prints_at_one k (Glyph byte) e =
       let same = (plays.prints_well k byte e).at_one_position in
       (same_cursor k same p start_p, same_cursor k same q start_q)
-  one_place k Tab e =
+  prints_at_one k Tab e =
       let same = before_blanks (take k (kinds_of xs)) (plays.tabs_well k 0 e
       (s, start_s, some_blanks (final z s (take k (kinds_of xs))).cursor.column)).at_one_position in
       (same_cursor k same p start_p, same_cursor k same q start_q)
-  one_place k t e = tt
+  prints_at_one k t e = tt
 
   together : (k : ℕ) (x : Spelled) → slice_get xs k ≡ Some x → GoTogether z x.token (stand_of z s (take k xs))
       (stand_of z p (take k xs)) (stand_of z q (take k xs))
@@ -118,7 +118,7 @@ module _ (z : Size) (class : Start) (xs : List Spelled) (plays : PlaysWell z cla
     above = above_of s start_s k x e;
     above_first = above_of p start_p k x e;
     above_second = above_of q start_q k x e;
-    one = one_place k x.token (kind_at xs k x e);
+    one = prints_at_one k x.token (kind_at xs k x e);
   }
 
   -- what is agreed in the plays from two of them is agreed in that from the third, where its parts are theirs

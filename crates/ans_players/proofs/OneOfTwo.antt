@@ -127,7 +127,7 @@ module _ (z : Size) where
   both_so X test x p q (inl e) yes_p yes_q = ap test e ∙ yes_p
   both_so X test x p q (inr e) yes_p yes_q = ap test e ∙ yes_q
 
-  abbrev grip_kinds : Grip → TokenKind → List Kind
+  abbrev pub grip_kinds : Grip → TokenKind → List Kind
   grip_kinds g t = if is_held g t then [] else loose_kinds g
 
   pub record PartsAgreed (agreed : Kind → Bool) (h : Stand) (x : Spelled) : Type 0 where
@@ -144,12 +144,13 @@ module _ (z : Size) where
   pub parts_agreed : (agreed : Kind → Bool) (h : Stand) (x : Spelled) → IsTrue (is_agreed agreed z h x)
       → PartsAgreed agreed h x
   parts_agreed agreed h x agrees =
-      let all = and_parts _ _ (sym (list_all-append agreed (grip_kinds h.grip x.token) (own_kinds z h.state x)) ∙ agrees) in
+      let all = and_parts _ _ (sym (list_all-append agreed (grip_kinds h.grip x.token)
+      (own_kinds z h.state x)) ∙ agrees) in
       let others = and_parts _ _ (sym (list_all-append agreed (token_kinds z h.state x.token)
       (spelling_kinds h.state x.token x.text)) ∙ all.1) in
       record { grip = all.0; token = others.0; spelling = others.1 }
 
-  from_parts : (agreed : Kind → Bool) (h : Stand) (x : Spelled) → PartsAgreed agreed h x
+  pub from_parts : (agreed : Kind → Bool) (h : Stand) (x : Spelled) → PartsAgreed agreed h x
       → IsTrue (is_agreed agreed z h x)
   from_parts agreed h x parts =
       list_all-append agreed (grip_kinds h.grip x.token) (own_kinds z h.state x)

@@ -12,7 +12,8 @@ use Rattle.ans_model.specs.Screen.State.{Size, State, at, cell_at}
 use Rattle.ans_model.specs.Screen.Step.{step}
 use Rattle.ans_players.specs.declared.kind.Kind.{Kind}
 use Rattle.ans_players.specs.declared.kind.Kind.TheVariants.{ClearInColour, SavePlaceOnly, DosColours, TabPrints}
-use Rattle.ans_players.specs.declared.kind.Kind.TheVariants.{LineErased, WrapOff, StopsAtEdge, PageControls, TerminalControls}
+use Rattle.ans_players.specs.declared.kind.Kind.TheVariants.{LineErased, WrapOff, StopsAtEdge, PageControls}
+use Rattle.ans_players.specs.declared.kind.Kind.TheVariants.{TerminalControls}
 use Rattle.ans_players.specs.OwnKind.{all_but}
 use Rattle.ans_players.specs.Players.{IsPlayer}
 use Rattle.ans_players.specs.Situations.{token_kinds, kind_if, is_common_colour, is_page_control}

@@ -1,13 +1,13 @@
 -- From which starts good content shows the same on every player.
-use Rattle.std.specs.Prelude.{◌≡◌, ◌↔◌, ℕ, ◌<◌, Bool, false, List, map}
-use Rattle.ans_model.specs.Screen.State.{Size}
+use Rattle.std.specs.Prelude.{◌≡◌, ◌↔◌, ◌⊎◌, ℕ, ◌<◌, Bool, true, false, IsTrue, List, map, take, slice_get, Some}
+use Rattle.ans_model.specs.Screen.State.{Size, State}
 use Rattle.ans_model.specs.Screen.StartClass.{Covers, both_known, all_known, all_but_cursor, all_but_saved}
-use Rattle.ans_model.specs.Screen.StartClass.{all_but_colours, all_but_wrap}
+use Rattle.ans_model.specs.Screen.StartClass.{all_but_colours, all_but_wrap, low_start, high_start}
 use Rattle.ans_model.specs.declared.start.Start.{Start}
 use Rattle.ans_model.specs.Verdict.Good.{IsGood, PlaysWell}
 use Rattle.ans_model.specs.Verdict.Needs.{IsLeast}
 use Rattle.ans_players.specs.declared.kind.Kind.{Kind}
-use Rattle.ans_players.specs.Situations.{AreAgreed, Spelled, spelled}
+use Rattle.ans_players.specs.Situations.{AreAgreed, Spelled, is_agreed, spelled, stand_of}
 
 -- good content in which no kinds but agreed ones arise
 abbrev pub IsSame : (Kind → Bool) → Size → Start → List ℕ → Type 0
@@ -33,7 +33,8 @@ pub record IsFoundBySame (agreed : Kind → Bool) (z : Size) (content : List ℕ
   pub colours : (class.colours ≡ false) ↔ IsSame agreed z all_but_colours content
   pub wrap : (class.wrap ≡ false) ↔ IsSame agreed z all_but_wrap content
 
--- no kinds but agreed ones arise in the content from the cleared start, and this is the least class for which it is good
+-- from the cleared start no kinds but agreed ones arise in the content, and this is the least class for which it is
+-- good
 pub record IsCalm (agreed : Kind → Bool) (z : Size) (content : List ℕ) (needs : Start) : Type 0 where
   pub same : IsSame agreed z all_known content
   pub least : IsLeast z content needs
@@ -52,3 +53,29 @@ LeastSameIsOne = (agreed : Kind → Bool) (z : Size) (content : List ℕ) (a b :
 abbrev pub LeastSameIsFound : Type 0
 LeastSameIsFound = (agreed : Kind → Bool) (z : Size) (content : List ℕ) (needs class : Start)
     → IsCalm agreed z content needs → IsFoundBySame agreed z content needs class → IsLeastSame agreed z content class
+
+-- from this start no kinds but agreed ones arise at the tokens
+abbrev pub IsAgreedFrom : (Kind → Bool) → Size → State → List Spelled → Type 0
+IsAgreedFrom agreed z s xs = (k : ℕ) (x : Spelled) → slice_get xs k ≡ Some x
+    → IsTrue (is_agreed agreed z (stand_of z s (take k xs)) x)
+
+-- the starts of the class are told of by two: wrap is known, or is the one part that is not
+abbrev pub IsToldByTwo : Start → Type 0
+IsToldByTwo class = (class.wrap ≡ true) ⊎ (class ≡ all_but_wrap)
+
+-- from the low and the high start of the class no kinds but agreed ones arise
+abbrev pub AgreedFromTwo : (Kind → Bool) → Size → Start → List Spelled → Type 0
+AgreedFromTwo agreed z class xs =
+    IsAgreedFrom agreed z (low_start z class) xs × IsAgreedFrom agreed z (high_start z class) xs
+
+-- Of such a class two starts tell.
+abbrev pub TwoStartsTell : Type 0
+TwoStartsTell = (agreed : Kind → Bool) (z : Size) (class : Start) (xs : List Spelled) → 0 < z.width → IsToldByTwo class
+    → PlaysWell z class (map (λ x. x.token) xs) → AgreedFromTwo agreed z class xs → AreAgreed agreed z class xs
+
+-- So calm content is the same for such a class exactly where it is good for it and two starts agree.
+abbrev pub SameByTwoStarts : Type 0
+SameByTwoStarts = (agreed : Kind → Bool) (z : Size) (content : List ℕ) (needs class : Start)
+    → (calm : IsCalm agreed z content needs) → IsToldByTwo class
+    → IsSame agreed z class content
+    ↔ (Covers needs class × AgreedFromTwo agreed z class (spelled calm.same.0.1.tokens calm.same.0.1.reads.0))

@@ -8,7 +8,8 @@ use Rattle.ans_model.specs.Screen.State.{Size, State, at}
 use Rattle.ans_model.specs.Screen.Step.{step, put, tab_blanks}
 use Rattle.ans_players.specs.declared.kind.Kind.{Kind}
 use Rattle.ans_players.specs.Players.{IsPlayer}
-use Rattle.ans_players.specs.Situations.{is_common_colour, is_page_control, is_terminal_control, omits, own_kinds, Spelled}
+use Rattle.ans_players.specs.Situations.{is_common_colour, is_page_control, is_terminal_control, omits, own_kinds}
+use Rattle.ans_players.specs.Situations.{Spelled}
 use Rattle.ans_players.specs.Witnesses.{stepping}
 
 -- What plays each spelled token as the profile does where all kinds of the token are agreed is a player.

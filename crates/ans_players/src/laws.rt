@@ -4,6 +4,7 @@ ghost use Rattle.std.specs.Prelude.{ℕ, List};
 ghost use Rattle.ans_model.specs.declared.start.Start.{Start};
 ghost use Rattle.ans_model.specs.Verdict.Good.{Picture, GoodWith};
 ghost use Rattle.ans_players.specs.Classes.{AgreedMeet, LeastSameExists, LeastSameIsFound, LeastSameIsOne};
+ghost use Rattle.ans_players.specs.Classes.{SameByTwoStarts, TwoStartsTell};
 ghost use Rattle.ans_players.specs.Mends.{MendedIsAgreed, MendedIsShown, MendingIsRead};
 ghost use Rattle.ans_players.specs.Named.{NamedAreLeast, NamedOneWay};
 ghost use Rattle.ans_players.specs.Players.{IsShown};
@@ -49,6 +50,13 @@ pub fn one_least_class_of_players()
     ensures exists { LeastSameExists }
     ensures unique { LeastSameIsOne }
     ensures found { LeastSameIsFound }
+{}
+
+/// Where wrap is known, or is the one part that is not, no kinds but agreed ones arise from any start if
+/// none do from the low and the high one. So two plays are enough for each part of the least class.
+pub fn two_starts_tell_of_players()
+    ensures tell { TwoStartsTell }
+    ensures same { SameByTwoStarts }
 {}
 
 /// `ESC[?7h ESC[0m ESC[2J ESC[H ESC[s`, 19 bytes without the blanks between them, are read as five tokens.
