@@ -19,7 +19,9 @@ use Rattle.ans_players.specs.Situations.{Spelled, situations, is_agreed, spelled
 use Rattle.ans_players.specs.Kinds.{all_kinds, is_kind, kind_number}
 use Rattle.ans_players.specs.Named.{arises, times, times_cleared, bytes_before, ArisesFirst, NamedAreLeast}
 use Rattle.ans_players.specs.Named.{NamedOneWay}
+use Rattle.ans_players.specs.Witnesses.{StrictNeedsNamed}
 use Rattle.ans_players.proofs.OneSpelling.{one_spelling}
+use Rattle.ans_players.proofs.Strict.{strict_tells}
 
 -- kinds of one number are one
 at_number : (kind : Kind) → slice_get all_kinds (kind_number kind) ≡ Some kind
@@ -152,4 +154,14 @@ named_one_way z content kind count offset other_count other_offset h g =
       one,
       λ some. one_first kind z (spelled h.good.1.tokens h.good.1.reads.0) offset other_offset (h.first some)
           (subst (λ (xs : List Spelled). ArisesFirst kind z xs other_offset) same (g.first (omega (arith, some, one)))),
+    )
+
+-- ---- what the strictest player shows
+pub strict_needs_named : StrictNeedsNamed
+strict_needs_named z agreed content picture good =
+    let xs : List Spelled = spelled good.tokens good.reads.0 in
+    let w : 0 < z.width = good.size.some_columns in
+    let told = strict_tells z all_known agreed content picture good in (
+      λ shown. there z agreed xs w (told.0 shown),
+      λ each. told.1 (and_back z agreed xs w each),
     )

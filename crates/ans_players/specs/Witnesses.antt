@@ -1,11 +1,12 @@
 -- Players: the profile, the strictest one, and some that part from the profile in one kind.
 use Rattle.std.specs.Prelude.{◌≡◌, ◌≢◌, ◌↔◌, ℕ, ◌+◌, ◌*◌, ◌<◌, ◌≤◌, Bool, true, false, Option, Some, None, List, fold}
-use Rattle.std.specs.Prelude.{replicate, slice_get, nat_lt, if◌then◌else◌, MatchBool}
+use Rattle.std.specs.Prelude.{replicate, slice_get, nat_lt, if◌then◌else◌, IsTrue, MatchBool}
 use Rattle.ans_model.specs.Bytes.{blank}
 use Rattle.ans_model.specs.Sequence.TokenKind.{TokenKind, Glyph, Bell, LineFeed, CarriageReturn, Tab, Clear, Colours}
 use Rattle.ans_model.specs.Sequence.TokenKind.{Save}
 use Rattle.ans_model.specs.Screen.State.{Size, State, FitsScreen, at, cell_at, cell_count, sized}
 use Rattle.ans_model.specs.Screen.Step.{step, blank_cell, line_feed, printed, tab_blanks}
+use Rattle.ans_model.specs.Screen.StartClass.{all_known}
 use Rattle.ans_model.specs.declared.cell.Cell.{Cell}
 use Rattle.ans_model.specs.declared.cell.Position.{Position}
 use Rattle.ans_model.specs.declared.start.Start.{Start}
@@ -14,6 +15,7 @@ use Rattle.ans_players.specs.declared.kind.Kind.{Kind}
 use Rattle.ans_players.specs.declared.kind.Kind.TheVariants.{HomeOnClear, SavePlaceOnly, StopsAtEdge}
 use Rattle.ans_players.specs.Kinds.{is_kind}
 use Rattle.ans_players.specs.Grips.{Grip, Wrapped, BehindFeed, BehindReturn, Adrift, Stand}
+use Rattle.ans_players.specs.Named.{times_cleared}
 use Rattle.ans_players.specs.OwnKind.{all_but}
 use Rattle.ans_players.specs.Players.{Behaviour, IsPlayer, IsShown}
 use Rattle.ans_players.specs.Situations.{AreAgreed, Spelled, is_agreed, spelled, stand_behind}
@@ -71,6 +73,13 @@ StrictTells = (z : Size) (class : Start) (agreed : Kind → Bool) (content : Lis
     → (good : GoodWith z class content picture)
     → IsShown (strictest agreed z) z class (spelled good.tokens good.reads.0) picture
     ↔ AreAgreed agreed z class (spelled good.tokens good.reads.0)
+
+-- So from the cleared start it shows its picture exactly where each kind that arises is agreed.
+abbrev pub StrictNeedsNamed : Type 0
+StrictNeedsNamed = (z : Size) (agreed : Kind → Bool) (content : List ℕ) (picture : Picture)
+    → (good : GoodWith z all_known content picture)
+    → IsShown (strictest agreed z) z all_known (spelled good.tokens good.reads.0) picture
+    ↔ ((kind : Kind) → 0 < times_cleared kind z (spelled good.tokens good.reads.0) → IsTrue (agreed kind))
 
 -- ---- one that waits at the right edge for the next byte, and forgets it at all else but colours and BEL
 pub record Waiting : Type 0 where

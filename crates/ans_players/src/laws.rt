@@ -9,7 +9,7 @@ ghost use Rattle.ans_players.specs.Mends.{MendedIsAgreed, MendedIsShown, Mending
 ghost use Rattle.ans_players.specs.Named.{NamedAreLeast, NamedOneWay};
 ghost use Rattle.ans_players.specs.Players.{IsShown};
 ghost use Rattle.ans_players.specs.Situations.{AreAgreed, spelled};
-ghost use Rattle.ans_players.specs.Witnesses.{IsStrictPlayer, StrictTells};
+ghost use Rattle.ans_players.specs.Witnesses.{IsStrictPlayer, StrictNeedsNamed, StrictTells};
 
 use crate::player::Player;
 
@@ -30,10 +30,11 @@ pub fn strictest_player_tells()
     ensures tells { StrictTells }
 {}
 
-/// The kinds that arise from the cleared start are the least that have to be agreed for the picture to be
-/// the same on every player. How often each arises, and where first, is said in one way.
+/// The kinds that arise from the cleared start are the least that have to be agreed for good content to show
+/// its picture on every player. How often each arises, and where first, is said in one way.
 pub fn named_kinds_are_least()
     ensures least { NamedAreLeast }
+    ensures shown { StrictNeedsNamed }
     ensures one { NamedOneWay }
 {}
 
