@@ -38,10 +38,11 @@ stepping plays z = record {
 abbrev pub by_token : (Size → State → TokenKind → State) → Size → Behaviour
 by_token plays = stepping (λ z s x. plays z s x.token)
 
+-- the profile itself
 abbrev pub profile : Size → Behaviour
 profile = by_token step
 
--- it does as the profile does in whatever is agreed
+-- it is a player, whatever is agreed
 abbrev pub IsProfilePlayer : Type 0
 IsProfilePlayer = (z : Size) (agreed : Kind → Bool) → IsPlayer z agreed (profile z)
 
@@ -56,6 +57,7 @@ abbrev pub strict_cells : Size → Option Stand → Position → Option Cell
 strict_cells z None p = None
 strict_cells z (Some h) p = cells_of z h.state p
 
+-- it stands for the one state that it remembers, and as firmly
 abbrev pub strictest : (Kind → Bool) → Size → Behaviour
 strictest agreed z = record {
   Memory = Option Stand;
@@ -64,6 +66,7 @@ strictest agreed z = record {
   StandsFor = λ m h. m ≡ Some h;
 }
 
+-- it is a player, whatever is agreed
 abbrev pub IsStrictPlayer : Type 0
 IsStrictPlayer = (z : Size) (agreed : Kind → Bool) → IsPlayer z agreed (strictest agreed z)
 
@@ -119,6 +122,7 @@ abbrev pub WaitingStandsFor : Size → Grip → Waiting → State → Type 0
 WaitingStandsFor z Wrapped m s = (m.waits ≡ true) × (m.state.cursor.row ≢ z.lines) × (on_next_row m.state ≡ s)
 WaitingStandsFor z g m s = (m.waits ≡ false) × (m.state ≡ s)
 
+-- what waits so
 abbrev pub waiting : Size → Behaviour
 waiting z = record {
   Memory = Waiting;
@@ -146,19 +150,21 @@ drifting kind plays z = record {
   StandsFor = λ m h. DriftsFor kind h.grip m h.state;
 }
 
--- the cursor stays on a clear
+-- a token played by one whose cursor stays on a clear
 abbrev pub staying_step : Size → State → TokenKind → State
 staying_step z s Clear = record s { screen = replicate (cell_count z) (blank_cell s.attribute) }
 staying_step z s t = step z s t
 
+-- what stays so, and drifts behind a clear
 abbrev pub staying : Size → Behaviour
 staying = drifting HomeOnClear staying_step
 
--- the cursor goes home on a save
+-- a token played by one whose cursor goes home on a save
 abbrev pub saving_step : Size → State → TokenKind → State
 saving_step z s Save = record s { saved = s.cursor; cursor = at 0 0 }
 saving_step z s t = step z s t
 
+-- what goes home so, and drifts behind a save
 abbrev pub saving : Size → Behaviour
 saving = drifting SavePlaceOnly saving_step
 
@@ -176,6 +182,7 @@ FeedingStandsFor BehindReturn m s =
     (m.cursor.row ≡ s.cursor.row) × (s.cursor.column ≡ 0) × (record m { cursor = s.cursor } ≡ s)
 FeedingStandsFor g m s = m ≡ s
 
+-- what ends lines so
 abbrev pub feeding : Size → Behaviour
 feeding z = record {
   Memory = State;

@@ -39,6 +39,7 @@ abbrev pub unseen_colours : Size → State → TokenKind → List ℕ → State
 unseen_colours z s (Colours parameters) text = if omits text then s else step z s (Colours parameters)
 unseen_colours z s t text = step z s t
 
+-- so it does with a spelled token
 abbrev pub unseen_step : Size → State → Spelled → State
 unseen_step z s x = unseen_colours z s x.token x.text
 
