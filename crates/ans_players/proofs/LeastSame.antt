@@ -1,0 +1,233 @@
+-- Content in which no kinds but agreed ones arise is the same on every player for one least class of starts.
+use Rattle.std.proofs.Common.{◌≡◌, ◌⊎◌, inl, inr, refl, ap, ◌∙◌, sym, subst, ℕ, ◌<◌, Bool, true, false, List}
+use Rattle.std.proofs.lemmas.Bool.{and_parts, and_from}
+use Rattle.std.specs.Prelude.{◌↔◌, IsTrue}
+use Rattle.ans_model.specs.Sequence.TokenKind.{TokenKind}
+use Rattle.ans_model.specs.Screen.State.{Size}
+use Rattle.ans_model.specs.Screen.StartClass.{Covers, all_known, both_known, cleared, IsStart, all_but_screen}
+use Rattle.ans_model.specs.Screen.StartClass.{all_but_cursor, all_but_saved, all_but_colours, all_but_wrap}
+use Rattle.ans_model.specs.declared.start.Start.{Start}
+use Rattle.ans_model.specs.Verdict.Good.{GoodWith, IsGood, PlaysWell}
+use Rattle.ans_model.proofs.ClassLemmas.{covers_itself, covers_starts, covers_all_known, covers_good}
+use Rattle.ans_model.proofs.ClassLemmas.{covers_all_but_screen, covers_all_but_cursor, covers_all_but_saved}
+use Rattle.ans_model.proofs.ClassLemmas.{covers_all_but_colours, covers_all_but_wrap}
+use Rattle.ans_model.proofs.StartLemmas.{low_is_start}
+use Rattle.ans_players.specs.declared.kind.Kind.{Kind}
+use Rattle.ans_players.specs.Situations.{Spelled, AreAgreed, spelled}
+use Rattle.ans_players.specs.Classes.{IsSame, IsLeastSame, IsCalm, IsFoundBySame}
+use Rattle.ans_players.specs.Classes.{LeastSameExists, LeastSameIsOne, LeastSameIsFound}
+use Rattle.ans_players.proofs.Everywhere.{kinds_of, kinds_of_spelled}
+use Rattle.ans_players.proofs.Meets.{agreed_meet, agreed_of_two, firm_place}
+use Rattle.ans_players.proofs.OneSpelling.{one_spelling}
+use Rattle.ans_players.proofs.Search.{agreed_or_not}
+
+-- ---- classes
+-- truths that say the same are the same
+same_truth : (p q : Bool) → (IsTrue p → IsTrue q) → (IsTrue q → IsTrue p) → p ≡ q
+same_truth true q there back = sym (there refl)
+same_truth false true there back = back refl
+same_truth false false there back = refl
+
+-- classes that cover each other are the same
+covers_both_ways : (a b : Start) → Covers a b → Covers b a → a ≡ b
+covers_both_ways a b there back = λ i. record {
+  screen = same_truth a.screen b.screen there.screen back.screen i;
+  cursor = same_truth a.cursor b.cursor there.cursor back.cursor i;
+  saved = same_truth a.saved b.saved there.saved back.saved i;
+  colours = same_truth a.colours b.colours there.colours back.colours i;
+  wrap = same_truth a.wrap b.wrap there.wrap back.wrap i;
+}
+
+-- a class that both cover is covered by what both know
+both_covered : (a b c : Start) → Covers c a → Covers c b → Covers c (both_known a b)
+both_covered a b c of_a of_b = record {
+  screen = λ k. and_from _ _ (of_a.screen k) (of_b.screen k);
+  cursor = λ k. and_from _ _ (of_a.cursor k) (of_b.cursor k);
+  saved = λ k. and_from _ _ (of_a.saved k) (of_b.saved k);
+  colours = λ k. and_from _ _ (of_a.colours k) (of_b.colours k);
+  wrap = λ k. and_from _ _ (of_a.wrap k) (of_b.wrap k);
+}
+
+-- ---- the only one
+pub least_same_is_one : LeastSameIsOne
+least_same_is_one agreed z content a b least_a least_b =
+    covers_both_ways a b
+    ((least_a b).0 ((least_b b).1 (covers_itself b)))
+    ((least_b a).0 ((least_a a).1 (covers_itself a)))
+
+-- ---- content of which this is so
+-- what is the same for a class is so for each class that it covers
+covered_same : (agreed : Kind → Bool) (z : Size) (content : List ℕ) (a b : Start) → Covers a b
+    → IsSame agreed z a content → IsSame agreed z b content
+covered_same agreed z content a b covers same =
+    let good : GoodWith z b content same.0.0 = covers_good z a b content same.0.0 covers same.0.1 in
+    let each : AreAgreed agreed z b (spelled same.0.1.tokens same.0.1.reads.0) =
+    λ s k x start e. same.1 s k x (covers_starts z a b s covers start) e in (
+      (same.0.0, good),
+      subst (λ (ys : List Spelled). AreAgreed agreed z b ys)
+          (one_spelling content same.0.1.tokens good.tokens same.0.1.reads good.reads) each,
+    )
+
+module _ (agreed : Kind → Bool) (z : Size) (content : List ℕ) (needs : Start)
+    (calm : IsCalm agreed z content needs) where
+  abbrev xs : List Spelled
+  xs = spelled calm.same.0.1.tokens calm.same.0.1.reads.0
+
+  some_columns : 0 < z.width
+  some_columns = calm.same.0.1.size.some_columns
+
+  -- the content is spelled so, however it is read
+  spelled_is : (class : Start) (good : IsGood z class content) → spelled good.1.tokens good.1.reads.0 ≡ xs
+  spelled_is class good =
+      one_spelling content good.1.tokens calm.same.0.1.tokens good.1.reads calm.same.0.1.reads
+
+  pub plays_of : (class : Start) → IsGood z class content → PlaysWell z class (kinds_of xs)
+  plays_of class good =
+      subst (λ (us : List TokenKind). PlaysWell z class us)
+      (sym (kinds_of_spelled good.1.tokens good.1.reads.0 good.1.reads.1.each)
+      ∙ ap kinds_of (spelled_is class good)) good.1.plays
+
+  pub agreed_is : (class : Start) → IsSame agreed z class content → AreAgreed agreed z class xs
+  agreed_is class same =
+      subst (λ (ys : List Spelled). AreAgreed agreed z class ys) (spelled_is class same.0) same.1
+
+  pub same_is : (class : Start) (good : IsGood z class content) → AreAgreed agreed z class xs
+      → IsSame agreed z class content
+  same_is class good each = (
+    good,
+    subst (λ (ys : List Spelled). AreAgreed agreed z class ys) (sym (spelled_is class good)) each,
+  )
+
+  -- what is the same for two classes is so for that of the parts known in both
+  same_meet : (a b : Start) → IsSame agreed z a content → IsSame agreed z b content
+      → IsSame agreed z (both_known a b) content
+  same_meet a b of_a of_b =
+      let good : IsGood z (both_known a b) content = (calm.least (both_known a b)).1
+      (both_covered a b needs ((calm.least a).0 of_a.0) ((calm.least b).0 of_b.0)) in
+      same_is (both_known a b) good
+      (agreed_meet agreed z a b xs some_columns (plays_of (both_known a b) good) (agreed_is a of_a) (agreed_is b of_b))
+
+  -- no kind looks at a cell
+  same_without_cells : IsGood z all_but_screen content → IsSame agreed z all_but_screen content
+  same_without_cells good = same_is all_but_screen good (λ s k x start e.
+      let clear : IsStart z all_known (cleared z) = low_is_start z all_known some_columns in
+      let clear_too : IsStart z all_but_screen (cleared z) =
+      covers_starts z all_but_screen all_known (cleared z) (covers_all_known all_but_screen) clear in
+      let there = agreed_is all_known calm.same (cleared z) k x clear e in
+      agreed_of_two z all_but_screen xs (plays_of all_but_screen good) s (cleared z) (cleared z) start clear_too
+      clear_too agreed (record {
+        place = firm_place _ _ _ (inl (start.cursor refl));
+        saved = inl (start.saved refl);
+        attribute = inl (start.attribute refl);
+        wrap = inl (start.wrap refl);
+      }) k x e there there)
+
+  -- it is the same for a class, or not
+  same_or_not : (class : Start) → IsGood z class content ⊎ ¬ IsGood z class content
+      → IsSame agreed z class content ⊎ ¬ IsSame agreed z class content
+  same_or_not class (inr not_good) = inr (λ same. not_good same.0)
+  same_or_not class (inl good) = elim (agreed_or_not agreed z class xs some_columns (plays_of class good)) [
+    | inl each ↦ inl (same_is class good each)
+    | inr not_each ↦ inr (λ same. not_each (agreed_is class same))
+  ]
+
+  -- ---- part by part
+  needed_part : (others : Start) (needed known : Bool) → (needed ≡ false) ↔ IsSame agreed z others content
+      → (known ≡ false → IsSame agreed z others content) → IsTrue needed → IsTrue known
+  needed_part others needed true part without k = refl
+  needed_part others needed false part without k =
+      let no : needed ≡ false = part.1 (without refl) in absurd (let none : ⊥ = cc in none)
+
+  -- with this part as it is found and all others known, it is the same
+  same_with_part : (needed : Bool) (class : Bool → Start) → (needed ≡ false) ↔ IsSame agreed z (class false) content
+      → IsSame agreed z (class true) content → IsSame agreed z (class needed) content
+  same_with_part true class part all = all
+  same_with_part false class part all = part.0 refl
+
+  module _ (class : Start) (found : IsFoundBySame agreed z content needs class) where
+    screen_found : (class.screen ≡ false) ↔ IsSame agreed z all_but_screen content
+    screen_found = (
+      λ e. same_without_cells ((calm.least all_but_screen).1
+          ((covers_all_but_screen needs).1 (sym found.screen ∙ e))),
+      λ same. found.screen ∙ (covers_all_but_screen needs).0 ((calm.least all_but_screen).0 same.0),
+    )
+
+    found_is_same : IsSame agreed z class content
+    found_is_same =
+        covered_same agreed z content _ class
+        (record {
+          screen = λ k. (and_parts class.screen true k).0;
+          cursor = λ k. (and_parts class.cursor true k).0;
+          saved = λ k. (and_parts class.saved true k).0;
+          colours = λ k. (and_parts class.colours true k).0;
+          wrap = λ k. k;
+        })
+        (same_meet _ _
+        (same_with_part class.screen (λ k. record all_known { screen = k }) screen_found calm.same)
+        (same_meet _ _
+        (same_with_part class.cursor (λ k. record all_known { cursor = k }) found.cursor calm.same)
+        (same_meet _ _
+        (same_with_part class.saved (λ k. record all_known { saved = k }) found.saved calm.same)
+        (same_meet _ _
+        (same_with_part class.colours (λ k. record all_known { colours = k }) found.colours calm.same)
+        (same_with_part class.wrap (λ k. record all_known { wrap = k }) found.wrap calm.same)))))
+
+    least_by_parts : IsLeastSame agreed z content class
+    least_by_parts c = (
+      λ same. record {
+        screen = needed_part all_but_screen class.screen c.screen screen_found
+            (λ e. covered_same agreed z content c all_but_screen ((covers_all_but_screen c).1 e) same);
+        cursor = needed_part all_but_cursor class.cursor c.cursor found.cursor
+            (λ e. covered_same agreed z content c all_but_cursor ((covers_all_but_cursor c).1 e) same);
+        saved = needed_part all_but_saved class.saved c.saved found.saved
+            (λ e. covered_same agreed z content c all_but_saved ((covers_all_but_saved c).1 e) same);
+        colours = needed_part all_but_colours class.colours c.colours found.colours
+            (λ e. covered_same agreed z content c all_but_colours ((covers_all_but_colours c).1 e) same);
+        wrap = needed_part all_but_wrap class.wrap c.wrap found.wrap
+            (λ e. covered_same agreed z content c all_but_wrap ((covers_all_but_wrap c).1 e) same);
+      },
+      λ covers. covered_same agreed z content class c covers found_is_same,
+    )
+
+pub least_same_is_found : LeastSameIsFound
+least_same_is_found agreed z content needs class calm found = least_by_parts agreed z content needs calm class found
+
+-- ---- and there is one
+-- what holds or not is told by a truth
+truth_of : {P : Type 0} → P ⊎ ¬ P → (needed : Bool) × ((needed ≡ false) ↔ P)
+truth_of (inl holds) = (false, (λ e. holds, λ p. refl))
+truth_of (inr not_so) = (true, (λ e. absurd (let none : ⊥ = cc in none), λ p. absurd (not_so p)))
+
+-- content is good for the class of all parts but one, or not, as its least class has it
+good_or_not : {P : Type 0} (needed : Bool) → (needed ≡ false → P) → (P → needed ≡ false) → P ⊎ ¬ P
+good_or_not true there back = inr (λ p. let no : true ≡ false = back p in let none : ⊥ = cc in none)
+good_or_not false there back = inl (there refl)
+
+pub least_same_exists : LeastSameExists
+least_same_exists agreed z content needs calm =
+    let part : (c : Start) → IsGood z c content ⊎ ¬ IsGood z c content
+    → (needed : Bool) × ((needed ≡ false) ↔ IsSame agreed z c content) =
+    λ c known. truth_of (same_or_not agreed z content needs calm c known) in
+    let good : (c : Start) (needed : Bool) → (Covers needs c ↔ (needed ≡ false))
+    → IsGood z c content ⊎ ¬ IsGood z c content =
+    λ c needed covers. good_or_not needed (λ e. (calm.least c).1 (covers.1 e)) (λ g. covers.0 ((calm.least c).0 g)) in
+    let cursor = part all_but_cursor (good all_but_cursor needs.cursor (covers_all_but_cursor needs)) in
+    let saved = part all_but_saved (good all_but_saved needs.saved (covers_all_but_saved needs)) in
+    let colours = part all_but_colours (good all_but_colours needs.colours (covers_all_but_colours needs)) in
+    let wrap = part all_but_wrap (good all_but_wrap needs.wrap (covers_all_but_wrap needs)) in
+    let class : Start = record {
+      screen = needs.screen;
+      cursor = cursor.0;
+      saved = saved.0;
+      colours = colours.0;
+      wrap = wrap.0;
+    } in (
+      class,
+      least_same_is_found agreed z content needs class calm (record {
+        screen = refl;
+        cursor = cursor.1;
+        saved = saved.1;
+        colours = colours.1;
+        wrap = wrap.1;
+      }),
+    )

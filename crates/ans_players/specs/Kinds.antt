@@ -1,0 +1,46 @@
+-- The kinds in which players part: their order and their words.
+use Rattle.std.specs.Prelude.{ℕ, Bool, ◌==◌, List, [], ◌∷◌, codes}
+use Rattle.ans_players.specs.declared.kind.Kind.{Kind}
+use Rattle.ans_players.specs.declared.kind.Kind.TheVariants.{WrapAtOnce, LineEnds, HomeOnClear, ClearInColour}
+use Rattle.ans_players.specs.declared.kind.Kind.TheVariants.{SavePlaceOnly, DosColours, TabPrints, LineErased, WrapOff}
+use Rattle.ans_players.specs.declared.kind.Kind.TheVariants.{StopsAtEdge, PageControls, TerminalControls}
+
+-- the kinds in their order
+abbrev pub all_kinds : List Kind
+all_kinds =
+    WrapAtOnce ∷ LineEnds ∷ HomeOnClear ∷ ClearInColour ∷ SavePlaceOnly ∷ DosColours ∷ TabPrints ∷ LineErased ∷ WrapOff
+    ∷ StopsAtEdge ∷ PageControls ∷ TerminalControls ∷ []
+
+-- where a kind stands among them
+abbrev pub kind_number : Kind → ℕ
+kind_number WrapAtOnce = 0
+kind_number LineEnds = 1
+kind_number HomeOnClear = 2
+kind_number ClearInColour = 3
+kind_number SavePlaceOnly = 4
+kind_number DosColours = 5
+kind_number TabPrints = 6
+kind_number LineErased = 7
+kind_number WrapOff = 8
+kind_number StopsAtEdge = 9
+kind_number PageControls = 10
+kind_number TerminalControls = 11
+
+-- two kinds are one
+abbrev pub is_kind : Kind → Kind → Bool
+is_kind kind other = kind_number kind == kind_number other
+
+-- the word that names a kind
+abbrev pub kind_word : Kind → List ℕ
+kind_word WrapAtOnce = codes "wrap-at-once"
+kind_word LineEnds = codes "line-ends"
+kind_word HomeOnClear = codes "home-on-clear"
+kind_word ClearInColour = codes "clear-in-colour"
+kind_word SavePlaceOnly = codes "save-place-only"
+kind_word DosColours = codes "dos-colours"
+kind_word TabPrints = codes "tab-prints"
+kind_word LineErased = codes "line-erased"
+kind_word WrapOff = codes "wrap-off"
+kind_word StopsAtEdge = codes "stops-at-edge"
+kind_word PageControls = codes "page-controls"
+kind_word TerminalControls = codes "terminal-controls"

@@ -1,0 +1,12 @@
+-- Where players part, and what is the same on all of them.
+pub mod Kinds
+pub mod Grips
+pub mod Situations
+pub mod Players
+pub mod Named
+pub mod Classes
+pub mod Mends
+pub mod OwnKind
+pub mod Witnesses
+pub mod WitnessesByToken
+pub mod Examples

@@ -1,0 +1,104 @@
+//! In what players part.
+
+ghost use Rattle.std.specs.Prelude.{◌≡◌};
+ghost use Rattle.ans_players.specs.Kinds.{all_kinds, kind_number, kind_word};
+
+/// A kind of behaviour in which players part: what the profile does, and what some players do otherwise.
+#[derive(Debug, Clone, Copy, PartialEq, Eq)]
+pub enum Kind {
+    /// A byte printed in the last column takes the cursor to the next row at once. Terminals wait there
+    /// for the next byte.
+    WrapAtOnce,
+    /// A line feed goes straight down, and a return goes back in its row. For some players a line feed
+    /// returns too, and for one of them a return does nothing.
+    LineEnds,
+    /// A clear takes the cursor home. In terminals it stays where it is.
+    HomeOnClear,
+    /// What is cleared or erased has the current attribute. Some players clear white on black.
+    ClearInColour,
+    /// `ESC[s` keeps the cursor's place, `ESC[u` goes back to it, and neither does anything else. Many
+    /// terminals keep the colours too, some know neither, and one goes home at `ESC[s`.
+    SavePlaceOnly,
+    /// Numbers of colours other than 0, 1, 5, 30 to 37 and 40 to 47 do what ANSI.SYS does, and an omitted
+    /// one is 0. Players give them other meanings or none, and one does nothing at an omitted number.
+    DosColours,
+    /// A tab prints blanks. Terminals move to the next stop and print nothing.
+    TabPrints,
+    /// `ESC[K` blanks the rest of the row. One player does nothing.
+    LineErased,
+    /// `ESC[?7l` turns wrap off. Some players go on wrapping.
+    WrapOff,
+    /// A move right stops in the last column, and a move down in the spare row. One player goes on past
+    /// the last column, and most screens have more rows than a drawing states.
+    StopsAtEdge,
+    /// 00h, 0Bh and 0Ch are drawn, 07h does nothing and 08h goes back. Players of code page 437 do
+    /// otherwise too.
+    PageControls,
+    /// 01h to 06h, 0Eh to 19h, 1Ch to 1Fh and 7Fh are drawn. Terminals alone do not draw them.
+    TerminalControls,
+}
+
+impl Kind {
+    /// The kinds in their order.
+    pub const ALL: [Kind; 12] = [
+        Kind::WrapAtOnce,
+        Kind::LineEnds,
+        Kind::HomeOnClear,
+        Kind::ClearInColour,
+        Kind::SavePlaceOnly,
+        Kind::DosColours,
+        Kind::TabPrints,
+        Kind::LineErased,
+        Kind::WrapOff,
+        Kind::StopsAtEdge,
+        Kind::PageControls,
+        Kind::TerminalControls,
+    ];
+
+    /// `Kind::ALL`.
+    pub fn all() -> [Kind; 12]
+        ensures { result ≡ all_kinds }
+    {
+        Kind::ALL
+    }
+
+    /// Where a kind stands in `Kind::ALL`, counted from 0.
+    pub fn number(self) -> usize
+        ensures { result ≡ kind_number self }
+    {
+        match self {
+            Kind::WrapAtOnce => 0,
+            Kind::LineEnds => 1,
+            Kind::HomeOnClear => 2,
+            Kind::ClearInColour => 3,
+            Kind::SavePlaceOnly => 4,
+            Kind::DosColours => 5,
+            Kind::TabPrints => 6,
+            Kind::LineErased => 7,
+            Kind::WrapOff => 8,
+            Kind::StopsAtEdge => 9,
+            Kind::PageControls => 10,
+            Kind::TerminalControls => 11,
+        }
+    }
+
+    /// The word that names a kind.
+    pub fn word(self) -> &'static str
+        ensures { result.now ≡ kind_word self }
+    {
+        match self {
+            Kind::WrapAtOnce => "wrap-at-once",
+            Kind::LineEnds => "line-ends",
+            Kind::HomeOnClear => "home-on-clear",
+            Kind::ClearInColour => "clear-in-colour",
+            Kind::SavePlaceOnly => "save-place-only",
+            Kind::DosColours => "dos-colours",
+            Kind::TabPrints => "tab-prints",
+            Kind::LineErased => "line-erased",
+            Kind::WrapOff => "wrap-off",
+            Kind::StopsAtEdge => "stops-at-edge",
+            Kind::PageControls => "page-controls",
+            Kind::TerminalControls => "terminal-controls",
+        }
+    }
+}

@@ -1,0 +1,19 @@
+//! What a player is.
+
+ghost use Rattle.std.specs.Prelude.{Bool};
+ghost use Rattle.ans_model.specs.Screen.State.{Size};
+ghost use Rattle.ans_players.specs.declared.kind.Kind.{Kind};
+ghost use Rattle.ans_players.specs.Players.{Behaviour, IsPlayer};
+
+/// A player of drawings, on a screen of the stated size.
+pub trait Player {
+    // the screen that is stated
+    ghost size: { Size };
+    // the kinds in which it does as the profile does
+    ghost agreed: { Kind → Bool };
+    // its memory, the cells that it shows, how it plays a spelled token, and for which states of the
+    // profile it stands, and how firmly
+    ghost behaviour: { Behaviour };
+    // it shows those states' cells, and goes along wherever only agreed kinds arise
+    ghost is_player: { IsPlayer size agreed behaviour };
+}
