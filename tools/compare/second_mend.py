@@ -130,7 +130,7 @@ def with_record(file, width, said):
         return None
     size = len(file) - len(content)
     place = f" at {len(content)}" + (f", in the place of {many(size, 'byte')}" if size else "")
-    said.append(("put a record", f"put a record of {many(width, 'column')}{place}"))
+    said.append(("put a record", f"put an end mark and a record of {many(width, 'column')}{place}"))
     numbers = [(0, 4), (1, 1), (1, 1), (width, 2), (0, 2), (0, 2), (0, 2), (0, 1), (0, 1)]
     fields = b"".join(number.to_bytes(size, "little") for number, size in numbers)
     return content + b"\x1aSAUCE00" + b" " * 75 + b"0" * 8 + fields + bytes(22)

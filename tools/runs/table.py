@@ -340,10 +340,10 @@ RUNS = [
         b"lines 8192, was 1\nput 19 bytes in front\nfile size 22, was 3\n", stdin=file_of(b"Hi!")),
     Run("mended, with a record", ["mend", "--width", "2"], 0,
         in_front(b"Hi").replace(b"19960101", b"00000000"),
-        b"put a record of 2 columns at 2\nlines 1, was 0\nput 19 bytes in front\nfile size 21, was 0\n", stdin=b"Hi"),
+        b"put an end mark and a record of 2 columns at 2\nlines 1, was 0\nput 19 bytes in front\nfile size 21, was 0\n", stdin=b"Hi"),
     Run("mended no more than in front, a refused drawing", ["mend"], 1,
         stderr=b"at 2: F20 print below the stated lines\n"
-        b"help: one of these, as why says: --line-ends --full-rows --take-out --least-lines\n", stdin=file_of(b"Hi!")),
+        b"help: may be added (see anscheck why): --line-ends --full-rows --take-out --least-lines\n", stdin=file_of(b"Hi!")),
     Run("mended without a record", ["mend"], 1, stderr=b"at 127: F1 no SAUCE record\n"
         b"help: --width N gives a drawing without a record one for N columns\n", stdin=b"S" * 127),
     Run("mended, the longest file", ["mend", "--width", "80"], 1,

@@ -210,7 +210,7 @@ fn files_are_mended(rt: HostRuntime) {
     expect(&rt, answer, lent.text.get(..lent.told), (PASS, told));
     let answer = lent.mend(b"Hi", 0, 2, 1);
     let told =
-        b"put a record of 2 columns at 2\nlines 1, was 0\nput 19 bytes in front\nfile size 21, was 0\n";
+        b"put an end mark and a record of 2 columns at 2\nlines 1, was 0\nput 19 bytes in front\nfile size 21, was 0\n";
     expect(&rt, answer, lent.text.get(..lent.told), (PASS, told));
     let answer = lent.mend(b"Hi", 15, 0, 0);
     let told = b"at 2: F1 no SAUCE record\n\

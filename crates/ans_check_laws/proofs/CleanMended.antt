@@ -10,9 +10,10 @@ use Rattle.ans_model.specs.declared.fault.Cause.TheVariants as cause
 use Rattle.ans_report.specs.Counted.{counted_text, times_text}
 use Rattle.ans_report.specs.Quoted.{quoted_byte}
 use Rattle.ans_walks.specs.declared.times.Times.{Times}
-use Rattle.ans_mend.specs.MendedText.{all_given, asks_lines, at_text, end_mark_line, flag_line, front_line, help_text}
-use Rattle.ans_mend.specs.MendedText.{look_text, mended_text, offered, others_text, quoted_excerpt, record_help}
-use Rattle.ans_mend.specs.MendedText.{record_line, replaced_text, reset_line, rows_help, sequence_help, tail_line}
+use Rattle.ans_mend.specs.MendedText.{added_text, all_given, at_text, end_mark_line, flag_line, front_line, has_least}
+use Rattle.ans_mend.specs.MendedText.{help_text, lines_offered, look_text, mended_text, no_lines_help, offered}
+use Rattle.ans_mend.specs.MendedText.{others_text, place_help, quoted_excerpt, record_help, record_line}
+use Rattle.ans_mend.specs.MendedText.{replaced_text, reset_line, rows_help, sequence_help, tail_line}
 use Rattle.ans_mend.specs.MendedText.{taken_line, times_line, torn_help, unmended_text}
 use Rattle.ans_mend.specs.declared.outcome.GivenRecord.{GivenRecord}
 use Rattle.ans_mend.specs.declared.outcome.Mended.{Mended}
@@ -125,8 +126,8 @@ record_clean None = clean_nil
 record_clean (Some given) =
     let end : List ℕ = replaced_text given.cut ++ codes "\n" in
     let after : List ℕ = codes " at " ++ (decimal given.place ++ end) in
-    clean_append (codes "put a record of ") (counted_text given.width (codes "column") ++ after)
-    (plain_text (codes "put a record of ") refl)
+    clean_append (codes "put an end mark and a record of ") (counted_text given.width (codes "column") ++ after)
+    (plain_text (codes "put an end mark and a record of ") refl)
     (clean_append (counted_text given.width (codes "column")) after
     (counted_clean given.width (codes "column") (plain_text (codes "column") refl))
     (behind_clean (codes " at ") given.place end (plain_text (codes " at ") refl)
@@ -197,8 +198,7 @@ look_clean = plain_text look_text refl
 record_help_clean : (asked : Mends) → IsCleanText (record_help asked)
 record_help_clean asked =
     clean_if (is_some asked.width) _ _
-    (plain_text (codes "help: --width puts none where SAUCE00 stands, or other bytes than 00h, 0Ah, 0Dh and 1Ah behind a 1Ah\n")
-    refl)
+    (plain_text (codes "help: no record is put where SAUCE00 stands, or more follows 1Ah: see anscheck help F1\n") refl)
     (plain_text (codes "help: --width N gives a drawing without a record one for N columns\n") refl)
 
 sequence_help_clean : (asked : Mends) → IsCleanText (sequence_help asked)
@@ -210,24 +210,40 @@ offered_clean : (given : Bool) (flag : List ℕ) → IsCleanText flag → IsClea
 offered_clean given flag h =
     clean_if given [] (codes " " ++ flag) clean_nil (clean_append (codes " ") flag (plain_text (codes " ") refl) h)
 
+lines_offered_clean : (asked : Mends) → IsCleanText (lines_offered asked)
+lines_offered_clean asked =
+    clean_if (is_some asked.lines) (codes " --lines N with a larger N") (offered asked.least_lines (codes "--least-lines"))
+    (plain_text (codes " --lines N with a larger N") refl)
+    (offered_clean asked.least_lines (codes "--least-lines") (plain_text (codes "--least-lines") refl))
+
+-- and nothing behind them
+lines_end_clean : (asked : Mends) → IsCleanText (lines_offered asked ++ codes "\n")
+lines_end_clean asked =
+    clean_append (lines_offered asked) (codes "\n") (lines_offered_clean asked) (plain_text (codes "\n") refl)
+
+added_clean : (flags : List ℕ) → IsCleanText flags → IsCleanText (added_text ++ flags)
+added_clean flags h = clean_append added_text flags (plain_text added_text refl) h
+
 rows_help_clean : (asked : Mends) → IsCleanText (rows_help asked)
 rows_help_clean asked =
-    let least : List ℕ = offered (asks_lines asked) (codes "--least-lines") ++ codes "\n" in
+    let least : List ℕ = lines_offered asked ++ codes "\n" in
     let out : List ℕ = offered asked.take_out (codes "--take-out") ++ least in
     let rows : List ℕ = offered asked.full_rows (codes "--full-rows") ++ out in
     let ends : List ℕ = offered asked.line_ends (codes "--line-ends") ++ rows in
-    clean_if (all_given asked) look_text (codes "help: one of these, as why says:" ++ ends) look_clean
-    (clean_append (codes "help: one of these, as why says:") ends
-    (plain_text (codes "help: one of these, as why says:") refl)
+    clean_if (all_given asked) look_text (added_text ++ ends) look_clean
+    (added_clean ends
     (clean_append (offered asked.line_ends (codes "--line-ends")) rows
     (offered_clean asked.line_ends (codes "--line-ends") (plain_text (codes "--line-ends") refl))
     (clean_append (offered asked.full_rows (codes "--full-rows")) out
     (offered_clean asked.full_rows (codes "--full-rows") (plain_text (codes "--full-rows") refl))
     (clean_append (offered asked.take_out (codes "--take-out")) least
     (offered_clean asked.take_out (codes "--take-out") (plain_text (codes "--take-out") refl))
-    (clean_append (offered (asks_lines asked) (codes "--least-lines")) (codes "\n")
-    (offered_clean (asks_lines asked) (codes "--least-lines") (plain_text (codes "--least-lines") refl))
-    (plain_text (codes "\n") refl))))))
+    (lines_end_clean asked)))))
+
+place_help_clean : (asked : Mends) → IsCleanText (place_help asked)
+place_help_clean asked =
+    clean_if (has_least asked) look_text (added_text ++ (lines_offered asked ++ codes "\n")) look_clean
+    (added_clean (lines_offered asked ++ codes "\n") (lines_end_clean asked))
 
 help_clean : (asked : Mends) (why : Cause) → IsCleanText (help_text asked why)
 help_clean asked cause.NoRecord = record_help_clean asked
@@ -242,7 +258,7 @@ help_clean asked cause.WrongParameters = sequence_help_clean asked
 help_clean asked cause.KeyReassigned = sequence_help_clean asked
 help_clean asked cause.ScreenMode = sequence_help_clean asked
 help_clean asked cause.ReportAsked = sequence_help_clean asked
-help_clean asked cause.OutsideScreen = rows_help_clean asked
+help_clean asked cause.OutsideScreen = place_help_clean asked
 help_clean asked cause.PrintBelow = rows_help_clean asked
 help_clean asked cause.Scrolls = rows_help_clean asked
 help_clean asked why = look_clean
@@ -250,8 +266,7 @@ help_clean asked why = look_clean
 torn_help_clean : (asked : Mends) → IsCleanText (torn_help asked)
 torn_help_clean asked =
     let rows : List ℕ = offered asked.full_rows (codes "--full-rows") ++ codes " --lines N\n" in
-    clean_append (codes "help: one of these, as why says:") (offered asked.line_ends (codes "--line-ends") ++ rows)
-    (plain_text (codes "help: one of these, as why says:") refl)
+    added_clean (offered asked.line_ends (codes "--line-ends") ++ rows)
     (clean_append (offered asked.line_ends (codes "--line-ends")) rows
     (offered_clean asked.line_ends (codes "--line-ends") (plain_text (codes "--line-ends") refl))
     (clean_append (offered asked.full_rows (codes "--full-rows")) (codes " --lines N\n")
@@ -265,5 +280,8 @@ unmended_clean asked (unmended.Refused fault) =
 unmended_clean asked unmended.Torn =
     clean_append (codes "the rows are torn\n") (torn_help asked) (plain_text (codes "the rows are torn\n") refl)
     (torn_help_clean asked)
-unmended_clean asked unmended.NoLines = plain_text (unmended_text asked unmended.NoLines) refl
+unmended_clean asked unmended.NoLines =
+    clean_append (codes "no number of lines up to 8192 is enough\n") (no_lines_help asked)
+    (plain_text (codes "no number of lines up to 8192 is enough\n") refl)
+    (rows_help_clean (record asked { least_lines = true }))
 unmended_clean asked unmended.TooLong = plain_text (unmended_text asked unmended.TooLong) refl

@@ -1,5 +1,5 @@
 -- What mending says: what was changed, or why there is none.
-use Rattle.std.specs.Prelude.{ℕ, ◌-◌, Bool, true, false, ◌&&◌, ◌||◌, ◌==◌, nat_lt, nat_le, min, List, [], ◌++◌, take}
+use Rattle.std.specs.Prelude.{ℕ, ◌-◌, Bool, true, false, not, ◌&&◌, ◌==◌, nat_lt, nat_le, min, List, [], ◌++◌, take}
 use Rattle.std.specs.Prelude.{codes, decimal, Option, None, Some, is_some, if◌then◌else◌}
 use Rattle.std.specs.List.{flat_map}
 use Rattle.ans_model.specs.Text.FaultText.{fault_line}
@@ -60,7 +60,7 @@ replaced_text count =
 abbrev pub record_line : Option GivenRecord → List ℕ
 record_line None = []
 record_line (Some given) =
-    codes "put a record of " ++ (counted_text given.width (codes "column") ++ (codes " at " ++ (decimal given.place
+    codes "put an end mark and a record of " ++ (counted_text given.width (codes "column") ++ (codes " at " ++ (decimal given.place
     ++ (replaced_text given.cut ++ codes "\n"))))
 
 -- the flag is set, cleared, or stays
@@ -100,37 +100,51 @@ mended_text m =
 
 -- where no flag is left that may help
 abbrev pub look_text : List ℕ
-look_text = codes "help: why shows the place, and help tells of the fault\n"
+look_text = codes "help: anscheck why shows the place, and anscheck help tells of the fault\n"
 
 -- a drawing without a record wants one, or --width stands and puts none
 abbrev pub record_help : Mends → List ℕ
 record_help asked =
     if is_some asked.width
-    then codes "help: --width puts none where SAUCE00 stands, or other bytes than 00h, 0Ah, 0Dh and 1Ah behind a 1Ah\n"
+    then codes "help: no record is put where SAUCE00 stands, or more follows 1Ah: see anscheck help F1\n"
     else codes "help: --width N gives a drawing without a record one for N columns\n"
 
 abbrev pub sequence_help : Mends → List ℕ
 sequence_help asked =
     if asked.take_out then look_text else codes "help: --take-out takes out what is known of such sequences\n"
 
--- a flag, but where it is given
+-- a flag, unless it is given
 abbrev pub offered : Bool → List ℕ → List ℕ
 offered given flag = if given then [] else codes " " ++ flag
 
--- a number of lines is asked for
-abbrev pub asks_lines : Mends → Bool
-asks_lines asked = is_some asked.lines || asked.least_lines
+-- more lines: others than the number that is given, or the least
+abbrev pub lines_offered : Mends → List ℕ
+lines_offered asked =
+    if is_some asked.lines then codes " --lines N with a larger N"
+    else offered asked.least_lines (codes "--least-lines")
+
+-- the least number of lines is asked for, and so no more helps
+abbrev pub has_least : Mends → Bool
+has_least asked = asked.least_lines && not (is_some asked.lines)
 
 abbrev pub all_given : Mends → Bool
-all_given asked = asked.line_ends && (asked.full_rows && (asked.take_out && asks_lines asked))
+all_given asked = asked.line_ends && (asked.full_rows && (asked.take_out && has_least asked))
 
--- the flags that change the rows, but those that are given
+-- what goes before the flags that may help
+abbrev pub added_text : List ℕ
+added_text = codes "help: may be added (see anscheck why):"
+
+-- the flags that change the rows, except those that are given
 abbrev pub rows_help : Mends → List ℕ
 rows_help asked =
     if all_given asked then look_text
-    else codes "help: one of these, as why says:" ++ (offered asked.line_ends (codes "--line-ends")
+    else added_text ++ (offered asked.line_ends (codes "--line-ends")
     ++ (offered asked.full_rows (codes "--full-rows") ++ (offered asked.take_out (codes "--take-out")
-    ++ (offered (asks_lines asked) (codes "--least-lines") ++ codes "\n"))))
+    ++ (lines_offered asked ++ codes "\n"))))
+
+-- a place outside the screen may stand on one of more lines
+abbrev pub place_help : Mends → List ℕ
+place_help asked = if has_least asked then look_text else added_text ++ (lines_offered asked ++ codes "\n")
 
 -- what may help against a fault, of what is not asked for yet
 abbrev pub help_text : Mends → Cause → List ℕ
@@ -146,7 +160,7 @@ help_text asked cause.WrongParameters = sequence_help asked
 help_text asked cause.KeyReassigned = sequence_help asked
 help_text asked cause.ScreenMode = sequence_help asked
 help_text asked cause.ReportAsked = sequence_help asked
-help_text asked cause.OutsideScreen = rows_help asked
+help_text asked cause.OutsideScreen = place_help asked
 help_text asked cause.PrintBelow = rows_help asked
 help_text asked cause.Scrolls = rows_help asked
 help_text asked _ = look_text
@@ -154,12 +168,16 @@ help_text asked _ = look_text
 -- what may help where the rows are torn: whole rows, or a number that is given all the same
 abbrev pub torn_help : Mends → List ℕ
 torn_help asked =
-    codes "help: one of these, as why says:" ++ (offered asked.line_ends (codes "--line-ends")
+    added_text ++ (offered asked.line_ends (codes "--line-ends")
     ++ (offered asked.full_rows (codes "--full-rows") ++ codes " --lines N\n"))
+
+-- what may help where no number of lines is enough: the least is asked for then, as such or with a record
+abbrev pub no_lines_help : Mends → List ℕ
+no_lines_help asked = rows_help (record asked { least_lines = true })
 
 abbrev pub unmended_text : Mends → Unmended → List ℕ
 unmended_text asked (unmended.Refused fault) = fault_line fault ++ help_text asked fault.cause
 unmended_text asked unmended.Torn = codes "the rows are torn\n" ++ torn_help asked
-unmended_text asked unmended.NoLines = codes "no number of lines up to 8192 is enough\nhelp: why shows the place\n"
+unmended_text asked unmended.NoLines = codes "no number of lines up to 8192 is enough\n" ++ no_lines_help asked
 unmended_text asked unmended.TooLong =
     codes "the file would be longer than 16777216 bytes\nhelp: only a shorter drawing can be mended so\n"

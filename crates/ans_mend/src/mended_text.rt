@@ -1,11 +1,11 @@
 //! What mending says: what was changed, or why there is none.
 ghost use Rattle.std.specs.Prelude.{◌≡◌};
 ghost use Rattle.std.specs.List.{flat_map};
-ghost use Rattle.ans_mend.specs.MendedText.{all_given, asks_lines, at_text, end_mark_line, flag_line, front_line};
-ghost use Rattle.ans_mend.specs.MendedText.{help_text, mended_text, offered, others_text, quoted_excerpt};
-ghost use Rattle.ans_mend.specs.MendedText.{record_help, record_line, replaced_text, reset_line, rows_help};
-ghost use Rattle.ans_mend.specs.MendedText.{sequence_help, tail_line, taken_line, times_line, torn_help};
-ghost use Rattle.ans_mend.specs.MendedText.{unmended_text};
+ghost use Rattle.ans_mend.specs.MendedText.{all_given, at_text, end_mark_line, flag_line, front_line, has_least};
+ghost use Rattle.ans_mend.specs.MendedText.{help_text, lines_offered, mended_text, no_lines_help, offered};
+ghost use Rattle.ans_mend.specs.MendedText.{others_text, place_help, quoted_excerpt, record_help, record_line};
+ghost use Rattle.ans_mend.specs.MendedText.{replaced_text, reset_line, rows_help, sequence_help, tail_line};
+ghost use Rattle.ans_mend.specs.MendedText.{taken_line, times_line, torn_help, unmended_text};
 ghost use Rattle.ans_write.specs.Puts.{Puts};
 
 use crate::outcome::{GivenRecord, Mended, NonBlink, Reset, Unmended};
@@ -106,7 +106,7 @@ fn put_record_line<W: Write>(out: &mut Outbox<'_, W>, given: &Option<GivenRecord
     ensures { Puts W.contents out.old out.new (record_line given.now) }
 {
     if let Some(given) = given {
-        out.put(b"put a record of ");
+        out.put(b"put an end mark and a record of ");
         put_counted(out, u64::from(given.width), b"column");
         out.put(b" at ");
         out.put_decimal(given.place as u64);
@@ -187,14 +187,14 @@ pub fn put_mended<W: Write>(out: &mut Outbox<'_, W>, mended: &Mended)
 }
 
 /// Where no flag is left that may help.
-const LOOK: &[u8] = b"help: why shows the place, and help tells of the fault\n";
+const LOOK: &[u8] = b"help: anscheck why shows the place, and anscheck help tells of the fault\n";
 
 /// What a drawing without a record wants.
 const WIDTH: &[u8] = b"help: --width N gives a drawing without a record one for N columns\n";
 
 /// Why `--width` puts no record.
-const NO_WIDTH: &[u8] = b"help: --width puts none where SAUCE00 stands, \
-    or other bytes than 00h, 0Ah, 0Dh and 1Ah behind a 1Ah\n";
+const NO_WIDTH: &[u8] =
+    b"help: no record is put where SAUCE00 stands, or more follows 1Ah: see anscheck help F1\n";
 
 /// What a drawing without lines wants.
 const LEAST_LINES: &[u8] = b"help: --least-lines states the least number of lines that is enough\n";
@@ -218,19 +218,22 @@ fn sequence_help(asked: &Mends) -> &'static [u8]
     if asked.take_out { LOOK } else { TAKE_OUT }
 }
 
-fn asks_lines(asked: &Mends) -> bool
-    ensures { result ≡ asks_lines asked.now }
+fn has_least(asked: &Mends) -> bool
+    ensures { result ≡ has_least asked.now }
 {
-    asked.lines.is_some() || asked.least_lines
+    asked.least_lines && asked.lines.is_none()
 }
 
 fn all_given(asked: &Mends) -> bool
     ensures { result ≡ all_given asked.now }
 {
-    asked.line_ends && asked.full_rows && asked.take_out && asks_lines(asked)
+    asked.line_ends && asked.full_rows && asked.take_out && has_least(asked)
 }
 
-/// Puts a flag, but where it is given.
+/// What goes before the flags that may help.
+const ADDED: &[u8] = b"help: may be added (see anscheck why):";
+
+/// Puts a flag, unless it is given.
 fn put_offered<W: Write>(out: &mut Outbox<'_, W>, given: bool, flag: &[u8])
     ensures { Puts W.contents out.old out.new (offered given flag.now) }
 {
@@ -240,6 +243,16 @@ fn put_offered<W: Write>(out: &mut Outbox<'_, W>, given: bool, flag: &[u8])
     }
 }
 
+fn put_lines_offered<W: Write>(out: &mut Outbox<'_, W>, asked: &Mends)
+    ensures { Puts W.contents out.old out.new (lines_offered asked.now) }
+{
+    if asked.lines.is_some() {
+        out.put(b" --lines N with a larger N");
+        return;
+    }
+    put_offered(out, asked.least_lines, b"--least-lines");
+}
+
 fn put_rows_help<W: Write>(out: &mut Outbox<'_, W>, asked: &Mends)
     ensures { Puts W.contents out.old out.new (rows_help asked.now) }
 {
@@ -247,21 +260,43 @@ fn put_rows_help<W: Write>(out: &mut Outbox<'_, W>, asked: &Mends)
         out.put(LOOK);
         return;
     }
-    out.put(b"help: one of these, as why says:");
+    out.put(ADDED);
     put_offered(out, asked.line_ends, b"--line-ends");
     put_offered(out, asked.full_rows, b"--full-rows");
     put_offered(out, asked.take_out, b"--take-out");
-    put_offered(out, asks_lines(asked), b"--least-lines");
+    put_lines_offered(out, asked);
+    out.put(b"\n");
+}
+
+fn put_place_help<W: Write>(out: &mut Outbox<'_, W>, asked: &Mends)
+    ensures { Puts W.contents out.old out.new (place_help asked.now) }
+{
+    if has_least(asked) {
+        out.put(LOOK);
+        return;
+    }
+    out.put(ADDED);
+    put_lines_offered(out, asked);
     out.put(b"\n");
 }
 
 fn put_torn_help<W: Write>(out: &mut Outbox<'_, W>, asked: &Mends)
     ensures { Puts W.contents out.old out.new (torn_help asked.now) }
 {
-    out.put(b"help: one of these, as why says:");
+    out.put(ADDED);
     put_offered(out, asked.line_ends, b"--line-ends");
     put_offered(out, asked.full_rows, b"--full-rows");
     out.put(b" --lines N\n");
+}
+
+fn put_no_lines_help<W: Write>(out: &mut Outbox<'_, W>, asked: &Mends)
+    ensures { Puts W.contents out.old out.new (no_lines_help asked.now) }
+{
+    let least = Mends {
+        least_lines: true,
+        ..*asked
+    };
+    put_rows_help(out, &least);
 }
 
 fn put_help<W: Write>(out: &mut Outbox<'_, W>, asked: &Mends, cause: &Cause)
@@ -279,7 +314,8 @@ fn put_help<W: Write>(out: &mut Outbox<'_, W>, asked: &Mends, cause: &Cause)
         | Cause::KeyReassigned
         | Cause::ScreenMode
         | Cause::ReportAsked => out.put(sequence_help(asked)),
-        Cause::OutsideScreen | Cause::PrintBelow | Cause::Scrolls => put_rows_help(out, asked),
+        Cause::OutsideScreen => put_place_help(out, asked),
+        Cause::PrintBelow | Cause::Scrolls => put_rows_help(out, asked),
         Cause::WrongVersion
         | Cause::WrongKind
         | Cause::CommentsMissing
@@ -292,9 +328,6 @@ fn put_help<W: Write>(out: &mut Outbox<'_, W>, asked: &Mends, cause: &Cause)
         | Cause::UnknownCell { .. } => out.put(LOOK),
     }
 }
-
-/// Why there is none where no number of lines is enough.
-const NO_LINES: &[u8] = b"no number of lines up to 8192 is enough\nhelp: why shows the place\n";
 
 /// Why there is none where the file would be too long.
 const TOO_LONG: &[u8] = b"the file would be longer than 16777216 bytes\n\
@@ -314,7 +347,10 @@ pub fn put_unmended<W: Write>(out: &mut Outbox<'_, W>, asked: &Mends, reason: &U
             out.put(b"the rows are torn\n");
             put_torn_help(out, asked);
         }
-        Unmended::NoLines => out.put(NO_LINES),
+        Unmended::NoLines => {
+            out.put(b"no number of lines up to 8192 is enough\n");
+            put_no_lines_help(out, asked);
+        }
         Unmended::TooLong => out.put(TOO_LONG),
     }
 }

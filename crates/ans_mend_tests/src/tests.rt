@@ -90,7 +90,7 @@ fn changed_once() -> Mended {
 }
 
 const SAID_ONCE: &[u8] = b"cut 1 byte at 137, behind the record\n\
-    put a record of 1 column at 9\n\
+    put an end mark and a record of 1 column at 9\n\
     put a return before a line feed at 4\n\
     took out <ESC>[?33h at 0\n\
     set the non-blink flag\n\
@@ -145,7 +145,7 @@ fn changed_often() -> Mended {
 }
 
 const SAID_OFTEN: &[u8] = b"cut 2 bytes at 2724, behind the record\n\
-    put a record of 1024 columns at 2596, in the place of 3 bytes\n\
+    put an end mark and a record of 1024 columns at 2596, in the place of 3 bytes\n\
     put a return before a line feed, 2 times, first at 4\n\
     took out <ESC>[?25l at 5, and 1 more of its kind\n\
     took out <ESC>[=3h at 0\n\
@@ -208,12 +208,15 @@ macro_rules! refused {
             $cause,
             concat!(
                 $line,
-                "\nhelp: one of these, as why says: --line-ends --full-rows --take-out --least-lines\n"
+                "\nhelp: may be added (see anscheck why): --line-ends --full-rows --take-out --least-lines\n"
             )
         )
     };
+    (place, $offset:literal, $cause:expr, $line:literal) => {
+        refused!($offset, $cause, concat!($line, "\nhelp: may be added (see anscheck why): --least-lines\n"))
+    };
     (other, $offset:literal, $cause:expr, $line:literal) => {
-        refused!($offset, $cause, concat!($line, "\nhelp: why shows the place, and help tells of the fault\n"))
+        refused!($offset, $cause, concat!($line, "\nhelp: anscheck why shows the place, and anscheck help tells of the fault\n"))
     };
     ($offset:literal, $cause:expr, $text:expr) => {
         (Unmended::Refused(Fault { offset: $offset, cause: $cause }), $text)
@@ -315,7 +318,7 @@ static REASONS: [(Unmended, &str); 27] = [
         "at 8: F17 cursor report asked"
     ),
     refused!(
-        rows,
+        place,
         9,
         Cause::OutsideScreen,
         "at 9: F19 place outside the screen"
@@ -348,11 +351,11 @@ static REASONS: [(Unmended, &str); 27] = [
     ),
     (
         Unmended::Torn,
-        "the rows are torn\nhelp: one of these, as why says: --line-ends --full-rows --lines N\n",
+        "the rows are torn\nhelp: may be added (see anscheck why): --line-ends --full-rows --lines N\n",
     ),
     (
         Unmended::NoLines,
-        "no number of lines up to 8192 is enough\nhelp: why shows the place\n",
+        "no number of lines up to 8192 is enough\nhelp: may be added (see anscheck why): --line-ends --full-rows --take-out\n",
     ),
     (
         Unmended::TooLong,
@@ -391,23 +394,21 @@ macro_rules! at_7 {
 }
 
 /// What was asked for, why a file is not mended, and what is said.
-static HELP: [(Mends, Unmended, &str); 9] = [
+static HELP: [(Mends, Unmended, &str); 12] = [
     (
         ALL,
         at_7!(NoRecord),
-        "at 7: F1 no SAUCE record\n\
-            help: --width puts none where SAUCE00 stands, \
-            or other bytes than 00h, 0Ah, 0Dh and 1Ah behind a 1Ah\n",
+        "at 7: F1 no SAUCE record\nhelp: no record is put where SAUCE00 stands, or more follows 1Ah: see anscheck help F1\n",
     ),
     (
         ALL,
         at_7!(KeyReassigned),
-        "at 7: F15 key reassigned\nhelp: why shows the place, and help tells of the fault\n",
+        "at 7: F15 key reassigned\nhelp: anscheck why shows the place, and anscheck help tells of the fault\n",
     ),
     (
         ALL,
         at_7!(OutsideScreen),
-        "at 7: F19 place outside the screen\nhelp: why shows the place, and help tells of the fault\n",
+        "at 7: F19 place outside the screen\nhelp: anscheck why shows the place, and anscheck help tells of the fault\n",
     ),
     (
         Mends {
@@ -415,7 +416,7 @@ static HELP: [(Mends, Unmended, &str); 9] = [
             ..ALL
         },
         at_7!(PrintBelow),
-        "at 7: F20 print below the stated lines\nhelp: one of these, as why says: --take-out\n",
+        "at 7: F20 print below the stated lines\nhelp: may be added (see anscheck why): --take-out\n",
     ),
     (
         Mends {
@@ -423,7 +424,7 @@ static HELP: [(Mends, Unmended, &str); 9] = [
             ..ALL
         },
         at_7!(Scrolls),
-        "at 7: F21 scrolls\nhelp: one of these, as why says: --line-ends\n",
+        "at 7: F21 scrolls\nhelp: may be added (see anscheck why): --line-ends\n",
     ),
     (
         Mends {
@@ -432,7 +433,7 @@ static HELP: [(Mends, Unmended, &str); 9] = [
             ..ALL
         },
         at_7!(Scrolls),
-        "at 7: F21 scrolls\nhelp: one of these, as why says: --full-rows --least-lines\n",
+        "at 7: F21 scrolls\nhelp: may be added (see anscheck why): --full-rows --least-lines\n",
     ),
     (
         Mends {
@@ -441,7 +442,7 @@ static HELP: [(Mends, Unmended, &str); 9] = [
             ..ALL
         },
         at_7!(Scrolls),
-        "at 7: F21 scrolls\nhelp: why shows the place, and help tells of the fault\n",
+        "at 7: F21 scrolls\nhelp: may be added (see anscheck why): --lines N with a larger N\n",
     ),
     (
         Mends {
@@ -449,12 +450,33 @@ static HELP: [(Mends, Unmended, &str); 9] = [
             ..ALL
         },
         Unmended::Torn,
-        "the rows are torn\nhelp: one of these, as why says: --full-rows --lines N\n",
+        "the rows are torn\nhelp: may be added (see anscheck why): --full-rows --lines N\n",
     ),
     (
         ALL,
         Unmended::Torn,
-        "the rows are torn\nhelp: one of these, as why says: --lines N\n",
+        "the rows are torn\nhelp: may be added (see anscheck why): --lines N\n",
+    ),
+    (
+        Mends {
+            lines: Some(1),
+            ..Mends::NONE
+        },
+        at_7!(OutsideScreen),
+        "at 7: F19 place outside the screen\nhelp: may be added (see anscheck why): --lines N with a larger N\n",
+    ),
+    (
+        Mends {
+            width: Some(80),
+            ..Mends::NONE
+        },
+        Unmended::NoLines,
+        "no number of lines up to 8192 is enough\nhelp: may be added (see anscheck why): --line-ends --full-rows --take-out\n",
+    ),
+    (
+        ALL,
+        Unmended::NoLines,
+        "no number of lines up to 8192 is enough\nhelp: anscheck why shows the place, and anscheck help tells of the fault\n",
     ),
 ];
 

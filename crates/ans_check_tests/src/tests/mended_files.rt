@@ -37,10 +37,10 @@ static MENDED: [(&[&str], Behind, &[u8]); 6] = words! {
         b"lines 7, was 1\nput 19 bytes in front\nfile size 23, was 4\n";
     "mend" "--width" "3" "abc"
         => (b"abc\x1a", &[(82, b"00000000"), (90, b"\x16"), (96, b"\x03")]),
-        b"put a record of 3 columns at 3\nlines 1, was 0\nput 19 bytes in front\nfile size 22, was 0\n";
+        b"put an end mark and a record of 3 columns at 3\nlines 1, was 0\nput 19 bytes in front\nfile size 22, was 0\n";
     "mend" "--width" "2" "--lines" "3" "-"
         => (b"Hi\x1a", &[(82, b"00000000"), (90, b"\x15"), (98, b"\x03")]),
-        b"put a record of 2 columns at 2\nlines 3, was 0\nput 19 bytes in front\nfile size 21, was 0\n";
+        b"put an end mark and a record of 2 columns at 2\nlines 3, was 0\nput 19 bytes in front\nfile size 21, was 0\n";
 };
 
 /// What standard input gives: no record.
@@ -67,7 +67,7 @@ fn words_mend_files(rt: HostRuntime) -> Result<(), AllocError> {
 /// Words of which no file comes, the status, and what is said.
 static NOT_MENDED: [(&[&str], u8, &[u8]); 7] = words! {
     "mend" "low.ans" => 1, b"at 3: F20 print below the stated lines\n\
-        help: one of these, as why says: --line-ends --full-rows --take-out --least-lines\n";
+        help: may be added (see anscheck why): --line-ends --full-rows --take-out --least-lines\n";
     "mend" "abc" => 1, b"at 3: F1 no SAUCE record\n\
         help: --width N gives a drawing without a record one for N columns\n";
     "mend" => 1, b"at 2: F1 no SAUCE record\n\

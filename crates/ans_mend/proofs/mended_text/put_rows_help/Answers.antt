@@ -10,4 +10,4 @@ returns g c =
     (Puts-then c.put_offered.ensures
     (Puts-then c.put_offered-2.ensures
     (Puts-then c.put_offered-3.ensures
-    (Puts-then (rw c.asks_lines.ensures at c.put_offered-4.ensures) c.put-3.ensures)))))
+    (Puts-then c.put_lines_offered.ensures c.put-3.ensures)))))

@@ -14,7 +14,8 @@ returns-in-Torn g c =
 
 pub returns-in-NoLines : goal.returns-in-NoLines
 returns-in-NoLines g c =
-    Puts-same (sym (ap (unmended_text c.args.asked.now) c.in-NoLines.is)) c.put-in-NoLines.ensures
+    Puts-same (sym (ap (unmended_text c.args.asked.now) c.in-NoLines.is))
+    (Puts-then c.put-in-NoLines.ensures c.put_no_lines_help.ensures)
 
 pub returns-in-TooLong : goal.returns-in-TooLong
 returns-in-TooLong g c =
