@@ -44,7 +44,7 @@ pub enum Ending {
     UnreadNames,
     /// A file was mended and written, and this was changed of it.
     Mended(Mended),
-    /// The file is not mended, for this reason, by what was asked for, and nothing was written.
+    /// The file is not mended by what was asked for, for this reason, and nothing was written.
     NotMended(Mends, Unmended),
 }
 

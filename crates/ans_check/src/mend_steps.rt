@@ -178,8 +178,8 @@ fn finish(
 /// mending where `front` says so: that is for the caller to write first.
 ///
 /// The answer is an error where the file cannot be mended so. The draft then holds a file that is half
-/// changed. `Err` says that there is no room for the screen, or none in the draft for what is put into the
-/// file: a byte for each return, 129 for an end mark and a record, and one for an end mark.
+/// changed. `Err` says that there is no room for the screen; it comes, too, where the draft has room for
+/// fewer than 130 bytes, and with line ends for fewer than one more for each line feed.
 pub fn mend_on<S: Screens>(
     screens: &mut S,
     draft: &mut Draft<'_>,

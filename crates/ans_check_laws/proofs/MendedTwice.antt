@@ -6,6 +6,7 @@ use Rattle.std.specs.Prelude.{if◌then◌else◌, IsTrue, ◌↔◌, ◌&&◌, 
 use Rattle.std.proofs.lemmas.Bool.{cases_lt, eq-eqb, ne_eqb}
 use Rattle.std.proofs.lemmas.List.{length-append, length-drop, length-take-le, take-append-drop}
 use Rattle.std.proofs.Math.Seq.{take-append_seam, drop-append_seam}
+use Rattle.ans_model.specs.Bytes.{longest_file}
 use Rattle.ans_model.specs.File.Layout.{content}
 use Rattle.ans_model.specs.File.Record.{file_size, stated_size}
 use Rattle.ans_model.specs.File.Refusals.{has_record}
@@ -44,6 +45,10 @@ counts_again false size n is =
   where
     other : size ≡ n + 1 → ⊥
     other e = omega (arith, is, e)
+
+counted_once : (counted : Bool) → (if counted then 1 else 0) ≤ 1
+counted_once true = omega arith
+counted_once false = omega arith
 
 -- ---- a FileSize that is set again
 
@@ -147,6 +152,19 @@ module _ (mends : Mends) (file : List ℕ) (mended : Mended) (draft : List ℕ) 
   same_again =
       ap (with_file_size size) its_record ∙ resized_again size size (record_in h.settled) record_size
       ∙ sym its_record
+
+  -- which fits into four bytes
+  size_fits : size < 4294967296
+  size_fits =
+      let before : length (content_in written) ≤ length (front_in written) = content_before written in
+      let front : length (front_in written) ≤ length written = front_shorter written (length written - 128) in
+      let its : length (content_in written) ≡ length shown =
+      ap (λ (v : List ℕ). length (content v)) (laid_body written h.apart h.accepts.laid) in
+      let once : end_mark_counted was ≤ 1 =
+      counted_once (file_size (record_in was) == length (content_in was) + 1) in
+      let room : length written ≤ longest_file = h.room in
+      let is : size ≡ length shown + end_mark_counted was = h.fits in
+      omega (arith, before, front, its, once, room, is)
 
   states_size : size < 4294967296 → file_size h.apart.record_bytes ≡ size
   states_size room =
@@ -285,8 +303,8 @@ module _ (mends : Mends) (file : List ℕ) (mended : Mended) (draft : List ℕ) 
         ∙ take-append-drop (length written - 128) written
 
 pub mending_twice : (mends : Mends) (file draft draft_again : List ℕ) (mended again : Mended)
-    → mends.full_rows ≡ false → KeepsReturns mends → mended.file_size.is < 2 ^ 32 → IsMended mends file mended draft
+    → mends.full_rows ≡ false → KeepsReturns mends → IsMended mends file mended draft
     → IsMended mends (front_bytes mended.front ++ draft) again draft_again
     → front_bytes again.front ++ draft_again ≡ front_bytes mended.front ++ draft
-mending_twice mends file draft draft_again mended again no_rows keeps room h k =
-    twice_as_once mends file mended draft h no_rows keeps again draft_again k room
+mending_twice mends file draft draft_again mended again no_rows keeps h k =
+    twice_as_once mends file mended draft h no_rows keeps again draft_again k (size_fits mends file mended draft h)

@@ -1,6 +1,6 @@
 //! Laws of mending: by itself, and with what is asked for.
 
-ghost use Rattle.std.specs.Prelude.{◌≡◌, ℕ, ◌^◌, ◌<◌, false, List, ◌++◌};
+ghost use Rattle.std.specs.Prelude.{◌≡◌, ℕ, false, List, ◌++◌};
 ghost use Rattle.ans_model.specs.File.Layout.{FileParts};
 ghost use Rattle.ans_model.specs.File.Record.{stated_size};
 ghost use Rattle.ans_model.specs.Screen.StartClass.{all_known, none_known};
@@ -26,10 +26,8 @@ pub fn mending_keeps_the_picture()
 /// which a row may have more than one; and where returns are to be put, nothing is taken out with which
 /// the last return might go.
 pub fn mending_once_is_enough()
-    // the FileSize is a `u32`
     ensures { (mends : Mends) (file draft draft_again : List ℕ) (mended again : Mended)
-        → mends.full_rows ≡ false → KeepsReturns mends
-        → mended.file_size.is < 2 ^ 32 → IsMended mends file mended draft
+        → mends.full_rows ≡ false → KeepsReturns mends → IsMended mends file mended draft
         → IsMended mends (front_bytes mended.front ++ draft) again draft_again
         → front_bytes again.front ++ draft_again ≡ front_bytes mended.front ++ draft }
 {}

@@ -25,8 +25,8 @@ abbrev pub holds_sauce : List ℕ → Bool
 holds_sauce [] = false
 holds_sauce (b ∷ bytes) = begins_sauce (b ∷ bytes) || holds_sauce bytes
 
--- There is no record, at the end or elsewhere, whole or in part; and behind the content stand only end marks, zero bytes
--- and line ends.
+-- There is no record at the end, `SAUCE00` stands nowhere, and behind the content stand only end marks, zero bytes and
+-- line ends.
 abbrev pub takes_record : List ℕ → Bool
 takes_record file = not (has_record file) && (not (holds_sauce file) && list_all is_tail_byte (after_content file))
 
