@@ -1,7 +1,7 @@
 //! In what players part.
 
 ghost use Rattle.std.specs.Prelude.{◌≡◌};
-ghost use Rattle.ans_players.specs.Kinds.{all_kinds, kind_number, kind_word};
+ghost use Rattle.ans_players.specs.Kinds.{kind_number, kind_word};
 
 /// A kind of behaviour in which players part: what the profile does, and what some players do otherwise.
 #[derive(Debug, Clone, Copy, PartialEq, Eq)]
@@ -39,7 +39,7 @@ pub enum Kind {
 }
 
 impl Kind {
-    /// The kinds in their order.
+    /// The kinds in their order, each once (`laws::kinds_are_listed`).
     pub const ALL: [Kind; 12] = [
         Kind::WrapAtOnce,
         Kind::LineEnds,
@@ -54,13 +54,6 @@ impl Kind {
         Kind::PageControls,
         Kind::TerminalControls,
     ];
-
-    /// `Kind::ALL`.
-    pub fn all() -> [Kind; 12]
-        ensures { result ≡ all_kinds }
-    {
-        Kind::ALL
-    }
 
     /// Where a kind stands in `Kind::ALL`, counted from 0.
     pub fn number(self) -> usize

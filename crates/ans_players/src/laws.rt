@@ -1,10 +1,13 @@
 //! Laws of players.
 
-ghost use Rattle.std.specs.Prelude.{ℕ, List};
+ghost use Rattle.std.specs.Prelude.{◌≡◌, ℕ, List, Some, slice_get};
 ghost use Rattle.ans_model.specs.declared.start.Start.{Start};
 ghost use Rattle.ans_model.specs.Verdict.Good.{Picture, GoodWith};
 ghost use Rattle.ans_players.specs.Classes.{AgreedMeet, LeastSameExists, LeastSameIsFound, LeastSameIsOne};
 ghost use Rattle.ans_players.specs.Classes.{SameByTwoStarts, TwoStartsTell};
+ghost use Rattle.ans_players.specs.declared.kind.Kind.{Kind};
+ghost use Rattle.ans_players.specs.declared.kind.TheConstants.Kind as kind_constants;
+ghost use Rattle.ans_players.specs.Kinds.{all_kinds, kind_number};
 ghost use Rattle.ans_players.specs.Mends.{MendedIsAgreed, MendedIsShown, MendingIsRead};
 ghost use Rattle.ans_players.specs.Named.{NamedAreLeast, NamedOneWay};
 ghost use Rattle.ans_players.specs.Players.{IsShown};
@@ -12,6 +15,12 @@ ghost use Rattle.ans_players.specs.Situations.{AreAgreed, spelled};
 ghost use Rattle.ans_players.specs.Witnesses.{IsStrictPlayer, StrictNeedsNamed, StrictTells};
 
 use crate::player::Player;
+
+/// `Kind::ALL` has the kinds of the definitions in their order, and each kind stands at its number there.
+pub fn kinds_are_listed()
+    ensures list { kind_constants.ALL ≡ all_kinds }
+    ensures each { (kind : Kind) → slice_get kind_constants.ALL (kind_number kind) ≡ Some kind }
+{}
 
 /// Where no kinds but agreed ones arise from any start of the class, good content shows its picture on
 /// every player that does as the profile does in those, from every memory that stands firmly for a start
