@@ -31,8 +31,8 @@ pub enum Kind {
     /// A move right stops in the last column, and a move down in the spare row. One player goes on past
     /// the last column, and most screens have more rows than a drawing states.
     StopsAtEdge,
-    /// 00h, 0Bh and 0Ch are drawn, 07h does nothing and 08h goes back. Players of code page 437 do
-    /// otherwise too.
+    /// 00h, 0Bh and 0Ch are drawn, 07h does nothing and 08h goes back. Some players of code page 437 do
+    /// otherwise, as terminals do.
     PageControls,
     /// 01h to 06h, 0Eh to 19h, 1Ch to 1Fh and 7Fh are drawn. Terminals alone do not draw them.
     TerminalControls,
