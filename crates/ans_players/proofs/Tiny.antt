@@ -165,19 +165,19 @@ abbrev pub cell_number : Option Cell → ℕ
 cell_number None = 0
 cell_number (Some c) = 1 + c.byte + 256 * c.attribute
 
--- the player's cell and the picture's
-abbrev pub are_other : Size → Behaviour → List TokenKind → Position → Option Cell → Bool
-are_other z p tokens at shown = not (cell_number shown == cell_number (cell_at z (picture_of z tokens).cells at))
+-- a cell and the picture's
+abbrev pub are_other : Size → List TokenKind → Position → Option Cell → Bool
+are_other z tokens at shown = not (cell_number shown == cell_number (cell_at z (picture_of z tokens).cells at))
 
 pub else_by : (kind : Kind) (z : Size) (p : Behaviour) (content : List ℕ) (tokens : List TokenKind)
     → (texts : List (List ℕ))
     → IsSize z → AllZip SpellsToken tokens texts → content ≡ concat texts → IsTrue (all_fine z (cleared z) tokens)
     → IsTrue (all_agreed (is_kind kind) z (firmly (cleared z)) (spelled tokens texts))
     → (m : p.Memory) → p.StandsFor m (firmly (cleared z)) → (at : Position) → IsStated z at
-    → IsTrue (are_other z p tokens at (p.shows (fold p.plays m (spelled tokens texts)) at))
-    → ShowsElse kind z p content
+    → (c : Cell) → p.shows (fold p.plays m (spelled tokens texts)) at ≡ Some c
+    → IsTrue (are_other z tokens at (Some c)) → ShowsElse kind z p content
 unfolding good_of
-else_by kind z p content tokens texts size each whole fine own m stands at stated other = record {
+else_by kind z p content tokens texts size each whole fine own m stands at stated c shown other = record {
   picture = picture_of z tokens;
   good = good_of z content tokens size (texts, record { each = each; whole = whole }) fine;
   own = λ s k x start e. go s k x start e;
@@ -185,6 +185,8 @@ else_by kind z p content tokens texts size each whole fine own m stands at state
   stands = stands;
   at = at;
   stated = stated;
+  other = c;
+  shows_other = shown;
   differs = λ same. fails _ other (eq-eqb _ _ (ap cell_number same));
 }
   where

@@ -2,7 +2,7 @@
 use Rattle.std.specs.Prelude.{◌≡◌, ◌≢◌, ℕ, ◌<◌, Bool, Option, fold, replicate, ⊤, List, IsTrue}
 use Rattle.ans_model.specs.Bytes.{blank}
 use Rattle.ans_model.specs.Sequence.TokenKind.{TokenKind, Glyph, LineFeed, Tab}
-use Rattle.ans_model.specs.Screen.State.{Size, State, IsStated, cell_at}
+use Rattle.ans_model.specs.Screen.State.{Size, State, IsStated, IsWellFormed, cell_at}
 use Rattle.ans_model.specs.Screen.Step.{put, tab_blanks}
 use Rattle.ans_model.specs.Screen.StartClass.{IsStart}
 use Rattle.ans_model.specs.declared.cell.Cell.{Cell}
@@ -44,6 +44,10 @@ pub record IsPlayer (z : Size) (agreed : Kind → Bool) (p : Behaviour) : Type 0
       → p.shows m at ≡ cell_at z h.state.screen at
   pub goes_along : (m : p.Memory) (h : Stand) (x : Spelled) → p.StandsFor m h → IsAllowed z h.state x.token
       → IsTrue (is_agreed agreed z h x) → p.StandsFor (p.plays m x) (stand_behind z h x)
+
+-- Each state of a start on a screen of this size has a memory that stands firmly for it.
+abbrev pub StandsForStarts : Size → Behaviour → Type 0
+StandsForStarts z p = (s : State) → IsWellFormed z s → (m : p.Memory) × p.StandsFor m (firmly s)
 
 -- After the tokens the player shows the picture, from every memory that stands firmly for a start of the class.
 abbrev pub IsShown : Behaviour → Size → Start → List Spelled → Picture → Type 0

@@ -1,7 +1,7 @@
 //! In what players part.
 
 ghost use Rattle.std.specs.Prelude.{◌≡◌};
-ghost use Rattle.ans_players.specs.Kinds.{all_kinds, kind_number, kind_word};
+ghost use Rattle.ans_players.specs.Kinds.{kind_number, kind_word};
 
 /// A kind of behaviour in which players part: what the profile does, and what some players do otherwise.
 #[derive(Debug, Clone, Copy, PartialEq, Eq)]
@@ -31,15 +31,15 @@ pub enum Kind {
     /// A move right stops in the last column, and a move down in the spare row. One player goes on past
     /// the last column, and most screens have more rows than a drawing states.
     StopsAtEdge,
-    /// 00h, 0Bh and 0Ch are drawn, 07h does nothing and 08h goes back. Players of code page 437 do
-    /// otherwise too.
+    /// 00h, 0Bh and 0Ch are drawn, 07h does nothing and 08h goes back. Some players of code page 437 do
+    /// otherwise, as terminals do.
     PageControls,
     /// 01h to 06h, 0Eh to 19h, 1Ch to 1Fh and 7Fh are drawn. Terminals alone do not draw them.
     TerminalControls,
 }
 
 impl Kind {
-    /// The kinds in their order.
+    /// The kinds in their order, each once (`laws::kinds_are_listed`).
     pub const ALL: [Kind; 12] = [
         Kind::WrapAtOnce,
         Kind::LineEnds,
@@ -54,13 +54,6 @@ impl Kind {
         Kind::PageControls,
         Kind::TerminalControls,
     ];
-
-    /// `Kind::ALL`.
-    pub fn all() -> [Kind; 12]
-        ensures { result ≡ all_kinds }
-    {
-        Kind::ALL
-    }
 
     /// Where a kind stands in `Kind::ALL`, counted from 0.
     pub fn number(self) -> usize

@@ -1,10 +1,13 @@
 //! Laws of players.
 
-ghost use Rattle.std.specs.Prelude.{ℕ, List};
+ghost use Rattle.std.specs.Prelude.{◌≡◌, ℕ, List, Some, slice_get};
 ghost use Rattle.ans_model.specs.declared.start.Start.{Start};
 ghost use Rattle.ans_model.specs.Verdict.Good.{Picture, GoodWith};
 ghost use Rattle.ans_players.specs.Classes.{AgreedMeet, LeastSameExists, LeastSameIsFound, LeastSameIsOne};
 ghost use Rattle.ans_players.specs.Classes.{SameByTwoStarts, TwoStartsTell};
+ghost use Rattle.ans_players.specs.declared.kind.Kind.{Kind};
+ghost use Rattle.ans_players.specs.declared.kind.TheConstants.Kind as kind_constants;
+ghost use Rattle.ans_players.specs.Kinds.{all_kinds, kind_number};
 ghost use Rattle.ans_players.specs.Mends.{MendedIsAgreed, MendedIsShown, MendingIsRead};
 ghost use Rattle.ans_players.specs.Named.{NamedAreLeast, NamedOneWay};
 ghost use Rattle.ans_players.specs.Players.{IsShown};
@@ -13,9 +16,19 @@ ghost use Rattle.ans_players.specs.Witnesses.{IsStrictPlayer, StrictNeedsNamed, 
 
 use crate::player::Player;
 
+/// `Kind::ALL` has the kinds of the definitions in their order, and each kind stands at its number there.
+pub fn kinds_are_listed()
+    ensures list { kind_constants.ALL ≡ all_kinds }
+    ensures each { (kind : Kind) → slice_get kind_constants.ALL (kind_number kind) ≡ Some kind }
+{}
+
 /// Where no kinds but agreed ones arise from any start of the class, good content shows its picture on
 /// every player that does as the profile does in those, from every memory that stands firmly for a start
 /// of the class.
+///
+/// Each such player has the stated lines and a spare row, so a screen of exactly the stated lines is none for
+/// a drawing that enters the spare row. A start has its cursor on these rows. The bytes from 20h on, but for
+/// 7Fh, are of code page 437 on all of them, so a terminal that reads UTF-8 is one only behind a conversion.
 pub fn shows_everywhere<P: Player>()
     ensures { (class : Start) (content : List ℕ) (picture : Picture)
         → (good : GoodWith P.size class content picture)
@@ -68,7 +81,13 @@ pub fn mended_tokens_are_agreed()
 {}
 
 /// So good content in which no kinds but agreed ones arise from the cleared start shows its picture behind
-/// these bytes on every player, from every start.
+/// these bytes on every player that does as the profile does in those, from every memory that stands firmly
+/// for any start.
+///
+/// Here too a player has the stated lines and a spare row and draws code page 437, and a start has its cursor
+/// on these rows: see `shows_everywhere`. So nothing is said of a screen of exactly the stated lines where the
+/// drawing enters the spare row, of a cursor that stands below the spare row of a taller screen, or of a
+/// terminal that reads UTF-8 with no conversion before it.
 pub fn mended_content_shows_everywhere<P: Player>()
     ensures { MendedIsShown P.behaviour P.size P.agreed }
 {}

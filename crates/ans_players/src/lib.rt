@@ -6,6 +6,19 @@
 //! ([`player::Player`]). So what is proved of all players holds of each that does as the profile does
 //! there, whatever it does elsewhere.
 //!
+//! This is narrower than every screen and every start:
+//!
+//! - A player has the stated columns, the stated lines and a spare row below them. Taller screens are among
+//!   the players. A screen of exactly the stated lines is no player for a drawing that enters the spare row:
+//!   at a line end in the last row it scrolls, and at an `ESC[nB` onto the spare row it stops above it, and
+//!   these are of no kind.
+//! - A start has the cursor and the saved place on the stated lines or in the spare row. Nothing is said of a
+//!   cursor that stands further down on a taller screen.
+//! - A cell is a byte and an attribute, and all players draw a byte from 20h on, but for 7Fh, as the character
+//!   of code page 437. A terminal that reads UTF-8 is a player only behind a conversion.
+//! - The laws speak of the memories that stand firmly for a start. Each player has one for each state of a
+//!   start, and of its other memories nothing is said.
+//!
 //! At which tokens which kinds arise stands in `specs/Situations.antt`, how firmly players stand where the
 //! profile stands in `specs/Grips.antt`, and what a player is in `specs/Players.antt`. `specs/Named.antt`
 //! and `specs/Classes.antt` say what is said of a drawing. Each law is the contract of a function without a

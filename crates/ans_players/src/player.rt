@@ -3,9 +3,11 @@
 ghost use Rattle.std.specs.Prelude.{Bool};
 ghost use Rattle.ans_model.specs.Screen.State.{Size};
 ghost use Rattle.ans_players.specs.declared.kind.Kind.{Kind};
-ghost use Rattle.ans_players.specs.Players.{Behaviour, IsPlayer};
+ghost use Rattle.ans_players.specs.Players.{Behaviour, IsPlayer, StandsForStarts};
 
-/// A player of drawings, on a screen of the stated size.
+/// A player of drawings, on a screen of the stated size. For each state of a start it has a memory that
+/// stands firmly for that state. What is proved of it is proved of the memories that stand for a start, and
+/// nothing is said of its others.
 pub trait Player {
     // the screen that is stated
     ghost size: { Size };
@@ -14,6 +16,8 @@ pub trait Player {
     // its memory, the cells that it shows, how it plays a spelled token, and for which states of the
     // profile it stands, and how firmly
     ghost behaviour: { Behaviour };
+    // it has a memory that stands firmly for each state of a start, so what is proved of those is not empty
+    ghost stands: { StandsForStarts size behaviour };
     // it shows those states' cells, and goes along wherever only agreed kinds arise
     ghost is_player: { IsPlayer size agreed behaviour };
 }

@@ -1,11 +1,11 @@
 //! Players: the profile, and for each kind one that parts from it in that kind alone.
 //!
 //! Each of these is a player that does as the profile does in all other kinds, and may stand firmly for
-//! each state. In the content that is named, played from the cleared start, no kind but its own arises, and
-//! it shows something else. So no kind can be left out, and the players of which the laws speak are not
-//! the profile alone. Where no size is named, one column and one line are stated.
+//! each state of a start. In the content that is named, played from the cleared start, no kind but its own
+//! arises, and it shows another cell. So no kind can be left out, and the players of which the laws speak
+//! are not the profile alone. Where no size is named, one column and one line are stated.
 
-ghost use Rattle.std.proofs.Common.{ap};
+ghost use Rattle.std.proofs.Common.{ap, refl};
 ghost use Rattle.std.specs.Prelude.{[], ◌∷◌, ◌++◌, codes, false};
 ghost use Rattle.ans_model.specs.Bytes.{escape};
 ghost use Rattle.ans_model.specs.Screen.State.{State, cell_at, sized};
@@ -142,6 +142,8 @@ impl Player for Profile {
     ghost agreed = { λ kind. false };
 
     ghost behaviour = { profile (sized 80 25) };
+
+    ghost stands = { λ s well. (s, refl) };
 
     ghost is_player = { record {
       shows_the_same = λ m h p e stated. ap (λ (v : State). cell_at (sized 80 25) v.screen p) e;

@@ -6,6 +6,6 @@ use Rattle.ans_players.proofs.witnesses.feeding_player_parts.Goals as goal
 pub returns : goal.returns
 returns c = record {
   player = λ z size. feeds z;
-  stands = λ z s size well. (s, refl);
+  stands = λ z size s well. (s, refl);
   shows_else = feeding_else;
 }

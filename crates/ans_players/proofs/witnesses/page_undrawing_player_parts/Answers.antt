@@ -6,6 +6,6 @@ use Rattle.ans_players.proofs.witnesses.page_undrawing_player_parts.Goals as goa
 pub returns : goal.returns
 returns c = record {
   player = λ z size. draws_no_page_controls z;
-  stands = λ z s size well. (s, refl);
+  stands = λ z size s well. (s, refl);
   shows_else = page_undrawn_else;
 }

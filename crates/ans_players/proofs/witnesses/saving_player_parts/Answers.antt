@@ -6,6 +6,6 @@ use Rattle.ans_players.proofs.witnesses.saving_player_parts.Goals as goal
 pub returns : goal.returns
 returns c = record {
   player = λ z size. saves z;
-  stands = λ z s size well. (s, refl);
+  stands = λ z size s well. (s, refl);
   shows_else = saving_else;
 }

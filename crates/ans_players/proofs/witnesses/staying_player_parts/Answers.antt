@@ -6,6 +6,6 @@ use Rattle.ans_players.proofs.witnesses.staying_player_parts.Goals as goal
 pub returns : goal.returns
 returns c = record {
   player = λ z size. stays z;
-  stands = λ z s size well. (s, refl);
+  stands = λ z size s well. (s, refl);
   shows_else = staying_else;
 }

@@ -8,7 +8,7 @@ returns c = record {
   taller = tall_player;
   parts = record {
     player = λ z size. tall_player z (z.lines + 1) size.some_columns (omega arith);
-    stands = λ z s size well. taller_may_stand z s size.some_columns well.fits;
+    stands = λ z size s well. taller_may_stand z s size.some_columns well.fits;
     shows_else = taller_else;
   };
 }

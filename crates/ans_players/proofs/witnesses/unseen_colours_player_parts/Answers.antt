@@ -6,6 +6,6 @@ use Rattle.ans_players.proofs.witnesses.unseen_colours_player_parts.Goals as goa
 pub returns : goal.returns
 returns c = record {
   player = λ z size. sees_no_omitted_number z;
-  stands = λ z s size well. (s, refl);
+  stands = λ z size s well. (s, refl);
   shows_else = unseen_else;
 }

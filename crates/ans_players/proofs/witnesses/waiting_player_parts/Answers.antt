@@ -6,6 +6,6 @@ use Rattle.ans_players.proofs.witnesses.waiting_player_parts.Goals as goal
 pub returns : goal.returns
 returns c = record {
   player = λ z size. waits z;
-  stands = λ z s size well. (record { state = s; waits = false }, (refl, refl));
+  stands = λ z size s well. (record { state = s; waits = false }, (refl, refl));
   shows_else = waiting_else;
 }
