@@ -1,5 +1,5 @@
 -- A file that is mended is not changed by being mended again in the same way.
-use Rattle.std.proofs.Common.{◌≡◌, inl, inr, ℕ, ◌+◌, ◌-◌, ◌^◌, ◌≤◌, ◌<◌, ◌==◌, Bool, true, false, List, [], ◌++◌}
+use Rattle.std.proofs.Common.{◌≡◌, inl, inr, ℕ, ◌+◌, ◌-◌, ◌≤◌, ◌<◌, ◌==◌, Bool, true, false, List, [], ◌++◌}
 use Rattle.std.proofs.Common.{length, take, drop, refl, sym, ap, ap₂, ◌∙◌, arith, append_assoc, subst, subst₂}
 use Rattle.std.proofs.Common.{true≢false}
 use Rattle.std.specs.Prelude.{if◌then◌else◌, IsTrue, ◌↔◌, ◌&&◌, bytes_eq, codes, Option, Some, None}
@@ -25,8 +25,8 @@ use Rattle.ans_options.specs.declared.command.Mends.{Mends}
 use Rattle.ans_check.specs.Mending.{IsMended, WantsMending, end_mark_counted, front_bytes, lined, opened}
 use Rattle.ans_check_laws.proofs.WholeFiles.{accepted_long}
 use Rattle.ans_check_laws.proofs.MarkedContents.{marked_stays}
-use Rattle.ans_check_laws.proofs.CutFiles.{content_before, front_of_front, has_by, length_front, lines_had, lines_kept}
-use Rattle.ans_check_laws.proofs.CutFiles.{mark_had, mark_kept, record_behind, returned_wants_none}
+use Rattle.ans_check_laws.proofs.CutFiles.{front_shorter, content_before, front_of_front, has_by, length_front, lines_had, lines_kept}
+use Rattle.ans_check_laws.proofs.CutFiles.{front_shorter, mark_had, mark_kept, record_behind, returned_wants_none}
 use Rattle.ans_check_laws.proofs.MendedAgain.{off, opened_stays, settled_stays}
 use Rattle.ans_check_laws.proofs.MendedItself.{same_size, settled_content}
 use Rattle.ans_check_laws.proofs.ReturnsPut.{wants_behind}
