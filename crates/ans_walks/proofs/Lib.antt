@@ -21,6 +21,7 @@ pub mod HintsFound
 pub mod FullRows
 pub mod LastPrint
 pub mod HomingFound
+pub mod KindsFound
 mod FrontsPass
 mod LineEndBytes
 mod FullRowsFound
