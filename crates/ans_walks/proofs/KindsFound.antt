@@ -1,11 +1,11 @@
 -- The kinds that have arisen, with one token more.
-use Rattle.std.proofs.Common.{◌≡◌, ℕ, ◌+◌, ◌<◌, Bool, true, false, List, [], ◌∷◌, ◌++◌, length, map, take, fold}
+use Rattle.std.proofs.Common.{◌≡◌, ℕ, zero, suc, ◌+◌, ◌<◌, Bool, true, false, List, [], ◌∷◌, ◌++◌, length, map, take, fold}
 use Rattle.std.proofs.Common.{refl, sym, ap, ◌∙◌, arith, subst, Option, None, Some, append_assoc, append-nil}
 use Rattle.std.proofs.Common.{length-append}
 use Rattle.std.specs.Prelude.{IsTrue, is_none, Result, slice_get, if◌then◌else◌}
-use Rattle.std.specs.List.{concat, list_any}
+use Rattle.std.specs.List.{concat, list_all, list_any}
 use Rattle.std.proofs.Math.Seq.{take-append_seam, take-length}
-use Rattle.std.proofs.lemmas.Bool.{and_from, and_parts, false≢true}
+use Rattle.std.proofs.lemmas.Bool.{and_parts, false≢true}
 use Rattle.std.proofs.lemmas.List.{take-append-le}
 use Rattle.std.proofs.lemmas.List.Folds.{concat-append}
 use Rattle.std.proofs.lemmas.List.Sums.{fold-append}
@@ -19,7 +19,7 @@ use Rattle.ans_model.specs.Verdict.Good.{IsGood}
 use Rattle.ans_model.specs.declared.fault.Fault.{Fault}
 use Rattle.ans_model.proofs.Slices.{slice_get-append_left, slice_get-append_right}
 use Rattle.ans_players.specs.Grips.{Stand, firmly, grip_after}
-use Rattle.ans_players.specs.Kinds.{is_kind}
+use Rattle.ans_players.specs.Kinds.{is_kind, kind_number}
 use Rattle.ans_players.specs.Named.{ArisesFirst, arises, times, times_cleared}
 use Rattle.ans_players.specs.Situations.{Spelled, situations, spelled, stand_behind, stand_of}
 use Rattle.ans_players.specs.declared.kind.Kind.{Kind}
@@ -31,16 +31,16 @@ use Rattle.ans_tokens.proofs.Walked.{walked_whole}
 use Rattle.ans_walks.specs.Counted.{counted}
 use Rattle.ans_walks.specs.GripsShown.{shown_grip}
 use Rattle.ans_walks.specs.KindsUsed.{IsTold, used_of}
-use Rattle.ans_walks.specs.KindsWalked.{has_none, HasFoundKinds, IsFound}
+use Rattle.ans_walks.specs.KindsWalked.{all_used, has_none, HasFoundKinds, IsFound}
 use Rattle.ans_walks.specs.Pens.{pen_of}
 use Rattle.ans_walks.specs.declared.kinds.KindsUsed.{KindsUsed}
 use Rattle.ans_walks.specs.declared.kinds.KindsWalk.{KindsWalk}
 use Rattle.ans_walks.specs.declared.times.Times.{Times}
 
-abbrev one : TokenKind → List ℕ → Spelled
+abbrev pub one : TokenKind → List ℕ → Spelled
 one t text = record { token = t; text = text }
 
-spelled_more : (tokens : List TokenKind) (t : TokenKind) (texts : List (List ℕ)) (text : List ℕ)
+pub spelled_more : (tokens : List TokenKind) (t : TokenKind) (texts : List (List ℕ)) (text : List ℕ)
     → length texts ≡ length tokens
     → spelled (tokens ++ t ∷ []) (texts ++ text ∷ []) ≡ spelled tokens texts ++ one t text ∷ []
 spelled_more [] t [] text long = refl
@@ -48,6 +48,19 @@ spelled_more [] t (x ∷ texts) text long = absurd (omega (arith, long))
 spelled_more (u ∷ tokens) t [] text long = absurd (omega (arith, long))
 spelled_more (u ∷ tokens) t (x ∷ texts) text long =
     ap (λ (v : List Spelled). one u x ∷ v) (spelled_more tokens t texts text (omega (arith, long)))
+
+-- the next token's text stands in the content behind those before it
+module _ (content : List ℕ) (texts : List (List ℕ)) (left text behind : List ℕ) where
+  pub text_there : content ≡ concat texts ++ left → left ≡ text ++ behind
+      → content ≡ concat texts ++ (text ++ behind)
+  text_there whole next = whole ∙ ap (λ (v : List ℕ). concat texts ++ v) next
+
+pub whole_more : (content : List ℕ) (texts : List (List ℕ)) (text behind : List ℕ)
+    → content ≡ concat texts ++ (text ++ behind) → content ≡ concat (texts ++ text ∷ []) ++ behind
+whole_more content texts text behind whole =
+    whole ∙ sym (append_assoc (concat texts) text behind)
+    ∙ sym (ap (λ (v : List ℕ). v ++ behind) (concat-append texts (text ∷ [])
+    ∙ ap (λ (v : List ℕ). concat texts ++ v) (append-nil text)))
 
 spelled_texts : (tokens : List TokenKind) (texts : List (List ℕ)) → length texts ≡ length tokens
     → map (λ x. x.text) (spelled tokens texts) ≡ texts
@@ -123,23 +136,47 @@ no_times : (times : Option Times) → IsTrue (is_none times) → times ≡ None
 no_times None h = refl
 no_times (Some times) h = absurd (let no : false ≡ true = h in let none : ⊥ = cc in none)
 
+none_at : (all : List (Option Times)) (k : ℕ) (times : Option Times) → IsTrue (list_all is_none all)
+    → slice_get all k ≡ Some times → times ≡ None
+none_at [] k times h e = absurd (let no : ⊥ = cc in no)
+none_at (first ∷ all) zero times h e =
+    let same : first ≡ times = cc in sym same ∙ no_times first (and_parts _ _ h).0
+none_at (first ∷ all) (suc k) times h e = none_at all k times (and_parts _ _ h).1 e
+
+used_at : (used : KindsUsed) (kind : Kind) → slice_get (all_used used) (kind_number kind) ≡ Some (used_of used kind)
+used_at used WrapAtOnce = refl
+used_at used LineEnds = refl
+used_at used HomeOnClear = refl
+used_at used ClearInColour = refl
+used_at used SavePlaceOnly = refl
+used_at used DosColours = refl
+used_at used TabPrints = refl
+used_at used LineErased = refl
+used_at used WrapOff = refl
+used_at used StopsAtEdge = refl
+used_at used PageControls = refl
+used_at used TerminalControls = refl
+
 pub each_none : (used : KindsUsed) → IsTrue (has_none used) → (kind : Kind) → used_of used kind ≡ None
-each_none used h WrapAtOnce = no_times used.wrap_at_once ((and_parts _ _ (and_parts _ _ (and_parts _ _ (and_parts _ _ (and_parts _ _ (and_parts _ _ (and_parts _ _ (and_parts _ _ (and_parts _ _ (and_parts _ _ (and_parts _ _ h).0).0).0).0).0).0).0).0).0).0).0)
-each_none used h LineEnds = no_times used.line_ends ((and_parts _ _ (and_parts _ _ (and_parts _ _ (and_parts _ _ (and_parts _ _ (and_parts _ _ (and_parts _ _ (and_parts _ _ (and_parts _ _ (and_parts _ _ (and_parts _ _ h).0).0).0).0).0).0).0).0).0).0).1)
-each_none used h HomeOnClear = no_times used.home_on_clear ((and_parts _ _ (and_parts _ _ (and_parts _ _ (and_parts _ _ (and_parts _ _ (and_parts _ _ (and_parts _ _ (and_parts _ _ (and_parts _ _ (and_parts _ _ h).0).0).0).0).0).0).0).0).0).1)
-each_none used h ClearInColour = no_times used.clear_in_colour ((and_parts _ _ (and_parts _ _ (and_parts _ _ (and_parts _ _ (and_parts _ _ (and_parts _ _ (and_parts _ _ (and_parts _ _ (and_parts _ _ h).0).0).0).0).0).0).0).0).1)
-each_none used h SavePlaceOnly = no_times used.save_place_only ((and_parts _ _ (and_parts _ _ (and_parts _ _ (and_parts _ _ (and_parts _ _ (and_parts _ _ (and_parts _ _ (and_parts _ _ h).0).0).0).0).0).0).0).1)
-each_none used h DosColours = no_times used.dos_colours ((and_parts _ _ (and_parts _ _ (and_parts _ _ (and_parts _ _ (and_parts _ _ (and_parts _ _ (and_parts _ _ h).0).0).0).0).0).0).1)
-each_none used h TabPrints = no_times used.tab_prints ((and_parts _ _ (and_parts _ _ (and_parts _ _ (and_parts _ _ (and_parts _ _ (and_parts _ _ h).0).0).0).0).0).1)
-each_none used h LineErased = no_times used.line_erased ((and_parts _ _ (and_parts _ _ (and_parts _ _ (and_parts _ _ (and_parts _ _ h).0).0).0).0).1)
-each_none used h WrapOff = no_times used.wrap_off ((and_parts _ _ (and_parts _ _ (and_parts _ _ (and_parts _ _ h).0).0).0).1)
-each_none used h StopsAtEdge = no_times used.stops_at_edge ((and_parts _ _ (and_parts _ _ (and_parts _ _ h).0).0).1)
-each_none used h PageControls = no_times used.page_controls ((and_parts _ _ (and_parts _ _ h).0).1)
-each_none used h TerminalControls = no_times used.terminal_controls ((and_parts _ _ h).1)
+each_none used h kind = none_at (all_used used) (kind_number kind) (used_of used kind) h (used_at used kind)
 
 pub all_none : (used : KindsUsed) → ((kind : Kind) → used_of used kind ≡ None) → IsTrue (has_none used)
 all_none used each =
-    and_from _ _ (and_from _ _ (and_from _ _ (and_from _ _ (and_from _ _ (and_from _ _ (and_from _ _ (and_from _ _ (and_from _ _ (and_from _ _ (and_from _ _ (ap is_none (each WrapAtOnce)) (ap is_none (each LineEnds))) (ap is_none (each HomeOnClear))) (ap is_none (each ClearInColour))) (ap is_none (each SavePlaceOnly))) (ap is_none (each DosColours))) (ap is_none (each TabPrints))) (ap is_none (each LineErased))) (ap is_none (each WrapOff))) (ap is_none (each StopsAtEdge))) (ap is_none (each PageControls))) (ap is_none (each TerminalControls))
+    rw (
+      each WrapAtOnce,
+      each LineEnds,
+      each HomeOnClear,
+      each ClearInColour,
+      each SavePlaceOnly,
+      each DosColours,
+      each TabPrints,
+      each LineErased,
+      each WrapOff,
+      each StopsAtEdge,
+      each PageControls,
+      each TerminalControls,
+    )
+    refl
 
 -- ---- the walk
 module _ (first old : KindsWalk) (front : Front) (t : TokenKind) (text behind : List ℕ)
@@ -152,16 +189,6 @@ module _ (first old : KindsWalk) (front : Front) (t : TokenKind) (text behind : 
 
   abbrev here : Stand
   here = stand_of first.size (cleared first.size) (spelled front.tokens front.texts)
-
-  -- the token's text stands in the content
-  pub text_there : old.content.now ≡ concat front.texts ++ (text ++ behind)
-  text_there = h.content ∙ h.whole ∙ ap (λ (v : List ℕ). concat front.texts ++ v) next
-
-  whole_more : first.content.now ≡ concat (front.texts ++ text ∷ []) ++ behind
-  whole_more = h.whole ∙ ap (λ (v : List ℕ). concat front.texts ++ v) next
-      ∙ sym (append_assoc (concat front.texts) text behind)
-      ∙ sym (ap (λ (v : List ℕ). v ++ behind) (concat-append front.texts (text ∷ [])
-      ∙ ap (λ (v : List ℕ). concat front.texts ++ v) (append-nil text)))
 
   pub walked_kinds : (new : KindsWalk) (offset : ℕ) → offset ≡ length (concat front.texts) → new.size ≡ old.size
       → new.content.now ≡ old.content.now
@@ -185,7 +212,7 @@ module _ (first old : KindsWalk) (front : Front) (t : TokenKind) (text behind : 
         size = size ∙ h.size;
         content = content ∙ h.content;
         texts = omega (arith, h.texts, length-append front.texts (text ∷ []), length-append front.tokens (t ∷ []));
-        whole = whole_more;
+        whole = whole_more first.content.now front.texts text behind (text_there first.content.now front.texts _ text behind h.whole next);
         stands = rw (more, there) (record {
           pen_is = rw h.size at (steps here.state h.stands.pen_is);
           grip_is = rw (h.size, h.stands.grip_is) at (grips here.state h.stands.pen_is);

@@ -22,6 +22,7 @@ pub mod FullRows
 pub mod LastPrint
 pub mod HomingFound
 pub mod KindsFound
+pub mod CalmFound
 mod FrontsPass
 mod LineEndBytes
 mod FullRowsFound

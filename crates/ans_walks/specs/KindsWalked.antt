@@ -1,6 +1,6 @@
 -- What the walk over the kinds in which players part has found so far. Only private contracts cite it.
-use Rattle.std.specs.Prelude.{◌≡◌, ℕ, ◌<◌, ◌≤◌, Bool, ◌&&◌, is_none, IsTrue, List, ◌++◌, length, Option, None, Some}
-use Rattle.std.specs.List.{concat}
+use Rattle.std.specs.Prelude.{◌≡◌, ℕ, ◌<◌, ◌≤◌, Bool, is_none, IsTrue, List, [], ◌∷◌, ◌++◌, length, Option, None, Some}
+use Rattle.std.specs.List.{concat, list_all}
 use Rattle.ans_model.specs.Screen.State.{Size}
 use Rattle.ans_model.specs.Screen.StartClass.{cleared}
 use Rattle.ans_players.specs.Grips.{Stand}
@@ -33,10 +33,16 @@ pub record AreFew (used : KindsUsed) (most : ℕ) : Type 0 where
   pub page_controls : count_of used.page_controls ≤ most
   pub terminal_controls : count_of used.terminal_controls ≤ most
 
--- none of any kind was counted
+-- what was counted of each kind, in their order
+abbrev pub all_used : KindsUsed → List (Option Times)
+all_used used =
+    used.wrap_at_once ∷ used.line_ends ∷ used.home_on_clear ∷ used.clear_in_colour
+    ∷ used.save_place_only ∷ used.dos_colours ∷ used.tab_prints ∷ used.line_erased
+    ∷ used.wrap_off ∷ used.stops_at_edge ∷ used.page_controls ∷ used.terminal_controls ∷ []
+
+-- none of any kind was
 abbrev pub has_none : KindsUsed → Bool
-has_none used =
-    is_none used.wrap_at_once && is_none used.line_ends && is_none used.home_on_clear && is_none used.clear_in_colour && is_none used.save_place_only && is_none used.dos_colours && is_none used.tab_prints && is_none used.line_erased && is_none used.wrap_off && is_none used.stops_at_edge && is_none used.page_controls && is_none used.terminal_controls
+has_none used = list_all is_none (all_used used)
 
 -- from the cleared start the kind arises so often at the tokens, and there first
 pub record AriseFrom (z : Size) (xs : List Spelled) (kind : Kind) (times : Times) : Type 0 where

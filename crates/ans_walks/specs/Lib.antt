@@ -24,3 +24,4 @@ pub mod LastEnds
 pub mod GripsShown
 pub mod KindsUsed
 pub mod KindsWalked
+pub mod CalmWalked

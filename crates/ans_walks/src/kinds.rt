@@ -198,7 +198,7 @@ struct KindsWalk<'a> {
 }
 
 /// The bytes of the content from an offset to those that stand behind.
-fn text_at<'a>(content: &'a [u8], start: usize, behind: &[u8]) -> &'a [u8]
+pub(crate) fn text_at<'a>(content: &'a [u8], start: usize, behind: &[u8]) -> &'a [u8]
     ensures { (before text : List ℕ) → content.now ≡ before ++ (text ++ behind.now)
         → start ≡ length before → result.now ≡ text }
 {

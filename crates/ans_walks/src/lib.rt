@@ -16,6 +16,7 @@
 #![tactic(auto)]
 
 mod beginning;
+mod calm;
 mod conditions;
 mod evidence;
 mod full_row_ends;
@@ -38,6 +39,7 @@ mod walk;
 mod watch;
 
 pub use beginning::SAFE_BEGINNING;
+pub use calm::least_class_for_players;
 pub use evidence::{cells_of_fault, cursors_before};
 pub use full_row_ends::{FullRowEnd, ends_full_rows};
 pub use hints::Hints;

@@ -1,6 +1,6 @@
 //! In which kinds players may part at a token.
 
-ghost use Rattle.std.specs.Prelude.{◌≡◌, ◌==◌, ◌||◌, ◌&&◌, ◌++◌, [], List, ℕ, true};
+ghost use Rattle.std.specs.Prelude.{◌≡◌, ◌==◌, ◌||◌, ◌&&◌, ◌++◌, ◌↔◌, [], List, ℕ, IsTrue};
 ghost use Rattle.std.specs.List.{list_all, list_any};
 ghost use Rattle.ans_model.specs.Bytes.{bracket, semicolon};
 ghost use Rattle.ans_model.specs.Screen.State.{State};
@@ -160,7 +160,7 @@ impl Situations {
     /// Whether no kind arises.
     #[inline(always)]
     pub(crate) fn are_none(&self) -> bool
-        ensures { result ≡ true → kinds_of self.now ≡ [] }
+        ensures { IsTrue result ↔ (kinds_of self.now ≡ []) }
     {
         self.loose.is_none() && self.own.is_none() && self.other.is_none()
     }

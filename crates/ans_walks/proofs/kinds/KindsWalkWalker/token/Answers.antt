@@ -2,8 +2,6 @@ use Rattle.std.proofs.Common.{List, ap, ◌∙◌, refl}
 use Rattle.std.specs.List.{list_any}
 use Rattle.ans_players.specs.Kinds.{is_kind}
 use Rattle.ans_players.specs.declared.kind.Kind.{Kind}
-use Rattle.ans_model.specs.Inside.ShownKind.{shown_kind}
-use Rattle.ans_tokens.specs.Token.{kind_of}
 use Rattle.ans_walks.specs.Counted.{counted}
 use Rattle.ans_walks.specs.KindsUsed.{used_of}
 use Rattle.ans_walks.specs.declared.pen.Pen.{Pen}
@@ -14,7 +12,7 @@ pub returns-clause-walked : goal.returns-clause-walked
 returns-clause-walked c first front text next h =
     let old = c.args.self.now in
     let start = c.start-offset.ensures ∙ next.starts in
-    let text_is = c.text_at-text.ensures _ text (text_there first old front (shown_kind (kind_of c.args.token.now)) text _ h next.whole) start in
+    let text_is = c.text_at-text.ensures _ text (h.content ∙ text_there first.content.now front.texts _ text _ h.whole next.whole) start in
     walked_kinds first old front _ text _ h next.whole _ c.start-offset.result start refl refl
     (rw c.kind-kind.ensures at c.step.ensures.pen)
     (λ s e. rw c.kind-kind.ensures at
