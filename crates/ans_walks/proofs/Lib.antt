@@ -21,6 +21,8 @@ pub mod HintsFound
 pub mod FullRows
 pub mod LastPrint
 pub mod HomingFound
+pub mod KindsFound
+pub mod CalmFound
 mod FrontsPass
 mod LineEndBytes
 mod FullRowsFound

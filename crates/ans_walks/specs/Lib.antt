@@ -21,3 +21,7 @@ pub mod RowEndLaws
 pub mod FullRowEnds
 pub mod FullRowSearch
 pub mod LastEnds
+pub mod GripsShown
+pub mod KindsUsed
+pub mod KindsWalked
+pub mod CalmWalked

@@ -5,9 +5,9 @@
 //! from the cleared start, [`count_passing`] how few line ends at its end have to go for it to pass, and
 //! [`is_taller`] whether it plays on taller screens as on the stated one. [`ends_full_rows`] says whether
 //! all full rows end in line ends, and [`RowPlay`] finds these one by one. [`Hints::of`] counts what is
-//! worth a look in a drawing, though it changes no verdict. [`SAFE_BEGINNING`] stands in front of a
-//! drawing that is mended. Each law is the contract of a function without a body. Nothing here takes
-//! memory.
+//! worth a look in a drawing, though it changes no verdict. [`kinds_used`] counts the kinds in which
+//! players part that a drawing makes use of. [`SAFE_BEGINNING`] stands in front of a drawing that is
+//! mended. Each law is the contract of a function without a body. Nothing here takes memory.
 //!
 //! A `Pen` is all of a state but its cells. No cell tells where a token takes it, so it goes on without
 //! them, also where the screen scrolls (`specs/Pens.antt`). What each hint is about stands in
@@ -16,11 +16,14 @@
 #![tactic(auto)]
 
 mod beginning;
+mod calm;
 mod conditions;
 mod evidence;
 mod full_row_ends;
+mod grip;
 mod hints;
 mod homing;
+mod kinds;
 mod last_ends;
 pub mod laws;
 mod lines;
@@ -28,6 +31,7 @@ mod pen;
 mod row;
 mod row_ends;
 mod row_play;
+mod situations;
 mod taller;
 mod times;
 mod two_watches;
@@ -35,10 +39,12 @@ mod walk;
 mod watch;
 
 pub use beginning::SAFE_BEGINNING;
+pub use calm::least_class_for_players;
 pub use evidence::{cells_of_fault, cursors_before};
 pub use full_row_ends::{FullRowEnd, ends_full_rows};
 pub use hints::Hints;
 pub use homing::clears_away;
+pub use kinds::{KindsUsed, kinds_used};
 pub use last_ends::{count_line_ends, count_passing};
 pub use lines::{is_good, least_lines};
 pub use row_ends::{RowEnds, RowsOver, WiderRows};

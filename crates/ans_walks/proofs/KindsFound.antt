@@ -1,0 +1,244 @@
+-- The kinds that have arisen, with one token more.
+use Rattle.std.proofs.Common.{◌≡◌, ℕ, zero, suc, ◌+◌, ◌<◌, Bool, true, false, List, [], ◌∷◌, ◌++◌, length, map, take, fold}
+use Rattle.std.proofs.Common.{refl, sym, ap, ◌∙◌, arith, subst, Option, None, Some, append_assoc, append-nil}
+use Rattle.std.proofs.Common.{length-append}
+use Rattle.std.specs.Prelude.{IsTrue, is_none, Result, slice_get, if◌then◌else◌}
+use Rattle.std.specs.List.{concat, list_all, list_any}
+use Rattle.std.proofs.Math.Seq.{take-append_seam, take-length}
+use Rattle.std.proofs.lemmas.Bool.{and_parts, false≢true}
+use Rattle.std.proofs.lemmas.List.{take-append-le}
+use Rattle.std.proofs.lemmas.List.Folds.{concat-append}
+use Rattle.std.proofs.lemmas.List.Sums.{fold-append}
+use Rattle.std.proofs.lemmas.Option.{slice_get_within}
+use Rattle.ans_model.specs.Sequence.TokenKind.{TokenKind}
+use Rattle.ans_model.specs.Sequence.Reads.{ReadsAs}
+use Rattle.ans_model.specs.Screen.State.{Size, State}
+use Rattle.ans_model.specs.Screen.Step.{step}
+use Rattle.ans_model.specs.Screen.StartClass.{all_known, cleared}
+use Rattle.ans_model.specs.Verdict.Good.{IsGood}
+use Rattle.ans_model.specs.declared.fault.Fault.{Fault}
+use Rattle.ans_model.proofs.Slices.{slice_get-append_left, slice_get-append_right}
+use Rattle.ans_players.specs.Grips.{Stand, firmly, grip_after}
+use Rattle.ans_players.specs.Kinds.{is_kind, kind_number}
+use Rattle.ans_players.specs.Named.{ArisesFirst, arises, times, times_cleared}
+use Rattle.ans_players.specs.Situations.{Spelled, situations, spelled, stand_behind, stand_of}
+use Rattle.ans_players.specs.declared.kind.Kind.{Kind}
+use Rattle.ans_players.specs.declared.kind.Kind.TheVariants.{WrapAtOnce, LineEnds, HomeOnClear, ClearInColour}
+use Rattle.ans_players.specs.declared.kind.Kind.TheVariants.{SavePlaceOnly, DosColours, TabPrints, LineErased, WrapOff}
+use Rattle.ans_players.specs.declared.kind.Kind.TheVariants.{StopsAtEdge, PageControls, TerminalControls}
+use Rattle.ans_tokens.specs.Walk.{Front, front_with, WalksTo}
+use Rattle.ans_tokens.proofs.Walked.{walked_whole}
+use Rattle.ans_walks.specs.Counted.{counted}
+use Rattle.ans_walks.specs.GripsShown.{shown_grip}
+use Rattle.ans_walks.specs.KindsUsed.{IsTold, used_of}
+use Rattle.ans_walks.specs.KindsWalked.{all_used, has_none, HasFoundKinds, IsFound}
+use Rattle.ans_walks.specs.Pens.{pen_of}
+use Rattle.ans_walks.specs.declared.kinds.KindsUsed.{KindsUsed}
+use Rattle.ans_walks.specs.declared.kinds.KindsWalk.{KindsWalk}
+use Rattle.ans_walks.specs.declared.times.Times.{Times}
+
+abbrev pub one : TokenKind → List ℕ → Spelled
+one t text = record { token = t; text = text }
+
+pub spelled_more : (tokens : List TokenKind) (t : TokenKind) (texts : List (List ℕ)) (text : List ℕ)
+    → length texts ≡ length tokens
+    → spelled (tokens ++ t ∷ []) (texts ++ text ∷ []) ≡ spelled tokens texts ++ one t text ∷ []
+spelled_more [] t [] text long = refl
+spelled_more [] t (x ∷ texts) text long = absurd (omega (arith, long))
+spelled_more (u ∷ tokens) t [] text long = absurd (omega (arith, long))
+spelled_more (u ∷ tokens) t (x ∷ texts) text long =
+    ap (λ (v : List Spelled). one u x ∷ v) (spelled_more tokens t texts text (omega (arith, long)))
+
+-- the next token's text stands in the content behind those before it
+module _ (content : List ℕ) (texts : List (List ℕ)) (left text behind : List ℕ) where
+  pub text_there : content ≡ concat texts ++ left → left ≡ text ++ behind
+      → content ≡ concat texts ++ (text ++ behind)
+  text_there whole next = whole ∙ ap (λ (v : List ℕ). concat texts ++ v) next
+
+pub whole_more : (content : List ℕ) (texts : List (List ℕ)) (text behind : List ℕ)
+    → content ≡ concat texts ++ (text ++ behind) → content ≡ concat (texts ++ text ∷ []) ++ behind
+whole_more content texts text behind whole =
+    whole ∙ sym (append_assoc (concat texts) text behind)
+    ∙ sym (ap (λ (v : List ℕ). v ++ behind) (concat-append texts (text ∷ [])
+    ∙ ap (λ (v : List ℕ). concat texts ++ v) (append-nil text)))
+
+spelled_texts : (tokens : List TokenKind) (texts : List (List ℕ)) → length texts ≡ length tokens
+    → map (λ x. x.text) (spelled tokens texts) ≡ texts
+spelled_texts [] [] long = refl
+spelled_texts [] (x ∷ texts) long = absurd (omega (arith, long))
+spelled_texts (u ∷ tokens) [] long = absurd (omega (arith, long))
+spelled_texts (u ∷ tokens) (x ∷ texts) long =
+    ap (λ (v : List (List ℕ)). x ∷ v) (spelled_texts tokens texts (omega (arith, long)))
+
+-- ---- one kind
+module _ (kind : Kind) (z : Size) where
+  times_more : (h : Stand) (xs : List Spelled) (x : Spelled)
+      → times kind z h (xs ++ x ∷ [])
+      ≡ times kind z h xs + (if arises kind z (fold (stand_behind z) h xs) x then 1 else 0)
+  times_more h [] x = omega arith
+  times_more h (y ∷ xs) x =
+      let later = times_more (stand_behind z h y) xs x in omega (arith, later)
+
+  -- what arises first stays the first
+  still_first : (xs : List Spelled) (x : Spelled) (offset : ℕ) → ArisesFirst kind z xs offset
+      → ArisesFirst kind z (xs ++ x ∷ []) offset
+  still_first xs x offset a =
+      let within : a.k < length xs = slice_get_within xs a.k a.x a.there in
+      let same : take a.k (xs ++ x ∷ []) ≡ take a.k xs = take-append-le a.k xs (x ∷ []) (omega (arith, within)) in
+      record {
+        k = a.k;
+        x = a.x;
+        there = slice_get-append_left xs (x ∷ []) a.k within ∙ a.there;
+        arises_there = subst (λ (v : List Spelled). IsTrue (arises kind z (stand_of z (cleared z) v) a.x)) (sym same)
+            a.arises_there;
+        not_before = ap (λ (v : List Spelled). times_cleared kind z v) same ∙ a.not_before;
+        offset_is = a.offset_is ∙ sym (ap (λ (v : List Spelled). length (concat (map (λ x. x.text) v))) same);
+      }
+
+  -- the last token is the first at which it arises
+  first_here : (xs : List Spelled) (x : Spelled) (offset : ℕ) → times_cleared kind z xs ≡ 0
+      → IsTrue (arises kind z (stand_of z (cleared z) xs) x) → offset ≡ length (concat (map (λ x. x.text) xs))
+      → ArisesFirst kind z (xs ++ x ∷ []) offset
+  first_here xs x offset none here at =
+      let same : take (length xs) (xs ++ x ∷ []) ≡ xs = take-append_seam xs (x ∷ []) in
+      let last : length xs ≡ length xs + 0 = omega arith in
+      record {
+        k = length xs;
+        x = x;
+        there = ap (λ (n : ℕ). slice_get (xs ++ x ∷ []) n) last ∙ slice_get-append_right xs (x ∷ []) 0;
+        arises_there = subst (λ (v : List Spelled). IsTrue (arises kind z (stand_of z (cleared z) v) x)) (sym same)
+            here;
+        not_before = ap (λ (v : List Spelled). times_cleared kind z v) same ∙ none;
+        offset_is = at ∙ sym (ap (λ (v : List Spelled). length (concat (map (λ x. x.text) v))) same);
+      }
+
+  module _ (xs : List Spelled) (x : Spelled) (offset : ℕ) (at : offset ≡ length (concat (map (λ x. x.text) xs))) where
+    counts : (test : Bool) → arises kind z (stand_of z (cleared z) xs) x ≡ test
+        → times_cleared kind z (xs ++ x ∷ []) ≡ times_cleared kind z xs + (if test then 1 else 0)
+    counts test is = times_more (firmly (cleared z)) xs x
+        ∙ ap (λ (b : Bool). times_cleared kind z xs + (if b then 1 else 0)) is
+
+    found_if : (test : Bool) (so_far : Option Times) → arises kind z (stand_of z (cleared z) xs) x ≡ test
+        → IsFound z xs kind so_far → IsFound z (xs ++ x ∷ []) kind (counted so_far test offset)
+    found_if false None is none = let n = counts false is in omega (arith, n, none)
+    found_if false (Some t) is a =
+        let n = counts false is in
+        record { some = a.some; count = omega (arith, n, a.count); first = still_first xs x t.first a.first }
+    found_if true None is none =
+        let n = counts true is in
+        record { some = omega arith; count = omega (arith, n, none); first = first_here xs x offset none is at }
+    found_if true (Some t) is a =
+        let n = counts true is in
+        record { some = omega arith; count = omega (arith, n, a.count); first = still_first xs x t.first a.first }
+
+-- ---- none of any kind
+no_times : (times : Option Times) → IsTrue (is_none times) → times ≡ None
+no_times None h = refl
+no_times (Some times) h = absurd (let no : false ≡ true = h in let none : ⊥ = cc in none)
+
+none_at : (all : List (Option Times)) (k : ℕ) (times : Option Times) → IsTrue (list_all is_none all)
+    → slice_get all k ≡ Some times → times ≡ None
+none_at [] k times h e = absurd (let no : ⊥ = cc in no)
+none_at (first ∷ all) zero times h e =
+    let same : first ≡ times = cc in sym same ∙ no_times first (and_parts _ _ h).0
+none_at (first ∷ all) (suc k) times h e = none_at all k times (and_parts _ _ h).1 e
+
+used_at : (used : KindsUsed) (kind : Kind) → slice_get (all_used used) (kind_number kind) ≡ Some (used_of used kind)
+used_at used WrapAtOnce = refl
+used_at used LineEnds = refl
+used_at used HomeOnClear = refl
+used_at used ClearInColour = refl
+used_at used SavePlaceOnly = refl
+used_at used DosColours = refl
+used_at used TabPrints = refl
+used_at used LineErased = refl
+used_at used WrapOff = refl
+used_at used StopsAtEdge = refl
+used_at used PageControls = refl
+used_at used TerminalControls = refl
+
+pub each_none : (used : KindsUsed) → IsTrue (has_none used) → (kind : Kind) → used_of used kind ≡ None
+each_none used h kind = none_at (all_used used) (kind_number kind) (used_of used kind) h (used_at used kind)
+
+pub all_none : (used : KindsUsed) → ((kind : Kind) → used_of used kind ≡ None) → IsTrue (has_none used)
+all_none used each =
+    rw (
+      each WrapAtOnce,
+      each LineEnds,
+      each HomeOnClear,
+      each ClearInColour,
+      each SavePlaceOnly,
+      each DosColours,
+      each TabPrints,
+      each LineErased,
+      each WrapOff,
+      each StopsAtEdge,
+      each PageControls,
+      each TerminalControls,
+    )
+    refl
+
+-- ---- the walk
+module _ (first old : KindsWalk) (front : Front) (t : TokenKind) (text behind : List ℕ)
+    (h : HasFoundKinds first front true old) (next : front.behind ≡ text ++ behind) where
+  abbrev z : Size
+  z = first.size
+
+  abbrev xs : List Spelled
+  xs = spelled front.tokens front.texts
+
+  abbrev here : Stand
+  here = stand_of first.size (cleared first.size) (spelled front.tokens front.texts)
+
+  pub walked_kinds : (new : KindsWalk) (offset : ℕ) → offset ≡ length (concat front.texts) → new.size ≡ old.size
+      → new.content.now ≡ old.content.now
+      → ((s : State) → old.pen ≡ pen_of s → new.pen ≡ pen_of (step old.size s t))
+      → ((s : State) → old.pen ≡ pen_of s
+      → shown_grip new.grip ≡ grip_after old.size (shown_grip old.grip) s t)
+      → ((s : State) (kind : Kind) → old.pen ≡ pen_of s → used_of new.used kind
+      ≡ counted (used_of old.used kind)
+      (list_any (is_kind kind) (situations old.size (shown_grip old.grip) s (one t text))) offset)
+      → HasFoundKinds first (front_with front t text behind) true new
+  walked_kinds new offset at size content steps grips uses =
+      let more : spelled (front.tokens ++ t ∷ []) (front.texts ++ text ∷ []) ≡ xs ++ one t text ∷ [] =
+      spelled_more front.tokens t front.texts text h.texts in
+      let there : stand_of z (cleared z) (xs ++ one t text ∷ []) ≡ stand_behind z here (one t text) =
+      fold-append (stand_behind z) (firmly (cleared z)) xs (one t text ∷ []) in
+      let texts : map (λ x. x.text) xs ≡ front.texts = spelled_texts front.tokens front.texts h.texts in
+      let start : offset ≡ length (concat (map (λ x. x.text) xs)) =
+      at ∙ sym (ap (λ (v : List (List ℕ)). length (concat v)) texts) in
+      record {
+        never_stops = refl;
+        size = size ∙ h.size;
+        content = content ∙ h.content;
+        texts = omega (arith, h.texts, length-append front.texts (text ∷ []), length-append front.tokens (t ∷ []));
+        whole = whole_more first.content.now front.texts text behind (text_there first.content.now front.texts _ text behind h.whole next);
+        stands = rw (more, there) (record {
+          pen_is = rw h.size at (steps here.state h.stands.pen_is);
+          grip_is = rw (h.size, h.stands.grip_is) at (grips here.state h.stands.pen_is);
+        });
+        found = λ kind.
+            let is = rw (h.size, h.stands.grip_is) at (uses here.state kind h.stands.pen_is) in
+            rw (more, is) (found_if kind z xs (one t text) offset start (arises kind z here (one t text))
+            (used_of old.used kind) refl (h.found kind));
+      }
+
+-- what is found in a whole content is told
+told : (z : Size) (content : List ℕ) (kind : Kind) (good : IsGood z all_known content) (found : Option Times)
+    → IsFound z (spelled good.1.tokens good.1.reads.0) kind found → IsTold z content kind found
+told z content kind good None none =
+    record { good = good; count_is = none; first = λ some. absurd (let no : ⊥ = omega (arith, some) in no) }
+told z content kind good (Some times) a =
+    (a.some, record { good = good; count_is = a.count; first = λ some. a.first })
+
+pub walked_told : (content : List ℕ) (first now : KindsWalk) (result : Result Bool Fault)
+    → WalksTo (λ first front now goes_on. HasFoundKinds first front goes_on now) content (length content) first now
+    result
+    → IsGood first.size all_known content → (kind : Kind)
+    → IsTold first.size content kind (used_of now.used kind)
+walked_told content first now result h good kind =
+    let reads : ReadsAs (take (length content) content) good.1.tokens good.1.reads.0 =
+    rw (take-length content) good.1.reads.1 in
+    told first.size content kind good (used_of now.used kind)
+    ((walked_whole _ content (length content) first now result good.1.tokens good.1.reads.0
+    (λ front stops. false≢true stops.never_stops) h reads).found kind)

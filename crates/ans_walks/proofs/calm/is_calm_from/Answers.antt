@@ -1,0 +1,7 @@
+use Rattle.std.proofs.Common.{refl}
+use Rattle.ans_walks.proofs.CalmFound.{calm_whole}
+use Rattle.ans_walks.proofs.calm.is_calm_from.Goals as goal
+
+pub returns : goal.returns
+returns c s tokens texts pen reads =
+    calm_whole c.args.content.now _ c.walk.new.walker c.walk.result s tokens texts c.walk.ensures pen refl refl reads
