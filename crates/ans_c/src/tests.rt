@@ -165,7 +165,7 @@ struct LentForMending {
     draft: [u8; 131],
     mended: [u8; 150],
     size: usize,
-    text: [u8; 96],
+    text: [u8; 128],
     told: usize,
 }
 
@@ -177,7 +177,7 @@ impl LentForMending {
             draft: [0x55; 131],
             mended: [0x55; 150],
             size: 7,
-            text: [0x55; 96],
+            text: [0x55; 128],
             told: 7,
         }
     }
