@@ -29,7 +29,7 @@ fn put_later_words<W: Write>(out: &mut Outbox<'_, W>, words: &[&str])
 }
 
 /// Puts words, with a blank between each two.
-pub(crate) fn put_words<W: Write>(out: &mut Outbox<'_, W>, words: &[&str])
+pub fn put_words<W: Write>(out: &mut Outbox<'_, W>, words: &[&str])
     ensures { Puts W.contents out.old out.new (words_text (texts_of words.now)) }
 {
     let [first, later @ ..] = words else {
