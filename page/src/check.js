@@ -134,6 +134,8 @@ function showResult(drawing, result) {
   element("name").textContent = drawing.path;
   element("verdict").textContent = sentenceOf(result);
   element("verdict").dataset.answer = result.answer;
+  element("players").textContent = playersSentenceOf(result);
+  element("players").hidden = element("players").textContent === "";
   element("why").replaceChildren(...(result.error ? [result.error] : linesOf(result.why)).map(lineElement));
   const record = linesOf(result.record);
   element("record").replaceChildren(...(record.length > 0 ? record : ["none that is accepted"]).map(lineElement));

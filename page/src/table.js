@@ -4,6 +4,7 @@ const COLUMNS = [
   { key: "name", heading: "Name" },
   { key: "verdict", heading: "Verdict" },
   { key: "needs", heading: "Needs" },
+  { key: "players", heading: "Players" },
   { key: "fault", heading: "Fault" },
   { key: "at", heading: "At byte" },
   { key: "title", heading: "Title" },

@@ -32,6 +32,22 @@ const NEEDS = {
   wrap: "wrap turned on",
 };
 
+/** The players that may show a drawing otherwise, by the kind in which they part from others. */
+const PLAYERS = {
+  "wrap-at-once": "that wait at the right edge, as terminals do",
+  "line-ends": "that take a line feed or a return that stands alone in another way",
+  "home-on-clear": "that clear the screen and leave the cursor where it is",
+  "clear-in-colour": "that clear in black, whatever the colour is",
+  "save-place-only": "that save more than the cursor's place, or nothing",
+  "dos-colours": "that know other colours than DOS does",
+  "tab-prints": "that move on at a tab and print no blanks",
+  "line-erased": "that erase no line",
+  "wrap-off": "that always wrap",
+  "stops-at-edge": "with more lines, or that do not stop at the right edge",
+  "page-controls": "that draw or obey control bytes in another way",
+  "terminal-controls": "that do not draw control bytes, as terminals do not",
+};
+
 const FAILURES = {
   "too long": "It is longer than 16,777,216 bytes, and was not checked.",
   unread: "It cannot be read.",
@@ -52,6 +68,16 @@ function sentenceOf({ answer, why }) {
   return `Passes, if it finds ${listed(needs.map((part) => NEEDS[part]))}.`;
 }
 
+/** What is to be said of players, for people who draw: nothing of a drawing that is refused. */
+function playersSentenceOf({ answer, why }) {
+  const players = valueOf(why, "players");
+  if (answer !== "pass" || players === "") return "";
+  if (players !== "any") return `It may look different in players ${listed(players.split(" ").map((kind) => PLAYERS[kind]))}.`;
+  const parts = (valueOf(why, "on every player") || valueOf(why, "needs")).split(" ");
+  if (parts[0] === "nothing") return "It looks the same in every player.";
+  return `In every player it looks the same, if it finds ${listed(parts.map((part) => NEEDS[part]))}.`;
+}
+
 /** What a row of the table says of a drawing. */
 function rowOf(name, { answer, why, record }) {
   const isAnswered = answer === "pass" || answer === "refused";
@@ -59,6 +85,7 @@ function rowOf(name, { answer, why, record }) {
   return {
     verdict: isAnswered ? answer : "no answer",
     needs: answer === "pass" ? valueOf(why, "needs") : "",
+    players: answer === "pass" ? valueOf(why, "players") : "",
     fault: fault ? `F${fault.number} ${fault.text}` : FAILURES[answer] ?? "",
     at: fault ? String(fault.at) : "",
     title: valueOf(record, "title"),

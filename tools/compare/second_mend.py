@@ -7,8 +7,8 @@ It mends by itself, step by step, from the words of the rules:
 - what is taken out is found by patterns over the bytes, where the content's own reader is refused;
 - full rows and their line ends are those that the hint of `why` counts;
 - whether a content passes, and on how many lines, is found by playing it without its cells;
-- whether the beginning is wanted is found by playing it from eight starts of any kind, and where the cursors of
-  the low and the high start stand at each clear.
+- whether the beginning is wanted is found by playing it from eight starts of any kind, and by the kinds in which
+  players part that arise from those and not from the cleared one, as `second_players.py` finds them.
 
 The files are those of `mend_files.py`. Each is mended by itself, with each flag alone, and with some at random.
 Standard output, the status, and standard error are compared; of standard error the first line where nothing is
@@ -39,6 +39,7 @@ sys.dont_write_bytecode = True
 from mend_files import a_mend_file, long_files, some_asked
 from pens import MOST_LINES, Pen, first_fault, least_lines, passes, tokens_of
 from second_machine import CONTROLS, REFUSED, Machine, Refused, answer, play, read_sequence
+from second_players import spelled, walk
 from second_why import (
     MENDING, Hints, Rows, body_of, cleared, fault_line, many, quoted, record_fault, record_of, rows_printed,
 )
@@ -299,25 +300,19 @@ def eight_starts(chance, width, lines):
     return machines
 
 
-def clears_away_from_home(content, width, lines):
-    """A clear comes where the cursor is at home by the start alone, and no place follows it."""
-    pens = [Pen(width, lines), Pen(width, lines, wrap=False), Pen(width, lines, (lines, width - 1))]
-    tokens = [token for _, token in tokens_of(content)[0]]
-    for number, token in enumerate(tokens):
-        if token[0] == "clear":
-            at_home = [(pen.row, pen.column) == (0, 0) for pen in pens]
-            following = next((name for name, *_ in tokens[number + 1:] if name not in ("colours", "bell")), None)
-            if at_home[0] and not all(at_home) and following != "place":
-                return True
-        play(token, pens)
-    return False
+def parts_by_start(content, chance, width, lines):
+    """From some start a kind in which players part arises that does not from the cleared one."""
+    tokens = spelled(content)
+    walks = [walk(tokens, start) for start in [cleared(width, lines)] + eight_starts(chance, width, lines)]
+    arisen = [{kind for _, kind in walked.arisen} for walked in walks if walked]
+    return any(kinds - arisen[0] for kinds in arisen)
 
 
 def put_beginning(draft, chance):
-    """The beginning, where the picture is not the same from every start, or a clear is away from home."""
+    """The beginning, where the picture is not the same from every start, or players part in more from some."""
     content, width, lines = draft.content, draft.width(), draft.field(LINES)
     from_any = answer(content, eight_starts(chance, width, lines))
-    if isinstance(from_any, str) or clears_away_from_home(content, width, lines):
+    if isinstance(from_any, str) or parts_by_start(content, chance, width, lines):
         draft.content = MENDING + content
         draft.say("beginning", f"put {len(MENDING)} bytes in front")
 

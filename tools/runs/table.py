@@ -61,7 +61,7 @@ HI_RECORD = (
 HI_TOKENS = b"0 1 glyph 48\n1 1 glyph 69\n"
 HI_SHOWN = b"\x1b[0;37;40mHi\x1b[0m\n"
 HI_WHY = (
-    b"size: 2 x 1\nverdict: pass\nneeds: cursor colours\ntaller: yes\n"
+    b"size: 2 x 1\nverdict: pass\nneeds: cursor colours\nplayers: any\ntaller: yes\n"
     b"at 0: F22 print at an unknown place\nbytes: H\n"
     b"low start: row 1, column 1\nhigh start: row 2, column 2\n"
     b"mend: begin with ESC[?7h ESC[0m ESC[2J ESC[H ESC[s\n"

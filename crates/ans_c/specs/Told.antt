@@ -108,8 +108,8 @@ pub record ReportsMending (mends : Mends) (file new : List ℕ) (is_mended : Boo
   pub is_mended_is : is_mended ≡ is_ok answer
   pub text_is : text ≡ mending_text mends answer
 
--- There is no room in the memory for the file and for as much as may be put into it; or among so many rows and bytes none for the
--- screen that the file has in the end; or none in the array for a mended file.
+-- There is no room in the memory for the file and for as much as may be put into it; or among so many rows
+-- and bytes none for the screen that the file has in the end; or none in the array for a mended file.
 abbrev pub LacksMendingRoom : Mends → List ℕ → ℕ → ℕ → ℕ → ℕ → Type 0
 LacksMendingRoom mends file rows bytes memory mended =
     (memory < length file + most_put mends file)

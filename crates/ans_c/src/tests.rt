@@ -113,7 +113,7 @@ fn texts_are_handed_over(rt: HostRuntime) -> Result<(), Fail> {
     let mut text = [0u8; 400];
     let mut short_text = [0u8; 9];
     let mut length = 0;
-    let why = b"size: 2 x 1\nverdict: pass\nneeds: cursor colours\ntaller: yes\n";
+    let why = b"size: 2 x 1\nverdict: pass\nneeds: cursor colours\nplayers: any\ntaller: yes\n";
     let passed = ans_why(&file, &mut rows, &mut bytes, &mut text, &mut length);
     let told = text.get(..length).ok_or("why")?;
     assert!(rt; passed == PASS && told.starts_with(why));

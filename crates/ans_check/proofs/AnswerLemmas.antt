@@ -55,7 +55,8 @@ says_message contents errors after ending text e h =
 -- of an ending of which nothing else is told
 pub says_else : {E : Type 0} (contents : E → Option (List ℕ)) (errors after : Tried E) (ending : Ending)
     → ending ≢ Usage → ((counts : Counts) → ending ≢ Table counts)
-    → ((mended : outcome.Mended) → ending ≢ Mended mended) → ((asked : Mends) (reason : Unmended) → ending ≢ NotMended asked reason)
+    → ((mended : outcome.Mended) → ending ≢ Mended mended)
+    → ((asked : Mends) (reason : Unmended) → ending ≢ NotMended asked reason)
     → SaysMessage contents errors after ending → Says contents errors after ending
 says_else contents errors after Usage told table mended unmended h = absurd (told refl)
 says_else contents errors after Help told table mended unmended h = h

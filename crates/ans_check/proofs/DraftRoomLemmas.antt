@@ -1,6 +1,6 @@
 -- What is known of the room in a draft where what is to be put does not fit in.
-use Rattle.std.proofs.Common.{◌≡◌, ℕ, ◌+◌, ◌<◌, ◌≤◌, Bool, true, false, List, ◌∷◌, length, take, drop, refl, sym, ap, ap₂}
-use Rattle.std.proofs.Common.{◌∙◌, arith, Option, None, Some, Ok, Err}
+use Rattle.std.proofs.Common.{◌≡◌, ℕ, ◌+◌, ◌<◌, ◌≤◌, Bool, true, false, List, ◌∷◌, length, take, drop, refl, sym, ap}
+use Rattle.std.proofs.Common.{ap₂, ◌∙◌, arith, Option, None, Some, Ok, Err}
 use Rattle.std.specs.Prelude.{OnErr, OnOk, Result, if◌then◌else◌}
 use Rattle.std.proofs.lemmas.List.{length-append, take-append-drop}
 use Rattle.ans_model.specs.Bytes.{end_mark}

@@ -1,13 +1,15 @@
 -- What a file's parts say of mending.
 use Rattle.std.proofs.Common.{◌≡◌, inr, ℕ, Bool, true, false, List, length, refl, sym, ap, ◌∙◌}
 use Rattle.std.proofs.Common.{Option, Some, None, true≢false}
-use Rattle.std.proofs.Common.{inl, subst₂, ap₂, Result, Ok, Err, ◌+◌, ◌==◌}
+use Rattle.std.proofs.Common.{subst₂, ap₂, Result, Ok, Err, ◌+◌, ◌==◌, [], ◌∷◌}
 use Rattle.std.specs.Prelude.{is_some, not, ◌||◌, IsTrue, ◌↔◌, IfOk, IfErr, IfSome, IfNone, if◌then◌else◌}
+use Rattle.std.specs.List.{list_all}
 use mir.Val.{bool_byte}
 use Rattle.ans_model.specs.Screen.State.{Size}
-use Rattle.ans_model.specs.Sequence.TokenKind.{TokenKind}
-use Rattle.ans_model.specs.Sequence.Reads.{Reads}
-use Rattle.ans_walks.specs.Homing.{ClearsAway}
+use Rattle.ans_model.specs.Verdict.Needs.{IsLeast}
+use Rattle.ans_model.proofs.ClassLemmas.{covers_good, none_known_covers}
+use Rattle.ans_players.specs.declared.kind.Kind.{Kind}
+use Rattle.ans_walks.specs.SaidOfPlayers.{IsSameWhereCleared}
 use Rattle.ans_check.specs.Mending.{WantsMending}
 use Rattle.ans_model.specs.Bytes.{most_lines}
 use Rattle.ans_walks.specs.Lines.{IsNeverGood}
@@ -69,22 +71,33 @@ judged file parts judgement h cleared every wants count lines non_blink = record
   non_blink = non_blink ∙ ap is_non_blink h.shows.sauce;
 }
 
+-- each kind is agreed
+abbrev all_agreed : Kind → Bool
+all_agreed kind = true
+
+every_kind : (kinds : List Kind) → IsTrue (list_all all_agreed kinds)
+every_kind [] = refl
+every_kind (kind ∷ kinds) = every_kind kinds
+
 -- what a content wants whose play from all starts has come to this
-module _ (z : Size) (content : List ℕ) (cleared : IsGood z all_known content) where
-  pub faulty_wants : (fault : Fault) → Deserves z none_known content fault → WantsMending z content
-  faulty_wants fault deserved = inl (not_good z none_known content fault deserved)
+module _ (z : Size) (content : List ℕ) where
+  pub faulty_wants : IsGood z all_known content → (fault : Fault) → Deserves z none_known content fault
+      → WantsMending z content
+  faulty_wants cleared fault deserved same =
+      not_good z none_known content fault deserved
+      (same all_agreed (cleared, λ s k x start there. every_kind _)).0
 
-  pub away_wants : (away : Bool)
-      → ((tokens : List TokenKind) → Reads content tokens → IsTrue away ↔ ClearsAway z tokens)
-      → IsGood z none_known content → IsTrue away ↔ WantsMending z content
-  away_wants away tells good = (to, from)
-    where
-      to : IsTrue away → WantsMending z content
-      to is = inr (cleared.1.tokens, cleared.1.reads, (tells cleared.1.tokens cleared.1.reads).0 is)
+  pub parted_wants : (same : Bool) → IsTrue same ↔ IsSameWhereCleared z content
+      → IsTrue (not same) ↔ WantsMending z content
+  parted_wants true tells = (λ is. absurd (true≢false (sym is)), λ wants. absurd (wants (tells.0 refl)))
+  parted_wants false tells = (λ is. λ all. true≢false (sym (tells.1 all)), λ wants. refl)
 
-      from : WantsMending z content → IsTrue away
-      from (inl bad) = absurd (bad good)
-      from (inr (tokens, reads, clears)) = (tells tokens reads).1 clears
+  -- what passes from every start needs nothing
+  pub nothing_needed : IsGood z none_known content → IsLeast z content none_known
+  nothing_needed good class = (
+    λ is. none_known_covers class,
+    λ covers. (good.0, covers_good z none_known class content good.0 covers good.1),
+  )
 
 -- a reason by its parts is one of the file
 pub split_reason : (mends : Mends) (lacks : Bool) (file : List ℕ) (parts : Parts) (reason : Unmended)

@@ -1,15 +1,14 @@
 -- How a file is mended, and why it is not.
 use Rattle.std.specs.Prelude.{◌≡◌, ◌⊎◌, ℕ, ◌+◌, ◌-◌, ◌<◌, ◌≤◌, Bool, true, false, ◌&&◌, ◌||◌, ◌==◌, IsTrue, List, []}
-use Rattle.std.specs.Prelude.{◌++◌, length, Option, None, Some, is_some, unwrap_or, option_and_then, ◌↔◌, MatchBool, MatchOption, if◌then◌else◌}
+use Rattle.std.specs.Prelude.{◌++◌, length, Option, None, Some, is_some, unwrap_or, option_and_then, ◌↔◌}
+use Rattle.std.specs.Prelude.{MatchBool, MatchOption, if◌then◌else◌}
 use Rattle.std.specs.List.{list_any}
 use Rattle.ans_model.specs.Bytes.{longest_file, most_lines}
 use Rattle.ans_model.specs.File.Layout.{FileParts, content, is_end_mark}
 use Rattle.ans_model.specs.File.Record.{file_size, is_non_blink, stated_lines, stated_size, stated_width}
 use Rattle.ans_model.specs.File.Refusals.{Accepts, has_record}
 use Rattle.ans_model.specs.Screen.State.{Size, sized}
-use Rattle.ans_model.specs.Sequence.TokenKind.{TokenKind}
-use Rattle.ans_model.specs.Sequence.Reads.{Reads}
-use Rattle.ans_walks.specs.Homing.{ClearsAway}
+use Rattle.ans_walks.specs.SaidOfPlayers.{IsSameWhereCleared}
 use Rattle.ans_model.specs.Screen.StartClass.{all_known, none_known}
 use Rattle.ans_model.specs.Verdict.Good.{Picture, GoodWith, IsGood}
 use Rattle.ans_model.specs.declared.fault.Fault.{Fault}
@@ -178,11 +177,9 @@ pub record IsSettled (asked : Mends) (based settled : List ℕ) : Type 0 where
 
 -- ---- the file that is written
 
--- From some start something arises that does not from the cleared one: a fault, or a clear away from home, which the
--- terminals of today take otherwise than ANSI.SYS.
+-- From some start something arises that does not from the cleared one: a fault, or a kind in which players part.
 abbrev pub WantsMending : Size → List ℕ → Type 0
-WantsMending z content = (¬ IsGood z none_known content)
-    ⊎ ((tokens : List TokenKind) × Reads content tokens × ClearsAway z tokens)
+WantsMending z content = ¬ IsSameWhereCleared z content
 
 -- the bytes before those of the draft
 abbrev pub front_bytes : Bool → List ℕ

@@ -15,7 +15,7 @@ use ans_model::fault::Fault;
 use ans_model::size::Size;
 use ans_model::start::Start;
 use ans_sauce::{Parts, split};
-use ans_walks::clears_away;
+use ans_walks::is_same_where_cleared;
 use std::alloc::AllocError;
 
 /// What the record of a file says that is to be set anew, or told.
@@ -71,7 +71,7 @@ fn wants_mending(parts: &Parts<'_>, fault: Option<Fault>) -> bool
 {
     match fault {
         Some(_) => true,
-        None => clears_away(parts.size(), parts.content()),
+        None => !is_same_where_cleared(parts.size(), Start::ANY, parts.content()),
     }
 }
 

@@ -6,8 +6,8 @@ use Rattle.std.specs.List.{list_all}
 use Rattle.std.specs.Option.{option_map_or}
 use Rattle.std.proofs.lemmas.Bool.{and_parts, cases_lt, ltb-true}
 use Rattle.std.proofs.lemmas.List.{get_or_past}
-use Rattle.std.proofs.lemmas.List.Elements.{All-tail, All-head, All-nil, All-cons, All-append, All-take, All-drop, All-set}
-use Rattle.std.proofs.lemmas.List.Elements.{All-replicate, All-get_or}
+use Rattle.std.proofs.lemmas.List.Elements.{All-tail, All-head, All-nil, All-cons, All-append, All-take, All-drop}
+use Rattle.std.proofs.lemmas.List.Elements.{All-set, All-replicate, All-get_or}
 use Rattle.ans_model.specs.Bytes.{IsByte, blank, end_mark}
 use Rattle.ans_model.specs.File.Layout.{content}
 use Rattle.ans_model.specs.File.Refusals.{has_record}
@@ -20,8 +20,8 @@ use Rattle.ans_mend.specs.LineEnds.{wants_returns, with_line_ends, with_returns}
 use Rattle.ans_mend.specs.MendedText.{mended_text}
 use Rattle.ans_mend.specs.NewRecord.{new_record, takes_record, with_new_record}
 use Rattle.ans_mend.specs.Tail.{IsTailCut}
-use Rattle.ans_mend.specs.TakingOut.{AreTakenOut, Gone, TakesOut, TakesOutOf, excerpt_of, index_of, nothing_told, one_more}
-use Rattle.ans_mend.specs.TakingOut.{told_with}
+use Rattle.ans_mend.specs.TakingOut.{AreTakenOut, Gone, TakesOut, TakesOutOf, excerpt_of, index_of, nothing_told}
+use Rattle.ans_mend.specs.TakingOut.{one_more, told_with}
 use Rattle.ans_mend.specs.declared.outcome.Mended.{Mended}
 use Rattle.ans_mend.specs.declared.taking_out.TakenOut.{TakenOut}
 use Rattle.ans_mend.specs.declared.taking_out.Told.{Told}

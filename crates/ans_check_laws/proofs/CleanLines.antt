@@ -71,7 +71,7 @@ size_clean z =
     (clean_append (codes " x ") (decimal z.lines) (plain_text (codes " x ") refl) (clean_decimal z.lines))
 
 -- words that are clean, with a blank between each two
-words_clean : (words : List (List ℕ)) → All IsCleanText words → IsCleanText (words_text words)
+pub words_clean : (words : List (List ℕ)) → All IsCleanText words → IsCleanText (words_text words)
 words_clean [] all = clean_nil
 words_clean (w ∷ []) all = All-head IsCleanText w [] all
 words_clean (w ∷ v ∷ more) all =

@@ -212,7 +212,8 @@ offered_clean given flag h =
 
 lines_offered_clean : (asked : Mends) → IsCleanText (lines_offered asked)
 lines_offered_clean asked =
-    clean_if (is_some asked.lines) (codes " --lines N with a larger N") (offered asked.least_lines (codes "--least-lines"))
+    clean_if (is_some asked.lines) (codes " --lines N with a larger N")
+    (offered asked.least_lines (codes "--least-lines"))
     (plain_text (codes " --lines N with a larger N") refl)
     (offered_clean asked.least_lines (codes "--least-lines") (plain_text (codes "--least-lines") refl))
 

@@ -43,6 +43,7 @@ use Rattle.ans_walks.specs.declared.row_ends.WiderRows.{WiderRows}
 use Rattle.ans_walks.specs.declared.hints.Hints.{Hints}
 use Rattle.ans_walks.specs.declared.times.Times.{Times}
 use Rattle.ans_why.specs.Blamed.{AreToBlame}
+use Rattle.ans_why.specs.PlayersText.{players_lines}
 use Rattle.ans_why.specs.Explained.{IsEnough, IsShown, IsReliance, IsPass, IsRefusal, IsSaidOfLines, IsTrueOf, Why}
 use Rattle.ans_report.specs.Counted.{counted_text}
 use Rattle.ans_report.specs.Quoted.{quoted, quoted_byte}
@@ -66,6 +67,7 @@ use Rattle.ans_check_laws.proofs.CleanLines.{all_left, all_right, fault_line_cle
 use Rattle.ans_check_laws.proofs.CleanLines.{size_clean}
 use Rattle.ans_check_laws.proofs.CleanLines.{needed_parts_clean, parts_are_bytes, field_is_bytes, trimmed_is_bytes}
 use Rattle.ans_check_laws.proofs.CleanLines.{named_clean}
+use Rattle.ans_check_laws.proofs.CleanPlayers.{players_clean}
 use Rattle.ans_check_laws.proofs.CleanPieces.{clean_nil, clean_append, clean_if, plain_text, clean_line, clean_decimal}
 use Rattle.ans_check_laws.proofs.CleanPieces.{clean_flat_map, clean_hex_byte, clean_shown}
 
@@ -437,19 +439,21 @@ pass_clean file parts pass bytes split h =
     let hints = hints_text pass.hints (font_of parts) in
     let relied = reliance_lines pass.reliance ++ hints in
     let taller = named_line (codes "taller") (answer_text pass.taller) in
-    clean_append (line_of (codes "verdict: pass")) (line_of needs ++ (taller ++ relied))
+    let players = players_lines pass.needs pass.players in
+    clean_append (line_of (codes "verdict: pass")) (line_of needs ++ (players ++ (taller ++ relied)))
     (plain_text (line_of (codes "verdict: pass")) refl)
-    (clean_append (line_of needs) (taller ++ relied)
+    (clean_append (line_of needs) (players ++ (taller ++ relied))
     (clean_line needs
     (clean_append (codes "needs: ") (needed_parts pass.needs) (plain_text (codes "needs: ") refl)
     (needed_parts_clean pass.needs)))
+    (clean_append players (taller ++ relied) (players_clean pass.needs pass.players)
     (clean_append taller relied
     (named_clean (codes "taller") (answer_text pass.taller) (plain_text (codes "taller") refl)
     (answer_clean pass.taller))
     (clean_append (reliance_lines pass.reliance) hints
     (relied_clean _ (size_of parts) (length file) (content_of parts) pass.reliance
     (content_is_bytes file parts split bytes) h.relies)
-    (hints_clean pass.hints (font_of parts) (font_is_bytes file parts split bytes)))))
+    (hints_clean pass.hints (font_of parts) (font_is_bytes file parts split bytes))))))
 
 refused_clean : (file : List ℕ) (parts : Parts) (r : Refusal) → All IsByte file → IsSplit file parts
     → IsRefusal (record_of parts) (content_of parts) r → IsCleanText (refusal_lines parts r)

@@ -328,7 +328,8 @@ module _ (file : List ℕ) (has : has_record file ≡ true) where
     new_wants_none : wants_returns (content_in (with_content new file)) ≡ false
     new_wants_none =
         let rest : List ℕ = take (length before - length c - comments) (drop (length c) before) in
-        ap wants_returns (ap content new_body ∙ content_behind new rest (put_unmarked c (content_unmarked (body_in file))))
+        ap wants_returns (ap content new_body
+        ∙ content_behind new rest (put_unmarked c (content_unmarked (body_in file))))
         ∙ put_wants_none c (content rest) wants
 
   -- where returns are put, none is wanted any more

@@ -5,10 +5,12 @@ pub mod OneBlamed
 pub mod OneEvidence
 pub mod OneFound
 pub mod OneHints
+pub mod OnePlayers
 pub mod OneWhy
 pub mod CleanPieces
 pub mod CleanPictures
 pub mod CleanLines
+pub mod CleanPlayers
 pub mod CleanWhy
 pub mod CleanReports
 pub mod CleanBytes
@@ -19,7 +21,7 @@ pub mod WholeFiles
 pub mod MarkedContents
 pub mod CutFiles
 pub mod NothingGone
-pub mod MendingHomes
 pub mod MendedItself
 pub mod MendedAgain
 pub mod MendedTwice
+pub mod PlayersShown

@@ -11,12 +11,13 @@ use Rattle.ans_model.specs.File.Layout.{content}
 use Rattle.ans_model.specs.File.Record.{file_size, stated_size}
 use Rattle.ans_model.specs.File.Refusals.{has_record}
 use Rattle.ans_model.specs.Screen.State.{Size}
-use Rattle.ans_model.specs.Sequence.Reads.{Reads}
 use Rattle.ans_sauce.specs.Found.{front_in, record_in}
 use Rattle.ans_sauce.proofs.LaidParts.{laid_body, laid_record}
 use Rattle.ans_walks.specs.MendedFile.{four_bytes, with_file_size}
 use Rattle.ans_walks.proofs.MendedFiles.{resized_file_size}
 use Rattle.ans_walks.specs.Mend.{mending}
+use Rattle.ans_walks.specs.SaidOfPlayers.{IsSameWhereCleared}
+use Rattle.ans_walks.proofs.NamedPlayers.{mended_is_same_where_cleared}
 use Rattle.ans_mend.specs.Contents.{content_in, with_content}
 use Rattle.ans_mend.specs.EndMark.{with_end_mark}
 use Rattle.ans_mend.specs.LineEnds.{wants_returns, with_line_ends, with_returns}
@@ -25,13 +26,12 @@ use Rattle.ans_options.specs.declared.command.Mends.{Mends}
 use Rattle.ans_check.specs.Mending.{IsMended, WantsMending, end_mark_counted, front_bytes, lined, opened}
 use Rattle.ans_check_laws.proofs.WholeFiles.{accepted_long}
 use Rattle.ans_check_laws.proofs.MarkedContents.{marked_stays}
-use Rattle.ans_check_laws.proofs.CutFiles.{front_shorter, content_before, front_of_front, has_by, length_front, lines_had, lines_kept}
-use Rattle.ans_check_laws.proofs.CutFiles.{front_shorter, mark_had, mark_kept, record_behind, returned_wants_none}
+use Rattle.ans_check_laws.proofs.CutFiles.{front_shorter, content_before, front_of_front, has_by, length_front}
+use Rattle.ans_check_laws.proofs.CutFiles.{lines_had, lines_kept, mark_had, mark_kept, record_behind, returned_wants_none}
 use Rattle.ans_check_laws.proofs.MendedAgain.{off, opened_stays, settled_stays}
 use Rattle.ans_check_laws.proofs.MendedItself.{same_size, settled_content}
 use Rattle.ans_check_laws.proofs.ReturnsPut.{wants_behind}
 use Rattle.ans_check_laws.specs.KeptReturns.{KeepsReturns}
-use Rattle.ans_check_laws.proofs.MendingHomes.{never_away}
 
 -- ---- numbers
 
@@ -171,17 +171,16 @@ module _ (mends : Mends) (file : List ℕ) (mended : Mended) (draft : List ℕ) 
       sym (ap file_size same_again) ∙ resized_file_size [] refl size written h.apart h.accepts room
 
   -- it wants no mending
-  calm : ¬ WantsMending z shown
-  calm (inl bad) = bad (h.picture, h.from_every)
-  calm (inr (tokens, reads, away)) = go mended.front h.front h.content_is
+  pub calm : ¬ WantsMending z shown
+  calm wants = go mended.front h.front h.content_is
     where
       go : (front : Bool) → IsTrue front ↔ WantsMending z (content_in h.settled)
           → shown ≡ front_bytes front ++ content_in h.settled → ⊥
       go true tells is =
-          never_away z (content_in h.settled) h.from_cleared.tokens tokens h.from_cleared.reads
-          (subst (λ (v : List ℕ). Reads v tokens) is reads) away
-      go false tells is =
-          true≢false (sym (tells.1 (inr (tokens, subst (λ (v : List ℕ). Reads v tokens) is reads, away))))
+          wants (subst (λ (v : List ℕ). IsSameWhereCleared z v) (sym is)
+          (mended_is_same_where_cleared z (content_in h.settled) (h.picture, h.from_cleared)))
+      go false tells is = true≢false (sym (tells.1 (λ same. wants (subst (λ (v : List ℕ). IsSameWhereCleared z v)
+          (sym is) same))))
 
   -- ---- its returns
   settled_id : bytes_eq (take 5 (record_in h.settled)) (codes "SAUCE") ≡ true
@@ -256,8 +255,8 @@ module _ (mends : Mends) (file : List ℕ) (mended : Mended) (draft : List ℕ) 
       (k : IsMended mends written again draft_again) where
     stays : k.settled ≡ with_end_mark written
     stays =
-        settled_stays mends no_rows written h.apart h.accepts h.picture h.from_every (shown_wants_none no_rows keeps) again
-        draft_again k
+        settled_stays mends no_rows written h.apart h.accepts h.picture h.from_every
+        (shown_wants_none no_rows keeps) again draft_again k
 
     settled_is_written : k.settled ≡ written
     settled_is_written = stays ∙ marked_stays written h.apart h.accepts.laid h.ended
@@ -280,8 +279,8 @@ module _ (mends : Mends) (file : List ℕ) (mended : Mended) (draft : List ℕ) 
         let content_again : content k.apart.body ≡ shown =
         k.content_is ∙ ap₂ (λ (b : Bool) (v : List ℕ). front_bytes b ++ v) no_front content_stays in
         let opened_again : opened k.asked k.based ≡ written =
-        opened_stays mends no_rows written h.apart h.accepts h.picture h.from_every (shown_wants_none no_rows keeps) again
-        draft_again k in
+        opened_stays mends no_rows written h.apart h.accepts h.picture h.from_every
+        (shown_wants_none no_rows keeps) again draft_again k in
         let stated : file_size (record_in written) ≡ size =
         ap file_size (laid_record written h.apart h.accepts.laid) ∙ states_size room in
         let counted : length (content_in written) ≡ length shown =

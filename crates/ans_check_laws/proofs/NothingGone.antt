@@ -68,7 +68,8 @@ stays_behind (t ∷ ts) us [] zs left h stay g e = absurd h
 stays_behind ts [] xs (b ∷ zs) left h stay g e = absurd g
 stays_behind ts (u ∷ us) xs [] left h stay g e = absurd g
 
-module _ (z : Size) (class : Start) (content : List ℕ) (picture : Picture) (good : GoodWith z class content picture) where
+module _ (z : Size) (class : Start) (content : List ℕ) (picture : Picture)
+    (good : GoodWith z class content picture) where
   none_goes_first : (before after : Before) (kept text rest : List ℕ) (kind : Unwanted)
       → GoesFirst before content kept kind text rest after → ⊥
   none_goes_first before after kept text rest kind first =

@@ -36,10 +36,12 @@ use Rattle.ans_walks.specs.Lines.{IsGoodOn, IsLeastLines}
 use Rattle.ans_walks.specs.Taller.{IsTaller}
 use Rattle.ans_why.specs.HintsText.{hints_text}
 use Rattle.ans_walks.specs.declared.hints.Hints.{Hints}
+use Rattle.ans_walks.specs.declared.players.Players.{Players}
 use Rattle.ans_why.specs.Blamed.{AreToBlame}
 use Rattle.ans_why.specs.Explained.{AreHintsOf, AreLines, AreRefusalHints, IsEnough, IsPass, IsRefusal, IsReliance}
 use Rattle.ans_why.specs.Explained.{IsRecordRefusal, IsSaidOfLines, IsShown, IsTrueOf, ShowsPlaces, Why}
 use Rattle.ans_why.specs.Known.{known_sequence}
+use Rattle.ans_why.specs.PlayersText.{players_lines}
 use Rattle.ans_why.specs.WhyText.{bytes_line, enough_lines, found_line, known_found, known_line, lines_line, mend_line}
 use Rattle.ans_why.specs.WhyText.{place_text}
 use Rattle.ans_why.specs.declared.known_bytes.Known.{Known}
@@ -57,6 +59,7 @@ use Rattle.ans_check_laws.proofs.OneBlamed.{one_blamed}
 use Rattle.ans_check_laws.proofs.OneEvidence.{one_places, one_shown}
 use Rattle.ans_check_laws.proofs.OneFound.{one_found, one_known}
 use Rattle.ans_check_laws.proofs.OneHints.{one_hints, one_refusal_hints}
+use Rattle.ans_check_laws.proofs.OnePlayers.{one_players}
 
 -- tests of one thing are one
 one_test : (P : Type 0) (p q : Bool) → IsTrue p ↔ P → IsTrue q ↔ P → p ≡ q
@@ -248,22 +251,27 @@ module _ (z : Size) (file_length : ℕ) (bytes : List ℕ) where
   one_relied needs (Some r) None h g = absurd (h.1.0 g.0)
   one_relied needs (Some r) (Some s) h g = one_reliance r s h.1.1 g.1.1
 
-pass_said : List ℕ → List Note → Start → Bool → List ℕ → Hints → List ℕ
-pass_said sauce noted needs taller relied hints =
+pass_said : List ℕ → List Note → Start → Players → Bool → List ℕ → Hints → List ℕ
+pass_said sauce noted needs players taller relied hints =
     (named_line (codes "size") (size_text (stated_size sauce)) ++ flat_map note_line noted)
     ++ (line_of (codes "verdict: pass")
     ++ (line_of (codes "needs: " ++ needed_parts needs)
+    ++ (players_lines needs players
     ++ (named_line (codes "taller") (answer_text taller)
-    ++ (relied ++ hints_text hints (trimmed (font_field sauce))))))
+    ++ (relied ++ hints_text hints (trimmed (font_field sauce)))))))
 
-same_pass_said : (sauce : List ℕ) (noted : List Note) (c d : Start) (p q : Bool) (a b : List ℕ) (s t : Hints) → c ≡ d
-    → p ≡ q → a ≡ b → s ≡ t → pass_said sauce noted c p a s ≡ pass_said sauce noted d q b t
-same_pass_said sauce noted c d p q a b s t needs taller relied hints = cc
+same_pass_said : (sauce : List ℕ) (noted : List Note) (c d : Start) (x y : Players) (p q : Bool) (a b : List ℕ)
+    (s t : Hints) → c ≡ d → x ≡ y → p ≡ q → a ≡ b → s ≡ t
+    → pass_said sauce noted c x p a s ≡ pass_said sauce noted d y q b t
+same_pass_said sauce noted c d x y p q a b s t needs players taller relied hints = cc
 
 module _ (file_length : ℕ) (sauce bytes : List ℕ) (p q : Pass) (h : IsPass file_length sauce bytes p)
     (g : IsPass file_length sauce bytes q) where
   same_needs : p.needs ≡ q.needs
   same_needs = one_class (stated_size sauce) bytes p.needs q.needs h.needs g.needs
+
+  same_players : p.players ≡ q.players
+  same_players = one_players (stated_size sauce) bytes p.players q.players h.players g.players
 
   same_taller : p.taller ≡ q.taller
   same_taller =
@@ -282,11 +290,12 @@ module _ (file_length : ℕ) (sauce bytes : List ℕ) (p q : Pass) (h : IsPass f
       one_hints (stated_size sauce) (is_non_blink sauce) bytes [] good.1.tokens p.hints q.hints good.1.reads h.hints
       g.hints
 
-  one_pass : (noted : List Note) → pass_said sauce noted p.needs p.taller (reliance_lines p.reliance) p.hints
-      ≡ pass_said sauce noted q.needs q.taller (reliance_lines q.reliance) q.hints
+  one_pass : (noted : List Note)
+      → pass_said sauce noted p.needs p.players p.taller (reliance_lines p.reliance) p.hints
+      ≡ pass_said sauce noted q.needs q.players q.taller (reliance_lines q.reliance) q.hints
   one_pass noted =
-      same_pass_said sauce noted p.needs q.needs p.taller q.taller (reliance_lines p.reliance)
-      (reliance_lines q.reliance) p.hints q.hints same_needs same_taller same_relied same_pass_hints
+      same_pass_said sauce noted p.needs q.needs p.players q.players p.taller q.taller (reliance_lines p.reliance)
+      (reliance_lines q.reliance) p.hints q.hints same_needs same_players same_taller same_relied same_pass_hints
 
 -- ---- the text
 
@@ -359,8 +368,9 @@ module _ (file : List ℕ) where
       let (sauce, bytes) = same_file a b split other in
       one_pass (length file) (record_of a) (content_of a) p q h
       (subst₂ (λ (v w : List ℕ). IsPass (length file) v w q) sauce bytes g) (notes_of a)
-      ∙ ap₂ (λ (v : List ℕ) (n : List Note). pass_said v n q.needs q.taller (reliance_lines q.reliance) q.hints)
-      (sym sauce) (one_notes file a b split other)
+      ∙ ap₂ (λ (v : List ℕ) (n : List Note).
+      pass_said v n q.needs q.players q.taller (reliance_lines q.reliance) q.hints) (sym sauce)
+      (one_notes file a b split other)
 
   -- a content is refused from the cleared start, or passes from there
   refused_or_passes : (a b : Parts) (r : Refusal) (p : Pass) → IsTrueOf file (Refused a r)

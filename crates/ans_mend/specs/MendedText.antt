@@ -60,8 +60,9 @@ replaced_text count =
 abbrev pub record_line : Option GivenRecord → List ℕ
 record_line None = []
 record_line (Some given) =
-    codes "put an end mark and a record of " ++ (counted_text given.width (codes "column") ++ (codes " at " ++ (decimal given.place
-    ++ (replaced_text given.cut ++ codes "\n"))))
+    codes "put an end mark and a record of "
+    ++ (counted_text given.width (codes "column")
+    ++ (codes " at " ++ (decimal given.place ++ (replaced_text given.cut ++ codes "\n"))))
 
 -- the flag is set, cleared, or stays
 abbrev pub flag_line : Bool → Bool → List ℕ

@@ -216,7 +216,11 @@ macro_rules! refused {
         refused!($offset, $cause, concat!($line, "\nhelp: may be added (see anscheck why): --least-lines\n"))
     };
     (other, $offset:literal, $cause:expr, $line:literal) => {
-        refused!($offset, $cause, concat!($line, "\nhelp: anscheck why shows the place, and anscheck help tells of the fault\n"))
+        refused!($offset, $cause,
+            concat!(
+                $line,
+                "\nhelp: anscheck why shows the place, and anscheck help tells of the fault\n"
+            ))
     };
     ($offset:literal, $cause:expr, $text:expr) => {
         (Unmended::Refused(Fault { offset: $offset, cause: $cause }), $text)
@@ -355,7 +359,8 @@ static REASONS: [(Unmended, &str); 27] = [
     ),
     (
         Unmended::NoLines,
-        "no number of lines up to 8192 is enough\nhelp: may be added (see anscheck why): --line-ends --full-rows --take-out\n",
+        "no number of lines up to 8192 is enough\n\
+        help: may be added (see anscheck why): --line-ends --full-rows --take-out\n",
     ),
     (
         Unmended::TooLong,
@@ -398,7 +403,8 @@ static HELP: [(Mends, Unmended, &str); 12] = [
     (
         ALL,
         at_7!(NoRecord),
-        "at 7: F1 no SAUCE record\nhelp: no record is put where SAUCE00 stands, or more follows 1Ah: see anscheck help F1\n",
+        "at 7: F1 no SAUCE record\n\
+        help: no record is put where SAUCE00 stands, or more follows 1Ah: see anscheck help F1\n",
     ),
     (
         ALL,
@@ -408,7 +414,8 @@ static HELP: [(Mends, Unmended, &str); 12] = [
     (
         ALL,
         at_7!(OutsideScreen),
-        "at 7: F19 place outside the screen\nhelp: anscheck why shows the place, and anscheck help tells of the fault\n",
+        "at 7: F19 place outside the screen\n\
+        help: anscheck why shows the place, and anscheck help tells of the fault\n",
     ),
     (
         Mends {
@@ -471,12 +478,14 @@ static HELP: [(Mends, Unmended, &str); 12] = [
             ..Mends::NONE
         },
         Unmended::NoLines,
-        "no number of lines up to 8192 is enough\nhelp: may be added (see anscheck why): --line-ends --full-rows --take-out\n",
+        "no number of lines up to 8192 is enough\n\
+        help: may be added (see anscheck why): --line-ends --full-rows --take-out\n",
     ),
     (
         ALL,
         Unmended::NoLines,
-        "no number of lines up to 8192 is enough\nhelp: anscheck why shows the place, and anscheck help tells of the fault\n",
+        "no number of lines up to 8192 is enough\n\
+        help: anscheck why shows the place, and anscheck help tells of the fault\n",
     ),
 ];
 

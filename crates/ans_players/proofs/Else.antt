@@ -51,7 +51,8 @@ waiting_else =
     (Glyph 0x41 ∷ CarriageReturn ∷ LineFeed ∷ Glyph 0x42 ∷ [])
     ((codes "A") ∷ (0x0D ∷ []) ∷ (0x0A ∷ []) ∷ (codes "B") ∷ [])
     (some 0 2) (spells_a, (return, (feed, (spells_b, tt)))) refl refl refl
-    (record { state = cleared (sized 1 3); waits = false }) (refl, refl) (at 1 0) (omega arith, omega arith) (grey 0x42) refl refl
+    (record { state = cleared (sized 1 3); waits = false }) (refl, refl) (at 1 0) (omega arith, omega arith) (grey 0x42)
+    refl refl
 
 -- in two columns A, LF and B: where a line feed returns, B stands in the first column
 pub feeding_else : ShowsElse LineEnds (sized 2 2) (feeding (sized 2 2)) (codes "A\nB")
@@ -85,7 +86,8 @@ grey_else =
     else_by ClearInColour (sized 1 1) (by_token grey_step (sized 1 1))
     ((escape ∷ codes "[41m") ++ (escape ∷ codes "[2J"))
     (Colours (41 ∷ []) ∷ Clear ∷ []) ((escape ∷ codes "[41m") ∷ (escape ∷ codes "[2J") ∷ [])
-    (some 0 0) (on_red, (clear, tt)) refl refl refl (cleared (sized 1 1)) refl (at 0 0) (omega arith, omega arith) (grey blank) refl refl
+    (some 0 0) (on_red, (clear, tt)) refl refl refl (cleared (sized 1 1)) refl (at 0 0) (omega arith, omega arith)
+    (grey blank) refl refl
 
 -- in two columns A, ESC[u and B
 pub unrestored_else : ShowsElse SavePlaceOnly (sized 2 1) (by_token unrestored_step (sized 2 1))

@@ -27,7 +27,8 @@ pub fn line_ends_alone()
 pub fn full_rows()
     ensures byte { Arise (bytes (codes "ABCDE")) [] }
     ensures place { Arise (bytes (codes "ABCD") ++ sequence (Place 3 1) (codes "[3H") ∷ bytes (codes "E")) [] }
-    ensures colours { Arise (bytes (codes "ABCD") ++ sequence (Colours (31 ∷ [])) (codes "[31m") ∷ bytes (codes "E")) [] }
+    ensures colours { Arise
+        (bytes (codes "ABCD") ++ sequence (Colours (31 ∷ [])) (codes "[31m") ∷ bytes (codes "E")) [] }
     ensures bell { Arise (bytes (codes "ABCD" ++ 0x07 ∷ codes "E")) (PageControls ∷ []) }
     ensures line_end { Arise (bytes (codes "ABCD\r\nE")) (WrapAtOnce ∷ []) }
     ensures behind_colours { Arise (bytes (codes "ABCD") ++ sequence (Colours (31 ∷ [])) (codes "[31m")
@@ -67,10 +68,12 @@ pub fn saves()
 /// Colours are the same on all players where each number is 0, 1, 5, 30 to 37 or 40 to 47, and none is
 /// omitted but on white on black.
 pub fn colours()
-    ensures common { Arise (sequence (Colours (0 ∷ 1 ∷ 5 ∷ 30 ∷ 37 ∷ 40 ∷ 47 ∷ [])) (codes "[0;1;5;30;37;40;47m") ∷ []) [] }
+    ensures common { Arise
+        (sequence (Colours (0 ∷ 1 ∷ 5 ∷ 30 ∷ 37 ∷ 40 ∷ 47 ∷ [])) (codes "[0;1;5;30;37;40;47m") ∷ []) [] }
     ensures inverse { Arise (sequence (Colours (7 ∷ [])) (codes "[7m") ∷ []) (DosColours ∷ []) }
     ensures bright { Arise (sequence (Colours (90 ∷ [])) (codes "[90m") ∷ []) (DosColours ∷ []) }
-    ensures omitted { Arise (sequence (Colours (31 ∷ [])) (codes "[31m") ∷ sequence (Colours (0 ∷ [])) (codes "[m") ∷ [])
+    ensures omitted { Arise
+        (sequence (Colours (31 ∷ [])) (codes "[31m") ∷ sequence (Colours (0 ∷ [])) (codes "[m") ∷ [])
         (DosColours ∷ []) }
     ensures one_omitted { Arise (sequence (Colours (1 ∷ 0 ∷ [])) (codes "[1;m") ∷ []) (DosColours ∷ []) }
     ensures on_white_on_black { Arise (sequence (Colours (0 ∷ [])) (codes "[m") ∷ []) [] }

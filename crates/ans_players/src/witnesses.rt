@@ -17,7 +17,8 @@ ghost use Rattle.ans_players.specs.declared.kind.Kind.TheVariants.{TerminalContr
 ghost use Rattle.ans_players.specs.OwnKind.{PartsIn};
 ghost use Rattle.ans_players.specs.Witnesses.{IsProfilePlayer, IsTallPlayer, feeding, profile, saving};
 ghost use Rattle.ans_players.specs.Witnesses.{by_token, staying, stepping, taller, waiting};
-ghost use Rattle.ans_players.specs.WitnessesByToken.{PartsWhereKindsArise, bell_drawn_step, few_colours_step, grey_step};
+ghost use Rattle.ans_players.specs.WitnessesByToken.{PartsWhereKindsArise, bell_drawn_step, few_colours_step};
+ghost use Rattle.ans_players.specs.WitnessesByToken.{grey_step};
 ghost use Rattle.ans_players.specs.WitnessesByToken.{skipping_step, undrawn_step, unerased_step, unrestored_step};
 ghost use Rattle.ans_players.specs.WitnessesByToken.{over_the_edge_step, page_undrawn_step, unseen_step};
 ghost use Rattle.ans_players.specs.WitnessesByToken.{wrapping_step};

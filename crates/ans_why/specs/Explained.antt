@@ -25,6 +25,7 @@ use Rattle.ans_model.specs.Verdict.LastFault.{IsDeserved}
 use Rattle.ans_walks.specs.Evidence.{ShowsCursors, ShowsNamed}
 use Rattle.ans_walks.specs.Mend.{mending}
 use Rattle.ans_walks.specs.Lines.{IsGoodOn, IsLeastLines, IsNeverGood}
+use Rattle.ans_walks.specs.SaidOfPlayers.{IsSaidOfPlayers}
 use Rattle.ans_walks.specs.Taller.{IsTaller}
 use Rattle.ans_walks.specs.Hints.{AreHints}
 use Rattle.ans_walks.specs.declared.hints.Hints.{Hints}
@@ -73,6 +74,7 @@ pub record IsReliance (z : Size) (file_length : ℕ) (content : List ℕ) (r : R
 -- a content that passes from the cleared start, and its record
 pub record IsPass (file_length : ℕ) (sauce content : List ℕ) (pass : Pass) : Type 0 where
   pub needs : IsLeast (stated_size sauce) content pass.needs
+  pub players : IsSaidOfPlayers (stated_size sauce) content pass.players
   pub taller : IsTrue pass.taller ↔ IsTaller (stated_size sauce) pass.needs content
   pub nothing : IfNone pass.reliance (pass.needs ≡ none_known)
   pub relies : IfSome pass.reliance (λ r. (pass.needs ≢ none_known)

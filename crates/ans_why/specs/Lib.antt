@@ -2,5 +2,6 @@ pub mod Known
 pub mod Blamed
 pub mod Fonts
 pub mod HintsText
+pub mod PlayersText
 pub mod Explained
 pub mod WhyText

@@ -21,6 +21,7 @@ use Rattle.ans_walks.specs.Hints.{are_torn}
 use Rattle.ans_walks.specs.declared.hints.Hints.{Hints}
 use Rattle.ans_why.specs.HintsText.{hints_text}
 use Rattle.ans_why.specs.Known.{known_behind_end_mark, known_text}
+use Rattle.ans_why.specs.PlayersText.{players_lines}
 use Rattle.ans_sauce.specs.declared.judged.Judged.TheVariants.{NoContent, Refused, Passes}
 use Rattle.ans_why.specs.Explained.{Why}
 use Rattle.ans_why.specs.declared.known_bytes.Known.{Known}
@@ -116,8 +117,9 @@ abbrev pub pass_lines : Parts → Pass → List ℕ
 pass_lines parts pass =
     line_of (codes "verdict: pass")
     ++ (line_of (codes "needs: " ++ needed_parts pass.needs)
+    ++ (players_lines pass.needs pass.players
     ++ (named_line (codes "taller") (answer_text pass.taller)
-    ++ (reliance_lines pass.reliance ++ hints_text pass.hints (font_of parts))))
+    ++ (reliance_lines pass.reliance ++ hints_text pass.hints (font_of parts)))))
 
 -- The rows at the end are none to speak of where not all is played.
 abbrev pub told_hints : Refusal → Hints

@@ -27,7 +27,9 @@ use ans_model::limits::MAX_FILE;
 use ans_model::size::Size;
 use ans_model::start::Start;
 use ans_sauce::{Parts, WithoutLines, find, without_lines};
-use ans_walks::{Hints, SAFE_BEGINNING, cells_of_fault, cursors_before, is_taller, least_lines};
+use ans_walks::{
+    Hints, Players, SAFE_BEGINNING, cells_of_fault, cursors_before, is_taller, least_lines,
+};
 
 fn place(size: Size, position: Position) -> Place
     requires { IsOnScreen size position }
@@ -237,6 +239,7 @@ impl<'a> Pass<'a> {
         let hints = Hints::of(size, parts.sauce().is_non_blink(), content, content.len());
         Pass {
             needs,
+            players: Players::of(size, needs, content),
             taller: !hints.moves_rows || is_taller(size, needs, content),
             reliance: reliance_of(size, file_length, content, fault),
             hints,

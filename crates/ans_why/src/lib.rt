@@ -6,7 +6,7 @@
 //! [`known_sequence`] and [`known_behind_end_mark`] know what bytes are that artists and their programs
 //! write. [`put_hints`] puts the lines of the hints; [`font_name`] reads a font's name in the record's
 //! field, and [`has_other_code_page`] knows it. What is said is true by `specs/Explained.antt`; the text stands in
-//! `specs/WhyText.antt` and `specs/HintsText.antt`.
+//! `specs/WhyText.antt`, `specs/PlayersText.antt` and `specs/HintsText.antt`.
 #![tactic(auto)]
 
 mod blamed;
@@ -14,6 +14,7 @@ mod explain;
 mod font;
 mod hints_text;
 mod known_bytes;
+mod players_text;
 mod why;
 mod why_text;
 

@@ -5,7 +5,7 @@ use ans_model::cell::Cell;
 use ans_model::fault::Fault;
 use ans_model::start::Start;
 use ans_sauce::{Found, Judged};
-use ans_walks::Hints;
+use ans_walks::{Hints, Players};
 
 /// A position on the screen, with its row and its column counted from 1.
 #[derive(Debug, Clone, Copy, PartialEq, Eq)]
@@ -39,6 +39,8 @@ pub struct Reliance<'a> {
 pub struct Pass<'a> {
     /// The least class of starts from which it passes.
     pub needs: Start,
+    /// On which players it shows its picture.
+    pub players: Players,
     /// Whether its moves are free, so that it plays on taller screens as on the stated one.
     pub taller: bool,
     /// What it relies on, where it does not pass from every start.

@@ -15,6 +15,7 @@ ghost use Rattle.ans_why.specs.WhyText.{found_line, pass_lines, refusal_lines, w
 
 use crate::hints_text::put_hints;
 use crate::known_bytes::{Known, known_behind_end_mark};
+use crate::players_text::put_players;
 use crate::why::{Enough, Pass, Place, RecordRefusal, Refusal, Reliance, Shown, Why};
 use ans_model::cell::Cell;
 use ans_report::{
@@ -129,6 +130,7 @@ fn put_pass<W: Write>(out: &mut Outbox<'_, W>, parts: &Parts<'_>, pass: &Pass<'_
     out.put(b"needs: ");
     put_needed_parts(out, pass.needs);
     out.put(b"\n");
+    put_players(out, pass.needs, &pass.players);
     put_named_line(out, b"taller", answer_text(pass.taller));
     put_reliance(out, pass.reliance);
     put_hints(out, &pass.hints, parts.sauce().font());
@@ -296,11 +298,11 @@ fn put_heading<W: Write>(out: &mut Outbox<'_, W>, parts: &Parts<'_>)
 }
 
 /// Puts what `why` says of a file: lines of a key, a colon and a value. After the size, the notes and the
-/// verdict come, of a pass, what it needs, whether it plays on taller screens, what it relies on, and the
-/// hints; of a refusal the fault, the bytes to blame, what they are known as, where the cursor stands
-/// before them, the hints, and the number of lines that is enough. Of a record or a layout that is refused
-/// come the fault, what stands there, and what that is known as; and where it lacks nothing but the number
-/// of lines, the hints on as many as are enough, and that number.
+/// verdict come, of a pass, what it needs, on which players it shows its picture, whether it plays on
+/// taller screens, what it relies on, and the hints; of a refusal the fault, the bytes to blame, what they
+/// are known as, where the cursor stands before them, the hints, and the number of lines that is enough.
+/// Of a record or a layout that is refused come the fault, what stands there, and what that is known as;
+/// and where it lacks nothing but the number of lines, the hints on as many as are enough, and that number.
 pub fn put_why<W: Write>(out: &mut Outbox<'_, W>, why: &Why<'_>)
     ensures { Puts W.contents out.old out.new (why_text why.now) }
 {

@@ -19,6 +19,7 @@ const HI_NEEDS: &[u8] = b"size: 2 x 1\ncontent: 2 bytes\nneeds: cursor colours\n
 const HI_WHY: &[u8] = b"size: 2 x 1\n\
     verdict: pass\n\
     needs: cursor colours\n\
+    players: any\n\
     taller: yes\n\
     at 0: F22 print at an unknown place\n\
     bytes: H\n\

@@ -10,5 +10,6 @@ returns g c =
     let font : c.font.result.now ≡ font_of c.args.parts.now = search rules in
     Puts-then c.put.ensures
     (Puts-then (Puts-then (Puts-then c.put-2.ensures c.put_needed_parts.ensures) c.put-3.ensures)
+    (Puts-then c.put_players.ensures
     (Puts-then (rw taller at c.put_named_line.ensures)
-    (Puts-then c.put_reliance.ensures (rw font at c.put_hints.ensures))))
+    (Puts-then c.put_reliance.ensures (rw font at c.put_hints.ensures)))))

@@ -1,0 +1,52 @@
+//! Laws of what is said of players.
+
+ghost use Rattle.std.specs.Prelude.{◌≡◌, ℕ, List, IsTrue};
+ghost use Rattle.ans_model.specs.File.Layout.{content};
+ghost use Rattle.ans_model.specs.File.Record.{stated_size};
+ghost use Rattle.ans_model.specs.Screen.StartClass.{Covers, all_known, none_known};
+ghost use Rattle.ans_model.specs.Verdict.Good.{GoodWith, Picture};
+ghost use Rattle.ans_model.specs.declared.start.Start.{Start};
+ghost use Rattle.ans_players.specs.Players.{IsShown};
+ghost use Rattle.ans_players.specs.Situations.{spelled};
+ghost use Rattle.ans_players.specs.declared.kind.Kind.{Kind};
+ghost use Rattle.ans_walks.specs.KindsUsed.{is_used};
+ghost use Rattle.ans_walks.specs.SaidOfPlayers.{IsSameWhereCleared, IsSaidOfPlayers};
+ghost use Rattle.ans_walks.specs.declared.kinds.KindsUsed.{KindsUsed};
+ghost use Rattle.ans_walks.specs.declared.players.Players.TheVariants.{Agreeing, Any};
+ghost use Rattle.ans_mend.specs.declared.outcome.Mended.{Mended};
+ghost use Rattle.ans_options.specs.declared.command.Mends.{Mends};
+ghost use Rattle.ans_check.specs.Mending.{IsMended};
+
+use ans_players::player::Player;
+
+/// Where `why` says `players: any`, the content shows its picture on every player, from every memory that
+/// stands firmly for a start of the class that is said, or of one that knows more.
+pub fn any_player_shows_it<P: Player>()
+    ensures { (bytes : List ℕ) (class known : Start) (picture : Picture)
+        → IsSaidOfPlayers P.size bytes (Any class) → Covers class known
+        → (good : GoodWith P.size known bytes picture)
+        → IsShown P.behaviour P.size known (spelled good.tokens good.reads.0) picture }
+{}
+
+/// Where it names kinds, the content shows its picture from the cleared start on every player that does as
+/// the profile does in those.
+pub fn agreeing_players_show_it<P: Player>()
+    ensures { (bytes : List ℕ) (used : KindsUsed) (picture : Picture)
+        → IsSaidOfPlayers P.size bytes (Agreeing used)
+        → ((kind : Kind) → IsTrue (is_used used kind) → IsTrue (P.agreed kind))
+        → (good : GoodWith P.size all_known bytes picture)
+        → IsShown P.behaviour P.size all_known (spelled good.tokens good.reads.0) picture }
+{}
+
+/// A file that is mended relies on no start: whatever kinds are agreed, if its content is the same on every
+/// player from the cleared start, it is so from every start. So where `why` says `players: any` of it, it
+/// shows its picture on every player from every start.
+pub fn mended_files_rely_on_no_start()
+    ensures same { (mends : Mends) (file draft : List ℕ) (mended : Mended)
+        → (is : IsMended mends file mended draft)
+        → IsSameWhereCleared (stated_size is.apart.record_bytes) (content is.apart.body) }
+    ensures any { (mends : Mends) (file draft : List ℕ) (mended : Mended) (class : Start)
+        → (is : IsMended mends file mended draft)
+        → IsSaidOfPlayers (stated_size is.apart.record_bytes) (content is.apart.body) (Any class)
+        → class ≡ none_known }
+{}

@@ -1,0 +1,47 @@
+-- The lines on players.
+use Rattle.std.specs.Prelude.{ℕ, ◌==◌, Bool, ◌&&◌, List, [], ◌++◌, codes, decimal, Option, None, Some, if◌then◌else◌}
+use Rattle.std.specs.Cmp.{beq}
+use Rattle.std.specs.List.{flat_map}
+use Rattle.ans_model.specs.declared.start.Start.{Start}
+use Rattle.ans_model.specs.Text.FaultText.{line_of}
+use Rattle.ans_model.specs.Text.NeedsText.{needed_parts}
+use Rattle.ans_model.specs.Text.RecordText.{named_line}
+use Rattle.ans_model.specs.Text.Words.{words_text}
+use Rattle.ans_players.specs.Kinds.{all_kinds, kind_word}
+use Rattle.ans_players.specs.declared.kind.Kind.{Kind}
+use Rattle.ans_walks.specs.KindsUsed.{used_of, words_used}
+use Rattle.ans_walks.specs.declared.kinds.KindsUsed.{KindsUsed}
+use Rattle.ans_walks.specs.declared.players.Players.{Players}
+use Rattle.ans_walks.specs.declared.players.Players.TheVariants.{Agreeing, Any}
+use Rattle.ans_walks.specs.declared.times.Times.{Times}
+
+-- how often, where it is more than once
+abbrev pub more_times : ℕ → List ℕ
+more_times count = if count == 1 then [] else codes ", " ++ (decimal count ++ codes " times")
+
+-- where a kind arises first, and how often
+abbrev pub kind_line : Kind → Option Times → List ℕ
+kind_line kind None = []
+kind_line kind (Some times) =
+    line_of (codes "at " ++ (decimal times.first ++ (codes ": " ++ (kind_word kind ++ more_times times.count))))
+
+-- a line of each kind that arises, in their order
+abbrev pub kind_lines : KindsUsed → List ℕ
+kind_lines used = flat_map (λ kind. kind_line kind (used_of used kind)) all_kinds
+
+-- both know the same parts
+abbrev pub is_same_class : Start → Start → Bool
+is_same_class a b =
+    beq a.screen b.screen && beq a.cursor b.cursor && beq a.saved b.saved && beq a.colours b.colours
+    && beq a.wrap b.wrap
+
+-- the parts that have to be known on every player, where they are not those that are needed anyway
+abbrev pub everywhere_line : Start → Start → List ℕ
+everywhere_line needs class =
+    if is_same_class needs class then [] else line_of (codes "on every player: " ++ needed_parts class)
+
+-- the lines of a content that needs this class
+abbrev pub players_lines : Start → Players → List ℕ
+players_lines needs (Any class) = named_line (codes "players") (codes "any") ++ everywhere_line needs class
+players_lines needs (Agreeing used) =
+    named_line (codes "players") (words_text (words_used used)) ++ kind_lines used

@@ -1,0 +1,96 @@
+//! The lines on players.
+
+ghost use Rattle.std.specs.Prelude.{◌≡◌};
+ghost use Rattle.ans_why.specs.PlayersText.{everywhere_line, is_same_class, kind_line, kind_lines};
+ghost use Rattle.ans_why.specs.PlayersText.{more_times, players_lines};
+ghost use Rattle.ans_walks.specs.declared.players.Players.TheVariants.{Agreeing, Any};
+ghost use Rattle.ans_write.specs.Puts.{Puts};
+
+use ans_model::start::Start;
+use ans_players::kind::Kind;
+use ans_report::{put_needed_parts, put_words};
+use ans_walks::{KindsUsed, Players, Times};
+use ans_write::Outbox;
+use std::io::Write;
+
+fn put_more_times<W: Write>(out: &mut Outbox<'_, W>, count: usize)
+    ensures { Puts W.contents out.old out.new (more_times count) }
+{
+    if count == 1 {
+        return;
+    }
+    out.put(b", ");
+    out.put_decimal(count as u64);
+    out.put(b" times");
+}
+
+fn put_kind_line<W: Write>(out: &mut Outbox<'_, W>, kind: Kind, times: Option<Times>)
+    ensures { Puts W.contents out.old out.new (kind_line kind times) }
+{
+    let Some(times) = times else {
+        return;
+    };
+    out.put(b"at ");
+    out.put_decimal(times.first as u64);
+    out.put(b": ");
+    out.put(kind.word().as_bytes());
+    put_more_times(out, times.count);
+    out.put(b"\n");
+}
+
+fn put_kind_lines<W: Write>(out: &mut Outbox<'_, W>, used: &KindsUsed)
+    ensures { Puts W.contents out.old out.new (kind_lines used.now) }
+{
+    for kind in &Kind::ALL {
+        put_kind_line(out, *kind, used.of(*kind));
+    }
+}
+
+fn is_same_class(class: Start, other: Start) -> bool
+    ensures { result ≡ is_same_class class other }
+{
+    class.screen == other.screen
+        && class.cursor == other.cursor
+        && class.saved == other.saved
+        && class.colours == other.colours
+        && class.wrap == other.wrap
+}
+
+fn put_everywhere_line<W: Write>(out: &mut Outbox<'_, W>, needs: Start, class: Start)
+    ensures { Puts W.contents out.old out.new (everywhere_line needs class) }
+{
+    if is_same_class(needs, class) {
+        return;
+    }
+    out.put(b"on every player: ");
+    put_needed_parts(out, class);
+    out.put(b"\n");
+}
+
+fn put_any<W: Write>(out: &mut Outbox<'_, W>, needs: Start, class: Start)
+    ensures { Puts W.contents out.old out.new (players_lines needs (Any class)) }
+{
+    out.put(b"players: any\n");
+    put_everywhere_line(out, needs, class);
+}
+
+fn put_agreeing<W: Write>(out: &mut Outbox<'_, W>, needs: Start, used: &KindsUsed)
+    ensures { Puts W.contents out.old out.new (players_lines needs (Agreeing used.now)) }
+{
+    out.put(b"players: ");
+    put_words(out, used.words().as_slice());
+    out.put(b"\n");
+    put_kind_lines(out, used);
+}
+
+/// Puts on which players a content shows its picture that needs this class: `any`, and the class from
+/// which it does, where that is another; or the kinds, and a line of each, with the offset of the first
+/// in bytes from the content's start.
+pub(crate) fn put_players<W: Write>(out: &mut Outbox<'_, W>, needs: Start, players: &Players)
+    ensures { Puts W.contents out.old out.new (players_lines needs players.now) }
+{
+    match players {
+        Players::Any(class) => put_any(out, needs, *class),
+        Players::Agreeing(used) => put_agreeing(out, needs, used),
+    }
+}
