@@ -1,6 +1,6 @@
 -- The lines on players.
 use Rattle.std.specs.Prelude.{ℕ, ◌==◌, Bool, ◌&&◌, List, [], ◌++◌, codes, decimal, Option, None, Some, if◌then◌else◌}
-use Rattle.std.specs.Cmp.{beq}
+use Rattle.std.specs.Bool.{beq}
 use Rattle.std.specs.List.{flat_map}
 use Rattle.ans_model.specs.declared.start.Start.{Start}
 use Rattle.ans_model.specs.Text.FaultText.{line_of}

@@ -7,4 +7,4 @@ use Rattle.ans_why.proofs.players_text.put_kind_lines.Goals as goal
 pub loop-kind-preserved : goal.loop-kind-preserved
 loop-kind-preserved g c =
     Puts-next (λ kind. kind_line kind (used_of c.args.used.now kind)) all_kinds c.loop-kind.kind-index _
-    c.loop-kind-test.true c.loop-kind.invariant c.put_kind_line.ensures
+    c.loop-kind-test.true c.loop-kind.invariant (rw c.of.ensures at c.put_kind_line.ensures)

@@ -9,4 +9,4 @@ use Rattle.ans_why.proofs.players_text.put_kind_lines.Given as goal
 abbrev pub invariant-loop-kind : goal.invariant-loop-kind
 invariant-loop-kind g l =
     Puts g.W.Write.contents l.fn.out l.out
-    (flat_map (λ kind. kind_line kind (used_of l.used.now kind)) (take l.kind-index all_kinds))
+    (flat_map (λ kind. kind_line kind (used_of l.used kind)) (take l.kind-index all_kinds))

@@ -18,6 +18,9 @@ is_taller-requires-clause-good c =
     record { screen = λ t. t; cursor = λ t. t; saved = λ t. t; colours = λ t. t; wrap = λ t. t } in
     rw (c.content-content.ensures, c.size-size.ensures) ((c.requires.needs needs).1 itself)
 
+pub of-requires-clause-needs : goal.of-requires-clause-needs
+of-requires-clause-needs c = rw (c.content-content.ensures, c.size-size.ensures) c.requires.needs
+
 pub reliance_of-requires-clause-deserved : goal.reliance_of-requires-clause-deserved
 reliance_of-requires-clause-deserved c =
     rw (c.content-content.ensures, c.size-size.ensures)
@@ -39,6 +42,7 @@ returns c =
     at c.of-hints.ensures) in
     record {
       needs = c.requires.needs;
+      players = rw (c.content-content.ensures, c.size-size.ensures) at c.of.ensures;
       taller = elim c.if-not-hints.branch [
         | then-not-hints w ↦
             rw w.result-is (
