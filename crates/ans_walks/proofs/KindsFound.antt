@@ -1,7 +1,7 @@
 -- The kinds that have arisen, with one token more.
-use Rattle.std.proofs.Common.{◌≡◌, ℕ, zero, suc, ◌+◌, ◌<◌, Bool, true, false, List, [], ◌∷◌, ◌++◌, length, map, take, fold}
-use Rattle.std.proofs.Common.{refl, sym, ap, ◌∙◌, arith, subst, Option, None, Some, append_assoc, append-nil}
-use Rattle.std.proofs.Common.{length-append}
+use Rattle.std.proofs.Common.{◌≡◌, ℕ, zero, suc, ◌+◌, ◌<◌, Bool, true, false, List, [], ◌∷◌, ◌++◌, length, map}
+use Rattle.std.proofs.Common.{take, fold, refl, sym, ap, ◌∙◌, arith, subst, Option, None, Some, append_assoc}
+use Rattle.std.proofs.Common.{append-nil, length-append}
 use Rattle.std.specs.Prelude.{IsTrue, is_none, Result, slice_get, if◌then◌else◌}
 use Rattle.std.specs.List.{concat, list_all, list_any}
 use Rattle.std.proofs.Math.Seq.{take-append_seam, take-length}
@@ -218,7 +218,8 @@ module _ (first old : KindsWalk) (front : Front) (t : TokenKind) (text behind : 
         size = size ∙ h.size;
         content = content ∙ h.content;
         texts = omega (arith, h.texts, length-append front.texts (text ∷ []), length-append front.tokens (t ∷ []));
-        whole = whole_more first.content.now front.texts text behind (text_there first.content.now front.texts _ text behind h.whole next);
+        whole = whole_more first.content.now front.texts text behind
+            (text_there first.content.now front.texts _ text behind h.whole next);
         stands = rw (more, there) (record {
           pen_is = rw h.size at (steps here.state h.stands.pen_is);
           grip_is = rw (h.size, h.stands.grip_is) at (grips here.state h.stands.pen_is);

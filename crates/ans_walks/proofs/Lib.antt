@@ -20,7 +20,6 @@ pub mod EmptyRows
 pub mod HintsFound
 pub mod FullRows
 pub mod LastPrint
-pub mod HomingFound
 pub mod KindsFound
 pub mod CalmFound
 pub mod NamedPlayers

@@ -5,8 +5,6 @@ pub mod Lines
 pub mod Taller
 pub mod Walkers
 pub mod Watched
-pub mod Homing
-pub mod Cleared
 pub mod Evidence
 pub mod Places
 pub mod Conditions

@@ -16,9 +16,13 @@ ghost use Rattle.ans_walks.specs.KindsWalked.{AreFew, has_none};
 use crate::grip::Grip;
 use crate::pen::Pen;
 use crate::situations::Situations;
-use crate::times::{Times, count};
+use crate::times::Times;
 use ans_model::size::Size;
 use ans_players::kind::Kind as PlayerKind;
+use ans_players::kind::Kind::{
+    ClearInColour, DosColours, HomeOnClear, LineEnds, LineErased, PageControls, SavePlaceOnly,
+    StopsAtEdge, TabPrints, TerminalControls, WrapAtOnce, WrapOff,
+};
 use ans_tokens::{Token, Walker, walk};
 use arrayvec::ArrayVec;
 
@@ -61,18 +65,18 @@ impl KindsUsed {
         ensures { result ≡ used_of self.now kind }
     {
         match kind {
-            PlayerKind::WrapAtOnce => self.wrap_at_once,
-            PlayerKind::LineEnds => self.line_ends,
-            PlayerKind::HomeOnClear => self.home_on_clear,
-            PlayerKind::ClearInColour => self.clear_in_colour,
-            PlayerKind::SavePlaceOnly => self.save_place_only,
-            PlayerKind::DosColours => self.dos_colours,
-            PlayerKind::TabPrints => self.tab_prints,
-            PlayerKind::LineErased => self.line_erased,
-            PlayerKind::WrapOff => self.wrap_off,
-            PlayerKind::StopsAtEdge => self.stops_at_edge,
-            PlayerKind::PageControls => self.page_controls,
-            PlayerKind::TerminalControls => self.terminal_controls,
+            WrapAtOnce => self.wrap_at_once,
+            LineEnds => self.line_ends,
+            HomeOnClear => self.home_on_clear,
+            ClearInColour => self.clear_in_colour,
+            SavePlaceOnly => self.save_place_only,
+            DosColours => self.dos_colours,
+            TabPrints => self.tab_prints,
+            LineErased => self.line_erased,
+            WrapOff => self.wrap_off,
+            StopsAtEdge => self.stops_at_edge,
+            PageControls => self.page_controls,
+            TerminalControls => self.terminal_controls,
         }
     }
 
@@ -141,66 +145,18 @@ impl KindsUsed {
         ensures used { (kind : Kind) → used_of self.new kind
             ≡ counted (used_of self.old kind) (list_any (is_kind kind) (kinds_of situations.now)) offset }
     {
-        count(
-            &mut self.wrap_at_once,
-            situations.have(PlayerKind::WrapAtOnce),
-            offset,
-        );
-        count(
-            &mut self.line_ends,
-            situations.have(PlayerKind::LineEnds),
-            offset,
-        );
-        count(
-            &mut self.home_on_clear,
-            situations.have(PlayerKind::HomeOnClear),
-            offset,
-        );
-        count(
-            &mut self.clear_in_colour,
-            situations.have(PlayerKind::ClearInColour),
-            offset,
-        );
-        count(
-            &mut self.save_place_only,
-            situations.have(PlayerKind::SavePlaceOnly),
-            offset,
-        );
-        count(
-            &mut self.dos_colours,
-            situations.have(PlayerKind::DosColours),
-            offset,
-        );
-        count(
-            &mut self.tab_prints,
-            situations.have(PlayerKind::TabPrints),
-            offset,
-        );
-        count(
-            &mut self.line_erased,
-            situations.have(PlayerKind::LineErased),
-            offset,
-        );
-        count(
-            &mut self.wrap_off,
-            situations.have(PlayerKind::WrapOff),
-            offset,
-        );
-        count(
-            &mut self.stops_at_edge,
-            situations.have(PlayerKind::StopsAtEdge),
-            offset,
-        );
-        count(
-            &mut self.page_controls,
-            situations.have(PlayerKind::PageControls),
-            offset,
-        );
-        count(
-            &mut self.terminal_controls,
-            situations.have(PlayerKind::TerminalControls),
-            offset,
-        );
+        situations.count(&mut self.wrap_at_once, WrapAtOnce, offset);
+        situations.count(&mut self.line_ends, LineEnds, offset);
+        situations.count(&mut self.home_on_clear, HomeOnClear, offset);
+        situations.count(&mut self.clear_in_colour, ClearInColour, offset);
+        situations.count(&mut self.save_place_only, SavePlaceOnly, offset);
+        situations.count(&mut self.dos_colours, DosColours, offset);
+        situations.count(&mut self.tab_prints, TabPrints, offset);
+        situations.count(&mut self.line_erased, LineErased, offset);
+        situations.count(&mut self.wrap_off, WrapOff, offset);
+        situations.count(&mut self.stops_at_edge, StopsAtEdge, offset);
+        situations.count(&mut self.page_controls, PageControls, offset);
+        situations.count(&mut self.terminal_controls, TerminalControls, offset);
     }
 
     /// The kinds that arise at a token at this offset count; mostly none does.

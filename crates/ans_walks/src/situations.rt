@@ -1,18 +1,20 @@
 //! In which kinds players may part at a token.
 
-ghost use Rattle.std.specs.Prelude.{◌≡◌, ◌==◌, ◌||◌, ◌&&◌, ◌++◌, ◌↔◌, [], List, ℕ, IsTrue};
+ghost use Rattle.std.specs.Prelude.{◌≡◌, ◌+◌, ◌≤◌, ◌==◌, ◌||◌, ◌&&◌, ◌++◌, ◌↔◌, [], List, ℕ, IsTrue};
 ghost use Rattle.std.specs.List.{list_all, list_any};
-ghost use Rattle.ans_model.specs.Bytes.{bracket, semicolon};
+ghost use Rattle.ans_model.specs.Bytes.{bracket, longest_file, semicolon};
 ghost use Rattle.ans_model.specs.Screen.State.{State};
 ghost use Rattle.ans_model.specs.Inside.ShownKind.{shown_kind};
 ghost use Rattle.ans_players.specs.Kinds.{is_kind};
 ghost use Rattle.ans_players.specs.Situations.{is_common_colour, is_page_control, is_terminal_control, kind_if};
 ghost use Rattle.ans_players.specs.Situations.{omits, own_kinds, situations};
+ghost use Rattle.ans_walks.specs.Counted.{count_of, counted};
 ghost use Rattle.ans_walks.specs.GripsShown.{kinds_in, kinds_of, shown_grip};
 ghost use Rattle.ans_walks.specs.Pens.{pen_of, StandsOn};
 
 use crate::grip::Grip;
 use crate::pen::Pen;
+use crate::times::{Times, count};
 use ans_model::kind::Kind;
 use ans_model::size::Size;
 use ans_players::kind::Kind as PlayerKind;
@@ -165,8 +167,18 @@ impl Situations {
         self.loose.is_none() && self.own.is_none() && self.other.is_none()
     }
 
+    /// One time more of a kind at this offset, where it arises.
+    pub(crate) fn count(&self, times: &mut Option<Times>, kind: PlayerKind, offset: usize)
+        requires { count_of times.old ≤ longest_file }
+        ensures value { times.new
+            ≡ counted times.old (list_any (is_kind kind) (kinds_of self.now)) offset }
+        ensures within { count_of times.new ≤ count_of times.old + 1 }
+    {
+        count(times, self.have(kind), offset);
+    }
+
     /// Whether this kind arises.
-    pub(crate) fn have(&self, kind: PlayerKind) -> bool
+    fn have(&self, kind: PlayerKind) -> bool
         ensures { result ≡ list_any (is_kind kind) (kinds_of self.now) }
     {
         is_in(self.loose, kind) || is_in(self.own, kind) || is_in(self.other, kind)

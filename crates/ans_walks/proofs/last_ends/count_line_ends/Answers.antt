@@ -4,7 +4,8 @@ use Rattle.std.proofs.lemmas.Bool.{and_parts, eqb-true, ne_eqb}
 use Rattle.std.proofs.lemmas.List.{drop_more}
 use Rattle.ans_walks.specs.LastEnds.{line_ends}
 use Rattle.ans_walks.proofs.last_ends.count_line_ends.Goals as goal
-use Rattle.ans_walks.proofs.last_ends.count_line_ends.Goals.{then-last-eq13, else-last-eq13, then-not-byte, else-not-byte}
+use Rattle.ans_walks.proofs.last_ends.count_line_ends.Goals.{then-last-eq13, else-last-eq13}
+use Rattle.ans_walks.proofs.last_ends.count_line_ends.Goals.{then-not-byte, else-not-byte}
 
 -- a line feed is one, whatever follows
 fed : (bytes : List ℕ) → line_ends (0x0A ∷ bytes) ≡ 1 + line_ends bytes

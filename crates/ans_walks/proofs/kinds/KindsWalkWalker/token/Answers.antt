@@ -12,7 +12,8 @@ pub returns-clause-walked : goal.returns-clause-walked
 returns-clause-walked c first front text next h =
     let old = c.args.self.now in
     let start = c.start-offset.ensures ∙ next.starts in
-    let text_is = c.text_at-text.ensures _ text (h.content ∙ text_there first.content.now front.texts _ text _ h.whole next.whole) start in
+    let text_is = c.text_at-text.ensures _ text
+    (h.content ∙ text_there first.content.now front.texts _ text _ h.whole next.whole) start in
     walked_kinds first old front _ text _ h next.whole _ c.start-offset.result start refl refl
     (rw c.kind-kind.ensures at c.step.ensures.pen)
     (λ s e. rw c.kind-kind.ensures at
