@@ -17,6 +17,8 @@ use Rattle.ans_model.specs.File.Record.{aspect_ratio, comment, letter_spacing}
 use Rattle.ans_model.specs.Text.Characters.{shown_bytes}
 use Rattle.ans_sauce.specs.declared.parts.Parts.{Parts}
 use Rattle.ans_sauce.specs.declared.judged.Judged.TheVariants.{NoContent, Refused, Passes}
+use Rattle.ans_model.specs.Text.Words.{part_names}
+use Rattle.ans_walks.specs.KindsUsed.{words_used}
 use Rattle.ans_walks.specs.declared.players.Players.{Players}
 use Rattle.ans_walks.specs.declared.players.Players.TheVariants.{Any, Agreeing}
 use Rattle.ans_table.specs.Findings.{Finding, RowFinding, parts_of, sauce_of}
@@ -112,8 +114,8 @@ flat_fault : (fault : Fault) → AllFlat (fault_values fault)
 flat_fault fault = (simple _ refl (omega arith), (simple _ refl (omega arith), (simple _ refl (omega arith), tt)))
 
 flat_players : (players : Players) → AllFlat (players_values players)
-flat_players (Any class) = (flat_texts _, (flat_texts _, tt))
-flat_players (Agreeing used) = (flat_texts _, tt)
+flat_players (Any class) = (flat_texts [], (flat_texts (part_names class), tt))
+flat_players (Agreeing used) = (flat_texts (words_used used), tt)
 
 flat_found : (finding : Finding) → AllFlat (found_values finding)
 flat_found (NoContent said) = flat_fault said.fault

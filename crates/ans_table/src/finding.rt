@@ -119,10 +119,12 @@ impl PassFinding {
         requires needs { IsLeast (size_of parts.now) (content_of parts.now) needs }
         ensures { IsPassFinding parts.now result }
     {
+        let size = parts.size();
+        let content = parts.content();
         PassFinding {
             needs,
-            players: Players::of(parts.size(), needs, parts.content()),
-            taller: is_taller(parts.size(), needs, parts.content()),
+            players: Players::of(size, needs, content),
+            taller: is_taller(size, needs, content),
         }
     }
 }
