@@ -40,14 +40,20 @@ use Rattle.ans_walks.specs.declared.times.Times.{Times}
 abbrev pub one : TokenKind → List ℕ → Spelled
 one t text = record { token = t; text = text }
 
+-- what is spelled by tokens that stand behind others
+pub spelled_behind : (tokens later : List TokenKind) (texts later_texts : List (List ℕ))
+    → length texts ≡ length tokens
+    → spelled (tokens ++ later) (texts ++ later_texts) ≡ spelled tokens texts ++ spelled later later_texts
+spelled_behind [] later [] later_texts long = refl
+spelled_behind [] later (x ∷ texts) later_texts long = absurd (omega (arith, long))
+spelled_behind (u ∷ tokens) later [] later_texts long = absurd (omega (arith, long))
+spelled_behind (u ∷ tokens) later (x ∷ texts) later_texts long =
+    ap (λ (v : List Spelled). one u x ∷ v) (spelled_behind tokens later texts later_texts (omega (arith, long)))
+
 pub spelled_more : (tokens : List TokenKind) (t : TokenKind) (texts : List (List ℕ)) (text : List ℕ)
     → length texts ≡ length tokens
     → spelled (tokens ++ t ∷ []) (texts ++ text ∷ []) ≡ spelled tokens texts ++ one t text ∷ []
-spelled_more [] t [] text long = refl
-spelled_more [] t (x ∷ texts) text long = absurd (omega (arith, long))
-spelled_more (u ∷ tokens) t [] text long = absurd (omega (arith, long))
-spelled_more (u ∷ tokens) t (x ∷ texts) text long =
-    ap (λ (v : List Spelled). one u x ∷ v) (spelled_more tokens t texts text (omega (arith, long)))
+spelled_more tokens t texts text long = spelled_behind tokens (t ∷ []) texts (text ∷ []) long
 
 -- the next token's text stands in the content behind those before it
 module _ (content : List ℕ) (texts : List (List ℕ)) (left text behind : List ℕ) where

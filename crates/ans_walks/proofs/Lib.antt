@@ -23,6 +23,7 @@ pub mod LastPrint
 pub mod HomingFound
 pub mod KindsFound
 pub mod CalmFound
+pub mod NamedPlayers
 mod FrontsPass
 mod LineEndBytes
 mod FullRowsFound

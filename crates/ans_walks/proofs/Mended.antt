@@ -1,22 +1,16 @@
 -- Content behind the mending.
-use Rattle.std.proofs.Common.{◌≡◌, ◌⊎◌, inl, inr, ℕ, zero, suc, true, List, [], ◌∷◌, ◌++◌, length, codes, refl, ap, ap₂}
+use Rattle.std.proofs.Common.{◌≡◌, ◌⊎◌, inl, inr, ℕ, zero, suc, true, List, [], ◌∷◌, ◌++◌, codes, refl, ap, ap₂}
 use Rattle.std.proofs.Common.{min, ◌+◌, ◌-◌, ◌<◌}
 use native.Mathlib.Numerals.{unary_clauses}
-use Rattle.std.proofs.Common.{sym, ◌∙◌, Some, Ok, arith, take, replicate, ◌≤◌}
-use Rattle.std.specs.Prelude.{IsTrue, slice_get, bit_or}
+use Rattle.std.proofs.Common.{sym, ◌∙◌, Some, arith, take, replicate}
+use Rattle.std.specs.Prelude.{slice_get, bit_or}
 use Rattle.std.specs.Int.Bits.{and_zero_r}
-use Rattle.std.specs.List.{AllZip, AllByRecursion, join_with_byte}
-use Rattle.std.specs.Char.{is_ascii_alphabetic}
-use Rattle.ans_model.specs.Bytes.{escape, bracket, semicolon, most_parameters}
-use Rattle.ans_model.specs.declared.mark.Mark.{Mark}
-use Rattle.ans_model.specs.declared.mark.Mark.TheVariants.{Unmarked, Question}
+use Rattle.ans_model.specs.Bytes.{escape}
 use Rattle.ans_model.specs.declared.fault.Cause.{Cause}
 use Rattle.ans_model.specs.declared.fault.Cause.TheVariants.{OutsideScreen}
 use Rattle.ans_model.specs.Sequence.TokenKind.{TokenKind, Glyph, LineFeed, Tab, EraseLine, Clear, Place, Save}
 use Rattle.ans_model.specs.Sequence.TokenKind.{Colours, Wrap}
-use Rattle.ans_model.specs.Sequence.Spelling.{Member, Number, Omitted, Raw, SpellsMember, IsInLimit, mark_bytes}
-use Rattle.ans_model.specs.Sequence.Meaning.{meaning}
-use Rattle.ans_model.specs.Sequence.Reads.{SpellsToken, Reads}
+use Rattle.ans_model.specs.Sequence.Reads.{Reads, ReadsAs}
 use Rattle.ans_model.specs.Screen.Attribute.{attribute_after_all}
 use Rattle.ans_model.specs.Screen.State.{Size, IsSize, State, at, cell_at, cell_count}
 use Rattle.ans_model.specs.Screen.Step.{blank_cell, final}
@@ -26,6 +20,7 @@ use Rattle.ans_model.specs.Verdict.Good.{Picture, PlaysWell, PrintsWell, Shows}
 use Rattle.ans_model.specs.Verdict.TokenFault.{FromEvery, FromSome, HasStaticFault, IsInSpareRow, SamePosition}
 use Rattle.ans_model.specs.Verdict.TokenFault.{TabGoesOn, then_blanks}
 use Rattle.ans_model.proofs.StartLemmas.{low_is_start}
+use Rattle.ans_players.proofs.Spellings.{clear, home, save, white_on_black, wrap_on}
 use Rattle.ans_walks.specs.Mend.{mending, mending_tokens, LeavesClearedScreen, MakesGood}
 
 -- the reset of colours leaves nothing of an attribute
@@ -54,57 +49,23 @@ behind_is_cleared z s ts = ap (λ (v : State). final z v ts) (leaves_cleared z s
 
 -- ---- its bytes
 
-spelled : (raw : Raw) (texts : List (List ℕ)) → AllZip SpellsMember raw.members texts
-    → (raw.members ≡ Omitted ∷ [] → ⊥) → IsTrue (is_ascii_alphabetic raw.letter)
-    → AllByRecursion IsInLimit raw.members → length raw.members ≤ most_parameters
-    → (t : TokenKind) → meaning raw ≡ Ok t
-    → SpellsToken t (escape ∷ bracket ∷ (mark_bytes raw.mark ++ (join_with_byte semicolon texts ++ raw.letter ∷ [])))
-spelled raw texts members not_omitted letter numbers count t means = inr (record {
-  raw = raw;
-  spelled = record {
-    loose =
-        record { texts = texts; members = members; not_one_omitted = not_omitted; letter = letter; whole = refl };
-    numbers = numbers;
-    count = count;
-  };
-  means = means;
-})
-
-abbrev sequence : Mark → List Member → ℕ → Raw
-sequence mark members letter = record { mark = mark; members = members; letter = letter }
-
-wrap_on : SpellsToken (Wrap true) (escape ∷ codes "[?7h")
-wrap_on =
-    spelled (sequence Question (Number 7 ∷ []) 0x68) (codes "7" ∷ []) ((omega arith, refl, refl), tt) (λ e. cc) refl
-    (omega arith, tt) (omega arith) (Wrap true) refl
-
-white_on_black : SpellsToken (Colours (0 ∷ [])) (escape ∷ codes "[0m")
-white_on_black =
-    spelled (sequence Unmarked (Number 0 ∷ []) 0x6D) (codes "0" ∷ []) ((omega arith, refl, refl), tt) (λ e. cc) refl
-    (omega arith, tt) (omega arith) (Colours (0 ∷ [])) refl
-
-clear : SpellsToken Clear (escape ∷ codes "[2J")
-clear =
-    spelled (sequence Unmarked (Number 2 ∷ []) 0x4A) (codes "2" ∷ []) ((omega arith, refl, refl), tt) (λ e. cc) refl
-    (omega arith, tt) (omega arith) Clear refl
-
-home : SpellsToken (Place 1 1) (escape ∷ codes "[H")
-home = spelled (sequence Unmarked [] 0x48) [] tt (λ e. cc) refl tt (omega arith) (Place 1 1) refl
-
-save : SpellsToken Save (escape ∷ codes "[s")
-save = spelled (sequence Unmarked [] 0x73) [] tt (λ e. cc) refl tt (omega arith) Save refl
+-- the text of each of its tokens
+abbrev pub mending_texts : List (List ℕ)
+mending_texts =
+    (escape ∷ codes "[?7h") ∷ (escape ∷ codes "[0m") ∷ (escape ∷ codes "[2J") ∷ (escape ∷ codes "[H")
+    ∷ (escape ∷ codes "[s") ∷ []
 
 -- what stands behind the mending is read behind its tokens
+pub reads_as_behind : (content : List ℕ) (tokens : List TokenKind) (texts : List (List ℕ))
+    → ReadsAs content tokens texts → ReadsAs (mending ++ content) (mending_tokens ++ tokens) (mending_texts ++ texts)
+reads_as_behind content tokens texts h = record {
+  each = (wrap_on, (white_on_black, (clear, (home, (save, h.each)))));
+  whole = ap (λ (v : List ℕ). mending ++ v) h.whole;
+}
+
 pub reads_behind : (content : List ℕ) (tokens : List TokenKind) → Reads content tokens
     → Reads (mending ++ content) (mending_tokens ++ tokens)
-reads_behind content tokens h = (
-  (escape ∷ codes "[?7h") ∷ (escape ∷ codes "[0m") ∷ (escape ∷ codes "[2J") ∷ (escape ∷ codes "[H")
-      ∷ (escape ∷ codes "[s") ∷ h.0,
-  record {
-    each = (wrap_on, (white_on_black, (clear, (home, (save, h.1.each)))));
-    whole = ap (λ (v : List ℕ). mending ++ v) h.1.whole;
-  },
-)
+reads_behind content tokens h = (mending_texts ++ h.0, reads_as_behind content tokens h.0 h.1)
 
 -- ---- its tokens
 

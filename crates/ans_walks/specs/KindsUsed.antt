@@ -1,6 +1,8 @@
 -- What is told of the kinds in which players part.
-use Rattle.std.specs.Prelude.{ℕ, ◌<◌, List, Option, None, Some}
+use Rattle.std.specs.Prelude.{ℕ, ◌<◌, Bool, is_some, List, map, Option, None, Some}
+use Rattle.std.specs.List.{filter}
 use Rattle.ans_model.specs.Screen.State.{Size}
+use Rattle.ans_players.specs.Kinds.{all_kinds, kind_word}
 use Rattle.ans_players.specs.Named.{IsNamed}
 use Rattle.ans_players.specs.declared.kind.Kind.{Kind}
 use Rattle.ans_players.specs.declared.kind.Kind.TheVariants.{WrapAtOnce, LineEnds, HomeOnClear, ClearInColour}
@@ -23,6 +25,14 @@ used_of used WrapOff = used.wrap_off
 used_of used StopsAtEdge = used.stops_at_edge
 used_of used PageControls = used.page_controls
 used_of used TerminalControls = used.terminal_controls
+
+-- the kind is one of those that arise
+abbrev pub is_used : KindsUsed → Kind → Bool
+is_used used kind = is_some (used_of used kind)
+
+-- the words of the kinds that arise, in their order
+abbrev pub words_used : KindsUsed → List (List ℕ)
+words_used used = map kind_word (filter (is_used used) all_kinds)
 
 -- From the cleared start the kind arises so often in the content, and there first; none is told where it never arises.
 abbrev pub IsTold : Size → List ℕ → Kind → Option Times → Type 0

@@ -25,3 +25,4 @@ pub mod GripsShown
 pub mod KindsUsed
 pub mod KindsWalked
 pub mod CalmWalked
+pub mod SaidOfPlayers

@@ -1,16 +1,16 @@
 //! In which kinds players part that a content makes use of.
 
 ghost use Rattle.std.specs.Prelude.{◌≡◌, ◌↔◌, ◌≤◌, ◌<◌, ◌+◌, ◌++◌, ℕ, List, IsTrue, None, length};
-ghost use Rattle.std.specs.List.{list_any};
+ghost use Rattle.std.specs.List.{list_all, list_any};
 ghost use Rattle.ans_model.specs.Bytes.{longest_file};
-ghost use Rattle.ans_model.specs.Screen.State.{IsSize};
 ghost use Rattle.ans_model.specs.Screen.StartClass.{all_known};
+ghost use Rattle.ans_model.specs.Text.Words.{texts_of};
 ghost use Rattle.ans_model.specs.Verdict.Good.{IsGood};
 ghost use Rattle.ans_players.specs.Kinds.{is_kind};
 ghost use Rattle.ans_players.specs.declared.kind.Kind.{Kind};
 ghost use Rattle.ans_walks.specs.Counted.{counted};
-ghost use Rattle.ans_walks.specs.GripsShown.{kinds_of};
-ghost use Rattle.ans_walks.specs.KindsUsed.{IsTold, used_of};
+ghost use Rattle.ans_walks.specs.GripsShown.{kinds_in, kinds_of};
+ghost use Rattle.ans_walks.specs.KindsUsed.{IsTold, is_used, used_of, words_used};
 ghost use Rattle.ans_walks.specs.KindsWalked.{AreFew, has_none};
 
 use crate::grip::Grip;
@@ -20,6 +20,7 @@ use crate::times::{Times, count};
 use ans_model::size::Size;
 use ans_players::kind::Kind as PlayerKind;
 use ans_tokens::{Token, Walker, walk};
+use arrayvec::ArrayVec;
 
 /// How often each kind in which players part arises in a content, and where first.
 #[derive(Debug, Clone, Copy, PartialEq, Eq)]
@@ -75,6 +76,19 @@ impl KindsUsed {
         }
     }
 
+    /// The words of the kinds that arise, in the order of `Kind::ALL`.
+    pub fn words(&self) -> ArrayVec<&'static str, 12>
+        ensures { texts_of result.items ≡ words_used self.now }
+    {
+        let mut words = ArrayVec::new();
+        for kind in &PlayerKind::ALL {
+            if self.of(*kind).is_some() {
+                words.push(kind.word());
+            }
+        }
+        words
+    }
+
     /// Whether no kind arises.
     pub fn are_none(&self) -> bool
         ensures { IsTrue result ↔ ((kind : Kind) → used_of self.now kind ≡ None) }
@@ -97,6 +111,24 @@ impl KindsUsed {
             && self.stops_at_edge.is_none()
             && self.page_controls.is_none()
             && self.terminal_controls.is_none()
+    }
+
+    /// Whether this kind arises, if there is one.
+    fn has(&self, some: Option<PlayerKind>) -> bool
+        ensures { result ≡ list_all (is_used self.now) (kinds_in some) }
+    {
+        match some {
+            Some(kind) => self.of(kind).is_some(),
+            None => true,
+        }
+    }
+
+    /// Whether all kinds of the situations arise; mostly there is none.
+    #[inline(always)]
+    pub(crate) fn have_all(&self, situations: &Situations) -> bool
+        ensures { result ≡ list_all (is_used self.now) (kinds_of situations.now) }
+    {
+        self.has(situations.loose) && self.has(situations.own) && self.has(situations.other)
     }
 
     /// One time more of each kind of the situations.
@@ -235,7 +267,6 @@ impl Walker for KindsWalk<'_> {
 /// promised. It reads the bytes once, and takes no memory.
 pub fn kinds_used(size: Size, content: &[u8]) -> KindsUsed
     requires length { length content.now ≤ longest_file }
-    requires size { IsSize size }
     ensures { IsGood size all_known content.now
         → (kind : Kind) → IsTold size content.now kind (used_of result kind) }
 {

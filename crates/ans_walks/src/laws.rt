@@ -6,6 +6,7 @@ ghost use Rattle.ans_walks.specs.Mend.{LeavesClearedScreen, MakesGood, mending};
 ghost use Rattle.ans_walks.specs.MendedFile.{MendedFilePasses};
 ghost use Rattle.ans_walks.specs.RowEndLaws.{CountsBeforeLastPrint, LineFeedEndsFullRow};
 ghost use Rattle.ans_walks.specs.RowLaws.{EmptyRowsHoldNothing, NoMoreRowsAreEmpty};
+ghost use Rattle.ans_walks.specs.SaidOfPlayers.{MendedIsSameWhereCleared};
 ghost use Rattle.ans_walks.specs.Taller.{TallerShowsTheSame};
 
 use crate::beginning::SAFE_BEGINNING;
@@ -17,6 +18,12 @@ pub fn mended_content_is_good()
     ensures bytes { SAFE_BEGINNING.now ≡ mending }
     ensures cleared { LeavesClearedScreen }
     ensures good { MakesGood }
+{}
+
+/// Behind these 19 bytes, content that is good from the cleared start is the same from every start on each
+/// player on which it is from the cleared one.
+pub fn mended_content_is_same_where_cleared()
+    ensures { MendedIsSameWhereCleared }
 {}
 
 /// An accepted file that passes from the cleared start passes from every start once these 19 bytes

@@ -6,8 +6,10 @@
 //! [`is_taller`] whether it plays on taller screens as on the stated one. [`ends_full_rows`] says whether
 //! all full rows end in line ends, and [`RowPlay`] finds these one by one. [`Hints::of`] counts what is
 //! worth a look in a drawing, though it changes no verdict. [`kinds_used`] counts the kinds in which
-//! players part that a drawing makes use of. [`SAFE_BEGINNING`] stands in front of a drawing that is
-//! mended. Each law is the contract of a function without a body. Nothing here takes memory.
+//! players part that a drawing makes use of, [`Players::of`] says on which players and from which starts
+//! it shows its picture, and [`is_same_where_cleared`] whether from every start as from the cleared one.
+//! [`SAFE_BEGINNING`] stands in front of a drawing that is mended. Each law is the contract of a function
+//! without a body. Nothing here takes memory.
 //!
 //! A `Pen` is all of a state but its cells. No cell tells where a token takes it, so it goes on without
 //! them, also where the screen scrolls (`specs/Pens.antt`). What each hint is about stands in
@@ -28,6 +30,7 @@ mod last_ends;
 pub mod laws;
 mod lines;
 mod pen;
+mod players;
 mod row;
 mod row_ends;
 mod row_play;
@@ -47,6 +50,7 @@ pub use homing::clears_away;
 pub use kinds::{KindsUsed, kinds_used};
 pub use last_ends::{count_line_ends, count_passing};
 pub use lines::{is_good, least_lines};
+pub use players::{Players, is_same_where_cleared};
 pub use row_ends::{RowEnds, RowsOver, WiderRows};
 pub use row_play::RowPlay;
 pub use taller::is_taller;

@@ -1,0 +1,28 @@
+-- What is said of the players on which a content shows its picture.
+use Rattle.std.specs.Prelude.{◌≡◌, ℕ, ◌++◌, Bool, false, List, None}
+use Rattle.ans_model.specs.Screen.State.{Size}
+use Rattle.ans_model.specs.Screen.StartClass.{all_known, none_known}
+use Rattle.ans_model.specs.Verdict.Good.{IsGood}
+use Rattle.ans_players.specs.Classes.{IsLeastSame, IsSame}
+use Rattle.ans_players.specs.declared.kind.Kind.{Kind}
+use Rattle.ans_walks.specs.KindsUsed.{IsTold, used_of}
+use Rattle.ans_walks.specs.Mend.{mending}
+use Rattle.ans_walks.specs.declared.players.Players.{Players}
+use Rattle.ans_walks.specs.declared.players.Players.TheVariants.{Any, Agreeing}
+
+-- On every player it is the same for exactly those classes in which each part is known that is known in this one; or
+-- these kinds arise from the cleared start, so often and there first, and some kind does.
+abbrev pub IsSaidOfPlayers : Size → List ℕ → Players → Type 0
+IsSaidOfPlayers z content (Any class) = IsLeastSame (λ kind. false) z content class
+IsSaidOfPlayers z content (Agreeing used) = ((kind : Kind) → IsTold z content kind (used_of used kind))
+    × ¬ ((kind : Kind) → used_of used kind ≡ None)
+
+-- Whatever is agreed: if the content is the same on every player from the cleared start, it is so from every start.
+abbrev pub IsSameWhereCleared : Size → List ℕ → Type 0
+IsSameWhereCleared z content = (agreed : Kind → Bool) → IsSame agreed z all_known content
+    → IsSame agreed z none_known content
+
+-- So is what is good from the cleared start, behind the mending.
+abbrev pub MendedIsSameWhereCleared : Type 0
+MendedIsSameWhereCleared = (z : Size) (content : List ℕ) → IsGood z all_known content
+    → IsSameWhereCleared z (mending ++ content)

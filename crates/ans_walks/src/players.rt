@@ -1,0 +1,53 @@
+//! On which players a content shows its picture.
+
+ghost use Rattle.std.specs.Prelude.{◌≤◌, ◌↔◌, IsTrue, length};
+ghost use Rattle.ans_model.specs.Bytes.{longest_file};
+ghost use Rattle.ans_model.specs.Verdict.Needs.{IsLeast};
+ghost use Rattle.ans_walks.specs.SaidOfPlayers.{IsSaidOfPlayers, IsSameWhereCleared};
+
+use crate::calm::least_class_for_players;
+use crate::kinds::{KindsUsed, kinds_used};
+use ans_model::size::Size;
+use ans_model::start::Start;
+
+/// On which players a content that passes from the cleared start shows its picture.
+#[derive(Debug, Clone, Copy, PartialEq, Eq)]
+pub enum Players {
+    /// On every player, from the starts of this class: the least such.
+    Any(Start),
+    /// On those that do as the profile does in these kinds, of which it makes use of at least one.
+    Agreeing(KindsUsed),
+}
+
+impl Players {
+    /// Of a content whose least class of starts from which it passes is `needs`. It takes no memory, and
+    /// reads the bytes at most six times.
+    pub fn of(size: Size, needs: Start, content: &[u8]) -> Players
+        requires length { length content.now ≤ longest_file }
+        requires needs { IsLeast size content.now needs }
+        ensures { IsSaidOfPlayers size content.now result }
+    {
+        let used = kinds_used(size, content);
+        if used.are_none() {
+            Players::Any(least_class_for_players(size, needs, &used, content))
+        } else {
+            Players::Agreeing(used)
+        }
+    }
+}
+
+/// Whether a content passes from every start, and from none a kind arises in which players part but those
+/// that arise from the cleared one. So it shows the same from every start on each player on which it does
+/// from the cleared one. `needs` is the least class of starts from which it passes. It takes no memory, and
+/// reads the bytes at most six times.
+pub fn is_same_where_cleared(size: Size, needs: Start, content: &[u8]) -> bool
+    requires length { length content.now ≤ longest_file }
+    requires needs { IsLeast size content.now needs }
+    ensures { IsTrue result ↔ IsSameWhereCleared size content.now }
+{
+    if !needs.covers(Start::ANY) {
+        return false;
+    }
+    let used = kinds_used(size, content);
+    least_class_for_players(size, needs, &used, content).covers(Start::ANY)
+}
