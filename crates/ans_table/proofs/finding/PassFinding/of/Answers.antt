@@ -10,3 +10,10 @@ is_taller-requires-clause-good c =
     let itself : Covers needs needs =
     record { screen = λ t. t; cursor = λ t. t; saved = λ t. t; colours = λ t. t; wrap = λ t. t } in
     rw (c.content-content.ensures, c.size-size.ensures) ((c.requires.needs needs).1 itself)
+
+pub returns : goal.returns
+returns c = record {
+  needs = c.requires.needs;
+  players = rw (c.content-content.ensures, c.size-size.ensures) at c.of.ensures;
+  taller = rw (c.content-content.ensures, c.size-size.ensures) at c.is_taller.ensures;
+}
