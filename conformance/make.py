@@ -6,7 +6,8 @@ Run it in `crates/anscheck`, after `rt run -- check --cleared data/hi.ans` has b
     python3 ../../conformance/make.py out/anscheck
 
 It reads `crates/ans_samples/src/rows.rt`, and writes `files/` and `index.tsv` anew. What the program says is
-compared with what the samples expect; its status is 1 where one differs.
+compared with what the samples expect, and its `players` and `on_every_player` with what the model of
+`tools/compare/second_players.py` finds; its status is 1 where one differs.
 """
 import ast
 import os
@@ -16,6 +17,12 @@ import subprocess
 import sys
 
 HERE = os.path.dirname(os.path.abspath(__file__))
+sys.dont_write_bytecode = True
+sys.path.insert(0, os.path.join(HERE, "..", "tools", "compare"))
+
+from second_players import offsets_of, parts_needed, spelled, walk
+from second_why import cleared
+
 ROWS = os.path.join(HERE, "..", "crates", "ans_samples", "src", "rows.rt")
 FILES = os.path.join(HERE, "files")
 CONTROLS = {7: "<BEL>", 8: "<BS>", 9: "<TAB>", 10: "<LF>", 13: "<CR>", 27: "<ESC>"}
@@ -76,13 +83,30 @@ def is_told(told, word, rest):
     return cells[::2] == ast.literal_eval(literal) and wanted in (b"", cells[1::2])
 
 
+def modelled(content, width, lines):
+    """`players` and `on_every_player` of a content, by the model."""
+    tokens = spelled(content)
+    walked = walk(tokens, cleared(width, lines)) if tokens is not None else None
+    if walked is None:
+        return ["", ""]
+    if walked.arisen:
+        return [" ".join(offsets_of(walked.arisen)), ""]
+    return ["any", " ".join(parts_needed(tokens, width, lines, True)) or "nothing"]
+
+
+def tabled(program, path):
+    """The same of a file, by the program."""
+    run = subprocess.run([program, "table", "--no-header", path], capture_output=True)
+    return run.stdout.decode().split("\t")[2:4]
+
+
 def main():
     """Writes the files and the index."""
     program, different = sys.argv[1], 0
     os.makedirs(FILES, exist_ok=True)
     for old in os.listdir(FILES):
         os.remove(os.path.join(FILES, old))
-    index = ["name\tsize\tstart\texpected\tcontent\twhat it is for"]
+    index = ["name\tsize\tstart\texpected\tplayers\ton_every_player\tcontent\twhat it is for"]
     for title, name, start, width, lines, content, word, rest in examples():
         path = os.path.join(FILES, name)
         with open(path + ".ans", "wb") as file:
@@ -97,9 +121,14 @@ def main():
         if (word == "shows") != (run.returncode == 0) or not is_told(told, word, rest):
             print(f"{name}: {report}")
             different += 1
+        players = modelled(content, width, lines)
+        if tabled(program, path + ".ans") != players:
+            print(f"{name}: of players not {players}")
+            different += 1
         with open(path + kind, "w", encoding="ascii") as file:
             file.write(told)
-        index.append("\t".join([name, f"{width} x {lines}", start, expected, quoted(content), title.rstrip(".")]))
+        row = [name, f"{width} x {lines}", start, expected, *players, quoted(content), title.rstrip(".")]
+        index.append("\t".join(row))
     with open(os.path.join(HERE, "index.tsv"), "w", encoding="utf-8") as file:
         file.write("\n".join(index) + "\n")
     print(f"{len(index) - 1} contents, {different} differ from the samples")

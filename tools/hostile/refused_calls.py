@@ -137,7 +137,7 @@ def rows_of(table):
             rows.append(Row(row["verdict"], row.get("fault", ""), row["file"]))
         else:
             columns = line.split("\t")
-            rows.append(Row(columns[0], columns[3], columns[-1]))
+            rows.append(Row(columns[0], columns[5], columns[-1]))
     return rows
 
 

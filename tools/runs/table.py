@@ -68,22 +68,22 @@ HI_WHY = (
 )
 HI_NEEDS = b"size: 2 x 1\ncontent: 2 bytes\nneeds: cursor colours\n"
 TABLE_HEADER = (
-    b"verdict\tneeds\ttaller\tfault\tat\trow\tcolumn\twidth\tlines\tcontent\tnotes\t"
+    b"verdict\tneeds\tplayers\ton_every_player\ttaller\tfault\tat\trow\tcolumn\twidth\tlines\tcontent\tnotes\t"
     b"ice\tspacing\taspect\tfont\tdate\ttitle\tauthor\tgroup\tfile\n"
 )
 HI_OBJECT = (
     b'{"author":"","comments":[],"content":2,"date":"19960101","file":"data/hi.ans","font":"","group":"",'
-    b'"ice":false,"lines":1,"needs":["cursor","colours"],"notes":[],"taller":true,"title":"",'
-    b'"verdict":"pass","width":2}\n'
+    b'"ice":false,"lines":1,"needs":["cursor","colours"],"notes":[],"on_every_player":["cursor","colours"],'
+    b'"players":[],"taller":true,"title":"","verdict":"pass","width":2}\n'
 )
 HI_ROW = (
-    b"pass\tcursor colours\tyes\t\t\t\t\t2\t1\t2\t\tno\t\t\t\t19960101\t\t\t\tdata/hi.ans\n"
+    b"pass\tcursor colours\tany\tcursor colours\tyes\t\t\t\t\t2\t1\t2\t\tno\t\t\t\t19960101\t\t\t\tdata/hi.ans\n"
 )
 
 
 def error_row(why, name):
     """The row of a file that is not read."""
-    return b"error\t\t\t" + why + b"\t" * 16 + name + b"\n"
+    return b"error\t\t\t\t\t" + why + b"\t" * 16 + name + b"\n"
 
 
 NO_RECORD = b"verdict: refused\nat 127: F1 no SAUCE record\n"
@@ -293,8 +293,12 @@ RUNS = [
     Run("table of names on standard input", ["table", "--no-header"], 0, HI_ROW + HI_ROW,
         b"anscheck: 2 files: 2 pass, 0 refused, 0 not read\n", stdin=b"data/hi.ans\0data/hi.ans"),
     Run("table of a file that is refused", ["table", "--no-header", HI, "data/rows.ans"], 1,
-        HI_ROW + b"refused\t\t\tF21\t249\t6\t1\t80\t5\t414\t\tno\t\t\tIBM VGA\t20260101\tRows\t\t\tdata/rows.ans\n",
+        HI_ROW
+        + b"refused\t\t\t\t\tF21\t249\t6\t1\t80\t5\t414\t\tno\t\t\tIBM VGA\t20260101\tRows\t\t\tdata/rows.ans\n",
         b"anscheck: 2 files: 1 pass, 1 refused, 0 not read\n"),
+    Run("table of a drawing that needs more on every player", ["table", "--no-header", BOX], 0,
+        b"pass\tnothing\tany\tcursor\tyes\t\t\t\t\t14\t2\t52\tN3 N4\tno\t\t\t\t1996\t\t\t\tdata/box.ans\n",
+        b"anscheck: 1 file: 1 pass, 0 refused, 0 not read\n"),
     Run("table of files that are not read", ["table", "--no-header", "data/none.ans", "data", HI], 2,
         error_row(b"cannot open the file", b"data/none.ans")
         + error_row(b"cannot read the file", b"data") + HI_ROW,

@@ -6,7 +6,8 @@ use Rattle.std.specs.Prelude.{⊤, if◌then◌else◌}
 use Rattle.std.proofs.lemmas.List.{map-append}
 use Rattle.std.specs.Ordering.{match_ordering}
 use Rattle.std.specs.Cmp.Lexicographic.{slice_cmp}
-use Rattle.serde_json.specs.Data.{Data, Members, no_members, member, string, put, depth, items_depth, members_depth}
+use Rattle.serde_json.specs.Data.{Data, Members, boolean, no_members, member, string, put, depth, items_depth}
+use Rattle.serde_json.specs.Data.{members_depth}
 use Rattle.serde_json.specs.Read.{max_depth}
 use Rattle.serde_json.specs.View.{items_of, members_view, view}
 use Rattle.serde_json.specs.declared.value.Value.{Value}
@@ -16,12 +17,17 @@ use Rattle.ans_model.specs.File.Record.{aspect_ratio, comment, letter_spacing}
 use Rattle.ans_model.specs.Text.Characters.{shown_bytes}
 use Rattle.ans_sauce.specs.declared.parts.Parts.{Parts}
 use Rattle.ans_sauce.specs.declared.judged.Judged.TheVariants.{NoContent, Refused, Passes}
+use Rattle.ans_model.specs.Text.Words.{part_names}
+use Rattle.ans_walks.specs.KindsUsed.{words_used}
+use Rattle.ans_walks.specs.declared.players.Players.{Players}
+use Rattle.ans_walks.specs.declared.players.Players.TheVariants.{Any, Agreeing}
 use Rattle.ans_table.specs.Findings.{Finding, RowFinding, parts_of, sauce_of}
 use Rattle.ans_table.specs.NameText.{name_text}
 use Rattle.ans_table.specs.Columns.{by_pair}
 use Rattle.ans_table.specs.JsonRow.{Adds, Entries, Named, aspect_values, comments_from, content_values, count}
-use Rattle.ans_table.specs.JsonRow.{fault_values, field_values, flag_values, found_values, parts_values, record_values}
-use Rattle.ans_table.specs.JsonRow.{row_data, row_values, spacing_values, texts, verdict_values, with_values}
+use Rattle.ans_table.specs.JsonRow.{fault_values, field_values, flag_values, found_values, parts_values}
+use Rattle.ans_table.specs.JsonRow.{players_values, record_values, row_data, row_values, spacing_values, texts}
+use Rattle.ans_table.specs.JsonRow.{verdict_values, with_values}
 
 -- no float, and at most lists
 record IsFlat (d : Data) : Type 0 where
@@ -107,14 +113,24 @@ flat_texts ts = record { float = items_float ts; nests = omega (arith, items_nes
 flat_fault : (fault : Fault) → AllFlat (fault_values fault)
 flat_fault fault = (simple _ refl (omega arith), (simple _ refl (omega arith), (simple _ refl (omega arith), tt)))
 
+flat_players : (players : Players) → AllFlat (players_values players)
+flat_players (Any class) = (flat_texts [], (flat_texts (part_names class), tt))
+flat_players (Agreeing used) = (flat_texts (words_used used), tt)
+
 flat_found : (finding : Finding) → AllFlat (found_values finding)
 flat_found (NoContent said) = flat_fault said.fault
 flat_found (Refused parts said) =
     flat_append (fault_values said.fault) ((codes "row", count said.row) ∷ (codes "column", count said.column) ∷ [])
     (flat_fault said.fault)
     (simple (count said.row) refl (omega arith), (simple (count said.column) refl (omega arith), tt))
-flat_found (Passes parts said) =
-    (simple _ refl (omega arith), (flat_texts _, (simple _ refl (omega arith), tt)))
+flat_found (Passes parts said) = (
+  simple _ refl (omega arith),
+  (
+    flat_texts _,
+    flat_append (players_values said.players) ((codes "taller", boolean said.taller) ∷ [])
+        (flat_players said.players) (simple (boolean said.taller) refl (omega arith), tt),
+  ),
+)
 
 flat_verdict : (finding : RowFinding) → AllFlat (verdict_values finding)
 flat_verdict (Ok finding) = flat_found finding

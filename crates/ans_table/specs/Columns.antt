@@ -10,10 +10,13 @@ use Rattle.ans_model.specs.File.Record.{letter_spacing, stated_lines, stated_wid
 use Rattle.ans_model.specs.Text.Characters.{shown_bytes}
 use Rattle.ans_model.specs.Text.FaultText.{fault_text}
 use Rattle.ans_model.specs.Text.NeedsText.{needed_parts}
-use Rattle.ans_model.specs.Text.Words.{answer_text}
+use Rattle.ans_model.specs.Text.Words.{answer_text, words_text}
 use Rattle.ans_sauce.specs.declared.judged.Judged.TheVariants.{NoContent, Refused, Passes}
 use Rattle.ans_sauce.specs.declared.parts.Parts.{Parts}
 use Rattle.ans_sauce.specs.Parts.{content_of, notes_of}
+use Rattle.ans_walks.specs.KindsUsed.{words_used}
+use Rattle.ans_walks.specs.declared.players.Players.{Players}
+use Rattle.ans_walks.specs.declared.players.Players.TheVariants.{Any, Agreeing}
 use Rattle.ans_table.specs.declared.finding.PassFinding.{PassFinding}
 use Rattle.ans_table.specs.Findings.{Finding, RowFinding, unread_text}
 use Rattle.ans_table.specs.Labels.{labels_text}
@@ -29,16 +32,24 @@ column text = text ++ tab ∷ []
 abbrev pub fault_label : Cause → List ℕ
 fault_label cause = before_first (λ b. b == blank) (fault_text cause)
 
--- the columns from the verdict to the fault's offset: `needs` and `taller` are empty
+-- the columns from the verdict to the fault's offset; what only a pass has is empty
 abbrev pub fault_columns : Fault → List ℕ
 fault_columns fault =
-    column (codes "refused") ++ (tab ∷ tab ∷ (column (fault_label fault.cause) ++ column (decimal fault.offset)))
+    column (codes "refused")
+    ++ (tab ∷ tab ∷ tab ∷ tab ∷ (column (fault_label fault.cause) ++ column (decimal fault.offset)))
+
+-- `any`, and the parts that have to be known for every player to show the same; or the kinds in which players part that
+-- the drawing makes use of, and no parts
+abbrev pub players_columns : Players → List ℕ
+players_columns (Any class) = column (codes "any") ++ column (needed_parts class)
+players_columns (Agreeing used) = column (words_text (words_used used)) ++ tab ∷ []
 
 -- the columns from the verdict to the place of a fault, which a pass has none of
 abbrev pub pass_columns : PassFinding → List ℕ
 pass_columns said =
     column (codes "pass")
-    ++ (column (needed_parts said.needs) ++ (column (answer_text said.taller) ++ tab ∷ tab ∷ tab ∷ tab ∷ []))
+    ++ (column (needed_parts said.needs)
+    ++ (players_columns said.players ++ (column (answer_text said.taller) ++ tab ∷ tab ∷ tab ∷ tab ∷ [])))
 
 -- the columns from the verdict to the place of the fault, of a file that was read
 abbrev pub found_columns : Finding → List ℕ
@@ -51,7 +62,7 @@ found_columns (Passes parts said) = pass_columns said
 abbrev pub verdict_columns : RowFinding → List ℕ
 verdict_columns (Ok finding) = found_columns finding
 verdict_columns (Err reason) =
-    column (codes "error") ++ (tab ∷ tab ∷ (column (unread_text reason) ++ tab ∷ tab ∷ tab ∷ []))
+    column (codes "error") ++ (tab ∷ tab ∷ tab ∷ tab ∷ (column (unread_text reason) ++ tab ∷ tab ∷ tab ∷ []))
 
 -- the width in columns and the number of lines; a width of 0 is 80
 abbrev pub stated_columns : Option (List ℕ) → List ℕ

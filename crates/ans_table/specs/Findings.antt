@@ -15,6 +15,7 @@ use Rattle.ans_sauce.specs.declared.judged.Judged.TheVariants.{NoContent, Refuse
 use Rattle.ans_sauce.specs.declared.parts.Parts.{Parts}
 use Rattle.ans_model.specs.Verdict.LastFault.{IsDeserved}
 use Rattle.ans_walks.specs.Evidence.{ShowsCursors}
+use Rattle.ans_walks.specs.SaidOfPlayers.{IsSaidOfPlayers}
 use Rattle.ans_walks.specs.Taller.{IsTaller}
 use Rattle.ans_table.specs.declared.counts.Outcome.{Outcome}
 use Rattle.ans_table.specs.declared.counts.Outcome.TheVariants as outcome
@@ -49,6 +50,7 @@ pub record IsFaultFinding (parts : Parts) (said : FaultFinding) : Type 0 where
 -- what is said of a content that passes from the cleared start is true of it
 pub record IsPassFinding (parts : Parts) (said : PassFinding) : Type 0 where
   pub needs : IsLeast (size_of parts) (content_of parts) said.needs
+  pub players : IsSaidOfPlayers (size_of parts) (content_of parts) said.players
   pub taller : IsTrue said.taller ↔ IsTaller (size_of parts) said.needs (content_of parts)
 
 -- what is found of a file that was read

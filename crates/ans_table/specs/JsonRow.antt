@@ -15,6 +15,9 @@ use Rattle.ans_model.specs.Text.Characters.{shown_bytes}
 use Rattle.ans_sauce.specs.declared.judged.Judged.TheVariants.{NoContent, Refused, Passes}
 use Rattle.ans_sauce.specs.declared.parts.Parts.{Parts}
 use Rattle.ans_sauce.specs.Parts.{comments_of, content_of, notes_of, record_of}
+use Rattle.ans_walks.specs.KindsUsed.{words_used}
+use Rattle.ans_walks.specs.declared.players.Players.{Players}
+use Rattle.ans_walks.specs.declared.players.Players.TheVariants.{Any, Agreeing}
 use Rattle.ans_table.specs.declared.finding.PassFinding.{PassFinding}
 use Rattle.ans_table.specs.Columns.{by_pair, fault_label}
 use Rattle.ans_table.specs.Findings.{Finding, RowFinding, parts_of, sauce_of, unread_text}
@@ -44,11 +47,18 @@ fault_values fault =
     (codes "verdict", string (codes "refused"))
     ∷ (codes "fault", string (fault_label fault.cause)) ∷ (codes "at", count fault.offset) ∷ []
 
--- what a content needs that passes, and whether it shows the same on taller screens
+-- no kinds, and the parts that have to be known for every player to show the same; or the kinds in which players part
+-- that a content makes use of
+abbrev pub players_values : Players → List Named
+players_values (Any class) = (codes "players", texts []) ∷ (codes "on_every_player", texts (part_names class)) ∷ []
+players_values (Agreeing used) = (codes "players", texts (words_used used)) ∷ []
+
+-- what a content needs that passes, on which players it shows its picture, and whether it does on taller screens
 abbrev pub pass_values : PassFinding → List Named
 pass_values said =
     (codes "verdict", string (codes "pass"))
-    ∷ (codes "needs", texts (part_names said.needs)) ∷ (codes "taller", boolean said.taller) ∷ []
+    ∷ (codes "needs", texts (part_names said.needs))
+    ∷ (players_values said.players ++ (codes "taller", boolean said.taller) ∷ [])
 
 -- the verdict on a file that was read, and what belongs to it
 abbrev pub found_values : Finding → List Named

@@ -6,13 +6,15 @@ ghost use Rattle.ans_sauce.specs.RecordBytes.{bytes_of};
 ghost use Rattle.ans_write.specs.Puts.{Puts};
 ghost use Rattle.ans_table.specs.Columns.{by_pair, column, content_columns, escaped_byte, escaped_text, fault_label};
 ghost use Rattle.ans_table.specs.Columns.{fault_columns, field_columns, flag_columns, found_columns, pass_columns};
-ghost use Rattle.ans_table.specs.Columns.{parts_columns, record_columns, stated_columns, verdict_columns};
+ghost use Rattle.ans_table.specs.Columns.{parts_columns, players_columns, record_columns, stated_columns};
+ghost use Rattle.ans_table.specs.Columns.{verdict_columns};
 
 use crate::finding::{Finding, PassFinding, RowFinding};
 use crate::labels::put_labels;
 use ans_model::fault::Fault;
-use ans_report::{answer_text, fault_text, put_needed_parts};
+use ans_report::{answer_text, fault_text, put_needed_parts, put_words};
 use ans_sauce::{Judged, Parts, Record};
+use ans_walks::Players;
 use ans_write::{Outbox, put_characters};
 use std::io::Write;
 
@@ -44,9 +46,25 @@ pub(crate) fn fault_label(fault: &Fault) -> &'static str
 fn put_fault<W: Write>(out: &mut Outbox<'_, W>, fault: &Fault)
     ensures { Puts W.contents out.old out.new (fault_columns fault.now) }
 {
-    out.put(b"refused\t\t\t");
+    out.put(b"refused\t\t\t\t\t");
     put_column(out, fault_label(fault).as_bytes());
     put_number(out, fault.offset);
+}
+
+fn put_players<W: Write>(out: &mut Outbox<'_, W>, players: &Players)
+    ensures { Puts W.contents out.old out.new (players_columns players.now) }
+{
+    match players {
+        Players::Any(class) => {
+            out.put(b"any\t");
+            put_needed_parts(out, *class);
+            out.put(b"\t");
+        }
+        Players::Agreeing(used) => {
+            put_words(out, used.words().as_slice());
+            out.put(b"\t\t");
+        }
+    }
 }
 
 fn put_pass<W: Write>(out: &mut Outbox<'_, W>, said: &PassFinding)
@@ -55,6 +73,7 @@ fn put_pass<W: Write>(out: &mut Outbox<'_, W>, said: &PassFinding)
     out.put(b"pass\t");
     put_needed_parts(out, said.needs);
     out.put(b"\t");
+    put_players(out, &said.players);
     put_column(out, answer_text(said.taller));
     out.put(b"\t\t\t\t");
 }
@@ -83,7 +102,7 @@ pub(crate) fn put_verdict<W: Write>(out: &mut Outbox<'_, W>, finding: &RowFindin
     match finding {
         Ok(finding) => put_found(out, finding),
         Err(why) => {
-            out.put(b"error\t\t\t");
+            out.put(b"error\t\t\t\t\t");
             put_column(out, why.text().as_bytes());
             out.put(b"\t\t\t");
         }

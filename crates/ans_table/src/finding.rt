@@ -16,7 +16,7 @@ use crate::counts::Outcome;
 use ans_model::fault::Fault;
 use ans_model::start::Start;
 use ans_sauce::{Judged, Parts, Record, cut_record};
-use ans_walks::{cursors_before, is_taller};
+use ans_walks::{Players, cursors_before, is_taller};
 
 /// Why a file was not read.
 #[derive(Debug, Clone, Copy, PartialEq, Eq)]
@@ -71,10 +71,11 @@ pub struct FaultFinding {
 }
 
 /// What a row tells of a content that passes from the cleared start: the least class of starts from
-/// which it does, and whether it shows the same picture on every taller screen.
+/// which it does, on which players it shows its picture, and whether it does on every taller screen.
 #[derive(Debug, Clone, Copy, PartialEq, Eq)]
 pub struct PassFinding {
     pub needs: Start,
+    pub players: Players,
     pub taller: bool,
 }
 
@@ -118,9 +119,12 @@ impl PassFinding {
         requires needs { IsLeast (size_of parts.now) (content_of parts.now) needs }
         ensures { IsPassFinding parts.now result }
     {
+        let size = parts.size();
+        let content = parts.content();
         PassFinding {
             needs,
-            taller: is_taller(parts.size(), needs, parts.content()),
+            players: Players::of(size, needs, content),
+            taller: is_taller(size, needs, content),
         }
     }
 }

@@ -9,7 +9,7 @@ ghost use Rattle.ans_model.specs.Text.Characters.{shown_bytes};
 ghost use Rattle.ans_sauce.specs.RecordBytes.{bytes_of};
 ghost use Rattle.ans_table.specs.JsonRow.{Adds, aspect_values, comment_texts, content_values, count};
 ghost use Rattle.ans_table.specs.JsonRow.{fault_values, field_values, flag_values, found_values, json_text};
-ghost use Rattle.ans_table.specs.JsonRow.{parts_values, pass_values};
+ghost use Rattle.ans_table.specs.JsonRow.{parts_values, pass_values, players_values};
 ghost use Rattle.ans_table.specs.JsonRow.{record_values, row_data, size_values, spacing_values, texts, verdict_values};
 ghost use Rattle.ans_table.specs.NameText.{name_text};
 ghost use Rattle.ans_table.specs.Labels.{note_label};
@@ -22,6 +22,7 @@ use ans_model::fault::Fault;
 use ans_model::note::Note;
 use ans_model::start::Start;
 use ans_sauce::{Judged, Parts, Record};
+use ans_walks::Players;
 use ans_write::{Outbox, Tried, glyph_text};
 use serde_json::{Map, Value, push, put};
 use std::alloc::{AllocError, Global};
@@ -70,10 +71,10 @@ fn words_value(alloc: Global, words: &[&str]) -> Result<Value, AllocError>
 }
 
 /// The names of the parts that a class knows.
-fn needs_value(alloc: Global, needs: Start) -> Result<Value, AllocError>
-    ensures { IfOk result (λ v. view v ≡ texts (part_names needs)) }
+fn known_value(alloc: Global, class: Start) -> Result<Value, AllocError>
+    ensures { IfOk result (λ v. view v ≡ texts (part_names class)) }
 {
-    words_value(alloc, needs.part_names().as_slice())
+    words_value(alloc, class.part_names().as_slice())
 }
 
 fn note_value(alloc: Global, note: Note) -> Result<Value, AllocError>
@@ -125,11 +126,32 @@ fn put_fault(members: &mut Members, alloc: Global, fault: &Fault) -> Added
     put_number(members, alloc, "at", fault.offset)
 }
 
+fn put_players(members: &mut Members, alloc: Global, players: &Players) -> Added
+    ensures { Adds members.old.entries members.new.entries result (players_values players.now) }
+{
+    match players {
+        Players::Any(class) => {
+            put(members, alloc, "players", words_value(alloc, &[])?)?;
+            put(
+                members,
+                alloc,
+                "on_every_player",
+                known_value(alloc, *class)?,
+            )
+        }
+        Players::Agreeing(used) => {
+            let kinds = words_value(alloc, used.words().as_slice())?;
+            put(members, alloc, "players", kinds)
+        }
+    }
+}
+
 fn put_pass(members: &mut Members, alloc: Global, said: &PassFinding) -> Added
     ensures { Adds members.old.entries members.new.entries result (pass_values said.now) }
 {
     put_text(members, alloc, "verdict", "pass")?;
-    put(members, alloc, "needs", needs_value(alloc, said.needs)?)?;
+    put(members, alloc, "needs", known_value(alloc, said.needs)?)?;
+    put_players(members, alloc, &said.players)?;
     put(members, alloc, "taller", Value::Bool(said.taller))
 }
 

@@ -14,7 +14,7 @@ use std::io::Write;
 
 /// The columns' names.
 const HEADER: &[u8] =
-    b"verdict\tneeds\ttaller\tfault\tat\trow\tcolumn\twidth\tlines\tcontent\tnotes\t\
+    b"verdict\tneeds\tplayers\ton_every_player\ttaller\tfault\tat\trow\tcolumn\twidth\tlines\tcontent\tnotes\t\
     ice\tspacing\taspect\tfont\tdate\ttitle\tauthor\tgroup\tfile\n";
 
 /// Puts the row of a file of this name: its columns with a tab after each, and then the name, whose

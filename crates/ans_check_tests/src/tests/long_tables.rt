@@ -113,7 +113,7 @@ fn many_files_have_their_rows(rt: HostRuntime) -> Result<(), AllocError> {
 }
 
 /// A file of the greatest length, which has no record.
-const LARGEST_ROW: &str = "refused\t\t\tF1\t16777216\t\t\t\t\t\t\t\t\t\t\t\t\t\t\tlargest\n";
+const LARGEST_ROW: &str = "refused\t\t\t\t\tF1\t16777216\t\t\t\t\t\t\t\t\t\t\t\t\t\t\tlargest\n";
 
 const LARGEST_OBJECT: &str =
     "{\"at\":16777216,\"fault\":\"F1\",\"file\":\"largest\",\"verdict\":\"refused\"}\n";

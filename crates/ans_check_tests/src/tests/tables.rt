@@ -52,31 +52,31 @@ pub(super) fn expect_table(
 
 /// The line of the columns' names.
 const HEADER: &str =
-    "verdict\tneeds\ttaller\tfault\tat\trow\tcolumn\twidth\tlines\tcontent\tnotes\t\
+    "verdict\tneeds\tplayers\ton_every_player\ttaller\tfault\tat\trow\tcolumn\twidth\tlines\tcontent\tnotes\t\
     ice\tspacing\taspect\tfont\tdate\ttitle\tauthor\tgroup\tfile\n";
 
 /// The row of a file that was not read.
 macro_rules! error_row {
     ($why:literal, $name:literal) => {
-        concat!("error\t\t\t", $why, "\t\t\t\t\t\t\t\t\t\t\t\t\t\t\t\t", $name, "\n")
+        concat!("error\t\t\t\t\t", $why, "\t\t\t\t\t\t\t\t\t\t\t\t\t\t\t\t", $name, "\n")
     };
 }
 
 pub(super) const HI_ROW: &str =
-    "pass\tcursor colours\tyes\t\t\t\t\t2\t1\t2\t\tno\t\t\t\t19960101\t\t\t\thi.ans\n";
+    "pass\tcursor colours\tany\tcursor colours\tyes\t\t\t\t\t2\t1\t2\t\tno\t\t\t\t19960101\t\t\t\thi.ans\n";
 
 pub(super) const LOW_ROW: &str =
-    "refused\t\t\tF20\t3\t2\t1\t80\t1\t4\t\tno\t\t\t\t19960101\t\t\t\tlow.ans\n";
+    "refused\t\t\t\t\tF20\t3\t2\t1\t80\t1\t4\t\tno\t\t\t\t19960101\t\t\t\tlow.ans\n";
 
-pub(super) const ABC_ROW: &str = "refused\t\t\tF1\t3\t\t\t\t\t\t\t\t\t\t\t\t\t\t\tabc\n";
+pub(super) const ABC_ROW: &str = "refused\t\t\t\t\tF1\t3\t\t\t\t\t\t\t\t\t\t\t\t\t\t\tabc\n";
 
-const EMPTY_ROW: &str = "refused\t\t\tF1\t0\t\t\t\t\t\t\t\t\t\t\t\t\t\t\tempty\n";
+const EMPTY_ROW: &str = "refused\t\t\t\t\tF1\t0\t\t\t\t\t\t\t\t\t\t\t\t\t\t\tempty\n";
 
 pub(super) const HI_OBJECT: &str =
     "{\"author\":\"\",\"comments\":[],\"content\":2,\"date\":\"19960101\",\
     \"file\":\"hi.ans\",\"font\":\"\",\"group\":\"\",\"ice\":false,\"lines\":1,\
-    \"needs\":[\"cursor\",\"colours\"],\"notes\":[],\"taller\":true,\"title\":\"\",\
-    \"verdict\":\"pass\",\"width\":2}\n";
+    \"needs\":[\"cursor\",\"colours\"],\"notes\":[],\"on_every_player\":[\"cursor\",\"colours\"],\
+    \"players\":[],\"taller\":true,\"title\":\"\",\"verdict\":\"pass\",\"width\":2}\n";
 
 pub(super) const LOW_OBJECT: &str =
     "{\"at\":3,\"author\":\"\",\"column\":1,\"comments\":[],\"content\":4,\
@@ -216,36 +216,51 @@ const ROWS: &[&str] = &["anscheck", "table", "--no-header", "f"];
 
 const OBJECTS: &[&str] = &["anscheck", "table", "--json", "f"];
 
-static RECORDS: [Shown; 9] = [
+static RECORDS: [Shown; 13] = [
     (
         ROWS,
         b"Hi\x1a",
         &[(105, b"\x0b"), (106, b"IBM VGA"), (7, b"a\\b \x01")],
-        "pass\tcursor colours\tyes\t\t\t\t\t2\t1\t2\t\tyes\t8\tstretch\tIBM VGA\t19960101\ta\\\\b \u{263a}\t\t\tf\n",
+        "pass\tcursor colours\tany\tcursor colours\tyes\t\t\t\t\t2\t1\t2\t\tyes\t8\tstretch\t\
+        IBM VGA\t19960101\ta\\\\b \u{263a}\t\t\tf\n",
     ),
     (
         ROWS,
         b"Hi\x1a",
         &[(105, b"\xf4"), (82, b"1996x")],
-        "pass\tcursor colours\tyes\t\t\t\t\t2\t1\t2\tN4 N5\tno\t9\tsquare\t\t1996x101\t\t\t\tf\n",
+        "pass\tcursor colours\tany\tcursor colours\tyes\t\t\t\t\t2\t1\t2\tN4 N5\tno\t9\tsquare\t\t1996x101\t\t\t\tf\n",
     ),
     (
         ROWS,
         b"Hi\x1a",
         &[(105, b"\x06"), (96, b"\0"), (42, b"me"), (62, b"us")],
-        "pass\tscreen cursor colours\tyes\t\t\t\t\t80\t1\t2\tN1 N6\tno\t\t\t\t19960101\t\tme\tus\tf\n",
+        "pass\tscreen cursor colours\tany\tscreen cursor colours\tyes\t\t\t\t\t80\t1\t2\tN1 N6\tno\t\t\t\t\
+        19960101\t\tme\tus\tf\n",
+    ),
+    (
+        ROWS,
+        b"\x1b[0m\x1b[2JA\x1a",
+        &[(90, b"\x09")],
+        "pass\tnothing\tany\tcursor\tyes\t\t\t\t\t2\t1\t9\t\tno\t\t\t\t19960101\t\t\t\tf\n",
+    ),
+    (
+        ROWS,
+        b"A\x07\x1b[4m\x1a",
+        &[(90, b"\x06")],
+        "pass\tscreen cursor colours\tdos-colours page-controls\t\tyes\t\t\t\t\t2\t1\t6\t\tno\t\t\t\t\
+        19960101\t\t\t\tf\n",
     ),
     (
         ROWS,
         b"Hi\x1a",
         &[(5, b"01"), (7, b"old")],
-        "refused\t\t\tF2\t8\t\t\t2\t1\t\t\tno\t\t\t\t19960101\told\t\t\tf\n",
+        "refused\t\t\t\t\tF2\t8\t\t\t2\t1\t\t\tno\t\t\t\t19960101\told\t\t\tf\n",
     ),
     (
         ROWS,
         b"Hi\x1a",
         &[(98, b"\0\0")],
-        "refused\t\t\tF5\t101\t\t\t2\t0\t\t\tno\t\t\t\t19960101\t\t\t\tf\n",
+        "refused\t\t\t\t\tF5\t101\t\t\t2\t0\t\t\tno\t\t\t\t19960101\t\t\t\tf\n",
     ),
     (
         OBJECTS,
@@ -254,6 +269,7 @@ static RECORDS: [Shown; 9] = [
         "{\"aspect\":\"stretch\",\"author\":\"\",\"comments\":[],\"content\":2,\
         \"date\":\"19960101\",\"file\":\"f\",\"font\":\"IBM VGA\",\"group\":\"\",\
         \"ice\":true,\"lines\":1,\"needs\":[\"cursor\",\"colours\"],\"notes\":[],\
+        \"on_every_player\":[\"cursor\",\"colours\"],\"players\":[],\
         \"spacing\":8,\"taller\":true,\"title\":\"a\\\\b \u{263a}\",\
         \"verdict\":\"pass\",\"width\":2}\n",
     ),
@@ -264,6 +280,7 @@ static RECORDS: [Shown; 9] = [
         "{\"aspect\":\"square\",\"author\":\"\",\"comments\":[\"one \\\"\\\\\u{263b}\\\"\"],\
         \"content\":2,\"date\":\"1996x101\",\"file\":\"f\",\"font\":\"\",\"group\":\"\",\
         \"ice\":false,\"lines\":1,\"needs\":[\"cursor\",\"colours\"],\"notes\":[\"N4\",\"N5\"],\
+        \"on_every_player\":[\"cursor\",\"colours\"],\"players\":[],\
         \"spacing\":9,\"taller\":true,\"title\":\"\",\"verdict\":\"pass\",\"width\":2}\n",
     ),
     (
@@ -272,6 +289,26 @@ static RECORDS: [Shown; 9] = [
         &[(90, b"\x0d")],
         "{\"author\":\"\",\"comments\":[],\"content\":13,\"date\":\"19960101\",\"file\":\"f\",\
         \"font\":\"\",\"group\":\"\",\"ice\":false,\"lines\":1,\"needs\":[],\"notes\":[],\
+        \"on_every_player\":[],\"players\":[],\
+        \"taller\":true,\"title\":\"\",\"verdict\":\"pass\",\"width\":2}\n",
+    ),
+    (
+        OBJECTS,
+        b"\x1b[0m\x1b[2JA\x1a",
+        &[(90, b"\x09")],
+        "{\"author\":\"\",\"comments\":[],\"content\":9,\"date\":\"19960101\",\"file\":\"f\",\
+        \"font\":\"\",\"group\":\"\",\"ice\":false,\"lines\":1,\"needs\":[],\"notes\":[],\
+        \"on_every_player\":[\"cursor\"],\"players\":[],\
+        \"taller\":true,\"title\":\"\",\"verdict\":\"pass\",\"width\":2}\n",
+    ),
+    (
+        OBJECTS,
+        b"A\x07\x1b[4m\x1a",
+        &[(90, b"\x06")],
+        "{\"author\":\"\",\"comments\":[],\"content\":6,\"date\":\"19960101\",\"file\":\"f\",\
+        \"font\":\"\",\"group\":\"\",\"ice\":false,\"lines\":1,\
+        \"needs\":[\"screen\",\"cursor\",\"colours\"],\"notes\":[],\
+        \"players\":[\"dos-colours\",\"page-controls\"],\
         \"taller\":true,\"title\":\"\",\"verdict\":\"pass\",\"width\":2}\n",
     ),
     (

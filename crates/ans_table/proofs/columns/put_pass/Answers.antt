@@ -5,4 +5,5 @@ pub returns : goal.returns
 returns g c =
     Puts-then c.put.ensures
     (Puts-then (Puts-then c.put_needed_parts.ensures c.put-2.ensures)
-    (Puts-then (rw c.answer_text.ensures at c.put_column.ensures) c.put-3.ensures))
+    (Puts-then c.put_players.ensures
+    (Puts-then (rw c.answer_text.ensures at c.put_column.ensures) c.put-3.ensures)))
