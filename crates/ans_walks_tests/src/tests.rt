@@ -7,6 +7,7 @@ ghost use Rattle.ans_model.specs.Verdict.Good.{IsGood};
 ghost use Rattle.ans_model.specs.Verdict.LastFault.{IsDeserved};
 
 mod full_rows;
+mod kinds;
 mod last_ends;
 mod lines;
 mod taller;
