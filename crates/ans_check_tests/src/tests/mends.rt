@@ -78,7 +78,7 @@ type Sample = (
 type Row = (Sample, Mends, bool, Sample);
 
 /// The plain record states 2 columns, 1 line and a file size of 2.
-static MENDED: [Row; 20] = [
+static MENDED: [Row; 21] = [
     // from every start already: nothing is changed
     (
         (
@@ -137,6 +137,21 @@ static MENDED: [Row; 20] = [
         (
             b"\x1b[?7h\x1b[0m\x1b[2J\x1b[0m\x07\x1b[1HHi\x1a",
             &[(90, b"\x18")],
+            b"",
+        ),
+    ),
+    // a move that stops at the edge from some starts
+    (
+        (
+            b"\x1b[?7h\x1b[0m\x1b[1C\x1b[2J\x1b[HHi\x1a",
+            &[(90, b"\x16")],
+            b"",
+        ),
+        ITSELF,
+        true,
+        (
+            b"\x1b[?7h\x1b[0m\x1b[1C\x1b[2J\x1b[HHi\x1a",
+            &[(90, b"\x29")],
             b"",
         ),
     ),
