@@ -1,14 +1,14 @@
 -- What a file's parts say of mending.
 use Rattle.std.proofs.Common.{◌≡◌, inr, ℕ, Bool, true, false, List, length, refl, sym, ap, ◌∙◌}
 use Rattle.std.proofs.Common.{Option, Some, None, true≢false}
-use Rattle.std.proofs.Common.{subst₂, ap₂, Result, Ok, Err, ◌+◌, ◌==◌, [], ◌∷◌}
+use Rattle.std.proofs.Common.{subst₂, ap₂, Result, Ok, Err, ◌+◌, ◌==◌}
 use Rattle.std.specs.Prelude.{is_some, not, ◌||◌, IsTrue, ◌↔◌, IfOk, IfErr, IfSome, IfNone, if◌then◌else◌}
-use Rattle.std.specs.List.{list_all}
 use mir.Val.{bool_byte}
 use Rattle.ans_model.specs.Screen.State.{Size}
 use Rattle.ans_model.specs.Verdict.Needs.{IsLeast}
 use Rattle.ans_model.proofs.ClassLemmas.{covers_good, none_known_covers}
 use Rattle.ans_players.specs.declared.kind.Kind.{Kind}
+use Rattle.ans_players.proofs.NamedKinds.{named_are_least}
 use Rattle.ans_walks.specs.SaidOfPlayers.{IsSameWhereCleared}
 use Rattle.ans_check.specs.Mending.{WantsMending}
 use Rattle.ans_model.specs.Bytes.{most_lines}
@@ -75,17 +75,13 @@ judged file parts judgement h cleared every wants count lines non_blink = record
 abbrev all_agreed : Kind → Bool
 all_agreed kind = true
 
-every_kind : (kinds : List Kind) → IsTrue (list_all all_agreed kinds)
-every_kind [] = refl
-every_kind (kind ∷ kinds) = every_kind kinds
-
 -- what a content wants whose play from all starts has come to this
 module _ (z : Size) (content : List ℕ) where
   pub faulty_wants : IsGood z all_known content → (fault : Fault) → Deserves z none_known content fault
       → WantsMending z content
   faulty_wants cleared fault deserved same =
       not_good z none_known content fault deserved
-      (same all_agreed (cleared, λ s k x start there. every_kind _)).0
+      (same all_agreed (cleared, (named_are_least z content all_agreed cleared).1 (λ kind some. refl))).0
 
   pub parted_wants : (same : Bool) → IsTrue same ↔ IsSameWhereCleared z content
       → IsTrue (not same) ↔ WantsMending z content
