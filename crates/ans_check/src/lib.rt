@@ -48,6 +48,7 @@ pub use ans_sauce::Judged;
 pub use ans_table::{
     Counts, FaultFinding, Finding, Outcome, PassFinding, RecordFinding, RowFinding, Unread,
 };
+pub use ans_walks::{KindsUsed, Players};
 pub use answering::answer;
 pub use errors::RunError;
 pub use exit_status::{Ending, status};

@@ -75,8 +75,8 @@ module _ (mends : Mends) (file : List ℕ) (mended : Mended) (draft : List ℕ) 
       each s k x start there = elim (cases_Bool (is_agreed agreed z (stand_of z s (take k xs)) x)) [
         | inl is ↦ is
         | inr not_so ↦ absurd (calm mends file mended draft h (λ all.
-          false≢true (sym not_so ∙ read_so z shown agreed none_known h.picture (all agreed same) h.from_every s k x
-          start there)))
+            false≢true (sym not_so ∙ read_so z shown agreed none_known h.picture (all agreed same) h.from_every s k x
+            start there)))
       ]
 
   pub needs_nothing : (class : Start) → IsLeastSame none_agreed z shown class → class ≡ none_known
