@@ -34,18 +34,18 @@ const NEEDS = {
 
 /** The players that may show a drawing otherwise, by the kind in which they part from others. */
 const PLAYERS = {
-  "wrap-at-once": "that wait at the right edge, as terminals do",
-  "line-ends": "that take a line feed or a return that stands alone in another way",
+  "wrap-at-once": "that wait at the right edge as terminals do",
+  "line-ends": "that take a line feed or a return alone in another way",
   "home-on-clear": "that clear the screen and leave the cursor where it is",
-  "clear-in-colour": "that clear in black, whatever the colour is",
-  "save-place-only": "that save more than the cursor's place, or nothing",
-  "dos-colours": "that know other colours than DOS does",
+  "clear-in-colour": "that always clear in black",
+  "save-place-only": "that save more than the cursor's place or nothing",
+  "dos-colours": "that take some colour codes otherwise than DOS",
   "tab-prints": "that move on at a tab and print no blanks",
   "line-erased": "that erase no line",
   "wrap-off": "that always wrap",
-  "stops-at-edge": "with more lines, or that do not stop at the right edge",
+  "stops-at-edge": "that have more lines or go on past the right edge",
   "page-controls": "that draw or obey control bytes in another way",
-  "terminal-controls": "that do not draw control bytes, as terminals do not",
+  "terminal-controls": "that draw no control bytes as terminals do not",
 };
 
 const FAILURES = {
@@ -72,10 +72,12 @@ function sentenceOf({ answer, why }) {
 function playersSentenceOf({ answer, why }) {
   const players = valueOf(why, "players");
   if (answer !== "pass" || players === "") return "";
-  if (players !== "any") return `It may look different in players ${listed(players.split(" ").map((kind) => PLAYERS[kind]))}.`;
+  if (players !== "any") {
+    return `It may look different in players ${players.split(" ").map((kind) => PLAYERS[kind]).join("; or in those ")}.`;
+  }
   const parts = (valueOf(why, "on every player") || valueOf(why, "needs")).split(" ");
-  if (parts[0] === "nothing") return "It looks the same in every player.";
-  return `In every player it looks the same, if it finds ${listed(parts.map((part) => NEEDS[part]))}.`;
+  const start = parts[0] === "nothing" ? "from every start" : `if they find ${listed(parts.map((part) => NEEDS[part]))}`;
+  return `Players that part only in the known ways all show it alike, ${start}.`;
 }
 
 /** What a row of the table says of a drawing. */

@@ -68,8 +68,8 @@ module _ (mends : Mends) (file : List ℕ) (mended : Mended) (draft : List ℕ) 
   abbrev xs : List Spelled
   xs = spelled h.from_every.tokens h.from_every.reads.0
 
-  pub relies_on_no_start : IsSameWhereCleared z shown
-  relies_on_no_start agreed same = ((h.picture, h.from_every), each)
+  pub is_same_where_cleared : IsSameWhereCleared z shown
+  is_same_where_cleared agreed same = ((h.picture, h.from_every), each)
     where
       each : AreAgreed agreed z none_known xs
       each s k x start there = elim (cases_Bool (is_agreed agreed z (stand_of z s (take k xs)) x)) [
@@ -82,5 +82,5 @@ module _ (mends : Mends) (file : List ℕ) (mended : Mended) (draft : List ℕ) 
   pub needs_nothing : (class : Start) → IsLeastSame none_agreed z shown class → class ≡ none_known
   needs_nothing class least =
       covers_both_ways class none_known
-      ((least none_known).0 (relies_on_no_start none_agreed ((least all_known).1 (covers_all_known class))))
+      ((least none_known).0 (is_same_where_cleared none_agreed ((least all_known).1 (covers_all_known class))))
       (none_known_covers class)

@@ -28,8 +28,8 @@ pub fn any_player_shows_it<P: Player>()
         → IsShown P.behaviour P.size known (spelled good.tokens good.reads.0) picture }
 {}
 
-/// Where it names kinds, the content shows its picture from the cleared start on every player that does as
-/// the profile does in those.
+/// Where `why` names kinds, the content shows its picture from the cleared start on every player that does
+/// as the profile does in those. Nothing is said of other starts.
 pub fn agreeing_players_show_it<P: Player>()
     ensures { (bytes : List ℕ) (used : KindsUsed) (picture : Picture)
         → IsSaidOfPlayers P.size bytes (Agreeing used)
@@ -38,10 +38,11 @@ pub fn agreeing_players_show_it<P: Player>()
         → IsShown P.behaviour P.size all_known (spelled good.tokens good.reads.0) picture }
 {}
 
-/// A file that is mended relies on no start: whatever kinds are agreed, if its content is the same on every
-/// player from the cleared start, it is so from every start. So where `why` says `players: any` of it, it
-/// shows its picture on every player from every start.
-pub fn mended_files_rely_on_no_start()
+/// From no start a kind arises in a mended file that does not from the cleared one: whichever kinds are
+/// agreed, if on all players that agree so its content is the same from the cleared start, it is so from
+/// every start. So where `why` says `players: any` of it, it shows its picture on every player from every
+/// start.
+pub fn mended_files_are_same_where_cleared()
     ensures same { (mends : Mends) (file draft : List ℕ) (mended : Mended)
         → (is : IsMended mends file mended draft)
         → IsSameWhereCleared (stated_size is.apart.record_bytes) (content is.apart.body) }

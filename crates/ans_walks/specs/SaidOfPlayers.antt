@@ -17,7 +17,8 @@ IsSaidOfPlayers z content (Any class) = IsLeastSame (λ kind. false) z content c
 IsSaidOfPlayers z content (Agreeing used) = ((kind : Kind) → IsTold z content kind (used_of used kind))
     × ¬ ((kind : Kind) → used_of used kind ≡ None)
 
--- Whatever is agreed: if the content is the same on every player from the cleared start, it is so from every start.
+-- Whichever kinds are agreed: if on all players that agree so the content is the same from the cleared start, it is so
+-- from every start.
 abbrev pub IsSameWhereCleared : Size → List ℕ → Type 0
 IsSameWhereCleared z content = (agreed : Kind → Bool) → IsSame agreed z all_known content
     → IsSame agreed z none_known content

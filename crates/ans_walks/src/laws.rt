@@ -20,8 +20,8 @@ pub fn mended_content_is_good()
     ensures good { MakesGood }
 {}
 
-/// Behind these 19 bytes, content that is good from the cleared start is the same from every start on each
-/// player on which it is from the cleared one.
+/// Behind these 19 bytes, whichever kinds are agreed: where on all players that agree so content is the same
+/// from the cleared start, it is so from every start.
 pub fn mended_content_is_same_where_cleared()
     ensures { MendedIsSameWhereCleared }
 {}

@@ -15,13 +15,14 @@ use ans_model::start::Start;
 pub enum Players {
     /// On every player, from the starts of this class: the least such.
     Any(Start),
-    /// On those that do as the profile does in these kinds, of which it makes use of at least one.
+    /// From the cleared start, on those that do as the profile does in these kinds, of which it makes use
+    /// of at least one.
     Agreeing(KindsUsed),
 }
 
 impl Players {
-    /// Of a content whose least class of starts from which it passes is `needs`. It takes no memory, and
-    /// reads the bytes at most six times.
+    /// On which players a content shows its picture, where `needs` is the least class of starts from which
+    /// it passes. It takes no memory, and reads the bytes at most six times.
     pub fn of(size: Size, needs: Start, content: &[u8]) -> Players
         requires length { length content.now ≤ longest_file }
         requires needs { IsLeast size content.now needs }
@@ -37,8 +38,8 @@ impl Players {
 }
 
 /// Whether a content passes from every start, and from none a kind arises in which players part but those
-/// that arise from the cleared one. So it shows the same from every start on each player on which it does
-/// from the cleared one. `needs` is the least class of starts from which it passes. It takes no memory, and
+/// that arise from the cleared one. So it shows its picture from every start on each player that does as the
+/// profile does in these. `needs` is the least class of starts from which it passes. It takes no memory, and
 /// reads the bytes at most six times.
 pub fn is_same_where_cleared(size: Size, needs: Start, content: &[u8]) -> bool
     requires length { length content.now ≤ longest_file }

@@ -40,8 +40,11 @@ abbrev pub everywhere_line : Start → Start → List ℕ
 everywhere_line needs class =
     if is_same_class needs class then [] else line_of (codes "on every player: " ++ needed_parts class)
 
+-- the lines of kinds
+abbrev pub agreeing_lines : KindsUsed → List ℕ
+agreeing_lines used = named_line (codes "players") (words_text (words_used used)) ++ kind_lines used
+
 -- the lines of a content that needs this class
 abbrev pub players_lines : Start → Players → List ℕ
 players_lines needs (Any class) = named_line (codes "players") (codes "any") ++ everywhere_line needs class
-players_lines needs (Agreeing used) =
-    named_line (codes "players") (words_text (words_used used)) ++ kind_lines used
+players_lines needs (Agreeing used) = agreeing_lines used

@@ -1,9 +1,9 @@
 //! The lines on players.
 
 ghost use Rattle.std.specs.Prelude.{◌≡◌};
-ghost use Rattle.ans_why.specs.PlayersText.{everywhere_line, is_same_class, kind_line, kind_lines};
-ghost use Rattle.ans_why.specs.PlayersText.{more_times, players_lines};
-ghost use Rattle.ans_walks.specs.declared.players.Players.TheVariants.{Agreeing, Any};
+ghost use Rattle.ans_why.specs.PlayersText.{agreeing_lines, everywhere_line, is_same_class, kind_line};
+ghost use Rattle.ans_why.specs.PlayersText.{kind_lines, more_times, players_lines};
+ghost use Rattle.ans_walks.specs.declared.players.Players.TheVariants.{Any};
 ghost use Rattle.ans_write.specs.Puts.{Puts};
 
 use ans_model::start::Start;
@@ -74,8 +74,8 @@ fn put_any<W: Write>(out: &mut Outbox<'_, W>, needs: Start, class: Start)
     put_everywhere_line(out, needs, class);
 }
 
-fn put_agreeing<W: Write>(out: &mut Outbox<'_, W>, needs: Start, used: &KindsUsed)
-    ensures { Puts W.contents out.old out.new (players_lines needs (Agreeing used.now)) }
+fn put_agreeing<W: Write>(out: &mut Outbox<'_, W>, used: &KindsUsed)
+    ensures { Puts W.contents out.old out.new (agreeing_lines used.now) }
 {
     out.put(b"players: ");
     put_words(out, used.words().as_slice());
@@ -85,12 +85,12 @@ fn put_agreeing<W: Write>(out: &mut Outbox<'_, W>, needs: Start, used: &KindsUse
 
 /// Puts on which players a content shows its picture that needs this class: `any`, and the class from
 /// which it does, where that is another; or the kinds, and a line of each, with the offset of the first
-/// in bytes from the content's start.
+/// in bytes from the content's start, and how often it arises.
 pub(crate) fn put_players<W: Write>(out: &mut Outbox<'_, W>, needs: Start, players: &Players)
     ensures { Puts W.contents out.old out.new (players_lines needs players.now) }
 {
     match players {
         Players::Any(class) => put_any(out, needs, *class),
-        Players::Agreeing(used) => put_agreeing(out, needs, used),
+        Players::Agreeing(used) => put_agreeing(out, used),
     }
 }

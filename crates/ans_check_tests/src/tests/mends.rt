@@ -78,7 +78,7 @@ type Sample = (
 type Row = (Sample, Mends, bool, Sample);
 
 /// The plain record states 2 columns, 1 line and a file size of 2.
-static MENDED: [Row; 21] = [
+static MENDED: [Row; 22] = [
     // from every start already: nothing is changed
     (
         (
@@ -137,6 +137,21 @@ static MENDED: [Row; 21] = [
         (
             b"\x1b[?7h\x1b[0m\x1b[2J\x1b[0m\x07\x1b[1HHi\x1a",
             &[(90, b"\x18")],
+            b"",
+        ),
+    ),
+    // a clear away from home from the cleared start too: the one before it is of the same kind
+    (
+        (
+            b"\x1b[?7h\x1b[0m\x1b[2JA\x1b[2J\x1b[DB\x1a",
+            &[(90, b"\x16"), (96, b"\x04"), (98, b"\x03")],
+            b"",
+        ),
+        ITSELF,
+        false,
+        (
+            b"\x1b[?7h\x1b[0m\x1b[2JA\x1b[2J\x1b[DB\x1a",
+            &[(90, b"\x16"), (96, b"\x04"), (98, b"\x03")],
             b"",
         ),
     ),
