@@ -73,11 +73,11 @@ def pixels(path):
             for row in rows[:height]]
 
 
-def drawn(path):
-    """What ansilove draws of a file."""
+def drawn(path, *flags):
+    """What ansilove draws of a file, with these flags."""
     with tempfile.TemporaryDirectory() as folder:
         png = os.path.join(folder, "drawn.png")
-        subprocess.run(["ansilove", "-q", "-b", "8", "-o", png, path], check=True, stdout=subprocess.DEVNULL)
+        subprocess.run(["ansilove", "-q", *flags, "-b", "8", "-o", png, path], check=True, stdout=subprocess.DEVNULL)
         return pixels(png)
 
 
