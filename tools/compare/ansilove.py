@@ -44,7 +44,7 @@ def unfiltered(rows, stride, step):
     above, done = bytes(stride), []
     for at in range(0, len(rows), stride + 1):
         kind, row = rows[at], bytearray(rows[at + 1:at + 1 + stride])
-        for i in range(stride):
+        for i in range(stride if kind else 0):
             left = row[i - step] if i >= step else 0
             corner = above[i - step] if i >= step else 0
             guess = left + above[i] - corner

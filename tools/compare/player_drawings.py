@@ -19,7 +19,7 @@ import sys
 sys.dont_write_bytecode = True
 
 from pens import least_lines
-from second_players import a_colour, a_plain_piece, an_odd_piece, parts_needed, spelled, walk
+from second_players import KINDS, a_colour, a_plain_piece, an_odd_piece, parts_needed, spelled, walk
 from second_why import MENDING, cleared
 
 HERE = os.path.dirname(os.path.abspath(__file__))
@@ -83,10 +83,10 @@ def some_colours(chance):
 
 
 def a_piece(chance, columns, lines, kinds):
-    """Something of one of the kinds, or of none."""
+    """Something of one of the kinds, or of none; where none is asked for, what stands close to one now and then."""
     which = chance.random()
-    if kinds and which < 0.3:
-        return an_odd_piece(chance, chance.choice(sorted(kinds)), columns)
+    if which < (0.3 if kinds else 0.15):
+        return an_odd_piece(chance, chance.choice(sorted(kinds) or KINDS), columns)
     if which < 0.5:
         return a_text(chance, columns)
     if which < 0.65:

@@ -68,6 +68,9 @@ class Real(Machine):
                 self.recolour(number)
         elif name == "place" and PLACES_AT_0 in self.ways and not self.is_too_long(text):
             self.row, self.column = placed(text)
+        elif name == "tab":
+            for _ in range(8 - self.column % 8):
+                self.put(0x20)
         elif self.is_astray and name in ("linefeed", "return"):
             self.end_line(name)
         elif not self.has_own_way(name, text):
