@@ -36,12 +36,16 @@ MET = {
 
 
 class Real(Machine):
-    """A machine with some of these ways, cleared, with so many rows."""
+    """A machine with some of these ways, cleared, with so many rows.
 
-    def __init__(self, columns, rows, ways):
+    Where it is astray, and prints what no other player does, it also ends lines and meets the edge as DOSBox and
+    ansilove do: before, that is of a kind."""
+
+    def __init__(self, columns, rows, ways, is_astray):
         super().__init__(columns, rows - 1, lambda: 0x00, lambda: (0, 0), True)
         known_parts(self, PARTS)
-        self.ways, self.is_bold, self.is_grey, self.is_astray = ways, False, False, False
+        self.ways, self.is_bold, self.is_grey = ways, False, False
+        self.is_astray = is_astray and (PRINTS_7H in ways or PRINTS_LONG in ways)
 
     def put(self, byte):
         if self.row < 0 or self.column < 0:
@@ -71,17 +75,18 @@ class Real(Machine):
         elif name == "tab":
             for _ in range(8 - self.column % 8):
                 self.put(0x20)
-        elif self.is_astray and name in ("linefeed", "return"):
-            self.end_line(name)
         elif not self.has_own_way(name, text):
-            self.step(name, *given)
+            self.go(name, *given)
 
-    def end_line(self, name):
-        """Ends a line as DOSBox and ansilove do, which matters where they have printed too much before."""
-        if name == "linefeed":
-            self.feed_line()
-        if name == "linefeed" or PRINTS_7H in self.ways:
+    def go(self, name, *given):
+        """Does as the profile does; or, astray, as DOSBox and ansilove do at line ends and at the edge."""
+        is_ansilove = self.is_astray and PRINTS_LONG in self.ways
+        is_over = is_ansilove and name == "C" and self.column + given[0] >= self.width
+        if self.is_astray and name == "linefeed" or is_over:
             self.column = 0
+            self.feed_line()
+        elif name != "return" or not is_ansilove:
+            self.step(name, *given)
 
     def is_too_long(self, text):
         return PRINTS_LONG in self.ways and len(text) > 16 or DROPS_LONG in self.ways and len(text) > 66
@@ -118,9 +123,9 @@ def placed(text):
     return tuple(int(number or 1) - 1 for number in numbers[:2])
 
 
-def picture_with(ways, columns, rows, content):
-    """The rows that a player with these ways shows."""
-    player = Real(columns, rows, ways)
+def picture_with(ways, columns, rows, content, is_astray):
+    """The rows that a player with these ways shows, which is astray from the beginning where that is said."""
+    player = Real(columns, rows, ways, is_astray)
     for _, token, text in spelled(content):
         player.meet(token, text)
     return player.rows

@@ -22,19 +22,23 @@ way of one program that `player_quirks.py` knows, and with its bytes where it is
 Then come random drawings in which one kind arises and no other, each kind in turn, a tenth as many, on a cleared screen
 alone. A table tells how many of them look different on which player, beside its known ways.
 
-    python3 tools/compare/players.py [NUMBER] [SEED] [PLAYER ..]
+    python3 tools/compare/players.py [--program PROGRAM] [NUMBER] [SEED] [PLAYER ..]
 
 It makes NUMBER drawings of 80 columns, 1000 where nothing is said, and a quarter as many of fewer. Where players are
-named it plays these. It needs Debian's `dosbox`, `nasm`, `ansilove`, `tmux`, `xterm`, `xvfb`, `libvterm-dev` and
+named it plays these. Where a built `anscheck` is given, that mends the drawings. It needs Debian's `dosbox`, `nasm`, `ansilove`, `tmux`, `xterm`, `xvfb`, `libvterm-dev` and
 `gcc`, and says which player cannot be played here. Its status is 1 where a drawing without kinds differs for a reason
 that is not known.
 """
 import collections
+import os
 import random
 import sys
 
 sys.dont_write_bytecode = True
+sys.path.insert(1, os.path.join(os.path.dirname(os.path.abspath(__file__)), "dosbox"))
 
+from ansilove import ans_file
+from dosbox import said
 from player_drawings import found_drawings, is_free, other_text, random_drawings
 from player_quirks import FORGETS, MET, OVERWRITES, picture_with, possible_ways, with_named_colours
 from player_screens import PLAYERS, ROWS
@@ -49,11 +53,20 @@ Difference = collections.namedtuple("Difference", "play place shown expected rea
 # What is played.
 
 
-def plays_of(chance, drawing):
-    """The ways to play a drawing without kinds."""
+def mended(program, drawing):
+    """The content with the safe beginning, or as the program mends it."""
+    if not program:
+        return MENDING + drawing.content
+    return said(program, ["mend"], ans_file(drawing.content, drawing.columns, drawing.lines)).partition(b"\x1a")[0]
+
+
+def plays_of(chance, program, drawing):
+    """The ways to play a drawing without kinds. What is mended by nothing may need a part of the start elsewhere."""
     behind = other_text(chance, drawing.columns, drawing.lines)
     yield Play(drawing, "on a cleared screen", drawing.content)
-    yield Play(drawing, "mended, behind other text", behind + MENDING + drawing.content)
+    content = mended(program, drawing)
+    if content != drawing.content:
+        yield Play(drawing, "mended, behind other text", behind + content)
     if is_free(drawing):
         yield Play(drawing, "behind other text", behind + drawing.content)
 
@@ -94,7 +107,7 @@ def reason_of(player, play, rows):
     # ansilove's picture has no last row.
     lines = ROWS if player.name != "ansilove" else ROWS + len(play.content)
     for ways in possible_ways(player.name, play.content):
-        picture = picture_with(ways, play.drawing.columns, lines, play.content)
+        picture = picture_with(ways, play.drawing.columns, lines, play.content, not play.drawing.kinds)
         if not first_difference(player, play.drawing, picture, rows):
             return ", ".join(ways)
     return None
@@ -180,11 +193,13 @@ def table(players, rows):
         yield f"| {kind} | " + " | ".join(told) + " |"
 
 
-def main(number="1000", seed="1", *names):
+def main(*words):
+    program, words = (words[1], words[2:]) if words[:1] == ("--program",) else (None, words)
+    number, seed, *names = (*words, *["1000", "1"][len(words):])
     chance, number = random.Random(int(seed)), int(number)
     players = list(present_players([name.lower() for name in names]))
     drawings = random_drawings(chance, number) + [drawing for drawing in found_drawings() if not drawing.kinds]
-    plays = [play for drawing in drawings for play in plays_of(chance, drawing)]
+    plays = [play for drawing in drawings for play in plays_of(chance, program, drawing)]
     rows = [("none", [play_without_kinds(player, plays) for player in players])]
     for kind in KINDS:
         of_kind = random_drawings(chance, max(1, number // 10), frozenset([kind]))
