@@ -19,7 +19,9 @@ import sys
 sys.dont_write_bytecode = True
 
 from pens import least_lines
-from second_players import KINDS, a_colour, a_plain_piece, an_odd_piece, parts_needed, spelled, walk
+from second_players import (
+    KINDS, a_colour, a_good_content, a_plain_piece, a_size, an_odd_piece, parts_needed, spelled, walk,
+)
 from second_why import MENDING, cleared
 
 HERE = os.path.dirname(os.path.abspath(__file__))
@@ -28,6 +30,7 @@ FEWER_COLUMNS = [1, 2, 3, 5, 8, 9, 20, 40, 79]
 GLYPHS = [byte for byte in range(0x20, 0x100) if byte != 0x7F]
 COMMON = [0, 0, 1, 5, *range(30, 38), *range(40, 48)]
 BEGINNINGS = [b"\x1b[0m", b"\x1b[2J", b"\x1b[H", b"\x1b[?7h", b"\x1b[0m\x1b[2J\x1b[H", b"\x1b[s", MENDING, b"\x1b[=7h"]
+SMALL = "small"
 FOLDERS = ["crates/anscheck/data/*.ans", "conformance/files/*.ans", "/usr/share/doc/ansilove/examples/*/*.ans"]
 
 Drawing = collections.namedtuple("Drawing", "name columns lines content picture kinds")
@@ -120,6 +123,17 @@ def random_drawings(chance, number, kinds=frozenset()):
     """So many of 80 columns, and a quarter as many of fewer."""
     columns = [COLUMNS] * number + [chance.choice(FEWER_COLUMNS) for _ in range(number // 4)]
     return [random_drawing(chance, count, kinds) for count in columns]
+
+
+def small_drawings(chance, number):
+    """So many in which no kind arises, of few columns and lines, and made of what stands close to kinds."""
+    drawings = []
+    while len(drawings) < number:
+        columns, lines = a_size(chance)
+        drawing = a_drawing_of(SMALL, columns, lines, a_good_content(chance, columns, lines))
+        if drawing and drawing.content and not drawing.kinds:
+            drawings.append(drawing)
+    return drawings
 
 
 def other_text(chance, columns, lines):

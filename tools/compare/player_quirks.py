@@ -1,144 +1,125 @@
 #!/usr/bin/env python3
-"""Ways of single programs that are of no kind, as machines that have them, for `players.py`.
+"""Ways of single programs that are of no kind, each with a spelling that keeps away from it, for `players.py`.
 
-A difference is put down to such ways where the content meets each of them, and the player shows exactly the picture of
-a machine that has them. Few are tried before many. Two ways are told otherwise: where DOSBox writes over its own
-memory a content is not played, and where xterm's print is in doubt it is played once more, with white and black named.
+A spelling changes nothing in the profile. A difference is put down to such ways where each of them changes the content,
+and the player shows the picture of the content so spelled. Few ways are tried before many.
 """
 import itertools
 import re
 
-from second_machine import PARTS, Machine, known_parts
-from second_players import spelled
-
-PRINTS_7H = "prints 7h of ESC[?7h and ESC[=7h"
-KEEPS_COLOURS = "prints in the colours of the screen behind a 0"
-TAKES_BACK = "takes a 1 back by another"
-PLACES_AT_0 = "places the cursor outside at a row or column 0"
-PRINTS_LONG = "prints sequences of more than 14 bytes behind ESC["
-DROPS_LONG = "drops sequences of more than 63 bytes between ESC[ and the letter"
-IGNORES_7H = "ignores ESC[=7h"
-OVERWRITES = "a sequence of more than ten numbers goes over its own memory"
-FORGETS = "forgets to end bold and blink in its print"
-WAYS = {
-    "DOSBox": [PRINTS_7H, KEEPS_COLOURS], "ansilove": [TAKES_BACK, PLACES_AT_0, PRINTS_LONG],
-    "tmux": [DROPS_LONG, IGNORES_7H], "libvterm": [IGNORES_7H], "xterm": [IGNORES_7H],
-}
+SEQUENCE = re.compile(rb"\x1b\[([0-9;]*)([A-Zf-m])")
 COLOURS = re.compile(rb"\x1b\[([0-9;]*)m")
-ZERO = re.compile(rb"(?<![0-9])0+(?![0-9])")
-# What a content has that meets a way.
-MET = {
-    PRINTS_7H: re.compile(rb"\x1b\[[?=]0*7h"), KEEPS_COLOURS: COLOURS,
-    TAKES_BACK: COLOURS, PLACES_AT_0: re.compile(rb"\x1b\[[0-9;]*[Hf]"),
-    PRINTS_LONG: re.compile(rb"\x1b\[[0-9;]{14}"), DROPS_LONG: re.compile(rb"\x1b\[[0-9;]{64}"),
-    IGNORES_7H: re.compile(rb"\x1b\[=0*7h"), OVERWRITES: re.compile(rb"\x1b\[(?:[0-9]*;){10}"),
-}
+PLACE = re.compile(rb"\x1b\[([0-9;]*)([Hf])")
+WRAP_ON = re.compile(rb"\x1b\[[?=]0*7h")
+WRAP_ON_BY_EQUALS = re.compile(rb"\x1b\[=0*7h")
+ELEVEN_NUMBERS = re.compile(rb"\x1b\[(?:[0-9]*;){10}")
+# More bytes than these behind `ESC[` ansilove does not take for a sequence.
+LONGEST_OF_ANSILOVE = 14
 
 
-class Real(Machine):
-    """A machine with some of these ways, cleared, with so many rows.
-
-    Where it is astray, and prints what no other player does, it also ends lines and meets the edge as DOSBox and
-    ansilove do: before, that is of a kind."""
-
-    def __init__(self, columns, rows, ways, is_astray):
-        super().__init__(columns, rows - 1, lambda: 0x00, lambda: (0, 0), True)
-        known_parts(self, PARTS)
-        self.ways, self.is_bold, self.is_grey = ways, False, False
-        self.is_astray = is_astray and (PRINTS_7H in ways or PRINTS_LONG in ways)
-
-    def put(self, byte):
-        if self.row < 0 or self.column < 0:
-            self.put_outside()
-            return
-        attribute = self.attribute
-        if self.is_grey and KEEPS_COLOURS in self.ways:
-            self.attribute = self.rows[self.row][self.column][1]
-        super().put(byte)
-        self.attribute = attribute
-
-    def put_outside(self):
-        """Prints above or beside the screen, where nothing is seen."""
-        self.column += 1
-        if self.column == self.width:
-            self.column = 0
-            self.feed_line()
-
-    def meet(self, token, text):
-        """Plays a token that is spelled so."""
-        name, *given = token
-        if name == "colours" and not self.is_too_long(text):
-            for number in given[0]:
-                self.recolour(number)
-        elif name == "place" and PLACES_AT_0 in self.ways and not self.is_too_long(text):
-            self.row, self.column = placed(text)
-        elif name == "tab":
-            for _ in range(8 - self.column % 8):
-                self.put(0x20)
-        elif not self.has_own_way(name, text):
-            self.go(name, *given)
-
-    def go(self, name, *given):
-        """Does as the profile does; or, astray, as DOSBox and ansilove do at line ends and at the edge."""
-        is_ansilove = self.is_astray and PRINTS_LONG in self.ways
-        is_over = is_ansilove and name == "C" and self.column + given[0] >= self.width
-        if self.is_astray and name == "linefeed" or is_over:
-            self.column = 0
-            self.feed_line()
-        elif name != "return" or not is_ansilove:
-            self.step(name, *given)
-
-    def is_too_long(self, text):
-        return PRINTS_LONG in self.ways and len(text) > 16 or DROPS_LONG in self.ways and len(text) > 66
-
-    def has_own_way(self, name, text):
-        """Does what the program does in place of the token; or says that it does nothing else."""
-        printed = b""
-        if PRINTS_LONG in self.ways and len(text) > 16:
-            printed = text[3:]
-        elif name == "wrap" and PRINTS_7H in self.ways:
-            printed = text[3:]
-        elif not self.is_too_long(text) and not (name == "wrap" and text[2:3] == b"=" and IGNORES_7H in self.ways):
-            return False
-        for byte in printed:
-            self.put(byte)
-        self.is_astray = self.is_astray or bool(printed)
-        return True
-
-    def recolour(self, number):
-        """One number of a sequence of colours."""
-        before = self.attribute
-        self.is_grey = number == 0
-        self.is_bold = number == 1 or self.is_bold and number != 0
-        self.step("colours", [number])
-        if TAKES_BACK in self.ways and number == 1:
-            self.attribute = before ^ 0x08
-        if TAKES_BACK in self.ways and 30 <= number <= 37:
-            self.attribute = self.attribute & 0xF7 | (0x08 if self.is_bold else 0)
+def sequence(numbers, letter=b"m"):
+    return b"\x1b[" + b";".join(numbers) + letter
 
 
-def placed(text):
-    """The row and the column of a place, counted from 0; they are -1 where a number is 0."""
-    numbers = text[2:-1].split(b";") + [b""]
-    return tuple(int(number or 1) - 1 for number in numbers[:2])
+def without_wrap_on(content):
+    return WRAP_ON.sub(b"", content)
 
 
-def picture_with(ways, columns, rows, content, is_astray):
-    """The rows that a player with these ways shows, which is astray from the beginning where that is said."""
-    player = Real(columns, rows, ways, is_astray)
-    for _, token, text in spelled(content):
-        player.meet(token, text)
-    return player.rows
-
-
-def possible_ways(name, content):
-    """The ways of this player that the content meets, some at a time, few before many."""
-    ways = [way for way in WAYS.get(name, []) if MET[way].search(content)]
-    return [some for count in range(1, len(ways) + 1) for some in itertools.combinations(ways, count)]
+def with_wrap_on_by_question(content):
+    return WRAP_ON_BY_EQUALS.sub(b"\x1b[?7h", content)
 
 
 def with_named_colours(content):
-    """The content, with white and black named where it has them as a terminal's own colours."""
+    """White and black named behind each 0, and before all."""
     def named(found):
-        return b"\x1b[" + ZERO.sub(b"0;37;40", found[1]) + b"m"
-    return b"\x1b[37;40m" + COLOURS.sub(named, content)
+        parts = [[]]
+        for number in found[1].split(b";"):
+            if number.strip(b"0"):
+                parts[-1].append(number)
+            else:
+                parts += [[b"0", b"37", b"40"], []]
+        return b"".join(sequence(numbers) for numbers in parts if numbers)
+    return sequence([b"37", b"40"]) + COLOURS.sub(named, content)
+
+
+def bright_once(content):
+    """No 1 where it is bright already."""
+    is_bright = False
+
+    def once(found):
+        nonlocal is_bright
+        numbers = []
+        for number in found[1].split(b";"):
+            value = int(number or 0)
+            if value != 1 or not is_bright:
+                numbers.append(number)
+            is_bright = value == 1 or is_bright and value != 0
+        return sequence(numbers) if numbers else b""
+    return COLOURS.sub(once, content)
+
+
+def places_from_1(content):
+    """1 for each 0 of a place."""
+    def from_1(found):
+        numbers = found[1].split(b";")
+        return sequence([b"1" if number and not number.strip(b"0") else number for number in numbers], found[2])
+    return PLACE.sub(from_1, content)
+
+
+def without_zeros(content):
+    """No zeros in front of other figures."""
+    return SEQUENCE.sub(lambda found: b"\x1b[" + re.sub(rb"(?<![0-9])0+(?=[0-9])", b"", found[1]) + found[2], content)
+
+
+def in_short_sequences(content):
+    """No zeros in front, and each number of a long sequence of colours by itself."""
+    def short(found):
+        if len(found[0]) <= len(b"\x1b[") + LONGEST_OF_ANSILOVE:
+            return found[0]
+        return b"".join(sequence([number]) for number in without_zeros(found[0])[2:-1].split(b";"))
+
+    def no_zeros(found):
+        return found[0] if len(found[0]) <= len(b"\x1b[") + LONGEST_OF_ANSILOVE else without_zeros(found[0])
+    return SEQUENCE.sub(no_zeros, COLOURS.sub(short, content))
+
+
+WAYS = {
+    "DOSBox": {
+        "prints 7h of ESC[?7h and ESC[=7h": without_wrap_on,
+        "prints in the colours of the screen behind a 0": with_named_colours,
+    },
+    "ansilove": {
+        "takes a 1 back by another": bright_once,
+        "places the cursor outside at a row or column 0": places_from_1,
+        "prints sequences of more than 14 bytes behind ESC[": in_short_sequences,
+    },
+    "tmux": {
+        "drops sequences of more than 63 bytes between ESC[ and the letter": without_zeros,
+        "ignores ESC[=7h": with_wrap_on_by_question,
+    },
+    "libvterm": {"ignores ESC[=7h": with_wrap_on_by_question},
+    "xterm": {
+        "ignores ESC[=7h": with_wrap_on_by_question,
+        "forgets to end bold and blink in its print": with_named_colours,
+    },
+}
+
+
+def breaks(name, content):
+    """Whether the player goes on over its own memory: DOSBox has room for ten numbers."""
+    return name == "DOSBox" and ELEVEN_NUMBERS.search(content)
+
+
+def choices(name):
+    """Some ways of the player at a time, few before many."""
+    ways = WAYS.get(name, {})
+    return [some for count in range(1, len(ways) + 1) for some in itertools.combinations(ways, count)]
+
+
+def respelled(name, ways, content):
+    """The content spelled so that it keeps away from these ways, or None where one of them changes nothing."""
+    for way in ways:
+        before, content = content, WAYS[name][way](content)
+        if content == before:
+            return None
+    return content

@@ -5,9 +5,9 @@ Each player has a name, and
 
 - `missing`: the programs and files that are not on this machine, or none;
 - `version`: what it says of itself;
-- `columns`: of how many columns its screen can be, or any number where this is None;
-- `play`: what it shows of each content on a cleared screen of so many columns and 25 rows, with the cursor at home:
-  rows of cells as it tells them. A row may end early, and rows may be left out below: what is not told is blank;
+- `columns`: of how many columns its screen has to be, with 25 rows, or any number of both where this is None;
+- `play`: what it shows of each content on a cleared screen of so many columns and rows, with the cursor at home: rows
+  of cells as it tells them. A row may end early, and rows may be left out below: what is not told is blank;
 - `tells_cleared`: whether it tells the colours of what was cleared and not written since;
 - `seen`: the cell that it tells where the profile has this byte and this attribute.
 
@@ -84,7 +84,7 @@ class DosBox(Told):
         return first_line("dosbox", "-version")
 
     @staticmethod
-    def play(columns, contents):
+    def play(columns, rows, contents):
         with tempfile.TemporaryDirectory() as folder:
             screens = dosbox.played(folder, [dosbox.CLEARED + content for content in contents])
         for screen in screens:
@@ -104,15 +104,15 @@ class Ansilove:
         return first_line("ansilove", "-v")
 
     @staticmethod
-    def play(columns, contents):
+    def play(columns, rows, contents):
         with tempfile.TemporaryDirectory() as folder:
             path = os.path.join(folder, "drawing.ans")
             for content in contents:
                 with open(path, "wb") as file:
-                    file.write(ansilove.ans_file(content, columns, ROWS))
+                    file.write(ansilove.ans_file(content, columns, rows))
                 picture = ansilove.drawn(path, "-c", str(columns))
                 yield [[ansilove.tile(picture, row, column) for column in range(columns)]
-                       for row in range(min(ROWS, len(picture) // ansilove.HIGH))]
+                       for row in range(min(rows, len(picture) // ansilove.HIGH))]
 
     @staticmethod
     @functools.lru_cache(1)
@@ -137,12 +137,12 @@ class Tmux(Told):
         return first_line("tmux", "-V")
 
     @staticmethod
-    def play(columns, contents):
+    def play(columns, rows, contents):
         os.environ.update(UTF8)
         with tempfile.TemporaryDirectory() as folder:
             pane = Pane(folder)
             try:
-                pane.tmux("resize-window", "-x", str(columns), "-y", str(ROWS))
+                pane.tmux("resize-window", "-x", str(columns), "-y", str(rows))
                 for content in contents:
                     pane.play(b"\x1bc" + utf8(content))
                     yield as_bytes(told_cells(pane.rows()))
@@ -167,19 +167,19 @@ class Libvterm(Told):
         return "libvterm " + first_line("dpkg-query", "-W", "-f", "${Version}", "libvterm-dev")
 
     @staticmethod
-    def play(columns, contents):
+    def play(columns, rows, contents):
         given = b"".join(struct.pack("<I", len(content)) + content for content in map(utf8, contents))
         with tempfile.TemporaryDirectory() as folder:
             program = os.path.join(folder, "vterm")
             subprocess.run(["cc", "-o", program, os.path.join(HERE, "vterm.c"), "-lvterm"], check=True)
-            told = subprocess.run([program, str(columns), str(ROWS)], input=given, stdout=subprocess.PIPE, check=True)
+            told = subprocess.run([program, str(columns), str(rows)], input=given, stdout=subprocess.PIPE, check=True)
         cells = [(byte_of(chr(number & 0x7FFFFF or 0x20)), number >> 24 | (OTHER if number & 0x800000 else 0))
                  for number, in struct.iter_unpack("<I", told.stdout)]
-        rows = [cells[at:at + columns] for at in range(0, len(cells), columns)]
-        if len(rows) != ROWS * len(contents):
-            sys.exit(f"libvterm played {len(rows) // ROWS} of {len(contents)} contents")
-        for at in range(0, len(rows), ROWS):
-            yield rows[at:at + ROWS]
+        told_rows = [cells[at:at + columns] for at in range(0, len(cells), columns)]
+        if len(told_rows) != rows * len(contents):
+            sys.exit(f"libvterm played {len(told_rows) // rows} of {len(contents)} contents")
+        for at in range(0, len(told_rows), rows):
+            yield told_rows[at:at + rows]
 
 
 class Xterm(Told):
@@ -194,12 +194,12 @@ class Xterm(Told):
         return first_line("xterm", "-v")
 
     @staticmethod
-    def play(columns, contents):
+    def play(columns, rows, contents):
         with tempfile.TemporaryDirectory() as folder:
             display, started = screen_of_its_own(folder)
             try:
-                started += [xterm_on(display, folder, columns)]
-                yield from printed(folder, contents)
+                started += [xterm_on(display, folder, columns, rows)]
+                yield from printed(folder, rows, contents)
             finally:
                 for process in reversed(started):
                     process.terminate()
@@ -217,16 +217,16 @@ def screen_of_its_own(folder):
         return ":" + told.readline().strip(), [server]
 
 
-def xterm_on(display, folder, columns):
+def xterm_on(display, folder, columns, rows):
     """Starts an xterm that plays the files whose names it is given, and prints its screen when it is asked to."""
     os.mkfifo(os.path.join(folder, "names"))
     loop = "stty raw -echo; while read -r name; do cat \"$name\"; done < names"
     resources = [word for line in PRINTER for word in ("-xrm", "XTerm*" + line)]
-    words = ["xterm", "-u8", "-geometry", f"{columns}x{ROWS}", *resources, "-e", "sh", "-c", loop]
+    words = ["xterm", "-u8", "-geometry", f"{columns}x{rows}", *resources, "-e", "sh", "-c", loop]
     return subprocess.Popen(words, cwd=folder, env={**UTF8, "DISPLAY": display}, stderr=subprocess.DEVNULL)
 
 
-def printed(folder, contents):
+def printed(folder, count, contents):
     """What xterm prints of its screen behind each content."""
     told = os.path.join(folder, "told")
     with open(os.path.join(folder, "names"), "w", encoding="ascii") as names:
@@ -239,7 +239,7 @@ def printed(folder, contents):
             with open(told, encoding="utf-8", newline="") as file:
                 rows = file.read().replace("\x1b#5", "").split("\r\n")
             os.remove(told)
-            yield as_bytes(told_cells(rows[:ROWS]))
+            yield as_bytes(told_cells(rows[:count]))
 
 
 def wait_for(path):

@@ -6,14 +6,15 @@ The players are DOSBox, ansilove, tmux, libvterm and xterm, as Debian has them. 
 Where players may part, and what the picture is, is said by the machines of `second_players.py` and
 `second_machine.py`, and by no program of this repository.
 
-First come drawings in which no kind arises, `players: any`. Each is played
+First come drawings in which no kind arises, `players: any`. Each is played on a screen of its columns and 25 rows; and
+small ones, of at most nine columns and three lines, on a screen of one row more than their lines:
 
-- on a cleared screen of its columns and 25 rows, with the cursor at home;
+- on a cleared screen, with the cursor at home;
 - behind other text and colours, with the safe beginning in front, as `mend` writes it;
 - behind other text and colours as it is, where it shows its picture from every start on every player.
 
 Other text may scroll, turns wrap off now and then, and leaves the cursor and the saved place on the drawing's lines or
-one row below, as a start of a screen of its size has them. DOSBox plays the drawings of 80 columns alone.
+one row below, as a start of a screen of its size has them. DOSBox plays the drawings of 80 columns alone, on 25 rows.
 
 Each cell is compared, by its byte and its attribute: of ansilove as the pixels show it, without blink, and of tmux and
 xterm up to the last cell of a row that was written. A drawing that differs is told with the reason, where that is a
@@ -24,10 +25,10 @@ alone. A table tells how many of them look different on which player, beside its
 
     python3 tools/compare/players.py [--program PROGRAM] [NUMBER] [SEED] [PLAYER ..]
 
-It makes NUMBER drawings of 80 columns, 1000 where nothing is said, and a quarter as many of fewer. Where players are
-named it plays these. Where a built `anscheck` is given, that mends the drawings. It needs Debian's `dosbox`, `nasm`, `ansilove`, `tmux`, `xterm`, `xvfb`, `libvterm-dev` and
-`gcc`, and says which player cannot be played here. Its status is 1 where a drawing without kinds differs for a reason
-that is not known.
+It makes NUMBER drawings of 80 columns, 1000 where nothing is said, a quarter as many of fewer, and as many small ones
+as of 80 columns. Where players are named it plays these. Where a built `anscheck` is given, that mends the drawings.
+It needs Debian's `dosbox`, `nasm`, `ansilove`, `tmux`, `xterm`, `xvfb`, `libvterm-dev` and `gcc`, and says which player
+cannot be played here. Its status is 1 where a drawing without kinds differs for a reason that is not known.
 """
 import collections
 import os
@@ -39,15 +40,15 @@ sys.path.insert(1, os.path.join(os.path.dirname(os.path.abspath(__file__)), "dos
 
 from ansilove import ans_file
 from dosbox import said
-from player_drawings import found_drawings, is_free, other_text, random_drawings
-from player_quirks import FORGETS, MET, OVERWRITES, picture_with, possible_ways, with_named_colours
+from player_drawings import SMALL, found_drawings, is_free, other_text, random_drawings, small_drawings
+from player_quirks import breaks, choices, respelled
 from player_screens import PLAYERS, ROWS
 from second_players import KINDS
 from second_why import MENDING
 
 BLANK = 0x20
-Play = collections.namedtuple("Play", "drawing how content")
-Difference = collections.namedtuple("Difference", "play place shown expected reason")
+Play = collections.namedtuple("Play", "drawing rows how content")
+Difference = collections.namedtuple("Difference", "play place shown expected")
 
 
 # What is played.
@@ -63,35 +64,36 @@ def mended(program, drawing):
 def plays_of(chance, program, drawing):
     """The ways to play a drawing without kinds. What is mended by nothing may need a part of the start elsewhere."""
     behind = other_text(chance, drawing.columns, drawing.lines)
-    yield Play(drawing, "on a cleared screen", drawing.content)
+    rows = drawing.lines + 1 if drawing.name == SMALL else ROWS
+    yield Play(drawing, rows, "on a cleared screen", drawing.content)
     content = mended(program, drawing)
     if content != drawing.content:
-        yield Play(drawing, "mended, behind other text", behind + content)
+        yield Play(drawing, rows, "mended, behind other text", behind + content)
     if is_free(drawing):
-        yield Play(drawing, "behind other text", behind + drawing.content)
+        yield Play(drawing, rows, "behind other text", behind + drawing.content)
 
 
 def may_play(player, play):
-    """Its screen can have these columns, and it does not break at the content."""
-    fits = player.columns in (None, play.drawing.columns)
-    return fits and not (player.name == "DOSBox" and MET[OVERWRITES].search(play.content))
+    """Its screen can have this size, and it does not break at the content."""
+    fits = player.columns is None or (player.columns, ROWS) == (play.drawing.columns, play.rows)
+    return fits and not breaks(player.name, play.content)
 
 
-def by_columns(plays):
-    """The plays of each number of columns."""
+def by_screen(plays):
+    """The plays of each number of columns and rows."""
     groups = collections.defaultdict(list)
     for play in plays:
-        groups[play.drawing.columns].append(play)
+        groups[play.drawing.columns, play.rows].append(play)
     return sorted(groups.items())
 
 
 # The comparison.
 
 
-def first_difference(player, drawing, picture, rows):
+def first_difference(player, drawing, rows):
     """The place of the first cell that is not as in the picture, what is shown there, and what was meant; or None."""
     for row, column in ((row, column) for row in range(drawing.lines) for column in range(drawing.columns)):
-        byte, attribute = picture[row][column]
+        byte, attribute = drawing.picture[row][column]
         if row < len(rows) and column < len(rows[row]):
             shown = rows[row][column]
             differs = shown != player.seen(byte, attribute)
@@ -102,47 +104,40 @@ def first_difference(player, drawing, picture, rows):
     return None
 
 
-def reason_of(player, play, rows):
-    """The ways of the player by which it shows just this, or None."""
-    # ansilove's picture has no last row.
-    lines = ROWS if player.name != "ansilove" else ROWS + len(play.content)
-    for ways in possible_ways(player.name, play.content):
-        picture = picture_with(ways, play.drawing.columns, lines, play.content, not play.drawing.kinds)
-        if not first_difference(player, play.drawing, picture, rows):
-            return ", ".join(ways)
-    return None
-
-
 def differences(player, plays):
     """Each play that the player shows otherwise."""
-    for columns, group in by_columns(plays):
-        for play, rows in zip(group, player.play(columns, [play.content for play in group])):
-            found = first_difference(player, play.drawing, play.drawing.picture, rows)
+    for (columns, count), group in by_screen(plays):
+        for play, rows in zip(group, player.play(columns, count, [play.content for play in group])):
+            found = first_difference(player, play.drawing, rows)
             if found:
-                yield Difference(play, *found, reason_of(player, play, rows))
+                yield Difference(play, *found)
 
 
-def looked_at_again(player, found):
-    """The same differences, with the reason of those that xterm's print alone makes."""
-    doubtful = [one.play for one in found if player.name == "xterm" and not one.reason]
-    named = [play._replace(content=with_named_colours(play.content)) for play in doubtful]
-    differing = {one.play.content: one.reason for one in differences(player, named)}
-    for one in found:
-        if one.play in doubtful:
-            reason = differing.get(with_named_colours(one.play.content), "")
-            one = one._replace(reason=FORGETS if reason == "" else reason and f"{FORGETS}, {reason}")
-        yield one
+def reasons(player, found):
+    """For each of these differences the known ways of the player without which it is gone, or None."""
+    known = [None] * len(found)
+    for ways in choices(player.name):
+        spelled = {}
+        for at, one in enumerate(found):
+            content = known[at] is None and respelled(player.name, ways, one.play.content)
+            if content:
+                spelled[at] = one.play._replace(content=content)
+        left = [one.play for one in differences(player, spelled.values())]
+        for at, play in spelled.items():
+            if not any(play is other for other in left):
+                known[at] = ", ".join(ways)
+    return known
 
 
 # What is told.
 
 
-def told_difference(player, one):
+def told_difference(player, one, reason):
     """A line for a difference, with all bytes where its reason is not known."""
     drawing = one.play.drawing
     where = f"{player.name}, {one.play.how}, {drawing.name} of {drawing.columns} x {drawing.lines}"
-    if one.reason:
-        return f"{where}: {one.reason}"
+    if reason:
+        return f"{where}: {reason}"
     shown = "other pixels" if isinstance(one.shown, list) else one.shown
     return f"{where}: NOT KNOWN: {one.place}: {shown}, not {one.expected}: {one.play.content!r}"
 
@@ -150,27 +145,26 @@ def told_difference(player, one):
 def play_without_kinds(player, plays):
     """Plays the drawings without kinds, and tells each that differs: how many do for an unknown reason, and of all."""
     able = [play for play in plays if may_play(player, play)]
-    found = list(looked_at_again(player, list(differences(player, able))))
-    for one in found:
-        print(told_difference(player, one), flush=True)
+    found = list(differences(player, able))
+    known = reasons(player, found)
+    for one, reason in zip(found, known):
+        print(told_difference(player, one, reason), flush=True)
+    drawings = len({id(play.drawing) for play in able})
     counts = collections.Counter(play.how for play in able)
-    drawings, unknown = [len({id(play.drawing) for play in some}) for some in (
-        able, [one.play for one in found if not one.reason])]
     print(f"{player.name}: {drawings} drawings: " + ", ".join(f"{count} {how}" for how, count in counts.items()))
-    for reason, count in collections.Counter(one.reason for one in found if one.reason).most_common():
+    for reason, count in collections.Counter(filter(None, known)).most_common():
         print(f"  {count} differ: it {reason}")
-    print(f"  {len(found) - sum(bool(one.reason) for one in found)} differ for a reason that is not known", flush=True)
-    return unknown, drawings
+    print(f"  {known.count(None)} differ for a reason that is not known", flush=True)
+    return len({id(one.play.drawing) for one, reason in zip(found, known) if not reason}), drawings
 
 
 def play_kind(player, drawings):
     """Plays drawings of a kind: how many look different, but for known ways, and of how many; or nothing is told."""
     if not player.tells_cleared and "clear-in-colour" in drawings[0].kinds:
         return None
-    plays = [Play(drawing, "on a cleared screen", drawing.content) for drawing in drawings]
+    plays = [Play(drawing, ROWS, "on a cleared screen", drawing.content) for drawing in drawings]
     able = [play for play in plays if may_play(player, play)]
-    found = looked_at_again(player, list(differences(player, able)))
-    return sum(not one.reason for one in found), len(able)
+    return reasons(player, list(differences(player, able))).count(None), len(able)
 
 
 def present_players(names):
@@ -198,7 +192,8 @@ def main(*words):
     number, seed, *names = (*words, *["1000", "1"][len(words):])
     chance, number = random.Random(int(seed)), int(number)
     players = list(present_players([name.lower() for name in names]))
-    drawings = random_drawings(chance, number) + [drawing for drawing in found_drawings() if not drawing.kinds]
+    drawings = random_drawings(chance, number) + small_drawings(chance, number)
+    drawings += [drawing for drawing in found_drawings() if not drawing.kinds]
     plays = [play for drawing in drawings for play in plays_of(chance, program, drawing)]
     rows = [("none", [play_without_kinds(player, plays) for player in players])]
     for kind in KINDS:
