@@ -106,7 +106,7 @@ WAYS = {
 
 
 def breaks(name, content):
-    """Whether the player goes on over its own memory: DOSBox has room for ten numbers."""
+    """Whether what follows may go wrong too: DOSBox is remembered to have room for ten numbers, and go on over others."""
     return name == "DOSBox" and ELEVEN_NUMBERS.search(content)
 
 
