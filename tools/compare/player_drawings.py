@@ -120,8 +120,9 @@ def random_drawing(chance, columns, kinds=frozenset()):
 
 
 def random_drawings(chance, number, kinds=frozenset()):
-    """So many of 80 columns, and a quarter as many of fewer."""
-    columns = [COLUMNS] * number + [chance.choice(FEWER_COLUMNS) for _ in range(number // 4)]
+    """So many of 80 columns, and a quarter as many of fewer. On one column not every kind can arise."""
+    fewer = FEWER_COLUMNS[1:] if kinds else FEWER_COLUMNS
+    columns = [COLUMNS] * number + [chance.choice(fewer) for _ in range(number // 4)]
     return [random_drawing(chance, count, kinds) for count in columns]
 
 

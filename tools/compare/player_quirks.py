@@ -106,7 +106,7 @@ WAYS = {
 
 
 def breaks(name, content):
-    """Whether what follows may go wrong too: DOSBox is remembered to have room for ten numbers, and go on over others."""
+    """Whether what follows may go wrong too: DOSBox is remembered to have room for ten numbers alone."""
     return name == "DOSBox" and ELEVEN_NUMBERS.search(content)
 
 

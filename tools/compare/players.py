@@ -178,13 +178,14 @@ def present_players(names):
                 yield player
 
 
-def table(players, rows):
-    """The lines of a table: how many drawings of how many look different."""
-    yield "| The one kind | " + " | ".join(player.name for player in players) + " |"
-    yield "|---|" + "---|" * len(players)
-    for kind, counts in rows:
-        told = [f"{count[0]} of {count[1]}" if count else "·" for count in counts]
-        yield f"| {kind} | " + " | ".join(told) + " |"
+def print_row(first, cells):
+    """Prints a row of the table."""
+    print(f"| {first} | " + " | ".join(cells) + " |", flush=True)
+
+
+def print_counts(kind, counts):
+    """Prints how many drawings of how many look different on each player."""
+    print_row(kind, [f"{count[0]} of {count[1]}" if count else "·" for count in counts])
 
 
 def main(*words):
@@ -195,12 +196,14 @@ def main(*words):
     drawings = random_drawings(chance, number) + small_drawings(chance, number)
     drawings += [drawing for drawing in found_drawings() if not drawing.kinds]
     plays = [play for drawing in drawings for play in plays_of(chance, program, drawing)]
-    rows = [("none", [play_without_kinds(player, plays) for player in players])]
+    without = [play_without_kinds(player, plays) for player in players]
+    print_row("The one kind", [player.name for player in players])
+    print("|---|" + "---|" * len(players))
+    print_counts("none", without)
     for kind in KINDS:
-        of_kind = random_drawings(chance, max(1, number // 10), frozenset([kind]))
-        rows.append((kind, [play_kind(player, of_kind) for player in players]))
-    print("\n".join(table(players, rows)))
-    return any(differ for differ, _ in rows[0][1])
+        of_kind = random_drawings(random.Random(f"{seed} {kind}"), max(1, number // 10), frozenset([kind]))
+        print_counts(kind, [play_kind(player, of_kind) for player in players])
+    return any(differ for differ, _ in without)
 
 
 if __name__ == "__main__":
