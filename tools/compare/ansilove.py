@@ -44,7 +44,7 @@ def unfiltered(rows, stride, step):
     above, done = bytes(stride), []
     for at in range(0, len(rows), stride + 1):
         kind, row = rows[at], bytearray(rows[at + 1:at + 1 + stride])
-        for i in range(stride):
+        for i in range(stride if kind else 0):
             left = row[i - step] if i >= step else 0
             corner = above[i - step] if i >= step else 0
             guess = left + above[i] - corner
@@ -73,11 +73,11 @@ def pixels(path):
             for row in rows[:height]]
 
 
-def drawn(path):
-    """What ansilove draws of a file."""
+def drawn(path, *flags):
+    """What ansilove draws of a file, with these flags."""
     with tempfile.TemporaryDirectory() as folder:
         png = os.path.join(folder, "drawn.png")
-        subprocess.run(["ansilove", "-q", "-b", "8", "-o", png, path], check=True, stdout=subprocess.DEVNULL)
+        subprocess.run(["ansilove", "-q", *flags, "-b", "8", "-o", png, path], check=True, stdout=subprocess.DEVNULL)
         return pixels(png)
 
 

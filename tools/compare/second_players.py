@@ -162,11 +162,11 @@ def a_start(width, lines, place=(0, 0), saved=(0, 0), attribute=0x07, wrap=True,
     return machine
 
 
-def starts_without(part, width, lines):
-    """Starts of the class that knows all parts but this one."""
+def starts_without(part, width, lines, places):
+    """Starts of the class that knows all parts but this one, with these places for cursors."""
     values = {
-        "screen": ("cell", [UNKNOWN]), "cursor": ("place", all_places(width, lines)),
-        "saved": ("saved", all_places(width, lines)), "colours": ("attribute", [0x00, 0x07, 0xFF]),
+        "screen": ("cell", [UNKNOWN]), "cursor": ("place", places),
+        "saved": ("saved", places), "colours": ("attribute", [0x00, 0x07, 0xFF]),
         "wrap": ("wrap", [False, True]),
     }
     name, some = values[part]
@@ -183,12 +183,10 @@ def is_same(walks, are_kinds_asked):
     )
 
 
-def parts_needed(tokens, width, lines, are_kinds_asked):
-    """The parts that have to be known, each found by itself."""
-    return [
-        part for part in PARTS
-        if not is_same([walk(tokens, start) for start in starts_without(part, width, lines)], are_kinds_asked)
-    ]
+def parts_needed(tokens, width, lines, are_kinds_asked, places=all_places):
+    """The parts that have to be known, each found by itself, from these places of a screen."""
+    met = {part: starts_without(part, width, lines, places(width, lines)) for part in PARTS}
+    return [part for part in PARTS if not is_same([walk(tokens, start) for start in met[part]], are_kinds_asked)]
 
 
 # The lines.

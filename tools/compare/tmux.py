@@ -36,6 +36,8 @@ WIDTH, LINES = 80, 24
 COLOURS = [0, 1, 5] + list(range(30, 38)) + list(range(40, 48))
 # The colours of DOS by the numbers of a terminal.
 DOS = [0, 4, 2, 6, 1, 5, 3, 7]
+# A bit of the attributes that DOS does not have.
+OTHER = 0x100
 TOLD = re.compile(r"\x1b\[([0-9;]*)m|(.)", re.DOTALL)
 
 
@@ -130,7 +132,7 @@ class Pane:
 
 
 def changed_attribute(attribute, numbers):
-    """The attribute behind a sequence of colours, as tmux writes it."""
+    """The attribute behind a sequence of colours, as tmux writes it, and xterm in a print."""
     for number in [int(number or 0) for number in numbers.split(";")]:
         if number == 0:
             attribute = 0x07
@@ -140,8 +142,10 @@ def changed_attribute(attribute, numbers):
             attribute = attribute & 0xF8 | DOS[number - 30 if number < 38 else 7]
         elif 40 <= number <= 47 or number == 49:
             attribute = attribute & 0x8F | DOS[number - 40 if number < 48 else 0] << 4
+        elif 90 <= number <= 97:
+            attribute = attribute & 0xF0 | DOS[number - 90] | 0x08
         else:
-            sys.exit(f"tmux writes the colour {number}")
+            attribute |= OTHER
     return attribute
 
 
