@@ -1,0 +1,4 @@
+pub mod ColourParts
+pub mod ColourTexts
+pub mod ReadBack
+pub mod ColourLaws

@@ -1,0 +1,5 @@
+-- The plainest form of a picture.
+pub mod Colours
+pub mod Form
+pub mod Laws
+pub mod Examples
