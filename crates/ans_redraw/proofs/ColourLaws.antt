@@ -132,7 +132,7 @@ pub common_calm : (z : Size) (g : Grip) (s : State) (ns : List ℕ) → AreCommo
 common_calm z g s ns h some = rw (h.common, common_omit_none ns h some) refl
 
 -- there is a number, where the attributes are two
-some_number : (from to : ℕ) → IsByte from → IsByte to → (from ≡ to → ⊥) → numbers_to from to ≡ [] → ⊥
+pub some_number : (from to : ℕ) → IsByte from → IsByte to → (from ≡ to → ⊥) → numbers_to from to ≡ [] → ⊥
 some_number from to h g apart none =
     apart (sym (ap (λ (ns : List ℕ). attribute_after_all from ns) none) ∙ numbers_lead from to h g)
 

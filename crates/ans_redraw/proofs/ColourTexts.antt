@@ -6,12 +6,12 @@ use Rattle.std.specs.Fmt.{digits}
 use Rattle.std.specs.Char.{is_ascii_digit}
 use Rattle.std.specs.List.{AllZip, AllByRecursion, join_with_byte, list_all, list_any}
 use Rattle.std.specs.Str.Parse.{digits_value}
-use Rattle.std.proofs.lemmas.Bool.{agree_below_at, eqb-true, ltb-true, and_parts, and_right}
+use Rattle.std.proofs.lemmas.Bool.{ne_eqb, agree_below_at, eqb-true, ltb-true, and_parts, and_right}
 use Rattle.std.proofs.lemmas.Bool.Decides.{nat_tests}
 use Rattle.std.proofs.lemmas.List.{length-map}
-use Rattle.ans_model.specs.Bytes.{bracket, semicolon}
+use Rattle.ans_model.specs.Bytes.{escape, bracket, semicolon}
 use Rattle.ans_model.specs.declared.mark.Mark.TheVariants.{Unmarked}
-use Rattle.ans_model.specs.Sequence.TokenKind.{Colours}
+use Rattle.ans_model.specs.Sequence.TokenKind.{Colours, Forward}
 use Rattle.ans_model.specs.Sequence.Spelling.{Number, Raw, SpellsMember, IsInLimit}
 use Rattle.ans_model.specs.Sequence.Meaning as means
 use Rattle.ans_model.specs.Sequence.Meaning.{meaning}
@@ -90,6 +90,27 @@ numbers_spelled n ns bytes few = inr (record {
   };
   means = numbers_mean n ns;
 })
+
+-- a move to the right by a number
+pub number_right : (n : ℕ) → 0 < n → n ≤ 255
+    → SpellsToken (Forward n) (escape ∷ bracket ∷ (decimal n ++ 0x43 ∷ []))
+number_right n some few =
+    let one : IsSpelled n = number_spelled n (omega arith) in
+    inr (record {
+      raw = record { mark = Unmarked; members = Number n ∷ []; letter = 0x43 };
+      spelled = record {
+        loose = record {
+          texts = decimal n ∷ [];
+          members = ((one.some_digit, one.digits_only, one.value), tt);
+          not_one_omitted = λ e. cc;
+          letter = refl;
+          whole = refl;
+        };
+        numbers = (omega arith, tt);
+        count = omega arith;
+      };
+      means = rw (ne_eqb n 0 (λ e. omega arith)) refl;
+    })
 
 -- ---- no number is omitted
 -- a digit does not end a number

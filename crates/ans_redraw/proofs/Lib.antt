@@ -2,3 +2,11 @@ pub mod ColourParts
 pub mod ColourTexts
 pub mod ReadBack
 pub mod ColourLaws
+pub mod HalfDrawn
+pub mod Going
+pub mod Pieces
+pub mod Ways
+pub mod RowDrawn
+pub mod PictureDrawn
+pub mod AllGoes
+pub mod FormLaws

@@ -1,13 +1,22 @@
 -- What is proved of the form.
-use Rattle.std.specs.Prelude.{◌≡◌, ℕ, List, [], map, All}
-use Rattle.std.specs.List.{concat}
-use Rattle.ans_model.specs.Bytes.{IsByte}
-use Rattle.ans_model.specs.Sequence.Reads.{ReadsAs}
-use Rattle.ans_model.specs.Screen.State.{Size, State}
+use Rattle.std.specs.Prelude.{◌≡◌, ◌≢◌, ℕ, Bool, IsTrue, List, [], ◌++◌, map, All}
+use Rattle.std.specs.List.{concat, list_all}
+use Rattle.ans_model.specs.Bytes.{IsByte, escape}
+use Rattle.ans_model.specs.Sequence.TokenKind.{Glyph}
+use Rattle.ans_model.specs.Sequence.Reads.{ReadsAs, kind_of_byte}
+use Rattle.ans_model.specs.Screen.State.{Size, IsSize, State}
 use Rattle.ans_model.specs.Screen.Step.{final}
+use Rattle.ans_model.specs.Screen.StartClass.{none_known}
+use Rattle.ans_model.specs.declared.start.Start.{Start}
+use Rattle.ans_model.specs.Verdict.Good.{Picture, IsPictureOf, GoodWith}
+use Rattle.ans_players.specs.declared.kind.Kind.{Kind}
+use Rattle.ans_players.specs.declared.kind.Kind.TheVariants.{PageControls, TerminalControls}
 use Rattle.ans_players.specs.Grips.{Grip}
-use Rattle.ans_players.specs.Situations.{Spelled, situations}
+use Rattle.ans_players.specs.Players.{Behaviour, IsShown}
+use Rattle.ans_players.specs.Situations.{Spelled, AreAgreed, situations, kind_if, is_page_control}
+use Rattle.ans_players.specs.Situations.{is_terminal_control}
 use Rattle.ans_redraw.specs.Colours.{colours_to}
+use Rattle.ans_redraw.specs.Form.{form, form_bytes}
 
 -- Where the current attribute is the first one, the colours make it the second, and change nothing else.
 abbrev pub ColoursLead : Type 0
@@ -26,3 +35,43 @@ IsReadBack xs = ReadsAs (concat (map (λ x. x.text) xs)) (map (λ x. x.token) xs
 -- Their bytes are read as they are meant.
 abbrev pub ColoursAreRead : Type 0
 ColoursAreRead = (from to : ℕ) → IsByte from → IsByte to → IsReadBack (colours_to from to)
+
+-- the byte is printed: it is no token of another kind, and begins no sequence
+pub record IsPrinted (byte : ℕ) : Type 0 where
+  pub is_byte : IsByte byte
+  pub not_escape : byte ≢ escape
+  pub means_itself : kind_of_byte byte ≡ Glyph byte
+
+-- a picture of this size, of cells whose bytes are printed
+pub record IsDrawable (z : Size) (picture : Picture) : Type 0 where
+  pub size : IsSize z
+  pub is_picture : IsPictureOf z picture
+  pub printed : All (λ c. IsPrinted c.byte) picture.cells
+
+-- The form is read as it is meant.
+abbrev pub FormIsRead : Type 0
+FormIsRead = (z : Size) (picture : Picture) → IsDrawable z picture → IsReadBack (form picture)
+
+-- Its bytes are good from every start of every class, and show the picture.
+abbrev pub FormIsGood : Type 0
+FormIsGood = (z : Size) (class : Start) (picture : Picture) → IsDrawable z picture
+    → GoodWith z class (form_bytes picture) picture
+
+-- the kinds of a printed byte: players part in how they draw some
+abbrev pub shown_kinds : ℕ → List Kind
+shown_kinds byte =
+    kind_if (is_page_control byte) PageControls ++ kind_if (is_terminal_control byte) TerminalControls
+
+-- the kinds of the picture's own bytes are agreed
+abbrev pub BytesAreAgreed : (Kind → Bool) → Picture → Type 0
+BytesAreAgreed agreed picture = All (λ c. IsTrue (list_all agreed (shown_kinds c.byte))) picture.cells
+
+-- No other kinds arise in the form, from any start.
+abbrev pub FormIsAgreed : Type 0
+FormIsAgreed = (agreed : Kind → Bool) (z : Size) (class : Start) (picture : Picture) → IsDrawable z picture
+    → BytesAreAgreed agreed picture → AreAgreed agreed z class (form picture)
+
+-- So a player shows the picture, from every memory that stands firmly for any start.
+abbrev pub FormIsShown : Behaviour → Size → (Kind → Bool) → Type 0
+FormIsShown p z agreed = (picture : Picture) → IsDrawable z picture → BytesAreAgreed agreed picture
+    → IsShown p z none_known (form picture) picture
