@@ -1,7 +1,9 @@
 -- What follows where all tokens go well.
-use Rattle.std.proofs.Common.{◌≡◌, ℕ, zero, suc, Bool, List, [], ◌∷◌, fold, take, refl, ap, sym, ◌∙◌, Some, subst}
+use Rattle.std.proofs.Common.{◌≡◌, ℕ, zero, suc, map, Bool, false, List, [], ◌∷◌, fold, take, refl, ap, sym, ◌∙◌, Some, subst}
 use Rattle.std.specs.Prelude.{slice_get, ◌<◌, replicate}
+use Rattle.std.specs.List.{concat, list_any}
 use Rattle.ans_model.specs.Bytes.{blank}
+use Rattle.ans_model.specs.File.Layout.{is_end_mark}
 use Rattle.ans_model.specs.declared.start.Start.{Start}
 use Rattle.ans_model.specs.Sequence.TokenKind.{TokenKind, Glyph, Tab, EraseLine, LineFeed}
 use Rattle.ans_model.specs.Screen.State.{Size, State}
@@ -16,6 +18,7 @@ use Rattle.ans_players.specs.Players.{StaysAbove}
 use Rattle.ans_players.specs.Situations.{Spelled, AreAgreed, stand_behind, stand_of}
 use Rattle.ans_players.proofs.Everywhere.{kinds_of, state_is}
 use Rattle.ans_redraw.proofs.Going.{GoesWell, AllGoWell}
+use Rattle.ans_redraw.proofs.ColourTexts.{unmarked_both}
 use Rattle.ans_redraw.proofs.ReadBack.{AreSpelled}
 
 -- each text spells its token
@@ -23,6 +26,14 @@ pub all_spelled : (z : Size) (agreed : Kind → Bool) (h : Stand) (xs : List Spe
     → AreSpelled xs
 all_spelled z agreed h [] well = tt
 all_spelled z agreed h (x ∷ xs) well = (well.0.spelled, all_spelled z agreed (stand_behind z h x) xs well.1)
+
+-- and has no end mark
+pub all_unmarked : (z : Size) (agreed : Kind → Bool) (h : Stand) (xs : List Spelled) → AllGoWell z agreed h xs
+    → list_any is_end_mark (concat (map (λ x. x.text) xs)) ≡ false
+all_unmarked z agreed h [] well = refl
+all_unmarked z agreed h (x ∷ xs) well =
+    unmarked_both x.text (concat (map (λ x. x.text) xs)) well.0.unmarked
+    (all_unmarked z agreed (stand_behind z h x) xs well.1)
 
 -- each goes well where those before it lead
 pub goes_at : (z : Size) (agreed : Kind → Bool) (h : Stand) (xs : List Spelled) (k : ℕ) (x : Spelled)

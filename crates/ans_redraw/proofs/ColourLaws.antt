@@ -2,12 +2,13 @@
 use Rattle.std.proofs.Common.{◌≡◌, ℕ, ◌+◌, ◌<◌, ◌≤◌, Bool, true, false, not, ◌&&◌, ◌==◌, refl, ap, sym, ◌∙◌}
 use Rattle.std.proofs.Common.{List, [], ◌∷◌, ◌++◌, length, length-append, map, arith}
 use Rattle.std.specs.Prelude.{All, if◌then◌else◌}
-use Rattle.std.specs.List.{list_all}
+use Rattle.std.specs.List.{list_all, list_any}
 use Rattle.std.proofs.lemmas.Bool.{agree_below_at, eqb-true, eqb-false, and_parts, and_from}
 use Rattle.std.proofs.lemmas.Bool.Decides.{nat_tests}
 use Rattle.std.proofs.lemmas.List.Elements.{All-nil, All-cons}
 use Rattle.std.proofs.lemmas.List.Folds.{list_all-append}
 use Rattle.ans_model.specs.Bytes.{IsByte}
+use Rattle.ans_model.specs.File.Layout.{is_end_mark}
 use Rattle.ans_model.specs.Sequence.TokenKind.{Colours}
 use Rattle.ans_model.specs.Sequence.Reads.{SpellsToken}
 use Rattle.ans_model.specs.Screen.State.{Size, State}
@@ -19,7 +20,7 @@ use Rattle.ans_redraw.specs.Colours.{foreground, is_bright, background, blinks, 
 use Rattle.ans_redraw.specs.Colours.{stays, or_white, anew, numbers_to, is_no_longer, colours_text, colours, colours_to}
 use Rattle.ans_redraw.specs.Laws.{ColoursLead, ColoursAreCalm, ColoursAreRead}
 use Rattle.ans_redraw.proofs.ColourParts.{numbers_lead, foreground_lt, background_lt}
-use Rattle.ans_redraw.proofs.ColourTexts.{AreBytes, numbers_spelled, text_omits_none}
+use Rattle.ans_redraw.proofs.ColourTexts.{AreBytes, numbers_spelled, text_omits_none, text_unmarked}
 use Rattle.ans_redraw.proofs.ReadBack.{AreSpelled, read_back}
 
 -- numbers that all players take alike, and few
@@ -121,6 +122,9 @@ are_bytes (n ∷ ns) h =
 pub common_spelled : (ns : List ℕ) → AreCommon ns → (ns ≡ [] → ⊥) → SpellsToken (Colours ns) (colours_text ns)
 common_spelled [] h some = absurd (some refl)
 common_spelled (n ∷ ns) h some = numbers_spelled n ns (are_bytes (n ∷ ns) h.common) (omega (arith, h.few))
+
+pub common_unmarked : (ns : List ℕ) → AreCommon ns → list_any is_end_mark (colours_text ns) ≡ false
+common_unmarked ns h = text_unmarked ns (are_bytes ns h.common)
 
 common_omit_none : (ns : List ℕ) → AreCommon ns → (ns ≡ [] → ⊥) → omits (colours_text ns) ≡ false
 common_omit_none [] h some = absurd (some refl)

@@ -9,7 +9,9 @@ use Rattle.std.specs.Str.Parse.{digits_value}
 use Rattle.std.proofs.lemmas.Bool.{ne_eqb, agree_below_at, eqb-true, ltb-true, and_parts, and_right}
 use Rattle.std.proofs.lemmas.Bool.Decides.{nat_tests}
 use Rattle.std.proofs.lemmas.List.{length-map}
+use Rattle.std.proofs.lemmas.List.Folds.{list_any-append}
 use Rattle.ans_model.specs.Bytes.{escape, bracket, semicolon}
+use Rattle.ans_model.specs.File.Layout.{is_end_mark}
 use Rattle.ans_model.specs.declared.mark.Mark.TheVariants.{Unmarked}
 use Rattle.ans_model.specs.Sequence.TokenKind.{Colours, Forward}
 use Rattle.ans_model.specs.Sequence.Spelling.{Number, Raw, SpellsMember, IsInLimit}
@@ -111,6 +113,34 @@ number_right n some few =
       };
       means = rw (ne_eqb n 0 (λ e. omega arith)) refl;
     })
+
+-- ---- no byte is an end mark
+digits_unmarked : (ds : List ℕ) → list_all is_ascii_digit ds ≡ true → list_any is_end_mark ds ≡ false
+digits_unmarked [] h = refl
+digits_unmarked (d ∷ ds) h =
+    let both = and_parts (is_ascii_digit d) (list_all is_ascii_digit ds) h in
+    let digit : is_ascii_digit d ≡ true = both.0 in
+    let no : is_end_mark d ≡ false = grind (arith, nat_tests) in
+    rw (no, digits_unmarked ds both.1) refl
+
+pub unmarked_both : (xs ys : List ℕ) → list_any is_end_mark xs ≡ false → list_any is_end_mark ys ≡ false
+    → list_any is_end_mark (xs ++ ys) ≡ false
+unmarked_both xs ys h g = list_any-append is_end_mark xs ys ∙ rw (h, g) refl
+
+pub number_unmarked : (n : ℕ) → n < 256 → list_any is_end_mark (decimal n) ≡ false
+number_unmarked n lt = digits_unmarked (decimal n) (number_spelled n lt).digits_only
+
+numbers_unmarked : (ns : List ℕ) → AreBytes ns
+    → list_any is_end_mark (join_with_byte semicolon (map decimal ns)) ≡ false
+numbers_unmarked [] h = refl
+numbers_unmarked (n ∷ []) h = number_unmarked n h.0
+numbers_unmarked (n ∷ m ∷ ns) h =
+    unmarked_both (decimal n) (semicolon ∷ join_with_byte semicolon (map decimal (m ∷ ns))) (number_unmarked n h.0)
+    (numbers_unmarked (m ∷ ns) h.1)
+
+pub text_unmarked : (ns : List ℕ) → AreBytes ns → list_any is_end_mark (colours_text ns) ≡ false
+text_unmarked ns h =
+    unmarked_both (join_with_byte semicolon (map decimal ns)) (0x6D ∷ []) (numbers_unmarked ns h) refl
 
 -- ---- no number is omitted
 -- a digit does not end a number

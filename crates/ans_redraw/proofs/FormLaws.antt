@@ -30,7 +30,8 @@ use Rattle.ans_players.proofs.Spellings.{wrap_on, white_on_black, clear, home, s
 use Rattle.ans_redraw.specs.Form.{form, picture_drawn}
 use Rattle.ans_redraw.specs.Laws.{shown_kinds, IsDrawable, BytesAreAgreed}
 use Rattle.ans_redraw.specs.Laws.{FormIsRead, FormIsGood, FormIsAgreed, FormIsShown}
-use Rattle.ans_redraw.proofs.AllGoes.{Marks, SameBefore, all_spelled, all_agreed, all_play_well}
+use Rattle.ans_redraw.specs.Laws.{FormHasNoEndMark, FormEndsGrey}
+use Rattle.ans_redraw.proofs.AllGoes.{Marks, SameBefore, all_spelled, all_unmarked, all_agreed, all_play_well}
 use Rattle.ans_redraw.proofs.Going.{AllGoWell, Leads, both_lead}
 use Rattle.ans_redraw.proofs.HalfDrawn.{half}
 use Rattle.ans_redraw.proofs.Pieces.{stand}
@@ -59,30 +60,35 @@ module _ (z : Size) (agreed : Kind → Bool) (some : 0 < z.width) where
   mending_goes s = (
     record {
       spelled = wrap_on;
+      unmarked = refl;
       allowed = record { no_static_fault = λ cause f. f; stays_above = tt };
       agreed_there = refl;
     },
     (
       record {
         spelled = white_on_black;
+        unmarked = refl;
         allowed = record { no_static_fault = λ cause f. f; stays_above = tt };
         agreed_there = refl;
       },
       (
         record {
           spelled = clear;
+          unmarked = refl;
           allowed = record { no_static_fault = λ cause f. f; stays_above = tt };
           agreed_there = rw (reset s.attribute) refl;
         },
         (
           record {
             spelled = home;
+            unmarked = refl;
             allowed = record { no_static_fault = λ cause. home_is_within z cause some; stays_above = tt };
             agreed_there = refl;
           },
           (
             record {
               spelled = save;
+              unmarked = refl;
               allowed = record { no_static_fault = λ cause f. f; stays_above = tt };
               agreed_there = refl;
             },
@@ -221,3 +227,14 @@ form_is_shown z agreed p player picture h bytes =
     (same_behind z (picture_drawn (rows_of picture))) none_known)
     (form_shows agreed z none_known picture h bytes)
     (form_is_agreed agreed z none_known picture h bytes)
+
+pub form_has_no_end_mark : FormHasNoEndMark
+form_has_no_end_mark z picture h =
+    all_unmarked z any_kind (firmly (cleared z)) (form picture)
+    (form_goes any_kind z picture h (any_agreed picture) (cleared z))
+
+pub form_ends_grey : FormEndsGrey
+form_ends_grey z s picture h =
+    let all = form_drawn any_kind z picture h (any_agreed picture) s in
+    ap (λ (v : State). v.attribute) (sym (state_after z (firmly s) (form picture)))
+    ∙ ap (λ (v : Stand). v.state.attribute) all.leads.leads ∙ all.attribute

@@ -1,7 +1,9 @@
 -- Spelled tokens that go well, one after the other.
 use Rattle.std.proofs.Common.{◌≡◌, Bool, sym, ◌∙◌, List, [], ◌∷◌, ◌++◌, fold, subst}
-use Rattle.std.specs.Prelude.{IsTrue}
+use Rattle.std.specs.Prelude.{IsTrue, false}
+use Rattle.std.specs.List.{list_any}
 use Rattle.std.proofs.lemmas.List.Sums.{fold-append}
+use Rattle.ans_model.specs.File.Layout.{is_end_mark}
 use Rattle.ans_model.specs.Sequence.Reads.{SpellsToken}
 use Rattle.ans_model.specs.Screen.State.{Size}
 use Rattle.ans_players.specs.declared.kind.Kind.{Kind}
@@ -9,9 +11,10 @@ use Rattle.ans_players.specs.Grips.{Stand}
 use Rattle.ans_players.specs.Players.{IsAllowed}
 use Rattle.ans_players.specs.Situations.{Spelled, is_agreed, stand_behind}
 
--- its text spells it, it is not refused, and no kinds but agreed ones arise at it
+-- its text spells it and has no end mark, it is not refused, and no kinds but agreed ones arise at it
 pub record GoesWell (z : Size) (agreed : Kind → Bool) (h : Stand) (x : Spelled) : Type 0 where
   pub spelled : SpellsToken x.token x.text
+  pub unmarked : list_any is_end_mark x.text ≡ false
   pub allowed : IsAllowed z h.state x.token
   pub agreed_there : IsTrue (is_agreed agreed z h x)
 

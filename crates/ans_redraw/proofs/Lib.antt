@@ -10,3 +10,6 @@ pub mod RowDrawn
 pub mod PictureDrawn
 pub mod AllGoes
 pub mod FormLaws
+pub mod PrintedBytes
+pub mod PrintedPictures
+pub mod Redrawn

@@ -242,7 +242,8 @@ module _ (z : Size) (cells : List Cell) (agreed : Kind → Bool) where
         whole = drawn_row.whole;
         left = drawn_row.left;
         attribute = drawn_row.attribute;
-        leads = both_lead z agreed (place z cells k r c p.attribute) (stand z cells (grip_below p) j (at (r + 1) 0) a) _
+        leads = both_lead z agreed (place z cells k r c p.attribute) (stand z cells (grip_below p) j (at (r + 1) 0) a)
+            (place z cells drawn_row.k (r + 1) drawn_row.c (pen_behind forced (pen_below p) row).attribute)
             (to_row_below p) (drawn forced (pen_below p) row) (below_leads (suc n) p k r c rest h)
             (subst (λ (v : Stand). Leads z agreed v (drawn forced (pen_below p) row)
             (place z cells drawn_row.k (r + 1) drawn_row.c (pen_behind forced (pen_below p) row).attribute)) start

@@ -2,10 +2,11 @@
 use Rattle.std.proofs.Common.{◌≡◌, ℕ, zero, suc, ◌+◌, ◌-◌, ◌*◌, ◌<◌, ◌≤◌, Bool, true, false, refl, ap, ap₂, sym, ◌∙◌}
 use Rattle.std.proofs.Common.{arith, List, [], ◌∷◌, ◌++◌, drop, set, replicate, subst, min, append_assoc, codes}
 use Rattle.std.specs.Prelude.{nat_lt, nat_le, decimal, ◌&&◌, ◌==◌, if◌then◌else◌}
-use Rattle.std.specs.List.{list_all}
+use Rattle.std.specs.List.{list_all, list_any}
 use Rattle.std.proofs.lemmas.Bool.{ne_eqb, lt-ltb, eqb-true, eqb-false}
 use Rattle.std.proofs.lemmas.List.{append-nil, replicate-append-replicate}
-use Rattle.ans_model.specs.Bytes.{blank, escape, bracket}
+use Rattle.ans_model.specs.Bytes.{blank, escape, bracket, end_mark}
+use Rattle.ans_model.specs.File.Layout.{is_end_mark}
 use Rattle.ans_model.specs.declared.cell.Cell.{Cell}
 use Rattle.ans_model.specs.declared.cell.Position.{Position}
 use Rattle.ans_model.specs.Sequence.TokenKind.{Glyph, Forward}
@@ -21,7 +22,7 @@ use Rattle.ans_players.proofs.Spellings.{of_byte, one_right}
 use Rattle.ans_redraw.specs.Form.{glyph, skip, over_few}
 use Rattle.ans_redraw.specs.Laws.{IsPrinted, shown_kinds}
 use Rattle.ans_redraw.proofs.HalfDrawn.{half, half_printed, next_is, blanks_are_there}
-use Rattle.ans_redraw.proofs.ColourTexts.{number_right}
+use Rattle.ans_redraw.proofs.ColourTexts.{number_right, unmarked_both, number_unmarked}
 use Rattle.ans_redraw.proofs.Going.{Leads, stays, one_leads, both_lead}
 
 -- a byte may be printed: players stand firm, or behind a wrap
@@ -55,7 +56,12 @@ is_within z cells k r c h =
 
 -- a blank is printed
 blank_printed : IsPrinted blank
-blank_printed = record { is_byte = omega arith; not_escape = λ e. omega arith; means_itself = refl }
+blank_printed = record {
+  is_byte = omega arith;
+  not_escape = λ e. omega arith;
+  not_end_mark = λ e. omega arith;
+  means_itself = refl;
+}
 
 -- a skip is spelled by its number, where it is not 1
 skip_spelled : (n : ℕ) → 0 < n → n ≤ 255 → SpellsToken (Forward n) (skip n).text
@@ -65,6 +71,14 @@ skip_spelled n some few = by_test (n == 1) refl
         → SpellsToken (Forward n) (escape ∷ bracket ∷ ((if t then [] else decimal n) ++ codes "C"))
     by_test true e = subst (λ (m : ℕ). SpellsToken (Forward m) (escape ∷ codes "[C")) (sym (eqb-true n 1 e)) one_right
     by_test false e = number_right n some few
+
+skip_unmarked : (n : ℕ) → n ≤ 255 → list_any is_end_mark (skip n).text ≡ false
+skip_unmarked n few = by_test (n == 1)
+  where
+    by_test : (t : Bool)
+        → list_any is_end_mark (escape ∷ bracket ∷ ((if t then [] else decimal n) ++ codes "C")) ≡ false
+    by_test true = refl
+    by_test false = unmarked_both (decimal n) (codes "C") (number_unmarked n (omega arith)) refl
 
 module _ (z : Size) (cells : List Cell) (agreed : Kind → Bool) where
   -- ---- a byte
@@ -115,6 +129,7 @@ module _ (z : Size) (cells : List Cell) (agreed : Kind → Bool) where
       one_leads z agreed (stand z cells g k (at r c) a) (glyph b) (place z cells (suc k) r (c + 1) a)
       (record {
         spelled = of_byte b (Glyph b) printed.is_byte printed.not_escape (sym printed.means_itself);
+        unmarked = rw (ne_eqb b end_mark printed.not_end_mark) refl;
         allowed = record { no_static_fault = λ cause f. f; stays_above = λ same. omega (arith, h.row_stated) };
         agreed_there = glyph_agreed g (state_at z cells k (at r c) a) b may shown;
       })
@@ -144,6 +159,7 @@ module _ (z : Size) (cells : List Cell) (agreed : Kind → Bool) where
       one_leads z agreed (stand z cells Firm k (at r c) a) (skip n) (stand z cells Firm (k + n) (at r (c + n)) a)
       (record {
         spelled = skip_spelled n some few;
+        unmarked = skip_unmarked n few;
         allowed = record { no_static_fault = λ cause f. f; stays_above = tt };
         agreed_there = rw (lt-ltb (c + n) z.width lt) refl;
       })

@@ -21,6 +21,7 @@ use Rattle.ans_redraw.specs.Colours.{colours, colours_to, numbers_to}
 use Rattle.ans_redraw.specs.Form.{skip, over_few, over, line_end, set_back}
 use Rattle.ans_redraw.proofs.ColourParts.{numbers_lead}
 use Rattle.ans_redraw.proofs.ColourLaws.{AreCommon, numbers_are_common, some_number, common_spelled, common_calm}
+use Rattle.ans_redraw.proofs.ColourLaws.{common_unmarked}
 use Rattle.ans_redraw.proofs.Going.{Leads, stays, one_leads, both_lead}
 use Rattle.ans_redraw.proofs.HalfDrawn.{blanks_are_there}
 use Rattle.ans_redraw.proofs.Pieces.{stand, state_at, IsAt, is_within, LeadsOver, same_stand, few_lead, skips_lead}
@@ -59,6 +60,7 @@ module _ (z : Size) (cells : List Cell) (agreed : Kind → Bool) where
       one_leads z agreed (stand z cells g k p a) (colours ns) (stand z cells g k p (attribute_after_all a ns))
       (record {
         spelled = common_spelled ns common some;
+        unmarked = common_unmarked ns common;
         allowed = record { no_static_fault = λ cause f. f; stays_above = tt };
         agreed_there = rw (common_calm z g (state_at z cells k p a) ns common some) refl;
       })
@@ -102,6 +104,7 @@ module _ (z : Size) (cells : List Cell) (agreed : Kind → Bool) where
       one_leads z agreed _ _ _
       (record {
         spelled = of_byte 0x0A LineFeed (omega arith) (λ e. omega arith) refl;
+        unmarked = refl;
         allowed = record { no_static_fault = λ cause f. f; stays_above = λ same. omega (arith, lt) };
         agreed_there = refl;
       })
@@ -110,6 +113,7 @@ module _ (z : Size) (cells : List Cell) (agreed : Kind → Bool) where
       one_leads z agreed _ _ _
       (record {
         spelled = of_byte 0x0A LineFeed (omega arith) (λ e. omega arith) refl;
+        unmarked = refl;
         allowed = record { no_static_fault = λ cause f. f; stays_above = λ same. omega (arith, lt) };
         agreed_there = refl;
       })
@@ -122,6 +126,7 @@ module _ (z : Size) (cells : List Cell) (agreed : Kind → Bool) where
       one_leads z agreed _ _ _
       (record {
         spelled = of_byte 0x0D CarriageReturn (omega arith) (λ e. omega arith) refl;
+        unmarked = refl;
         allowed = record { no_static_fault = λ cause f. f; stays_above = tt };
         agreed_there = refl;
       })

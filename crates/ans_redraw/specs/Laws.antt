@@ -1,7 +1,8 @@
 -- What is proved of the form.
-use Rattle.std.specs.Prelude.{◌≡◌, ◌≢◌, ℕ, Bool, IsTrue, List, [], ◌++◌, map, All}
-use Rattle.std.specs.List.{concat, list_all}
-use Rattle.ans_model.specs.Bytes.{IsByte, escape}
+use Rattle.std.specs.Prelude.{◌≡◌, ◌≢◌, ℕ, Bool, IsTrue, IsFalse, List, [], ◌++◌, map, All}
+use Rattle.std.specs.List.{concat, list_all, list_any}
+use Rattle.ans_model.specs.Bytes.{IsByte, escape, end_mark}
+use Rattle.ans_model.specs.File.Layout.{is_end_mark}
 use Rattle.ans_model.specs.Sequence.TokenKind.{Glyph}
 use Rattle.ans_model.specs.Sequence.Reads.{ReadsAs, kind_of_byte}
 use Rattle.ans_model.specs.Screen.State.{Size, IsSize, State}
@@ -36,10 +37,11 @@ IsReadBack xs = ReadsAs (concat (map (λ x. x.text) xs)) (map (λ x. x.token) xs
 abbrev pub ColoursAreRead : Type 0
 ColoursAreRead = (from to : ℕ) → IsByte from → IsByte to → IsReadBack (colours_to from to)
 
--- the byte is printed: it is no token of another kind, and begins no sequence
+-- the byte is printed: it is no token of another kind, begins no sequence, and does not end the content
 pub record IsPrinted (byte : ℕ) : Type 0 where
   pub is_byte : IsByte byte
   pub not_escape : byte ≢ escape
+  pub not_end_mark : byte ≢ end_mark
   pub means_itself : kind_of_byte byte ≡ Glyph byte
 
 -- a picture of this size, of cells whose bytes are printed
@@ -75,3 +77,28 @@ FormIsAgreed = (agreed : Kind → Bool) (z : Size) (class : Start) (picture : Pi
 abbrev pub FormIsShown : Behaviour → Size → (Kind → Bool) → Type 0
 FormIsShown p z agreed = (picture : Picture) → IsDrawable z picture → BytesAreAgreed agreed picture
     → IsShown p z none_known (form picture) picture
+
+-- Its bytes have no end mark, so all of them are the content of a file that they begin.
+abbrev pub FormHasNoEndMark : Type 0
+FormHasNoEndMark = (z : Size) (picture : Picture) → IsDrawable z picture
+    → IsFalse (list_any is_end_mark (form_bytes picture))
+
+-- Behind it the attribute is white on black, from whichever state.
+abbrev pub FormEndsGrey : Type 0
+FormEndsGrey = (z : Size) (s : State) (picture : Picture) → IsDrawable z picture
+    → (final z s (map (λ x. x.token) (form picture))).attribute ≡ 0x07
+
+-- Each picture that good content shows can be drawn, where the content has no end mark.
+abbrev pub GoodPicturesAreDrawable : Type 0
+GoodPicturesAreDrawable = (z : Size) (class : Start) (content : List ℕ) (picture : Picture)
+    → GoodWith z class content picture → IsFalse (list_any is_end_mark content) → IsDrawable z picture
+
+-- Pictures of one size have one form only where they are equal.
+abbrev pub FormTellsThePicture : Type 0
+FormTellsThePicture = (z : Size) (p q : Picture) → IsDrawable z p → IsDrawable z q → form_bytes p ≡ form_bytes q
+    → p ≡ q
+
+-- What shows the picture of a form has that form: a redrawn content is redrawn as it is.
+abbrev pub FormIsKept : Type 0
+FormIsKept = (z : Size) (class : Start) (p q : Picture) → IsDrawable z p → GoodWith z class (form_bytes p) q
+    → form_bytes q ≡ form_bytes p

@@ -1,7 +1,8 @@
 //! Laws of the form.
 
-ghost use Rattle.ans_redraw.specs.Laws.{ColoursAreCalm, ColoursAreRead, ColoursLead, FormIsAgreed, FormIsGood};
-ghost use Rattle.ans_redraw.specs.Laws.{FormIsRead, FormIsShown};
+ghost use Rattle.ans_redraw.specs.Laws.{ColoursAreCalm, ColoursAreRead, ColoursLead, FormEndsGrey, FormHasNoEndMark};
+ghost use Rattle.ans_redraw.specs.Laws.{FormIsAgreed, FormIsGood, FormIsKept, FormIsRead, FormIsShown};
+ghost use Rattle.ans_redraw.specs.Laws.{FormTellsThePicture, GoodPicturesAreDrawable};
 
 use ans_players::player::Player;
 
@@ -14,10 +15,13 @@ pub fn colours_lead_from_each_to_each()
 {}
 
 /// The bytes of the form are read as it is meant. They are good from every start, and show the picture,
-/// whichever it is: each byte of a cell has only to be one that is printed.
+/// whichever it is: each byte of a cell has only to be one that is printed. They have no end mark, and leave
+/// the attribute white on black.
 pub fn form_is_good_from_every_start()
     ensures read { FormIsRead }
     ensures good { FormIsGood }
+    ensures unmarked { FormHasNoEndMark }
+    ensures grey { FormEndsGrey }
 {}
 
 /// No kind in which players part arises in the form from any start, but for those of the picture's own
@@ -33,4 +37,17 @@ pub fn form_is_the_same_on_every_player()
 /// stated lines and a spare row, and draws code page 437.
 pub fn form_shows_everywhere<P: Player>()
     ensures { FormIsShown P.behaviour P.size P.agreed }
+{}
+
+/// Each picture that good content shows can be drawn so, where the content has no end mark, as no content of
+/// a file has.
+pub fn pictures_of_good_content_are_drawable()
+    ensures { GoodPicturesAreDrawable }
+{}
+
+/// Pictures of one size have one form only where they are equal, so the form is a normal one. A content that is
+/// redrawn already is redrawn as it is, to the byte.
+pub fn one_form_of_each_picture()
+    ensures tells { FormTellsThePicture }
+    ensures kept { FormIsKept }
 {}
