@@ -23,14 +23,14 @@ use Rattle.ans_players.specs.declared.kind.Kind.{Kind}
 use Rattle.ans_players.specs.Grips.{Firm, Stand, firmly}
 use Rattle.ans_players.specs.Mends.{mending_spelled}
 use Rattle.ans_players.specs.Players.{Behaviour, IsPlayer}
-use Rattle.ans_players.specs.Situations.{Spelled, stand_behind}
+use Rattle.ans_players.specs.Situations.{Spelled, AreAgreed, spelled, stand_behind}
 use Rattle.ans_players.proofs.Everywhere.{kinds_of, shown_by}
 use Rattle.ans_players.proofs.MendedPlayers.{mending_leaves}
 use Rattle.ans_players.proofs.Spellings.{wrap_on, white_on_black, clear, home, save}
 use Rattle.ans_redraw.specs.Form.{form, picture_drawn}
 use Rattle.ans_redraw.specs.Laws.{shown_kinds, IsDrawable, BytesAreAgreed}
 use Rattle.ans_redraw.specs.Laws.{FormIsRead, FormIsGood, FormIsAgreed, FormIsShown}
-use Rattle.ans_redraw.specs.Laws.{FormHasNoEndMark, FormEndsGrey}
+use Rattle.ans_redraw.specs.Laws.{FormHasNoEndMark, FormEndsGrey, FormIsSame}
 use Rattle.ans_redraw.proofs.AllGoes.{Marks, SameBefore, all_spelled, all_unmarked, all_agreed, all_play_well}
 use Rattle.ans_redraw.proofs.Going.{AllGoWell, Leads, both_lead}
 use Rattle.ans_redraw.proofs.HalfDrawn.{half}
@@ -238,3 +238,16 @@ form_ends_grey z s picture h =
     let all = form_drawn any_kind z picture h (any_agreed picture) s in
     ap (λ (v : State). v.attribute) (sym (state_after z (firmly s) (form picture)))
     ∙ ap (λ (v : Stand). v.state.attribute) all.leads.leads ∙ all.attribute
+
+-- the tokens with their texts
+spelled_back : (xs : List Spelled) → spelled (kinds_of xs) (map (λ x. x.text) xs) ≡ xs
+spelled_back [] = refl
+spelled_back (x ∷ xs) = ap (λ (ys : List Spelled). x ∷ ys) (spelled_back xs)
+
+pub form_is_same : FormIsSame
+unfolding form_is_good
+form_is_same agreed z class picture h bytes = (
+  (picture, form_is_good z class picture h),
+  subst (λ (xs : List Spelled). AreAgreed agreed z class xs) (sym (spelled_back (form picture)))
+      (form_is_agreed agreed z class picture h bytes),
+)

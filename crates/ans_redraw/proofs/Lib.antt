@@ -13,3 +13,4 @@ pub mod FormLaws
 pub mod PrintedBytes
 pub mod PrintedPictures
 pub mod Redrawn
+pub mod FormLengths

@@ -1,5 +1,5 @@
 -- What is proved of the form.
-use Rattle.std.specs.Prelude.{◌≡◌, ◌≢◌, ℕ, Bool, IsTrue, IsFalse, List, [], ◌++◌, map, All}
+use Rattle.std.specs.Prelude.{◌≡◌, ◌≢◌, ℕ, ◌+◌, ◌*◌, ◌≤◌, length, Bool, IsTrue, IsFalse, List, [], ◌++◌, map, All}
 use Rattle.std.specs.List.{concat, list_all, list_any}
 use Rattle.ans_model.specs.Bytes.{IsByte, escape, end_mark}
 use Rattle.ans_model.specs.File.Layout.{is_end_mark}
@@ -12,6 +12,7 @@ use Rattle.ans_model.specs.declared.start.Start.{Start}
 use Rattle.ans_model.specs.Verdict.Good.{Picture, IsPictureOf, GoodWith}
 use Rattle.ans_players.specs.declared.kind.Kind.{Kind}
 use Rattle.ans_players.specs.declared.kind.Kind.TheVariants.{PageControls, TerminalControls}
+use Rattle.ans_players.specs.Classes.{IsSame}
 use Rattle.ans_players.specs.Grips.{Grip}
 use Rattle.ans_players.specs.Players.{Behaviour, IsShown}
 use Rattle.ans_players.specs.Situations.{Spelled, AreAgreed, situations, kind_if, is_page_control}
@@ -102,3 +103,12 @@ FormTellsThePicture = (z : Size) (p q : Picture) → IsDrawable z p → IsDrawab
 abbrev pub FormIsKept : Type 0
 FormIsKept = (z : Size) (class : Start) (p q : Picture) → IsDrawable z p → GoodWith z class (form_bytes p) q
     → form_bytes q ≡ form_bytes p
+
+-- So its bytes are the same on every player that agrees in the kinds of the picture's own bytes.
+abbrev pub FormIsSame : Type 0
+FormIsSame = (agreed : Kind → Bool) (z : Size) (class : Start) (picture : Picture) → IsDrawable z picture
+    → BytesAreAgreed agreed picture → IsSame agreed z class (form_bytes picture)
+
+-- Its bytes are at most 13 for each cell, and 23 more.
+abbrev pub FormIsBounded : Type 0
+FormIsBounded = (picture : Picture) → length (form_bytes picture) ≤ 13 * length picture.cells + 23

@@ -1,7 +1,7 @@
 //! Laws of the form.
 
 ghost use Rattle.ans_redraw.specs.Laws.{ColoursAreCalm, ColoursAreRead, ColoursLead, FormEndsGrey, FormHasNoEndMark};
-ghost use Rattle.ans_redraw.specs.Laws.{FormIsAgreed, FormIsGood, FormIsKept, FormIsRead, FormIsShown};
+ghost use Rattle.ans_redraw.specs.Laws.{FormIsAgreed, FormIsBounded, FormIsGood, FormIsKept, FormIsRead, FormIsSame, FormIsShown};
 ghost use Rattle.ans_redraw.specs.Laws.{FormTellsThePicture, GoodPicturesAreDrawable};
 
 use ans_players::player::Player;
@@ -27,7 +27,8 @@ pub fn form_is_good_from_every_start()
 /// No kind in which players part arises in the form from any start, but for those of the picture's own
 /// bytes: some control bytes are not drawn everywhere.
 pub fn form_is_the_same_on_every_player()
-    ensures { FormIsAgreed }
+    ensures agreed { FormIsAgreed }
+    ensures same { FormIsSame }
 {}
 
 /// So a player that draws the picture's own bytes as the profile does shows the picture, from every memory
@@ -50,4 +51,9 @@ pub fn pictures_of_good_content_are_drawable()
 pub fn one_form_of_each_picture()
     ensures tells { FormTellsThePicture }
     ensures kept { FormIsKept }
+{}
+
+/// The form of a picture has at most 13 bytes for each cell, and 23 more.
+pub fn form_is_bounded()
+    ensures { FormIsBounded }
 {}
