@@ -1,5 +1,6 @@
 -- What follows where all tokens go well.
-use Rattle.std.proofs.Common.{◌≡◌, ℕ, zero, suc, map, Bool, false, List, [], ◌∷◌, fold, take, refl, ap, sym, ◌∙◌, Some, subst}
+use Rattle.std.proofs.Common.{◌≡◌, ℕ, zero, suc, ◌+◌, Bool, false, List, [], ◌∷◌, map, fold, take, refl, ap}
+use Rattle.std.proofs.Common.{sym, ◌∙◌, Some, subst}
 use Rattle.std.specs.Prelude.{slice_get, ◌<◌, replicate}
 use Rattle.std.specs.List.{concat, list_any}
 use Rattle.ans_model.specs.Bytes.{blank}
@@ -17,7 +18,7 @@ use Rattle.ans_players.specs.Grips.{Stand, firmly}
 use Rattle.ans_players.specs.Players.{StaysAbove}
 use Rattle.ans_players.specs.Situations.{Spelled, AreAgreed, stand_behind, stand_of}
 use Rattle.ans_players.proofs.Everywhere.{kinds_of, state_is}
-use Rattle.ans_redraw.proofs.Going.{GoesWell, AllGoWell}
+use Rattle.ans_redraw.proofs.Going.{GoesWell, AllGoWell, FeedsOn}
 use Rattle.ans_redraw.proofs.ColourTexts.{unmarked_both}
 use Rattle.ans_redraw.proofs.ReadBack.{AreSpelled}
 
@@ -73,6 +74,15 @@ module _ (z : Size) (agreed : Kind → Bool) (xs : List Spelled)
   -- no kinds but agreed ones arise
   pub all_agreed : (class : Start) → AreAgreed agreed z class xs
   all_agreed class s k x start e = (goes_at z agreed (firmly s) xs k x (well s) e).agreed_there
+
+  -- no line feed leads to the spare row
+  pub all_feed_on : (k : ℕ) (s : State) → slice_get (kinds_of xs) k ≡ Some LineFeed
+      → (final z s (take k (kinds_of xs))).cursor.row + 1 < z.lines
+  all_feed_on k s e =
+      let at = token_there xs k LineFeed e in
+      let goes = goes_at z agreed (firmly s) xs k at.x (well s) at.there in
+      subst (λ (v : State). FeedsOn z v LineFeed) (state_is z s xs k)
+      (subst (λ (u : TokenKind). FeedsOn z (stand_of z s (take k xs)).state u) at.token goes.feeds_on)
 
   -- nothing is printed in the spare row
   above_at : (k : ℕ) (t : TokenKind) (s : State) → slice_get (kinds_of xs) k ≡ Some t

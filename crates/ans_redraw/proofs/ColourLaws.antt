@@ -19,7 +19,8 @@ use Rattle.ans_players.specs.Situations.{Spelled, situations, is_common_colour, 
 use Rattle.ans_redraw.specs.Colours.{foreground, is_bright, background, blinks, colour_number, number_if, changes}
 use Rattle.ans_redraw.specs.Colours.{stays, or_white, anew, numbers_to, is_no_longer, colours_text, colours, colours_to}
 use Rattle.ans_redraw.specs.Laws.{ColoursLead, ColoursAreCalm, ColoursAreRead}
-use Rattle.ans_redraw.proofs.ColourParts.{numbers_lead, foreground_lt, background_lt}
+use Rattle.ans_redraw.proofs.ColourParts.{numbers_lead, foreground_lt, background_lt, bright_number}
+use Rattle.ans_redraw.proofs.ColourParts.{blink_number, front_number, back_number}
 use Rattle.ans_redraw.proofs.ColourTexts.{AreBytes, numbers_spelled, text_omits_none, text_unmarked}
 use Rattle.ans_redraw.proofs.ReadBack.{AreSpelled, read_back}
 
@@ -52,16 +53,16 @@ background_common g lt = agree_below_at (λ g. is_common_colour (40 + colour_num
 
 module _ (from to : ℕ) where
   abbrev bright : List ℕ
-  bright = number_if (not (is_bright from) && is_bright to) 1
+  bright = bright_number from to
 
   abbrev blink : List ℕ
-  blink = number_if (not (blinks from) && blinks to) 5
+  blink = blink_number from to
 
   abbrev front : List ℕ
-  front = number_if (not (foreground from == foreground to)) (30 + colour_number (foreground to))
+  front = front_number from to
 
   abbrev back : List ℕ
-  back = number_if (not (background from == background to)) (40 + colour_number (background to))
+  back = back_number from to
 
   changes_common : list_all is_common_colour (changes from to) ≡ true
   changes_common =

@@ -40,9 +40,10 @@ of_each_made p =
     of_each_two p true true && (of_each_two p true false && (of_each_two p false true && of_each_two p false false))
 
 -- it holds of each
-each_made : (p : ℕ → Bool → ℕ → Bool → Bool) → of_each_made p ≡ true → (f g : ℕ) (bright blink : Bool) → f < 8 → g < 8
-    → p f bright g blink ≡ true
-each_made p h f g true true lt gt = each_pair (λ f g. p f true g true) (and_parts (of_each_two p true true) _ h).0 f g lt gt
+each_made : (p : ℕ → Bool → ℕ → Bool → Bool) → of_each_made p ≡ true → (f g : ℕ) (bright blink : Bool) → f < 8
+    → g < 8 → p f bright g blink ≡ true
+each_made p h f g true true lt gt =
+    each_pair (λ f g. p f true g true) (and_parts (of_each_two p true true) _ h).0 f g lt gt
 each_made p h f g true false lt gt =
     let more = and_parts (of_each_two p true true) _ h in
     each_pair (λ f g. p f true g false) (and_parts (of_each_two p true false) _ more.1).0 f g lt gt
@@ -132,6 +133,20 @@ foreground_lt a = mod-lt a (lit< tt)
 pub background_lt : (a : ℕ) → background a < 8
 background_lt a = mod-lt (a / 16) (lit< tt)
 
+-- the four numbers of what changes, where each is there
+module _ (from to : ℕ) where
+  abbrev pub bright_number : List ℕ
+  bright_number = number_if (not (is_bright from) && is_bright to) 1
+
+  abbrev pub blink_number : List ℕ
+  blink_number = number_if (not (blinks from) && blinks to) 5
+
+  abbrev pub front_number : List ℕ
+  front_number = number_if (not (foreground from == foreground to)) (30 + colour_number (foreground to))
+
+  abbrev pub back_number : List ℕ
+  back_number = number_if (not (background from == background to)) (40 + colour_number (background to))
+
 -- what the numbers of what changes do
 changes_make : (from to : ℕ) → IsByte from
     → attribute_after_all from (changes from to)
@@ -139,10 +154,10 @@ changes_make : (from to : ℕ) → IsByte from
 changes_make from to h =
     let f = foreground from in
     let g = background from in
-    let bright : List ℕ = number_if (not (is_bright from) && is_bright to) 1 in
-    let blink : List ℕ = number_if (not (blinks from) && blinks to) 5 in
-    let front : List ℕ = number_if (not (foreground from == foreground to)) (30 + colour_number (foreground to)) in
-    let back : List ℕ = number_if (not (background from == background to)) (40 + colour_number (background to)) in
+    let bright : List ℕ = bright_number from to in
+    let blink : List ℕ = blink_number from to in
+    let front : List ℕ = front_number from to in
+    let back : List ℕ = back_number from to in
     ap (λ (a : ℕ). attribute_after_all a (bright ++ (blink ++ (front ++ back)))) (sym (made_of_parts from h))
     ∙ fold-append attribute_after (made f (is_bright from) g (blinks from)) bright (blink ++ (front ++ back))
     ∙ ap (λ (a : ℕ). attribute_after_all a (blink ++ (front ++ back)))

@@ -30,8 +30,9 @@ use Rattle.ans_players.proofs.Spellings.{wrap_on, white_on_black, clear, home, s
 use Rattle.ans_redraw.specs.Form.{form, picture_drawn}
 use Rattle.ans_redraw.specs.Laws.{shown_kinds, IsDrawable, BytesAreAgreed}
 use Rattle.ans_redraw.specs.Laws.{FormIsRead, FormIsGood, FormIsAgreed, FormIsShown}
-use Rattle.ans_redraw.specs.Laws.{FormHasNoEndMark, FormEndsGrey, FormIsSame}
-use Rattle.ans_redraw.proofs.AllGoes.{Marks, SameBefore, all_spelled, all_unmarked, all_agreed, all_play_well}
+use Rattle.ans_redraw.specs.Laws.{FormHasNoEndMark, FormEndsGrey, FormIsSame, FormFeedsOn}
+use Rattle.ans_redraw.proofs.AllGoes.{Marks, SameBefore, all_spelled, all_unmarked, all_agreed, all_feed_on}
+use Rattle.ans_redraw.proofs.AllGoes.{all_play_well}
 use Rattle.ans_redraw.proofs.Going.{AllGoWell, Leads, both_lead}
 use Rattle.ans_redraw.proofs.HalfDrawn.{half}
 use Rattle.ans_redraw.proofs.Pieces.{stand}
@@ -62,6 +63,7 @@ module _ (z : Size) (agreed : Kind → Bool) (some : 0 < z.width) where
       spelled = wrap_on;
       unmarked = refl;
       allowed = record { no_static_fault = λ cause f. f; stays_above = tt };
+      feeds_on = tt;
       agreed_there = refl;
     },
     (
@@ -69,6 +71,7 @@ module _ (z : Size) (agreed : Kind → Bool) (some : 0 < z.width) where
         spelled = white_on_black;
         unmarked = refl;
         allowed = record { no_static_fault = λ cause f. f; stays_above = tt };
+        feeds_on = tt;
         agreed_there = refl;
       },
       (
@@ -76,6 +79,7 @@ module _ (z : Size) (agreed : Kind → Bool) (some : 0 < z.width) where
           spelled = clear;
           unmarked = refl;
           allowed = record { no_static_fault = λ cause f. f; stays_above = tt };
+          feeds_on = tt;
           agreed_there = rw (reset s.attribute) refl;
         },
         (
@@ -83,6 +87,7 @@ module _ (z : Size) (agreed : Kind → Bool) (some : 0 < z.width) where
             spelled = home;
             unmarked = refl;
             allowed = record { no_static_fault = λ cause. home_is_within z cause some; stays_above = tt };
+            feeds_on = tt;
             agreed_there = refl;
           },
           (
@@ -90,6 +95,7 @@ module _ (z : Size) (agreed : Kind → Bool) (some : 0 < z.width) where
               spelled = save;
               unmarked = refl;
               allowed = record { no_static_fault = λ cause f. f; stays_above = tt };
+              feeds_on = tt;
               agreed_there = refl;
             },
             tt,
@@ -251,3 +257,7 @@ form_is_same agreed z class picture h bytes = (
   subst (λ (xs : List Spelled). AreAgreed agreed z class xs) (sym (spelled_back (form picture)))
       (form_is_agreed agreed z class picture h bytes),
 )
+
+pub form_feeds_on : FormFeedsOn
+form_feeds_on z s picture k h e =
+    all_feed_on z any_kind (form picture) (form_goes any_kind z picture h (any_agreed picture)) k s e

@@ -20,7 +20,8 @@ use Rattle.ans_redraw.specs.Form.{Pen, pen, is_passed, glyph, skip, over_few, ov
 use Rattle.ans_redraw.specs.Form.{is_coloured, to_row_below, pen_below, line_end, set_back, are_blank}
 use Rattle.ans_redraw.specs.Form.{rows_drawn, picture_drawn}
 use Rattle.ans_redraw.specs.Laws.{FormIsBounded}
-use Rattle.ans_redraw.proofs.ColourParts.{foreground_lt, background_lt}
+use Rattle.ans_redraw.proofs.ColourParts.{foreground_lt, background_lt, bright_number, blink_number}
+use Rattle.ans_redraw.proofs.ColourParts.{front_number, back_number}
 
 -- how many bytes they are
 abbrev pub bytes_of : List Spelled → ℕ
@@ -80,16 +81,16 @@ weight_if false n = omega arith
 -- ---- what changes
 module _ (from to : ℕ) where
   abbrev bright : List ℕ
-  bright = number_if (not (is_bright from) && is_bright to) 1
+  bright = bright_number from to
 
   abbrev blink : List ℕ
-  blink = number_if (not (blinks from) && blinks to) 5
+  blink = blink_number from to
 
   abbrev front : List ℕ
-  front = number_if (not (foreground from == foreground to)) (30 + colour_number (foreground to))
+  front = front_number from to
 
   abbrev back : List ℕ
-  back = number_if (not (background from == background to)) (40 + colour_number (background to))
+  back = back_number from to
 
   changes_weight : weight (changes from to) ≤ weight bright + weight blink + 6
   changes_weight =

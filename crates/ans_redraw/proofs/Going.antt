@@ -1,21 +1,29 @@
 -- Spelled tokens that go well, one after the other.
-use Rattle.std.proofs.Common.{◌≡◌, Bool, sym, ◌∙◌, List, [], ◌∷◌, ◌++◌, fold, subst}
+use Rattle.std.proofs.Common.{◌≡◌, ◌+◌, ◌<◌, Bool, sym, ◌∙◌, List, [], ◌∷◌, ◌++◌, fold, subst}
 use Rattle.std.specs.Prelude.{IsTrue, false}
 use Rattle.std.specs.List.{list_any}
 use Rattle.std.proofs.lemmas.List.Sums.{fold-append}
 use Rattle.ans_model.specs.File.Layout.{is_end_mark}
 use Rattle.ans_model.specs.Sequence.Reads.{SpellsToken}
-use Rattle.ans_model.specs.Screen.State.{Size}
+use Rattle.ans_model.specs.Sequence.TokenKind.{TokenKind, LineFeed}
+use Rattle.ans_model.specs.Screen.State.{Size, State}
 use Rattle.ans_players.specs.declared.kind.Kind.{Kind}
 use Rattle.ans_players.specs.Grips.{Stand}
 use Rattle.ans_players.specs.Players.{IsAllowed}
 use Rattle.ans_players.specs.Situations.{Spelled, is_agreed, stand_behind}
 
--- its text spells it and has no end mark, it is not refused, and no kinds but agreed ones arise at it
+-- a line feed leads to a stated row
+abbrev pub FeedsOn : Size → State → TokenKind → Type 0
+FeedsOn z s LineFeed = s.cursor.row + 1 < z.lines
+FeedsOn z s t = Unit {0}
+
+-- Its text spells it and has no end mark. It is not refused, it feeds no line below the stated ones, and no kinds but
+-- agreed ones arise at it.
 pub record GoesWell (z : Size) (agreed : Kind → Bool) (h : Stand) (x : Spelled) : Type 0 where
   pub spelled : SpellsToken x.token x.text
   pub unmarked : list_any is_end_mark x.text ≡ false
   pub allowed : IsAllowed z h.state x.token
+  pub feeds_on : FeedsOn z h.state x.token
   pub agreed_there : IsTrue (is_agreed agreed z h x)
 
 -- each goes well where the ones before it lead

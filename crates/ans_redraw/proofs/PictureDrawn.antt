@@ -1,6 +1,7 @@
 -- Where the rows of a picture lead.
 use Rattle.std.proofs.Common.{◌≡◌, ℕ, zero, suc, ◌+◌, ◌*◌, ◌<◌, ◌≤◌, Bool, true, false, not, refl, ap, ap₂, sym, ◌∙◌}
-use Rattle.std.proofs.Common.{arith, add-mul, one-mul, List, [], ◌∷◌, ◌++◌, length, take, drop, replicate, subst, append_assoc}
+use Rattle.std.proofs.Common.{arith, add-mul, one-mul, List, [], ◌∷◌, ◌++◌, length, take, drop, replicate}
+use Rattle.std.proofs.Common.{subst, append_assoc}
 use Rattle.std.specs.Prelude.{All, nat_lt, ◌==◌, ◌&&◌, ◌||◌, if◌then◌else◌}
 use Rattle.std.specs.List.{list_all}
 use Rattle.std.proofs.lemmas.Bool.{lt-ltb, le-ltb, eqb-true, eqb-false, and_parts}
@@ -100,7 +101,7 @@ module _ (z : Size) (cells : List Cell) (agreed : Kind → Bool) where
   colours_off k r c a true h = colours_to_lead z cells agreed Firm k a 0x07 (at r c) h (omega arith)
   colours_off k r c a false h = stays z agreed _ _ refl
 
-  below_leads : (n : ℕ) (p : Pen) (k r c : ℕ) (rest : List Cell) → IsBehindRow z cells agreed n p k r c rest
+  below_leads : (n : ℕ) (p : Pen) (k r c : ℕ) (rest : List Cell) → IsBehindRow z cells agreed (suc n) p k r c rest
       → Leads z agreed (place z cells k r c p.attribute) (to_row_below p)
       (stand z cells (grip_below p) (k + p.behind) (at (r + 1) 0) (pen_below p).attribute)
   below_leads n p k r c rest h = by_test (p.behind == 0) refl
@@ -120,6 +121,7 @@ module _ (z : Size) (cells : List Cell) (agreed : Kind → Bool) where
           let some : p.behind ≡ 0 → ⊥ = eqb-false p.behind 0 e in
           let lt : c < z.width = omega (arith, h.whole) in
           let above : r < z.lines = omega (arith, h.rows_left) in
+          let on : r + 1 < z.lines = omega (arith, h.rows_left) in
           let a : ℕ = if is_coloured p.attribute then 0x07 else p.attribute in
           let start : stand z cells Firm k (at r c) p.attribute ≡ place z cells k r c p.attribute =
           rw (lt-ltb c z.width lt) refl in
@@ -135,7 +137,7 @@ module _ (z : Size) (cells : List Cell) (agreed : Kind → Bool) where
           })) there.same
           (both_lead z agreed _ _ _ (if is_coloured p.attribute then colours_to p.attribute 0x07 else []) line_end
           (colours_off k r c p.attribute (is_coloured p.attribute) h.attribute)
-          (line_end_leads z cells agreed k r c a above)))
+          (line_end_leads z cells agreed k r c a on)))
 
   -- ---- where nothing but blanks is left
   place_set_back : (k r c a : ℕ) (t : Bool)
@@ -244,7 +246,7 @@ module _ (z : Size) (cells : List Cell) (agreed : Kind → Bool) where
         attribute = drawn_row.attribute;
         leads = both_lead z agreed (place z cells k r c p.attribute) (stand z cells (grip_below p) j (at (r + 1) 0) a)
             (place z cells drawn_row.k (r + 1) drawn_row.c (pen_behind forced (pen_below p) row).attribute)
-            (to_row_below p) (drawn forced (pen_below p) row) (below_leads (suc n) p k r c rest h)
+            (to_row_below p) (drawn forced (pen_below p) row) (below_leads n p k r c rest h)
             (subst (λ (v : Stand). Leads z agreed v (drawn forced (pen_below p) row)
             (place z cells drawn_row.k (r + 1) drawn_row.c (pen_behind forced (pen_below p) row).attribute)) start
             drawn_row.leads);

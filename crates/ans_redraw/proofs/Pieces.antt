@@ -55,7 +55,7 @@ is_within z cells k r c h =
     omega (arith, h.index_is, lt)
 
 -- a blank is printed
-blank_printed : IsPrinted blank
+pub blank_printed : IsPrinted blank
 blank_printed = record {
   is_byte = omega arith;
   not_escape = λ e. omega arith;
@@ -89,7 +89,8 @@ module _ (z : Size) (cells : List Cell) (agreed : Kind → Bool) where
   put_is k r c b a rest h e =
       let lt = is_within z cells k r c h in
       let drawn : set (half z cells k) (r * z.width + c) (cell b a) ≡ half z cells (suc k) =
-      ap (λ (j : ℕ). set (half z cells k) j (cell b a)) (sym h.index_is) ∙ half_printed z cells k (cell b a) rest e lt in
+      ap (λ (j : ℕ). set (half z cells k) j (cell b a)) (sym h.index_is)
+      ∙ half_printed z cells k (cell b a) rest e lt in
       ap (λ (v : List Cell). advanced z (record (state_at z cells k (at r c) a) { screen = v })) drawn
       ∙ advanced_is z (state_at z cells (suc k) (at r c) a) h.row_stated
 
@@ -131,6 +132,7 @@ module _ (z : Size) (cells : List Cell) (agreed : Kind → Bool) where
         spelled = of_byte b (Glyph b) printed.is_byte printed.not_escape (sym printed.means_itself);
         unmarked = rw (ne_eqb b end_mark printed.not_end_mark) refl;
         allowed = record { no_static_fault = λ cause f. f; stays_above = λ same. omega (arith, h.row_stated) };
+        feeds_on = tt;
         agreed_there = glyph_agreed g (state_at z cells k (at r c) a) b may shown;
       })
       (behind_glyph g k r c b a rest may h e)
@@ -161,6 +163,7 @@ module _ (z : Size) (cells : List Cell) (agreed : Kind → Bool) where
         spelled = skip_spelled n some few;
         unmarked = skip_unmarked n few;
         allowed = record { no_static_fault = λ cause f. f; stays_above = tt };
+        feeds_on = tt;
         agreed_there = rw (lt-ltb (c + n) z.width lt) refl;
       })
       (ap₂ (λ (v : List Cell) (m : ℕ). record (stand z cells Firm k (at r m) a) {

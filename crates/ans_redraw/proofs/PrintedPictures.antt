@@ -18,6 +18,7 @@ use Rattle.ans_model.specs.Screen.StartClass.{low_start}
 use Rattle.ans_model.proofs.FilledLemmas.{All-filled}
 use Rattle.ans_model.proofs.StartLemmas.{low_is_start}
 use Rattle.ans_redraw.specs.Laws.{IsPrinted, GoodPicturesAreDrawable}
+use Rattle.ans_redraw.proofs.Pieces.{blank_printed}
 use Rattle.ans_redraw.proofs.PrintedBytes.{PrintsPrinted, tokens_printed}
 
 -- the cell's byte is printed
@@ -26,14 +27,6 @@ HasPrinted c = IsPrinted c.byte
 
 abbrev AllPrinted : State → Type 0
 AllPrinted s = All HasPrinted s.screen
-
-pub blank_is_printed : IsPrinted blank
-blank_is_printed = record {
-  is_byte = omega arith;
-  not_escape = λ e. omega arith;
-  not_end_mark = λ e. omega arith;
-  means_itself = refl;
-}
 
 zero_is_printed : IsPrinted 0
 zero_is_printed = record {
@@ -49,7 +42,7 @@ after_feed z s h = elim (cases_eq s.cursor.row z.lines) [
   | inl e ↦ rw (eq-eqb s.cursor.row z.lines e)
       (All-append HasPrinted (drop z.width s.screen) (replicate z.width (blank_cell s.attribute))
       (All-drop HasPrinted z.width s.screen h)
-      (All-replicate HasPrinted z.width (blank_cell s.attribute) blank_is_printed))
+      (All-replicate HasPrinted z.width (blank_cell s.attribute) blank_printed))
   | inr ne ↦ rw (ne_eqb s.cursor.row z.lines ne) h
 ]
 
@@ -73,13 +66,13 @@ after_blanks : (z : Size) (s : State) (count : ℕ) → AllPrinted s
     → AllPrinted (fold (put z) s (replicate count blank))
 after_blanks z s zero h = h
 after_blanks z s (suc count) h =
-    after_blanks z (put z s blank) count (after_put z s blank blank_is_printed h)
+    after_blanks z (put z s blank) count (after_put z s blank blank_printed h)
 
 after_step : (z : Size) (s : State) (t : TokenKind) → PrintsPrinted t → AllPrinted s → AllPrinted (step z s t)
-after_step z s Clear b h = All-replicate HasPrinted (cell_count z) (blank_cell s.attribute) blank_is_printed
+after_step z s Clear b h = All-replicate HasPrinted (cell_count z) (blank_cell s.attribute) blank_printed
 after_step z s EraseLine b h =
     All-filled HasPrinted s.screen (index z s.cursor) (next_row_start z s.cursor) (blank_cell s.attribute)
-    blank_is_printed h
+    blank_printed h
 after_step z s LineFeed b h = after_feed z s h
 after_step z s (Glyph byte) b h = after_put z s byte b h
 after_step z s Tab b h = search (h, after_blanks)
@@ -95,8 +88,9 @@ low_printed : (z : Size) (class : Start) → AllPrinted (low_start z class)
 low_printed z class = by_part class.screen
   where
     by_part : (known : Bool)
-        → All HasPrinted (if known then replicate (cell_count z) (blank_cell 0x07) else replicate (cell_count z) (cell 0 0))
-    by_part true = All-replicate HasPrinted (cell_count z) (blank_cell 0x07) blank_is_printed
+        → All HasPrinted
+        (if known then replicate (cell_count z) (blank_cell 0x07) else replicate (cell_count z) (cell 0 0))
+    by_part true = All-replicate HasPrinted (cell_count z) (blank_cell 0x07) blank_printed
     by_part false = All-replicate HasPrinted (cell_count z) (cell 0 0) zero_is_printed
 
 -- ---- each cell of the picture

@@ -118,8 +118,12 @@ module _ (z : Size) (cells : List Cell) (agreed : Kind → Bool) where
           → Leads z agreed (stand z cells Wrapped k (at r c) a)
           (if t && true then [] else [])
           (stand z cells Wrapped (k + 0) (at r (c + 0)) a)
-      nothing true = stays z agreed _ _ (ap₂ (λ (i j : ℕ). stand z cells Wrapped i (at r j) a) (omega arith) (omega arith))
-      nothing false = stays z agreed _ _ (ap₂ (λ (i j : ℕ). stand z cells Wrapped i (at r j) a) (omega arith) (omega arith))
+      nothing true =
+          stays z agreed _ _
+          (ap₂ (λ (i j : ℕ). stand z cells Wrapped i (at r j) a) (omega arith) (omega arith))
+      nothing false =
+          stays z agreed _ _
+          (ap₂ (λ (i j : ℕ). stand z cells Wrapped i (at r j) a) (omega arith) (omega arith))
   way_leads _ forced n k r c a rest held h lt e = absurd held
 
   -- a cell is printed: the way, the colours and the byte

@@ -62,6 +62,7 @@ module _ (z : Size) (cells : List Cell) (agreed : Kind → Bool) where
         spelled = common_spelled ns common some;
         unmarked = common_unmarked ns common;
         allowed = record { no_static_fault = λ cause f. f; stays_above = tt };
+        feeds_on = tt;
         agreed_there = rw (common_calm z g (state_at z cells k p a) ns common some) refl;
       })
       refl
@@ -97,27 +98,31 @@ module _ (z : Size) (cells : List Cell) (agreed : Kind → Bool) where
   abbrev returned : Bool → Grip
   returned first = if first then Firm else BehindReturn
 
-  feed_leads : (first : Bool) (k r a : ℕ) → r < z.lines
+  feed_leads : (first : Bool) (k r a : ℕ) → r + 1 < z.lines
       → Leads z agreed (stand z cells (returned first) k (at r 0) a)
       (record { token = LineFeed; text = 0x0A ∷ [] } ∷ []) (stand z cells Firm k (at (r + 1) 0) a)
-  feed_leads true k r a lt =
+  feed_leads true k r a on =
       one_leads z agreed _ _ _
       (record {
         spelled = of_byte 0x0A LineFeed (omega arith) (λ e. omega arith) refl;
         unmarked = refl;
-        allowed = record { no_static_fault = λ cause f. f; stays_above = λ same. omega (arith, lt) };
+        allowed = record { no_static_fault = λ cause f. f; stays_above = λ same. omega (arith, on) };
+        feeds_on = on;
         agreed_there = refl;
       })
-      (ap (λ (s : State). record { grip = Firm; state = s }) (line_feed_is z (state_at z cells k (at r 0) a) lt))
-  feed_leads false k r a lt =
+      (ap (λ (s : State). record { grip = Firm; state = s }) (line_feed_is z (state_at z cells k (at r 0) a)
+      (omega arith)))
+  feed_leads false k r a on =
       one_leads z agreed _ _ _
       (record {
         spelled = of_byte 0x0A LineFeed (omega arith) (λ e. omega arith) refl;
         unmarked = refl;
-        allowed = record { no_static_fault = λ cause f. f; stays_above = λ same. omega (arith, lt) };
+        allowed = record { no_static_fault = λ cause f. f; stays_above = λ same. omega (arith, on) };
+        feeds_on = on;
         agreed_there = refl;
       })
-      (ap (λ (s : State). record { grip = Firm; state = s }) (line_feed_is z (state_at z cells k (at r 0) a) lt))
+      (ap (λ (s : State). record { grip = Firm; state = s }) (line_feed_is z (state_at z cells k (at r 0) a)
+      (omega arith)))
 
   return_leads : (k r c a : ℕ)
       → Leads z agreed (stand z cells Firm k (at r c) a) (record { token = CarriageReturn; text = 0x0D ∷ [] } ∷ [])
@@ -128,12 +133,13 @@ module _ (z : Size) (cells : List Cell) (agreed : Kind → Bool) where
         spelled = of_byte 0x0D CarriageReturn (omega arith) (λ e. omega arith) refl;
         unmarked = refl;
         allowed = record { no_static_fault = λ cause f. f; stays_above = tt };
+        feeds_on = tt;
         agreed_there = refl;
       })
       refl
 
-  pub line_end_leads : (k r c a : ℕ) → r < z.lines
+  pub line_end_leads : (k r c a : ℕ) → r + 1 < z.lines
       → Leads z agreed (stand z cells Firm k (at r c) a) line_end (stand z cells Firm k (at (r + 1) 0) a)
-  line_end_leads k r c a lt =
+  line_end_leads k r c a on =
       both_lead z agreed _ _ _ (record { token = CarriageReturn; text = 0x0D ∷ [] } ∷ [])
-      (record { token = LineFeed; text = 0x0A ∷ [] } ∷ []) (return_leads k r c a) (feed_leads (c == 0) k r a lt)
+      (record { token = LineFeed; text = 0x0A ∷ [] } ∷ []) (return_leads k r c a) (feed_leads (c == 0) k r a on)

@@ -1,9 +1,10 @@
 -- What is proved of the form.
-use Rattle.std.specs.Prelude.{◌≡◌, ◌≢◌, ℕ, ◌+◌, ◌*◌, ◌≤◌, length, Bool, IsTrue, IsFalse, List, [], ◌++◌, map, All}
+use Rattle.std.specs.Prelude.{◌≡◌, ◌≢◌, ℕ, ◌+◌, ◌*◌, ◌<◌, ◌≤◌, length, Bool, IsTrue, IsFalse, List, [], ◌++◌, map, All}
+use Rattle.std.specs.Prelude.{take, slice_get, Some}
 use Rattle.std.specs.List.{concat, list_all, list_any}
 use Rattle.ans_model.specs.Bytes.{IsByte, escape, end_mark}
 use Rattle.ans_model.specs.File.Layout.{is_end_mark}
-use Rattle.ans_model.specs.Sequence.TokenKind.{Glyph}
+use Rattle.ans_model.specs.Sequence.TokenKind.{Glyph, LineFeed}
 use Rattle.ans_model.specs.Sequence.Reads.{ReadsAs, kind_of_byte}
 use Rattle.ans_model.specs.Screen.State.{Size, IsSize, State}
 use Rattle.ans_model.specs.Screen.Step.{final}
@@ -88,6 +89,12 @@ FormHasNoEndMark = (z : Size) (picture : Picture) → IsDrawable z picture
 abbrev pub FormEndsGrey : Type 0
 FormEndsGrey = (z : Size) (s : State) (picture : Picture) → IsDrawable z picture
     → (final z s (map (λ x. x.token) (form picture))).attribute ≡ 0x07
+
+-- No line feed of it leads below the stated lines.
+abbrev pub FormFeedsOn : Type 0
+FormFeedsOn = (z : Size) (s : State) (picture : Picture) (k : ℕ) → IsDrawable z picture
+    → slice_get (map (λ x. x.token) (form picture)) k ≡ Some LineFeed
+    → (final z s (take k (map (λ x. x.token) (form picture)))).cursor.row + 1 < z.lines
 
 -- Each picture that good content shows can be drawn, where the content has no end mark.
 abbrev pub GoodPicturesAreDrawable : Type 0

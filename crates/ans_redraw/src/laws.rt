@@ -1,8 +1,9 @@
 //! Laws of the form.
 
-ghost use Rattle.ans_redraw.specs.Laws.{ColoursAreCalm, ColoursAreRead, ColoursLead, FormEndsGrey, FormHasNoEndMark};
-ghost use Rattle.ans_redraw.specs.Laws.{FormIsAgreed, FormIsBounded, FormIsGood, FormIsKept, FormIsRead, FormIsSame, FormIsShown};
-ghost use Rattle.ans_redraw.specs.Laws.{FormTellsThePicture, GoodPicturesAreDrawable};
+ghost use Rattle.ans_redraw.specs.Laws.{ColoursAreCalm, ColoursAreRead, ColoursLead, FormEndsGrey, FormFeedsOn};
+ghost use Rattle.ans_redraw.specs.Laws.{FormHasNoEndMark, FormIsAgreed, FormIsBounded, FormIsGood, FormIsKept};
+ghost use Rattle.ans_redraw.specs.Laws.{FormIsRead, FormIsSame, FormIsShown, FormTellsThePicture};
+ghost use Rattle.ans_redraw.specs.Laws.{GoodPicturesAreDrawable};
 
 use ans_players::player::Player;
 
@@ -15,13 +16,14 @@ pub fn colours_lead_from_each_to_each()
 {}
 
 /// The bytes of the form are read as it is meant. They are good from every start, and show the picture,
-/// whichever it is: each byte of a cell has only to be one that is printed. They have no end mark, and leave
-/// the attribute white on black.
+/// whichever it is: each byte of a cell has only to be one that is printed. They have no end mark, leave the
+/// attribute white on black, and no line feed leads below the stated lines.
 pub fn form_is_good_from_every_start()
     ensures read { FormIsRead }
     ensures good { FormIsGood }
     ensures unmarked { FormHasNoEndMark }
     ensures grey { FormEndsGrey }
+    ensures feeds { FormFeedsOn }
 {}
 
 /// No kind in which players part arises in the form from any start, but for those of the picture's own

@@ -4,4 +4,11 @@ use Rattle.ans_redraw.proofs.examples.backgrounds.Goals as goal
 
 pub returns : goal.returns
 unfolding digits
-returns c = record { blank_at_the_end = refl; line_end = refl; bright_line_end = refl; wrap = refl; first_cell = refl; before_nothing = refl }
+returns c = record {
+  blank_at_the_end = refl;
+  line_end = refl;
+  bright_line_end = refl;
+  wrap = refl;
+  first_cell = refl;
+  before_nothing = refl;
+}

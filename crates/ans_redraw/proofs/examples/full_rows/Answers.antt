@@ -4,4 +4,8 @@ use Rattle.ans_redraw.proofs.examples.full_rows.Goals as goal
 
 pub returns : goal.returns
 unfolding digits
-returns c = record { before_empty = refl; before_a_blank = refl; before_nothing = refl }
+returns c = record {
+  before_empty = refl;
+  before_a_blank = refl;
+  before_nothing = refl;
+}

@@ -4,4 +4,12 @@ use Rattle.ans_redraw.proofs.examples.gaps.Goals as goal
 
 pub returns : goal.returns
 unfolding digits
-returns c = record { four = refl; five = refl; one_in_bright = refl; most = refl; one_more = refl; four_more = refl; five_more = refl }
+returns c = record {
+  four = refl;
+  five = refl;
+  one_in_bright = refl;
+  most = refl;
+  one_more = refl;
+  four_more = refl;
+  five_more = refl;
+}

@@ -4,4 +4,10 @@ use Rattle.ans_redraw.proofs.examples.rows.Goals as goal
 
 pub returns : goal.returns
 unfolding digits
-returns c = record { hi = refl; empty = refl; two = refl; one_column = refl; short = refl }
+returns c = record {
+  hi = refl;
+  empty = refl;
+  two = refl;
+  one_column = refl;
+  short = refl;
+}
