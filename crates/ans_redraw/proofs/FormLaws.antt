@@ -13,13 +13,14 @@ use Rattle.ans_model.specs.Sequence.TokenKind.{Clear, Save, Colours, Place, Wrap
 use Rattle.ans_model.specs.Screen.Attribute.{attribute_after_all}
 use Rattle.ans_model.specs.Screen.State.{Size, State, at, cell_at, cell_count, index}
 use Rattle.ans_model.specs.Screen.Step.{blank_cell, final}
-use Rattle.ans_model.specs.Screen.StartClass.{none_known, cleared}
+use Rattle.ans_model.specs.Screen.StartClass.{Covers, none_known, cleared}
 use Rattle.ans_model.specs.Text.ReportText.{rows, rows_of}
 use Rattle.ans_model.specs.Verdict.Good.{Picture, Shows}
 use Rattle.ans_model.specs.Verdict.TokenFault.{HasStaticFault}
 use Rattle.ans_model.proofs.PositionLemmas.{index-lt_stated}
 use Rattle.ans_model.proofs.Slices.{slice_get-append_left}
 use Rattle.ans_players.specs.declared.kind.Kind.{Kind}
+use Rattle.ans_players.specs.Classes.{IsSame}
 use Rattle.ans_players.specs.Grips.{Firm, Stand, firmly}
 use Rattle.ans_players.specs.Mends.{mending_spelled}
 use Rattle.ans_players.specs.Players.{Behaviour, IsPlayer}
@@ -27,10 +28,11 @@ use Rattle.ans_players.specs.Situations.{Spelled, AreAgreed, spelled, stand_behi
 use Rattle.ans_players.proofs.Everywhere.{kinds_of, shown_by}
 use Rattle.ans_players.proofs.MendedPlayers.{mending_leaves}
 use Rattle.ans_players.proofs.Spellings.{wrap_on, white_on_black, clear, home, save}
-use Rattle.ans_redraw.specs.Form.{form, picture_drawn}
-use Rattle.ans_redraw.specs.Laws.{shown_kinds, IsDrawable, BytesAreAgreed}
+use Rattle.ans_redraw.specs.Form.{form, form_bytes, picture_drawn}
+use Rattle.ans_redraw.specs.Drawable.{shown_kinds, IsDrawable, BytesAreAgreed}
 use Rattle.ans_redraw.specs.Laws.{FormIsRead, FormIsGood, FormIsAgreed, FormIsShown}
 use Rattle.ans_redraw.specs.Laws.{FormHasNoEndMark, FormEndsGrey, FormIsSame, FormFeedsOn}
+use Rattle.ans_redraw.specs.Laws.{FormNeedsNothing}
 use Rattle.ans_redraw.proofs.AllGoes.{Marks, SameBefore, all_spelled, all_unmarked, all_agreed, all_feed_on}
 use Rattle.ans_redraw.proofs.AllGoes.{all_play_well}
 use Rattle.ans_redraw.proofs.Going.{AllGoWell, Leads, both_lead}
@@ -250,13 +252,32 @@ spelled_back : (xs : List Spelled) → spelled (kinds_of xs) (map (λ x. x.text)
 spelled_back [] = refl
 spelled_back (x ∷ xs) = ap (λ (ys : List Spelled). x ∷ ys) (spelled_back xs)
 
-pub form_is_same : FormIsSame
+-- each class knows as much as none
+none_covers : (class : Start) → Covers none_known class
+none_covers class = record {
+  screen = λ h. absurd (let no : ⊥ = cc in no);
+  cursor = λ h. absurd (let no : ⊥ = cc in no);
+  saved = λ h. absurd (let no : ⊥ = cc in no);
+  colours = λ h. absurd (let no : ⊥ = cc in no);
+  wrap = λ h. absurd (let no : ⊥ = cc in no);
+}
+
+pub form_needs_nothing : FormNeedsNothing
+form_needs_nothing z picture h class =
+    (λ good. none_covers class, λ covers. (picture, form_is_good z class picture h))
+
+same_from : (agreed : Kind → Bool) (z : Size) (class : Start) (picture : Picture) → IsDrawable z picture
+    → BytesAreAgreed agreed picture → IsSame agreed z class (form_bytes picture)
 unfolding form_is_good
-form_is_same agreed z class picture h bytes = (
+same_from agreed z class picture h bytes = (
   (picture, form_is_good z class picture h),
   subst (λ (xs : List Spelled). AreAgreed agreed z class xs) (sym (spelled_back (form picture)))
       (form_is_agreed agreed z class picture h bytes),
 )
+
+pub form_is_same : FormIsSame
+form_is_same agreed z picture h bytes class =
+    (λ same. none_covers class, λ covers. same_from agreed z class picture h bytes)
 
 pub form_feeds_on : FormFeedsOn
 form_feeds_on z s picture k h e =

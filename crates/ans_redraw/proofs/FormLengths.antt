@@ -227,39 +227,39 @@ over_length a n =
 -- ---- rows
 -- what cells take, and what is kept for those that are passed over, is at most 13 bytes for each
 drawn_length : (forced : ℕ) (p : Pen) (row : List Cell)
-    → bytes_of (drawn forced p row) + 13 * (pen_behind forced p row).behind ≤ 13 * length row + 13 * p.behind
+    → bytes_of (drawn forced p row) + 13 * (pen_behind forced p row).passed ≤ 13 * length row + 13 * p.passed
 drawn_length forced p [] = omega arith
 drawn_length forced p (c ∷ row) =
-    by_test (is_passed forced c) (drawn_length (forced - 1) (pen p.attribute (p.behind + 1)) row)
+    by_test (is_passed forced c) (drawn_length (forced - 1) (pen p.attribute (p.passed + 1)) row)
     (drawn_length (forced - 1) (pen c.attribute 0) row)
   where
     way : List Spelled
-    way = over p.attribute p.behind ++ (colours_to p.attribute c.attribute ++ glyph c.byte ∷ [])
+    way = over p.attribute p.passed ++ (colours_to p.attribute c.attribute ++ glyph c.byte ∷ [])
 
-    way_length : bytes_of way ≤ 6 * p.behind + 13
+    way_length : bytes_of way ≤ 6 * p.passed + 13
     way_length =
-        let a = bytes_both (over p.attribute p.behind) (colours_to p.attribute c.attribute ++ glyph c.byte ∷ []) in
+        let a = bytes_both (over p.attribute p.passed) (colours_to p.attribute c.attribute ++ glyph c.byte ∷ []) in
         let b = bytes_both (colours_to p.attribute c.attribute) (glyph c.byte ∷ []) in
         let d = one_text (glyph c.byte) in
-        omega (arith, a, b, d, over_length p.attribute p.behind, colours_to_length p.attribute c.attribute)
+        omega (arith, a, b, d, over_length p.attribute p.passed, colours_to_length p.attribute c.attribute)
 
     by_test : (t : Bool)
-        → bytes_of (drawn (forced - 1) (pen p.attribute (p.behind + 1)) row)
-        + 13 * (pen_behind (forced - 1) (pen p.attribute (p.behind + 1)) row).behind
-        ≤ 13 * length row + 13 * (p.behind + 1)
+        → bytes_of (drawn (forced - 1) (pen p.attribute (p.passed + 1)) row)
+        + 13 * (pen_behind (forced - 1) (pen p.attribute (p.passed + 1)) row).passed
+        ≤ 13 * length row + 13 * (p.passed + 1)
         → bytes_of (drawn (forced - 1) (pen c.attribute 0) row)
-        + 13 * (pen_behind (forced - 1) (pen c.attribute 0) row).behind ≤ 13 * length row + 13 * 0
+        + 13 * (pen_behind (forced - 1) (pen c.attribute 0) row).passed ≤ 13 * length row + 13 * 0
         → bytes_of ((if t then [] else way)
-        ++ drawn (forced - 1) (if t then pen p.attribute (p.behind + 1) else pen c.attribute 0) row)
-        + 13 * (pen_behind (forced - 1) (if t then pen p.attribute (p.behind + 1) else pen c.attribute 0) row).behind
-        ≤ 13 * length (c ∷ row) + 13 * p.behind
+        ++ drawn (forced - 1) (if t then pen p.attribute (p.passed + 1) else pen c.attribute 0) row)
+        + 13 * (pen_behind (forced - 1) (if t then pen p.attribute (p.passed + 1) else pen c.attribute 0) row).passed
+        ≤ 13 * length (c ∷ row) + 13 * p.passed
     by_test true passed printed = omega arith
     by_test false passed printed =
         let a = bytes_both way (drawn (forced - 1) (pen c.attribute 0) row) in
         omega (arith, a, way_length)
 
-below_length : (p : Pen) → bytes_of (to_row_below p) ≤ 13 * p.behind
-below_length p = by_test (p.behind == 0) refl
+below_length : (p : Pen) → bytes_of (to_row_below p) ≤ 13 * p.passed
+below_length p = by_test (p.passed == 0) refl
   where
     off : List Spelled
     off = if is_coloured p.attribute then colours_to p.attribute 0x07 else []
@@ -268,12 +268,12 @@ below_length p = by_test (p.behind == 0) refl
     off_length true = colours_to_grey p.attribute
     off_length false = omega arith
 
-    by_test : (t : Bool) → (p.behind == 0) ≡ t
+    by_test : (t : Bool) → (p.passed == 0) ≡ t
         → bytes_of (if t then []
-        else (if is_coloured p.attribute then colours_to p.attribute 0x07 else []) ++ line_end) ≤ 13 * p.behind
+        else (if is_coloured p.attribute then colours_to p.attribute 0x07 else []) ++ line_end) ≤ 13 * p.passed
     by_test true e = omega arith
     by_test false e =
-        let some : p.behind ≡ 0 → ⊥ = eqb-false p.behind 0 e in
+        let some : p.passed ≡ 0 → ⊥ = eqb-false p.passed 0 e in
         let a = bytes_both (if is_coloured p.attribute then colours_to p.attribute 0x07 else []) line_end in
         let b : bytes_of line_end ≡ 2 = refl in
         omega (arith, a, b, off_length (is_coloured p.attribute))
@@ -291,7 +291,7 @@ abbrev cells_in : List (List Cell) → ℕ
 cells_in [] = 0
 cells_in (row ∷ rows) = length row + cells_in rows
 
-rows_length : (p : Pen) (rs : List (List Cell)) → bytes_of (rows_drawn p rs) ≤ 13 * cells_in rs + 13 * p.behind + 4
+rows_length : (p : Pen) (rs : List (List Cell)) → bytes_of (rows_drawn p rs) ≤ 13 * cells_in rs + 13 * p.passed + 4
 rows_length p [] = omega (arith, set_back_length p.attribute)
 rows_length p (row ∷ rs) = by_test (are_blank (row ∷ rs)) (rows_length q rs)
   where
@@ -301,10 +301,10 @@ rows_length p (row ∷ rs) = by_test (are_blank (row ∷ rs)) (rows_length q rs)
     q : Pen
     q = pen_behind (forced_in p row) (pen_below p) row
 
-    by_test : (t : Bool) → bytes_of (rows_drawn q rs) ≤ 13 * cells_in rs + 13 * q.behind + 4
+    by_test : (t : Bool) → bytes_of (rows_drawn q rs) ≤ 13 * cells_in rs + 13 * q.passed + 4
         → bytes_of (if t then set_back p.attribute
         else to_row_below p ++ (drawn forced (pen_below p) row ++ rows_drawn q rs))
-        ≤ 13 * cells_in (row ∷ rs) + 13 * p.behind + 4
+        ≤ 13 * cells_in (row ∷ rs) + 13 * p.passed + 4
     by_test true more = omega (arith, set_back_length p.attribute)
     by_test false more =
         let a = bytes_both (to_row_below p) (drawn forced (pen_below p) row ++ rows_drawn q rs) in

@@ -74,9 +74,9 @@ pub record IsAllDrawn (z : Size) (cells : List Cell) (agreed : Kind → Bool) (h
 record IsBehindRow (z : Size) (cells : List Cell) (agreed : Kind → Bool) (n : ℕ) (p : Pen) (k r c : ℕ)
     (rest : List Cell) : Type 0 where
   index_is : k ≡ r * z.width + c
-  whole : c + p.behind ≡ z.width
+  whole : c + p.passed ≡ z.width
   rows_left : r + 1 + n ≡ z.lines
-  left : drop k cells ≡ replicate p.behind (blank_cell 0x07) ++ rest
+  left : drop k cells ≡ replicate p.passed (blank_cell 0x07) ++ rest
   count : length rest ≡ n * z.width
   shown : All (IsShownCell agreed) rest
   attribute : IsByte p.attribute
@@ -103,33 +103,33 @@ module _ (z : Size) (cells : List Cell) (agreed : Kind → Bool) where
 
   below_leads : (n : ℕ) (p : Pen) (k r c : ℕ) (rest : List Cell) → IsBehindRow z cells agreed (suc n) p k r c rest
       → Leads z agreed (place z cells k r c p.attribute) (to_row_below p)
-      (stand z cells (grip_below p) (k + p.behind) (at (r + 1) 0) (pen_below p).attribute)
-  below_leads n p k r c rest h = by_test (p.behind == 0) refl
+      (stand z cells (grip_below p) (k + p.passed) (at (r + 1) 0) (pen_below p).attribute)
+  below_leads n p k r c rest h = by_test (p.passed == 0) refl
     where
-      by_test : (t : Bool) → (p.behind == 0) ≡ t
+      by_test : (t : Bool) → (p.passed == 0) ≡ t
           → Leads z agreed (place z cells k r c p.attribute)
           (if t then [] else (if is_coloured p.attribute then colours_to p.attribute 0x07 else []) ++ line_end)
-          (stand z cells (if t then Wrapped else Firm) (k + p.behind) (at (r + 1) 0)
+          (stand z cells (if t then Wrapped else Firm) (k + p.passed) (at (r + 1) 0)
           (if not t && is_coloured p.attribute then 0x07 else p.attribute))
       by_test true e =
-          let none : p.behind ≡ 0 = eqb-true p.behind 0 e in
+          let none : p.passed ≡ 0 = eqb-true p.passed 0 e in
           let le : z.width ≤ c = omega (arith, h.whole) in
-          let same : k ≡ k + p.behind = omega arith in
+          let same : k ≡ k + p.passed = omega arith in
           stays z agreed _ _
           (rw (le-ltb c z.width le) (ap (λ (j : ℕ). stand z cells Wrapped j (at (r + 1) 0) p.attribute) same))
       by_test false e =
-          let some : p.behind ≡ 0 → ⊥ = eqb-false p.behind 0 e in
+          let some : p.passed ≡ 0 → ⊥ = eqb-false p.passed 0 e in
           let lt : c < z.width = omega (arith, h.whole) in
           let above : r < z.lines = omega (arith, h.rows_left) in
           let on : r + 1 < z.lines = omega (arith, h.rows_left) in
           let a : ℕ = if is_coloured p.attribute then 0x07 else p.attribute in
           let start : stand z cells Firm k (at r c) p.attribute ≡ place z cells k r c p.attribute =
           rw (lt-ltb c z.width lt) refl in
-          let there = blanks_are_there z cells p.behind k rest h.left
-          (row_ends k r c p.behind h.index_is h.whole above) in
+          let there = blanks_are_there z cells p.passed k rest h.left
+          (row_ends k r c p.passed h.index_is h.whole above) in
           subst (λ (v : Stand). Leads z agreed v
           ((if is_coloured p.attribute then colours_to p.attribute 0x07 else []) ++ line_end)
-          (stand z cells Firm (k + p.behind) (at (r + 1) 0) a)) start
+          (stand z cells Firm (k + p.passed) (at (r + 1) 0) a)) start
           (subst (λ (v : List Cell). Leads z agreed (stand z cells Firm k (at r c) p.attribute)
           ((if is_coloured p.attribute then colours_to p.attribute 0x07 else []) ++ line_end)
           (record (stand z cells Firm k (at (r + 1) 0) a) {
@@ -163,10 +163,10 @@ module _ (z : Size) (cells : List Cell) (agreed : Kind → Bool) where
       → IsBehindRow z cells agreed n p k r c rest → rest ≡ replicate (n * z.width) (blank_cell 0x07)
       → half z cells k ≡ half z cells (length cells)
   rest_is_there total n p k r c rest h e =
-      let m : ℕ = p.behind + n * z.width in
+      let m : ℕ = p.passed + n * z.width in
       let blanks : drop k cells ≡ replicate m (blank_cell 0x07) ++ [] =
-      h.left ∙ ap (λ (v : List Cell). replicate p.behind (blank_cell 0x07) ++ v) e
-      ∙ replicate-append-replicate p.behind (n * z.width) (blank_cell 0x07)
+      h.left ∙ ap (λ (v : List Cell). replicate p.passed (blank_cell 0x07) ++ v) e
+      ∙ replicate-append-replicate p.passed (n * z.width) (blank_cell 0x07)
       ∙ sym (append-nil (replicate m (blank_cell 0x07))) in
       let one : (r + 1 + n) * z.width ≡ (r + 1) * z.width + n * z.width = add-mul (r + 1) n z.width in
       let two : (r + 1) * z.width ≡ r * z.width + 1 * z.width = add-mul r 1 z.width in
@@ -190,7 +190,7 @@ module _ (z : Size) (cells : List Cell) (agreed : Kind → Bool) where
   -- ---- a row, and then the others
   -- behind a wrap a cell is printed, where the row has one
   held_below : (p : Pen) (row : List Cell) → 0 < length row → HeldAt (grip_below p) (forced_in p row) 0
-  held_below p row some = by_test (p.behind == 0) (is_coloured p.attribute || begins_coloured row)
+  held_below p row some = by_test (p.passed == 0) (is_coloured p.attribute || begins_coloured row)
     where
       by_test : (wrapped coloured : Bool)
           → HeldAt (if wrapped then Wrapped else Firm)
@@ -215,7 +215,7 @@ module _ (z : Size) (cells : List Cell) (agreed : Kind → Bool) where
   row_below n p k r c rest some h =
       let row : List Cell = take z.width rest in
       let forced : ℕ = forced_in p row in
-      let j : ℕ = k + p.behind in
+      let j : ℕ = k + p.passed in
       let a : ℕ = (pen_below p).attribute in
       let more : length rest ≡ z.width + n * z.width = h.count ∙ suc_rows n z.width in
       let width : length row ≡ z.width = simp length-take (omega arith) in
@@ -223,8 +223,8 @@ module _ (z : Size) (cells : List Cell) (agreed : Kind → Bool) where
       let next : suc r ≡ r + 1 = omega arith in
       let index : suc r * z.width ≡ (r + 1) * z.width = ap (λ (i : ℕ). i * z.width) next in
       let below : r < z.lines = omega (arith, h.rows_left) in
-      let there = blanks_are_there z cells p.behind k rest h.left
-      (row_ends k r c p.behind h.index_is h.whole below) in
+      let there = blanks_are_there z cells p.passed k rest h.left
+      (row_ends k r c p.passed h.index_is h.whole below) in
       let start : column z cells (grip_below p) j (r + 1) 0 a ≡ stand z cells (grip_below p) j (at (r + 1) 0) a =
       rw (lt-ltb 0 z.width some) refl in
       let drawn_row = row_leads z cells agreed row (grip_below p) forced (pen_below p) j (r + 1) 0 (drop z.width rest)

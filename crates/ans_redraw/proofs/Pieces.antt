@@ -12,7 +12,7 @@ use Rattle.ans_model.specs.declared.cell.Position.{Position}
 use Rattle.ans_model.specs.Sequence.TokenKind.{Glyph, Forward}
 use Rattle.ans_model.specs.Sequence.Reads.{SpellsToken}
 use Rattle.ans_model.specs.Screen.State.{Size, State, at, cell, cell_count, index}
-use Rattle.ans_model.specs.Screen.Step.{put, printed, advanced, blank_cell}
+use Rattle.ans_model.specs.Screen.Step.{put, advanced, blank_cell}
 use Rattle.ans_model.proofs.PositionLemmas.{index-lt}
 use Rattle.ans_model.proofs.StepLemmas.{advanced_is}
 use Rattle.ans_players.specs.declared.kind.Kind.{Kind}
@@ -20,7 +20,7 @@ use Rattle.ans_players.specs.Grips.{Grip, Firm, Wrapped, Stand, grip_behind_prin
 use Rattle.ans_players.specs.Situations.{Spelled, stand_behind, is_agreed}
 use Rattle.ans_players.proofs.Spellings.{of_byte, one_right}
 use Rattle.ans_redraw.specs.Form.{glyph, skip, over_few}
-use Rattle.ans_redraw.specs.Laws.{IsPrinted, shown_kinds}
+use Rattle.ans_redraw.specs.Drawable.{IsPrinted, shown_kinds}
 use Rattle.ans_redraw.proofs.HalfDrawn.{half, half_printed, next_is, blanks_are_there}
 use Rattle.ans_redraw.proofs.ColourTexts.{number_right, unmarked_both, number_unmarked}
 use Rattle.ans_redraw.proofs.Going.{Leads, stays, one_leads, both_lead}
@@ -126,11 +126,12 @@ module _ (z : Size) (cells : List Cell) (agreed : Kind → Bool) where
   pub glyph_leads : (g : Grip) (k r c b a : ℕ) (rest : List Cell) → MayPrint g → IsAt z cells k r c
       → drop k cells ≡ cell b a ∷ rest → IsPrinted b → list_all agreed (shown_kinds b) ≡ true
       → Leads z agreed (stand z cells g k (at r c) a) (glyph b ∷ []) (place z cells (suc k) r (c + 1) a)
-  glyph_leads g k r c b a rest may h e printed shown =
+  glyph_leads g k r c b a rest may h e is_printed shown =
       one_leads z agreed (stand z cells g k (at r c) a) (glyph b) (place z cells (suc k) r (c + 1) a)
       (record {
-        spelled = of_byte b (Glyph b) printed.is_byte printed.not_escape (sym printed.means_itself);
-        unmarked = rw (ne_eqb b end_mark printed.not_end_mark) refl;
+        spelled = of_byte b (Glyph b) is_printed.is_byte is_printed.not_escape
+            (sym is_printed.means_itself);
+        unmarked = rw (ne_eqb b end_mark is_printed.not_end_mark) refl;
         allowed = record { no_static_fault = λ cause f. f; stays_above = λ same. omega (arith, h.row_stated) };
         feeds_on = tt;
         agreed_there = glyph_agreed g (state_at z cells k (at r c) a) b may shown;

@@ -16,7 +16,7 @@ use Rattle.ans_model.specs.Sequence.TokenKind.{TokenKind, Glyph, Bell, BackSpace
 use Rattle.ans_model.specs.Sequence.TokenKind.{Down, Forward, Backward, Clear, EraseLine, Save, Restore, Wrap, Mode}
 use Rattle.ans_model.specs.Sequence.TokenKind.{Ask}
 use Rattle.ans_model.specs.Sequence.Reads.{kind_of_byte, SpellsToken}
-use Rattle.ans_redraw.specs.Laws.{IsPrinted}
+use Rattle.ans_redraw.specs.Drawable.{IsPrinted}
 
 -- ---- no sequence prints a byte of its own
 abbrev IsNoGlyph : TokenKind → Type 0

@@ -17,7 +17,8 @@ use Rattle.ans_model.specs.Screen.Step.{blank_cell, next_row_start, line_feed, a
 use Rattle.ans_model.specs.Screen.StartClass.{low_start}
 use Rattle.ans_model.proofs.FilledLemmas.{All-filled}
 use Rattle.ans_model.proofs.StartLemmas.{low_is_start}
-use Rattle.ans_redraw.specs.Laws.{IsPrinted, GoodPicturesAreDrawable}
+use Rattle.ans_redraw.specs.Drawable.{IsPrinted}
+use Rattle.ans_redraw.specs.Laws.{GoodPicturesAreDrawable}
 use Rattle.ans_redraw.proofs.Pieces.{blank_printed}
 use Rattle.ans_redraw.proofs.PrintedBytes.{PrintsPrinted, tokens_printed}
 

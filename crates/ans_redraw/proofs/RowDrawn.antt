@@ -15,7 +15,7 @@ use Rattle.ans_players.specs.Grips.{Grip, Firm, Wrapped, Stand}
 use Rattle.ans_players.specs.Situations.{Spelled}
 use Rattle.ans_redraw.specs.Colours.{colours_to}
 use Rattle.ans_redraw.specs.Form.{Pen, pen, is_blank, is_passed, glyph, over, drawn, pen_behind}
-use Rattle.ans_redraw.specs.Laws.{IsPrinted, shown_kinds}
+use Rattle.ans_redraw.specs.Drawable.{IsPrinted, shown_kinds}
 use Rattle.ans_redraw.proofs.Going.{Leads, stays, both_lead}
 use Rattle.ans_redraw.proofs.HalfDrawn.{next_is, blanks_are_there}
 use Rattle.ans_redraw.proofs.Pieces.{MayPrint, stand, place, IsAt, is_within, glyph_leads}
@@ -62,19 +62,19 @@ pub record IsRowDrawn (z : Size) (cells : List Cell) (agreed : Kind → Bool) (r
   pub k : ℕ
   pub c : ℕ
   pub index_is : k ≡ r * z.width + c
-  pub whole : c + p.behind ≡ z.width
-  pub left : drop k cells ≡ replicate p.behind (blank_cell 0x07) ++ rest
+  pub whole : c + p.passed ≡ z.width
+  pub left : drop k cells ≡ replicate p.passed (blank_cell 0x07) ++ rest
   pub attribute : IsByte p.attribute
   pub leads : Leads z agreed h xs (place z cells k r c p.attribute)
 
 -- where a pen stands in a row, before cells that are shown
 pub record IsBefore (z : Size) (cells : List Cell) (agreed : Kind → Bool) (row : List Cell) (g : Grip) (forced : ℕ)
     (p : Pen) (k r c : ℕ) (rest : List Cell) : Type 0 where
-  pub held : HeldAt g forced p.behind
+  pub held : HeldAt g forced p.passed
   pub index_is : k ≡ r * z.width + c
   pub row_stated : r < z.lines
-  pub whole : c + p.behind + length row ≡ z.width
-  pub left : drop k cells ≡ replicate p.behind (blank_cell 0x07) ++ (row ++ rest)
+  pub whole : c + p.passed + length row ≡ z.width
+  pub left : drop k cells ≡ replicate p.passed (blank_cell 0x07) ++ (row ++ rest)
   pub shown : All (IsShownCell agreed) row
   pub attribute : IsByte p.attribute
 
@@ -101,7 +101,7 @@ module _ (z : Size) (cells : List Cell) (agreed : Kind → Bool) where
     whole = omega (arith, h.whole);
     left = h.left;
     attribute = h.attribute;
-    leads = stays z agreed _ _ (at_the_end g forced p.behind k r c p.attribute h.held (omega (arith, h.whole)));
+    leads = stays z agreed _ _ (at_the_end g forced p.passed k r c p.attribute h.held (omega (arith, h.whole)));
   }
 
   -- the way to a cell, from a grip at which it may be printed
@@ -130,53 +130,53 @@ module _ (z : Size) (cells : List Cell) (agreed : Kind → Bool) where
   printed_leads : (g : Grip) (forced : ℕ) (p : Pen) (x : Cell) (row : List Cell) (k r c : ℕ) (rest : List Cell)
       → IsBefore z cells agreed (x ∷ row) g forced p k r c rest
       → Leads z agreed (column z cells g k r c p.attribute)
-      (over p.attribute p.behind ++ (colours_to p.attribute x.attribute ++ glyph x.byte ∷ []))
-      (place z cells (suc (k + p.behind)) r (c + p.behind + 1) x.attribute)
+      (over p.attribute p.passed ++ (colours_to p.attribute x.attribute ++ glyph x.byte ∷ []))
+      (place z cells (suc (k + p.passed)) r (c + p.passed + 1) x.attribute)
   printed_leads g forced p x row k r c rest h =
       let shown = All-head (IsShownCell agreed) x row h.shown in
       let there : IsAt z cells k r c =
       record { index_is = h.index_is; row_stated = h.row_stated; column = omega (arith, h.whole) } in
-      let further : IsAt z cells (k + p.behind) r (c + p.behind) =
+      let further : IsAt z cells (k + p.passed) r (c + p.passed) =
       record {
         index_is = omega (arith, h.index_is);
         row_stated = h.row_stated;
         column = omega (arith, h.whole);
       } in
-      let within = is_within z cells (k + p.behind) r (c + p.behind) further in
-      let blanks = blanks_are_there z cells p.behind k (x ∷ (row ++ rest)) h.left (omega (arith, within)) in
-      let may = held_prints g forced p.behind h.held in
+      let within = is_within z cells (k + p.passed) r (c + p.passed) further in
+      let blanks = blanks_are_there z cells p.passed k (x ∷ (row ++ rest)) h.left (omega (arith, within)) in
+      let may = held_prints g forced p.passed h.held in
       let start : column z cells g k r c p.attribute ≡ stand z cells g k (at r c) p.attribute =
       rw (lt-ltb c z.width there.column) refl in
       subst (λ (v : Stand). Leads z agreed v
-      (over p.attribute p.behind ++ (colours_to p.attribute x.attribute ++ glyph x.byte ∷ []))
-      (place z cells (suc (k + p.behind)) r (c + p.behind + 1) x.attribute)) (sym start)
-      (both_lead z agreed _ _ _ (over p.attribute p.behind) (colours_to p.attribute x.attribute ++ glyph x.byte ∷ [])
-      (way_leads g forced p.behind k r c p.attribute (x ∷ (row ++ rest)) h.held there further.column h.left)
+      (over p.attribute p.passed ++ (colours_to p.attribute x.attribute ++ glyph x.byte ∷ []))
+      (place z cells (suc (k + p.passed)) r (c + p.passed + 1) x.attribute)) (sym start)
+      (both_lead z agreed _ _ _ (over p.attribute p.passed) (colours_to p.attribute x.attribute ++ glyph x.byte ∷ [])
+      (way_leads g forced p.passed k r c p.attribute (x ∷ (row ++ rest)) h.held there further.column h.left)
       (both_lead z agreed _ _ _ (colours_to p.attribute x.attribute) (glyph x.byte ∷ [])
-      (colours_to_lead z cells agreed g (k + p.behind) p.attribute x.attribute (at r (c + p.behind)) h.attribute
+      (colours_to_lead z cells agreed g (k + p.passed) p.attribute x.attribute (at r (c + p.passed)) h.attribute
       shown.attribute)
-      (glyph_leads z cells agreed g (k + p.behind) r (c + p.behind) x.byte x.attribute (row ++ rest) may further
+      (glyph_leads z cells agreed g (k + p.passed) r (c + p.passed) x.byte x.attribute (row ++ rest) may further
       blanks.left shown.printed shown.kinds)))
 
   -- and then the others
   printed_first : (x : Cell) (row : List Cell) → RowLeads row → (g : Grip) (forced : ℕ) (p : Pen) (k r c : ℕ)
       (rest : List Cell) → IsBefore z cells agreed (x ∷ row) g forced p k r c rest
       → IsRowDrawn z cells agreed r (column z cells g k r c p.attribute)
-      ((over p.attribute p.behind ++ (colours_to p.attribute x.attribute ++ glyph x.byte ∷ []))
+      ((over p.attribute p.passed ++ (colours_to p.attribute x.attribute ++ glyph x.byte ∷ []))
       ++ drawn (forced - 1) (pen x.attribute 0) row)
       (pen_behind (forced - 1) (pen x.attribute 0) row) rest
   printed_first x row others g forced p k r c rest h =
       let shown = All-head (IsShownCell agreed) x row h.shown in
-      let further : IsAt z cells (k + p.behind) r (c + p.behind) =
+      let further : IsAt z cells (k + p.passed) r (c + p.passed) =
       record {
         index_is = omega (arith, h.index_is);
         row_stated = h.row_stated;
         column = omega (arith, h.whole);
       } in
-      let within = is_within z cells (k + p.behind) r (c + p.behind) further in
-      let blanks = blanks_are_there z cells p.behind k (x ∷ (row ++ rest)) h.left (omega (arith, within)) in
-      let next = next_is (k + p.behind) cells x (row ++ rest) blanks.left in
-      let more = others Firm (forced - 1) (pen x.attribute 0) (suc (k + p.behind)) r (c + p.behind + 1) rest
+      let within = is_within z cells (k + p.passed) r (c + p.passed) further in
+      let blanks = blanks_are_there z cells p.passed k (x ∷ (row ++ rest)) h.left (omega (arith, within)) in
+      let next = next_is (k + p.passed) cells x (row ++ rest) blanks.left in
+      let more = others Firm (forced - 1) (pen x.attribute 0) (suc (k + p.passed)) r (c + p.passed + 1) rest
       (record {
         held = tt;
         index_is = omega (arith, h.index_is);
@@ -194,9 +194,9 @@ module _ (z : Size) (cells : List Cell) (agreed : Kind → Bool) where
         left = more.left;
         attribute = more.attribute;
         leads = both_lead z agreed (column z cells g k r c p.attribute)
-            (place z cells (suc (k + p.behind)) r (c + p.behind + 1) x.attribute)
+            (place z cells (suc (k + p.passed)) r (c + p.passed + 1) x.attribute)
             (place z cells more.k r more.c (pen_behind (forced - 1) (pen x.attribute 0) row).attribute)
-            (over p.attribute p.behind ++ (colours_to p.attribute x.attribute ++ glyph x.byte ∷ []))
+            (over p.attribute p.passed ++ (colours_to p.attribute x.attribute ++ glyph x.byte ∷ []))
             (drawn (forced - 1) (pen x.attribute 0) row) (printed_leads g forced p x row k r c rest h) more.leads;
       }
 
@@ -210,18 +210,18 @@ module _ (z : Size) (cells : List Cell) (agreed : Kind → Bool) where
   passed_first : (x : Cell) (row : List Cell) → RowLeads row → (g : Grip) (forced : ℕ) (p : Pen) (k r c : ℕ)
       (rest : List Cell) → IsBefore z cells agreed (x ∷ row) g forced p k r c rest → is_passed forced x ≡ true
       → IsRowDrawn z cells agreed r (column z cells g k r c p.attribute)
-      (drawn (forced - 1) (pen p.attribute (p.behind + 1)) row)
-      (pen_behind (forced - 1) (pen p.attribute (p.behind + 1)) row) rest
+      (drawn (forced - 1) (pen p.attribute (p.passed + 1)) row)
+      (pen_behind (forced - 1) (pen p.attribute (p.passed + 1)) row) rest
   passed_first x row others g forced p k r c rest h passed =
       let both = and_parts (forced == 0) (is_blank x) passed in
       let free : forced ≡ 0 = eqb-true forced 0 both.0 in
-      others g (forced - 1) (pen p.attribute (p.behind + 1)) k r c rest
+      others g (forced - 1) (pen p.attribute (p.passed + 1)) k r c rest
       (record {
-        held = still_held g forced p.behind h.held free;
+        held = still_held g forced p.passed h.held free;
         index_is = h.index_is;
         row_stated = h.row_stated;
         whole = omega (arith, h.whole);
-        left = h.left ∙ one_more_blank p.behind x (row ++ rest) (blank_is x both.1);
+        left = h.left ∙ one_more_blank p.passed x (row ++ rest) (blank_is x both.1);
         shown = All-tail (IsShownCell agreed) x row h.shown;
         attribute = h.attribute;
       })
@@ -232,9 +232,9 @@ module _ (z : Size) (cells : List Cell) (agreed : Kind → Bool) where
       by_test : (t : Bool) → is_passed forced x ≡ t
           → IsRowDrawn z cells agreed r (column z cells g k r c p.attribute)
           ((if t then []
-          else over p.attribute p.behind ++ (colours_to p.attribute x.attribute ++ glyph x.byte ∷ []))
-          ++ drawn (forced - 1) (if t then pen p.attribute (p.behind + 1) else pen x.attribute 0) row)
-          (pen_behind (forced - 1) (if t then pen p.attribute (p.behind + 1) else pen x.attribute 0) row) rest
+          else over p.attribute p.passed ++ (colours_to p.attribute x.attribute ++ glyph x.byte ∷ []))
+          ++ drawn (forced - 1) (if t then pen p.attribute (p.passed + 1) else pen x.attribute 0) row)
+          (pen_behind (forced - 1) (if t then pen p.attribute (p.passed + 1) else pen x.attribute 0) row) rest
       by_test true e = passed_first x row others g forced p k r c rest h e
       by_test false e = printed_first x row others g forced p k r c rest h
 

@@ -27,27 +27,27 @@ line_end = record { token = CarriageReturn; text = 0x0D ∷ [] } ∷ record { to
 abbrev pub skip : ℕ → Spelled
 skip n = sequence (Forward n) (bracket ∷ ((if n == 1 then [] else decimal n) ++ codes "C"))
 
--- over so few blanks that one sequence skips them: up to four are printed where the attribute is white on black
+-- over at most 254 blanks: up to four are printed where the attribute is white on black, others are skipped
 abbrev pub over_few : ℕ → ℕ → List Spelled
 over_few attribute n =
     if attribute == 0x07 && nat_le n 4 then replicate n (glyph blank)
     else if n == 0 then []
     else skip n ∷ []
 
--- over blanks, at most 255 by one sequence
+-- over any number of blanks, at most 255 by one sequence
 abbrev pub over : ℕ → ℕ → List Spelled
 over attribute n = replicate (n / 255) (skip 255) ++ over_few attribute (n % 255)
 
--- how a picture is drawn in a row: in this attribute, and so many cells behind the byte that was printed last
+-- where the drawing of a row stands: the current attribute, and how many cells it has passed over since the last byte
 pub record Pen : Type 0 where
   pub attribute : ℕ
-  pub behind : ℕ
+  pub passed : ℕ
 
--- the pen of this attribute, so many cells behind
+-- the pen of this attribute, so many cells behind the last byte
 abbrev pub pen : ℕ → ℕ → Pen
-pen attribute behind = record { attribute = attribute; behind = behind }
+pen attribute passed = record { attribute = attribute; passed = passed }
 
--- a cell is passed over where it is a blank, unless it must be printed
+-- A cell is passed over where it is a blank, unless it is one of the first that must be printed.
 abbrev pub is_passed : ℕ → Cell → Bool
 is_passed forced c = forced == 0 && is_blank c
 
@@ -55,11 +55,11 @@ is_passed forced c = forced == 0 && is_blank c
 abbrev pub cell_drawn : ℕ → Pen → Cell → List Spelled
 cell_drawn forced p c =
     if is_passed forced c then []
-    else over p.attribute p.behind ++ (colours_to p.attribute c.attribute ++ glyph c.byte ∷ [])
+    else over p.attribute p.passed ++ (colours_to p.attribute c.attribute ++ glyph c.byte ∷ [])
 
 -- the pen behind the cell
 abbrev pub pen_after : ℕ → Pen → Cell → Pen
-pen_after forced p c = if is_passed forced c then pen p.attribute (p.behind + 1) else pen c.attribute 0
+pen_after forced p c = if is_passed forced c then pen p.attribute (p.passed + 1) else pen c.attribute 0
 
 -- cells of a row, of which the first `forced` must be printed
 abbrev pub drawn : ℕ → Pen → List Cell → List Spelled
@@ -73,7 +73,7 @@ pen_behind forced p (c ∷ row) = pen_behind (forced - 1) (pen_after forced p c)
 
 -- The byte in the last column has just wrapped.
 abbrev pub has_wrapped : Pen → Bool
-has_wrapped p = p.behind == 0
+has_wrapped p = p.passed == 0
 
 -- the background is not black
 abbrev pub is_coloured : ℕ → Bool
@@ -110,7 +110,7 @@ set_back attribute = if attribute == 0x07 then [] else colours (0 ∷ []) ∷ []
 abbrev pub are_blank : List (List Cell) → Bool
 are_blank rows = list_all (list_all is_blank) rows
 
--- The rows below the one behind which the pen is: as long as a cell that is no blank follows.
+-- The rows below the one that this pen has drawn, as long as a cell follows that is no blank.
 abbrev pub rows_drawn : Pen → List (List Cell) → List Spelled
 rows_drawn p [] = set_back p.attribute
 rows_drawn p (row ∷ rows) =

@@ -1,24 +1,24 @@
 -- What is proved of the form.
-use Rattle.std.specs.Prelude.{◌≡◌, ◌≢◌, ℕ, ◌+◌, ◌*◌, ◌<◌, ◌≤◌, length, Bool, IsTrue, IsFalse, List, [], ◌++◌, map, All}
-use Rattle.std.specs.Prelude.{take, slice_get, Some}
-use Rattle.std.specs.List.{concat, list_all, list_any}
-use Rattle.ans_model.specs.Bytes.{IsByte, escape, end_mark}
+use Rattle.std.specs.Prelude.{◌≡◌, ℕ, ◌+◌, ◌*◌, ◌<◌, ◌≤◌, Bool, IsFalse, List, [], length, map, take, slice_get, All}
+use Rattle.std.specs.Prelude.{Some}
+use Rattle.std.specs.List.{concat, list_any}
+use Rattle.ans_model.specs.Bytes.{IsByte}
 use Rattle.ans_model.specs.File.Layout.{is_end_mark}
-use Rattle.ans_model.specs.Sequence.TokenKind.{Glyph, LineFeed}
-use Rattle.ans_model.specs.Sequence.Reads.{ReadsAs, kind_of_byte}
-use Rattle.ans_model.specs.Screen.State.{Size, IsSize, State}
+use Rattle.ans_model.specs.Sequence.TokenKind.{LineFeed}
+use Rattle.ans_model.specs.Sequence.Reads.{ReadsAs}
+use Rattle.ans_model.specs.Screen.State.{Size, State}
 use Rattle.ans_model.specs.Screen.Step.{final}
 use Rattle.ans_model.specs.Screen.StartClass.{none_known}
 use Rattle.ans_model.specs.declared.start.Start.{Start}
-use Rattle.ans_model.specs.Verdict.Good.{Picture, IsPictureOf, GoodWith}
+use Rattle.ans_model.specs.Verdict.Good.{Picture, GoodWith}
+use Rattle.ans_model.specs.Verdict.Needs.{IsLeast}
 use Rattle.ans_players.specs.declared.kind.Kind.{Kind}
-use Rattle.ans_players.specs.declared.kind.Kind.TheVariants.{PageControls, TerminalControls}
-use Rattle.ans_players.specs.Classes.{IsSame}
+use Rattle.ans_players.specs.Classes.{IsLeastSame}
 use Rattle.ans_players.specs.Grips.{Grip}
 use Rattle.ans_players.specs.Players.{Behaviour, IsShown}
-use Rattle.ans_players.specs.Situations.{Spelled, AreAgreed, situations, kind_if, is_page_control}
-use Rattle.ans_players.specs.Situations.{is_terminal_control}
+use Rattle.ans_players.specs.Situations.{Spelled, AreAgreed, situations}
 use Rattle.ans_redraw.specs.Colours.{colours_to}
+use Rattle.ans_redraw.specs.Drawable.{IsDrawable, BytesAreAgreed}
 use Rattle.ans_redraw.specs.Form.{form, form_bytes}
 
 -- Where the current attribute is the first one, the colours make it the second, and change nothing else.
@@ -39,19 +39,6 @@ IsReadBack xs = ReadsAs (concat (map (λ x. x.text) xs)) (map (λ x. x.token) xs
 abbrev pub ColoursAreRead : Type 0
 ColoursAreRead = (from to : ℕ) → IsByte from → IsByte to → IsReadBack (colours_to from to)
 
--- the byte is printed: it is no token of another kind, begins no sequence, and does not end the content
-pub record IsPrinted (byte : ℕ) : Type 0 where
-  pub is_byte : IsByte byte
-  pub not_escape : byte ≢ escape
-  pub not_end_mark : byte ≢ end_mark
-  pub means_itself : kind_of_byte byte ≡ Glyph byte
-
--- a picture of this size, of cells whose bytes are printed
-pub record IsDrawable (z : Size) (picture : Picture) : Type 0 where
-  pub size : IsSize z
-  pub is_picture : IsPictureOf z picture
-  pub printed : All (λ c. IsPrinted c.byte) picture.cells
-
 -- The form is read as it is meant.
 abbrev pub FormIsRead : Type 0
 FormIsRead = (z : Size) (picture : Picture) → IsDrawable z picture → IsReadBack (form picture)
@@ -61,24 +48,9 @@ abbrev pub FormIsGood : Type 0
 FormIsGood = (z : Size) (class : Start) (picture : Picture) → IsDrawable z picture
     → GoodWith z class (form_bytes picture) picture
 
--- the kinds of a printed byte: players part in how they draw some
-abbrev pub shown_kinds : ℕ → List Kind
-shown_kinds byte =
-    kind_if (is_page_control byte) PageControls ++ kind_if (is_terminal_control byte) TerminalControls
-
--- the kinds of the picture's own bytes are agreed
-abbrev pub BytesAreAgreed : (Kind → Bool) → Picture → Type 0
-BytesAreAgreed agreed picture = All (λ c. IsTrue (list_all agreed (shown_kinds c.byte))) picture.cells
-
--- No other kinds arise in the form, from any start.
-abbrev pub FormIsAgreed : Type 0
-FormIsAgreed = (agreed : Kind → Bool) (z : Size) (class : Start) (picture : Picture) → IsDrawable z picture
-    → BytesAreAgreed agreed picture → AreAgreed agreed z class (form picture)
-
--- So a player shows the picture, from every memory that stands firmly for any start.
-abbrev pub FormIsShown : Behaviour → Size → (Kind → Bool) → Type 0
-FormIsShown p z agreed = (picture : Picture) → IsDrawable z picture → BytesAreAgreed agreed picture
-    → IsShown p z none_known (form picture) picture
+-- So they need no part of a start to be known.
+abbrev pub FormNeedsNothing : Type 0
+FormNeedsNothing = (z : Size) (picture : Picture) → IsDrawable z picture → IsLeast z (form_bytes picture) none_known
 
 -- Its bytes have no end mark, so all of them are the content of a file that they begin.
 abbrev pub FormHasNoEndMark : Type 0
@@ -96,6 +68,21 @@ FormFeedsOn = (z : Size) (s : State) (picture : Picture) (k : ℕ) → IsDrawabl
     → slice_get (map (λ x. x.token) (form picture)) k ≡ Some LineFeed
     → (final z s (take k (map (λ x. x.token) (form picture)))).cursor.row + 1 < z.lines
 
+-- No kinds arise in the form from any start but those of the picture's own bytes.
+abbrev pub FormIsAgreed : Type 0
+FormIsAgreed = (agreed : Kind → Bool) (z : Size) (class : Start) (picture : Picture) → IsDrawable z picture
+    → BytesAreAgreed agreed picture → AreAgreed agreed z class (form picture)
+
+-- So its bytes are the same on every player that agrees in those, from every start.
+abbrev pub FormIsSame : Type 0
+FormIsSame = (agreed : Kind → Bool) (z : Size) (picture : Picture) → IsDrawable z picture
+    → BytesAreAgreed agreed picture → IsLeastSame agreed z (form_bytes picture) none_known
+
+-- And such a player shows the picture, from every memory that stands firmly for any start.
+abbrev pub FormIsShown : Behaviour → Size → (Kind → Bool) → Type 0
+FormIsShown p z agreed = (picture : Picture) → IsDrawable z picture → BytesAreAgreed agreed picture
+    → IsShown p z none_known (form picture) picture
+
 -- Each picture that good content shows can be drawn, where the content has no end mark.
 abbrev pub GoodPicturesAreDrawable : Type 0
 GoodPicturesAreDrawable = (z : Size) (class : Start) (content : List ℕ) (picture : Picture)
@@ -110,11 +97,6 @@ FormTellsThePicture = (z : Size) (p q : Picture) → IsDrawable z p → IsDrawab
 abbrev pub FormIsKept : Type 0
 FormIsKept = (z : Size) (class : Start) (p q : Picture) → IsDrawable z p → GoodWith z class (form_bytes p) q
     → form_bytes q ≡ form_bytes p
-
--- So its bytes are the same on every player that agrees in the kinds of the picture's own bytes.
-abbrev pub FormIsSame : Type 0
-FormIsSame = (agreed : Kind → Bool) (z : Size) (class : Start) (picture : Picture) → IsDrawable z picture
-    → BytesAreAgreed agreed picture → IsSame agreed z class (form_bytes picture)
 
 -- Its bytes are at most 13 for each cell, and 23 more.
 abbrev pub FormIsBounded : Type 0

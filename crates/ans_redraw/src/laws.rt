@@ -2,7 +2,7 @@
 
 ghost use Rattle.ans_redraw.specs.Laws.{ColoursAreCalm, ColoursAreRead, ColoursLead, FormEndsGrey, FormFeedsOn};
 ghost use Rattle.ans_redraw.specs.Laws.{FormHasNoEndMark, FormIsAgreed, FormIsBounded, FormIsGood, FormIsKept};
-ghost use Rattle.ans_redraw.specs.Laws.{FormIsRead, FormIsSame, FormIsShown, FormTellsThePicture};
+ghost use Rattle.ans_redraw.specs.Laws.{FormIsRead, FormIsSame, FormIsShown, FormNeedsNothing, FormTellsThePicture};
 ghost use Rattle.ans_redraw.specs.Laws.{GoodPicturesAreDrawable};
 
 use ans_players::player::Player;
@@ -21,13 +21,15 @@ pub fn colours_lead_from_each_to_each()
 pub fn form_is_good_from_every_start()
     ensures read { FormIsRead }
     ensures good { FormIsGood }
+    ensures needs { FormNeedsNothing }
     ensures unmarked { FormHasNoEndMark }
     ensures grey { FormEndsGrey }
     ensures feeds { FormFeedsOn }
 {}
 
 /// No kind in which players part arises in the form from any start, but for those of the picture's own
-/// bytes: some control bytes are not drawn everywhere.
+/// bytes: some control bytes are not drawn everywhere. So from every start it is the same on every player that
+/// agrees in those.
 pub fn form_is_the_same_on_every_player()
     ensures agreed { FormIsAgreed }
     ensures same { FormIsSame }
