@@ -27,6 +27,7 @@ use Rattle.ans_players.specs.Players.{Behaviour, IsPlayer}
 use Rattle.ans_players.specs.Situations.{Spelled, AreAgreed, spelled, stand_behind}
 use Rattle.ans_players.proofs.Everywhere.{kinds_of, shown_by}
 use Rattle.ans_players.proofs.MendedPlayers.{mending_leaves}
+use Rattle.ans_players.proofs.OneSpelling.{one_spelling}
 use Rattle.ans_players.proofs.Spellings.{wrap_on, white_on_black, clear, home, save}
 use Rattle.ans_redraw.specs.Form.{form, form_bytes, picture_drawn}
 use Rattle.ans_redraw.specs.Drawable.{shown_kinds, IsDrawable, BytesAreAgreed}
@@ -37,6 +38,7 @@ use Rattle.ans_redraw.proofs.AllGoes.{Marks, SameBefore, all_spelled, all_unmark
 use Rattle.ans_redraw.proofs.AllGoes.{all_play_well}
 use Rattle.ans_redraw.proofs.Going.{AllGoWell, Leads, both_lead}
 use Rattle.ans_redraw.proofs.HalfDrawn.{half}
+use Rattle.ans_redraw.proofs.KindsBack.{bytes_agreed}
 use Rattle.ans_redraw.proofs.Pieces.{stand}
 use Rattle.ans_redraw.proofs.PictureDrawn.{IsAllDrawn, picture_leads}
 use Rattle.ans_redraw.proofs.ReadBack.{read_back}
@@ -224,9 +226,14 @@ form_is_good z class picture h =
       shows = form_shows any_kind z class picture h (any_agreed picture);
     }
 
-pub form_is_agreed : FormIsAgreed
-form_is_agreed agreed z class picture h bytes =
+agreed_where_bytes_are : (agreed : Kind → Bool) (z : Size) (class : Start) (picture : Picture) → IsDrawable z picture
+    → BytesAreAgreed agreed picture → AreAgreed agreed z class (form picture)
+agreed_where_bytes_are agreed z class picture h bytes =
     all_agreed z agreed (form picture) (form_goes agreed z picture h bytes) class
+
+pub form_is_agreed : FormIsAgreed
+form_is_agreed agreed z class picture h =
+    (agreed_where_bytes_are agreed z class picture h, bytes_agreed agreed z class picture h)
 
 pub form_is_shown : (z : Size) (agreed : Kind → Bool) (p : Behaviour) → IsPlayer z agreed p → FormIsShown p z agreed
 form_is_shown z agreed p player picture h bytes =
@@ -234,7 +241,7 @@ form_is_shown z agreed p player picture h bytes =
     (all_play_well z agreed (form picture) (form_goes agreed z picture h bytes)
     (same_behind z (picture_drawn (rows_of picture))) none_known)
     (form_shows agreed z none_known picture h bytes)
-    (form_is_agreed agreed z none_known picture h bytes)
+    (agreed_where_bytes_are agreed z none_known picture h bytes)
 
 pub form_has_no_end_mark : FormHasNoEndMark
 form_has_no_end_mark z picture h =
@@ -272,12 +279,26 @@ unfolding form_is_good
 same_from agreed z class picture h bytes = (
   (picture, form_is_good z class picture h),
   subst (λ (xs : List Spelled). AreAgreed agreed z class xs) (sym (spelled_back (form picture)))
-      (form_is_agreed agreed z class picture h bytes),
+      (agreed_where_bytes_are agreed z class picture h bytes),
 )
 
+-- where its bytes are the same, the picture's bytes are agreed
+same_back : (agreed : Kind → Bool) (z : Size) (class : Start) (picture : Picture) → IsDrawable z picture
+    → IsSame agreed z class (form_bytes picture) → BytesAreAgreed agreed picture
+unfolding form_is_good
+same_back agreed z class picture h same =
+    let good = form_is_good z class picture h in
+    let spelled_alike : spelled same.0.1.tokens same.0.1.reads.0 ≡ form picture =
+    one_spelling (form_bytes picture) same.0.1.tokens good.tokens same.0.1.reads good.reads
+    ∙ spelled_back (form picture) in
+    bytes_agreed agreed z class picture h
+    (subst (λ (xs : List Spelled). AreAgreed agreed z class xs) spelled_alike same.1)
+
 pub form_is_same : FormIsSame
-form_is_same agreed z picture h bytes class =
-    (λ same. none_covers class, λ covers. same_from agreed z class picture h bytes)
+form_is_same agreed z picture h = (
+  λ bytes class. (λ same. none_covers class, λ covers. same_from agreed z class picture h bytes),
+  λ least. same_back agreed z none_known picture h ((least none_known).1 (none_covers none_known)),
+)
 
 pub form_feeds_on : FormFeedsOn
 form_feeds_on z s picture k h e =

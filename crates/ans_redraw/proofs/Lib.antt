@@ -14,3 +14,4 @@ pub mod PrintedBytes
 pub mod PrintedPictures
 pub mod Redrawn
 pub mod FormLengths
+pub mod KindsBack

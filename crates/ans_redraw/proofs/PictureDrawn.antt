@@ -27,7 +27,7 @@ use Rattle.ans_redraw.proofs.Ways.{colours_to_lead, set_back_leads, line_end_lea
 use Rattle.ans_redraw.proofs.RowDrawn.{IsShownCell, HeldAt, blank_is, column, IsRowDrawn, row_leads}
 
 -- one row more
-suc_rows : (n w : ℕ) → suc n * w ≡ w + n * w
+pub suc_rows : (n w : ℕ) → suc n * w ≡ w + n * w
 suc_rows n w =
     let one : suc n ≡ n + 1 = omega arith in
     let e : (n + 1) * w ≡ n * w + 1 * w = add-mul n 1 w in
@@ -41,7 +41,7 @@ row_of_blanks (c ∷ row) h =
     let both = and_parts (is_blank c) (list_all is_blank row) h in
     ap₂ (λ (x : Cell) (xs : List Cell). x ∷ xs) (blank_is c both.0) (row_of_blanks row both.1)
 
-nothing_left : (xs : List Cell) → length xs ≡ 0 → xs ≡ []
+pub nothing_left : (xs : List Cell) → length xs ≡ 0 → xs ≡ []
 nothing_left [] h = refl
 nothing_left (x ∷ xs) h = absurd (let no : ⊥ = omega arith in no)
 

@@ -1,5 +1,5 @@
 -- What is proved of the form.
-use Rattle.std.specs.Prelude.{◌≡◌, ℕ, ◌+◌, ◌*◌, ◌<◌, ◌≤◌, Bool, IsFalse, List, [], length, map, take, slice_get, All}
+use Rattle.std.specs.Prelude.{◌≡◌, ◌↔◌, ℕ, ◌+◌, ◌*◌, ◌<◌, ◌≤◌, Bool, IsFalse, List, [], length, map, take, slice_get, All}
 use Rattle.std.specs.Prelude.{Some}
 use Rattle.std.specs.List.{concat, list_any}
 use Rattle.ans_model.specs.Bytes.{IsByte}
@@ -68,15 +68,15 @@ FormFeedsOn = (z : Size) (s : State) (picture : Picture) (k : ℕ) → IsDrawabl
     → slice_get (map (λ x. x.token) (form picture)) k ≡ Some LineFeed
     → (final z s (take k (map (λ x. x.token) (form picture)))).cursor.row + 1 < z.lines
 
--- No kinds arise in the form from any start but those of the picture's own bytes.
+-- From any start those kinds arise in the form that the picture's own bytes have, and no others.
 abbrev pub FormIsAgreed : Type 0
 FormIsAgreed = (agreed : Kind → Bool) (z : Size) (class : Start) (picture : Picture) → IsDrawable z picture
-    → BytesAreAgreed agreed picture → AreAgreed agreed z class (form picture)
+    → BytesAreAgreed agreed picture ↔ AreAgreed agreed z class (form picture)
 
--- So its bytes are the same on every player that agrees in those, from every start.
+-- So its bytes are the same from every start exactly where those kinds are agreed.
 abbrev pub FormIsSame : Type 0
 FormIsSame = (agreed : Kind → Bool) (z : Size) (picture : Picture) → IsDrawable z picture
-    → BytesAreAgreed agreed picture → IsLeastSame agreed z (form_bytes picture) none_known
+    → BytesAreAgreed agreed picture ↔ IsLeastSame agreed z (form_bytes picture) none_known
 
 -- And such a player shows the picture, from every memory that stands firmly for any start.
 abbrev pub FormIsShown : Behaviour → Size → (Kind → Bool) → Type 0

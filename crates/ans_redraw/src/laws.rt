@@ -27,9 +27,9 @@ pub fn form_is_good_from_every_start()
     ensures feeds { FormFeedsOn }
 {}
 
-/// No kind in which players part arises in the form from any start, but for those of the picture's own
-/// bytes: some control bytes are not drawn everywhere. So from every start it is the same on every player that
-/// agrees in those.
+/// From any start the kinds in which players part that arise in the form are those of the picture's own bytes,
+/// and no others: some control bytes are not drawn everywhere. So its bytes are the same from every start, on
+/// every player that agrees in those, and there alone.
 pub fn form_is_the_same_on_every_player()
     ensures agreed { FormIsAgreed }
     ensures same { FormIsSame }
