@@ -1,6 +1,6 @@
 -- What is proved of the form.
-use Rattle.std.specs.Prelude.{◌≡◌, ◌↔◌, ℕ, ◌+◌, ◌*◌, ◌<◌, ◌≤◌, Bool, IsFalse, List, [], length, map, take, slice_get, All}
-use Rattle.std.specs.Prelude.{Some}
+use Rattle.std.specs.Prelude.{◌≡◌, ◌↔◌, ℕ, ◌+◌, ◌*◌, ◌<◌, ◌≤◌, Bool, IsFalse, List, [], length, map}
+use Rattle.std.specs.Prelude.{take, slice_get, All, Some}
 use Rattle.std.specs.List.{concat, list_any}
 use Rattle.ans_model.specs.Bytes.{IsByte}
 use Rattle.ans_model.specs.File.Layout.{is_end_mark}

@@ -28,8 +28,8 @@ pub fn form_is_good_from_every_start()
 {}
 
 /// From any start the kinds in which players part that arise in the form are those of the picture's own bytes,
-/// and no others: some control bytes are not drawn everywhere. So its bytes are the same from every start, on
-/// every player that agrees in those, and there alone.
+/// and no others: some control bytes are not drawn everywhere. So its bytes are the same from every start exactly
+/// where those kinds are agreed.
 pub fn form_is_the_same_on_every_player()
     ensures agreed { FormIsAgreed }
     ensures same { FormIsSame }
