@@ -1,0 +1,178 @@
+-- The colours from each attribute to each.
+use Rattle.std.proofs.Common.{◌≡◌, ℕ, ◌+◌, ◌<◌, ◌≤◌, Bool, true, false, not, ◌&&◌, ◌==◌, refl, ap, sym, ◌∙◌}
+use Rattle.std.proofs.Common.{List, [], ◌∷◌, ◌++◌, length, length-append, map, arith}
+use Rattle.std.specs.Prelude.{All, if◌then◌else◌}
+use Rattle.std.specs.List.{list_all, list_any}
+use Rattle.std.proofs.lemmas.Bool.{agree_below_at, eqb-true, eqb-false, and_parts, and_from}
+use Rattle.std.proofs.lemmas.Bool.Decides.{nat_tests}
+use Rattle.std.proofs.lemmas.List.Elements.{All-nil, All-cons}
+use Rattle.std.proofs.lemmas.List.Folds.{list_all-append}
+use Rattle.ans_model.specs.Bytes.{IsByte}
+use Rattle.ans_model.specs.File.Layout.{is_end_mark}
+use Rattle.ans_model.specs.Sequence.TokenKind.{Colours}
+use Rattle.ans_model.specs.Sequence.Reads.{SpellsToken}
+use Rattle.ans_model.specs.Screen.State.{Size, State}
+use Rattle.ans_model.specs.Screen.Step.{final}
+use Rattle.ans_model.specs.Screen.Attribute.{attribute_after_all}
+use Rattle.ans_players.specs.Grips.{Grip}
+use Rattle.ans_players.specs.Situations.{Spelled, situations, is_common_colour, omits}
+use Rattle.ans_redraw.specs.Colours.{foreground, is_bright, background, blinks, colour_number, number_if, changes}
+use Rattle.ans_redraw.specs.Colours.{stays, or_white, anew, numbers_to, is_no_longer, colours_text, colours, colours_to}
+use Rattle.ans_redraw.specs.Laws.{ColoursLead, ColoursAreCalm, ColoursAreRead}
+use Rattle.ans_redraw.proofs.ColourParts.{numbers_lead, foreground_lt, background_lt, bright_number}
+use Rattle.ans_redraw.proofs.ColourParts.{blink_number, front_number, back_number}
+use Rattle.ans_redraw.proofs.ColourTexts.{AreBytes, numbers_spelled, text_omits_none, text_unmarked}
+use Rattle.ans_redraw.proofs.ReadBack.{AreSpelled, read_back}
+
+-- numbers that all players take alike, and few
+pub record AreCommon (ns : List ℕ) : Type 0 where
+  pub common : list_all is_common_colour ns ≡ true
+  pub few : length ns ≤ 5
+
+-- ---- what changes
+common_if : (test : Bool) (n : ℕ) → is_common_colour n ≡ true → list_all is_common_colour (number_if test n) ≡ true
+common_if true n h = and_from (is_common_colour n) true h refl
+common_if false n h = refl
+
+one_if : (test : Bool) (n : ℕ) → length (number_if test n) ≤ 1
+one_if true n = omega arith
+one_if false n = omega arith
+
+-- those of two lists
+common_both : (xs ys : List ℕ) → list_all is_common_colour xs ≡ true → list_all is_common_colour ys ≡ true
+    → list_all is_common_colour (xs ++ ys) ≡ true
+common_both xs ys h g =
+    list_all-append is_common_colour xs ys
+    ∙ and_from (list_all is_common_colour xs) (list_all is_common_colour ys) h g
+
+foreground_common : (f : ℕ) → f < 8 → is_common_colour (30 + colour_number f) ≡ true
+foreground_common f lt = agree_below_at (λ f. is_common_colour (30 + colour_number f)) (λ n. true) 8 f refl lt
+
+background_common : (g : ℕ) → g < 8 → is_common_colour (40 + colour_number g) ≡ true
+background_common g lt = agree_below_at (λ g. is_common_colour (40 + colour_number g)) (λ n. true) 8 g refl lt
+
+module _ (from to : ℕ) where
+  abbrev bright : List ℕ
+  bright = bright_number from to
+
+  abbrev blink : List ℕ
+  blink = blink_number from to
+
+  abbrev front : List ℕ
+  front = front_number from to
+
+  abbrev back : List ℕ
+  back = back_number from to
+
+  changes_common : list_all is_common_colour (changes from to) ≡ true
+  changes_common =
+      common_both bright (blink ++ (front ++ back)) (common_if _ 1 refl)
+      (common_both blink (front ++ back) (common_if _ 5 refl)
+      (common_both front back
+      (common_if _ (30 + colour_number (foreground to)) (foreground_common (foreground to) (foreground_lt to)))
+      (common_if _ (40 + colour_number (background to)) (background_common (background to) (background_lt to)))))
+
+  changes_few : length (changes from to) ≤ 4
+  changes_few =
+      let a = length-append bright (blink ++ (front ++ back)) in
+      let b = length-append blink (front ++ back) in
+      let c = length-append front back in
+      let one : length bright ≤ 1 = one_if (not (is_bright from) && is_bright to) 1 in
+      let two : length blink ≤ 1 = one_if (not (blinks from) && blinks to) 5 in
+      let three : length front ≤ 1 =
+      one_if (not (foreground from == foreground to)) (30 + colour_number (foreground to)) in
+      let four : length back ≤ 1 =
+      one_if (not (background from == background to)) (40 + colour_number (background to)) in
+      omega (arith, a, b, c)
+
+  changes_are_common : AreCommon (changes from to)
+  changes_are_common = record { common = changes_common; few = omega (arith, changes_few) }
+
+white_common : (ns : List ℕ) → list_all is_common_colour ns ≡ true → list_all is_common_colour (or_white ns) ≡ true
+white_common [] h = refl
+white_common (n ∷ ns) h = h
+
+white_few : (ns : List ℕ) → length ns ≤ 4 → length (or_white ns) ≤ 4
+white_few [] h = omega arith
+white_few (n ∷ ns) h = h
+
+anew_is_common : (to : ℕ) → AreCommon (anew to)
+anew_is_common to = record {
+  common = white_common (changes 0x07 to) (changes_common 0x07 to);
+  few = let h = white_few (changes 0x07 to) (changes_few 0x07 to) in omega arith;
+}
+
+pub numbers_are_common : (from to : ℕ) → AreCommon (numbers_to from to)
+numbers_are_common from to = by_test (stays from to && is_no_longer (changes from to) (anew to))
+  where
+    by_test : (b : Bool) → AreCommon (if b then changes from to else anew to)
+    by_test true = changes_are_common from to
+    by_test false = anew_is_common to
+
+-- ---- the sequence
+common_is_byte : (n : ℕ) → is_common_colour n ≡ true → n < 256
+common_is_byte n h = grind (arith, nat_tests)
+
+are_bytes : (ns : List ℕ) → list_all is_common_colour ns ≡ true → AreBytes ns
+are_bytes [] h = tt
+are_bytes (n ∷ ns) h =
+    let both = and_parts (is_common_colour n) (list_all is_common_colour ns) h in
+    (common_is_byte n both.0, are_bytes ns both.1)
+
+-- common numbers, where there is one
+pub common_spelled : (ns : List ℕ) → AreCommon ns → (ns ≡ [] → ⊥) → SpellsToken (Colours ns) (colours_text ns)
+common_spelled [] h some = absurd (some refl)
+common_spelled (n ∷ ns) h some = numbers_spelled n ns (are_bytes (n ∷ ns) h.common) (omega (arith, h.few))
+
+pub common_unmarked : (ns : List ℕ) → AreCommon ns → list_any is_end_mark (colours_text ns) ≡ false
+common_unmarked ns h = text_unmarked ns (are_bytes ns h.common)
+
+common_omit_none : (ns : List ℕ) → AreCommon ns → (ns ≡ [] → ⊥) → omits (colours_text ns) ≡ false
+common_omit_none [] h some = absurd (some refl)
+common_omit_none (n ∷ ns) h some = text_omits_none n ns (are_bytes (n ∷ ns) h.common)
+
+-- no kind arises at them
+pub common_calm : (z : Size) (g : Grip) (s : State) (ns : List ℕ) → AreCommon ns → (ns ≡ [] → ⊥)
+    → situations z g s (colours ns) ≡ []
+common_calm z g s ns h some = rw (h.common, common_omit_none ns h some) refl
+
+-- there is a number, where the attributes are two
+pub some_number : (from to : ℕ) → IsByte from → IsByte to → (from ≡ to → ⊥) → numbers_to from to ≡ [] → ⊥
+some_number from to h g apart none =
+    apart (sym (ap (λ (ns : List ℕ). attribute_after_all from ns) none) ∙ numbers_lead from to h g)
+
+pub colours_lead : ColoursLead
+colours_lead z s to h g = by_test (s.attribute == to) refl
+  where
+    by_test : (b : Bool) → (s.attribute == to) ≡ b
+        → final z s (map (λ (x : Spelled). x.token) (if b then [] else colours (numbers_to s.attribute to) ∷ []))
+        ≡ record s { attribute = to }
+    by_test true e = ap (λ (a : ℕ). record s { attribute = a }) (eqb-true s.attribute to e)
+    by_test false e = ap (λ (a : ℕ). record s { attribute = a }) (numbers_lead s.attribute to h g)
+
+pub colours_are_calm : ColoursAreCalm
+colours_are_calm z g s from to h k = by_test (from == to) refl
+  where
+    by_test : (b : Bool) → (from == to) ≡ b
+        → All (λ x. situations z g s x ≡ []) (if b then [] else colours (numbers_to from to) ∷ [])
+    by_test true e = All-nil (λ x. situations z g s x ≡ [])
+    by_test false e =
+        All-cons (λ x. situations z g s x ≡ []) (colours (numbers_to from to)) []
+        (common_calm z g s (numbers_to from to) (numbers_are_common from to)
+        (some_number from to h k (eqb-false from to e)))
+        (All-nil (λ x. situations z g s x ≡ []))
+
+pub colours_spelled : (from to : ℕ) → IsByte from → IsByte to → AreSpelled (colours_to from to)
+colours_spelled from to h g = by_test (from == to) refl
+  where
+    by_test : (b : Bool) → (from == to) ≡ b
+        → AreSpelled (if b then [] else colours (numbers_to from to) ∷ [])
+    by_test true e = tt
+    by_test false e = (
+      common_spelled (numbers_to from to) (numbers_are_common from to)
+          (some_number from to h g (eqb-false from to e)),
+      tt,
+    )
+
+pub colours_are_read : ColoursAreRead
+colours_are_read from to h g = read_back (colours_to from to) (colours_spelled from to h g)

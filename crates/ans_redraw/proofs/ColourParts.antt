@@ -1,0 +1,210 @@
+-- What the numbers of colours do to an attribute, part by part.
+use Rattle.std.proofs.Common.{◌≡◌, ℕ, ◌+◌, ◌*◌, ◌/◌, ◌<◌, Bool, true, false, not, ◌&&◌, ◌==◌, refl, ap, ap₂, sym, ◌∙◌}
+use Rattle.std.proofs.Common.{List, [], ◌∷◌, ◌++◌, arith, lit<}
+use Rattle.std.specs.Prelude.{◌||◌, if◌then◌else◌, bit_or}
+use Rattle.std.specs.Int.Bits.{and_zero_r}
+use Rattle.std.proofs.Math.Nat.{mod-lt}
+use Rattle.std.proofs.lemmas.Bool.{agree_below, agree_below_at, eqb-true, and_parts}
+use Rattle.std.proofs.lemmas.List.Sums.{fold-append}
+use Rattle.ans_model.specs.Bytes.{IsByte}
+use Rattle.ans_model.specs.Screen.Attribute.{attribute_after, attribute_after_all}
+use Rattle.ans_redraw.specs.Colours.{foreground, is_bright, background, blinks, colour_number, number_if, changes}
+use Rattle.ans_redraw.specs.Colours.{stays, or_white, anew, numbers_to, is_no_longer}
+
+-- the attribute of a foreground, bright, a background and blink
+abbrev pub made : ℕ → Bool → ℕ → Bool → ℕ
+made f bright g blink = f + (if bright then 8 else 0) + 16 * g + (if blink then 128 else 0)
+
+abbrev yes : ℕ → Bool
+yes n = true
+
+-- a byte is made of its parts
+pub made_of_parts : (a : ℕ) → IsByte a → made (foreground a) (is_bright a) (background a) (blinks a) ≡ a
+made_of_parts a h =
+    eqb-true _ a
+    (agree_below_at (λ a. made (foreground a) (is_bright a) (background a) (blinks a) == a) yes 256 a refl h)
+
+-- a test of two colours holds
+each_pair : (p : ℕ → ℕ → Bool) → agree_below (λ f. agree_below (p f) yes 8) yes 8 ≡ true → (f g : ℕ) → f < 8 → g < 8
+    → p f g ≡ true
+each_pair p h f g lt gt =
+    agree_below_at (p f) yes 8 g (agree_below_at (λ f. agree_below (p f) yes 8) yes 8 f h lt) gt
+
+-- the test, of each two colours
+abbrev of_each_two : (ℕ → Bool → ℕ → Bool → Bool) → Bool → Bool → Bool
+of_each_two p bright blink = agree_below (λ f. agree_below (λ g. p f bright g blink) yes 8) yes 8
+
+-- the test, of all that an attribute is made of
+abbrev of_each_made : (ℕ → Bool → ℕ → Bool → Bool) → Bool
+of_each_made p =
+    of_each_two p true true && (of_each_two p true false && (of_each_two p false true && of_each_two p false false))
+
+-- it holds of each
+each_made : (p : ℕ → Bool → ℕ → Bool → Bool) → of_each_made p ≡ true → (f g : ℕ) (bright blink : Bool) → f < 8
+    → g < 8 → p f bright g blink ≡ true
+each_made p h f g true true lt gt =
+    each_pair (λ f g. p f true g true) (and_parts (of_each_two p true true) _ h).0 f g lt gt
+each_made p h f g true false lt gt =
+    let more = and_parts (of_each_two p true true) _ h in
+    each_pair (λ f g. p f true g false) (and_parts (of_each_two p true false) _ more.1).0 f g lt gt
+each_made p h f g false true lt gt =
+    let more = and_parts (of_each_two p true true) _ h in
+    let most = and_parts (of_each_two p true false) _ more.1 in
+    each_pair (λ f g. p f false g true) (and_parts (of_each_two p false true) _ most.1).0 f g lt gt
+each_made p h f g false false lt gt =
+    let more = and_parts (of_each_two p true true) _ h in
+    let most = and_parts (of_each_two p true false) _ more.1 in
+    each_pair (λ f g. p f false g false) (and_parts (of_each_two p false true) _ most.1).1 f g lt gt
+
+-- 1 makes it bright
+one_is : (f g : ℕ) (bright blink : Bool) → f < 8 → g < 8
+    → attribute_after (made f bright g blink) 1 ≡ made f true g blink
+one_is f g bright blink lt gt =
+    eqb-true _ _ (each_made (λ f bright g blink. attribute_after (made f bright g blink) 1 == made f true g blink) refl
+    f g bright blink lt gt)
+
+-- 5 makes it blink
+five_is : (f g : ℕ) (bright blink : Bool) → f < 8 → g < 8
+    → attribute_after (made f bright g blink) 5 ≡ made f bright g true
+five_is f g bright blink lt gt =
+    eqb-true _ _ (each_made (λ f bright g blink. attribute_after (made f bright g blink) 5 == made f bright g true) refl
+    f g bright blink lt gt)
+
+-- a colour's number behind 30 makes it the foreground
+abbrev foreground_test : ℕ → ℕ → Bool → ℕ → Bool → Bool
+foreground_test to f bright g blink =
+    attribute_after (made f bright g blink) (30 + colour_number to) == made to bright g blink
+
+foreground_is : (to f g : ℕ) (bright blink : Bool) → to < 8 → f < 8 → g < 8
+    → attribute_after (made f bright g blink) (30 + colour_number to) ≡ made to bright g blink
+foreground_is to f g bright blink ot lt gt =
+    eqb-true _ _ (each_made (foreground_test to)
+    (agree_below_at (λ to. of_each_made (foreground_test to)) yes 8 to refl ot) f g bright blink lt gt)
+
+-- behind 40, the background
+abbrev background_test : ℕ → ℕ → Bool → ℕ → Bool → Bool
+background_test to f bright g blink =
+    attribute_after (made f bright g blink) (40 + colour_number to) == made f bright to blink
+
+background_is : (to f g : ℕ) (bright blink : Bool) → to < 8 → f < 8 → g < 8
+    → attribute_after (made f bright g blink) (40 + colour_number to) ≡ made f bright to blink
+background_is to f g bright blink ot lt gt =
+    eqb-true _ _ (each_made (background_test to)
+    (agree_below_at (λ to. of_each_made (background_test to)) yes 8 to refl ot) f g bright blink lt gt)
+
+-- ---- all numbers, one after the other
+bright_step : (f g : ℕ) (h bright blink : Bool) → f < 8 → g < 8
+    → attribute_after_all (made f h g blink) (number_if (not h && bright) 1) ≡ made f (h || bright) g blink
+bright_step f g true bright blink lt gt = refl
+bright_step f g false true blink lt gt = one_is f g false blink lt gt
+bright_step f g false false blink lt gt = refl
+
+blink_step : (f g : ℕ) (bright h blink : Bool) → f < 8 → g < 8
+    → attribute_after_all (made f bright g h) (number_if (not h && blink) 5) ≡ made f bright g (h || blink)
+blink_step f g bright true blink lt gt = refl
+blink_step f g bright false true lt gt = five_is f g bright false lt gt
+blink_step f g bright false false lt gt = refl
+
+foreground_step : (f g to : ℕ) (bright blink : Bool) → f < 8 → g < 8 → to < 8
+    → attribute_after_all (made f bright g blink) (number_if (not (f == to)) (30 + colour_number to))
+    ≡ made to bright g blink
+foreground_step f g to bright blink lt gt ot = by_test (f == to) refl
+  where
+    by_test : (b : Bool) → (f == to) ≡ b
+        → attribute_after_all (made f bright g blink) (number_if (not b) (30 + colour_number to))
+        ≡ made to bright g blink
+    by_test true e = ap (λ (n : ℕ). made n bright g blink) (eqb-true f to e)
+    by_test false e = foreground_is to f g bright blink ot lt gt
+
+background_step : (f g to : ℕ) (bright blink : Bool) → f < 8 → g < 8 → to < 8
+    → attribute_after_all (made f bright g blink) (number_if (not (g == to)) (40 + colour_number to))
+    ≡ made f bright to blink
+background_step f g to bright blink lt gt ot = by_test (g == to) refl
+  where
+    by_test : (b : Bool) → (g == to) ≡ b
+        → attribute_after_all (made f bright g blink) (number_if (not b) (40 + colour_number to))
+        ≡ made f bright to blink
+    by_test true e = ap (λ (n : ℕ). made f bright n blink) (eqb-true g to e)
+    by_test false e = background_is to f g bright blink ot lt gt
+
+pub foreground_lt : (a : ℕ) → foreground a < 8
+foreground_lt a = mod-lt a (lit< tt)
+
+pub background_lt : (a : ℕ) → background a < 8
+background_lt a = mod-lt (a / 16) (lit< tt)
+
+-- the four numbers of what changes, where each is there
+module _ (from to : ℕ) where
+  abbrev pub bright_number : List ℕ
+  bright_number = number_if (not (is_bright from) && is_bright to) 1
+
+  abbrev pub blink_number : List ℕ
+  blink_number = number_if (not (blinks from) && blinks to) 5
+
+  abbrev pub front_number : List ℕ
+  front_number = number_if (not (foreground from == foreground to)) (30 + colour_number (foreground to))
+
+  abbrev pub back_number : List ℕ
+  back_number = number_if (not (background from == background to)) (40 + colour_number (background to))
+
+-- what the numbers of what changes do
+changes_make : (from to : ℕ) → IsByte from
+    → attribute_after_all from (changes from to)
+    ≡ made (foreground to) (is_bright from || is_bright to) (background to) (blinks from || blinks to)
+changes_make from to h =
+    let f = foreground from in
+    let g = background from in
+    let bright : List ℕ = bright_number from to in
+    let blink : List ℕ = blink_number from to in
+    let front : List ℕ = front_number from to in
+    let back : List ℕ = back_number from to in
+    ap (λ (a : ℕ). attribute_after_all a (bright ++ (blink ++ (front ++ back)))) (sym (made_of_parts from h))
+    ∙ fold-append attribute_after (made f (is_bright from) g (blinks from)) bright (blink ++ (front ++ back))
+    ∙ ap (λ (a : ℕ). attribute_after_all a (blink ++ (front ++ back)))
+    (bright_step f g (is_bright from) (is_bright to) (blinks from) (foreground_lt from) (background_lt from))
+    ∙ fold-append attribute_after (made f (is_bright from || is_bright to) g (blinks from)) blink (front ++ back)
+    ∙ ap (λ (a : ℕ). attribute_after_all a (front ++ back))
+    (blink_step f g (is_bright from || is_bright to) (blinks from) (blinks to) (foreground_lt from)
+    (background_lt from))
+    ∙ fold-append attribute_after (made f (is_bright from || is_bright to) g (blinks from || blinks to)) front back
+    ∙ ap (λ (a : ℕ). attribute_after_all a back)
+    (foreground_step f g (foreground to) (is_bright from || is_bright to) (blinks from || blinks to)
+    (foreground_lt from) (background_lt from) (foreground_lt to))
+    ∙ background_step (foreground to) g (background to) (is_bright from || is_bright to) (blinks from || blinks to)
+    (foreground_lt to) (background_lt from) (background_lt to)
+
+-- where it does not go, it is what it becomes
+or_stays : (a b : Bool) → (not a || b) ≡ true → (a || b) ≡ b
+or_stays true b h = sym h
+or_stays false b h = refl
+
+changes_lead : (from to : ℕ) → IsByte from → IsByte to → stays from to ≡ true
+    → attribute_after_all from (changes from to) ≡ to
+changes_lead from to h g s =
+    let both : ((not (is_bright from) || is_bright to) ≡ true) × ((not (blinks from) || blinks to) ≡ true) =
+    and_parts (not (is_bright from) || is_bright to) (not (blinks from) || blinks to) s in
+    changes_make from to h
+    ∙ ap₂ (λ (bright blink : Bool). made (foreground to) bright (background to) blink)
+    (or_stays (is_bright from) (is_bright to) both.0) (or_stays (blinks from) (blinks to) both.1)
+    ∙ made_of_parts to g
+
+white_leads : (to : ℕ) (numbers : List ℕ) → attribute_after_all 0x07 numbers ≡ to
+    → attribute_after_all 0x07 (or_white numbers) ≡ to
+white_leads to [] e = e
+white_leads to (n ∷ ns) e = e
+
+anew_leads : (from to : ℕ) → IsByte to → attribute_after_all from (anew to) ≡ to
+anew_leads from to h =
+    ap (λ (a : ℕ). attribute_after_all a (or_white (changes 0x07 to)))
+    (ap (λ (v : ℕ). bit_or v 0x07) (and_zero_r from))
+    ∙ white_leads to (changes 0x07 to) (changes_lead 0x07 to (omega arith) h refl)
+
+-- the numbers lead from each attribute to each
+pub numbers_lead : (from to : ℕ) → IsByte from → IsByte to → attribute_after_all from (numbers_to from to) ≡ to
+numbers_lead from to h g = by_test (stays from to) (is_no_longer (changes from to) (anew to)) refl
+  where
+    by_test : (a b : Bool) → stays from to ≡ a
+        → attribute_after_all from (if a && b then changes from to else anew to) ≡ to
+    by_test true true e = changes_lead from to h g e
+    by_test true false e = anew_leads from to g
+    by_test false b e = anew_leads from to g

@@ -1,0 +1,17 @@
+pub mod ColourParts
+pub mod ColourTexts
+pub mod ReadBack
+pub mod ColourLaws
+pub mod HalfDrawn
+pub mod Going
+pub mod Pieces
+pub mod Ways
+pub mod RowDrawn
+pub mod PictureDrawn
+pub mod AllGoes
+pub mod FormLaws
+pub mod PrintedBytes
+pub mod PrintedPictures
+pub mod Redrawn
+pub mod FormLengths
+pub mod KindsBack

@@ -1,0 +1,14 @@
+use Rattle.std.proofs.Common.{refl}
+use Rattle.std.specs.Fmt.{digits}
+use Rattle.ans_redraw.proofs.examples.backgrounds.Goals as goal
+
+pub returns : goal.returns
+unfolding digits
+returns c = record {
+  blank_at_the_end = refl;
+  line_end = refl;
+  bright_line_end = refl;
+  wrap = refl;
+  first_cell = refl;
+  before_nothing = refl;
+}

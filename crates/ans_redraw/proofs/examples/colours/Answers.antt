@@ -1,0 +1,19 @@
+use Rattle.std.proofs.Common.{refl}
+use Rattle.std.specs.Fmt.{digits}
+use Rattle.ans_redraw.proofs.examples.colours.Goals as goal
+
+pub returns : goal.returns
+unfolding digits
+returns c = record {
+  none = refl;
+  bright = refl;
+  bright_goes = refl;
+  blink = refl;
+  blink_goes = refl;
+  background = refl;
+  background_goes = refl;
+  both = refl;
+  shorter_anew = refl;
+  white_anew = refl;
+  all = refl;
+}

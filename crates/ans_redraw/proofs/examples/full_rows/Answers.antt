@@ -1,0 +1,11 @@
+use Rattle.std.proofs.Common.{refl}
+use Rattle.std.specs.Fmt.{digits}
+use Rattle.ans_redraw.proofs.examples.full_rows.Goals as goal
+
+pub returns : goal.returns
+unfolding digits
+returns c = record {
+  before_empty = refl;
+  before_a_blank = refl;
+  before_nothing = refl;
+}

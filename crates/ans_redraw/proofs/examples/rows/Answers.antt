@@ -1,0 +1,13 @@
+use Rattle.std.proofs.Common.{refl}
+use Rattle.std.specs.Fmt.{digits}
+use Rattle.ans_redraw.proofs.examples.rows.Goals as goal
+
+pub returns : goal.returns
+unfolding digits
+returns c = record {
+  hi = refl;
+  empty = refl;
+  two = refl;
+  one_column = refl;
+  short = refl;
+}

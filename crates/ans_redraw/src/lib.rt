@@ -1,0 +1,10 @@
+//! The plainest form of a picture: a content that shows it the same from every start on every player.
+//!
+//! Behind the mending stand the cells that are no blanks, in reading order, each with the way to it, its
+//! colours and its byte; then white on black where it is not so already. `specs/Form.antt` has the form,
+//! and `specs/Colours.antt` how one attribute becomes another. Nothing writes it yet: each function here is
+//! a law without a body, in [`laws`] what is proved of the form, in [`examples`] the bytes of small pictures.
+#![tactic(auto)]
+
+pub mod examples;
+pub mod laws;
