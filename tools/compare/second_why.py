@@ -1,7 +1,7 @@
 #!/usr/bin/env python3
-"""Plays random files on the machine of `second_machine.py`, and compares with the whole text of `why`.
+"""Plays random files on the machine of `second_machine.py`, and compares with the text of `why`.
 
-It finds each line of that text by itself, from the words of its definitions:
+It finds each line of that text but those on players by itself, from the words of its definitions:
 
 - `note`, `found` and the faults of the record: it takes the file apart by itself;
 - the evidence: where the cursors stand in the plays from the low and the high start before the fault, or
@@ -18,6 +18,8 @@ It finds each line of that text by itself, from the words of its definitions:
 - the bytes to blame, and each hint with its count and its first offset. Where so many lines are enough, all
   tokens count, on a screen of as many; on another refusal those up to the one to blame. What they are judged
   by may stand behind it.
+
+The lines on players are left to `second_players.py`.
 
 It follows the rules as this project states them, so it cannot tell a rule that both misread. Run it in
 `crates/anscheck`, on the built program, with a number that seeds the files and how many there shall be:
@@ -41,6 +43,7 @@ from second_machine import (
 )
 
 MOST_LINES, MOST_COLUMNS, TRIED_ONE_BY_ONE = 8192, 1024, 24
+OF_PLAYERS = re.compile(r"players: |on every player: |at \d+: [a-z]")
 MENDING = b"\x1b[?7h\x1b[0m\x1b[2J\x1b[H\x1b[s"
 NAMES = {7: "<BEL>", 8: "<BS>", 9: "<TAB>", 10: "<LF>", 13: "<CR>", 27: "<ESC>", 32: "<SP>"}
 LOW_GLYPHS = " ☺☻♥♦♣♠•◘○◙♂♀♪♫☼►◄↕‼¶§▬↨↑↓→←∟↔▲▼"
@@ -735,7 +738,8 @@ def main(program, seed, count):
     for _ in range(int(count)):
         file = a_file(chance)
         expected = why(chance, file)
-        printed = printed_of([program, "why"], file)
+        lines, status = printed_of([program, "why"], file)
+        printed = [line for line in lines if not OF_PLAYERS.match(line)], status
         seen.update(kinds_of(expected[0]))
         met.update(line for line in expected[0] if line.startswith("needs: "))
         if expected != printed:
