@@ -15,3 +15,4 @@ pub mod PrintedPictures
 pub mod Redrawn
 pub mod FormLengths
 pub mod KindsBack
+pub mod NumberTexts

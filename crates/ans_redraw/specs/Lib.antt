@@ -1,6 +1,7 @@
 -- The plainest form of a picture.
 pub mod Colours
 pub mod Form
+pub mod Numbers
 pub mod Drawable
 pub mod Laws
 pub mod Examples

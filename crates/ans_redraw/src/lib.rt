@@ -2,9 +2,12 @@
 //!
 //! Behind the mending stand the cells that are no blanks, in reading order, each with the way to it, its
 //! colours and its byte; then white on black where it is not so already. `specs/Form.antt` has the form,
-//! and `specs/Colours.antt` how one attribute becomes another. Nothing writes it yet: each function here is
-//! a law without a body, in [`laws`] what is proved of the form, in [`examples`] the bytes of small pictures.
+//! and `specs/Colours.antt` how one attribute becomes another.
 #![tactic(auto)]
 
 pub mod examples;
 pub mod laws;
+
+mod colours;
+mod pen;
+mod piece;
