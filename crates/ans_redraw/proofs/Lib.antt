@@ -16,3 +16,5 @@ pub mod Redrawn
 pub mod FormLengths
 pub mod KindsBack
 pub mod NumberTexts
+pub mod WayTexts
+pub mod RowTexts

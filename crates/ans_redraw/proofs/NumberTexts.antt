@@ -230,15 +230,15 @@ colours_written before first text start end from to is_from is_to apart le begun
     (there.0, there.1 ∙ ap (λ (xs : List Spelled). before ++ texts xs) (sym is))
 
 -- 0, what differs from white on black, and white where nothing does
-pub anew_text : (before first second text : List ℕ) (zero changed end to : ℕ) → zero ≤ length first
-    → changed ≤ length second → take zero first ≡ before ++ listed (0 ∷ [])
-    → take changed second ≡ take zero first ++ listed (changes 0x07 to)
-    → take end text ≡ take changed second ++ listed (number_if (changed == zero) 37)
+pub anew_text : (before first second text : List ℕ) (digit_end changed end to : ℕ) → digit_end ≤ length first
+    → changed ≤ length second → take digit_end first ≡ before ++ listed (0 ∷ [])
+    → take changed second ≡ take digit_end first ++ listed (changes 0x07 to)
+    → take end text ≡ take changed second ++ listed (number_if (changed == digit_end) 37)
     → take end text ≡ before ++ listed (anew to)
-anew_text before first second text zero changed end to le le' is_zero is_changed is_white =
+anew_text before first second text digit_end changed end to le le' is_zero is_changed is_white =
     let numbers : List ℕ = changes 0x07 to in
-    let there : changed ≡ zero + length (listed numbers) = end_is first second zero changed (listed numbers) le le' is_changed in
-    let none : (changed == zero) ≡ (length (listed numbers) == 0) = grind (arith, nat_tests) in
+    let there : changed ≡ digit_end + length (listed numbers) = end_is first second digit_end changed (listed numbers) le le' is_changed in
+    let none : (changed == digit_end) ≡ (length (listed numbers) == 0) = grind (arith, nat_tests) in
     let white : List ℕ = listed (number_if (length (listed numbers) == 0) 37) in
     let digit : List ℕ = decimal 0 ++ semicolon ∷ [] in
     is_white ∙ ap (λ (t : Bool). take changed second ++ listed (number_if t 37)) none

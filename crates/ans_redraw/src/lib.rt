@@ -11,3 +11,5 @@ pub mod laws;
 mod colours;
 mod pen;
 mod piece;
+mod row;
+mod way;
