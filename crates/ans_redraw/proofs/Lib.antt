@@ -18,3 +18,4 @@ pub mod KindsBack
 pub mod NumberTexts
 pub mod WayTexts
 pub mod RowTexts
+pub mod RowsGiven

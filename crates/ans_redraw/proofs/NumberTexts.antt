@@ -1,12 +1,12 @@
 -- The texts of numbers, as they are written and counted.
-use Rattle.std.proofs.Common.{◌≡◌, ℕ, ◌+◌, ◌-◌, ◌*◌, ◌/◌, ◌%◌, ◌<◌, ◌≤◌, Bool, true, false, not, ◌&&◌, ◌==◌, refl, ap, ap₂}
+use Rattle.std.proofs.Common.{◌≡◌, ℕ, ◌+◌, ◌-◌, ◌/◌, ◌%◌, ◌<◌, ◌≤◌, Bool, true, false, not, ◌&&◌, ◌==◌, refl, ap, ap₂}
 use Rattle.std.proofs.Common.{sym, ◌∙◌, arith, List, [], ◌∷◌, ◌++◌, length, length-append, map, take, append_assoc}
 use Rattle.std.proofs.Common.{append-nil}
 use Rattle.std.specs.Prelude.{decimal, nat_le, nat_lt, ◌||◌, if◌then◌else◌}
 use Rattle.std.specs.Fmt.{digits}
-use Rattle.std.specs.List.{flat_map, join_with_byte, concat}
+use Rattle.std.specs.List.{join_with_byte}
 use Rattle.std.specs.Str.{bytes_eq}
-use Rattle.std.proofs.lemmas.Bool.{agree_below_at, eqb-true, eqb-false, ne_eqb, ltb-true}
+use Rattle.std.proofs.lemmas.Bool.{agree_below_at, ne_eqb, ltb-true}
 use Rattle.std.proofs.lemmas.Bool.Decides.{nat_tests}
 use Rattle.std.proofs.lemmas.Slice.Eq.{bytes_eq-Decides}
 use Rattle.std.proofs.lemmas.Grind.{flat_map-append}
@@ -82,10 +82,10 @@ changes_length from to =
     let two = digit_length (not (blinks from) && blinks to) 5 (omega arith) in
     let three =
     number_length (not (foreground from == foreground to)) (30 + colour_number (foreground to)) (omega (arith, f))
-        (omega (arith, f)) in
+    (omega (arith, f)) in
     let four =
     number_length (not (background from == background to)) (40 + colour_number (background to)) (omega (arith, g))
-        (omega (arith, g)) in
+    (omega (arith, g)) in
     let a = ap length (listed_both bright (blink ++ (front ++ back))) in
     let b = ap length (listed_both blink (front ++ back)) in
     let c = ap length (listed_both front back) in
@@ -124,7 +124,7 @@ pub anew_none : (to : ℕ) → length (listed (changes 0x07 to)) ≡ 0 → lengt
 anew_none to none =
     let white : length (listed (or_white (changes 0x07 to))) ≡ 3 =
     white_length (changes 0x07 to)
-        ∙ ap (λ (t : ℕ). if t == 0 then 3 else t) none in
+    ∙ ap (λ (t : ℕ). if t == 0 then 3 else t) none in
     omega (arith, zero_length (or_white (changes 0x07 to)))
 
 pub anew_some : (to : ℕ) → (length (listed (changes 0x07 to)) ≡ 0 → ⊥)
@@ -132,8 +132,8 @@ pub anew_some : (to : ℕ) → (length (listed (changes 0x07 to)) ≡ 0 → ⊥)
 anew_some to some =
     let white : length (listed (or_white (changes 0x07 to))) ≡ length (listed (changes 0x07 to)) =
     white_length (changes 0x07 to)
-        ∙ ap (λ (t : Bool). if t then 3 else length (listed (changes 0x07 to)))
-        (ne_eqb (length (listed (changes 0x07 to))) 0 some) in
+    ∙ ap (λ (t : Bool). if t then 3 else length (listed (changes 0x07 to)))
+    (ne_eqb (length (listed (changes 0x07 to))) 0 some) in
     omega (arith, zero_length (or_white (changes 0x07 to)))
 
 -- ---- the sequence
@@ -210,7 +210,7 @@ letter_behind before text end (n ∷ ns) some le e =
     let joined : List ℕ = join_with_byte semicolon (map decimal (n ∷ ns)) in
     let off =
     last_off (before ++ start) text joined semicolon end le
-        (e ∙ ap (λ (x : List ℕ). (before ++ start) ++ x) (listed_joined n ns)) in (
+    (e ∙ ap (λ (x : List ℕ). (before ++ start) ++ x) (listed_joined n ns)) in (
       off.0,
       ap (λ (x : List ℕ). x ++ 0x6D ∷ []) off.1 ∙ append_assoc (before ++ start) joined (0x6D ∷ [])
           ∙ append_assoc before start (joined ++ 0x6D ∷ [])
@@ -225,7 +225,7 @@ pub colours_written : (before first text : List ℕ) (start end from to : ℕ) �
 colours_written before first text start end from to is_from is_to apart le begun e =
     let there =
     letter_behind before text end (numbers_to from to) (some_number from to is_from is_to apart) le
-        (e ∙ ap (λ (x : List ℕ). x ++ listed (numbers_to from to)) begun) in
+    (e ∙ ap (λ (x : List ℕ). x ++ listed (numbers_to from to)) begun) in
     let is : colours_to from to ≡ colours (numbers_to from to) ∷ [] = rw (ne_eqb from to apart) refl in
     (there.0, there.1 ∙ ap (λ (xs : List Spelled). before ++ texts xs) (sym is))
 

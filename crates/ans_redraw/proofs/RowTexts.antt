@@ -1,16 +1,13 @@
 -- The texts of a row's cells, as they are written.
-use Rattle.std.proofs.Common.{◌≡◌, ℕ, ◌+◌, ◌-◌, ◌*◌, ◌<◌, ◌≤◌, Bool, true, false, ◌&&◌, ◌==◌, refl, ap, ap₂, sym, ◌∙◌}
-use Rattle.std.proofs.Common.{arith, List, [], ◌∷◌, ◌++◌, length, drop, get_or, append_assoc}
-use Rattle.std.specs.Prelude.{if◌then◌else◌}
-use Rattle.std.specs.List.{list_all}
+use Rattle.std.proofs.Common.{◌≡◌, ℕ, ◌+◌, ◌-◌, ◌<◌, true, false, refl, ap₂, ◌∙◌}
+use Rattle.std.proofs.Common.{arith, List, [], ◌∷◌, ◌++◌, length, drop, get_or}
 use Rattle.std.specs.Simd.Lanes.{zip2}
 use Rattle.std.proofs.lemmas.List.{drop_more}
 use Rattle.ans_model.specs.declared.cell.Cell.{Cell}
 use Rattle.ans_model.specs.Screen.State.{cell}
-use Rattle.ans_players.specs.Situations.{Spelled}
 use Rattle.ans_redraw.specs.declared.pen.Pen.{Pen}
 use Rattle.ans_redraw.specs.Colours.{colours_to}
-use Rattle.ans_redraw.specs.Form.{drawn, cell_drawn, glyph, is_blank, is_passed, over, pen, pen_after, pen_behind, texts}
+use Rattle.ans_redraw.specs.Form.{drawn, cell_drawn, glyph, is_passed, over, pen, pen_after, pen_behind, texts}
 use Rattle.ans_redraw.proofs.WayTexts.{texts_both}
 
 -- the cells from a column on

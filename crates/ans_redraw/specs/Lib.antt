@@ -2,6 +2,7 @@
 pub mod Colours
 pub mod Form
 pub mod Numbers
+pub mod Counts
 pub mod Drawable
 pub mod Laws
 pub mod Examples

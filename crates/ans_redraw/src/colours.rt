@@ -105,7 +105,12 @@ fn write_number(text: &mut [u8], end: usize, number: u8, is_there: bool) -> usiz
     ensures length { length text.new ≡ length text.old }
     ensures text { take result text.new ≡ take end text.old ++ listed (number_if is_there number) }
 {
-    write(text, end, &[b'0' + number / 10, b'0' + number % 10, b';'], length_if(is_there, 3))
+    write(
+        text,
+        end,
+        &[b'0' + number / 10, b'0' + number % 10, b';'],
+        length_if(is_there, 3),
+    )
 }
 
 /// Writes the numbers of what changes, each with a semicolon.

@@ -1,4 +1,4 @@
-use Rattle.std.proofs.Common.{◌≡◌, arith, sym, ap, ℕ, ◌+◌, ◌∙◌}
+use Rattle.std.proofs.Common.{sym, ap, ℕ, ◌+◌, ◌∙◌}
 use Rattle.ans_redraw.proofs.NumberTexts.{anew_none, anew_some}
 use Rattle.ans_redraw.proofs.colours.anew_length.Goals as goal
 

@@ -1,4 +1,4 @@
-use Rattle.std.proofs.Common.{◌≡◌, ℕ, Bool, ◌&&◌, sym, ap, ap₂, ◌∙◌}
+use Rattle.std.proofs.Common.{ℕ, Bool, ◌&&◌, sym, ap, ap₂, ◌∙◌}
 use Rattle.std.specs.Prelude.{nat_le}
 use Rattle.ans_redraw.specs.Colours.{changes, anew, is_no_longer}
 use Rattle.ans_redraw.proofs.NumberTexts.{no_longer_is}

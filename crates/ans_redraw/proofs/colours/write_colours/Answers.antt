@@ -1,9 +1,7 @@
-use Rattle.std.proofs.Common.{arith, ◌≡◌, ◌≤◌, ◌++◌, List, ℕ, ◌+◌, ◌-◌, [], ◌∷◌, length, take, ap, sym, ◌∙◌}
+use Rattle.std.proofs.Common.{arith, ◌≤◌, take, ◌∙◌}
 use Rattle.std.specs.Prelude.{◌<◌}
-use Rattle.ans_model.specs.Bytes.{escape, bracket}
 use Rattle.ans_redraw.specs.Form.{texts}
-use Rattle.ans_redraw.specs.Numbers.{listed}
-use Rattle.ans_redraw.specs.Colours.{colours_to, numbers_to}
+use Rattle.ans_redraw.specs.Colours.{colours_to}
 use Rattle.ans_redraw.proofs.NumberTexts.{end_is, colours_written}
 use Rattle.ans_redraw.proofs.FormLengths.{colours_to_length}
 use Rattle.ans_redraw.proofs.colours.write_colours.Goals as goal
@@ -34,10 +32,10 @@ returns-clause-within c =
     let to : c.args.to < 256 = omega (arith, c.ranges.to.fits) in
     let written =
     colours_written (take c.args.end c.args.text.now) c.write-start.new.text numbers.new.text c.write-start.result
-        numbers.result c.args.from c.args.to from to c.if-from-to.false numbers.ensures.within
-        c.write-start.ensures.text numbers.ensures.text in
+    numbers.result c.args.from c.args.to from to c.if-from-to.false numbers.ensures.within
+    c.write-start.ensures.text numbers.ensures.text in
     let some : 1 ≤ numbers.result = written.0 in
     let is =
     end_is c.args.text.now c.write.new.text c.args.end c.write.result (texts (colours_to c.args.from c.args.to))
-        (omega arith) (omega arith) (c.write.ensures.text ∙ written.1) in
+    (omega arith) (omega arith) (c.write.ensures.text ∙ written.1) in
     omega (arith, is, colours_to_length c.args.from c.args.to)

@@ -1,4 +1,4 @@
-use Rattle.std.proofs.Common.{◌≡◌, ◌++◌, List, ℕ, ◌+◌, [], ◌∷◌, take, ap, ◌∙◌}
+use Rattle.std.proofs.Common.{◌++◌, List, ℕ, ◌+◌, [], ◌∷◌, take, ap, ◌∙◌}
 use Rattle.ans_model.specs.Bytes.{semicolon}
 use Rattle.ans_redraw.proofs.NumberTexts.{digit_if}
 use Rattle.ans_redraw.proofs.colours.write_digit.Goals as goal

@@ -1,6 +1,5 @@
-use Rattle.std.proofs.Common.{◌≡◌, ◌+◌, Bool, List, ◌&&◌, ap, sym, ◌∙◌, true, false}
+use Rattle.std.proofs.Common.{◌+◌, Bool, ◌&&◌, ap, sym, ◌∙◌}
 use Rattle.std.specs.List.{list_all}
-use Rattle.ans_model.specs.declared.cell.Cell.{Cell}
 use Rattle.ans_redraw.specs.Form.{is_blank}
 use Rattle.ans_redraw.proofs.RowTexts.{next_cell, cells_from}
 use Rattle.ans_redraw.proofs.row.are_blank.Goals as goal

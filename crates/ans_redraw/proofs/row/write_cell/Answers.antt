@@ -1,4 +1,4 @@
-use Rattle.std.proofs.Common.{◌≡◌, ◌++◌, [], ◌∷◌, List, ℕ, take, ap, ◌∙◌, append_assoc}
+use Rattle.std.proofs.Common.{◌++◌, [], ◌∷◌, List, ℕ, take, ap, ◌∙◌, append_assoc}
 use Rattle.ans_redraw.specs.Colours.{colours_to}
 use Rattle.ans_redraw.specs.Form.{over, texts}
 use Rattle.ans_redraw.proofs.WayTexts.{cell_texts}

@@ -1,4 +1,4 @@
-use Rattle.std.proofs.Common.{◌≡◌, ◌++◌, List, ℕ, take, ap, ◌∙◌, arith}
+use Rattle.std.proofs.Common.{◌++◌, List, ℕ, take, ap, ◌∙◌, arith}
 use Rattle.ans_redraw.proofs.WayTexts.{ones, tens, hundreds}
 use Rattle.ans_redraw.proofs.way.write_decimal.Goals as goal
 

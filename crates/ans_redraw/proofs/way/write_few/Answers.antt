@@ -1,4 +1,4 @@
-use Rattle.std.proofs.Common.{◌≡◌, ◌++◌, List, ℕ, take, ap, ◌∙◌}
+use Rattle.std.proofs.Common.{◌++◌, List, ℕ, take, ap, ◌∙◌}
 use Rattle.ans_redraw.proofs.WayTexts.{few_printed}
 use Rattle.ans_redraw.proofs.way.write_few.Goals as goal
 

@@ -1,4 +1,4 @@
-use Rattle.std.proofs.Common.{◌≡◌, ◌≤◌, ◌+◌, ◌*◌, ◌/◌, ◌%◌, ◌++◌, List, ℕ, length, take, replicate, ap, sym, ◌∙◌, arith}
+use Rattle.std.proofs.Common.{◌≡◌, ◌≤◌, ◌+◌, ◌/◌, ◌%◌, ◌++◌, List, ℕ, length, take, replicate, ap, sym, ◌∙◌, arith}
 use Rattle.std.proofs.Common.{append_assoc}
 use Rattle.ans_redraw.specs.Form.{skip, over_few, texts}
 use Rattle.ans_redraw.proofs.WayTexts.{one_more, most_skipped, over_texts, skips_and_few}
