@@ -16,7 +16,8 @@ use Rattle.ans_players.specs.Mends.{mending_spelled}
 use Rattle.ans_players.specs.Situations.{Spelled}
 use Rattle.ans_redraw.specs.Colours.{foreground, is_bright, background, blinks, colour_number, number_if, changes}
 use Rattle.ans_redraw.specs.Colours.{stays, or_white, anew, numbers_to, is_no_longer, colours_text, colours, colours_to}
-use Rattle.ans_redraw.specs.Form.{Pen, pen, is_passed, glyph, skip, over_few, over, drawn, pen_behind, forced_in}
+use Rattle.ans_redraw.specs.declared.pen.Pen.{Pen}
+use Rattle.ans_redraw.specs.Form.{pen, is_passed, glyph, skip, over_few, over, drawn, pen_behind, forced_in}
 use Rattle.ans_redraw.specs.Form.{is_coloured, to_row_below, pen_below, line_end, set_back, are_blank}
 use Rattle.ans_redraw.specs.Form.{rows_drawn, picture_drawn}
 use Rattle.ans_redraw.specs.Laws.{FormIsBounded}
@@ -171,7 +172,7 @@ numbers_to_grey from = by_tests (stays from 0x07) (is_no_longer (changes from 0x
 one_text : (x : Spelled) → bytes_of (x ∷ []) ≡ length x.text
 one_text x = length-append x.text [] ∙ omega arith
 
-colours_to_length : (from to : ℕ) → bytes_of (colours_to from to) ≤ 12
+pub colours_to_length : (from to : ℕ) → bytes_of (colours_to from to) ≤ 12
 colours_to_length from to = by_test (from == to)
   where
     by_test : (t : Bool) → bytes_of (if t then [] else colours (numbers_to from to) ∷ []) ≤ 12
@@ -186,7 +187,7 @@ colours_to_grey from = by_test (from == 0x07)
     by_test false = omega (arith, one_text (colours (numbers_to from 0x07)), numbers_to_grey from)
 
 -- ---- the way
-skip_length : (n : ℕ) → n ≤ 255 → length (skip n).text ≤ 6
+pub skip_length : (n : ℕ) → n ≤ 255 → length (skip n).text ≤ 6
 skip_length n few = by_test (n == 1)
   where
     by_test : (t : Bool) → length (escape ∷ bracket ∷ ((if t then [] else decimal n) ++ codes "C")) ≤ 6
@@ -203,7 +204,7 @@ copies_length (suc n) x h =
     let a = length-append x.text (concat (map (λ (v : Spelled). v.text) (replicate n x))) in
     omega (arith, a)
 
-few_length : (a n : ℕ) → n ≤ 255 → bytes_of (over_few a n) ≤ 6 * n
+pub few_length : (a n : ℕ) → n ≤ 255 → bytes_of (over_few a n) ≤ 6 * n
 few_length a n few = by_tests (a == 0x07 && nat_le n 4) (n == 0) refl
   where
     by_tests : (printed none : Bool) → (n == 0) ≡ none
@@ -214,7 +215,7 @@ few_length a n few = by_tests (a == 0x07 && nat_le n 4) (n == 0) refl
         let some : n ≡ 0 → ⊥ = eqb-false n 0 e in
         omega (arith, one_text (skip n), skip_length n few)
 
-over_length : (a n : ℕ) → bytes_of (over a n) ≤ 6 * n
+pub over_length : (a n : ℕ) → bytes_of (over a n) ≤ 6 * n
 over_length a n =
     let q : ℕ = n / 255 in
     let r : ℕ = n % 255 in
@@ -226,7 +227,7 @@ over_length a n =
 
 -- ---- rows
 -- what cells take, and what is kept for those that are passed over, is at most 13 bytes for each
-drawn_length : (forced : ℕ) (p : Pen) (row : List Cell)
+pub drawn_length : (forced : ℕ) (p : Pen) (row : List Cell)
     → bytes_of (drawn forced p row) + 13 * (pen_behind forced p row).passed ≤ 13 * length row + 13 * p.passed
 drawn_length forced p [] = omega arith
 drawn_length forced p (c ∷ row) =
@@ -258,7 +259,7 @@ drawn_length forced p (c ∷ row) =
         let a = bytes_both way (drawn (forced - 1) (pen c.attribute 0) row) in
         omega (arith, a, way_length)
 
-below_length : (p : Pen) → bytes_of (to_row_below p) ≤ 13 * p.passed
+pub below_length : (p : Pen) → bytes_of (to_row_below p) ≤ 13 * p.passed
 below_length p = by_test (p.passed == 0) refl
   where
     off : List Spelled

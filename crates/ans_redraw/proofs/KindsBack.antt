@@ -21,7 +21,8 @@ use Rattle.ans_players.specs.Mends.{mending_spelled}
 use Rattle.ans_players.specs.Situations.{Spelled, AreAgreed, is_agreed, spelling_kinds, stand_of}
 use Rattle.ans_redraw.specs.Colours.{colours_to}
 use Rattle.ans_redraw.specs.Drawable.{IsDrawable, BytesAreAgreed, shown_kinds}
-use Rattle.ans_redraw.specs.Form.{Pen, pen, is_blank, is_passed, glyph, over, drawn, pen_behind, forced_in, pen_below}
+use Rattle.ans_redraw.specs.declared.pen.Pen.{Pen}
+use Rattle.ans_redraw.specs.Form.{pen, is_blank, is_passed, glyph, over, drawn, pen_behind, forced_in, pen_below}
 use Rattle.ans_redraw.specs.Form.{to_row_below, set_back, are_blank, rows_drawn, picture_drawn, form}
 use Rattle.ans_redraw.proofs.PictureDrawn.{suc_rows, nothing_left}
 use Rattle.ans_redraw.proofs.RowDrawn.{blank_is}

@@ -15,3 +15,7 @@ pub mod PrintedPictures
 pub mod Redrawn
 pub mod FormLengths
 pub mod KindsBack
+pub mod NumberTexts
+pub mod WayTexts
+pub mod RowTexts
+pub mod RowsGiven

@@ -17,7 +17,8 @@ use Rattle.ans_players.specs.declared.kind.Kind.{Kind}
 use Rattle.ans_players.specs.Grips.{Grip, Firm, Wrapped, Stand}
 use Rattle.ans_players.specs.Situations.{Spelled}
 use Rattle.ans_redraw.specs.Colours.{colours_to}
-use Rattle.ans_redraw.specs.Form.{Pen, pen, is_blank, drawn, pen_behind, has_wrapped, is_coloured, begins_coloured}
+use Rattle.ans_redraw.specs.declared.pen.Pen.{Pen}
+use Rattle.ans_redraw.specs.Form.{pen, is_blank, drawn, pen_behind, has_wrapped, is_coloured, begins_coloured}
 use Rattle.ans_redraw.specs.Form.{forced_in, to_row_below, pen_below, line_end, set_back, are_blank, rows_drawn}
 use Rattle.ans_redraw.specs.Form.{picture_drawn}
 use Rattle.ans_redraw.proofs.Going.{Leads, stays, both_lead}

@@ -14,7 +14,8 @@ use Rattle.ans_players.specs.declared.kind.Kind.{Kind}
 use Rattle.ans_players.specs.Grips.{Grip, Firm, Wrapped, Stand}
 use Rattle.ans_players.specs.Situations.{Spelled}
 use Rattle.ans_redraw.specs.Colours.{colours_to}
-use Rattle.ans_redraw.specs.Form.{Pen, pen, is_blank, is_passed, glyph, over, drawn, pen_behind}
+use Rattle.ans_redraw.specs.declared.pen.Pen.{Pen}
+use Rattle.ans_redraw.specs.Form.{pen, is_blank, is_passed, glyph, over, drawn, pen_behind}
 use Rattle.ans_redraw.specs.Drawable.{IsPrinted, shown_kinds}
 use Rattle.ans_redraw.proofs.Going.{Leads, stays, both_lead}
 use Rattle.ans_redraw.proofs.HalfDrawn.{next_is, blanks_are_there}

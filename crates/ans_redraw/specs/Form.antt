@@ -9,7 +9,12 @@ use Rattle.ans_model.specs.Text.ReportText.{rows_of}
 use Rattle.ans_model.specs.Verdict.Good.{Picture}
 use Rattle.ans_players.specs.Situations.{Spelled}
 use Rattle.ans_players.specs.Mends.{sequence, mending_spelled}
+use Rattle.ans_redraw.specs.declared.pen.Pen.{Pen}
 use Rattle.ans_redraw.specs.Colours.{background, colours, colours_to}
+
+-- the bytes of spelled tokens
+abbrev pub texts : List Spelled → List ℕ
+texts xs = concat (map (λ x. x.text) xs)
 
 -- a blank of white on black, as a cleared screen has
 abbrev pub is_blank : Cell → Bool
@@ -39,11 +44,6 @@ abbrev pub over : ℕ → ℕ → List Spelled
 over attribute n = replicate (n / 255) (skip 255) ++ over_few attribute (n % 255)
 
 -- where the drawing of a row stands: the current attribute, and how many cells it has passed over since the last byte
-pub record Pen : Type 0 where
-  pub attribute : ℕ
-  pub passed : ℕ
-
--- the pen of this attribute, so many cells behind the last byte
 abbrev pub pen : ℕ → ℕ → Pen
 pen attribute passed = record { attribute = attribute; passed = passed }
 
@@ -130,4 +130,4 @@ form picture = mending_spelled ++ picture_drawn (rows_of picture)
 
 -- its bytes
 abbrev pub form_bytes : Picture → List ℕ
-form_bytes picture = concat (map (λ x. x.text) (form picture))
+form_bytes picture = texts (form picture)

@@ -1,6 +1,8 @@
 -- The plainest form of a picture.
 pub mod Colours
 pub mod Form
+pub mod Numbers
+pub mod Counts
 pub mod Drawable
 pub mod Laws
 pub mod Examples

@@ -2,9 +2,19 @@
 //!
 //! Behind the mending stand the cells that are no blanks, in reading order, each with the way to it, its
 //! colours and its byte; then white on black where it is not so already. `specs/Form.antt` has the form,
-//! and `specs/Colours.antt` how one attribute becomes another. Nothing writes it yet: each function here is
-//! a law without a body, in [`laws`] what is proved of the form, in [`examples`] the bytes of small pictures.
+//! and `specs/Colours.antt` how one attribute becomes another. [`form_length`] counts its bytes, and
+//! [`put_form`] puts them: both go over the picture row by row, with no memory beyond a row. In [`laws`]
+//! stands what is proved of the form, in [`examples`] the bytes of small pictures.
 #![tactic(auto)]
 
+mod colours;
 pub mod examples;
+mod form;
 pub mod laws;
+mod pen;
+mod piece;
+mod row;
+mod sink;
+mod way;
+
+pub use form::{form_length, put_form};

@@ -1,0 +1,207 @@
+//! How one attribute becomes another.
+ghost use Rattle.std.specs.Prelude.{◌≡◌, ◌==◌, not, ◌&&◌, ◌+◌, ◌≤◌, ◌<◌, ◌++◌, length, take, if◌then◌else◌};
+ghost use Rattle.ans_redraw.specs.Colours.{anew, background, blinks, changes, colour_number, colours_to};
+ghost use Rattle.ans_redraw.specs.Colours.{foreground, is_bright, is_no_longer, number_if, numbers_to, stays};
+ghost use Rattle.ans_redraw.specs.Form.{texts};
+ghost use Rattle.ans_redraw.specs.Numbers.{listed};
+
+use crate::piece::write;
+
+/// White on black.
+pub(crate) const GREY: u8 = 0x07;
+
+/// Where ANSI.SYS has the colours, whose bits are blue, green and red.
+const COLOUR_NUMBERS: [u8; 8] = [0, 4, 2, 6, 1, 5, 3, 7];
+
+fn foreground(attribute: u8) -> u8
+    ensures { result ≡ foreground attribute }
+{
+    attribute % 8
+}
+
+fn is_bright(attribute: u8) -> bool
+    ensures { result ≡ is_bright attribute }
+{
+    attribute / 8 % 2 == 1
+}
+
+pub(crate) fn background(attribute: u8) -> u8
+    ensures { result ≡ background attribute }
+{
+    attribute / 16 % 8
+}
+
+fn blinks(attribute: u8) -> bool
+    ensures { result ≡ blinks attribute }
+{
+    attribute / 128 % 2 == 1
+}
+
+fn colour_number(colour: u8) -> u8
+    requires { colour < 8 }
+    ensures { result ≡ colour_number colour }
+{
+    COLOUR_NUMBERS[colour as usize]
+}
+
+/// Whether bright comes.
+#[inline(always)]
+fn brightens(from: u8, to: u8) -> bool
+    ensures { result ≡ (not (is_bright from) && is_bright to) }
+{
+    !is_bright(from) && is_bright(to)
+}
+
+/// Whether blink comes.
+#[inline(always)]
+fn starts_blinking(from: u8, to: u8) -> bool
+    ensures { result ≡ (not (blinks from) && blinks to) }
+{
+    !blinks(from) && blinks(to)
+}
+
+/// Whether the foreground changes.
+#[inline(always)]
+fn recolours_front(from: u8, to: u8) -> bool
+    ensures { result ≡ not (foreground from == foreground to) }
+{
+    foreground(from) != foreground(to)
+}
+
+/// Whether the background changes.
+#[inline(always)]
+fn recolours_back(from: u8, to: u8) -> bool
+    ensures { result ≡ not (background from == background to) }
+{
+    background(from) != background(to)
+}
+
+/// Whether neither bright nor blink goes.
+fn stays(from: u8, to: u8) -> bool
+    ensures { result ≡ stays from to }
+{
+    (!is_bright(from) || is_bright(to)) && (!blinks(from) || blinks(to))
+}
+
+/// Writes a number below 10, where it is there, and a semicolon.
+#[inline(always)]
+fn write_digit(text: &mut [u8], end: usize, number: u8, is_there: bool) -> usize
+    requires room { end + 2 ≤ length text.old }
+    requires digit { number < 10 }
+    ensures within { result ≤ end + 2 }
+    ensures length { length text.new ≡ length text.old }
+    ensures text { take result text.new ≡ take end text.old ++ listed (number_if is_there number) }
+{
+    write(text, end, &[b'0' + number, b';'], length_if(is_there, 2))
+}
+
+/// Writes a number of two digits, where it is there, and a semicolon.
+#[inline(always)]
+fn write_number(text: &mut [u8], end: usize, number: u8, is_there: bool) -> usize
+    requires room { end + 3 ≤ length text.old }
+    requires two { 10 ≤ number }
+    requires digits { number < 100 }
+    ensures within { result ≤ end + 3 }
+    ensures length { length text.new ≡ length text.old }
+    ensures text { take result text.new ≡ take end text.old ++ listed (number_if is_there number) }
+{
+    write(
+        text,
+        end,
+        &[b'0' + number / 10, b'0' + number % 10, b';'],
+        length_if(is_there, 3),
+    )
+}
+
+/// Writes the numbers of what changes, each with a semicolon.
+#[inline(always)]
+fn write_changes(text: &mut [u8], end: usize, from: u8, to: u8) -> usize
+    requires { end + 10 ≤ length text.old }
+    ensures within { result ≤ end + 10 }
+    ensures length { length text.new ≡ length text.old }
+    ensures text { take result text.new ≡ take end text.old ++ listed (changes from to) }
+{
+    let bright = write_digit(text, end, 1, brightens(from, to));
+    let blink = write_digit(text, bright, 5, starts_blinking(from, to));
+    let number = 30 + colour_number(foreground(to));
+    let front = write_number(text, blink, number, recolours_front(from, to));
+    let number = 40 + colour_number(background(to));
+    write_number(text, front, number, recolours_back(from, to))
+}
+
+/// Writes 0 and the numbers of what differs from white on black, or of white, each with a semicolon.
+fn write_anew(text: &mut [u8], end: usize, to: u8) -> usize
+    requires { end + 15 ≤ length text.old }
+    ensures within { result ≤ end + 15 }
+    ensures length { length text.new ≡ length text.old }
+    ensures text { take result text.new ≡ take end text.old ++ listed (anew to) }
+{
+    let zero = write_digit(text, end, 0, true);
+    let changed = write_changes(text, zero, GREY, to);
+    write_number(text, changed, 37, changed == zero)
+}
+
+/// So many bytes, where they are there.
+#[inline(always)]
+fn length_if(is_there: bool, length: usize) -> usize
+    ensures { result ≡ (if is_there then length else 0) }
+{
+    if is_there { length } else { 0 }
+}
+
+/// How many bytes the numbers of what changes take, each with a semicolon.
+#[inline(always)]
+fn changes_length(from: u8, to: u8) -> usize
+    ensures is { result ≡ length (listed (changes from to)) }
+    ensures short { result ≤ 10 }
+{
+    length_if(brightens(from, to), 2)
+        + length_if(starts_blinking(from, to), 2)
+        + length_if(recolours_front(from, to), 3)
+        + length_if(recolours_back(from, to), 3)
+}
+
+/// How many bytes 0 and the other numbers take, each with a semicolon.
+#[inline(always)]
+fn anew_length(to: u8) -> usize
+    ensures { result ≡ length (listed (anew to)) }
+{
+    let changes = changes_length(GREY, to);
+    if changes == 0 { 5 } else { 2 + changes }
+}
+
+/// Whether the numbers of what changes are written, and not all anew.
+#[inline(always)]
+fn is_by_changes(from: u8, to: u8) -> bool
+    ensures { result ≡ (stays from to && is_no_longer (changes from to) (anew to)) }
+{
+    stays(from, to) && changes_length(from, to) <= anew_length(to)
+}
+
+#[inline(always)]
+fn write_numbers(text: &mut [u8], end: usize, from: u8, to: u8) -> usize
+    requires { end + 15 ≤ length text.old }
+    ensures within { result ≤ length text.new }
+    ensures length { length text.new ≡ length text.old }
+    ensures text { take result text.new ≡ take end text.old ++ listed (numbers_to from to) }
+{
+    if is_by_changes(from, to) {
+        return write_changes(text, end, from, to);
+    }
+    write_anew(text, end, to)
+}
+
+/// Writes the sequence from one attribute to another to a text from `end` on, and returns where it ends.
+pub(crate) fn write_colours(text: &mut [u8], end: usize, from: u8, to: u8) -> usize
+    requires { end + 17 ≤ length text.old }
+    ensures within { result ≤ end + 12 }
+    ensures length { length text.new ≡ length text.old }
+    ensures text { take result text.new ≡ take end text.old ++ texts (colours_to from to) }
+{
+    if from == to {
+        return end;
+    }
+    let start = write(text, end, b"\x1b[", 2);
+    let numbers = write_numbers(text, start, from, to);
+    write(text, numbers - 1, b"m", 1)
+}
