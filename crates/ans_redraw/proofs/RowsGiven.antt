@@ -107,30 +107,32 @@ set_back_ends p [] h = refl
 set_back_ends p (row ∷ rs) h = rw h refl
 
 -- the first row and what is below it
-pub begins : (picture : Picture) → 0 < picture.size.lines
+pub begins : (picture : Picture) (q : Pen) → 0 < picture.size.lines
+    → q ≡ pen_behind 0 (pen 0x07 0) (cells_of_row picture 0)
     → (texts mending_spelled ++ texts (drawn 0 (pen 0x07 0) (cells_of_row picture 0)))
-    ++ texts (rows_drawn (pen_behind 0 (pen 0x07 0) (cells_of_row picture 0)) (drop 1 (rows_of picture)))
+    ++ texts (rows_drawn q (drop 1 (rows_of picture)))
     ≡ form_bytes picture
-begins picture some =
+begins picture q some is_behind =
     let row : List Cell = cells_of_row picture 0 in
     let below : List (List Cell) = drop 1 (rows_of picture) in
     let first : List Spelled = drawn 0 (pen 0x07 0) row in
     let more : List Spelled = rows_drawn (pen_behind 0 (pen 0x07 0) row) below in
-    append_assoc (texts mending_spelled) (texts first) (texts more)
+    ap (λ (v : Pen). (texts mending_spelled ++ texts first) ++ texts (rows_drawn v below)) is_behind
+    ∙ append_assoc (texts mending_spelled) (texts first) (texts more)
     ∙ ap (λ (v : List ℕ). texts mending_spelled ++ v) (sym (texts_both first more))
     ∙ sym (texts_both mending_spelled (first ++ more))
     ∙ ap (λ (rs : List (List Cell)). texts (mending_spelled ++ picture_drawn rs)) (sym (rows_from picture 0 some))
 
 -- one row more
-pub goes_on : (p : Pen) (picture : Picture) (i : ℕ) (sent : List ℕ) → i < picture.size.lines
+pub goes_on : (p q : Pen) (picture : Picture) (i : ℕ) (sent : List ℕ) → i < picture.size.lines
     → are_blank (drop i (rows_of picture)) ≡ false
     → sent ++ texts (rows_drawn p (drop i (rows_of picture))) ≡ form_bytes picture
+    → q ≡ pen_behind (forced_in p (cells_of_row picture i)) (pen_below p) (cells_of_row picture i)
     → (sent ++ (texts (to_row_below p)
     ++ texts (drawn (forced_in p (cells_of_row picture i)) (pen_below p) (cells_of_row picture i))))
-    ++ texts (rows_drawn (pen_behind (forced_in p (cells_of_row picture i)) (pen_below p) (cells_of_row picture i))
-    (drop (i + 1) (rows_of picture)))
+    ++ texts (rows_drawn q (drop (i + 1) (rows_of picture)))
     ≡ form_bytes picture
-goes_on p picture i sent lt some so_far =
+goes_on p q picture i sent lt some so_far is_behind =
     let row : List Cell = cells_of_row picture i in
     let below : List (List Cell) = drop (i + 1) (rows_of picture) in
     let way : List Spelled = to_row_below p in
@@ -138,7 +140,8 @@ goes_on p picture i sent lt some so_far =
     let more : List Spelled = rows_drawn (pen_behind (forced_in p row) (pen_below p) row) below in
     let is : are_blank (row ∷ below) ≡ false = ap are_blank (sym (rows_from picture i lt)) ∙ some in
     let drawn_here : rows_drawn p (row ∷ below) ≡ way ++ (here ++ more) = rw is refl in
-    append_assoc sent (texts way ++ texts here) (texts more)
+    ap (λ (v : Pen). (sent ++ (texts way ++ texts here)) ++ texts (rows_drawn v below)) is_behind
+    ∙ append_assoc sent (texts way ++ texts here) (texts more)
     ∙ ap (λ (v : List ℕ). sent ++ v)
     (append_assoc (texts way) (texts here) (texts more)
     ∙ ap (λ (v : List ℕ). texts way ++ v) (sym (texts_both here more)) ∙ sym (texts_both way (here ++ more))

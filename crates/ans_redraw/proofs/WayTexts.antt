@@ -1,8 +1,8 @@
 -- The texts of the way over blanks, as they are written.
-use Rattle.std.proofs.Common.{◌≡◌, ℕ, zero, suc, ◌+◌, ◌*◌, ◌/◌, ◌%◌, ◌<◌, ◌≤◌, Bool, true, false}
+use Rattle.std.proofs.Common.{◌&&◌, ◌≡◌, ℕ, zero, suc, ◌+◌, ◌*◌, ◌/◌, ◌%◌, ◌<◌, ◌≤◌, Bool, true, false}
 use Rattle.std.proofs.Common.{refl, ap, sym, ◌∙◌, arith, List, [], ◌∷◌, ◌++◌, take, replicate, codes}
 use Rattle.std.proofs.Common.{append_assoc, append-nil}
-use Rattle.std.specs.Prelude.{decimal, nat_le, ◌||◌}
+use Rattle.std.specs.Prelude.{decimal, nat_le, ◌||◌, ◌==◌, if◌then◌else◌}
 use Rattle.std.specs.Fmt.{digits}
 use Rattle.std.specs.Str.{bytes_eq}
 use Rattle.std.proofs.Math.Nat.{div-add-mod}
@@ -87,3 +87,11 @@ cell_texts way sequence byte =
     append_assoc (texts way) (texts sequence) (byte ∷ [])
     ∙ ap (λ (v : List ℕ). texts way ++ v) (sym (texts_both sequence (glyph byte ∷ [])))
     ∙ sym (texts_both way (sequence ++ glyph byte ∷ []))
+
+-- no way over nothing
+pub nothing_over : (attribute n : ℕ) → n ≡ 0 → [] ≡ texts (over attribute n)
+nothing_over attribute n none = rw none (by_test (attribute == 0x07))
+  where
+    by_test : (t : Bool) → [] ≡ texts (if t && true then [] else [])
+    by_test true = refl
+    by_test false = refl

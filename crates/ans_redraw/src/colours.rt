@@ -1,5 +1,5 @@
 //! How one attribute becomes another.
-ghost use Rattle.std.specs.Prelude.{◌≡◌, ◌==◌, not, ◌&&◌, ◌+◌, ◌≤◌, ◌<◌, ◌++◌, length, take, if◌then◌else◌};
+ghost use Rattle.std.specs.Prelude.{◌≡◌, ◌≢◌, ◌==◌, not, ◌&&◌, ◌+◌, ◌≤◌, ◌<◌, ◌++◌, length, take, if◌then◌else◌};
 ghost use Rattle.ans_redraw.specs.Colours.{anew, background, blinks, changes, colour_number, colours_to};
 ghost use Rattle.ans_redraw.specs.Colours.{foreground, is_bright, is_no_longer, number_if, numbers_to, stays};
 ghost use Rattle.ans_redraw.specs.Form.{texts};
@@ -191,7 +191,22 @@ fn write_numbers(text: &mut [u8], end: usize, from: u8, to: u8) -> usize
     write_anew(text, end, to)
 }
 
-/// Writes the sequence from one attribute to another to a text from `end` on, and returns where it ends.
+/// Writes the sequence from one attribute to another.
+#[inline(never)]
+fn write_sequence(text: &mut [u8], end: usize, from: u8, to: u8) -> usize
+    requires apart { from ≢ to }
+    requires room { end + 17 ≤ length text.old }
+    ensures within { result ≤ end + 12 }
+    ensures length { length text.new ≡ length text.old }
+    ensures text { take result text.new ≡ take end text.old ++ texts (colours_to from to) }
+{
+    let start = write(text, end, b"\x1b[", 2);
+    let numbers = write_numbers(text, start, from, to);
+    write(text, numbers - 1, b"m", 1)
+}
+
+/// Writes what leads from one attribute to another to a text from `end` on, and returns where it ends.
+#[inline(always)]
 pub(crate) fn write_colours(text: &mut [u8], end: usize, from: u8, to: u8) -> usize
     requires { end + 17 ≤ length text.old }
     ensures within { result ≤ end + 12 }
@@ -201,7 +216,5 @@ pub(crate) fn write_colours(text: &mut [u8], end: usize, from: u8, to: u8) -> us
     if from == to {
         return end;
     }
-    let start = write(text, end, b"\x1b[", 2);
-    let numbers = write_numbers(text, start, from, to);
-    write(text, numbers - 1, b"m", 1)
+    write_sequence(text, end, from, to)
 }

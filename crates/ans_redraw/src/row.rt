@@ -38,16 +38,22 @@ fn is_passed(forced: usize, column: usize, byte: u8, attribute: u8) -> bool
     forced <= column && is_blank(byte, attribute)
 }
 
-/// Writes the way to a cell, its colours and its byte to a text from `end` on, and returns where they end.
-fn write_cell(text: &mut [u8], end: usize, from: Pen, byte: u8, attribute: u8) -> usize
-    requires { end + 6 * from.passed + 19 ≤ length text.old }
-    ensures within { result ≤ end + 6 * from.passed + 13 }
+/// Writes the way to a cell, its colours and its byte to a text from `end` on, and returns where they end. The
+/// pen is behind the cell then.
+#[inline(always)]
+fn write_cell(text: &mut [u8], end: usize, from: &mut Pen, byte: u8, attribute: u8) -> usize
+    requires { end + 6 * from.old.passed + 19 ≤ length text.old }
+    ensures within { result ≤ end + 6 * from.old.passed + 13 }
     ensures length { length text.new ≡ length text.old }
     ensures text { take result text.new ≡ take end text.old ++ texts
-        (over from.attribute from.passed ++ (colours_to from.attribute attribute ++ glyph byte ∷ [])) }
+        (over from.old.attribute from.old.passed
+        ++ (colours_to from.old.attribute attribute ++ glyph byte ∷ [])) }
+    ensures pen { from.new ≡ pen attribute 0 }
 {
     let way = write_over(text, end, from.attribute, from.passed);
     let colours = write_colours(text, way, from.attribute, attribute);
+    from.attribute = attribute;
+    from.passed = 0;
     write(text, colours, &[byte], 1)
 }
 
@@ -69,17 +75,15 @@ pub(crate) fn write_row(
         ≡ texts (drawn forced pen.old (zip2 cell bytes.now attributes.now)) }
     ensures pen { pen.new ≡ pen_behind forced pen.old (zip2 cell bytes.now attributes.now) }
 {
+    let mut at = *pen;
     let mut end = 0;
     for i in 0..bytes.len() {
         if is_passed(forced, i, bytes[i], attributes[i]) {
-            pen.passed += 1;
+            at.passed += 1;
         } else {
-            end = write_cell(text, end, *pen, bytes[i], attributes[i]);
-            *pen = Pen {
-                attribute: attributes[i],
-                passed: 0,
-            };
+            end = write_cell(text, end, &mut at, bytes[i], attributes[i]);
         }
     }
+    *pen = at;
     end
 }

@@ -50,7 +50,6 @@ fn write_skip(text: &mut [u8], end: usize, count: u8) -> usize
 }
 
 /// Writes the way over at most 254 blanks.
-#[inline(always)]
 fn write_few(text: &mut [u8], end: usize, attribute: u8, blanks: usize) -> usize
     requires few { blanks < 255 }
     requires room { end + 6 * blanks + 6 ≤ length text.old }
@@ -67,9 +66,9 @@ fn write_few(text: &mut [u8], end: usize, attribute: u8, blanks: usize) -> usize
     write_skip(text, end, blanks as u8)
 }
 
-/// Writes the way over blanks to a text from `end` on, and returns where it ends.
-#[inline(always)]
-pub(crate) fn write_over(text: &mut [u8], end: usize, attribute: u8, blanks: usize) -> usize
+/// Writes the way over blanks.
+#[inline(never)]
+fn write_way(text: &mut [u8], end: usize, attribute: u8, blanks: usize) -> usize
     requires { end + 6 * blanks + 6 ≤ length text.old }
     ensures within { result ≤ end + 6 * blanks }
     ensures length { length text.new ≡ length text.old }
@@ -80,4 +79,18 @@ pub(crate) fn write_over(text: &mut [u8], end: usize, attribute: u8, blanks: usi
         reached = write(text, reached, b"\x1b[255C", 6);
     }
     write_few(text, reached, attribute, blanks % 255)
+}
+
+/// Writes the way over blanks, if there are any, to a text from `end` on, and returns where it ends.
+#[inline(always)]
+pub(crate) fn write_over(text: &mut [u8], end: usize, attribute: u8, blanks: usize) -> usize
+    requires { end + 6 * blanks + 6 ≤ length text.old }
+    ensures within { result ≤ end + 6 * blanks }
+    ensures length { length text.new ≡ length text.old }
+    ensures text { take result text.new ≡ take end text.old ++ texts (over attribute blanks) }
+{
+    if blanks == 0 {
+        return end;
+    }
+    write_way(text, end, attribute, blanks)
 }

@@ -1,11 +1,11 @@
-use Rattle.std.proofs.Common.{◌≡◌, ◌≤◌, ◌<◌, ◌*◌, ◌+◌, ◌-◌, ◌++◌, ℕ, true, drop, arith}
+use Rattle.std.proofs.Common.{◌≡◌, ◌≤◌, ◌<◌, ◌*◌, ◌-◌, ◌++◌, ℕ, true, drop, arith}
 use Rattle.std.proofs.Common.{sym, ap, ◌∙◌}
 use Rattle.std.proofs.Math.Nat.{mul-le-mul}
 use Rattle.ans_model.specs.Text.ReportText.{rows_of}
 use Rattle.ans_play.specs.Shown.{cells_of_row}
 use Rattle.ans_players.specs.Mends.{mending_spelled}
 use Rattle.ans_redraw.specs.Form.{are_blank, drawn, forced_in, pen, pen_below, set_back, texts}
-use Rattle.ans_redraw.specs.Form.{to_row_below, rows_drawn}
+use Rattle.ans_redraw.specs.Form.{to_row_below}
 use Rattle.ans_redraw.proofs.FormLengths.{form_is_bounded}
 use Rattle.ans_redraw.proofs.RowsGiven.{begins, goes_on, not_blank_from, set_back_ends, takes_same}
 use Rattle.ans_redraw.proofs.form.give_form.Goals as goal
@@ -22,8 +22,7 @@ loop-row-init g c =
       sent = (
         mending ++ first,
         g.met.S.Sink.both _ _ _ mending first c.take.ensures c.give_row.ensures.takes,
-        ap (λ v. (mending ++ first) ++ texts (rows_drawn v (drop 1 (rows_of p)))) c.give_row.ensures.pen
-            ∙ begins p some,
+        begins p c.give_row.new.pen some c.give_row.ensures.pen,
       );
     }
 
@@ -46,9 +45,8 @@ loop-row-preserved g c =
         so_far.0 ++ (way ++ here),
         g.met.S.Sink.both _ _ _ so_far.0 (way ++ here) so_far.1
             (g.met.S.Sink.both _ _ _ way here c.give_row_end.ensures c.give_row-in-loop-row.ensures.takes),
-        ap (λ v. (so_far.0 ++ (way ++ here)) ++ texts (rows_drawn v (drop (i + 1) (rows_of p))))
-            c.give_row-in-loop-row.ensures.pen
-            ∙ goes_on above p i so_far.0 lt some so_far.2,
+        goes_on above c.give_row-in-loop-row.new.pen p i so_far.0 lt some so_far.2
+            c.give_row-in-loop-row.ensures.pen,
       );
     }
 

@@ -14,7 +14,7 @@ loop-i-preserved c =
     let attributes = c.args.attributes.now in
     let forced = c.args.forced in
     let i = c.loop-i.i in
-    let p = c.loop-i.pen in
+    let p = c.loop-i.at in
     let so_far = c.loop-i.invariant in
     let front = take c.loop-i.end c.loop-i.text in
     let here : Cell = cell (get_or bytes i 0) (get_or attributes i 0) in
@@ -23,7 +23,7 @@ loop-i-preserved c =
     elim c.if-is_passed.branch [
       | then-is_passed w ↦
           let passed : is_passed (forced - i) here ≡ true = sym c.is_passed.ensures ∙ w.if-is_passed.true in
-          rw (w.end-is, w.text-is, w.pen-is) (record {
+          rw (w.end-is, w.text-is, w.at-is) (record {
             within = omega (arith, so_far);
             long = so_far.long;
             so_far = ap (λ (v : List ℕ). front ++ v) (sym (one_passed forced i p here row passed))
@@ -37,7 +37,7 @@ loop-i-preserved c =
           let later = drawn_from forced (i + 1) (pen here.attribute 0) row in
           let drawn =
           texts (over p.attribute p.passed ++ (colours_to p.attribute here.attribute ++ glyph here.byte ∷ [])) in
-          rw (w.end-is, w.text-is, w.pen-is) (record {
+          rw (w.end-is, w.text-is, w.at-is ∙ room.pen) (record {
             within = omega (arith, so_far, room);
             long = room.length ∙ so_far.long;
             so_far = ap (λ (v : List ℕ). v ++ later) room.text

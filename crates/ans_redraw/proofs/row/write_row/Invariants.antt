@@ -7,10 +7,10 @@ use Rattle.ans_redraw.proofs.row.write_row.Given as goal
 
 abbrev pub invariant-loop-i : goal.invariant-loop-i
 invariant-loop-i l = record {
-  within : l.end + 13 * l.pen.passed ≤ 13 * l.i;
+  within : l.end + 13 * l.at.passed ≤ 13 * l.i;
   long : length l.text ≡ length l.fn.text;
-  so_far : take l.end l.text ++ drawn_from l.forced l.i l.pen (cells_from l.bytes l.attributes l.i)
+  so_far : take l.end l.text ++ drawn_from l.forced l.i l.at (cells_from l.bytes l.attributes l.i)
       ≡ texts (drawn l.forced l.fn.pen (zip2 cell l.bytes l.attributes));
-  pen : pen_behind (l.forced - l.i) l.pen (cells_from l.bytes l.attributes l.i)
+  pen : pen_behind (l.forced - l.i) l.at (cells_from l.bytes l.attributes l.i)
       ≡ pen_behind l.forced l.fn.pen (zip2 cell l.bytes l.attributes);
 }

@@ -1,6 +1,6 @@
 use Rattle.std.proofs.Common.{◌≡◌, ◌+◌, ◌*◌, ◌≤◌, ◌++◌, length, take, replicate}
 use Rattle.ans_redraw.specs.Form.{skip, texts}
-use Rattle.ans_redraw.proofs.way.write_over.Given as goal
+use Rattle.ans_redraw.proofs.way.write_way.Given as goal
 
 abbrev pub invariant-loop-skip : goal.invariant-loop-skip
 invariant-loop-skip l = record {

@@ -4,7 +4,7 @@ use Rattle.ans_redraw.specs.Form.{texts}
 use Rattle.ans_redraw.specs.Colours.{colours_to}
 use Rattle.ans_redraw.proofs.NumberTexts.{end_is, colours_written}
 use Rattle.ans_redraw.proofs.FormLengths.{colours_to_length}
-use Rattle.ans_redraw.proofs.colours.write_colours.Goals as goal
+use Rattle.ans_redraw.proofs.colours.write_sequence.Goals as goal
 
 pub overflow_sub-numbers : goal.overflow_sub-numbers
 overflow_sub-numbers c =
@@ -12,7 +12,7 @@ overflow_sub-numbers c =
     let from : c.args.from < 256 = omega (arith, c.ranges.from.fits) in
     let to : c.args.to < 256 = omega (arith, c.ranges.to.fits) in
     (colours_written (take c.args.end c.args.text.now) c.write-start.new.text numbers.new.text c.write-start.result
-    numbers.result c.args.from c.args.to from to c.if-from-to.false numbers.ensures.within
+    numbers.result c.args.from c.args.to from to c.requires.apart numbers.ensures.within
     c.write-start.ensures.text numbers.ensures.text).0
 
 pub returns-clause-text : goal.returns-clause-text
@@ -22,7 +22,7 @@ returns-clause-text c =
     let to : c.args.to < 256 = omega (arith, c.ranges.to.fits) in
     c.write.ensures.text
     ∙ (colours_written (take c.args.end c.args.text.now) c.write-start.new.text numbers.new.text c.write-start.result
-    numbers.result c.args.from c.args.to from to c.if-from-to.false numbers.ensures.within
+    numbers.result c.args.from c.args.to from to c.requires.apart numbers.ensures.within
     c.write-start.ensures.text numbers.ensures.text).1
 
 pub returns-clause-within : goal.returns-clause-within
@@ -32,7 +32,7 @@ returns-clause-within c =
     let to : c.args.to < 256 = omega (arith, c.ranges.to.fits) in
     let written =
     colours_written (take c.args.end c.args.text.now) c.write-start.new.text numbers.new.text c.write-start.result
-    numbers.result c.args.from c.args.to from to c.if-from-to.false numbers.ensures.within
+    numbers.result c.args.from c.args.to from to c.requires.apart numbers.ensures.within
     c.write-start.ensures.text numbers.ensures.text in
     let some : 1 ≤ numbers.result = written.0 in
     let is =
