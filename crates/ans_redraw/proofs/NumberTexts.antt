@@ -237,7 +237,8 @@ pub anew_text : (before first second text : List ℕ) (digit_end changed end to 
     → take end text ≡ before ++ listed (anew to)
 anew_text before first second text digit_end changed end to le le' is_zero is_changed is_white =
     let numbers : List ℕ = changes 0x07 to in
-    let there : changed ≡ digit_end + length (listed numbers) = end_is first second digit_end changed (listed numbers) le le' is_changed in
+    let there : changed ≡ digit_end + length (listed numbers) =
+    end_is first second digit_end changed (listed numbers) le le' is_changed in
     let none : (changed == digit_end) ≡ (length (listed numbers) == 0) = grind (arith, nat_tests) in
     let white : List ℕ = listed (number_if (length (listed numbers) == 0) 37) in
     let digit : List ℕ = decimal 0 ++ semicolon ∷ [] in

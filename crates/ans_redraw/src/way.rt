@@ -1,5 +1,5 @@
 //! The way over blanks.
-ghost use Rattle.std.specs.Prelude.{◌≡◌, ◌+◌, ◌*◌, ◌≤◌, ◌<◌, [], ◌==◌, ◌++◌, codes, decimal, if◌then◌else◌, length, take};
+ghost use Rattle.std.specs.Prelude.{◌≡◌, ◌+◌, ◌*◌, ◌≤◌, ◌<◌, [], ◌==◌, ◌++◌, decimal, if◌then◌else◌, length, take};
 ghost use Rattle.ans_redraw.specs.Form.{over, over_few, skip, texts};
 
 use crate::colours::GREY;

@@ -4,7 +4,8 @@ use Rattle.ans_model.specs.declared.cell.Cell.{Cell}
 use Rattle.ans_model.specs.Screen.State.{cell}
 use Rattle.ans_redraw.specs.Form.{pen, pen_behind, is_passed, over, glyph, texts}
 use Rattle.ans_redraw.specs.Colours.{colours_to}
-use Rattle.ans_redraw.proofs.RowTexts.{next_cell, cells_from, drawn_from, one_passed, pen_passed, one_printed, pen_printed}
+use Rattle.ans_redraw.proofs.RowTexts.{next_cell, cells_from, drawn_from, one_passed, pen_passed, one_printed}
+use Rattle.ans_redraw.proofs.RowTexts.{pen_printed}
 use Rattle.ans_redraw.proofs.row.write_row.Goals as goal
 use Rattle.ans_redraw.proofs.row.write_row.Goals.{then-is_passed, else-is_passed}
 
