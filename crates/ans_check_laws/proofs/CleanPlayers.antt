@@ -19,8 +19,8 @@ use Rattle.ans_walks.specs.declared.times.Times.{Times}
 use Rattle.ans_why.specs.PlayersText.{everywhere_line, is_same_class, kind_line, kind_lines, more_times, players_lines}
 use Rattle.ans_check_laws.specs.CleanTexts.{IsCleanText}
 use Rattle.ans_check_laws.proofs.CleanLines.{named_clean, needed_parts_clean, words_clean}
-use Rattle.ans_check_laws.proofs.CleanPieces.{clean_append, clean_decimal, clean_flat_map, clean_if, clean_line, clean_nil}
-use Rattle.ans_check_laws.proofs.CleanPieces.{plain_text}
+use Rattle.ans_check_laws.proofs.CleanPieces.{clean_append, clean_decimal, clean_flat_map, clean_if, clean_line}
+use Rattle.ans_check_laws.proofs.CleanPieces.{clean_nil, plain_text}
 
 word_clean : (kind : Kind) → IsCleanText (kind_word kind)
 word_clean WrapAtOnce = plain_text (codes "wrap-at-once") refl

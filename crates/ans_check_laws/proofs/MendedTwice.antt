@@ -27,7 +27,8 @@ use Rattle.ans_check.specs.Mending.{IsMended, WantsMending, end_mark_counted, fr
 use Rattle.ans_check_laws.proofs.WholeFiles.{accepted_long}
 use Rattle.ans_check_laws.proofs.MarkedContents.{marked_stays}
 use Rattle.ans_check_laws.proofs.CutFiles.{front_shorter, content_before, front_of_front, has_by, length_front}
-use Rattle.ans_check_laws.proofs.CutFiles.{lines_had, lines_kept, mark_had, mark_kept, record_behind, returned_wants_none}
+use Rattle.ans_check_laws.proofs.CutFiles.{lines_had, lines_kept, mark_had, mark_kept, record_behind}
+use Rattle.ans_check_laws.proofs.CutFiles.{returned_wants_none}
 use Rattle.ans_check_laws.proofs.MendedAgain.{off, opened_stays, settled_stays}
 use Rattle.ans_check_laws.proofs.MendedItself.{same_size, settled_content}
 use Rattle.ans_check_laws.proofs.ReturnsPut.{wants_behind}
