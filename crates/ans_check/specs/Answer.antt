@@ -5,6 +5,7 @@ use Rattle.std.specs.List.{list_any}
 use Rattle.std.specs.Str.{bytes_eq}
 use Rattle.clap.specs.Words.{Text}
 use Rattle.ans_mend.specs.MendedText.{mended_text, unmended_text}
+use Rattle.ans_redraw_file.specs.RedrawnText.{redrawn_text, unredrawn_text}
 use Rattle.ans_options.specs.CommandLine.{HasKindAmong, IsAskedBy, RanOutOfMemory, faults_of}
 use Rattle.ans_options.specs.Topics.{topic_of}
 use Rattle.ans_options.specs.declared.command.Asked.{Asked}
@@ -24,8 +25,9 @@ use Rattle.ans_write.specs.Tried.{call_count, has_failed, inner_of}
 use Rattle.ans_write.specs.Writes.{AppendsUnless, Wrote, WrotePrefix}
 use Rattle.ans_write.specs.declared.tried.Tried.{Tried}
 use Rattle.ans_check.specs.CommandText.{Reports}
-use Rattle.ans_check.specs.Ending.{ending_message, ending_of_mending, ending_of_words}
+use Rattle.ans_check.specs.Ending.{ending_message, ending_of_mending, ending_of_redrawing, ending_of_words}
 use Rattle.ans_check.specs.Listing.{IsListing, is_whole, names_in, listed_bytes}
+use Rattle.ans_check.specs.Redrawing.{TellsRedrawn}
 use Rattle.ans_check.specs.Served.{ServesAs, TellsMended}
 use Rattle.ans_check.specs.Table.{WritesTable, header, IsFoundByName}
 use Rattle.ans_check.specs.declared.listing.Listing.{Listing}
@@ -34,6 +36,7 @@ use Rattle.ans_check.specs.declared.errors.RunError.TheVariants as error
 use Rattle.ans_check.specs.declared.exit_status.Ending.{Ending}
 use Rattle.ans_check.specs.declared.exit_status.Ending.TheVariants.{Run, Help, Usage, UnreadableWords, UnopenedFile}
 use Rattle.ans_check.specs.declared.exit_status.Ending.TheVariants.{Table, NamedInput, UnreadNames, Mended, NotMended}
+use Rattle.ans_check.specs.declared.exit_status.Ending.TheVariants.{Redrawn, NotRedrawn}
 
 -- `-` names standard input
 abbrev pub names_standard : Text → Bool
@@ -78,6 +81,14 @@ abbrev pub EndsMended : {R W : Type 0} → (R → Option (List ℕ)) → (W → 
     → (R → Type 0) → (Text → Type 0) → Mends → Option Text → Tried W → Tried W → Ending → Type 0
 EndsMended remaining contents is_file is_standard is_missing mends file output output_after ending =
     EndsAsServed remaining contents is_file is_standard (TellsMended mends) (ending_of_mending mends) file
+    output output_after ending
+    ⊎ EndsUnopened is_missing file output output_after ending
+
+-- the input of this name was redrawn, or there is a reason why not; or it cannot be opened
+abbrev pub EndsRedrawn : {R W : Type 0} → (R → Option (List ℕ)) → (W → Option (List ℕ)) → (Text → R → Type 0)
+    → (R → Type 0) → (Text → Type 0) → Option Text → Tried W → Tried W → Ending → Type 0
+EndsRedrawn remaining contents is_file is_standard is_missing file output output_after ending =
+    EndsAsServed remaining contents is_file is_standard TellsRedrawn ending_of_redrawing file
     output output_after ending
     ⊎ EndsUnopened is_missing file output output_after ending
 
@@ -135,8 +146,8 @@ abbrev pub meaning_text : Topic → List ℕ
 meaning_text (topic.Fault cause) = fault_meaning cause
 meaning_text (topic.Note note) = note_meaning note
 
--- what is asked for was done: one command on one input, a file mended, a table of many files, or what a fault or a note
--- means
+-- what is asked for was done: one command on one input, a file mended or redrawn, a table of many files, or what a fault
+-- or a note means
 abbrev pub EndsAs : {R W : Type 0} → (R → Option (List ℕ)) → (W → Option (List ℕ)) → (Text → R → Type 0)
     → (R → Type 0) → (Text → Type 0) → Asked → Tried W → Tried W → Ending → Type 0
 EndsAs remaining contents is_file is_standard is_missing (asked.One options file) output output_after ending =
@@ -145,6 +156,9 @@ EndsAs remaining contents is_file is_standard is_missing (asked.One options file
 EndsAs remaining contents is_file is_standard is_missing (asked.Mend mends file) output output_after ending =
     EndsMended remaining contents is_file is_standard is_missing mends (option_map string_bytes file) output
     output_after ending
+EndsAs remaining contents is_file is_standard is_missing (asked.Redraw file) output output_after ending =
+    EndsRedrawn remaining contents is_file is_standard is_missing (option_map string_bytes file) output output_after
+    ending
 EndsAs remaining contents is_file is_standard is_missing (asked.Table form names) output output_after ending =
     EndsBy remaining contents is_standard (IsFoundByName remaining is_file is_missing) form
     (map string_bytes names.items) output output_after ending
@@ -209,7 +223,7 @@ SaysMessage contents errors errors_after ending = MatchOption (ending_message en
     (λ text. Tells contents errors errors_after (message_line text))
 
 -- What the errors took: the line of the ending's message; that of a table's counts; what was changed of a file that was
--- mended, or why it was not; clap's text, where the words are rejected; else nothing.
+-- mended or redrawn, or why it was not; clap's text, where the words are rejected; else nothing.
 abbrev pub Says : {E : Type 0} → (E → Option (List ℕ)) → Tried E → Tried E → Ending → Type 0
 Says contents errors errors_after Usage = (text : List ℕ) × Tells contents errors errors_after text
 Says contents errors errors_after (Table counts) =
@@ -217,4 +231,6 @@ Says contents errors errors_after (Table counts) =
 Says contents errors errors_after (Mended mended) = Tells contents errors errors_after (mended_text mended)
 Says contents errors errors_after (NotMended asked reason) =
     Tells contents errors errors_after (unmended_text asked reason)
+Says contents errors errors_after (Redrawn redrawn) = Tells contents errors errors_after (redrawn_text redrawn)
+Says contents errors errors_after (NotRedrawn reason) = Tells contents errors errors_after (unredrawn_text reason)
 Says contents errors errors_after ending = SaysMessage contents errors errors_after ending

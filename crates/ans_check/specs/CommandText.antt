@@ -17,6 +17,7 @@ use Rattle.ans_report.specs.declared.report.Report.{Report}
 use Rattle.ans_report.specs.declared.report.Report.TheVariants as report
 use Rattle.ans_options.specs.declared.command.Command.{Command}
 use Rattle.ans_options.specs.declared.command.Command.TheVariants.{Why, Check, Show, Sauce, Tokens, Needs, Table, Mend}
+use Rattle.ans_options.specs.declared.command.Command.TheVariants.{Redraw}
 use Rattle.ans_options.specs.declared.command.Form.{Form}
 use Rattle.ans_options.specs.declared.command.Form.TheVariants.{Terminal, Vga, Page}
 use Rattle.ans_options.specs.declared.command.Options.{Options}
@@ -130,8 +131,8 @@ pub record ReportsWhy (file : List ℕ) (passed : Bool) (text : List ℕ) : Type
   pub text_is : text ≡ why_text said
 
 -- Whether the file passes and the text are what the command is to write of it. Of one file, which has no name here, a
--- table has no row; what its row would tell first is told as `needs` tells it. A file that is to be mended has no
--- report either, and what it needs is told too.
+-- table has no row; what its row would tell first is told as `needs` tells it. A file that is to be mended or
+-- redrawn has no report either, and what it needs is told too.
 abbrev pub ReportsBy : Command → Start → Bool → List ℕ → Bool → List ℕ → Type 0
 ReportsBy Why start cells file passed text = ReportsWhy file passed text
 ReportsBy Check start cells file passed text = ReportsCheck file start cells passed text
@@ -141,6 +142,7 @@ ReportsBy Tokens start cells file passed text = ReportsTokens file passed text
 ReportsBy Needs start cells file passed text = ReportsNeeds file passed text
 ReportsBy (Table form) start cells file passed text = ReportsNeeds file passed text
 ReportsBy (Mend mends) start cells file passed text = ReportsNeeds file passed text
+ReportsBy Redraw start cells file passed text = ReportsNeeds file passed text
 
 -- whether the file passes and the text are what the options ask of it
 abbrev pub Reports : Options → List ℕ → Bool → List ℕ → Type 0

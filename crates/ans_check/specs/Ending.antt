@@ -5,6 +5,8 @@ use Rattle.clap.specs.declared.error.ErrorKind.{ErrorKind}
 use Rattle.clap.specs.declared.error.ErrorKind.TheVariants.{DisplayHelp, DisplayVersion, OutOfMemory}
 use Rattle.ans_mend.specs.declared.outcome.Mended as outcome
 use Rattle.ans_mend.specs.declared.outcome.Unmended.{Unmended}
+use Rattle.ans_redraw_file.specs.declared.outcome.Redrawn as redrawing
+use Rattle.ans_redraw_file.specs.declared.outcome.Unredrawn.{Unredrawn}
 use Rattle.ans_options.specs.declared.command.Mends.{Mends}
 use Rattle.ans_options.specs.declared.command_line.WordsError.{WordsError}
 use Rattle.ans_options.specs.declared.command_line.WordsError.TheVariants as words_error
@@ -15,6 +17,7 @@ use Rattle.ans_check.specs.declared.errors.RunError.{RunError}
 use Rattle.ans_check.specs.declared.exit_status.Ending.{Ending}
 use Rattle.ans_check.specs.declared.exit_status.Ending.TheVariants.{Run, Help, Usage, UnreadableWords, UnopenedFile}
 use Rattle.ans_check.specs.declared.exit_status.Ending.TheVariants.{Table, NamedInput, UnreadNames, Mended, NotMended}
+use Rattle.ans_check.specs.declared.exit_status.Ending.TheVariants.{Redrawn, NotRedrawn}
 use Rattle.ans_check.specs.Run.{run_error_text, status_of}
 
 -- the exit status of each ending
@@ -29,6 +32,8 @@ ending_status NamedInput = 2
 ending_status UnreadNames = 2
 ending_status (Mended mended) = 0
 ending_status (NotMended asked reason) = 1
+ending_status (Redrawn redrawn) = 0
+ending_status (NotRedrawn reason) = 1
 
 -- what each ending says on standard error after `anscheck: `, if anything
 abbrev pub ending_message : Ending → Option (List ℕ)
@@ -43,6 +48,8 @@ ending_message NamedInput = Some (codes "- names no file of a table; without FIL
 ending_message UnreadNames = Some (codes "cannot read the names")
 ending_message (Mended mended) = None
 ending_message (NotMended asked reason) = None
+ending_message (Redrawn redrawn) = None
+ending_message (NotRedrawn reason) = None
 
 -- how the program ends at each kind of clap's errors
 abbrev pub ending_of_kind : ErrorKind → Ending
@@ -61,3 +68,9 @@ abbrev pub ending_of_mending : Mends → Result (Result outcome.Mended Unmended)
 ending_of_mending asked (Ok (Ok mended)) = Mended mended
 ending_of_mending asked (Ok (Err reason)) = NotMended asked reason
 ending_of_mending asked (Err error) = Run (Err error)
+
+-- how the program ends at what came of redrawing
+abbrev pub ending_of_redrawing : Result (Result redrawing.Redrawn Unredrawn) RunError → Ending
+ending_of_redrawing (Ok (Ok redrawn)) = Redrawn redrawn
+ending_of_redrawing (Ok (Err reason)) = NotRedrawn reason
+ending_of_redrawing (Err error) = Run (Err error)

@@ -17,5 +17,6 @@ pub mod Listing
 pub mod Answer
 pub mod SystemInput
 pub mod Mending
+pub mod Redrawing
 pub mod MendingRoom
 pub mod MendingSteps

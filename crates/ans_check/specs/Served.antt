@@ -4,6 +4,8 @@ use Rattle.std.specs.Prelude.{IfOk, IfErr, IfSome, IsErrOf, IsTrue}
 use Rattle.ans_model.specs.Bytes.{longest_file}
 use Rattle.ans_mend.specs.declared.outcome.Mended.{Mended}
 use Rattle.ans_mend.specs.declared.outcome.Unmended.{Unmended}
+use Rattle.ans_redraw_file.specs.declared.outcome.Redrawn.{Redrawn}
+use Rattle.ans_redraw_file.specs.declared.outcome.Unredrawn.{Unredrawn}
 use Rattle.ans_options.specs.declared.command.Mends.{Mends}
 use Rattle.ans_options.specs.declared.command.Options.{Options}
 use Rattle.ans_write.specs.Tried.{call_count, has_failed, inner_of}
@@ -11,6 +13,7 @@ use Rattle.ans_write.specs.Writes.{Wrote, WrotePrefix}
 use Rattle.ans_write.specs.declared.tried.Tried.{Tried}
 use Rattle.ans_check.specs.CommandText.{Reports}
 use Rattle.ans_check.specs.Mending.{IsMended, IsReason, front_bytes}
+use Rattle.ans_check.specs.Redrawing.{TellsRedrawn}
 use Rattle.ans_check.specs.Run.{HasRead}
 use Rattle.ans_check.specs.declared.errors.RunError.{RunError}
 use Rattle.ans_check.specs.declared.errors.RunError.TheVariants as error
@@ -62,3 +65,9 @@ abbrev pub ServesMended : {R W : Type 0} → (R → Option (List ℕ)) → (W �
     → Tried W → Tried W → Result (Result Mended Unmended) RunError → Type 0
 ServesMended remaining contents mends reader reader_after writer writer_after result =
     ServesAs remaining contents (TellsMended mends) reader reader_after writer writer_after result
+
+-- A run redrew a file.
+abbrev pub ServesRedrawn : {R W : Type 0} → (R → Option (List ℕ)) → (W → Option (List ℕ)) → Tried R → Tried R
+    → Tried W → Tried W → Result (Result Redrawn Unredrawn) RunError → Type 0
+ServesRedrawn remaining contents reader reader_after writer writer_after result =
+    ServesAs remaining contents TellsRedrawn reader reader_after writer writer_after result

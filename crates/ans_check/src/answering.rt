@@ -5,11 +5,13 @@ ghost use Rattle.std.specs.Prelude.{option_map, string_bytes, true, map, IfOk};
 ghost use Rattle.std.specs.List.{list_any};
 ghost use Rattle.ans_model.specs.Text.Words.{texts_of};
 ghost use Rattle.ans_mend.specs.MendedText.{mended_text, unmended_text};
+ghost use Rattle.ans_redraw_file.specs.RedrawnText.{redrawn_text, unredrawn_text};
 ghost use Rattle.ans_report.specs.Message.{message_line};
 ghost use Rattle.ans_table.specs.Counting.{counts_text};
 ghost use Rattle.ans_write.specs.Tried.{has_failed};
-ghost use Rattle.ans_check.specs.Answer.{EndsAfter, EndsAs, EndsBy, EndsMended, EndsNamed, EndsRun, EndsSo};
-ghost use Rattle.ans_check.specs.Answer.{EndsWritten, IsNamed, PrintsHelp, Says, SaysMessage, Tells, TellsFailure};
+ghost use Rattle.ans_check.specs.Answer.{EndsAfter, EndsAs, EndsBy, EndsMended, EndsNamed, EndsRedrawn, EndsRun};
+ghost use Rattle.ans_check.specs.Answer.{EndsSo, EndsWritten, IsNamed, PrintsHelp, Says, SaysMessage, Tells};
+ghost use Rattle.ans_check.specs.Answer.{TellsFailure};
 ghost use Rattle.ans_check.specs.Answer.{ending_of_table, meaning_text, names_standard};
 ghost use Rattle.ans_check.specs.Ending.{ending_of_words};
 ghost use Rattle.ans_check.specs.Listing.{is_whole, names_in, listed_bytes};
@@ -20,9 +22,10 @@ use crate::exit_status::Ending;
 use crate::inputs::Inputs;
 use crate::listing::Listing;
 use crate::rows::table;
-use crate::streams::{mend, serve};
+use crate::streams::{mend, redraw, serve};
 use ans_mend::{Mended, Unmended, put_mended, put_unmended};
 use ans_options::{Asked, Mends, Options, TableForm, Topic, WordsError, asked};
+use ans_redraw_file::{Redrawn, Unredrawn, put_redrawn, put_unredrawn};
 use ans_report::{Tried, fault_meaning, note_meaning, put_message};
 use ans_table::{Counts, put_counts};
 use ans_write::Outbox;
@@ -59,6 +62,26 @@ fn say_unmended<E: Write>(errors: &mut Tried<E>, asked: &Mends, reason: &Unmende
     let _ = out.finish();
 }
 
+/// Says what was changed of a file that was redrawn.
+fn say_redrawn<E: Write>(errors: &mut Tried<E>, redrawn: &Redrawn)
+    requires { has_failed errors.old ≡ false }
+    ensures { Tells E.contents errors.old errors.new (redrawn_text redrawn.now) }
+{
+    let mut out = Outbox::new(errors);
+    put_redrawn(&mut out, redrawn);
+    let _ = out.finish();
+}
+
+/// Says why a file is not redrawn.
+fn say_unredrawn<E: Write>(errors: &mut Tried<E>, reason: &Unredrawn)
+    requires { has_failed errors.old ≡ false }
+    ensures { Tells E.contents errors.old errors.new (unredrawn_text reason.now) }
+{
+    let mut out = Outbox::new(errors);
+    put_unredrawn(&mut out, reason);
+    let _ = out.finish();
+}
+
 /// Says `anscheck: ` and the ending's message, if it has one.
 fn say_message<E: Write>(errors: &mut Tried<E>, ending: Ending)
     requires { has_failed errors.old ≡ false }
@@ -72,7 +95,7 @@ fn say_message<E: Write>(errors: &mut Tried<E>, ending: Ending)
 }
 
 /// Says why there is no answer, if there is none: `anscheck: ` and the ending's message; of a table how many
-/// files came out how; and of a file that was to be mended what was changed of it, or why it is not mended.
+/// files came out how; and of a file that was to be mended or redrawn what was changed of it, or why it is not.
 /// What is wrong with rejected words is `clap`'s to say.
 pub(crate) fn say<E: Write>(errors: &mut Tried<E>, ending: Ending)
     requires works { has_failed errors.old ≡ false }
@@ -83,6 +106,8 @@ pub(crate) fn say<E: Write>(errors: &mut Tried<E>, ending: Ending)
         Ending::Table(counts) => say_counts(errors, counts),
         Ending::Mended(mended) => say_mended(errors, mended),
         Ending::NotMended(asked, reason) => say_unmended(errors, asked, reason),
+        Ending::Redrawn(redrawn) => say_redrawn(errors, redrawn),
+        Ending::NotRedrawn(reason) => say_unredrawn(errors, reason),
         _ => say_message(errors, ending),
     }
 }
@@ -308,6 +333,25 @@ fn serve_mend<I: Inputs, W: Write>(
     Ending::of_mending(mends, &mend(alloc, &mut reader, output, mends))
 }
 
+/// Redraws the file that the words name, and writes it.
+fn serve_redraw<I: Inputs, W: Write>(
+    alloc: Global,
+    inputs: I,
+    name: &Option<String>,
+    output: &mut Tried<W>,
+) -> Ending
+    requires { has_failed output.old ≡ false }
+    ensures ends { EndsRedrawn I.Reader.remaining W.contents (I.is_file inputs) (I.is_standard inputs)
+        (I.is_missing inputs) (option_map string_bytes name.now) output.old output.new result }
+    ensures write { TellsFailure output.new result }
+{
+    let Some(input) = input_named(inputs, name) else {
+        return Ending::UnopenedFile;
+    };
+    let mut reader = Tried::new(input);
+    Ending::of_redrawing(&redraw(alloc, &mut reader, output))
+}
+
 /// What a fault or a note means, and how it is mended.
 fn meaning_text(topic: Topic) -> &'static str
     ensures { result.now ≡ meaning_text topic }
@@ -333,6 +377,7 @@ fn serve_asked<I: Inputs, W: Write>(
     match asked {
         Asked::One(options, name) => serve_one(alloc, inputs, options, name, output),
         Asked::Mend(mends, name) => serve_mend(alloc, inputs, mends, name, output),
+        Asked::Redraw(name) => serve_redraw(alloc, inputs, name, output),
         Asked::Table(form, names) => serve_table(alloc, inputs, names.as_slice(), *form, output),
         Asked::Meaning(topic) => print_help(output, meaning_text(*topic)),
     }
@@ -370,10 +415,11 @@ fn end_of_words<I: Inputs, W: Write, E: Write>(
 /// reads no input.
 ///
 /// Where the words ask for a file to be mended, `output` has the mended file, and then `errors` what was
-/// changed of it, a line for each kind of change; or nothing was written, and `errors` has the reason.
+/// changed of it, a line for each kind of change; or nothing was written, and `errors` has the reason. So it is
+/// where they ask for a file to be redrawn.
 ///
-/// The ending is that of the run; `Mended` or `NotMended` where a file was to be mended; `UnopenedFile` where
-/// the named file cannot be opened; and where the words give no options, what their error says, or
+/// The ending is that of the run; `Mended` or `NotMended` where a file was to be mended; `Redrawn` or `NotRedrawn`
+/// where one was to be redrawn; `UnopenedFile` where the named file cannot be opened; and where the words give no options, what their error says, or
 /// `UnreadableWords` where there is no memory for its text. Of a table it is `Table`, with how its files
 /// came out; `NamedInput` where `-` stands among the names; `UnreadNames` where standard input fails before
 /// the names end; and `Run(Err(Memory))` where there is no memory for the names or a row. `Run(Err(Write))`

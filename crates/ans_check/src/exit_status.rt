@@ -1,12 +1,14 @@
 //! How the program ends: its exit status, and what it says on standard error.
 
 ghost use Rattle.std.specs.Prelude.{◌≡◌, option_map};
-ghost use Rattle.ans_check.specs.Ending.{ending_message, ending_of_mending, ending_of_words, ending_status};
+ghost use Rattle.ans_check.specs.Ending.{ending_message, ending_of_mending, ending_of_redrawing, ending_of_words};
+ghost use Rattle.ans_check.specs.Ending.{ending_status};
 ghost use Rattle.ans_check.specs.Run.{status_of};
 
 use crate::errors::RunError;
 use ans_mend::{Mended, Unmended};
 use ans_options::{Mends, WordsError};
+use ans_redraw_file::{Redrawn, Unredrawn};
 use ans_table::{Counts, Unread};
 use clap::error::ErrorKind;
 
@@ -46,6 +48,10 @@ pub enum Ending {
     Mended(Mended),
     /// The file is not mended by what was asked for, for this reason, and nothing was written.
     NotMended(Mends, Unmended),
+    /// A file was redrawn and written, and this was changed of it.
+    Redrawn(Redrawn),
+    /// The file is not redrawn, for this reason, and nothing was written.
+    NotRedrawn(Unredrawn),
 }
 
 impl Ending {
@@ -76,15 +82,26 @@ impl Ending {
         }
     }
 
-    /// The exit status: that of the run or of the table's counts, 0 for help and for a mended file, 1 for one
-    /// that is not mended, and 2 where no run began and where the names for a table were not all read.
+    /// How the program ends at what came of redrawing a file.
+    pub fn of_redrawing(answer: &Result<Result<Redrawn, Unredrawn>, RunError>) -> Ending
+        ensures { result ≡ ending_of_redrawing answer.now }
+    {
+        match answer {
+            Ok(Ok(redrawn)) => Ending::Redrawn(*redrawn),
+            Ok(Err(reason)) => Ending::NotRedrawn(*reason),
+            Err(error) => Ending::Run(Err(*error)),
+        }
+    }
+
+    /// The exit status: that of the run or of the table's counts, 0 for help and for a mended or redrawn file, 1
+    /// for one that is neither, and 2 where no run began and where the names for a table were not all read.
     pub fn status(&self) -> u8
         ensures { result ≡ ending_status self.now }
     {
         match self {
             Ending::Run(answer) => status(answer),
-            Ending::Help | Ending::Mended(_) => 0,
-            Ending::NotMended(..) => 1,
+            Ending::Help | Ending::Mended(_) | Ending::Redrawn(_) => 0,
+            Ending::NotMended(..) | Ending::NotRedrawn(_) => 1,
             Ending::Table(counts) => counts.status(),
             Ending::Usage | Ending::UnreadableWords | Ending::UnopenedFile => 2,
             Ending::NamedInput | Ending::UnreadNames => 2,
@@ -93,7 +110,7 @@ impl Ending {
 
     /// Why there is no answer, for standard error after `anscheck: `. There is none where the file
     /// has an answer, none where `clap`'s text says it, none for a table, whose counts are told, and none
-    /// for mending, of which more is told.
+    /// for mending and redrawing, of which more is told.
     pub fn message(&self) -> Option<&'static str>
         ensures { option_map (λ text. text.now) result ≡ ending_message self.now }
     {
@@ -101,6 +118,7 @@ impl Ending {
             Ending::Run(Err(error)) => Some(error.text()),
             Ending::Run(Ok(_)) | Ending::Help | Ending::Usage | Ending::Table(_) => None,
             Ending::Mended(_) | Ending::NotMended(..) => None,
+            Ending::Redrawn(_) | Ending::NotRedrawn(_) => None,
             Ending::UnreadableWords => Some("cannot read the command line"),
             Ending::UnopenedFile => Some(Unread::Unopened.text()),
             Ending::NamedInput => Some("- names no file of a table; without FILE, names are read"),

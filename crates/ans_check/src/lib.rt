@@ -4,15 +4,17 @@
 //! plays on a screen that is there already; [`needs_on`] and [`why_on`] take theirs from [`Screens`],
 //! [`NewScreens`] or [`LentScreens`]. [`run`] reads a file and writes what a command tells of it, and
 //! [`serve`] also has the writer hand on what it holds back. [`mend`] reads a file and writes it mended,
-//! and [`mend_on`] mends one in a draft. [`table`] reads many files and writes a row for each. [`answer`]
-//! goes from the program's words, over the [`Inputs`] that they can name, to the [`Ending`]: its exit
-//! status and what it says. [`program`] is that on the system's own words, files and streams.
+//! and [`mend_on`] mends one in a draft. [`redraw`] reads a file and writes it redrawn. [`table`] reads many
+//! files and writes a row for each. [`answer`] goes from the program's words, over the [`Inputs`] that they
+//! can name, to the [`Ending`]: its exit status and what it says. [`program`] is that on the system's own
+//! words, files and streams.
 //!
 //! What a verdict says of a file stands in `specs/FileVerdict.antt`, what its needs say in
 //! `specs/FileNeeds.antt`, what each command writes in `specs/CommandText.antt`, what a run has done
-//! when it returns in `specs/Served.antt`, what a mended file is in `specs/Mending.antt`, what a table
-//! has in `specs/Table.antt`, how words are answered in `specs/Answer.antt`, and the endings in
-//! `specs/Ending.antt`. The command line is read by `ans_options`, whose public names are passed on.
+//! when it returns in `specs/Served.antt`, what a mended file is in `specs/Mending.antt`, and a redrawn one
+//! in `specs/Redrawing.antt`, what a table has in `specs/Table.antt`, how words are answered in
+//! `specs/Answer.antt`, and the endings in `specs/Ending.antt`. The command line is read by `ans_options`,
+//! whose public names are passed on.
 #![tactic(auto)]
 
 mod answering;
@@ -31,6 +33,7 @@ mod parts_needed;
 mod pipeline;
 mod played;
 mod reading;
+mod redraw_file;
 mod rows;
 mod screens;
 mod streams;
@@ -43,6 +46,7 @@ pub use ans_model::start::Start;
 pub use ans_options::{
     Asked, Command, Form, Mends, Options, TableForm, Topic, WordsError, asked, options,
 };
+pub use ans_redraw_file::{Redrawn, Unredrawn};
 pub use ans_report::Needs;
 pub use ans_sauce::Judged;
 pub use ans_table::{
@@ -58,7 +62,7 @@ pub use parts_needed::{needs, needs_on};
 pub use pipeline::run;
 pub use rows::table;
 pub use screens::{LentScreens, NewScreens, Screens};
-pub use streams::{mend, serve};
+pub use streams::{mend, redraw, serve};
 pub use system::program;
 pub use verdict::{Verdict, check, play_on};
 pub use why::why_on;

@@ -187,7 +187,7 @@ fn run_command<W: Write>(
         Command::Tokens => Ok(tell_tokens(out, file)),
         Command::Needs => tell_needs(alloc, out, file),
         // of the one input here what it needs is told
-        Command::Table(_) | Command::Mend(_) => tell_needs(alloc, out, file),
+        Command::Table(_) | Command::Mend(_) | Command::Redraw => tell_needs(alloc, out, file),
     }
 }
 
@@ -196,9 +196,9 @@ fn run_command<W: Write>(
 /// content needs, or why the file is refused and what it relies on. Where the content is refused,
 /// what should show its picture reports that as a check does. Where the record or the layout is
 /// refused, F1 to F8, the two lines of the refusal are written instead. A table is of files by their
-/// names, and [`table`](crate::table) writes it; a file is mended by [`mend`](crate::mend). With either as
-/// the command, what the one input here needs is written. `Ok`
-/// says whether the file passes: its content is found good, its record is accepted, all of its content
+/// names, and [`table`](crate::table) writes it; a file is mended by [`mend`](crate::mend) and
+/// redrawn by [`redraw`](crate::redraw). With one of these as the command, what the one input here needs is
+/// written. `Ok` says whether the file passes: its content is found good, its record is accepted, all of its content
 /// is read as tokens, or its content is good from the cleared start, so that it is known what it needs.
 ///
 /// `Read` comes exactly where the reader failed in the call, `Write` exactly where the writer did,

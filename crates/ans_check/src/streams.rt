@@ -2,13 +2,15 @@
 
 ghost use Rattle.std.specs.Prelude.{◌≡◌, false};
 ghost use Rattle.ans_write.specs.Tried.{has_failed};
-ghost use Rattle.ans_check.specs.Served.{Serves, ServesMended};
+ghost use Rattle.ans_check.specs.Served.{Serves, ServesMended, ServesRedrawn};
 
 use crate::errors::RunError;
 use crate::mend_file::run_mend;
 use crate::pipeline::run;
+use crate::redraw_file::run_redraw;
 use ans_mend::{Mended, Unmended};
 use ans_options::{Mends, Options};
+use ans_redraw_file::{Redrawn, Unredrawn};
 use ans_report::{DeviceFault, Tried};
 use std::alloc::Global;
 use std::io::{Read, Write};
@@ -54,6 +56,32 @@ pub fn mend<R: Read, W: Write>(
     ensures { ServesMended R.remaining W.contents mends.now reader.old reader.new writer.old writer.new result }
 {
     let answer = run_mend(alloc, reader, writer, mends)?;
+    match writer.flush() {
+        Ok(()) => Ok(answer),
+        Err(DeviceFault) => Err(RunError::Write),
+    }
+}
+
+/// Reads the whole input, redraws it, and writes the redrawn file, of which the writer then hands on what it
+/// holds back. The redrawn file shows the picture that the file shows from the cleared start, from every start.
+/// Behind its content stands all that stood behind the file's, with an end mark where there was none, and of the
+/// record the file size alone is set anew. `Ok` says what was changed; or why the file is not redrawn, and then
+/// nothing is written.
+///
+/// `Read` comes exactly where the reader failed in the call, `Write` exactly where the writer did, and
+/// `TooLong` as soon as more than 16,777,216 bytes were read. `Memory` comes where memory runs out for the
+/// file or for its screen. After `Write` a prefix of the redrawn file was written, and after any other error
+/// nothing. It makes at most 16,777,218 reads.
+pub fn redraw<R: Read, W: Write>(
+    alloc: Global,
+    reader: &mut Tried<R>,
+    writer: &mut Tried<W>,
+) -> Result<Result<Redrawn, Unredrawn>, RunError>
+    requires reads { has_failed reader.old ≡ false }
+    requires writes { has_failed writer.old ≡ false }
+    ensures { ServesRedrawn R.remaining W.contents reader.old reader.new writer.old writer.new result }
+{
+    let answer = run_redraw(alloc, reader, writer)?;
     match writer.flush() {
         Ok(()) => Ok(answer),
         Err(DeviceFault) => Err(RunError::Write),

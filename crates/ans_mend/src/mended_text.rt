@@ -125,7 +125,8 @@ fn put_flag_line<W: Write>(out: &mut Outbox<'_, W>, flag: &NonBlink)
     }
 }
 
-fn put_reset_line<W: Write>(out: &mut Outbox<'_, W>, what: &[u8], number: &Reset)
+/// Puts the line of a number in the record that was set anew: what it is and was. Nothing where it is the same.
+pub fn put_reset_line<W: Write>(out: &mut Outbox<'_, W>, what: &[u8], number: &Reset)
     ensures { Puts W.contents out.old out.new (reset_line what.now number.now) }
 {
     if number.was == number.is {
@@ -138,7 +139,8 @@ fn put_reset_line<W: Write>(out: &mut Outbox<'_, W>, what: &[u8], number: &Reset
     out.put(b"\n");
 }
 
-fn put_end_mark_line<W: Write>(out: &mut Outbox<'_, W>, place: Option<usize>)
+/// Puts the line of an end mark that was put, with its offset in bytes from the file's start. Nothing where none was.
+pub fn put_end_mark_line<W: Write>(out: &mut Outbox<'_, W>, place: Option<usize>)
     ensures { Puts W.contents out.old out.new (end_mark_line place) }
 {
     if let Some(place) = place {

@@ -3,6 +3,7 @@ pub mod Colours
 pub mod Form
 pub mod Numbers
 pub mod Counts
+pub mod Copies
 pub mod Drawable
 pub mod Laws
 pub mod Examples

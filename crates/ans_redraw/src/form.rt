@@ -15,7 +15,7 @@ use crate::colours::{GREY, write_colours};
 use crate::pen::{Pen, is_coloured};
 use crate::piece::write;
 use crate::row::{are_blank, write_row};
-use crate::sink::{Count, Sink};
+use crate::sink::{Copy, Count, Sink};
 use ans_model::limits::MAX_WIDTH;
 use ans_play::Picture;
 use ans_screen::Screen;
@@ -171,4 +171,15 @@ pub fn form_length<G: Screen>(picture: &Picture<G>) -> usize
     let mut count = Count { bytes: 0 };
     give_form(&mut count, picture);
     count.bytes
+}
+
+/// Copies the form of a picture to the front of an array.
+#[inline(never)]
+pub fn copy_form<G: Screen>(picture: &Picture<G>, array: &mut [u8])
+    requires { length (form_bytes picture.now) ≤ length array.old }
+    ensures form { take (length (form_bytes picture.now)) array.new ≡ form_bytes picture.now }
+    ensures length { length array.new ≡ length array.old }
+{
+    let mut copy = Copy { array, used: 0 };
+    give_form(&mut copy, picture);
 }

@@ -2,8 +2,9 @@
 //!
 //! Behind the mending stand the cells that are no blanks, in reading order, each with the way to it, its
 //! colours and its byte; then white on black where it is not so already. `specs/Form.antt` has the form,
-//! and `specs/Colours.antt` how one attribute becomes another. [`form_length`] counts its bytes, and
-//! [`put_form`] puts them: both go over the picture row by row, with no memory beyond a row. In [`laws`]
+//! and `specs/Colours.antt` how one attribute becomes another. [`form_length`] counts its bytes,
+//! [`put_form`] puts them, and [`copy_form`] copies them: each goes over the picture row by row, with no memory
+//! beyond a row. In [`laws`]
 //! stands what is proved of the form, in [`examples`] the bytes of small pictures.
 #![tactic(auto)]
 
@@ -17,4 +18,4 @@ mod row;
 mod sink;
 mod way;
 
-pub use form::{form_length, put_form};
+pub use form::{copy_form, form_length, put_form};

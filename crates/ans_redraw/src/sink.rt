@@ -1,5 +1,5 @@
 //! What takes the bytes of a form.
-ghost use Rattle.std.specs.Prelude.{ℕ, List, [], ◌++◌};
+ghost use Rattle.std.specs.Prelude.{◌≤◌, ℕ, List, [], ◌++◌, length};
 
 use ans_write::Outbox;
 use std::io::Write;
@@ -53,4 +53,47 @@ impl Sink for Count {
     ghost nothing = { λ a fits. Prim.omega arith };
 
     ghost both = { λ a b c x y p q fits. Prim.omega (arith, p, q, length-append x y) };
+}
+
+/// An array, of which the first bytes are taken.
+#[derive(Drop)]
+pub(crate) struct Copy<'a> {
+    pub(crate) array: &'a mut [u8],
+    pub(crate) used: usize,
+}
+
+impl<'a> Sink for Copy<'a> {
+    ghost use Rattle.ans_redraw.specs.Copies.{Copies};
+    ghost use Rattle.std.proofs.Common.{arith, refl, sym, ap, ◌∙◌, append_assoc};
+    ghost use Rattle.std.proofs.lemmas.List.{append_nil, length-append};
+    ghost use Rattle.std.specs.Prelude.{◌+◌, ◌++◌, ℕ, List, take};
+
+    ghost takes = { Copies };
+
+    fn take(&mut self, bytes: &[u8]) {
+        let end = self.used.saturating_add(bytes.len());
+        if end <= self.array.len() {
+            self.array[self.used..end].copy_from_slice(bytes);
+            self.used = end;
+        }
+    }
+
+    ghost nothing = { λ a. record {
+        same_array = refl;
+        used = λ fits. Prim.omega arith;
+        taken = λ fits. sym (append_nil (take a.used a.array.now));
+        same_length = refl;
+    } };
+
+    ghost both = { λ a b c x y p q. record {
+        same_array = q.same_array ∙ p.same_array;
+        used = λ fits. Prim.omega (arith, length-append x y, p.used (Prim.omega (arith, fits, length-append x y)),
+            q.used (Prim.omega (arith, fits, length-append x y, p.same_length,
+            p.used (Prim.omega (arith, fits, length-append x y)))));
+        taken = λ fits. q.taken (Prim.omega (arith, fits, length-append x y, p.same_length,
+            p.used (Prim.omega (arith, fits, length-append x y))))
+            ∙ ap (λ (v : List ℕ). v ++ y) (p.taken (Prim.omega (arith, fits, length-append x y)))
+            ∙ append_assoc (take a.used a.array.now) x y;
+        same_length = q.same_length ∙ p.same_length;
+    } };
 }

@@ -1,0 +1,114 @@
+//! The file that is put in the place of another.
+
+ghost use Rattle.std.specs.Prelude.{◌≡◌, ◌-◌, ◌≤◌, ◌++◌, [], ◌∷◌, length, drop, not, IfOk, IfErr, if◌then◌else◌};
+ghost use Rattle.std.specs.List.{list_any};
+ghost use Rattle.ans_model.specs.Bytes.{end_mark, longest_file};
+ghost use Rattle.ans_model.specs.File.Layout.{is_end_mark};
+ghost use Rattle.ans_sauce.specs.Found.{body_in, front_in, record_in};
+ghost use Rattle.ans_sauce.specs.Split.{IsSplit};
+ghost use Rattle.ans_mend.specs.Contents.{content_in};
+ghost use Rattle.ans_redraw.specs.Form.{form_bytes};
+ghost use Rattle.ans_walks.specs.MendedFile.{with_file_size};
+ghost use Rattle.ans_write.specs.Puts.{Puts};
+ghost use Rattle.ans_redraw_file.specs.RedrawnFile.{IsRedrawnWith, IsTooLong, redrawn_file};
+
+use crate::outcome::{Redrawn, Unredrawn};
+use ans_mend::Reset;
+use ans_model::limits::MAX_FILE;
+use ans_play::Picture;
+use ans_redraw::{form_length, put_form};
+use ans_sauce::Parts;
+use ans_screen::Screen;
+use ans_write::Outbox;
+use std::io::Write;
+
+/// SAUCE 00.5, record layout: how many bytes a record has, and where its FileSize begins and ends.
+const RECORD_SIZE: usize = 128;
+
+const FILE_SIZE: usize = 90;
+
+const FILE_SIZE_END: usize = 94;
+
+/// SAUCE 00.5: the end of file character.
+const END_MARK: u8 = 0x1A;
+
+/// What stands between a file's content and its record: end marks, and the comments.
+fn behind_content<'a>(file: &'a [u8], parts: &Parts<'_>) -> &'a [u8]
+    requires { IsSplit file.now parts.now }
+    ensures { result.now ≡ drop (length (content_in file.now)) (front_in file.now) }
+{
+    &file[parts.content().len()..file.len() - RECORD_SIZE]
+}
+
+/// The end mark that is to be put before this, where none stands there.
+fn missing_mark(behind: &[u8]) -> &'static [u8]
+    ensures { result.now ≡ (if list_any is_end_mark (take 1 behind.now) then [] else end_mark ∷ []) }
+{
+    if behind.first() == Some(&END_MARK) {
+        b""
+    } else {
+        &[END_MARK]
+    }
+}
+
+/// What redrawing a file with this picture changes of it. `TooLong` comes where the new file would have more
+/// than 16,777,216 bytes, and no other error does.
+pub fn redrawn_with<G: Screen>(
+    file: &[u8],
+    parts: &Parts<'_>,
+    picture: &Picture<G>,
+) -> Result<Redrawn, Unredrawn>
+    requires length { length file.now ≤ longest_file }
+    requires split { IsSplit file.now parts.now }
+    ensures redrawn { IfOk result (IsRedrawnWith file.now picture.now) }
+    ensures too_long { IfErr result (IsTooLong file.now picture.now) }
+{
+    let form = form_length(picture);
+    let behind = behind_content(file, parts);
+    let mark = missing_mark(behind);
+    let whole = form + mark.len() + behind.len() + RECORD_SIZE;
+    if whole > MAX_FILE {
+        return Err(Unredrawn::TooLong(whole));
+    }
+    Ok(Redrawn {
+        content: Reset {
+            was: parts.content().len() as u32,
+            is: form as u32,
+        },
+        end_mark: if mark.is_empty() { None } else { Some(form) },
+        file_size: Reset {
+            was: parts.sauce().file_size(),
+            is: form as u32,
+        },
+        whole,
+    })
+}
+
+/// Puts a record with this FileSize in the place of its own.
+fn put_resized<W: Write>(out: &mut Outbox<'_, W>, sauce: &[u8], size: u32)
+    requires { length sauce.now ≡ 128 }
+    ensures { Puts W.contents out.old out.new (with_file_size size sauce.now) }
+{
+    out.put(&sauce[..FILE_SIZE]);
+    out.put(&size.to_le_bytes());
+    out.put(&sauce[FILE_SIZE_END..]);
+}
+
+/// Puts the file that is redrawn with this picture, of which `redrawn` says what is changed.
+pub fn put_redrawn_file<W: Write, G: Screen>(
+    out: &mut Outbox<'_, W>,
+    file: &[u8],
+    parts: &Parts<'_>,
+    picture: &Picture<G>,
+    redrawn: &Redrawn,
+)
+    requires split { IsSplit file.now parts.now }
+    requires redrawn { IsRedrawnWith file.now picture.now redrawn.now }
+    ensures { Puts W.contents out.old out.new (redrawn_file file.now picture.now) }
+{
+    let behind = behind_content(file, parts);
+    put_form(out, picture);
+    out.put(missing_mark(behind));
+    out.put(behind);
+    put_resized(out, &file[file.len() - RECORD_SIZE..], redrawn.file_size.is);
+}
