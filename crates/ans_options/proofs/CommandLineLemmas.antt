@@ -18,6 +18,7 @@ use Rattle.clap.specs.declared.parser.matches.SubCommand.{SubCommand}
 use Rattle.clap.specs.Walk.{answers_to, stop_after}
 use Rattle.clap.specs.Simple.{argument_words, built, entered, label_of, names_of, rows_at}
 use Rattle.ans_options.specs.declared.command.Command.TheVariants.{Why, Check, Show, Sauce, Tokens, Needs, Table, Mend}
+use Rattle.ans_options.specs.declared.command.Command.TheVariants.{Redraw}
 use Rattle.ans_options.specs.declared.command.Form.TheVariants.{Terminal}
 use Rattle.ans_options.specs.declared.command.TheConstants.Mends as no_mends
 use Rattle.ans_options.specs.declared.command.TableForm.TheVariants.{Headed}
@@ -117,13 +118,14 @@ command_found words (Some p) e some = let (w, met) = program_met words p e in co
     command_of : (w : List Text) → MetIn p w (built anscheck).subs → IsCommand p
     command_of w (inl why) = (Why, name_met why)
     command_of w (inr (inl mend)) = (Mend no_mends.NONE, name_met mend)
-    command_of w (inr (inr (inl needs))) = (Needs, name_met needs)
-    command_of w (inr (inr (inr (inl check)))) = (Check, name_met check)
-    command_of w (inr (inr (inr (inr (inl show))))) = (Show Terminal, name_met show)
-    command_of w (inr (inr (inr (inr (inr (inl sauce)))))) = (Sauce, name_met sauce)
-    command_of w (inr (inr (inr (inr (inr (inr (inl tokens))))))) = (Tokens, name_met tokens)
-    command_of w (inr (inr (inr (inr (inr (inr (inr (inl table)))))))) = (Table Headed, name_met table)
-    command_of w (inr (inr (inr (inr (inr (inr (inr (inr never)))))))) = absurd never
+    command_of w (inr (inr (inl redraw))) = (Redraw, name_met redraw)
+    command_of w (inr (inr (inr (inl needs)))) = (Needs, name_met needs)
+    command_of w (inr (inr (inr (inr (inl check))))) = (Check, name_met check)
+    command_of w (inr (inr (inr (inr (inr (inl show)))))) = (Show Terminal, name_met show)
+    command_of w (inr (inr (inr (inr (inr (inr (inl sauce))))))) = (Sauce, name_met sauce)
+    command_of w (inr (inr (inr (inr (inr (inr (inr (inl tokens)))))))) = (Tokens, name_met tokens)
+    command_of w (inr (inr (inr (inr (inr (inr (inr (inr (inl table))))))))) = (Table Headed, name_met table)
+    command_of w (inr (inr (inr (inr (inr (inr (inr (inr (inr never))))))))) = absurd never
 
 -- the third of the facts that make a command plain
 no_globals : (groups external globals rest : Bool) → (groups && (not external && (not globals && rest))) ≡ true

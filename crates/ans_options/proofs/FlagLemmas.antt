@@ -15,12 +15,13 @@ use Rattle.ans_options.specs.declared.command.Asked.{Asked}
 use Rattle.ans_options.specs.declared.command.Asked.TheVariants as asked
 use Rattle.ans_options.specs.declared.command.Command.{Command}
 use Rattle.ans_options.specs.declared.command.Command.TheVariants.{Why, Check, Show, Sauce, Tokens, Needs, Table, Mend}
+use Rattle.ans_options.specs.declared.command.Command.TheVariants.{Redraw}
 use Rattle.ans_options.specs.declared.command.Mends.{Mends}
 use Rattle.ans_options.specs.declared.command.Options.{Options}
 use Rattle.ans_options.specs.declared.command.TableForm.{TableForm}
 use Rattle.ans_options.specs.declared.topic.Topic.{Topic}
 use Rattle.ans_options.specs.CommandLine.{AreOptionsOf, AsksAs, AsksFor, IsReadAs, anscheck}
-use Rattle.ans_options.specs.CommandLine.{command_name, mend_options, table_options}
+use Rattle.ans_options.specs.CommandLine.{command_name, mend_options, redraw_options, table_options}
 use Rattle.ans_options.specs.CommandLine.{words_meant}
 use Rattle.ans_options.specs.CommandLine.{holds_flag, named_start, part_flags, start_asked, takes_flags}
 use Rattle.ans_options.proofs.CommandLineLemmas.{MetIn, not_true, program_met}
@@ -122,6 +123,7 @@ none_asked Needs rows e lacks = none_named rows (none_held Needs rows start_flag
 none_asked Why rows e lacks = none_named rows (none_held Why rows start_flags lacks refl)
 none_asked (Table form) rows e lacks = none_named rows (none_held (Table form) rows start_flags lacks refl)
 none_asked (Mend mends) rows e lacks = none_named rows (none_held (Mend mends) rows start_flags lacks refl)
+none_asked Redraw rows e lacks = none_named rows (none_held Redraw rows start_flags lacks refl)
 
 -- what is known without flags
 pub flagless : (words : List Text) (o : Options) (file : Option Text) → AreOptionsOf words o file
@@ -140,6 +142,7 @@ takes_no_cells Needs other = refl
 takes_no_cells Why other = refl
 takes_no_cells (Table form) other = refl
 takes_no_cells (Mend mends) other = refl
+takes_no_cells Redraw other = refl
 
 -- without `check` no cells are asked for
 pub no_cells : (words : List Text) (o : Options) (file : Option Text) → AreOptionsOf words o file
@@ -180,6 +183,17 @@ mend_asked words a mends file asks is =
     let name : Option Text = option_map string_bytes file in
     subst (λ (s : Option (Text × List Row)). IsSomeAnd s (λ sub. AsksFor sub (mend_options mends) name)) (sym m.found)
     (m.asks.0, (m.asks.1, m.asks.3), sym start, rw cells ((λ on. on), (λ on. on)), m.asks.2)
+
+-- where the words ask for a file redrawn, the options of that are theirs
+pub redraw_asked : (words : List Text) (a : Asked) (file : Option (String Global)) → IsReadAs words a
+    → a ≡ asked.Redraw file → AreOptionsOf words redraw_options (option_map string_bytes file)
+redraw_asked words a file asks is =
+    let m = met_by words Redraw (AsksAs (asked.Redraw file)) (λ sub asks. asks.0) (rw (sym is) asks) in
+    let start = none_asked Redraw m.met.1 refl m.lacks in
+    let cells = unheld (codes "cells") m.met.1 (m.lacks (codes "cells") refl) in
+    let name : Option Text = option_map string_bytes file in
+    subst (λ (s : Option (Text × List Row)). IsSomeAnd s (λ sub. AsksFor sub redraw_options name)) (sym m.found)
+    (m.asks.0, tt, sym start, rw cells ((λ on. on), (λ on. on)), m.asks.1)
 
 -- clap reads no topic
 pub no_topic : (words : List Text) (a : Asked) (topic : Topic) → IsReadAs words a → a ≡ asked.Meaning topic → ⊥

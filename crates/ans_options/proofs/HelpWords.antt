@@ -9,6 +9,7 @@ use Rattle.clap.specs.declared.error.ErrorKind.TheVariants.{DisplayHelp, Display
 use Rattle.clap.specs.declared.error.ErrorKind.TheVariants.{InvalidSubcommand, UnknownArgument}
 use Rattle.ans_options.specs.declared.command.Command.{Command}
 use Rattle.ans_options.specs.declared.command.Command.TheVariants.{Why, Check, Show, Sauce, Tokens, Needs, Table, Mend}
+use Rattle.ans_options.specs.declared.command.Command.TheVariants.{Redraw}
 use Rattle.ans_options.specs.CommandLine.{IsNoCommand, command_name, faults_of, is_table}
 use Rattle.ans_options.proofs.MeaningLemmas.{no_command_name}
 
@@ -37,6 +38,7 @@ help_of_command program Sauce = refl
 help_of_command program Tokens = refl
 help_of_command program (Table form) = refl
 help_of_command program (Mend mends) = refl
+help_of_command program Redraw = refl
 
 pub help_of_other : (program name : Text) (more : List Text) → IsNoCommand name
     → faults_of (program ∷ codes "help" ∷ name ∷ more) ≡ UnknownArgument ∷ InvalidSubcommand ∷ []
@@ -54,6 +56,7 @@ help_of_more program word more Sauce one = refl
 help_of_more program word more Tokens one = refl
 help_of_more program word more (Table form) one = absurd (true≢false one)
 help_of_more program word more (Mend mends) one = refl
+help_of_more program word more Redraw one = refl
 
 pub help_of_table_and_more : (program word : Text) (more : List Text)
     → faults_of (program ∷ codes "help" ∷ codes "table" ∷ word ∷ more) ≡ UnknownArgument ∷ InvalidSubcommand ∷ []

@@ -1,5 +1,5 @@
 -- What the words mean, by their form.
-use Rattle.std.proofs.Common.{◌≡◌, ◌≤◌, ◌<◌, false, List, [], ◌∷◌, length, Option, Some, None}
+use Rattle.std.proofs.Common.{◌≡◌, ◌≢◌, ◌≤◌, ◌<◌, false, List, [], ◌∷◌, length, Option, Some, None}
 use Rattle.std.proofs.Common.{arith, codes, refl, slice_index_or}
 use Rattle.std.specs.Prelude.{IfNone, is_some}
 use Rattle.std.specs.Borrow.{Bor}
@@ -9,10 +9,12 @@ use Rattle.std.proofs.lemmas.Slice.Eq.{bytes_eq-Decides}
 use Rattle.clap.specs.Words.{Text}
 use Rattle.ans_options.specs.declared.command.Command.{Command}
 use Rattle.ans_options.specs.declared.command.Command.TheVariants.{Why, Check, Show, Sauce, Tokens, Needs, Table, Mend}
+use Rattle.ans_options.specs.declared.command.Command.TheVariants.{Redraw}
 use Rattle.ans_options.specs.declared.command.Form.TheVariants.{Terminal}
 use Rattle.ans_options.specs.declared.command.TheConstants.Mends as no_mends
 use Rattle.ans_options.specs.declared.command.TableForm.TheVariants.{Headed}
-use Rattle.ans_options.specs.CommandLine.{IsNoCommand, command_names, help_on, is_mend, is_table, words_meant}
+use Rattle.ans_options.specs.CommandLine.{IsNoCommand, command_names, help_on, is_mend, is_redraw, is_table}
+use Rattle.ans_options.specs.CommandLine.{words_meant}
 use Rattle.ans_options.specs.declared.command.Mends.{Mends}
 use Rattle.ans_options.specs.declared.command.TableForm.{TableForm}
 use Rattle.ans_model.specs.Text.Words.{texts_of}
@@ -27,6 +29,7 @@ no_command_name name h =
     rw (
       unequal name (codes "why") (h Why),
       unequal name (codes "mend") (h (Mend no_mends.NONE)),
+      unequal name (codes "redraw") (h Redraw),
       unequal name (codes "needs") (h Needs),
       unequal name (codes "check") (h Check),
       unequal name (codes "show") (h (Show Terminal)),
@@ -66,6 +69,7 @@ no_table Sauce other = refl
 no_table Tokens other = refl
 no_table Needs other = refl
 no_table (Mend mends) other = refl
+no_table Redraw other = refl
 
 -- and what does not mend in any way does not mend
 pub no_mend : (c : Command) → ((mends : Mends) → c ≡ Mend mends → ⊥) → is_mend c ≡ false
@@ -77,3 +81,16 @@ no_mend Sauce other = refl
 no_mend Tokens other = refl
 no_mend Needs other = refl
 no_mend (Table form) other = refl
+no_mend Redraw other = refl
+
+-- and a command other than `redraw` does not redraw
+pub no_redraw : (c : Command) → c ≢ Redraw → is_redraw c ≡ false
+no_redraw Redraw other = absurd (other refl)
+no_redraw Why other = refl
+no_redraw Check other = refl
+no_redraw (Show form) other = refl
+no_redraw Sauce other = refl
+no_redraw Tokens other = refl
+no_redraw Needs other = refl
+no_redraw (Table form) other = refl
+no_redraw (Mend mends) other = refl

@@ -19,6 +19,7 @@ use Rattle.ans_options.specs.CommandLine.{IsNoCommand, command_name, faults_of}
 use Rattle.ans_options.specs.Topics.{topic_name, topic_named, topic_of}
 use Rattle.ans_options.specs.declared.command.Command.{Command}
 use Rattle.ans_options.specs.declared.command.Command.TheVariants.{Why, Check, Show, Sauce, Tokens, Needs, Table, Mend}
+use Rattle.ans_options.specs.declared.command.Command.TheVariants.{Redraw}
 use Rattle.ans_options.specs.declared.topic.Topic.{Topic}
 use Rattle.ans_options.specs.declared.topic.Topic.TheVariants.{Fault, Note}
 use Rattle.ans_options.proofs.CommandLineLemmas.{not_true}
@@ -75,6 +76,7 @@ command_unnamed Sauce = refl
 command_unnamed Tokens = refl
 command_unnamed (Table form) = refl
 command_unnamed (Mend mends) = refl
+command_unnamed Redraw = refl
 
 pub no_topic_of_command : (program : Text) (c : Command)
     → topic_of (program ∷ codes "help" ∷ command_name c ∷ []) ≡ None

@@ -21,6 +21,7 @@ use Rattle.ans_options.specs.declared.command_line.WordsError.{WordsError}
 use Rattle.ans_options.specs.declared.command_line.WordsError.TheVariants as words_error
 use Rattle.ans_options.specs.declared.command.Command.{Command}
 use Rattle.ans_options.specs.declared.command.Command.TheVariants.{Why, Check, Show, Sauce, Tokens, Needs, Table, Mend}
+use Rattle.ans_options.specs.declared.command.Command.TheVariants.{Redraw}
 use Rattle.ans_options.specs.declared.command.TheConstants.Mends as no_mends
 use Rattle.ans_options.specs.declared.command.Mends.{Mends}
 use Rattle.ans_options.specs.declared.command.Form.{Form}
@@ -73,6 +74,7 @@ command_name Sauce = codes "sauce"
 command_name Tokens = codes "tokens"
 command_name (Table form) = codes "table"
 command_name (Mend mends) = codes "mend"
+command_name Redraw = codes "redraw"
 
 -- a command's subcommand: its name, its flags in the order of its help, `[FILE]` or `[FILE]..`, and of `mend` the
 -- options with a number
@@ -96,7 +98,8 @@ command_app command = file_app (command_name command)
 
 -- the commands, in the order of the help
 abbrev pub commands : List Command
-commands = Why ∷ Mend no_mends.NONE ∷ Needs ∷ Check ∷ Show Terminal ∷ Sauce ∷ Tokens ∷ Table Headed ∷ []
+commands =
+    Why ∷ Mend no_mends.NONE ∷ Redraw ∷ Needs ∷ Check ∷ Show Terminal ∷ Sauce ∷ Tokens ∷ Table Headed ∷ []
 
 -- their names
 abbrev pub command_names : List Text
@@ -124,6 +127,11 @@ is_table _ = false
 abbrev pub is_mend : Command → Bool
 is_mend (Mend mends) = true
 is_mend _ = false
+
+-- whether a command writes a file redrawn
+abbrev pub is_redraw : Command → Bool
+is_redraw Redraw = true
+is_redraw _ = false
 
 -- whether a command takes flags that say what is known of the start
 abbrev pub takes_flags : Command → Bool
@@ -285,15 +293,25 @@ AsksForMend sub mends file =
     × (file ≡ first_of (codes "file") sub.1)
     × AreInRange mends
 
--- The subcommand asks for a table of many files, for one file mended, or for another command on one file. No
--- subcommand asks for a meaning.
+-- the options of redrawing: nothing is known, and no cells are asked for
+abbrev pub redraw_options : Options
+redraw_options = record { command = Redraw; start = none_known; cells = false }
+
+-- the subcommand is `redraw`, and its matches hold the file exactly where one is given, with that text
+abbrev pub AsksForRedraw : (Text × List Row) → Option Text → Type 0
+AsksForRedraw sub file = (sub.0 ≡ command_name Redraw) × (file ≡ first_of (codes "file") sub.1)
+
+-- The subcommand asks for a table of many files, for one file mended or redrawn, or for another command on one file.
+-- No subcommand asks for a meaning.
 abbrev pub AsksAs : Asked → (Text × List Row) → Type 0
 AsksAs (asked.One options file) sub =
     AsksFor sub options (option_map string_bytes file)
     × (is_table options.command ≡ false)
     × (is_mend options.command ≡ false)
+    × (is_redraw options.command ≡ false)
 AsksAs (asked.Table form names) sub = AsksForTable sub form (map string_bytes names.items)
 AsksAs (asked.Mend mends file) sub = AsksForMend sub mends (option_map string_bytes file)
+AsksAs (asked.Redraw file) sub = AsksForRedraw sub (option_map string_bytes file)
 AsksAs (asked.Meaning topic) sub = ⊥
 
 -- clap finds a subcommand in what the words mean, which asks for this

@@ -1,7 +1,7 @@
 //! What the program is asked to do.
 
 ghost use Rattle.std.specs.Prelude.{◌≡◌};
-ghost use Rattle.ans_options.specs.CommandLine.{mend_options, table_options};
+ghost use Rattle.ans_options.specs.CommandLine.{mend_options, redraw_options, table_options};
 
 use crate::topic::Topic;
 use ans_model::start::Start;
@@ -81,6 +81,8 @@ pub enum Command {
     Table(TableForm),
     /// Writes the file mended, so that it passes from every start.
     Mend(Mends),
+    /// Writes its picture anew, in the plainest form, so that it shows the same everywhere.
+    Redraw,
 }
 
 /// What the command line asks for.
@@ -115,6 +117,17 @@ impl Options {
             cells: false,
         }
     }
+
+    /// The options of redrawing. It reads neither what is known of the start nor whether cells are told.
+    pub(crate) fn of_redraw() -> Options
+        ensures { result ≡ redraw_options }
+    {
+        Options {
+            command: Command::Redraw,
+            start: Start::ANY,
+            cells: false,
+        }
+    }
 }
 
 /// What the words ask for.
@@ -126,6 +139,8 @@ pub enum Asked {
     Table(TableForm, Vec<String>),
     /// A file mended, and the name of its input as it is given, `-` too.
     Mend(Mends, Option<String>),
+    /// A file redrawn, and the name of its input as it is given, `-` too.
+    Redraw(Option<String>),
     /// What a fault or a note means, and how it is mended.
     Meaning(Topic),
 }

@@ -11,6 +11,7 @@ ghost use Rattle.ans_options.specs.CommandLine.{with_flags, with_subcommands};
 ghost use Rattle.ans_options.specs.CommandLine.{words_meant, anscheck, command_app, command_name, file_app};
 ghost use Rattle.ans_options.specs.CommandLine.{asks_for_cleared, holds_flag};
 ghost use Rattle.ans_options.specs.CommandLine.{AreInRange, HasNumberUpTo, HasNumbersOfMend, is_mend, mends_asked};
+ghost use Rattle.ans_options.specs.CommandLine.{is_redraw};
 ghost use Rattle.ans_options.specs.CommandLine.{number_asked, number_rule};
 ghost use Rattle.ans_model.specs.Text.Words.{texts_of};
 ghost use Rattle.ans_options.specs.CommandLine.{AsksAs, IsAskedBy, IsReadAs, files_of, is_table, table_form_asked};
@@ -115,6 +116,19 @@ Exit status:
   1  No file could be mended so; standard error says why
   2  There is no answer; standard error says why";
 
+/// The last lines of the help of `redraw`.
+const REDRAW_END: &str = "\
+The redrawn file goes to standard output: give it another name, as in
+  anscheck redraw drawing.ans > redrawn.ans
+since the shell empties a file before it is read. The picture is the one that
+the drawing shows in the end on a cleared screen, so an animation becomes
+still. Of the record only the file size changes.
+
+Exit status:
+  0  A file was written, or help was asked for
+  1  The drawing is refused from the cleared screen; standard error says why
+  2  There is no answer; standard error says why";
+
 /// How the program is used, where words name no command. A drawing's name alone is such a word.
 const PROGRAM_USAGE: &str = "\
 anscheck <COMMAND>
@@ -127,6 +141,7 @@ const PROGRAM_END: &str = with_exit_statuses!(
 Examples:
   anscheck why drawing.ans
   anscheck mend drawing.ans > mended.ans
+  anscheck redraw drawing.ans > redrawn.ans
   anscheck check --cleared drawing.ans
   anscheck show drawing.ans
   anscheck help check
@@ -141,6 +156,8 @@ const WHY: &str = "Say why a drawing is refused, what it relies on, and how to m
 
 const MEND: &str = "Write a drawing mended, so that it shows the same everywhere";
 
+const REDRAW: &str = "Write the picture anew, so that it shows the same on every player";
+
 const NEEDS: &str = "Print what a drawing relies on: screen, cursor, saved, colours, wrap";
 
 const CHECK: &str = "Check that a file always shows the same picture, and print it";
@@ -154,9 +171,10 @@ const TOKENS: &str = "Print the bytes and the escape sequences of a file, one a 
 const TABLE: &str = "Print one row for each file: its verdict, its needs, its record";
 
 /// The commands, in the order of the program's help.
-const COMMANDS: [Command; 8] = [
+const COMMANDS: [Command; 9] = [
     Command::Why,
     Command::Mend(Mends::NONE),
+    Command::Redraw,
     Command::Needs,
     Command::Check,
     Command::Show(Form::Terminal),
@@ -329,6 +347,7 @@ fn subcommand<'a>(alloc: Global, command: Command) -> Result<clap::Command<'a>, 
     match command {
         Command::Why => file_command(alloc, "why", WHY, NEEDS_END),
         Command::Mend(_) => mend_command(alloc),
+        Command::Redraw => file_command(alloc, "redraw", REDRAW, REDRAW_END),
         Command::Needs => file_command(alloc, "needs", NEEDS, NEEDS_END),
         Command::Check => check_command(alloc),
         Command::Show(_) => show_command(alloc),
@@ -377,6 +396,7 @@ fn command_named(name: &str) -> Option<Command>
     match name {
         "why" => Some(Command::Why),
         "mend" => Some(Command::Mend(Mends::NONE)),
+        "redraw" => Some(Command::Redraw),
         "needs" => Some(Command::Needs),
         "check" => Some(Command::Check),
         "show" => Some(Command::Show(Form::Terminal)),
@@ -440,6 +460,7 @@ fn in_form_asked(command: Command, matches: &ArgMatches<'_>) -> Command
     ensures name { command_name result ≡ command_name command }
     ensures table { is_table result ≡ is_table command }
     ensures mend { is_mend result ≡ is_mend command }
+    ensures redraw { is_redraw result ≡ is_redraw command }
     ensures form { IsInFormAsked result (rows_of (found_of matches.now)) }
 {
     match command {
@@ -505,6 +526,7 @@ fn options_of(command: Command, matches: &ArgMatches<'_>) -> Options
     ensures name { command_name result.command ≡ command_name command }
     ensures table { is_table result.command ≡ is_table command }
     ensures mend { is_mend result.command ≡ is_mend command }
+    ensures redraw { is_redraw result.command ≡ is_redraw command }
     ensures form { IsInFormAsked result.command (rows_of (found_of matches.now)) }
     ensures start { result.start ≡ start_asked result.command (rows_of (found_of matches.now)) }
     ensures cells { IsTrue result.cells
@@ -558,10 +580,11 @@ fn read_matches(alloc: Global, matches: &ArgMatches<'_>) -> Result<Asked, WordsE
         return Ok(Asked::Table(table_form_asked(found), names));
     }
     let file = file_of(alloc, found)?;
-    if let Command::Mend(_) = command {
-        return Ok(Asked::Mend(mends_asked(found), file));
+    match command {
+        Command::Mend(_) => Ok(Asked::Mend(mends_asked(found), file)),
+        Command::Redraw => Ok(Asked::Redraw(file)),
+        _ => Ok(Asked::One(options_of(command, found), file)),
     }
-    Ok(Asked::One(options_of(command, found), file))
 }
 
 fn words_for_help<'a>(
@@ -620,8 +643,9 @@ fn read_words(alloc: Global, words: &[&str]) -> Result<Asked, WordsError>
 }
 
 /// Reads the program's words, its own name first: `anscheck why [FILE]`, `anscheck mend` with its flags and
-/// `[FILE]`, `anscheck needs [FILE]`, `anscheck check` or `anscheck show` with its flags and `[FILE]`,
-/// `anscheck sauce [FILE]`, `anscheck tokens [FILE]`, or `anscheck table` with its flags and `[FILE]..`.
+/// `[FILE]`, `anscheck redraw [FILE]`, `anscheck needs [FILE]`, `anscheck check` or `anscheck show` with its
+/// flags and `[FILE]`, `anscheck sauce [FILE]`, `anscheck tokens [FILE]`, or `anscheck table` with its flags
+/// and `[FILE]..`.
 /// A part of the start is known where its flag is given, as `--known-cursor`, and all are where `--cleared`
 /// is. With `show` all are known, too, where neither such a flag nor `--any` is given; with `check` `--any`
 /// changes nothing. Cells are asked for where `--cells` is given. A picture comes as a page where `--html`
@@ -666,6 +690,7 @@ pub fn options(alloc: Global, words: &[&str]) -> Result<(Options, Option<String>
         Asked::One(options, file) => Ok((options, file)),
         Asked::Table(form, _) => Ok((Options::of_table(form), None)),
         Asked::Mend(mends, file) => Ok((Options::of_mend(mends), file)),
+        Asked::Redraw(file) => Ok((Options::of_redraw(), file)),
         Asked::Meaning(_) => unreachable!(),
     }
 }

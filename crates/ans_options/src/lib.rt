@@ -1,9 +1,9 @@
 //! The command line, and what its words ask for.
 //!
 //! [`asked`] has `clap` read what the words mean, and returns what they ask for: the [`Options`] and the
-//! name of one file, the form of a table and the names of many, or the [`Mends`] and the name of a file to
-//! be mended; or a [`WordsError`]. Before that it sees whether they ask for help on a [`Topic`], a fault or a
-//! note by its name, which `clap` knows nothing of.
+//! name of one file, the form of a table and the names of many, the [`Mends`] and the name of a file to be
+//! mended, or the name of a file to be redrawn; or a [`WordsError`]. Before that it sees whether they ask for
+//! help on a [`Topic`], a fault or a note by its name, which `clap` knows nothing of.
 //! [`options`] gives the options alone with the one name. Which words ask for what stands in
 //! `specs/CommandLine.antt`, the topics in `specs/Topics.antt`; there `help` stands for `--help`, and
 //! `help COMMAND` for `COMMAND --help`. That the command line is of `clap`'s simple kind, and no argument has

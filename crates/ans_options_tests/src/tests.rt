@@ -17,6 +17,7 @@ macro_rules! words {
 mod command_line;
 mod faults;
 mod mends;
+mod redraws;
 mod tables;
 mod texts;
 mod topics;

@@ -2,7 +2,7 @@
 # /usr/share/bash-completion/completions/anscheck.
 _anscheck() {
     local word=${COMP_WORDS[COMP_CWORD]} command=${COMP_WORDS[1]} before=${COMP_WORDS[COMP_CWORD - 1]}
-    local commands="why mend needs check show sauce tokens table"
+    local commands="why mend redraw needs check show sauce tokens table"
     COMPREPLY=()
     if [ "$COMP_CWORD" -eq 1 ]; then
         mapfile -t COMPREPLY < <(compgen -W "$commands help --help --version" -- "$word")

@@ -29,11 +29,12 @@ fn expect_kind(
 pub(super) type Row = (&'static [&'static str], ErrorKind);
 
 /// Words that ask for help or for the version, and which.
-static REQUESTS: [Row; 21] = words! {
+static REQUESTS: [Row; 23] = words! {
     "--help" => DisplayHelp;
     "-h" => DisplayHelp;
     "help" => DisplayHelp;
     "mend" "--help" => DisplayHelp;
+    "redraw" "--help" => DisplayHelp;
     "needs" "--help" => DisplayHelp;
     "check" "--help" => DisplayHelp;
     "check" "-h" => DisplayHelp;
@@ -43,6 +44,7 @@ static REQUESTS: [Row; 21] = words! {
     "tokens" "--help" => DisplayHelp;
     "help" "why" => DisplayHelp;
     "help" "mend" => DisplayHelp;
+    "help" "redraw" => DisplayHelp;
     "help" "needs" => DisplayHelp;
     "help" "check" => DisplayHelp;
     "help" "show" => DisplayHelp;
@@ -61,7 +63,7 @@ static ALONE: [Row; 3] = rows! {
 };
 
 /// Mistakes, and of which kind they are.
-static MISTAKES: [Row; 29] = words! {
+static MISTAKES: [Row; 35] = words! {
     "other" => InvalidSubcommand;
     "need" => InvalidSubcommand;
     "helps" => InvalidSubcommand;
@@ -87,6 +89,12 @@ static MISTAKES: [Row; 29] = words! {
     "sauce" "--cells" => UnknownArgument;
     "tokens" "--cells" => UnknownArgument;
     "why" "--cleared" => UnknownArgument;
+    "redra" => InvalidSubcommand;
+    "redraw" "--cleared" => UnknownArgument;
+    "redraw" "--cells" => UnknownArgument;
+    "redraw" "--take-out" => UnknownArgument;
+    "redraw" "--html" => UnknownArgument;
+    "redraw" "f" "g" => UnknownArgument;
     "needs" "--cells" => UnknownArgument;
     "needs" "--cleared" => UnknownArgument;
     "needs" "--known-wrap" => UnknownArgument;
@@ -100,7 +108,7 @@ macro_rules! after_help {
 }
 
 /// What may not follow `help`, and of which kind that mistake is. To `clap` the name of a fault is one.
-static HELP_MISTAKES: [Row; 17] = after_help! {
+static HELP_MISTAKES: [Row; 18] = after_help! {
     "nonsense" => InvalidSubcommand;
     "need" => InvalidSubcommand;
     "help" => InvalidSubcommand;
@@ -113,6 +121,7 @@ static HELP_MISTAKES: [Row; 17] = after_help! {
     "check" "more" => UnknownArgument;
     "check" "sauce" => UnknownArgument;
     "mend" "--lines" => UnknownArgument;
+    "redraw" "more" => UnknownArgument;
     "needs" "--help" => UnknownArgument;
     "F20" => InvalidSubcommand;
     "n3" => InvalidSubcommand;

@@ -59,7 +59,7 @@ static MENDED: [(&[&str], Mends, Option<&str>); 26] = words! {
 };
 
 /// Words that are wrong, and the kind of the mistake.
-static FAULTS: [Row; 36] = words! {
+static FAULTS: [Row; 37] = words! {
     "mend" "--lines" "0" => ValueValidation;
     "mend" "--lines" "8193" => ValueValidation;
     "mend" "--lines" "65537" => ValueValidation;
@@ -93,6 +93,7 @@ static FAULTS: [Row; 36] = words! {
     "mend" "--cells" => UnknownArgument;
     "mend" "--known-wrap" => UnknownArgument;
     "why" "--take-out" => UnknownArgument;
+    "redraw" "--width" "80" => UnknownArgument;
     "check" "--width" "80" => UnknownArgument;
     "show" "--lines=25" => UnknownArgument;
     "table" "--least-lines" => UnknownArgument;
@@ -105,7 +106,7 @@ fn mends_of(
 ) -> Result<(Mends, Option<String>), AllocError> {
     match asked(rt.alloc(), words) {
         Ok(Asked::Mend(mends, file)) => Ok((mends, file)),
-        Ok(Asked::One(_, _) | Asked::Table(_, _) | Asked::Meaning(_)) => {
+        Ok(Asked::One(_, _) | Asked::Table(_, _) | Asked::Redraw(_) | Asked::Meaning(_)) => {
             panic!(rt; "nothing to mend")
         }
         Err(WordsError::Memory) => Err(AllocError),

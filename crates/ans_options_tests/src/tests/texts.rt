@@ -83,6 +83,7 @@ const PROGRAM_HELP: &str = help!(
     Commands:\n\
     \x20 why     Say why a drawing is refused, what it relies on, and how to mend it\n\
     \x20 mend    Write a drawing mended, so that it shows the same everywhere\n\
+    \x20 redraw  Write the picture anew, so that it shows the same on every player\n\
     \x20 needs   Print what a drawing relies on: screen, cursor, saved, colours, wrap\n\
     \x20 check   Check that a file always shows the same picture, and print it\n\
     \x20 show    Show the picture in its colours, for a terminal or as a page\n\
@@ -97,6 +98,7 @@ const PROGRAM_HELP: &str = help!(
     Examples:\n\
     \x20 anscheck why drawing.ans\n\
     \x20 anscheck mend drawing.ans > mended.ans\n\
+    \x20 anscheck redraw drawing.ans > redrawn.ans\n\
     \x20 anscheck check --cleared drawing.ans\n\
     \x20 anscheck show drawing.ans\n\
     \x20 anscheck help check\n\
@@ -199,10 +201,32 @@ const MEND_HELP: &str = "\
     \x20 1  No file could be mended so; standard error says why\n\
     \x20 2  There is no answer; standard error says why\n";
 
+const REDRAW_HELP: &str = "\
+    Write the picture anew, so that it shows the same on every player\n\
+    \n\
+    Usage: anscheck redraw [FILE]\n\
+    \n\
+    Arguments:\n\
+    \x20 [FILE]  The file to read; - or none is standard input\n\
+    \n\
+    Options:\n\
+    \x20 -h, --help  Print help\n\
+    \n\
+    The redrawn file goes to standard output: give it another name, as in\n\
+    \x20 anscheck redraw drawing.ans > redrawn.ans\n\
+    since the shell empties a file before it is read. The picture is the one that\n\
+    the drawing shows in the end on a cleared screen, so an animation becomes\n\
+    still. Of the record only the file size changes.\n\
+    \n\
+    Exit status:\n\
+    \x20 0  A file was written, or help was asked for\n\
+    \x20 1  The drawing is refused from the cleared screen; standard error says why\n\
+    \x20 2  There is no answer; standard error says why\n";
+
 const VERSION: &str = "anscheck 0.1.0 (rattle logic dac8208d650f15bf)\n";
 
 /// Words that are rejected, and the text.
-static REJECTED: [(&[&str], &str); 13] = words! {
+static REJECTED: [(&[&str], &str); 15] = words! {
     "check" "--bogus" => mistake!(
         "unexpected argument '--bogus' found\n\n  tip: to pass '--bogus' as a value, use '-- --bogus'",
         "check [OPTIONS] [FILE]"
@@ -210,7 +234,7 @@ static REJECTED: [(&[&str], &str); 13] = words! {
     "check" "f" "g" => mistake!("unexpected argument 'g' found", "check [OPTIONS] [FILE]");
     => no_command!(
         "'anscheck' requires a subcommand but one was not provided\n\
-        \x20 [subcommands: why, mend, needs, check, show, sauce, tokens, table]"
+        \x20 [subcommands: why, mend, redraw, needs, check, show, sauce, tokens, table]"
     );
     "drawing.ans" => no_command!("unrecognized subcommand 'drawing.ans'");
     "help" "nonsense" => no_command!("unrecognized subcommand 'nonsense'");
@@ -221,6 +245,8 @@ static REJECTED: [(&[&str], &str); 13] = words! {
     "help" "--cleared" => no_command!("unrecognized subcommand '--cleared'");
     "help" "check" "more" => mistake!("unexpected argument 'more' found", "check [OPTIONS] [FILE]");
     "help" "mend" "more" => mistake!("unexpected argument 'more' found", "mend [OPTIONS] [FILE]");
+    "help" "redraw" "more" => mistake!("unexpected argument 'more' found", "redraw [FILE]");
+    "redraw" "f" "g" => mistake!("unexpected argument 'g' found", "redraw [FILE]");
     "mend" "--lines" "8193" => no_number!("invalid value '8193' for '--lines <N>': 8193 is not in 1..=8192");
     "mend" "--width" "x" => no_number!("invalid value 'x' for '--width <N>': invalid digit found in string");
     "mend" "--lines" => no_number!("a value is required for '--lines <N>' but none was supplied");
@@ -253,7 +279,11 @@ fn help_has_its_texts(rt: HostRuntime) -> Result<(), AllocError> {
     for word in ["--help", "-h", "help"] {
         expect_help(&rt, &["anscheck", word], PROGRAM_HELP)?;
     }
-    for (command, text) in [("table", TABLE_HELP), ("mend", MEND_HELP)] {
+    for (command, text) in [
+        ("table", TABLE_HELP),
+        ("mend", MEND_HELP),
+        ("redraw", REDRAW_HELP),
+    ] {
         expect_help(&rt, &["anscheck", command, "--help"], text)?;
         expect_help(&rt, &["anscheck", "help", command], text)?;
     }

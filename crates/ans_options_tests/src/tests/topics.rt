@@ -7,7 +7,7 @@ use std::alloc::AllocError;
 use std::process::Abort;
 
 /// Words that ask for no topic, whatever `clap` makes of them.
-static OTHERS: [&[&str]; 25] = [
+static OTHERS: [&[&str]; 26] = [
     &[],
     &["anscheck"],
     &["anscheck", "F20"],
@@ -33,13 +33,16 @@ static OTHERS: [&[&str]; 25] = [
     &["anscheck", "--help", "F20"],
     &["anscheck", "why", "F20"],
     &["anscheck", "help", "mend"],
+    &["anscheck", "help", "redraw"],
 ];
 
 /// The topic that words ask for, if any. It fails where memory runs out.
 fn topic_asked(rt: &impl AllocGlobal, words: &[&str]) -> Result<Option<Topic>, AllocError> {
     match asked(rt.alloc(), words) {
         Ok(Asked::Meaning(topic)) => Ok(Some(topic)),
-        Ok(Asked::One(_, _) | Asked::Table(_, _) | Asked::Mend(_, _)) => Ok(None),
+        Ok(Asked::One(_, _) | Asked::Table(_, _) | Asked::Mend(_, _) | Asked::Redraw(_)) => Ok(
+            None,
+        ),
         Err(WordsError::Memory) => Err(AllocError),
         Err(WordsError::Clap(error)) => {
             if error.kind() == OutOfMemory {

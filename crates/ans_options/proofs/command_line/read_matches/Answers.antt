@@ -2,9 +2,9 @@ use Rattle.std.proofs.Common.{◌∙◌, rules, subst, sym, List, Option}
 use Rattle.std.specs.Prelude.{IsSomeAnd}
 use Rattle.clap.specs.Words.{Row, Text, found_of, rows_of}
 use Rattle.ans_options.specs.CommandLine.{AsksAs, HasNumbersOfMend, IsCommand}
-use Rattle.ans_options.specs.declared.command.Asked.TheVariants.{Mend, One, Table}
+use Rattle.ans_options.specs.declared.command.Asked.TheVariants.{Mend, One, Redraw, Table}
 use Rattle.ans_options.proofs.CommandLineLemmas.{rows_met}
-use Rattle.ans_options.proofs.MeaningLemmas.{no_mend, no_table}
+use Rattle.ans_options.proofs.MeaningLemmas.{no_mend, no_redraw, no_table}
 use Rattle.ans_options.proofs.command_line.read_matches.Goals as goal
 
 pub unreachable-requires-in_default-command_named : goal.unreachable-requires-in_default-command_named
@@ -42,8 +42,15 @@ returns-in-Table-clause-ok c =
     (sym met)
     (search rules, c.table_form_asked.ensures, c.in_ok-names.ensures.ok)
 
-pub returns-clause-ok : goal.returns-clause-ok
-returns-clause-ok c =
+pub returns-in-Redraw-clause-ok : goal.returns-in-Redraw-clause-ok
+returns-in-Redraw-clause-ok c =
+    let met = rows_met c.args.matches.now c.in-Some.name.now (rows_of (found_of c.in-Some.found.now))
+    c.in-Some.ensures.name c.in-Some.ensures.rows in
+    subst (λ (s : Option (Text × List Row)). IsSomeAnd s (AsksAs (Redraw c.in_ok-file.file))) (sym met)
+    (search rules, c.in_ok-file.ensures.ok)
+
+pub returns-in_default-command-2-clause-ok : goal.returns-in_default-command-2-clause-ok
+returns-in_default-command-2-clause-ok c =
     let met = rows_met c.args.matches.now c.in-Some.name.now (rows_of (found_of c.in-Some.found.now))
     c.in-Some.ensures.name c.in-Some.ensures.rows in
     subst (λ (s : Option (Text × List Row)). IsSomeAnd s (AsksAs (One c.options_of.result c.in_ok-file.file)))
@@ -57,4 +64,5 @@ returns-clause-ok c =
       ),
       c.options_of.ensures.table ∙ no_table _ c.in_default-command.not-Table,
       c.options_of.ensures.mend ∙ no_mend _ c.in_default-command-2.not-Mend,
+      c.options_of.ensures.redraw ∙ no_redraw _ c.in_default-command-2.not-Redraw,
     )

@@ -4,6 +4,7 @@ use Rattle.clap.specs.Words.{App, app_of, with_subcommand}
 use Rattle.clap.proofs.SimpleLemmas.{plain_fields}
 use Rattle.ans_options.specs.declared.command.Command.{Command}
 use Rattle.ans_options.specs.declared.command.Command.TheVariants.{Why, Check, Show, Sauce, Tokens, Needs, Table, Mend}
+use Rattle.ans_options.specs.declared.command.Command.TheVariants.{Redraw}
 use Rattle.ans_options.specs.CommandLine.{command_app, with_subcommands}
 use Rattle.ans_options.proofs.command_line.with_subcommands.Goals as goal
 
@@ -17,6 +18,7 @@ plain_command Sauce = refl
 plain_command Tokens = refl
 plain_command (Table form) = refl
 plain_command (Mend mends) = refl
+plain_command Redraw = refl
 
 pub loop-command-preserved : goal.loop-command-preserved
 loop-command-preserved c =
