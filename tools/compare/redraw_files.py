@@ -3,26 +3,28 @@
 
 Many contents grow piece by piece: text, blanks, colours, line ends, tabs, moves, places, clears, erased rows, saves,
 and wrap on and off; a piece is kept where the content passes with it. Others print a picture cell by cell, so that
-runs of blanks and rows with all attributes come as no drawing has them. The sizes are those at which something
-changes: one column, one row, 80 columns, about 255, 510 and 1024 columns, and many rows. Some contents get mistakes,
-and what stands around them is as `mend_files.py` makes it; some files are of that module altogether.
+runs of blanks and rows with all attributes come as no drawing has them; or they are in their plainest form already,
+mostly with a piece put in. The sizes are those at which something changes: one column, one row, 80 columns, about 255,
+510 and 1024 columns, and many rows. Some contents get mistakes, and what stands around them is as `mend_files.py`
+makes it; some files are of that module altogether.
 """
 import copy
+import itertools
 import sys
 
 sys.dont_write_bytecode = True
 
-from mend_files import a_drawing, a_mend_file, a_tail, around, with_mistakes
+from mend_files import a_drawing, a_mend_file, a_tail, around, put_in, with_mistakes
 from pens import MOST_LINES, Pen
-from plain_form import BLANK, sequence, what_comes
+from plain_form import BLANK, PlainForm, sequence, what_comes
 from second_machine import CONTROLS, play, read
 from second_players import a_good_content
 
 GLYPHS = [byte for byte in range(0x100) if byte not in CONTROLS and byte not in (0x1A, 0x1B)]
 # Columns and lines from here to there, and how often.
 SIZES = [
-    ((1, 5), (1, 5), 45), ((1, 1), (1, 60), 8), ((2, 20), (1, 8), 30), ((78, 82), (1, 6), 5), ((80, 80), (20, 60), 2),
-    ((252, 262), (1, 3), 4), ((508, 520), (1, 3), 3), ((1020, 1024), (1, 3), 2), ((1, 4), (100, 500), 1),
+    ((1, 5), (1, 5), 40), ((1, 1), (1, 60), 7), ((2, 20), (1, 8), 28), ((78, 82), (1, 6), 8), ((80, 80), (20, 60), 2),
+    ((252, 262), (1, 3), 5), ((508, 520), (1, 3), 4), ((1020, 1024), (1, 3), 4), ((1, 4), (100, 500), 1),
     ((1, 2), (MOST_LINES, MOST_LINES), 0.05),
 ]
 COLOURS = [0, 0, 1, 5, 4, 7, 8, 2, 38, *range(30, 38), *range(40, 48)]
@@ -109,23 +111,34 @@ def a_grown_content(chance, columns, lines, glyphs=GLYPHS):
 
 
 def some_lengths(chance, columns, count):
-    """How long runs may be: a few cells, or about as long as a row, as what one sequence skips, or as all."""
+    """How long runs may be: a few cells, or about as long as a row, as what one sequence skips or two, or as all."""
+    far = [1, 3, 5, *range(252, 262), *range(508, 517), 765]
+    if columns > 255 and chance.random() < 0.5:
+        return far
     return chance.choice([
-        [1, 1, 2, 3], [1, 2, 3, 4, 5, 6, 7], [1, 4, columns, chance.randint(1, columns)], [1, 5, *range(252, 262)],
+        [1, 1, 2, 3], [1, 2, 3, 4, 5, 6, 7], [1, 4, columns, chance.randint(1, columns)], far,
         [1, chance.randint(1, count), count],
     ])
 
 
+def some_attributes(chance):
+    """A few, with more or fewer of 07h; or many, or those that are bright and blink."""
+    kind = chance.random()
+    if kind < 0.7:
+        return [0x07] * chance.choice([0, 1, 4]) + chance.choices(range(0x100), k=chance.choice([1, 2, 4, 16]))
+    return list(range(0x100)) if kind < 0.9 else [0x8F, 0x0F, *(attribute | 0x88 for attribute in range(0x80))]
+
+
 def some_cells(chance, columns, count, glyphs):
-    """So many cells, in runs of blanks and of characters, each run in an attribute of a few or of many."""
-    attributes = [0x07] * chance.choice([0, 1, 4]) + chance.choices(range(0x100), k=chance.choice([1, 2, 4, 16, 64]))
-    lengths, are_blank, cells = some_lengths(chance, columns, count), chance.choice([0.2, 0.5, 0.8]), []
+    """So many cells, in runs of blanks and of characters, each run in one attribute."""
+    attributes, lengths = some_attributes(chance), some_lengths(chance, columns, count)
+    are_blank, cells = chance.choice([0, 0.2, 0.5, 0.8]), []
     while len(cells) < count:
         length = chance.choice(lengths)
         if chance.random() < are_blank:
             cells += [BLANK] * length
         else:
-            attribute = chance.choice(attributes)
+            attribute, length = chance.choice(attributes), chance.choice([1, length])
             cells += [(byte, attribute) for byte in some_glyphs(chance, length, glyphs)]
     return cells[:count]
 
@@ -145,6 +158,19 @@ def a_picture_content(chance, columns, lines, glyphs=GLYPHS):
     return printed(some_cells(chance, columns, columns * lines, glyphs))
 
 
+def a_chart(glyphs):
+    """All attributes, and all of these characters."""
+    return printed(list(zip(itertools.cycle(glyphs), range(0x100))) + [(byte, 0x1E) for byte in glyphs])
+
+
+def a_plain_content(chance, columns, lines):
+    """The form of a picture, mostly with a piece put in that may change nothing."""
+    cells = some_cells(chance, columns, columns * lines, GLYPHS)
+    content = PlainForm([cells[at:at + columns] for at in range(0, len(cells), columns)]).content()
+    some = [b"\x1b[0m", b"\x1b[m", b"\x1b[1m", b"\x1b[C", b"\x1b[0C", b" ", b"\r", b"\r\n", b"\x07", b"\x1b[s", b"\x1b[K"]
+    return content if chance.random() < 0.3 else put_in(chance, content, chance.choice(some))
+
+
 def a_content(chance, columns, lines, glyphs=GLYPHS):
     """One that passes from the cleared start, with these characters and blanks."""
     make = a_grown_content if columns * lines > 5000 or chance.random() < 0.55 else a_picture_content
@@ -157,8 +183,10 @@ def a_content(chance, columns, lines, glyphs=GLYPHS):
 def some_content(chance, columns, lines):
     """One that passes, or one as others are tried on."""
     kind = chance.random()
-    if kind < 0.8:
+    if kind < 0.75:
         return a_content(chance, columns, lines)
+    if kind < 0.8:
+        return a_plain_content(chance, columns, lines)
     few_columns, few_lines = min(columns, 20), min(lines, 6)
     return a_drawing(chance, few_columns) if kind < 0.9 else a_good_content(chance, few_columns, few_lines)
 

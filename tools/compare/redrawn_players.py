@@ -34,7 +34,7 @@ from plain_form import BACKGROUND, BLANK, BLINK, BRIGHT, FOREGROUND, PlainForm
 from player_drawings import COLUMNS, LINES, a_drawing_of, other_text
 from player_screens import ROWS
 from players import Play, play_without_kinds, present_players
-from redraw_files import GLYPHS, a_content
+from redraw_files import GLYPHS, a_chart, a_content
 
 TALL = 40
 OF_TERMINALS = [byte for byte in range(0x20, 0x100) if byte != 0x7F]
@@ -92,8 +92,11 @@ def a_play(chance, program, drawing):
 
 
 def some_plays(chance, program, number, glyphs):
-    return [a_play(chance, program, a_drawing(chance, chance.choice([LINES, chance.randint(1, LINES)]), glyphs))
-            for _ in range(number)]
+    """A chart of all attributes and characters, and random drawings."""
+    drawings = [a_drawing_of("chart", COLUMNS, LINES, a_chart(glyphs))]
+    while len(drawings) < number:
+        drawings.append(a_drawing(chance, chance.choice([LINES, chance.randint(1, LINES)]), glyphs))
+    return [a_play(chance, program, drawing) for drawing in drawings]
 
 
 def plays_of(player, seed, program, number):

@@ -152,7 +152,7 @@ def differences(program, file, found, chance):
 def what_it_is(file, found):
     """What a file is counted as."""
     if isinstance(found, str):
-        return ["refused " + found.split()[2] if found.startswith("at ") else found]
+        return ["refused " + (found.split()[2] if found.startswith("at ") else found)]
     record = record_of(file)
     before, after = [len(body_of(one, record).partition(b"\x1a")[0]) for one in (file, found.file)]
     lengths = "longer" if after > before else "shorter" if after < before else "as long"
