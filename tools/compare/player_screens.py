@@ -145,7 +145,7 @@ class Tmux(Told):
                 pane.tmux("resize-window", "-x", str(columns), "-y", str(rows))
                 for content in contents:
                     pane.play(b"\x1bc" + utf8(content))
-                    yield as_bytes(told_cells(pane.rows()))
+                    yield as_bytes(told_cells(pane.rows(rows)))
             finally:
                 pane.close()
 

@@ -411,11 +411,15 @@ def words_of(asked):
     return words + (["--lines", str(asked.lines)] if asked.lines else [])
 
 
-def printed_of(program, asked, file):
+def written_by(words, file):
     """The status, standard output, and the lines of standard error, or the first where nothing is written."""
-    run = subprocess.run([program, "mend", *words_of(asked)], input=file, capture_output=True)
+    run = subprocess.run(words, input=file, capture_output=True)
     lines = run.stderr.decode(errors="replace").splitlines()
     return run.returncode, run.stdout, lines if run.returncode == 0 else lines[:1]
+
+
+def printed_of(program, asked, file):
+    return written_by([program, "mend", *words_of(asked)], file)
 
 
 def shown_bytes(text):

@@ -122,9 +122,9 @@ class Pane:
             time.sleep(0.005)
         sys.exit(f"tmux did not play {path}")
 
-    def rows(self):
-        """The rows as tmux tells them."""
-        return self.tmux("capture-pane", "-e", "-N", "-p").split("\n")[:LINES]
+    def rows(self, count=LINES):
+        """So many rows as tmux tells them."""
+        return self.tmux("capture-pane", "-e", "-N", "-p").split("\n")[:count]
 
     def close(self):
         self.tmux("kill-server")
