@@ -1,1 +1,1 @@
--- The proofs of redrawn files.
+pub mod NewFiles

@@ -1,7 +1,7 @@
 //! The file that is put in the place of another.
 
 ghost use Rattle.std.specs.Prelude.{◌≡◌, ◌-◌, ◌≤◌, ◌++◌, ◌+◌, [], ◌∷◌, length, take, drop, IfOk, IfErr};
-ghost use Rattle.std.specs.Prelude.{if◌then◌else◌};
+ghost use Rattle.std.specs.Prelude.{if◌then◌else◌, ◌==◌, None, Some};
 ghost use Rattle.std.specs.List.{list_any};
 ghost use Rattle.ans_model.specs.Bytes.{end_mark, longest_file};
 ghost use Rattle.ans_model.specs.File.Layout.{is_end_mark};
@@ -52,6 +52,13 @@ fn missing_mark(behind: &[u8]) -> &'static [u8]
     }
 }
 
+/// Where the end mark stands behind a form of this length, if one is put.
+fn place_of_mark(mark: &[u8], form: usize) -> Option<usize>
+    ensures { result ≡ (if length mark.now == 0 then None else Some form) }
+{
+    if mark.is_empty() { None } else { Some(form) }
+}
+
 /// What redrawing a file with this picture changes of it. `TooLong` comes where the new file would have more
 /// than 16,777,216 bytes, and no other error does.
 pub fn redrawn_with<G: Screen>(
@@ -76,7 +83,7 @@ pub fn redrawn_with<G: Screen>(
             was: parts.content().len() as u32,
             is: form as u32,
         },
-        end_mark: if mark.is_empty() { None } else { Some(form) },
+        end_mark: place_of_mark(mark, form),
         file_size: Reset {
             was: parts.sauce().file_size(),
             is: form as u32,
