@@ -47,7 +47,7 @@ one_and : (n : ℕ) → 1 + n ≡ suc n
 one_and n = omega arith
 
 -- behind a byte that is none, the end marks are those behind it
-after_one : (b : ℕ) (body : List ℕ) → is_end_mark b ≡ false → after_content (b ∷ body) ≡ after_content body
+pub after_one : (b : ℕ) (body : List ℕ) → is_end_mark b ≡ false → after_content (b ∷ body) ≡ after_content body
 after_one b body is =
     let k : ℕ = position_or_len is_end_mark body in
     let longer : content (b ∷ body) ≡ b ∷ content body =
@@ -55,10 +55,10 @@ after_one b body is =
     ap (λ (v : List ℕ). drop (length v) (b ∷ body)) longer
 
 -- from a byte that is one, they are all
-after_marked : (b : ℕ) (body : List ℕ) → is_end_mark b ≡ true → after_content (b ∷ body) ≡ b ∷ body
+pub after_marked : (b : ℕ) (body : List ℕ) → is_end_mark b ≡ true → after_content (b ∷ body) ≡ b ∷ body
 after_marked b body is = rw is refl
 
-first_marked : (b : ℕ) (xs : List ℕ) → is_end_mark b ≡ true → list_any is_end_mark (b ∷ xs) ≡ true
+pub first_marked : (b : ℕ) (xs : List ℕ) → is_end_mark b ≡ true → list_any is_end_mark (b ∷ xs) ≡ true
 first_marked b xs is = ap (λ (v : Bool). v || list_any is_end_mark xs) is
 
 after_none : (body : List ℕ) → list_any is_end_mark body ≡ false → after_content body ≡ []
@@ -115,10 +115,10 @@ module _ (file : List ℕ) (apart : FileParts) (laid : Laid file apart) where
   abbrev behind : List ℕ
   behind = drop (length (content_in file)) (front_in file)
 
-  its_body : body_in file ≡ apart.body
+  pub its_body : body_in file ≡ apart.body
   its_body = laid_body file apart laid
 
-  block_is : block_in file ≡ block
+  pub block_is : block_in file ≡ block
   block_is =
       ap₂ (λ (b f : List ℕ). drop (length b) f) its_body (laid_front file apart laid)
       ∙ drop-append_seam apart.body block

@@ -13,8 +13,15 @@ copy-comments-requires g c =
     let whole = total c.args.file.now split.apart split.accepts.laid c.args.picture.now c.args.redrawn.now.content.is
     c.missing_mark.result.now c.behind_content-behind.result.now told.length_is
     c.behind_content-behind.ensures c.missing_mark.ensures in
-    omega (arith, whole, told.whole, c.requires.room, c.copy-mark.ensures.end, c.copy-mark.ensures.length,
-    c.copy_form.ensures.length)
+    omega (
+      arith,
+      whole,
+      told.whole,
+      c.requires.room,
+      c.copy-mark.ensures.end,
+      c.copy-mark.ensures.length,
+      c.copy_form.ensures.length,
+    )
 
 pub copy_resized-requires-clause-room : goal.copy_resized-requires-clause-room
 copy_resized-requires-clause-room g c =
@@ -23,8 +30,17 @@ copy_resized-requires-clause-room g c =
     let whole = total c.args.file.now split.apart split.accepts.laid c.args.picture.now c.args.redrawn.now.content.is
     c.missing_mark.result.now c.behind_content-behind.result.now told.length_is
     c.behind_content-behind.ensures c.missing_mark.ensures in
-    omega (arith, whole, told.whole, c.requires.room, c.copy-mark.ensures.end, c.copy-mark.ensures.length,
-    c.copy_form.ensures.length, c.copy-comments.ensures.end, c.copy-comments.ensures.length)
+    omega (
+      arith,
+      whole,
+      told.whole,
+      c.requires.room,
+      c.copy-mark.ensures.end,
+      c.copy-mark.ensures.length,
+      c.copy_form.ensures.length,
+      c.copy-comments.ensures.end,
+      c.copy-comments.ensures.length,
+    )
 
 pub returns : goal.returns
 returns g c =

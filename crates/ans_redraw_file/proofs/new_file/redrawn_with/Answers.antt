@@ -20,16 +20,30 @@ overflow_add-whole-2 g c =
     let mark = ap length c.missing_mark-mark.ensures in
     let file = c.args.file.now in
     let behind = ap length c.behind_content-behind.ensures in
-    omega (arith, c.form_length-form.ensures.most, mark, missing_short c.behind_content-behind.result.now, behind,
-    behind_short file (length (content_in file)), c.requires.length)
+    omega (
+      arith,
+      c.form_length-form.ensures.most,
+      mark,
+      missing_short c.behind_content-behind.result.now,
+      behind,
+      behind_short file (length (content_in file)),
+      c.requires.length,
+    )
 
 pub overflow_add-whole-3 : goal.overflow_add-whole-3
 overflow_add-whole-3 g c =
     let mark = ap length c.missing_mark-mark.ensures in
     let file = c.args.file.now in
     let behind = ap length c.behind_content-behind.ensures in
-    omega (arith, c.form_length-form.ensures.most, mark, missing_short c.behind_content-behind.result.now, behind,
-    behind_short file (length (content_in file)), c.requires.length)
+    omega (
+      arith,
+      c.form_length-form.ensures.most,
+      mark,
+      missing_short c.behind_content-behind.result.now,
+      behind,
+      behind_short file (length (content_in file)),
+      c.requires.length,
+    )
 
 pub returns-then-whole-gt-MAX_FILE-clause-too_long : goal.returns-then-whole-gt-MAX_FILE-clause-too_long
 returns-then-whole-gt-MAX_FILE-clause-too_long g c =
