@@ -1,12 +1,12 @@
 -- The content, and the end marks behind it.
-use Rattle.std.proofs.Common.{◌≡◌, ℕ, suc, ◌+◌, Bool, true, false, List, [], ◌∷◌, length, take, drop, refl, sym, ap, ◌∙◌}
-use Rattle.std.proofs.Common.{arith}
+use Rattle.std.proofs.Common.{◌≡◌, ℕ, suc, ◌+◌, Bool, true, false, List, [], ◌∷◌, length, take, drop, refl, sym}
+use Rattle.std.proofs.Common.{ap, ◌∙◌, arith}
 use Rattle.std.specs.Prelude.{if◌then◌else◌}
 use Rattle.std.specs.List.{list_all, list_any, position_or_len}
 use Rattle.ans_model.specs.Bytes.{end_mark}
 use Rattle.ans_model.specs.File.Layout.{after_content, content, is_end_mark}
 use Rattle.ans_redraw_file.specs.RedrawnFile.{marked_end}
-use Rattle.ans_redraw_file.proofs.NewFiles.{after_one, after_marked, first_marked}
+use Rattle.ans_redraw_file.proofs.NewFiles.{after_one, after_marked}
 
 one_and : (n : ℕ) → 1 + n ≡ suc n
 one_and n = omega arith

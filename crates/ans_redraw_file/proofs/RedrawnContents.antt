@@ -1,7 +1,6 @@
 -- The content of a redrawn file tells the picture, and players part at its bytes alone.
-use Rattle.std.proofs.Common.{◌≡◌, List, ℕ, sym, ap, ◌∙◌, subst}
+use Rattle.std.proofs.Common.{List, ℕ, sym, ap, ◌∙◌, subst}
 use Rattle.std.specs.Prelude.{◌↔◌}
-use Rattle.ans_model.specs.File.Layout.{content}
 use Rattle.ans_model.specs.File.Record.{stated_size}
 use Rattle.ans_model.specs.Screen.StartClass.{none_known}
 use Rattle.ans_model.specs.Screen.State.{Size}

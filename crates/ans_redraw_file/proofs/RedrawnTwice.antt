@@ -1,13 +1,12 @@
 -- A file that is redrawn again stays as it is.
-use Rattle.std.proofs.Common.{◌≡◌, ℕ, ◌+◌, List, ◌++◌, length, take, drop, refl, sym, ap, ap₂, ◌∙◌, arith, append_assoc}
-use Rattle.std.proofs.Common.{subst, subst₂}
+use Rattle.std.proofs.Common.{◌≡◌, ℕ, ◌+◌, List, ◌++◌, length, take, drop, sym, ap, ap₂, ◌∙◌, arith}
+use Rattle.std.proofs.Common.{append_assoc, subst}
 use Rattle.std.proofs.lemmas.List.{length-append, length-take-le}
 use Rattle.std.proofs.Math.Seq.{take-append_seam, drop-append_seam}
-use Rattle.ans_model.specs.File.Layout.{FileParts, comment_block, content, laid_file}
+use Rattle.ans_model.specs.File.Layout.{FileParts, comment_block}
 use Rattle.ans_model.specs.File.Record.{comment_count, stated_size}
 use Rattle.ans_model.specs.Screen.State.{Size}
 use Rattle.ans_model.specs.Verdict.Good.{Picture, GoodWith}
-use Rattle.ans_model.specs.declared.start.Start.{Start}
 use Rattle.ans_sauce.specs.Found.{body_in, record_in}
 use Rattle.ans_sauce.proofs.LaidParts.{laid_record}
 use Rattle.ans_walks.specs.MendedFile.{four_bytes, with_file_size}

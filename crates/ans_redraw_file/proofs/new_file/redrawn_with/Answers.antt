@@ -1,13 +1,12 @@
-use Rattle.std.proofs.Common.{◌≡◌, ◌≤◌, ◌+◌, ◌==◌, ℕ, List, length, arith, ap, sym, ◌∙◌, None, Some}
+use Rattle.std.proofs.Common.{◌==◌, ℕ, List, length, arith, ap, ◌∙◌, None, Some}
 use Rattle.std.specs.Prelude.{if◌then◌else◌}
 use Rattle.std.specs.List.{list_any}
 use Rattle.ans_model.specs.File.Layout.{is_end_mark}
 use Rattle.ans_sauce.specs.Found.{body_in}
-use Rattle.ans_model.specs.Bytes.{longest_file}
-use Rattle.ans_redraw_file.specs.RedrawnFile.{redrawn_file}
 use Rattle.ans_mend.specs.Contents.{content_in}
 use Rattle.ans_redraw_file.specs.declared.outcome.Unredrawn.TheVariants.{TooLong}
-use Rattle.ans_redraw_file.proofs.NewFiles.{behind_short, content_was, mark_put, missing, missing_short, size_was, total}
+use Rattle.ans_redraw_file.proofs.NewFiles.{behind_short, content_was, mark_put, missing, missing_short}
+use Rattle.ans_redraw_file.proofs.NewFiles.{size_was, total}
 use Rattle.ans_redraw_file.proofs.new_file.redrawn_with.Goals as goal
 
 pub overflow_add-whole : goal.overflow_add-whole
