@@ -59,7 +59,7 @@ after_one b body is =
 pub after_marked : (b : ℕ) (body : List ℕ) → is_end_mark b ≡ true → after_content (b ∷ body) ≡ b ∷ body
 after_marked b body is = rw is refl
 
-pub first_marked : (b : ℕ) (xs : List ℕ) → is_end_mark b ≡ true → list_any is_end_mark (b ∷ xs) ≡ true
+first_marked : (b : ℕ) (xs : List ℕ) → is_end_mark b ≡ true → list_any is_end_mark (b ∷ xs) ≡ true
 first_marked b xs is = ap (λ (v : Bool). v || list_any is_end_mark xs) is
 
 after_none : (body : List ℕ) → list_any is_end_mark body ≡ false → after_content body ≡ []
