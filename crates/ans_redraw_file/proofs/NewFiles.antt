@@ -1,8 +1,9 @@
 -- What stands behind the content of a file, and the file that is put in its place.
 use Rattle.std.proofs.Common.{◌≡◌, ℕ, suc, ◌+◌, ◌-◌, ◌≤◌, ◌==◌, Bool, true, false, List, [], ◌∷◌, ◌++◌, length, take}
-use Rattle.std.proofs.Common.{drop, refl, sym, ap, ap₂, ◌∙◌, arith, append_assoc, codes, true≢false}
-use Rattle.std.proofs.lemmas.List.{drop-append-le, drop-take, length-append, length-drop, length-take-le, take-append-drop, take_all}
-use Rattle.std.proofs.Math.Seq.{take-append_seam, drop-append_seam}
+use Rattle.std.proofs.Common.{drop, refl, sym, ap, ap₂, ◌∙◌, arith, append_assoc, true≢false}
+use Rattle.std.proofs.lemmas.List.{drop-append-le, drop-take, length-append, length-drop, length-take-le}
+use Rattle.std.proofs.lemmas.List.{take-append-drop, take_all}
+use Rattle.std.proofs.Math.Seq.{drop-append_seam}
 use Rattle.std.specs.Prelude.{Some, None, if◌then◌else◌, ◌||◌}
 use Rattle.std.specs.List.{list_any, position_or_len}
 use Rattle.ans_model.specs.Bytes.{end_mark}
@@ -47,7 +48,7 @@ one_and : (n : ℕ) → 1 + n ≡ suc n
 one_and n = omega arith
 
 -- behind a byte that is none, the end marks are those behind it
-after_one : (b : ℕ) (body : List ℕ) → is_end_mark b ≡ false → after_content (b ∷ body) ≡ after_content body
+pub after_one : (b : ℕ) (body : List ℕ) → is_end_mark b ≡ false → after_content (b ∷ body) ≡ after_content body
 after_one b body is =
     let k : ℕ = position_or_len is_end_mark body in
     let longer : content (b ∷ body) ≡ b ∷ content body =
@@ -55,7 +56,7 @@ after_one b body is =
     ap (λ (v : List ℕ). drop (length v) (b ∷ body)) longer
 
 -- from a byte that is one, they are all
-after_marked : (b : ℕ) (body : List ℕ) → is_end_mark b ≡ true → after_content (b ∷ body) ≡ b ∷ body
+pub after_marked : (b : ℕ) (body : List ℕ) → is_end_mark b ≡ true → after_content (b ∷ body) ≡ b ∷ body
 after_marked b body is = rw is refl
 
 first_marked : (b : ℕ) (xs : List ℕ) → is_end_mark b ≡ true → list_any is_end_mark (b ∷ xs) ≡ true
@@ -115,10 +116,10 @@ module _ (file : List ℕ) (apart : FileParts) (laid : Laid file apart) where
   abbrev behind : List ℕ
   behind = drop (length (content_in file)) (front_in file)
 
-  its_body : body_in file ≡ apart.body
+  pub its_body : body_in file ≡ apart.body
   its_body = laid_body file apart laid
 
-  block_is : block_in file ≡ block
+  pub block_is : block_in file ≡ block
   block_is =
       ap₂ (λ (b f : List ℕ). drop (length b) f) its_body (laid_front file apart laid)
       ∙ drop-append_seam apart.body block

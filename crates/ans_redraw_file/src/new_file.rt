@@ -164,5 +164,10 @@ pub fn copy_redrawn_file<G: Screen>(
     let form = redrawn.content.is as usize;
     let mark = copy(array, form, missing_mark(behind));
     let comments = copy(array, mark, behind);
-    copy_resized(array, comments, &file[file.len() - RECORD_SIZE..], redrawn.file_size.is);
+    copy_resized(
+        array,
+        comments,
+        &file[file.len() - RECORD_SIZE..],
+        redrawn.file_size.is,
+    );
 }

@@ -1,4 +1,4 @@
-use Rattle.std.proofs.Common.{◌≡◌, ap, ◌∙◌, length, sym}
+use Rattle.std.proofs.Common.{ap, ◌∙◌, length, sym}
 use Rattle.ans_sauce.proofs.LaidParts.{laid_body}
 use Rattle.ans_model.specs.File.Layout.{content}
 use Rattle.ans_redraw_file.proofs.NewFiles.{behind_there}

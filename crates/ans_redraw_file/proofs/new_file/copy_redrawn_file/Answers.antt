@@ -1,4 +1,4 @@
-use Rattle.std.proofs.Common.{◌≡◌, ◌+◌, ◌≤◌, ◌++◌, ℕ, List, length, take, drop, arith, ap, ap₂, sym, ◌∙◌}
+use Rattle.std.proofs.Common.{◌≡◌, ◌+◌, ◌++◌, ℕ, List, length, take, drop, arith, ap, ap₂, sym, ◌∙◌}
 use Rattle.ans_sauce.specs.Found.{front_in, record_in}
 use Rattle.ans_mend.specs.Contents.{content_in}
 use Rattle.ans_redraw.specs.Form.{form_bytes}
@@ -13,8 +13,15 @@ copy-comments-requires g c =
     let whole = total c.args.file.now split.apart split.accepts.laid c.args.picture.now c.args.redrawn.now.content.is
     c.missing_mark.result.now c.behind_content-behind.result.now told.length_is
     c.behind_content-behind.ensures c.missing_mark.ensures in
-    omega (arith, whole, told.whole, c.requires.room, c.copy-mark.ensures.end, c.copy-mark.ensures.length,
-    c.copy_form.ensures.length)
+    omega (
+      arith,
+      whole,
+      told.whole,
+      c.requires.room,
+      c.copy-mark.ensures.end,
+      c.copy-mark.ensures.length,
+      c.copy_form.ensures.length,
+    )
 
 pub copy_resized-requires-clause-room : goal.copy_resized-requires-clause-room
 copy_resized-requires-clause-room g c =
@@ -23,8 +30,17 @@ copy_resized-requires-clause-room g c =
     let whole = total c.args.file.now split.apart split.accepts.laid c.args.picture.now c.args.redrawn.now.content.is
     c.missing_mark.result.now c.behind_content-behind.result.now told.length_is
     c.behind_content-behind.ensures c.missing_mark.ensures in
-    omega (arith, whole, told.whole, c.requires.room, c.copy-mark.ensures.end, c.copy-mark.ensures.length,
-    c.copy_form.ensures.length, c.copy-comments.ensures.end, c.copy-comments.ensures.length)
+    omega (
+      arith,
+      whole,
+      told.whole,
+      c.requires.room,
+      c.copy-mark.ensures.end,
+      c.copy-mark.ensures.length,
+      c.copy_form.ensures.length,
+      c.copy-comments.ensures.end,
+      c.copy-comments.ensures.length,
+    )
 
 pub returns : goal.returns
 returns g c =
@@ -41,12 +57,12 @@ returns g c =
     let begun : take c.args.redrawn.now.content.is c.copy_form.new.array ≡ form_bytes p =
     ap (λ (n : ℕ). take n c.copy_form.new.array) told.length_is ∙ c.copy_form.ensures.form in
     let behind : List ℕ = drop (length (content_in file)) (front_in file) in
-    let last =
-    ap₂ with_file_size told.size_is (sauce_is file) in
+    let last = ap₂ with_file_size told.size_is (sauce_is file) in
     ap (λ (n : ℕ). take n c.copy_resized.new.array) end
     ∙ joined (form_bytes p) _ _ _ (missing behind) behind (with_file_size (length (form_bytes p)) (record_in file))
     (c.copy-mark.ensures.bytes ∙ ap₂ (λ (v w : List ℕ). v ++ w) begun
     (c.missing_mark.ensures ∙ ap missing c.behind_content-behind.ensures))
     (rw c.behind_content-behind.ensures at c.copy-comments.ensures.bytes)
-    (c.copy_resized.ensures.bytes ∙ ap (λ (v : List ℕ). take c.copy-comments.result c.copy-comments.new.array ++ v) last)
+    (c.copy_resized.ensures.bytes
+    ∙ ap (λ (v : List ℕ). take c.copy-comments.result c.copy-comments.new.array ++ v) last)
     ∙ sym (whole_is file split.apart laid p)

@@ -1,4 +1,4 @@
-use Rattle.std.proofs.Common.{◌≡◌, ◌+◌, ◌++◌, ℕ, List, length, take, drop, sym, ap, ◌∙◌, arith}
+use Rattle.std.proofs.Common.{◌≡◌, ◌+◌, ℕ, length, take, drop, sym, ap, ◌∙◌, arith}
 use Rattle.std.proofs.lemmas.List.{length-drop, length-take-le}
 use Rattle.ans_walks.specs.MendedFile.{four_bytes}
 use Rattle.ans_redraw_file.proofs.NewFiles.{joined, record_end}
@@ -42,8 +42,16 @@ returns-clause-bytes c =
     let size = ap length c.to_le_bytes.ensures in
     let last = ap length (record_end sauce) ∙ length-drop 94 sauce in
     let end : c.args.end + 128 ≡ c.copy.result =
-    omega (arith, first, size, last, c.requires.record, c.copy-before.ensures.end, c.copy-behind.ensures.end,
-    c.copy.ensures.end) in
+    omega (
+      arith,
+      first,
+      size,
+      last,
+      c.requires.record,
+      c.copy-before.ensures.end,
+      c.copy-behind.ensures.end,
+      c.copy.ensures.end,
+    ) in
     ap (λ (n : ℕ). take n c.copy.new.array) end
     ∙ joined _ _ _ _ (take 90 sauce) (four_bytes c.args.size) (drop 94 sauce) c.copy-before.ensures.bytes
     (rw c.to_le_bytes.ensures at c.copy-behind.ensures.bytes) (rw (record_end sauce) at c.copy.ensures.bytes)

@@ -1,13 +1,12 @@
-use Rattle.std.proofs.Common.{◌≡◌, ◌≤◌, ◌+◌, ◌==◌, ℕ, List, length, arith, ap, sym, ◌∙◌, None, Some}
+use Rattle.std.proofs.Common.{◌==◌, ℕ, List, length, arith, ap, ◌∙◌, None, Some}
 use Rattle.std.specs.Prelude.{if◌then◌else◌}
 use Rattle.std.specs.List.{list_any}
 use Rattle.ans_model.specs.File.Layout.{is_end_mark}
 use Rattle.ans_sauce.specs.Found.{body_in}
-use Rattle.ans_model.specs.Bytes.{longest_file}
-use Rattle.ans_redraw_file.specs.RedrawnFile.{redrawn_file}
 use Rattle.ans_mend.specs.Contents.{content_in}
 use Rattle.ans_redraw_file.specs.declared.outcome.Unredrawn.TheVariants.{TooLong}
-use Rattle.ans_redraw_file.proofs.NewFiles.{behind_short, content_was, mark_put, missing, missing_short, size_was, total}
+use Rattle.ans_redraw_file.proofs.NewFiles.{behind_short, content_was, mark_put, missing, missing_short}
+use Rattle.ans_redraw_file.proofs.NewFiles.{size_was, total}
 use Rattle.ans_redraw_file.proofs.new_file.redrawn_with.Goals as goal
 
 pub overflow_add-whole : goal.overflow_add-whole
@@ -20,16 +19,30 @@ overflow_add-whole-2 g c =
     let mark = ap length c.missing_mark-mark.ensures in
     let file = c.args.file.now in
     let behind = ap length c.behind_content-behind.ensures in
-    omega (arith, c.form_length-form.ensures.most, mark, missing_short c.behind_content-behind.result.now, behind,
-    behind_short file (length (content_in file)), c.requires.length)
+    omega (
+      arith,
+      c.form_length-form.ensures.most,
+      mark,
+      missing_short c.behind_content-behind.result.now,
+      behind,
+      behind_short file (length (content_in file)),
+      c.requires.length,
+    )
 
 pub overflow_add-whole-3 : goal.overflow_add-whole-3
 overflow_add-whole-3 g c =
     let mark = ap length c.missing_mark-mark.ensures in
     let file = c.args.file.now in
     let behind = ap length c.behind_content-behind.ensures in
-    omega (arith, c.form_length-form.ensures.most, mark, missing_short c.behind_content-behind.result.now, behind,
-    behind_short file (length (content_in file)), c.requires.length)
+    omega (
+      arith,
+      c.form_length-form.ensures.most,
+      mark,
+      missing_short c.behind_content-behind.result.now,
+      behind,
+      behind_short file (length (content_in file)),
+      c.requires.length,
+    )
 
 pub returns-then-whole-gt-MAX_FILE-clause-too_long : goal.returns-then-whole-gt-MAX_FILE-clause-too_long
 returns-then-whole-gt-MAX_FILE-clause-too_long g c =
