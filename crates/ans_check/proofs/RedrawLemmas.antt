@@ -25,10 +25,10 @@ too_long file apart picture (TooLong whole) passes long =
     record { apart = apart; picture = picture; passes = passes; long = long }
 
 -- a fault for which a file is refused from the cleared start is one that it has
-pub refused_is_faulty : {G : Type 0} (file : List ℕ) (parts : Option Parts) (fault : Fault)
+pub refused_is_faulty : (G : Type 0) (file : List ℕ) (parts : Option Parts) (fault : Fault)
     → IsVerdictOn {G = G} file all_known (verdict.Refused parts fault) → IsFaulty file fault
-refused_is_faulty file None fault is = inl is
-refused_is_faulty file (Some parts) fault is =
+refused_is_faulty G file None fault is = inl is
+refused_is_faulty G file (Some parts) fault is =
     let laid = is.2.accepts.laid in
     inr (subst₂ (λ (z : Size) (bytes : List ℕ). Deserves z all_known bytes fault)
     (ap stated_size (sym (laid_record file is.0 laid))) (ap content (sym (laid_body file is.0 laid))) is.2.deserved)
