@@ -36,16 +36,16 @@ static REDRAWN: [(Sample, Sample, &[u8]); 10] = [
     // a line end behind a full row
     (
         (b"AB\r\nC\x1a", &[(96, b"\x02"), (98, b"\x03")]),
-        (b"AB \r\nC\x1a", &[(90, b"\x19"), (96, b"\x02"), (98, b"\x03")]),
+        (
+            b"AB \r\nC\x1a",
+            &[(90, b"\x19"), (96, b"\x02"), (98, b"\x03")],
+        ),
         b"content length 25, was 5\nfile size 25, was 2\n",
     ),
     // colours that are not set back
     (
         (b"\x1b[1;44mA\x1a", &[(96, b"\x02")]),
-        (
-            b"\x1b[1;44mA\x1b[0m\x1a",
-            &[(90, b"\x1f"), (96, b"\x02")],
-        ),
+        (b"\x1b[1;44mA\x1b[0m\x1a", &[(90, b"\x1f"), (96, b"\x02")]),
         b"content length 31, was 8\nfile size 31, was 2\n",
     ),
     // a place that is restored, a tab, and an erased line
@@ -77,7 +77,10 @@ static REDRAWN: [(Sample, Sample, &[u8]); 10] = [
     ),
     // nothing but blanks, and a date that is none
     (
-        (b"  \x1a", &[(82, b"yesterda"), (90, b"\x02"), (96, b"\x02")]),
+        (
+            b"  \x1a",
+            &[(82, b"yesterda"), (90, b"\x02"), (96, b"\x02")],
+        ),
         (b"\x1a", &[(82, b"yesterda"), (90, b"\x13"), (96, b"\x02")]),
         b"content length 19, was 2\nfile size 19, was 2\n",
     ),
