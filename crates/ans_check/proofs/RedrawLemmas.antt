@@ -1,5 +1,5 @@
 -- Why a file is not redrawn.
-use Rattle.std.proofs.Common.{◌≡◌, ℕ, List, Option, Some, None, inl, inr, ap, sym, subst₂}
+use Rattle.std.proofs.Common.{ℕ, List, Option, Some, None, inl, inr, ap, sym, subst₂}
 use Rattle.ans_model.specs.File.Layout.{FileParts, content}
 use Rattle.ans_model.specs.File.Record.{stated_size}
 use Rattle.ans_model.specs.Screen.StartClass.{all_known}
@@ -14,7 +14,6 @@ use Rattle.ans_redraw_file.specs.declared.outcome.Unredrawn.TheVariants.{Refused
 use Rattle.ans_check.specs.FileVerdict.{Deserves, IsVerdictOn, Passes}
 use Rattle.ans_check.specs.Mending.{IsFaulty}
 use Rattle.ans_check.specs.Redrawing.{IsReasonNot}
-use Rattle.ans_check.specs.declared.verdict.Verdict.{Verdict}
 use Rattle.ans_check.specs.declared.verdict.Verdict.TheVariants as verdict
 
 -- with the form of its picture the file would be too long
