@@ -89,7 +89,7 @@ def plain_player(room):
 
 
 COMMANDS = [
-    ["check"], ["check", "--cleared"], ["show"], ["show", "--vga"], ["show", "--html"], ["needs"], ["mend"], ["sauce"], ["tokens"],
+    ["check"], ["check", "--cleared"], ["show"], ["show", "--vga"], ["show", "--html"], ["needs"], ["mend"], ["redraw"], ["sauce"], ["tokens"],
 ]
 
 

@@ -107,6 +107,7 @@ Usage: anscheck <COMMAND>
 Commands:
   why     Say why a drawing is refused, what it relies on, and how to mend it
   mend    Write a drawing mended, so that it shows the same everywhere
+  redraw  Write the picture anew, in the plainest form there is
   needs   Print what a drawing relies on: screen, cursor, saved, colours, wrap
   check   Check that a file always shows the same picture, and print it
   show    Show the picture in its colours, for a terminal or as a page
@@ -121,11 +122,12 @@ Options:
 Examples:
   anscheck why drawing.ans
   anscheck mend drawing.ans > mended.ans
+  anscheck redraw drawing.ans > redrawn.ans
   anscheck check --cleared drawing.ans
   anscheck show drawing.ans
   anscheck help check
   anscheck help F20
-""" + statuses("The file passes, or help or the version was asked for")
+""" + statuses("The file passes or is written, or help or the version was asked for")
 CHECK_HELP = b"""Check that a file always shows the same picture, and print it
 
 Usage: anscheck check [OPTIONS] [FILE]
@@ -170,6 +172,29 @@ Exit status:
   1  No file could be mended so; standard error says why
   2  There is no answer; standard error says why
 """
+REDRAW_HELP = b"""Write the picture anew, in the plainest form there is
+
+Usage: anscheck redraw [FILE]
+
+Arguments:
+  [FILE]  The file to read; - or none is standard input
+
+Options:
+  -h, --help  Print help
+
+The redrawn file goes to standard output: give it another name, as in
+  anscheck redraw drawing.ans > redrawn.ans
+since the shell empties a file before it is read. The picture is the one that
+the drawing shows in the end on a cleared screen, so an animation becomes
+still; it then shows from every start. Of the record only the file size
+changes, and an end mark is put before it where there is none.
+
+Exit status:
+  0  A file was written, or help was asked for
+  1  No file could be redrawn; standard error says why
+  2  There is no answer; standard error says why
+"""
+REDRAW_ADVICE = b"help: anscheck why says how to mend it, and what mend writes can be redrawn\n"
 SHOW_HELP = b"""Show the picture in its colours, for a terminal or as a page
 
 Usage: anscheck show [OPTIONS] [FILE]
@@ -361,6 +386,35 @@ RUNS = [
         stderr=b"anscheck: cannot write the report\n", output="/dev/full"),
     Run("no file for a full device", ["mend"], 1, stderr=b"at 0: F1 no SAUCE record\n"
         b"help: --width N gives a drawing without a record one for N columns\n", output="/dev/full"),
+    # Files that are redrawn, and what is said of them.
+    Run("redrawn, from standard input", ["redraw"], 0, in_front(b"Hi"),
+        b"content length 21, was 2\nfile size 21, was 2\n", stdin=HI),
+    Run("redrawn, a named file", ["redraw", HI], 0, in_front(b"Hi"),
+        b"content length 21, was 2\nfile size 21, was 2\n"),
+    Run("redrawn once more", ["redraw", "-"], 0, in_front(b"Hi"), b"content length 21, was 21\n", stdin=in_front(b"Hi")),
+    Run("redrawn, an animation", ["redraw"], 0, in_front(b"B", 3),
+        b"content length 20, was 5\nfile size 20, was 5\n", stdin=file_of(b"A\x1b[HB", 3)),
+    Run("redrawn, a line end behind a full row", ["redraw"], 0, in_front(b"AB \r\nC", 2, 3),
+        b"content length 25, was 5\nfile size 25, was 5\n", stdin=file_of(b"AB\r\nC", 2, 3)),
+    Run("redrawn, colours that are not set back", ["redraw"], 0, in_front(b"\x1b[1;44mA\x1b[0m", 2),
+        b"content length 31, was 8\nfile size 31, was 8\n", stdin=file_of(b"\x1b[1;44mA", 2)),
+    Run("redrawn, without an end mark", ["redraw"], 0, in_front(b"Hi"),
+        b"content length 21, was 2\nput an end mark at 21\nfile size 21, was 2\n", stdin=b"Hi" + plain_record(2, 1, 2)),
+    Run("redrawn, a drawing that is refused", ["redraw"], 1,
+        stderr=b"at 2: F20 print below the stated lines\n" + REDRAW_ADVICE, stdin=file_of(b"Hi!")),
+    Run("redrawn, with bytes behind the record", ["redraw"], 1,
+        stderr=b"at 133: F1 no SAUCE record\n" + REDRAW_ADVICE, stdin=file_of(b"Hi") + b"\r\n"),
+    Run("redrawn, the longest file", ["redraw"], 1,
+        stderr=b"the redrawn file would have 16777235 bytes, and 16777216 are the most\n"
+        b"help: fewer cells, or fewer changes of colour, make it shorter\n",
+        stdin=b"Hi" + b"\x1a" * (LARGEST_FILE - 130) + plain_record(2, 1, 2)),
+    Run("redrawn, too long a file", ["redraw"], 2,
+        stderr=b"anscheck: file above 16777216 bytes\n", stdin=bytes(LARGEST_FILE + 1)),
+    Run("redrawn, a file that is not there", ["redraw", "data/none.ans"], 2,
+        stderr=b"anscheck: cannot open the file\n", stdin=HI),
+    Run("redrawn, a folder", ["redraw", "data"], 2, stderr=b"anscheck: cannot read the file\n"),
+    Run("redrawn on a full device", ["redraw", HI], 2,
+        stderr=b"anscheck: cannot write the report\n", output="/dev/full"),
     # Files that pass from the starts of which some parts are known, and not from every start.
     Run("check with a known screen", ["check", "--known-screen"], 0,
         b"size: 1 x 1\nstart: known screen\ncontent: 0 bytes\nverdict: pass\npicture:\n \n",
@@ -473,6 +527,8 @@ RUNS = [
     Run("help of needs", ["needs", "--help"], 0, NEEDS_HELP, stdin=HI),
     Run("help of mend", ["mend", "--help"], 0, MEND_HELP, stdin=HI),
     Run("help of mend by its name", ["help", "mend"], 0, MEND_HELP),
+    Run("help of redraw", ["redraw", "--help"], 0, REDRAW_HELP, stdin=HI),
+    Run("help of redraw by its name", ["help", "redraw"], 0, REDRAW_HELP),
     Run("too few lines to state", ["mend", "--lines", "0", HI], 2, stderr=mistake(
         "invalid value '0' for '--lines <N>': 0 is not in 1..=8192", None)),
     Run("too many lines to state", ["mend", "--lines", "8193", HI], 2, stderr=mistake(
