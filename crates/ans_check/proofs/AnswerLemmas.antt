@@ -12,6 +12,8 @@ use Rattle.ans_write.specs.declared.tried.Tried.{Tried}
 use Rattle.clap.specs.Words.{Text}
 use Rattle.ans_mend.specs.declared.outcome.Mended as outcome
 use Rattle.ans_mend.specs.declared.outcome.Unmended.{Unmended}
+use Rattle.ans_redraw_file.specs.declared.outcome.Redrawn as redrawing
+use Rattle.ans_redraw_file.specs.declared.outcome.Unredrawn.{Unredrawn}
 use Rattle.ans_options.specs.declared.command.Mends.{Mends}
 use Rattle.ans_options.specs.declared.command.TableForm.{TableForm}
 use Rattle.ans_table.specs.declared.counts.Counts.{Counts}
@@ -21,6 +23,7 @@ use Rattle.ans_check.specs.Ending.{ending_message}
 use Rattle.ans_check.specs.declared.exit_status.Ending.{Ending}
 use Rattle.ans_check.specs.declared.exit_status.Ending.TheVariants.{Run, Help, Usage, UnreadableWords, UnopenedFile}
 use Rattle.ans_check.specs.declared.exit_status.Ending.TheVariants.{Table, NamedInput, UnreadNames, Mended, NotMended}
+use Rattle.ans_check.specs.declared.exit_status.Ending.TheVariants.{Redrawn, NotRedrawn}
 
 -- what was written by its result is what was written by whether the device has failed
 written_unless : {T E : Type 0} (old new : Option (List ℕ)) (r : Result T E) (failed : Bool) (text : List ℕ)
@@ -57,17 +60,23 @@ pub says_else : {E : Type 0} (contents : E → Option (List ℕ)) (errors after 
     → ending ≢ Usage → ((counts : Counts) → ending ≢ Table counts)
     → ((mended : outcome.Mended) → ending ≢ Mended mended)
     → ((asked : Mends) (reason : Unmended) → ending ≢ NotMended asked reason)
+    → ((redrawn : redrawing.Redrawn) → ending ≢ Redrawn redrawn) → ((reason : Unredrawn) → ending ≢ NotRedrawn reason)
     → SaysMessage contents errors after ending → Says contents errors after ending
-says_else contents errors after Usage told table mended unmended h = absurd (told refl)
-says_else contents errors after Help told table mended unmended h = h
-says_else contents errors after (Run answer) told table mended unmended h = h
-says_else contents errors after UnreadableWords told table mended unmended h = h
-says_else contents errors after UnopenedFile told table mended unmended h = h
-says_else contents errors after (Table counts) told table mended unmended h = absurd (table counts refl)
-says_else contents errors after NamedInput told table mended unmended h = h
-says_else contents errors after UnreadNames told table mended unmended h = h
-says_else contents errors after (Mended m) told table mended unmended h = absurd (mended m refl)
-says_else contents errors after (NotMended a r) told table mended unmended h = absurd (unmended a r refl)
+says_else contents errors after Usage told table mended unmended redrawn unredrawn h = absurd (told refl)
+says_else contents errors after Help told table mended unmended redrawn unredrawn h = h
+says_else contents errors after (Run answer) told table mended unmended redrawn unredrawn h = h
+says_else contents errors after UnreadableWords told table mended unmended redrawn unredrawn h = h
+says_else contents errors after UnopenedFile told table mended unmended redrawn unredrawn h = h
+says_else contents errors after (Table counts) told table mended unmended redrawn unredrawn h =
+    absurd (table counts refl)
+says_else contents errors after NamedInput told table mended unmended redrawn unredrawn h = h
+says_else contents errors after UnreadNames told table mended unmended redrawn unredrawn h = h
+says_else contents errors after (Mended m) told table mended unmended redrawn unredrawn h = absurd (mended m refl)
+says_else contents errors after (NotMended a r) told table mended unmended redrawn unredrawn h =
+    absurd (unmended a r refl)
+says_else contents errors after (Redrawn r) told table mended unmended redrawn unredrawn h = absurd (redrawn r refl)
+says_else contents errors after (NotRedrawn r) told table mended unmended redrawn unredrawn h =
+    absurd (unredrawn r refl)
 
 -- the table of names that the words give
 pub ends_by_names : {R W : Type 0} (remaining : R → Option (List ℕ)) (contents : W → Option (List ℕ))

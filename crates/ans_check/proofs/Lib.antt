@@ -14,3 +14,4 @@ pub mod MendedLemmas
 mod MendRoomLemmas
 mod EditLemmas
 mod DraftRoomLemmas
+mod RedrawLemmas

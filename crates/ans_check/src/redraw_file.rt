@@ -49,9 +49,10 @@ fn redraw_file<W: Write>(
     requires { length file.now ≤ longest_file }
     ensures { PutsRedrawn W.contents file.now out.old out.new result }
 {
-    match check::<PlaneGrid>(alloc, file, Start::CLEARED)? {
-        Verdict::Pass(parts, picture) => Ok(put_with_picture(out, file, &parts, &picture)),
-        Verdict::Refused(_, fault) => Ok(Err(Unredrawn::Refused(fault))),
+    let verdict = check::<PlaneGrid>(alloc, file, Start::CLEARED)?;
+    match &verdict {
+        Verdict::Pass(parts, picture) => Ok(put_with_picture(out, file, parts, picture)),
+        Verdict::Refused(_, fault) => Ok(Err(Unredrawn::Refused(*fault))),
     }
 }
 

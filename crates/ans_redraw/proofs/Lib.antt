@@ -19,3 +19,4 @@ pub mod NumberTexts
 pub mod WayTexts
 pub mod RowTexts
 pub mod RowsGiven
+pub mod CopyLemmas

@@ -1,7 +1,8 @@
 //! The form of a picture, row by row.
-ghost use Rattle.std.specs.Prelude.{◌≡◌, ◌+◌, ◌-◌, ◌≤◌, ◌<◌, ◌^◌, [], ◌++◌, if◌then◌else◌, length, take, drop};
+ghost use Rattle.std.specs.Prelude.{◌≡◌, ◌+◌, ◌-◌, ◌*◌, ◌≤◌, ◌<◌, ◌^◌, [], ◌++◌, if◌then◌else◌, length, take, drop};
 ghost use Rattle.std.specs.Prelude.{true, false};
 ghost use Rattle.std.specs.List.{list_all};
+ghost use Rattle.ans_model.specs.Bytes.{most_columns, most_lines};
 ghost use Rattle.ans_model.specs.Screen.State.{IsPlayableSize};
 ghost use Rattle.ans_model.specs.Text.ReportText.{rows_of};
 ghost use Rattle.ans_model.specs.Verdict.Good.{IsPictureOf};
@@ -141,6 +142,7 @@ fn end_of_rows<G: Screen>(picture: &Picture<G>) -> usize
 fn give_form<S: Sink, G: Screen>(sink: &mut S, picture: &Picture<G>)
     ensures takes { S.takes sink.old sink.new (form_bytes picture.now) }
     ensures fits { length (form_bytes picture.now) < 2 ^ 64 }
+    ensures most { length (form_bytes picture.now) ≤ 13 * (most_lines * most_columns) + 23 }
 {
     let end = end_of_rows(picture);
     let mut text = [0; ROW];
@@ -163,10 +165,11 @@ pub fn put_form<W: Write, G: Screen>(out: &mut Outbox<'_, W>, picture: &Picture<
     give_form(out, picture);
 }
 
-/// How many bytes the form of a picture has.
+/// How many bytes the form of a picture has: at most 13 for each cell, and 23 more.
 #[inline(never)]
 pub fn form_length<G: Screen>(picture: &Picture<G>) -> usize
-    ensures { result ≡ length (form_bytes picture.now) }
+    ensures length { result ≡ length (form_bytes picture.now) }
+    ensures most { result ≤ 13 * (most_lines * most_columns) + 23 }
 {
     let mut count = Count { bytes: 0 };
     give_form(&mut count, picture);

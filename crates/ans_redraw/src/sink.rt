@@ -65,7 +65,7 @@ pub(crate) struct Copy<'a> {
 impl<'a> Sink for Copy<'a> {
     ghost use Rattle.ans_redraw.specs.Copies.{Copies};
     ghost use Rattle.std.proofs.Common.{arith, refl, sym, ap, ◌∙◌, append_assoc};
-    ghost use Rattle.std.proofs.lemmas.List.{append_nil, length-append};
+    ghost use Rattle.std.proofs.lemmas.List.{append-nil, length-append};
     ghost use Rattle.std.specs.Prelude.{◌+◌, ◌++◌, ℕ, List, take};
 
     ghost takes = { Copies };
@@ -81,7 +81,7 @@ impl<'a> Sink for Copy<'a> {
     ghost nothing = { λ a. record {
         same_array = refl;
         used = λ fits. Prim.omega arith;
-        taken = λ fits. sym (append_nil (take a.used a.array.now));
+        taken = λ fits. sym (append-nil (take a.used a.array.now));
         same_length = refl;
     } };
 

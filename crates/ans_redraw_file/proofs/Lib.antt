@@ -1,1 +1,6 @@
--- The proofs of redrawn files.
+pub mod NewFiles
+mod EndMarks
+mod KeptNotes
+pub mod RedrawnFiles
+pub mod RedrawnTwice
+pub mod RedrawnContents

@@ -29,14 +29,14 @@ stays NoEndMark = false
 stays SizeDiffers = false
 stays _ = true
 
--- The redrawn file is accepted so. It states the same size, has the same comments, and of the notes those that stay. Its
--- content is the form of the picture, and from every start of every class it passes with this picture.
+-- The redrawn file is accepted so. It states the same size, has the same comments, and of the notes those that stay.
+-- Its content is the form of the picture, and from every start of every class it passes with this picture.
 pub record IsRedrawnTo (file : List ℕ) (apart : FileParts) (picture : Picture) (new : FileParts) : Type 0 where
   pub accepts : Accepts (redrawn_file file picture) new
   pub size : stated_size new.record_bytes ≡ stated_size apart.record_bytes
   pub comments : new.comment_bytes ≡ apart.comment_bytes
   pub notes : notes new.body new.record_bytes ≡ filter stays (notes apart.body apart.record_bytes)
-  pub content : content new.body ≡ form_bytes picture
+  pub form : content new.body ≡ form_bytes picture
   pub good : (class : Start) → GoodWith (stated_size new.record_bytes) class (content new.body) picture
 
 -- So is each file that passes from the cleared start, where there is room.
@@ -59,8 +59,8 @@ ContentTellsThePicture = (file other : List ℕ) (apart other_apart new other_ne
     → stated_size apart.record_bytes ≡ stated_size other_apart.record_bytes
     → (content new.body ≡ content other_new.body) ↔ (p ≡ q)
 
--- From every start the kinds in which players part that arise in a redrawn content are those of the picture's own bytes:
--- it is the same from every start exactly on those players that agree in these.
+-- From every start the kinds in which players part that arise in a redrawn content are those of the picture's own
+-- bytes: it is the same from every start exactly on those players that agree in these.
 abbrev pub OnlyItsBytesPart : Type 0
 OnlyItsBytesPart = (agreed : Kind → Bool) (file : List ℕ) (apart new : FileParts) (picture : Picture)
     → CanBeRedrawn file apart picture → IsRedrawnTo file apart picture new

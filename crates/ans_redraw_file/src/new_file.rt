@@ -1,6 +1,7 @@
 //! The file that is put in the place of another.
 
-ghost use Rattle.std.specs.Prelude.{◌≡◌, ◌-◌, ◌≤◌, ◌++◌, [], ◌∷◌, length, drop, not, IfOk, IfErr, if◌then◌else◌};
+ghost use Rattle.std.specs.Prelude.{◌≡◌, ◌-◌, ◌≤◌, ◌++◌, ◌+◌, [], ◌∷◌, length, take, drop, IfOk, IfErr};
+ghost use Rattle.std.specs.Prelude.{if◌then◌else◌, ◌==◌, None, Some};
 ghost use Rattle.std.specs.List.{list_any};
 ghost use Rattle.ans_model.specs.Bytes.{end_mark, longest_file};
 ghost use Rattle.ans_model.specs.File.Layout.{is_end_mark};
@@ -16,7 +17,7 @@ use crate::outcome::{Redrawn, Unredrawn};
 use ans_mend::Reset;
 use ans_model::limits::MAX_FILE;
 use ans_play::Picture;
-use ans_redraw::{form_length, put_form};
+use ans_redraw::{copy_form, form_length, put_form};
 use ans_sauce::Parts;
 use ans_screen::Screen;
 use ans_write::Outbox;
@@ -51,6 +52,13 @@ fn missing_mark(behind: &[u8]) -> &'static [u8]
     }
 }
 
+/// Where the end mark stands behind a form of this length, if one is put.
+fn place_of_mark(mark: &[u8], form: usize) -> Option<usize>
+    ensures { result ≡ (if length mark.now == 0 then None else Some form) }
+{
+    if mark.is_empty() { None } else { Some(form) }
+}
+
 /// What redrawing a file with this picture changes of it. `TooLong` comes where the new file would have more
 /// than 16,777,216 bytes, and no other error does.
 pub fn redrawn_with<G: Screen>(
@@ -75,7 +83,7 @@ pub fn redrawn_with<G: Screen>(
             was: parts.content().len() as u32,
             is: form as u32,
         },
-        end_mark: if mark.is_empty() { None } else { Some(form) },
+        end_mark: place_of_mark(mark, form),
         file_size: Reset {
             was: parts.sauce().file_size(),
             is: form as u32,
@@ -111,4 +119,55 @@ pub fn put_redrawn_file<W: Write, G: Screen>(
     out.put(missing_mark(behind));
     out.put(behind);
     put_resized(out, &file[file.len() - RECORD_SIZE..], redrawn.file_size.is);
+}
+
+/// Copies bytes to an array from `end` on, and returns where they end.
+fn copy(array: &mut [u8], end: usize, bytes: &[u8]) -> usize
+    requires { end + length bytes.now ≤ length array.old }
+    ensures end { result ≡ end + length bytes.now }
+    ensures length { length array.new ≡ length array.old }
+    ensures bytes { take result array.new ≡ take end array.old ++ bytes.now }
+{
+    let new_end = end + bytes.len();
+    array[end..new_end].copy_from_slice(bytes);
+    new_end
+}
+
+/// Copies a record with this FileSize in the place of its own.
+fn copy_resized(array: &mut [u8], end: usize, sauce: &[u8], size: u32)
+    requires record { length sauce.now ≡ 128 }
+    requires room { end + 128 ≤ length array.old }
+    ensures length { length array.new ≡ length array.old }
+    ensures bytes { take (end + 128) array.new ≡ take end array.old ++ with_file_size size sauce.now }
+{
+    let before = copy(array, end, &sauce[..FILE_SIZE]);
+    let behind = copy(array, before, &size.to_le_bytes());
+    copy(array, behind, &sauce[FILE_SIZE_END..]);
+}
+
+/// Copies the file that is redrawn with this picture, of which `redrawn` says what is changed, to the front of
+/// an array.
+pub fn copy_redrawn_file<G: Screen>(
+    file: &[u8],
+    parts: &Parts<'_>,
+    picture: &Picture<G>,
+    redrawn: &Redrawn,
+    array: &mut [u8],
+)
+    requires split { IsSplit file.now parts.now }
+    requires redrawn { IsRedrawnWith file.now picture.now redrawn.now }
+    requires room { redrawn.now.whole ≤ length array.old }
+    ensures { take redrawn.now.whole array.new ≡ redrawn_file file.now picture.now }
+{
+    let behind = behind_content(file, parts);
+    copy_form(picture, array);
+    let form = redrawn.content.is as usize;
+    let mark = copy(array, form, missing_mark(behind));
+    let comments = copy(array, mark, behind);
+    copy_resized(
+        array,
+        comments,
+        &file[file.len() - RECORD_SIZE..],
+        redrawn.file_size.is,
+    );
 }

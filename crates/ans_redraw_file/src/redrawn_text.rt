@@ -10,7 +10,8 @@ use ans_write::Outbox;
 use std::io::Write;
 
 /// What may help where the drawing is refused.
-const MEND: &[u8] = b"help: anscheck why says how to mend it, and what mend writes can be redrawn\n";
+const MEND: &[u8] =
+    b"help: anscheck why says how to mend it, and what mend writes can be redrawn\n";
 
 fn put_length_line<W: Write>(out: &mut Outbox<'_, W>, length: &Reset)
     ensures { Puts W.contents out.old out.new (length_line length.now) }
@@ -45,7 +46,9 @@ pub fn put_unredrawn<W: Write>(out: &mut Outbox<'_, W>, reason: &Unredrawn)
         Unredrawn::TooLong(whole) => {
             out.put(b"the redrawn file would have ");
             out.put_decimal(*whole as u64);
-            out.put(b" bytes, and 16777216 are the most\nhelp: only a smaller picture can be redrawn\n");
+            out.put(
+                b" bytes, and 16777216 are the most\nhelp: only a smaller picture can be redrawn\n",
+            );
         }
     }
 }

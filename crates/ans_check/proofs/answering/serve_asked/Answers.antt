@@ -9,3 +9,6 @@ returns-in-Table-clause-ends g c =
 
 pub returns-in-Mend-clause-ends : goal.returns-in-Mend-clause-ends
 returns-in-Mend-clause-ends g c = rw c.in-Mend.is c.serve_mend.ensures.ends
+
+pub returns-in-Redraw-clause-ends : goal.returns-in-Redraw-clause-ends
+returns-in-Redraw-clause-ends g c = rw c.in-Redraw.is c.serve_redraw.ensures.ends

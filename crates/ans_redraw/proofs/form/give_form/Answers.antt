@@ -68,3 +68,10 @@ returns-clause-fits g c =
     let limits = c.end_of_rows-end.ensures.limits in
     let cells : p.size.lines * p.size.width ≤ 8192 * 1024 = mul-le-mul limits.lines limits.columns in
     omega (arith, form_is_bounded p, c.end_of_rows-end.ensures.whole.count, cells)
+
+pub returns-clause-most : goal.returns-clause-most
+returns-clause-most g c =
+    let p = c.args.picture.now in
+    let limits = c.end_of_rows-end.ensures.limits in
+    let cells : p.size.lines * p.size.width ≤ 8192 * 1024 = mul-le-mul limits.lines limits.columns in
+    omega (arith, form_is_bounded p, c.end_of_rows-end.ensures.whole.count, cells)

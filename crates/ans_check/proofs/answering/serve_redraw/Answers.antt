@@ -1,0 +1,16 @@
+use Rattle.std.proofs.Common.{subst, sym, inl}
+use Rattle.std.specs.Prelude.{option_map, string_bytes}
+use Rattle.ans_check.specs.Answer.{IsNamed}
+use Rattle.ans_check.proofs.answering.serve_redraw.Goals as goal
+
+pub returns-clause-ends : goal.returns-clause-ends
+returns-clause-ends g c = inl (record {
+  reader = c.new-reader.result;
+  reader_after = c.redraw.new.reader;
+  input = subst (IsNamed (g.I.Inputs.is_file c.args.inputs) (g.I.Inputs.is_standard c.args.inputs)
+      (option_map string_bytes c.args.name.now)) (sym c.new-reader.ensures.inner) c.in-Some.ensures.some;
+  unread = c.new-reader.ensures.calls;
+  answer = c.redraw.result;
+  serves = c.redraw.ensures;
+  ends = c.of_redrawing.ensures;
+})

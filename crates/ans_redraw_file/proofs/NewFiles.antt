@@ -1,0 +1,233 @@
+-- What stands behind the content of a file, and the file that is put in its place.
+use Rattle.std.proofs.Common.{◌≡◌, ℕ, suc, ◌+◌, ◌-◌, ◌≤◌, ◌==◌, Bool, true, false, List, [], ◌∷◌, ◌++◌, length, take}
+use Rattle.std.proofs.Common.{drop, refl, sym, ap, ap₂, ◌∙◌, arith, append_assoc, true≢false}
+use Rattle.std.proofs.lemmas.List.{drop-append-le, drop-take, length-append, length-drop, length-take-le}
+use Rattle.std.proofs.lemmas.List.{take-append-drop, take_all}
+use Rattle.std.proofs.Math.Seq.{drop-append_seam}
+use Rattle.std.specs.Prelude.{Some, None, if◌then◌else◌, ◌||◌}
+use Rattle.std.specs.List.{list_any, position_or_len}
+use Rattle.ans_model.specs.Bytes.{end_mark}
+use Rattle.ans_model.specs.File.Layout.{FileParts, Laid, after_content, comment_block, content, is_end_mark}
+use Rattle.ans_model.specs.File.Record.{comment_count, file_size}
+use Rattle.ans_model.specs.Verdict.Good.{Picture}
+use Rattle.ans_sauce.specs.Found.{body_in, front_in, record_in}
+use Rattle.ans_sauce.proofs.LaidParts.{laid_body, laid_front, laid_record}
+use Rattle.ans_walks.specs.MendedFile.{four_bytes, with_file_size}
+use Rattle.ans_mend.specs.Contents.{content_in}
+use Rattle.ans_redraw.specs.Form.{form_bytes}
+use Rattle.ans_redraw_file.specs.RedrawnFile.{block_in, marked_end, redrawn_file}
+
+short : (xs : List ℕ) (n : ℕ) → length (take n xs) ≤ length xs
+short xs n =
+    let sum : length (take n xs) + length (drop n xs) ≡ length xs =
+    sym (length-append (take n xs) (drop n xs)) ∙ ap length (take-append-drop n xs) in
+    omega (arith, sum)
+
+-- three pieces, one behind the other
+pub joined : (o a b c x y z : List ℕ) → a ≡ o ++ x → b ≡ a ++ y → c ≡ b ++ z → c ≡ o ++ (x ++ (y ++ z))
+joined o a b c x y z first second third =
+    third ∙ ap (λ (v : List ℕ). v ++ z) (second ∙ ap (λ (v : List ℕ). v ++ y) first)
+    ∙ append_assoc (o ++ x) y z ∙ append_assoc o x (y ++ z)
+
+-- what a record has behind its FileSize
+pub record_end : (sauce : List ℕ) → take (length sauce - 94) (drop 94 sauce) ≡ drop 94 sauce
+record_end sauce = take_all (length sauce - 94) (drop 94 sauce) (omega (arith, length-drop 94 sauce))
+
+-- a record has its length with any FileSize
+pub resized_length : (n : ℕ) (sauce : List ℕ) → length sauce ≡ 128 → length (with_file_size n sauce) ≡ 128
+resized_length n sauce is =
+    let front : length (take 90 sauce) ≡ 90 = length-take-le 90 sauce (omega (arith, is)) in
+    let behind : length (drop 94 sauce) ≡ 34 = length-drop 94 sauce ∙ omega (arith, is) in
+    length-append (take 90 sauce) (four_bytes n ++ drop 94 sauce) ∙ omega (arith, front, behind)
+
+-- the end mark that is put before what stands behind a content
+abbrev pub missing : List ℕ → List ℕ
+missing behind = if list_any is_end_mark (take 1 behind) then [] else end_mark ∷ []
+
+one_and : (n : ℕ) → 1 + n ≡ suc n
+one_and n = omega arith
+
+-- behind a byte that is none, the end marks are those behind it
+pub after_one : (b : ℕ) (body : List ℕ) → is_end_mark b ≡ false → after_content (b ∷ body) ≡ after_content body
+after_one b body is =
+    let k : ℕ = position_or_len is_end_mark body in
+    let longer : content (b ∷ body) ≡ b ∷ content body =
+    rw is (ap (λ (v : ℕ). take v (b ∷ body)) (one_and k)) in
+    ap (λ (v : List ℕ). drop (length v) (b ∷ body)) longer
+
+-- from a byte that is one, they are all
+pub after_marked : (b : ℕ) (body : List ℕ) → is_end_mark b ≡ true → after_content (b ∷ body) ≡ b ∷ body
+after_marked b body is = rw is refl
+
+first_marked : (b : ℕ) (xs : List ℕ) → is_end_mark b ≡ true → list_any is_end_mark (b ∷ xs) ≡ true
+first_marked b xs is = ap (λ (v : Bool). v || list_any is_end_mark xs) is
+
+after_none : (body : List ℕ) → list_any is_end_mark body ≡ false → after_content body ≡ []
+after_none [] none = refl
+after_none (b ∷ body) none = go (is_end_mark b) refl (after_none body)
+  where
+    go : (marked : Bool) → is_end_mark b ≡ marked → (list_any is_end_mark body ≡ false → after_content body ≡ [])
+        → after_content (b ∷ body) ≡ []
+    go true is more = absurd (true≢false (rw is at none))
+    go false is more = after_one b body is ∙ more (rw is at none)
+
+-- the first byte behind a content is an end mark where the body has one, if that is no matter of what follows
+first_behind : (body block : List ℕ) → list_any is_end_mark (take 1 block) ≡ false
+    → list_any is_end_mark (take 1 (after_content body ++ block)) ≡ list_any is_end_mark body
+first_behind [] block none = none
+first_behind (b ∷ body) block none = go (is_end_mark b) refl (first_behind body block none)
+  where
+    go : (marked : Bool) → is_end_mark b ≡ marked
+        → list_any is_end_mark (take 1 (after_content body ++ block)) ≡ list_any is_end_mark body
+        → list_any is_end_mark (take 1 (after_content (b ∷ body) ++ block)) ≡ list_any is_end_mark (b ∷ body)
+    go true is more =
+        ap (λ (v : List ℕ). list_any is_end_mark (take 1 (v ++ block))) (after_marked b body is)
+        ∙ first_marked b [] is ∙ sym (first_marked b body is)
+    go false is more =
+        let others : list_any is_end_mark (b ∷ body) ≡ list_any is_end_mark body = rw is refl in
+        ap (λ (v : List ℕ). list_any is_end_mark (take 1 (v ++ block))) (after_one b body is) ∙ more ∙ sym others
+
+-- no block of comments begins with an end mark
+block_unmarked : (count : ℕ) (comment_bytes : List ℕ)
+    → list_any is_end_mark (take 1 (comment_block count comment_bytes)) ≡ false
+block_unmarked count comment_bytes = go (count == 0) refl
+  where
+    go : (none : Bool) → (count == 0) ≡ none
+        → list_any is_end_mark (take 1 (comment_block count comment_bytes)) ≡ false
+    go true is = rw is refl
+    go false is = rw is refl
+
+marked_behind : (body block : List ℕ) → list_any is_end_mark (take 1 block) ≡ false
+    → missing (after_content body ++ block) ++ after_content body ≡ marked_end body
+marked_behind body block none = go (list_any is_end_mark body) refl
+  where
+    first : list_any is_end_mark (take 1 (after_content body ++ block)) ≡ list_any is_end_mark body
+    first = first_behind body block none
+
+    go : (marked : Bool) → list_any is_end_mark body ≡ marked
+        → missing (after_content body ++ block) ++ after_content body ≡ marked_end body
+    go true is = rw (first, is) refl
+    go false is = rw (first, is) (ap (λ (v : List ℕ). end_mark ∷ v) (after_none body is))
+
+module _ (file : List ℕ) (apart : FileParts) (laid : Laid file apart) where
+  abbrev block : List ℕ
+  block = comment_block (comment_count apart.record_bytes) apart.comment_bytes
+
+  abbrev behind : List ℕ
+  behind = drop (length (content_in file)) (front_in file)
+
+  pub its_body : body_in file ≡ apart.body
+  its_body = laid_body file apart laid
+
+  pub block_is : block_in file ≡ block
+  block_is =
+      ap₂ (λ (b f : List ℕ). drop (length b) f) its_body (laid_front file apart laid)
+      ∙ drop-append_seam apart.body block
+
+  pub content_within : length (content_in file) + 128 ≤ length file
+  content_within =
+      let within = short apart.body (position_or_len is_end_mark apart.body) in
+      let whole = ap length laid.whole ∙ length-append apart.body (block ++ apart.record_bytes) in
+      let behind_body = length-append block apart.record_bytes in
+      let same = ap (λ (b : List ℕ). length (content b)) its_body in
+      omega (arith, within, whole, behind_body, same, laid.size)
+
+  -- it stands in the file from the content on
+  pub behind_there : (count : ℕ) → count ≡ length (content_in file)
+      → take (length file - 128 - count) (drop count file) ≡ behind
+  behind_there count is =
+      sym (drop-take count (length file - 128 - count) file)
+      ∙ ap₂ (λ (n m : ℕ). drop n (take m file)) is (omega (arith, content_within, is))
+
+  -- end marks, and the comments
+  pub behind_is : behind ≡ after_content (body_in file) ++ block_in file
+  behind_is =
+      ap₂ (λ (b f : List ℕ). drop (length (content b)) f) its_body (laid_front file apart laid)
+      ∙ drop-append-le (length (content apart.body)) apart.body block
+      (short apart.body (position_or_len is_end_mark apart.body))
+      ∙ ap₂ (λ (b c : List ℕ). after_content b ++ c) (sym its_body) (sym block_is)
+
+  block_none : list_any is_end_mark (take 1 (block_in file)) ≡ false
+  block_none =
+      ap (λ (v : List ℕ). list_any is_end_mark (take 1 v)) block_is
+      ∙ block_unmarked (comment_count apart.record_bytes) apart.comment_bytes
+
+  -- the first of it is an end mark exactly where there is one
+  pub first_is : list_any is_end_mark (take 1 behind) ≡ list_any is_end_mark (body_in file)
+  first_is =
+      ap (λ (v : List ℕ). list_any is_end_mark (take 1 v)) behind_is
+      ∙ first_behind (body_in file) (block_in file) block_none
+
+  -- all that is put behind the form
+  pub whole_is : (picture : Picture) → redrawn_file file picture
+      ≡ form_bytes picture
+      ++ (missing behind ++ (behind ++ with_file_size (length (form_bytes picture)) (record_in file)))
+  whole_is picture =
+      let sauce : List ℕ = with_file_size (length (form_bytes picture)) (record_in file) in
+      let marks : List ℕ = after_content (body_in file) in
+      let marked : missing behind ++ marks ≡ marked_end (body_in file) =
+      ap (λ (v : List ℕ). missing v ++ marks) behind_is ∙ marked_behind (body_in file) (block_in file) block_none in
+      let parts : missing behind ++ (behind ++ sauce) ≡ marked_end (body_in file) ++ (block_in file ++ sauce) =
+      ap (λ (v : List ℕ). missing behind ++ (v ++ sauce)) behind_is
+      ∙ ap (λ (v : List ℕ). missing behind ++ v) (append_assoc marks (block_in file) sauce)
+      ∙ sym (append_assoc (missing behind) marks (block_in file ++ sauce))
+      ∙ ap (λ (v : List ℕ). v ++ (block_in file ++ sauce)) marked in
+      ap (λ (v : List ℕ). form_bytes picture ++ v) (sym parts)
+
+  pub record_length : length (record_in file) ≡ 128
+  record_length = ap length (laid_record file apart laid) ∙ laid.size
+
+  -- and how many bytes it has in all
+  pub whole_length : (picture : Picture) → length (redrawn_file file picture)
+      ≡ length (form_bytes picture) + length (missing behind) + length behind + 128
+  whole_length picture =
+      let form : List ℕ = form_bytes picture in
+      let sauce : List ℕ = with_file_size (length form) (record_in file) in
+      let all = ap length (whole_is picture) ∙ length-append form (missing behind ++ (behind ++ sauce)) in
+      let more = length-append (missing behind) (behind ++ sauce) in
+      let last = length-append behind sauce in
+      omega (arith, all, more, last, resized_length (length form) (record_in file) record_length)
+
+  pub total : (picture : Picture) (form : ℕ) (mark b : List ℕ) → form ≡ length (form_bytes picture) → b ≡ behind
+      → mark ≡ missing b → form + length mark + length b + 128 ≡ length (redrawn_file file picture)
+  total picture form mark b form_is b_is mark_is =
+      ap₂ (λ (n m : ℕ). n + m + length b + 128) form_is (ap length (mark_is ∙ ap missing b_is))
+      ∙ ap (λ (n : ℕ). length (form_bytes picture) + length (missing behind) + n + 128) (ap length b_is)
+      ∙ sym (whole_length picture)
+
+  -- the mark is put where there is none
+  pub mark_put : (n : ℕ) → (if length (missing behind) == 0 then None else Some n)
+      ≡ (if list_any is_end_mark (body_in file) then None else Some n)
+  mark_put n = go (list_any is_end_mark (body_in file)) refl
+    where
+      go : (marked : Bool) → list_any is_end_mark (body_in file) ≡ marked
+          → (if length (missing behind) == 0 then None else Some n)
+          ≡ (if list_any is_end_mark (body_in file) then None else Some n)
+      go true is = rw (first_is, is) refl
+      go false is = rw (first_is, is) refl
+
+  pub size_was : (size : ℕ) (sauce : List ℕ) → size ≡ file_size sauce → sauce ≡ apart.record_bytes
+      → size ≡ file_size (record_in file)
+  size_was size sauce is its = is ∙ ap file_size (its ∙ sym (laid_record file apart laid))
+
+  pub content_was : (bytes : List ℕ) → bytes ≡ content apart.body → length bytes ≡ length (content_in file)
+  content_was bytes is = ap length (is ∙ sym (ap content its_body))
+
+-- the slice that the record is
+pub sauce_is : (file : List ℕ)
+    → take (length file - (length file - 128)) (drop (length file - 128) file) ≡ record_in file
+sauce_is file =
+    take_all (length file - (length file - 128)) (drop (length file - 128) file)
+    (omega (arith, length-drop (length file - 128) file))
+
+-- at most one byte is put
+pub missing_short : (xs : List ℕ) → length (missing xs) ≤ 1
+missing_short xs = go (list_any is_end_mark (take 1 xs)) refl
+  where
+    go : (marked : Bool) → list_any is_end_mark (take 1 xs) ≡ marked → length (missing xs) ≤ 1
+    go true is = rw is (omega arith)
+    go false is = rw is (omega arith)
+
+-- nothing behind a content is longer than its file
+pub behind_short : (file : List ℕ) (count : ℕ) → length (drop count (front_in file)) ≤ length file
+behind_short file count = omega (arith, length-drop count (front_in file), short file (length file - 128))
