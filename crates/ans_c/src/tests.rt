@@ -260,12 +260,6 @@ fn mending_wants_room(rt: HostRuntime) {
     }
 }
 
-/// How much is lent to have the drawing redrawn: rows, bytes, room for the redrawn file, and for the text.
-type RedrawingRoom = (usize, usize, usize, usize);
-
-/// As much as that wants.
-const ENOUGH: RedrawingRoom = (2, 16, 150, 128);
-
 /// What is lent to have a small drawing redrawn.
 #[derive(Drop)]
 struct LentForRedrawing {
@@ -289,16 +283,15 @@ impl LentForRedrawing {
         }
     }
 
-    /// What `ans_redraw` answers about a file within some room.
-    fn redraw(&mut self, file: &[u8], room: RedrawingRoom) -> u32 {
-        let (rows, bytes, redrawn, text) = room;
+    /// What `ans_redraw` answers about a file.
+    fn redraw(&mut self, file: &[u8]) -> u32 {
         ans_redraw(
             file,
-            &mut self.rows[..rows.min(2)],
-            &mut self.bytes[..bytes.min(16)],
-            &mut self.redrawn[..redrawn.min(150)],
+            &mut self.rows,
+            &mut self.bytes,
+            &mut self.redrawn,
             &mut self.size,
-            &mut self.text[..text.min(128)],
+            &mut self.text,
             &mut self.told,
         )
     }
@@ -307,22 +300,34 @@ impl LentForRedrawing {
 #[test]
 fn files_are_redrawn(rt: HostRuntime) {
     let mut lent = LentForRedrawing::new();
-    let answer = lent.redraw(&drawing(), ENOUGH);
+    let answer = lent.redraw(&drawing());
     let redrawn = lent.redrawn.get(..lent.size);
     expect(&rt, answer, redrawn, (PASS, &mended_drawing()));
     let told = b"content length 21, was 2\nfile size 21, was 2\n";
     expect(&rt, answer, lent.text.get(..lent.told), (PASS, told));
-    let answer = lent.redraw(b"Hi", ENOUGH);
+    let answer = lent.redraw(b"Hi");
     let told = b"at 2: F1 no SAUCE record\n\
         help: anscheck why says how to mend it, and what mend writes can be redrawn\n";
     expect(&rt, answer, lent.text.get(..lent.told), (REFUSED, told));
     assert_eq!(rt; lent.size, 0);
 }
 
+/// How much is lent to have the drawing redrawn: rows, bytes, room for the redrawn file, and for the text.
+type RedrawingRoom = (usize, usize, usize, usize);
+
 /// What `ans_redraw` answers about the drawing within some room, and the lengths that it tells.
 fn redrawn_within(room: RedrawingRoom) -> (u32, usize, usize) {
     let mut lent = LentForRedrawing::new();
-    let answer = lent.redraw(&drawing(), room);
+    let (rows, bytes, redrawn, text) = room;
+    let answer = ans_redraw(
+        &drawing(),
+        &mut lent.rows[..rows.min(2)],
+        &mut lent.bytes[..bytes.min(16)],
+        &mut lent.redrawn[..redrawn.min(150)],
+        &mut lent.size,
+        &mut lent.text[..text.min(128)],
+        &mut lent.told,
+    );
     (answer, lent.size, lent.told)
 }
 
