@@ -31,7 +31,7 @@ use Rattle.ans_check_laws.proofs.CleanPieces.{clean_nil, clean_append, clean_if,
 -- ---- pieces
 
 -- a number behind a text
-behind_clean : (before : List ℕ) (n : ℕ) (after : List ℕ) → IsCleanText before → IsCleanText after
+pub behind_clean : (before : List ℕ) (n : ℕ) (after : List ℕ) → IsCleanText before → IsCleanText after
     → IsCleanText (before ++ (decimal n ++ after))
 behind_clean before n after h g =
     clean_append before (decimal n ++ after) h (clean_append (decimal n) after (clean_decimal n) g)
@@ -139,7 +139,7 @@ flag_clean true false = plain_text (flag_line true false) refl
 flag_clean false false = clean_nil
 flag_clean true true = clean_nil
 
-reset_clean : (what : List ℕ) (number : Reset) → IsCleanText what → IsCleanText (reset_line what number)
+pub reset_clean : (what : List ℕ) (number : Reset) → IsCleanText what → IsCleanText (reset_line what number)
 reset_clean what number h =
     let after : List ℕ = codes ", was " ++ (decimal number.was ++ codes "\n") in
     clean_if (number.was == number.is) [] (what ++ (decimal number.is ++ after)) clean_nil
@@ -147,7 +147,7 @@ reset_clean what number h =
     (behind_clean (codes ", was ") number.was (codes "\n") (plain_text (codes ", was ") refl)
     (plain_text (codes "\n") refl)))
 
-end_mark_clean : (at : Option ℕ) → IsCleanText (end_mark_line at)
+pub end_mark_clean : (at : Option ℕ) → IsCleanText (end_mark_line at)
 end_mark_clean None = clean_nil
 end_mark_clean (Some at) =
     behind_clean (codes "put an end mark at ") at (codes "\n") (plain_text (codes "put an end mark at ") refl)

@@ -1,6 +1,6 @@
 -- The lines on players are clean.
-use Rattle.std.proofs.Common.{ℕ, Bool, true, false, refl, List, [], ◌∷◌, ◌++◌, map, codes, Option, Some, None, All}
-use Rattle.std.specs.Prelude.{◌==◌, if◌then◌else◌, decimal, flat_map}
+use Rattle.std.proofs.Common.{ℕ, refl, List, [], ◌∷◌, ◌++◌, map, codes, Option, Some, None, All}
+use Rattle.std.specs.Prelude.{◌==◌, decimal}
 use Rattle.std.proofs.lemmas.List.Elements.{All-nil, All-cons}
 use Rattle.ans_model.specs.declared.start.Start.{Start}
 use Rattle.ans_model.specs.Text.NeedsText.{needed_parts}

@@ -31,6 +31,7 @@ use Rattle.ans_model.specs.Verdict.Good.{Picture}
 use Rattle.ans_model.proofs.Reading.{reads_bytes}
 use Rattle.ans_options.specs.declared.command.Command.{Command}
 use Rattle.ans_options.specs.declared.command.Command.TheVariants.{Why, Check, Show, Sauce, Tokens, Needs, Table, Mend}
+use Rattle.ans_options.specs.declared.command.Command.TheVariants.{Redraw}
 use Rattle.ans_options.specs.declared.command.Form.{Form}
 use Rattle.ans_options.specs.declared.command.Form.TheVariants.{Terminal, Vga, Page}
 use Rattle.ans_options.specs.declared.command.Options.{Options}
@@ -324,6 +325,7 @@ clean_by Tokens start cells file text passed bytes h other = tokens_report_clean
 clean_by Needs start cells file text passed bytes h other = needs_clean file passed text h
 clean_by (Table form) start cells file text passed bytes h other = needs_clean file passed text h
 clean_by (Mend mends) start cells file text passed bytes h other = needs_clean file passed text h
+clean_by Redraw start cells file text passed bytes h other = needs_clean file passed text h
 
 pub reports_clean : (options : Options) (file text : List ℕ) (passed : Bool) → All IsByte file
     → Reports options file passed text → (is_for_terminal options.command && passed) ≡ false → IsCleanText text
@@ -346,6 +348,8 @@ coloured_by Needs start cells file text passed bytes h =
 coloured_by (Table form) start cells file text passed bytes h =
     coloured_where_clean text (needs_clean file passed text h)
 coloured_by (Mend mends) start cells file text passed bytes h =
+    coloured_where_clean text (needs_clean file passed text h)
+coloured_by Redraw start cells file text passed bytes h =
     coloured_where_clean text (needs_clean file passed text h)
 
 pub reports_coloured : (options : Options) (file text : List ℕ) (passed : Bool) → All IsByte file
@@ -377,6 +381,8 @@ message_clean UnopenedFile text e =
 message_clean (ended.Table counts) text e = absurd (cc)
 message_clean (ended.Mended mended) text e = absurd (cc)
 message_clean (ended.NotMended asked reason) text e = absurd (cc)
+message_clean (ended.Redrawn redrawn) text e = absurd (cc)
+message_clean (ended.NotRedrawn reason) text e = absurd (cc)
 message_clean ended.NamedInput text e =
     given_clean (codes "- names no file of a table; without FILE, names are read") text
     (plain_text (codes "- names no file of a table; without FILE, names are read") refl) e

@@ -16,6 +16,7 @@ pub mod CleanReports
 pub mod CleanBytes
 pub mod ReturnsPut
 pub mod CleanMended
+pub mod CleanRedrawn
 pub mod BytesTold
 pub mod WholeFiles
 pub mod MarkedContents
@@ -25,3 +26,7 @@ pub mod MendedItself
 pub mod MendedAgain
 pub mod MendedTwice
 pub mod PlayersShown
+pub mod RedrawnAgain
+pub mod RedrawnPictures
+pub mod RedrawnShown
+pub mod UnredrawnFiles

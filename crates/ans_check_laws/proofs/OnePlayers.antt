@@ -1,12 +1,12 @@
 -- What is said of a content on players is said in one way.
-use Rattle.std.proofs.Common.{◌≡◌, ℕ, ◌<◌, Bool, true, false, refl, sym, ap, ap₂, arith, List, Option, None, Some}
+use Rattle.std.proofs.Common.{◌≡◌, ℕ, false, refl, ap, arith, List, Option, None, Some}
 use Rattle.std.specs.Prelude.{IsTrue, is_some}
 use Rattle.std.proofs.lemmas.Bool.{false≢true}
 use Rattle.ans_model.specs.Screen.State.{Size}
 use Rattle.ans_model.specs.Screen.StartClass.{all_known}
 use Rattle.ans_model.specs.declared.start.Start.{Start}
 use Rattle.ans_model.proofs.ClassLemmas.{covers_all_known}
-use Rattle.ans_players.specs.Classes.{IsLeastSame, IsSame}
+use Rattle.ans_players.specs.Classes.{IsLeastSame}
 use Rattle.ans_players.specs.declared.kind.Kind.{Kind}
 use Rattle.ans_players.specs.declared.kind.Kind.TheVariants.{WrapAtOnce, LineEnds, HomeOnClear, ClearInColour}
 use Rattle.ans_players.specs.declared.kind.Kind.TheVariants.{SavePlaceOnly, DosColours, TabPrints, LineErased, WrapOff}

@@ -21,6 +21,7 @@ use Rattle.ans_model.proofs.ClassLemmas.{covers_all_known, covers_itself}
 use Rattle.ans_model.proofs.OneAnswer.{one_first_fault, one_last_fault, first_or_last}
 use Rattle.ans_laws.proofs.OneTokensText.{one_fault_of_tokens, one_text_of_tokens}
 use Rattle.ans_options.specs.declared.command.Command.TheVariants.{Why, Check, Show, Sauce, Tokens, Needs, Table, Mend}
+use Rattle.ans_options.specs.declared.command.Command.TheVariants.{Redraw}
 use Rattle.ans_options.specs.declared.command.Form.{Form}
 use Rattle.ans_options.specs.declared.command.Command.{Command}
 use Rattle.ans_options.specs.declared.command.Options.{Options}
@@ -45,7 +46,7 @@ same_text say a b text other is other_is same = is ∙ ap say same ∙ sym other
 
 -- ---- files
 
-same_apart : (file : List ℕ) (a b : FileParts) → Accepts file a → Accepts file b → a ≡ b
+pub same_apart : (file : List ℕ) (a b : FileParts) → Accepts file a → Accepts file b → a ≡ b
 same_apart file a b h g = one_layout file a b h.laid g.laid
 
 -- an accepted file has no fault of its record
@@ -83,7 +84,7 @@ one_refusal file start a b f g p q =
 -- ---- checks
 
 -- a file passes with one picture, and in one layout
-same_picture : (file : List ℕ) (start : Start) (a b : FileParts) (p q : Picture) → Passes file start a p
+pub same_picture : (file : List ℕ) (start : Start) (a b : FileParts) (p q : Picture) → Passes file start a p
     → Passes file start b q → (a ≡ b) × (p ≡ q)
 same_picture file start a b p q h g =
     let apart : a ≡ b = same_apart file a b h.accepts g.accepts in
@@ -246,6 +247,7 @@ one_by Tokens start cells file text other passed again h g = one_tokens file pas
 one_by Needs start cells file text other passed again h g = one_needs file passed again text other h g
 one_by (Table form) start cells file text other passed again h g = one_needs file passed again text other h g
 one_by (Mend mends) start cells file text other passed again h g = one_needs file passed again text other h g
+one_by Redraw start cells file text other passed again h g = one_needs file passed again text other h g
 
 pub one_report : (options : Options) (file text other : List ℕ) (passed again : Bool)
     → Reports options file passed text → Reports options file again other → (passed ≡ again) × (text ≡ other)

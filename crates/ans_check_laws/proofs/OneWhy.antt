@@ -102,7 +102,7 @@ module _ (z : Size) (class : Start) (bytes : List ℕ) (f g : Fault) where
   one_fault (inr p) (inr q) = one_last_fault z class bytes f g p q
 
 -- good content deserves no fault
-good_deserves_none : (z : Size) (class : Start) (bytes : List ℕ) (f : Fault) → IsGood z class bytes
+pub good_deserves_none : (z : Size) (class : Start) (bytes : List ℕ) (f : Fault) → IsGood z class bytes
     → IsDeserved z class bytes f → ⊥
 good_deserves_none z class bytes f good (inl h) = good_or_first z class bytes f good h
 good_deserves_none z class bytes f good (inr h) = good_or_last z class bytes f good h

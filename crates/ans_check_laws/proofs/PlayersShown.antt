@@ -1,5 +1,5 @@
 -- From what is said of players to what they show.
-use Rattle.std.proofs.Common.{◌≡◌, inl, inr, ℕ, Bool, true, false, List, [], ◌∷◌, refl, sym, subst, take, ◌∙◌}
+use Rattle.std.proofs.Common.{◌≡◌, inl, inr, ℕ, Bool, false, List, [], ◌∷◌, refl, sym, subst, take, ◌∙◌}
 use Rattle.std.specs.Prelude.{IsTrue}
 use Rattle.std.specs.List.{list_all}
 use Rattle.std.proofs.lemmas.Bool.{and_from, and_parts, cases_Bool, false≢true}
@@ -23,7 +23,7 @@ use Rattle.ans_check.specs.Mending.{IsMended}
 use Rattle.ans_check_laws.proofs.Covering.{covers_both_ways}
 use Rattle.ans_check_laws.proofs.MendedTwice.{calm}
 
-abbrev none_agreed : Kind → Bool
+abbrev pub none_agreed : Kind → Bool
 none_agreed kind = false
 
 -- what is agreed is so where more is

@@ -5,11 +5,14 @@
 //! cover which. [`text_laws`] say that the texts are clean: of the control characters only line feeds
 //! are in them, and no byte of a file is shown by one. [`report_laws`] say that a file and its options
 //! have one report, and that what `needs` finds is what each check finds. [`mend_laws`] say that mending
-//! by itself keeps the picture, and that once is enough. [`player_laws`] say what shows on which players.
+//! by itself keeps the picture, and that once is enough. [`redraw_laws`] say that redrawing keeps the
+//! picture, that once is enough, that only its length keeps a drawing that passes from being redrawn, and
+//! that drawings of one picture get one content. [`player_laws`] say what shows on which players.
 #![tactic(auto)]
 
 pub mod class_laws;
 pub mod mend_laws;
 pub mod player_laws;
+pub mod redraw_laws;
 pub mod report_laws;
 pub mod text_laws;

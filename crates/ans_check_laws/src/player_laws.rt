@@ -1,7 +1,7 @@
 //! Laws of what is said of players.
 
-ghost use Rattle.std.specs.Prelude.{◌≡◌, ℕ, List, IsTrue};
-ghost use Rattle.ans_model.specs.File.Layout.{content};
+ghost use Rattle.std.specs.Prelude.{◌≡◌, ◌↔◌, ℕ, false, List, IsTrue};
+ghost use Rattle.ans_model.specs.File.Layout.{FileParts, content};
 ghost use Rattle.ans_model.specs.File.Record.{stated_size};
 ghost use Rattle.ans_model.specs.Screen.StartClass.{Covers, all_known, none_known};
 ghost use Rattle.ans_model.specs.Verdict.Good.{GoodWith, Picture};
@@ -15,7 +15,11 @@ ghost use Rattle.ans_walks.specs.declared.kinds.KindsUsed.{KindsUsed};
 ghost use Rattle.ans_walks.specs.declared.players.Players.TheVariants.{Agreeing, Any};
 ghost use Rattle.ans_mend.specs.declared.outcome.Mended.{Mended};
 ghost use Rattle.ans_options.specs.declared.command.Mends.{Mends};
+ghost use Rattle.ans_redraw.specs.Drawable.{BytesAreAgreed};
+ghost use Rattle.ans_redraw_file.specs.declared.outcome.Redrawn.{Redrawn};
+ghost use Rattle.ans_check.specs.FileVerdict.{Passes};
 ghost use Rattle.ans_check.specs.Mending.{IsMended};
+ghost use Rattle.ans_check.specs.Redrawing.{IsRedrawn};
 
 use ans_players::player::Player;
 
@@ -50,4 +54,19 @@ pub fn mended_files_are_same_where_cleared()
         → (is : IsMended mends file mended draft)
         → IsSaidOfPlayers (stated_size is.apart.record_bytes) (content is.apart.body) (Any class)
         → class ≡ none_known }
+{}
+
+/// A redrawn file shows its picture on every player that draws the picture's own bytes as the profile does, from
+/// every memory that stands firmly for a start of any class. So `why` says `players: any` of it, from every
+/// start, exactly where the picture has no control byte that players draw in different ways.
+pub fn redrawn_files_show_everywhere<P: Player>()
+    ensures shown { (file new : List ℕ) (redrawn : Redrawn) (class : Start) (apart : FileParts)
+        (picture : Picture)
+        → IsRedrawn file redrawn new → P.size ≡ stated_size apart.record_bytes
+        → BytesAreAgreed P.agreed picture → (passes : Passes new class apart picture)
+        → IsShown P.behaviour P.size class (spelled passes.good.tokens passes.good.reads.0) picture }
+    ensures any { (file new : List ℕ) (redrawn : Redrawn) (apart : FileParts) (picture : Picture)
+        → IsRedrawn file redrawn new → Passes new all_known apart picture
+        → IsSaidOfPlayers (stated_size apart.record_bytes) (content apart.body) (Any none_known)
+        ↔ BytesAreAgreed (λ kind. false) picture }
 {}

@@ -13,6 +13,9 @@ ghost use Rattle.ans_mend.specs.declared.outcome.Mended.{Mended};
 ghost use Rattle.ans_mend.specs.declared.outcome.Unmended.{Unmended};
 ghost use Rattle.ans_options.specs.declared.command.Mends.{Mends};
 ghost use Rattle.ans_options.specs.declared.command.Options.{Options};
+ghost use Rattle.ans_redraw_file.specs.RedrawnText.{redrawn_text, unredrawn_text};
+ghost use Rattle.ans_redraw_file.specs.declared.outcome.Redrawn.{Redrawn};
+ghost use Rattle.ans_redraw_file.specs.declared.outcome.Unredrawn.{Unredrawn};
 ghost use Rattle.ans_report.specs.Message.{message_line};
 ghost use Rattle.ans_check_laws.specs.CleanTexts.{IsCleanByte, IsCleanText, HasNoControls};
 ghost use Rattle.ans_check_laws.specs.CleanTexts.{IsColouredText, IsControl, IsControlByte, IsOneLine, is_for_terminal};
@@ -51,6 +54,12 @@ pub fn what_mending_says_is_clean()
     ensures changes { (mends : Mends) (file draft : List ℕ) (mended : Mended)
         → All IsByte file → IsMended mends file mended draft → IsCleanText (mended_text mended) }
     ensures reasons { (asked : Mends) (reason : Unmended) → IsCleanText (unmended_text asked reason) }
+{}
+
+/// What redrawing says is clean: what was changed of a file, and why there is none.
+pub fn what_redrawing_says_is_clean()
+    ensures changes { (redrawn : Redrawn) → IsCleanText (redrawn_text redrawn) }
+    ensures reasons { (reason : Unredrawn) → IsCleanText (unredrawn_text reason) }
 {}
 
 /// Of the bytes of a clean text that stand below 20h each is a line feed, and none is 7Fh. A text

@@ -44,6 +44,7 @@ mod mends;
 mod needs;
 mod pictures;
 mod records;
+mod redrawn_files;
 mod reports;
 mod shelf;
 mod tables;

@@ -122,11 +122,12 @@ The redrawn file goes to standard output: give it another name, as in
   anscheck redraw drawing.ans > redrawn.ans
 since the shell empties a file before it is read. The picture is the one that
 the drawing shows in the end on a cleared screen, so an animation becomes
-still. Of the record only the file size changes.
+still; it then shows from every start. Of the record only the file size
+changes, and an end mark is put before it where there is none.
 
 Exit status:
   0  A file was written, or help was asked for
-  1  The drawing is refused from the cleared screen; standard error says why
+  1  No file could be redrawn; standard error says why
   2  There is no answer; standard error says why";
 
 /// How the program is used, where words name no command. A drawing's name alone is such a word.
@@ -148,7 +149,7 @@ Examples:
   anscheck help F20
 
 ",
-    "The file passes, or help or the version was asked for"
+    "The file passes or is written, or help or the version was asked for"
 );
 
 // What the commands do, in the order of the program's help.
@@ -156,7 +157,7 @@ const WHY: &str = "Say why a drawing is refused, what it relies on, and how to m
 
 const MEND: &str = "Write a drawing mended, so that it shows the same everywhere";
 
-const REDRAW: &str = "Write the picture anew, so that it shows the same on every player";
+const REDRAW: &str = "Write the picture anew, in the plainest form there is";
 
 const NEEDS: &str = "Print what a drawing relies on: screen, cursor, saved, colours, wrap";
 

@@ -48,8 +48,8 @@ abbrev pub or_white : List ℕ → List ℕ
 or_white [] = 37 ∷ []
 or_white numbers = numbers
 
--- 0, and what differs from white on black. A colour is named in any case, since some player prints behind `ESC[0m`
--- alone in the colours that are on the screen.
+-- 0, and what differs from white on black. Another number stands behind the 0 in any case, since some player prints
+-- behind `ESC[0m` alone in the colours that are on the screen.
 abbrev pub anew : ℕ → List ℕ
 anew to = 0 ∷ or_white (changes 0x07 to)
 

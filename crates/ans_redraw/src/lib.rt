@@ -4,8 +4,8 @@
 //! colours and its byte; then white on black where it is not so already. `specs/Form.antt` has the form,
 //! and `specs/Colours.antt` how one attribute becomes another. [`form_length`] counts its bytes,
 //! [`put_form`] puts them, and [`copy_form`] copies them: each goes over the picture row by row, with no memory
-//! beyond a row. In [`laws`]
-//! stands what is proved of the form, in [`examples`] the bytes of small pictures.
+//! beyond a row. In [`laws`] stands what is proved of the form, in [`examples`] the bytes of small
+//! pictures.
 #![tactic(auto)]
 
 mod colours;

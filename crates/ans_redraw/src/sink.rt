@@ -79,21 +79,35 @@ impl<'a> Sink for Copy<'a> {
     }
 
     ghost nothing = { λ a. record {
-        same_array = refl;
-        used = λ fits. Prim.omega arith;
-        taken = λ fits. sym (append-nil (take a.used a.array.now));
-        same_length = refl;
+      same_array = refl;
+      used = λ fits. Prim.omega arith;
+      taken = λ fits. sym (append-nil (take a.used a.array.now));
+      same_length = refl;
     } };
 
     ghost both = { λ a b c x y p q. record {
-        same_array = q.same_array ∙ p.same_array;
-        used = λ fits. Prim.omega (arith, length-append x y, p.used (Prim.omega (arith, fits, length-append x y)),
-            q.used (Prim.omega (arith, fits, length-append x y, p.same_length,
-            p.used (Prim.omega (arith, fits, length-append x y)))));
-        taken = λ fits. q.taken (Prim.omega (arith, fits, length-append x y, p.same_length,
-            p.used (Prim.omega (arith, fits, length-append x y))))
-            ∙ ap (λ (v : List ℕ). v ++ y) (p.taken (Prim.omega (arith, fits, length-append x y)))
-            ∙ append_assoc (take a.used a.array.now) x y;
-        same_length = q.same_length ∙ p.same_length;
+      same_array = q.same_array ∙ p.same_array;
+      used = λ fits. Prim.omega (
+        arith,
+        length-append x y,
+        p.used (Prim.omega (arith, fits, length-append x y)),
+        q.used (Prim.omega (
+          arith,
+          fits,
+          length-append x y,
+          p.same_length,
+          p.used (Prim.omega (arith, fits, length-append x y)),
+        )),
+      );
+      taken = λ fits. q.taken (Prim.omega (
+        arith,
+        fits,
+        length-append x y,
+        p.same_length,
+        p.used (Prim.omega (arith, fits, length-append x y)),
+      ))
+          ∙ ap (λ (v : List ℕ). v ++ y) (p.taken (Prim.omega (arith, fits, length-append x y)))
+          ∙ append_assoc (take a.used a.array.now) x y;
+      same_length = q.same_length ∙ p.same_length;
     } };
 }

@@ -134,6 +134,7 @@ module _ (file : List ℕ) (apart : FileParts) (picture : Picture) (h : CanBeRed
     accepts = its_accepts;
     size = its_size;
     comments = refl;
+    sauce = refl;
     notes = notes_stay apart parts (record {
       width = resized_width form unmarked n (laid_file rest) rest rest_accepted;
       date = resized_date form unmarked n (laid_file rest) rest rest_accepted;

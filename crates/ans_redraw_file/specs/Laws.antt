@@ -15,6 +15,7 @@ use Rattle.ans_players.specs.Classes.{IsLeastSame}
 use Rattle.ans_players.specs.declared.kind.Kind.{Kind}
 use Rattle.ans_redraw.specs.Drawable.{BytesAreAgreed}
 use Rattle.ans_redraw.specs.Form.{form_bytes}
+use Rattle.ans_walks.specs.MendedFile.{with_file_size}
 use Rattle.ans_redraw_file.specs.RedrawnFile.{redrawn_file}
 
 -- The file is accepted so, and passes from the cleared start with this picture. There is room for what is redrawn.
@@ -29,12 +30,14 @@ stays NoEndMark = false
 stays SizeDiffers = false
 stays _ = true
 
--- The redrawn file is accepted so. It states the same size, has the same comments, and of the notes those that stay.
--- Its content is the form of the picture, and from every start of every class it passes with this picture.
+-- The redrawn file is accepted so. It states the same size, has the same comments, and its record is the same but for
+-- the FileSize. Of the notes it has those that stay. Its content is the form of the picture, and from every start of
+-- every class it passes with this picture.
 pub record IsRedrawnTo (file : List ℕ) (apart : FileParts) (picture : Picture) (new : FileParts) : Type 0 where
   pub accepts : Accepts (redrawn_file file picture) new
   pub size : stated_size new.record_bytes ≡ stated_size apart.record_bytes
   pub comments : new.comment_bytes ≡ apart.comment_bytes
+  pub sauce : new.record_bytes ≡ with_file_size (length (form_bytes picture)) apart.record_bytes
   pub notes : notes new.body new.record_bytes ≡ filter stays (notes apart.body apart.record_bytes)
   pub form : content new.body ≡ form_bytes picture
   pub good : (class : Start) → GoodWith (stated_size new.record_bytes) class (content new.body) picture

@@ -24,4 +24,4 @@ unredrawn_text (unredrawn.Refused fault) =
     fault_line fault ++ codes "help: anscheck why says how to mend it, and what mend writes can be redrawn\n"
 unredrawn_text (unredrawn.TooLong whole) =
     codes "the redrawn file would have " ++ (decimal whole
-    ++ codes " bytes, and 16777216 are the most\nhelp: only a smaller picture can be redrawn\n")
+    ++ codes " bytes, and 16777216 are the most\nhelp: fewer cells, or fewer changes of colour, make it shorter\n")

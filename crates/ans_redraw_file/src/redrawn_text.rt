@@ -13,6 +13,10 @@ use std::io::Write;
 const MEND: &[u8] =
     b"help: anscheck why says how to mend it, and what mend writes can be redrawn\n";
 
+/// How many bytes a file may have, and what may help where there would be more.
+const TOO_LONG: &[u8] = b" bytes, and 16777216 are the most\n\
+    help: fewer cells, or fewer changes of colour, make it shorter\n";
+
 fn put_length_line<W: Write>(out: &mut Outbox<'_, W>, length: &Reset)
     ensures { Puts W.contents out.old out.new (length_line length.now) }
 {
@@ -46,9 +50,7 @@ pub fn put_unredrawn<W: Write>(out: &mut Outbox<'_, W>, reason: &Unredrawn)
         Unredrawn::TooLong(whole) => {
             out.put(b"the redrawn file would have ");
             out.put_decimal(*whole as u64);
-            out.put(
-                b" bytes, and 16777216 are the most\nhelp: only a smaller picture can be redrawn\n",
-            );
+            out.put(TOO_LONG);
         }
     }
 }

@@ -2,7 +2,7 @@
 set -l commands why mend redraw needs check show sauce tokens table help
 complete -c anscheck -n "not __fish_seen_subcommand_from $commands" -f -a why -d 'Why a drawing is refused, and what it relies on'
 complete -c anscheck -n "not __fish_seen_subcommand_from $commands" -f -a mend -d 'A drawing that shows the same everywhere'
-complete -c anscheck -n "not __fish_seen_subcommand_from $commands" -f -a redraw -d 'The picture anew, the same on every player'
+complete -c anscheck -n "not __fish_seen_subcommand_from $commands" -f -a redraw -d 'The picture anew, in the plainest form'
 complete -c anscheck -n "not __fish_seen_subcommand_from $commands" -f -a needs -d 'What a drawing relies on'
 complete -c anscheck -n "not __fish_seen_subcommand_from $commands" -f -a check -d 'Check a drawing, and print its picture'
 complete -c anscheck -n "not __fish_seen_subcommand_from $commands" -f -a show -d 'Show a picture in its colours'

@@ -73,7 +73,7 @@ macro_rules! no_number {
 }
 
 const PROGRAM_HELP: &str = help!(
-    "The file passes, or help or the version was asked for",
+    "The file passes or is written, or help or the version was asked for",
     "Checks ANSI art files that end in a SAUCE record\n\
     \n\
     Usage: anscheck <COMMAND>\n\
@@ -83,7 +83,7 @@ const PROGRAM_HELP: &str = help!(
     Commands:\n\
     \x20 why     Say why a drawing is refused, what it relies on, and how to mend it\n\
     \x20 mend    Write a drawing mended, so that it shows the same everywhere\n\
-    \x20 redraw  Write the picture anew, so that it shows the same on every player\n\
+    \x20 redraw  Write the picture anew, in the plainest form there is\n\
     \x20 needs   Print what a drawing relies on: screen, cursor, saved, colours, wrap\n\
     \x20 check   Check that a file always shows the same picture, and print it\n\
     \x20 show    Show the picture in its colours, for a terminal or as a page\n\
@@ -202,7 +202,7 @@ const MEND_HELP: &str = "\
     \x20 2  There is no answer; standard error says why\n";
 
 const REDRAW_HELP: &str = "\
-    Write the picture anew, so that it shows the same on every player\n\
+    Write the picture anew, in the plainest form there is\n\
     \n\
     Usage: anscheck redraw [FILE]\n\
     \n\
@@ -216,11 +216,12 @@ const REDRAW_HELP: &str = "\
     \x20 anscheck redraw drawing.ans > redrawn.ans\n\
     since the shell empties a file before it is read. The picture is the one that\n\
     the drawing shows in the end on a cleared screen, so an animation becomes\n\
-    still. Of the record only the file size changes.\n\
+    still; it then shows from every start. Of the record only the file size\n\
+    changes, and an end mark is put before it where there is none.\n\
     \n\
     Exit status:\n\
     \x20 0  A file was written, or help was asked for\n\
-    \x20 1  The drawing is refused from the cleared screen; standard error says why\n\
+    \x20 1  No file could be redrawn; standard error says why\n\
     \x20 2  There is no answer; standard error says why\n";
 
 const VERSION: &str = "anscheck 0.1.0 (rattle logic dac8208d650f15bf)\n";

@@ -19,8 +19,7 @@ pub returns : goal.returns
 returns g c =
     let file = c.args.file.now in
     let p = c.args.picture.now in
-    let pass = passes file all_known c.args.parts.now c.requires.split p c.requires.good in
-    (
+    let pass = passes file all_known c.args.parts.now c.requires.split p c.requires.good in (
       redrawn_file file p,
       record {
         apart = pass.0;

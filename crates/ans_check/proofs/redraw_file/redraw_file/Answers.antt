@@ -5,6 +5,12 @@ use Rattle.ans_check.proofs.RedrawLemmas.{refused_is_faulty}
 use Rattle.ans_check.proofs.redraw_file.redraw_file.Goals as goal
 
 pub returns : goal.returns
-returns g c =
-    ([], (refused_is_faulty PlaneGrid c.args.file.now c.in-Refused.field-0 c.in-Refused.fault
-    (rw c.in-Refused.is at c.in_ok-verdict.ensures.verdict), refl), Puts-nothing c.args.out.now)
+returns g c = (
+  [],
+  (
+    refused_is_faulty PlaneGrid c.args.file.now c.in-Refused.field-0 c.in-Refused.fault
+        (rw c.in-Refused.is at c.in_ok-verdict.ensures.verdict),
+    refl,
+  ),
+  Puts-nothing c.args.out.now,
+)

@@ -1,0 +1,54 @@
+//! Laws of redrawing.
+
+ghost use Rattle.std.specs.Prelude.{◌≡◌, ◌↔◌, ℕ, List};
+ghost use Rattle.std.specs.List.{filter};
+ghost use Rattle.ans_model.specs.File.Layout.{FileParts};
+ghost use Rattle.ans_model.specs.File.NoteConditions.{notes};
+ghost use Rattle.ans_model.specs.File.Record.{stated_size};
+ghost use Rattle.ans_model.specs.Screen.StartClass.{all_known};
+ghost use Rattle.ans_model.specs.Verdict.Good.{Picture};
+ghost use Rattle.ans_model.specs.declared.start.Start.{Start};
+ghost use Rattle.ans_mend.specs.Contents.{content_in};
+ghost use Rattle.ans_redraw_file.specs.Laws.{stays};
+ghost use Rattle.ans_redraw_file.specs.RedrawnFile.{IsTooLong};
+ghost use Rattle.ans_redraw_file.specs.declared.outcome.Redrawn.{Redrawn};
+ghost use Rattle.ans_redraw_file.specs.declared.outcome.Unredrawn.{Unredrawn};
+ghost use Rattle.ans_check.specs.FileVerdict.{Passes};
+ghost use Rattle.ans_check.specs.Redrawing.{IsReasonNot, IsRedrawn};
+
+/// Redrawing changes no cell of a drawing. What is written passes from every start with the picture that the
+/// file shows from the cleared one. It states the same size, has the same comments, and of the notes those
+/// that are not on the end mark or the file size.
+pub fn redrawing_keeps_the_picture()
+    ensures { (file new : List ℕ) (apart : FileParts) (picture : Picture) (redrawn : Redrawn)
+        → Passes file all_known apart picture → IsRedrawn file redrawn new
+        → (new_apart : FileParts) × ((class : Start) → Passes new class new_apart picture)
+        × (stated_size new_apart.record_bytes ≡ stated_size apart.record_bytes)
+        × (new_apart.comment_bytes ≡ apart.comment_bytes)
+        × (notes new_apart.body new_apart.record_bytes
+        ≡ filter stays (notes apart.body apart.record_bytes)) }
+{}
+
+/// To redraw once is enough: of what is written, redrawn again, the same bytes are written.
+pub fn redrawing_once_is_enough()
+    ensures { (file new newer : List ℕ) (redrawn again : Redrawn)
+        → IsRedrawn file redrawn new → IsRedrawn new again newer → newer ≡ new }
+{}
+
+/// A file that passes from the cleared start is left as it is for one reason alone: with the form of its
+/// picture it would be longer than a file may be. The reason tells that length.
+pub fn only_length_stands_in_the_way()
+    ensures { (file : List ℕ) (apart : FileParts) (picture : Picture) (reason : Unredrawn)
+        → Passes file all_known apart picture → IsReasonNot file reason → IsTooLong file picture reason }
+{}
+
+/// Two drawings that state one size show the same picture exactly where their contents, once redrawn, are the
+/// same bytes.
+pub fn equal_pictures_have_equal_contents()
+    ensures { (file other new other_new : List ℕ) (apart other_apart : FileParts) (p q : Picture)
+        (redrawn other_redrawn : Redrawn)
+        → Passes file all_known apart p → Passes other all_known other_apart q
+        → stated_size apart.record_bytes ≡ stated_size other_apart.record_bytes
+        → IsRedrawn file redrawn new → IsRedrawn other other_redrawn other_new
+        → (content_in new ≡ content_in other_new) ↔ (p ≡ q) }
+{}
