@@ -23,7 +23,7 @@ extern "C" {
 /* The longest file that is checked, in bytes. */
 #define ANS_LONGEST_FILE 16777216
 
-/* Room for any text of ans_why, ans_record and ans_mend. */
+/* Room for any text of ans_why, ans_record, ans_mend and ans_redraw. */
 #define ANS_LONGEST_TEXT 65536
 
 /* What a call answers. ANS_NO_MEMORY comes from ans_easy.h alone. */
@@ -127,6 +127,19 @@ uint32_t ans_mend(const uint8_t *file, size_t file_len, uint32_t classes, uint32
                   struct ans_row *rows, size_t rows_len, uint8_t *bytes, size_t bytes_len, uint8_t *draft,
                   size_t draft_len, uint8_t *mended, size_t mended_len, size_t *size, uint8_t *text, size_t text_len,
                   size_t *length);
+
+/* Redraws a file as `anscheck redraw` does: writes the picture that it shows from the cleared start anew, in the plainest
+ * form, and tells what that says, in UTF-8. The redrawn file passes from every start. `rows` and `bytes` want as many as
+ * ans_size tells. How many bytes `redrawn` wants is told where it has fewer, so an empty one asks for that.
+ * ANS_PASS: the redrawn file stands at the front of `redrawn`, `size` says how many bytes it has, and the text says what
+ * was changed, a line for each kind of change. ANS_REFUSED: the file does not pass from the cleared start, or the redrawn
+ * one would have more than ANS_LONGEST_FILE bytes; `size` is 0, and the text says why. After both the text stands at the
+ * front of `text`, and `length` says how many bytes it has. ANS_TOO_LONG, and `size` and `length` are 0. ANS_NO_ROOM:
+ * `redrawn` has fewer bytes than `size` then says, and `length` is 0; or `text` has fewer than `length` then says, and
+ * `redrawn` and `size` are as after ANS_PASS or ANS_REFUSED; or there are too few rows or bytes, and both are 0. */
+uint32_t ans_redraw(const uint8_t *file, size_t file_len, struct ans_row *rows, size_t rows_len, uint8_t *bytes,
+                    size_t bytes_len, uint8_t *redrawn, size_t redrawn_len, size_t *size, uint8_t *text,
+                    size_t text_len, size_t *length);
 
 /* The text of the fault Fn ("F21 scrolls") and of the note Nn. ANS_REFUSED: there is none of this number. ANS_NO_ROOM:
  * `text` has fewer bytes than `length` then says. */

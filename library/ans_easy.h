@@ -93,4 +93,40 @@ static inline uint32_t ans_mend_easily(const uint8_t *file, size_t file_len, uin
     return answer;
 }
 
+/* Redraws a file as ans_redraw does, which is called twice: first for the size. ANS_PASS: `redrawn` has `size` bytes, and
+ * is freed by free. ANS_NO_MEMORY: malloc gave none. After all else there is nothing to free. Of ANS_LONGEST_TEXT bytes
+ * `text` is never too short. */
+static inline uint32_t ans_redraw_easily(const uint8_t *file, size_t file_len, uint8_t **redrawn, size_t *size,
+                                         uint8_t *text, size_t text_len, size_t *length) {
+    struct ans_size wanted;
+    struct ans_fault fault;
+    struct ans_row *rows;
+    uint8_t *bytes;
+    size_t room;
+    uint32_t answer = ANS_NO_MEMORY;
+    if (ans_size(file, file_len, &wanted, &fault) != ANS_PASS)
+        wanted.rows = wanted.bytes = 0;
+    rows = (struct ans_row *)malloc((wanted.rows + 1) * sizeof *rows);
+    bytes = (uint8_t *)malloc(wanted.bytes + 1);
+    *redrawn = NULL;
+    if (rows && bytes)
+        answer = ans_redraw(file, file_len, rows, wanted.rows, bytes, wanted.bytes, NULL, 0, size, text, text_len,
+                            length);
+    if (answer == ANS_NO_ROOM && *size) {
+        room = *size;
+        *redrawn = (uint8_t *)malloc(room);
+        answer = ANS_NO_MEMORY;
+        if (*redrawn)
+            answer = ans_redraw(file, file_len, rows, wanted.rows, bytes, wanted.bytes, *redrawn, room, size, text,
+                                text_len, length);
+    }
+    free(rows);
+    free(bytes);
+    if (answer != ANS_PASS) {
+        free(*redrawn);
+        *redrawn = NULL;
+    }
+    return answer;
+}
+
 #endif

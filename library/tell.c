@@ -69,6 +69,17 @@ static void tell_mend(size_t file_len, uint32_t classes, uint32_t width) {
     tell_text("mended", answer, length);
 }
 
+static void tell_redraw(size_t file_len) {
+    uint8_t *redrawn;
+    size_t size = 0, length = 0;
+    uint32_t answer = ans_redraw_easily(file, file_len, &redrawn, &size, text, sizeof text, &length);
+    printf("redraw %zu\n", size);
+    if (answer == ANS_PASS)
+        fwrite(redrawn, 1, size, stdout);
+    free(redrawn);
+    tell_text("redrawn", answer, length);
+}
+
 int main(int argc, char **argv) {
     size_t length = 0;
     FILE *input = argc == 2 ? fopen(argv[1], "rb") : NULL;
@@ -89,5 +100,6 @@ int main(int argc, char **argv) {
     tell_text("record", answer, length);
     tell_mend(file_len, 0, 0);
     tell_mend(file_len, ANS_TAKE_OUT | ANS_LINE_ENDS | ANS_FULL_ROWS | ANS_LEAST_LINES, 80);
+    tell_redraw(file_len);
     return 0;
 }

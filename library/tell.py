@@ -5,7 +5,7 @@ import ctypes
 import sys
 from ctypes import POINTER, c_size_t, c_uint8, c_uint32
 
-PASS, REFUSED = 0, 1
+PASS, REFUSED, NO_ROOM = 0, 1, 4
 LONGEST_TEXT = 65536
 MENDING_ROOM, MOST_ROWS, MOST_BYTES = 149, 8193, 33558528
 
@@ -33,6 +33,7 @@ CALLS = {
     "ans_why": [*FILE, *SCREEN, *TEXT],
     "ans_record": [*FILE, *TEXT],
     "ans_mend": [*FILE, c_uint32, c_uint32, c_uint32, *SCREEN, *BYTES, *BYTES, POINTER(c_size_t), *TEXT],
+    "ans_redraw": [*FILE, *SCREEN, *BYTES, POINTER(c_size_t), *TEXT],
     "ans_version": TEXT,
 }
 
@@ -75,6 +76,19 @@ class Checker:
             "ans_mend", *self.file, classes, width, 0, *screen, *self.room(count), *mended, ctypes.byref(size))
         return answer, bytes(mended[0][: size.value]) if answer == PASS else b"", text, length
 
+    def redraw_in(self, count):
+        redrawn, size = self.room(count), c_size_t()
+        told = self.text("ans_redraw", *self.file, *self.screen, *redrawn, ctypes.byref(size))
+        return redrawn[0], size.value, told
+
+    def redraw(self):
+        """The size is asked for first, with an empty array."""
+        redrawn, size, told = self.redraw_in(0)
+        if told[0] == NO_ROOM:
+            redrawn, size, told = self.redraw_in(size)
+        answer, text, length = told
+        return answer, bytes(redrawn[:size]) if answer == PASS else b"", text, length
+
 
 def tell(checker):
     """Returns what is said of the file, a line for each call."""
@@ -93,6 +107,12 @@ def tell(checker):
         put(f"{name} {answer} {length}".encode())
         told.append(text)
 
+    def put_file(line, name, answer, file, text, length):
+        put(f"{line} {len(file)}".encode())
+        told.append(file)
+        put(f"{name} {answer} {length}".encode())
+        told.append(text)
+
     put_text("version", "ans_version")
     put(b"")
     for known in (0, 3, 31):
@@ -102,11 +122,8 @@ def tell(checker):
     put_text("why", "ans_why", *checker.file, *checker.screen)
     put_text("record", "ans_record", *checker.file)
     for classes, width in ((0, 0), (15, 80)):
-        answer, mended, text, length = checker.mend(classes, width)
-        put(f"mend {classes} {width} {len(mended)}".encode())
-        told.append(mended)
-        put(f"mended {answer} {length}".encode())
-        told.append(text)
+        put_file(f"mend {classes} {width}", "mended", *checker.mend(classes, width))
+    put_file("redraw", "redrawn", *checker.redraw())
     return b"".join(told)
 
 

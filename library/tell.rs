@@ -4,6 +4,7 @@ use std::{env, fs, io};
 
 const PASS: u32 = 0;
 const REFUSED: u32 = 1;
+const NO_ROOM: u32 = 4;
 const LONGEST_TEXT: usize = 65_536;
 const MENDING_ROOM: usize = 149;
 const MOST_ROWS: usize = 8193;
@@ -45,6 +46,7 @@ unsafe extern "C" {
     fn ans_why(file: *const u8, file_len: usize, rows: *mut Row, rows_len: usize, bytes: *mut u8, bytes_len: usize, text: *mut u8, text_len: usize, length: &mut usize) -> u32;
     fn ans_record(file: *const u8, file_len: usize, text: *mut u8, text_len: usize, length: &mut usize) -> u32;
     fn ans_mend(file: *const u8, file_len: usize, classes: u32, width: u32, lines: u32, rows: *mut Row, rows_len: usize, bytes: *mut u8, bytes_len: usize, draft: *mut u8, draft_len: usize, mended: *mut u8, mended_len: usize, size: &mut usize, text: *mut u8, text_len: usize, length: &mut usize) -> u32;
+    fn ans_redraw(file: *const u8, file_len: usize, rows: *mut Row, rows_len: usize, bytes: *mut u8, bytes_len: usize, redrawn: *mut u8, redrawn_len: usize, size: &mut usize, text: *mut u8, text_len: usize, length: &mut usize) -> u32;
     fn ans_version(text: *mut u8, text_len: usize, length: &mut usize) -> u32;
 }
 
@@ -116,6 +118,27 @@ impl Checker {
         (answer, mended)
     }
 
+    fn redraw_in(&mut self, redrawn: &mut [u8], size: &mut usize, text: &mut [u8], length: &mut usize) -> u32 {
+        unsafe {
+            ans_redraw(
+                self.file.as_ptr(), self.file.len(), self.rows.as_mut_ptr(), self.rows.len(),
+                self.bytes.as_mut_ptr(), self.bytes.len(), redrawn.as_mut_ptr(), redrawn.len(), size,
+                text.as_mut_ptr(), text.len(), length,
+            )
+        }
+    }
+
+    /// What `ans_redraw` answers, and the redrawn file. Its size is asked for first, with an empty slice.
+    fn redraw(&mut self, text: &mut [u8], length: &mut usize) -> (u32, Vec<u8>) {
+        let (mut redrawn, mut size) = (Vec::new(), 0);
+        let mut answer = self.redraw_in(&mut redrawn, &mut size, text, length);
+        if answer == NO_ROOM {
+            redrawn = vec![0; size];
+            answer = self.redraw_in(&mut redrawn, &mut size, text, length);
+        }
+        (answer, redrawn)
+    }
+
     fn put_mend(&self, out: &mut impl Write, classes: u32, width: u32) -> io::Result<()> {
         let (mut mended, mut told) = (Vec::new(), Vec::new());
         put_text(&mut told, "mended", |text, length| {
@@ -125,6 +148,18 @@ impl Checker {
         })?;
         writeln!(out, "mend {classes} {width} {}", mended.len())?;
         out.write_all(&mended)?;
+        out.write_all(&told)
+    }
+
+    fn put_redraw(&mut self, out: &mut impl Write) -> io::Result<()> {
+        let (mut redrawn, mut told) = (Vec::new(), Vec::new());
+        put_text(&mut told, "redrawn", |text, length| {
+            let (answer, file) = self.redraw(text, length);
+            redrawn = file;
+            answer
+        })?;
+        writeln!(out, "redraw {}", redrawn.len())?;
+        out.write_all(&redrawn)?;
         out.write_all(&told)
     }
 
@@ -164,5 +199,6 @@ fn main() -> io::Result<()> {
         ans_record(file.as_ptr(), file.len(), text.as_mut_ptr(), text.len(), length)
     })?;
     checker.put_mend(out, 0, 0)?;
-    checker.put_mend(out, 15, 80)
+    checker.put_mend(out, 15, 80)?;
+    checker.put_redraw(out)
 }

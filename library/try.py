@@ -4,8 +4,9 @@
 PROGRAM is the built anscheck, ARCHIVE the built libans_c.a. `tell` is built in C, in C++ and in Rust and run in Python; of
 each FILE (by default the drawings of conformance/ and of crates/anscheck/data, and a file that is too long) each must say
 what the program says: the verdict and each cell from three classes of starts, what the file needs, the text of why, what
-the record says, and the mended file with what is said of it, mended by itself and with all that may be changed. It wants
-cc, c++ and rustc. The last line is 'N files in 4 languages, M differ'."""
+the record says, the mended file with what is said of it, mended by itself and with all that may be changed, and the
+redrawn file with what is said of that. It wants cc, c++ and rustc. The last line is 'N files in 4 languages,
+M differ'."""
 import re
 import subprocess
 import sys
@@ -69,6 +70,9 @@ def wanted(program, file):
         ran = run([program, "mend", *flags, file])
         told.append(f"mend {classes} {width} {len(ran.stdout)}\n".encode() + ran.stdout)
         told.append(f"mended {ran.returncode} {len(ran.stderr)}\n".encode() + ran.stderr)
+    ran = run([program, "redraw", file])
+    told.append(f"redraw {len(ran.stdout)}\n".encode() + ran.stdout)
+    told.append(f"redrawn {ran.returncode} {len(ran.stderr)}\n".encode() + ran.stderr)
     return b"".join(told)
 
 
@@ -76,7 +80,8 @@ def wanted_of_too_long():
     answers = [f"check {known} answer {TOO_LONG}\n" for known in CLASSES] + [f"needs answer {TOO_LONG}\n"]
     texts = [f"why {TOO_LONG} 0\nrecord {TOO_LONG} 0\n"]
     mends = [f"mend {classes} {width} 0\nmended {TOO_LONG} 0\n" for classes, width in CHANGES]
-    return "".join(["version 0 5\n0.1.0\n", *answers, *texts, *mends]).encode()
+    redraw = f"redraw 0\nredrawn {TOO_LONG} 0\n"
+    return "".join(["version 0 5\n0.1.0\n", *answers, *texts, *mends, redraw]).encode()
 
 
 def main(program, archive, *names):

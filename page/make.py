@@ -24,7 +24,7 @@ from meanings import meanings
 SOURCES = HERE / "src"
 WORKER = ["ans.js", "worker.js"]
 SCRIPT = ["glyphs.js", "picture.js", "why.js", "mends.js", "table.js", "folders.js", "checks.js", "mending.js",
-          "check.js"]
+          "redrawing.js", "check.js"]
 
 
 def source(name):

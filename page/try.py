@@ -4,9 +4,10 @@
     python3 page/try.py PROGRAM [--page PAGE] [--stand-in HEADER] [--pictures FOLDER] [--browser NAME] [DRAWING ..]
 
 PROGRAM is the built `anscheck`. Each drawing of conformance/ and crates/anscheck/data, and each that is named, is given
-to the page. Compared are the lines of why, the record, what is changed to mend it, the cells of the picture, its text,
-and the colours that are painted: `N drawings, 0 differ`. Then come mending with its boxes, the table, the keyboard, touch, files that cannot be read or take too long,
-and a browser that is too old. The status is 1 where something differs.
+to the page. Compared are the lines of why, the record, what is changed to mend it, the redrawn file with what is said of
+it, the cells of the picture, its text, and the colours that are painted: `N drawings, 0 differ`. Then come mending with
+its boxes, redrawing, the table, the keyboard, touch, files that cannot be read or take too long, and a browser that is
+too old. The status is 1 where something differs.
 
 PAGE is page/check.html where it is not named. With --stand-in no module is needed but `clang` and `lld` for wasm64: the
 page is made anew with one that has the stored answers of PROGRAM. HEADER is the folder of ans.h. With --pictures
@@ -41,6 +42,11 @@ SHOWN = """({
   why: [...element("why").children].map((line) => line.textContent + "\\n").join(""),
   record: [...element("record").children].map((line) => line.textContent + "\\n").join(""),
   changes: [...element("changes").children].map((line) => line.textContent + "\\n").join(""),
+  redrawn: element("redraw-part").hidden ? null : {
+    file: [...redrawing.bytes],
+    changes: [...element("redrawn-changes").children].map((line) => line.textContent + "\\n").join(""),
+    lengths: element("redrawn-sentence").textContent.split(": ")[1],
+  },
   picture: element("picture-part").hidden ? null : {
     columns: pictureView.picture.columns, lines: pictureView.picture.lines,
     upTo: pictureView.picture.upTo, moreLines: pictureView.picture.moreLines,
@@ -123,6 +129,7 @@ def expected(program, path):
     mended, changes = stand_in.mended(program, path)
     told = {"why": said(program, ["why"], path)[0], "record": "none that is accepted\n" if record_status else record,
             "changes": changes.decode()}
+    told["redrawn"] = redrawn(program, path)
     report, change = said(program, ["check", "--cleared", "--cells"], path)[0], {}
     if "verdict: refused" in report and "size: " in report:
         file, change = stand_in.changed(path.read_bytes(), told["why"], stand_in.fault_in(report)[3])
@@ -132,8 +139,25 @@ def expected(program, path):
             report = said(program, ["check", "--cleared", "--cells"], copy.name)[0]
     told["picture"] = picture_in(report, change)
     if told["picture"] is None and mended is not None:
-        told["picture"] = picture_of(program, mended)
+        told["picture"], told["redrawn"] = picture_of(program, mended), redrawn_of(program, mended)
     return told
+
+
+def redrawn(program, path):
+    """The file redrawn, or nothing; what is said of it, and how long it is and was."""
+    file, changes = stand_in.redrawn(program, path)
+    if file is None:
+        return None
+    lengths = f"{len(file):,} bytes, {pathlib.Path(path).stat().st_size:,} before."
+    return {"file": list(file), "changes": changes.decode(), "lengths": lengths}
+
+
+def redrawn_of(program, file):
+    """What comes of a file that is redrawn, which is on no disk."""
+    with tempfile.NamedTemporaryFile(suffix=".ans") as copy:
+        copy.write(file)
+        copy.flush()
+        return redrawn(program, copy.name)
 
 
 def picture_of(program, file):
@@ -219,7 +243,7 @@ def compare(browser, tries, program, paths):
         show(browser, [path])
         shown, wanted = browser.value(SHOWN), expected(program, path)
         same = tries.want(f"{path.name}: name", browser.value("element('name').textContent"), path.name)
-        for key in ("why", "record", "changes"):
+        for key in ("why", "record", "changes", "redrawn"):
             same &= tries.want(f"{path.name}: {key}", shown[key], wanted[key])
         trimmed = [None if each is None else {**each, "text": [row.rstrip() for row in each["text"].split("\n")]}
                    for each in (shown["picture"], wanted["picture"])]
@@ -303,6 +327,28 @@ def try_mending(browser, tries, program, is_stand_in):
     tries.want("a number out of range", browser.value("element('mended-sentence').textContent"),
                "Lines are a number from 1 to 8192, and columns one from 1 to 1024.")
     tries.want("no file for it", browser.value("element('save-mended').disabled"))
+
+
+def try_redrawing(browser, tries, program):
+    """A drawing redrawn as it is and mended: the file that is saved, and what is said. Nothing of one that is refused."""
+    text = lambda part: browser.value(f"element('{part}').textContent")
+    show(browser, [DATA / "hi.ans"])
+    file = stand_in.redrawn(program, DATA / "hi.ans")[0]
+    tries.want("hi.ans: redrawn", saved(browser, "save-redrawn", "redrawn-hi.ans").read_bytes(), file)
+    sentence = "Redrawn it is the same picture, written so that players show it alike"
+    tries.want("hi.ans: how it is redrawn", text("redrawn-sentence"), f"{sentence}: {len(file)} bytes, 131 before.")
+    alike = "players that part only in the known ways all show it alike, "
+    tries.want("hi.ans: players before", text("players-before"),
+               f"As it is: {alike}if they find the cursor at the top left and white on black.")
+    tries.want("hi.ans: players after", text("players-after"), f"Redrawn: {alike}from every start.")
+    browser.value("element('show-after').click()")
+    browser.wait("busy === 0")
+    mended = redrawn_of(program, stand_in.mended(program, DATA / "hi.ans")[0])
+    tries.want("hi.ans: mended and redrawn", browser.value(SHOWN)["redrawn"], mended)
+    tries.want("hi.ans: players of the mended", text("players-before"), f"Mended: {alike}from every start.")
+    show(browser, [DATA / "rows.ans"])
+    tries.want("rows.ans: nothing to redraw", browser.value(
+        "element('redraw-part').hidden && element('save-redrawn').hidden"))
 
 
 def try_bad_files(browser, tries, folder, is_stand_in):
@@ -475,6 +521,7 @@ def try_in(kind, page, program, paths, is_stand_in, folder):
         browser.open(page.as_uri())
         compare(browser, tries, program, paths)
         try_mending(browser, tries, program, is_stand_in)
+        try_redrawing(browser, tries, program)
         try_blink(browser, tries, folder)
         try_table(browser, tries, program, paths[::9])
         try_bad_files(browser, tries, folder, is_stand_in)

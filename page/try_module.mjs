@@ -4,8 +4,9 @@
 //
 // PROGRAM is the built `anscheck`. The module is the one inside page/check.html, and src/ans.js calls it. Of each drawing
 // of conformance/ and crates/anscheck/data, and of each that is named, it must say what PROGRAM says: the lines of why,
-// the record, what is needed, each cell from three classes of starts, and the drawing mended in three ways. The last line is `N drawings, M differ`, and
-// the status is 1 where one differs. (Newer versions of Node need no flag.)
+// the record, what is needed, each cell from three classes of starts, the drawing mended in three ways, and the drawing
+// redrawn. The last line is `N drawings, M differ`, and the status is 1 where one differs. (Newer versions of Node need no
+// flag.)
 import { spawnSync } from "node:child_process";
 import { readdirSync, readFileSync } from "node:fs";
 import { dirname, join } from "node:path";
@@ -50,9 +51,9 @@ const MENDS = [
   [3, 0, 30, ["--take-out", "--line-ends", "--lines", "30"]],
 ];
 
-/** Whether a drawing comes out mended as the program has it, to the byte, and what was changed is told as there. */
-function isMendedAlike(told, program, flags, path) {
-  const { status, stdout, stderr } = spawnSync(program, ["mend", ...flags, path], { maxBuffer: 1 << 28 });
+/** Whether a drawing comes out as the program has it, to the byte, and what was changed is told as there. */
+function isMadeAlike(told, program, words, path) {
+  const { status, stdout, stderr } = spawnSync(program, [...words, path], { maxBuffer: 1 << 28 });
   const bytes = status === 0 ? stdout : null;
   const isSame = bytes === null ? told.bytes === null : told.bytes !== null && bytes.equals(told.bytes);
   return isSame && told.changes === stderr.toString();
@@ -76,8 +77,9 @@ function differences(checker, program, path) {
   if (!agrees) found.push("needs");
   for (const [classes, width, lines, flags] of MENDS) {
     const told = checker.mend(classes, width, lines);
-    if (!isMendedAlike(told, program, flags, path)) found.push(["mend", ...flags].join(" "));
+    if (!isMadeAlike(told, program, ["mend", ...flags], path)) found.push(["mend", ...flags].join(" "));
   }
+  if (!isMadeAlike(checker.redraw(), program, ["redraw"], path)) found.push("redraw");
   return found;
 }
 

@@ -102,6 +102,27 @@ class Checker {
     return file.length + MENDING_ROOM + more;
   }
 
+  /** The file redrawn, and what was changed of it; or why it is not. First it is asked how many bytes it wants. */
+  redraw() {
+    const asked = this.redrawIn(0);
+    const told = asked.answer === "no room" ? this.redrawIn(asked.size) : asked;
+    if (told.answer === "no room") throw new Error("ans_redraw has too little room");
+    return told;
+  }
+
+  redrawIn(room) {
+    return this.borrowing(() => {
+      const redrawn = this.array(room);
+      const text = this.array(FIRST_TEXT_ROOM);
+      const count = this.take(LENGTH_BYTES);
+      const answer = ANSWERS[this.exports.ans_redraw(
+        ...this.file, ...this.screen, ...redrawn, count, ...text, this.length)];
+      const size = this.numberAt(count);
+      const changes = new TextDecoder().decode(this.bytesOf(text).subarray(0, this.numberAt(this.length)));
+      return { answer, size, changes, bytes: answer === "pass" ? this.bytesOf(redrawn).slice(0, size) : null };
+    });
+  }
+
   faultText(number) {
     return this.text("ans_fault_text", [number]);
   }

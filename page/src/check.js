@@ -21,6 +21,9 @@ const drawingTable = new DrawingTable(element("headings"), element("rows"), (dra
 const mending = new Mending(
   element("mend-part"), (file, mends) => busyWith(checks.mend(file, mends)), (mended) => takeMended(mended));
 
+const redrawing = new Redrawing(
+  element("redraw-part"), element("save-redrawn"), (file) => busyWith(checks.redraw(file)));
+
 /** The drawing that is looked at, what the checker says of it, and the mended one where there is one. */
 let looked = null;
 
@@ -108,6 +111,15 @@ function choosePicture(isMended) {
   const { drawing, result, mended } = looked;
   const after = () => ({ answer: "pass", why: "", ...mended, note: `${valueOf(mended.record, "size")}, mended.` });
   showPicture(drawing.path, isMended ? after() : result);
+  offerRedrawing(isMended);
+}
+
+/** What is looked at can be redrawn where it passes. */
+function offerRedrawing(isMended) {
+  const { drawing, result, mended } = looked;
+  if (isMended) redrawing.open(drawing, new Blob([mended.bytes]), "Mended");
+  else if (result.answer === "pass") redrawing.open(drawing, drawing.file, "As it is");
+  else redrawing.close();
 }
 
 /** The mended drawing is there to be looked at, or it is not any more. */

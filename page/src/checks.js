@@ -24,6 +24,11 @@ class Checks {
     return this.asked({ file, mends }, true);
   }
 
+  /** What comes of a file that is redrawn. Somebody looks at it. */
+  redraw(file) {
+    return this.asked({ file, redraws: true }, true);
+  }
+
   asked(question, goesFirst) {
     return new Promise((resolve) => {
       const job = { ...question, resolve, number: ++this.count };
@@ -64,8 +69,8 @@ class Checks {
     if (!file) return this.answered({ number: job.number, ...this.nothing("unread") });
     if (!this.worker) this.start();
     this.timer = setTimeout(() => this.end({ answer: "late" }), this.longestWait);
-    const { number, wantsPicture, mends } = job;
-    this.worker.postMessage({ number, file, wantsPicture, mends }, [file]);
+    const { number, wantsPicture, mends, redraws } = job;
+    this.worker.postMessage({ number, file, wantsPicture, mends, redraws }, [file]);
   }
 
   answered(result) {

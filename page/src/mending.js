@@ -71,7 +71,7 @@ class Mending {
       return item;
     }));
     this.button.disabled = answer !== "pass";
-    this.onMended(answer === "pass" ? { picture, record } : null);
+    this.onMended(answer === "pass" ? { picture, record, bytes } : null);
   }
 
   /** The drawing under another name, so that the one it was made from stays. */

@@ -68,6 +68,16 @@ function mend(file, { classes, width, lines }) {
   return { answer, changes, bytes, record: checker.record().text, picture: withBlinks(checker.check(CLEARED)) };
 }
 
+/** The file redrawn, what was changed, and what `why` says before and after; or why it is not redrawn. */
+function redraw(file) {
+  checker.open(file);
+  const { answer, changes, bytes } = checker.redraw();
+  if (answer !== "pass") return { answer, changes, bytes: null, before: "", after: "" };
+  const before = checker.why().text;
+  checker.open(bytes);
+  return { answer, changes, bytes, before, after: checker.why().text };
+}
+
 async function unpacked(bytes) {
   return new Response(new Blob([bytes]).stream().pipeThrough(new DecompressionStream("gzip"))).arrayBuffer();
 }
@@ -78,10 +88,11 @@ async function begin(packedModule) {
   postMessage({ version: checker.version().text });
 }
 
-async function answered(file, { wantsPicture, mends }) {
+async function answered(file, { wantsPicture, mends, redraws }) {
   try {
     await begun;
     checker ??= new Checker(module);
+    if (redraws) return redraw(file);
     return mends ? mend(file, mends) : study(file, wantsPicture);
   } catch (error) {
     checker = null;

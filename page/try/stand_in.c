@@ -15,6 +15,11 @@ struct stored {
     size_t mended_len;
     const char *changes;
     size_t changes_len;
+    uint32_t redraw_answer;
+    const uint8_t *redrawn;
+    size_t redrawn_len;
+    const char *redraw_text;
+    size_t redraw_text_len;
 };
 #include "answers.h"
 
@@ -135,6 +140,19 @@ uint32_t ans_mend(const uint8_t *file, size_t file_len, uint32_t classes, uint32
     for (size_t i = 0; i < it->mended_len; i++) mended[i] = it->mended[i];
     *size = it->mended_len;
     return write(it->changes, it->changes_len, text, text_len, length, it->mend_answer);
+}
+
+uint32_t ans_redraw(const uint8_t *file, size_t file_len, struct ans_row *rows, size_t rows_len, uint8_t *bytes,
+                    size_t bytes_len, uint8_t *redrawn, size_t redrawn_len, size_t *size, uint8_t *text,
+                    size_t text_len, size_t *length) {
+    const struct stored *it = find(file, file_len);
+    *size = *length = 0;
+    if (!has_room(it, rows_len, bytes_len)) return ANS_NO_ROOM;
+    use(rows, rows_len, bytes, bytes_len);
+    *size = it->redrawn_len;
+    if (redrawn_len < it->redrawn_len) return ANS_NO_ROOM;
+    for (size_t i = 0; i < it->redrawn_len; i++) redrawn[i] = it->redrawn[i];
+    return write(it->redraw_text, it->redraw_text_len, text, text_len, length, it->redraw_answer);
 }
 
 uint32_t ans_version(uint8_t *text, size_t text_len, size_t *length) {

@@ -5,7 +5,8 @@ import struct
 import subprocess
 
 HERE = pathlib.Path(__file__).resolve().parent
-EXPORTS = ("ans_size", "ans_check", "ans_needs", "ans_why", "ans_record", "ans_mend", "ans_version", "__heap_base")
+EXPORTS = ("ans_size", "ans_check", "ans_needs", "ans_why", "ans_record", "ans_mend", "ans_redraw", "ans_version",
+           "__heap_base")
 PARTS = ("screen", "cursor", "saved", "colours", "wrap")
 RECORD, LINES, COMMENT_COUNT = 128, 98, 104
 
@@ -54,10 +55,26 @@ def literal(data):
     return '"' + "".join(f"\\{byte:03o}" for byte in data) + '"'
 
 
+def made(program, command, path):
+    """The file that a command writes, or nothing, and what is said of it."""
+    run = subprocess.run([program, command, path], capture_output=True, check=False)
+    return run.stdout if run.returncode == 0 else None, run.stderr
+
+
 def mended(program, path):
     """The file mended by itself, or nothing, and what is said of it."""
-    run = subprocess.run([program, "mend", path], capture_output=True, check=False)
-    return run.stdout if run.returncode == 0 else None, run.stderr
+    return made(program, "mend", path)
+
+
+def redrawn(program, path):
+    """The file redrawn, or nothing, and what is said of it."""
+    return made(program, "redraw", path)
+
+
+def made_row(file, text):
+    """A stored answer with a file that is made, or without one, and what is said of it."""
+    return (f"{int(file is None)}, (const uint8_t *){literal(file or b'')}, {len(file or b'')}, "
+            f"{literal(text)}, {len(text)}")
 
 
 def answer(program, path, file):
@@ -76,12 +93,12 @@ def answer(program, path, file):
     faults = ", ".join("{" + ", ".join(map(str, each)) + "}" for each in ((0, 0, 0, 0) if size else fault, fault))
     cells = f"(const uint8_t *){literal(cells_in(report))}"
     mended_file, changes = mended(program, path)
+    redrawn_file, redraw_text = redrawn(program, path)
     row = (f"{{(const uint8_t *){literal(file)}, {len(file)}, {numbers}, {faults}, {cells}, "
-           f"{literal(why)}, {literal(record)}, {len(why)}, {len(record)}, {int(mended_file is None)}, "
-           f"(const uint8_t *){literal(mended_file or b'')}, {len(mended_file or b'')}, "
-           f"{literal(changes)}, {len(changes)}}},")
+           f"{literal(why)}, {literal(record)}, {len(why)}, {len(record)}, "
+           f"{made_row(mended_file, changes)}, {made_row(redrawn_file, redraw_text)}}},")
     shown = [changed(file, why.decode(), fault[3])[0]] if size and not passes else []
-    return row, shown + ([] if mended_file is None else [mended_file])
+    return row, shown + [each for each in (mended_file, redrawn_file) if each is not None]
 
 
 def largest():
@@ -95,7 +112,8 @@ def answer_to_largest():
     why = b"size: 1024 x 8192\nverdict: pass\nneeds: nothing\n"
     record = b"title: Largest\nsize: 1024 x 8192\nflags: 00\n"
     return (f"{{0, 0, 0, 0, 0, 0, 1024, 8192, 0, {{0}}, {{0}}, 0, "
-            f"{literal(why)}, {literal(record)}, {len(why)}, {len(record)}, 1, 0, 0, \"\", 0}},")
+            f"{literal(why)}, {literal(record)}, {len(why)}, {len(record)}, 1, 0, 0, \"\", 0, "
+            "1, 0, 0, \"\", 0},")
 
 
 def build(program, paths, header, folder):

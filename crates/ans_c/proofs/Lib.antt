@@ -4,3 +4,4 @@ pub mod Rows
 pub mod Room
 pub mod Verdicts
 pub mod MendingRooms
+pub mod Redrawings

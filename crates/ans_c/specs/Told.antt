@@ -13,11 +13,15 @@ use Rattle.ans_mend.specs.MendedText.{mended_text, unmended_text}
 use Rattle.ans_walks.specs.Mend.{mending}
 use Rattle.ans_mend.specs.declared.outcome.Mended.{Mended}
 use Rattle.ans_mend.specs.declared.outcome.Unmended.{Unmended}
+use Rattle.ans_redraw_file.specs.RedrawnText.{redrawn_text, unredrawn_text}
+use Rattle.ans_redraw_file.specs.declared.outcome.Redrawn.{Redrawn}
+use Rattle.ans_redraw_file.specs.declared.outcome.Unredrawn.{Unredrawn}
 use Rattle.ans_options.specs.declared.command.Mends.{Mends}
 use Rattle.ans_check.specs.FileNeeds.{NeedsClass}
 use Rattle.ans_check.specs.FileVerdict.{Deserves, Passes, IsRefusedFor, IsGoodFile}
 use Rattle.ans_check.specs.LentScreen.{HasScreen}
 use Rattle.ans_check.specs.MendingRoom.{LacksScreenInTheEnd, most_put}
+use Rattle.ans_check.specs.Redrawing.{IsReasonNot, IsRedrawn, TellsRedrawn}
 use Rattle.ans_check.specs.Served.{TellsMended}
 use Rattle.ans_c.specs.Numbers.{IsSizeOf, TellsFault, class_of}
 use Rattle.ans_c.specs.declared.numbers.PictureSize.{PictureSize}
@@ -115,6 +119,39 @@ LacksMendingRoom mends file rows bytes memory mended =
     (memory < length file + most_put mends file)
     ⊎ LacksScreenInTheEnd (λ z. ¬ HasScreen z rows bytes) mends file
     ⊎ (mended < length file + most_put mends file + length mending)
+
+-- what was changed of a file that is redrawn, or why it is not
+abbrev pub redrawing_text : Result Redrawn Unredrawn → List ℕ
+redrawing_text (Ok redrawn) = redrawn_text redrawn
+redrawing_text (Err reason) = unredrawn_text reason
+
+-- The file is redrawn, and `new` is the redrawn one; or it is not, and `new` is empty. The text says what was changed,
+-- or why it is not.
+pub record ReportsRedrawing (file new : List ℕ) (is_redrawn : Bool) (text : List ℕ) : Type 0 where
+  pub answer : Result Redrawn Unredrawn
+  pub tells : TellsRedrawn file answer new
+  pub is_redrawn_is : is_redrawn ≡ is_ok answer
+  pub text_is : text ≡ redrawing_text answer
+
+-- how many bytes the redrawn file has; none where there is no such file
+abbrev pub whole_of : Result Redrawn Unredrawn → ℕ
+whole_of (Ok redrawn) = redrawn.whole
+whole_of (Err reason) = 0
+
+-- What comes of redrawing the file is told, and this array, of so many bytes, begins with the redrawn file where it has
+-- room for that.
+abbrev pub HoldsRedrawn : List ℕ → ℕ → List ℕ → Result Redrawn Unredrawn → Type 0
+HoldsRedrawn file room array (Ok redrawn) =
+    (new : List ℕ) × IsRedrawn file redrawn new × (redrawn.whole ≤ room → take redrawn.whole array ≡ new)
+HoldsRedrawn file room array (Err reason) = IsReasonNot file reason
+
+-- the redrawn file has so many bytes, and the array fewer
+pub record LacksRedrawnRoom (file : List ℕ) (size room : ℕ) : Type 0 where
+  pub redrawn : Redrawn
+  pub new : List ℕ
+  pub is_redrawn : IsRedrawn file redrawn new
+  pub size_is : size ≡ length new
+  pub few : room < length new
 
 -- what is told of a play of the content from the starts of a class
 pub record TellsPlay (z : Size) (start : Start) (content : List ℕ) (result : ℕ) (glyphs attributes : List ℕ)

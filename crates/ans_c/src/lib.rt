@@ -14,11 +14,13 @@ mod cells;
 mod files;
 mod mending;
 mod numbers;
+mod redrawing;
 mod texts;
 
 pub use files::{ans_check, ans_needs, ans_size};
 pub use mending::ans_mend;
 pub use numbers::{NO_ROOM, PASS, PictureSize, REFUSED, TOO_LONG, ToldFault, WRONG_NUMBER};
+pub use redrawing::ans_redraw;
 pub use texts::{ans_fault_text, ans_note_text, ans_record, ans_version, ans_why};
 
 #[cfg(test)]

@@ -259,3 +259,84 @@ fn mending_wants_room(rt: HostRuntime) {
         assert_eq!(rt; mended_within(room), (NO_ROOM, 0, 0));
     }
 }
+
+/// What is lent to have a small drawing redrawn.
+#[derive(Drop)]
+struct LentForRedrawing {
+    rows: [LentRow; 2],
+    bytes: [u8; 16],
+    redrawn: [u8; 150],
+    size: usize,
+    text: [u8; 128],
+    told: usize,
+}
+
+impl LentForRedrawing {
+    fn new() -> LentForRedrawing {
+        LentForRedrawing {
+            rows: [LentRow::new(); 2],
+            bytes: [0x55; 16],
+            redrawn: [0x55; 150],
+            size: 7,
+            text: [0x55; 128],
+            told: 7,
+        }
+    }
+
+    /// What `ans_redraw` answers about a file.
+    fn redraw(&mut self, file: &[u8]) -> u32 {
+        ans_redraw(
+            file,
+            &mut self.rows,
+            &mut self.bytes,
+            &mut self.redrawn,
+            &mut self.size,
+            &mut self.text,
+            &mut self.told,
+        )
+    }
+}
+
+#[test]
+fn files_are_redrawn(rt: HostRuntime) {
+    let mut lent = LentForRedrawing::new();
+    let answer = lent.redraw(&drawing());
+    let redrawn = lent.redrawn.get(..lent.size);
+    expect(&rt, answer, redrawn, (PASS, &mended_drawing()));
+    let told = b"content length 21, was 2\nfile size 21, was 2\n";
+    expect(&rt, answer, lent.text.get(..lent.told), (PASS, told));
+    let answer = lent.redraw(b"Hi");
+    let told = b"at 2: F1 no SAUCE record\n\
+        help: anscheck why says how to mend it, and what mend writes can be redrawn\n";
+    expect(&rt, answer, lent.text.get(..lent.told), (REFUSED, told));
+    assert_eq!(rt; lent.size, 0);
+}
+
+/// How much is lent to have the drawing redrawn: rows, bytes, room for the redrawn file, and for the text.
+type RedrawingRoom = (usize, usize, usize, usize);
+
+/// What `ans_redraw` answers about the drawing within some room, and the lengths that it tells.
+fn redrawn_within(room: RedrawingRoom) -> (u32, usize, usize) {
+    let mut lent = LentForRedrawing::new();
+    let (rows, bytes, redrawn, text) = room;
+    let answer = ans_redraw(
+        &drawing(),
+        &mut lent.rows[..rows.min(2)],
+        &mut lent.bytes[..bytes.min(16)],
+        &mut lent.redrawn[..redrawn.min(150)],
+        &mut lent.size,
+        &mut lent.text[..text.min(128)],
+        &mut lent.told,
+    );
+    (answer, lent.size, lent.told)
+}
+
+#[test]
+fn redrawing_wants_room(rt: HostRuntime) {
+    assert_eq!(rt; redrawn_within((2, 16, 150, 45)), (PASS, 150, 45));
+    assert_eq!(rt; redrawn_within((2, 16, 150, 44)), (NO_ROOM, 150, 45));
+    assert_eq!(rt; redrawn_within((2, 16, 149, 45)), (NO_ROOM, 150, 0));
+    assert_eq!(rt; redrawn_within((2, 16, 0, 0)), (NO_ROOM, 150, 0));
+    assert_eq!(rt; redrawn_within((1, 16, 150, 45)), (NO_ROOM, 0, 0));
+    assert_eq!(rt; redrawn_within((2, 15, 150, 45)), (NO_ROOM, 0, 0));
+}

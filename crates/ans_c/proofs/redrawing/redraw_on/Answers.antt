@@ -1,0 +1,12 @@
+use Rattle.ans_check.proofs.MendLemmas.{split_fault}
+use Rattle.ans_c.proofs.Redrawings.{held_with}
+use Rattle.ans_c.proofs.redrawing.redraw_on.Goals as goal
+
+pub returns-in-Ok : goal.returns-in-Ok
+returns-in-Ok g c =
+    held_with c.args.file.now c.args.parts.now c.in-Ok.picture c.requires.split c.in-Ok.ensures.good _ _
+    c.redraw_with.result c.redraw_with.ensures.redrawn c.redraw_with.ensures.too_long c.redraw_with.ensures.copied
+
+pub returns-in-Err : goal.returns-in-Err
+returns-in-Err g c =
+    split_fault c.args.file.now c.args.parts.now c.in-Err.fault c.requires.split c.in-Err.ensures.refused

@@ -1,0 +1,66 @@
+// The drawing redrawn: the same picture in the plainest form, and the file to save.
+
+/** What comes of redrawing, for people who draw. */
+function sentenceOfRedrawing({ bytes, after }, size) {
+  const written = valueOf(after, "players") === "any" ? "so that players show it alike" : "in the plainest form";
+  return `Redrawn it is the same picture, written ${written}: `
+    + `${bytes.length.toLocaleString("en")} bytes, ${size.toLocaleString("en")} before.`;
+}
+
+/** What is to be said of players, after what it is said of. */
+function playersLine(name, why) {
+  const sentence = playersSentenceOf({ answer: "pass", why });
+  return `${name}: ${sentence.charAt(0).toLowerCase()}${sentence.slice(1)}`;
+}
+
+class Redrawing {
+  /** `redraw` answers what comes of a file. */
+  constructor(part, button, redraw) {
+    this.redraw = redraw;
+    this.part = part;
+    this.button = button;
+    this.sentence = part.querySelector("#redrawn-sentence");
+    this.before = part.querySelector("#players-before");
+    this.after = part.querySelector("#players-after");
+    this.changes = part.querySelector("#redrawn-changes");
+    this.asked = 0;
+    button.addEventListener("click", () => this.save());
+  }
+
+  /** The file of a drawing that is looked at, and what it is called where it is set beside the redrawn one. */
+  async open(drawing, file, name) {
+    if (drawing !== this.drawing) this.close();
+    this.drawing = drawing;
+    this.button.disabled = true;
+    const mine = ++this.asked;
+    const result = await this.redraw(file);
+    if (mine !== this.asked) return;
+    if (result.answer === "pass") this.show(result, file.size, name);
+    else this.close();
+  }
+
+  close() {
+    this.asked++;
+    this.bytes = null;
+    this.part.hidden = this.button.hidden = true;
+  }
+
+  show(result, size, name) {
+    this.bytes = result.bytes;
+    this.part.hidden = this.button.hidden = this.button.disabled = false;
+    this.sentence.textContent = sentenceOfRedrawing(result, size);
+    this.before.textContent = playersLine(name, result.before);
+    this.after.textContent = playersLine("Redrawn", result.after);
+    this.changes.replaceChildren(...linesOf(result.changes).map((line) => {
+      const item = document.createElement("li");
+      item.textContent = line;
+      return item;
+    }));
+  }
+
+  /** The drawing under another name, so that the one it was made from stays. */
+  save() {
+    const name = this.drawing.path.split("/").at(-1);
+    saveAs(new Blob([this.bytes], { type: "application/octet-stream" }), `redrawn-${name}`);
+  }
+}
