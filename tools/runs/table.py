@@ -560,7 +560,7 @@ RUNS = [
         f"unexpected argument '{HI}' found", CHECK_USAGE)),
     Run("no subcommand", [], 2, stdin=HI, stderr=mistake(
         "'anscheck' requires a subcommand but one was not provided\n"
-        "  [subcommands: why, mend, needs, check, show, sauce, tokens, table]", NO_COMMAND)),
+        "  [subcommands: why, mend, redraw, needs, check, show, sauce, tokens, table]", NO_COMMAND)),
     Run("an unknown subcommand", ["other", HI], 2, stderr=mistake(
         "unrecognized subcommand 'other'", NO_COMMAND)),
     Run("a drawing without a command", [HI], 2, stderr=mistake(
