@@ -194,7 +194,7 @@ Exit status:
   1  No file could be redrawn; standard error says why
   2  There is no answer; standard error says why
 """
-REDRAW_ADVICE = b"help: anscheck why says how to mend it, and what mend writes can be redrawn\n"
+REDRAW_ADVICE = b"help: anscheck why says more of it; a drawing that was mended can be redrawn\n"
 SHOW_HELP = b"""Show the picture in its colours, for a terminal or as a page
 
 Usage: anscheck show [OPTIONS] [FILE]
@@ -406,7 +406,7 @@ RUNS = [
         stderr=b"at 133: F1 no SAUCE record\n" + REDRAW_ADVICE, stdin=file_of(b"Hi") + b"\r\n"),
     Run("redrawn, the longest file", ["redraw"], 1,
         stderr=b"the redrawn file would have 16777235 bytes, and 16777216 are the most\n"
-        b"help: fewer cells, or fewer changes of colour, make it shorter\n",
+        b"help: fewer cells, end marks or changes of colour make it shorter\n",
         stdin=b"Hi" + b"\x1a" * (LARGEST_FILE - 130) + plain_record(2, 1, 2)),
     Run("redrawn, too long a file", ["redraw"], 2,
         stderr=b"anscheck: file above 16777216 bytes\n", stdin=bytes(LARGEST_FILE + 1)),

@@ -307,7 +307,7 @@ fn files_are_redrawn(rt: HostRuntime) {
     expect(&rt, answer, lent.text.get(..lent.told), (PASS, told));
     let answer = lent.redraw(b"Hi");
     let told = b"at 2: F1 no SAUCE record\n\
-        help: anscheck why says how to mend it, and what mend writes can be redrawn\n";
+        help: anscheck why says more of it; a drawing that was mended can be redrawn\n";
     expect(&rt, answer, lent.text.get(..lent.told), (REFUSED, told));
     assert_eq!(rt; lent.size, 0);
 }

@@ -12,8 +12,7 @@ use Rattle.ans_redraw_file.specs.RedrawnFile.{IsTooLong}
 use Rattle.ans_redraw_file.specs.declared.outcome.Unredrawn.{Unredrawn}
 use Rattle.ans_redraw_file.specs.declared.outcome.Unredrawn.TheVariants.{Refused, TooLong}
 use Rattle.ans_check.specs.FileVerdict.{Deserves, IsVerdictOn, Passes}
-use Rattle.ans_check.specs.Mending.{IsFaulty}
-use Rattle.ans_check.specs.Redrawing.{IsReasonNot}
+use Rattle.ans_check.specs.Redrawing.{IsReasonNot, IsRefusedFromCleared}
 use Rattle.ans_check.specs.declared.verdict.Verdict.TheVariants as verdict
 
 -- with the form of its picture the file would be too long
@@ -23,11 +22,8 @@ too_long file apart picture (Refused fault) passes long = absurd (cc)
 too_long file apart picture (TooLong whole) passes long =
     record { apart = apart; picture = picture; passes = passes; long = long }
 
--- a fault for which a file is refused from the cleared start is one that it has
-pub refused_is_faulty : (G : Type 0) (file : List ℕ) (parts : Option Parts) (fault : Fault)
-    → IsVerdictOn {G = G} file all_known (verdict.Refused parts fault) → IsFaulty file fault
-refused_is_faulty G file None fault is = inl is
-refused_is_faulty G file (Some parts) fault is =
-    let laid = is.2.accepts.laid in
-    inr (subst₂ (λ (z : Size) (bytes : List ℕ). Deserves z all_known bytes fault)
-    (ap stated_size (sym (laid_record file is.0 laid))) (ap content (sym (laid_body file is.0 laid))) is.2.deserved)
+-- what is refused from the cleared start is refused for that fault
+pub refused_from_cleared : (G : Type 0) (file : List ℕ) (parts : Option Parts) (fault : Fault)
+    → IsVerdictOn {G = G} file all_known (verdict.Refused parts fault) → IsRefusedFromCleared file fault
+refused_from_cleared G file None fault is = inl is
+refused_from_cleared G file (Some parts) fault is = inr (is.0, is.2)

@@ -66,7 +66,7 @@ pub fn mend<R: Read, W: Write>(
 /// holds back. The redrawn file shows the picture that the file shows from the cleared start, from every start.
 /// Behind its content stands all that stood behind the file's, with an end mark where there was none, and of the
 /// record the file size alone is set anew. `Ok` says what was changed; or why the file is not redrawn, and then
-/// nothing is written.
+/// nothing is written. That the writer is asked to hand on what it holds is only tested, as with [`serve`].
 ///
 /// `Read` comes exactly where the reader failed in the call, `Write` exactly where the writer did, and
 /// `TooLong` as soon as more than 16,777,216 bytes were read. `Memory` comes where memory runs out for the

@@ -29,9 +29,10 @@ redrawn_clean redrawn =
 
 pub unredrawn_clean : (reason : Unredrawn) → IsCleanText (unredrawn_text reason)
 unredrawn_clean (unredrawn.Refused fault) =
-    let help : List ℕ = codes "help: anscheck why says how to mend it, and what mend writes can be redrawn\n" in
+    let help : List ℕ = codes "help: anscheck why says more of it; a drawing that was mended can be redrawn\n" in
     clean_append (fault_line fault) help (fault_line_clean fault) (plain_text help refl)
 unredrawn_clean (unredrawn.TooLong whole) =
-    let most : List ℕ = codes " bytes, and 16777216 are the most\nhelp: only a smaller picture can be redrawn\n" in
+    let most : List ℕ =
+    codes " bytes, and 16777216 are the most\nhelp: fewer cells, end marks or changes of colour make it shorter\n" in
     behind_clean (codes "the redrawn file would have ") whole most
     (plain_text (codes "the redrawn file would have ") refl) (plain_text most refl)

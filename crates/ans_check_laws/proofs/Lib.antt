@@ -27,6 +27,7 @@ pub mod MendedAgain
 pub mod MendedTwice
 pub mod PlayersShown
 pub mod RedrawnAgain
+pub mod MendedRedrawn
 pub mod RedrawnPictures
 pub mod RedrawnShown
 pub mod UnredrawnFiles

@@ -1,5 +1,5 @@
 -- Why a file that passes is not redrawn.
-use Rattle.std.proofs.Common.{◌≡◌, inl, inr, ℕ, List, ap, subst, subst₂, None}
+use Rattle.std.proofs.Common.{◌≡◌, inl, inr, ℕ, List, subst, None}
 use Rattle.ans_model.specs.File.Layout.{FileParts, content}
 use Rattle.ans_model.specs.File.Record.{stated_size}
 use Rattle.ans_model.specs.File.Refusals.{record_fault}
@@ -8,32 +8,29 @@ use Rattle.ans_model.specs.Verdict.Good.{Picture}
 use Rattle.ans_model.specs.Verdict.LastFault.{IsDeserved}
 use Rattle.ans_model.specs.declared.fault.Fault.{Fault}
 use Rattle.ans_model.proofs.AcceptedFiles.{no_fault}
-use Rattle.ans_sauce.proofs.LaidParts.{laid_body, laid_record}
 use Rattle.ans_redraw_file.specs.RedrawnFile.{IsTooLong}
 use Rattle.ans_redraw_file.specs.declared.outcome.Unredrawn.{Unredrawn}
 use Rattle.ans_redraw_file.specs.declared.outcome.Unredrawn.TheVariants.{Refused, TooLong}
 use Rattle.ans_check.specs.FileVerdict.{Passes}
-use Rattle.ans_check.specs.Mending.{IsFaulty}
-use Rattle.ans_check.specs.Redrawing.{IsReasonNot}
-use Rattle.ans_check_laws.proofs.OneReport.{same_picture}
+use Rattle.ans_check.specs.Redrawing.{IsReasonNot, IsRefusedFromCleared}
+use Rattle.ans_check_laws.proofs.OneReport.{same_apart, same_picture}
 use Rattle.ans_check_laws.proofs.OneWhy.{good_deserves_none}
 
--- a file that passes has no fault, neither in its record nor from the cleared start
-not_faulty : (file : List ℕ) (apart : FileParts) (picture : Picture) (fault : Fault)
-    → Passes file all_known apart picture → IsFaulty file fault → ⊥
-not_faulty file apart picture fault passes (inl some) =
+-- a file that passes is not refused, neither for its record nor from the cleared start
+not_refused : (file : List ℕ) (apart : FileParts) (picture : Picture) (fault : Fault)
+    → Passes file all_known apart picture → IsRefusedFromCleared file fault → ⊥
+not_refused file apart picture fault passes (inl some) =
     let none : record_fault file ≡ None = no_fault file apart passes.accepts in
     cc
-not_faulty file apart picture fault passes (inr deserves) =
-    let laid = passes.accepts.laid in
+not_refused file apart picture fault passes (inr (other, refused)) =
     good_deserves_none (stated_size apart.record_bytes) all_known (content apart.body) fault (picture, passes.good)
-    (subst₂ (λ (sauce bytes : List ℕ). IsDeserved (stated_size sauce) all_known bytes fault)
-    (laid_record file apart laid) (ap content (laid_body file apart laid)) deserves.deserved)
+    (subst (λ (v : FileParts). IsDeserved (stated_size v.record_bytes) all_known (content v.body) fault)
+    (same_apart file other apart refused.accepts passes.accepts) refused.deserved.deserved)
 
 pub only_length : (file : List ℕ) (apart : FileParts) (picture : Picture) (reason : Unredrawn)
     → Passes file all_known apart picture → IsReasonNot file reason → IsTooLong file picture reason
-only_length file apart picture (Refused fault) passes faulty =
-    absurd (not_faulty file apart picture fault passes faulty)
+only_length file apart picture (Refused fault) passes refused =
+    absurd (not_refused file apart picture fault passes refused)
 only_length file apart picture (TooLong whole) passes h =
     subst (λ (v : Picture). IsTooLong file v (TooLong whole))
     (same_picture file all_known h.apart apart h.picture picture h.passes passes).1 h.long

@@ -1,6 +1,6 @@
 //! Laws of redrawing.
 
-ghost use Rattle.std.specs.Prelude.{◌≡◌, ◌↔◌, ℕ, List};
+ghost use Rattle.std.specs.Prelude.{◌≡◌, ◌↔◌, ◌++◌, ℕ, List};
 ghost use Rattle.std.specs.List.{filter};
 ghost use Rattle.ans_model.specs.File.Layout.{FileParts};
 ghost use Rattle.ans_model.specs.File.NoteConditions.{notes};
@@ -9,11 +9,14 @@ ghost use Rattle.ans_model.specs.Screen.StartClass.{all_known};
 ghost use Rattle.ans_model.specs.Verdict.Good.{Picture};
 ghost use Rattle.ans_model.specs.declared.start.Start.{Start};
 ghost use Rattle.ans_mend.specs.Contents.{content_in};
+ghost use Rattle.ans_mend.specs.declared.outcome.Mended.{Mended};
+ghost use Rattle.ans_options.specs.declared.command.Mends.{Mends};
 ghost use Rattle.ans_redraw_file.specs.Laws.{stays};
 ghost use Rattle.ans_redraw_file.specs.RedrawnFile.{IsTooLong};
 ghost use Rattle.ans_redraw_file.specs.declared.outcome.Redrawn.{Redrawn};
 ghost use Rattle.ans_redraw_file.specs.declared.outcome.Unredrawn.{Unredrawn};
 ghost use Rattle.ans_check.specs.FileVerdict.{Passes};
+ghost use Rattle.ans_check.specs.Mending.{IsMended, front_bytes};
 ghost use Rattle.ans_check.specs.Redrawing.{IsReasonNot, IsRedrawn};
 
 /// Redrawing changes no cell of a drawing. What is written passes from every start with the picture that the
@@ -29,10 +32,20 @@ pub fn redrawing_keeps_the_picture()
         ≡ filter stays (notes apart.body apart.record_bytes)) }
 {}
 
-/// To redraw once is enough: of what is written, redrawn again, the same bytes are written.
+/// To redraw once is enough: of what is written, redrawn again, the same bytes are written. There is never a
+/// reason why not.
 pub fn redrawing_once_is_enough()
-    ensures { (file new newer : List ℕ) (redrawn again : Redrawn)
+    ensures same { (file new newer : List ℕ) (redrawn again : Redrawn)
         → IsRedrawn file redrawn new → IsRedrawn new again newer → newer ≡ new }
+    ensures always { (file new : List ℕ) (redrawn : Redrawn) (reason : Unredrawn)
+        → IsRedrawn file redrawn new → ¬ IsReasonNot new reason }
+{}
+
+/// A mended file can be redrawn, but where it would be too long.
+pub fn mended_files_can_be_redrawn()
+    ensures { (mends : Mends) (file draft : List ℕ) (mended : Mended) (reason : Unredrawn)
+        → (is : IsMended mends file mended draft) → IsReasonNot (front_bytes mended.front ++ draft) reason
+        → IsTooLong (front_bytes mended.front ++ draft) is.picture reason }
 {}
 
 /// A file that passes from the cleared start is left as it is for one reason alone: with the form of its

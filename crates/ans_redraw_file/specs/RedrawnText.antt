@@ -21,7 +21,7 @@ redrawn_text redrawn =
 -- the line of the fault, or how long the file would be; and what may help
 abbrev pub unredrawn_text : Unredrawn → List ℕ
 unredrawn_text (unredrawn.Refused fault) =
-    fault_line fault ++ codes "help: anscheck why says how to mend it, and what mend writes can be redrawn\n"
+    fault_line fault ++ codes "help: anscheck why says more of it; a drawing that was mended can be redrawn\n"
 unredrawn_text (unredrawn.TooLong whole) =
     codes "the redrawn file would have " ++ (decimal whole
-    ++ codes " bytes, and 16777216 are the most\nhelp: fewer cells, or fewer changes of colour, make it shorter\n")
+    ++ codes " bytes, and 16777216 are the most\nhelp: fewer cells, end marks or changes of colour make it shorter\n")

@@ -146,7 +146,7 @@ fn copy_resized(array: &mut [u8], end: usize, sauce: &[u8], size: u32)
 }
 
 /// Copies the file that is redrawn with this picture, of which `redrawn` says what is changed, to the front of
-/// an array.
+/// an array. The array is as long as it was; behind the file it may hold anything.
 pub fn copy_redrawn_file<G: Screen>(
     file: &[u8],
     parts: &Parts<'_>,
@@ -157,7 +157,8 @@ pub fn copy_redrawn_file<G: Screen>(
     requires split { IsSplit file.now parts.now }
     requires redrawn { IsRedrawnWith file.now picture.now redrawn.now }
     requires room { redrawn.now.whole ≤ length array.old }
-    ensures { take redrawn.now.whole array.new ≡ redrawn_file file.now picture.now }
+    ensures file { take redrawn.now.whole array.new ≡ redrawn_file file.now picture.now }
+    ensures length { length array.new ≡ length array.old }
 {
     let behind = behind_content(file, parts);
     copy_form(picture, array);

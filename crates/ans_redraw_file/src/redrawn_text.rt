@@ -11,11 +11,11 @@ use std::io::Write;
 
 /// What may help where the drawing is refused.
 const MEND: &[u8] =
-    b"help: anscheck why says how to mend it, and what mend writes can be redrawn\n";
+    b"help: anscheck why says more of it; a drawing that was mended can be redrawn\n";
 
 /// How many bytes a file may have, and what may help where there would be more.
 const TOO_LONG: &[u8] = b" bytes, and 16777216 are the most\n\
-    help: fewer cells, or fewer changes of colour, make it shorter\n";
+    help: fewer cells, end marks or changes of colour make it shorter\n";
 
 fn put_length_line<W: Write>(out: &mut Outbox<'_, W>, length: &Reset)
     ensures { Puts W.contents out.old out.new (length_line length.now) }

@@ -129,11 +129,11 @@ const HI_SAID: &[u8] = b"content length 21, was 2\nfile size 21, was 2\n";
 /// Words of which no file comes, the status, and what is said.
 static NOT_REDRAWN: [(&[&str], u8, &[u8]); 7] = words! {
     "redraw" "low.ans" => 1, b"at 3: F20 print below the stated lines\n\
-        help: anscheck why says how to mend it, and what mend writes can be redrawn\n";
+        help: anscheck why says more of it; a drawing that was mended can be redrawn\n";
     "redraw" "abc" => 1, b"at 3: F1 no SAUCE record\n\
-        help: anscheck why says how to mend it, and what mend writes can be redrawn\n";
+        help: anscheck why says more of it; a drawing that was mended can be redrawn\n";
     "redraw" "-" => 1, b"at 2: F1 no SAUCE record\n\
-        help: anscheck why says how to mend it, and what mend writes can be redrawn\n";
+        help: anscheck why says more of it; a drawing that was mended can be redrawn\n";
     "redraw" "ho.ans" => 2, b"anscheck: cannot open the file\n";
     "redraw" "torn" => 2, b"anscheck: cannot read the file\n";
     "redraw" "half" => 2, b"anscheck: cannot read the file\n";

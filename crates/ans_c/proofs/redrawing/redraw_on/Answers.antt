@@ -1,4 +1,6 @@
-use Rattle.ans_check.proofs.MendLemmas.{split_fault}
+use Rattle.std.proofs.Common.{inr}
+use Rattle.ans_model.specs.Screen.StartClass.{all_known}
+use Rattle.ans_check.proofs.VerdictLemmas.{refuses}
 use Rattle.ans_c.proofs.Redrawings.{held_with}
 use Rattle.ans_c.proofs.redrawing.redraw_on.Goals as goal
 
@@ -9,4 +11,6 @@ returns-in-Ok g c =
 
 pub returns-in-Err : goal.returns-in-Err
 returns-in-Err g c =
-    split_fault c.args.file.now c.args.parts.now c.in-Err.fault c.requires.split c.in-Err.ensures.refused
+    let refused = refuses c.args.file.now all_known c.args.parts.now c.requires.split c.in-Err.fault
+    c.in-Err.ensures.refused in
+    inr (refused.0, refused.2)

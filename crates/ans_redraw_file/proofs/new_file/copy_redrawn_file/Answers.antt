@@ -42,8 +42,8 @@ copy_resized-requires-clause-room g c =
       c.copy-comments.ensures.length,
     )
 
-pub returns : goal.returns
-returns g c =
+pub returns-clause-file : goal.returns-clause-file
+returns-clause-file g c =
     let split = c.requires.split in
     let laid = split.accepts.laid in
     let told = c.requires.redrawn.told in
