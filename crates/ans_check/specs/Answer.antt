@@ -146,8 +146,8 @@ abbrev pub meaning_text : Topic → List ℕ
 meaning_text (topic.Fault cause) = fault_meaning cause
 meaning_text (topic.Note note) = note_meaning note
 
--- what is asked for was done: one command on one input, a file mended or redrawn, a table of many files, or what a fault
--- or a note means
+-- what is asked for was done: one command on one input, a file mended or redrawn, a table of many files, or what a
+-- fault or a note means
 abbrev pub EndsAs : {R W : Type 0} → (R → Option (List ℕ)) → (W → Option (List ℕ)) → (Text → R → Type 0)
     → (R → Type 0) → (Text → Type 0) → Asked → Tried W → Tried W → Ending → Type 0
 EndsAs remaining contents is_file is_standard is_missing (asked.One options file) output output_after ending =

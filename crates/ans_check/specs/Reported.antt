@@ -37,5 +37,6 @@ PutsMended contents mends file old new (Err e) = new ≡ old
 -- What is to be told of a file that was to be redrawn was put; or memory ran out, and nothing was.
 abbrev pub PutsRedrawn : {W : Type 0} → (W → Option (List ℕ)) → List ℕ → Outbox W → Outbox W
     → Result (Result Redrawn Unredrawn) AllocError → Type 0
-PutsRedrawn contents file old new (Ok answer) = (text : List ℕ) × TellsRedrawn file answer text × Puts contents old new text
+PutsRedrawn contents file old new (Ok answer) =
+    (text : List ℕ) × TellsRedrawn file answer text × Puts contents old new text
 PutsRedrawn contents file old new (Err e) = new ≡ old

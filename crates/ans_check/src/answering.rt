@@ -422,8 +422,8 @@ fn end_of_words<I: Inputs, W: Write, E: Write>(
 /// where one was to be redrawn; `UnopenedFile` where the named file cannot be opened; and where the words give no
 /// options, what their error says, or `UnreadableWords` where there is no memory for its text. Of a table it is
 /// `Table`, with how its files came out; `NamedInput` where `-` stands among the names; `UnreadNames` where
-/// standard input fails before the names end; and `Run(Err(Memory))` where there is no memory for the names or a row. `Run(Err(Write))`
-/// comes exactly where `output` fails. What fails on `errors` changes no ending.
+/// standard input fails before the names end; and `Run(Err(Memory))` where there is no memory for the names or a
+/// row. `Run(Err(Write))` comes exactly where `output` fails. What fails on `errors` changes no ending.
 pub fn answer<I: Inputs, W: Write, E: Write>(
     alloc: Global,
     words: &[&str],
