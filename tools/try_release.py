@@ -4,9 +4,9 @@
 It makes the archive twice and compares the bytes, unpacks it, and installs it below an empty folder whose name has a
 blank, and once more below DESTDIR. There it tries the program, by all runs of `tools/runs` and by `why`, `check` and
 `redraw` of each drawing of `crates/anscheck/data`; the manual, by `man`; the completions, by bash, and by zsh and fish
-where they are installed; the links of the documents; the library, by `library/tell.c`, built by what pkg-config says
-and run with the static and with the shared one, and by `library/tell.py`, which have to say what the program says; the
-module for JavaScript, where it is in the archive and Node is installed. At last it takes away what is listed, and
+where they are installed; the links of the documents; the library, by `tell.c`, built by what pkg-config says
+with the static and with the shared one, and by `tell.py`, which have to say what the program says; the module for
+JavaScript, where it is in the archive and Node is installed. At last it takes away what is listed, and
 nothing may be left. It prints what fails, and in the last line how many trials there were and how many failed; its
 status is 1 where one did.
 """
@@ -25,6 +25,7 @@ TOOLS = Path(__file__).resolve().parent
 TOP = TOOLS.parent
 DRAWINGS = sorted((TOP / "crates/anscheck/data").glob("*.ans"))
 LIST = "share/anscheck/installed"
+CALLERS = "share/doc/anscheck/library"
 COMPLETED = {
     "anscheck re": "redraw",
     "anscheck help F2": "F2 F20 F21 F22 F23 F24 F25",
@@ -75,9 +76,21 @@ def text_of(*words, **more):
 
 
 def files_below(folder):
-    """Each file below a folder, by its name from there, with its mode and bytes."""
-    files = (file for file in folder.rglob("*") if file.is_file())
-    return {str(file.relative_to(folder)): (file.stat().st_mode & 0o777, file.read_bytes()) for file in files}
+    """The names of the files below a folder."""
+    return sorted(str(file.relative_to(folder)) for file in folder.rglob("*") if file.is_file())
+
+
+def try_modes(trials, folder):
+    """Everybody may read all that is below a folder, and run what is to be run."""
+    for file in folder.rglob("*"):
+        runs = file.is_dir() or file.name == "install.sh" or file.parent.name == "bin"
+        trials.same(f"mode of {file}", file.stat().st_mode & 0o777, 0o755 if runs else 0o644)
+
+
+def prefixes_of(folder):
+    """What ans.pc states as its prefix."""
+    file = folder / "lib/pkgconfig/ans.pc"
+    return re.findall(r"^prefix=(.*)$", file.read_text(encoding="utf-8"), re.MULTILINE) if file.is_file() else []
 
 
 def try_archive(trials, folder, words):
@@ -96,28 +109,31 @@ def try_archive(trials, folder, words):
         names = tar.getnames()
         trials.same("its names are sorted", names, sorted(names))
         trials.same("its times are one", len({entry.mtime for entry in tar}), 1)
-    run("tar", "xzf", archive, "-C", folder)
-    return folder / archive.name.removesuffix(".tar.gz")
+    run("tar", "xzf", archive, "-C", folder, umask=0o022)
+    top = folder / archive.name.removesuffix(".tar.gz")
+    try_modes(trials, top)
+    return top
 
 
 def try_install(trials, top, folder):
     """Installs below a folder and below DESTDIR, and returns the folder."""
-    prefix, staged = folder / "a prefix", folder / "staged"
+    prefix, staged, final = folder / "a prefix", folder / "staged", folder / "final"
     ran = run(top / "install.sh", prefix, umask=0o077)
-    trials.want("install.sh", ran.returncode == 0 and len(ran.stdout.splitlines()) == 1, ran.stderr.decode())
+    if ran.returncode:
+        sys.exit(f"install.sh failed: {ran.stderr.decode().strip()}")
+    trials.same("install.sh says what it did in a line", len(ran.stdout.splitlines()), 1)
     files = files_below(prefix)
-    listed = (prefix / LIST).read_text(encoding="ascii").split()
-    trials.same("what is installed is listed", sorted(files), listed)
-    modes = {name: 0o755 if name == "bin/anscheck" else 0o644 for name in listed}
-    trials.same("modes", {name: mode for name, (mode, _) in files.items()}, modes)
-    run("./install.sh", "/usr/", cwd=top, env={**os.environ, "DESTDIR": str(staged)})
-    below = files_below(staged / "usr")
-    trials.same("with DESTDIR the same is installed", sorted(below), sorted(files))
-    pc = below.get("lib/pkgconfig/ans.pc", (0, b""))[1]
-    trials.same("ans.pc then names the prefix", pc.splitlines()[:1], [b"prefix=/usr"])
+    trials.same("what is installed is listed", files, (prefix / LIST).read_text(encoding="ascii").split())
+    try_modes(trials, prefix)
+    trials.same("ans.pc names the prefix", prefixes_of(prefix), [str(prefix).replace(" ", "\\ ")])
+    # This prefix is below the folder too, so that nothing is put elsewhere even where DESTDIR is not heeded.
+    run("./install.sh", f"{final}/", cwd=top, env={**os.environ, "DESTDIR": str(staged)})
+    below = Path(f"{staged}{final}")
+    trials.same("with DESTDIR the same is installed", files_below(below), files)
+    trials.want("and nothing without it", not final.exists())
+    trials.same("ans.pc then names the prefix", prefixes_of(below), [str(final)])
     run(top / "install.sh", top.name, cwd=folder)
-    stay = sorted([*files, "README.md", "install.sh"])
-    trials.same("installed into itself all stays", sorted(files_below(top)), stay)
+    trials.same("installed into itself all stays", files_below(top), sorted([*files, "README.md", "install.sh"]))
     trials.same("install.sh without words", run(top / "install.sh").returncode, 2)
     return prefix
 
@@ -189,7 +205,7 @@ def build_tell(trials, prefix, folder):
     told = {name: text_of("pkg-config", *words.split(), "ans", env=finds) for name, words in {
         "flags": "--cflags", "libs": "--libs", "static": "--static --libs", "folder": "--variable=libdir"}.items()}
     script = 'eval "cc -std=c11 -O2 -Wall -Wextra -Werror $1"'
-    source, shared, static = TOP / "library/tell.c", folder / "tell_shared", folder / "tell_static"
+    source, shared, static = prefix / CALLERS / "tell.c", folder / "tell_shared", folder / "tell_static"
     built = {
         shared: f"'{source}' {told['flags']} {told['libs']} -Wl,-rpath,{told['folder']} -o '{shared}'",
         static: f"'{source}' {told['flags']} -Wl,-Bstatic {told['static']} -Wl,-Bdynamic -o '{static}'",
@@ -198,7 +214,7 @@ def build_tell(trials, prefix, folder):
         trials.same(f"cc builds {tell.name}", text_of("sh", "-c", script, "sh", words), "")
         linked = "libans_c.so" in text_of("readelf", "-d", tell)
         trials.same(f"{tell.name} wants libans_c.so", linked, tell == shared)
-    return {"C, shared": [shared], "C, static": [static]}
+    return {tell.name: [tell] for tell in built if tell.is_file()}
 
 
 def try_library(trials, prefix, folder):
@@ -209,7 +225,7 @@ def try_library(trials, prefix, folder):
     exports = [line.split()[-1] for line in text_of("nm", "-D", "--defined-only", shared).splitlines()]
     trials.same("what libans_c.so exports", sorted(exports), calls_of(prefix / "include/ans.h"))
     callers = build_tell(trials, prefix, folder)
-    callers["Python"] = [sys.executable, TOP / "library/tell.py", shared]
+    callers["Python"] = [sys.executable, prefix / CALLERS / "tell.py", shared]
     for drawing in DRAWINGS:
         wanted = beside.wanted(prefix / "bin/anscheck", drawing)
         for language, words in callers.items():
@@ -229,7 +245,7 @@ def try_script(trials, prefix):
 
 def try_removal(trials, prefix):
     run("sh", "-c", f"xargs rm < {LIST}", cwd=prefix)
-    trials.same("nothing is left of it", sorted(files_below(prefix)), [])
+    trials.same("nothing is left of it", files_below(prefix), [])
 
 
 def main(*words):
