@@ -15,6 +15,8 @@ export async function uses(file: Uint8Array, buffer: ArrayBuffer): Promise<strin
 
   const mended = checker.mend(file, { takeOut: true, width: 80 });
   const bytes: Uint8Array = mended.verdict === "pass" ? mended.file : file;
+  checker.mend(file, {});
+  checker.mend(file);
   const redrawn = checker.redraw(bytes);
   const why = checker.why(file);
   const record = checker.record(file);
