@@ -1,10 +1,14 @@
 #!/bin/sh
-# build.sh MODULE: builds the checker's module for the page, and writes it to MODULE.
+# build.sh [BEFORE]: builds the checker's module, which the page and the package for JavaScript have, and writes it to
+# library/js/anscheck.wasm.
 #
 # The gate takes no crate for wasm64, so this works on a copy of the crates, in which ans_c is for wasm64 instead of a
-# static library. The copy is proved as the original is. What the checks of the original kept in out/ is used.
+# static library. The copy is proved as the original is. What the checks of the original kept in out/ is used. That
+# module has 64-bit memory; it is kept as BEFORE where that is named. The last step makes the one with 32-bit memory.
 set -eu
-case $1 in /*) module=$1 ;; *) module=$PWD/$1 ;; esac
+before=${1:-}
+case $before in "" | /*) ;; *) before=$PWD/$before ;; esac
+command -v wasm-opt > /dev/null || { echo "build.sh: there is no wasm-opt, which binaryen has" >&2; exit 1; }
 top=$(cd "$(dirname "$0")/.." && pwd)
 copy=$(mktemp -d)
 trap 'rm -rf "$copy"' EXIT
@@ -18,4 +22,5 @@ sed -i 's/^ans_c staticlib:/ans_c wasm64 stack=262144:/' "$copy/crates.txt"
 grep -q '^ans_c wasm64 ' "$copy/crates.txt" || { echo "build.sh: crates.txt has no ans_c staticlib" >&2; exit 1; }
 cd "$copy/crates/ans_c"
 rt lib
-cp out/ans_c.wasm "$module"
+[ -z "$before" ] || cp out/ans_c.wasm "$before"
+"$top/page/lower.sh" out/ans_c.wasm "$top/library/js/anscheck.wasm"

@@ -1,10 +1,10 @@
 #!/usr/bin/env python3
 """Makes page/check.html, one file with the module and all sources inside.
 
-    python3 page/make.py MODULE [OUT]
+    python3 page/make.py [MODULE [OUT]]
 
-MODULE is what page/build.sh built. OUT is page/check.html where it is not named. The policy in the page names the
-hashes of its style and its scripts, so that it runs no others.
+MODULE is library/js/anscheck.wasm where it is not named, which page/build.sh built, and OUT is page/check.html. The policy
+in the page names the hashes of its style and its scripts, so that it runs no others.
 """
 import base64
 import gzip
@@ -22,7 +22,7 @@ sys.dont_write_bytecode = True
 from meanings import meanings
 
 SOURCES = HERE / "src"
-WORKER = ["ans.js", "worker.js"]
+PACKAGE = HERE.parent / "library" / "js"
 SCRIPT = ["glyphs.js", "picture.js", "why.js", "mends.js", "table.js", "folders.js", "checks.js", "mending.js",
           "redrawing.js", "check.js"]
 
@@ -35,6 +35,11 @@ def source(name):
     return text
 
 
+def calls():
+    """The caller of the module, which the package for JavaScript has as an ES module: here without its export."""
+    return re.sub(r"^export .*\n", "", source(PACKAGE / "calls.js"), flags=re.MULTILINE)
+
+
 def faults():
     """What each fault means, and how it is mended: the two paragraphs of its text."""
     texts = {name[1:]: text.split("\n\n") for name, text in meanings().items() if name.startswith("F")}
@@ -43,7 +48,7 @@ def faults():
 
 def script():
     """The page's script, with the limit and the texts of the faults before it."""
-    limit = re.search(r"^const LONGEST_FILE = .*$", source("ans.js"), re.MULTILINE)[0]
+    limit = re.search(r"^const LONGEST_FILE = .*$", calls(), re.MULTILINE)[0]
     told = json.dumps(faults(), ensure_ascii=False).replace("<", "\\u003c")
     return "\n".join(['"use strict";', limit, f"const FAULT_TEXTS = {told};", *map(source, SCRIPT)])
 
@@ -63,15 +68,16 @@ def policy(style, *scripts):
 
 def main():
     """Writes the page."""
-    if len(sys.argv) not in (2, 3):
+    if len(sys.argv) > 3:
         sys.exit(__doc__)
-    packed = base64.b64encode(gzip.compress(pathlib.Path(sys.argv[1]).read_bytes(), mtime=0)).decode()
+    given = [*map(pathlib.Path, sys.argv[1:])]
+    path, out = given + [PACKAGE / "anscheck.wasm", HERE / "check.html"][len(given):]
+    packed = base64.b64encode(gzip.compress(path.read_bytes(), mtime=0)).decode()
     module = "\n".join(textwrap.wrap(packed, 120))
-    out = pathlib.Path(sys.argv[2]) if len(sys.argv) == 3 else HERE / "check.html"
     style, code, last = source("check.css"), script(), source("last.js")
     parts = {
         "POLICY": policy(style, code, last), "STYLE": style, "SCRIPT": code, "LAST": last, "MODULE": module,
-        "WORKER": "\n".join(map(source, WORKER)),
+        "WORKER": "\n".join(['"use strict";', calls(), source("worker.js")]),
     }
     page = re.sub("@([A-Z]+)@", lambda part: parts[part[1]], source_of_page())
     out.write_text(page, encoding="utf-8", newline="\n")

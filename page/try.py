@@ -9,9 +9,9 @@ it, the cells of the picture, its text, and the colours that are painted: `N dra
 its boxes, redrawing, the table, the keyboard, touch, files that cannot be read or take too long, and a browser that is
 too old. The status is 1 where something differs.
 
-PAGE is page/check.html where it is not named. With --stand-in no module is needed but `clang` and `lld` for wasm64: the
-page is made anew with one that has the stored answers of PROGRAM. HEADER is the folder of ans.h. With --pictures
-pictures of the page are written to FOLDER: light, dark, and 360 points wide.
+PAGE is page/check.html where it is not named. With --stand-in no module is needed but `clang` and `lld` for wasm64, and
+`wasm-opt`: the page is made anew with one that has the stored answers of PROGRAM. HEADER is the folder of ans.h. With
+--pictures pictures of the page are written to FOLDER: light, dark, and 360 points wide.
 """
 import argparse
 import csv
@@ -478,8 +478,9 @@ def try_touch_and_drop(browser, tries, folder):
 
 
 def try_old_browser(kind, tries, address):
-    """A browser without 64-bit memory, or one in which the script fails, is told at once."""
-    for change in ("WebAssembly.validate = () => false;", "delete window.ResizeObserver;"):
+    """A browser that runs no module, one that unpacks none, or one in which the script fails, is told at once."""
+    no_modules = "WebAssembly.Module = function () { throw new WebAssembly.CompileError('not allowed'); };"
+    for change in (no_modules, "delete window.DecompressionStream;", "delete window.ResizeObserver;"):
         browser = kind()
         try:
             browser.before(change)

@@ -1,101 +1,137 @@
 // Tries the page's module in Node, where there is no browser, beside the command line program.
 //
-//     node --experimental-wasm-memory64 page/try_module.mjs PROGRAM [DRAWING ..]
+//     node page/try_module.mjs PROGRAM [DRAWING ..]
+//     node --experimental-wasm-memory64 page/try_module.mjs PROGRAM --before MODULE [DRAWING ..]
 //
-// PROGRAM is the built `anscheck`. The module is the one inside page/check.html, and src/ans.js calls it. Of each drawing
-// of conformance/ and crates/anscheck/data, and of each that is named, it must say what PROGRAM says: the lines of why,
-// the record, what is needed, each cell from three classes of starts, the drawing mended in three ways, and the drawing
-// redrawn. The last line is `N drawings, M differ`, and the status is 1 where one differs. (Newer versions of Node need no
-// flag.)
+// PROGRAM is the built `anscheck`. The module is the one inside page/check.html, and library/js/calls.js calls it. Of each
+// drawing of conformance/ and crates/anscheck/data, and of each that is named, it must say what PROGRAM says: the lines of
+// why, the record, what is needed, each cell from three classes of starts, the drawing mended in three ways, and the
+// drawing redrawn. A folder stands for the .ans files in it. With --before the same is wanted of the module with 64-bit
+// memory that page/build.sh kept. (Newer versions of Node need no flag for that.) The last line is `N drawings, M differ`,
+// and the status is 1 where one differs.
 import { spawnSync } from "node:child_process";
-import { readdirSync, readFileSync } from "node:fs";
+import { readdirSync, readFileSync, statSync } from "node:fs";
 import { dirname, join } from "node:path";
 import { fileURLToPath } from "node:url";
 import { gunzipSync } from "node:zlib";
+import { Checker } from "../library/js/calls.js";
 
 const PAGE = dirname(fileURLToPath(import.meta.url));
 const TOP = dirname(PAGE);
 const PART_NAMES = ["screen", "cursor", "saved", "colours", "wrap"];
-const CLASSES = { 0: [], 3: ["--known-screen", "--known-cursor"], 31: ["--cleared"] };
+const CLASSES = [[0, []], [3, ["--known-screen", "--known-cursor"]], [31, ["--cleared"]]];
+
+/** What may be changed to mend, by the sums and numbers of the module and by the flags of the program. */
+const MENDS = [
+  [[0, 0, 0], []],
+  [[15, 80, 0], ["--take-out", "--line-ends", "--full-rows", "--least-lines", "--width", "80"]],
+  [[3, 0, 30], ["--take-out", "--line-ends", "--lines", "30"]],
+];
 
 /** The module that is packed in the page. */
 function pageModule() {
   const packed = readFileSync(join(PAGE, "check.html"), "utf8").match(/id="module">([^<]*)</)[1];
-  return new WebAssembly.Module(gunzipSync(Buffer.from(packed.replace(/\s/g, ""), "base64")));
+  return gunzipSync(Buffer.from(packed.replace(/\s/g, ""), "base64"));
 }
 
-/** The page's own caller. Node 20 wants the number of pages to grow by as a number. */
-function pageChecker() {
-  const source = readFileSync(join(PAGE, "src", "ans.js"), "utf8");
-  const wantsNumbers = Number(process.versions.node.split(".")[0]) < 24;
-  const calls = wantsNumbers ? source.replace("grow(BigInt(pages))", "grow(pages)") : source;
-  return new Function(`${calls}; return Checker;`)();
+/** The caller of a module. Newer versions of Node want as a BigInt how many pages a 64-bit memory grows by. */
+class AnyChecker extends Checker {
+  grow(pages) {
+    try {
+      super.grow(pages);
+    } catch (error) {
+      if (!(error instanceof TypeError)) throw error;
+      this.exports.memory.grow(BigInt(pages));
+    }
+  }
 }
 
-const printed = (...words) => spawnSync(words[0], words.slice(1), { encoding: "utf8", maxBuffer: 1 << 28 }).stdout;
+const newChecker = (bytes) => new AnyChecker(new WebAssembly.Instance(new WebAssembly.Module(bytes)));
+
+const digits = (byte) => byte.toString(16).padStart(2, "0");
 
 /** Cells as `check --cells` prints them: a line for each row, and four digits for each cell. */
 function cellLines({ columns, lines, glyphs, attributes }) {
-  const digits = (byte) => byte.toString(16).padStart(2, "0");
   const row = (y) => Array.from({ length: columns }, (_, x) => y * columns + x)
     .map((cell) => digits(glyphs[cell]) + digits(attributes[cell])).join("");
   return Array.from({ length: lines }, (_, y) => row(y) + "\n").join("");
 }
 
-const isSaid = (report, fault) => report.includes(`verdict: refused\nat ${fault.offset}: F${fault.number} `);
-
-/** What may be changed to mend, by the sums and numbers of the module and by the flags of the program. */
-const MENDS = [
-  [0, 0, 0, []],
-  [15, 80, 0, ["--take-out", "--line-ends", "--full-rows", "--least-lines", "--width", "80"]],
-  [3, 0, 30, ["--take-out", "--line-ends", "--lines", "30"]],
-];
-
-/** Whether a drawing comes out as the program has it, to the byte, and what was changed is told as there. */
-function isMadeAlike(told, program, words, path) {
-  const { status, stdout, stderr } = spawnSync(program, [...words, path], { maxBuffer: 1 << 28 });
-  const bytes = status === 0 ? stdout : null;
-  const isSame = bytes === null ? told.bytes === null : told.bytes !== null && bytes.equals(told.bytes);
-  return isSame && told.changes === stderr.toString();
+/** A fault as the program's reports end with it. */
+function faultLine(checker, { number, offset, row, column }) {
+  const cell = row > 0 ? ` (row ${row}, column ${column})` : "";
+  return `at ${offset}: ${checker.faultText(number).text}${cell}\n`;
 }
 
-/** What the module says otherwise than the program of the drawing that is open. */
-function differences(checker, program, path) {
-  const found = [];
-  if (checker.why().text !== printed(program, "why", path)) found.push("why");
-  if (checker.record().text !== printed(program, "sauce", path)) found.push("record");
-  for (const [known, flags] of Object.entries(CLASSES)) {
-    const told = checker.check(Number(known));
-    const report = printed(program, "check", ...flags, "--cells", path);
-    const agrees = told.answer === "pass" ? report.split("cells:\n")[1] === cellLines(told) : isSaid(report, told.fault);
-    if (!agrees) found.push(["check", ...flags].join(" "));
+const nameOf = (command, flags) => [command, ...flags].join(" ");
+
+/** A file that is made, if one is, and what is said of it. */
+const made = (isMade, bytes, text) => `${isMade ? Buffer.from(bytes).toString("latin1") : "nothing"}\n${text}`;
+
+/** What a module says of a file, by the program's commands. */
+function saidBy(checker, file) {
+  checker.open(file);
+  const said = { why: checker.why().text, sauce: checker.record().text };
+  for (const [known, flags] of CLASSES) {
+    const told = checker.check(known);
+    said[nameOf("check", flags)] = told.answer === "pass" ? cellLines(told) : faultLine(checker, told.fault);
   }
   const needs = checker.needs();
-  const report = printed(program, "needs", path);
   const names = PART_NAMES.filter((_, part) => (needs.parts >> part) & 1).join(" ") || "nothing";
-  const agrees = needs.answer === "pass" ? report.endsWith(`needs: ${names}\n`) : isSaid(report, needs.fault);
-  if (!agrees) found.push("needs");
-  for (const [classes, width, lines, flags] of MENDS) {
-    const told = checker.mend(classes, width, lines);
-    if (!isMadeAlike(told, program, ["mend", ...flags], path)) found.push(["mend", ...flags].join(" "));
-  }
-  if (!isMadeAlike(checker.redraw(), program, ["redraw"], path)) found.push("redraw");
-  return found;
+  said.needs = needs.answer === "pass" ? `needs: ${names}\n` : faultLine(checker, needs.fault);
+  const put = (name, { answer, changes, bytes }) => {
+    said[name] = made(answer === "pass", bytes, changes);
+  };
+  for (const [numbers, flags] of MENDS) put(nameOf("mend", flags), checker.mend(...numbers));
+  put("redraw", checker.redraw());
+  return said;
 }
 
-function main([program, ...named]) {
-  const folders = [join(TOP, "conformance", "files"), join(TOP, "crates", "anscheck", "data")];
-  const drawings = folders.flatMap((folder) => readdirSync(folder).filter((name) => name.endsWith(".ans"))
-    .map((name) => join(folder, name)));
-  const checker = new (pageChecker())(pageModule());
+const run = (program, words) => spawnSync(program, words, { maxBuffer: 1 << 28 });
+
+/** The same by the program. */
+function saidByProgram(program, path) {
+  const printed = (...words) => run(program, [...words, path]).stdout.toString();
+  const said = { why: printed("why"), sauce: printed("sauce") };
+  for (const [, flags] of CLASSES) {
+    const report = printed("check", ...flags, "--cells");
+    said[nameOf("check", flags)] = report.split("\ncells:\n")[1] ?? report.split("verdict: refused\n")[1];
+  }
+  said.needs = /(?:needs: |at \d+: F).*\n$/.exec(printed("needs"))[0];
+  for (const words of [...MENDS.map(([, flags]) => ["mend", ...flags]), ["redraw"]]) {
+    const { status, stdout, stderr } = run(program, [...words, path]);
+    said[words.join(" ")] = made(status === 0, stdout, stderr);
+  }
+  return said;
+}
+
+const drawingsIn = (folder) => readdirSync(folder).filter((name) => name.endsWith(".ans")).map((name) => join(folder, name));
+
+/** The modules that are tried, by name, and the drawings that are named. */
+function given(words) {
+  const modules = { "the module": pageModule() };
+  if (words[0] !== "--before") return { modules, named: words };
+  return { modules: { ...modules, "the module before": readFileSync(words[1]) }, named: words.slice(2) };
+}
+
+function main([program, ...words]) {
+  const { modules, named } = given(words);
+  const folders = [join(TOP, "conformance", "files"), join(TOP, "crates", "anscheck", "data"), ...named];
+  const drawings = folders.flatMap((path) => (statSync(path).isDirectory() ? drawingsIn(path) : [path]));
+  const checkers = Object.entries(modules).map(([name, bytes]) => [name, newChecker(bytes)]);
   let differ = 0;
-  for (const path of [...drawings, ...named]) {
-    checker.open(new Uint8Array(readFileSync(path)));
-    const found = differences(checker, program, path);
-    if (found.length) console.log(`${path}: ${found.join(", ")}`);
+  for (const path of drawings) {
+    const wanted = saidByProgram(program, path);
+    const file = new Uint8Array(readFileSync(path));
+    const found = checkers.flatMap(([name, checker]) => {
+      const said = saidBy(checker, file);
+      return Object.keys(wanted).filter((command) => said[command] !== wanted[command])
+        .map((command) => `${name}, ${command}`);
+    });
+    if (found.length) console.log(`${path}: ${found.join("; ")}`);
     differ += found.length > 0;
   }
-  console.log(`${drawings.length + named.length} drawings, ${differ} differ`);
+  console.log(`${drawings.length} drawings, ${differ} differ`);
   process.exitCode = differ > 0 ? 1 : 0;
 }
 

@@ -1,4 +1,4 @@
-// Answers what the page asks about one drawing after the other. It runs in a worker, behind ans.js.
+// Answers what the page asks about one drawing after the other. It runs in a worker, behind calls.js.
 
 const RECORD_BYTES = 128;
 const LINES = 98;
@@ -9,6 +9,8 @@ const BLINK = 0x80;
 let begun = null;
 let module = null;
 let checker = null;
+
+const newChecker = () => new Checker(new WebAssembly.Instance(module));
 
 /** A file of the content's first bytes, with the same record, but without comments. */
 function shortened(file, length) {
@@ -84,14 +86,14 @@ async function unpacked(bytes) {
 
 async function begin(packedModule) {
   module = await WebAssembly.compile(await unpacked(packedModule));
-  checker = new Checker(module);
+  checker = newChecker();
   postMessage({ version: checker.version().text });
 }
 
 async function answered(file, { wantsPicture, mends, redraws }) {
   try {
     await begun;
-    checker ??= new Checker(module);
+    checker ??= newChecker();
     if (redraws) return redraw(file);
     return mends ? mend(file, mends) : study(file, wantsPicture);
   } catch (error) {

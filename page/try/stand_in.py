@@ -131,8 +131,9 @@ def build(program, paths, header, folder):
         waiting += more
     rows.append(answer_to_largest())
     (folder / "answers.h").write_text("static const struct stored answers[] = {\n" + "\n".join(rows) + "\n};\n")
-    module = folder / "stand_in.wasm"
+    before, module = folder / "before.wasm", folder / "stand_in.wasm"
     subprocess.run(["clang", "--target=wasm64-unknown-unknown", "-std=c11", "-Wall", "-O2", "-nostdlib",
                     "-ffreestanding", "-Wno-pointer-sign", f"-I{header}", f"-I{folder}", "-Wl,--no-entry",
-                    *(f"-Wl,--export={name}" for name in EXPORTS), "-o", module, HERE / "stand_in.c"], check=True)
+                    *(f"-Wl,--export={name}" for name in EXPORTS), "-o", before, HERE / "stand_in.c"], check=True)
+    subprocess.run([HERE.parent / "lower.sh", before, module], check=True)
     return module

@@ -26,7 +26,7 @@ onmessage = async ({ data }) => {
   module = await WebAssembly.compile(await unpacked(data.packedModule));
   const times = [];
   for (let call = 0; call < 6; call++) {
-    checker ??= new Checker(module);
+    checker ??= newChecker();
     checker.open(data.file);
     const began = performance.now();
     const answer = checker.check(CLEARED).answer;

@@ -1,5 +1,5 @@
-"use strict";
-// The checker's module, as ans.h describes its exports. It has 64-bit memory, so pointers and lengths are BigInt.
+// The checker's module, as ans.h describes its exports. They take and tell pointers and lengths of 64 bits, as BigInt,
+// whether the module's memory has 32-bit addresses or 64-bit ones. The browser page has this file too.
 
 const PARTS = { screen: 1, cursor: 2, saved: 4, colours: 8, wrap: 16 };
 const CLEARED = 31;
@@ -21,8 +21,8 @@ const LINE_FEED = 0x0a;
 
 /** One instance of the module. After a trap it is dead, and a new one has to be made. */
 class Checker {
-  constructor(module) {
-    this.exports = new WebAssembly.Instance(module).exports;
+  constructor(instance) {
+    this.exports = instance.exports;
     this.open(new Uint8Array(0));
   }
 
@@ -207,7 +207,7 @@ class Checker {
 
   /** Growing detaches each view of the memory, so none is kept. */
   grow(pages) {
-    this.exports.memory.grow(BigInt(pages));
+    this.exports.memory.grow(pages);
   }
 
   bytesOf([at, length]) {
@@ -223,3 +223,5 @@ class Checker {
     return new DataView(this.exports.memory.buffer);
   }
 }
+
+export { CLASSES, CLEARED, Checker, LONGEST_FILE, PARTS };

@@ -1,0 +1,114 @@
+/** A file, or a module's bytes. A `Buffer` of Node is a `Uint8Array`. */
+export type Bytes = Uint8Array | ArrayBuffer;
+
+/** A part of the start: what the screen, the cursor, the saved cursor, the colours and wrap are when the drawing begins. */
+export type Part = "screen" | "cursor" | "saved" | "colours" | "wrap";
+
+/** What is known of the start: nothing, all of it, or these parts. What is known is as on a cleared screen. */
+export type Start = "any" | "cleared" | readonly Part[];
+
+/** Why a file is refused. */
+export interface Fault {
+  /** 1 to 25, without 18: 21 for the fault F21. */
+  number: number;
+  /** In bytes from the file's start, the first being 0. */
+  offset: number;
+  /** The row of the cell of F25, counted from 1; else null. */
+  row: number | null;
+  /** The column of that cell, counted from 1; else null. */
+  column: number | null;
+  /** The fault's number and name, as "F21 scrolls". */
+  text: string;
+}
+
+/** The file has more than 16,777,216 bytes. */
+export interface TooLong {
+  verdict: "too long";
+}
+
+/** The file is refused, with its first fault, or its last where no token has one. */
+export interface Refused {
+  verdict: "refused";
+  fault: Fault;
+}
+
+/** The picture that the file shows from each of the starts. */
+export interface Picture {
+  verdict: "pass";
+  /** Columns, 1 to 1024. */
+  width: number;
+  /** Rows, 1 to 8192. */
+  lines: number;
+  /** For each cell, row by row, its byte of code page 437. */
+  glyphs: Uint8Array;
+  /** For each cell, row by row: bits 0 to 3 foreground, 4 to 6 background, bit 7 blink or bright background. */
+  attributes: Uint8Array;
+}
+
+/** It passes from the cleared start, and exactly where each of these parts is known. */
+export interface Needs {
+  verdict: "pass";
+  needs: Part[];
+}
+
+/** A verdict, and the lines that the program prints, each ended by a line feed. */
+export interface Text {
+  verdict: "pass" | "refused";
+  text: string;
+}
+
+/** A file that was made, and what was changed, a line for each kind of change. */
+export interface Made {
+  verdict: "pass";
+  file: Uint8Array;
+  text: string;
+}
+
+/** No file was made, and why. */
+export interface NotMade {
+  verdict: "refused";
+  text: string;
+}
+
+/** What may be changed to mend a file besides what is mended by itself. */
+export interface MendOptions {
+  /** Sequences that players differ in are taken out, and as few line ends at the very end as must go. */
+  takeOut?: boolean;
+  /** A return is put before each line feed of a drawing that has no return. */
+  lineEnds?: boolean;
+  /** The line ends behind full rows are taken out, where each full row has one. */
+  fullRows?: boolean;
+  /** The least number of lines that is enough is stated, where those stated are too few or none are. */
+  leastLines?: boolean;
+  /** The columns of the record that a file without one is given, 1 to 1024. */
+  width?: number;
+  /** The number of lines that is stated where others are wanted, 1 to 8192. */
+  lines?: number;
+}
+
+/**
+ * A checker. A file that is given is not changed; answers stay as they are when the next file is checked. Of something
+ * else than a file, a start or options each call throws a `TypeError`, and of a number out of bounds a `RangeError`.
+ */
+export interface Checker {
+  /** The picture that a file shows from every start of a class ("any" where none is named), or why there is none. */
+  check(file: Bytes, start?: Start): Picture | Refused | TooLong;
+  /** The parts of the start that a file relies on, or why it does not pass even from the cleared start. */
+  needs(file: Bytes): Needs | Refused | TooLong;
+  /** What `anscheck why` prints: where and why a file is refused, or what it relies on and how it is mended. */
+  why(file: Bytes): Text | TooLong;
+  /** What `anscheck sauce` prints: what a file's record says, or why it is refused. */
+  record(file: Bytes): Text | TooLong;
+  /** A file mended as `anscheck mend` does it, so that it passes from every start. */
+  mend(file: Bytes, options?: MendOptions): Made | NotMade | TooLong;
+  /** The picture from the cleared start written anew, as `anscheck redraw` does it, so that it shows from every start. */
+  redraw(file: Bytes): Made | NotMade | TooLong;
+  /** The version of the checker, as "0.1.0". */
+  version(): string;
+}
+
+/**
+ * Makes a checker, of the bytes of `anscheck.wasm` or of the `WebAssembly.Module` that was compiled of them. Where none is
+ * given they are read from beside the package's sources, in browsers by `fetch`.
+ */
+export function load(module?: Bytes | object): Promise<Checker>;
