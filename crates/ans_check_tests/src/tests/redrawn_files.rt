@@ -55,7 +55,7 @@ static REDRAWN: [(Sample, Sample, &[u8]); 10] = [
             &[(90, b"\x0d"), (96, b"\x0a")],
         ),
         (b"\x1b[8CA\x1a", &[(90, b"\x18"), (96, b"\x0a")]),
-        b"content length 24, was 13\nfile size 24, was 13\n",
+        b"content length 24, was 14\nfile size 24, was 13\n",
     ),
     // a comment, and no end mark
     (
