@@ -186,12 +186,12 @@ The redrawn file goes to standard output: give it another name, as in
   anscheck redraw drawing.ans > redrawn.ans
 since the shell empties a file before it is read. The picture is the one that
 the drawing shows in the end on a cleared screen, so an animation becomes
-still; it then shows from every start. Of the record only the file size
-changes, and an end mark is put before it where there is none.
+still; it then shows from every start. Comments and record stay, but for the
+file size; an end mark is put behind the drawing where there is none.
 
 Exit status:
   0  A file was written, or help was asked for
-  1  No file could be redrawn; standard error says why
+  1  The file is refused, or would be too long; standard error says which
   2  There is no answer; standard error says why
 """
 REDRAW_ADVICE = b"help: anscheck why says more of it; a drawing that was mended can be redrawn\n"
@@ -249,7 +249,7 @@ To mend it, see that the drawing is whole. Then set the file size, bytes 90 to
 93 of the record, the lowest first, to the number of bytes in the line
 'content:' of 'anscheck check'.
 """
-VERSION = b"anscheck 0.1.0 (rattle logic dac8208d650f15bf)\n"
+VERSION = b"anscheck 0.2.0 (rattle logic dac8208d650f15bf)\n"
 
 
 def mistake(what, usage):

@@ -81,7 +81,7 @@ pub enum Command {
     Table(TableForm),
     /// Writes the file mended, so that it passes from every start.
     Mend(Mends),
-    /// Writes its picture anew, in the plainest form, so that it shows the same everywhere.
+    /// Writes the file redrawn: with its picture written anew in the plainest form, which shows it from every start.
     Redraw,
 }
 

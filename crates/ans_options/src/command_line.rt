@@ -48,7 +48,7 @@ impl From<clap::Error> for WordsError {
 }
 
 /// What `--version` prints after the program's name: its version, and the prover's logic.
-const VERSION: &str = "0.1.0 (rattle logic dac8208d650f15bf)";
+const VERSION: &str = "0.2.0 (rattle logic dac8208d650f15bf)";
 
 /// A text, and behind it the exit statuses, of which the first comes where this is so.
 macro_rules! with_exit_statuses {
@@ -122,12 +122,12 @@ The redrawn file goes to standard output: give it another name, as in
   anscheck redraw drawing.ans > redrawn.ans
 since the shell empties a file before it is read. The picture is the one that
 the drawing shows in the end on a cleared screen, so an animation becomes
-still; it then shows from every start. Of the record only the file size
-changes, and an end mark is put before it where there is none.
+still; it then shows from every start. Comments and record stay, but for the
+file size; an end mark is put behind the drawing where there is none.
 
 Exit status:
   0  A file was written, or help was asked for
-  1  No file could be redrawn; standard error says why
+  1  The file is refused, or would be too long; standard error says which
   2  There is no answer; standard error says why";
 
 /// How the program is used, where words name no command. A drawing's name alone is such a word.

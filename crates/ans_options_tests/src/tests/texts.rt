@@ -216,15 +216,15 @@ const REDRAW_HELP: &str = "\
     \x20 anscheck redraw drawing.ans > redrawn.ans\n\
     since the shell empties a file before it is read. The picture is the one that\n\
     the drawing shows in the end on a cleared screen, so an animation becomes\n\
-    still; it then shows from every start. Of the record only the file size\n\
-    changes, and an end mark is put before it where there is none.\n\
+    still; it then shows from every start. Comments and record stay, but for the\n\
+    file size; an end mark is put behind the drawing where there is none.\n\
     \n\
     Exit status:\n\
     \x20 0  A file was written, or help was asked for\n\
-    \x20 1  No file could be redrawn; standard error says why\n\
+    \x20 1  The file is refused, or would be too long; standard error says which\n\
     \x20 2  There is no answer; standard error says why\n";
 
-const VERSION: &str = "anscheck 0.1.0 (rattle logic dac8208d650f15bf)\n";
+const VERSION: &str = "anscheck 0.2.0 (rattle logic dac8208d650f15bf)\n";
 
 /// Words that are rejected, and the text.
 static REJECTED: [(&[&str], &str); 15] = words! {
