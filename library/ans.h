@@ -93,14 +93,14 @@ struct ans_size {
     size_t cells, scratch;
 };
 
-/* Bytes of the file: so many, from this offset on. 0 and 0 where there are none. */
+/* Bytes of the file: so many, from this offset on. The length is 0 where there are none. */
 struct ans_piece {
     size_t start, length;
 };
 
 /* A place on the screen, counted from 1. 0 and 0 where there is none. */
 struct ans_place {
-    uint32_t row, column;
+    size_t row, column;
 };
 
 /* Of a file that passes from the cleared start; else all is 0. */
@@ -135,12 +135,12 @@ struct ans_parts {
 /* Of the record in the file's last 128 bytes, accepted or not; where there is none all is 0. Texts are without trailing
  * blanks and zero bytes, and each byte is a character of code page 437. */
 struct ans_fields {
-    uint32_t is_there;     /* 1 */
-    uint32_t width, lines; /* as they are stated, but for a width of 0, which is told as 80 */
-    uint32_t flags;        /* the byte TFlags */
-    uint32_t ice;          /* 1 where bit 7 of an attribute is a bright background, else 0 */
-    uint32_t spacing;      /* 8 or 9, the pixels of a letter's width, or 0 where the flags do not say */
-    uint32_t aspect;       /* 1 for pixels to be stretched, 2 for square ones, 0 where the flags do not say */
+    uint32_t is_there;   /* 1 */
+    uint32_t flags;      /* the byte TFlags */
+    uint32_t ice;        /* 1 where bit 7 of an attribute is a bright background, else 0 */
+    uint32_t spacing;    /* 8 or 9, the pixels of a letter's width, or 0 where the flags do not say */
+    uint32_t aspect;     /* 1 for pixels to be stretched, 2 for square ones, 0 where the flags do not say */
+    size_t width, lines; /* as they are stated, but for a width of 0, which is told as 80 */
     struct ans_piece font, date, title, author, group;
 };
 

@@ -54,8 +54,8 @@ static void tell_piece(const char *name, struct ans_piece piece) {
 }
 
 static void tell_fields(const struct ans_fields *fields) {
-    printf("fields %u %u %u %u", fields->is_there, fields->width, fields->lines, fields->flags);
-    printf(" %u %u %u\n", fields->ice, fields->spacing, fields->aspect);
+    printf("fields %u %u %u", fields->is_there, fields->flags, fields->ice);
+    printf(" %u %u %zu %zu\n", fields->spacing, fields->aspect, fields->width, fields->lines);
     tell_piece("font", fields->font);
     tell_piece("date", fields->date);
     tell_piece("title", fields->title);
@@ -74,7 +74,7 @@ static void tell_row(size_t file_len) {
     printf("passing %u %u %u %u\n", passing->needs, passing->players, passing->on_every_player, passing->taller);
     tell_fault("fault", &blame->fault);
     tell_piece("bytes", blame->bytes);
-    printf("low %u %u\nhigh %u %u\n", blame->low.row, blame->low.column, blame->high.row, blame->high.column);
+    printf("low %zu %zu\nhigh %zu %zu\n", blame->low.row, blame->low.column, blame->high.row, blame->high.column);
     printf("known %u\nlines %u\nmends %u\n", blame->known, blame->lines, blame->mends);
     printf("content %zu\nnotes %u\n", row.parts.content, row.parts.notes);
     tell_piece("comments", row.parts.comments);

@@ -30,7 +30,7 @@ class Piece(ctypes.Structure):
 
 
 class Place(ctypes.Structure):
-    _fields_ = [("row", c_uint32), ("column", c_uint32)]
+    _fields_ = [("row", c_size_t), ("column", c_size_t)]
 
 
 class Passing(ctypes.Structure):
@@ -46,12 +46,14 @@ class Parts(ctypes.Structure):
     _fields_ = [("content", c_size_t), ("comments", Piece), ("notes", c_uint32)]
 
 
-NUMBERS = ["is_there", "width", "lines", "flags", "ice", "spacing", "aspect"]
+NUMBERS = ["is_there", "flags", "ice", "spacing", "aspect"]
+SIZES = ["width", "lines"]
 TEXTS = ["font", "date", "title", "author", "group"]
 
 
 class Fields(ctypes.Structure):
-    _fields_ = [*((name, c_uint32) for name in NUMBERS), *((name, Piece) for name in TEXTS)]
+    _fields_ = [*((name, c_uint32) for name in NUMBERS), *((name, c_size_t) for name in SIZES),
+                *((name, Piece) for name in TEXTS)]
 
 
 class Row(ctypes.Structure):
@@ -175,7 +177,7 @@ def row_lines(file, answer, row):
     yield line_of("content", parts.content)
     yield line_of("notes", parts.notes)
     yield piece_line("comments", parts.comments)
-    yield line_of("fields", *(getattr(fields, name) for name in NUMBERS))
+    yield line_of("fields", *(getattr(fields, name) for name in [*NUMBERS, *SIZES]))
     for name in TEXTS:
         yield piece_line(name, getattr(fields, name))
 

@@ -45,8 +45,8 @@ struct Piece {
 #[repr(C)]
 #[derive(Default)]
 struct Place {
-    row: u32,
-    column: u32,
+    row: usize,
+    column: usize,
 }
 
 #[repr(C)]
@@ -82,12 +82,12 @@ struct Parts {
 #[derive(Default)]
 struct Fields {
     is_there: u32,
-    width: u32,
-    lines: u32,
     flags: u32,
     ice: u32,
     spacing: u32,
     aspect: u32,
+    width: usize,
+    lines: usize,
     font: Piece,
     date: Piece,
     title: Piece,
@@ -271,8 +271,8 @@ impl Checker {
     }
 
     fn put_fields(&self, out: &mut impl Write, fields: &Fields) -> io::Result<()> {
-        let Fields { is_there, width, lines, flags, ice, spacing, aspect, .. } = fields;
-        writeln!(out, "fields {is_there} {width} {lines} {flags} {ice} {spacing} {aspect}")?;
+        let Fields { is_there, flags, ice, spacing, aspect, width, lines, .. } = fields;
+        writeln!(out, "fields {is_there} {flags} {ice} {spacing} {aspect} {width} {lines}")?;
         self.put_piece(out, "font", &fields.font)?;
         self.put_piece(out, "date", &fields.date)?;
         self.put_piece(out, "title", &fields.title)?;

@@ -38,6 +38,8 @@ PLACES = {"font": (22, 22), "date": (46, 8), "title": (121, 35), "author": (86, 
 FLAGS = 23
 LOW_GLYPHS = " ☺☻♥♦♣♠•◘○◙♂♀♪♫☼►◄↕‼¶§▬↨↑↓→←∟↔▲▼"
 QUOTED = {9: "<TAB>", 10: "<LF>", 13: "<CR>", 27: "<ESC>", 32: "<SP>"}
+# Where a piece has no bytes, its start says nothing.
+NO_BYTES = re.compile(rb"^(bytes|comments|font|date|title|author|group) \d+ 0 $", re.MULTILINE)
 TOO_LONG, LONGEST_FILE, LONGEST_QUOTE = 3, 16_777_216, 32
 STRICT = ["-O2", "-Wall", "-Wextra", "-Werror", "-pedantic", f"-I{HERE}"]
 LANGUAGES = {"C": ["cc", "-std=c99", *STRICT], "C++": ["c++", "-std=c++11", *STRICT, "-x", "c++"]}
@@ -93,7 +95,7 @@ def quoted(data):
 
 
 def piece(name, data, start, length):
-    return f"{name} {start} {length} {data[start:start + length].hex()}\n"
+    return f"{name} {start if length else 0} {length} {data[start:start + length].hex()}\n"
 
 
 def blamed(data, at, line, told_length):
@@ -136,7 +138,7 @@ def blame_lines(data, row, why, told_length):
 def parts_lines(data, row):
     count = 64 * len(row.get("comments", []))
     notes = sum(1 << int(label[1:]) for label in row.get("notes", []))
-    comments = piece("comments", data, len(data) - 128 - count if count else 0, count)
+    comments = piece("comments", data, len(data) - 128 - count, count)
     return f"content {row.get('content', 0)}\nnotes {notes}\n{comments}"
 
 
@@ -145,14 +147,14 @@ def fields_lines(data, row):
     if "width" not in row:
         return "fields 0 0 0 0 0 0 0\n" + "".join(piece(name, data, 0, 0) for name in PLACES)
     flags, aspect = data[len(data) - FLAGS], ASPECTS.get(row.get("aspect"), 0)
-    numbers = row["width"], row["lines"], flags, int(row["ice"]), row.get("spacing", 0), aspect
+    numbers = flags, int(row["ice"]), row.get("spacing", 0), aspect, row["width"], row["lines"]
     text = "fields 1 {} {} {} {} {} {}\n".format(*numbers)
     for name, (before_end, length) in PLACES.items():
         start = len(data) - before_end
         field = data[start:start + length].rstrip(b" \0")
         if glyphs(field) != row[name]:
             return f"{name} is {row[name]!r} in the table\n"
-        text += piece(name, data, start if field else 0, len(field))
+        text += piece(name, data, start, len(field))
     return text
 
 
@@ -222,7 +224,7 @@ def differing(callers, program, file, text=None):
         lengths = re.findall(rb"^bytes \d+ (\d+)", next(iter(told.values())).stdout, re.MULTILINE)
         text = wanted(program, file, int(lengths[0]) if lengths else 0)
     for language, ran in told.items():
-        came = ran.stdout + ran.stderr
+        came = NO_BYTES.sub(rb"\1 0 0 ", ran.stdout + ran.stderr)
         if came != text or ran.returncode:
             yield language, other_line(came, text)
 

@@ -65,6 +65,7 @@ static int is_same_row(const struct ans_row *a, const struct ans_row *b) {
            a->parts.content == b->parts.content && a->parts.notes == b->parts.notes &&
            memcmp(&a->parts.comments, &b->parts.comments, sizeof a->parts.comments) == 0 &&
            memcmp(&a->fields, &b->fields, offsetof(struct ans_fields, aspect) + 4) == 0 &&
+           a->fields.width == b->fields.width && a->fields.lines == b->fields.lines &&
            memcmp(&a->fields.font, &b->fields.font, 5 * sizeof a->fields.font) == 0;
 }
 
