@@ -1,7 +1,7 @@
 /* ans_easy.h: the checker with memory from malloc, for those who want one call. The functions stand here whole; they
  * are not proved, and only hand memory to those of ans.h, which are.
  *
- * Each answers as the call of its name in ans.h, but never ANS_NO_ROOM, or ANS_NO_MEMORY where malloc gave none. A text
+ * Each answers as the call of its name in ans.h, or ANS_NO_MEMORY where malloc gave none, and never ANS_NO_ROOM. A text
  * is in UTF-8, ends in a zero byte, and is freed by free. It is there after ANS_PASS and ANS_REFUSED; after all else it
  * is NULL.
  */

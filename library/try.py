@@ -2,16 +2,18 @@
 """try.py PROGRAM ARCHIVE [--sanitize] [FILE..]: sets the library beside the program.
 
 PROGRAM is the built anscheck, ARCHIVE the built libans_c.a. `tell` is built in C, in C++ and in Rust and run in Python;
-of each FILE (by default the drawings of conformance/ and of crates/anscheck/data, and a file that is too long) each
-must say what the program says: the verdict and each cell from three classes of starts, what the file needs, all numbers
-of its row, the text of why, what the record says, the mended file with what is said of it, mended by itself and with
-all that may be changed, and the redrawn file with what is said of that. With --sanitize `tell` is also built by cc with
--fsanitize=address,undefined, and has to be silent.
+of each FILE (by default the drawings of conformance/ and of crates/anscheck/data, those of try/drawings.py and of
+tools/runs/made_drawings.py, and a file that is too long) each must say what the program says: the verdict and each
+cell from three classes of starts, what the file needs, all numbers of its row, the text of why, what the record says,
+the mended file with what is said of it, mended by itself and with all that may be changed, and the redrawn file with
+what is said of that. With --sanitize `tell` is also built by cc with -fsanitize=address,undefined, and has to be silent.
 
 Beside the drawings it tries that header, library, program, ans.pc and the package for JavaScript have one version; that
 the constant texts of the header are those of the crates, of the library and of the program; what the calls answer on
-scratch of any length and place (try/scratch.c); and each example of README.md, as C and as C++. It wants cc, c++ and
-rustc. The last line is 'N files in L languages and T other trials, M differ'."""
+scratch of any length and place (try/scratch.c), and where malloc refuses memory (try/memory.c); and each example of
+README.md, as C and as C++. These two are built with sanitizers in any case. It wants cc, c++ and rustc. The last line
+is 'N files in L languages and T other trials, M differ'."""
+import importlib.util
 import json
 import re
 import subprocess
@@ -272,10 +274,9 @@ def wrong_texts(library, folder):
             yield f"the number of the version, in {name}"
 
 
-def wrong_scratch(archive, folder, files, sanitize):
-    """What try/scratch.c finds, and how many trials it made."""
-    words = [*LANGUAGES["C"], *(SANITIZE if sanitize else [])]
-    ran = run([compiled(words, HERE / "try/scratch.c", archive, folder / "scratch"), *files])
+def found_by(name, archive, folder, files, more):
+    """What try/NAME.c finds, built with more words, and how many trials it made."""
+    ran = run([compiled([*LANGUAGES["C"], *more], HERE / f"try/{name}.c", archive, folder / name), *files])
     lines = (ran.stdout + ran.stderr).decode().splitlines()
     ended = re.fullmatch(r"(\d+) trials, \d+ failed", lines[-1])
     return (lines[:-1], int(ended[1])) if ended else (lines, 1)
@@ -326,10 +327,32 @@ def other_trials(program, archive, folder, files, sanitize):
     wrong = [*wrong_versions(program, library), *wrong_texts(library, folder)]
     if tables.main(["--check"]):
         wrong.append("ans.h is not as tables.py writes it")
-    of_scratch, scratch_count = wrong_scratch(archive, folder, files, sanitize)
-    of_examples, example_count = wrong_examples(archive, folder, files[-4:])
-    versions, texts = 5, len(wanted_texts(library))
-    return [*wrong, *of_scratch, *of_examples], 1 + versions + 2 * texts + scratch_count + example_count
+    of_scratch, scratch_count = found_by("scratch", archive, folder, files, SANITIZE if sanitize else [])
+    some = [*files[::50], *files[-4:]]
+    of_memory, memory_count = found_by("memory", archive, folder, some, SANITIZE)
+    of_examples, example_count = wrong_examples(archive, folder, some)
+    count = 1 + len(stated_versions()) + 2 + 2 * len(wanted_texts(library))
+    count += scratch_count + memory_count + example_count
+    return [*wrong, *of_scratch, *of_memory, *of_examples], count
+
+
+def module(path):
+    """A script, as a module."""
+    spec = importlib.util.spec_from_file_location(path.stem, path)
+    loaded = importlib.util.module_from_spec(spec)
+    sys.modules[path.stem] = loaded
+    spec.loader.exec_module(loaded)
+    return loaded
+
+
+def made_drawings(folder):
+    """Drawings that are made here, and those with mistakes that artists make, as files in a folder."""
+    mistakes = module(TOP / "tools/runs/made_drawings.py")
+    made = [it.file() for it in mistakes.MISTAKES + mistakes.MEANT + mistakes.SPOKEN_OF]
+    for i, data in enumerate([*made, *module(HERE / "try/drawings.py").files()]):
+        file = folder / f"made_{i}.ans"
+        file.write_bytes(data)
+        yield file
 
 
 def drawings():
@@ -343,10 +366,10 @@ def main(words):
         return 2
     program, archive, *names = words
     program, archive = Path(program).resolve(), Path(archive).resolve()
-    files = [Path(name) for name in names] or drawings()
     differ = 0
     with tempfile.TemporaryDirectory() as name:
         folder = Path(name)
+        files = [Path(name) for name in names] or [*made_drawings(folder), *drawings()]
         callers = build(archive, folder, sanitize)
         cases = [(file, None) for file in files]
         if not names:
