@@ -6,7 +6,8 @@ of each FILE (by default the drawings of conformance/ and of crates/anscheck/dat
 tools/runs/made_drawings.py, and a file that is too long) each must say what the program says: the verdict and each
 cell from three classes of starts, what the file needs, all numbers of its row, the text of why, what the record says,
 the mended file with what is said of it, mended by itself and with all that may be changed, and the redrawn file with
-what is said of that. With --sanitize `tell` is also built by cc with -fsanitize=address,undefined, and has to be silent.
+what is said of that. With --sanitize `tell` is also built by cc with -fsanitize=address,undefined, and has to be
+silent.
 
 Beside the drawings it tries that header, library, program, ans.pc and the package for JavaScript have one version; that
 the constant texts of the header are those of the crates, of the library and of the program; what the calls answer on
