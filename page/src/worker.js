@@ -80,8 +80,13 @@ function redraw(file) {
   return { answer, changes, bytes, before, after: checker.why().text };
 }
 
+/** WebKit reads no blob in a worker of a page from a disk, so the bytes are written to the stream. */
 async function unpacked(bytes) {
-  return new Response(new Blob([bytes]).stream().pipeThrough(new DecompressionStream("gzip"))).arrayBuffer();
+  const stream = new DecompressionStream("gzip");
+  const writer = stream.writable.getWriter();
+  writer.write(bytes);
+  writer.close();
+  return new Response(stream.readable).arrayBuffer();
 }
 
 async function begin(packedModule) {
