@@ -1,14 +1,17 @@
-/* ans.h: the proved checker of ANSI art files (.ANS), for C and C++.
+/* ans.h: the proved checker of ANSI art files (.ANS), for C and C++. Version 0.2.0.
  *
- * Link libans_c.a, which wants memcpy, memmove and memset and nothing else. No call asks for memory, keeps anything, or
- * calls back; calls share nothing, so threads may call at the same time. A call takes up to 100 KiB of stack.
+ * Link libans_c, which wants memcpy, memmove and memset and nothing else. No call asks for memory, keeps anything,
+ * or calls back; calls share nothing, so threads may call at the same time. A call takes up to 100 KiB of stack.
+ * ans_easy.h has the same calls with memory from malloc.
  *
  * What the checker promises of an answer holds where the caller keeps this:
- * - A pointer and the length after it are one array, which is there during the call, and may be read; an array that is
- *   not const may be written too. A null pointer goes with the length 0 alone.
+ * - A pointer and the length after it are one array, which is there during the call, and may be read; an array that
+ *   is not const may be written too. A null pointer goes with the length 0 alone.
  * - No array, structure or number that is written overlaps another argument.
  *
- * Of what a call may write, all that its answer does not say to be set holds anything afterwards.
+ * Of what a call may write, all that its answer does not say to be set holds anything afterwards. Lengths, sizes and
+ * offsets are in bytes, and offsets count from the file's start. Texts are in UTF-8, and no zero byte ends them, but
+ * for those that come as const char *.
  */
 #ifndef ANS_H
 #define ANS_H
@@ -20,21 +23,43 @@
 extern "C" {
 #endif
 
+/* The version of this header, as a text and as a number to compare: 200 for 0.2.0. ans_copy_version tells the
+ * library's. */
+#define ANS_VERSION_MAJOR 0
+#define ANS_VERSION_MINOR 2
+#define ANS_VERSION_PATCH 0
+#define ANS_VERSION "0.2.0"
+#define ANS_VERSION_NUMBER (ANS_VERSION_MAJOR * 10000 + ANS_VERSION_MINOR * 100 + ANS_VERSION_PATCH)
+
 /* The longest file that is checked, in bytes. */
 #define ANS_LONGEST_FILE 16777216
 
 /* Room for any text of ans_why, ans_record, ans_mend and ans_redraw. */
 #define ANS_LONGEST_TEXT 65536
 
-/* What a call answers. ANS_NO_MEMORY comes from ans_easy.h alone. */
-enum {
+/* How scratch is best aligned, as malloc gives it. Of scratch that is aligned less well the first bytes, up to 7, are
+ * passed over; lend so many more then. */
+#define ANS_SCRATCH_ALIGNMENT 8
+
+/* Scratch for any call and any file: for 8192 lines of 1024 columns. */
+#define ANS_MOST_SCRATCH 33755160
+
+/* How many bytes more than the file has ans_mend may want, but for the returns of ANS_LINE_ENDS. */
+#define ANS_MENDING_ROOM 149
+
+/* What a call answers. */
+enum ans_answer {
     ANS_PASS = 0,
     ANS_REFUSED = 1,
-    ANS_NO_MEMORY = 2,
+    ANS_NO_MEMORY = 2,   /* of ans_easy.h alone: malloc gave none */
     ANS_TOO_LONG = 3,    /* the file has more than ANS_LONGEST_FILE bytes */
     ANS_NO_ROOM = 4,     /* an array is too small */
-    ANS_WRONG_NUMBER = 5 /* of ans_mend: a number is above its largest */
+    ANS_WRONG_NUMBER = 5 /* of ans_mend alone: a number is above its largest */
 };
+
+/* The library returns a uint32_t. GCC and clang take unsigned int for an enum without negative values, which is the
+ * same. */
+typedef char ans_answer_is_a_uint32_t[sizeof(enum ans_answer) == sizeof(uint32_t) ? 1 : -1];
 
 /* Parts of the start, added up. A part that is known is as on a cleared screen: blank cells, white on black; the cursor
  * and the saved cursor at the top left; the colours white on black; wrap on. */
@@ -55,99 +80,389 @@ enum {
     ANS_LEAST_LINES = 8 /* the least number of lines is stated, where those that are stated are too few, or none are */
 };
 
-/* How many bytes more than the file has ans_mend may want, but for the returns of ANS_LINE_ENDS. */
-#define ANS_MENDING_ROOM 149
-
-/* The most rows of a screen, and its most bytes. */
-#define ANS_MOST_ROWS 8193
-#define ANS_MOST_BYTES 33558528
-
-/* Why a file is refused: n for the fault Fn, and its offset in bytes from the file's start. For F25 the row and the
- * column of the cell, counted from 1, and else 0. */
+/* Why a file is refused: n for the fault Fn, and its offset. For F25 the row and the column of the cell, counted
+ * from 1, and else 0. */
 struct ans_fault {
     uint32_t number, row, column;
     size_t offset;
 };
 
-/* A row of a screen, in memory that is lent. What it holds before and after a call does not matter. */
-struct ans_row {
-    uint32_t round, known;
-    size_t first, end;
-};
-
-/* The size of a file's picture, and what is to be lent for a check: so many rows, bytes, and cells. */
+/* The size of a file's picture, its cells, columns * lines, and how many bytes of scratch a call wants for it. */
 struct ans_size {
     uint32_t columns, lines;
-    size_t rows, bytes, cells;
+    size_t cells, scratch;
 };
 
-/* The size that a file's record states: 1 to 1024 columns and 1 to 8192 lines, with lines + 1 rows,
- * 4 * columns * (lines + 1) bytes and columns * lines cells.
- * ANS_PASS: `size` is set. ANS_REFUSED: the record or the layout is refused, F1 to F8, and `fault` is set. ANS_TOO_LONG. */
-uint32_t ans_size(const uint8_t *file, size_t file_len, struct ans_size *size, struct ans_fault *fault);
+/* Bytes of the file: so many, from this offset on. The length is 0 where there are none. */
+struct ans_piece {
+    size_t start, length;
+};
 
-/* Checks a file from every start whose `known` parts are known.
- * ANS_PASS: the content shows one picture from all of them. Its bytes, of code page 437, and its attributes stand at the
- * front of `glyphs` and of `attributes`, row by row. ANS_REFUSED: `fault` is set. ANS_TOO_LONG. ANS_NO_ROOM: there are
- * fewer rows, bytes, glyphs or attributes than ans_size tells; the last two want as many as there are cells. */
-uint32_t ans_check(const uint8_t *file, size_t file_len, uint32_t known, struct ans_row *rows, size_t rows_len,
-                   uint8_t *bytes, size_t bytes_len, uint8_t *glyphs, size_t glyphs_len, uint8_t *attributes,
-                   size_t attributes_len, struct ans_fault *fault);
+/* A place on the screen, counted from 1. 0 and 0 where there is none. */
+struct ans_place {
+    size_t row, column;
+};
+
+/* Of a file that passes from the cleared start; else all is 0. */
+struct ans_passing {
+    uint32_t needs;           /* the parts of the start that it relies on, as ans_needs tells them */
+    uint32_t players;         /* the kinds in which players part that it makes use of, ANS_PLAYERS_.., added up */
+    uint32_t on_every_player; /* where players is 0, the parts that it relies on for every player to show the same */
+    uint32_t taller;          /* 1 where it shows its picture on every taller screen too, else 0 */
+};
+
+/* Of a file that is refused from the cleared start: its fault. Of one that passes from there and needs a part of the
+ * start: the fault that it has from every start. Of one that needs nothing all is 0. */
+struct ans_blame {
+    struct ans_fault fault;
+    struct ans_piece bytes;     /* the bytes to blame; of F1 to F8 and of F25 none */
+    struct ans_place low, high; /* where the cursor stands before the fault: of a refusal twice the same, from the
+                                 * cleared start; of a pass from the low and from the high start. Of F1 to F8 and of F25
+                                 * none; the cell of F25 stands in the fault. */
+    uint32_t known;             /* what the bytes are known as, ANS_KNOWN_.., or 0 */
+    uint32_t lines;             /* of F5 and F19 to F21 the least number of lines with which it passes from the cleared
+                                 * start, where there is one; else 0 */
+    uint32_t mends;             /* 1 where a pass that needs a part has room for the beginning that mends it, else 0 */
+};
+
+/* Of a file whose record and layout are accepted; else all is 0. */
+struct ans_parts {
+    size_t content;            /* how many bytes of the file, from its start on, are the drawing */
+    struct ans_piece comments; /* 64 bytes for each comment */
+    uint32_t notes;            /* 1 << n for each note Nn, added up: 2 for N1, up to 64 for N6 */
+};
+
+/* Of the record in the file's last 128 bytes, accepted or not; where there is none all is 0. Texts are without trailing
+ * blanks and zero bytes, and each byte is a character of code page 437. */
+struct ans_fields {
+    uint32_t is_there;   /* 1 */
+    uint32_t flags;      /* the byte TFlags */
+    uint32_t ice;        /* 1 where bit 7 of an attribute is a bright background, else 0 */
+    uint32_t spacing;    /* 8 or 9, the pixels of a letter's width, or 0 where the flags do not say */
+    uint32_t aspect;     /* 1 for pixels to be stretched, 2 for square ones, 0 where the flags do not say */
+    size_t width, lines; /* as they are stated, but for a width of 0, which is told as 80 */
+    struct ans_piece font, date, title, author, group;
+};
+
+/* What `anscheck why` and `anscheck table` tell of a file, in numbers. */
+struct ans_row {
+    struct ans_passing passing;
+    struct ans_blame blame;
+    struct ans_parts parts;
+    struct ans_fields fields;
+};
+
+/* ---- What the library exports ----
+ *
+ * C and C++ call ans_size, ans_record and the three copies; the others, whose names end in _on, stand below under
+ * names without it, with one scratch in the place of rows and bytes. Callers in other languages, and those who split
+ * memory by themselves, lend both: a screen wants lines + 1 rows, and 4 * columns * (lines + 1) bytes; ANS_MOST_ROWS
+ * and ANS_MOST_BYTES are enough for every screen. With fewer a call answers ANS_NO_ROOM. */
+#define ANS_MOST_ROWS 8193
+#define ANS_MOST_BYTES 33558528
+
+/* A row of a screen, in memory that is lent. What it holds before and after a call does not matter. */
+struct ans_screen_row {
+    uint64_t held[3];
+};
+
+/* The size that a file's record states: 1 to 1024 columns and 1 to 8192 lines.
+ * ANS_PASS: `size` is set. ANS_REFUSED: the record or the layout is refused, F1 to F8, and `fault` is set.
+ * ANS_TOO_LONG. */
+enum ans_answer ans_size(const uint8_t *file, size_t file_len, struct ans_size *size, struct ans_fault *fault);
+
+/* The text of `anscheck sauce`: what a file's record says.
+ * ANS_PASS: the record is accepted. ANS_REFUSED: it is not, and the text says why. After both the text stands at the
+ * front of `text`, and `length` says how many bytes it has. ANS_TOO_LONG, and `length` is 0. ANS_NO_ROOM: `text` has
+ * fewer bytes than `length` then says. */
+enum ans_answer ans_record(const uint8_t *file, size_t file_len, char *text, size_t text_len, size_t *length);
+
+/* The library's version, and the texts of ans_fault_text and ans_note_text as the library has them. ANS_PASS: the text
+ * stands at the front of `text`, and `length` says how many bytes it has. ANS_REFUSED: there is none of this number.
+ * ANS_NO_ROOM: `text` has fewer bytes than `length` then says. */
+enum ans_answer ans_copy_version(char *text, size_t text_len, size_t *length);
+enum ans_answer ans_copy_fault_text(uint32_t number, char *text, size_t text_len, size_t *length);
+enum ans_answer ans_copy_note_text(uint32_t number, char *text, size_t text_len, size_t *length);
+
+enum ans_answer ans_check_on(const uint8_t *file, size_t file_len, uint32_t known, struct ans_screen_row *rows,
+                             size_t rows_len, uint8_t *bytes, size_t bytes_len, uint8_t *glyphs, size_t glyphs_len,
+                             uint8_t *attributes, size_t attributes_len, struct ans_fault *fault);
+enum ans_answer ans_needs_on(const uint8_t *file, size_t file_len, struct ans_screen_row *rows, size_t rows_len,
+                             uint8_t *bytes, size_t bytes_len, uint32_t *parts, struct ans_fault *fault);
+enum ans_answer ans_row_on(const uint8_t *file, size_t file_len, struct ans_screen_row *rows, size_t rows_len,
+                           uint8_t *bytes, size_t bytes_len, struct ans_row *row);
+enum ans_answer ans_why_on(const uint8_t *file, size_t file_len, struct ans_screen_row *rows, size_t rows_len,
+                           uint8_t *bytes, size_t bytes_len, char *text, size_t text_len, size_t *length);
+enum ans_answer ans_mend_on(const uint8_t *file, size_t file_len, uint32_t classes, uint32_t width, uint32_t lines,
+                            struct ans_screen_row *rows, size_t rows_len, uint8_t *bytes, size_t bytes_len,
+                            uint8_t *draft, size_t draft_len, uint8_t *mended, size_t mended_len, size_t *size,
+                            char *text, size_t text_len, size_t *length);
+enum ans_answer ans_redraw_on(const uint8_t *file, size_t file_len, struct ans_screen_row *rows, size_t rows_len,
+                              uint8_t *bytes, size_t bytes_len, uint8_t *redrawn, size_t redrawn_len, size_t *size,
+                              char *text, size_t text_len, size_t *length);
+
+/* ---- How scratch is split ---- */
+
+struct ans_split {
+    struct ans_screen_row *rows;
+    size_t rows_len;
+    uint8_t *bytes;
+    size_t bytes_len;
+};
+
+/* As many rows of so many columns, 1 to 1024, as there is scratch for, but no more than `most_rows`; the rest is
+ * bytes. */
+static inline struct ans_split ans_split_scratch(void *scratch, size_t scratch_len, size_t columns, size_t most_rows) {
+    struct ans_split split = {NULL, 0, NULL, 0};
+    size_t front = (ANS_SCRATCH_ALIGNMENT - (uintptr_t)scratch % ANS_SCRATCH_ALIGNMENT) % ANS_SCRATCH_ALIGNMENT;
+    if (scratch_len <= front)
+        return split;
+    scratch_len -= front;
+    split.rows = (struct ans_screen_row *)(void *)((uint8_t *)scratch + front);
+    split.rows_len = scratch_len / (sizeof *split.rows + 4 * columns);
+    if (split.rows_len > most_rows)
+        split.rows_len = most_rows;
+    split.bytes = (uint8_t *)(split.rows + split.rows_len);
+    split.bytes_len = scratch_len - split.rows_len * sizeof *split.rows;
+    return split;
+}
+
+/* Scratch for a file's own screen. Where its record is refused no row and no byte is wanted, and none is given. */
+static inline struct ans_split ans_split_for(const uint8_t *file, size_t file_len, void *scratch, size_t scratch_len) {
+    struct ans_size size;
+    struct ans_fault fault;
+    if (ans_size(file, file_len, &size, &fault) != ANS_PASS)
+        return ans_split_scratch(NULL, 0, 1, 0);
+    return ans_split_scratch(scratch, scratch_len, size.columns, (size_t)size.lines + 1);
+}
+
+/* ---- The calls ----
+ *
+ * `scratch` is memory for the length of a call: as many bytes as ans_size tells, aligned to ANS_SCRATCH_ALIGNMENT. Of a
+ * file for which that does not answer ANS_PASS a call wants none; NULL and 0 are enough. */
+
+/* Checks a file from every start whose parts in `known` are known. Other bits than the five of ANS_CLEARED count for
+ * nothing.
+ * ANS_PASS: the content shows one picture from all of them. Its bytes, of code page 437, and its attributes stand at
+ * the front of `glyphs` and of `attributes`, row by row. ANS_REFUSED: `fault` is set. ANS_TOO_LONG. ANS_NO_ROOM:
+ * there is less scratch than ans_size tells, or fewer glyphs or attributes than it tells cells. */
+static inline enum ans_answer ans_check(const uint8_t *file, size_t file_len, uint32_t known, void *scratch,
+                                        size_t scratch_len, uint8_t *glyphs, size_t glyphs_len, uint8_t *attributes,
+                                        size_t attributes_len, struct ans_fault *fault) {
+    struct ans_split split = ans_split_for(file, file_len, scratch, scratch_len);
+    return ans_check_on(file, file_len, known, split.rows, split.rows_len, split.bytes, split.bytes_len, glyphs,
+                        glyphs_len, attributes, attributes_len, fault);
+}
 
 /* What a file relies on.
  * ANS_PASS: it passes from the cleared start, and exactly where each part in `parts` is known. ANS_REFUSED: it does not
- * pass even from the cleared start, and `fault` is set. ANS_TOO_LONG. ANS_NO_ROOM: fewer rows or bytes than ans_size tells. */
-uint32_t ans_needs(const uint8_t *file, size_t file_len, struct ans_row *rows, size_t rows_len, uint8_t *bytes,
-                   size_t bytes_len, uint32_t *parts, struct ans_fault *fault);
+ * pass even from the cleared start, and `fault` is set. ANS_TOO_LONG. ANS_NO_ROOM: less scratch than ans_size tells. */
+static inline enum ans_answer ans_needs(const uint8_t *file, size_t file_len, void *scratch, size_t scratch_len,
+                                        uint32_t *parts, struct ans_fault *fault) {
+    struct ans_split split = ans_split_for(file, file_len, scratch, scratch_len);
+    return ans_needs_on(file, file_len, split.rows, split.rows_len, split.bytes, split.bytes_len, parts, fault);
+}
 
-/* The text of `anscheck why`, in UTF-8: where and why a file is refused, or what it relies on and how it is mended.
- * ANS_PASS, ANS_REFUSED: as the file passes from the cleared start; the text stands at the front of `text`, and `length`
- * says how many bytes it has. ANS_TOO_LONG, and `length` is 0. ANS_NO_ROOM: there are too few rows or bytes, and `length`
- * is 0; or `text` has fewer bytes than `length` then says. */
-uint32_t ans_why(const uint8_t *file, size_t file_len, struct ans_row *rows, size_t rows_len, uint8_t *bytes,
-                 size_t bytes_len, uint8_t *text, size_t text_len, size_t *length);
+/* All that `anscheck why` and `anscheck table` tell of a file, in numbers.
+ * ANS_PASS: it passes from the cleared start. ANS_REFUSED: it does not. After both `row` is set. ANS_TOO_LONG.
+ * ANS_NO_ROOM: less scratch than ans_size tells. */
+static inline enum ans_answer ans_row(const uint8_t *file, size_t file_len, void *scratch, size_t scratch_len,
+                                      struct ans_row *row) {
+    struct ans_split split = ans_split_for(file, file_len, scratch, scratch_len);
+    return ans_row_on(file, file_len, split.rows, split.rows_len, split.bytes, split.bytes_len, row);
+}
 
-/* The text of `anscheck sauce`, in UTF-8: what a file's record says, ANS_PASS, or why it is refused, ANS_REFUSED. Else the
- * answers are those of ans_why. */
-uint32_t ans_record(const uint8_t *file, size_t file_len, uint8_t *text, size_t text_len, size_t *length);
+/* The text of `anscheck why`: where and why a file is refused, or what it relies on and how it is mended.
+ * ANS_PASS, ANS_REFUSED: as the file passes from the cleared start; the text stands at the front of `text`, and
+ * `length` says how many bytes it has. ANS_TOO_LONG, and `length` is 0. ANS_NO_ROOM: there is less scratch than
+ * ans_size tells, and `length` is 0; or `text` has fewer bytes than `length` then says. */
+static inline enum ans_answer ans_why(const uint8_t *file, size_t file_len, void *scratch, size_t scratch_len,
+                                      char *text, size_t text_len, size_t *length) {
+    struct ans_split split = ans_split_for(file, file_len, scratch, scratch_len);
+    return ans_why_on(file, file_len, split.rows, split.rows_len, split.bytes, split.bytes_len, text, text_len, length);
+}
 
-/* Mends a file as `anscheck mend` does, so that it passes from every start, and tells what that says, in UTF-8.
- * `classes` is a sum of the classes above. `width` is the columns of the record that a file without one is given, 1 to
- * 1024, or 0 for no record; `lines` the number of lines that is stated where others are wanted, 1 to 8192, or 0 for
- * none. `draft` and `mended` want file_len + ANS_MENDING_ROOM bytes, and with ANS_LINE_ENDS one more for each line feed
- * of the file; `rows` and `bytes` what the screen of the file wants with the lines that it then states, at most
- * ANS_MOST_ROWS and ANS_MOST_BYTES. ANS_PASS: the mended file stands at the front of `mended`, `size` says how many
- * bytes it has, and the text says what was changed, a line for each kind of change. A file that wants nothing stands
- * there as it is, and the text is empty. ANS_REFUSED: the file is not mended so, `size` is 0, and the text says why.
- * After both the text stands at the front of `text`, and `length` says how many bytes it has. ANS_TOO_LONG.
- * ANS_WRONG_NUMBER: the file is not too long, and `width` or `lines` is above its largest. ANS_NO_ROOM: `text` has
- * fewer bytes than `length` then says, and `mended` and `size` are as after ANS_PASS or ANS_REFUSED; or `length` is 0,
- * and another array is too small. Where neither a mended file nor a text is told of, `size` and `length` are 0. */
-uint32_t ans_mend(const uint8_t *file, size_t file_len, uint32_t classes, uint32_t width, uint32_t lines,
-                  struct ans_row *rows, size_t rows_len, uint8_t *bytes, size_t bytes_len, uint8_t *draft,
-                  size_t draft_len, uint8_t *mended, size_t mended_len, size_t *size, uint8_t *text, size_t text_len,
-                  size_t *length);
+/* Mends a file as `anscheck mend` does, so that it passes from every start, and tells what that says.
+ * `classes` is a sum of ANS_TAKE_OUT and those below it; other bits count for nothing. `width` is the columns of the
+ * record that a file without one is given, 1 to 1024, or 0 for no record; `lines` the number of lines that is stated
+ * where others are wanted, 1 to 8192, or 0 for none. `draft` and `mended` want file_len + ANS_MENDING_ROOM bytes,
+ * and with ANS_LINE_ENDS one more for each line feed of the file.
+ * `scratch` is for the screen of the mended file, which may have other lines. ANS_MOST_SCRATCH is always enough.
+ * Where ans_size answers ANS_PASS for the file, 8193 * (24 + 4 * columns) is enough; and without `lines` and
+ * ANS_LEAST_LINES what it tells. For any other file 4120 bytes for each line of the mended one, and for one line
+ * more, are enough.
+ * ANS_PASS: the mended file stands at the front of `mended`, `size` says how many bytes it has, and the text says
+ * what was changed, a line for each kind of change. A file that wants nothing stands there as it is, and the text is
+ * empty. ANS_REFUSED: the file is not mended so, `size` is 0, and the text says why. After both the text stands at
+ * the front of `text`, and `length` says how many bytes it has. ANS_TOO_LONG. ANS_WRONG_NUMBER: the file is not too
+ * long, and `width` or `lines` is above its largest. ANS_NO_ROOM: `text` has fewer bytes than `length` then says,
+ * and `mended` and `size` are as after ANS_PASS or ANS_REFUSED; or `length` is 0, and another array is too small.
+ * Where neither a mended file nor a text is told of, `size` and `length` are 0. */
+static inline enum ans_answer ans_mend(const uint8_t *file, size_t file_len, uint32_t classes, uint32_t width,
+                                       uint32_t lines, void *scratch, size_t scratch_len, uint8_t *draft,
+                                       size_t draft_len, uint8_t *mended, size_t mended_len, size_t *size, char *text,
+                                       size_t text_len, size_t *length) {
+    struct ans_size stated;
+    struct ans_fault fault;
+    size_t columns = ans_size(file, file_len, &stated, &fault) == ANS_PASS ? stated.columns : 1024;
+    struct ans_split split = ans_split_scratch(scratch, scratch_len, columns, ANS_MOST_ROWS);
+    return ans_mend_on(file, file_len, classes, width, lines, split.rows, split.rows_len, split.bytes, split.bytes_len,
+                       draft, draft_len, mended, mended_len, size, text, text_len, length);
+}
 
-/* Redraws a file as `anscheck redraw` does: writes the picture that it shows from the cleared start anew, in the plainest
- * form, and tells what that says, in UTF-8. The redrawn file passes from every start. `rows` and `bytes` want as many as
- * ans_size tells. How many bytes `redrawn` wants is told where it has fewer, so an empty one asks for that.
- * ANS_PASS: the redrawn file stands at the front of `redrawn`, `size` says how many bytes it has, and the text says what
- * was changed, a line for each kind of change. ANS_REFUSED: the file does not pass from the cleared start, or the redrawn
- * one would have more than ANS_LONGEST_FILE bytes; `size` is 0, and the text says why. After both the text stands at the
- * front of `text`, and `length` says how many bytes it has. ANS_TOO_LONG, and `size` and `length` are 0. ANS_NO_ROOM:
- * `redrawn` has fewer bytes than `size` then says, and `length` is 0; or `text` has fewer than `length` then says, and
- * `redrawn` and `size` are as after ANS_PASS or ANS_REFUSED; or there are too few rows or bytes, and both are 0. */
-uint32_t ans_redraw(const uint8_t *file, size_t file_len, struct ans_row *rows, size_t rows_len, uint8_t *bytes,
-                    size_t bytes_len, uint8_t *redrawn, size_t redrawn_len, size_t *size, uint8_t *text,
-                    size_t text_len, size_t *length);
+/* Redraws a file as `anscheck redraw` does: writes the picture that it shows from the cleared start anew, in the
+ * plainest form, and tells what that says. The redrawn file passes from every start. How many bytes `redrawn` wants
+ * is told where it has fewer, so an empty one asks for that.
+ * ANS_PASS: the redrawn file stands at the front of `redrawn`, `size` says how many bytes it has, and the text says
+ * what was changed, a line for each kind of change. ANS_REFUSED: the file does not pass from the cleared start, or
+ * the redrawn one would have more than ANS_LONGEST_FILE bytes; `size` is 0, and the text says why. After both the
+ * text stands at the front of `text`, and `length` says how many bytes it has. ANS_TOO_LONG, and `size` and `length`
+ * are 0. ANS_NO_ROOM: `redrawn` has fewer bytes than `size` then says, and `length` is 0; or `text` has fewer than
+ * `length` then says, and `redrawn` and `size` are as after ANS_PASS or ANS_REFUSED; or there is less scratch than
+ * ans_size tells, and both are 0. */
+static inline enum ans_answer ans_redraw(const uint8_t *file, size_t file_len, void *scratch, size_t scratch_len,
+                                         uint8_t *redrawn, size_t redrawn_len, size_t *size, char *text,
+                                         size_t text_len, size_t *length) {
+    struct ans_split split = ans_split_for(file, file_len, scratch, scratch_len);
+    return ans_redraw_on(file, file_len, split.rows, split.rows_len, split.bytes, split.bytes_len, redrawn, redrawn_len,
+                         size, text, text_len, length);
+}
 
-/* The text of the fault Fn ("F21 scrolls") and of the note Nn. ANS_REFUSED: there is none of this number. ANS_NO_ROOM:
- * `text` has fewer bytes than `length` then says. */
-uint32_t ans_fault_text(uint32_t number, uint8_t *text, size_t text_len, size_t *length);
-uint32_t ans_note_text(uint32_t number, uint8_t *text, size_t text_len, size_t *length);
+/* ---- Constant texts ---- */
 
-/* The version of the checker ("0.1.0"). */
-uint32_t ans_version(uint8_t *text, size_t text_len, size_t *length);
+/* The tables begin. library/tables.py writes them. */
+/* Kinds in which players part, added up. docs/PLAYERS.md explains each. */
+enum {
+    ANS_PLAYERS_WRAP_AT_ONCE = 1,
+    ANS_PLAYERS_LINE_ENDS = 2,
+    ANS_PLAYERS_HOME_ON_CLEAR = 4,
+    ANS_PLAYERS_CLEAR_IN_COLOUR = 8,
+    ANS_PLAYERS_SAVE_PLACE_ONLY = 16,
+    ANS_PLAYERS_DOS_COLOURS = 32,
+    ANS_PLAYERS_TAB_PRINTS = 64,
+    ANS_PLAYERS_LINE_ERASED = 128,
+    ANS_PLAYERS_WRAP_OFF = 256,
+    ANS_PLAYERS_STOPS_AT_EDGE = 512,
+    ANS_PLAYERS_PAGE_CONTROLS = 1024,
+    ANS_PLAYERS_TERMINAL_CONTROLS = 2048
+};
+
+/* What blamed bytes are known as; 0 is nothing. */
+enum {
+    ANS_KNOWN_MUSIC = 1,
+    ANS_KNOWN_FONT_SELECTION = 2,
+    ANS_KNOWN_TRUE_COLOUR = 3,
+    ANS_KNOWN_BRIGHT_BACKGROUNDS = 4,
+    ANS_KNOWN_CURSOR_SWITCH = 5,
+    ANS_KNOWN_DOS_MODE = 6,
+    ANS_KNOWN_REASSIGNED_KEY = 7,
+    ANS_KNOWN_UNCOUNTED_COMMENTS = 8,
+    ANS_KNOWN_OLDER_RECORD = 9,
+    ANS_KNOWN_ARROW = 10
+};
+
+/* The text of the fault Fn, as "F21 scrolls". NULL: there is none. */
+static inline const char *ans_fault_text(uint32_t number) {
+    static const char *const texts[] = {
+        NULL,
+        "F1 no SAUCE record",
+        "F2 SAUCE version is not 00",
+        "F3 not Character/ANSi",
+        "F4 comment block missing",
+        "F5 number of lines not stated",
+        "F6 width above 1024",
+        "F7 lines above 8192",
+        "F8 bytes after the end mark",
+        "F9 broken sequence",
+        "F10 number above 255",
+        "F11 more than 16 parameters",
+        "F12 content ends in a sequence",
+        "F13 unknown sequence",
+        "F14 wrong parameters",
+        "F15 key reassigned",
+        "F16 screen mode set",
+        "F17 cursor report asked",
+        NULL,
+        "F19 place outside the screen",
+        "F20 print below the stated lines",
+        "F21 scrolls",
+        "F22 print at an unknown place",
+        "F23 erase at an unknown place",
+        "F24 may scroll",
+        "F25 cell stays unknown"
+    };
+    return number < sizeof texts / sizeof *texts ? texts[number] : NULL;
+}
+
+/* The text of the note Nn. NULL: there is none. */
+static inline const char *ans_note_text(uint32_t number) {
+    static const char *const texts[] = {
+        NULL,
+        "width 0 taken as 80",
+        "no end mark after the content",
+        "file size differs from the content",
+        "date is not eight digits",
+        "flag bits 5 to 7 are not zero",
+        "a flag pair is 11"
+    };
+    return number < sizeof texts / sizeof *texts ? texts[number] : NULL;
+}
+
+/* What blamed bytes are known as, as "ANSI music". NULL: nothing. */
+static inline const char *ans_known_text(uint32_t number) {
+    static const char *const texts[] = {
+        NULL,
+        "ANSI music",
+        "a font selection",
+        "a 24-bit colour",
+        "the switch for bright backgrounds",
+        "the switch that hides or shows the cursor",
+        "a screen mode of DOS",
+        "a reassigned key",
+        "comments that the record does not count",
+        "an older record",
+        "an arrow in the drawing"
+    };
+    return number < sizeof texts / sizeof *texts ? texts[number] : NULL;
+}
+
+/* The name of one part of the start, as "screen" of ANS_SCREEN. NULL: it is no part, or several. */
+static inline const char *ans_part_name(uint32_t bit) {
+    static const char *const texts[] = {
+        "screen",
+        "cursor",
+        "saved",
+        "colours",
+        "wrap"
+    };
+    for (uint32_t i = 0; i < sizeof texts / sizeof *texts; i++)
+        if (bit == (uint32_t)1 << i)
+            return texts[i];
+    return NULL;
+}
+
+/* The word of one kind in which players part, as "wrap-at-once". NULL: it is no kind, or several. */
+static inline const char *ans_player_word(uint32_t bit) {
+    static const char *const texts[] = {
+        "wrap-at-once",
+        "line-ends",
+        "home-on-clear",
+        "clear-in-colour",
+        "save-place-only",
+        "dos-colours",
+        "tab-prints",
+        "line-erased",
+        "wrap-off",
+        "stops-at-edge",
+        "page-controls",
+        "terminal-controls"
+    };
+    for (uint32_t i = 0; i < sizeof texts / sizeof *texts; i++)
+        if (bit == (uint32_t)1 << i)
+            return texts[i];
+    return NULL;
+}
+/* The tables end. */
 
 #ifdef __cplusplus
 }

@@ -1,5 +1,10 @@
 /* ans_easy.h: the checker with memory from malloc, for those who want one call. The functions stand here whole; they
- * are not proved, and only hand memory to those of ans.h, which are. */
+ * are not proved, and only hand memory to those of ans.h, which are.
+ *
+ * Each answers as the call of its name in ans.h, or ANS_NO_MEMORY where malloc gave none, and never ANS_NO_ROOM. A text
+ * is in UTF-8, ends in a zero byte, and is freed by free. It is there after ANS_PASS and ANS_REFUSED; after all else it
+ * is NULL.
+ */
 #ifndef ANS_EASY_H
 #define ANS_EASY_H
 
@@ -17,25 +22,44 @@ static inline void ans_free_picture(struct ans_picture *picture) {
     picture->glyphs = picture->attributes = NULL;
 }
 
-/* Checks a file as ans_check does. ANS_PASS: `picture` is set, and is freed by ans_free_picture. ANS_NO_MEMORY: malloc
- * gave none. In every other case there is nothing to free. */
-static inline uint32_t ans_check_easily(const uint8_t *file, size_t file_len, uint32_t known, struct ans_picture *picture,
-                                        struct ans_fault *fault) {
+/* Scratch for a file from malloc, and its length. */
+static inline void *ans_new_scratch(const uint8_t *file, size_t file_len, size_t *length) {
     struct ans_size size;
-    struct ans_row *rows;
-    uint8_t *bytes, *cells;
-    uint32_t answer = ans_size(file, file_len, &size, fault);
+    struct ans_fault fault;
+    *length = ans_size(file, file_len, &size, &fault) == ANS_PASS ? size.scratch : ANS_SCRATCH_ALIGNMENT;
+    return malloc(*length);
+}
+
+/* Ends a text of ANS_LONGEST_TEXT + 1 bytes where it is to be kept, and frees it where not. */
+static inline enum ans_answer ans_end_text(enum ans_answer answer, char **text, size_t length) {
+    char *shorter = NULL;
+    if (answer == ANS_PASS || answer == ANS_REFUSED) {
+        (*text)[length] = '\0';
+        shorter = (char *)realloc(*text, length + 1);
+        if (shorter)
+            *text = shorter;
+        return answer;
+    }
+    free(*text);
+    *text = NULL;
+    return answer;
+}
+
+/* Checks a file as ans_check does. ANS_PASS: `picture` is set, and is freed by ans_free_picture. In every other case
+ * there is nothing to free. */
+static inline enum ans_answer ans_check_easily(const uint8_t *file, size_t file_len, uint32_t known,
+                                               struct ans_picture *picture, struct ans_fault *fault) {
+    struct ans_size size;
+    enum ans_answer answer = ans_size(file, file_len, &size, fault);
     if (answer != ANS_PASS)
         return answer;
-    rows = (struct ans_row *)malloc(size.rows * sizeof *rows);
-    bytes = (uint8_t *)malloc(size.bytes);
-    cells = (uint8_t *)malloc(2 * size.cells);
+    void *scratch = malloc(size.scratch);
+    uint8_t *cells = (uint8_t *)malloc(2 * size.cells);
     answer = ANS_NO_MEMORY;
-    if (rows && bytes && cells)
-        answer = ans_check(file, file_len, known, rows, size.rows, bytes, size.bytes, cells, size.cells,
-                           cells + size.cells, size.cells, fault);
-    free(rows);
-    free(bytes);
+    if (scratch && cells)
+        answer = ans_check(file, file_len, known, scratch, size.scratch, cells, size.cells, cells + size.cells,
+                           size.cells, fault);
+    free(scratch);
     if (answer != ANS_PASS) {
         free(cells);
         return answer;
@@ -47,86 +71,104 @@ static inline uint32_t ans_check_easily(const uint8_t *file, size_t file_len, ui
     return ANS_PASS;
 }
 
-/* What a file relies on, as ans_needs tells it, or ANS_NO_MEMORY. */
-static inline uint32_t ans_needs_easily(const uint8_t *file, size_t file_len, uint32_t *parts, struct ans_fault *fault) {
-    struct ans_size size;
-    struct ans_row *rows;
-    uint8_t *bytes;
-    uint32_t answer = ans_size(file, file_len, &size, fault);
-    if (answer != ANS_PASS)
-        return answer;
-    rows = (struct ans_row *)malloc(size.rows * sizeof *rows);
-    bytes = (uint8_t *)malloc(size.bytes);
-    answer = ANS_NO_MEMORY;
-    if (rows && bytes)
-        answer = ans_needs(file, file_len, rows, size.rows, bytes, size.bytes, parts, fault);
-    free(rows);
-    free(bytes);
+/* What a file relies on, as ans_needs tells it. */
+static inline enum ans_answer ans_needs_easily(const uint8_t *file, size_t file_len, uint32_t *parts,
+                                               struct ans_fault *fault) {
+    size_t scratch_len;
+    void *scratch = ans_new_scratch(file, file_len, &scratch_len);
+    enum ans_answer answer = ANS_NO_MEMORY;
+    if (scratch)
+        answer = ans_needs(file, file_len, scratch, scratch_len, parts, fault);
+    free(scratch);
     return answer;
 }
 
-/* Mends a file as ans_mend does. ANS_PASS: `mended` has `size` bytes, and is freed by free. ANS_NO_MEMORY: malloc gave
- * none. After all else there is nothing to free. Of ANS_LONGEST_TEXT bytes `text` is never too short. */
-static inline uint32_t ans_mend_easily(const uint8_t *file, size_t file_len, uint32_t classes, uint32_t width,
-                                       uint32_t lines, uint8_t **mended, size_t *size, uint8_t *text, size_t text_len,
-                                       size_t *length) {
-    size_t room = file_len + ANS_MENDING_ROOM;
-    struct ans_row *rows = (struct ans_row *)malloc(ANS_MOST_ROWS * sizeof *rows);
-    uint8_t *bytes = (uint8_t *)malloc(ANS_MOST_BYTES);
-    uint8_t *draft;
-    uint32_t answer = ANS_NO_MEMORY;
-    if (classes & ANS_LINE_ENDS)
-        for (size_t i = 0; i < file_len; i++)
-            room += file[i] == '\n';
-    draft = (uint8_t *)malloc(room);
+/* What is told of a file in numbers, as ans_row tells it. */
+static inline enum ans_answer ans_row_easily(const uint8_t *file, size_t file_len, struct ans_row *row) {
+    size_t scratch_len;
+    void *scratch = ans_new_scratch(file, file_len, &scratch_len);
+    enum ans_answer answer = ANS_NO_MEMORY;
+    if (scratch)
+        answer = ans_row(file, file_len, scratch, scratch_len, row);
+    free(scratch);
+    return answer;
+}
+
+/* Where and why a file is refused, or what it relies on and how it is mended, as ans_why tells it. */
+static inline enum ans_answer ans_why_easily(const uint8_t *file, size_t file_len, char **text) {
+    size_t scratch_len, length = 0;
+    void *scratch = ans_new_scratch(file, file_len, &scratch_len);
+    enum ans_answer answer = ANS_NO_MEMORY;
+    *text = (char *)malloc(ANS_LONGEST_TEXT + 1);
+    if (scratch && *text)
+        answer = ans_why(file, file_len, scratch, scratch_len, *text, ANS_LONGEST_TEXT, &length);
+    free(scratch);
+    return ans_end_text(answer, text, length);
+}
+
+/* What a file's record says, as ans_record tells it. */
+static inline enum ans_answer ans_record_easily(const uint8_t *file, size_t file_len, char **text) {
+    size_t length = 0;
+    enum ans_answer answer = ANS_NO_MEMORY;
+    *text = (char *)malloc(ANS_LONGEST_TEXT + 1);
+    if (*text)
+        answer = ans_record(file, file_len, *text, ANS_LONGEST_TEXT, &length);
+    return ans_end_text(answer, text, length);
+}
+
+/* Mends a file as ans_mend does. ANS_PASS: `mended` has `size` bytes, and is freed by free. After all else it is
+ * NULL. */
+static inline enum ans_answer ans_mend_easily(const uint8_t *file, size_t file_len, uint32_t classes, uint32_t width,
+                                              uint32_t lines, uint8_t **mended, size_t *size, char **text) {
+    size_t room = file_len + ANS_MENDING_ROOM, length = 0;
+    enum ans_answer answer = ANS_NO_MEMORY;
+    *mended = NULL;
+    *text = NULL;
+    if (file_len > ANS_LONGEST_FILE)
+        return ANS_TOO_LONG;
+    for (size_t i = 0; i < file_len; i++)
+        room += file[i] == '\n';
+    void *scratch = malloc(ANS_MOST_SCRATCH);
+    uint8_t *draft = (uint8_t *)malloc(room);
     *mended = (uint8_t *)malloc(room);
-    if (rows && bytes && draft && *mended)
-        answer = ans_mend(file, file_len, classes, width, lines, rows, ANS_MOST_ROWS, bytes, ANS_MOST_BYTES, draft,
-                          room, *mended, room, size, text, text_len, length);
-    free(rows);
-    free(bytes);
+    *text = (char *)malloc(ANS_LONGEST_TEXT + 1);
+    if (scratch && draft && *mended && *text)
+        answer = ans_mend(file, file_len, classes, width, lines, scratch, ANS_MOST_SCRATCH, draft, room, *mended, room,
+                          size, *text, ANS_LONGEST_TEXT, &length);
+    free(scratch);
     free(draft);
     if (answer != ANS_PASS) {
         free(*mended);
         *mended = NULL;
     }
-    return answer;
+    return ans_end_text(answer, text, length);
 }
 
-/* Redraws a file as ans_redraw does, which is called twice: first for the size. ANS_PASS: `redrawn` has `size` bytes, and
- * is freed by free. ANS_NO_MEMORY: malloc gave none. After all else there is nothing to free. Of ANS_LONGEST_TEXT bytes
- * `text` is never too short. */
-static inline uint32_t ans_redraw_easily(const uint8_t *file, size_t file_len, uint8_t **redrawn, size_t *size,
-                                         uint8_t *text, size_t text_len, size_t *length) {
-    struct ans_size wanted;
-    struct ans_fault fault;
-    struct ans_row *rows;
-    uint8_t *bytes;
-    size_t room;
-    uint32_t answer = ANS_NO_MEMORY;
-    if (ans_size(file, file_len, &wanted, &fault) != ANS_PASS)
-        wanted.rows = wanted.bytes = 0;
-    rows = (struct ans_row *)malloc((wanted.rows + 1) * sizeof *rows);
-    bytes = (uint8_t *)malloc(wanted.bytes + 1);
+/* Redraws a file as ans_redraw does, which is called twice: first for the size. ANS_PASS: `redrawn` has `size` bytes,
+ * and is freed by free. After all else it is NULL. */
+static inline enum ans_answer ans_redraw_easily(const uint8_t *file, size_t file_len, uint8_t **redrawn, size_t *size,
+                                                char **text) {
+    size_t scratch_len, room = 0, length = 0;
+    void *scratch = ans_new_scratch(file, file_len, &scratch_len);
+    enum ans_answer answer = ANS_NO_MEMORY;
     *redrawn = NULL;
-    if (rows && bytes)
-        answer = ans_redraw(file, file_len, rows, wanted.rows, bytes, wanted.bytes, NULL, 0, size, text, text_len,
-                            length);
-    if (answer == ANS_NO_ROOM && *size) {
+    *text = (char *)malloc(ANS_LONGEST_TEXT + 1);
+    if (scratch && *text)
+        answer = ans_redraw(file, file_len, scratch, scratch_len, NULL, 0, size, *text, ANS_LONGEST_TEXT, &length);
+    if (answer == ANS_NO_ROOM) {
         room = *size;
         *redrawn = (uint8_t *)malloc(room);
         answer = ANS_NO_MEMORY;
         if (*redrawn)
-            answer = ans_redraw(file, file_len, rows, wanted.rows, bytes, wanted.bytes, *redrawn, room, size, text,
-                                text_len, length);
+            answer = ans_redraw(file, file_len, scratch, scratch_len, *redrawn, room, size, *text, ANS_LONGEST_TEXT,
+                                &length);
     }
-    free(rows);
-    free(bytes);
+    free(scratch);
     if (answer != ANS_PASS) {
         free(*redrawn);
         *redrawn = NULL;
     }
-    return answer;
+    return ans_end_text(answer, text, length);
 }
 
 #endif

@@ -4,8 +4,8 @@
 It writes `OUT/anscheck-VERSION-x86_64-linux.tar.gz`, and its SHA-256 sum beside it: the program, its manual and
 completions, the library, static and shared, the page, and the documents that users need, with `install.sh` and a
 README. PROGRAM is `crates/anscheck/out/anscheck` and LIBRARY `crates/ans_c/out/libans_c.a` unless others are named;
-where one is missing it says what builds it. VERSION is the program's own; one that is given has to be that. `cc` links
-the shared library.
+where one is missing it says what builds it. VERSION is the program's own; one that is given has to be that.
+`library/shared.sh` makes the shared library, by `cc`.
 
 The same tree gives the same bytes: names are sorted, the owner is root, and each time is that of the last commit, or of
 SOURCE_DATE_EPOCH where that is set. A link in a document leads to its file in the archive; where the archive has none,
@@ -48,7 +48,6 @@ PLACES = {
 }
 LIST = "share/anscheck/installed"
 NOT_INSTALLED = ["README.md", "install.sh"]
-EXPORTS = "{ global: ans_*; local: *; };\n"
 LINK = re.compile(r"!?\[([^\[\]]*)\]\(([^)\s#]+)(#[^)\s]*)?\)")
 
 
@@ -86,23 +85,25 @@ def with_links(text, source, found):
     return "".join(part if i % 2 else LINK.sub(placed, part) for i, part in enumerate(parts))
 
 
+class Link(bytes):
+    """A link of the archive; its bytes are the name of what it leads to."""
+
+
 def shared_library(archive, version):
-    """The shared library of the static one, whose version has to be the program's."""
+    """The shared library of the static one, and the link to it, by name. Its version has to be the program's."""
     with tempfile.TemporaryDirectory() as folder:
-        exports, shared = Path(folder) / "exports", Path(folder) / "libans_c.so"
-        exports.write_text(EXPORTS, encoding="ascii")
-        whole = f"-Wl,--whole-archive,{archive},--no-whole-archive"
-        script = f"-Wl,--version-script,{exports},-soname,{shared.name},--no-undefined,--strip-all"
         try:
-            subprocess.run(["cc", "-shared", whole, script, "-o", shared], check=True)
+            words = [TOP / "library/shared.sh", archive, folder]
+            link = subprocess.run(words, check=True, stdout=subprocess.PIPE, text=True).stdout.strip()
         except (OSError, subprocess.CalledProcessError):
-            raise Missing(f"cc does not link a shared library of {archive}") from None
+            raise Missing(f"library/shared.sh makes no shared library of {archive}") from None
         text, length = (ctypes.c_uint8 * 64)(), ctypes.c_size_t()
-        ctypes.CDLL(str(shared)).ans_version(text, ctypes.c_size_t(64), ctypes.byref(length))
+        ctypes.CDLL(link).ans_copy_version(text, ctypes.c_size_t(64), ctypes.byref(length))
         told = bytes(text[: length.value]).decode()
         if told != version:
             raise Missing(f"the library is of version {told}, the program of {version}")
-        return shared.read_bytes()
+        shared = Path(os.readlink(link))
+        return {shared.name: (Path(folder) / shared).read_bytes(), Path(link).name: Link(shared.name.encode())}
 
 
 def version_of(program, wanted):
@@ -113,9 +114,10 @@ def version_of(program, wanted):
         raise Missing(f"{program} does not tell its version") from None
     if wanted not in (None, told):
         raise Missing(f"the program is of version {told}, not {wanted}")
-    stated = re.search(r"^Version: (.*)$", (TOP / "library/ans.pc").read_text(encoding="utf-8"), re.MULTILINE)[1]
-    if stated != told:
-        raise Missing(f"library/ans.pc states version {stated}, the program {told}")
+    for name, line in (("ans.pc", "^Version: (.*)$"), ("ans.h", '^#define ANS_VERSION "(.*)"$')):
+        stated = re.search(line, (TOP / "library" / name).read_text(encoding="utf-8"), re.MULTILINE)[1]
+        if stated != told:
+            raise Missing(f"library/{name} states version {stated}, the program {told}")
     return told
 
 
@@ -137,17 +139,31 @@ def files_of(program, library, version):
     files = {to: (TOP / name).read_bytes() for name, to in found.items()}
     files["bin/anscheck"] = program.read_bytes()
     files["lib/libans_c.a"] = library.read_bytes()
-    files["lib/libans_c.so"] = shared_library(library, version)
+    shared = shared_library(library, version)
+    files.update((f"lib/{name}", data) for name, data in shared.items())
     files[LIST] = b""
     for name, to in found.items():
         if to.endswith(".md") and to not in NOT_INSTALLED:
             files[to] = with_links(files[to].decode(), name, found).encode()
-    glibc = max(glibc_of(files["bin/anscheck"]), glibc_of(files["lib/libans_c.so"]))
+    glibc = max(map(glibc_of, [files["bin/anscheck"], *shared.values()]))
     files["README.md"] = own_readme(files["README.md"].decode(), version, glibc, files).encode()
     # Before it is installed, ans.pc finds what stands beside it.
     files["lib/pkgconfig/ans.pc"] = re.sub(rb"^prefix=.*", rb"prefix=${pcfiledir}/../..", files["lib/pkgconfig/ans.pc"])
     files[LIST] = "".join(f"{name}\n" for name in sorted(files) if name not in NOT_INSTALLED).encode()
     return files
+
+
+def entry_of(name, data, time, runs):
+    """The head of a file of the archive, of a link or, without data, of a folder."""
+    entry = tarfile.TarInfo(name)
+    entry.mtime, entry.uname, entry.gname = time, "root", "root"
+    entry.mode = 0o755 if data is None or runs else 0o644
+    entry.type = tarfile.DIRTYPE if data is None else tarfile.REGTYPE
+    if isinstance(data, Link):
+        entry.type, entry.mode, entry.linkname = tarfile.SYMTYPE, 0o777, data.decode()
+    elif data is not None:
+        entry.size = len(data)
+    return entry
 
 
 def packed(files, top, time):
@@ -158,13 +174,8 @@ def packed(files, top, time):
     with gzip.GzipFile(filename="", mode="wb", fileobj=packing, mtime=0) as zipped:
         with tarfile.open(fileobj=zipped, mode="w", format=tarfile.USTAR_FORMAT) as tar:
             for name, data in entries:
-                entry = tarfile.TarInfo(name)
-                entry.mtime, entry.uname, entry.gname = time, "root", "root"
-                runs = data is None or name in (f"{top}/bin/anscheck", f"{top}/install.sh")
-                entry.mode = 0o755 if runs else 0o644
-                entry.type = tarfile.DIRTYPE if data is None else tarfile.REGTYPE
-                entry.size = len(data or b"")
-                tar.addfile(entry, io.BytesIO(data or b""))
+                entry = entry_of(name, data, time, name in (f"{top}/bin/anscheck", f"{top}/install.sh"))
+                tar.addfile(entry, io.BytesIO(data) if entry.isreg() else None)
     return packing.getvalue()
 
 

@@ -27,7 +27,7 @@ while IFS= read -r name; do
     fi
 done <"$list"
 
-# Each file is written beside the one of its name and then takes its place, which may be in use.
+# Each file is written beside the one of its name and then takes its place, which may be in use. A link stays one.
 count=0
 while IFS= read -r name; do
     mkdir -p "$to/$(dirname "$name")"
@@ -37,11 +37,11 @@ while IFS= read -r name; do
         printf 'prefix=%s\n' "$prefix" | sed 's/ /\\ /g' >"$new"
         sed '/^prefix=/d' "$from/$name" >>"$new"
         ;;
-    *) cp "$from/$name" "$new" ;;
+    *) cp -P "$from/$name" "$new" ;;
     esac
     case $name in
     bin/*) chmod 755 "$new" ;;
-    *) chmod 644 "$new" ;;
+    *) [ -h "$new" ] || chmod 644 "$new" ;;
     esac
     mv -f "$new" "$to/$name"
     count=$((count + 1))

@@ -1,0 +1,143 @@
+#!/usr/bin/env python3
+"""tables.py [--check]: writes the constant texts of ans.h, from where the crates have them.
+
+Between two marker comments of ans.h stand the kinds in which players part, what blamed bytes are known as, and five
+functions that give constant texts. This script writes all that anew: the faults and the notes have their texts from
+`ans_report`, what bytes are known as comes from `ans_why`, the words of players from `ans_players`, and the names of
+the parts from `ans_model`. With --check it writes nothing, and its status is 1 where ans.h is not as it would write it.
+The last line says how many texts there are, and whether ans.h is as it was."""
+import re
+import sys
+from pathlib import Path
+
+HERE = Path(__file__).resolve().parent
+CRATES = HERE.parent / "crates"
+HEADER = HERE / "ans.h"
+BEGIN = "/* The tables begin. library/tables.py writes them. */\n"
+END = "/* The tables end. */\n"
+
+NUMBERED = """\
+/* {comment} */
+static inline const char *{name}(uint32_t number) {{
+    static const char *const texts[] = {{
+{texts}
+    }};
+    return number < sizeof texts / sizeof *texts ? texts[number] : NULL;
+}}
+"""
+OF_A_BIT = """\
+/* {comment} */
+static inline const char *{name}(uint32_t bit) {{
+    static const char *const texts[] = {{
+{texts}
+    }};
+    for (uint32_t i = 0; i < sizeof texts / sizeof *texts; i++)
+        if (bit == (uint32_t)1 << i)
+            return texts[i];
+    return NULL;
+}}
+"""
+
+
+def source(name):
+    return (CRATES / name).read_text(encoding="utf-8")
+
+
+def body(text, opening):
+    """What stands between a line and the next one that is indented no deeper and closes a block."""
+    found = re.search(rf"^( *){opening}.*?^\1[}}\]]", text, re.DOTALL | re.MULTILINE)
+    return found[0]
+
+
+def by_variant(text, type_name, opening):
+    """What a function gives for each variant of a type, a text or a number."""
+    arm = rf'{type_name}::(\w+)(?: \{{[^}}]*\}})? => (?:"([^"]*)"|(\d+)),'
+    return {name: text or int(number) for name, text, number in re.findall(arm, body(text, opening))}
+
+
+def numbered(numbers, texts):
+    """Texts by their numbers, with none where there is none."""
+    found = {numbers[name]: texts[name] for name in texts}
+    return [found.get(number) for number in range(max(found) + 1)]
+
+
+def faults():
+    numbers = by_variant(source("ans_model/src/fault.rt"), "Cause", "pub fn number")
+    return numbered(numbers, by_variant(source("ans_report/src/fault_lines.rt"), "Cause", "pub fn fault_text"))
+
+
+def notes():
+    numbers = by_variant(source("ans_model/src/note.rt"), "Note", "pub fn number")
+    return numbered(numbers, by_variant(source("ans_report/src/heading.rt"), "Note", "pub fn note_text"))
+
+
+def known():
+    """What bytes are known as, by name, in the order of the type."""
+    text = source("ans_why/src/known_bytes.rt")
+    names = re.findall(r"^    (\w+),$", body(text, "pub enum Known"), re.MULTILINE)
+    texts = by_variant(text, "Known", "pub fn text")
+    return {name: texts[name] for name in names}
+
+
+def kinds():
+    """The words of the kinds in which players part, by name, in their order."""
+    text = source("ans_players/src/kind.rt")
+    numbers, words = (by_variant(text, "Kind", f"pub fn {it}") for it in ("number", "word"))
+    return {name: words[name] for name in sorted(words, key=numbers.get)}
+
+
+def parts():
+    return re.findall(r'push_part\(&mut names, self\.\w+, "(\w+)"\)', source("ans_model/src/start.rt"))
+
+
+def constant(prefix, name):
+    """The name of a constant: DosColours is ANS_.._DOS_COLOURS."""
+    return prefix + re.sub(r"(?<!^)(?=[A-Z])", "_", name).upper()
+
+
+def constants(comment, prefix, numbers):
+    lines = ",\n".join(f"    {constant(prefix, name)} = {number}" for name, number in numbers.items())
+    return f"/* {comment} */\nenum {{\n{lines}\n}};\n"
+
+
+def function(form, name, comment, texts):
+    lines = ",\n".join("        NULL" if text is None else f'        "{text}"' for text in texts)
+    return form.format(name=name, comment=comment, texts=lines)
+
+
+def tables():
+    """All that stands between the markers."""
+    is_known, players = known(), kinds()
+    return "\n".join([
+        constants("Kinds in which players part, added up. docs/PLAYERS.md explains each.", "ANS_PLAYERS_",
+                  {name: 1 << i for i, name in enumerate(players)}),
+        constants("What blamed bytes are known as; 0 is nothing.", "ANS_KNOWN_",
+                  {name: i + 1 for i, name in enumerate(is_known)}),
+        function(NUMBERED, "ans_fault_text", 'The text of the fault Fn, as "F21 scrolls". NULL: there is none.',
+                 faults()),
+        function(NUMBERED, "ans_note_text", "The text of the note Nn. NULL: there is none.", notes()),
+        function(NUMBERED, "ans_known_text", 'What blamed bytes are known as, as "ANSI music". NULL: nothing.',
+                 [None, *is_known.values()]),
+        function(OF_A_BIT, "ans_part_name", 'The name of one part of the start, as "screen" of ANS_SCREEN. NULL: it is '
+                 "no part, or several.", parts()),
+        function(OF_A_BIT, "ans_player_word", 'The word of one kind in which players part, as "wrap-at-once". NULL: it '
+                 "is no kind, or several.", players.values()),
+    ])
+
+
+def main(words):
+    if words not in ([], ["--check"]):
+        sys.exit(__doc__)
+    header = HEADER.read_text(encoding="utf-8")
+    before, rest = header.split(BEGIN)
+    written = before + BEGIN + tables() + END + rest.split(END)[1]
+    if not words:
+        HEADER.write_text(written, encoding="utf-8")
+    count = sum(text is not None for text in [*faults(), *notes(), *known(), *kinds(), *parts()])
+    differs = written != header
+    print(f"{count} texts, ans.h {'is as it was' if not differs else 'is not as here' if words else 'is written anew'}")
+    return 1 if words and differs else 0
+
+
+if __name__ == "__main__":
+    sys.exit(main(sys.argv[1:]))
