@@ -23,8 +23,8 @@ from meanings import meanings
 
 SOURCES = HERE / "src"
 PACKAGE = HERE.parent / "library" / "js"
-SCRIPT = ["glyphs.js", "picture.js", "why.js", "mends.js", "table.js", "folders.js", "checks.js", "mending.js",
-          "redrawing.js", "check.js"]
+SCRIPT = ["glyphs.js", "picture.js", "why.js", "mends.js", "roving.js", "table.js", "filter.js", "steps.js", "folders.js",
+          "checks.js", "mending.js", "redrawing.js", "check.js"]
 
 
 def source(name):
@@ -77,7 +77,7 @@ def main():
     style, code, last = source("check.css"), script(), source("last.js")
     parts = {
         "POLICY": policy(style, code, last), "STYLE": style, "SCRIPT": code, "LAST": last, "MODULE": module,
-        "WORKER": "\n".join(['"use strict";', calls(), source("worker.js")]),
+        "WORKER": "\n".join(['"use strict";', calls(), source("texts.js"), source("worker.js")]),
     }
     page = re.sub("@([A-Z]+)@", lambda part: parts[part[1]], source_of_page())
     out.write_text(page, encoding="utf-8", newline="\n")

@@ -26,7 +26,11 @@ const checks = new Checks(packedModule, element("worker").textContent, (version)
   element("version").textContent = `anscheck ${version}`;
 });
 const pictureView = new PictureView(element("view"), element("space"), element("canvas"));
-const drawingTable = new DrawingTable(element("headings"), element("rows"), (drawing) => showDrawing(drawing));
+const tableFilter = new TableFilter(element("filter"), () => drawingTable.arrange());
+const drawingTable = new DrawingTable(element("table"), {
+  lets: (row) => tableFilter.lets(row), onChoose: (drawing) => showDrawing(drawing), onChange: () => showCounts(),
+});
+const steps = new Steps(element("steps"), drawingTable, element("drawing"));
 
 const mending = new Mending(
   element("mend-part"), (file, mends) => busyWith(checks.mend(file, mends)), (mended) => takeMended(mended));
@@ -46,9 +50,8 @@ function say(text) {
   element("status").textContent = text;
 }
 
-function lineElement(line) {
+function lineElement(line, place = null) {
   const item = document.createElement("li");
-  const place = placeIn(line);
   if (!place) {
     item.textContent = line;
     return item;
@@ -69,42 +72,40 @@ function goToMark(place) {
   pictureView.goTo(place);
 }
 
-function showAdvice({ answer, why }) {
-  const fault = faultOf(why);
+function showAdvice({ answer, row }) {
+  const fault = row?.fault;
   element("advice").hidden = !fault;
   if (!fault) return;
   const passes = answer === "pass";
-  const known = valueOf(why, "is");
-  const mend = passes ? valueOf(why, "mend") : KNOWN_MENDS[known] ?? MENDS[fault.number];
+  const mend = KNOWN_MENDS[row.known] ?? MENDS[fault.number];
   const about = passes ? "From other starts it has the fault" : "About";
-  const here = known === "" ? "" : ` Here it is ${known}.`;
+  const here = row.known ? ` Here it is ${row.known}.` : "";
   element("meaning").textContent = `${about} F${fault.number}: ${MEANINGS[fault.number]}${here}`;
-  const advice = passes ? `To pass from every start, ${mend}, without the blanks.` : `To mend it: ${mend}`;
-  element("mend").textContent = advice;
-  element("mend").hidden = !mend;
+  element("mend").textContent = `To mend it: ${mend}`;
+  element("mend").hidden = passes && !row.mends;
 }
+
+const countOf = (number) => number.toLocaleString("en");
 
 /** What the picture is, where it is not that of the file as it stands. */
-function partShown({ lines, upTo, moreLines }, stated) {
-  if (upTo !== undefined) return `What stands before byte ${upTo.toLocaleString("en")}, on ${stated}.`;
-  if (moreLines !== undefined) return `As it is with ${lines} lines. The record states ${stated || "none"}.`;
-  return `${stated}.`;
+function partShown({ lines, upTo, moreLines }, record) {
+  if (upTo !== undefined) return `What stands before byte ${countOf(upTo)}, on ${sizeOf(record)}.`;
+  if (moreLines === undefined) return `${sizeOf(record)}.`;
+  return `As it is with ${lines} lines. The record states ${record?.lines ? sizeOf(record) : "none"}.`;
 }
 
-function noteOn(picture, why) {
-  const stated = valueOf(why, "size");
-  const places = placesOf(why).map(({ row, column }) => (
-    `row ${row}${row > Number(stated.split(" ").at(-1)) ? " (below the stated lines)" : ""}, column ${column}`));
-  const marked = places.length === 0 ? "" : ` Marked: ${[...new Set(places)].join("; ")}.`;
-  return partShown(picture, stated) + marked;
+function noteOn(picture, row) {
+  const lines = row.record?.lines || picture.lines;
+  const places = placesOf(row).map((place) => (
+    `row ${place.row}${place.row > lines ? " (below the stated lines)" : ""}, column ${place.column}`));
+  return partShown(picture, row.record) + (places.length === 0 ? "" : ` Marked: ${places.join("; ")}.`);
 }
 
-function showPicture(name, { answer, picture, why, record, note = picture && noteOn(picture, why) }) {
+function showPicture(name, { answer, picture, row }, note, marks) {
   element("picture-part").hidden = !picture;
   pictureView.clear();
   if (!picture) return;
-  picture.brightBackgrounds = parseInt(valueOf(record, "flags"), 16) % 2 === 1;
-  const marks = placesOf(why);
+  picture.brightBackgrounds = row.record?.ice ?? false;
   element("picture-note").textContent = note;
   element("canvas").setAttribute("aria-label", `Picture of ${name}, ${note}`);
   element("blink-part").hidden = !picture.blinks || picture.brightBackgrounds;
@@ -114,13 +115,19 @@ function showPicture(name, { answer, picture, why, record, note = picture && not
   if (answer === "refused" && marks.length > 0) pictureView.goTo(marks[0]);
 }
 
+function showAsItIs(name, result) {
+  const { picture, row } = result;
+  if (picture) showPicture(name, result, noteOn(picture, row), placesOf(row));
+  else showPicture(name, result, "", []);
+}
+
 /** The picture of the drawing as it is, or mended. */
 function choosePicture(isMended) {
   element("show-before").setAttribute("aria-pressed", String(!isMended));
   element("show-after").setAttribute("aria-pressed", String(isMended));
   const { drawing, result, mended } = looked;
-  const after = () => ({ answer: "pass", why: "", ...mended, note: `${valueOf(mended.record, "size")}, mended.` });
-  showPicture(drawing.path, isMended ? after() : result);
+  if (isMended) showPicture(drawing.path, mended, `${sizeOf(mended.row.record)}, mended.`, []);
+  else showAsItIs(drawing.path, result);
   offerRedrawing(isMended);
 }
 
@@ -158,11 +165,15 @@ function showResult(drawing, result) {
   element("verdict").dataset.answer = result.answer;
   element("players").textContent = playersSentenceOf(result);
   element("players").hidden = element("players").textContent === "";
-  element("why").replaceChildren(...(result.error ? [result.error] : linesOf(result.why)).map(lineElement));
+  const lines = result.error ? [lineElement(result.error)]
+    : linesOf(result.why).map((line) => lineElement(line, placeOf(line, result.row)));
+  element("why").replaceChildren(...lines);
   const record = linesOf(result.record);
-  element("record").replaceChildren(...(record.length > 0 ? record : ["none that is accepted"]).map(lineElement));
+  const recordLines = record.length > 0 ? record : ["none that is accepted"];
+  element("record").replaceChildren(...recordLines.map((line) => lineElement(line)));
   showAdvice(result);
   looked = { drawing, result, mended: null };
+  steps.show();
   element("picture-choice").hidden = true;
   choosePicture(false);
   if (FAILURES[result.answer]) mending.close();
@@ -190,41 +201,49 @@ async function showDrawing(drawing) {
   if (mine === shown) showResult(drawing, result);
 }
 
-function counted(done, total) {
-  const count = (verdict) => drawingTable.rows.filter((row) => row.verdict === verdict).length;
-  const missing = count("no answer");
-  const without = missing > 0 ? `, ${missing} without an answer` : "";
-  return `${done} of ${total} checked: ${count("pass")} pass, ${count("refused")} refused${without}.`;
+function showCounts() {
+  tableFilter.show();
+  steps.show();
+}
+
+function counted(total) {
+  const { all, refused, unanswered } = tableFilter.counts;
+  const without = unanswered > 0 ? `, ${unanswered} without an answer` : "";
+  return `${all} of ${total} checked: ${all - refused - unanswered} pass, ${refused} refused${without}.`;
 }
 
 async function showFolder(drawings, others) {
   const mine = choice;
-  drawingTable.clear();
   element("drawings").hidden = false;
   element("drawing").hidden = true;
   element("drawings-heading").textContent = `${drawings.length} drawings`;
   const left = others > 0 ? ` ${others} other ${others === 1 ? "file was" : "files were"} left out.` : "";
-  let done = 0;
   let told = Date.now();
   say(`${drawings.length} drawings are checked.`);
   await busyWith(Promise.all(drawings.map(async (drawing) => {
     const result = await checks.study(drawing.file, false);
     if (mine !== choice) return;
-    drawingTable.add(rowOf(drawing.path, result), drawing);
-    done++;
+    addRow(rowOf(drawing.path, result), drawing);
     if (Date.now() - told < STATUS_PERIOD) return;
     told = Date.now();
-    say(counted(done, drawings.length));
+    say(counted(drawings.length));
   })));
   if (mine !== choice) return;
-  drawingTable.sort();
-  say(counted(done, drawings.length) + left);
+  drawingTable.end();
+  say(counted(drawings.length) + left);
+}
+
+function addRow(row, drawing) {
+  tableFilter.count(row);
+  drawingTable.add(row, drawing);
 }
 
 function take({ drawings, others }) {
   checks.stop();
   choice++;
   shown++;
+  drawingTable.clear();
+  tableFilter.clear();
   element("drawings").hidden = true;
   if (drawings.length === 0) return say("There is no drawing here whose name ends in .ans.");
   return drawings.length === 1 ? showDrawing(drawings[0]) : showFolder(drawings, others);

@@ -46,7 +46,7 @@ class Checks {
   }
 
   nothing(answer, error = "") {
-    return { answer, why: "", record: "", changes: "", bytes: null, picture: null, error };
+    return { answer, why: "", record: "", row: null, changes: "", bytes: null, picture: null, error };
   }
 
   start() {
@@ -59,11 +59,21 @@ class Checks {
     this.worker.postMessage({ packedModule: this.packedModule });
   }
 
+  /** The first job for the worker, or nothing. Those whose files are too long are answered on the way. */
+  taken() {
+    while (this.waiting.length > 0) {
+      const job = this.waiting.shift();
+      if (job.file.size <= LONGEST_FILE) return job;
+      job.resolve(this.nothing("too long"));
+    }
+    return null;
+  }
+
   async next() {
-    if (this.running || this.waiting.length === 0) return;
-    const job = this.waiting.shift();
+    if (this.running) return;
+    const job = this.taken();
+    if (!job) return;
     this.running = job;
-    if (job.file.size > LONGEST_FILE) return this.answered({ number: job.number, ...this.nothing("too long") });
     const file = await job.file.arrayBuffer().catch(() => null);
     if (this.running !== job) return;
     if (!file) return this.answered({ number: job.number, ...this.nothing("unread") });

@@ -62,7 +62,7 @@ class Mending {
     if (mine === this.asked) this.show(result);
   }
 
-  show({ answer, changes, bytes, record, picture }) {
+  show({ answer, changes, bytes, row, picture }) {
     this.bytes = bytes;
     this.sentence.textContent = sentenceOfMending(answer, changes);
     this.changes.replaceChildren(...linesOf(changes).map((line) => {
@@ -71,7 +71,7 @@ class Mending {
       return item;
     }));
     this.button.disabled = answer !== "pass";
-    this.onMended(answer === "pass" ? { picture, record, bytes } : null);
+    this.onMended(answer === "pass" ? { answer, picture, row, bytes } : null);
   }
 
   /** The drawing under another name, so that the one it was made from stays. */

@@ -2,14 +2,14 @@
 
 /** What comes of redrawing, for people who draw. */
 function sentenceOfRedrawing({ bytes, after }, size) {
-  const written = valueOf(after, "players") === "any" ? "so that players show it alike" : "in the plainest form";
+  const written = after.players.length === 0 ? "so that players show it alike" : "in the plainest form";
   return `Redrawn it is the same picture, written ${written}: `
     + `${bytes.length.toLocaleString("en")} bytes, ${size.toLocaleString("en")} before.`;
 }
 
 /** What is to be said of players, after what it is said of. */
-function playersLine(name, why) {
-  const sentence = playersSentenceOf({ answer: "pass", why });
+function playersLine(name, row) {
+  const sentence = playersSentenceOf({ answer: "pass", row });
   return `${name}: ${sentence.charAt(0).toLowerCase()}${sentence.slice(1)}`;
 }
 

@@ -5,6 +5,7 @@ const LINES = 98;
 const COMMENT_COUNT = 104;
 const END_MARK = 0x1a;
 const BLINK = 0x80;
+const NOTE_COUNT = 6;
 
 let begun = null;
 let module = null;
@@ -30,19 +31,22 @@ function withLines(file, lines) {
   return changed;
 }
 
-/** How many lines `why` says would do, or NaN. */
-function linesIn(why) {
-  return Number(/^lines: (\d+)( as it is)?$/m.exec(why)?.[1]);
+/** What the checker says of the file that lies open, and its lines of `why`. */
+function judged() {
+  const why = checker.why();
+  const record = checker.record();
+  const notes = Array.from({ length: NOTE_COUNT }, (_, note) => checker.noteText(note + 1).text);
+  const recordText = record.answer === "pass" ? record.text : "";
+  return { answer: why.answer, why: why.text, record: recordText, row: rowIn(why, recordText, notes) };
 }
 
 /**
- * The picture from the cleared screen. Of what is refused, the picture with as many lines as `why` says would do, and
- * else of a content what stands before the fault. Both come of a check of a changed copy.
+ * The picture from the cleared screen. Of what is refused, the picture with as many lines as would do, and else of a
+ * content what stands before the fault. Both come of a check of a changed copy.
  */
-function pictureOf(file, why) {
+function pictureOf(file, lines) {
   const whole = checker.check(CLEARED);
   if (whole.answer === "pass") return whole;
-  const lines = linesIn(why);
   checker.open(lines ? withLines(file, lines) : shortened(file, whole.fault.offset));
   const changed = checker.check(CLEARED);
   if (changed.answer !== "pass") return null;
@@ -51,33 +55,31 @@ function pictureOf(file, why) {
 
 function study(file, wantsPicture) {
   checker.open(file);
-  const why = checker.why();
-  const record = checker.record();
-  const hasPicture = wantsPicture && (checker.size().answer === "pass" || linesIn(why.text) > 0);
-  const picture = hasPicture ? pictureOf(file, why.text) : null;
-  const shown = picture ? withBlinks(picture) : null;
-  return { answer: why.answer, why: why.text, record: record.answer === "pass" ? record.text : "", picture: shown };
+  const told = judged();
+  const hasPicture = wantsPicture && (checker.size().answer === "pass" || told.row.lines);
+  const picture = hasPicture ? pictureOf(file, told.row.lines) : null;
+  return { ...told, picture: picture && withBlinks(picture) };
 }
 
 const withBlinks = (picture) => ({ ...picture, blinks: picture.attributes.some((attribute) => attribute >= BLINK) });
 
-/** The file mended, what was changed, and its record and its picture; or why it is not mended. */
+/** The file mended, what was changed, and what is said of it with its picture; or why it is not mended. */
 function mend(file, { classes, width, lines }) {
   checker.open(file);
   const { answer, changes, bytes } = checker.mend(classes, width, lines);
-  if (answer !== "pass") return { answer, changes, bytes: null, record: "", picture: null };
+  if (answer !== "pass") return { answer, changes, bytes: null, row: null, picture: null };
   checker.open(bytes);
-  return { answer, changes, bytes, record: checker.record().text, picture: withBlinks(checker.check(CLEARED)) };
+  return { answer, changes, bytes, row: judged().row, picture: withBlinks(checker.check(CLEARED)) };
 }
 
-/** The file redrawn, what was changed, and what `why` says before and after; or why it is not redrawn. */
+/** The file redrawn, what was changed, and what is said of it before and after; or why it is not redrawn. */
 function redraw(file) {
   checker.open(file);
   const { answer, changes, bytes } = checker.redraw();
-  if (answer !== "pass") return { answer, changes, bytes: null, before: "", after: "" };
-  const before = checker.why().text;
+  if (answer !== "pass") return { answer, changes, bytes: null, before: null, after: null };
+  const before = judged().row;
   checker.open(bytes);
-  return { answer, changes, bytes, before, after: checker.why().text };
+  return { answer, changes, bytes, before, after: judged().row };
 }
 
 async function unpacked(bytes) {
@@ -98,7 +100,7 @@ async function answered(file, { wantsPicture, mends, redraws }) {
     return mends ? mend(file, mends) : study(file, wantsPicture);
   } catch (error) {
     checker = null;
-    return { answer: "stopped", why: "", record: "", changes: "", picture: null, error: String(error) };
+    return { answer: "stopped", why: "", record: "", row: null, changes: "", picture: null, error: String(error) };
   }
 }
 
