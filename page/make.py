@@ -23,8 +23,8 @@ from meanings import meanings
 
 SOURCES = HERE / "src"
 PACKAGE = HERE.parent / "library" / "js"
-SCRIPT = ["glyphs.js", "picture.js", "why.js", "mends.js", "roving.js", "table.js", "filter.js", "steps.js", "folders.js",
-          "checks.js", "mending.js", "redrawing.js", "check.js"]
+SCRIPT = ["glyphs.js", "picture.js", "names.js", "why.js", "mends.js", "roving.js", "table.js", "filter.js", "steps.js",
+          "folders.js", "checks.js", "mending.js", "redrawing.js", "check.js"]
 
 
 def source(name):

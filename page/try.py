@@ -102,6 +102,17 @@ PAINTED = """(() => {
 })()"""
 
 
+# Under which name the page saves the mended drawing. Browsers may leave out what hides in it.
+SAVED_NAME = """(() => {
+  const { click } = HTMLAnchorElement.prototype;
+  let name;
+  HTMLAnchorElement.prototype.click = function () { name = this.download; };
+  element("save-mended").click();
+  HTMLAnchorElement.prototype.click = click;
+  return name;
+})()"""
+
+
 class Tries:
     """What was tried, and what differs."""
 
@@ -458,6 +469,49 @@ def drawing(content, columns, lines, flags=0, title=b"", comments=()):
     return content + b"\x1a" + block + record
 
 
+HIDDEN = "\u061c\u200b\u200f\u202a\u202e\u2060\u2069\ufeff\x01\x7f\x9f\t\n\\"
+NEAR = "\u2010\u202f\u206a\u00a0\u05d0"
+
+
+def name_shown(name):
+    """A name as the program's table shows it."""
+    def shown(character):
+        code = ord(character)
+        hides = code == 0x61c or code == 0xfeff or 0x200b <= code <= 0x200f or 0x202a <= code <= 0x202e \
+            or 0x2060 <= code <= 0x2069
+        if character in "\t\n\\":
+            return {"\t": "\\t", "\n": "\\n", "\\": "\\\\"}[character]
+        if code < 0x20 or 0x7f <= code <= 0x9f or hides:
+            return "".join(f"\\x{byte:02x}" for byte in character.encode())
+        return character
+    return "".join(map(shown, name))
+
+
+def try_names(browser, tries, program, folder):
+    """Names with characters that turn the text or hide in it, wherever the page shows a name."""
+    folder = folder / f"names of {browser.name.partition('/')[0]}"
+    folder.mkdir()
+    names = [f"a{HIDDEN}b{NEAR}.ans", "gnp.\u202eans", "plain.ans"]
+    paths = [folder / name for name in names]
+    for path in paths:
+        shutil.copy(DATA / "hi.ans", path)
+    wanted = [name_shown(name) for name in names]
+    tries.want("the names of the table", [row["file"].rpartition("/")[2] for row in rows_of(program, paths)], wanted)
+    show(browser, paths)
+    tries.want("names in the table", sorted(column(browser, "name")), sorted(wanted))
+    tries.want("names that are saved", sorted(saved_names(browser)), sorted(["name", *wanted]))
+    for path, name in zip(paths, wanted):
+        show(browser, [path])
+        tries.want("the name of a drawing", browser.value("element('name').textContent"), name)
+        tries.want("the status", browser.value("element('status').textContent").partition(": ")[0], name)
+        tries.want("the name of the picture", browser.value("element('canvas').ariaLabel").partition(", ")[0],
+                   f"Picture of {name}")
+        shown = browser.value("document.documentElement.outerHTML.replace(/<script[^]*?<\\/script>/g, '')")
+        tries.want(f"{name}: characters that turn or hide", [each for each in HIDDEN[:-3] if each in shown], [])
+    show(browser, [paths[1]])
+    tries.want("the name of the file that is saved", browser.value(SAVED_NAME), f"mended-{names[1]}")
+
+
 def make_drawings(folder):
     """Drawings for what no sample shows: all characters, all attributes, both meanings of bit 7, texts with marks."""
     printed = [byte for byte in range(256) if byte not in (0x07, 0x08, 0x09, 0x0a, 0x0d, 0x1a, 0x1b)]
@@ -595,6 +649,7 @@ def try_in(kind, page, program, paths, is_stand_in, folder):
         try_mending(browser, tries, program, is_stand_in)
         try_redrawing(browser, tries, program)
         try_blink(browser, tries, folder)
+        try_names(browser, tries, program, folder)
         rows = try_table(browser, tries, program, paths[::9])
         try_steps(browser, tries, try_filter(browser, tries, rows))
         try_many(browser, tries)

@@ -46,8 +46,11 @@ let choice = 0;
 let shown = 0;
 let busy = 0;
 
-function say(text) {
-  element("status").textContent = text;
+/** The status; a name that it begins with has a direction of its own. */
+function say(text, name = "") {
+  const isolated = document.createElement("bdi");
+  isolated.textContent = name;
+  element("status").replaceChildren(...(name === "" ? [text] : [isolated, text]));
 }
 
 function lineElement(line, place = null) {
@@ -126,8 +129,8 @@ function choosePicture(isMended) {
   element("show-before").setAttribute("aria-pressed", String(!isMended));
   element("show-after").setAttribute("aria-pressed", String(isMended));
   const { drawing, result, mended } = looked;
-  if (isMended) showPicture(drawing.path, mended, `${sizeOf(mended.row.record)}, mended.`, []);
-  else showAsItIs(drawing.path, result);
+  if (isMended) showPicture(shownName(drawing.path), mended, `${sizeOf(mended.row.record)}, mended.`, []);
+  else showAsItIs(shownName(drawing.path), result);
   offerRedrawing(isMended);
 }
 
@@ -160,7 +163,7 @@ function showText() {
 
 function showResult(drawing, result) {
   element("drawing").hidden = false;
-  element("name").textContent = drawing.path;
+  element("name").textContent = shownName(drawing.path);
   element("verdict").textContent = sentenceOf(result);
   element("verdict").dataset.answer = result.answer;
   element("players").textContent = playersSentenceOf(result);
@@ -180,7 +183,7 @@ function showResult(drawing, result) {
   else mending.open(drawing);
   element("name").focus({ preventScroll: true });
   element("name").scrollIntoView({ block: "start" });
-  say(`${drawing.path}: ${sentenceOf(result)}`);
+  say(`: ${sentenceOf(result)}`, shownName(drawing.path));
 }
 
 async function busyWith(work) {
@@ -196,7 +199,7 @@ async function busyWith(work) {
 
 async function showDrawing(drawing) {
   const mine = ++shown;
-  say(`${drawing.path} is checked.`);
+  say(" is checked.", shownName(drawing.path));
   const result = await busyWith(checks.study(drawing.file, true));
   if (mine === shown) showResult(drawing, result);
 }
@@ -223,7 +226,7 @@ async function showFolder(drawings, others) {
   await busyWith(Promise.all(drawings.map(async (drawing) => {
     const result = await checks.study(drawing.file, false);
     if (mine !== choice) return;
-    addRow(rowOf(drawing.path, result), drawing);
+    addRow(rowOf(shownName(drawing.path), result), drawing);
     if (Date.now() - told < STATUS_PERIOD) return;
     told = Date.now();
     say(counted(drawings.length));
