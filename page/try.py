@@ -50,7 +50,8 @@ SHOWN = """({
   },
   picture: element("picture-part").hidden ? null : {
     columns: pictureView.picture.columns, lines: pictureView.picture.lines,
-    upTo: pictureView.picture.upTo, moreLines: pictureView.picture.moreLines,
+    upTo: pictureView.picture.upTo, moreLines: pictureView.picture.moreLines, without: pictureView.picture.without,
+    isBright: pictureView.picture.brightBackgrounds,
     cells: [...pictureView.picture.glyphs].map((glyph, cell) => [glyph, pictureView.picture.attributes[cell]]),
     text: pictureView.rowsAsText(pictureView.picture.lines),
   },
@@ -142,17 +143,42 @@ def expected(program, path):
     told = {"why": said(program, ["why"], path)[0], "record": "none that is accepted\n" if record_status else record,
             "changes": changes.decode()}
     told["redrawn"] = redrawn(program, path)
-    report, change = said(program, ["check", "--cleared", "--cells"], path)[0], {}
-    if "verdict: refused" in report and "size: " in report:
-        file, change = stand_in.changed(path.read_bytes(), told["why"], stand_in.fault_in(report)[3])
-        with tempfile.NamedTemporaryFile(suffix=".ans") as copy:
-            copy.write(file)
-            copy.flush()
-            report = said(program, ["check", "--cleared", "--cells"], copy.name)[0]
-    told["picture"] = picture_in(report, change)
+    told["picture"] = picture_of(program, path.read_bytes()) or refused_picture(program, path, told["why"])
     if told["picture"] is None and mended is not None:
         told["picture"], told["redrawn"] = picture_of(program, mended), redrawn_of(program, mended)
     return told
+
+
+def refused_picture(program, path, why):
+    """The picture of a drawing that is refused: that of a changed copy, and how it is changed; or nothing."""
+    report = said(program, ["check", "--cleared"], path)[0]
+    if "size: " not in report and "\nlines: " not in why:
+        return None
+    file, change = stand_in.changed(path.read_bytes(), why, stand_in.fault_in(report)[3])
+    picture = picture_of(program, file, change)
+    if "upTo" in change and all(is_blank(cell) for cell in picture["cells"]):
+        return picture_without(program, path) or picture
+    return picture
+
+
+def is_blank(cell):
+    """Whether a cell is a blank on black."""
+    return cell[0] in (0x00, 0x20, 0xff) and cell[1] < 0x10
+
+
+def picture_without(program, path):
+    """The picture of a drawing without the sequences that are taken out, where there is one that shows something."""
+    for flags in (["--take-out"], ["--take-out", "--least-lines"]):
+        run = subprocess.run([program, "mend", *flags, path], capture_output=True, check=False)
+        taken = [line.split(", and ") for line in run.stderr.decode().splitlines()
+                 if line.startswith("took out ") and not line.startswith("took out a line end ")]
+        if run.returncode or not taken:
+            continue
+        count = sum(1 + int(more[0].split(" ")[0]) if more else 1 for _, *more in taken)
+        first = min(int(line.rpartition(" at ")[2]) for line, *_ in taken)
+        picture = picture_of(program, run.stdout, {"without": {"count": count, "first": first}})
+        return None if all(is_blank(cell) for cell in picture["cells"]) else picture
+    return None
 
 
 def redrawn(program, path):
@@ -172,23 +198,19 @@ def redrawn_of(program, file):
         return redrawn(program, copy.name)
 
 
-def picture_of(program, file):
-    """The picture of a file that passes from every start."""
+def picture_of(program, file, change=None):
+    """The picture of a file from the cleared start, and how the file was changed for it; or nothing."""
     with tempfile.NamedTemporaryFile(suffix=".ans") as copy:
         copy.write(file)
         copy.flush()
-        return picture_in(said(program, ["check", "--cells"], copy.name)[0], {})
-
-
-def picture_in(report, change):
-    """The picture of a report."""
+        report = said(program, ["check", "--cleared", "--cells"], copy.name)[0]
     if "verdict: pass\n" not in report:
         return None
     columns, lines = map(int, report.partition("size: ")[2].partition("\n")[0].split(" x "))
     data = stand_in.cells_in(report)
     cells = [list(data[at:at + 2]) for at in range(0, len(data), 2)]
-    return {"columns": columns, "lines": lines, "cells": cells,
-            "text": report.partition("picture:\n")[2].partition("\ncells:\n")[0], **change}
+    return {"columns": columns, "lines": lines, "cells": cells, "isBright": file[-23] % 2 == 1,
+            "text": report.partition("picture:\n")[2].partition("\ncells:\n")[0], **(change or {})}
 
 
 def block_dots(glyph):
@@ -262,7 +284,7 @@ def compare(browser, tries, program, paths):
         same &= tries.want(f"{path.name}: picture", *trimmed)
         if same and shown["picture"]:
             painted = browser.value(PAINTED)
-            is_bright = int(shown["record"].partition("flags: ")[2][:2], 16) % 2 == 1
+            is_bright = shown["picture"]["isBright"]
             wrong = [number for number, (cell, dots) in enumerate(zip(shown["picture"]["cells"], painted))
                      if not looks_as(cell, dots, is_bright)]
             same &= tries.want(f"{path.name}: cells whose colours differ", [
@@ -469,6 +491,19 @@ def drawing(content, columns, lines, flags=0, title=b"", comments=()):
     return content + b"\x1a" + block + record
 
 
+def refused_at_the_beginning():
+    """Drawings before whose fault nothing is printed: most of them show something where sequences are taken out."""
+    return {
+        "one goes": drawing(b"\x1b[?25l\x1b[0;44mHi", 3, 1),
+        "bright and more": drawing(b"\x1b[?33h\x1b[0;5;44mHi\x1b[?25l \x1b[?25hyou\x1b[MFABC\x0e", 8, 1),
+        "more lines": drawing(b"\x1b[=3h\x1b[2JHi\r\nyou", 4, 1),
+        "one stays": drawing(b"\x1b7Hi", 2, 1),
+        "nothing is left": drawing(b"\x1b[2J\x1b[?25h  ", 2, 1),
+        "blue": drawing(b"\x1b[44m\x1b[2J\x1b[?25hHi", 2, 1),
+        "no lines": drawing(b"Hi\r\nyou", 4, 0),
+    }
+
+
 HIDDEN = "\u061c\u200b\u200f\u202a\u202e\u2060\u2069\ufeff\x01\x7f\x9f\t\n\\"
 NEAR = "\u2010\u202f\u206a\u00a0\u05d0"
 
@@ -485,6 +520,20 @@ def name_shown(name):
             return "".join(f"\\x{byte:02x}" for byte in character.encode())
         return character
     return "".join(map(shown, name))
+
+
+def try_notes(browser, tries, folder):
+    """What is said of a picture without the sequences that are taken out, and where its fault is marked."""
+    for name, note in (
+            ("one goes", "Without the sequence at byte 0, on 3 x 1. Marked: row 1, column 1."),
+            ("bright and more", "Without 4 sequences, the first at byte 0, on 8 x 1. Marked: row 1, column 1."),
+            ("more lines", "Without the sequence at byte 0, and with 2 lines. The record states 4 x 1. "
+                           "Marked: row 1, column 1."),
+            ("one stays", "What stands before byte 0, on 2 x 1. Marked: row 1, column 1."),
+            ("blue", "What stands before byte 9, on 2 x 1. Marked: row 1, column 1."),
+            ("no lines", "As it is with 2 lines. The record states none.")):
+        show(browser, [folder / f"{name}.ans"])
+        tries.want(f"{name}: its note", browser.value("element('picture-note').textContent"), note)
 
 
 def try_names(browser, tries, program, folder):
@@ -527,6 +576,7 @@ def make_drawings(folder):
         "early": drawing(b"\r\n" * 3 + b"Hi", 2, 2),
         "comments": drawing(b"\x1b[2JHi\x1b[Mx", 2, 1, 0, b"", (b"one", b"two")),
         "name <b>&": drawing(b"\x1b[0m\x1b[2JHi", 2, 1),
+        **refused_at_the_beginning(),
     }
     for name, file in made.items():
         (folder / f"{name}.ans").write_bytes(file)
@@ -649,6 +699,7 @@ def try_in(kind, page, program, paths, is_stand_in, folder):
         try_mending(browser, tries, program, is_stand_in)
         try_redrawing(browser, tries, program)
         try_blink(browser, tries, folder)
+        try_notes(browser, tries, folder)
         try_names(browser, tries, program, folder)
         rows = try_table(browser, tries, program, paths[::9])
         try_steps(browser, tries, try_filter(browser, tries, rows))

@@ -90,8 +90,16 @@ function showAdvice({ answer, row }) {
 
 const countOf = (number) => number.toLocaleString("en");
 
+function withoutSentence({ count, first }, lines, record) {
+  const taken = count === 1 ? `Without the sequence at byte ${countOf(first)}`
+    : `Without ${countOf(count)} sequences, the first at byte ${countOf(first)}`;
+  if (lines === record.lines) return `${taken}, on ${sizeOf(record)}.`;
+  return `${taken}, and with ${countOf(lines)} lines. The record states ${sizeOf(record)}.`;
+}
+
 /** What the picture is, where it is not that of the file as it stands. */
-function partShown({ lines, upTo, moreLines }, record) {
+function partShown({ lines, upTo, moreLines, without }, record) {
+  if (without) return withoutSentence(without, lines, record);
   if (upTo !== undefined) return `What stands before byte ${countOf(upTo)}, on ${sizeOf(record)}.`;
   if (moreLines === undefined) return `${sizeOf(record)}.`;
   return `As it is with ${lines} lines. The record states ${record?.lines ? sizeOf(record) : "none"}.`;
@@ -104,11 +112,10 @@ function noteOn(picture, row) {
   return partShown(picture, row.record) + (places.length === 0 ? "" : ` Marked: ${places.join("; ")}.`);
 }
 
-function showPicture(name, { answer, picture, row }, note, marks) {
+function showPicture(name, { answer, picture }, note, marks) {
   element("picture-part").hidden = !picture;
   pictureView.clear();
   if (!picture) return;
-  picture.brightBackgrounds = row.record?.ice ?? false;
   element("picture-note").textContent = note;
   element("canvas").setAttribute("aria-label", `Picture of ${name}, ${note}`);
   element("blink-part").hidden = !picture.blinks || picture.brightBackgrounds;

@@ -5,6 +5,8 @@ const LINES = 98;
 const COMMENT_COUNT = 104;
 const END_MARK = 0x1a;
 const BLINK = 0x80;
+const BLANKS = [0x00, 0x20, 0xff];
+const FIRST_ON_COLOUR = 0x10;
 const NOTE_COUNT = 6;
 
 let begun = null;
@@ -40,28 +42,74 @@ function judged() {
   return { answer: why.answer, why: why.text, record: recordText, row: rowIn(why, recordText, notes) };
 }
 
+/** Whether a picture shows nothing: blanks alone, all of them on black. */
+const isEmpty = ({ glyphs, attributes }) => (
+  glyphs.every((glyph, cell) => BLANKS.includes(glyph) && attributes[cell] < FIRST_ON_COLOUR));
+
+/** How many sequences were taken out, and where the first stood, by what was said of the changes. */
+function takenOut(changes) {
+  const taken = [...changes.matchAll(/^took out (?!a line end ).* at (\d+)(?:, and (\d+) more of its kind)?$/gm)];
+  return {
+    count: taken.reduce((sum, [, , more = 0]) => sum + 1 + Number(more), 0),
+    first: Math.min(...taken.map(([, first]) => Number(first))),
+  };
+}
+
+/** The picture of a copy that has been mended so, with what it is without; or nothing. */
+function pictureMended(file, classes) {
+  checker.open(file);
+  const { answer, changes, bytes } = checker.mend(classes, 0, 0);
+  const without = answer === "pass" ? takenOut(changes) : { count: 0 };
+  if (without.count === 0) return null;
+  checker.open(bytes);
+  const { ice } = judged().row.record;
+  return { ...checker.check(CLEARED), brightBackgrounds: ice, without };
+}
+
+/** The picture without the sequences that players differ in, where taking them out is enough. */
+function pictureWithout(file) {
+  const picture = pictureMended(file, CLASSES.takeOut) ?? pictureMended(file, CLASSES.takeOut | CLASSES.leastLines);
+  return picture && !isEmpty(picture) ? picture : null;
+}
+
+/** The picture of a changed copy from the cleared screen, or nothing. */
+function pictureOfCopy(copy) {
+  checker.open(copy);
+  const { answer, ...picture } = checker.check(CLEARED);
+  return answer === "pass" ? picture : null;
+}
+
 /**
- * The picture from the cleared screen. Of what is refused, the picture with as many lines as would do, and else of a
- * content what stands before the fault. Both come of a check of a changed copy.
+ * The picture from the cleared screen. Of what is refused, the picture with as many lines as would do; else what stands
+ * before the fault; and where that shows nothing, the picture without the sequences that are taken out. Each comes of a
+ * check of a changed copy.
  */
 function pictureOf(file, lines) {
-  const whole = checker.check(CLEARED);
-  if (whole.answer === "pass") return whole;
-  checker.open(lines ? withLines(file, lines) : shortened(file, whole.fault.offset));
-  const changed = checker.check(CLEARED);
-  if (changed.answer !== "pass") return null;
-  return lines ? { ...changed, moreLines: lines } : { ...changed, upTo: whole.fault.offset };
+  const { answer, fault, ...picture } = checker.check(CLEARED);
+  if (answer === "pass") return picture;
+  if (lines) return withWords(pictureOfCopy(withLines(file, lines)), { moreLines: lines });
+  const before = pictureOfCopy(shortened(file, fault.offset));
+  const without = before && isEmpty(before) ? pictureWithout(file) : null;
+  return without ?? withWords(before, { upTo: fault.offset });
 }
+
+/** A picture with what it is, if there is one. */
+const withWords = (picture, words) => picture && { ...picture, ...words };
 
 function study(file, wantsPicture) {
   checker.open(file);
   const told = judged();
   const hasPicture = wantsPicture && (checker.size().answer === "pass" || told.row.lines);
   const picture = hasPicture ? pictureOf(file, told.row.lines) : null;
-  return { ...told, picture: picture && withBlinks(picture) };
+  return { ...told, picture: picture && shownFrom(picture, told.row.record) };
 }
 
-const withBlinks = (picture) => ({ ...picture, blinks: picture.attributes.some((attribute) => attribute >= BLINK) });
+/** A picture with what its attributes mean. */
+const shownFrom = (picture, record) => ({
+  brightBackgrounds: record?.ice ?? false,
+  blinks: picture.attributes.some((attribute) => attribute >= BLINK),
+  ...picture,
+});
 
 /** The file mended, what was changed, and what is said of it with its picture; or why it is not mended. */
 function mend(file, { classes, width, lines }) {
@@ -69,7 +117,8 @@ function mend(file, { classes, width, lines }) {
   const { answer, changes, bytes } = checker.mend(classes, width, lines);
   if (answer !== "pass") return { answer, changes, bytes: null, row: null, picture: null };
   checker.open(bytes);
-  return { answer, changes, bytes, row: judged().row, picture: withBlinks(checker.check(CLEARED)) };
+  const { row } = judged();
+  return { answer, changes, bytes, row, picture: shownFrom(checker.check(CLEARED), row.record) };
 }
 
 /** The file redrawn, what was changed, and what is said of it before and after; or why it is not redrawn. */
