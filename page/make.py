@@ -23,7 +23,7 @@ from meanings import meanings
 
 SOURCES = HERE / "src"
 PACKAGE = HERE.parent / "library" / "js"
-SCRIPT = ["glyphs.js", "picture.js", "names.js", "why.js", "mends.js", "roving.js", "table.js", "filter.js", "steps.js",
+SCRIPT = ["glyphs.js", "picture.js", "names.js", "why.js", "roving.js", "table.js", "filter.js", "steps.js",
           "folders.js", "checks.js", "mending.js", "redrawing.js", "check.js"]
 
 
@@ -41,7 +41,7 @@ def calls():
 
 
 def faults():
-    """What each fault means, and how it is mended: the two paragraphs of its text."""
+    """The text of each fault, as `anscheck help F20` prints it, by its number: its paragraphs."""
     texts = {name[1:]: text.split("\n\n") for name, text in meanings().items() if name.startswith("F")}
     return {number: [" ".join(part.split()) for part in parts] for number, parts in texts.items()}
 

@@ -4,10 +4,10 @@
     python3 page/try.py PROGRAM [--page PAGE] [--stand-in HEADER] [--pictures FOLDER] [--browser NAME] [DRAWING ..]
 
 PROGRAM is the built `anscheck`. Each drawing of conformance/ and crates/anscheck/data, and each that is named, is given
-to the page. Compared are the lines of why, the record, what is changed to mend it, the redrawn file with what is said of
-it, the cells of the picture, its text, and the colours that are painted: `N drawings, 0 differ`. Then come mending with
-its boxes, redrawing, the table, the keyboard, touch, files that cannot be read or take too long, and a browser that is
-too old. The status is 1 where something differs.
+to the page. Compared are the lines of why, the text on the fault, the record, what is changed to mend it, the redrawn
+file with what is said of it, the cells of the picture, its text, and the colours that are painted: `N drawings, 0
+differ`. Then come mending with its boxes, redrawing, the table with its filter, the keyboard, names that hide something,
+touch, files that cannot be read or take too long, and a browser that is too old. The status is 1 where something differs.
 
 PAGE is page/check.html where it is not named. With --stand-in no module is needed but `clang` and `lld` for wasm64, and
 `wasm-opt`: the page is made anew with one that has the stored answers of PROGRAM. HEADER is the folder of ans.h. With
@@ -15,8 +15,10 @@ PAGE is page/check.html where it is not named. With --stand-in no module is need
 """
 import argparse
 import csv
+import functools
 import json
 import pathlib
+import re
 import shutil
 import struct
 import subprocess
@@ -42,6 +44,8 @@ SHADES = {0xb0: 32, 0xb1: 64, 0xb2: 96}
 SHOWN = """({
   why: [...element("why").children].map((line) => line.textContent + "\\n").join(""),
   record: [...element("record").children].map((line) => line.textContent + "\\n").join(""),
+  advice: element("advice").hidden ? [] : [element("meaning"), element("mend")].filter(({ hidden }) => !hidden)
+    .map(({ textContent }) => textContent),
   changes: [...element("changes").children].map((line) => line.textContent + "\\n").join(""),
   redrawn: element("redraw-part").hidden ? null : {
     file: [...redrawing.bytes],
@@ -142,11 +146,28 @@ def expected(program, path):
     mended, changes = stand_in.mended(program, path)
     told = {"why": said(program, ["why"], path)[0], "record": "none that is accepted\n" if record_status else record,
             "changes": changes.decode()}
+    told["advice"] = advice(program, told["why"])
     told["redrawn"] = redrawn(program, path)
     told["picture"] = picture_of(program, path.read_bytes()) or refused_picture(program, path, told["why"])
     if told["picture"] is None and mended is not None:
         told["picture"], told["redrawn"] = picture_of(program, mended), redrawn_of(program, mended)
     return told
+
+
+@functools.cache
+def help_of(program, fault):
+    """The program's text on a fault, by its paragraphs."""
+    text = subprocess.run([program, "help", fault], capture_output=True, check=True).stdout.decode()
+    return [" ".join(part.split()) for part in text.split("\n\n")]
+
+
+def advice(program, why):
+    """What the page says of the fault: how it is mended is left out where a pass cannot be."""
+    fault = re.search(r"^at \d+: (F\d+) ", why, re.MULTILINE)
+    if not fault:
+        return []
+    can_be_mended = "\nverdict: pass\n" not in why or "\nmend: " in why
+    return help_of(program, fault[1])[:1 + can_be_mended]
 
 
 def refused_picture(program, path, why):
@@ -277,7 +298,7 @@ def compare(browser, tries, program, paths):
         show(browser, [path])
         shown, wanted = browser.value(SHOWN), expected(program, path)
         same = tries.want(f"{path.name}: name", browser.value("element('name').textContent"), path.name)
-        for key in ("why", "record", "changes", "redrawn"):
+        for key in ("why", "advice", "record", "changes", "redrawn"):
             same &= tries.want(f"{path.name}: {key}", shown[key], wanted[key])
         trimmed = [None if each is None else {**each, "text": [row.rstrip() for row in each["text"].split("\n")]}
                    for each in (shown["picture"], wanted["picture"])]

@@ -75,16 +75,17 @@ function goToMark(place) {
   pictureView.goTo(place);
 }
 
+/** What the program's own text says of the fault. How it is mended is left out where there is no room for that. */
 function showAdvice({ answer, row }) {
   const fault = row?.fault;
   element("advice").hidden = !fault;
   if (!fault) return;
   const passes = answer === "pass";
-  const mend = KNOWN_MENDS[row.known] ?? MENDS[fault.number];
-  const about = passes ? "From other starts it has the fault" : "About";
-  const here = row.known ? ` Here it is ${row.known}.` : "";
-  element("meaning").textContent = `${about} F${fault.number}: ${MEANINGS[fault.number]}${here}`;
-  element("mend").textContent = `To mend it: ${mend}`;
+  const name = `F${fault.number}, as “anscheck help F${fault.number}” says it`;
+  const [meaning, mend] = FAULT_TEXTS[fault.number];
+  element("advice-heading").textContent = passes ? `From other starts it has the fault ${name}` : `About ${name}`;
+  element("meaning").textContent = meaning;
+  element("mend").textContent = mend;
   element("mend").hidden = passes && !row.mends;
 }
 
