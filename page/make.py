@@ -3,8 +3,9 @@
 
     python3 page/make.py [MODULE [OUT]]
 
-MODULE is library/js/anscheck.wasm where it is not named, which page/build.sh built, and OUT is page/check.html. The policy
-in the page names the hashes of its style and its scripts, so that it runs no others.
+MODULE is library/js/anscheck.wasm where it is not named, which page/build.sh built, and OUT is page/check.html. The
+policy in the page names the hashes of its style and its scripts, so that it runs no others. By its stamp
+`page/stamp.py` finds whether it is out of date.
 """
 import base64
 import gzip
@@ -16,10 +17,11 @@ import sys
 import textwrap
 
 HERE = pathlib.Path(__file__).resolve().parent
-sys.path.insert(0, str(HERE.parent / "tools" / "runs"))
+sys.path[:0] = [str(HERE), str(HERE.parent / "tools" / "runs")]
 sys.dont_write_bytecode = True
 
-from meanings import meanings
+from meanings import meanings  # noqa: E402
+from stamp import page_stamp  # noqa: E402
 
 SOURCES = HERE / "src"
 PACKAGE = HERE.parent / "library" / "js"
@@ -76,8 +78,8 @@ def main():
     module = "\n".join(textwrap.wrap(packed, 120))
     style, code, last = source("check.css"), script(), source("last.js")
     parts = {
-        "POLICY": policy(style, code, last), "STYLE": style, "SCRIPT": code, "LAST": last, "MODULE": module,
-        "WORKER": "\n".join(['"use strict";', calls(), source("texts.js"), source("worker.js")]),
+        "POLICY": policy(style, code, last), "STAMP": page_stamp(path), "STYLE": style, "SCRIPT": code, "LAST": last,
+        "MODULE": module, "WORKER": "\n".join(['"use strict";', calls(), source("texts.js"), source("worker.js")]),
     }
     page = re.sub("@([A-Z]+)@", lambda part: parts[part[1]], source_of_page())
     out.write_text(page, encoding="utf-8", newline="\n")

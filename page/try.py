@@ -5,9 +5,10 @@
 
 PROGRAM is the built `anscheck`. Each drawing of conformance/ and crates/anscheck/data, and each that is named, is given
 to the page. Compared are the lines of why, the text on the fault, the record, what is changed to mend it, the redrawn
-file with what is said of it, the cells of the picture, its text, and the colours that are painted: `N drawings, 0
-differ`. Then come mending with its boxes, redrawing, the table with its filter, the keyboard, names that hide something,
-touch, files that cannot be read or take too long, and a browser that is too old. The status is 1 where something differs.
+file with what is said of it, the cells of the picture, its text, and the colours that are painted: `N drawings,
+0 differ`. Then come mending with its boxes, redrawing, the table with its filter, the keyboard, names that hide
+something, touch, files that cannot be read or take too long, and a browser that is too old. The status is 1 where
+something differs.
 
 PAGE is page/check.html where it is not named. With --stand-in no module is needed but `clang` and `lld` for wasm64, and
 `wasm-opt`: the page is made anew with one that has the stored answers of PROGRAM. HEADER is the folder of ans.h. With
@@ -358,8 +359,9 @@ def try_table(browser, tries, program, paths):
 
 def try_filter(browser, tries, rows):
     """Which rows each button of the filter shows, and how many it names. The CSV has all rows, in the same order."""
-    kinds = {"all": rows, "refused": [row for row in rows if row["verdict"] == "refused"],
-             "relying": [row for row in rows if row["verdict"] == "pass" and row["needs"] != "nothing"], "unanswered": []}
+    relying = [row for row in rows if row["verdict"] == "pass" and row["needs"] != "nothing"]
+    refused = [row for row in rows if row["verdict"] == "refused"]
+    kinds = {"all": rows, "refused": refused, "relying": relying, "unanswered": []}
     order = column(browser, "name")
     for kind, wanted in kinds.items():
         button = f"document.querySelector('[data-filter={kind}]')"
@@ -402,8 +404,8 @@ def try_steps(browser, tries, names):
     browser.value("element('next').click()")
     wait_for_name(browser, names[2])
     tries.want("its place", browser.value("element('step-place').textContent"), f"3 of {len(names)} shown in the table")
-    tries.want("the row of the drawing", browser.value(
-        "[...document.querySelectorAll('#rows [aria-current=true] button')].map((each) => each.textContent)"), [names[2]])
+    current = "[...document.querySelectorAll('#rows [aria-current=true] button')].map((each) => each.textContent)"
+    tries.want("the row of the drawing", browser.value(current), [names[2]])
     browser.value("document.querySelector('[data-filter=all]').click()")
 
 
@@ -455,7 +457,7 @@ def try_mending(browser, tries, program, is_stand_in):
 
 
 def try_redrawing(browser, tries, program):
-    """A drawing redrawn as it is and mended: the file that is saved, and what is said. Nothing of one that is refused."""
+    """A drawing redrawn as it is and mended: the file that is saved, and what is said. One that is refused is not."""
     text = lambda part: browser.value(f"element('{part}').textContent")
     show(browser, [DATA / "hi.ans"])
     file = stand_in.redrawn(program, DATA / "hi.ans")[0]

@@ -3,12 +3,12 @@
 //     node page/try_module.mjs PROGRAM [DRAWING ..]
 //     node --experimental-wasm-memory64 page/try_module.mjs PROGRAM --before MODULE [DRAWING ..]
 //
-// PROGRAM is the built `anscheck`. The module is the one inside page/check.html, and library/js/calls.js calls it. Of each
-// drawing of conformance/ and crates/anscheck/data, and of each that is named, it must say what PROGRAM says: the lines of
-// why, the record, what is needed, each cell from three classes of starts, the drawing mended in three ways, and the
-// drawing redrawn. A folder stands for the .ans files in it. With --before the same is wanted of the module with 64-bit
-// memory that page/build.sh kept. (Newer versions of Node need no flag for that.) The last line is `N drawings, M differ`,
-// and the status is 1 where one differs.
+// PROGRAM is the built `anscheck`. The module is the one inside page/check.html, and library/js/calls.js calls it. Of
+// each drawing of conformance/ and crates/anscheck/data, and of each that is named, it must say what PROGRAM says: the
+// lines of why, the record, what is needed, each cell from three classes of starts, the drawing mended in three ways,
+// and the drawing redrawn. A folder stands for the .ans files in it. With --before the same is wanted of the module
+// with 64-bit memory that page/build.sh kept. (Newer versions of Node need no flag for that.) The last line is
+// `N drawings, M differ`, and the status is 1 where one differs.
 import { spawnSync } from "node:child_process";
 import { readdirSync, readFileSync, statSync } from "node:fs";
 import { dirname, join } from "node:path";
@@ -105,7 +105,8 @@ function saidByProgram(program, path) {
   return said;
 }
 
-const drawingsIn = (folder) => readdirSync(folder).filter((name) => name.endsWith(".ans")).map((name) => join(folder, name));
+const drawingsIn = (folder) => readdirSync(folder).filter((name) => name.endsWith(".ans"))
+  .map((name) => join(folder, name));
 
 /** The modules that are tried, by name, and the drawings that are named. */
 function given(words) {

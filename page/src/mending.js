@@ -4,8 +4,8 @@ const WRONG_NUMBER = "Lines are a number from 1 to 8192, and columns one from 1 
 
 /** What comes of mending, for people who draw. */
 function sentenceOfMending(answer, changes) {
-  if (answer === "pass" && changes === "") return "Nothing has to be changed: it shows the same picture from every start.";
-  if (answer === "pass") return "So changed it shows the same picture from every start:";
+  const same = "it shows the same picture from every start";
+  if (answer === "pass") return changes === "" ? `Nothing has to be changed: ${same}.` : `So changed ${same}:`;
   if (answer === "refused") return "It cannot be mended so:";
   return answer === "wrong number" ? WRONG_NUMBER : FAILURES[answer];
 }

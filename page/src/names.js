@@ -1,5 +1,5 @@
-// Names of files as `anscheck table` shows them, so that none writes a control character, hides a part of itself, or turns
-// the direction of the text around it.
+// Names of files as `anscheck table` shows them, so that none writes a control character, hides a part of itself, or
+// turns the direction of the text around it.
 
 const ESCAPES = { "\t": "\\t", "\n": "\\n", "\\": "\\\\" };
 

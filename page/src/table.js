@@ -14,8 +14,8 @@ const COLUMNS = [
 ];
 
 /**
- * How long rows wait for others, in milliseconds: the table is laid out anew for all of them at once. Where that takes long
- * they wait so many times as long as it took, so that most of the time is left for the checker.
+ * How long rows wait for others, in milliseconds: the table is laid out anew for all of them at once. Where that takes
+ * long they wait so many times as long as it took, so that most of the time is left for the checker.
  */
 const BATCH_PERIOD = 250;
 const WAIT_FOR_LAYOUT = 4;
@@ -45,8 +45,8 @@ function csvOf(rows) {
 
 class DrawingTable {
   /**
-   * `lets` says whether the filter lets a row through, `onChoose` is told of the drawing of a row, and `onChange` is called
-   * when other rows are shown or the same in another order.
+   * `lets` says whether the filter lets a row through, `onChoose` is told of the drawing of a row, and `onChange` is
+   * called when other rows are shown or the same in another order.
    */
   constructor(table, { lets, onChoose, onChange }) {
     const [body] = table.tBodies;
