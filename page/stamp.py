@@ -16,12 +16,16 @@ import pathlib
 import re
 import sys
 
+sys.dont_write_bytecode = True
+
+from modules import SCRIPT, SOURCES, WORKER, modules_of  # noqa: E402
+
 HERE = pathlib.Path(__file__).resolve().parent
 TOP = HERE.parent
 PACKAGE = TOP / "library" / "js"
 MODULE = PACKAGE / "anscheck.wasm"
 PAGE = HERE / "check.html"
-TAKEN = ["calls.js"]
+TEXTS = [TOP / "tools" / "runs" / "meanings.py", TOP / "crates" / "ans_report" / "src" / "meanings.rt"]
 CRATE = "ans_c"
 PARTS_OF_A_CRATE = ("src", "specs", "proofs")
 LINE_OF_A_CRATE = re.compile(r"^(\w+)(?: [^:]*)?:(.*)$", re.MULTILINE)
@@ -62,8 +66,7 @@ def sources_beside(module):
 
 def page_stamp(module=MODULE):
     """The stamp of what the page is made from with this module."""
-    paths = [*(HERE / "src").iterdir(), HERE / "make.py", *(PACKAGE / name for name in TAKEN),
-             TOP / "tools" / "runs" / "meanings.py", TOP / "crates" / "ans_report" / "src" / "meanings.rt"]
+    paths = {HERE / "make.py", HERE / "modules.py", *SOURCES.iterdir(), *modules_of(SCRIPT), *modules_of(WORKER), *TEXTS}
     files = [(path.relative_to(TOP).as_posix(), path.read_bytes()) for path in paths]
     built = sources_beside(module)
     crates = built.read_bytes() if built.exists() else b""

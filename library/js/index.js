@@ -1,6 +1,8 @@
 // The proved checker of ANSI art files (.ANS), for JavaScript. README.md says what is proved of it.
 
-import { CLASSES, CLEARED, Checker as Calls, LONGEST_FILE, PARTS } from "./calls.js";
+import { Checker as Calls } from "./calls.js";
+import { CLASSES, CLEARED, LONGEST_FILE, PARTS } from "./numbers.js";
+import { partsIn } from "./row.js";
 
 const MODULE = new URL("anscheck.wasm", import.meta.url);
 const MOST_COLUMNS = 1024;
@@ -68,8 +70,20 @@ class Checker {
    * @throws {TypeError} of something else than a file.
    */
   needs(file) {
-    return this.#answer(file, (calls) => told(calls, calls.needs(), ({ parts }) => (
-      { needs: Object.keys(PARTS).filter((name) => parts & PARTS[name]) })));
+    return this.#answer(file, (calls) => told(calls, calls.needs(), ({ parts }) => ({ needs: partsIn(parts) })));
+  }
+
+  /**
+   * What `anscheck why` and `anscheck table` say of a file, in numbers and words.
+   *
+   * @param {Uint8Array | ArrayBuffer} file
+   * @returns {object} `{ verdict, needs, players, onEveryPlayer, taller, fault, bytes, low, high, known, lines, mends,
+   *   content, comments, notes, record }`, each as `index.d.ts` tells it: the verdict from the cleared start is "pass" or
+   *   "refused", and what there is not is null. Or `{ verdict: "too long" }`.
+   * @throws {TypeError} of something else than a file.
+   */
+  row(file) {
+    return this.#answer(file, (calls) => rowTold(calls.row()));
   }
 
   /**
@@ -131,7 +145,7 @@ class Checker {
   /**
    * The version of the checker.
    *
-   * @returns {string} such as "0.1.0".
+   * @returns {string} such as "0.2.0".
    */
   version() {
     return this.#use((calls) => calls.version().text);
@@ -228,6 +242,11 @@ function told(calls, answered, passed) {
 function faultTold(calls, { number, offset, row, column }) {
   const text = calls.faultText(number).text;
   return { number, offset, row: row || null, column: column || null, text };
+}
+
+function rowTold({ answer, row }) {
+  if (row) return { verdict: answer, ...row };
+  throw unforeseen(answer);
 }
 
 function withText({ answer, text }) {

@@ -1,26 +1,29 @@
 // The page: what is chosen goes to the checker, and what it says is shown.
 
-const element = (id) => document.getElementById(id);
+import { isKnown } from "./browser.js";
+import { Checks } from "./checks.js";
+import { element, itemOf } from "./elements.js";
+import { TableFilter } from "./filter.js";
+import { drawingsChosen, drawingsDropped } from "./folders.js";
+import { Mending } from "./mending.js";
+import { shownName } from "./names.js";
+import { noteOn } from "./notes.js";
+import { PictureView } from "./picture.js";
+import { recordLines, recordNote } from "./record.js";
+import { Redrawing } from "./redrawing.js";
+import { saveAs } from "./saving.js";
+import { Steps } from "./steps.js";
+import { DrawingTable, csvOf } from "./table.js";
+import { FAILURES, linesOf, placeOf, placesOf, playersSentenceOf, rowOf, sentenceOf, sizeOf } from "./why.js";
+
 const TEXT_ROWS = 500;
 const STATUS_PERIOD = 1000;
 
+/** The text of each fault, as `anscheck help F20` prints it, by its number: its paragraphs. */
+const FAULT_TEXTS = JSON.parse(element("faults").textContent);
+
 const packedModule = Uint8Array.from(atob(element("module").textContent), (character) => character.charCodeAt(0));
-// A module with a memory, and a function "f" that fills nothing of it and answers its argument, which has 64 bits.
-const SMALL_MODULE = Uint8Array.of(
-  0x00, 0x61, 0x73, 0x6d, 1, 0, 0, 0, 1, 6, 1, 0x60, 1, 0x7e, 1, 0x7e, 3, 2, 1, 0, 5, 3, 1, 0, 1, 7, 5, 1, 1, 0x66, 0,
-  0, 10, 15, 1, 13, 0, 0x41, 0, 0x41, 0, 0x41, 0, 0xfc, 11, 0, 0x20, 0, 0x0b);
 const lessMotion = matchMedia("(prefers-reduced-motion: reduce)");
-
-/** Whether the browser runs a module under the page's policy, and hands it 64-bit numbers. */
-function runsModules() {
-  try {
-    return new WebAssembly.Instance(new WebAssembly.Module(SMALL_MODULE)).exports.f(1n) === 1n;
-  } catch {
-    return false;
-  }
-}
-
-const isKnown = () => typeof Worker === "function" && typeof DecompressionStream === "function" && runsModules();
 
 const checks = new Checks(packedModule, element("worker").textContent, (version) => {
   element("version").textContent = `anscheck ${version}`;
@@ -53,12 +56,10 @@ function say(text, name = "") {
   element("status").replaceChildren(...(name === "" ? [text] : [isolated, text]));
 }
 
-function lineElement(line, place = null) {
+/** A line of `why`. Where it names a place in the picture it is a button that goes there. */
+function lineElement(line, place) {
+  if (!place) return itemOf(line);
   const item = document.createElement("li");
-  if (!place) {
-    item.textContent = line;
-    return item;
-  }
   const button = document.createElement("button");
   button.type = "button";
   button.textContent = line;
@@ -87,30 +88,6 @@ function showAdvice({ answer, row }) {
   element("meaning").textContent = meaning;
   element("mend").textContent = mend;
   element("mend").hidden = passes && !row.mends;
-}
-
-const countOf = (number) => number.toLocaleString("en");
-
-function withoutSentence({ count, first }, lines, record) {
-  const taken = count === 1 ? `Without the sequence at byte ${countOf(first)}`
-    : `Without ${countOf(count)} sequences, the first at byte ${countOf(first)}`;
-  if (lines === record.lines) return `${taken}, on ${sizeOf(record)}.`;
-  return `${taken}, and with ${countOf(lines)} lines. The record states ${sizeOf(record)}.`;
-}
-
-/** What the picture is, where it is not that of the file as it stands. */
-function partShown({ lines, upTo, moreLines, without }, record) {
-  if (without) return withoutSentence(without, lines, record);
-  if (upTo !== undefined) return `What stands before byte ${countOf(upTo)}, on ${sizeOf(record)}.`;
-  if (moreLines === undefined) return `${sizeOf(record)}.`;
-  return `As it is with ${lines} lines. The record states ${record?.lines ? sizeOf(record) : "none"}.`;
-}
-
-function noteOn(picture, row) {
-  const lines = row.record?.lines || picture.lines;
-  const places = placesOf(row).map((place) => (
-    `row ${place.row}${place.row > lines ? " (below the stated lines)" : ""}, column ${place.column}`));
-  return partShown(picture, row.record) + (places.length === 0 ? "" : ` Marked: ${places.join("; ")}.`);
 }
 
 function showPicture(name, { answer, picture }, note, marks) {
@@ -176,12 +153,11 @@ function showResult(drawing, result) {
   element("verdict").dataset.answer = result.answer;
   element("players").textContent = playersSentenceOf(result);
   element("players").hidden = element("players").textContent === "";
-  const lines = result.error ? [lineElement(result.error)]
+  const lines = result.error ? [itemOf(result.error)]
     : linesOf(result.why).map((line) => lineElement(line, placeOf(line, result.row)));
   element("why").replaceChildren(...lines);
-  const record = linesOf(result.record);
-  const recordLines = record.length > 0 ? record : ["none that is accepted"];
-  element("record").replaceChildren(...recordLines.map((line) => lineElement(line)));
+  element("record-note").textContent = recordNote(result);
+  element("record").replaceChildren(...recordLines(result).map(itemOf));
   showAdvice(result);
   looked = { drawing, result, mended: null };
   steps.show();
@@ -258,15 +234,6 @@ function take({ drawings, others }) {
   element("drawings").hidden = true;
   if (drawings.length === 0) return say("There is no drawing here whose name ends in .ans.");
   return drawings.length === 1 ? showDrawing(drawings[0]) : showFolder(drawings, others);
-}
-
-function saveAs(blob, name) {
-  const address = URL.createObjectURL(blob);
-  const link = document.createElement("a");
-  link.href = address;
-  link.download = name;
-  link.click();
-  setTimeout(() => URL.revokeObjectURL(address), STATUS_PERIOD);
 }
 
 function save() {

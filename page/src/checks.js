@@ -1,5 +1,7 @@
 // The page's side of the worker: one drawing after the other, each with a limit of time.
 
+import { LONGEST_FILE } from "../../library/js/numbers.js";
+
 const LONGEST_WAIT = 30000;
 
 class Checks {
@@ -15,8 +17,8 @@ class Checks {
   }
 
   /** What the checker says of a file. A drawing that somebody looks at goes before those of a folder. */
-  study(file, wantsPicture) {
-    return this.asked({ file, wantsPicture }, wantsPicture);
+  study(file, isLookedAt) {
+    return this.asked({ file, isLookedAt }, isLookedAt);
   }
 
   /** What comes of a file that is mended. Somebody looks at it. */
@@ -79,8 +81,8 @@ class Checks {
     if (!file) return this.answered({ number: job.number, ...this.nothing("unread") });
     if (!this.worker) this.start();
     this.timer = setTimeout(() => this.end({ answer: "late" }), this.longestWait);
-    const { number, wantsPicture, mends, redraws } = job;
-    this.worker.postMessage({ number, file, wantsPicture, mends, redraws }, [file]);
+    const { number, isLookedAt, mends, redraws } = job;
+    this.worker.postMessage({ number, file, isLookedAt, mends, redraws }, [file]);
   }
 
   answered(result) {
@@ -100,3 +102,5 @@ class Checks {
     if (this.running) this.answered({ number: this.running.number, ...this.nothing(answer, error) });
   }
 }
+
+export { Checks };

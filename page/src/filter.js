@@ -54,3 +54,5 @@ class TableFilter {
     }
   }
 }
+
+export { TableFilter };

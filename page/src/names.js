@@ -13,3 +13,5 @@ function byteEscapes(character) {
 
 /** A name as it is shown. The file that is saved keeps its own. */
 const shownName = (name) => name.replace(NOT_SHOWN, (character) => ESCAPES[character] ?? byteEscapes(character));
+
+export { shownName };

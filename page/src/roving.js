@@ -46,3 +46,5 @@ class RovingStop {
     goal(event.target.closest("tr")).querySelector("button").focus();
   }
 }
+
+export { RovingStop };

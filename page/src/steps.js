@@ -36,3 +36,5 @@ class Steps {
     this.text.textContent = number > 0 ? `${number} of ${count} shown in the table` : "not shown in the table";
   }
 }
+
+export { Steps };

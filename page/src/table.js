@@ -1,5 +1,7 @@
 // The table of a folder: it sorts by its headings, shows what the filter lets through, and is saved as CSV.
 
+import { RovingStop } from "./roving.js";
+
 const COLUMNS = [
   { key: "name", heading: "Name" },
   { key: "verdict", heading: "Verdict" },
@@ -201,3 +203,5 @@ class DrawingTable {
     }
   }
 }
+
+export { DrawingTable, csvOf };

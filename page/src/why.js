@@ -73,8 +73,7 @@ function playersSentenceOf({ answer, row }) {
 const sizeOf = ({ width, lines }) => `${width} x ${lines}`;
 
 /** What a row of the table says of a drawing, where there is an answer. */
-function valuesOf({ verdict, needs, players, fault, notes, record }) {
-  const isPass = verdict === "pass";
+function valuesOf(isPass, { needs, players, fault, notes, record }) {
   return {
     needs: isPass ? needs.join(" ") || "nothing" : "",
     players: isPass ? players.join(" ") || "any" : "",
@@ -92,5 +91,7 @@ const NO_VALUES = { needs: "", players: "", at: "", notes: "", title: "", author
 /** A row of the table, by its columns. */
 function rowOf(name, { answer, row }) {
   if (!row) return { ...NO_VALUES, name, verdict: "no answer", fault: FAILURES[answer] };
-  return { ...valuesOf(row), name, verdict: answer };
+  return { ...valuesOf(answer === "pass", row), name, verdict: answer };
 }
+
+export { FAILURES, linesOf, placeOf, placesOf, playersSentenceOf, rowOf, sentenceOf, sizeOf };

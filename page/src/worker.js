@@ -1,5 +1,8 @@
 // Answers what the page asks about one drawing after the other. It runs in a worker, behind calls.js.
 
+import { Checker } from "../../library/js/calls.js";
+import { CLASSES, CLEARED } from "../../library/js/numbers.js";
+
 const RECORD_BYTES = 128;
 const LINES = 98;
 const COMMENT_COUNT = 104;
@@ -7,7 +10,6 @@ const END_MARK = 0x1a;
 const BLINK = 0x80;
 const BLANKS = [0x00, 0x20, 0xff];
 const FIRST_ON_COLOUR = 0x10;
-const NOTE_COUNT = 6;
 
 let begun = null;
 let module = null;
@@ -33,15 +35,6 @@ function withLines(file, lines) {
   return changed;
 }
 
-/** What the checker says of the file that lies open, and its lines of `why`. */
-function judged() {
-  const why = checker.why();
-  const record = checker.record();
-  const notes = Array.from({ length: NOTE_COUNT }, (_, note) => checker.noteText(note + 1).text);
-  const recordText = record.answer === "pass" ? record.text : "";
-  return { answer: why.answer, why: why.text, record: recordText, row: rowIn(why, recordText, notes) };
-}
-
 /** Whether a picture shows nothing: blanks alone, all of them on black. */
 const isEmpty = ({ glyphs, attributes }) => (
   glyphs.every((glyph, cell) => BLANKS.includes(glyph) && attributes[cell] < FIRST_ON_COLOUR));
@@ -62,7 +55,7 @@ function pictureMended(file, classes) {
   const without = answer === "pass" ? takenOut(changes) : { count: 0 };
   if (without.count === 0) return null;
   checker.open(bytes);
-  const { ice } = judged().row.record;
+  const { ice } = checker.row().row.record;
   return { ...checker.check(CLEARED), brightBackgrounds: ice, without };
 }
 
@@ -96,17 +89,22 @@ function pictureOf(file, lines) {
 /** A picture with what it is, if there is one. */
 const withWords = (picture, words) => picture && { ...picture, ...words };
 
-function study(file, wantsPicture) {
+/** What the checker says of a file. Of one that is looked at these are also the lines of the program, and its picture. */
+function study(file, isLookedAt) {
   checker.open(file);
-  const told = judged();
-  const hasPicture = wantsPicture && (checker.size().answer === "pass" || told.row.lines);
-  const picture = hasPicture ? pictureOf(file, told.row.lines) : null;
-  return { ...told, picture: picture && shownFrom(picture, told.row.record) };
+  const { answer, row } = checker.row();
+  if (!isLookedAt) return { answer, row };
+  const why = checker.why().text;
+  const record = checker.record();
+  const hasPicture = checker.size().answer === "pass" || row.lines;
+  const picture = hasPicture ? pictureOf(file, row.lines) : null;
+  return { answer, row, why, record: record.answer === "pass" ? record.text : "",
+    picture: picture && shownFrom(picture, row.record) };
 }
 
 /** A picture with what its attributes mean. */
 const shownFrom = (picture, record) => ({
-  brightBackgrounds: record?.ice ?? false,
+  brightBackgrounds: record.ice,
   blinks: picture.attributes.some((attribute) => attribute >= BLINK),
   ...picture,
 });
@@ -117,7 +115,7 @@ function mend(file, { classes, width, lines }) {
   const { answer, changes, bytes } = checker.mend(classes, width, lines);
   if (answer !== "pass") return { answer, changes, bytes: null, row: null, picture: null };
   checker.open(bytes);
-  const { row } = judged();
+  const { row } = checker.row();
   return { answer, changes, bytes, row, picture: shownFrom(checker.check(CLEARED), row.record) };
 }
 
@@ -126,13 +124,18 @@ function redraw(file) {
   checker.open(file);
   const { answer, changes, bytes } = checker.redraw();
   if (answer !== "pass") return { answer, changes, bytes: null, before: null, after: null };
-  const before = judged().row;
+  const before = checker.row().row;
   checker.open(bytes);
-  return { answer, changes, bytes, before, after: judged().row };
+  return { answer, changes, bytes, before, after: checker.row().row };
 }
 
+/** WebKit reads no blob in a worker of a page from a disk, so the bytes are written to the stream. */
 async function unpacked(bytes) {
-  return new Response(new Blob([bytes]).stream().pipeThrough(new DecompressionStream("gzip"))).arrayBuffer();
+  const stream = new DecompressionStream("gzip");
+  const writer = stream.writable.getWriter();
+  writer.write(bytes);
+  writer.close();
+  return new Response(stream.readable).arrayBuffer();
 }
 
 async function begin(packedModule) {
@@ -141,12 +144,12 @@ async function begin(packedModule) {
   postMessage({ version: checker.version().text });
 }
 
-async function answered(file, { wantsPicture, mends, redraws }) {
+async function answered(file, { isLookedAt, mends, redraws }) {
   try {
     await begun;
     checker ??= newChecker();
     if (redraws) return redraw(file);
-    return mends ? mend(file, mends) : study(file, wantsPicture);
+    return mends ? mend(file, mends) : study(file, isLookedAt);
   } catch (error) {
     checker = null;
     return { answer: "stopped", why: "", record: "", row: null, changes: "", picture: null, error: String(error) };
