@@ -16,7 +16,7 @@ const ASPECTS = [null, "stretch", "square"];
 const NOTES = [1, 2, 3, 4, 5, 6];
 const LAST_RECORD_FAULT = 8;
 const COMMENT_BYTES = 64;
-const ROW_BYTES = 232;
+const ROW_BYTES = 256;
 
 const partsIn = (sum) => Object.keys(PARTS).filter((name) => sum & PARTS[name]);
 const kindsIn = (sum) => KINDS.filter((_, bit) => sum & 1 << bit);
@@ -57,7 +57,7 @@ class Structure {
   }
 
   place() {
-    const place = { row: this.word(), column: this.word() };
+    const place = { row: this.wide(), column: this.wide() };
     return place.row === 0 ? null : place;
   }
 }
@@ -108,12 +108,12 @@ function partsTold(structure, isAccepted, bytesAt) {
 function recordIn(structure, bytesAt) {
   structure.begin();
   const isThere = structure.word() === 1;
-  const width = structure.word();
-  const lines = structure.word();
   const flags = structure.word();
   const ice = structure.word() === 1;
   const spacing = structure.word() || null;
   const aspect = ASPECTS[structure.word()];
+  const width = structure.wide();
+  const lines = structure.wide();
   const [font, date, title, author, group] = Array.from({ length: 5 }, () => textOf(bytesAt(structure.piece())));
   return isThere ? { title, author, group, date, width, lines, flags, ice, spacing, aspect, font } : null;
 }

@@ -2,7 +2,7 @@
  * "traps" does so, and each other one has no record. Pointers and lengths are 64-bit numbers, as those of the module. */
 #include <stdint.h>
 
-enum { REFUSED = 1, WORDS_OF_A_ROW = 58, FAULT_IN_A_ROW = 4 };
+enum { REFUSED = 1, WORDS_OF_A_ROW = 64, FAULT_IN_A_ROW = 4 };
 
 static int begins(const char *file, uint64_t file_len, const char *word) {
     uint64_t i = 0;
