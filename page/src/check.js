@@ -82,9 +82,9 @@ function showAdvice({ answer, row }) {
   element("advice").hidden = !fault;
   if (!fault) return;
   const passes = answer === "pass";
-  const name = `F${fault.number}, as “anscheck help F${fault.number}” says it`;
   const [meaning, mend] = FAULT_TEXTS[fault.number];
-  element("advice-heading").textContent = passes ? `From other starts it has the fault ${name}` : `About ${name}`;
+  const which = passes ? "the fault that it has from other starts" : "its fault";
+  element("advice-heading").textContent = `What “anscheck help F${fault.number}” says of ${which}`;
   element("meaning").textContent = meaning;
   element("mend").textContent = mend;
   element("mend").hidden = passes && !row.mends;
