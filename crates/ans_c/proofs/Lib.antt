@@ -5,3 +5,4 @@ pub mod Room
 pub mod Verdicts
 pub mod MendingRooms
 pub mod Redrawings
+pub mod Pieces

@@ -59,6 +59,5 @@ mends_of classes width lines = record {
 pub record IsSizeOf (z : Size) (told : PictureSize) : Type 0 where
   pub columns : told.columns ≡ z.width
   pub lines : told.lines ≡ z.lines
-  pub rows : told.rows ≡ z.lines + 1
-  pub bytes : told.bytes ≡ 4 * (z.width * (z.lines + 1))
   pub cells : told.cells ≡ z.width * z.lines
+  pub scratch : told.scratch ≡ (z.lines + 1) * (24 + 4 * z.width)

@@ -73,12 +73,12 @@ fn tell_play<G: Screen>(
 }
 
 /// Checks a file from the starts of the class that `known` names: 1 the screen, 2 the cursor, 4 the saved
-/// cursor, 8 the colours, 16 wrap, added up. It wants as many rows and bytes as `ans_size` tells, and as many
-/// glyphs and attributes as it tells cells. `PASS`: from every such start the content shows the picture whose
+/// cursor, 8 the colours, 16 wrap, added up; other bits count for nothing. It wants a row for each line and one
+/// more, four bytes for each column of each row, and as many glyphs and attributes as `ans_size` tells cells. `PASS`: from every such start the content shows the picture whose
 /// bytes and attributes stand at the front of `glyphs` and `attributes`, row by row. `REFUSED`: `fault` tells
 /// why. `TOO_LONG`: the file is too long. `NO_ROOM`: an array is too small.
 #[unsafe(no_mangle)]
-pub extern "C" fn ans_check(
+pub extern "C" fn ans_check_on(
     file: &[u8],
     known: u32,
     rows: &mut [LentRow],
@@ -116,12 +116,12 @@ pub extern "C" fn ans_check(
     }
 }
 
-/// Tells what a file needs, with as many rows and bytes as `ans_size` tells. `PASS`: its content passes from
+/// Tells what a file needs, with as many rows and bytes as a check of it wants. `PASS`: its content passes from
 /// the cleared start, and from exactly the classes that know each part that `parts` names, by the bits of
-/// `ans_check`. `REFUSED`: it is refused even from the cleared start, and `fault` tells why. `TOO_LONG`: the
+/// `ans_check_on`. `REFUSED`: it is refused even from the cleared start, and `fault` tells why. `TOO_LONG`: the
 /// file is too long. `NO_ROOM`: there are too few rows or bytes.
 #[unsafe(no_mangle)]
-pub extern "C" fn ans_needs(
+pub extern "C" fn ans_needs_on(
     file: &[u8],
     rows: &mut [LentRow],
     bytes: &mut [u8],

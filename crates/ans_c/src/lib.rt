@@ -1,7 +1,7 @@
 //! The checker for C, on memory that its caller lends.
 //!
 //! Each call takes a file of at most 16,777,216 bytes and answers by a number: [`PASS`], [`REFUSED`],
-//! [`TOO_LONG`], [`NO_ROOM`] or, of [`ans_mend`] alone, [`WRONG_NUMBER`]. It asks for no memory, keeps
+//! [`TOO_LONG`], [`NO_ROOM`] or, of [`ans_mend_on`] alone, [`WRONG_NUMBER`]. It asks for no memory, keeps
 //! nothing and calls nobody back. An array comes as a pointer and a length; that it is there, and that
 //! arrays which are written do not overlap others, is the caller's to see to. What an answer does not set
 //! holds anything afterwards.
@@ -15,13 +15,20 @@ mod files;
 mod mending;
 mod numbers;
 mod redrawing;
+mod row;
+mod row_fields;
+mod row_numbers;
 mod texts;
 
-pub use files::{ans_check, ans_needs, ans_size};
-pub use mending::ans_mend;
+pub use files::{ans_check_on, ans_needs_on, ans_size};
+pub use mending::ans_mend_on;
 pub use numbers::{NO_ROOM, PASS, PictureSize, REFUSED, TOO_LONG, ToldFault, WRONG_NUMBER};
-pub use redrawing::ans_redraw;
-pub use texts::{ans_fault_text, ans_note_text, ans_record, ans_version, ans_why};
+pub use redrawing::ans_redraw_on;
+pub use row::ans_row_on;
+pub use row_numbers::{Blame, Passing, Piece, ToldFields, ToldParts, ToldPlace, ToldRow};
+pub use texts::{
+    ans_copy_fault_text, ans_copy_note_text, ans_copy_version, ans_record, ans_why_on,
+};
 
 #[cfg(test)]
 mod tests;

@@ -108,7 +108,7 @@ fn put_answer<W: Write>(out: &mut Outbox<'_, W>, asked: &Mends, answer: &Result<
 /// `NO_ROOM`: an array is too small. `told` is how many bytes the text has where only `text` is; all but the
 /// text is then as it is after `PASS` or `REFUSED`. In any other case `size` and `told` are 0.
 #[unsafe(no_mangle)]
-pub extern "C" fn ans_mend(
+pub extern "C" fn ans_mend_on(
     file: &[u8],
     classes: u32,
     width: u32,

@@ -29,6 +29,9 @@ pub const NO_ROOM: u32 = 4;
 /// A number is above the largest that the call takes.
 pub const WRONG_NUMBER: u32 = 5;
 
+/// How many bytes the record of a row takes, a `LentRow`.
+const ROW_SIZE: usize = 24;
+
 /// Why a file is refused.
 #[repr(C)]
 #[derive(Clone, Copy)]
@@ -48,12 +51,11 @@ pub struct ToldFault {
 pub struct PictureSize {
     pub columns: u32,
     pub lines: u32,
-    /// How many records of rows: one for each line, and one more.
-    pub rows: usize,
-    /// How many bytes: four for each column of each row.
-    pub bytes: usize,
     /// How many bytes for the glyphs of the picture, and as many for its attributes.
     pub cells: usize,
+    /// How many bytes the screen takes: for each line, and for one row more, the 24 of the row's record and four
+    /// for each column.
+    pub scratch: usize,
 }
 
 /// The class of starts that these bits name: 1 the screen, 2 the cursor, 4 the saved cursor, 8 the
@@ -162,12 +164,10 @@ pub(crate) fn told_size(parts: &Parts<'_>) -> PictureSize
 {
     let columns = parts.width();
     let lines = parts.lines();
-    let rows = lines + 1;
     PictureSize {
         columns: columns as u32,
         lines: lines as u32,
-        rows,
-        bytes: 4 * (columns * rows),
         cells: columns * lines,
+        scratch: (lines + 1) * (ROW_SIZE + 4 * columns),
     }
 }

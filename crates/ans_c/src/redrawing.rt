@@ -106,7 +106,7 @@ fn put_answer<W: Write>(out: &mut Outbox<'_, W>, answer: &Result<Redrawn, Unredr
 }
 
 /// Redraws a file as `anscheck redraw` does, and hands over the text of what that says. `rows` and `bytes` want
-/// as many as `ans_size` tells, and `redrawn` as many bytes as the redrawn file has.
+/// as many as a check of it wants, and `redrawn` as many bytes as the redrawn file has.
 ///
 /// `PASS`: the redrawn file stands at the front of `redrawn`, `size` is how many bytes it has, and the text
 /// says what was changed. It passes from every start. `REFUSED`: the file does not pass from the cleared start,
@@ -116,7 +116,7 @@ fn put_answer<W: Write>(out: &mut Outbox<'_, W>, answer: &Result<Redrawn, Unredr
 /// Where only `text` is, `told` is how many bytes the text has; all but the text is then as it is after `PASS` or
 /// `REFUSED`. Where there are too few rows or bytes, both are 0.
 #[unsafe(no_mangle)]
-pub extern "C" fn ans_redraw(
+pub extern "C" fn ans_redraw_on(
     file: &[u8],
     rows: &mut [LentRow],
     bytes: &mut [u8],

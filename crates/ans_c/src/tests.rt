@@ -27,16 +27,15 @@ fn sizes_are_told(rt: HostRuntime) {
     let mut size = PictureSize {
         columns: 0,
         lines: 0,
-        rows: 0,
-        bytes: 0,
         cells: 0,
+        scratch: 0,
     };
     let mut fault = no_fault();
     let file = drawing();
     let passed = ans_size(&file, &mut size, &mut fault);
-    let told = (size.columns, size.lines, size.rows, size.bytes, size.cells);
+    let told = (size.columns, size.lines, size.cells, size.scratch);
     let refused = ans_size(b"Hi", &mut size, &mut fault);
-    assert_eq!(rt; (passed, told), (PASS, (2, 1, 2, 16, 2)));
+    assert_eq!(rt; (passed, told), (PASS, (2, 1, 2, 2 * 24 + 16)));
     assert_eq!(rt; (refused, fault.number, fault.offset), (REFUSED, 1, 2));
 }
 
@@ -50,9 +49,9 @@ struct Lent {
 }
 
 impl Lent {
-    /// What `ans_check` answers about the drawing on these rows.
+    /// What `ans_check_on` answers about the drawing on these rows.
     fn check(&mut self, known: u32, rows: &mut [LentRow]) -> u32 {
-        ans_check(
+        ans_check_on(
             &drawing(),
             known,
             rows,
@@ -90,14 +89,108 @@ fn needs_are_told(rt: HostRuntime) {
     let mut few_bytes = [0u8; 15];
     let mut parts = 0;
     let mut fault = no_fault();
-    let passed = ans_needs(&file, &mut rows, &mut bytes, &mut parts, &mut fault);
+    let passed = ans_needs_on(&file, &mut rows, &mut bytes, &mut parts, &mut fault);
     let told = parts;
-    let short = ans_needs(&file, &mut rows, &mut few_bytes, &mut parts, &mut fault);
-    let refused = ans_needs(b"", &mut rows, &mut bytes, &mut parts, &mut fault);
+    let short = ans_needs_on(&file, &mut rows, &mut few_bytes, &mut parts, &mut fault);
+    let refused = ans_needs_on(b"", &mut rows, &mut bytes, &mut parts, &mut fault);
     assert_eq!(rt;
         ((passed, told), short, (refused, fault.number, fault.offset)),
         ((PASS, 2 + 8), NO_ROOM, (REFUSED, 1, 0))
     );
+}
+
+/// A row in which nothing is told yet.
+fn no_row() -> ToldRow {
+    ToldRow {
+        passing: Passing::NONE,
+        blame: Blame::NONE,
+        parts: ToldParts::NONE,
+        fields: ToldFields::NONE,
+    }
+}
+
+/// What `ans_row_on` answers about a file on two rows, and the row.
+fn row_of(file: &[u8]) -> (u32, ToldRow) {
+    let mut rows = [LentRow::new(); 2];
+    let mut bytes = [0u8; 16];
+    let mut row = no_row();
+    let answer = ans_row_on(file, &mut rows, &mut bytes, &mut row);
+    (answer, row)
+}
+
+#[test]
+fn rows_are_told(rt: HostRuntime) {
+    let (answer, row) = row_of(&drawing());
+    let passing = row.passing;
+    let needs = (
+        passing.needs,
+        passing.players,
+        passing.on_every_player,
+        passing.taller,
+    );
+    assert_eq!(rt; (answer, needs), (PASS, (2 + 8, 0, 2 + 8, 1)));
+    let blame = row.blame;
+    let places = (
+        blame.low.row,
+        blame.low.column,
+        blame.high.row,
+        blame.high.column,
+    );
+    assert_eq!(rt;
+        (blame.fault.number, blame.fault.offset, places),
+        (22, 0, (1, 1, 2, 2))
+    );
+    let bytes = (blame.bytes.start, blame.bytes.length);
+    assert_eq!(rt;
+        (bytes, blame.known, blame.lines, blame.mends),
+        ((0, 1), 0, 0, 1)
+    );
+    assert_eq!(rt;
+        (
+            row.parts.content,
+            row.parts.comments.length,
+            row.parts.notes
+        ),
+        (2, 0, 0)
+    );
+    let fields = row.fields;
+    assert_eq!(rt;
+        (fields.is_there, fields.flags, fields.width, fields.lines),
+        (1, 0, 2, 1)
+    );
+    assert_eq!(rt;
+        (fields.date.start, fields.date.length, fields.title.length),
+        (85, 8, 0)
+    );
+}
+
+#[test]
+fn rows_of_refused_files_are_told(rt: HostRuntime) {
+    let (answer, row) = row_of(b"Hi");
+    assert_eq!(rt;
+        (answer, row.blame.fault.number, row.blame.fault.offset),
+        (REFUSED, 1, 2)
+    );
+    assert_eq!(rt;
+        (row.passing.taller, row.parts.content, row.fields.is_there),
+        (0, 0, 0)
+    );
+    let mut file = drawing();
+    file[2] = b'!';
+    file[108] = 1 + 2 + 16;
+    let (answer, row) = row_of(&file);
+    let (place, notes) = (row.blame.low, row.parts.notes);
+    assert_eq!(rt;
+        (answer, row.blame.fault.number, place.row, place.column),
+        (REFUSED, 20, 2, 1)
+    );
+    assert_eq!(rt; (row.blame.lines, notes), (2, 4 + 8));
+    let fields = row.fields;
+    let flags = (fields.flags, fields.ice, fields.spacing, fields.aspect);
+    assert_eq!(rt; flags, (19, 1, 8, 2));
+    let mut row = no_row();
+    let short = ans_row_on(&file, &mut [LentRow::new(); 1], &mut [0u8; 16], &mut row);
+    assert_eq!(rt; short, NO_ROOM);
 }
 
 /// Asserts what a call answers, and what the text that it hands over is.
@@ -114,14 +207,14 @@ fn texts_are_handed_over(rt: HostRuntime) -> Result<(), Fail> {
     let mut short_text = [0u8; 9];
     let mut length = 0;
     let why = b"size: 2 x 1\nverdict: pass\nneeds: cursor colours\nplayers: any\ntaller: yes\n";
-    let passed = ans_why(&file, &mut rows, &mut bytes, &mut text, &mut length);
+    let passed = ans_why_on(&file, &mut rows, &mut bytes, &mut text, &mut length);
     let told = text.get(..length).ok_or("why")?;
     assert!(rt; passed == PASS && told.starts_with(why));
     let whole = length;
-    let short = ans_why(&file, &mut rows, &mut bytes, &mut short_text, &mut length);
+    let short = ans_why_on(&file, &mut rows, &mut bytes, &mut short_text, &mut length);
     let wanted = length;
     let mut row = [LentRow::new(); 1];
-    let few_rows = ans_why(&file, &mut row, &mut bytes, &mut text, &mut length);
+    let few_rows = ans_why_on(&file, &mut row, &mut bytes, &mut text, &mut length);
     assert_eq!(rt;
         ((short, wanted), (few_rows, length)),
         ((NO_ROOM, whole), (NO_ROOM, 0))
@@ -136,16 +229,16 @@ fn texts_are_handed_over(rt: HostRuntime) -> Result<(), Fail> {
 fn names_are_handed_over(rt: HostRuntime) {
     let mut text = [0u8; 40];
     let mut length = 0;
-    let answer = ans_fault_text(21, &mut text, &mut length);
+    let answer = ans_copy_fault_text(21, &mut text, &mut length);
     expect(&rt, answer, text.get(..length), (PASS, b"F21 scrolls"));
-    let no_fault = ans_fault_text(18, &mut text, &mut length);
-    let answer = ans_note_text(2, &mut text, &mut length);
+    let no_fault = ans_copy_fault_text(18, &mut text, &mut length);
+    let answer = ans_copy_note_text(2, &mut text, &mut length);
     let note = b"no end mark after the content";
     expect(&rt, answer, text.get(..length), (PASS, note));
-    let no_note = ans_note_text(7, &mut text, &mut length);
+    let no_note = ans_copy_note_text(7, &mut text, &mut length);
     assert_eq!(rt; (no_fault, no_note), (REFUSED, REFUSED));
-    let answer = ans_version(&mut text, &mut length);
-    expect(&rt, answer, text.get(..length), (PASS, b"0.1.0"));
+    let answer = ans_copy_version(&mut text, &mut length);
+    expect(&rt, answer, text.get(..length), (PASS, b"0.2.0"));
 }
 
 /// The drawing with the safe beginning in front, which its file size counts.
@@ -182,9 +275,9 @@ impl LentForMending {
         }
     }
 
-    /// What `ans_mend` answers about a file.
+    /// What `ans_mend_on` answers about a file.
     fn mend(&mut self, file: &[u8], classes: u32, width: u32, lines: u32) -> u32 {
-        ans_mend(
+        ans_mend_on(
             file,
             classes,
             width,
@@ -225,11 +318,11 @@ fn files_are_mended(rt: HostRuntime) {
 /// How much is lent to have the drawing mended.
 type Room = (usize, usize, usize, usize, usize);
 
-/// What `ans_mend` answers about the drawing within some room, and the lengths that it tells.
+/// What `ans_mend_on` answers about the drawing within some room, and the lengths that it tells.
 fn mended_within(room: Room) -> (u32, usize, usize) {
     let mut lent = LentForMending::new();
     let (rows, bytes, draft, mended, text) = room;
-    let answer = ans_mend(
+    let answer = ans_mend_on(
         &drawing(),
         0,
         0,
@@ -283,9 +376,9 @@ impl LentForRedrawing {
         }
     }
 
-    /// What `ans_redraw` answers about a file.
+    /// What `ans_redraw_on` answers about a file.
     fn redraw(&mut self, file: &[u8]) -> u32 {
-        ans_redraw(
+        ans_redraw_on(
             file,
             &mut self.rows,
             &mut self.bytes,
@@ -315,11 +408,11 @@ fn files_are_redrawn(rt: HostRuntime) {
 /// How much is lent to have the drawing redrawn: rows, bytes, room for the redrawn file, and for the text.
 type RedrawingRoom = (usize, usize, usize, usize);
 
-/// What `ans_redraw` answers about the drawing within some room, and the lengths that it tells.
+/// What `ans_redraw_on` answers about the drawing within some room, and the lengths that it tells.
 fn redrawn_within(room: RedrawingRoom) -> (u32, usize, usize) {
     let mut lent = LentForRedrawing::new();
     let (rows, bytes, redrawn, text) = room;
-    let answer = ans_redraw(
+    let answer = ans_redraw_on(
         &drawing(),
         &mut lent.rows[..rows.min(2)],
         &mut lent.bytes[..bytes.min(16)],

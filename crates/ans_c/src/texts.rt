@@ -41,7 +41,7 @@ impl Write for Nowhere {
 }
 
 /// The answer where a file passes, or does not.
-fn code_of(passed: bool) -> u32
+pub(crate) fn code_of(passed: bool) -> u32
     ensures { result ≡ code_of passed }
 {
     if passed { PASS } else { REFUSED }
@@ -85,12 +85,12 @@ pub(crate) fn hand_over(
     hand(out.waiting(), code_of(passed), buffer, told)
 }
 
-/// Hands over the text of `anscheck why`, in UTF-8, with as many rows and bytes as `ans_size` tells. `PASS`:
+/// Hands over the text of `anscheck why`, in UTF-8, with as many rows and bytes as a check of it wants. `PASS`:
 /// the file passes from the cleared start. `REFUSED`: it does not. The text stands at the front of `text`,
 /// and `told` is how many bytes it has. `TOO_LONG`: the file is too long, and `told` is 0. `NO_ROOM`: there are too
 /// few rows or bytes, and `told` is 0; or `text` is shorter than the text, and `told` is how many bytes that has.
 #[unsafe(no_mangle)]
-pub extern "C" fn ans_why(
+pub extern "C" fn ans_why_on(
     file: &[u8],
     rows: &mut [LentRow],
     bytes: &mut [u8],
@@ -118,7 +118,7 @@ pub extern "C" fn ans_why(
 }
 
 /// Hands over the text of `anscheck sauce`, in UTF-8: what the file's record says, or why its record or its
-/// layout is refused. The answers are those of `ans_why`; it wants no rows and bytes.
+/// layout is refused. The answers are those of `ans_why_on`; it wants no rows and bytes.
 #[unsafe(no_mangle)]
 pub extern "C" fn ans_record(file: &[u8], text: &mut [u8], told: &mut usize) -> u32
     ensures handed { result ≢ TOO_LONG
@@ -145,10 +145,10 @@ pub extern "C" fn ans_record(file: &[u8], text: &mut [u8], told: &mut usize) -> 
     }
 }
 
-/// Hands over the text of the fault Fn, `F21 scrolls`, as `ans_why` does its own: `PASS`, or `NO_ROOM` where `text` is
+/// Hands over the text of the fault Fn, `F21 scrolls`, as `ans_why_on` does its own: `PASS`, or `NO_ROOM` where `text` is
 /// shorter. `REFUSED`: there is no fault of this number.
 #[unsafe(no_mangle)]
-pub extern "C" fn ans_fault_text(number: u32, text: &mut [u8], told: &mut usize) -> u32
+pub extern "C" fn ans_copy_fault_text(number: u32, text: &mut [u8], told: &mut usize) -> u32
     ensures text { result ≢ REFUSED → (cause : Cause) × (cause_number cause ≡ number)
         × HandsOver (fault_text cause) PASS (length text.old) result told.new text.new }
     ensures none { result ≡ REFUSED → (cause : Cause) → cause_number cause ≢ number }
@@ -164,7 +164,7 @@ pub extern "C" fn ans_fault_text(number: u32, text: &mut [u8], told: &mut usize)
 
 /// Hands over the text of the note Nn. `REFUSED`: there is no note of this number.
 #[unsafe(no_mangle)]
-pub extern "C" fn ans_note_text(number: u32, text: &mut [u8], told: &mut usize) -> u32
+pub extern "C" fn ans_copy_note_text(number: u32, text: &mut [u8], told: &mut usize) -> u32
     ensures text { result ≢ REFUSED → (note : Note) × (note_number note ≡ number)
         × HandsOver (note_text note) PASS (length text.old) result told.new text.new }
     ensures none { result ≡ REFUSED → (note : Note) → note_number note ≢ number }
@@ -177,8 +177,8 @@ pub extern "C" fn ans_note_text(number: u32, text: &mut [u8], told: &mut usize) 
 
 /// Hands over the version of the checker.
 #[unsafe(no_mangle)]
-pub extern "C" fn ans_version(text: &mut [u8], told: &mut usize) -> u32
-    ensures { HandsOver (codes "0.1.0") PASS (length text.old) result told.new text.new }
+pub extern "C" fn ans_copy_version(text: &mut [u8], told: &mut usize) -> u32
+    ensures { HandsOver (codes "0.2.0") PASS (length text.old) result told.new text.new }
 {
-    hand(b"0.1.0", PASS, text, told)
+    hand(b"0.2.0", PASS, text, told)
 }

@@ -3,8 +3,8 @@
 //! [`RecordRefusal::of`], [`Refusal::of`] and [`Pass::of`] say it: of a file whose record or layout is
 //! refused, of a content that is refused from the cleared start, and of one that passes from there.
 //! [`put_why`] puts the text in an outbox. [`bytes_to_blame`] gives the bytes at which a content fails.
-//! [`known_sequence`] and [`known_behind_end_mark`] know what bytes are that artists and their programs
-//! write. [`put_hints`] puts the lines of the hints; [`font_name`] reads a font's name in the record's
+//! [`known_sequence`], [`known_behind_end_mark`] and [`known_found`] know what bytes are that artists and their
+//! programs write. [`put_hints`] puts the lines of the hints; [`font_name`] reads a font's name in the record's
 //! field, and [`has_other_code_page`] knows it. What is said is true by `specs/Explained.antt`; the text stands in
 //! `specs/WhyText.antt`, `specs/PlayersText.antt` and `specs/HintsText.antt`.
 #![tactic(auto)]
@@ -23,4 +23,4 @@ pub use font::{font_name, has_other_code_page};
 pub use hints_text::put_hints;
 pub use known_bytes::{Known, known_behind_end_mark, known_sequence};
 pub use why::{Enough, Pass, RecordRefusal, Refusal, Reliance, Shown, Why};
-pub use why_text::put_why;
+pub use why_text::{known_found, put_why};

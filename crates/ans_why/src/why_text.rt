@@ -260,8 +260,9 @@ fn put_found<W: Write>(out: &mut Outbox<'_, W>, found: &Found<'_>)
     }
 }
 
-/// What is known of what is found.
-fn known_found(found: &Found<'_>) -> Option<Known>
+/// What is known of what is found where a record or a layout is refused: of the bytes behind the end mark, and
+/// of nothing else.
+pub fn known_found(found: &Found<'_>) -> Option<Known>
     ensures { result ≡ known_found found.now }
 {
     match *found {

@@ -6,9 +6,11 @@ ghost use Rattle.ans_model.specs.Bytes.{longest_file};
 use ans_model::fault::Cause;
 use ans_model::size::Size;
 use ans_samples::Narrow;
+use ans_sauce::Found;
 use ans_walks::Hints;
 use ans_why::{
-    Known, font_name, has_other_code_page, known_behind_end_mark, known_sequence, put_hints,
+    Known, font_name, has_other_code_page, known_behind_end_mark, known_found, known_sequence,
+    put_hints,
 };
 use ans_write::{Outbox, Tried};
 use std::process::Abort;
@@ -490,6 +492,16 @@ fn what_follows_the_end_mark_is_known(rt: HostRuntime) {
             "{bytes:?}"
         );
     }
+}
+
+#[test]
+fn of_what_is_found_the_bytes_behind_the_end_mark_are_known(rt: HostRuntime) {
+    let found = Found::AfterEndMark {
+        bytes: COMMENT,
+        record: true,
+    };
+    assert!(rt; known_found(&found) == Some(Known::OlderRecord));
+    assert!(rt; known_found(&Found::NoRecord) == None);
 }
 
 #[test]

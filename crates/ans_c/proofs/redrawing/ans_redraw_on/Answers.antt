@@ -2,7 +2,7 @@ use Rattle.std.proofs.Common.{◌∙◌, ap, inl, length, refl}
 use Rattle.ans_write.specs.Tried.{has_failed}
 use Rattle.ans_c.specs.Told.{redrawing_text}
 use Rattle.ans_c.proofs.Redrawings.{tells_redrawn}
-use Rattle.ans_c.proofs.redrawing.ans_redraw.Goals as goal
+use Rattle.ans_c.proofs.redrawing.ans_redraw_on.Goals as goal
 
 pub returns-clause-handed : goal.returns-clause-handed
 returns-clause-handed c = λ _.

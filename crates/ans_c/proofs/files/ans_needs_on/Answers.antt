@@ -4,7 +4,7 @@ use Rattle.ans_c.proofs.Verdicts.{lent_lacking, record_told, refusal_told}
 use Rattle.ans_model.specs.Screen.StartClass.{all_known}
 use Rattle.ans_check.specs.FileNeeds.{NeedsClass}
 use Rattle.ans_check.proofs.VerdictLemmas.{needs_class}
-use Rattle.ans_c.proofs.files.ans_needs.Goals as goal
+use Rattle.ans_c.proofs.files.ans_needs_on.Goals as goal
 
 pub returns-in-Passes-clause-pass : goal.returns-in-Passes-clause-pass
 returns-in-Passes-clause-pass c = λ _.

@@ -4,7 +4,7 @@ use Rattle.ans_why.specs.WhyText.{why_text}
 use Rattle.ans_write.specs.Tried.{has_failed}
 use Rattle.ans_check.proofs.ReportLemmas.{why_reported}
 use Rattle.ans_c.proofs.Verdicts.{lent_lacking}
-use Rattle.ans_c.proofs.texts.ans_why.Goals as goal
+use Rattle.ans_c.proofs.texts.ans_why_on.Goals as goal
 
 pub returns-in_default-clause-handed : goal.returns-in_default-clause-handed
 returns-in_default-clause-handed c = λ _.

@@ -2,9 +2,9 @@ use Rattle.std.proofs.Common.{◌<◌, ◌*◌, ◌⊎◌, length, inl, inr}
 use Rattle.ans_c.specs.Numbers.{class_of}
 use Rattle.ans_c.proofs.Room.{enough_cells, fewer_cells, no_room_for}
 use Rattle.ans_c.proofs.Verdicts.{cells_lacking, pass_told, record_told, refusal_told, screen_lacking}
-use Rattle.ans_c.proofs.files.ans_check.Goals as goal
-use Rattle.ans_c.proofs.files.ans_check.Goals.{then-glyphs-cells-via-then-glyphs-cells}
-use Rattle.ans_c.proofs.files.ans_check.Goals.{then-glyphs-cells-via-else-glyphs-cells+then-attributes-cells}
+use Rattle.ans_c.proofs.files.ans_check_on.Goals as goal
+use Rattle.ans_c.proofs.files.ans_check_on.Goals.{then-glyphs-cells-via-then-glyphs-cells}
+use Rattle.ans_c.proofs.files.ans_check_on.Goals.{then-glyphs-cells-via-else-glyphs-cells+then-attributes-cells}
 
 pub returns-in-Err-clause-refused : goal.returns-in-Err-clause-refused
 returns-in-Err-clause-refused c = λ _.

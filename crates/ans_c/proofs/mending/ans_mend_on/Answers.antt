@@ -2,7 +2,7 @@ use Rattle.std.proofs.Common.{◌∙◌, ap, inl, inr, refl}
 use Rattle.ans_write.specs.Tried.{has_failed}
 use Rattle.ans_c.specs.Numbers.{mends_of}
 use Rattle.ans_c.specs.Told.{mending_text}
-use Rattle.ans_c.proofs.mending.ans_mend.Goals as goal
+use Rattle.ans_c.proofs.mending.ans_mend_on.Goals as goal
 
 pub returns-clause-handed : goal.returns-clause-handed
 returns-clause-handed c = λ _ _.

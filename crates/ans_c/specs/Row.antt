@@ -1,0 +1,234 @@
+-- The row of a file in numbers.
+use Rattle.std.specs.Prelude.{◌≡◌, ℕ, ◌+◌, ◌-◌, ◌*◌, ◌<◌, ◌==◌, Bool, true, false, IsTrue, IsFalse, is_some, List}
+use Rattle.std.specs.Prelude.{length, take, drop, Option, Some, None, if◌then◌else◌}
+use Rattle.std.specs.List.{list_any}
+use Rattle.ans_model.specs.File.Record.{aspect_ratio, author_field, comment_count, date_field, flags, font_field}
+use Rattle.ans_model.specs.File.Record.{group_field, is_non_blink, letter_spacing, stated_lines, stated_width}
+use Rattle.ans_model.specs.File.Record.{title_field, trimmed}
+use Rattle.ans_model.specs.File.Refusals.{has_record}
+use Rattle.ans_model.specs.Text.FaultText.{note_number}
+use Rattle.ans_model.specs.declared.note.Note.{Note}
+use Rattle.ans_model.specs.declared.start.Start.{Start}
+use Rattle.ans_players.specs.declared.kind.Kind.{Kind}
+use Rattle.ans_players.specs.declared.kind.Kind.TheVariants.{WrapAtOnce, LineEnds, HomeOnClear, ClearInColour}
+use Rattle.ans_players.specs.declared.kind.Kind.TheVariants.{SavePlaceOnly, DosColours, TabPrints, LineErased, WrapOff}
+use Rattle.ans_players.specs.declared.kind.Kind.TheVariants.{StopsAtEdge, PageControls, TerminalControls}
+use Rattle.ans_sauce.specs.declared.judged.Judged.TheVariants.{NoContent, Refused, Passes}
+use Rattle.ans_sauce.specs.declared.parts.Parts.{Parts}
+use Rattle.ans_sauce.specs.Judged.{is_pass, parts_in}
+use Rattle.ans_sauce.specs.Parts.{comments_of, content_of, notes_of}
+use Rattle.ans_walks.specs.KindsUsed.{is_used}
+use Rattle.ans_walks.specs.declared.kinds.KindsUsed.{KindsUsed}
+use Rattle.ans_walks.specs.declared.players.Players.{Players}
+use Rattle.ans_walks.specs.declared.players.Players.TheVariants.{Any, Agreeing}
+use Rattle.ans_why.specs.Explained.{IsTrueOf, Why}
+use Rattle.ans_why.specs.WhyText.{known_found}
+use Rattle.ans_why.specs.declared.known_bytes.Known.{Known}
+use Rattle.ans_why.specs.declared.known_bytes.Known.TheVariants as known
+use Rattle.ans_why.specs.declared.why.Enough.{Enough}
+use Rattle.ans_why.specs.declared.why.Pass.{Pass}
+use Rattle.ans_why.specs.declared.why.Place.{Place}
+use Rattle.ans_why.specs.declared.why.RecordRefusal.{RecordRefusal}
+use Rattle.ans_why.specs.declared.why.Refusal.{Refusal}
+use Rattle.ans_why.specs.declared.why.Reliance.{Reliance}
+use Rattle.ans_why.specs.declared.why.Shown.{Shown}
+use Rattle.ans_why.specs.declared.why.Shown.TheVariants.{Cursors, Cells}
+use Rattle.ans_c.specs.Numbers.{TellsFault, class_of}
+use Rattle.ans_c.specs.Told.{code_of}
+use Rattle.ans_c.specs.declared.row_numbers.Blame.{Blame}
+use Rattle.ans_c.specs.declared.row_numbers.Passing.{Passing}
+use Rattle.ans_c.specs.declared.row_numbers.Piece.{Piece}
+use Rattle.ans_c.specs.declared.row_numbers.ToldFields.{ToldFields}
+use Rattle.ans_c.specs.declared.row_numbers.ToldParts.{ToldParts}
+use Rattle.ans_c.specs.declared.row_numbers.ToldPlace.{ToldPlace}
+use Rattle.ans_c.specs.declared.row_numbers.ToldRow.{ToldRow}
+use Rattle.ans_c.specs.declared.row_numbers.TheConstants.Blame as blame
+use Rattle.ans_c.specs.declared.row_numbers.TheConstants.Passing as passing
+use Rattle.ans_c.specs.declared.row_numbers.TheConstants.ToldFields as fields
+use Rattle.ans_c.specs.declared.row_numbers.TheConstants.ToldParts as parts_told
+
+-- a number where this is so, and else 0
+abbrev pub number_if : Bool → ℕ → ℕ
+number_if so number = if so then number else 0
+
+-- the numbers of the kinds that arise, added up
+abbrev pub kinds_sum : KindsUsed → ℕ
+kinds_sum used =
+    number_if (is_used used WrapAtOnce) 1 + number_if (is_used used LineEnds) 2
+    + number_if (is_used used HomeOnClear) 4 + number_if (is_used used ClearInColour) 8
+    + number_if (is_used used SavePlaceOnly) 16 + number_if (is_used used DosColours) 32
+    + number_if (is_used used TabPrints) 64 + number_if (is_used used LineErased) 128
+    + number_if (is_used used WrapOff) 256 + number_if (is_used used StopsAtEdge) 512
+    + number_if (is_used used PageControls) 1024 + number_if (is_used used TerminalControls) 2048
+
+-- the note Nn is one of these
+abbrev pub has_note : List Note → ℕ → Bool
+has_note notes n = list_any (λ note. note_number note == n) notes
+
+-- 2 to the power of n for each note Nn, added up
+abbrev pub notes_sum : List Note → ℕ
+notes_sum notes =
+    number_if (has_note notes 1) 2 + number_if (has_note notes 2) 4 + number_if (has_note notes 3) 8
+    + number_if (has_note notes 4) 16 + number_if (has_note notes 5) 32 + number_if (has_note notes 6) 64
+
+-- the number of what bytes are known as; 0 for nothing
+abbrev pub known_number : Option Known → ℕ
+known_number None = 0
+known_number (Some known.Music) = 1
+known_number (Some known.FontSelection) = 2
+known_number (Some known.TrueColour) = 3
+known_number (Some known.BrightBackgrounds) = 4
+known_number (Some known.CursorSwitch) = 5
+known_number (Some known.DosMode) = 6
+known_number (Some known.ReassignedKey) = 7
+known_number (Some known.UncountedComments) = 8
+known_number (Some known.OlderRecord) = 9
+known_number (Some known.Arrow) = 10
+
+-- the bits name the class, and no other bit is set
+pub record NamesClass (class : Start) (bits : ℕ) : Type 0 where
+  pub class_is : class_of bits ≡ class
+  pub no_other : bits < 32
+
+-- the kinds in which players part, and no parts of the start; or no kind, and the parts that have to be known for every
+-- player to show the same
+abbrev pub TellsPlayers : Players → ℕ → ℕ → Type 0
+TellsPlayers (Any class) kinds parts = (kinds ≡ 0) × NamesClass class parts
+TellsPlayers (Agreeing used) kinds parts = (kinds ≡ kinds_sum used) × (parts ≡ 0)
+
+-- what is told of a content that passes
+pub record IsPassing (said : Pass) (told : Passing) : Type 0 where
+  pub needs : NamesClass said.needs told.needs
+  pub players : TellsPlayers said.players told.players told.on_every_player
+  pub taller : told.taller ≡ number_if said.taller 1
+
+-- so many bytes from this offset on
+abbrev pub piece : ℕ → ℕ → Piece
+piece start count = record { start = start; length = count }
+
+-- no bytes
+abbrev pub no_piece : Piece
+no_piece = piece 0 0
+
+-- a place, and none
+abbrev pub told_place : Place → ToldPlace
+told_place place = record { row = place.row; column = place.column }
+
+abbrev pub no_place : ToldPlace
+no_place = record { row = 0; column = 0 }
+
+-- the places of the two cursors, where these are shown
+abbrev pub low_place : Shown → ToldPlace
+low_place (Cursors low high) = told_place low
+low_place (Cells low high) = no_place
+
+abbrev pub high_place : Shown → ToldPlace
+high_place (Cursors low high) = told_place high
+high_place (Cells low high) = no_place
+
+-- a number of lines that is enough; 0 where there is none
+abbrev pub lines_or_0 : Option ℕ → ℕ
+lines_or_0 (Some lines) = lines
+lines_or_0 None = 0
+
+abbrev pub enough_or_0 : Option Enough → ℕ
+enough_or_0 (Some enough) = enough.lines
+enough_or_0 None = 0
+
+-- what is told of a record or a layout that is refused
+pub record IsRecordBlame (said : RecordRefusal) (told : Blame) : Type 0 where
+  pub fault : TellsFault told.fault said.fault
+  pub bytes : told.bytes ≡ no_piece
+  pub low : told.low ≡ no_place
+  pub high : told.high ≡ no_place
+  pub known : told.known ≡ known_number (known_found said.found)
+  pub lines : told.lines ≡ enough_or_0 said.enough
+  pub mends : told.mends ≡ 0
+
+-- what is told of a content that is refused from the cleared start: there is one cursor
+pub record IsRefusalBlame (said : Refusal) (told : Blame) : Type 0 where
+  pub fault : TellsFault told.fault said.fault
+  pub bytes : told.bytes ≡ piece said.fault.offset (length said.bytes.now)
+  pub low : told.low ≡ told_place said.cursor
+  pub high : told.high ≡ told_place said.cursor
+  pub known : told.known ≡ known_number said.known
+  pub lines : told.lines ≡ lines_or_0 said.lines
+  pub mends : told.mends ≡ 0
+
+-- what is told of what a content relies on
+pub record IsRelianceBlame (said : Reliance) (told : Blame) : Type 0 where
+  pub fault : TellsFault told.fault said.fault
+  pub bytes : told.bytes ≡ piece said.fault.offset (length said.bytes.now)
+  pub low : told.low ≡ low_place said.shown
+  pub high : told.high ≡ high_place said.shown
+  pub known : told.known ≡ 0
+  pub lines : told.lines ≡ 0
+  pub mends : told.mends ≡ number_if said.mends 1
+
+-- the same where a content may rely on nothing
+abbrev pub IsBlameOfPass : Option Reliance → Blame → Type 0
+IsBlameOfPass (Some reliance) told = IsRelianceBlame reliance told
+IsBlameOfPass None told = told ≡ blame.NONE
+
+-- what is told to be to blame in a file
+abbrev pub TellsBlame : Why → Blame → Type 0
+TellsBlame (NoContent said) told = IsRecordBlame said told
+TellsBlame (Refused parts said) told = IsRefusalBlame said told
+TellsBlame (Passes parts said) told = IsBlameOfPass said.reliance told
+
+-- what is told of a pass; nothing of another file
+abbrev pub TellsPassing : Why → Passing → Type 0
+TellsPassing (Passes parts said) told = IsPassing said told
+TellsPassing _ told = told ≡ passing.NONE
+
+-- This piece of the file has these bytes.
+abbrev pub IsPieceOf : List ℕ → Piece → List ℕ → Type 0
+IsPieceOf file piece bytes = take piece.length (drop piece.start file) ≡ bytes
+
+-- what is told of the parts of a file
+pub record IsTellingParts (file : List ℕ) (parts : Parts) (told : ToldParts) : Type 0 where
+  pub content : told.content ≡ length (content_of parts)
+  pub comments : IsPieceOf file told.comments (comments_of parts)
+  pub notes : told.notes ≡ notes_sum (notes_of parts)
+
+abbrev pub TellsParts : List ℕ → Option Parts → ToldParts → Type 0
+TellsParts file (Some parts) told = IsTellingParts file parts told
+TellsParts file None told = told ≡ parts_told.NONE
+
+-- letters of 8 or of 9 pixels, where the flags say which
+abbrev pub spacing_number : ℕ → ℕ
+spacing_number pair = if pair == 1 then 8 else if pair == 2 then 9 else 0
+
+-- 1 for pixels to be stretched, 2 for square ones, where the flags say which
+abbrev pub aspect_number : ℕ → ℕ
+aspect_number pair = if pair == 1 then 1 else if pair == 2 then 2 else 0
+
+-- what is told of a record: its numbers, and where its texts stand in the file
+pub record IsTellingFields (file sauce : List ℕ) (told : ToldFields) : Type 0 where
+  pub is_there : told.is_there ≡ 1
+  pub flags_are : told.flags ≡ flags sauce
+  pub ice : told.ice ≡ number_if (is_non_blink sauce) 1
+  pub spacing : told.spacing ≡ spacing_number (letter_spacing sauce)
+  pub aspect : told.aspect ≡ aspect_number (aspect_ratio sauce)
+  pub width : told.width ≡ stated_width sauce
+  pub lines : told.lines ≡ stated_lines sauce
+  pub font : IsPieceOf file told.font (trimmed (font_field sauce))
+  pub date : IsPieceOf file told.date (trimmed (date_field sauce))
+  pub title : IsPieceOf file told.title (trimmed (title_field sauce))
+  pub author : IsPieceOf file told.author (trimmed (author_field sauce))
+  pub group : IsPieceOf file told.group (trimmed (group_field sauce))
+
+-- the record in the file's last 128 bytes is told, where there is one
+pub record TellsFields (file : List ℕ) (told : ToldFields) : Type 0 where
+  pub found : IsTrue (has_record file) → IsTellingFields file (drop (length file - 128) file) told
+  pub none : IsFalse (has_record file) → told ≡ fields.NONE
+
+-- What there is to say of the file, as `why` says it, is told, and its record. The answer is that of its verdict.
+pub record TellsRow (file : List ℕ) (result : ℕ) (told : ToldRow) : Type 0 where
+  pub why : Why
+  pub is_true : IsTrueOf file why
+  pub verdict : result ≡ code_of (is_pass why)
+  pub passing : TellsPassing why told.passing
+  pub blame : TellsBlame why told.blame
+  pub parts : TellsParts file (parts_in why) told.parts
+  pub fields : TellsFields file told.fields

@@ -1,0 +1,362 @@
+//! The row of a file in numbers.
+
+ghost use Rattle.std.specs.Prelude.{◌≡◌, ◌≤◌};
+ghost use Rattle.ans_c.specs.Row.{IsBlameOfPass, IsPassing, IsRecordBlame, IsRefusalBlame, IsRelianceBlame};
+ghost use Rattle.ans_c.specs.Row.{TellsBlame, TellsPassing, TellsPlayers, enough_or_0, high_place, kinds_sum};
+ghost use Rattle.ans_c.specs.Row.{known_number, lines_or_0, low_place, number_if};
+
+use crate::numbers::{ToldFault, bits_of, told};
+use ans_players::kind::Kind;
+use ans_sauce::Judged;
+use ans_walks::{KindsUsed, Players};
+use ans_why::{Enough, Known, Pass, RecordRefusal, Refusal, Reliance, Shown, Why, known_found};
+
+/// Bytes of a file: so many, from this offset on. The length is 0 where there are none.
+#[repr(C)]
+#[derive(Clone, Copy)]
+pub struct Piece {
+    /// In bytes from the file's start.
+    pub start: usize,
+    pub length: usize,
+}
+
+/// A row and a column, counted from 1. Both are 0 where there is no place.
+#[repr(C)]
+#[derive(Clone, Copy)]
+pub struct ToldPlace {
+    pub row: usize,
+    pub column: usize,
+}
+
+/// What a content that passes from the cleared start relies on; all is 0 for another file.
+#[repr(C)]
+#[derive(Clone, Copy)]
+pub struct Passing {
+    /// The parts of the start that have to be known, by the bits of `ans_check_on`.
+    pub needs: u32,
+    /// The kinds in which players part that it makes use of, added up: 1 wrap-at-once, 2 line-ends,
+    /// 4 home-on-clear, 8 clear-in-colour, 16 save-place-only, 32 dos-colours, 64 tab-prints,
+    /// 128 line-erased, 256 wrap-off, 512 stops-at-edge, 1024 page-controls, 2048 terminal-controls.
+    pub players: u32,
+    /// Where it makes use of none, the parts that have to be known for every player to show the same.
+    pub on_every_player: u32,
+    /// 1 where it shows its picture on every taller screen too.
+    pub taller: u32,
+}
+
+/// What is to blame: the fault of a file that is refused from the cleared start, or the one that a content
+/// which passes from there has from every start. All is 0 where there is no such fault.
+#[repr(C)]
+#[derive(Clone, Copy)]
+pub struct Blame {
+    pub fault: ToldFault,
+    /// The bytes to blame: none for F1 to F8 and for F25.
+    pub bytes: Piece,
+    /// Where the cursor stands before the fault: from the cleared start, twice the same; or, of a content
+    /// that passes, from the low and from the high start. No place for F1 to F8 and for F25.
+    pub low: ToldPlace,
+    pub high: ToldPlace,
+    /// What the bytes are known as: 1 ANSI music, 2 a font selection, 3 a 24-bit colour, 4 the switch for
+    /// bright backgrounds, 5 the switch that hides or shows the cursor, 6 a screen mode of DOS, 7 a
+    /// reassigned key; and those behind the end mark: 8 comments that the record does not count, 9 an older
+    /// record, 10 an arrow in the drawing. 0 for nothing.
+    pub known: u32,
+    /// For F5 and F19 to F21 the least number of lines with which the file passes, where there is one.
+    pub lines: u32,
+    /// 1 where the content passes, and the file has room for the safe beginning, which mends it.
+    pub mends: u32,
+}
+
+/// The parts of a file whose record and layout are accepted; all is 0 for another.
+#[repr(C)]
+#[derive(Clone, Copy)]
+pub struct ToldParts {
+    /// How many bytes the content has, from the file's start on.
+    pub content: usize,
+    /// The lines of the comments (SAUCE 00.5, comment block) behind `COMNT`, 64 bytes each.
+    pub comments: Piece,
+    /// 2 to the power of n for each note Nn, added up.
+    pub notes: u32,
+}
+
+/// What the record in a file's last 128 bytes says, accepted or not; all is 0 where there is none.
+#[repr(C)]
+#[derive(Clone, Copy)]
+pub struct ToldFields {
+    /// 1 where there is a record.
+    pub is_there: u32,
+    /// The byte of the flags (TFlags).
+    pub flags: u32,
+    /// 1 where bit 7 of an attribute is a bright background, and no blink: bit 0 of the flags.
+    pub ice: u32,
+    /// Letters of 8 or of 9 pixels; 0 where the flags do not say.
+    pub spacing: u32,
+    /// 1 for pixels to be stretched, 2 for square ones; 0 where the flags do not say.
+    pub aspect: u32,
+    /// In columns; 80 where the record states 0.
+    pub width: usize,
+    pub lines: usize,
+    /// The texts, without trailing blanks and zero bytes, in code page 437.
+    pub font: Piece,
+    pub date: Piece,
+    pub title: Piece,
+    pub author: Piece,
+    pub group: Piece,
+}
+
+/// What there is to tell of a file.
+#[repr(C)]
+#[derive(Clone, Copy)]
+pub struct ToldRow {
+    pub passing: Passing,
+    pub blame: Blame,
+    pub parts: ToldParts,
+    pub fields: ToldFields,
+}
+
+impl Piece {
+    pub(crate) const NONE: Piece = Piece {
+        start: 0,
+        length: 0,
+    };
+}
+
+impl ToldPlace {
+    const NONE: ToldPlace = ToldPlace { row: 0, column: 0 };
+}
+
+impl Passing {
+    pub(crate) const NONE: Passing = Passing {
+        needs: 0,
+        players: 0,
+        on_every_player: 0,
+        taller: 0,
+    };
+}
+
+impl Blame {
+    pub(crate) const NONE: Blame = Blame {
+        fault: ToldFault {
+            number: 0,
+            row: 0,
+            column: 0,
+            offset: 0,
+        },
+        bytes: Piece::NONE,
+        low: ToldPlace::NONE,
+        high: ToldPlace::NONE,
+        known: 0,
+        lines: 0,
+        mends: 0,
+    };
+}
+
+impl ToldParts {
+    pub(crate) const NONE: ToldParts = ToldParts {
+        content: 0,
+        comments: Piece::NONE,
+        notes: 0,
+    };
+}
+
+impl ToldFields {
+    pub(crate) const NONE: ToldFields = ToldFields {
+        is_there: 0,
+        flags: 0,
+        ice: 0,
+        spacing: 0,
+        aspect: 0,
+        width: 0,
+        lines: 0,
+        font: Piece::NONE,
+        date: Piece::NONE,
+        title: Piece::NONE,
+        author: Piece::NONE,
+        group: Piece::NONE,
+    };
+}
+
+/// A number where this is so, and else 0.
+pub(crate) fn number_if(so: bool, number: u32) -> u32
+    ensures number { result ≡ number_if so number }
+    ensures bound { result ≤ number }
+{
+    if so { number } else { 0 }
+}
+
+/// The numbers of the kinds that arise, added up.
+fn kinds_sum(used: &KindsUsed) -> u32
+    ensures { result ≡ kinds_sum used.now }
+{
+    number_if(used.of(Kind::WrapAtOnce).is_some(), 1)
+        + number_if(used.of(Kind::LineEnds).is_some(), 2)
+        + number_if(used.of(Kind::HomeOnClear).is_some(), 4)
+        + number_if(used.of(Kind::ClearInColour).is_some(), 8)
+        + number_if(used.of(Kind::SavePlaceOnly).is_some(), 16)
+        + number_if(used.of(Kind::DosColours).is_some(), 32)
+        + number_if(used.of(Kind::TabPrints).is_some(), 64)
+        + number_if(used.of(Kind::LineErased).is_some(), 128)
+        + number_if(used.of(Kind::WrapOff).is_some(), 256)
+        + number_if(used.of(Kind::StopsAtEdge).is_some(), 512)
+        + number_if(used.of(Kind::PageControls).is_some(), 1024)
+        + number_if(used.of(Kind::TerminalControls).is_some(), 2048)
+}
+
+/// The number of what bytes are known as; 0 for nothing.
+fn known_number(known: Option<Known>) -> u32
+    ensures { result ≡ known_number known }
+{
+    match known {
+        None => 0,
+        Some(Known::Music) => 1,
+        Some(Known::FontSelection) => 2,
+        Some(Known::TrueColour) => 3,
+        Some(Known::BrightBackgrounds) => 4,
+        Some(Known::CursorSwitch) => 5,
+        Some(Known::DosMode) => 6,
+        Some(Known::ReassignedKey) => 7,
+        Some(Known::UncountedComments) => 8,
+        Some(Known::OlderRecord) => 9,
+        Some(Known::Arrow) => 10,
+    }
+}
+
+/// The kinds in which players part, and the parts of the start that have to be known where there is none.
+fn players_told(players: &Players) -> (u32, u32)
+    ensures { TellsPlayers players.now result.0 result.1 }
+{
+    match players {
+        Players::Any(class) => (0, bits_of(*class)),
+        Players::Agreeing(used) => (kinds_sum(used), 0),
+    }
+}
+
+fn passing_of(pass: &Pass<'_>) -> Passing
+    ensures { IsPassing pass.now result }
+{
+    let (players, on_every_player) = players_told(&pass.players);
+    Passing {
+        needs: bits_of(pass.needs),
+        players,
+        on_every_player,
+        taller: number_if(pass.taller, 1),
+    }
+}
+
+/// The places of the cursors from the low and from the high start, where these are shown.
+fn places_told(shown: &Shown) -> (ToldPlace, ToldPlace)
+    ensures low { result.0 ≡ low_place shown.now }
+    ensures high { result.1 ≡ high_place shown.now }
+{
+    match shown {
+        Shown::Cursors { low, high } => (
+            ToldPlace {
+                row: low.row,
+                column: low.column,
+            },
+            ToldPlace {
+                row: high.row,
+                column: high.column,
+            },
+        ),
+        Shown::Cells { .. } => (ToldPlace::NONE, ToldPlace::NONE),
+    }
+}
+
+fn enough_or_0(enough: &Option<Enough<'_>>) -> u32
+    ensures { result ≡ enough_or_0 enough.now }
+{
+    match enough {
+        Some(enough) => u32::from(enough.lines),
+        None => 0,
+    }
+}
+
+fn lines_or_0(lines: Option<u16>) -> u32
+    ensures { result ≡ lines_or_0 lines }
+{
+    match lines {
+        Some(lines) => u32::from(lines),
+        None => 0,
+    }
+}
+
+fn blame_of_record(said: &RecordRefusal<'_>) -> Blame
+    ensures { IsRecordBlame said.now result }
+{
+    Blame {
+        fault: told(&said.fault),
+        known: known_number(known_found(&said.found)),
+        lines: enough_or_0(&said.enough),
+        ..Blame::NONE
+    }
+}
+
+fn blame_of_refusal(said: &Refusal<'_>) -> Blame
+    ensures { IsRefusalBlame said.now result }
+{
+    let cursor = ToldPlace {
+        row: said.cursor.row,
+        column: said.cursor.column,
+    };
+    Blame {
+        fault: told(&said.fault),
+        bytes: Piece {
+            start: said.fault.offset,
+            length: said.bytes.len(),
+        },
+        low: cursor,
+        high: cursor,
+        known: known_number(said.known),
+        lines: lines_or_0(said.lines),
+        mends: 0,
+    }
+}
+
+fn blame_of_reliance(said: &Reliance<'_>) -> Blame
+    ensures { IsRelianceBlame said.now result }
+{
+    let (low, high) = places_told(&said.shown);
+    Blame {
+        fault: told(&said.fault),
+        bytes: Piece {
+            start: said.fault.offset,
+            length: said.bytes.len(),
+        },
+        low,
+        high,
+        known: 0,
+        lines: 0,
+        mends: number_if(said.mends, 1),
+    }
+}
+
+fn blame_of_pass(reliance: &Option<Reliance<'_>>) -> Blame
+    ensures { IsBlameOfPass reliance.now result }
+{
+    match reliance {
+        Some(reliance) => blame_of_reliance(reliance),
+        None => Blame::NONE,
+    }
+}
+
+/// What is to blame in a file.
+pub(crate) fn blame_of(why: &Why<'_>) -> Blame
+    ensures { TellsBlame why.now result }
+{
+    match why {
+        Judged::NoContent(said) => blame_of_record(said),
+        Judged::Refused(_, said) => blame_of_refusal(said),
+        Judged::Passes(_, said) => blame_of_pass(&said.reliance),
+    }
+}
+
+/// What a file that passes relies on.
+pub(crate) fn passing_in(why: &Why<'_>) -> Passing
+    ensures { TellsPassing why.now result }
+{
+    match why {
+        Judged::Passes(_, said) => passing_of(said),
+        _ => Passing::NONE,
+    }
+}
