@@ -27,6 +27,20 @@ def refused_at_the_beginning():
     }
 
 
+def refused_records():
+    """Drawings whose records are not accepted, for F2 to F4 and F6 to F8, and what is in them all the same."""
+    def changed(place, text, flags=0):
+        whole = drawing(b"\x1b[0m\x1b[2JHi", 2, 1, flags, b"A \x03\\ title")
+        at = len(whole) - RECORD + place
+        return whole[:at] + text + whole[at + len(text):]
+
+    return {
+        "version": changed(5, b"01", 0x0b), "type": changed(94, b"\x02\x00", 0x15), "comment": changed(104, b"\x01"),
+        "wide": changed(96, b"\x01\x04"), "high": changed(98, b"\x01\x20"),
+        "behind": drawing(b"Hi\x1athere", 2, 1, 0x11, b"behind"),
+    }
+
+
 def make_drawings(folder):
     """Drawings for what no sample shows: all characters, all attributes, both meanings of bit 7, texts with marks."""
     printed = [byte for byte in range(256) if byte not in (0x07, 0x08, 0x09, 0x0a, 0x0d, 0x1a, 0x1b)]
@@ -42,7 +56,7 @@ def make_drawings(folder):
         "early": drawing(b"\r\n" * 3 + b"Hi", 2, 2),
         "comments": drawing(b"\x1b[2JHi\x1b[Mx", 2, 1, 0, b"", (b"one", b"two")),
         "name <b>&": drawing(b"\x1b[0m\x1b[2JHi", 2, 1),
-        **refused_at_the_beginning(),
+        **refused_at_the_beginning(), **refused_records(),
     }
     for name, file in made.items():
         (folder / f"{name}.ans").write_bytes(file)
