@@ -66,7 +66,8 @@ def sources_beside(module):
 
 def page_stamp(module=MODULE):
     """The stamp of what the page is made from with this module."""
-    paths = {HERE / "make.py", HERE / "modules.py", *SOURCES.iterdir(), *modules_of(SCRIPT), *modules_of(WORKER), *TEXTS}
+    modules = {*modules_of(SCRIPT), *modules_of(WORKER)}
+    paths = {HERE / "make.py", HERE / "modules.py", *SOURCES.iterdir(), *modules, *TEXTS}
     files = [(path.relative_to(TOP).as_posix(), path.read_bytes()) for path in paths]
     built = sources_beside(module)
     crates = built.read_bytes() if built.exists() else b""

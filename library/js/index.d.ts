@@ -1,7 +1,9 @@
 /** A file, or a module's bytes. A `Buffer` of Node is a `Uint8Array`. */
 export type Bytes = Uint8Array | ArrayBuffer;
 
-/** A part of the start: what the screen, the cursor, the saved cursor, the colours and wrap are when the drawing begins. */
+/**
+ * A part of the start: what the screen, the cursor, the saved cursor, the colours and wrap are when the drawing begins.
+ */
 export type Part = "screen" | "cursor" | "saved" | "colours" | "wrap";
 
 /** What is known of the start: nothing, all of it, or these parts. What is known is as on a cleared screen. */
@@ -102,11 +104,16 @@ export interface Row {
   onEveryPlayer: Part[] | null;
   /** Of a pass whether it shows the same picture on every taller screen too. */
   taller: boolean | null;
-  /** The fault of a refusal; or the one that a pass has where nothing is known of the start, if it relies on something. */
+  /**
+   * The fault of a refusal; or the one that a pass has where nothing is known of the start, if it relies on something.
+   */
   fault: Fault | null;
   /** The bytes to blame, and none for F1 to F8 and F25. */
   bytes: Piece | null;
-  /** Where the cursor stands before the fault: of a refusal from the cleared start; of a pass if it began at the top left. */
+  /**
+   * Where the cursor stands before the fault: of a refusal from the cleared start; of a pass if it began at the top
+   * left.
+   */
   low: Place | null;
   /** The same of a refusal; of a pass if it began at the bottom right. */
   high: Place | null;
@@ -178,14 +185,16 @@ export interface Checker {
   record(file: Bytes): Text | TooLong;
   /** A file mended as `anscheck mend` does it, so that it passes from every start. */
   mend(file: Bytes, options?: MendOptions): Made | NotMade | TooLong;
-  /** The picture from the cleared start written anew, as `anscheck redraw` does it, so that it shows from every start. */
+  /**
+   * The picture from the cleared start written anew, as `anscheck redraw` does it, so that it shows from every start.
+   */
   redraw(file: Bytes): Made | NotMade | TooLong;
   /** The version of the checker, as "0.2.0". */
   version(): string;
 }
 
 /**
- * Makes a checker, of the bytes of `anscheck.wasm` or of the `WebAssembly.Module` that was compiled of them. Where none is
- * given they are read from beside the package's sources, in browsers by `fetch`.
+ * Makes a checker, of the bytes of `anscheck.wasm` or of the `WebAssembly.Module` that was compiled of them. Where none
+ * is given they are read from beside the package's sources, in browsers by `fetch`.
  */
 export function load(module?: Bytes | object): Promise<Checker>;

@@ -119,8 +119,8 @@ function recordIn(structure, bytesAt) {
 }
 
 /**
- * What the bytes of the structure say. `bytesAt` gives the file's bytes of a piece, and `faultText` the text of a fault by
- * its number.
+ * What the bytes of the structure say. `bytesAt` gives the file's bytes of a piece, and `faultText` the text of a fault
+ * by its number.
  */
 function rowFrom(bytes, isPass, bytesAt, faultText) {
   const structure = new Structure(bytes);

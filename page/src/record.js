@@ -12,8 +12,8 @@ function fieldLines(record) {
 
 /** What is said of the record before its lines, or "". */
 function recordNote({ record, row }) {
-  if (record !== "") return "";
-  return row?.record ? `It is not accepted: ${row.fault.text}. What stands in it:` : "There is none.";
+  if (record !== "" || !row) return "";
+  return row.record ? `It is not accepted: ${row.fault.text}. What stands in it:` : "There is none.";
 }
 
 /** The lines of the record, accepted or not. */

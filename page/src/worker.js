@@ -89,7 +89,7 @@ function pictureOf(file, lines) {
 /** A picture with what it is, if there is one. */
 const withWords = (picture, words) => picture && { ...picture, ...words };
 
-/** What the checker says of a file. Of one that is looked at these are also the lines of the program, and its picture. */
+/** What the checker says of a file. Of one that is looked at these are also the program's lines, and its picture. */
 function study(file, isLookedAt) {
   checker.open(file);
   const { answer, row } = checker.row();

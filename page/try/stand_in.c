@@ -1,5 +1,5 @@
 /* A stand-in for the checker's module, behind the exports that the page calls. A file that begins with "never ends" or
- * "traps" does so, and each other one has no record. Pointers and lengths are 64-bit numbers, as those of the module. */
+ * "traps" does so, and each other one has no record. Pointers and lengths are 64-bit numbers, as the module's are. */
 #include <stdint.h>
 
 enum { REFUSED = 1, WORDS_OF_A_ROW = 64, FAULT_IN_A_ROW = 4 };
