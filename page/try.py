@@ -1,46 +1,48 @@
 #!/usr/bin/env python3
 """Tries the page in Chromium and Firefox beside the command line program.
 
-    python3 page/try.py PROGRAM [--page PAGE] [--stand-in HEADER] [--pictures FOLDER] [--browser NAME] [DRAWING ..]
+    python3 page/try.py PROGRAM [--page PAGE] [--stand-in] [--pictures FOLDER] [--browser NAME] [DRAWING ..]
 
 PROGRAM is the built `anscheck`. Each drawing of conformance/ and crates/anscheck/data, and each that is named, is given
-to the page. Compared are the lines of why, the record, what is changed to mend it, the redrawn file with what is said of
-it, the cells of the picture, its text, and the colours that are painted: `N drawings, 0 differ`. Then come mending with
-its boxes, redrawing, the table, the keyboard, touch, files that cannot be read or take too long, and a browser that is
-too old. The status is 1 where something differs.
+to the page. Compared are the lines of why, the text on the fault, the record, what is changed to mend it, the redrawn
+file with what is said of it, the cells of the picture, its text, and the colours that are painted: `N drawings,
+0 differ`. Then come mending with its boxes, redrawing, the table with its filter, the keyboard, names that hide
+something, touch, files that cannot be read or take too long, and a browser that is too old. The status is 1 where
+something differs.
 
-PAGE is page/check.html where it is not named. With --stand-in no module is needed but `clang` and `lld` for wasm64, and
-`wasm-opt`: the page is made anew with one that has the stored answers of PROGRAM. HEADER is the folder of ans.h. With
---pictures pictures of the page are written to FOLDER: light, dark, and 360 points wide.
+PAGE is page/check.html where it is not named. With --stand-in the page is tried too with a module that stops or never
+ends, which needs `clang` and `lld` for wasm32. With --pictures pictures of the page are written to FOLDER: light, dark,
+and 360 points wide.
 """
 import argparse
-import csv
 import pathlib
 import shutil
-import struct
 import subprocess
 import sys
 import tempfile
-import time
-import unicodedata
 
 HERE = pathlib.Path(__file__).resolve().parent
 TOP = HERE.parent
 sys.path.insert(0, str(HERE / "try"))
+sys.dont_write_bytecode = True
 
 import browsers  # noqa: E402
 import stand_in  # noqa: E402
+from drawings import HIDDEN, NEAR, hostile_contents, largest, make_drawings  # noqa: E402
+from driving import Tries, column, saved, saved_names, show  # noqa: E402
+from expected import expected, made, name_shown, picture_of, redrawn_of, rows_of  # noqa: E402
+from painted import BLINKS, PAINTED, looks_as  # noqa: E402
+from tables import try_filter, try_many, try_steps, try_table  # noqa: E402
 
 BROWSERS = {"chromium": browsers.Chromium, "firefox": browsers.Firefox}
 DATA = TOP / "crates" / "anscheck" / "data"
-COLOURS = [0x000000, 0x0000aa, 0x00aa00, 0x00aaaa, 0xaa0000, 0xaa00aa, 0xaa5500, 0xaaaaaa,
-           0x555555, 0x5555ff, 0x55ff55, 0x55ffff, 0xff5555, 0xff55ff, 0xffff55, 0xffffff]
 LONGEST_PAUSE = 1000
-SHADES = {0xb0: 32, 0xb1: 64, 0xb2: 96}
 
 SHOWN = """({
   why: [...element("why").children].map((line) => line.textContent + "\\n").join(""),
-  record: [...element("record").children].map((line) => line.textContent + "\\n").join(""),
+  record: [element("record-note").textContent, ...[...element("record").children].map((line) => line.textContent)],
+  advice: element("advice").hidden ? [] : [element("meaning"), element("mend")].filter(({ hidden }) => !hidden)
+    .map(({ textContent }) => textContent),
   changes: [...element("changes").children].map((line) => line.textContent + "\\n").join(""),
   redrawn: element("redraw-part").hidden ? null : {
     file: [...redrawing.bytes],
@@ -49,191 +51,23 @@ SHOWN = """({
   },
   picture: element("picture-part").hidden ? null : {
     columns: pictureView.picture.columns, lines: pictureView.picture.lines,
-    upTo: pictureView.picture.upTo, moreLines: pictureView.picture.moreLines,
+    upTo: pictureView.picture.upTo, moreLines: pictureView.picture.moreLines, without: pictureView.picture.without,
+    isBright: pictureView.picture.brightBackgrounds,
     cells: [...pictureView.picture.glyphs].map((glyph, cell) => [glyph, pictureView.picture.attributes[cell]]),
     text: pictureView.rowsAsText(pictureView.picture.lines),
   },
 })"""
 
-# In how many ways a cell in the second row is painted within a second and a half.
-BLINKS = """(async () => {
-  const seen = new Set();
-  const copy = new OffscreenCanvas(8, 16).getContext("2d", { willReadFrequently: true });
-  pictureView.setZoom("1");
-  pictureView.setBlinking(true);
-  for (let time = 0; time < 15; time++) {
-    copy.drawImage(pictureView.canvas, -160, -16);
-    seen.add(copy.getImageData(0, 0, 8, 16).data.join());
-    await new Promise((done) => setTimeout(done, 100));
-  }
-  pictureView.setBlinking(false);
-  return seen.size;
+
+# Under which name the page saves the mended drawing. Browsers may leave out what hides in it.
+SAVED_NAME = """(() => {
+  const { click } = HTMLAnchorElement.prototype;
+  let name;
+  HTMLAnchorElement.prototype.click = function () { name = this.download; };
+  element("save-mended").click();
+  HTMLAnchorElement.prototype.click = click;
+  return name;
 })()"""
-
-# Of each cell all dots, as numbers of its colours.
-PAINTED = """(() => {
-  element("zoom").value = "1";
-  element("zoom").dispatchEvent(new Event("change"));
-  const { picture, canvas, view } = pictureView;
-  pictureView.marks = [];
-  pictureView.layOut();
-  const copy = new OffscreenCanvas(canvas.width, canvas.height);
-  const context = copy.getContext("2d", { willReadFrequently: true });
-  const cells = [];
-  for (let row = 0; row < picture.lines; row++) {
-    view.scrollTop = row * 16;
-    pictureView.paint();
-    context.drawImage(canvas, 0, 0);
-    const dots = context.getImageData(0, row * 16 - Math.round(view.scrollTop), canvas.width, 16).data;
-    for (let column = 0; column < Math.min(picture.columns, canvas.width >> 3); column++) {
-      const colours = [];
-      const numbers = [];
-      for (let dot = 0; dot < 128; dot++) {
-        const at = 4 * ((dot >> 3) * canvas.width + column * 8 + (dot & 7));
-        const colour = dots[at] << 16 | dots[at + 1] << 8 | dots[at + 2];
-        if (!colours.includes(colour)) colours.push(colour);
-        numbers.push(colours.indexOf(colour));
-      }
-      cells.push([colours, numbers]);
-    }
-  }
-  return cells;
-})()"""
-
-
-class Tries:
-    """What was tried, and what differs."""
-
-    def __init__(self, name):
-        self.name = name
-        self.differences = 0
-
-    def want(self, what, told, expected=True):
-        """Compares, and prints a difference."""
-        if told == expected:
-            return True
-        self.differences += 1
-        print(f"{self.name}: {what}: {str(told)[:300]!r}, expected {str(expected)[:300]!r}")
-        return False
-
-
-def said(program, words, path):
-    """What the program prints, and its status."""
-    run = subprocess.run([program, *words, path], capture_output=True, check=False)
-    return run.stdout.decode(), run.returncode
-
-
-def expected(program, path):
-    """What the program says of a drawing, in the form of SHOWN."""
-    record, record_status = said(program, ["sauce"], path)
-    mended, changes = stand_in.mended(program, path)
-    told = {"why": said(program, ["why"], path)[0], "record": "none that is accepted\n" if record_status else record,
-            "changes": changes.decode()}
-    told["redrawn"] = redrawn(program, path)
-    report, change = said(program, ["check", "--cleared", "--cells"], path)[0], {}
-    if "verdict: refused" in report and "size: " in report:
-        file, change = stand_in.changed(path.read_bytes(), told["why"], stand_in.fault_in(report)[3])
-        with tempfile.NamedTemporaryFile(suffix=".ans") as copy:
-            copy.write(file)
-            copy.flush()
-            report = said(program, ["check", "--cleared", "--cells"], copy.name)[0]
-    told["picture"] = picture_in(report, change)
-    if told["picture"] is None and mended is not None:
-        told["picture"], told["redrawn"] = picture_of(program, mended), redrawn_of(program, mended)
-    return told
-
-
-def redrawn(program, path):
-    """The file redrawn, or nothing; what is said of it, and how long it is and was."""
-    file, changes = stand_in.redrawn(program, path)
-    if file is None:
-        return None
-    lengths = f"{len(file):,} bytes, {pathlib.Path(path).stat().st_size:,} before."
-    return {"file": list(file), "changes": changes.decode(), "lengths": lengths}
-
-
-def redrawn_of(program, file):
-    """What comes of a file that is redrawn, which is on no disk."""
-    with tempfile.NamedTemporaryFile(suffix=".ans") as copy:
-        copy.write(file)
-        copy.flush()
-        return redrawn(program, copy.name)
-
-
-def picture_of(program, file):
-    """The picture of a file that passes from every start."""
-    with tempfile.NamedTemporaryFile(suffix=".ans") as copy:
-        copy.write(file)
-        copy.flush()
-        return picture_in(said(program, ["check", "--cells"], copy.name)[0], {})
-
-
-def picture_in(report, change):
-    """The picture of a report."""
-    if "verdict: pass\n" not in report:
-        return None
-    columns, lines = map(int, report.partition("size: ")[2].partition("\n")[0].split(" x "))
-    data = stand_in.cells_in(report)
-    cells = [list(data[at:at + 2]) for at in range(0, len(data), 2)]
-    return {"columns": columns, "lines": lines, "cells": cells,
-            "text": report.partition("picture:\n")[2].partition("\ncells:\n")[0], **change}
-
-
-def block_dots(glyph):
-    """Which dots of a blank or a block are covered, row by row; or nothing for other characters."""
-    parts = {0xdb: (0, 0, 8, 16), 0xdc: (0, 8, 8, 16), 0xdd: (0, 0, 4, 16), 0xde: (4, 0, 8, 16), 0xdf: (0, 0, 8, 8)}
-    left, top, right, bottom = parts.get(glyph, (0, 0, 0, 0))
-    if glyph not in parts and glyph not in (0x00, 0x20, 0xff):
-        return None
-    return [left <= x < right and top <= y < bottom for y in range(16) for x in range(8)]
-
-
-def box_strands(glyph):
-    """How many strands of a box line reach each edge, by the name of its character."""
-    name = unicodedata.name(bytes([glyph]).decode("cp437")) if glyph > 0x7f else ""
-    if not name.startswith("BOX DRAWINGS "):
-        return None
-    words = name.split()[2:]
-    weights = {"LIGHT": 1, "SINGLE": 1, "DOUBLE": 2}
-    edges = {"UP": "t", "DOWN": "b", "LEFT": "l", "RIGHT": "r", "VERTICAL": "tb", "HORIZONTAL": "lr"}
-    strands = dict.fromkeys("tblr", 0)
-    for part in " ".join(words).split(" AND "):
-        direction, weight = (next((w for w in part.split() if w in table), None) for table in (edges, weights))
-        for edge in edges[direction]:
-            strands[edge] = weights[weight or words[0]]
-    return strands
-
-
-def edge_dots(covered):
-    """How many covered dots lie at each edge."""
-    rows = [covered[8 * y:8 * y + 8] for y in range(16)]
-    return {"t": sum(rows[0]), "b": sum(rows[15]), "l": sum(row[0] for row in rows), "r": sum(row[7] for row in rows)}
-
-
-def looks_as(cell, painted, is_bright):
-    """Whether the dots of a cell are those of its byte and its attribute."""
-    glyph, attribute = cell
-    colours, numbers = painted
-    background = COLOURS[attribute >> 4 & (15 if is_bright else 7)]
-    foreground = COLOURS[attribute & 15]
-    dots = [colours[number] for number in numbers]
-    if foreground == background:
-        return set(dots) == {background}
-    covered = [dot == foreground for dot in dots]
-    if block_dots(glyph) is not None:
-        return covered == block_dots(glyph) and set(dots) <= {foreground, background}
-    if glyph in SHADES:
-        return sum(covered) == SHADES[glyph] and set(dots) == {foreground, background}
-    if box_strands(glyph):
-        return edge_dots(covered) == box_strands(glyph) and set(dots) == {foreground, background}
-    return background in dots and len(colours) > 1
-
-
-def show(browser, paths, input_name="files"):
-    """Gives drawings to the page, and waits until it is done."""
-    browser.value("(element('name').textContent = '', element('status').textContent = '')")
-    browser.choose(input_name, paths)
-    browser.wait("busy === 0 && element('status').textContent !== ''")
 
 
 def compare(browser, tries, program, paths):
@@ -243,14 +77,14 @@ def compare(browser, tries, program, paths):
         show(browser, [path])
         shown, wanted = browser.value(SHOWN), expected(program, path)
         same = tries.want(f"{path.name}: name", browser.value("element('name').textContent"), path.name)
-        for key in ("why", "record", "changes", "redrawn"):
+        for key in ("why", "advice", "record", "changes", "redrawn"):
             same &= tries.want(f"{path.name}: {key}", shown[key], wanted[key])
         trimmed = [None if each is None else {**each, "text": [row.rstrip() for row in each["text"].split("\n")]}
                    for each in (shown["picture"], wanted["picture"])]
         same &= tries.want(f"{path.name}: picture", *trimmed)
         if same and shown["picture"]:
             painted = browser.value(PAINTED)
-            is_bright = int(shown["record"].partition("flags: ")[2][:2], 16) % 2 == 1
+            is_bright = shown["picture"]["isBright"]
             wrong = [number for number, (cell, dots) in enumerate(zip(shown["picture"]["cells"], painted))
                      if not looks_as(cell, dots, is_bright)]
             same &= tries.want(f"{path.name}: cells whose colours differ", [
@@ -260,55 +94,10 @@ def compare(browser, tries, program, paths):
     print(f"{tries.name}: {len(paths)} drawings, {different} differ")
 
 
-def column(browser, key):
-    """A column of the table as it stands."""
-    return browser.value(f"[...document.querySelectorAll('tbody [data-key={key}]')].map((cell) => cell.textContent)")
-
-
-def try_table(browser, tries, program, paths):
-    """Many drawings: the rows, their order, the CSV, and a drawing that is chosen by the keyboard."""
-    show(browser, paths)
-    tries.want("rows", len(column(browser, "name")), len(paths))
-    wanted = {path.name: said(program, ["check", "--cleared"], path)[1] for path in paths}
-    verdicts = dict(zip(column(browser, "name"), column(browser, "verdict")))
-    tries.want("verdicts", verdicts, {name: "refused" if status else "pass" for name, status in wanted.items()})
-    for key in ("name", "verdict"):
-        browser.value(f"document.querySelector('thead [data-key={key}] button').focus()")
-        browser.press("Enter")
-        tries.want(f"sorted by {key}", column(browser, key), sorted(column(browser, key)))
-        order = browser.value(f"document.querySelector('thead [data-key={key}]').ariaSort")
-        tries.want("aria-sort", order, "ascending")
-        browser.press("Enter")
-        tries.want(f"sorted by {key}, downwards", column(browser, key), sorted(column(browser, key), reverse=True))
-    tries.want("a value that would calculate", browser.value("csvValue('=1,\"2')"), "\"'=1,\"\"2\"")
-    first = column(browser, "name")[0]
-    browser.value("document.querySelector('#rows button').focus()")
-    browser.press("Enter")
-    browser.wait("busy === 0 && element('name').textContent !== ''")
-    tries.want("the drawing that was chosen", browser.value("element('name').textContent"), first)
-    tries.want("what has the focus", browser.value("document.activeElement.id"), "name")
-    tries.want("what is saved", saved_names(browser), ["name", *column(browser, "name")])
-
-
-def saved(browser, button, name):
-    """The file of this name that the page saves."""
-    browser.value(f"element('{button}').click()")
-    path, end = browser.downloads / name, time.monotonic() + 20
-    while not (path.exists() and path.stat().st_size) and time.monotonic() < end:
-        time.sleep(0.1)
-    return path
-
-
-def saved_names(browser):
-    """The first column of the CSV that the page saves."""
-    with open(saved(browser, "save", "drawings.csv"), encoding="utf-8-sig", newline="") as file:
-        return [row[0] for row in csv.reader(file)]
-
-
-def try_mending(browser, tries, program, is_stand_in):
+def try_mending(browser, tries, program):
     """A drawing mended by itself and by a box: the file that is saved, the picture, and a number out of range."""
     show(browser, [DATA / "hi.ans"])
-    mended = stand_in.mended(program, DATA / "hi.ans")[0]
+    mended = made(program, "mend", DATA / "hi.ans")[0]
     tries.want("hi.ans: mended", saved(browser, "save-mended", "mended-hi.ans").read_bytes(), mended)
     browser.value("element('show-after').click()")
     picture = picture_of(program, mended)
@@ -318,10 +107,9 @@ def try_mending(browser, tries, program, is_stand_in):
     tries.want("rows.ans: not by itself", browser.value("element('save-mended').disabled"))
     browser.value("document.querySelector('#mend-part [value=\"4\"]').click()")
     browser.wait("busy === 0")
-    if not is_stand_in:
-        run = subprocess.run([program, "mend", "--full-rows", DATA / "rows.ans"], capture_output=True, check=True)
-        tries.want("rows.ans: changes", browser.value(SHOWN)["changes"], run.stderr.decode())
-        tries.want("rows.ans: mended", saved(browser, "save-mended", "mended-rows.ans").read_bytes(), run.stdout)
+    run = subprocess.run([program, "mend", "--full-rows", DATA / "rows.ans"], capture_output=True, check=True)
+    tries.want("rows.ans: changes", browser.value(SHOWN)["changes"], run.stderr.decode())
+    tries.want("rows.ans: mended", saved(browser, "save-mended", "mended-rows.ans").read_bytes(), run.stdout)
     browser.value("(() => { const lines = document.querySelector('#mend-part [name=lines]'); lines.value = '8193'; "
                   "lines.dispatchEvent(new Event('change')); })()")
     tries.want("a number out of range", browser.value("element('mended-sentence').textContent"),
@@ -330,10 +118,10 @@ def try_mending(browser, tries, program, is_stand_in):
 
 
 def try_redrawing(browser, tries, program):
-    """A drawing redrawn as it is and mended: the file that is saved, and what is said. Nothing of one that is refused."""
+    """A drawing redrawn as it is and mended: the file that is saved, and what is said. One that is refused is not."""
     text = lambda part: browser.value(f"element('{part}').textContent")
     show(browser, [DATA / "hi.ans"])
-    file = stand_in.redrawn(program, DATA / "hi.ans")[0]
+    file = made(program, "redraw", DATA / "hi.ans")[0]
     tries.want("hi.ans: redrawn", saved(browser, "save-redrawn", "redrawn-hi.ans").read_bytes(), file)
     sentence = "Redrawn it is the same picture, written so that players show it alike"
     tries.want("hi.ans: how it is redrawn", text("redrawn-sentence"), f"{sentence}: {len(file)} bytes, 131 before.")
@@ -343,7 +131,7 @@ def try_redrawing(browser, tries, program):
     tries.want("hi.ans: players after", text("players-after"), f"Redrawn: {alike}from every start.")
     browser.value("element('show-after').click()")
     browser.wait("busy === 0")
-    mended = redrawn_of(program, stand_in.mended(program, DATA / "hi.ans")[0])
+    mended = redrawn_of(program, made(program, "mend", DATA / "hi.ans")[0])
     tries.want("hi.ans: mended and redrawn", browser.value(SHOWN)["redrawn"], mended)
     tries.want("hi.ans: players of the mended", text("players-before"), f"Mended: {alike}from every start.")
     show(browser, [DATA / "rows.ans"])
@@ -351,61 +139,85 @@ def try_redrawing(browser, tries, program):
         "element('redraw-part').hidden && element('save-redrawn').hidden"))
 
 
-def try_bad_files(browser, tries, folder, is_stand_in):
-    """Files that are no drawings, and answers that do not come."""
-    empty, long = folder / "empty.ans", folder / "long.ans"
-    empty.write_bytes(b"")
-    with open(long, "wb") as file:
+def try_long(browser, tries, folder):
+    """A file that is too long."""
+    path = folder / "long.ans"
+    with open(path, "wb") as file:
         file.truncate((1 << 24) + 1)
-    show(browser, [long])
+    show(browser, [path])
     tries.want("too long", browser.value("element('verdict').textContent"),
                "It is longer than 16,777,216 bytes, and was not checked.")
-    if not is_stand_in:
-        return
+
+
+def try_stopped(kind, tries, folder):
+    """Answers that do not come, of a page with a stand-in for the module."""
+    page = folder / "check.html"
+    subprocess.run([sys.executable, HERE / "make.py", stand_in.build(folder), page], check=True)
     (folder / "traps.ans").write_bytes(b"traps")
     (folder / "never.ans").write_bytes(b"never ends")
-    show(browser, [folder / "traps.ans"])
-    tries.want("a trap", "started anew" in browser.value("element('verdict').textContent"))
-    browser.value("checks.longestWait = 1000")
-    show(browser, [folder / "never.ans"])
-    tries.want("no answer", "in time" in browser.value("element('verdict').textContent"))
-    browser.value("checks.longestWait = LONGEST_WAIT")
-    browser.choose("files", [folder / "never.ans"])
-    browser.wait("!element('stop').hidden")
-    browser.value("element('stop').click()")
-    browser.wait("busy === 0")
-    tries.want("what was stopped", browser.value("element('verdict').textContent"), "The check was ended.")
-    show(browser, [DATA / "hi.ans"])
-    tries.want("the next one", browser.value("element('verdict').dataset.answer"), "pass")
+    browser = kind()
+    verdict = lambda: browser.value("element('verdict').textContent")
+    try:
+        browser.open(page.as_uri())
+        show(browser, [folder / "traps.ans"])
+        tries.want("a trap", "started anew" in verdict())
+        browser.value("checks.longestWait = 1000")
+        show(browser, [folder / "never.ans"])
+        tries.want("no answer", "in time" in verdict())
+        browser.value("checks.longestWait = LONGEST_WAIT")
+        browser.choose("files", [folder / "never.ans"])
+        browser.wait("!element('stop').hidden")
+        browser.value("element('stop').click()")
+        browser.wait("busy === 0")
+        tries.want("what was stopped", verdict(), "The check was ended.")
+        show(browser, [DATA / "hi.ans"])
+        tries.want("the next one", verdict(), "Refused at byte 0: F1 no SAUCE record.")
+        show(browser, [DATA / "hi.ans", folder / "traps.ans"])
+        tries.want("an answer and none", browser.value("tableFilter.counts"),
+                   {"all": 2, "refused": 1, "relying": 0, "unanswered": 1})
+        browser.value("document.querySelector('[data-filter=unanswered]').click()")
+        tries.want("the one without an answer", column(browser, "name"), ["traps.ans"])
+    finally:
+        browser.close()
 
 
-def drawing(content, columns, lines, flags=0, title=b"", comments=()):
-    """A file with its record."""
-    record = (b"SAUCE00" + title.ljust(35) + b" " * 40 + b"19960101" + struct.pack("<I", len(content)) + b"\x01\x01"
-              + struct.pack("<HHHHBB", columns, lines, 0, 0, len(comments), flags) + bytes(22))
-    block = b"COMNT" + b"".join(each.ljust(64) for each in comments) if comments else b""
-    return content + b"\x1a" + block + record
+def try_notes(browser, tries, folder):
+    """What is said of a picture without the sequences that are taken out, and where its fault is marked."""
+    for name, note in (
+            ("one goes", "Without the sequence at byte 0, on 3 x 1. Marked: row 1, column 1."),
+            ("bright and more", "Without 4 sequences, the first at byte 0, on 8 x 1. Marked: row 1, column 1."),
+            ("more lines", "Without the sequence at byte 0, and with 2 lines. The record states 4 x 1. "
+                           "Marked: row 1, column 1."),
+            ("one stays", "What stands before byte 0, on 2 x 1. Marked: row 1, column 1."),
+            ("blue", "What stands before byte 9, on 2 x 1. Marked: row 1, column 1."),
+            ("no lines", "As it is with 2 lines. The record states none.")):
+        show(browser, [folder / f"{name}.ans"])
+        tries.want(f"{name}: its note", browser.value("element('picture-note').textContent"), note)
 
 
-def make_drawings(folder):
-    """Drawings for what no sample shows: all characters, all attributes, both meanings of bit 7, texts with marks."""
-    printed = [byte for byte in range(256) if byte not in (0x07, 0x08, 0x09, 0x0a, 0x0d, 0x1a, 0x1b)]
-    characters = b"\x1b[0m\x1b[2J" + b"".join(
-        bytes([byte]) + (b"\r\n" if at % 32 == 31 else b"") for at, byte in enumerate(printed))
-    attributes = b"\x1b[0m\x1b[2J" + b"".join(
-        b"\x1b[0;%d;%d%s%sm\xb1\xdc" % (30 + front, 40 + back, b";1" * bright, b";5" * blink)
-        for back in range(8) for blink in (0, 1) for bright in (0, 1) for front in range(8))
-    made = {
-        "characters": drawing(characters, 40, 8),
-        "blink": drawing(attributes, 32, 17), "bright": drawing(attributes, 32, 17, 1),
-        "texts": drawing(b"Hi", 2, 1, 0, b"=1+1, \"<b>&\x03", (b"<script>", b"a comment")),
-        "early": drawing(b"\r\n" * 3 + b"Hi", 2, 2),
-        "comments": drawing(b"\x1b[2JHi\x1b[Mx", 2, 1, 0, b"", (b"one", b"two")),
-        "name <b>&": drawing(b"\x1b[0m\x1b[2JHi", 2, 1),
-    }
-    for name, file in made.items():
-        (folder / f"{name}.ans").write_bytes(file)
-    return [folder / f"{name}.ans" for name in made]
+def try_names(browser, tries, program, folder):
+    """Names with characters that turn the text or hide in it, wherever the page shows a name."""
+    folder = folder / f"names of {browser.name.partition('/')[0]}"
+    folder.mkdir()
+    names = [f"a{HIDDEN}b{NEAR}.ans", "gnp.\u202eans", "plain.ans"]
+    paths = [folder / name for name in names]
+    for path in paths:
+        shutil.copy(DATA / "hi.ans", path)
+    wanted = [name_shown(name) for name in names]
+    tries.want("the names of the table", [row["file"].rpartition("/")[2] for row in rows_of(program, paths)], wanted)
+    show(browser, paths)
+    tries.want("names in the table", sorted(column(browser, "name")), sorted(wanted))
+    tries.want("names that are saved", sorted(saved_names(browser)), sorted(["name", *wanted]))
+    for path, name in zip(paths, wanted):
+        show(browser, [path])
+        tries.want("the name of a drawing", browser.value("element('name').textContent"), name)
+        tries.want("the status", browser.value("element('status').textContent").partition(": ")[0], name)
+        tries.want("the name of the picture", browser.value("element('canvas').ariaLabel").partition(", ")[0],
+                   f"Picture of {name}")
+        shown = browser.value("document.documentElement.outerHTML.replace(/<script[^]*?<\\/script>/g, '')")
+        tries.want(f"{name}: characters that turn or hide", [each for each in HIDDEN[:-3] if each in shown], [])
+    show(browser, [paths[1]])
+    tries.want("the name of the file that is saved", browser.value(SAVED_NAME), f"mended-{names[1]}")
 
 
 def try_blink(browser, tries, folder):
@@ -415,18 +227,9 @@ def try_blink(browser, tries, folder):
         tries.want(f"{name}: how a cell is painted", browser.value(BLINKS), count)
 
 
-def hostile_contents():
-    """Contents of almost the greatest length that make a player work."""
-    room = (1 << 24) - 129
-    for name, part in (("clears", b"\x1b[2J"), ("erases", b"\x1b[K"), ("tabs", b"\r\t"),
-                       ("moves", b"\x1b[255;1HA\x1b[1;1HA"),
-                       ("colours", b"\x1b[0;1;5;33;44m"), ("words", b"\x1b[" + b";" * 15 + b"m"), ("letters", b"A\r")):
-        yield name, b"\x1b[0m\x1b[2J" + part * ((room - 8) // len(part))
-
-
 def try_hostile(browser, tries, folder):
     """Each ends with an answer or a message."""
-    record = stand_in.largest()[-128:]
+    record = largest()[-128:]
     for name, content in hostile_contents():
         path = folder / f"{name}.ans"
         path.write_bytes(content + b"\x1a" + record)
@@ -513,7 +316,7 @@ def take_pictures(kind, address, folder, paths):
             browser.close()
 
 
-def try_in(kind, page, program, paths, is_stand_in, folder):
+def try_in(kind, page, program, paths, folder):
     """All tries in one browser."""
     browser = kind()
     tries = Tries(browser.name)
@@ -521,14 +324,17 @@ def try_in(kind, page, program, paths, is_stand_in, folder):
         browser.look(1000, 900)
         browser.open(page.as_uri())
         compare(browser, tries, program, paths)
-        try_mending(browser, tries, program, is_stand_in)
+        try_mending(browser, tries, program)
         try_redrawing(browser, tries, program)
         try_blink(browser, tries, folder)
-        try_table(browser, tries, program, paths[::9])
-        try_bad_files(browser, tries, folder, is_stand_in)
+        try_notes(browser, tries, folder)
+        try_names(browser, tries, program, folder)
+        rows = try_table(browser, tries, program, paths[::9])
+        try_steps(browser, tries, try_filter(browser, tries, rows))
+        try_many(browser, tries)
+        try_long(browser, tries, folder)
         try_largest(browser, tries, folder / "largest.ans")
-        if not is_stand_in:
-            try_hostile(browser, tries, folder)
+        try_hostile(browser, tries, folder)
         try_touch_and_drop(browser, tries, folder / browser.name.replace("/", "-"))
         tries.want("complaints and requests", browser.complaints(), [])
         asked = browser.value("fetch('data:,').then(() => 'answered', () => 'refused')")
@@ -536,8 +342,7 @@ def try_in(kind, page, program, paths, is_stand_in, folder):
     finally:
         browser.close()
     try_old_browser(kind, tries, page.as_uri())
-    print(f"{tries.name}: {tries.differences} differences")
-    return tries.differences
+    return tries
 
 
 def main():
@@ -545,7 +350,7 @@ def main():
     words = argparse.ArgumentParser(usage=__doc__.partition("\n\n")[2])
     words.add_argument("program")
     words.add_argument("--page", type=pathlib.Path, default=HERE / "check.html")
-    words.add_argument("--stand-in", type=pathlib.Path)
+    words.add_argument("--stand-in", action="store_true")
     words.add_argument("--pictures", type=pathlib.Path)
     words.add_argument("--browser", choices=BROWSERS)
     words.add_argument("drawings", type=pathlib.Path, nargs="*")
@@ -554,13 +359,15 @@ def main():
     kinds = [BROWSERS[given.browser]] if given.browser else list(BROWSERS.values())
     with tempfile.TemporaryDirectory() as name:
         folder, page = pathlib.Path(name), given.page.resolve()
-        (folder / "largest.ans").write_bytes(stand_in.largest())
+        (folder / "largest.ans").write_bytes(largest())
         paths += make_drawings(folder)
-        if given.stand_in:
-            page = folder / "check.html"
-            module = stand_in.build(given.program, paths, given.stand_in, folder)
-            subprocess.run([sys.executable, HERE / "make.py", module, page], check=True)
-        different = sum(try_in(kind, page, given.program, paths, bool(given.stand_in), folder) for kind in kinds)
+        different = 0
+        for kind in kinds:
+            tries = try_in(kind, page, given.program, paths, folder)
+            if given.stand_in:
+                try_stopped(kind, tries, folder)
+            print(f"{tries.name}: {tries.differences} differences")
+            different += tries.differences
         if given.pictures:
             given.pictures.mkdir(parents=True, exist_ok=True)
             for kind in kinds:

@@ -3,18 +3,19 @@
 //     node page/try_module.mjs PROGRAM [DRAWING ..]
 //     node --experimental-wasm-memory64 page/try_module.mjs PROGRAM --before MODULE [DRAWING ..]
 //
-// PROGRAM is the built `anscheck`. The module is the one inside page/check.html, and library/js/calls.js calls it. Of each
-// drawing of conformance/ and crates/anscheck/data, and of each that is named, it must say what PROGRAM says: the lines of
-// why, the record, what is needed, each cell from three classes of starts, the drawing mended in three ways, and the
-// drawing redrawn. A folder stands for the .ans files in it. With --before the same is wanted of the module with 64-bit
-// memory that page/build.sh kept. (Newer versions of Node need no flag for that.) The last line is `N drawings, M differ`,
-// and the status is 1 where one differs.
+// PROGRAM is the built `anscheck`. The module is the one inside page/check.html, and library/js/calls.js calls it. Of
+// each drawing of conformance/ and crates/anscheck/data, and of each that is named, it must say what PROGRAM says: the
+// lines of why, the record, what is needed, the row of its table, each cell from three classes of starts, the drawing
+// mended in three ways, and the drawing redrawn. A folder stands for the .ans files in it. With --before the same is
+// wanted of the module with 64-bit memory that page/build.sh kept. (Newer versions of Node need no flag for that.) The
+// last line is `N drawings, M differ`, and the status is 1 where one differs.
 import { spawnSync } from "node:child_process";
 import { readdirSync, readFileSync, statSync } from "node:fs";
 import { dirname, join } from "node:path";
 import { fileURLToPath } from "node:url";
 import { gunzipSync } from "node:zlib";
 import { Checker } from "../library/js/calls.js";
+import { jsonRow, toldLines, whyLines } from "../library/js/test/rows.js";
 
 const PAGE = dirname(fileURLToPath(import.meta.url));
 const TOP = dirname(PAGE);
@@ -63,6 +64,9 @@ function faultLine(checker, { number, offset, row, column }) {
   return `at ${offset}: ${checker.faultText(number).text}${cell}\n`;
 }
 
+/** A row as text: the members of the table's, in the order of their names, and the lines of why that it tells. */
+const rowText = (members, lines) => JSON.stringify([Object.entries(members).sort(), [...lines].sort()]);
+
 const nameOf = (command, flags) => [command, ...flags].join(" ");
 
 /** A file that is made, if one is, and what is said of it. */
@@ -76,6 +80,8 @@ function saidBy(checker, file) {
     const told = checker.check(known);
     said[nameOf("check", flags)] = told.answer === "pass" ? cellLines(told) : faultLine(checker, told.fault);
   }
+  const { answer, row } = checker.row();
+  said.row = rowText(jsonRow({ verdict: answer, ...row }), whyLines({ verdict: answer, ...row }));
   const needs = checker.needs();
   const names = PART_NAMES.filter((_, part) => (needs.parts >> part) & 1).join(" ") || "nothing";
   said.needs = needs.answer === "pass" ? `needs: ${names}\n` : faultLine(checker, needs.fault);
@@ -97,6 +103,8 @@ function saidByProgram(program, path) {
     const report = printed("check", ...flags, "--cells");
     said[nameOf("check", flags)] = report.split("\ncells:\n")[1] ?? report.split("verdict: refused\n")[1];
   }
+  const { file: _, ...members } = JSON.parse(printed("table", "--json"));
+  said.row = rowText(members, toldLines(said.why));
   said.needs = /(?:needs: |at \d+: F).*\n$/.exec(printed("needs"))[0];
   for (const words of [...MENDS.map(([, flags]) => ["mend", ...flags]), ["redraw"]]) {
     const { status, stdout, stderr } = run(program, [...words, path]);
@@ -105,7 +113,8 @@ function saidByProgram(program, path) {
   return said;
 }
 
-const drawingsIn = (folder) => readdirSync(folder).filter((name) => name.endsWith(".ans")).map((name) => join(folder, name));
+const drawingsIn = (folder) => readdirSync(folder).filter((name) => name.endsWith(".ans"))
+  .map((name) => join(folder, name));
 
 /** The modules that are tried, by name, and the drawings that are named. */
 function given(words) {

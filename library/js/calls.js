@@ -1,16 +1,16 @@
 // The checker's module, as ans.h describes its exports. They take and tell pointers and lengths of 64 bits, as BigInt,
 // whether the module's memory has 32-bit addresses or 64-bit ones. The browser page has this file too.
 
-const PARTS = { screen: 1, cursor: 2, saved: 4, colours: 8, wrap: 16 };
-const CLEARED = 31;
-const LONGEST_FILE = 16777216;
-const CLASSES = { takeOut: 1, lineEnds: 2, fullRows: 4, leastLines: 8 };
+import { CLASSES } from "./numbers.js";
+import { ROW_BYTES, rowFrom } from "./row.js";
+
 const ANSWERS = { 0: "pass", 1: "refused", 3: "too long", 4: "no room", 5: "wrong number" };
 
 const FAULT_BYTES = 24;
-const SIZE_BYTES = 32;
+const SIZE_BYTES = 24;
 const LENGTH_BYTES = 8;
-const ROW_BYTES = 24;
+const SCREEN_ROW_BYTES = 24;
+const BYTES_OF_A_COLUMN = 4;
 const ALIGNMENT = 16;
 const MEMORY_PAGE = 65536;
 const FIRST_TEXT_ROOM = 65536;
@@ -35,9 +35,15 @@ class Checker {
     this.file = this.array(file.length);
     this.bytesOf(this.file).set(file);
     this.sizeAnswer = this.exports.ans_size(...this.file, this.sizes, this.fault);
-    const size = this.sizeAnswer === 0 ? this.readSize() : { columns: 0, lines: 0, rows: 0, bytes: 0, cells: 0 };
-    this.pictureSize = size;
-    this.screen = [this.take(size.rows * ROW_BYTES), BigInt(size.rows), ...this.array(size.bytes)];
+    this.pictureSize = this.sizeAnswer === 0 ? this.readSize() : { columns: 0, lines: 0, cells: 0 };
+    const { columns, lines } = this.pictureSize;
+    const rows = this.sizeAnswer === 0 ? lines + 1 : 0;
+    this.screen = this.screenOf(rows, BYTES_OF_A_COLUMN * columns * rows);
+  }
+
+  /** What a screen wants: records of so many rows, and so many bytes. */
+  screenOf(rows, bytes) {
+    return [this.take(rows * SCREEN_ROW_BYTES), BigInt(rows), ...this.array(bytes)];
   }
 
   /** The size of the picture, or why there is none. */
@@ -51,7 +57,7 @@ class Checker {
       const { columns, lines, cells } = this.pictureSize;
       const glyphs = this.array(cells);
       const attributes = this.array(cells);
-      const code = this.exports.ans_check(...this.file, known, ...this.screen, ...glyphs, ...attributes, this.fault);
+      const code = this.exports.ans_check_on(...this.file, known, ...this.screen, ...glyphs, ...attributes, this.fault);
       return this.answered(code, () => (
         { columns, lines, glyphs: this.bytesOf(glyphs).slice(), attributes: this.bytesOf(attributes).slice() }));
     });
@@ -61,13 +67,24 @@ class Checker {
   needs() {
     return this.borrowing(() => {
       const parts = this.take(LENGTH_BYTES);
-      const code = this.exports.ans_needs(...this.file, ...this.screen, parts, this.fault);
+      const code = this.exports.ans_needs_on(...this.file, ...this.screen, parts, this.fault);
       return this.answered(code, () => ({ parts: this.view().getUint32(Number(parts), true) }));
     });
   }
 
+  /** What is known of the file, in numbers and words: `row` is there whether it passes or is refused. */
+  row() {
+    return this.borrowing(() => {
+      const told = this.array(ROW_BYTES);
+      const answer = ANSWERS[this.exports.ans_row_on(...this.file, ...this.screen, told[0])];
+      if (answer !== "pass" && answer !== "refused") return { answer };
+      return { answer, row: rowFrom(this.bytesOf(told).slice(), answer === "pass",
+        (piece) => this.bytesAt(piece), (number) => this.faultText(number).text) };
+    });
+  }
+
   why() {
-    return this.text("ans_why", [...this.file, ...this.screen]);
+    return this.text("ans_why_on", [...this.file, ...this.screen]);
   }
 
   record() {
@@ -81,14 +98,14 @@ class Checker {
   mend(classes, width, lines) {
     return this.borrowing(() => {
       const room = this.mendingRoom(classes);
-      const screen = [this.take(MOST_ROWS * ROW_BYTES), BigInt(MOST_ROWS), ...this.array(MOST_BYTES)];
+      const screen = this.screenOf(MOST_ROWS, MOST_BYTES);
       const draft = this.array(room);
       const mended = this.array(room);
       const text = this.array(FIRST_TEXT_ROOM);
       const size = this.take(LENGTH_BYTES);
-      const answer = ANSWERS[this.exports.ans_mend(
+      const answer = ANSWERS[this.exports.ans_mend_on(
         ...this.file, classes, width, lines, ...screen, ...draft, ...mended, size, ...text, this.length)];
-      if (answer === "no room") throw new Error("ans_mend has too little room");
+      if (answer === "no room") throw new Error("ans_mend_on has too little room");
       const changes = new TextDecoder().decode(this.bytesOf(text).subarray(0, this.numberAt(this.length)));
       const bytes = answer === "pass" ? this.bytesOf(mended).slice(0, this.numberAt(size)) : null;
       return { answer, changes, bytes };
@@ -106,7 +123,7 @@ class Checker {
   redraw() {
     const asked = this.redrawIn(0);
     const told = asked.answer === "no room" ? this.redrawIn(asked.size) : asked;
-    if (told.answer === "no room") throw new Error("ans_redraw has too little room");
+    if (told.answer === "no room") throw new Error("ans_redraw_on has too little room");
     return told;
   }
 
@@ -115,7 +132,7 @@ class Checker {
       const redrawn = this.array(room);
       const text = this.array(FIRST_TEXT_ROOM);
       const count = this.take(LENGTH_BYTES);
-      const answer = ANSWERS[this.exports.ans_redraw(
+      const answer = ANSWERS[this.exports.ans_redraw_on(
         ...this.file, ...this.screen, ...redrawn, count, ...text, this.length)];
       const size = this.numberAt(count);
       const changes = new TextDecoder().decode(this.bytesOf(text).subarray(0, this.numberAt(this.length)));
@@ -124,15 +141,15 @@ class Checker {
   }
 
   faultText(number) {
-    return this.text("ans_fault_text", [number]);
+    return this.text("ans_copy_fault_text", [number]);
   }
 
   noteText(number) {
-    return this.text("ans_note_text", [number]);
+    return this.text("ans_copy_note_text", [number]);
   }
 
   version() {
-    return this.text("ans_version", []);
+    return this.text("ans_copy_version", []);
   }
 
   /** What an export writes as text. A second call has the room that the first one asks for. */
@@ -172,13 +189,10 @@ class Checker {
 
   readSize() {
     const view = new DataView(this.exports.memory.buffer, Number(this.sizes), SIZE_BYTES);
-    const wide = (at) => Number(view.getBigUint64(at, true));
     return {
       columns: view.getUint32(0, true),
       lines: view.getUint32(4, true),
-      rows: wide(8),
-      bytes: wide(16),
-      cells: wide(24),
+      cells: Number(view.getBigUint64(8, true)),
     };
   }
 
@@ -210,6 +224,11 @@ class Checker {
     this.exports.memory.grow(pages);
   }
 
+  /** The bytes of a piece of the file. */
+  bytesAt({ start, length }) {
+    return this.bytesOf(this.file).slice(start, start + length);
+  }
+
   bytesOf([at, length]) {
     return new Uint8Array(this.exports.memory.buffer, Number(at), Number(length));
   }
@@ -224,4 +243,4 @@ class Checker {
   }
 }
 
-export { CLASSES, CLEARED, Checker, LONGEST_FILE, PARTS };
+export { Checker };

@@ -1,7 +1,9 @@
 /** A file, or a module's bytes. A `Buffer` of Node is a `Uint8Array`. */
 export type Bytes = Uint8Array | ArrayBuffer;
 
-/** A part of the start: what the screen, the cursor, the saved cursor, the colours and wrap are when the drawing begins. */
+/**
+ * A part of the start: what the screen, the cursor, the saved cursor, the colours and wrap are when the drawing begins.
+ */
 export type Part = "screen" | "cursor" | "saved" | "colours" | "wrap";
 
 /** What is known of the start: nothing, all of it, or these parts. What is known is as on a cleared screen. */
@@ -51,6 +53,86 @@ export interface Needs {
   needs: Part[];
 }
 
+/** A kind in which players part. docs/PLAYERS.md explains each. */
+export type Kind =
+  | "wrap-at-once" | "line-ends" | "home-on-clear" | "clear-in-colour" | "save-place-only" | "dos-colours"
+  | "tab-prints" | "line-erased" | "wrap-off" | "stops-at-edge" | "page-controls" | "terminal-controls";
+
+/** A place on the screen, counted from 1. */
+export interface Place {
+  row: number;
+  column: number;
+}
+
+/** So many bytes of the file, from this offset on. */
+export interface Piece {
+  start: number;
+  length: number;
+}
+
+/** What the last 128 bytes of a file say, where they are a record. Texts are shown by characters of code page 437. */
+export interface RecordFields {
+  title: string;
+  author: string;
+  group: string;
+  /** Mostly eight digits: year, month and day. */
+  date: string;
+  /** The stated columns; a width of 0 is told as 80. */
+  width: number;
+  /** The stated lines, and 0 where none are. */
+  lines: number;
+  /** The byte of the flags (TFlags). */
+  flags: number;
+  /** Whether bit 7 of an attribute is a bright background, and not blink: the flag non-blink. */
+  ice: boolean;
+  /** Letters of 8 or of 9 pixels; null where the flags do not say. */
+  spacing: 8 | 9 | null;
+  /** Pixels to be stretched, or square ones; null where the flags do not say. */
+  aspect: "stretch" | "square" | null;
+  font: string;
+}
+
+/** What is known of a file. What there is not is null. */
+export interface Row {
+  /** From the cleared start. */
+  verdict: "pass" | "refused";
+  /** Of a pass the parts of the start that it relies on. */
+  needs: Part[] | null;
+  /** Of a pass the kinds in which players part that it makes use of; none of them: `players: any`. */
+  players: Kind[] | null;
+  /** Where there are none, the parts that have to be known for every player to show the same. */
+  onEveryPlayer: Part[] | null;
+  /** Of a pass whether it shows the same picture on every taller screen too. */
+  taller: boolean | null;
+  /**
+   * The fault of a refusal; or the one that a pass has where nothing is known of the start, if it relies on something.
+   */
+  fault: Fault | null;
+  /** The bytes to blame, and none for F1 to F8 and F25. */
+  bytes: Piece | null;
+  /**
+   * Where the cursor stands before the fault: of a refusal from the cleared start; of a pass if it began at the top
+   * left.
+   */
+  low: Place | null;
+  /** The same of a refusal; of a pass if it began at the bottom right. */
+  high: Place | null;
+  /** What the bytes to blame, or those behind the end mark, are known as: "ANSI music" and the like. */
+  known: string | null;
+  /** Of F5 and F19 to F21 the least number of lines with which the file passes from the cleared start. */
+  lines: number | null;
+  /** Whether a pass that relies on something is mended by the beginning that `why` names, since the file has room. */
+  mends: boolean;
+  /** How many bytes the content has, where the record and the layout are accepted. */
+  content: number | null;
+  /** The comments, where the record and the layout are accepted. */
+  comments: string[];
+  /** The notes on the record, 3 for N3, where the record and the layout are accepted. */
+  notes: number[];
+  /** The record, accepted or not. */
+  record: RecordFields | null;
+}
+
 /** A verdict, and the lines that the program prints, each ended by a line feed. */
 export interface Text {
   verdict: "pass" | "refused";
@@ -95,20 +177,24 @@ export interface Checker {
   check(file: Bytes, start?: Start): Picture | Refused | TooLong;
   /** The parts of the start that a file relies on, or why it does not pass even from the cleared start. */
   needs(file: Bytes): Needs | Refused | TooLong;
+  /** What `anscheck why` and `anscheck table` say of a file, in numbers and words. */
+  row(file: Bytes): Row | TooLong;
   /** What `anscheck why` prints: where and why a file is refused, or what it relies on and how it is mended. */
   why(file: Bytes): Text | TooLong;
   /** What `anscheck sauce` prints: what a file's record says, or why it is refused. */
   record(file: Bytes): Text | TooLong;
   /** A file mended as `anscheck mend` does it, so that it passes from every start. */
   mend(file: Bytes, options?: MendOptions): Made | NotMade | TooLong;
-  /** The picture from the cleared start written anew, as `anscheck redraw` does it, so that it shows from every start. */
+  /**
+   * The picture from the cleared start written anew, as `anscheck redraw` does it, so that it shows from every start.
+   */
   redraw(file: Bytes): Made | NotMade | TooLong;
-  /** The version of the checker, as "0.1.0". */
+  /** The version of the checker, as "0.2.0". */
   version(): string;
 }
 
 /**
- * Makes a checker, of the bytes of `anscheck.wasm` or of the `WebAssembly.Module` that was compiled of them. Where none is
- * given they are read from beside the package's sources, in browsers by `fetch`.
+ * Makes a checker, of the bytes of `anscheck.wasm` or of the `WebAssembly.Module` that was compiled of them. Where none
+ * is given they are read from beside the package's sources, in browsers by `fetch`.
  */
 export function load(module?: Bytes | object): Promise<Checker>;

@@ -1,6 +1,8 @@
 // The proved checker of ANSI art files (.ANS), for JavaScript. README.md says what is proved of it.
 
-import { CLASSES, CLEARED, Checker as Calls, LONGEST_FILE, PARTS } from "./calls.js";
+import { Checker as Calls } from "./calls.js";
+import { CLASSES, CLEARED, LONGEST_FILE, PARTS } from "./numbers.js";
+import { partsIn } from "./row.js";
 
 const MODULE = new URL("anscheck.wasm", import.meta.url);
 const MOST_COLUMNS = 1024;
@@ -22,12 +24,13 @@ export async function load(module) {
 }
 
 /**
- * A checker. Its answers are plain objects of their own: they stay as they are when it checks the next file, and none of
- * them refers to the file that was given.
+ * A checker. Its answers are plain objects of their own: they stay as they are when it checks the next file, and none
+ * of them refers to the file that was given.
  *
  * A file is a `Uint8Array` (such as a `Buffer`) or an `ArrayBuffer`, and is not changed. Of a file with more than
- * 16,777,216 bytes each answer is `{ verdict: "too long" }`. An offset is in bytes from the file's start, the first being
- * 0; a row and a column are counted from 1. Where there is no memory for a file, a call throws the engine's `RangeError`.
+ * 16,777,216 bytes each answer is `{ verdict: "too long" }`. An offset is in bytes from the file's start, the first
+ * being 0; a row and a column are counted from 1. Where there is no memory for a file, a call throws the engine's
+ * `RangeError`.
  */
 class Checker {
   #module;
@@ -45,11 +48,11 @@ class Checker {
    * @param {"any" | "cleared" | string[]} [start] what is known of the start: nothing ("any", as without it); all of it
    *   ("cleared"); or these parts: "screen", "cursor", "saved", "colours", "wrap". What is known is as on a cleared
    *   screen.
-   * @returns {object} `{ verdict: "pass", width, lines, glyphs, attributes }`: columns and rows, and for each cell, row by
-   *   row, its byte of code page 437 and its attribute. Of that bits 0 to 3 are the foreground, bits 4 to 6 the background,
-   *   and bit 7 is blink, or a bright background where the record's non-blink flag is set. Or
-   *   `{ verdict: "refused", fault: { number, offset, row, column, text } }`: the fault's number, 25 for F25, its offset,
-   *   the cell of F25 (else null and null), and its number and name as text. Or `{ verdict: "too long" }`.
+   * @returns {object} `{ verdict: "pass", width, lines, glyphs, attributes }`: columns and rows, and for each cell, row
+   *   by row, its byte of code page 437 and its attribute. Of that bits 0 to 3 are the foreground, bits 4 to 6 the
+   *   background, and bit 7 is blink, or a bright background where the record's non-blink flag is set. Or
+   *   `{ verdict: "refused", fault: { number, offset, row, column, text } }`: the fault's number, 25 for F25, its
+   *   offset, the cell of F25 (else null and null), and its number and name as text. Or `{ verdict: "too long" }`.
    * @throws {TypeError} of another start, or of something else than a file.
    */
   check(file, start = "any") {
@@ -62,22 +65,34 @@ class Checker {
    * The parts of the start that a file relies on, as `anscheck needs` says them.
    *
    * @param {Uint8Array | ArrayBuffer} file
-   * @returns {object} `{ verdict: "pass", needs }`: it passes from the cleared start, and exactly where each of these parts
-   *   is known; none of them is there where it shows its picture from every start. Or `refused` with the fault, as of
-   *   `check`: it does not pass even from the cleared start. Or `{ verdict: "too long" }`.
+   * @returns {object} `{ verdict: "pass", needs }`: it passes from the cleared start, and exactly where each of these
+   *   parts is known; none of them is there where it shows its picture from every start. Or `refused` with the fault,
+   *   as of `check`: it does not pass even from the cleared start. Or `{ verdict: "too long" }`.
    * @throws {TypeError} of something else than a file.
    */
   needs(file) {
-    return this.#answer(file, (calls) => told(calls, calls.needs(), ({ parts }) => (
-      { needs: Object.keys(PARTS).filter((name) => parts & PARTS[name]) })));
+    return this.#answer(file, (calls) => told(calls, calls.needs(), ({ parts }) => ({ needs: partsIn(parts) })));
+  }
+
+  /**
+   * What `anscheck why` and `anscheck table` say of a file, in numbers and words.
+   *
+   * @param {Uint8Array | ArrayBuffer} file
+   * @returns {object} `{ verdict, needs, players, onEveryPlayer, taller, fault, bytes, low, high, known, lines, mends,
+   *   content, comments, notes, record }`, each as `index.d.ts` tells it: the verdict from the cleared start is "pass"
+   *   or "refused", and what there is not is null. Or `{ verdict: "too long" }`.
+   * @throws {TypeError} of something else than a file.
+   */
+  row(file) {
+    return this.#answer(file, (calls) => rowTold(calls.row()));
   }
 
   /**
    * What `anscheck why` prints of a file: where and why it is refused, or what it relies on and how it is mended.
    *
    * @param {Uint8Array | ArrayBuffer} file
-   * @returns {object} `{ verdict, text }`: "pass" or "refused" from the cleared start, and lines that each end in a line
-   *   feed. Or `{ verdict: "too long" }`.
+   * @returns {object} `{ verdict, text }`: "pass" or "refused" from the cleared start, and lines that each end in a
+   *   line feed. Or `{ verdict: "too long" }`.
    * @throws {TypeError} of something else than a file.
    */
   why(file) {
@@ -100,12 +115,12 @@ class Checker {
    * A file mended as `anscheck mend` does it, so that it passes from every start.
    *
    * @param {Uint8Array | ArrayBuffer} file
-   * @param {object} [options] what may be changed besides what is mended by itself: `takeOut`, `lineEnds`, `fullRows` and
-   *   `leastLines` are true or false; `width` is the columns of the record that a file without one is given, 1 to 1024;
-   *   `lines` the number of lines that is stated where others are wanted, 1 to 8192.
-   * @returns {object} `{ verdict: "pass", file, text }`: the mended file as a `Uint8Array`, and what was changed, a line for
-   *   each kind of change; it is empty where nothing was. Or `{ verdict: "refused", text }`: why the file is not mended so.
-   *   Or `{ verdict: "too long" }`.
+   * @param {object} [options] what may be changed besides what is mended by itself: `takeOut`, `lineEnds`, `fullRows`
+   *   and `leastLines` are true or false; `width` is the columns of the record that a file without one is given, 1 to
+   *   1024; `lines` the number of lines that is stated where others are wanted, 1 to 8192.
+   * @returns {object} `{ verdict: "pass", file, text }`: the mended file as a `Uint8Array`, and what was changed, a
+   *   line for each kind of change; it is empty where nothing was. Or `{ verdict: "refused", text }`: why the file is
+   *   not mended so. Or `{ verdict: "too long" }`.
    * @throws {TypeError} of another option, or of something else than a file.
    * @throws {RangeError} of a width or lines out of bounds.
    */
@@ -115,13 +130,13 @@ class Checker {
   }
 
   /**
-   * The picture that a file shows from the cleared start, written anew as `anscheck redraw` does it, so that it shows from
-   * every start.
+   * The picture that a file shows from the cleared start, written anew as `anscheck redraw` does it, so that it shows
+   * from every start.
    *
    * @param {Uint8Array | ArrayBuffer} file
-   * @returns {object} `{ verdict: "pass", file, text }`: the redrawn file as a `Uint8Array`, and what was changed, a line
-   *   for each kind of change. Or `{ verdict: "refused", text }`: it does not pass from the cleared start, or the redrawn
-   *   one would be too long, and the text says which. Or `{ verdict: "too long" }`.
+   * @returns {object} `{ verdict: "pass", file, text }`: the redrawn file as a `Uint8Array`, and what was changed, a
+   *   line for each kind of change. Or `{ verdict: "refused", text }`: it does not pass from the cleared start, or the
+   *   redrawn one would be too long, and the text says which. Or `{ verdict: "too long" }`.
    * @throws {TypeError} of something else than a file.
    */
   redraw(file) {
@@ -131,7 +146,7 @@ class Checker {
   /**
    * The version of the checker.
    *
-   * @returns {string} such as "0.1.0".
+   * @returns {string} such as "0.2.0".
    */
   version() {
     return this.#use((calls) => calls.version().text);
@@ -200,7 +215,8 @@ function changesAsked(options) {
   const unknown = Object.keys(options).find((name) => !OPTIONS.includes(name));
   if (unknown !== undefined) throw new TypeError(`${unknown} is none of the options ${OPTIONS.join(", ")}`);
   const classes = Object.keys(CLASSES).reduce((sum, name) => sum + (isAsked(options, name) ? CLASSES[name] : 0), 0);
-  return { classes, width: numberAsked(options, "width", MOST_COLUMNS), lines: numberAsked(options, "lines", MOST_LINES) };
+  const width = numberAsked(options, "width", MOST_COLUMNS);
+  return { classes, width, lines: numberAsked(options, "lines", MOST_LINES) };
 }
 
 function isAsked(options, name) {
@@ -228,6 +244,11 @@ function told(calls, answered, passed) {
 function faultTold(calls, { number, offset, row, column }) {
   const text = calls.faultText(number).text;
   return { number, offset, row: row || null, column: column || null, text };
+}
+
+function rowTold({ answer, row }) {
+  if (row) return { verdict: answer, ...row };
+  throw unforeseen(answer);
 }
 
 function withText({ answer, text }) {

@@ -1,32 +1,39 @@
 // The page: what is chosen goes to the checker, and what it says is shown.
 
-const element = (id) => document.getElementById(id);
+import { isKnown } from "./browser.js";
+import { Checks } from "./checks.js";
+import { element, itemOf } from "./elements.js";
+import { TableFilter } from "./filter.js";
+import { drawingsChosen, drawingsDropped } from "./folders.js";
+import { Mending } from "./mending.js";
+import { shownName } from "./names.js";
+import { noteOn } from "./notes.js";
+import { PictureView } from "./picture.js";
+import { recordLines, recordNote } from "./record.js";
+import { Redrawing } from "./redrawing.js";
+import { saveAs } from "./saving.js";
+import { Steps } from "./steps.js";
+import { DrawingTable, csvOf } from "./table.js";
+import { FAILURES, linesOf, placeOf, placesOf, playersSentenceOf, rowOf, sentenceOf, sizeOf } from "./why.js";
+
 const TEXT_ROWS = 500;
 const STATUS_PERIOD = 1000;
 
+/** The text of each fault, as `anscheck help F20` prints it, by its number: its paragraphs. */
+const FAULT_TEXTS = JSON.parse(element("faults").textContent);
+
 const packedModule = Uint8Array.from(atob(element("module").textContent), (character) => character.charCodeAt(0));
-// A module with a memory, and a function "f" that fills nothing of it and answers its argument, which has 64 bits.
-const SMALL_MODULE = Uint8Array.of(
-  0x00, 0x61, 0x73, 0x6d, 1, 0, 0, 0, 1, 6, 1, 0x60, 1, 0x7e, 1, 0x7e, 3, 2, 1, 0, 5, 3, 1, 0, 1, 7, 5, 1, 1, 0x66, 0, 0,
-  10, 15, 1, 13, 0, 0x41, 0, 0x41, 0, 0x41, 0, 0xfc, 11, 0, 0x20, 0, 0x0b);
 const lessMotion = matchMedia("(prefers-reduced-motion: reduce)");
-
-/** Whether the browser runs a module under the page's policy, and hands it 64-bit numbers. */
-function runsModules() {
-  try {
-    return new WebAssembly.Instance(new WebAssembly.Module(SMALL_MODULE)).exports.f(1n) === 1n;
-  } catch {
-    return false;
-  }
-}
-
-const isKnown = () => typeof Worker === "function" && typeof DecompressionStream === "function" && runsModules();
 
 const checks = new Checks(packedModule, element("worker").textContent, (version) => {
   element("version").textContent = `anscheck ${version}`;
 });
 const pictureView = new PictureView(element("view"), element("space"), element("canvas"));
-const drawingTable = new DrawingTable(element("headings"), element("rows"), (drawing) => showDrawing(drawing));
+const tableFilter = new TableFilter(element("filter"), () => drawingTable.arrange());
+const drawingTable = new DrawingTable(element("table"), {
+  lets: (row) => tableFilter.lets(row), onChoose: (drawing) => showDrawing(drawing), onChange: () => showCounts(),
+});
+const steps = new Steps(element("steps"), drawingTable, element("drawing"));
 
 const mending = new Mending(
   element("mend-part"), (file, mends) => busyWith(checks.mend(file, mends)), (mended) => takeMended(mended));
@@ -42,17 +49,17 @@ let choice = 0;
 let shown = 0;
 let busy = 0;
 
-function say(text) {
-  element("status").textContent = text;
+/** The status; a name that it begins with has a direction of its own. */
+function say(text, name = "") {
+  const isolated = document.createElement("bdi");
+  isolated.textContent = name;
+  element("status").replaceChildren(...(name === "" ? [text] : [isolated, text]));
 }
 
-function lineElement(line) {
+/** A line of `why`. Where it names a place in the picture it is a button that goes there. */
+function lineElement(line, place) {
+  if (!place) return itemOf(line);
   const item = document.createElement("li");
-  const place = placeIn(line);
-  if (!place) {
-    item.textContent = line;
-    return item;
-  }
   const button = document.createElement("button");
   button.type = "button";
   button.textContent = line;
@@ -69,42 +76,24 @@ function goToMark(place) {
   pictureView.goTo(place);
 }
 
-function showAdvice({ answer, why }) {
-  const fault = faultOf(why);
+/** What the program's own text says of the fault. How it is mended is left out where there is no room for that. */
+function showAdvice({ answer, row }) {
+  const fault = row?.fault;
   element("advice").hidden = !fault;
   if (!fault) return;
   const passes = answer === "pass";
-  const known = valueOf(why, "is");
-  const mend = passes ? valueOf(why, "mend") : KNOWN_MENDS[known] ?? MENDS[fault.number];
-  const about = passes ? "From other starts it has the fault" : "About";
-  const here = known === "" ? "" : ` Here it is ${known}.`;
-  element("meaning").textContent = `${about} F${fault.number}: ${MEANINGS[fault.number]}${here}`;
-  const advice = passes ? `To pass from every start, ${mend}, without the blanks.` : `To mend it: ${mend}`;
-  element("mend").textContent = advice;
-  element("mend").hidden = !mend;
+  const [meaning, mend] = FAULT_TEXTS[fault.number];
+  const which = passes ? "the fault that it has from other starts" : "its fault";
+  element("advice-heading").textContent = `What “anscheck help F${fault.number}” says of ${which}`;
+  element("meaning").textContent = meaning;
+  element("mend").textContent = mend;
+  element("mend").hidden = passes && !row.mends;
 }
 
-/** What the picture is, where it is not that of the file as it stands. */
-function partShown({ lines, upTo, moreLines }, stated) {
-  if (upTo !== undefined) return `What stands before byte ${upTo.toLocaleString("en")}, on ${stated}.`;
-  if (moreLines !== undefined) return `As it is with ${lines} lines. The record states ${stated || "none"}.`;
-  return `${stated}.`;
-}
-
-function noteOn(picture, why) {
-  const stated = valueOf(why, "size");
-  const places = placesOf(why).map(({ row, column }) => (
-    `row ${row}${row > Number(stated.split(" ").at(-1)) ? " (below the stated lines)" : ""}, column ${column}`));
-  const marked = places.length === 0 ? "" : ` Marked: ${[...new Set(places)].join("; ")}.`;
-  return partShown(picture, stated) + marked;
-}
-
-function showPicture(name, { answer, picture, why, record, note = picture && noteOn(picture, why) }) {
+function showPicture(name, { answer, picture }, note, marks) {
   element("picture-part").hidden = !picture;
   pictureView.clear();
   if (!picture) return;
-  picture.brightBackgrounds = parseInt(valueOf(record, "flags"), 16) % 2 === 1;
-  const marks = placesOf(why);
   element("picture-note").textContent = note;
   element("canvas").setAttribute("aria-label", `Picture of ${name}, ${note}`);
   element("blink-part").hidden = !picture.blinks || picture.brightBackgrounds;
@@ -114,13 +103,19 @@ function showPicture(name, { answer, picture, why, record, note = picture && not
   if (answer === "refused" && marks.length > 0) pictureView.goTo(marks[0]);
 }
 
+function showAsItIs(name, result) {
+  const { picture, row } = result;
+  if (picture) showPicture(name, result, noteOn(picture, row), placesOf(row));
+  else showPicture(name, result, "", []);
+}
+
 /** The picture of the drawing as it is, or mended. */
 function choosePicture(isMended) {
   element("show-before").setAttribute("aria-pressed", String(!isMended));
   element("show-after").setAttribute("aria-pressed", String(isMended));
   const { drawing, result, mended } = looked;
-  const after = () => ({ answer: "pass", why: "", ...mended, note: `${valueOf(mended.record, "size")}, mended.` });
-  showPicture(drawing.path, isMended ? after() : result);
+  if (isMended) showPicture(shownName(drawing.path), mended, `${sizeOf(mended.row.record)}, mended.`, []);
+  else showAsItIs(shownName(drawing.path), result);
   offerRedrawing(isMended);
 }
 
@@ -153,23 +148,26 @@ function showText() {
 
 function showResult(drawing, result) {
   element("drawing").hidden = false;
-  element("name").textContent = drawing.path;
+  element("name").textContent = shownName(drawing.path);
   element("verdict").textContent = sentenceOf(result);
   element("verdict").dataset.answer = result.answer;
   element("players").textContent = playersSentenceOf(result);
   element("players").hidden = element("players").textContent === "";
-  element("why").replaceChildren(...(result.error ? [result.error] : linesOf(result.why)).map(lineElement));
-  const record = linesOf(result.record);
-  element("record").replaceChildren(...(record.length > 0 ? record : ["none that is accepted"]).map(lineElement));
+  const lines = result.error ? [itemOf(result.error)]
+    : linesOf(result.why).map((line) => lineElement(line, placeOf(line, result.row)));
+  element("why").replaceChildren(...lines);
+  element("record-note").textContent = recordNote(result);
+  element("record").replaceChildren(...recordLines(result).map(itemOf));
   showAdvice(result);
   looked = { drawing, result, mended: null };
+  steps.show();
   element("picture-choice").hidden = true;
   choosePicture(false);
   if (FAILURES[result.answer]) mending.close();
   else mending.open(drawing);
   element("name").focus({ preventScroll: true });
   element("name").scrollIntoView({ block: "start" });
-  say(`${drawing.path}: ${sentenceOf(result)}`);
+  say(`: ${sentenceOf(result)}`, shownName(drawing.path));
 }
 
 async function busyWith(work) {
@@ -185,58 +183,57 @@ async function busyWith(work) {
 
 async function showDrawing(drawing) {
   const mine = ++shown;
-  say(`${drawing.path} is checked.`);
+  say(" is checked.", shownName(drawing.path));
   const result = await busyWith(checks.study(drawing.file, true));
   if (mine === shown) showResult(drawing, result);
 }
 
-function counted(done, total) {
-  const count = (verdict) => drawingTable.rows.filter((row) => row.verdict === verdict).length;
-  const missing = count("no answer");
-  const without = missing > 0 ? `, ${missing} without an answer` : "";
-  return `${done} of ${total} checked: ${count("pass")} pass, ${count("refused")} refused${without}.`;
+function showCounts() {
+  tableFilter.show();
+  steps.show();
+}
+
+function counted(total) {
+  const { all, refused, unanswered } = tableFilter.counts;
+  const without = unanswered > 0 ? `, ${unanswered} without an answer` : "";
+  return `${all} of ${total} checked: ${all - refused - unanswered} pass, ${refused} refused${without}.`;
 }
 
 async function showFolder(drawings, others) {
   const mine = choice;
-  drawingTable.clear();
   element("drawings").hidden = false;
   element("drawing").hidden = true;
   element("drawings-heading").textContent = `${drawings.length} drawings`;
   const left = others > 0 ? ` ${others} other ${others === 1 ? "file was" : "files were"} left out.` : "";
-  let done = 0;
   let told = Date.now();
   say(`${drawings.length} drawings are checked.`);
   await busyWith(Promise.all(drawings.map(async (drawing) => {
     const result = await checks.study(drawing.file, false);
     if (mine !== choice) return;
-    drawingTable.add(rowOf(drawing.path, result), drawing);
-    done++;
+    addRow(rowOf(shownName(drawing.path), result), drawing);
     if (Date.now() - told < STATUS_PERIOD) return;
     told = Date.now();
-    say(counted(done, drawings.length));
+    say(counted(drawings.length));
   })));
   if (mine !== choice) return;
-  drawingTable.sort();
-  say(counted(done, drawings.length) + left);
+  drawingTable.end();
+  say(counted(drawings.length) + left);
+}
+
+function addRow(row, drawing) {
+  tableFilter.count(row);
+  drawingTable.add(row, drawing);
 }
 
 function take({ drawings, others }) {
   checks.stop();
   choice++;
   shown++;
+  drawingTable.clear();
+  tableFilter.clear();
   element("drawings").hidden = true;
   if (drawings.length === 0) return say("There is no drawing here whose name ends in .ans.");
   return drawings.length === 1 ? showDrawing(drawings[0]) : showFolder(drawings, others);
-}
-
-function saveAs(blob, name) {
-  const address = URL.createObjectURL(blob);
-  const link = document.createElement("a");
-  link.href = address;
-  link.download = name;
-  link.click();
-  setTimeout(() => URL.revokeObjectURL(address), STATUS_PERIOD);
 }
 
 function save() {

@@ -1,5 +1,7 @@
 // The page's side of the worker: one drawing after the other, each with a limit of time.
 
+import { LONGEST_FILE } from "../../library/js/numbers.js";
+
 const LONGEST_WAIT = 30000;
 
 class Checks {
@@ -15,8 +17,8 @@ class Checks {
   }
 
   /** What the checker says of a file. A drawing that somebody looks at goes before those of a folder. */
-  study(file, wantsPicture) {
-    return this.asked({ file, wantsPicture }, wantsPicture);
+  study(file, isLookedAt) {
+    return this.asked({ file, isLookedAt }, isLookedAt);
   }
 
   /** What comes of a file that is mended. Somebody looks at it. */
@@ -46,7 +48,7 @@ class Checks {
   }
 
   nothing(answer, error = "") {
-    return { answer, why: "", record: "", changes: "", bytes: null, picture: null, error };
+    return { answer, why: "", record: "", row: null, changes: "", bytes: null, picture: null, error };
   }
 
   start() {
@@ -59,18 +61,28 @@ class Checks {
     this.worker.postMessage({ packedModule: this.packedModule });
   }
 
+  /** The first job for the worker, or nothing. Those whose files are too long are answered on the way. */
+  taken() {
+    while (this.waiting.length > 0) {
+      const job = this.waiting.shift();
+      if (job.file.size <= LONGEST_FILE) return job;
+      job.resolve(this.nothing("too long"));
+    }
+    return null;
+  }
+
   async next() {
-    if (this.running || this.waiting.length === 0) return;
-    const job = this.waiting.shift();
+    if (this.running) return;
+    const job = this.taken();
+    if (!job) return;
     this.running = job;
-    if (job.file.size > LONGEST_FILE) return this.answered({ number: job.number, ...this.nothing("too long") });
     const file = await job.file.arrayBuffer().catch(() => null);
     if (this.running !== job) return;
     if (!file) return this.answered({ number: job.number, ...this.nothing("unread") });
     if (!this.worker) this.start();
     this.timer = setTimeout(() => this.end({ answer: "late" }), this.longestWait);
-    const { number, wantsPicture, mends, redraws } = job;
-    this.worker.postMessage({ number, file, wantsPicture, mends, redraws }, [file]);
+    const { number, isLookedAt, mends, redraws } = job;
+    this.worker.postMessage({ number, file, isLookedAt, mends, redraws }, [file]);
   }
 
   answered(result) {
@@ -90,3 +102,5 @@ class Checks {
     if (this.running) this.answered({ number: this.running.number, ...this.nothing(answer, error) });
   }
 }
+
+export { Checks };

@@ -59,3 +59,5 @@ function drawingsChosen(input) {
   const files = [...input.files].map((file) => ({ file, path: file.webkitRelativePath || file.name }));
   return chosenFrom(files, input.webkitdirectory);
 }
+
+export { drawingsChosen, drawingsDropped };

@@ -1,17 +1,12 @@
 // The characters of code page 437: blocks, shades and box lines are painted here, the others are the browser's own.
 
+import { CODE_PAGE_437 } from "../../library/js/characters.js";
+
 const COLOURS = [0x000000, 0x0000aa, 0x00aa00, 0x00aaaa, 0xaa0000, 0xaa00aa, 0xaa5500, 0xaaaaaa,
   0x555555, 0x5555ff, 0x55ff55, 0x55ffff, 0xff5555, 0xff55ff, 0xffff55, 0xffffff];
 
 /** A colour as the four bytes of a dot: red, green, blue, and that nothing shines through. */
 const dotOf = (colour) => 0xff << 24 | (colour & 0xff) << 16 | colour & 0xff00 | colour >> 16;
-
-const CODE_PAGE_437 = [
-  ..." ☺☻♥♦♣♠•◘○◙♂♀♪♫☼►◄↕‼¶§▬↨↑↓→←∟↔▲▼",
-  ...Array.from({ length: 95 }, (_, index) => String.fromCharCode(32 + index)),
-  ..."⌂ÇüéâäàåçêëèïîìÄÅÉæÆôöòûùÿÖÜ¢£¥₧ƒáíóúñÑªº¿⌐¬½¼¡«»░▒▓│┤╡╢╖╕╣║╗╝╜╛┐└┴┬├─┼╞╟╚╔╩╦╠═╬╧╨╤╥╙╘╒╓╫╪┘┌█▄▌▐▀",
-  ..."αßΓπΣσµτΦΘΩδ∞φε∩≡±≥≤⌠⌡÷≈°∙·√ⁿ²■\u00a0",
-];
 
 // A cell has 8 times 16 dots. Each shade has two rows of dots, which alternate.
 const SHADES = {
@@ -131,3 +126,5 @@ function mixed(colour, ground, part) {
   }
   return result;
 }
+
+export { COLOURS, dotOf, glyphCoverage, mixed };

@@ -1,11 +1,15 @@
 // The drawing mended: what may be changed of it, what is, and the file to save.
 
+import { itemOf } from "./elements.js";
+import { saveDrawing } from "./saving.js";
+import { FAILURES, linesOf } from "./why.js";
+
 const WRONG_NUMBER = "Lines are a number from 1 to 8192, and columns one from 1 to 1024.";
 
 /** What comes of mending, for people who draw. */
 function sentenceOfMending(answer, changes) {
-  if (answer === "pass" && changes === "") return "Nothing has to be changed: it shows the same picture from every start.";
-  if (answer === "pass") return "So changed it shows the same picture from every start:";
+  const same = "it shows the same picture from every start";
+  if (answer === "pass") return changes === "" ? `Nothing has to be changed: ${same}.` : `So changed ${same}:`;
   if (answer === "refused") return "It cannot be mended so:";
   return answer === "wrong number" ? WRONG_NUMBER : FAILURES[answer];
 }
@@ -62,21 +66,17 @@ class Mending {
     if (mine === this.asked) this.show(result);
   }
 
-  show({ answer, changes, bytes, record, picture }) {
+  show({ answer, changes, bytes, row, picture }) {
     this.bytes = bytes;
     this.sentence.textContent = sentenceOfMending(answer, changes);
-    this.changes.replaceChildren(...linesOf(changes).map((line) => {
-      const item = document.createElement("li");
-      item.textContent = line;
-      return item;
-    }));
+    this.changes.replaceChildren(...linesOf(changes).map(itemOf));
     this.button.disabled = answer !== "pass";
-    this.onMended(answer === "pass" ? { picture, record, bytes } : null);
+    this.onMended(answer === "pass" ? { answer, picture, row, bytes } : null);
   }
 
-  /** The drawing under another name, so that the one it was made from stays. */
   save() {
-    const name = this.drawing.path.split("/").at(-1);
-    saveAs(new Blob([this.bytes], { type: "application/octet-stream" }), `mended-${name}`);
+    saveDrawing(this.bytes, "mended", this.drawing);
   }
 }
+
+export { Mending };

@@ -1,5 +1,8 @@
 // The picture on a canvas that is as large as what can be seen of it; the part that is looked at is painted.
 
+import { textOf } from "../../library/js/characters.js";
+import { COLOURS, dotOf, glyphCoverage, mixed } from "./glyphs.js";
+
 const CELL_WIDTH = 8;
 const CELL_ASPECT = 2;
 const SMALLEST_CELL = 3;
@@ -189,9 +192,10 @@ class PictureView {
     const { columns, lines, glyphs } = this.picture;
     const rows = [];
     for (let row = 0; row < Math.min(lines, count); row++) {
-      const bytes = glyphs.subarray(row * columns, (row + 1) * columns);
-      rows.push(Array.from(bytes, (glyph) => CODE_PAGE_437[glyph]).join(""));
+      rows.push(textOf(glyphs.subarray(row * columns, (row + 1) * columns)));
     }
     return rows.join("\n");
   }
 }
+
+export { PictureView };

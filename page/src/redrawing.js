@@ -1,15 +1,19 @@
 // The drawing redrawn: the same picture in the plainest form, and the file to save.
 
+import { itemOf } from "./elements.js";
+import { saveDrawing } from "./saving.js";
+import { linesOf, playersSentenceOf } from "./why.js";
+
 /** What comes of redrawing, for people who draw. */
 function sentenceOfRedrawing({ bytes, after }, size) {
-  const written = valueOf(after, "players") === "any" ? "so that players show it alike" : "in the plainest form";
+  const written = after.players.length === 0 ? "so that players show it alike" : "in the plainest form";
   return `Redrawn it is the same picture, written ${written}: `
     + `${bytes.length.toLocaleString("en")} bytes, ${size.toLocaleString("en")} before.`;
 }
 
 /** What is to be said of players, after what it is said of. */
-function playersLine(name, why) {
-  const sentence = playersSentenceOf({ answer: "pass", why });
+function playersLine(name, row) {
+  const sentence = playersSentenceOf({ answer: "pass", row });
   return `${name}: ${sentence.charAt(0).toLowerCase()}${sentence.slice(1)}`;
 }
 
@@ -51,16 +55,12 @@ class Redrawing {
     this.sentence.textContent = sentenceOfRedrawing(result, size);
     this.before.textContent = playersLine(name, result.before);
     this.after.textContent = playersLine("Redrawn", result.after);
-    this.changes.replaceChildren(...linesOf(result.changes).map((line) => {
-      const item = document.createElement("li");
-      item.textContent = line;
-      return item;
-    }));
+    this.changes.replaceChildren(...linesOf(result.changes).map(itemOf));
   }
 
-  /** The drawing under another name, so that the one it was made from stays. */
   save() {
-    const name = this.drawing.path.split("/").at(-1);
-    saveAs(new Blob([this.bytes], { type: "application/octet-stream" }), `redrawn-${name}`);
+    saveDrawing(this.bytes, "redrawn", this.drawing);
   }
 }
+
+export { Redrawing };

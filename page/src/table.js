@@ -1,4 +1,6 @@
-// The table of a folder: it sorts by its headings, and is saved as CSV.
+// The table of a folder: it sorts by its headings, shows what the filter lets through, and is saved as CSV.
+
+import { RovingStop } from "./roving.js";
 
 const COLUMNS = [
   { key: "name", heading: "Name" },
@@ -7,10 +9,18 @@ const COLUMNS = [
   { key: "players", heading: "Players" },
   { key: "fault", heading: "Fault" },
   { key: "at", heading: "At byte" },
+  { key: "notes", heading: "Notes" },
   { key: "title", heading: "Title" },
   { key: "author", heading: "Author" },
   { key: "size", heading: "Size" },
 ];
+
+/**
+ * How long rows wait for others, in milliseconds: the table is laid out anew for all of them at once. Where that takes
+ * long they wait so many times as long as it took, so that most of the time is left for the checker.
+ */
+const BATCH_PERIOD = 250;
+const WAIT_FOR_LAYOUT = 4;
 
 const natural = new Intl.Collator("en", { numeric: true });
 
@@ -36,14 +46,21 @@ function csvOf(rows) {
 }
 
 class DrawingTable {
-  constructor(head, body, onChoose) {
+  /**
+   * `lets` says whether the filter lets a row through, `onChoose` is told of the drawing of a row, and `onChange` is
+   * called when other rows are shown or the same in another order.
+   */
+  constructor(table, { lets, onChoose, onChange }) {
+    const [body] = table.tBodies;
+    this.table = table;
     this.body = body;
+    this.lets = lets;
     this.onChoose = onChoose;
-    this.rows = [];
-    this.key = "";
-    this.isDescending = false;
+    this.onChange = onChange;
+    this.stop = new RovingStop(body);
     this.headings = COLUMNS.map((column) => this.makeHeading(column));
-    head.replaceChildren(...this.headings);
+    table.tHead.rows[0].replaceChildren(...this.headings);
+    this.clear();
   }
 
   makeHeading({ key, heading }) {
@@ -59,53 +76,123 @@ class DrawingTable {
   }
 
   clear() {
+    clearTimeout(this.timer);
+    this.timer = null;
+    this.period = BATCH_PERIOD;
     this.rows = [];
+    this.waiting = [];
+    this.current = null;
     this.key = "";
+    this.isDescending = false;
     this.showOrder();
     this.body.replaceChildren();
   }
 
-  /** Adds a row; `drawing` is handed back when it is chosen. */
+  /** Adds a row, which soon stands in the table; `drawing` is handed back when it is chosen. */
   add(values, drawing) {
+    const row = { ...values, drawing };
+    this.rows.push(row);
+    this.waiting.push(row);
+    this.timer ??= setTimeout(() => this.appendWaiting(), this.period);
+  }
+
+  appendWaiting() {
+    clearTimeout(this.timer);
+    this.timer = null;
+    const began = performance.now();
+    this.body.append(this.elementsOf(this.waiting.splice(0)));
+    this.stop.keep();
+    this.onChange();
+    const isLaidOut = this.body.offsetHeight > 0;
+    if (isLaidOut) this.period = Math.max(BATCH_PERIOD, WAIT_FOR_LAYOUT * (performance.now() - began));
+  }
+
+  /** What the table shows of these rows. */
+  elementsOf(rows) {
+    const fragment = document.createDocumentFragment();
+    for (const row of rows) if (this.lets(row)) fragment.append(row.element ??= this.makeElement(row));
+    return fragment;
+  }
+
+  makeElement(row) {
     const element = document.createElement("tr");
-    const row = { ...values, element, drawing };
     for (const { key } of COLUMNS) {
       const cell = document.createElement(key === "name" ? "th" : "td");
       if (key === "name") cell.scope = "row";
       cell.dataset.key = key;
-      cell.append(key === "name" ? this.makeChoice(row) : values[key]);
+      cell.append(key === "name" ? this.makeChoice(row) : row[key]);
       element.append(cell);
     }
-    element.dataset.verdict = values.verdict;
-    this.rows.push(row);
-    this.body.append(element);
+    element.dataset.verdict = row.verdict;
+    return element;
   }
 
   makeChoice(row) {
     const button = document.createElement("button");
     button.type = "button";
     button.dir = "auto";
+    button.tabIndex = -1;
     button.textContent = row.name;
     button.addEventListener("click", () => this.choose(row));
     return button;
   }
 
   choose(row) {
-    for (const { element } of this.rows) element.removeAttribute("aria-current");
+    this.current?.element.removeAttribute("aria-current");
+    this.current = row;
     row.element.setAttribute("aria-current", "true");
+    this.stop.moveTo(row.element.querySelector("button"));
+    this.reveal(row.element);
     this.onChoose(row.drawing);
+  }
+
+  /** Scrolls the table alone, so that a row stands between the headings and the lower edge. */
+  reveal({ offsetTop, offsetHeight }) {
+    const view = this.table.parentElement;
+    const least = offsetTop + offsetHeight - view.clientHeight;
+    const most = offsetTop - this.table.tHead.offsetHeight;
+    view.scrollTop = Math.min(most, Math.max(least, view.scrollTop));
+  }
+
+  /** The row behind the chosen one (1) or before it (-1), of those that are shown; or nothing. */
+  neighbour(step) {
+    let at = this.rows.indexOf(this.current) + step;
+    while (this.rows[at] && !this.isShown(this.rows[at])) at += step;
+    return this.rows[at];
+  }
+
+  /** How many rows are shown, and the number of the chosen one among them, from 1 on, or 0. */
+  place() {
+    const shown = this.rows.filter((row) => this.isShown(row));
+    return { number: shown.indexOf(this.current) + 1, count: shown.length };
+  }
+
+  isShown(row) {
+    return row.element?.parentNode === this.body;
   }
 
   sortBy(key) {
     this.isDescending = this.key === key && !this.isDescending;
     this.key = key;
-    this.sort();
+    this.arrange();
   }
 
-  sort() {
+  /** All rows have come: they are put in order, if one was asked for. */
+  end() {
+    if (this.key) this.arrange();
+    else this.appendWaiting();
+  }
+
+  /** All rows that have come, in their order. What has the focus keeps it. */
+  arrange() {
+    this.waiting = [];
     if (this.key) this.rows = sorted(this.rows, this.key, this.isDescending);
-    this.body.append(...this.rows.map(({ element }) => element));
+    const focused = document.activeElement;
+    this.body.replaceChildren(this.elementsOf(this.rows));
+    if (this.body.contains(focused)) focused.focus({ preventScroll: true });
+    this.stop.keep();
     this.showOrder();
+    this.onChange();
   }
 
   showOrder() {
@@ -116,3 +203,5 @@ class DrawingTable {
     }
   }
 }
+
+export { DrawingTable, csvOf };

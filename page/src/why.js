@@ -1,27 +1,20 @@
-// What the lines of `why` and of the record say.
+// What the checker says of a drawing, for people who draw.
 
 const linesOf = (text) => text.split("\n").slice(0, -1);
 
-/** The value of the first line with this key, or "" where there is none. */
-function valueOf(text, key) {
-  const line = linesOf(text).find((each) => each.startsWith(`${key}:`));
-  return line === undefined ? "" : line.slice(key.length + 1).trim();
+/** The place in the picture that a line of `why` names, or nothing. */
+function placeOf(line, { fault, low, high }) {
+  if (line.startsWith("low start: ") || line.startsWith("cleared start: ")) return low;
+  if (line.startsWith("high start: ")) return high;
+  return fault?.row && line.startsWith(`at ${fault.offset}: F`) ? { row: fault.row, column: fault.column } : null;
 }
 
-/** The line of the fault: of a refusal, or of what a pass relies on. */
-function faultOf(why) {
-  const found = /^at (\d+): F(\d+) (.*)$/m.exec(why);
-  return found ? { at: Number(found[1]), number: Number(found[2]), text: found[3] } : null;
-}
-
-/** The places that a line names, counted from 1. What follows `bytes:` or `hint:` is no place. */
-function placeIn(line) {
-  const found = /^(?:at \d+: .*\(|(?:low|high|cleared) start: )row (\d+), column (\d+)\)?$/.exec(line);
-  return found ? { row: Number(found[1]), column: Number(found[2]) } : null;
-}
-
-function placesOf(why) {
-  return linesOf(why).map(placeIn).filter(Boolean);
+/** All places that are named, each once. */
+function placesOf({ fault, low, high }) {
+  const places = [fault?.row ? fault : null, low, high].filter(Boolean);
+  const isFirst = ({ row, column }, index) => (
+    places.findIndex((each) => each.row === row && each.column === column) === index);
+  return places.filter(isFirst).map(({ row, column }) => ({ row, column }));
 }
 
 const NEEDS = {
@@ -58,41 +51,47 @@ const FAILURES = {
 
 const listed = (words) => words.length < 2 ? words.join("") : `${words.slice(0, -1).join(", ")} and ${words.at(-1)}`;
 
+const found = (parts) => listed(parts.map((part) => NEEDS[part]));
+
 /** A sentence for people who draw. */
-function sentenceOf({ answer, why }) {
+function sentenceOf({ answer, row }) {
   if (FAILURES[answer]) return FAILURES[answer];
-  const fault = faultOf(why);
-  if (answer === "refused") return `Refused at byte ${fault.at.toLocaleString("en")}: F${fault.number} ${fault.text}.`;
-  const needs = valueOf(why, "needs").split(" ");
-  if (needs[0] === "nothing") return "Passes: it shows the same picture from every start.";
-  return `Passes, if it finds ${listed(needs.map((part) => NEEDS[part]))}.`;
+  if (answer === "refused") return `Refused at byte ${row.fault.offset.toLocaleString("en")}: ${row.fault.text}.`;
+  if (row.needs.length === 0) return "Passes: it shows the same picture from every start.";
+  return `Passes, if it finds ${found(row.needs)}.`;
 }
 
 /** What is to be said of players, for people who draw: nothing of a drawing that is refused. */
-function playersSentenceOf({ answer, why }) {
-  const players = valueOf(why, "players");
-  if (answer !== "pass" || players === "") return "";
-  if (players !== "any") {
-    return `It may look different in players ${players.split(" ").map((kind) => PLAYERS[kind]).join("; or in those ")}.`;
-  }
-  const parts = (valueOf(why, "on every player") || valueOf(why, "needs")).split(" ");
-  const start = parts[0] === "nothing" ? "from every start" : `if they find ${listed(parts.map((part) => NEEDS[part]))}`;
+function playersSentenceOf({ answer, row }) {
+  if (answer !== "pass") return "";
+  const kinds = row.players.map((kind) => PLAYERS[kind]);
+  if (kinds.length > 0) return `It may look different in players ${kinds.join("; or in those ")}.`;
+  const start = row.onEveryPlayer.length === 0 ? "from every start" : `if they find ${found(row.onEveryPlayer)}`;
   return `Players that part only in the known ways all show it alike, ${start}.`;
 }
 
-/** What a row of the table says of a drawing. */
-function rowOf(name, { answer, why, record }) {
-  const isAnswered = answer === "pass" || answer === "refused";
-  const fault = answer === "refused" ? faultOf(why) : null;
+const sizeOf = ({ width, lines }) => `${width} x ${lines}`;
+
+/** What a row of the table says of a drawing, where there is an answer. */
+function valuesOf(isPass, { needs, players, fault, notes, record }) {
   return {
-    verdict: isAnswered ? answer : "no answer",
-    needs: answer === "pass" ? valueOf(why, "needs") : "",
-    players: answer === "pass" ? valueOf(why, "players") : "",
-    fault: fault ? `F${fault.number} ${fault.text}` : FAILURES[answer] ?? "",
-    at: fault ? String(fault.at) : "",
-    title: valueOf(record, "title"),
-    author: valueOf(record, "author"),
-    size: valueOf(record, "size"),
-    name,
+    needs: isPass ? needs.join(" ") || "nothing" : "",
+    players: isPass ? players.join(" ") || "any" : "",
+    fault: isPass ? "" : fault.text,
+    at: isPass ? "" : String(fault.offset),
+    notes: notes.map((number) => `N${number}`).join(" "),
+    title: record?.title ?? "",
+    author: record?.author ?? "",
+    size: record ? sizeOf(record) : "",
   };
 }
+
+const NO_VALUES = { needs: "", players: "", at: "", notes: "", title: "", author: "", size: "" };
+
+/** A row of the table, by its columns. */
+function rowOf(name, { answer, row }) {
+  if (!row) return { ...NO_VALUES, name, verdict: "no answer", fault: FAILURES[answer] };
+  return { ...valuesOf(answer === "pass", row), name, verdict: answer };
+}
+
+export { FAILURES, linesOf, placeOf, placesOf, playersSentenceOf, rowOf, sentenceOf, sizeOf };

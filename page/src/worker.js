@@ -1,10 +1,15 @@
 // Answers what the page asks about one drawing after the other. It runs in a worker, behind calls.js.
 
+import { Checker } from "../../library/js/calls.js";
+import { CLASSES, CLEARED } from "../../library/js/numbers.js";
+
 const RECORD_BYTES = 128;
 const LINES = 98;
 const COMMENT_COUNT = 104;
 const END_MARK = 0x1a;
 const BLINK = 0x80;
+const BLANKS = [0x00, 0x20, 0xff];
+const FIRST_ON_COLOUR = 0x10;
 
 let begun = null;
 let module = null;
@@ -30,54 +35,98 @@ function withLines(file, lines) {
   return changed;
 }
 
-/** How many lines `why` says would do, or NaN. */
-function linesIn(why) {
-  return Number(/^lines: (\d+)( as it is)?$/m.exec(why)?.[1]);
+/** Whether a picture shows nothing: blanks alone, all of them on black. */
+const isEmpty = ({ glyphs, attributes }) => (
+  glyphs.every((glyph, cell) => BLANKS.includes(glyph) && attributes[cell] < FIRST_ON_COLOUR));
+
+/** How many sequences were taken out, and where the first stood, by what was said of the changes. */
+function takenOut(changes) {
+  const taken = [...changes.matchAll(/^took out (?!a line end ).* at (\d+)(?:, and (\d+) more of its kind)?$/gm)];
+  return {
+    count: taken.reduce((sum, [, , more = 0]) => sum + 1 + Number(more), 0),
+    first: Math.min(...taken.map(([, first]) => Number(first))),
+  };
+}
+
+/** The picture of a copy that has been mended so, with what it is without; or nothing. */
+function pictureMended(file, classes) {
+  checker.open(file);
+  const { answer, changes, bytes } = checker.mend(classes, 0, 0);
+  const without = answer === "pass" ? takenOut(changes) : { count: 0 };
+  if (without.count === 0) return null;
+  checker.open(bytes);
+  const { ice } = checker.row().row.record;
+  return { ...checker.check(CLEARED), brightBackgrounds: ice, without };
+}
+
+/** The picture without the sequences that players differ in, where taking them out is enough. */
+function pictureWithout(file) {
+  const picture = pictureMended(file, CLASSES.takeOut) ?? pictureMended(file, CLASSES.takeOut | CLASSES.leastLines);
+  return picture && !isEmpty(picture) ? picture : null;
+}
+
+/** The picture of a changed copy from the cleared screen, or nothing. */
+function pictureOfCopy(copy) {
+  checker.open(copy);
+  const { answer, ...picture } = checker.check(CLEARED);
+  return answer === "pass" ? picture : null;
 }
 
 /**
- * The picture from the cleared screen. Of what is refused, the picture with as many lines as `why` says would do, and
- * else of a content what stands before the fault. Both come of a check of a changed copy.
+ * The picture from the cleared screen. Of what is refused, the picture with as many lines as would do; else what stands
+ * before the fault; and where that shows nothing, the picture without the sequences that are taken out. Each comes of a
+ * check of a changed copy.
  */
-function pictureOf(file, why) {
-  const whole = checker.check(CLEARED);
-  if (whole.answer === "pass") return whole;
-  const lines = linesIn(why);
-  checker.open(lines ? withLines(file, lines) : shortened(file, whole.fault.offset));
-  const changed = checker.check(CLEARED);
-  if (changed.answer !== "pass") return null;
-  return lines ? { ...changed, moreLines: lines } : { ...changed, upTo: whole.fault.offset };
+function pictureOf(file, lines) {
+  const { answer, fault, ...picture } = checker.check(CLEARED);
+  if (answer === "pass") return picture;
+  if (lines) return withWords(pictureOfCopy(withLines(file, lines)), { moreLines: lines });
+  const before = pictureOfCopy(shortened(file, fault.offset));
+  const without = before && isEmpty(before) ? pictureWithout(file) : null;
+  return without ?? withWords(before, { upTo: fault.offset });
 }
 
-function study(file, wantsPicture) {
+/** A picture with what it is, if there is one. */
+const withWords = (picture, words) => picture && { ...picture, ...words };
+
+/** What the checker says of a file. Of one that is looked at these are also the program's lines, and its picture. */
+function study(file, isLookedAt) {
   checker.open(file);
-  const why = checker.why();
+  const { answer, row } = checker.row();
+  if (!isLookedAt) return { answer, row };
+  const why = checker.why().text;
   const record = checker.record();
-  const hasPicture = wantsPicture && (checker.size().answer === "pass" || linesIn(why.text) > 0);
-  const picture = hasPicture ? pictureOf(file, why.text) : null;
-  const shown = picture ? withBlinks(picture) : null;
-  return { answer: why.answer, why: why.text, record: record.answer === "pass" ? record.text : "", picture: shown };
+  const hasPicture = checker.size().answer === "pass" || row.lines;
+  const picture = hasPicture ? pictureOf(file, row.lines) : null;
+  return { answer, row, why, record: record.answer === "pass" ? record.text : "",
+    picture: picture && shownFrom(picture, row.record) };
 }
 
-const withBlinks = (picture) => ({ ...picture, blinks: picture.attributes.some((attribute) => attribute >= BLINK) });
+/** A picture with what its attributes mean. */
+const shownFrom = (picture, record) => ({
+  brightBackgrounds: record.ice,
+  blinks: picture.attributes.some((attribute) => attribute >= BLINK),
+  ...picture,
+});
 
-/** The file mended, what was changed, and its record and its picture; or why it is not mended. */
+/** The file mended, what was changed, and what is said of it with its picture; or why it is not mended. */
 function mend(file, { classes, width, lines }) {
   checker.open(file);
   const { answer, changes, bytes } = checker.mend(classes, width, lines);
-  if (answer !== "pass") return { answer, changes, bytes: null, record: "", picture: null };
+  if (answer !== "pass") return { answer, changes, bytes: null, row: null, picture: null };
   checker.open(bytes);
-  return { answer, changes, bytes, record: checker.record().text, picture: withBlinks(checker.check(CLEARED)) };
+  const { row } = checker.row();
+  return { answer, changes, bytes, row, picture: shownFrom(checker.check(CLEARED), row.record) };
 }
 
-/** The file redrawn, what was changed, and what `why` says before and after; or why it is not redrawn. */
+/** The file redrawn, what was changed, and what is said of it before and after; or why it is not redrawn. */
 function redraw(file) {
   checker.open(file);
   const { answer, changes, bytes } = checker.redraw();
-  if (answer !== "pass") return { answer, changes, bytes: null, before: "", after: "" };
-  const before = checker.why().text;
+  if (answer !== "pass") return { answer, changes, bytes: null, before: null, after: null };
+  const before = checker.row().row;
   checker.open(bytes);
-  return { answer, changes, bytes, before, after: checker.why().text };
+  return { answer, changes, bytes, before, after: checker.row().row };
 }
 
 /** WebKit reads no blob in a worker of a page from a disk, so the bytes are written to the stream. */
@@ -95,15 +144,15 @@ async function begin(packedModule) {
   postMessage({ version: checker.version().text });
 }
 
-async function answered(file, { wantsPicture, mends, redraws }) {
+async function answered(file, { isLookedAt, mends, redraws }) {
   try {
     await begun;
     checker ??= newChecker();
     if (redraws) return redraw(file);
-    return mends ? mend(file, mends) : study(file, wantsPicture);
+    return mends ? mend(file, mends) : study(file, isLookedAt);
   } catch (error) {
     checker = null;
-    return { answer: "stopped", why: "", record: "", changes: "", picture: null, error: String(error) };
+    return { answer: "stopped", why: "", record: "", row: null, changes: "", picture: null, error: String(error) };
   }
 }
 

@@ -11,7 +11,9 @@ import urllib.request
 from websocket import WebSocket
 
 START_SECONDS = 60
-KEYS = {"Enter": ("\r", 13, "\ue006"), "Tab": ("", 9, "\ue004"), " ": (" ", 32, " "), "End": ("", 35, "\ue010")}
+KEYS = {"Enter": ("\r", 13, "\ue006"), "Tab": ("", 9, "\ue004"), " ": (" ", 32, " "), "End": ("", 35, "\ue010"),
+        "Home": ("", 36, "\ue011"), "ArrowUp": ("", 38, "\ue013"), "ArrowDown": ("", 40, "\ue015"),
+        "n": ("n", 78, "n"), "p": ("p", 80, "p")}
 
 
 def downloads_of(profile):
@@ -55,13 +57,13 @@ class Browser:
         """What an expression is in the page, awaited."""
         return json.loads(self.text_of(f"(async () => JSON.stringify(await ({expression}) ?? null))()"))
 
-    def wait(self, expression, seconds=60):
-        """Waits until an expression is true in the page."""
+    def wait(self, expression, seconds=60, pause=0.02):
+        """Waits until an expression is true in the page, and looks again after each pause."""
         end = time.monotonic() + seconds
         while not self.value(expression):
             if time.monotonic() > end:
                 raise TimeoutError(expression)
-            time.sleep(0.02)
+            time.sleep(pause)
 
     def close(self):
         """Ends the browser."""

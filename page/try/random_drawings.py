@@ -3,8 +3,8 @@
 
     python3 page/try/random_drawings.py FOLDER COUNT [SEED]
 
-FOLDER is made, and given COUNT drawings of each kind: such as `second_mend.py` mends, such as `second_redraw.py` redraws,
-and such as `mutated_files.py` changes. The same SEED gives the same drawings.
+FOLDER is made, and given COUNT drawings of each kind: such as `second_mend.py` mends, such as `second_redraw.py`
+redraws, and such as `mutated_files.py` changes. The same SEED gives the same drawings.
 """
 import pathlib
 import random

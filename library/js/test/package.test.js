@@ -6,6 +6,7 @@ import { test } from "node:test";
 import { fileURLToPath } from "node:url";
 import { runInNewContext } from "node:vm";
 import { load } from "../index.js";
+import { jsonRow, toldLines, whyLines } from "./rows.js";
 
 const CORPUS = new URL("../../../conformance/", import.meta.url);
 const DATA = new URL("../../../crates/anscheck/data/", import.meta.url);
@@ -63,16 +64,56 @@ test("a drawing of the corpus passes exactly where its needs are known", () => {
   }
 });
 
+test("the row of each drawing agrees with the other answers", () => {
+  for (const { name } of drawings()) {
+    const file = readFileSync(new URL(`files/${name}.ans`, CORPUS));
+    const row = checker.row(file);
+    const { verdict, fault } = checker.check(file, "cleared");
+    assert.equal(row.verdict, verdict, name);
+    if (verdict === "refused") assert.deepEqual(row.fault, fault, name);
+    else assert.deepEqual(row.needs, checker.needs(file).needs, name);
+    if (row.needs?.length > 0) assert.deepEqual(row.fault, checker.check(file).fault, name);
+    assert.equal(row.fault === null, row.needs?.length === 0, name);
+    assert.equal(row.needs === null, verdict === "refused", name);
+    assert.equal(row.onEveryPlayer === null, row.players?.length !== 0, name);
+    assert.equal(checker.record(file).verdict === "pass" && row.content === null, false, name);
+  }
+});
+
+test("a row has what there is of the record, whether it is accepted or not", () => {
+  const { record, notes, content } = checker.row(hi);
+  assert.deepEqual([record.width, record.lines, content, notes], [2, 1, 2, []]);
+  const odd = Uint8Array.from(hi);
+  const at = odd.length - 128;
+  odd.set([0x30, 0x31], at + 5);
+  odd.set([0x41, 0x01, 0x00, 0xb0, 0x20, 0x00], at + 7);
+  odd[at + 105] = 0x0b;
+  const refused = checker.row(odd);
+  assert.deepEqual([refused.verdict, refused.fault.number, refused.content, refused.notes], ["refused", 2, null, []]);
+  assert.deepEqual(refused.record, {
+    ...record, title: "A☺ ░", flags: 0x0b, ice: true, spacing: 8, aspect: "stretch",
+  });
+  assert.equal(checker.row(new Uint8Array(300)).record, null);
+});
+
 test("answers are plain objects", () => {
   assert.deepEqual(checker.check(hi, "cleared"), {
     verdict: "pass", width: 2, lines: 1, glyphs: Uint8Array.of(0x48, 0x69), attributes: Uint8Array.of(7, 7),
   });
   assert.deepEqual(checker.check(hi), {
-    verdict: "refused", fault: { number: 22, offset: 0, row: null, column: null, text: "F22 print at an unknown place" },
+    verdict: "refused",
+    fault: { number: 22, offset: 0, row: null, column: null, text: "F22 print at an unknown place" },
   });
   assert.deepEqual(checker.needs(hi), { verdict: "pass", needs: ["cursor", "colours"] });
-  assert.deepEqual(checker.record(new Uint8Array(0)), { verdict: "refused", text: "verdict: refused\nat 0: F1 no SAUCE record\n" });
-  assert.equal(checker.version(), "0.1.0");
+  const text = "verdict: refused\nat 0: F1 no SAUCE record\n";
+  assert.deepEqual(checker.record(new Uint8Array(0)), { verdict: "refused", text });
+  assert.deepEqual(checker.row(hi), {
+    verdict: "pass", needs: ["cursor", "colours"], players: [], onEveryPlayer: ["cursor", "colours"], taller: true,
+    fault: { number: 22, offset: 0, row: null, column: null, text: "F22 print at an unknown place" },
+    bytes: { start: 0, length: 1 }, low: { row: 1, column: 1 }, high: { row: 2, column: 2 },
+    known: null, lines: null, mends: true, content: 2, comments: [], notes: [], record: checker.row(hi).record,
+  });
+  assert.equal(checker.version(), "0.2.0");
 });
 
 test("a file is a Uint8Array or an ArrayBuffer, from anywhere, and stays as it is", () => {
@@ -120,7 +161,7 @@ test("each option of mend does what it says", () => {
 test("a file that is too long has an answer of its own, and the longest one has others", () => {
   const long = new Uint8Array(LONGEST_FILE + 1);
   const asked = [checker.check(long), checker.needs(long), checker.why(long), checker.record(long), checker.mend(long),
-    checker.redraw(long)];
+    checker.redraw(long), checker.row(long)];
   for (const answer of asked) assert.deepEqual(answer, { verdict: "too long" });
   assert.equal(checker.record(long.subarray(1)).text, `verdict: refused\nat ${LONGEST_FILE}: F1 no SAUCE record\n`);
 });
@@ -129,6 +170,7 @@ test("wrong arguments are told by an error, and nothing else changes", () => {
   const types = [
     () => checker.check("hi.ans"), () => checker.check(), () => checker.why([72, 105]), () => checker.needs(null),
     () => checker.record(new Uint16Array(4)), () => checker.redraw(new DataView(new ArrayBuffer(4))),
+    () => checker.row("hi.ans"),
     () => checker.check(hi, "clear"), () => checker.check(hi, 31), () => checker.check(hi, null),
     () => checker.check(hi, ["colors"]), () => checker.check(hi, ["toString"]), () => checker.check(hi, [0]),
     () => checker.mend(hi, null), () => checker.mend(hi, 15), () => checker.mend(hi, { takeout: true }),
@@ -160,7 +202,8 @@ test("memory is taken once, and used again", async () => {
 
 test("after an error of the engine the checker goes on", async () => {
   const { instantiate, Instance } = WebAssembly;
-  const failing = (instance) => ({ exports: { ...instance.exports, ans_why: () => { throw new RangeError("no memory"); } } });
+  const fail = () => { throw new RangeError("no memory"); };
+  const failing = (instance) => ({ exports: { ...instance.exports, ans_why_on: fail } });
   WebAssembly.instantiate = async (module) => failing(new Instance(module));
   const other = await load().finally(() => { WebAssembly.instantiate = instantiate; });
   assert.throws(() => other.why(hi), /no memory/);
@@ -170,7 +213,7 @@ test("after an error of the engine the checker goes on", async () => {
 test("the module may be given as bytes, or compiled", async () => {
   const bytes = readFileSync(new URL("../anscheck.wasm", import.meta.url));
   for (const module of [bytes, Uint8Array.from(bytes).buffer, new WebAssembly.Module(bytes)]) {
-    assert.equal((await load(module)).version(), "0.1.0");
+    assert.equal((await load(module)).version(), "0.2.0");
   }
   for (const wrong of ["anscheck.wasm", null, 3]) await assert.rejects(load(wrong), TypeError);
 });
@@ -185,7 +228,9 @@ test("the types are those of the package", (context) => {
 
 const PROGRAM = process.env.ANSCHECK;
 
-test("texts and files are the program's, to the byte", { skip: PROGRAM ? false : "ANSCHECK names no program" }, () => {
+const without = { skip: PROGRAM ? false : "ANSCHECK names no program" };
+
+test("texts and files are the program's, to the byte", without, () => {
   const mends = { takeOut: true, lineEnds: true, fullRows: true, leastLines: true, width: 80 };
   const flags = ["--take-out", "--line-ends", "--full-rows", "--least-lines", "--width", "80"];
   const said = ({ verdict, text }) => [verdict === "pass" ? 0 : 1, text];
@@ -204,4 +249,15 @@ test("texts and files are the program's, to the byte", { skip: PROGRAM ? false :
   }
   const version = spawnSync(PROGRAM, ["--version"], { encoding: "utf8" }).stdout;
   assert.ok(version.startsWith(`anscheck ${checker.version()} `), version);
+});
+
+test("rows say what the program's table and why say", without, () => {
+  for (const { name } of drawings()) {
+    const path = fileURLToPath(new URL(`files/${name}.ans`, CORPUS));
+    const row = checker.row(readFileSync(path));
+    const { file, ...told } = JSON.parse(spawnSync(PROGRAM, ["table", "--json", path], { encoding: "utf8" }).stdout);
+    assert.deepEqual(jsonRow(row), told, name);
+    const { stdout } = spawnSync(PROGRAM, ["why", path], { encoding: "utf8" });
+    assert.deepEqual(whyLines(row).sort(), toldLines(stdout).sort(), name);
+  }
 });

@@ -9,15 +9,15 @@ import { fileURLToPath } from "node:url";
 
 const PACKAGE = fileURLToPath(new URL("..", import.meta.url));
 const DATA = fileURLToPath(new URL("../../../crates/anscheck/data/", import.meta.url));
-const FILES = ["index.js", "calls.js", "anscheck.wasm", "package.json"];
+const FILES = ["index.js", "calls.js", "characters.js", "numbers.js", "row.js", "anscheck.wasm", "package.json"];
 const EXAMPLE = /^```js\n(.*?)^```\n\n```text\n(.*?)^```$/gms;
 
 const readme = readFileSync(join(PACKAGE, "README.md"), "utf8");
 const examples = [...readme.matchAll(EXAMPLE)].map(([, script, printed]) => ({ script, printed }));
 
-test("README.md has three examples, and names the files that they need", () => {
-  assert.equal(examples.length, 3);
-  assert.equal(readme.split("```js\n").length - 1, 3);
+test("README.md has four examples, and names the files that they need", () => {
+  assert.equal(examples.length, 4);
+  assert.equal(readme.split("```js\n").length - 1, 4);
   for (const name of FILES) assert.ok(readme.includes(`\`${name}\``), name);
 });
 

@@ -1,5 +1,5 @@
 // Compiled by the tests and not run: what the types let a caller write, and what they forbid.
-import { load, type Checker, type Fault, type Part, type Picture } from "../index.js";
+import { load, type Checker, type Fault, type Kind, type Part, type Picture, type Row } from "../index.js";
 
 export async function uses(file: Uint8Array, buffer: ArrayBuffer): Promise<string> {
   const checker: Checker = await load();
@@ -18,6 +18,8 @@ export async function uses(file: Uint8Array, buffer: ArrayBuffer): Promise<strin
   checker.mend(file, {});
   checker.mend(file);
   const redrawn = checker.redraw(bytes);
+  const row = checker.row(file);
+  if (row.verdict !== "too long") return authorOf(row);
   const why = checker.why(file);
   const record = checker.record(file);
   const texts = [why, record, redrawn].map((told) => (told.verdict === "too long" ? "" : told.text));
@@ -26,6 +28,14 @@ export async function uses(file: Uint8Array, buffer: ArrayBuffer): Promise<strin
 
 function rowsOf({ width, lines, glyphs, attributes }: Picture): string {
   return `${width} ${lines} ${glyphs[0]} ${attributes[0]}`;
+}
+
+function authorOf({ needs, players, low, record, notes }: Row): string {
+  const parts: Part[] = needs ?? [];
+  const kinds: Kind[] = players ?? [];
+  const column: number = low?.column ?? 0;
+  const ice: boolean = record?.ice ?? false;
+  return [record?.author ?? "", ...parts, ...kinds, column.toFixed(), ice, ...notes].join(" ");
 }
 
 function placeOf({ number, offset, row, column, text }: Fault): string {
@@ -44,6 +54,8 @@ export function wrong(checker: Checker, file: Uint8Array): void {
   checker.mend(file, { takeout: true });
   // @ts-expect-error: a file that is too long has no picture
   checker.check(file).glyphs;
+  // @ts-expect-error: a file that is too long has no row
+  checker.row(file).record;
   // @ts-expect-error: a promise is no checker
   load().version();
   // @ts-expect-error: a name is no module
