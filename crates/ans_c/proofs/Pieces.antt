@@ -1,6 +1,6 @@
 -- Where texts stand in a file.
-use Rattle.std.proofs.Common.{◌≡◌, ℕ, ◌+◌, ◌-◌, ◌*◌, ◌≤◌, ◌==◌, Bool, true, false, min, List, [], ◌++◌, length, take, drop}
-use Rattle.std.proofs.Common.{refl, sym, ap, ◌∙◌, arith, append_assoc, codes}
+use Rattle.std.proofs.Common.{◌≡◌, ℕ, ◌+◌, ◌-◌, ◌*◌, ◌≤◌, ◌==◌, Bool, true, false, min, List, [], ◌++◌, length}
+use Rattle.std.proofs.Common.{take, drop, refl, sym, ap, ◌∙◌, arith, append_assoc, codes}
 use Rattle.std.specs.List.{suffix_len}
 use Rattle.std.proofs.lemmas.Bool.Decides.{nat_tests}
 use Rattle.std.proofs.Math.Seq.{drop-append_seam, drop-drop, take-append_seam, take-take}
@@ -26,8 +26,10 @@ field_in_file file sauce front offset size is =
 pub field_piece : (file sauce : List ℕ) (front offset size : ℕ) (told : Piece) (text : List ℕ) → drop front file ≡ sauce
     → text ≡ trimmed (field offset size sauce) → told ≡ piece (front + offset) (length text)
     → IsPieceOf file told (trimmed (field offset size sauce))
-field_piece file sauce front offset size told text is shown place =
-    rw (place, shown) (field_in_file file sauce front offset size is)
+field_piece file sauce front offset size told text is shown place = record {
+  length_is = ap (λ (p : Piece). p.length) place ∙ ap length shown;
+  bytes_are = rw (place, shown) (field_in_file file sauce front offset size is);
+}
 
 -- the lines of comments stand right before the record
 before_comments : (body comments sauce : List ℕ) (count : ℕ) → length comments ≡ 64 * count

@@ -30,6 +30,10 @@ pub record TellsFault (told : ToldFault) (fault : Fault) : Type 0 where
 abbrev pub has_bit : ℕ → ℕ → Bool
 has_bit known bit = not (bit_and known bit == 0)
 
+-- a number where this is so, and else 0
+abbrev pub number_if : Bool → ℕ → ℕ
+number_if so number = if so then number else 0
+
 -- the class of starts that bits name
 abbrev pub class_of : ℕ → Start
 class_of known = record {

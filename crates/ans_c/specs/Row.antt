@@ -33,7 +33,7 @@ use Rattle.ans_why.specs.declared.why.Refusal.{Refusal}
 use Rattle.ans_why.specs.declared.why.Reliance.{Reliance}
 use Rattle.ans_why.specs.declared.why.Shown.{Shown}
 use Rattle.ans_why.specs.declared.why.Shown.TheVariants.{Cursors, Cells}
-use Rattle.ans_c.specs.Numbers.{TellsFault, class_of}
+use Rattle.ans_c.specs.Numbers.{TellsFault, class_of, number_if}
 use Rattle.ans_c.specs.Told.{code_of}
 use Rattle.ans_c.specs.declared.row_numbers.Blame.{Blame}
 use Rattle.ans_c.specs.declared.row_numbers.Passing.{Passing}
@@ -42,14 +42,6 @@ use Rattle.ans_c.specs.declared.row_numbers.ToldFields.{ToldFields}
 use Rattle.ans_c.specs.declared.row_numbers.ToldParts.{ToldParts}
 use Rattle.ans_c.specs.declared.row_numbers.ToldPlace.{ToldPlace}
 use Rattle.ans_c.specs.declared.row_numbers.ToldRow.{ToldRow}
-use Rattle.ans_c.specs.declared.row_numbers.TheConstants.Blame as blame
-use Rattle.ans_c.specs.declared.row_numbers.TheConstants.Passing as passing
-use Rattle.ans_c.specs.declared.row_numbers.TheConstants.ToldFields as fields
-use Rattle.ans_c.specs.declared.row_numbers.TheConstants.ToldParts as parts_told
-
--- a number where this is so, and else 0
-abbrev pub number_if : Bool → ℕ → ℕ
-number_if so number = if so then number else 0
 
 -- the numbers of the kinds that arise, added up
 abbrev pub kinds_sum : KindsUsed → ℕ
@@ -126,6 +118,40 @@ abbrev pub high_place : Shown → ToldPlace
 high_place (Cursors low high) = told_place high
 high_place (Cells low high) = no_place
 
+-- nothing, where there is nothing to tell
+abbrev pub no_passing : Passing
+no_passing = record { needs = 0; players = 0; on_every_player = 0; taller = 0 }
+
+abbrev pub no_blame : Blame
+no_blame = record {
+  fault = record { number = 0; row = 0; column = 0; offset = 0 };
+  bytes = no_piece;
+  low = no_place;
+  high = no_place;
+  known = 0;
+  lines = 0;
+  mends = 0;
+}
+
+abbrev pub no_parts : ToldParts
+no_parts = record { content = 0; comments = no_piece; notes = 0 }
+
+abbrev pub no_fields : ToldFields
+no_fields = record {
+  is_there = 0;
+  flags = 0;
+  ice = 0;
+  spacing = 0;
+  aspect = 0;
+  width = 0;
+  lines = 0;
+  font = no_piece;
+  date = no_piece;
+  title = no_piece;
+  author = no_piece;
+  group = no_piece;
+}
+
 -- a number of lines that is enough; 0 where there is none
 abbrev pub lines_or_0 : Option ℕ → ℕ
 lines_or_0 (Some lines) = lines
@@ -168,7 +194,7 @@ pub record IsRelianceBlame (said : Reliance) (told : Blame) : Type 0 where
 -- the same where a content may rely on nothing
 abbrev pub IsBlameOfPass : Option Reliance → Blame → Type 0
 IsBlameOfPass (Some reliance) told = IsRelianceBlame reliance told
-IsBlameOfPass None told = told ≡ blame.NONE
+IsBlameOfPass None told = told ≡ no_blame
 
 -- what is told to be to blame in a file
 abbrev pub TellsBlame : Why → Blame → Type 0
@@ -179,11 +205,12 @@ TellsBlame (Passes parts said) told = IsBlameOfPass said.reliance told
 -- what is told of a pass; nothing of another file
 abbrev pub TellsPassing : Why → Passing → Type 0
 TellsPassing (Passes parts said) told = IsPassing said told
-TellsPassing _ told = told ≡ passing.NONE
+TellsPassing _ told = told ≡ no_passing
 
--- This piece of the file has these bytes.
-abbrev pub IsPieceOf : List ℕ → Piece → List ℕ → Type 0
-IsPieceOf file piece bytes = take piece.length (drop piece.start file) ≡ bytes
+-- this piece of the file has these bytes, and as many as they are
+pub record IsPieceOf (file : List ℕ) (piece : Piece) (bytes : List ℕ) : Type 0 where
+  pub length_is : piece.length ≡ length bytes
+  pub bytes_are : take piece.length (drop piece.start file) ≡ bytes
 
 -- what is told of the parts of a file
 pub record IsTellingParts (file : List ℕ) (parts : Parts) (told : ToldParts) : Type 0 where
@@ -193,7 +220,7 @@ pub record IsTellingParts (file : List ℕ) (parts : Parts) (told : ToldParts) :
 
 abbrev pub TellsParts : List ℕ → Option Parts → ToldParts → Type 0
 TellsParts file (Some parts) told = IsTellingParts file parts told
-TellsParts file None told = told ≡ parts_told.NONE
+TellsParts file None told = told ≡ no_parts
 
 -- letters of 8 or of 9 pixels, where the flags say which
 abbrev pub spacing_number : ℕ → ℕ
@@ -221,7 +248,7 @@ pub record IsTellingFields (file sauce : List ℕ) (told : ToldFields) : Type 0 
 -- the record in the file's last 128 bytes is told, where there is one
 pub record TellsFields (file : List ℕ) (told : ToldFields) : Type 0 where
   pub found : IsTrue (has_record file) → IsTellingFields file (drop (length file - 128) file) told
-  pub none : IsFalse (has_record file) → told ≡ fields.NONE
+  pub none : IsFalse (has_record file) → told ≡ no_fields
 
 -- What there is to say of the file, as `why` says it, is told, and its record. The answer is that of its verdict.
 pub record TellsRow (file : List ℕ) (result : ℕ) (told : ToldRow) : Type 0 where

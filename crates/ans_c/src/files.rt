@@ -74,9 +74,10 @@ fn tell_play<G: Screen>(
 
 /// Checks a file from the starts of the class that `known` names: 1 the screen, 2 the cursor, 4 the saved
 /// cursor, 8 the colours, 16 wrap, added up; other bits count for nothing. It wants a row for each line and one
-/// more, four bytes for each column of each row, and as many glyphs and attributes as `ans_size` tells cells. `PASS`: from every such start the content shows the picture whose
-/// bytes and attributes stand at the front of `glyphs` and `attributes`, row by row. `REFUSED`: `fault` tells
-/// why. `TOO_LONG`: the file is too long. `NO_ROOM`: an array is too small.
+/// more, four bytes for each column of each row, and as many glyphs and attributes as `ans_size` tells cells.
+/// `PASS`: from every such start the content shows the picture whose bytes and attributes stand at the front of
+/// `glyphs` and `attributes`, row by row. `REFUSED`: `fault` tells why. `TOO_LONG`: the file is too long.
+/// `NO_ROOM`: an array is too small.
 #[unsafe(no_mangle)]
 pub extern "C" fn ans_check_on(
     file: &[u8],

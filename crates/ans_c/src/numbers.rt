@@ -1,12 +1,12 @@
 //! What is told in numbers.
 
-ghost use Rattle.std.specs.Prelude.{◌≡◌, ◌<◌, ◌≤◌, ◌≢◌, if◌then◌else◌, IfSome, IsNone};
+ghost use Rattle.std.specs.Prelude.{◌≡◌, ◌<◌, ◌≤◌, ◌≢◌, IfSome, IsNone};
 ghost use Rattle.ans_model.specs.Bytes.{most_columns, most_lines};
 ghost use Rattle.ans_model.specs.declared.fault.Cause.{Cause};
 ghost use Rattle.ans_model.specs.declared.note.Note.{Note};
 ghost use Rattle.ans_sauce.specs.Parts.{size_of};
 ghost use Rattle.ans_model.specs.Text.FaultText.{cause_number, note_number};
-ghost use Rattle.ans_c.specs.Numbers.{class_of, IsSizeOf, mends_of, number_or_none, TellsFault};
+ghost use Rattle.ans_c.specs.Numbers.{class_of, IsSizeOf, mends_of, number_if, number_or_none, TellsFault};
 
 use ans_model::fault::{Cause, Fault};
 use ans_model::note::Note;
@@ -72,11 +72,12 @@ pub(crate) fn class_of(known: u32) -> Start
     }
 }
 
-/// A bit where it is to be set, and else 0.
-fn bit(set: bool, value: u32) -> u32
-    ensures { result ≡ (if set then value else 0) }
+/// A number where this is so, and else 0.
+pub(crate) fn number_if(so: bool, number: u32) -> u32
+    ensures number { result ≡ number_if so number }
+    ensures bound { result ≤ number }
 {
-    if set { value } else { 0 }
+    if so { number } else { 0 }
 }
 
 /// The bits that name a class.
@@ -84,11 +85,11 @@ pub(crate) fn bits_of(class: Start) -> u32
     ensures class { class_of result ≡ class }
     ensures bits { result < 32 }
 {
-    bit(class.screen, 1)
-        | bit(class.cursor, 2)
-        | bit(class.saved, 4)
-        | bit(class.colours, 8)
-        | bit(class.wrap, 16)
+    number_if(class.screen, 1)
+        | number_if(class.cursor, 2)
+        | number_if(class.saved, 4)
+        | number_if(class.colours, 8)
+        | number_if(class.wrap, 16)
 }
 
 /// A number, or none where it is 0.

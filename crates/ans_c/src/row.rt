@@ -43,8 +43,10 @@ fn told_row(file: &[u8], why: &Why<'_>) -> ToldRow
 }
 
 /// Tells in numbers what `anscheck why` and a row of `anscheck table` say of a file, with as many rows and bytes
-/// as a check of it wants. `PASS`: the file passes from the cleared start. `REFUSED`: it does not. `row` is set
-/// after both. `TOO_LONG`: the file is too long. `NO_ROOM`: there are too few rows or bytes.
+/// as a check of it wants. It leaves out the hints, how often and where first each kind of player matters, the two
+/// cells of F25, and what stands where a record is refused. `PASS`: the file passes from the cleared start.
+/// `REFUSED`: it does not. `row` is set after both. `TOO_LONG`: the file is too long. `NO_ROOM`: there are too few
+/// rows or bytes.
 #[unsafe(no_mangle)]
 pub extern "C" fn ans_row_on(
     file: &[u8],

@@ -7,7 +7,8 @@ ghost use Rattle.ans_sauce.specs.Split.{IsSplit};
 ghost use Rattle.ans_c.specs.Row.{IsTellingFields, IsTellingParts, TellsFields, aspect_number, has_note, notes_sum};
 ghost use Rattle.ans_c.specs.Row.{piece, spacing_number};
 
-use crate::row_numbers::{Piece, ToldFields, ToldParts, number_if};
+use crate::numbers::number_if;
+use crate::row_numbers::{Piece, ToldFields, ToldParts};
 use ans_model::note::Note;
 use ans_sauce::{Parts, Record, cut_record};
 

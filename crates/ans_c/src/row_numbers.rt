@@ -1,11 +1,11 @@
 //! The row of a file in numbers.
 
-ghost use Rattle.std.specs.Prelude.{◌≡◌, ◌≤◌};
+ghost use Rattle.std.specs.Prelude.{◌≡◌};
 ghost use Rattle.ans_c.specs.Row.{IsBlameOfPass, IsPassing, IsRecordBlame, IsRefusalBlame, IsRelianceBlame};
 ghost use Rattle.ans_c.specs.Row.{TellsBlame, TellsPassing, TellsPlayers, enough_or_0, high_place, kinds_sum};
-ghost use Rattle.ans_c.specs.Row.{known_number, lines_or_0, low_place, number_if};
+ghost use Rattle.ans_c.specs.Row.{known_number, lines_or_0, low_place};
 
-use crate::numbers::{ToldFault, bits_of, told};
+use crate::numbers::{ToldFault, bits_of, number_if, told};
 use ans_players::kind::Kind;
 use ans_sauce::Judged;
 use ans_walks::{KindsUsed, Players};
@@ -20,7 +20,8 @@ pub struct Piece {
     pub length: usize,
 }
 
-/// A row and a column, counted from 1. Both are 0 where there is no place.
+/// A row and a column, counted from 1; the row may be the spare one below the stated lines. Both are 0 where there
+/// is no place.
 #[repr(C)]
 #[derive(Clone, Copy)]
 pub struct ToldPlace {
@@ -38,9 +39,9 @@ pub struct Passing {
     /// 4 home-on-clear, 8 clear-in-colour, 16 save-place-only, 32 dos-colours, 64 tab-prints,
     /// 128 line-erased, 256 wrap-off, 512 stops-at-edge, 1024 page-controls, 2048 terminal-controls.
     pub players: u32,
-    /// Where it makes use of none, the parts that have to be known for every player to show the same.
+    /// Where it makes use of none, the parts that have to be known for every player to show the same; else 0.
     pub on_every_player: u32,
-    /// 1 where it shows its picture on every taller screen too.
+    /// 1: it shows its picture on every taller screen too. 0 does not say that it differs there.
     pub taller: u32,
 }
 
@@ -61,9 +62,11 @@ pub struct Blame {
     /// reassigned key; and those behind the end mark: 8 comments that the record does not count, 9 an older
     /// record, 10 an arrow in the drawing. 0 for nothing.
     pub known: u32,
-    /// For F5 and F19 to F21 the least number of lines with which the file passes, where there is one.
+    /// For F5 and F19 to F21 the least number of lines with which the file passes from the cleared start, where
+    /// there is one; else 0.
     pub lines: u32,
-    /// 1 where the content passes, and the file has room for the safe beginning, which mends it.
+    /// 1 where the content passes and relies on something, and the file has room for the safe beginning, which
+    /// mends it; else 0.
     pub mends: u32,
 }
 
@@ -174,14 +177,6 @@ impl ToldFields {
         author: Piece::NONE,
         group: Piece::NONE,
     };
-}
-
-/// A number where this is so, and else 0.
-pub(crate) fn number_if(so: bool, number: u32) -> u32
-    ensures number { result ≡ number_if so number }
-    ensures bound { result ≤ number }
-{
-    if so { number } else { 0 }
 }
 
 /// The numbers of the kinds that arise, added up.

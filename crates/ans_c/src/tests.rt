@@ -193,6 +193,81 @@ fn rows_of_refused_files_are_told(rt: HostRuntime) {
     assert_eq!(rt; short, NO_ROOM);
 }
 
+/// A drawing that begins with a switch of terminals, with one comment and a record whose texts fill their fields.
+fn full_drawing() -> [u8; 205] {
+    let mut file = [b'x'; 205];
+    file[..13].copy_from_slice(b"\x1b[?33hA\x1aCOMNT");
+    file[77..84].copy_from_slice(b"SAUCE00");
+    file[159..171].copy_from_slice(b"19990131\x07\x00\x00\x00");
+    file[171..183].copy_from_slice(b"\x01\x01\x02\x00\x01\x00\x00\x00\x00\x00\x01\x0d");
+    file
+}
+
+/// Where a piece starts, and its length.
+fn both(piece: Piece) -> (usize, usize) {
+    (piece.start, piece.length)
+}
+
+#[test]
+fn rows_tell_places_in_the_file(rt: HostRuntime) {
+    let (answer, row) = row_of(&full_drawing());
+    let blame = row.blame;
+    let fault = (blame.fault.number, blame.fault.offset, blame.known);
+    assert_eq!(rt;
+        (answer, fault, both(blame.bytes)),
+        (REFUSED, (16, 0, 4), (0, 6))
+    );
+    let parts = row.parts;
+    assert_eq!(rt;
+        (parts.content, both(parts.comments), parts.notes),
+        (7, (13, 64), 0)
+    );
+    let fields = row.fields;
+    let flags = (fields.flags, fields.ice, fields.spacing, fields.aspect);
+    assert_eq!(rt; flags, (1 + 4 + 8, 1, 9, 1));
+    let names = (both(fields.title), both(fields.author), both(fields.group));
+    assert_eq!(rt; names, ((84, 35), (119, 20), (139, 20)));
+    assert_eq!(rt;
+        (both(fields.date), both(fields.font)),
+        ((159, 8), (183, 22))
+    );
+}
+
+#[test]
+fn rows_know_comments_that_are_not_counted(rt: HostRuntime) {
+    let mut file = full_drawing();
+    file[181] = 0;
+    let (answer, row) = row_of(&file);
+    let blame = row.blame;
+    let fault = (blame.fault.number, blame.fault.offset, blame.known);
+    assert_eq!(rt;
+        (answer, fault, blame.bytes.length),
+        (REFUSED, (8, 8, 8), 0)
+    );
+    assert_eq!(rt; (row.parts.content, row.fields.is_there), (0, 1));
+}
+
+#[test]
+fn rows_tell_the_lines_of_a_record_without(rt: HostRuntime) {
+    let mut file = drawing();
+    file[101] = 0;
+    let (answer, row) = row_of(&file);
+    let blame = row.blame;
+    let fault = (blame.fault.number, blame.fault.offset, blame.lines);
+    assert_eq!(rt; (answer, fault), (REFUSED, (5, 101, 1)));
+}
+
+#[test]
+fn rows_blame_nothing_that_passes_from_every_start(rt: HostRuntime) {
+    let (answer, row) = row_of(&mended_drawing());
+    let blame = row.blame;
+    assert_eq!(rt;
+        (answer, row.passing.needs, row.passing.taller),
+        (PASS, 0, 1)
+    );
+    assert_eq!(rt; (blame.fault.number, blame.low.row, blame.mends), (0, 0, 0));
+}
+
 /// Asserts what a call answers, and what the text that it hands over is.
 fn expect(rt: &impl Abort, answer: u32, told: Option<&[u8]>, expected: (u32, &[u8])) {
     assert_eq!(rt; (answer, told), (expected.0, Some(expected.1)));

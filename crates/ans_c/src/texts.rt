@@ -145,8 +145,8 @@ pub extern "C" fn ans_record(file: &[u8], text: &mut [u8], told: &mut usize) -> 
     }
 }
 
-/// Hands over the text of the fault Fn, `F21 scrolls`, as `ans_why_on` does its own: `PASS`, or `NO_ROOM` where `text` is
-/// shorter. `REFUSED`: there is no fault of this number.
+/// Hands over the text of the fault Fn, `F21 scrolls`, as `ans_why_on` does its own: `PASS`, or `NO_ROOM` where
+/// `text` is shorter. `REFUSED`: there is no fault of this number.
 #[unsafe(no_mangle)]
 pub extern "C" fn ans_copy_fault_text(number: u32, text: &mut [u8], told: &mut usize) -> u32
     ensures text { result ≢ REFUSED → (cause : Cause) × (cause_number cause ≡ number)

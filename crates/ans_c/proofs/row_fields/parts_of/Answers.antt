@@ -6,7 +6,10 @@ use Rattle.ans_c.proofs.row_fields.parts_of.Goals as goal
 pub returns : goal.returns
 returns c = record {
   content = ap length c.content.ensures;
-  comments = rw (c.comments-comments.ensures.bytes, c.requires.shows.comments)
-      (comments_in_file c.args.file.now c.requires.apart c.requires.accepts.laid);
+  comments = record {
+    length_is = ap length c.comments-comments.ensures.bytes;
+    bytes_are = rw (c.comments-comments.ensures.bytes, c.requires.shows.comments)
+        (comments_in_file c.args.file.now c.requires.apart c.requires.accepts.laid);
+  };
   notes = c.notes_sum.ensures ∙ ap notes_sum (c.as_slice.ensures.value ∙ c.notes.ensures);
 }
