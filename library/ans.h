@@ -98,7 +98,7 @@ struct ans_piece {
     size_t start, length;
 };
 
-/* A place on the screen, counted from 1. 0 and 0 where there is none. */
+/* A place on the screen, counted from 1; the row may be the spare one, lines + 1. 0 and 0 where there is none. */
 struct ans_place {
     size_t row, column;
 };
@@ -108,7 +108,7 @@ struct ans_passing {
     uint32_t needs;           /* the parts of the start that it relies on, as ans_needs tells them */
     uint32_t players;         /* the kinds in which players part that it makes use of, ANS_PLAYERS_.., added up */
     uint32_t on_every_player; /* where players is 0, the parts that it relies on for every player to show the same */
-    uint32_t taller;          /* 1 where it shows its picture on every taller screen too, else 0 */
+    uint32_t taller;          /* 1: it shows its picture on every taller screen too; 0 does not say that it differs */
 };
 
 /* Of a file that is refused from the cleared start: its fault. Of one that passes from there and needs a part of the
@@ -263,7 +263,8 @@ static inline enum ans_answer ans_needs(const uint8_t *file, size_t file_len, vo
     return ans_needs_on(file, file_len, split.rows, split.rows_len, split.bytes, split.bytes_len, parts, fault);
 }
 
-/* All that `anscheck why` and `anscheck table` tell of a file, in numbers.
+/* What `anscheck why` and `anscheck table` tell of a file, in numbers, but for hints, how often and where first a kind
+ * of players matters, the two cells of F25, and what stands where a record is refused.
  * ANS_PASS: it passes from the cleared start. ANS_REFUSED: it does not. After both `row` is set. ANS_TOO_LONG.
  * ANS_NO_ROOM: less scratch than ans_size tells. */
 static inline enum ans_answer ans_row(const uint8_t *file, size_t file_len, void *scratch, size_t scratch_len,
