@@ -20,7 +20,7 @@ const COLUMNS = [
  * long they wait so many times as long as it took, so that most of the time is left for the checker.
  */
 const BATCH_PERIOD = 250;
-const WAIT_FOR_LAYOUT = 4;
+const WAIT_FOR_LAYOUT = 8;
 
 const natural = new Intl.Collator("en", { numeric: true });
 
