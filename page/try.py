@@ -10,9 +10,10 @@ file with what is said of it, the cells of the picture, its text, and the colour
 something, touch, files that cannot be read or take too long, and a browser that is too old. The status is 1 where
 something differs.
 
-PAGE is page/check.html where it is not named. With --stand-in the page is tried too with a module that stops or never
-ends, which needs `clang` and `lld` for wasm32. With --pictures pictures of the page are written to FOLDER: light, dark,
-and 360 points wide.
+PAGE is page/check.html where it is not named. With `--browser webkit` the drawings are compared in WebKit, and no more
+is tried; that wants Debian's `webkit2gtk-driver` and `xvfb`. With --stand-in the page is tried too with a module that
+stops or never ends, which needs `clang` and `lld` for wasm32. With --pictures pictures of the page are written to
+FOLDER: light, dark, and 360 points wide.
 """
 import argparse
 import pathlib
@@ -28,13 +29,15 @@ sys.dont_write_bytecode = True
 
 import browsers  # noqa: E402
 import stand_in  # noqa: E402
+import webkit  # noqa: E402
 from drawings import HIDDEN, NEAR, hostile_contents, largest, make_drawings  # noqa: E402
 from driving import Tries, column, saved, saved_names, show  # noqa: E402
 from expected import expected, made, name_shown, picture_of, redrawn_of, rows_of  # noqa: E402
 from painted import BLINKS, PAINTED, looks_as  # noqa: E402
 from tables import try_filter, try_many, try_steps, try_table  # noqa: E402
 
-BROWSERS = {"chromium": browsers.Chromium, "firefox": browsers.Firefox}
+BROWSERS = {"chromium": browsers.Chromium, "firefox": browsers.Firefox, "webkit": webkit.WebKit}
+USUAL = ["chromium", "firefox"]
 DATA = TOP / "crates" / "anscheck" / "data"
 LONGEST_PAUSE = 1000
 
@@ -324,6 +327,8 @@ def try_in(kind, page, program, paths, folder):
         browser.look(1000, 900)
         browser.open(page.as_uri())
         compare(browser, tries, program, paths)
+        if kind is webkit.WebKit:
+            return tries
         try_mending(browser, tries, program)
         try_redrawing(browser, tries, program)
         try_blink(browser, tries, folder)
@@ -356,7 +361,7 @@ def main():
     words.add_argument("drawings", type=pathlib.Path, nargs="*")
     given = words.parse_intermixed_args()
     paths = sorted((TOP / "conformance" / "files").glob("*.ans")) + sorted(DATA.glob("*.ans")) + given.drawings
-    kinds = [BROWSERS[given.browser]] if given.browser else list(BROWSERS.values())
+    kinds = [BROWSERS[given.browser]] if given.browser else [BROWSERS[name] for name in USUAL]
     with tempfile.TemporaryDirectory() as name:
         folder, page = pathlib.Path(name), given.page.resolve()
         (folder / "largest.ans").write_bytes(largest())

@@ -3,9 +3,9 @@
 
     python3 page/try/many_files.py FOLDER [--browser chromium|firefox|webkit]
 
-Of each .ans file of FOLDER Chromium and Firefox (or the browser that is named) and Node are asked for all that the package
-answers, and the digests of the answers are compared. `try_module.mjs` sets what Node says beside the program. The last line is
-`N files: M differ`, and the status is 1 where one differs.
+Of each .ans file of FOLDER Chromium and Firefox (or the browser that is named) and Node are asked for all that the
+package answers, and the digests of the answers are compared. `try_module.mjs` sets what Node says beside the program.
+The last line is `N files: M differ`, and the status is 1 where one differs.
 """
 import argparse
 import json

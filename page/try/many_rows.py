@@ -3,9 +3,9 @@
 
     python3 page/try/many_rows.py PROGRAM FOLDER [--browser chromium|firefox] [--page PAGE]
 
-The page is given all .ans files of FOLDER at once, in both browsers or in the one that is named. Of each the table has to
-have what `PROGRAM table` says: the verdict, what it needs, the players, the fault and its byte, the notes, the title, the
-author and the size. The last line is `N files: M differ`, and the status is 1 where one differs.
+The page is given all .ans files of FOLDER at once, in both browsers or in the one that is named. Of each the table has
+to have what `PROGRAM table` says: the verdict, what it needs, the players, the fault and its byte, the notes, the
+title, the author and the size. The last line is `N files: M differ`, and the status is 1 where one differs.
 """
 import argparse
 import pathlib

@@ -12,7 +12,7 @@ DRIVER = "WebKitWebDriver"
 BROWSER = "/usr/lib/x86_64-linux-gnu/webkit2gtk-4.1/MiniBrowser"
 PORT, DISPLAY = 4481, ":97"
 AWAIT = """const done = arguments[arguments.length - 1];
-(async () => (EXPRESSION))().then((value) => done([value ?? null]), (error) => done(String(error)));"""
+(async () => (EXPRESSION))().then((value) => done([JSON.stringify(value ?? null)]), (error) => done(String(error)));"""
 
 
 class WebKit:
@@ -57,7 +57,7 @@ class WebKit:
         told = self.ask("POST", f"{self.session}/execute/async", {"script": script, "args": []})
         if isinstance(told, str):
             raise RuntimeError(f"{expression}: {told}")
-        return told[0]
+        return json.loads(told[0])
 
     def wait(self, expression, seconds=60):
         """Waits until an expression is true in the page."""
