@@ -59,7 +59,7 @@ class Checker {
       const attributes = this.array(cells);
       const code = this.exports.ans_check_on(...this.file, known, ...this.screen, ...glyphs, ...attributes, this.fault);
       return this.answered(code, () => (
-        { columns, lines, glyphs: this.bytesOf(glyphs).slice(), attributes: this.bytesOf(attributes).slice() }));
+        { columns, lines, glyphs: this.copyOf(glyphs), attributes: this.copyOf(attributes) }));
     });
   }
 
@@ -227,6 +227,11 @@ class Checker {
   /** The bytes of a piece of the file. */
   bytesAt({ start, length }) {
     return this.bytesOf(this.file).slice(start, start + length);
+  }
+
+  /** Bytes of their own: made of a view, which is quicker than its `slice`. */
+  copyOf(array) {
+    return new Uint8Array(this.bytesOf(array));
   }
 
   bytesOf([at, length]) {
