@@ -266,9 +266,10 @@ SPOKEN_OF = [
 
 
 def said_of(program, file):
-    """The lines of `why` that are compared."""
+    """The lines of `why` that are compared. Where a kind of players first matters is told as a fault's place is."""
     done = subprocess.run([program, "why"], input=file, stdout=subprocess.PIPE)
-    return [line for line in done.stdout.decode().splitlines() if line.partition(" ")[0].rstrip(":") in COMPARED]
+    lines = [line for line in done.stdout.decode().splitlines() if line.partition(" ")[0].rstrip(":") in COMPARED]
+    return [line for line in lines if not line.startswith("at ") or ": F" in line]
 
 
 def with_record(program, file):
