@@ -5,8 +5,8 @@
 
 PROGRAM is the built `anscheck`, ARCHIVE the built `libans_c.a`. Of each FILE it prints processor seconds, the least of
 nine: the program's `check --cleared`, which writes its report to nowhere, and a process that reads the file and calls
-`ans_check`. With --page (page/check.html) it also prints clock seconds, the least of five after a first one: one call of
-the library, and one in a worker of the page in Chromium.
+`ans_check`. With --page (page/check.html) it also prints clock seconds, the least of twenty after a first one: one call
+of the library, and one in a worker of the page in Chromium.
 """
 import argparse
 import base64
@@ -25,7 +25,7 @@ WORKER = """
 onmessage = async ({ data }) => {
   module = await WebAssembly.compile(await unpacked(data.packedModule));
   const times = [];
-  for (let call = 0; call < 6; call++) {
+  for (let call = 0; call < 21; call++) {
     checker ??= newChecker();
     checker.open(data.file);
     const began = performance.now();
@@ -94,7 +94,7 @@ def main():
             library = processor_seconds([caller, path, "1"], path)
             line = f"{pathlib.Path(path).name}: program {program:.3f}, library {library:.3f} ({library / program:.2f} x)"
             if browser:
-                call = float(subprocess.run([caller, path, "6"], capture_output=True, text=True, check=True).stdout.split()[2])
+                call = float(subprocess.run([caller, path, "21"], capture_output=True, text=True, check=True).stdout.split()[2])
                 page = in_page(browser, path)
                 line += f"; one call {call:.3f}, in the page {page:.3f} ({page / call:.1f} x)"
             print(line, flush=True)
