@@ -5,7 +5,7 @@ use Rattle.std.specs.List.{suffix_len}
 use Rattle.std.proofs.lemmas.Bool.Decides.{nat_tests}
 use Rattle.std.proofs.Math.Seq.{drop-append_seam, drop-drop, take-append_seam, take-take}
 use Rattle.std.proofs.lemmas.List.{length-append, length-take, length-take-le, nil_from_length}
-use Rattle.ans_model.specs.File.Layout.{FileParts, Laid, comment_block, laid_file}
+use Rattle.ans_model.specs.File.Layout.{FileParts, Laid, comment_block}
 use Rattle.ans_model.specs.File.Record.{comment_count, field, is_padding, trimmed}
 use Rattle.ans_c.specs.Row.{IsPieceOf, piece}
 use Rattle.ans_c.specs.declared.row_numbers.Piece.{Piece}

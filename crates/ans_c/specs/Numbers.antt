@@ -1,5 +1,5 @@
 -- What is told in numbers.
-use Rattle.std.specs.Prelude.{◌≡◌, ℕ, ◌+◌, ◌*◌, Bool, not, ◌==◌, bit_and, Option, None, Some, if◌then◌else◌}
+use Rattle.std.specs.Prelude.{◌≡◌, ℕ, ◌+◌, ◌*◌, ◌<◌, Bool, not, ◌==◌, bit_and, Option, None, Some, if◌then◌else◌}
 use Rattle.ans_model.specs.Screen.State.{Size}
 use Rattle.ans_model.specs.declared.fault.Cause.{Cause}
 use Rattle.ans_model.specs.declared.fault.Cause.TheVariants.{UnknownCell}
@@ -43,6 +43,11 @@ class_of known = record {
   colours = has_bit known 8;
   wrap = has_bit known 16;
 }
+
+-- the bits name the class, and no other bit is set
+pub record NamesClass (class : Start) (bits : ℕ) : Type 0 where
+  pub class_is : class_of bits ≡ class
+  pub no_other : bits < 32
 
 -- a number that is asked for; 0 asks for none
 abbrev pub number_or_none : ℕ → Option ℕ

@@ -1,15 +1,13 @@
 -- The row of a file in numbers.
-use Rattle.std.specs.Prelude.{◌≡◌, ℕ, ◌+◌, ◌-◌, ◌*◌, ◌<◌, ◌==◌, Bool, true, false, IsTrue, IsFalse, is_some, List}
+use Rattle.std.specs.Prelude.{◌≡◌, ℕ, ◌+◌, ◌-◌, ◌==◌, Bool, IsTrue, IsFalse, List}
 use Rattle.std.specs.Prelude.{length, take, drop, Option, Some, None, if◌then◌else◌}
 use Rattle.std.specs.List.{list_any}
-use Rattle.ans_model.specs.File.Record.{aspect_ratio, author_field, comment_count, date_field, flags, font_field}
+use Rattle.ans_model.specs.File.Record.{aspect_ratio, author_field, date_field, flags, font_field}
 use Rattle.ans_model.specs.File.Record.{group_field, is_non_blink, letter_spacing, stated_lines, stated_width}
 use Rattle.ans_model.specs.File.Record.{title_field, trimmed}
 use Rattle.ans_model.specs.File.Refusals.{has_record}
 use Rattle.ans_model.specs.Text.FaultText.{note_number}
 use Rattle.ans_model.specs.declared.note.Note.{Note}
-use Rattle.ans_model.specs.declared.start.Start.{Start}
-use Rattle.ans_players.specs.declared.kind.Kind.{Kind}
 use Rattle.ans_players.specs.declared.kind.Kind.TheVariants.{WrapAtOnce, LineEnds, HomeOnClear, ClearInColour}
 use Rattle.ans_players.specs.declared.kind.Kind.TheVariants.{SavePlaceOnly, DosColours, TabPrints, LineErased, WrapOff}
 use Rattle.ans_players.specs.declared.kind.Kind.TheVariants.{StopsAtEdge, PageControls, TerminalControls}
@@ -33,7 +31,7 @@ use Rattle.ans_why.specs.declared.why.Refusal.{Refusal}
 use Rattle.ans_why.specs.declared.why.Reliance.{Reliance}
 use Rattle.ans_why.specs.declared.why.Shown.{Shown}
 use Rattle.ans_why.specs.declared.why.Shown.TheVariants.{Cursors, Cells}
-use Rattle.ans_c.specs.Numbers.{TellsFault, class_of, number_if}
+use Rattle.ans_c.specs.Numbers.{NamesClass, TellsFault, number_if}
 use Rattle.ans_c.specs.Told.{code_of}
 use Rattle.ans_c.specs.declared.row_numbers.Blame.{Blame}
 use Rattle.ans_c.specs.declared.row_numbers.Passing.{Passing}
@@ -76,11 +74,6 @@ known_number (Some known.ReassignedKey) = 7
 known_number (Some known.UncountedComments) = 8
 known_number (Some known.OlderRecord) = 9
 known_number (Some known.Arrow) = 10
-
--- the bits name the class, and no other bit is set
-pub record NamesClass (class : Start) (bits : ℕ) : Type 0 where
-  pub class_is : class_of bits ≡ class
-  pub no_other : bits < 32
 
 -- the kinds in which players part, and no parts of the start; or no kind, and the parts that have to be known for every
 -- player to show the same

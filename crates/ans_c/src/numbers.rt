@@ -1,12 +1,12 @@
 //! What is told in numbers.
 
-ghost use Rattle.std.specs.Prelude.{◌≡◌, ◌<◌, ◌≤◌, ◌≢◌, IfSome, IsNone};
+ghost use Rattle.std.specs.Prelude.{◌≡◌, ◌≤◌, ◌≢◌, IfSome, IsNone};
 ghost use Rattle.ans_model.specs.Bytes.{most_columns, most_lines};
 ghost use Rattle.ans_model.specs.declared.fault.Cause.{Cause};
 ghost use Rattle.ans_model.specs.declared.note.Note.{Note};
 ghost use Rattle.ans_sauce.specs.Parts.{size_of};
 ghost use Rattle.ans_model.specs.Text.FaultText.{cause_number, note_number};
-ghost use Rattle.ans_c.specs.Numbers.{class_of, IsSizeOf, mends_of, number_if, number_or_none, TellsFault};
+ghost use Rattle.ans_c.specs.Numbers.{class_of, IsSizeOf, mends_of, NamesClass, number_if, number_or_none, TellsFault};
 
 use ans_model::fault::{Cause, Fault};
 use ans_model::note::Note;
@@ -82,8 +82,7 @@ pub(crate) fn number_if(so: bool, number: u32) -> u32
 
 /// The bits that name a class.
 pub(crate) fn bits_of(class: Start) -> u32
-    ensures class { class_of result ≡ class }
-    ensures bits { result < 32 }
+    ensures { NamesClass class result }
 {
     number_if(class.screen, 1)
         | number_if(class.cursor, 2)

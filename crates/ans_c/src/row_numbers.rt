@@ -98,6 +98,7 @@ pub struct ToldFields {
     pub aspect: u32,
     /// In columns; 80 where the record states 0.
     pub width: usize,
+    /// As the record states them; 0 where it states none.
     pub lines: usize,
     /// The texts, without trailing blanks and zero bytes, in code page 437.
     pub font: Piece,

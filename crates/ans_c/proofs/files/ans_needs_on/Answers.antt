@@ -13,8 +13,8 @@ returns-in-Passes-clause-pass c = λ _.
     let (apart, shows, needs) = needs_class c.args.file.now c.in-Passes.class parts judged.0 judged.1 in
     record {
       apart = apart;
-      needs = subst (NeedsClass c.args.file.now apart) (sym c.bits_of.ensures.class) needs;
-      bits_of_parts = c.bits_of.ensures.bits;
+      needs = subst (NeedsClass c.args.file.now apart) (sym c.bits_of.ensures.class_is) needs;
+      bits_of_parts = c.bits_of.ensures.no_other;
     }
 
 pub returns-in-NoContent-clause-refused : goal.returns-in-NoContent-clause-refused
