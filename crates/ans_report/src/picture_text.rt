@@ -51,23 +51,26 @@ fn write_digits<G: Screen>(
     4 * width
 }
 
+/// Puts the line of a row. `text` is room for it.
 fn put_row<W: Write, G: Screen>(
     out: &mut Outbox<'_, W>,
     picture: &Picture<G>,
     row: usize,
     shown: Shown,
     tables: &Tables,
+    text: &mut [u8],
 )
-    requires { row < picture.now.size.lines }
-    ensures { Puts W.contents out.old out.new (line_text shown (cells_of_row picture.now row)) }
+    requires row { row < picture.now.size.lines }
+    requires room { 4096 ≤ length text.old }
+    ensures puts { Puts W.contents out.old out.new (line_text shown (cells_of_row picture.now row)) }
+    ensures length { length text.new ≡ length text.old }
 {
     let mut bytes = [0; MAX_WIDTH];
     let bytes = &mut bytes[..picture.width()];
     picture.copy_glyphs(row, bytes);
-    let mut text = [0; ROW];
     let end = match shown {
-        Shown::Characters => tables.write_characters(bytes, &mut text),
-        Shown::Digits => write_digits(picture, row, bytes, tables, &mut text),
+        Shown::Characters => tables.write_characters(bytes, text),
+        Shown::Digits => write_digits(picture, row, bytes, tables, text),
     };
     out.put(&text[..end]);
     out.put(b"\n");
@@ -79,11 +82,12 @@ fn put_rows<W: Write, G: Screen>(out: &mut Outbox<'_, W>, picture: &Picture<G>, 
     ensures whole { IsPictureOf picture.now.size picture.now }
 {
     let tables = Tables::new();
+    let mut text = [0; ROW];
     for row in 0..picture.lines() {
         if out.has_failed() {
             return;
         }
-        put_row(out, picture, row, shown, &tables);
+        put_row(out, picture, row, shown, &tables, &mut text);
     }
 }
 

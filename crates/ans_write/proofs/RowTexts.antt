@@ -1,9 +1,10 @@
 -- The texts of rows, as they grow.
-use Rattle.std.proofs.Common.{◌≡◌, ℕ, zero, suc, ◌+◌, ◌*◌, ◌<◌, ◌≤◌, List, [], ◌∷◌, ◌++◌, length, take, get_or, map}
-use Rattle.std.proofs.Common.{refl, ap, ap₂, sym, ◌∙◌, arith, append_assoc, append-nil, length-append}
+use Rattle.std.proofs.Common.{◌≡◌, ℕ, zero, suc, ◌+◌, ◌-◌, ◌*◌, ◌<◌, ◌≤◌, List, [], ◌∷◌, ◌++◌, length, take, drop}
+use Rattle.std.proofs.Common.{get_or, map, All, refl, ap, ap₂, sym, ◌∙◌, arith, append_assoc, append-nil, length-append}
 use Rattle.std.specs.List.{flat_map}
 use Rattle.std.specs.Simd.Lanes.{zip2}
 use Rattle.std.proofs.Math.Seq.{take-add}
+use Rattle.std.proofs.lemmas.Bool.Decides.{nat_tests}
 use Rattle.std.proofs.lemmas.Grind.{flat_map-append}
 use Rattle.std.proofs.lemmas.List.{take_more, take_at, drop_at, take-append-le, length-take-le}
 use borrow.Rule.Slice.PartMut.{put_mid, post_of}
@@ -12,7 +13,7 @@ use Rattle.ans_model.specs.Screen.State.{cell}
 use Rattle.ans_model.specs.Text.Characters.{shown_bytes}
 use Rattle.ans_model.specs.Text.Hexadecimal.{hex_byte}
 use Rattle.ans_model.specs.Text.ReportText.{cell_digits}
-use Rattle.ans_write.specs.Tables.{byte_text}
+use Rattle.ans_write.specs.Tables.{byte_text, IsAscii}
 
 -- bytes are shown by their characters, one after another
 pub shown_bytes_is : (bytes : List ℕ) → shown_bytes bytes ≡ flat_map byte_text bytes
@@ -30,22 +31,41 @@ front_more text piece end w k within fits =
     (drop_at (take end text) (piece ++ rest) end size)
     ∙ ap (λ (b : List ℕ). take end text ++ b) (take-append-le k piece rest fits)
 
--- one text more, where a text is written of each byte
-pub text_more : (f : ℕ → List ℕ) (text piece bytes : List ℕ) (end w k i d : ℕ) → end ≤ length text
-    → k ≤ length piece → take end text ≡ flat_map f (take i bytes) → i < length bytes
-    → take k piece ≡ f (get_or bytes i d) → take (end + k) (put_mid end w text piece) ≡ flat_map f (take (i + 1) bytes)
-text_more f text piece bytes end w k i d within fits before lt spelled =
-    let b = get_or bytes i d in
-    front_more text piece end w k within fits ∙ ap₂ (λ (x y : List ℕ). x ++ y) before (spelled ∙ sym (append-nil (f b)))
-    ∙ sym (flat_map-append f (take i bytes) (b ∷ [])) ∙ ap (flat_map f) (sym (take_more bytes i d lt))
+-- the characters of bytes up to i, and those from there to j
+pub shown_more : (bytes : List ℕ) (i j : ℕ) → i ≤ j
+    → shown_bytes (take i bytes) ++ shown_bytes (take (j - i) (drop i bytes)) ≡ shown_bytes (take j bytes)
+shown_more bytes i j le =
+    let whole : i + (j - i) ≡ j = omega arith in
+    ap₂ (λ (x y : List ℕ). x ++ y) (shown_bytes_is (take i bytes)) (shown_bytes_is (take (j - i) (drop i bytes)))
+    ∙ sym (flat_map-append byte_text (take i bytes) (take (j - i) (drop i bytes)))
+    ∙ ap (flat_map byte_text) (sym (take-add i (j - i) bytes) ∙ ap (λ (k : ℕ). take k bytes) whole)
+    ∙ sym (shown_bytes_is (take j bytes))
 
--- one character more
-pub character_more : (text piece bytes : List ℕ) (end w k i d : ℕ) → end ≤ length text → k ≤ length piece
-    → take end text ≡ shown_bytes (take i bytes) → i < length bytes → take k piece ≡ byte_text (get_or bytes i d)
-    → take (end + k) (put_mid end w text piece) ≡ shown_bytes (take (i + 1) bytes)
-character_more text piece bytes end w k i d within fits before lt spelled =
-    text_more byte_text text piece bytes end w k i d within fits (before ∙ shown_bytes_is (take i bytes)) lt spelled
-    ∙ sym (shown_bytes_is (take (i + 1) bytes))
+-- one character more, behind a text that stood before
+pub character_more : (front text piece bytes : List ℕ) (end w k i d : ℕ) → end ≤ length text → k ≤ length piece
+    → take end text ≡ front ++ shown_bytes (take i bytes) → i < length bytes
+    → take k piece ≡ byte_text (get_or bytes i d)
+    → take (end + k) (put_mid end w text piece) ≡ front ++ shown_bytes (take (i + 1) bytes)
+character_more front text piece bytes end w k i d within fits before lt spelled =
+    let b = get_or bytes i d in
+    let one : shown_bytes (take i bytes) ++ byte_text b ≡ shown_bytes (take (i + 1) bytes) =
+    ap₂ (λ (x y : List ℕ). x ++ y) (shown_bytes_is (take i bytes)) (sym (append-nil (byte_text b)))
+    ∙ sym (flat_map-append byte_text (take i bytes) (b ∷ [])) ∙ ap (flat_map byte_text) (sym (take_more bytes i d lt))
+    ∙ sym (shown_bytes_is (take (i + 1) bytes)) in
+    front_more text piece end w k within fits ∙ ap₂ (λ (x y : List ℕ). x ++ y) before spelled
+    ∙ append_assoc front (shown_bytes (take i bytes)) (byte_text b) ∙ ap (λ (x : List ℕ). front ++ x) one
+
+-- a byte that is its own character
+ascii_text : (b : ℕ) → IsAscii b → byte_text b ≡ b ∷ []
+unfolding lib.Utf8.encode
+ascii_text b ascii = grind (arith, nat_tests, ascii)
+
+-- bytes that are their own characters are shown as they stand
+pub shown_ascii : (bytes : List ℕ) → All IsAscii bytes → shown_bytes bytes ≡ bytes
+shown_ascii [] all = refl
+shown_ascii (b ∷ bytes) all =
+    ap₂ (λ (x y : List ℕ). x ++ y) (ascii_text b (all 0 0 (omega arith)))
+    (shown_ascii bytes (λ k d l. all (suc k) d (omega arith)))
 
 -- one pair more
 zip2_more : (xs ys : List ℕ) (i d e : ℕ) → i < length xs → i < length ys

@@ -1,5 +1,5 @@
 -- How bytes are shown, in tables.
-use Rattle.std.specs.Prelude.{◌≡◌, ℕ, ◌<◌, List, take, slice_index_or, encode_utf8}
+use Rattle.std.specs.Prelude.{◌≡◌, ℕ, ◌<◌, ◌≤◌, List, take, slice_index_or, encode_utf8}
 use Rattle.ans_model.specs.Text.Characters.{glyph_text}
 use Rattle.ans_model.specs.Text.Hexadecimal.{hex_byte}
 use Rattle.ans_write.specs.declared.utf8.Utf8Character.{Utf8Character}
@@ -12,9 +12,20 @@ byte_text b = encode_utf8 (glyph_text b)
 abbrev pub spelling : Utf8Character → List ℕ
 spelling c = take c.count c.bytes
 
+-- of a character's bytes the first `count` spell a text
+pub record IsSpelling (bytes : List ℕ) (count : ℕ) (text : List ℕ) : Type 0 where
+  pub short : count ≤ 4
+  pub spells : take count bytes ≡ text
+
 -- at each byte stands its character
-abbrev pub ShowsBytes : List Utf8Character → Type 0
-ShowsBytes table = (b : ℕ) (d : Utf8Character) → b < 256 → spelling (slice_index_or table b d) ≡ byte_text b
+abbrev pub ShowsBytes : List (List ℕ) → List ℕ → Type 0
+ShowsBytes bytes counts =
+    (b : ℕ) (d : List ℕ) (k : ℕ) → b < 256
+    → IsSpelling (slice_index_or bytes b d) (slice_index_or counts b k) (byte_text b)
+
+-- the byte is its own character
+abbrev pub IsAscii : ℕ → Type 0
+IsAscii b = (0x20 ≤ b) × (b < 0x7F)
 
 -- at each byte stand its two digits
 abbrev pub TellsBytes : List (List ℕ) → Type 0

@@ -11,6 +11,7 @@
 //! and digits are defined in `ans_model`.
 #![tactic(auto)]
 
+mod character_table;
 mod characters;
 mod hexadecimal;
 mod outbox;

@@ -5,19 +5,17 @@ ghost use Rattle.std.specs.Simd.Lanes.{zip2};
 ghost use Rattle.ans_model.specs.Screen.State.{cell};
 ghost use Rattle.ans_model.specs.Text.Characters.{shown_bytes};
 ghost use Rattle.ans_model.specs.Text.ReportText.{cell_digits};
-ghost use Rattle.ans_write.specs.Tables.{byte_text, spelling, ShowsBytes, TellsBytes};
+ghost use Rattle.ans_write.specs.Tables.{TellsBytes};
 
-use crate::characters::glyph_text;
+use crate::character_table::CharacterTable;
 use crate::hexadecimal::hex_byte;
-use crate::utf8::Utf8Character;
 
 /// The character and the digits of each byte. With them a long text is written without a call for
 /// each byte.
 #[derive(Drop)]
 pub struct Tables {
-    pub(crate) characters: [Utf8Character; 256],
+    characters: CharacterTable,
     pub(crate) digits: [[u8; 2]; 256],
-    ghost shown: { ShowsBytes characters },
     ghost told: { TellsBytes digits },
 }
 
@@ -25,7 +23,7 @@ impl Tables {
     /// The tables, made anew.
     pub fn new() -> Tables {
         Tables {
-            characters: character_table(),
+            characters: CharacterTable::new(),
             digits: digit_table(),
         }
     }
@@ -37,13 +35,7 @@ impl Tables {
         ensures within { result ≤ 4 * length bytes.now }
         ensures text { take result text.new ≡ shown_bytes bytes.now }
     {
-        let mut end = 0;
-        for byte in bytes {
-            let character = self.characters[*byte as usize];
-            text[end..end + 4].copy_from_slice(&character.bytes);
-            end += character.count;
-        }
-        end
+        self.characters.write(bytes, text)
     }
 
     /// Writes the digits of cells to the start of a text, four for each: two for its byte, then two
@@ -59,27 +51,6 @@ impl Tables {
             text[4 * i + 2..4 * i + 4].copy_from_slice(&self.digits[attributes[i] as usize]);
         }
     }
-}
-
-fn utf8_character(byte: u8) -> Utf8Character
-    ensures { spelling result ≡ byte_text byte }
-{
-    let mut buffer = [0; 4];
-    let text = glyph_text(byte).encode_utf8(&mut buffer).as_bytes();
-    let mut bytes = [0; 4];
-    let count = text.len();
-    bytes[..count].copy_from_slice(text);
-    Utf8Character { bytes, count }
-}
-
-fn character_table() -> [Utf8Character; 256]
-    ensures { ShowsBytes result }
-{
-    let mut table = [utf8_character(0); 256];
-    for byte in 0..256 {
-        table[byte] = utf8_character(byte as u8);
-    }
-    table
 }
 
 fn digit_table() -> [[u8; 2]; 256]

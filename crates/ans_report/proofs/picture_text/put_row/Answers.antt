@@ -6,8 +6,8 @@ use Rattle.ans_write.proofs.PutsLemmas.{Puts-same, Puts-then}
 use Rattle.ans_report.proofs.picture_text.put_row.Goals as goal
 use Rattle.ans_report.proofs.picture_text.put_row.Goals.{in-Characters, in-Digits}
 
-pub returns : goal.returns
-returns g c =
+pub returns-clause-puts : goal.returns-clause-puts
+returns-clause-puts g c =
     let end_line : List ℕ → List ℕ = λ v. v ++ 0x0A ∷ [] in
     let line : end_line (take c.match-shown.end c.match-shown.text)
     ≡ line_text c.args.shown (cells_of_row c.args.picture.now c.args.row) =

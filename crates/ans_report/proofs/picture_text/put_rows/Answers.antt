@@ -1,4 +1,4 @@
-use Rattle.std.proofs.Common.{rules, arith, ◌≡◌, ◌<◌, [], true, sym, ap}
+use Rattle.std.proofs.Common.{rules, arith, ◌≡◌, ◌<◌, [], true, sym, ap, ◌∙◌}
 use Rattle.ans_model.specs.Text.ReportText.{rows_of}
 use Rattle.ans_write.specs.Puts.{device_failed}
 use Rattle.ans_report.specs.Rows.{line_text}
@@ -7,12 +7,13 @@ use Rattle.ans_write.proofs.PutsLemmas.{Puts-nothing, Puts-same, Puts-next, Puts
 use Rattle.ans_report.proofs.picture_text.put_rows.Goals as goal
 
 pub loop-row-init : goal.loop-row-init
-loop-row-init g c = Puts-nothing c.args.out.now
+loop-row-init g c = record { room = search rules; puts = Puts-nothing c.args.out.now }
 
 pub returns-then-has_failed-clause-text : goal.returns-then-has_failed-clause-text
 returns-then-has_failed-clause-text g c =
     let failed : device_failed c.loop-row.out ≡ true = search rules in
-    Puts-all (line_text c.args.shown) (rows_of c.args.picture.now) c.loop-row.row failed c.loop-row.invariant
+    Puts-all (line_text c.args.shown) (rows_of c.args.picture.now) c.loop-row.row failed
+    c.loop-row.invariant.puts
 
 pub loop-row-preserved : goal.loop-row-preserved
 loop-row-preserved g c =
@@ -20,8 +21,11 @@ loop-row-preserved g c =
     let i = c.loop-row.row in
     let line = line_text c.args.shown in
     let lt : i < p.size.lines = omega arith in
-    Puts-next line (rows_of p) i [] (within_rows p i lt) c.loop-row.invariant
-    (Puts-same (ap line (sym (row_at p i lt))) c.put_row.ensures)
+    record {
+      room = c.put_row.ensures.length ∙ c.loop-row.invariant.room;
+      puts = Puts-next line (rows_of p) i [] (within_rows p i lt) c.loop-row.invariant.puts
+          (Puts-same (ap line (sym (row_at p i lt))) c.put_row.ensures.puts);
+    }
 
 pub returns-clause-text : goal.returns-clause-text
-returns-clause-text g c = rw (all_rows c.args.picture.now c.loop-row.row (omega arith)) at c.loop-row.invariant
+returns-clause-text g c = rw (all_rows c.args.picture.now c.loop-row.row (omega arith)) at c.loop-row.invariant.puts
