@@ -1,14 +1,13 @@
 -- What is known of an attribute after a parameter: all that is the same, and no more.
 use Rattle.std.proofs.Common.{◌≡◌, ℕ, ◌+◌, ◌<◌, ◌^◌, ◌%◌, min, max, sym, ap, subst, ◌∙◌, arith, Option, Some, None}
 use Rattle.std.proofs.Common.{lit<, refl}
-use Rattle.std.specs.Prelude.{IfSome, MatchOption, bit_and, bit_or, bit_xor}
+use Rattle.std.specs.Prelude.{IfSome, bit_and, bit_or, bit_xor}
 use Rattle.std.specs.Int.{bit_at}
-use Rattle.std.specs.Int.Bits.{or_zero_r}
 use Rattle.std.proofs.lemmas.Nat.{and_le_r, or_of_8, xor_of_8}
 use Rattle.std.proofs.lemmas.Nat.Bits.{bit_at_and, bit_at_or, bit_at_xor, bit_at-lt, bit_at_ones, same_from_bits_below}
 use Rattle.ans_model.specs.Screen.Attribute.{Rendition, renditions, rendition_of, attribute_by, attribute_after}
-use Rattle.ans_model.proofs.AttributeBytes.{IsByteRendition, rendition_fits, all_kept}
-use Rattle.ans_screen.specs.KnownBits.{KnownBits, known_bits, IsKnownBits, Agrees, known_by, known_after}
+use Rattle.ans_model.proofs.AttributeBytes.{IsByteRendition, rendition_fits}
+use Rattle.ans_screen.specs.KnownBits.{KnownBits, IsKnownBits, Agrees, known_by, known_after}
 use Rattle.ans_screen.specs.KnownBits.{AgreesAfter, KnowsJust}
 
 -- ---- a mask m and set bits s, of an attribute a or of the known values, and of the known bits k
@@ -150,37 +149,10 @@ pub record IsAfter (a : KnownBits) (parameter : ℕ) (b : KnownBits) : Type 0 wh
   pub sound : AgreesAfter a parameter b
   pub exact : KnowsJust a parameter b
 
-is_after : (a b : KnownBits) (n : ℕ) → IsKnownBits a → known_after a n ≡ b → IsAfter a n b
+pub is_after : (a b : KnownBits) (n : ℕ) → IsKnownBits a → known_after a n ≡ b → IsAfter a n b
 is_after a b n is e = subst (λ (k : KnownBits). IsAfter a n k) e (record {
   known_bits = known_bits_after a n is;
   bits = refl;
   sound = λ x byte agrees. agrees_after a x n agrees;
   exact = knows_just a n is;
 })
-
--- the known bits by the mask and the set bits of a rendition, or by those that change nothing
-known_by_found : (o : Option Rendition) (k : KnownBits) (mask set : ℕ) → IsKnownBits k
-    → MatchOption o ((mask ≡ 0xFF) × (set ≡ 0x00)) (λ (r : Rendition). (mask ≡ r.mask) × (set ≡ r.set))
-    → known_by o k ≡ known_bits (known_masked k.known mask set) (masked k.value mask set)
-known_by_found None k mask set is (m, s) =
-    let byte : k.value < 2 ^ 8 = rw (← is.within) (and_is_byte k.value k.known is.byte) in
-    rw (
-      m,
-      s,
-      or_zero_r (bit_or (bit_and k.known 255) 0),
-      or_zero_r (bit_and k.known 255),
-      or_zero_r (bit_and k.value 255),
-      all_kept k.known is.byte,
-      all_kept k.value byte,
-    ) refl
-known_by_found (Some r) k mask set is (m, s) = rw (m, s) refl
-
--- with the mask and the set bits that the program finds
-pub after_found : (inside a : KnownBits) (n mask set : ℕ) → inside ≡ a → IsKnownBits inside
-    → MatchOption (rendition_of renditions n) ((mask ≡ 0xFF) × (set ≡ 0x00))
-    (λ (r : Rendition). (mask ≡ r.mask) × (set ≡ r.set))
-    → IsAfter a n (known_bits (known_masked inside.known mask set) (masked inside.value mask set))
-after_found inside a n mask set e is f =
-    subst (λ (k : KnownBits). IsAfter k n (known_bits (known_masked inside.known mask set)
-    (masked inside.value mask set))) e
-    (is_after inside _ n is (known_by_found (rendition_of renditions n) inside mask set is f))

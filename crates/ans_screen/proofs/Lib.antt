@@ -1,9 +1,11 @@
 pub mod KnownAfter
+mod Steps
 pub mod Copies
 pub mod KnownChunks
 pub mod FirstGap
 pub mod Blends
 pub mod Places
+pub mod Zeros
 pub mod RowCells
 pub mod Widened
 pub mod RowEdits

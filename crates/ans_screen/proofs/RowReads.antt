@@ -1,11 +1,12 @@
 -- Cells read, looked through and copied of planes with a state for each row.
 use Rattle.std.proofs.Common.{◌≡◌, ℕ, ◌+◌, ◌-◌, ◌*◌, ◌≤◌, ◌<◌, false, List, map, length, take, drop, ◌++◌, replicate}
-use Rattle.std.proofs.Common.{get_or, refl, ap, sym, ◌∙◌, arith, Option, Some, None, inl, inr}
-use Rattle.std.specs.Int.Bits.{and_zero_r}
+use Rattle.std.proofs.Common.{get_or, refl, ap, sym, ◌∙◌, arith, Option, Some, None, inl, inr, min}
+use Rattle.std.specs.Int.Bits.{and_zero_l, and_zero_r}
 use Rattle.std.specs.List.{between, position, slice_get}
 use Rattle.std.proofs.Math.Seq.{drop-drop}
 use Rattle.std.proofs.lemmas.Bool.{cases_lt}
-use Rattle.std.proofs.lemmas.List.{get_or-take, get_or-replicate, length-take-le, length-replicate}
+use Rattle.std.proofs.lemmas.Bool.Decides.{eqb_tells}
+use Rattle.std.proofs.lemmas.List.{get_or-take, get_or-replicate, get_or_past, length-take-le, length-replicate}
 use Rattle.std.proofs.lemmas.List.Edits.{get_or-between}
 use Rattle.std.proofs.lemmas.List.Sums.{position_or_len_is}
 use Rattle.std.proofs.lemmas.Nat.{and_mask}
@@ -13,7 +14,7 @@ use Rattle.std.proofs.lemmas.Option.{slice_get-get_or}
 use borrow.Rule.Slice.PartMut.{put_mid}
 use Rattle.ans_screen.specs.GridEdits.{written, row_cells, is_unknown, first_unknown}
 use Rattle.ans_screen.specs.HalfCells.{attribute_byte, glyph_byte, byte_of}
-use Rattle.ans_screen.specs.CellPlanes.{known_byte, AreKnown, IsFirstGap}
+use Rattle.ans_screen.specs.CellPlanes.{known_byte, AreKnown, IsFirstGap, IsFront}
 use Rattle.ans_screen.specs.RowCells.{Planes, Stale, Known, Mixed, cell_in_grid, cells_of_grid, states_of, length_grid}
 use Rattle.ans_screen.specs.RowCells.{shown_plane, known_plane, AreKnownCells, IsCopied, IsHeldRow, FindsUnknown}
 use Rattle.ans_screen.specs.declared.cell.CellByte.{CellByte}
@@ -28,6 +29,13 @@ use Rattle.ans_screen.proofs.RowCells.{get_cell, cell_in_state}
 known_by_0 : (which : CellByte) (x : ℕ) → known_byte which x 0 ≡ 0
 known_by_0 Glyph x = refl
 known_by_0 Attribute x = and_zero_r x
+
+known_of_0 : (which : CellByte) (x : ℕ) → known_byte which 0 x ≡ 0
+known_of_0 Glyph x = elim (eqb_tells x 0xFF) [
+  | inl known ↦ rw known.0 refl
+  | inr other ↦ rw other.0 refl
+]
+known_of_0 Attribute x = and_zero_l x
 
 module _ (g : Planes) where
   -- what is read is cell i
@@ -105,14 +113,33 @@ module _ (g : Planes) where
   mixed_byte Glyph i e = ap glyph_byte (cell_in_state g Mixed i e)
   mixed_byte Attribute i e = ap attribute_byte (cell_in_state g Mixed i e)
 
-  -- of a mixed cell in a plane of which nothing is known
-  pub nothing_known : (which : CellByte) (i n : ℕ) → states_of g i ≡ Mixed → known_plane which g ≡ replicate n 0 → i < n
-      → byte_of which (cell_in_grid g i) ≡ 0
-  nothing_known which i n mixed e lt =
-      let none : get_or (known_plane which g) i 0 ≡ 0 =
-      ap (λ (xs : List ℕ). get_or xs i 0) e ∙ get_or-replicate n i 0 0 lt in
-      mixed_byte which i mixed ∙ (ap (λ (k : ℕ). known_byte which (get_or (shown_plane which g) i 0) k) none
-      ∙ known_by_0 which (get_or (shown_plane which g) i 0))
+  -- what is copied of mixed cells, as far as their bytes are held
+  pub mixed_copied : (which : CellByte) (shown known new : List ℕ) (from to count k : ℕ)
+      → IsFront shown (shown_plane which g) from to → IsFront known (known_plane which g) from to
+      → states_of g (from + k) ≡ Mixed → count ≡ min (length shown) (length known) → from + k < to → length new ≡ count
+      → ((j : ℕ) → j < count → get_or new j 0
+      ≡ known_byte which (get_or (take count shown) j 0) (get_or (take count known) j 0))
+      → get_or new k 0 ≡ byte_of which (cell_in_grid g (from + k))
+  mixed_copied which shown known new from to count k is_shown is_known mixed is_count lt len each =
+      let x = get_or shown k 0 in
+      let y = get_or known k 0 in
+      let byte : byte_of which (cell_in_grid g (from + k)) ≡ known_byte which x y =
+      mixed_byte which (from + k) mixed
+      ∙ (ap (λ (z : ℕ). known_byte which z (get_or (known_plane which g) (from + k) 0)) (sym (is_shown.each k lt))
+      ∙ ap (λ (z : ℕ). known_byte which x z) (sym (is_known.each k lt))) in
+      elim (cases_lt k count) [
+        | inl below ↦
+            each k below
+            ∙ (ap (λ (z : ℕ). known_byte which z (get_or (take count known) k 0)) (get_or-take count shown k 0 below)
+            ∙ (ap (λ (z : ℕ). known_byte which x z) (get_or-take count known k 0 below) ∙ sym byte))
+        | inr past ↦
+            let none : known_byte which x y ≡ 0 = elim (cases_lt k (length shown)) [
+              | inl within ↦
+                  ap (λ (z : ℕ). known_byte which x z) (get_or_past known k 0 (omega arith)) ∙ known_by_0 which x
+              | inr out ↦ ap (λ (z : ℕ). known_byte which z y) (get_or_past shown k 0 out) ∙ known_of_0 which y
+            ] in
+            get_or_past new k 0 (omega arith) ∙ sym (byte ∙ none)
+      ]
 
   -- and of a known cell
   pub known_byte_is : (which : CellByte) (i : ℕ) → states_of g i ≡ Known → get_or (shown_plane which g) i 0 < 256

@@ -1,5 +1,6 @@
 -- Half-known cells in four bytes each: the glyph, whether it is known, the bits that are known, and their values.
-use Rattle.std.specs.Prelude.{◌≡◌, ℕ, ◌+◌, ◌<◌, ◌==◌, if◌then◌else◌, List, slice_index}
+use Rattle.std.specs.Prelude.{◌≡◌, ℕ, ◌+◌, ◌<◌, ◌≤◌, ◌==◌}
+use Rattle.std.specs.Prelude.{if◌then◌else◌, List, ◌++◌, length, replicate, slice_index, get_or}
 use Rattle.std.specs.Prelude.{Option, Some, None, MatchOption, unwrap_or, bit_and}
 use Rattle.ans_screen.specs.KnownBits.{KnownBits, known_bits}
 use Rattle.ans_screen.specs.HalfCells.{half_cell}
@@ -34,3 +35,12 @@ abbrev pub IsFirstGap : List ℕ → List ℕ → ℕ → Option ℕ → Type 0
 IsFirstGap glyphs_known bits_known to result =
     MatchOption result (AreKnown glyphs_known bits_known to)
     (λ i. (i < to) × AreKnown glyphs_known bits_known i × (AreKnown glyphs_known bits_known (i + 1) → ⊥))
+
+-- the bytes of a plane that are held, and zeros behind them
+abbrev pub with_zeros : List ℕ → ℕ → List ℕ
+with_zeros bytes zeros = bytes ++ replicate zeros 0
+
+-- the first bytes of a part of a plane: each of the others is 0
+pub record IsFront (front plane : List ℕ) (from to : ℕ) : Type 0 where
+  pub within : from + length front ≤ to
+  pub each : (k : ℕ) → from + k < to → get_or front k 0 ≡ slice_index plane (from + k)

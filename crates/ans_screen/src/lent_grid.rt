@@ -167,11 +167,11 @@ impl<'a> RowPlanes for LentGrid<'a> {
         }
     }
 
-    fn known_bytes(&self, which: CellByte, from: usize, to: usize) -> Option<&[u8]> {
-        Some(match which {
+    fn known_bytes(&self, which: CellByte, from: usize, to: usize) -> &[u8] {
+        match which {
             CellByte::Glyph => &self.glyphs_known[from..to],
             CellByte::Attribute => &self.bits_known[from..to],
-        })
+        }
     }
 
     #[inline(always)]

@@ -14,11 +14,11 @@
 mod attr;
 mod cell;
 mod grid;
-mod lazy_plane;
 mod lent_grid;
 mod lent_row;
 mod plain;
 mod plane_grid;
+mod plane_pair;
 mod planes;
 mod row_planes;
 mod screen;

@@ -4,38 +4,35 @@ ghost use Rattle.std.specs.Prelude.{◌≡◌, ◌*◌, ◌^◌, ◌<◌, ◌≤
 ghost use Rattle.std.specs.List.{All};
 ghost use Rattle.ans_model.specs.Bytes.{most_columns};
 ghost use Rattle.ans_screen.specs.GridEdits.{most_rows};
+ghost use Rattle.ans_screen.specs.CellPlanes.{with_zeros};
 ghost use Rattle.ans_screen.specs.RowCells.{cells_of_grid, length_grid};
 
 use crate::attr::Attr;
 use crate::cell::{CellByte, HalfCell};
 use crate::grid::Grid;
-use crate::lazy_plane::LazyPlane;
-use crate::planes::{fill_bytes, write_bytes};
+use crate::plane_pair::PlanePair;
 use crate::row_planes::{Frame, NEVER, Row, RowPlanes, cells, copies};
 use std::alloc::{AllocError, Global};
 
 /// Cell `i` is byte `i` of each of four planes where its row holds it, and else the blank. A fill of
-/// the whole grid writes neither planes nor rows. The memory of two planes is not touched before a row
-/// is written of which not all is known.
+/// the whole grid writes neither planes nor rows. No more of the planes' memory is touched than is
+/// written, and none of two of them before a row is written of which not all is known.
 #[derive(Drop)]
 pub struct PlaneGrid {
     frame: Frame,
     round: u32,
     held: Vec<Row>,
-    glyphs: Vec<u8>,
-    // FFh where the glyph is known, else 00h
-    glyphs_known: LazyPlane,
-    // the bits of the attribute that are known
-    bits_known: LazyPlane,
-    values: Vec<u8>,
+    shown: PlanePair,
+    // FFh where the glyph is known, else 00h, and the bits of the attribute that are known
+    known: PlanePair,
     ghost some_width: { 1 ≤ frame.width },
     ghost indexed: { frame.width * frame.rows < 2 ^ 64 },
     ghost whole_held: { length held.items ≡ frame.rows },
     ghost no_later_round: { All (λ row. row.round ≤ round) held.items },
-    ghost whole_glyphs: { length glyphs.items ≡ frame.width * frame.rows },
-    ghost whole_glyphs_known: { length glyphs_known ≡ frame.width * frame.rows },
-    ghost whole_bits_known: { length bits_known ≡ frame.width * frame.rows },
-    ghost whole_values: { length values.items ≡ frame.width * frame.rows },
+    ghost whole_glyphs: { length (with_zeros shown.glyphs.items shown.zeros) ≡ frame.width * frame.rows },
+    ghost whole_glyphs_known: { length (with_zeros known.glyphs.items known.zeros) ≡ frame.width * frame.rows },
+    ghost whole_bits_known: { length (with_zeros known.attributes.items known.zeros) ≡ frame.width * frame.rows },
+    ghost whole_values: { length (with_zeros shown.attributes.items shown.zeros) ≡ frame.width * frame.rows },
 }
 
 impl PlaneGrid {
@@ -51,18 +48,14 @@ impl PlaneGrid {
     {
         let count = frame.width * frame.rows;
         let held = vec![in alloc; NEVER; frame.rows]?;
-        let glyphs = vec![in alloc; 0x00; count]?;
-        let glyphs_known = LazyPlane::new(alloc, count)?;
-        let bits_known = LazyPlane::new(alloc, count)?;
-        let values = vec![in alloc; 0x00; count]?;
+        let shown = PlanePair::new(alloc, count)?;
+        let known = PlanePair::new(alloc, count)?;
         Ok(PlaneGrid {
             frame,
             round,
             held,
-            glyphs,
-            glyphs_known,
-            bits_known,
-            values,
+            shown,
+            known,
         })
     }
 }
@@ -74,10 +67,10 @@ impl RowPlanes for PlaneGrid {
       blank = g.frame.blank;
       round = g.round;
       held = g.held.items;
-      glyphs = g.glyphs.items;
-      glyphs_known = g.glyphs_known;
-      bits_known = g.bits_known;
-      values = g.values.items;
+      glyphs = with_zeros g.shown.glyphs.items g.shown.zeros;
+      glyphs_known = with_zeros g.known.glyphs.items g.known.zeros;
+      bits_known = with_zeros g.known.attributes.items g.known.zeros;
+      values = with_zeros g.shown.attributes.items g.shown.zeros;
       some_width = g.some_width;
       indexed = g.indexed;
       whole_held = g.whole_held;
@@ -128,49 +121,40 @@ impl RowPlanes for PlaneGrid {
 
     #[inline(always)]
     fn shown(&self, i: usize) -> (u8, u8) {
-        (self.glyphs[i], self.values[i])
+        self.shown.bytes(i)
     }
 
     fn known(&self, i: usize) -> (u8, u8) {
-        (self.glyphs_known.byte(i), self.bits_known.byte(i))
+        self.known.bytes(i)
     }
 
     fn shown_bytes(&self, which: CellByte, from: usize, to: usize) -> &[u8] {
         match which {
-            CellByte::Glyph => &self.glyphs[from..to],
-            CellByte::Attribute => &self.values[from..to],
+            CellByte::Glyph => self.shown.glyphs(from, to),
+            CellByte::Attribute => self.shown.attributes(from, to),
         }
     }
 
-    fn known_bytes(&self, which: CellByte, from: usize, to: usize) -> Option<&[u8]> {
+    fn known_bytes(&self, which: CellByte, from: usize, to: usize) -> &[u8] {
         match which {
-            CellByte::Glyph => self.glyphs_known.part(from, to),
-            CellByte::Attribute => self.bits_known.part(from, to),
+            CellByte::Glyph => self.known.glyphs(from, to),
+            CellByte::Attribute => self.known.attributes(from, to),
         }
     }
 
     #[inline(always)]
     fn fill_shown(&mut self, from: usize, to: usize, glyph: u8, value: u8) {
-        fill_bytes(&mut self.glyphs, from, to, glyph);
-        fill_bytes(&mut self.values, from, to, value);
+        self.shown.fill(from, to, glyph, value);
     }
 
     #[inline(never)]
     fn fill_known(&mut self, from: usize, to: usize, glyph_known: u8, bits_known: u8) {
-        self.glyphs_known.fill(from, to, glyph_known);
-        self.bits_known.fill(from, to, bits_known);
+        self.known.fill(from, to, glyph_known, bits_known);
     }
 
     #[inline(always)]
     fn write_shown(&mut self, from: usize, bytes: &[u8], count: usize, value: u8) {
-        write_bytes(
-            &mut self.glyphs,
-            &mut self.values,
-            from,
-            bytes,
-            count,
-            value,
-        );
+        self.shown.write(from, bytes, count, value);
     }
 }
 

@@ -1,6 +1,6 @@
 //! Planes of bytes, one a cell.
 
-ghost use Rattle.std.specs.Prelude.{◌≡◌, ◌↔◌, ◌+◌, ◌*◌, ◌≤◌, ◌++◌, length, take, drop};
+ghost use Rattle.std.specs.Prelude.{◌≡◌, ◌↔◌, ◌+◌, ◌-◌, ◌*◌, ◌≤◌, ◌++◌, length, take, drop};
 ghost use Rattle.std.specs.Prelude.{ℕ, ◌<◌, IsTrue, slice_index, unwrap_or, bit_and};
 ghost use Rattle.ans_model.specs.Screen.Step.{filled};
 ghost use Rattle.ans_screen.specs.GridEdits.{written};
@@ -101,6 +101,30 @@ fn blend_at(bytes: &mut [u8], from: usize, new: u8x16, count: usize)
     blend(&mut bytes[from..from + 16], new, count);
 }
 
+/// A fill of 16 bytes at the most.
+#[inline(always)]
+pub(crate) fn blend_fill(plane: &mut [u8], from: usize, to: usize, byte: u8)
+    requires ordered { from ≤ to }
+    requires short { to - from ≤ 16 }
+    requires lanes { from + 16 ≤ length plane.old }
+    ensures items { plane.new ≡ filled plane.old from to byte }
+    ensures len { length plane.new ≡ length plane.old }
+{
+    blend_at(plane, from, u8x16::splat(byte), to - from);
+}
+
+/// A run of 16 bytes at the most.
+#[inline(always)]
+pub(crate) fn blend_run(plane: &mut [u8], from: usize, bytes: &[u8], count: usize)
+    requires count { count ≤ 16 }
+    requires bytes { 16 ≤ length bytes.now }
+    requires lanes { from + 16 ≤ length plane.old }
+    ensures items { plane.new ≡ written plane.old from (take count bytes.now) }
+    ensures len { length plane.new ≡ length plane.old }
+{
+    blend_at(plane, from, u8x16::from_slice(bytes), count);
+}
+
 /// A short fill is a blend, since a call that fills memory costs more than it.
 #[inline(always)]
 pub(crate) fn fill_bytes(plane: &mut [u8], from: usize, to: usize, byte: u8)
@@ -110,7 +134,7 @@ pub(crate) fn fill_bytes(plane: &mut [u8], from: usize, to: usize, byte: u8)
     ensures len { length plane.new ≡ length plane.old }
 {
     if to - from <= 16 && plane.len() - from >= 16 {
-        blend_at(plane, from, u8x16::splat(byte), to - from);
+        blend_fill(plane, from, to, byte);
     } else {
         plane[from..to].fill(byte);
     }
@@ -136,8 +160,8 @@ pub(crate) fn write_bytes(
 {
     // in one branch, so that the compiler can make one mask for both
     if count <= 16 && bytes.len() >= 16 && glyphs.len() - from >= 16 {
-        blend_at(glyphs, from, u8x16::from_slice(bytes), count);
-        blend_at(values, from, u8x16::splat(value), count);
+        blend_run(glyphs, from, bytes, count);
+        blend_fill(values, from, from + count, value);
     } else {
         glyphs[from..from + count].copy_from_slice(&bytes[..count]);
         values[from..from + count].fill(value);

@@ -3,6 +3,7 @@
 ghost use Rattle.std.specs.Prelude.{◌≡◌, ◌+◌, ◌*◌, ◌<◌, ◌≤◌, length, take, replicate};
 ghost use Rattle.std.specs.Prelude.{slice_index, slice_index_or, slice_range, MatchOption};
 ghost use Rattle.ans_model.specs.Screen.Step.{filled};
+ghost use Rattle.ans_screen.specs.CellPlanes.{IsFront};
 ghost use Rattle.ans_screen.specs.GridEdits.{written};
 ghost use Rattle.ans_screen.specs.RowCells.{Planes, SameRows, SameShown, SameKnown, HasRow, BeginsRound};
 ghost use Rattle.ans_screen.specs.RowCells.{never_written, held_row, shown_plane, known_plane};
@@ -87,17 +88,17 @@ pub(crate) trait RowPlanes {
         ensures glyph { result.0 ≡ slice_index (planes_of self.now).glyphs_known i }
         ensures value { result.1 ≡ slice_index (planes_of self.now).bits_known i };
 
+    /// The first of those bytes of a plane. Each of the others is 00h.
     fn shown_bytes(&self, which: CellByte, from: usize, to: usize) -> &[u8]
         requires ordered { from ≤ to }
         requires within { to ≤ (planes_of self.now).width * (planes_of self.now).rows }
-        ensures { result.now ≡ slice_range (shown_plane which (planes_of self.now)) from to };
+        ensures { IsFront result.now (shown_plane which (planes_of self.now)) from to };
 
-    fn known_bytes(&self, which: CellByte, from: usize, to: usize) -> Option<&[u8]>
+    /// The first of those bytes of a plane. Each of the others is 00h.
+    fn known_bytes(&self, which: CellByte, from: usize, to: usize) -> &[u8]
         requires ordered { from ≤ to }
         requires within { to ≤ (planes_of self.now).width * (planes_of self.now).rows }
-        ensures { MatchOption result (known_plane which (planes_of self.now)
-            ≡ replicate (length (known_plane which (planes_of self.now))) 0)
-            (λ known. known.now ≡ slice_range (known_plane which (planes_of self.now)) from to) };
+        ensures { IsFront result.now (known_plane which (planes_of self.now)) from to };
 
     fn fill_shown(&mut self, from: usize, to: usize, glyph: u8, value: u8)
         requires ordered { from ≤ to }

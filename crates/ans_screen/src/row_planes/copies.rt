@@ -16,14 +16,19 @@ fn copy_held<P: RowPlanes>(grid: &P, row: usize, held: Row, which: CellByte, cop
     requires all { held.first + length copied.old ≡ held.end }
     ensures { IsCopied (byte_of which) (P.planes_of grid.now) held.first (length copied.old) copied.new }
 {
+    copied.fill(0);
     let shown = grid.shown_bytes(which, held.first, held.end);
     if held.known {
-        copied.copy_from_slice(shown);
+        copied[..shown.len()].copy_from_slice(shown);
     } else {
-        match grid.known_bytes(which, held.first, held.end) {
-            Some(known) => copy_known(which, shown, known, copied),
-            None => copied.fill(0),
-        }
+        let known = grid.known_bytes(which, held.first, held.end);
+        let count = shown.len().min(known.len());
+        copy_known(
+            which,
+            &shown[..count],
+            &known[..count],
+            &mut copied[..count],
+        );
     }
 }
 

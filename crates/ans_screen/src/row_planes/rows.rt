@@ -226,14 +226,13 @@ fn first_gap_from<P: RowPlanes>(grid: &P, from: usize, to: usize) -> Option<usiz
     ensures { IsFirstGap (slice_range (P.planes_of grid.now).glyphs_known from to)
         (slice_range (P.planes_of grid.now).bits_known from to) (to - from) result }
 {
-    match (
-        grid.known_bytes(CellByte::Glyph, from, to),
-        grid.known_bytes(CellByte::Attribute, from, to),
-    ) {
-        (Some(glyphs_known), Some(bits_known)) => first_gap(glyphs_known, bits_known, to - from),
-        _ if from < to => Some(0),
-        _ => None,
+    let glyphs_known = grid.known_bytes(CellByte::Glyph, from, to);
+    let bits_known = grid.known_bytes(CellByte::Attribute, from, to);
+    let count = glyphs_known.len().min(bits_known.len());
+    if let Some(i) = first_gap(glyphs_known, bits_known, count) {
+        return Some(i);
     }
+    if count < to - from { Some(count) } else { None }
 }
 
 fn first_unknown_held<P: RowPlanes>(grid: &P, from: usize, to: usize, known: bool) -> Option<usize>
