@@ -1,6 +1,6 @@
 -- Bytes from 20h on, which are glyphs.
 use Rattle.std.proofs.Common.{◌≡◌, ℕ, ◌+◌, ◌<◌, ◌≤◌, List, length, take, All, inl, inr, ◌⊎◌, refl, sym, subst, arith}
-use Rattle.std.proofs.Common.{get_or, false, true, not, map, ap, ◌∙◌, ◌-◌, w64}
+use Rattle.std.proofs.Common.{get_or, false, true, not, map, ap, ◌∙◌, ◌-◌, w64, zero-add}
 use Rattle.std.specs.Int.{trailing_zeros}
 use Rattle.std.specs.List.{prefix_len}
 use Rattle.std.specs.Simd.Lanes.{mask_l, chunk}
@@ -8,8 +8,8 @@ use Rattle.std.proofs.lemmas.Simd.{length-chunk, get_or-chunk, trailing_mask_l}
 use Rattle.std.proofs.lemmas.List.Sums.{prefix_len-le-length, prefix_len_passes}
 use Rattle.std.proofs.lemmas.Bool.{cases_lt, not-true}
 use Rattle.std.proofs.lemmas.Bool.Decides.{nat_tests}
-use Rattle.std.proofs.lemmas.List.{get_or-take, length-take-le}
-use Rattle.std.proofs.lemmas.List.Elements.{All-from_get_or}
+use Rattle.std.proofs.lemmas.List.{get_or-take, length-take-le, take-take}
+use Rattle.std.proofs.lemmas.List.Elements.{All-from_get_or, All-take}
 use Rattle.ans_model.specs.Bytes.{IsByte}
 use Rattle.ans_model.specs.Sequence.TokenKind.{Glyph}
 use Rattle.ans_model.specs.Sequence.Reads.{kind_of_byte}
@@ -44,6 +44,22 @@ glyphs_more bytes count n room are_bytes before none =
         subst IsGlyphByte (get_or-take count bytes k 0 first)
         (before k 0 (omega (arith, first, length-take-le count bytes (omega arith))))
     at k l (inr rest) = not_low (get_or bytes k 0) (are_bytes k (omega arith)) (none k rest l)
+
+-- the bytes before the first low one
+pub glyphs_first : (bytes : List ℕ) (n : ℕ) → n ≤ length bytes →
+    ((k : ℕ) → k < length bytes → IsByte (get_or bytes k 0)) →
+    ((k : ℕ) → 0 ≤ k → k < 0 + n → is_low (get_or bytes k 0) ≡ false) →
+    All IsGlyphByte (take n bytes)
+glyphs_first bytes n room are_bytes none =
+    subst (λ (m : ℕ). All IsGlyphByte (take m bytes)) (zero-add n)
+    (glyphs_more bytes 0 n (omega arith) are_bytes (λ k d l. absurd (omega (arith, l))) none)
+
+-- glyphs, and no more than these
+pub glyphs_fewer : (bytes : List ℕ) (n count : ℕ) → n ≤ count → All IsGlyphByte (take count bytes)
+    → All IsGlyphByte (take n bytes)
+glyphs_fewer bytes n count fewer glyphs =
+    subst (λ (texts : List ℕ). All IsGlyphByte texts) (take-take n count bytes fewer)
+    (All-take IsGlyphByte n (take count bytes) glyphs)
 
 -- before the lowest bit of the mask of 16 bytes none is low
 pub none_before_lowest : (bytes : List ℕ) (count mask : ℕ) → count + 16 ≤ length bytes

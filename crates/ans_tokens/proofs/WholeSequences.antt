@@ -107,16 +107,23 @@ number_read mark numbers y bytes value (suc n) (part, kept, spelled) read =
       there = λ l e. cc;
     }
 
--- at an index of the bytes
+-- in the bytes from an index on
+pub number_from : (mark : Mark) (numbers bytes : List ℕ) (value digits start : ℕ) → start ≤ length bytes
+    → Keeps (Sequence mark numbers false view.Fresh) (take start bytes)
+    → IsNumberFront (drop start bytes) value digits
+    → EndsInNumber mark numbers value digits (take (start + digits) bytes) × (start + digits < length bytes)
+number_from mark numbers bytes value digits start within kept read = (
+  rw take-add (number_read mark numbers (take start bytes) (drop start bytes) value digits kept read),
+  omega (arith, read.followed, length-drop start bytes),
+)
+
+-- in a slice of the bytes from an index on
 pub number_at : (mark : Mark) (numbers bytes : List ℕ) (value digits start : ℕ) → start ≤ length bytes
     → Keeps (Sequence mark numbers false view.Fresh) (take start bytes)
     → IsNumberFront (take (length bytes - start) (drop start bytes)) value digits
     → EndsInNumber mark numbers value digits (take (start + digits) bytes) × (start + digits < length bytes)
 number_at mark numbers bytes value digits start within kept read =
-    let front : IsNumberFront (drop start bytes) value digits = rw take_rest at read in (
-      rw take-add (number_read mark numbers (take start bytes) (drop start bytes) value digits kept front),
-      omega (arith, front.followed, length-drop start bytes),
-    )
+    number_from mark numbers bytes value digits start within kept (rw take_rest at read)
 
 -- a `;` ends the member
 member_read : (mark : Mark) (numbers y : List ℕ) (value digits : ℕ) → EndsInNumber mark numbers value digits y

@@ -36,21 +36,39 @@ fn text_of_chunk(bytes: &[u8], from: usize) -> usize
     }
 }
 
-/// How many bytes stand before the first one below 20h, as far as whole chunks of 16 bytes tell.
-/// They are glyphs.
-fn text_front(bytes: &[u8]) -> usize
+/// How many of the first `most` bytes stand before the first one below 20h, as far as whole chunks of 16
+/// bytes tell. They are glyphs.
+#[inline(always)]
+pub fn count_text(bytes: &[u8], most: usize) -> usize
+    requires { 16 ≤ length bytes.now }
+    ensures most { result ≤ most }
     ensures within { result ≤ length bytes.now }
     ensures glyphs { All IsGlyphByte (take result bytes.now) }
 {
-    let mut count = 0;
-    while bytes.len() - count >= 16 {
+    let mut count = text_of_chunk(bytes, 0);
+    if count < 16 {
+        return count.min(most);
+    }
+    while count < most && bytes.len() - count >= 16 {
         let text = text_of_chunk(bytes, count);
         count += text;
         if text < 16 {
             break;
         }
     }
-    count
+    count.min(most)
+}
+
+/// How many bytes stand before the first one below 20h, as far as whole chunks of 16 bytes tell.
+/// They are glyphs.
+fn text_front(bytes: &[u8]) -> usize
+    ensures within { result ≤ length bytes.now }
+    ensures glyphs { All IsGlyphByte (take result bytes.now) }
+{
+    if bytes.len() < 16 {
+        return 0;
+    }
+    count_text(bytes, bytes.len())
 }
 
 /// How many glyphs stand before the first byte that is none. All bytes but BEL, BS, TAB, LF, CR and

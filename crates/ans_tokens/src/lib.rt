@@ -6,7 +6,8 @@
 //! [`walk`] goes over a content and hands its tokens to a [`Walker`], common ones read whole.
 //!
 //! Other functions are for a caller that plays as it reads and makes no token. [`count_glyphs`]
-//! counts a run. [`read_sequence`] reads a sequence's numbers and letter, and [`distance`],
+//! counts a run, and [`count_text`] one of which only the first bytes are wanted. [`read_sequence`]
+//! reads a sequence's numbers and letter, and [`number_at`] a short number within one; [`distance`],
 //! [`place`] and [`is_just`] read in the numbers what the letter takes. [`Scanner::skip`] then goes
 //! on over the bytes. The definitions stand in `ans_model`'s room `Sequence`: `Spelling`, `Meaning`
 //! and `Reads`.
@@ -26,9 +27,9 @@ mod whole;
 pub use ans_model::fault::{Cause, Fault};
 pub use ans_model::kind::Kind;
 pub use clearing::is_cleared;
-pub use glyphs::count_glyphs;
+pub use glyphs::{count_glyphs, count_text};
 pub use meaning::{distance, is_just, place};
 pub use scanner::{ESCAPE, Scanner};
 pub use token::Token;
 pub use walker::{Walker, walk};
-pub use whole::{Letter, read_sequence};
+pub use whole::{Letter, number_at, read_sequence};

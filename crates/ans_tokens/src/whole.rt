@@ -4,7 +4,7 @@
 //! form. Where it declines, the bytes are left to be taken one by one, so each rarer form is decided
 //! in one place.
 
-ghost use Rattle.std.specs.Prelude.{◌≡◌, ◌≢◌, ◌⊎◌, ◌<◌, ◌≤◌, ◌++◌, ◌∷◌, [], length, take, false};
+ghost use Rattle.std.specs.Prelude.{◌≡◌, ◌≢◌, ◌⊎◌, ◌<◌, ◌≤◌, ◌+◌, ◌++◌, ◌∷◌, [], length, take, drop, false};
 ghost use Rattle.std.specs.Prelude.{IfSome, slice_index_or};
 ghost use Rattle.ans_model.specs.Bytes.{most_parameters, escape};
 ghost use Rattle.arrayvec.specs.ArrayVec.{array_vec_len};
@@ -63,6 +63,34 @@ fn read_number(bytes: &[u8]) -> Option<(u8, usize)>
         return Some(((*first - b'0') * 10 + (*second - b'0'), 2));
     }
     read_digits(bytes)
+}
+
+/// The value of the digits that stand at an index of the bytes, three at most, and their count: 0 and 0
+/// where there are none. It declines where the value is above 255, or where there are more digits.
+#[inline(always)]
+pub fn number_at(bytes: &[u8], at: usize) -> Option<(u8, usize)>
+    requires { at + 4 ≤ length bytes.now }
+    ensures number { IfSome result (λ read. IsNumberFront (drop at bytes.now) read.0 read.1) }
+    ensures short { IfSome result (λ read. read.1 ≤ 3) }
+{
+    let first = bytes[at];
+    if !first.is_ascii_digit() {
+        return Some((0, 0));
+    }
+    let second = bytes[at + 1];
+    if !second.is_ascii_digit() {
+        return Some((first - b'0', 1));
+    }
+    let two = (first - b'0') * 10 + (second - b'0');
+    let third = bytes[at + 2];
+    if !third.is_ascii_digit() {
+        return Some((two, 2));
+    }
+    let three = two as u16 * 10 + (third - b'0') as u16;
+    if three > u8::MAX as u16 || bytes[at + 3].is_ascii_digit() {
+        return None;
+    }
+    Some((three as u8, 3))
 }
 
 /// Adds the number of the last member, where the letter comes next. There is no member at all where

@@ -4,7 +4,7 @@ mod sequences;
 mod walks;
 
 use ans_model::limits::MAX_FILE;
-use ans_tokens::{Cause, Fault, Scanner, Token, count_glyphs};
+use ans_tokens::{Cause, Fault, Scanner, Token, count_glyphs, count_text};
 use std::alloc::{AllocError, Global};
 use std::process::Abort;
 use std::test::Fail;
@@ -223,6 +223,31 @@ fn glyphs_are_counted(rt: HostRuntime) {
     ];
     for (bytes, count) in rows {
         assert_eq!(rt; count_glyphs(bytes), count, "in {bytes:?}");
+    }
+}
+
+/// Of at least 16 bytes, glyphs up to a byte below 20h, as whole chunks tell, and no more than wanted.
+#[test]
+fn text_is_counted(rt: HostRuntime) {
+    let rows: [(&[u8], usize, usize); 10] = [
+        (b"0123456789abcdef", 16, 16),
+        (b"0123456789abcdef", 100, 16),
+        (b"0123456789abcdef", 3, 3),
+        (b"0123456789abcdef", 0, 0),
+        (b"01234\n6789abcdef", 16, 5),
+        (b"01234\n6789abcdef", 4, 4),
+        (b"\x1b[1;33;44mtextual", 18, 0),
+        (
+            b"0123456789abcdef \xb0\xb1\xb2\xdb\x7f\xff\x80\x00xyztuvw",
+            32,
+            24,
+        ),
+        (b"0123456789abcdef0123456789abcdefghij", 36, 32),
+        (b"0123456789abcdef0123456789abcdefghij", 20, 20),
+    ];
+    for (bytes, most, count) in rows {
+        assert!(rt; bytes.len() >= 16);
+        assert_eq!(rt; count_text(bytes, most), count, "{most} in {bytes:?}");
     }
 }
 

@@ -1,6 +1,6 @@
 //! Sequences of numbers that are read from a slice, and what their numbers stand for.
 
-use ans_tokens::{Cause, distance, is_just, place, read_sequence};
+use ans_tokens::{Cause, distance, is_just, number_at, place, read_sequence};
 use arrayvec::ArrayVec;
 
 /// Bytes that begin with a sequence of numbers: the numbers, the letter and the index after it.
@@ -78,6 +78,32 @@ fn cut_sequences_are_declined(rt: HostRuntime) {
             assert!(rt; is_declined(&text[..cut]), "{text:?} is read at {cut}");
         }
         assert!(rt; !is_declined(text), "{text:?} is not read");
+    }
+}
+
+/// Numbers at an index of bytes, of which four stand from there on.
+#[test]
+fn short_numbers_are_read(rt: HostRuntime) {
+    let rows: [(&[u8], usize, Option<(u8, usize)>); 15] = [
+        (b"mmmm", 0, Some((0, 0))),
+        (b";123", 0, Some((0, 0))),
+        (b"0m12", 0, Some((0, 1))),
+        (b"7;12", 0, Some((7, 1))),
+        (b"9:99", 0, Some((9, 1))),
+        (b"37m5", 0, Some((37, 2))),
+        (b"05/1", 0, Some((5, 2))),
+        (b"255m", 0, Some((255, 3))),
+        (b"007;", 0, Some((7, 3))),
+        (b"256m", 0, None),
+        (b"999m", 0, None),
+        (b"0001", 0, None),
+        (b"1234", 0, None),
+        (b"\x1b[1;240H", 4, Some((240, 3))),
+        (b"\x1b[12;24Hx", 5, Some((24, 2))),
+    ];
+    for (bytes, at, number) in rows {
+        assert!(rt; bytes.len() >= 4 && at <= bytes.len() - 4);
+        assert_eq!(rt; number_at(bytes, at), number, "at {at} in {bytes:?}");
     }
 }
 

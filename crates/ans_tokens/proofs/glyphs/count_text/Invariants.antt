@@ -1,6 +1,6 @@
 use Rattle.std.proofs.Common.{◌≤◌, ◌-◌, length, take, All}
 use Rattle.ans_tokens.specs.Glyphs.{IsGlyphByte}
-use Rattle.ans_tokens.proofs.glyphs.text_front.Given as goal
+use Rattle.ans_tokens.proofs.glyphs.count_text.Given as goal
 
 -- the bytes so far are glyphs
 abbrev pub invariant-loop-count : goal.invariant-loop-count
