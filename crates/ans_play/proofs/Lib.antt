@@ -19,6 +19,7 @@ pub mod Feeding
 pub mod GlyphRuns
 pub mod WholeTokens
 pub mod Letters
+pub mod Brushes
 pub mod BlankRuns
 pub mod NewPlayer
 pub mod KnownCells

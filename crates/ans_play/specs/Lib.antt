@@ -8,6 +8,7 @@ pub mod PlayView
 pub mod PlayerView
 pub mod Plays
 pub mod Stands
+pub mod Brushes
 pub mod Shown
 pub mod Between
 pub mod Meet

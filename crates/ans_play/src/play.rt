@@ -1,14 +1,17 @@
 //! The play of bytes over one half-known state.
 
 ghost use Rattle.std.specs.Prelude.{◌≡◌, ◌≢◌, ◌<◌, ◌≤◌, ◌+◌, ◌-◌, ◌*◌, ℕ, List, [], ◌∷◌, length, take, set};
-ghost use Rattle.std.specs.Prelude.{slice_index_or, IfOk, IfErr, OnOk};
+ghost use Rattle.std.specs.Prelude.{slice_index_or, IfOk, IfErr, OnOk, true};
 ghost use Rattle.ans_model.specs.Bytes.{most_columns, longest_file, escape};
 ghost use Rattle.ans_model.specs.Screen.State.{sized};
 ghost use Rattle.ans_model.specs.Sequence.TokenKind.{Glyph};
 ghost use Rattle.ans_model.specs.declared.start.Start.{Start};
 ghost use Rattle.ans_screen.specs.GridEdits.{most_rows};
+ghost use Rattle.ans_play.specs.HalfFault.{is_one_position};
 ghost use Rattle.ans_play.specs.HalfStart.{start_cell, start_attribute};
 
+mod brush;
+mod sequence;
 mod steps;
 
 use crate::picture::Picture;
@@ -21,6 +24,7 @@ use ans_model::start::Start;
 use ans_screen::{Attr, HalfCell, Screen};
 use ans_tokens::{ESCAPE, Scanner, count_glyphs, read_sequence};
 use arrayvec::ArrayVec;
+use sequence::LONGEST_FRONT;
 use std::marker::Model;
 
 /// The play of bytes from every start of a class: the scanner that reads them, and one state of
@@ -155,15 +159,87 @@ impl<G: Screen> Play<G> {
         ensures played { GoesOn self.old (take result bytes.now) self.new }
         ensures none { result ≡ 0 → self.new ≡ self.old }
     {
+        let count = self.advance_tokens(bytes);
+        self.scanner.skip(count);
+        count
+    }
+
+    /// Plays those tokens. The scanner stays.
+    #[inline(always)]
+    fn advance_tokens(&mut self, bytes: &[u8]) -> usize
+        ensures within { result ≤ length bytes.now }
+        ensures played { PlaysWholeTokens self.old (take result bytes.now) self.new }
+        ensures none { result ≡ 0 → self.new ≡ self.old }
+    {
+        if bytes.len() >= LONGEST_FRONT && self.cursor.is_one_position() {
+            self.advance_brush(bytes)
+        } else {
+            self.advance_span(bytes)
+        }
+    }
+
+    /// Plays those tokens from one position of the cursor, as long as it has one and the bytes that are
+    /// left are enough for a sequence. The scanner stays.
+    #[inline(never)]
+    fn advance_brush(&mut self, bytes: &[u8]) -> usize
+        requires { is_one_position self.old.state.cursor ≡ true }
+        ensures within { result ≤ length bytes.now }
+        ensures played { PlaysWholeTokens self.old (take result bytes.now) self.new }
+        ensures none { result ≡ 0 → self.new ≡ self.old }
+    {
+        let mut brush = self.brush();
+        let mut count = 0;
+        while bytes.len() - count >= LONGEST_FRONT {
+            let rest = &bytes[count..];
+            match self.brush_token(&mut brush, rest) {
+                0 => {
+                    self.lay(brush);
+                    let next = self.advance_span(rest);
+                    if next == 0 || !self.cursor.is_one_position() {
+                        return count + next;
+                    }
+                    brush = self.brush();
+                    count += next;
+                }
+                next => count += next,
+            }
+        }
+        self.lay(brush);
+        count
+    }
+
+    /// Plays those tokens wherever the cursor may stand, up to one that a brush may play. The scanner
+    /// stays.
+    #[inline(never)]
+    fn advance_span(&mut self, bytes: &[u8]) -> usize
+        ensures within { result ≤ length bytes.now }
+        ensures played { PlaysWholeTokens self.old (take result bytes.now) self.new }
+        ensures none { result ≡ 0 → self.new ≡ self.old }
+    {
         let mut count = 0;
         while count < bytes.len() {
             match self.fast_token(&bytes[count..]) {
                 0 => break,
                 next => count += next,
             }
+            if self.is_for_brush(&bytes[count..]) {
+                break;
+            }
         }
-        self.scanner.skip(count);
         count
+    }
+
+    /// Whether a brush may play what the bytes begin with: a sequence, or text before the last column.
+    #[inline(always)]
+    fn is_for_brush(&self, bytes: &[u8]) -> bool {
+        if bytes.len() < LONGEST_FRONT {
+            return false;
+        }
+        match bytes[0] {
+            ESCAPE => self.cursor.is_one_position(),
+            0x20..=0xFF => self.columns_before_last() > 0,
+            _ => false,
+        }
     }
 
     /// Plays a run of glyphs, a byte outside sequences or a common sequence, whichever the bytes

@@ -19,7 +19,7 @@ pub struct Span {
 
 /// Where a token takes a cursor, if that is all that it does. A move stops at the screen's edge.
 #[inline(always)]
-fn destination(position: Position, kind: &Kind, size: Size) -> Position
+pub(crate) fn destination(position: Position, kind: &Kind, size: Size) -> Position
     requires { IsOnScreen size position }
     ensures { result ≡ destination size (shown_kind kind.now) position }
 {

@@ -1,6 +1,6 @@
 use Rattle.std.proofs.Common.{◌≡◌, ◌-◌, ◌≤◌, length, take}
 use Rattle.ans_play.specs.Stands.{PlaysWholeTokens}
-use Rattle.ans_play.proofs.play.Play.advance_fast.Given as goal
+use Rattle.ans_play.proofs.play.Play.advance_span.Given as goal
 
 -- the first bytes are played, and nothing changes before the first token
 abbrev pub invariant-loop-count : goal.invariant-loop-count

@@ -1,0 +1,66 @@
+//! A sequence that is read without a list of its numbers.
+
+ghost use Rattle.std.specs.Prelude.{◌≤◌, length, IfSome};
+ghost use Rattle.ans_play.specs.Brushes.{IsRead};
+
+use ans_model::limits::MAX_PARAMETERS;
+use ans_screen::Attr;
+use ans_tokens::{ESCAPE, number_at};
+
+/// How many bytes the longest sequence has that is read here: `ESC [`, and for each number three digits
+/// and the byte behind them.
+pub(super) const LONGEST_FRONT: usize = 66;
+
+/// What is kept of a sequence.
+#[derive(Clone, Copy)]
+pub(super) struct ReadSequence {
+    /// The byte behind the numbers.
+    pub(super) letter: u8,
+    /// The index of the byte behind that.
+    pub(super) end: usize,
+    /// How many semicolons stand between its numbers.
+    pub(super) semicolons: usize,
+    /// The first number, 0 where there is none.
+    pub(super) first: u8,
+    /// The last number, 0 where there is none.
+    pub(super) last: u8,
+    /// The attribute after the numbers as colours.
+    pub(super) coloured: Attr,
+}
+
+/// Reads the numbers that stand behind `ESC [`, at most 16, each of three digits at most and not above
+/// 255, and the byte behind them. Where that is a letter, the bytes begin with the sequence; else they
+/// begin with none that is read here. The numbers are put into an attribute as colours while they are
+/// read.
+#[inline(always)]
+pub(super) fn read_front(bytes: &[u8], attribute: Attr) -> Option<ReadSequence>
+    requires { 66 ≤ length bytes.now }
+    ensures { IfSome result (IsRead bytes.now attribute) }
+{
+    if bytes[0] != ESCAPE || bytes[1] != b'[' {
+        return None;
+    }
+    let mut coloured = attribute;
+    let mut first = 0;
+    let mut at = 2;
+    for semicolons in 0..MAX_PARAMETERS {
+        let (last, digits) = number_at(bytes, at)?;
+        let letter = bytes[at + digits];
+        at = at + digits + 1;
+        coloured = coloured.apply(last);
+        if semicolons == 0 {
+            first = last;
+        }
+        if letter != b';' {
+            return Some(ReadSequence {
+                letter,
+                end: at,
+                semicolons,
+                first,
+                last,
+                coloured,
+            });
+        }
+    }
+    None
+}
